@@ -1,0 +1,5 @@
+pub mod Truth
+pub mod Satisfies
+pub mod OrderValue
+pub mod View
+pub mod Place

@@ -1,0 +1,13 @@
+//! Clauses.
+
+use crate::literal::Lit;
+use bee_text::Sequence;
+
+/// A conjunction of clauses over the variables 1 to `vars`. A clause is a disjunction of literals.
+#[derive(Debug, Clone, Drop)]
+pub struct Cnf {
+    /// How many variables there are.
+    pub vars: u32,
+    /// The clauses, each a list of literals.
+    pub clauses: Sequence<Sequence<Lit>>,
+}

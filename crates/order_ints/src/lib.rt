@@ -1,0 +1,12 @@
+//! Literals, atoms, clauses, and integers in the order encoding.
+#![tactic(auto)]
+
+mod atom;
+mod cnf;
+mod literal;
+mod order_int;
+
+pub use atom::Atom;
+pub use cnf::Cnf;
+pub use literal::Lit;
+pub use order_int::{MapValue, OrdInt};

@@ -2,7 +2,9 @@
 #![tactic(auto)]
 
 mod name;
+mod small;
 mod syntax;
 
 pub use name::Name;
+pub use small::{SmallModel, SmallTerm};
 pub use syntax::{Arg, GoalKind, Item, Syntax, Term};

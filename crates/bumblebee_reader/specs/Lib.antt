@@ -1,0 +1,5 @@
+pub mod SmallTokens
+pub mod SmallModel
+pub mod SmallText
+pub mod SmallReading
+pub mod SmallLexeme

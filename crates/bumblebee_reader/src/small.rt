@@ -1,0 +1,8 @@
+//! The small language, with which the program starts: declared Booleans and clauses over them.
+
+mod expect;
+mod model;
+
+mod tokens;
+
+pub use model::{SmallModel, SmallTerm};

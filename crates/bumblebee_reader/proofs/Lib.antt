@@ -1,1 +1,2 @@
 pub mod SmallTokenLaws
+pub mod SmallNames

@@ -1,11 +1,13 @@
 -- Reading the tokens of a text one by one: what one token makes of what was read so far.
-use Rattle.std.specs.Prelude.{◌≡◌, ℕ, Bool, true, false, ◌==◌, List, [], ◌∷◌, ◌++◌, Option, Some, None, codes, if◌then◌else◌}
+use Rattle.std.specs.Prelude.{◌≡◌, ℕ, Bool, true, false, ◌==◌, List, [], ◌∷◌, ◌++◌, Option, Some, None, Result, Ok, Err, codes, if◌then◌else◌}
 use Rattle.std.specs.Option.{option_map, option_and_then}
 use Rattle.std.specs.Str.{bytes_eq}
 use Rattle.bumblebee_reader.specs.declared.small.model.SmallTerm.{SmallTerm}
 use Rattle.bumblebee_reader.specs.declared.small.model.SmallModel.{SmallModel}
 use Rattle.bumblebee_reader.specs.declared.small.expect.Expect.{Expect}
 use Rattle.bumblebee_reader.specs.declared.small.expect.Expect.TheVariants as at
+use Rattle.bumblebee_reader.specs.declared.small.refusal.Refusal.{Refusal}
+use Rattle.bumblebee_reader.specs.declared.small.refusal.Refusal.TheVariants as refusals
 use Rattle.bumblebee_reader.specs.SmallTokens.{Lexeme, Word, Digits, Sign, Misfit}
 use Rattle.bumblebee_reader.specs.SmallText.{can_declare, plain_term, minus_term}
 
@@ -28,15 +30,16 @@ sign s next p (Word w) = None
 sign s next p (Digits w) = None
 sign s next p (Misfit b) = None
 
--- an item or the goal is wanted
-abbrev pub item_word : Progress → List ℕ → Option Progress
-item_word p w =
-    if bytes_eq w (codes "new_bool") then Some (expecting p at.DeclareOpen)
-    else (if bytes_eq w (codes "bool_array_or") then Some (expecting p at.ListOpen)
-    else (if bytes_eq w (codes "solve") then Some (expecting p at.Satisfy) else None))
+-- what a word begins where an item or the goal is wanted
+abbrev pub item_start : List ℕ → Option Expect
+item_start w =
+    if bytes_eq w (codes "new_bool") then Some at.DeclareOpen
+    else (if bytes_eq w (codes "bool_array_or") then Some at.ListOpen
+    else (if bytes_eq w (codes "solve") then Some at.Satisfy else None))
 
+-- an item or the goal is wanted
 abbrev pub item : Progress → Lexeme → Option Progress
-item p (Word w) = item_word p w
+item p (Word w) = option_map (expecting p) (item_start w)
 item p (Sign b) = None
 item p (Digits w) = None
 item p (Misfit b) = None
@@ -128,6 +131,12 @@ finished p = finished_at p.expect p
 unfoldable pub outcome : Progress → List Lexeme → Option SmallModel
 outcome p [] = finished p
 outcome p (t ∷ ts) = option_and_then (λ q. outcome q ts) (advance p t)
+
+-- what a step of the code did is what the definition says; want of memory alone says nothing
+abbrev pub Tells : Result (Unit {0}) Refusal → Option Progress → Progress → Type 0
+Tells (Ok _) told new = told ≡ Some new
+Tells (Err refusals.Misfit) told new = told ≡ None
+Tells (Err refusals.Memory) told new = Unit {0}
 
 -- nothing was read
 abbrev pub start : Progress

@@ -2,6 +2,8 @@
 
 mod expect;
 mod model;
+mod reading;
+mod refusal;
 
 mod tokens;
 

@@ -1,2 +1,4 @@
 pub mod SmallTokenLaws
 pub mod SmallNames
+pub mod SmallComplete
+pub mod SmallSound

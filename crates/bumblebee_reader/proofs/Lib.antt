@@ -2,3 +2,4 @@ pub mod SmallTokenLaws
 pub mod SmallNames
 pub mod SmallComplete
 pub mod SmallSound
+pub mod SmallRead

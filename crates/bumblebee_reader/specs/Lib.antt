@@ -3,3 +3,4 @@ pub mod SmallModel
 pub mod SmallText
 pub mod SmallReading
 pub mod SmallLexeme
+pub mod SmallFound

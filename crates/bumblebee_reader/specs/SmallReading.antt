@@ -138,6 +138,12 @@ Tells (Ok _) told new = told ≡ Some new
 Tells (Err refusals.Misfit) told new = told ≡ None
 Tells (Err refusals.Memory) told new = Unit {0}
 
+-- the same at the end of the text
+abbrev pub Finishes : Result SmallModel Refusal → Option SmallModel → Type 0
+Finishes (Ok m) told = told ≡ Some m
+Finishes (Err refusals.Misfit) told = told ≡ None
+Finishes (Err refusals.Memory) told = Unit {0}
+
 -- nothing was read
 abbrev pub start : Progress
 start = record { names = []; statements = []; terms = []; expect = at.Item }

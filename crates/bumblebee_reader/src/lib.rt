@@ -6,5 +6,5 @@ mod small;
 mod syntax;
 
 pub use name::Name;
-pub use small::{SmallModel, SmallTerm};
+pub use small::{SmallFault, SmallModel, SmallTerm, read_small};
 pub use syntax::{Arg, GoalKind, Item, Syntax, Term};

@@ -2,9 +2,11 @@
 
 mod expect;
 mod model;
+mod read;
 mod reading;
 mod refusal;
 
 mod tokens;
 
 pub use model::{SmallModel, SmallTerm};
+pub use read::{SmallFault, read_small};

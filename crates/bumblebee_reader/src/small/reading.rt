@@ -5,10 +5,11 @@ ghost use Rattle.std.specs.List.{list_any};
 ghost use Rattle.std.specs.Str.{bytes_eq};
 ghost use Rattle.bumblebee_reader.specs.SmallText.{place_of, can_declare, plain_term, minus_term};
 ghost use Rattle.bumblebee_reader.specs.SmallLexeme.{lexeme_of};
-ghost use Rattle.bumblebee_reader.specs.SmallReading.{start, advance, item, item_start, sign, declare, term, negated, first_term, after_term, satisfy, with_term, close_list, Tells};
+ghost use Rattle.bumblebee_reader.specs.SmallReading.{start, advance, item, item_start, sign, declare, term, negated, first_term, after_term, satisfy, with_term, close_list, Tells, finished, Finishes};
 
+use crate::name::Name;
 use crate::small::expect::Expect;
-use crate::small::model::SmallTerm;
+use crate::small::model::{SmallModel, SmallTerm};
 use crate::small::refusal::Refusal;
 use crate::small::tokens::Token;
 use bee_text::Sequence;
@@ -280,5 +281,25 @@ impl Reading {
             Expect::Satisfy => self.satisfy(token),
             Expect::End => Err(Refusal::Misfit),
         }
+    }
+
+    /// The model, where the text may end here.
+    pub fn finish(self, alloc: Global) -> Result<SmallModel, Refusal>
+        ensures { Finishes result (finished self) }
+    {
+        let Reading {
+            names,
+            statements,
+            terms: _,
+            expect,
+        } = self;
+        if expect != Expect::End {
+            return Err(Refusal::Misfit);
+        }
+        let names = names.into_iter().map(Name::from_vec).collect(alloc)?;
+        Ok(SmallModel {
+            names: Sequence::from_vec(names),
+            statements: Sequence::from_vec(statements),
+        })
     }
 }

@@ -1,0 +1,8 @@
+use Rattle.bumblebee_reader.proofs.SmallRead.{found, only}
+use Rattle.bumblebee_reader.proofs.small.read.read_small.Goals as goal
+
+pub returns-clause-found : goal.returns-clause-found
+returns-clause-found c = found c.args.text.now _ c.read_tokens.ensures
+
+pub returns-clause-only : goal.returns-clause-only
+returns-clause-only c = only c.args.text.now _ c.read_tokens.ensures

@@ -4,7 +4,7 @@ use Rattle.std.specs.Prelude.{unwrap_or}
 use Rattle.std.proofs.lemmas.List.{take_all, drop_all, drop_more, take-append-drop, length-take}
 use Rattle.bee_text.proofs.SearchLemmas.{cut_at, none_at}
 use Rattle.std.specs.List.{list_all}
-use Rattle.std.proofs.lemmas.Bool.{and_parts, and_from, not-true, not_from_false, or_parts, false≢true, true≢false, cases_lt}
+use Rattle.std.proofs.lemmas.Bool.{and_parts, and_from, not-true, not_from_false, or_parts, false≢true, cases_lt, cases_Bool}
 use Rattle.bee_text.specs.Lines.{lacks, IsLine, AreLines}
 use Rattle.bee_text.specs.Words.{is_gap, is_word, IsWord, AreWords, join_words, words_behind, before_first}
 use Rattle.bee_text.specs.Gaps.{after_gap, begins_word, words_of}
@@ -158,3 +158,26 @@ first_word text t rest i e o found from_i is end from_e =
       parts = ap after_gap whole ∙ (after_gap-hollow (take i text) t gap begins ∙ again);
       word = front.word;
     }
+
+pub words_of_words : (text : List ℕ) → AreWords (words_of text)
+words_of_words [] = refl
+words_of_words (b ∷ bs) = ⊎_elim
+    (λ (e : is_gap b ≡ true). rw e (words_of_words bs))
+    (λ (e : is_gap b ≡ false). ⊎_elim
+        (λ (m : begins_word bs ≡ true). rw (e, m) (longer b (words_of bs) e (words_of_words bs)))
+        (λ (m : begins_word bs ≡ false). rw (e, m) (and_from _ _ (alone b e) (words_of_words bs)))
+        (cases_Bool (begins_word bs)))
+    (cases_Bool (is_gap b))
+  where
+    alone : (b : ℕ) → is_gap b ≡ false → is_word (b ∷ []) ≡ true
+    alone b e = and_from (not (is_gap b)) true (not_from_false (is_gap b) e) refl
+
+    more : (b : ℕ) (w : List ℕ) → is_gap b ≡ false → is_word w ≡ true → is_word (b ∷ w) ≡ true
+    more b [] e h = alone b e
+    more b (c ∷ w) e h = and_from (not (is_gap b)) (is_word (c ∷ w)) (not_from_false (is_gap b) e) h
+
+    longer : (b : ℕ) (ws : List (List ℕ)) → is_gap b ≡ false → AreWords ws → AreWords (before_first b ws)
+    longer b [] e h = and_from (is_word (b ∷ [])) true (alone b e) refl
+    longer b (w ∷ ws) e h =
+        let parts = and_parts (is_word w) (list_all is_word ws) h in
+        and_from (is_word (b ∷ w)) (list_all is_word ws) (more b w e parts.0) parts.1

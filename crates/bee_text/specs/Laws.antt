@@ -4,7 +4,7 @@ use Rattle.std.specs.Int.{w128}
 use Rattle.std.specs.Char.{is_ascii_digit}
 use Rattle.std.specs.Fmt.{decimal, signed_decimal}
 use Rattle.std.specs.List.{list_all}
-use Rattle.bee_text.specs.Lines.{IsLine, AreLines, join_lines, lines_of}
+use Rattle.bee_text.specs.Lines.{IsLine, AreLines, join_lines, lines_of, unfinished}
 use Rattle.bee_text.specs.Words.{IsWord, AreWords, ArePieces, join_words, split_blanks}
 use Rattle.bee_text.specs.Gaps.{words_of}
 
@@ -36,9 +36,21 @@ SignedDecimalIsWord = (z : ℤ) → FitsSigned w128 z → IsWord (signed_decimal
 abbrev pub JoinTellsLines : Type 0
 JoinTellsLines = (xs ys : List (List ℕ)) → AreLines xs → AreLines ys → join_lines xs ≡ join_lines ys → xs ≡ ys
 
--- joined lines have those lines
+-- joined lines have those lines, also with a line behind them that no line feed ends
 abbrev pub LinesOfJoined : Type 0
-LinesOfJoined = (xs : List (List ℕ)) → AreLines xs → lines_of (join_lines xs) ≡ xs
+LinesOfJoined = (xs : List (List ℕ)) (rest : List ℕ) → AreLines xs → IsLine rest → lines_of (join_lines xs ++ rest) ≡ xs
+
+-- that line is what stands behind their last line feed
+abbrev pub UnfinishedOfJoined : Type 0
+UnfinishedOfJoined = (xs : List (List ℕ)) (rest : List ℕ) → IsLine rest → unfinished (join_lines xs ++ rest) ≡ rest
+
+-- a text is its lines joined, and what stands behind them
+abbrev pub JoinOfLines : Type 0
+JoinOfLines = (text : List ℕ) → join_lines (lines_of text) ++ unfinished text ≡ text
+
+-- the lines of a text are lines
+abbrev pub LinesOfText : Type 0
+LinesOfText = (text : List ℕ) → AreLines (lines_of text)
 
 -- lists of lines one after the other
 abbrev pub JoinAppendsLines : Type 0
@@ -55,6 +67,10 @@ SplitOfJoined = (ws : List (List ℕ)) → 0 < length ws → ArePieces ws → sp
 -- joined words have those words
 abbrev pub WordsOfJoined : Type 0
 WordsOfJoined = (ws : List (List ℕ)) → AreWords ws → words_of (join_words ws) ≡ ws
+
+-- the words of a text are words
+abbrev pub WordsOfText : Type 0
+WordsOfText = (text : List ℕ) → AreWords (words_of text)
 
 -- lists of words one after the other, a blank between them
 abbrev pub JoinAppendsWords : Type 0

@@ -29,6 +29,11 @@ abbrev pub lines_of : List ℕ → List (List ℕ)
 lines_of [] = []
 lines_of (b ∷ bs) = if b == 10 then [] ∷ lines_of bs else onto_first b (lines_of bs)
 
+-- what stands behind the last line feed of a text
+abbrev pub unfinished : List ℕ → List ℕ
+unfinished [] = []
+unfinished (b ∷ bs) = if lacks 10 (b ∷ bs) then b ∷ bs else unfinished bs
+
 -- how far a text has been read: what is left of it, and how many lines were given
 pub record Progress : Type 0 where
   pub rest : List ℕ

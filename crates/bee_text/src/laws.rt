@@ -2,8 +2,8 @@
 //! contracts are the laws.
 
 ghost use Rattle.bee_text.specs.Laws.{DecimalTellsNumber, SignedDecimalTellsNumber, DecimalHasDigits, DecimalLeadsByZero, DecimalIsWord, SignedDecimalIsWord};
-ghost use Rattle.bee_text.specs.Laws.{JoinTellsLines, LinesOfJoined, JoinAppendsLines};
-ghost use Rattle.bee_text.specs.Laws.{JoinTellsWords, SplitOfJoined, WordsOfJoined, JoinAppendsWords, JoinedWordsAreLine, WordsAreLines};
+ghost use Rattle.bee_text.specs.Laws.{JoinTellsLines, LinesOfJoined, UnfinishedOfJoined, JoinOfLines, LinesOfText, JoinAppendsLines};
+ghost use Rattle.bee_text.specs.Laws.{JoinTellsWords, SplitOfJoined, WordsOfJoined, WordsOfText, JoinAppendsWords, JoinedWordsAreLine, WordsAreLines};
 
 /// What the decimals of numbers are like.
 pub fn decimal_laws()
@@ -20,6 +20,9 @@ pub fn decimal_laws()
 pub fn line_laws()
     ensures injective { JoinTellsLines }
     ensures lines { LinesOfJoined }
+    ensures unfinished { UnfinishedOfJoined }
+    ensures joined { JoinOfLines }
+    ensures of_text { LinesOfText }
     ensures append { JoinAppendsLines }
 {
 }
@@ -29,6 +32,7 @@ pub fn word_laws()
     ensures injective { JoinTellsWords }
     ensures pieces { SplitOfJoined }
     ensures words { WordsOfJoined }
+    ensures of_text { WordsOfText }
     ensures append { JoinAppendsWords }
     ensures line { JoinedWordsAreLine }
     ensures lines { WordsAreLines }

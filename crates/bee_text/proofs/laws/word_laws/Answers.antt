@@ -1,5 +1,5 @@
 use Rattle.bee_text.proofs.WordLemmas.{split_blanks-join_words, join_words-append, join_words_line}
-use Rattle.bee_text.proofs.GapLemmas.{join_words_injective, words_of-join_words, words_lines}
+use Rattle.bee_text.proofs.GapLemmas.{join_words_injective, words_of-join_words, words_lines, words_of_words}
 use Rattle.bee_text.proofs.laws.word_laws.Goals as goal
 
 pub returns-clause-injective : goal.returns-clause-injective
@@ -19,3 +19,6 @@ returns-clause-line c = join_words_line
 
 pub returns-clause-lines : goal.returns-clause-lines
 returns-clause-lines c = words_lines
+
+pub returns-clause-of_text : goal.returns-clause-of_text
+returns-clause-of_text c = words_of_words

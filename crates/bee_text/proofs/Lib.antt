@@ -1,0 +1,5 @@
+pub mod SearchLemmas
+pub mod LineLemmas
+pub mod WordLemmas
+pub mod GapLemmas
+pub mod NumberLemmas

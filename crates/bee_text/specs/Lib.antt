@@ -1,0 +1,5 @@
+pub mod Digits
+pub mod Lines
+pub mod Words
+pub mod Gaps
+pub mod Laws

@@ -4,3 +4,5 @@ pub mod SmallText
 pub mod SmallReading
 pub mod SmallLexeme
 pub mod SmallFound
+pub mod Bytes
+pub mod Names

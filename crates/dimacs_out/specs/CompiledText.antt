@@ -1,0 +1,87 @@
+-- The compiled text of declared names, what they stand for, and a CNF, as a function to bytes.
+--
+--     c bee 1
+--     c bool NAME ATOM               for each declared Boolean
+--     c int NAME BASE ATOM:WEIGHT .. for each declared integer, in the order of the declarations
+--     p cnf VARS CLAUSES
+--     LITERAL .. 0                   for each clause
+--
+-- An atom is `T`, `F`, or a variable with its sign.
+use Rattle.std.specs.Prelude.{◌≡◌, ◌≢◌, ℕ, ◌≤◌, ◌<◌, ◌^◌, ◌+◌, List, [], ◌∷◌, ◌++◌, codes, length, map, FitsSigned, if◌then◌else◌}
+use Rattle.std.specs.Int.{w128}
+use Rattle.std.specs.Fmt.{decimal, signed_decimal}
+use Rattle.bee_text.specs.Lines.{join_lines}
+use Rattle.bee_text.specs.Words.{join_words}
+use Rattle.order_ints.specs.declared.literal.Lit.{Lit}
+use Rattle.order_ints.specs.declared.atom.Atom.{Atom}
+use Rattle.order_ints.specs.declared.atom.Atom.TheVariants.{True, False, Of}
+use Rattle.order_ints.specs.declared.order_int.OrdInt.{OrdInt}
+use Rattle.order_ints.specs.declared.order_int.MapValue.{MapValue}
+use Rattle.order_ints.specs.declared.order_int.MapValue.TheVariants.{Bool, Int}
+use Rattle.order_ints.specs.declared.cnf.Cnf.{Cnf}
+use Rattle.order_ints.specs.Place.{AtomBelow, StepsBelow, InRange}
+use Rattle.bumblebee_reader.specs.Names.{AreDeclared}
+use Rattle.dimacs_out.specs.declared.entry.MapEntry.{MapEntry}
+
+-- a variable with its sign
+abbrev pub literal_word : Lit → List ℕ
+literal_word l = if l.positive then decimal l.var else 45 ∷ decimal l.var
+
+abbrev pub atom_word : Atom → List ℕ
+atom_word True = codes "T"
+atom_word False = codes "F"
+atom_word (Of l) = literal_word l
+
+-- a step of an integer: its atom, a colon, its weight
+abbrev pub step_word : Atom × ℕ → List ℕ
+step_word s = atom_word s.0 ++ 58 ∷ decimal s.1
+
+-- the words of a declared name's line
+abbrev pub value_words : List ℕ → MapValue → List (List ℕ)
+value_words name (Bool a) = codes "c" ∷ codes "bool" ∷ name ∷ atom_word a ∷ []
+value_words name (Int a) = codes "c" ∷ codes "int" ∷ name ∷ signed_decimal a.base ∷ map step_word a.steps
+
+abbrev pub entry_line : MapEntry → List ℕ
+entry_line e = join_words (value_words e.name e.value)
+
+-- the words of a clause's line
+abbrev pub clause_words : List Lit → List (List ℕ)
+clause_words c = map literal_word c ++ codes "0" ∷ []
+
+abbrev pub clause_line : List Lit → List ℕ
+clause_line c = join_words (clause_words c)
+
+-- the line that tells the numbers of variables and clauses
+abbrev pub problem_line : Cnf → List ℕ
+problem_line cnf = join_words (codes "p" ∷ codes "cnf" ∷ decimal cnf.vars ∷ decimal (length cnf.clauses) ∷ [])
+
+abbrev pub compiled_lines : List MapEntry → Cnf → List (List ℕ)
+compiled_lines entries cnf =
+    codes "c bee 1" ∷ (map entry_line entries ++ problem_line cnf ∷ map clause_line cnf.clauses)
+
+-- the compiled text
+abbrev pub compiled_text : List MapEntry → Cnf → List ℕ
+compiled_text entries cnf = join_lines (compiled_lines entries cnf)
+
+-- the weights of an integer's steps are at least 1
+abbrev pub WeightsCount : List (Atom × ℕ) → Type 0
+WeightsCount [] = Unit {0}
+WeightsCount (s ∷ steps) = (1 ≤ s.1) × (s.1 < 2 ^ 128) × WeightsCount steps
+
+-- what a name stands for speaks of variables below n, and its numbers fit 128 bits
+abbrev pub ValueBelow : ℕ → MapValue → Type 0
+ValueBelow n (Bool a) = AtomBelow n a
+ValueBelow n (Int a) = FitsSigned w128 a.base × StepsBelow n a.steps × WeightsCount a.steps
+
+abbrev pub EntriesBelow : ℕ → List MapEntry → Type 0
+EntriesBelow n [] = Unit {0}
+EntriesBelow n (e ∷ entries) = ValueBelow n e.value × EntriesBelow n entries
+
+-- what has a compiled text: declared names, each once, that stand for atoms and integers over the variables
+-- from 1 to the CNF's number of them, with weights of at least 1; and a CNF over these variables
+pub record IsWritable (entries : List MapEntry) (cnf : Cnf) : Type 0 where
+  pub names : AreDeclared (map (λ e. e.name) entries)
+  pub values : EntriesBelow (cnf.vars + 1) entries
+  pub clauses : InRange cnf
+  pub vars : cnf.vars < 2 ^ 32
+  pub count : length cnf.clauses < 2 ^ 64

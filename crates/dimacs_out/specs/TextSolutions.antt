@@ -1,0 +1,30 @@
+-- The assignments that a compiled text stands for, said of its bytes.
+use Rattle.std.specs.Prelude.{◌≡◌, ℕ, Bool, List, ℤ, pos, map, if◌then◌else◌}
+use Rattle.order_ints.specs.declared.order_int.MapValue.{MapValue}
+use Rattle.order_ints.specs.declared.order_int.MapValue.TheVariants as values
+use Rattle.order_ints.specs.declared.cnf.Cnf.{Cnf}
+use Rattle.order_ints.specs.Truth.{Valuation, atom_truth}
+use Rattle.order_ints.specs.OrderValue.{value_of}
+use Rattle.order_ints.specs.Satisfies.{Satisfies}
+use Rattle.dimacs_out.specs.declared.entry.MapEntry.{MapEntry}
+use Rattle.dimacs_out.specs.CompiledText.{compiled_text, IsWritable}
+
+-- the number that a name has under a valuation: 0 or 1 for a Boolean, by its atom; an integer's value
+abbrev pub number_of : Valuation → MapValue → ℤ
+number_of σ (values.Bool a) = if atom_truth σ a then pos 1 else pos 0
+number_of σ (values.Int a) = value_of σ a
+
+-- the assignment that the map lines give under a valuation
+abbrev pub assignment_of : Valuation → List MapEntry → List ℤ
+assignment_of σ entries = map (λ e. number_of σ e.value) entries
+
+-- a text stands for an assignment where it is the compiled text of names, a map and a CNF, and a valuation
+-- that satisfies the CNF gives the assignment
+pub record StandsFor (text : List ℕ) (a : List ℤ) : Type 0 where
+  pub entries : List MapEntry
+  pub cnf : Cnf
+  pub writable : IsWritable entries cnf
+  pub spelled : text ≡ compiled_text entries cnf
+  pub valuation : Valuation
+  pub satisfies : Satisfies valuation cnf
+  pub gives : a ≡ assignment_of valuation entries

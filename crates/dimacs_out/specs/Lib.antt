@@ -1,2 +1,3 @@
 pub mod CompiledText
 pub mod TextSolutions
+pub mod Written

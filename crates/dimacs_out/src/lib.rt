@@ -2,5 +2,7 @@
 #![tactic(auto)]
 
 mod entry;
+mod write;
 
 pub use entry::MapEntry;
+pub use write::write_map;

@@ -1,0 +1,142 @@
+//! Writing the compiled text.
+
+ghost use Rattle.std.specs.Prelude.{◌≡◌, ◌++◌, ◌∷◌, [], map, IfOk, OnOk};
+ghost use Rattle.bee_text.specs.Lines.{join_lines};
+ghost use Rattle.bee_text.specs.Words.{words_behind};
+ghost use Rattle.dimacs_out.specs.CompiledText.{literal_word, atom_word, step_word, entry_line, clause_line, problem_line, compiled_text};
+ghost use Rattle.dimacs_out.specs.Written.{words_ended};
+
+use crate::entry::MapEntry;
+use bee_text::{Sequence, end_line, push_blank, push_bytes, push_number, push_signed};
+use itoa::Buffer;
+use order_ints::{Atom, Cnf, Lit, MapValue};
+use std::alloc::{AllocError, Global};
+
+/// Writes a variable with its sign.
+fn push_literal(out: &mut Vec<u8>, literal: Lit) -> Result<(), AllocError>
+    ensures { OnOk result (out.new.items ≡ out.old.items ++ literal_word literal) }
+{
+    if !literal.positive() {
+        out.push(b'-')?;
+    }
+    let mut buffer = Buffer::new();
+    push_bytes(out, buffer.format(literal.var()).as_bytes())
+}
+
+/// Writes an atom.
+fn push_atom(out: &mut Vec<u8>, atom: Atom) -> Result<(), AllocError>
+    ensures { OnOk result (out.new.items ≡ out.old.items ++ atom_word atom) }
+{
+    match atom {
+        Atom::True => push_bytes(out, b"T"),
+        Atom::False => push_bytes(out, b"F"),
+        Atom::Of(literal) => push_literal(out, literal),
+    }
+}
+
+/// Writes a step of an integer.
+fn push_step(out: &mut Vec<u8>, step: (Atom, u128)) -> Result<(), AllocError>
+    ensures { OnOk result (out.new.items ≡ out.old.items ++ step_word step) }
+{
+    push_atom(out, step.0)?;
+    push_bytes(out, b":")?;
+    push_number(out, step.1)
+}
+
+/// Writes the steps of an integer, each behind a blank.
+fn push_steps(out: &mut Vec<u8>, steps: &[(Atom, u128)]) -> Result<(), AllocError>
+    ensures { OnOk result (out.new.items ≡ out.old.items ++ words_behind (map step_word steps.now)) }
+{
+    for step in steps {
+        push_blank(out)?;
+        push_step(out, *step)?;
+    }
+    Ok(())
+}
+
+/// Writes the line of a declared name, and its line feed.
+fn push_entry(out: &mut Vec<u8>, entry: &MapEntry) -> Result<(), AllocError>
+    ensures { OnOk result (out.new.items ≡ out.old.items ++ entry_line entry.now ++ 10 ∷ []) }
+{
+    match &entry.value {
+        MapValue::Bool(atom) => {
+            push_bytes(out, b"c bool ")?;
+            push_bytes(out, entry.name.as_bytes())?;
+            push_blank(out)?;
+            push_atom(out, *atom)?;
+        }
+        MapValue::Int(integer) => {
+            push_bytes(out, b"c int ")?;
+            push_bytes(out, entry.name.as_bytes())?;
+            push_blank(out)?;
+            push_signed(out, integer.base)?;
+            push_steps(out, integer.steps.as_slice())?;
+        }
+    }
+    end_line(out)
+}
+
+/// Writes the lines of the declared names.
+fn push_entries(out: &mut Vec<u8>, entries: &[MapEntry]) -> Result<(), AllocError>
+    ensures { OnOk result (out.new.items ≡ out.old.items ++ join_lines (map entry_line entries.now)) }
+{
+    for entry in entries {
+        push_entry(out, entry)?;
+    }
+    Ok(())
+}
+
+/// Writes the literals of a clause, each before a blank.
+fn push_literals(out: &mut Vec<u8>, clause: &[Lit]) -> Result<(), AllocError>
+    ensures { OnOk result (out.new.items ≡ out.old.items ++ words_ended (map literal_word clause.now)) }
+{
+    for literal in clause {
+        push_literal(out, *literal)?;
+        push_blank(out)?;
+    }
+    Ok(())
+}
+
+/// Writes the line of a clause, and its line feed.
+fn push_clause(out: &mut Vec<u8>, clause: &[Lit]) -> Result<(), AllocError>
+    ensures { OnOk result (out.new.items ≡ out.old.items ++ clause_line clause.now ++ 10 ∷ []) }
+{
+    push_literals(out, clause)?;
+    push_bytes(out, b"0")?;
+    end_line(out)?;
+    Ok(())
+}
+
+/// Writes the lines of the clauses.
+fn push_clauses(out: &mut Vec<u8>, clauses: &[Sequence<Lit>]) -> Result<(), AllocError>
+    ensures { OnOk result (out.new.items ≡ out.old.items ++ join_lines (map clause_line clauses.now)) }
+{
+    for clause in clauses {
+        push_clause(out, clause.as_slice())?;
+    }
+    Ok(())
+}
+
+/// Writes the line that tells the numbers of variables and clauses, and its line feed.
+fn push_problem(out: &mut Vec<u8>, cnf: &Cnf) -> Result<(), AllocError>
+    ensures { OnOk result (out.new.items ≡ out.old.items ++ problem_line cnf.now ++ 10 ∷ []) }
+{
+    push_bytes(out, b"p cnf ")?;
+    push_number(out, u128::from(cnf.vars))?;
+    push_blank(out)?;
+    push_number(out, cnf.clauses.len() as u128)?;
+    end_line(out)
+}
+
+/// The compiled text of declared names, what they stand for, and a CNF. One pass over what is written; the
+/// text is held in memory once.
+pub fn write_map(alloc: Global, entries: &[MapEntry], cnf: &Cnf) -> Result<Vec<u8>, AllocError>
+    ensures { IfOk result (λ text. text.items ≡ compiled_text entries.now cnf.now) }
+{
+    let mut out = Vec::new(alloc);
+    push_bytes(&mut out, b"c bee 1\n")?;
+    push_entries(&mut out, entries)?;
+    push_problem(&mut out, cnf)?;
+    push_clauses(&mut out, cnf.clauses.as_slice())?;
+    Ok(out)
+}

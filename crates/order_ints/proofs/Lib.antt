@@ -1,0 +1,3 @@
+pub mod LitOrder
+pub mod Opposites
+pub mod ClauseSteps

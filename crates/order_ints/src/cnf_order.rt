@@ -8,7 +8,7 @@ ghost use Rattle.order_ints.specs.Place.{AtomsBelow, AtomClausesBelow, InRange};
 ghost use Rattle.order_ints.specs.View.{MeetsView};
 ghost use Rattle.order_ints.specs.Satisfies.{clauses_truth};
 ghost use Rattle.order_ints.specs.AtomClauses.{atom_clauses_truth};
-ghost use Rattle.order_ints.specs.OrderedClauses.{by_variable, has_opposites, resolved_lits, ordered_clause, ordered_clauses};
+ghost use Rattle.order_ints.specs.OrderedClauses.{by_variable, has_opposites, resolved_lits, ordered_clause, ordered_clauses, ClausesAscend};
 
 use crate::atom::Atom;
 use crate::cnf::Cnf;
@@ -118,6 +118,9 @@ pub fn ordered_cnf(
 ) -> Result<Cnf, AllocError>
     ensures vars { IfOk result (λ cnf. cnf.vars ≡ vars) }
     ensures clauses { IfOk result (λ cnf. cnf.clauses ≡ ordered_clauses view.now clauses.now) }
+
+    // The variables of a clause ascend, so that each occurs once in it.
+    ensures ascending { IfOk result (λ cnf. ClausesAscend cnf.clauses) }
 
     // Under each valuation that meets the view, the CNF is as true as the clauses.
     ensures same_truth { IfOk result

@@ -4,3 +4,4 @@ pub mod ClauseSteps
 pub mod TruthLaws
 pub mod PlaceLaws
 pub mod OrderedLaws
+pub mod FirstFalseLaws

@@ -1,8 +1,8 @@
 -- Clauses put in order are as true as they were, keep their variables' bound, and ascend by variable.
 use Rattle.std.proofs.Common.{◌≡◌, ℕ, ◌+◌, ◌<◌, Bool, true, false, not, ◌||◌, ◌&&◌, cond, List, [], ◌∷◌, ◌⊎◌, inl, inr, Option, None, Some, filter, filter_map, refl, sym, ap, ◌∙◌, subst}
-use Rattle.std.specs.List.{cons_option}
+use Rattle.std.specs.List.{cons_option, list_any}
 use Rattle.std.specs.Option.{option_and_then}
-use Rattle.std.proofs.lemmas.Bool.{cases_Bool, eq-eqb, or_cases, or_left, or_right, true≢false}
+use Rattle.std.proofs.lemmas.Bool.{cases_Bool, eq-eqb, or_cases, or_from, or_parts, or_left, or_right, true≢false}
 use Rattle.order_ints.specs.declared.literal.Lit.{Lit}
 use Rattle.order_ints.specs.declared.atom.Atom.{Atom}
 use Rattle.order_ints.specs.declared.atom.Atom.TheVariants.{True, False, Of}
@@ -11,7 +11,7 @@ use Rattle.order_ints.specs.Satisfies.{clause_truth, clauses_truth}
 use Rattle.order_ints.specs.AtomClauses.{atom_clause_truth, atom_clauses_truth}
 use Rattle.order_ints.specs.Place.{LitBelow, AtomBelow, ClauseBelow, ClausesBelow, AtomsBelow, AtomClausesBelow}
 use Rattle.order_ints.specs.View.{resolve, MeetsView}
-use Rattle.order_ints.specs.OrderedClauses.{same_lit, has_lit, has_opposites, place_lit, by_variable, with_atom, resolved_lits, unless_opposites, ordered_clause, same_clause, distinct, ordered_clauses, VarsAscend, ClausesAscend}
+use Rattle.order_ints.specs.OrderedClauses.{same_lit, has_lit, has_opposites, place_lit, by_variable, with_atom, resolved_lits, unless_opposites, ordered_clause, same_clause, distinct, ordered_clauses, VarsAscend, ClausesAscend, ClausesDiffer}
 use Rattle.order_ints.proofs.LitOrder.{Put, here, before, after, put, key, same_lit-true, same_lit_key, LitsAscend-by_variable}
 use Rattle.order_ints.proofs.Opposites.{VarsAscend-from_opposites}
 use Rattle.order_ints.proofs.ClauseSteps.{same_clause-decides, is_other}
@@ -220,3 +220,36 @@ ClausesAscend-filter_map view (c ∷ cs) =
 -- the literals of each clause put in order ascend by variable
 pub ClausesAscend-ordered_clauses : (view : List Atom) (cs : List (List Atom)) → ClausesAscend (ordered_clauses view cs)
 ClausesAscend-ordered_clauses view cs = ClausesAscend-distinct (filter_map (ordered_clause view) cs) (ClausesAscend-filter_map view cs)
+
+-- what was left out of a list is not in it
+none_same : (c : List Lit) (ds : List (List Lit)) → list_any (λ d. same_clause d c) (filter (is_other c) ds) ≡ false
+none_same c [] = refl
+none_same c (d ∷ ds) = by (same_clause d c) refl (none_same c ds)
+  where
+    by : (b : Bool) → same_clause d c ≡ b → list_any (λ x. same_clause x c) (filter (is_other c) ds) ≡ false → list_any (λ x. same_clause x c) (cond (not b) (d ∷ filter (is_other c) ds) (filter (is_other c) ds)) ≡ false
+    by true e r = r
+    by false e r = or_from (same_clause d c) (list_any (λ x. same_clause x c) (filter (is_other c) ds)) e r
+
+none_same-filter : (c : List Lit) (p : List Lit → Bool) (ds : List (List Lit)) → list_any (λ d. same_clause d c) ds ≡ false → list_any (λ d. same_clause d c) (filter p ds) ≡ false
+none_same-filter c p [] h = refl
+none_same-filter c p (d ∷ ds) h = by (p d) (none_same-filter c p ds (or_parts (same_clause d c) (list_any (λ x. same_clause x c) ds) h).1)
+  where
+    by : (b : Bool) → list_any (λ x. same_clause x c) (filter p ds) ≡ false → list_any (λ x. same_clause x c) (cond b (d ∷ filter p ds) (filter p ds)) ≡ false
+    by true r = or_from (same_clause d c) (list_any (λ x. same_clause x c) (filter p ds)) (or_parts (same_clause d c) (list_any (λ x. same_clause x c) ds) h).0 r
+    by false r = r
+
+ClausesDiffer-filter : (p : List Lit → Bool) (cs : List (List Lit)) → ClausesDiffer cs → ClausesDiffer (filter p cs)
+ClausesDiffer-filter p [] h = tt
+ClausesDiffer-filter p (c ∷ cs) h = by (p c) (ClausesDiffer-filter p cs h.1)
+  where
+    by : (b : Bool) → ClausesDiffer (filter p cs) → ClausesDiffer (cond b (c ∷ filter p cs) (filter p cs))
+    by true r = (none_same-filter c p cs h.0, r)
+    by false r = r
+
+ClausesDiffer-distinct : (cs : List (List Lit)) → ClausesDiffer (distinct cs)
+ClausesDiffer-distinct [] = tt
+ClausesDiffer-distinct (c ∷ cs) = (none_same c (distinct cs), ClausesDiffer-filter (is_other c) (distinct cs) (ClausesDiffer-distinct cs))
+
+-- no two clauses put in order are the same
+pub ClausesDiffer-ordered_clauses : (view : List Atom) (cs : List (List Atom)) → ClausesDiffer (ordered_clauses view cs)
+ClausesDiffer-ordered_clauses view cs = ClausesDiffer-distinct (filter_map (ordered_clause view) cs)

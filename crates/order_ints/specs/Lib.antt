@@ -6,3 +6,4 @@ pub mod Place
 pub mod AtomClauses
 pub mod OrderedClauses
 pub mod FirstFalse
+pub mod CnfLaws

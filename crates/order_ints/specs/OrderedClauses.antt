@@ -1,6 +1,6 @@
 -- Clauses of atoms put in order: resolved by a view, the literals by variable, nothing twice, and
 -- nothing that is always true.
-use Rattle.std.specs.Prelude.{ℕ, ◌<◌, Bool, true, false, not, ◌||◌, ◌&&◌, ◌==◌, nat_lt, List, [], ◌∷◌, Option, None, Some, option_map, option_and_then, filter, filter_map, if◌then◌else◌}
+use Rattle.std.specs.Prelude.{◌≡◌, ℕ, ◌<◌, Bool, true, false, not, ◌||◌, ◌&&◌, ◌==◌, nat_lt, List, [], ◌∷◌, Option, None, Some, option_map, option_and_then, filter, filter_map, if◌then◌else◌}
 use Rattle.std.specs.Bool.{beq}
 use Rattle.std.specs.Cmp.Lexicographic.{pointwise}
 use Rattle.std.specs.List.{list_any}
@@ -83,3 +83,8 @@ VarsAscend (l ∷ ls) = VarsAbove l.var ls × VarsAscend ls
 abbrev pub ClausesAscend : List (List Lit) → Type 0
 ClausesAscend [] = Unit {0}
 ClausesAscend (c ∷ cs) = VarsAscend c × ClausesAscend cs
+
+-- no clause occurs twice
+abbrev pub ClausesDiffer : List (List Lit) → Type 0
+ClausesDiffer [] = Unit {0}
+ClausesDiffer (c ∷ cs) = (list_any (λ d. same_clause d c) cs ≡ false) × ClausesDiffer cs

@@ -1,0 +1,16 @@
+//! The outside: what a program reads from and writes to. A shelf gives bytes under names, a sink takes
+//! bytes, and each counts its faults. There are fakes over memory for tests, and the few lines over real
+//! files and standard streams.
+#![tactic(auto)]
+
+mod failed;
+mod reading;
+mod shelf;
+mod sink;
+mod writing;
+
+pub use failed::Failed;
+pub use reading::{ReadFault, ReadText, read_all};
+pub use shelf::Shelf;
+pub use sink::Sink;
+pub use writing::write_all;

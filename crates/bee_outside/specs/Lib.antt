@@ -1,3 +1,5 @@
 pub mod Faults
 pub mod Bytes
 pub mod ReadText
+pub mod MemShelf
+pub mod MemFiles

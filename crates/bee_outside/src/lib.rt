@@ -4,12 +4,15 @@
 #![tactic(auto)]
 
 mod failed;
+mod mem_shelf;
+mod names;
 mod reading;
 mod shelf;
 mod sink;
 mod writing;
 
 pub use failed::Failed;
+pub use mem_shelf::MemShelf;
 pub use reading::{ReadFault, ReadText, read_all};
 pub use shelf::Shelf;
 pub use sink::Sink;

@@ -3,3 +3,4 @@ pub mod Bytes
 pub mod ReadText
 pub mod MemShelf
 pub mod MemFiles
+pub mod MemSink

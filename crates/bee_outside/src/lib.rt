@@ -5,6 +5,7 @@
 
 mod failed;
 mod mem_shelf;
+mod mem_sink;
 mod names;
 mod reading;
 mod shelf;
@@ -13,6 +14,7 @@ mod writing;
 
 pub use failed::Failed;
 pub use mem_shelf::MemShelf;
+pub use mem_sink::MemSink;
 pub use reading::{ReadFault, ReadText, read_all};
 pub use shelf::Shelf;
 pub use sink::Sink;

@@ -4,6 +4,8 @@
 #![tactic(auto)]
 
 mod failed;
+mod host_shelf;
+mod host_sink;
 mod mem_shelf;
 mod mem_sink;
 mod names;
@@ -13,6 +15,8 @@ mod sink;
 mod writing;
 
 pub use failed::Failed;
+pub use host_shelf::HostShelf;
+pub use host_sink::HostSink;
 pub use mem_shelf::MemShelf;
 pub use mem_sink::MemSink;
 pub use reading::{ReadFault, ReadText, read_all};

@@ -1,25 +1,15 @@
 -- Pieces that are taken one after another.
 use Rattle.std.proofs.Common.{◌≡◌, ℕ, ◌≤◌, ◌<◌, ◌+◌, List, [], ◌∷◌, ◌++◌, length, take, drop, arith, refl, ap, sym, ◌∙◌, append_assoc, Option, Some, None}
-use Rattle.std.proofs.lemmas.List.{append-nil}
+use Rattle.std.proofs.lemmas.List.{append-nil, nil_from_length}
 use Rattle.std.proofs.Math.Seq.{take-add}
 use Rattle.std.proofs.Common.{length-append}
 use Rattle.std.specs.Prelude.{IfSome}
-use Rattle.bee_outside.specs.Bytes.{in_front, grown, TookPiece}
-
--- an empty piece in front is nothing
-pub in_front-nil : (o : Option (List ℕ)) → in_front [] o ≡ o
-in_front-nil None = refl
-in_front-nil (Some bytes) = refl
+use Rattle.bee_outside.specs.Bytes.{IsTold, in_front, grown, NothingLeft, TookPiece}
 
 -- two pieces in front are one
 pub in_front-append : (p q : List ℕ) (o : Option (List ℕ)) → in_front (p ++ q) o ≡ in_front p (in_front q o)
 in_front-append p q None = refl
 in_front-append p q (Some bytes) = ap Some (append_assoc p q bytes)
-
--- an empty piece adds nothing
-pub grown-nil : (o : Option (List ℕ)) → grown o [] ≡ o
-grown-nil None = refl
-grown-nil (Some bytes) = ap Some (append-nil bytes)
 
 -- two pieces behind are one
 pub grown-append : (o : Option (List ℕ)) (p q : List ℕ) → grown (grown o p) q ≡ grown o (p ++ q)
@@ -43,3 +33,16 @@ TookPiece-after_text before between after text limit size room first second fits
   moved = first ∙ ap (in_front text) second.moved ∙ sym (in_front-append text second.piece after);
   within = within-smaller limit (length (text ++ second.piece)) (length text + room) within (omega (arith, second.within, length-append text second.piece));
 }
+
+-- a text that was read to its end is all that was told
+pub told-whole : (before after : Option (List ℕ)) (text : List ℕ) → before ≡ in_front text after → NothingLeft after → IfSome before (λ bytes. bytes ≡ text)
+told-whole before None text e none = rw e tt
+told-whole before (Some bytes) text e none = rw (e, none) (append-nil text)
+
+-- where nothing was left, nothing is read
+pub nothing-read : (before after : Option (List ℕ)) (text : List ℕ) → before ≡ in_front text after → IsTold before → NothingLeft before → text ≡ []
+nothing-read None after text e told none = absurd (cc)
+nothing-read (Some bytes) None text e told none = cc
+nothing-read (Some bytes) (Some rest) text e told none =
+    let same : bytes ≡ text ++ rest = cc in
+    nil_from_length text (omega (arith, ap length (sym same ∙ none), length-append text rest))

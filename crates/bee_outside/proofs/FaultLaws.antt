@@ -1,7 +1,7 @@
 -- A count that rose in one of several calls rose over all of them.
 use Rattle.std.proofs.Common.{◌≡◌, ℕ, ◌≤◌, ◌<◌, arith, inl, inr}
 use Rattle.std.specs.Prelude.{◌⊎◌}
-use Rattle.bee_outside.specs.Faults.{Rose, next_count, last_count}
+use Rattle.bee_outside.specs.Faults.{Rose}
 
 -- the call comes later
 pub Rose-from_before : (a b c : ℕ) → a ≤ b → Rose b c → Rose a c
@@ -10,11 +10,3 @@ Rose-from_before a b c le rose = elim rose as (λ _. Rose a c) [ inl lt ↦ inl 
 -- the call comes first
 pub Rose-to_after : (a b c : ℕ) → a ≤ b → Rose a b → b ≤ c → Rose a c
 Rose-to_after a b c le rose le2 = grind arith
-
--- one more fault is a rise
-pub Rose-next_count : (n : ℕ) → Rose n (next_count n)
-Rose-next_count n = grind arith
-
--- a count doesn't fall by one more fault
-pub le-next_count : (n : ℕ) → n ≤ last_count → n ≤ next_count n
-le-next_count n h = omega arith

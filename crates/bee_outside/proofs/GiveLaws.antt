@@ -47,12 +47,6 @@ module _ (before : List (List ℕ × List ℕ)) (step : ℕ) (name : List ℕ) (
       gives.found ∙ ap Some (sym (take-append-drop size gives.bytes)) ∙ ap (λ z. Some (z ++ drop size gives.bytes)) (sym came)
       ∙ ap (in_front (take size into')) (sym left-given)
 
-  -- the rest of the slice stays
-  pub rest-given : drop size into' ≡ drop size into
-  rest-given =
-      let long : length (take size gives.bytes) ≡ size = length-take-le size gives.bytes size-given in
-      ap (drop size) gives.slice ∙ drop_at (take size gives.bytes) (drop size into) size long
-
   -- the name stays told
   pub told-given : IsTold (left_under after name) ↔ IsTold (left_under before name)
   told-given = (λ _. rw gives.found refl, λ _. rw left-given refl)

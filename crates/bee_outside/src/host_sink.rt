@@ -1,6 +1,7 @@
 //! The sink over a real stream.
 
-ghost use Rattle.std.specs.Prelude.{◌≡◌, None};
+ghost use Rattle.std.specs.Prelude.{◌≡◌, ◌≤◌, ◌<◌, None, length, IfOk, OnErr, is_ok, if◌then◌else◌};
+ghost use Rattle.bee_outside.specs.Faults.{Rose, next_count};
 
 use crate::failed::Failed;
 use crate::sink::Sink;
@@ -47,7 +48,13 @@ impl<W: Write> Sink for HostSink<W> {
 
     ghost faults = { λ s. s };
 
-    fn put(&mut self, piece: &[u8]) -> Result<usize, Failed> {
+    fn put(&mut self, piece: &[u8]) -> Result<usize, Failed>
+        ensures count_stays_or_rises { self.old ≤ self.new }
+        ensures fits { IfOk result (λ k. k ≤ length piece.now) }
+        ensures takes_some { IfOk result (λ k. 0 < length piece.now → 1 ≤ k) }
+        ensures fault_is_counted { OnErr result (Rose self.old self.new) }
+        ensures counts_faults_alone { self.new ≡ (if is_ok result then self.old else next_count self.old) }
+    {
         if piece.is_empty() {
             return Ok(0);
         }
@@ -60,7 +67,11 @@ impl<W: Write> Sink for HostSink<W> {
         }
     }
 
-    fn flush(&mut self) -> Result<(), Failed> {
+    fn flush(&mut self) -> Result<(), Failed>
+        ensures count_stays_or_rises { self.old ≤ self.new }
+        ensures fault_is_counted { OnErr result (Rose self.old self.new) }
+        ensures counts_faults_alone { self.new ≡ (if is_ok result then self.old else next_count self.old) }
+    {
         match self.writer.flush() {
             Ok(()) => Ok(()),
             Err(_) => {

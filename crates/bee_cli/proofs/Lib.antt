@@ -1,2 +1,4 @@
 pub mod Lowering
 pub mod Solutions
+pub mod Compiling
+pub mod Modes

@@ -30,7 +30,10 @@ fn write_model(alloc: Global, model: SmallModel) -> Result<Vec<u8>, AllocError>
 pub fn compile_text(alloc: Global, text: &[u8]) -> Result<Vec<u8>, SmallFault>
     ensures { CompilesOr text.now result }
 {
-    let model = read_small(alloc, text)?;
+    let model = match read_small(alloc, text) {
+        Ok(model) => model,
+        Err(fault) => return Err(fault),
+    };
     match write_model(alloc, model) {
         Ok(written) => Ok(written),
         Err(AllocError) => Err(SmallFault::Memory),

@@ -4,8 +4,11 @@
 mod compile;
 mod exit_code;
 mod lower;
+mod reporting;
+mod running;
 mod status;
 mod words;
 
 pub use exit_code::code;
+pub use running::run;
 pub use status::{ModelFault, Status};

@@ -1,1 +1,5 @@
 pub mod Written
+pub mod SpelledWords
+pub mod WordsTell
+pub mod LinesTell
+pub mod TextTells

@@ -1,3 +1,4 @@
 pub mod CompiledText
+pub mod TextLaws
 pub mod TextSolutions
 pub mod Written

@@ -2,7 +2,9 @@
 #![tactic(auto)]
 
 mod entry;
+mod laws;
 mod write;
 
 pub use entry::MapEntry;
+pub use laws::text_laws;
 pub use write::write_map;

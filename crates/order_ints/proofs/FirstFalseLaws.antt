@@ -1,5 +1,5 @@
 -- What the place of the first false clause says.
-use Rattle.std.proofs.Common.{◌≡◌, ℕ, zero, suc, ◌+◌, ◌<◌, ◌≤◌, Bool, true, false, ◌&&◌, cond, List, [], ◌∷◌, ◌↔◌, Option, None, Some, length, get_or, is_some, IsTrue, IsNone, IfSome, refl, sym, ap, ◌∙◌, subst, arith}
+use Rattle.std.proofs.Common.{◌≡◌, ℕ, zero, suc, ◌+◌, ◌<◌, Bool, true, false, ◌&&◌, cond, List, [], ◌∷◌, ◌↔◌, Option, Some, get_or, IsTrue, IsNone, IfSome, refl, sym, subst, arith}
 use Rattle.std.proofs.lemmas.Bool.{true≢false, false≢true}
 use Rattle.std.proofs.lemmas.Option.{IfSome_then}
 use Rattle.order_ints.specs.declared.literal.Lit.{Lit}

@@ -1,6 +1,6 @@
 -- The order of literals by a number for each: literals that ascend by it, and a literal put at its place.
-use Rattle.std.proofs.Common.{◌≡◌, ℕ, ◌+◌, ◌<◌, ◌≤◌, Bool, true, false, cond, not, ◌||◌, ◌&&◌, eqb, ltb, nat_lt, ◌==◌, List, [], ◌∷◌, ◌⊎◌, inl, inr, Decides, refl, sym, ap, ◌∙◌, subst, arith, Ordering, IsPermutation, IsSorted, if◌then◌else◌, true≢false, Less}
-use Rattle.std.specs.List.{list_any, dedup, dedup_from, AllByRecursion}
+use Rattle.std.proofs.Common.{◌≡◌, ℕ, ◌+◌, ◌<◌, ◌≤◌, Bool, true, false, cond, not, ◌||◌, ◌&&◌, eqb, ltb, nat_lt, ◌==◌, List, [], ◌∷◌, ◌⊎◌, inl, inr, refl, sym, ap, ◌∙◌, subst, arith, Ordering, IsPermutation, IsSorted, true≢false, Less}
+use Rattle.std.specs.List.{dedup, dedup_from, AllByRecursion}
 use Rattle.std.specs.List.Sorted.{IsStrictlySortedBy}
 use Rattle.std.specs.Ordering.{nat_cmp, bool_cmp, ordering_then, is_eq, eq_by_cmp}
 use Rattle.std.specs.Cmp.{IsTotalOrder, bool_cmp_total, booleans_Decides}
@@ -11,8 +11,7 @@ use Rattle.std.proofs.lemmas.Cmp.{then_total, on_total, nat_cmp_total}
 use Rattle.std.proofs.lemmas.List.Kept.{IsStrictlySortedBy-dedup}
 use Rattle.std.proofs.lemmas.List.Sorted.{list_any-IsPermutation}
 use Rattle.order_ints.specs.declared.literal.Lit.{Lit}
-use Rattle.order_ints.specs.Truth.{not_lit}
-use Rattle.order_ints.specs.OrderedClauses.{same_lit, stands_before, has_lit, has_opposites, place_lit, by_variable}
+use Rattle.order_ints.specs.OrderedClauses.{same_lit, stands_before, has_lit, place_lit, by_variable}
 
 -- the number of a sign
 abbrev pub sign_key : Bool → ℕ
@@ -105,8 +104,10 @@ put l m ms = by (cases_order (key l) (key m))
   where
     yes : (a b : List Lit) (t : Bool) → t ≡ true → cond t a b ≡ a
     yes a b t e = ap (λ x. cond x a b) e
+
     no : (a b : List Lit) (t : Bool) → t ≡ false → cond t a b ≡ b
     no a b t e = ap (λ x. cond x a b) e
+
     by : ((key l ≡ key m) ⊎ ((key l < key m) ⊎ (key m < key l))) → Put l m ms
     by (inl e) = here e (yes (m ∷ ms) _ (same_lit l m) (same_lit_key l m ∙ eq-eqb (key l) (key m) e))
     by (inr (inl h)) = before h (no (m ∷ ms) _ (same_lit l m) (same_lit_key l m ∙ ne_eqb (key l) (key m) (λ e. omega (arith, e, h))) ∙ yes (l ∷ m ∷ ms) (m ∷ place_lit l ms) (stands_before l m) (stands_before_key l m ∙ lt-ltb (key l) (key m) h))
@@ -144,11 +145,13 @@ has_lit-place_lit k l (m ∷ ms) = by (put l m ms) (has_lit-place_lit k l ms)
     twice false false c e = refl
     twice true false c e = absurd (true≢false e)
     twice false true c e = absurd (false≢true e)
+
     past : (a b c d : Bool) → d ≡ (a || c) → (b || d) ≡ (a || (b || c))
     past true true c d e = refl
     past true false c d e = e
     past false true c d e = refl
     past false false c d e = e
+
     by : Put l m ms → has_lit k (place_lit l ms) ≡ (same_lit k l || has_lit k ms) → has_lit k (place_lit l (m ∷ ms)) ≡ (same_lit k l || has_lit k (m ∷ ms))
     by (here e p) r = ap (has_lit k) p ∙ twice (same_lit k l) (same_lit k m) (has_lit k ms) (same_lit_key k l ∙ ap (eqb (key k)) e ∙ sym (same_lit_key k m))
     by (before h p) r = ap (has_lit k) p
@@ -199,6 +202,7 @@ has_lit-dedup_from k l (m ∷ ms) = by (cases_Bool (same_lit m l)) (has_lit-dedu
     twice false false c e = refl
     twice true false c e = refl
     twice false true c e = absurd (true≢false e)
+
     by : ((same_lit m l ≡ true) ⊎ (same_lit m l ≡ false)) → has_lit k (dedup_from same_lit l ms) ≡ (same_lit k l || has_lit k ms) → has_lit k (dedup_from same_lit m ms) ≡ (same_lit k m || has_lit k ms) → has_lit k (dedup_from same_lit l (m ∷ ms)) ≡ (same_lit k l || has_lit k (m ∷ ms))
     by (inl t) r s =
         ap (λ b. has_lit k (cond b (dedup_from same_lit l ms) (l ∷ dedup_from same_lit m ms))) t ∙ r ∙ twice (same_lit k l) (same_lit k m) (has_lit k ms) (ap (same_lit k) (same_lit-true m l t))

@@ -1,5 +1,5 @@
 -- Clauses put in order are as true as they were, keep their variables' bound, and ascend by variable.
-use Rattle.std.proofs.Common.{◌≡◌, ℕ, ◌+◌, ◌<◌, Bool, true, false, not, ◌||◌, ◌&&◌, cond, List, [], ◌∷◌, ◌⊎◌, inl, inr, Option, None, Some, filter, filter_map, refl, sym, ap, ◌∙◌, subst}
+use Rattle.std.proofs.Common.{◌≡◌, ℕ, Bool, true, false, not, ◌||◌, ◌&&◌, cond, List, [], ◌∷◌, ◌⊎◌, inl, inr, Option, None, Some, filter, filter_map, refl, sym, ap, ◌∙◌, subst}
 use Rattle.std.specs.List.{cons_option, list_any}
 use Rattle.std.specs.Option.{option_and_then}
 use Rattle.std.proofs.lemmas.Bool.{cases_Bool, eq-eqb, or_cases, or_from, or_parts, or_left, or_right, true≢false}
@@ -46,11 +46,13 @@ clause_truth-place_lit σ l (m ∷ ms) = by (put l m ms) (clause_truth-place_lit
     twice false false c e = refl
     twice true false c e = absurd (true≢false (sym e))
     twice false true c e = refl
+
     swap : (a b c : Bool) → (b || (a || c)) ≡ (a || (b || c))
     swap true true c = refl
     swap true false c = refl
     swap false true c = refl
     swap false false c = refl
+
     by : Put l m ms → clause_truth σ (place_lit l ms) ≡ (lit_truth σ l || clause_truth σ ms) → clause_truth σ (place_lit l (m ∷ ms)) ≡ (lit_truth σ l || clause_truth σ (m ∷ ms))
     by (here e p) r = ap (clause_truth σ) p ∙ twice (lit_truth σ l) (lit_truth σ m) (clause_truth σ ms) (ap (lit_truth σ) (sym (same_lit-true l m (same_lit_key l m ∙ eq-eqb (key l) (key m) e))))
     by (before e p) r = ap (clause_truth σ) p

@@ -1,9 +1,9 @@
 -- What is below a bound stays below a greater one, is so in each part, and as a view has it.
-use Rattle.std.proofs.Common.{◌≡◌, ℕ, ◌+◌, ◌-◌, ◌<◌, ◌≤◌, Bool, true, false, not, cond, zero, suc, List, [], ◌∷◌, ◌++◌, length, get_or, refl, arith}
+use Rattle.std.proofs.Common.{ℕ, ◌-◌, ◌≤◌, Bool, true, false, cond, zero, suc, List, [], ◌∷◌, ◌++◌, get_or, arith}
 use Rattle.order_ints.specs.declared.literal.Lit.{Lit}
 use Rattle.order_ints.specs.declared.atom.Atom.{Atom}
 use Rattle.order_ints.specs.declared.atom.Atom.TheVariants.{True, False, Of}
-use Rattle.order_ints.specs.Truth.{not_lit, not_atom}
+use Rattle.order_ints.specs.Truth.{not_atom}
 use Rattle.order_ints.specs.Place.{LitBelow, AtomBelow, ClauseBelow, ClausesBelow, AtomsBelow, AtomClausesBelow}
 use Rattle.order_ints.specs.View.{label_of, resolve}
 
@@ -52,6 +52,7 @@ module _ (n : ℕ) where
     where
       label : AtomBelow n (label_of view l.var)
       label = AtomBelow-get_or view (l.var - 1) (Of (record { var = l.var; positive = true })) v h
+
       by : (p : Bool) → AtomBelow n (cond p (label_of view l.var) (not_atom (label_of view l.var)))
       by true = label
       by false = AtomBelow-not_atom (label_of view l.var) label

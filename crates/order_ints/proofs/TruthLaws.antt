@@ -1,5 +1,5 @@
 -- Truth of literals, atoms and clauses: negation, what it depends on, appended lists, and views.
-use Rattle.std.proofs.Common.{◌≡◌, ℕ, ◌+◌, ◌-◌, ◌<◌, ◌≤◌, Bool, true, false, not, ◌||◌, ◌&&◌, cond, List, [], ◌∷◌, ◌++◌, ◌⊎◌, inl, inr, length, get_or, refl, sym, ap, ◌∙◌, arith}
+use Rattle.std.proofs.Common.{◌≡◌, ℕ, ◌-◌, ◌<◌, ◌≤◌, Bool, true, false, not, ◌||◌, ◌&&◌, cond, List, [], ◌∷◌, ◌++◌, ◌⊎◌, inl, inr, length, refl, sym, ap, ◌∙◌, arith}
 use Rattle.std.proofs.lemmas.Bool.{cases_lt}
 use Rattle.std.proofs.lemmas.List.{get_or_past}
 use Rattle.order_ints.specs.declared.literal.Lit.{Lit}
@@ -9,7 +9,7 @@ use Rattle.order_ints.specs.Truth.{Valuation, Agree, lit_truth, atom_truth, not_
 use Rattle.order_ints.specs.Satisfies.{clause_truth, clauses_truth}
 use Rattle.order_ints.specs.AtomClauses.{atom_clause_truth, atom_clauses_truth}
 use Rattle.order_ints.specs.Place.{LitBelow, AtomBelow, ClauseBelow, ClausesBelow, AtomsBelow, AtomClausesBelow}
-use Rattle.order_ints.specs.View.{label_of, resolve, resolve_lit, MeetsView}
+use Rattle.order_ints.specs.View.{label_of, resolve, MeetsView}
 
 -- a negated literal has the negated truth
 pub lit_truth-not_lit : (σ : Valuation) (l : Lit) → lit_truth σ (not_lit l) ≡ not (lit_truth σ l)
@@ -94,6 +94,7 @@ atom_truth-resolve σ view n meets (Of l) h = by l.positive
   where
     label : Atom
     label = label_of view l.var
+
     by : (p : Bool) → atom_truth σ (cond p (label_of view l.var) (not_atom (label_of view l.var))) ≡ cond p (σ l.var) (not (σ l.var))
     by true = atom_truth-label_of σ view meets l.var h.0
     by false = atom_truth-not_atom σ (label_of view l.var) ∙ ap not (atom_truth-label_of σ view meets l.var h.0)

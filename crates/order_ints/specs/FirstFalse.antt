@@ -1,5 +1,5 @@
 -- The first clause that a valuation makes false.
-use Rattle.std.specs.Prelude.{◌≡◌, ℕ, ◌+◌, ◌<◌, Bool, true, false, List, [], ◌∷◌, Option, None, Some, length, slice_index_or, if◌then◌else◌}
+use Rattle.std.specs.Prelude.{◌≡◌, ℕ, ◌+◌, ◌<◌, true, false, List, [], ◌∷◌, Option, None, Some, length, slice_index_or, if◌then◌else◌}
 use Rattle.order_ints.specs.declared.literal.Lit.{Lit}
 use Rattle.order_ints.specs.Truth.{Valuation}
 use Rattle.order_ints.specs.Satisfies.{clause_truth}

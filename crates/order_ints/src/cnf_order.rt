@@ -125,7 +125,7 @@ pub fn ordered_cnf(
     // Under each valuation that meets the view, the CNF is as true as the clauses.
     ensures same_truth { IfOk result
         (λ cnf. (σ : Valuation) → (n : ℕ) → MeetsView σ view.now → AtomClausesBelow n clauses.now
-            → clauses_truth σ cnf.clauses ≡ atom_clauses_truth σ clauses.now) }
+        → clauses_truth σ cnf.clauses ≡ atom_clauses_truth σ clauses.now) }
 
     // Where the atoms' variables are from 1 to `vars`, so are the CNF's.
     ensures in_range { IfOk result

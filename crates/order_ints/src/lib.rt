@@ -18,3 +18,6 @@ pub use cnf_truth::{first_false, is_clause_true};
 pub use literal::Lit;
 pub use order_int::{MapValue, OrdInt};
 pub use view::{label_of, resolve};
+
+#[cfg(test)]
+mod cnf_tests;

@@ -25,7 +25,11 @@ pub fn resolve(view: &[Atom], atom: Atom) -> Atom
         Atom::False => Atom::False,
         Atom::Of(literal) => {
             let label = label_of(view, literal.var());
-            if literal.positive() { label } else { label.not() }
+            if literal.positive() {
+                label
+            } else {
+                label.not()
+            }
         }
     }
 }

@@ -3,8 +3,8 @@ use Rattle.order_ints.proofs.cnf_laws.parts_law.Goals as goal
 
 pub returns : goal.returns
 returns c = record {
-    clause = clause_truth-append;
-    atom_clause = atom_clause_truth-append;
-    clauses = clauses_truth-append;
-    atom_clauses = atom_clauses_truth-append;
+  clause = clause_truth-append;
+  atom_clause = atom_clause_truth-append;
+  clauses = clauses_truth-append;
+  atom_clauses = atom_clauses_truth-append;
 }

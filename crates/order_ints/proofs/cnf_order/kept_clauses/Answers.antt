@@ -1,5 +1,5 @@
 -- Each clause adds what it leaves when it is put in order, unless it is there.
-use Rattle.std.proofs.Common.{◌≡◌, ◌+◌, List, map, drop, get_or, length, sym, ap, ◌∙◌, arith}
+use Rattle.std.proofs.Common.{◌≡◌, ◌+◌, List, map, drop, get_or, sym, ap, ◌∙◌, arith}
 use Rattle.std.proofs.lemmas.List.{at_drop_more, at_drop_all}
 use Rattle.order_ints.specs.declared.literal.Lit.{Lit}
 use Rattle.order_ints.specs.OrderedClauses.{ordered_clause}
@@ -14,10 +14,10 @@ loop-clause-preserved c =
     let i = c.loop-clause.clause-index in
     let after = drop (i + 1) c.args.clauses.now in
     let more : map literals_of c.match-branch-2.kept.keys ≡ with_ordered before (ordered_clause view c.as_slice.result.now) =
-        elim c.match-branch-2.branch [
-            in-Some+in_ok-insert w ↦ ap (map literals_of) (ap (λ s. s.keys) w.kept-is ∙ w.in_ok-insert.ensures.keys) ∙ with_clause-insert c.loop-clause.kept.keys w.into_vec.result ∙ ap (with_clause before) w.into_vec.ensures ∙ ap (with_ordered before) (sym w.in-Some.is ∙ c.in_ok-literals.ensures)
-            | in_default w ↦ ap (map literals_of) (ap (λ s. s.keys) w.kept-is) ∙ ap (with_ordered before) (sym w.in_default.is ∙ c.in_ok-literals.ensures)
-        ] in
+    elim c.match-branch-2.branch [
+      | in-Some+in_ok-insert w ↦ ap (map literals_of) (ap (λ s. s.keys) w.kept-is ∙ w.in_ok-insert.ensures.keys) ∙ with_clause-insert c.loop-clause.kept.keys w.into_vec.result ∙ ap (with_clause before) w.into_vec.ensures ∙ ap (with_ordered before) (sym w.in-Some.is ∙ c.in_ok-literals.ensures)
+      | in_default w ↦ ap (map literals_of) (ap (λ s. s.keys) w.kept-is) ∙ ap (with_ordered before) (sym w.in_default.is ∙ c.in_ok-literals.ensures)
+    ] in
     let step = at_drop_more (with_all view before) c.args.clauses.now i c.clause-item.result (omega arith) in
     let item : get_or c.args.clauses.now i c.clause-item.result ≡ c.as_slice.result.now = sym c.clause-item.is ∙ sym c.as_slice.ensures in
     ap (λ ks. with_all view ks after) (more ∙ ap (λ d. with_ordered before (ordered_clause view d)) (sym item)) ∙ sym step ∙ c.loop-clause.invariant

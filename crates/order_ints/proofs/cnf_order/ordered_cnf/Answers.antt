@@ -1,9 +1,8 @@
 -- The clauses put in order are as true as they were, keep their variables' bound, and ascend.
-use Rattle.std.proofs.Common.{◌≡◌, ◌+◌, List, sym, ap, ◌∙◌, subst}
-use Rattle.order_ints.specs.declared.literal.Lit.{Lit}
+use Rattle.std.proofs.Common.{◌+◌, sym, ap, ◌∙◌, subst}
 use Rattle.order_ints.specs.Place.{ClausesBelow}
 use Rattle.order_ints.specs.Satisfies.{clauses_truth}
-use Rattle.order_ints.specs.OrderedClauses.{ordered_clauses, ClausesAscend}
+use Rattle.order_ints.specs.OrderedClauses.{ClausesAscend}
 use Rattle.order_ints.proofs.OrderedLaws.{clauses_truth-ordered_clauses, ClausesBelow-ordered_clauses, ClausesAscend-ordered_clauses}
 use Rattle.order_ints.proofs.cnf_order.ordered_cnf.Goals as goal
 

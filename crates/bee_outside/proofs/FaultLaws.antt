@@ -1,6 +1,5 @@
 -- A count that rose in one of several calls rose over all of them.
-use Rattle.std.proofs.Common.{◌≡◌, ℕ, ◌≤◌, ◌<◌, arith, inl, inr}
-use Rattle.std.specs.Prelude.{◌⊎◌}
+use Rattle.std.proofs.Common.{ℕ, ◌≤◌, arith, inl, inr}
 use Rattle.bee_outside.specs.Faults.{Rose}
 
 -- the call comes later

@@ -1,6 +1,6 @@
 -- Lists of files that are changed one after another.
-use Rattle.std.proofs.Common.{◌≡◌, ℕ, ◌≤◌, ◌<◌, ◌+◌, List, [], ◌∷◌, ◌++◌, length, take, drop, map, set, get_or, reverse, arith, refl, ap, sym, ◌∙◌, add-zero}
-use Rattle.std.proofs.lemmas.List.{take_at, take_more_set, map_push, map_more, drop-set-lt, drop-drop, get_or-drop, reverse-append, take-append-drop, reverse-reverse, with_items_is, length-reverse}
+use Rattle.std.proofs.Common.{◌≡◌, ℕ, ◌<◌, ◌+◌, List, [], ◌∷◌, ◌++◌, length, take, drop, map, set, get_or, reverse, arith, ap, sym, ◌∙◌, add-zero}
+use Rattle.std.proofs.lemmas.List.{take_at, take_more_set, map_push, map_more, drop-set-lt, drop-drop, get_or-drop, reverse-reverse, with_items_is, length-reverse}
 use Rattle.std.specs.Prelude.{string_bytes, String}
 use Rattle.std.specs.Global.{Vec, Global}
 use Rattle.std.specs.Vec.{with_items}

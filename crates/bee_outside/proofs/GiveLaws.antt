@@ -1,7 +1,7 @@
 -- What is given from the front of a file.
-use Rattle.std.proofs.Common.{◌≡◌, ℕ, ◌≤◌, List, ◌++◌, length, take, drop, map, set, get_or, min, reverse, arith, refl, ap, sym, ◌∙◌, Some, None, length-append}
-use Rattle.std.proofs.lemmas.List.{take_at, drop_at, length-reverse}
-use Rattle.bee_outside.specs.MemShelf.{left_under, without_front}
+use Rattle.std.proofs.Common.{◌≡◌, ℕ, ◌≤◌, List, ◌++◌, length, take, drop, map, set, get_or, min, arith, refl, ap, sym, ◌∙◌, Some}
+use Rattle.std.proofs.lemmas.List.{take_at, drop_at}
+use Rattle.bee_outside.specs.MemShelf.{left_under}
 use Rattle.bee_outside.specs.MemFiles.{GivesFront}
 use Rattle.std.proofs.lemmas.List.{length-take-le, take-append-drop}
 use Rattle.std.proofs.Common.{subst}
@@ -16,7 +16,7 @@ GivesFront-from_moved v name xs i step d y into piece later size first same_name
     let gone : drop size file.1 ≡ later = ap (drop size) moved ∙ drop_at piece later size long in
     let came : take size file.1 ≡ piece = ap (take size) moved ∙ take_at piece later size long in
     let changed : v y ≡ (file.0, drop size file.1) =
-      ap (λ z. (z, (v y).1)) same_name ∙ ap (λ z. (file.0, z)) (left ∙ sym gone) in
+    ap (λ z. (z, (v y).1)) same_name ∙ ap (λ z. (file.0, z)) (left ∙ sym gone) in
     record {
       bytes = file.1;
       found = first.left d;

@@ -1,5 +1,5 @@
 -- What is left under a name in a list of files, and after its first bytes are gone.
-use Rattle.std.proofs.Common.{◌≡◌, ℕ, zero, suc, ◌≤◌, ◌<◌, ◌+◌, List, [], ◌∷◌, ◌++◌, length, take, drop, map, set, get_or, Bool, true, false, cond, arith, refl, ap, sym, ◌∙◌, inl, inr, Option, Some, None, add-zero}
+use Rattle.std.proofs.Common.{◌≡◌, ℕ, suc, ◌<◌, ◌+◌, List, [], ◌∷◌, length, drop, map, set, get_or, Bool, true, false, cond, arith, refl, ap, sym, ◌∙◌, inl, inr, Some, None, add-zero}
 use Rattle.std.specs.Prelude.{◌≢◌, ◌⊎◌, bytes_eq}
 use Rattle.std.proofs.Common.{subst}
 use Rattle.std.specs.List.{position_from}
@@ -15,8 +15,8 @@ holds_or_not false = inr refl
 bytes_eq-other : (file name other : List ℕ) → bytes_eq file name ≡ true → other ≢ name → bytes_eq file other ≡ false
 bytes_eq-other file name other e ne =
     elim (holds_or_not (bytes_eq file other)) as (λ _. bytes_eq file other ≡ false) [
-      inl t ↦ absurd (ne (sym ((bytes_eq-Decides file other).0 t) ∙ (bytes_eq-Decides file name).0 e))
-    | inr f ↦ f
+      | inl t ↦ absurd (ne (sym ((bytes_eq-Decides file other).0 t) ∙ (bytes_eq-Decides file name).0 e))
+      | inr f ↦ f
     ]
 
 -- under another name the same is left
@@ -24,8 +24,8 @@ pub left_under-other : (files : List (List ℕ × List ℕ)) (name other : List 
 left_under-other [] name other count ne = refl
 left_under-other (file ∷ files) name other count ne =
     elim (holds_or_not (bytes_eq file.0 name)) as (λ _. left_under (without_front (file ∷ files) name count) other ≡ left_under (file ∷ files) other) [
-      inl t ↦ rw t (rw (bytes_eq-other file.0 name other t ne) refl)
-    | inr f ↦ rw f (ap (cond (bytes_eq file.0 other) (Some file.1)) (left_under-other files name other count ne))
+      | inl t ↦ rw t (rw (bytes_eq-other file.0 name other t ne) refl)
+      | inr f ↦ rw f (ap (cond (bytes_eq file.0 other) (Some file.1)) (left_under-other files name other count ne))
     ]
 
 -- under the name itself the bytes behind those are left
@@ -33,8 +33,8 @@ pub left_under-same : (files : List (List ℕ × List ℕ)) (name bytes : List �
 left_under-same [] name bytes count h = cc
 left_under-same (file ∷ files) name bytes count h =
     elim (holds_or_not (bytes_eq file.0 name)) as (λ _. left_under (without_front (file ∷ files) name count) name ≡ Some (drop count bytes)) [
-      inl t ↦ rw (t, t) (let e : file.1 ≡ bytes = cc (rw t at h) in ap (λ z. Some (drop count z)) e)
-    | inr f ↦ rw (f, f) (left_under-same files name bytes count (rw f at h))
+      | inl t ↦ rw (t, t) (let e : file.1 ≡ bytes = cc (rw t at h) in ap (λ z. Some (drop count z)) e)
+      | inr f ↦ rw (f, f) (left_under-same files name bytes count (rw f at h))
     ]
 
 -- the first element with the name stands at i: what is left under the name, and what a change of it makes
@@ -64,9 +64,9 @@ first_found : {X : Type 0} (v : X → List ℕ × List ℕ) (name : List ℕ) (x
 first_found v name [] from i h = cc
 first_found v name (x ∷ xs) from i h =
     elim (holds_or_not (bytes_eq (v x).0 name)) as (λ _. (k : ℕ) × ((i ≡ from + k) × FirstAt v name (x ∷ xs) k)) [
-      inl t ↦ (0, (let e : from ≡ i = cc (rw t at h) in sym e ∙ sym (add-zero from), first_here v name x xs t))
-    | inr f ↦ let later = first_found v name xs (from + 1) i (rw f at h) in
-        (suc later.0, (omega (arith, later.1.0), first_later v name x xs later.0 f later.1.1))
+      | inl t ↦ (0, (let e : from ≡ i = cc (rw t at h) in sym e ∙ sym (add-zero from), first_here v name x xs t))
+      | inr f ↦ let later = first_found v name xs (from + 1) i (rw f at h) in
+          (suc later.0, (omega (arith, later.1.0), first_later v name x xs later.0 f later.1.1))
     ]
 
 -- the first element with the name, where the search began at the list's start
@@ -81,6 +81,6 @@ pub left_under-missing : {X : Type 0} (v : X → List ℕ × List ℕ) (name : L
 left_under-missing v name [] from h = refl
 left_under-missing v name (x ∷ xs) from h =
     elim (holds_or_not (bytes_eq (v x).0 name)) as (λ _. left_under (map v (x ∷ xs)) name ≡ None) [
-      inl t ↦ let e : Some from ≡ None = rw t at h in cc
-    | inr f ↦ rw f (left_under-missing v name xs (from + 1) (rw f at h))
+      | inl t ↦ let e : Some from ≡ None = rw t at h in cc
+      | inr f ↦ rw f (left_under-missing v name xs (from + 1) (rw f at h))
     ]

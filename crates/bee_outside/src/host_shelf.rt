@@ -7,11 +7,10 @@ use crate::failed::Failed;
 use crate::names::place_of;
 use crate::shelf::Shelf;
 use std::alloc::Global;
-use std::fs;
-use std::io;
 use std::io::Read;
 use std::marker::Model;
 use std::rt::Files;
+use std::{fs, io};
 
 /// The name under which standard input stands. A file of that name is written `./stdin`.
 const STANDARD_INPUT: &str = "stdin";

@@ -94,12 +94,7 @@ impl Shelf for MemShelf {
 
 /// Gives the next bytes of the first file with the name: so many as the slice has room for, at most the
 /// step, and no more than are left. Where no file has the name, nothing happens.
-fn give(
-    files: &mut [(String, Vec<u8>)],
-    step: usize,
-    name: &str,
-    into: &mut [u8],
-) -> Option<usize>
+fn give(files: &mut [(String, Vec<u8>)], step: usize, name: &str, into: &mut [u8]) -> Option<usize>
     ensures gives { MatchOption result
         (GivesNothing (map kept_file files.old) name.now (map kept_file files.new) into.old into.new)
         (GivesFront (map kept_file files.old) step name.now (map kept_file files.new) into.old into.new) }

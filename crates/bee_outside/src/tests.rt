@@ -1,16 +1,15 @@
 //! The fakes at each failing call, with small and large steps, and the host's shelf and sink.
 
+ghost use Rattle.std.specs.Prelude.{◌≤◌};
+
 use crate::{
     Failed, HostShelf, HostSink, MemShelf, MemSink, ReadFault, ReadText, Shelf, Sink, read_all,
     write_all,
 };
 use std::alloc::{AllocError, Global};
-use std::env;
-use std::fs;
-use std::io;
 use std::io::Write;
-use std::process::Abort;
 use std::test::Fail;
+use std::{env, fs, io, process};
 
 fn numbers(alloc: Global, list: &[u64]) -> Result<Vec<u64>, AllocError> {
     Vec::from_slice(alloc, list)
@@ -107,7 +106,11 @@ fn writes_until_the_fault_or_the_room(rt: HostRuntime) -> Result<(), Fail> {
 #[test]
 fn reads_standard_input_and_files_that_stay_open(rt: HostRuntime) -> Result<(), Fail> {
     let alloc = rt.alloc();
-    let path = format!(in alloc; "{}/bee_outside_{}", env::temp_dir(&rt)?.display(), rt.process().id())?;
+    let path = format!(in alloc;
+        "{}/bee_outside_{}",
+        env::temp_dir(&rt)?.display(),
+        process::id(rt.process())
+    )?;
     fs::write(&rt, path.as_str(), b"a file")?;
     let mut shelf = HostShelf::new(alloc, &rt, b"typed in".as_slice());
     let typed = read_all(alloc, &mut shelf, "stdin", None);

@@ -1,5 +1,5 @@
-use Rattle.std.proofs.Common.{arith, rules, ◌≡◌, ◌<◌, length, ◌∙◌, sym, refl, ap, reverse, slice_index_or, None}
-use Rattle.bee_outside.specs.MemFiles.{kept_file, GivesNothing, GivesFront}
+use Rattle.std.proofs.Common.{arith, sym, refl, reverse, slice_index_or}
+use Rattle.bee_outside.specs.MemFiles.{kept_file}
 use Rattle.std.proofs.lemmas.List.{length-reverse, length-take}
 use Rattle.bee_outside.proofs.NameLaws.{FirstAt-from_position, left_under-missing}
 use Rattle.bee_outside.proofs.GiveLaws.{GivesFront-from_moved}

@@ -1,4 +1,4 @@
-use Rattle.std.proofs.Common.{arith, ◌≡◌, ◌<◌, length, ◌∙◌, ap, reverse, slice_index_or}
+use Rattle.std.proofs.Common.{arith, ◌∙◌, ap, reverse, slice_index_or}
 use Rattle.bee_outside.specs.MemShelf.{given_file}
 use Rattle.bee_outside.specs.MemFiles.{kept_file}
 use Rattle.bee_outside.proofs.FileLaws.{map_in_place_more, ahead_more, kept_file-reversed}

@@ -1,4 +1,4 @@
-use Rattle.std.proofs.Common.{rules, arith, ◌≡◌, ◌≤◌, ◌+◌, List, ℕ, ◌++◌, length, take, drop, ap, sym, ◌∙◌, Option}
+use Rattle.std.proofs.Common.{arith}
 use Rattle.bee_outside.proofs.ByteLaws.{TookPiece-after_text, within-smaller}
 use Rattle.std.proofs.lemmas.List.{length-take}
 use Rattle.bee_outside.proofs.reading.read_all.Goals as goal

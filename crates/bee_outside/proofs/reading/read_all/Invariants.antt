@@ -1,4 +1,4 @@
-use Rattle.std.proofs.Common.{◌≡◌, ◌≢◌, ℕ, ◌≤◌, ◌<◌, ◌-◌, ◌^◌, List, length, vec_len, IfSome}
+use Rattle.std.proofs.Common.{◌≡◌, ◌≢◌, ℕ, ◌≤◌, ◌-◌, ◌^◌, List, length, vec_len, IfSome}
 use Rattle.bee_outside.specs.Bytes.{in_front}
 use Rattle.bee_outside.proofs.reading.read_all.Given as goal
 

@@ -1,5 +1,4 @@
-use Rattle.std.proofs.Common.{rules, arith, ◌≡◌, ◌≤◌, ◌+◌, List, ℕ, ◌++◌, length, take, drop, ap, sym, ◌∙◌, Option}
-use Rattle.bee_outside.specs.Bytes.{grown}
+use Rattle.std.proofs.Common.{arith}
 use Rattle.std.proofs.lemmas.List.{take_rest}
 use Rattle.bee_outside.proofs.ByteLaws.{grown_more}
 use Rattle.bee_outside.proofs.writing.write_all.Goals as goal

@@ -1,4 +1,4 @@
-use Rattle.std.proofs.Common.{arith, rules, ◌≡◌, ◌++◌, List, ℕ, map, take, drop, length, ◌∙◌, sym, refl, ap}
+use Rattle.std.proofs.Common.{arith, ◌≡◌, ◌++◌, map, take, drop, length, ◌∙◌, ap}
 use Rattle.bee_outside.specs.MemFiles.{kept_file, GivesFront}
 use Rattle.bee_outside.proofs.FileLaws.{take-whole}
 use Rattle.bee_outside.proofs.GiveLaws.{GivesFront-along, moved-given, told-given, others-given}

@@ -2,3 +2,4 @@ pub mod Lowering
 pub mod Solutions
 pub mod Compiling
 pub mod Modes
+pub mod Headline

@@ -6,6 +6,7 @@ use Rattle.bee_outside.specs.Faults.{Rose}
 use Rattle.bee_outside.specs.Bytes.{in_front, NothingLeft, TookPiece}
 use Rattle.bee_cli.specs.Compiled.{Compiles, IsOfLanguage}
 use Rattle.bee_cli.specs.CompileMode.{longest_text, ReadWhole, Seen, IsSilent, IsHeadline, WroteWhole, WroteFront, IsForeign, IsTooLong, Says, NoFault, Answers, CompileMode}
+use Rattle.bee_cli.proofs.Headline.{headline}
 use Rattle.bee_cli.specs.declared.status.Status.{Status}
 use Rattle.bee_cli.specs.declared.status.Status.TheVariants.{Done, Usage, Model, Read, Write, Memory}
 use Rattle.bee_cli.specs.declared.status.ModelFault.TheVariants.{TooLong, Unsupported}
@@ -69,3 +70,11 @@ mode status seen s t b = record { says = s; answers = answers status seen s; sil
 -- what was read whole was taken within the limit
 pub took_text : (before after : Option (List ℕ)) (text : List ℕ) → before ≡ in_front text after → length text ≤ longest_text + 1 → TookPiece before after (Some (longest_text + 1))
 took_text before after text e h = record { piece = text; moved = e; within = h }
+
+-- a text below the limit and one byte is within it
+pub within_limit : (text : List ℕ) → length text < 16777217 → length text ≤ longest_text
+within_limit text h = omega arith
+
+-- the headline of what was compiled from a text that was lent
+pub headline_of : (text lent written : List ℕ) → length text ≤ longest_text → lent ≡ text → Compiles lent written → IsHeadline text written
+headline_of text lent written w e c = let P : List ℕ → Type 0 = λ t. Compiles t written in headline text written w (subst P e c)

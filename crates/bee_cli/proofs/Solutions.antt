@@ -5,8 +5,8 @@ use Rattle.order_ints.specs.Truth.{Valuation, atom_truth}
 use Rattle.order_ints.specs.Satisfies.{Satisfies, clauses_truth}
 use Rattle.order_ints.specs.AtomClauses.{atom_clause_truth, atom_clauses_truth}
 use Rattle.order_ints.specs.Place.{AtomBelow, AtomsBelow, AtomClausesBelow}
-use Rattle.order_ints.specs.View.{MeetsView}
-use Rattle.order_ints.specs.CnfLaws.{OrderedTruth, OrderedRange}
+use Rattle.order_ints.proofs.TruthLaws.{MeetsView-nil}
+use Rattle.order_ints.proofs.OrderedLaws.{clauses_truth-ordered_clauses, ClausesBelow-ordered_clauses}
 use Rattle.bumblebee_reader.specs.declared.small.model.SmallTerm.{SmallTerm}
 use Rattle.bumblebee_reader.specs.declared.small.model.SmallTerm.TheVariants.{Const, Of}
 use Rattle.bumblebee_reader.specs.declared.small.model.SmallModel.{SmallModel}
@@ -121,43 +121,43 @@ assignment_again names a e t =
         ∙ ap (λ q. cond (is_one (slice_index_or a q (pos 0))) (pos 1) (pos 0)) p
         ∙ number_again _ (truth_at a i k t))
 
--- the two laws of clauses put in order that are used here
-module _ (truth : OrderedTruth) (range : OrderedRange) (nothing : (σ : Valuation) → MeetsView σ []) where
-  -- the valuations that satisfy the clauses give exactly the solutions
-  pub satisfied : (m : SmallModel) → ArePlaced (length m.names) m.statements → (a : Assignment) → ((σ : Valuation) × Satisfies σ (cnf_of m) × (a ≡ assignment_of σ (entries_of m.names))) → IsSolution m a
-  satisfied m p a (σ, s, e) =
-      let n = length m.names + 1 in
-      let t = sym (truth σ [] n (nothing σ) (clauses_of m.statements) (clauses_below (length m.names) m.statements p)) ∙ s in
-      let P : Assignment → Type 0 = λ b. IsSolution m b in
-      subst P (sym e) (record {
-        in_domains = record { one_for_each = length-numbers σ 0 m.names; each = are_truth σ 0 m.names };
-        holds = all_hold σ m.names m.statements p t
-      })
+-- the clauses of a model put in order are as true as its clauses
+cnf_truth : (σ : Valuation) (m : SmallModel) → ArePlaced (length m.names) m.statements → clauses_truth σ (cnf_of m).clauses ≡ atom_clauses_truth σ (clauses_of m.statements)
+cnf_truth σ m p =
+    clauses_truth-ordered_clauses σ [] (length m.names + 1) (MeetsView-nil σ) (clauses_of m.statements) (clauses_below (length m.names) m.statements p)
 
-  pub solved : (m : SmallModel) → ArePlaced (length m.names) m.statements → (a : Assignment) → IsSolution m a → (σ : Valuation) × Satisfies σ (cnf_of m) × (a ≡ assignment_of σ (entries_of m.names))
-  solved m p a s =
-      let n = length m.names + 1 in
-      let σ = valuation_from a in
-      let e = assignment_again m.names a s.in_domains.one_for_each s.in_domains.each in
-      let P : Assignment → Type 0 = λ b. AllHold b m.statements in
-      (σ, truth σ [] n (nothing σ) (clauses_of m.statements) (clauses_below (length m.names) m.statements p) ∙ all_true σ m.names m.statements p (subst P (sym e) s.holds), sym e)
+-- the valuations that satisfy the clauses give solutions
+pub satisfied : (m : SmallModel) → ArePlaced (length m.names) m.statements → (a : Assignment) → ((σ : Valuation) × Satisfies σ (cnf_of m) × (a ≡ assignment_of σ (entries_of m.names))) → IsSolution m a
+satisfied m p a (σ, s, e) =
+    let P : Assignment → Type 0 = λ b. IsSolution m b in
+    subst P (sym e) (record {
+      in_domains = record { one_for_each = length-numbers σ 0 m.names; each = are_truth σ 0 m.names };
+      holds = all_hold σ m.names m.statements p (sym (cnf_truth σ m p) ∙ s)
+    })
 
-  -- the names, what they stand for and the clauses have a compiled text
-  pub writable : (m : SmallModel) → AreDeclared m.names → ArePlaced (length m.names) m.statements → length m.names < 2 ^ 32 → length (cnf_of m).clauses < 2 ^ 64 → IsWritable (entries_of m.names) (cnf_of m)
-  writable m d p few fits =
-      let Q : List (List ℕ) → Type 0 = λ l. AreDeclared l in
-      record {
-        names = subst Q (sym (names_of 0 m.names)) d;
-        values = values_below 0 m.names (length m.names + 1) (omega arith);
-        clauses = range (length m.names + 1) [] tt (clauses_of m.statements) (clauses_below (length m.names) m.statements p);
-        vars = few;
-        count = fits
-      }
-    where
-    names_of : (v : ℕ) (names : List (List ℕ)) → map (λ (e : MapEntry). e.name) (entries_from v names) ≡ names
-    names_of v [] = refl
-    names_of v (n ∷ names) = ap (λ l. n ∷ l) (names_of (v + 1) names)
+-- each solution is given by a valuation that satisfies the clauses
+pub solved : (m : SmallModel) → ArePlaced (length m.names) m.statements → (a : Assignment) → IsSolution m a → (σ : Valuation) × Satisfies σ (cnf_of m) × (a ≡ assignment_of σ (entries_of m.names))
+solved m p a s =
+    let e = assignment_again m.names a s.in_domains.one_for_each s.in_domains.each in
+    let P : Assignment → Type 0 = λ b. AllHold b m.statements in
+    (valuation_from a, cnf_truth (valuation_from a) m p ∙ all_true (valuation_from a) m.names m.statements p (subst P (sym e) s.holds), sym e)
 
-    values_below : (v : ℕ) (names : List (List ℕ)) (k : ℕ) → v + length names < k → EntriesBelow k (entries_from v names)
-    values_below v [] k h = tt
-    values_below v (n ∷ names) k h = ((omega arith, omega arith), values_below (v + 1) names k (omega arith))
+names-entries_from : (v : ℕ) (names : List (List ℕ)) → map (λ (e : MapEntry). e.name) (entries_from v names) ≡ names
+names-entries_from v [] = refl
+names-entries_from v (n ∷ names) = ap (λ l. n ∷ l) (names-entries_from (v + 1) names)
+
+values_below : (v : ℕ) (names : List (List ℕ)) (k : ℕ) → v + length names < k → EntriesBelow k (entries_from v names)
+values_below v [] k h = tt
+values_below v (n ∷ names) k h = ((omega arith, omega arith), values_below (v + 1) names k (omega arith))
+
+-- the names, what they stand for and the clauses have a compiled text
+pub writable : (m : SmallModel) → AreDeclared m.names → ArePlaced (length m.names) m.statements → length m.names < 2 ^ 32 → length (cnf_of m).clauses < 2 ^ 64 → IsWritable (entries_of m.names) (cnf_of m)
+writable m d p few fits =
+    let Q : List (List ℕ) → Type 0 = λ l. AreDeclared l in
+    record {
+      names = subst Q (sym (names-entries_from 0 m.names)) d;
+      values = values_below 0 m.names (length m.names + 1) (omega arith);
+      clauses = ClausesBelow-ordered_clauses (length m.names + 1) [] tt (clauses_of m.statements) (clauses_below (length m.names) m.statements p);
+      vars = few;
+      count = fits
+    }

@@ -1,0 +1,35 @@
+//! The program `bee`: hands the words of the command line, the files and the standard streams to the one
+//! call, and exits with the code of its status.
+#![tactic(auto)]
+
+use bee_cli::{Status, code, run};
+use bee_outside::{HostShelf, HostSink};
+use std::env;
+use std::io;
+use std::process::ExitCode;
+
+/// The status where the words of the command line can't be had: one that is no text is no word of the
+/// command.
+fn refused(error: &io::Error) -> Status {
+    if error.kind() == io::ErrorKind::OutOfMemory {
+        Status::Memory
+    } else {
+        Status::Usage
+    }
+}
+
+fn main(rt: HostRuntime) -> ExitCode {
+    let alloc = rt.alloc();
+    let words = match env::args(&rt) {
+        Ok(words) => words.collect(alloc),
+        Err(error) => return ExitCode::from(code(&refused(&error))),
+    };
+    let Ok(words) = words else {
+        return ExitCode::from(code(&Status::Memory));
+    };
+    let mut shelf = HostShelf::new(alloc, &rt, rt.reader());
+    let mut out = HostSink::new(rt.stdout());
+    let mut err = HostSink::new(rt.stderr());
+    let status = run(alloc, &words, &mut shelf, &mut out, &mut err);
+    ExitCode::from(code(&status))
+}

@@ -1,0 +1,163 @@
+//! Compile mode.
+
+use crate::outside::{AMPLE, Outside, run_over};
+use std::alloc::{AllocError, Global};
+use std::test::Fail;
+
+const COMPILE: [&str; 3] = ["bee", "compile", "m.bee"];
+
+/// One declared Boolean, and its compiled text.
+const ONE: &str = "new_bool(x)\nsolve satisfy\n";
+const ONE_COMPILED: &str = "c bee 1\nc bool x 1\np cnf 1 0\n";
+
+fn bytes(alloc: Global, text: &str) -> Result<Vec<u8>, AllocError> {
+    Vec::from_slice(alloc, text.as_bytes())
+}
+
+/// A goal behind so many blanks that the text has this length.
+fn padded(alloc: Global, length: usize) -> Result<Vec<u8>, AllocError> {
+    let goal = b"solve satisfy";
+    let mut text = vec![in alloc; b' '; length.saturating_sub(goal.len())]?;
+    text.extend_from_slice(goal)?;
+    Ok(text)
+}
+
+#[test]
+fn texts_are_compiled(rt: HostRuntime) -> Result<(), Fail> {
+    let alloc = rt.alloc();
+    for (text, compiled) in [
+        (ONE, ONE_COMPILED),
+        ("solve satisfy", "c bee 1\np cnf 0 0\n"),
+        (
+            "new_bool(a)\nnew_bool(b)\nbool_array_or([a,-b,a])\nsolve satisfy\n",
+            "c bee 1\nc bool a 1\nc bool b 2\np cnf 2 1\n1 -2 0\n",
+        ),
+        ("bool_array_or([])\nsolve satisfy\n", "c bee 1\np cnf 0 1\n0\n"),
+        ("bool_array_or([false])\nsolve satisfy\n", "c bee 1\np cnf 0 1\n0\n"),
+        ("bool_array_or([true])\nsolve satisfy\n", "c bee 1\np cnf 0 0\n"),
+        (
+            "new_bool ( a )\tnew_bool(_b2)\r\nbool_array_or([_b2, - a])solve\nsatisfy",
+            "c bee 1\nc bool a 1\nc bool _b2 2\np cnf 2 1\n-1 2 0\n",
+        ),
+        (
+            "new_bool(a)bool_array_or([a,-a])bool_array_or([-a,-a])solve satisfy",
+            "c bee 1\nc bool a 1\np cnf 1 1\n-1 0\n",
+        ),
+        (
+            "new_bool(a)new_bool(b)bool_array_or([a,b])bool_array_or([b,a])bool_array_or([a,b])solve satisfy",
+            "c bee 1\nc bool a 1\nc bool b 2\np cnf 2 1\n1 2 0\n",
+        ),
+        (
+            "new_bool(a)\nbool_array_or([])\nbool_array_or([a])\nsolve satisfy\n",
+            "c bee 1\nc bool a 1\np cnf 1 2\n0\n1 0\n",
+        ),
+    ] {
+        let run = run_over(alloc, COMPILE.as_slice(), bytes(alloc, text)?, AMPLE)?;
+        assert_eq!(rt; run.status.0, "done", "{text}");
+        assert_eq!(rt; run.out.taken(), compiled.as_bytes(), "{text}");
+        assert_eq!(rt; run.err.taken(), b"".as_slice(), "{text}");
+    }
+    Ok(())
+}
+
+#[test]
+fn other_texts_are_refused_with_their_line(rt: HostRuntime) -> Result<(), Fail> {
+    let alloc = rt.alloc();
+    for (text, line) in [
+        ("new_bool(x)\nint_leq(x,x)\nsolve satisfy\n", 2),
+        ("new_bool(x)", 1),
+        ("new_bool(x)\n", 2),
+        ("", 1),
+        ("% c\nsolve satisfy\n", 1),
+        ("new_bool(x)\nnew_bool(x)\nsolve satisfy\n", 2),
+        ("bool_array_or([x])\nnew_bool(x)\nsolve satisfy\n", 1),
+        ("\nnew_bool(true)\nsolve satisfy\n", 2),
+        ("bool_array_or(\n[-true])\nsolve satisfy\n", 2),
+        ("bool_array_or([true,])solve satisfy", 1),
+        ("solve satisfy\nsolve satisfy\n", 2),
+        ("solve minimize", 1),
+        ("new_bool(7)\nsolve satisfy\n", 1),
+    ] {
+        let run = run_over(alloc, COMPILE.as_slice(), bytes(alloc, text)?, AMPLE)?;
+        assert_eq!(rt; run.status, ("unsupported", line), "{text}");
+        assert_eq!(rt; run.out.taken(), b"".as_slice(), "{text}");
+        let told = format!(in alloc; "bee: model: line {line}: unsupported\n")?;
+        assert_eq!(rt; run.err.taken(), told.as_bytes(), "{text}");
+    }
+    Ok(())
+}
+
+#[test]
+fn other_words_are_refused(rt: HostRuntime) -> Result<(), Fail> {
+    let alloc = rt.alloc();
+    let two = ["bee", "compile"];
+    let four = ["bee", "compile", "m.bee", "m.bee"];
+    let mode = ["bee", "solve", "m.bee"];
+    for words in [two.as_slice(), four.as_slice(), mode.as_slice()] {
+        let run = run_over(alloc, words, bytes(alloc, ONE)?, AMPLE)?;
+        assert_eq!(rt; run.status.0, "usage");
+        assert_eq!(rt; run.out.taken(), b"".as_slice());
+        assert_eq!(rt; run.err.taken(), b"bee: usage: bee MODE INPUT [SECOND] [--budget N] [--no-restart]\n".as_slice());
+    }
+    let absent = ["bee", "compile", "absent"];
+    let run = run_over(alloc, absent.as_slice(), bytes(alloc, ONE)?, AMPLE)?;
+    assert_eq!(rt; run.status.0, "read");
+    assert_eq!(rt; run.err.taken(), b"bee: read fault\n".as_slice());
+    Ok(())
+}
+
+#[test]
+fn texts_end_at_their_limit(rt: HostRuntime) -> Result<(), Fail> {
+    let alloc = rt.alloc();
+    for (length, word) in [(16_777_216, "done"), (16_777_217, "too long")] {
+        let run = run_over(alloc, COMPILE.as_slice(), padded(alloc, length)?, AMPLE)?;
+        assert_eq!(rt; run.status.0, word, "{length} bytes");
+    }
+    Ok(())
+}
+
+#[test]
+fn faults_at_each_call(rt: HostRuntime) -> Result<(), Fail> {
+    let alloc = rt.alloc();
+    let whole = ONE_COMPILED.as_bytes();
+    // The model has 26 bytes, which take seven calls of four, and one more sees the end.
+    for number in 1..10u64 {
+        let outside = Outside {
+            step: 4,
+            shelf_failing: &[number],
+            ..AMPLE
+        };
+        let run = run_over(alloc, COMPILE.as_slice(), bytes(alloc, ONE)?, outside)?;
+        let word = if number <= 8 { "read" } else { "done" };
+        assert_eq!(rt; run.status.0, word, "failing call {number} of the shelf");
+        let wanted: &[u8] = if number <= 8 { b"" } else { whole };
+        assert_eq!(rt; run.out.taken(), wanted, "failing call {number} of the shelf");
+    }
+    // The text has 30 bytes, which take four calls of eight, and then it is flushed.
+    for number in 1..7u64 {
+        let outside = Outside {
+            step: 8,
+            sink_failing: &[number],
+            ..AMPLE
+        };
+        let run = run_over(alloc, COMPILE.as_slice(), bytes(alloc, ONE)?, outside)?;
+        let word = if number <= 5 { "write" } else { "done" };
+        assert_eq!(rt; run.status.0, word, "failing call {number} of the sink");
+        let taken = run.out.taken();
+        assert!(rt; whole.starts_with(taken), "failing call {number} of the sink");
+        assert_eq!(rt; taken.len(), whole.len().min(8 * (number as usize - 1)));
+    }
+    // A sink that is full, and one for errors that always fails.
+    let full = Outside { room: 20, ..AMPLE };
+    let run = run_over(alloc, COMPILE.as_slice(), bytes(alloc, ONE)?, full)?;
+    assert_eq!(rt; run.status.0, "write");
+    assert_eq!(rt; run.err.taken(), b"bee: write fault\n".as_slice());
+    let mute = Outside {
+        err_failing: &[1, 2, 3],
+        ..AMPLE
+    };
+    let run = run_over(alloc, COMPILE.as_slice(), bytes(alloc, "solve")?, mute)?;
+    assert_eq!(rt; run.status, ("unsupported", 1));
+    assert_eq!(rt; run.err.taken(), b"".as_slice());
+    Ok(())
+}

@@ -1,0 +1,78 @@
+//! A run over a shelf and sinks in memory.
+
+ghost use Rattle.std.specs.Prelude.{◌≤◌};
+
+use bee_cli::{ModelFault, Status, run};
+use bee_outside::{MemShelf, MemSink};
+use std::alloc::{AllocError, Global};
+
+/// How often and where the outside fails, and how much it gives and takes at once.
+#[derive(Clone, Copy)]
+pub struct Outside<'a> {
+    /// How many bytes one call of the shelf gives, and one of the sink takes, at most.
+    pub step: usize,
+    /// How many bytes the sink has room for.
+    pub room: usize,
+    /// The numbers of the calls of the shelf that fail.
+    pub shelf_failing: &'a [u64],
+    /// The numbers of the calls of the sink that fail.
+    pub sink_failing: &'a [u64],
+    /// The numbers of the calls of the sink for errors that fail.
+    pub err_failing: &'a [u64],
+}
+
+/// Ample room, large steps and no fault.
+pub const AMPLE: Outside<'static> = Outside {
+    step: 1_048_576,
+    room: 33_554_432,
+    shelf_failing: &[],
+    sink_failing: &[],
+    err_failing: &[],
+};
+
+/// What a run showed.
+#[derive(Drop)]
+pub struct Shown {
+    /// The status in one word, and its number where it has one.
+    pub status: (&'static str, u64),
+    /// The bytes that the sink took.
+    pub out: MemSink,
+    /// The bytes that the sink for errors took.
+    pub err: MemSink,
+}
+
+fn described(status: &Status) -> (&'static str, u64) {
+    match status {
+        Status::Done => ("done", 0),
+        Status::Usage => ("usage", 0),
+        Status::Model(ModelFault::TooLong) => ("too long", 0),
+        Status::Model(ModelFault::Unsupported(line)) => ("unsupported", *line),
+        Status::Read => ("read", 0),
+        Status::Write => ("write", 0),
+        Status::Memory => ("memory", 0),
+    }
+}
+
+/// Runs the words over a shelf on which the model stands as `m.bee`.
+pub fn run_over(
+    alloc: Global,
+    words: &[&str],
+    model: Vec<u8>,
+    outside: Outside<'_>,
+) -> Result<Shown, AllocError>
+    requires { 1 ≤ outside.entry.step }
+{
+    let mut all = Vec::new(alloc);
+    for word in words {
+        all.push(String::from_str(alloc, word)?)?;
+    }
+    let files = vec![in alloc; (String::from_str(alloc, "m.bee")?, model)]?;
+    let shelf_failing = Vec::from_slice(alloc, outside.shelf_failing)?;
+    let sink_failing = Vec::from_slice(alloc, outside.sink_failing)?;
+    let err_failing = Vec::from_slice(alloc, outside.err_failing)?;
+    let mut shelf = MemShelf::with(files, outside.step, shelf_failing);
+    let mut out = MemSink::with(alloc, outside.room, outside.step, sink_failing)?;
+    let mut err = MemSink::with(alloc, 1024, outside.step, err_failing)?;
+    let status = described(&run(alloc, &all, &mut shelf, &mut out, &mut err));
+    Ok(Shown { status, out, err })
+}

@@ -25,7 +25,7 @@ use Rattle.dimacs_out.specs.CompiledText.{literal_word, atom_word, step_word, va
 abbrev pub is_signed_digit : ℕ → Bool
 is_signed_digit b = b == 45 || is_ascii_digit b
 
--- a number with its sign, before its variable is taken from a literal
+-- the word of the literal that has this sign and this variable
 abbrev pub signed_word : Bool → ℕ → List ℕ
 signed_word positive v = cond positive (decimal v) (45 ∷ decimal v)
 

@@ -1,11 +1,11 @@
 -- Words with any gaps between them.
-use Rattle.std.proofs.Common.{◌≡◌, ℕ, ◌<◌, Bool, true, false, not, ◌&&◌, ◌||◌, ◌==◌, List, [], ◌∷◌, ◌++◌, length, refl, sym, ap, ◌∙◌, append_assoc, arith, ◌+◌, take, drop, get_or, Option, Some, None, ⊎_elim, position, ◌≤◌}
+use Rattle.std.proofs.Common.{◌≡◌, ℕ, ◌<◌, Bool, true, false, not, ◌&&◌, ◌||◌, ◌==◌, List, [], ◌∷◌, ◌++◌, length, refl, sym, ap, ◌∙◌, arith, ◌+◌, take, drop, get_or, Option, Some, None, ⊎_elim, position, ◌≤◌}
 use Rattle.std.specs.Prelude.{unwrap_or}
 use Rattle.std.proofs.lemmas.List.{take_all, drop_all, drop_more, take-append-drop, length-take}
 use Rattle.bee_text.proofs.SearchLemmas.{cut_at, none_at}
 use Rattle.std.specs.List.{list_all}
 use Rattle.std.proofs.lemmas.Bool.{and_parts, and_from, not-true, not_from_false, or_parts, false≢true, cases_lt, cases_Bool}
-use Rattle.bee_text.specs.Lines.{lacks, IsLine, AreLines}
+use Rattle.bee_text.specs.Lines.{IsLine, AreLines}
 use Rattle.bee_text.specs.Words.{is_gap, is_word, IsWord, AreWords, join_words, words_behind, before_first}
 use Rattle.bee_text.specs.Gaps.{after_gap, begins_word, words_of}
 
@@ -164,9 +164,9 @@ words_of_words [] = refl
 words_of_words (b ∷ bs) = ⊎_elim
     (λ (e : is_gap b ≡ true). rw e (words_of_words bs))
     (λ (e : is_gap b ≡ false). ⊎_elim
-        (λ (m : begins_word bs ≡ true). rw (e, m) (longer b (words_of bs) e (words_of_words bs)))
-        (λ (m : begins_word bs ≡ false). rw (e, m) (and_from _ _ (alone b e) (words_of_words bs)))
-        (cases_Bool (begins_word bs)))
+    (λ (m : begins_word bs ≡ true). rw (e, m) (longer b (words_of bs) e (words_of_words bs)))
+    (λ (m : begins_word bs ≡ false). rw (e, m) (and_from _ _ (alone b e) (words_of_words bs)))
+    (cases_Bool (begins_word bs)))
     (cases_Bool (is_gap b))
   where
     alone : (b : ℕ) → is_gap b ≡ false → is_word (b ∷ []) ≡ true

@@ -1,5 +1,5 @@
 -- Lines joined, and the lines of a text.
-use Rattle.std.proofs.Common.{◌≡◌, ℕ, Bool, true, false, not, ◌&&◌, ◌==◌, List, [], ◌∷◌, ◌++◌, refl, sym, ap, ◌∙◌, append_assoc, ◌<◌, length, arith, ⊎_elim}
+use Rattle.std.proofs.Common.{◌≡◌, ℕ, true, false, not, ◌==◌, List, [], ◌∷◌, ◌++◌, refl, sym, ap, ◌∙◌, append_assoc, ◌<◌, length, arith, ⊎_elim}
 use Rattle.std.specs.List.{list_all}
 use Rattle.std.proofs.lemmas.Bool.{and_parts, not-true, and_right, cases_Bool, eqb-true, true≢false}
 use Rattle.std.proofs.lemmas.List.{append-nil}
@@ -71,15 +71,15 @@ join_lines-lines_of [] = refl
 join_lines-lines_of (b ∷ bs) = ⊎_elim
     (λ (line : lacks 10 (b ∷ bs) ≡ true). ap (λ xs. join_lines xs ++ unfinished (b ∷ bs)) (lines_of-rest (b ∷ bs) line) ∙ unfinished_line (b ∷ bs) line)
     (λ (feed : lacks 10 (b ∷ bs) ≡ false). ⊎_elim
-        (λ (e : (b == 10) ≡ true).
-            let first : lines_of (b ∷ bs) ≡ [] ∷ lines_of bs = rw e in
-            ap (λ xs. join_lines xs ++ unfinished (b ∷ bs)) first ∙ (ap (λ r. 10 ∷ (join_lines (lines_of bs) ++ r)) (later feed) ∙ (ap (λ t. 10 ∷ t) (join_lines-lines_of bs) ∙ ap (λ c. c ∷ bs) (sym (eqb-true b 10 e)))))
-        (λ (e : (b == 10) ≡ false).
-            let first : lines_of (b ∷ bs) ≡ onto_first b (lines_of bs) = rw e in
-            ap (λ xs. join_lines xs ++ unfinished (b ∷ bs)) first
-            ∙ (ap (λ t. t ++ unfinished (b ∷ bs)) (join_onto_first b (lines_of bs) (lines_of_some bs (rw e at feed)))
-            ∙ (ap (λ r. b ∷ (join_lines (lines_of bs) ++ r)) (later feed) ∙ ap (λ t. b ∷ t) (join_lines-lines_of bs))))
-        (cases_Bool (b == 10)))
+    (λ (e : (b == 10) ≡ true).
+    let first : lines_of (b ∷ bs) ≡ [] ∷ lines_of bs = rw e in
+    ap (λ xs. join_lines xs ++ unfinished (b ∷ bs)) first ∙ (ap (λ r. 10 ∷ (join_lines (lines_of bs) ++ r)) (later feed) ∙ (ap (λ t. 10 ∷ t) (join_lines-lines_of bs) ∙ ap (λ c. c ∷ bs) (sym (eqb-true b 10 e)))))
+    (λ (e : (b == 10) ≡ false).
+    let first : lines_of (b ∷ bs) ≡ onto_first b (lines_of bs) = rw e in
+    ap (λ xs. join_lines xs ++ unfinished (b ∷ bs)) first
+    ∙ (ap (λ t. t ++ unfinished (b ∷ bs)) (join_onto_first b (lines_of bs) (lines_of_some bs (rw e at feed)))
+    ∙ (ap (λ r. b ∷ (join_lines (lines_of bs) ++ r)) (later feed) ∙ ap (λ t. b ∷ t) (join_lines-lines_of bs))))
+    (cases_Bool (b == 10)))
     (cases_Bool (lacks 10 (b ∷ bs)))
   where
     later : lacks 10 (b ∷ bs) ≡ false → unfinished (b ∷ bs) ≡ unfinished bs

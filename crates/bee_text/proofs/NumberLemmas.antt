@@ -1,10 +1,10 @@
 -- Decimals, and numbers read digit by digit.
-use Rattle.std.proofs.Common.{◌≡◌, ℕ, ◌+◌, ◌*◌, ◌-◌, ◌/◌, ◌%◌, ◌^◌, ◌<◌, ◌≤◌, Bool, true, false, not, ◌&&◌, ◌==◌, List, [], ◌∷◌, ◌++◌, length, get_or, drop, Option, Some, None, refl, sym, ap, subst, ◌∙◌, append_assoc, ⊎_elim, arith, suc, leb, ℤ, pos, negsuc, ◌≢◌, min, length-append}
+use Rattle.std.proofs.Common.{◌≡◌, ℕ, ◌+◌, ◌*◌, ◌-◌, ◌/◌, ◌%◌, ◌^◌, ◌<◌, ◌≤◌, true, false, not, ◌&&◌, List, [], ◌∷◌, ◌++◌, length, get_or, drop, Option, Some, None, refl, sym, ap, subst, ◌∙◌, append_assoc, ⊎_elim, arith, suc, leb, ℤ, pos, negsuc, ◌≢◌, min, length-append}
 use Rattle.std.specs.List.{list_all}
 use Rattle.std.specs.Char.{is_ascii_digit}
 use Rattle.std.specs.Option.{option_and_then}
 use Rattle.std.specs.Fmt.{decimal, signed_decimal}
-use Rattle.std.specs.Str.Parse.{digits_value, AllDigits}
+use Rattle.std.specs.Str.Parse.{digits_value}
 use Rattle.std.proofs.lemmas.Bool.{and_parts, and_from, cases_Bool, leb-true, le-leb, false≢true, cases_lt}
 use Rattle.std.proofs.lemmas.List.{append-nil}
 use Rattle.std.proofs.lemmas.List.Folds.{list_all-append}
@@ -14,7 +14,7 @@ use lib.Signed.{mag}
 use Rattle.std.specs.Int.{w128}
 use Rattle.std.specs.Prelude.{IfSome, FitsSigned, unsigned_abs}
 use Rattle.bee_text.specs.Digits.{with_digit, digits_after, leads_well}
-use Rattle.bee_text.specs.Words.{is_gap, is_word, IsWord}
+use Rattle.bee_text.specs.Words.{is_gap, IsWord}
 
 pub decimal_injective_wide : (m n : ℕ) → m < 10 ^ 64 → n < 10 ^ 64 → decimal m ≡ decimal n → m ≡ n
 decimal_injective_wide m n p q e = sym (decimal_is_IsNumeral_wide m p).1 ∙ ap (digits_value 10) e ∙ (decimal_is_IsNumeral_wide n q).1
@@ -96,7 +96,7 @@ pub digits_after-decimal : (most n : ℕ) → n < 10 ^ 64 → n ≤ most → dig
 digits_after-decimal most = decimal_by_steps_wide (λ m ds. m ≤ most → digits_after most 0 ds ≡ Some m)
     (λ m l fits. let e : 10 * 0 + m ≡ m = omega arith in ap (option_and_then (λ next. Some next)) (with_digit-fits most 0 m l (omega arith)) ∙ ap Some e)
     (λ m ds l h fits. let e : 10 * (m / 10) + m % 10 ≡ m = omega arith in
-        digits_after-append most 0 ds (48 + m % 10) ∙ (ap (option_and_then (λ n. with_digit most n (48 + m % 10))) (h (omega arith)) ∙ (with_digit-fits most (m / 10) (m % 10) (omega arith) (omega arith) ∙ ap Some e)))
+    digits_after-append most 0 ds (48 + m % 10) ∙ (ap (option_and_then (λ n. with_digit most n (48 + m % 10))) (h (omega arith)) ∙ (with_digit-fits most (m / 10) (m % 10) (omega arith) (omega arith) ∙ ap Some e)))
 
 -- what one digit more makes
 pub record Digit (most v b n : ℕ) : Type 0 where
@@ -108,15 +108,15 @@ pub record Digit (most v b n : ℕ) : Type 0 where
 with_digit_reads : (most v b n : ℕ) → with_digit most v b ≡ Some n → Digit most v b n
 with_digit_reads most v b n e = ⊎_elim
     (λ (t : (is_ascii_digit b && leb (10 * v + (b - 48)) most) ≡ true).
-        let parts = and_parts (is_ascii_digit b) (leb (10 * v + (b - 48)) most) t in
-        let range = and_parts (leb 48 b) (leb b 57) parts.0 in
-        let same : Some (10 * v + (b - 48)) ≡ Some n = rw t at e in
-        let value : 10 * v + (b - 48) ≡ n = cc in
-        let bound : 10 * v + (b - 48) ≤ most = leb-true (10 * v + (b - 48)) most parts.1 in
-        record { low = leb-true 48 b range.0; high = leb-true b 57 range.1; value = sym value; fits = omega arith })
+    let parts = and_parts (is_ascii_digit b) (leb (10 * v + (b - 48)) most) t in
+    let range = and_parts (leb 48 b) (leb b 57) parts.0 in
+    let same : Some (10 * v + (b - 48)) ≡ Some n = rw t at e in
+    let value : 10 * v + (b - 48) ≡ n = cc in
+    let bound : 10 * v + (b - 48) ≤ most = leb-true (10 * v + (b - 48)) most parts.1 in
+    record { low = leb-true 48 b range.0; high = leb-true b 57 range.1; value = sym value; fits = omega arith })
     (λ (t : (is_ascii_digit b && leb (10 * v + (b - 48)) most) ≡ false).
-        let none : None ≡ Some n = rw t at e in
-        absurd (cc))
+    let none : None ≡ Some n = rw t at e in
+    absurd (cc))
     (cases_Bool (is_ascii_digit b && leb (10 * v + (b - 48)) most))
 
 -- a number of which digits were read, behind those of a number that is not zero, has those digits
@@ -176,11 +176,11 @@ pub decimal_leads_well : (n : ℕ) → n < 10 ^ 64 → leads_well (decimal n) �
 decimal_leads_well n small = ⊎_elim
     (λ (l : n < 10). ap leads_well (decimal_digit n l))
     (λ (l : 10 ≤ n). let b = decimal_begins n small in
-        let step = decimal_step_wide n l small in
-        let front = decimal_begins (n / 10) (omega arith) in
-        let whole : decimal n ≡ front.0 ∷ (front.1 ++ ((48 + n % 10) ∷ [])) = step ∙ ap (λ t. t ++ ((48 + n % 10) ∷ [])) front.2 in
-        let other : front.0 ≢ 48 = λ e. omega (arith, front.3 e) in
-        long (decimal n) (omega (arith, ap length whole, length-append front.1 ((48 + n % 10) ∷ []))) (λ e. other (sym (ap (λ t. get_or t 0 0) whole) ∙ e)))
+    let step = decimal_step_wide n l small in
+    let front = decimal_begins (n / 10) (omega arith) in
+    let whole : decimal n ≡ front.0 ∷ (front.1 ++ ((48 + n % 10) ∷ [])) = step ∙ ap (λ t. t ++ ((48 + n % 10) ∷ [])) front.2 in
+    let other : front.0 ≢ 48 = λ e. omega (arith, front.3 e) in
+    long (decimal n) (omega (arith, ap length whole, length-append front.1 ((48 + n % 10) ∷ []))) (λ e. other (sym (ap (λ t. get_or t 0 0) whole) ∙ e)))
     (cases_lt n 10)
   where
     long : (bs : List ℕ) → 2 ≤ length bs → get_or bs 0 0 ≢ 48 → leads_well bs ≡ true

@@ -13,8 +13,7 @@ pub fn decimal_laws()
     ensures zero { DecimalLeadsByZero }
     ensures word { DecimalIsWord }
     ensures signed_word { SignedDecimalIsWord }
-{
-}
+{}
 
 /// What joined lines are like.
 pub fn line_laws()
@@ -24,8 +23,7 @@ pub fn line_laws()
     ensures joined { JoinOfLines }
     ensures of_text { LinesOfText }
     ensures append { JoinAppendsLines }
-{
-}
+{}
 
 /// What joined words are like.
 pub fn word_laws()
@@ -36,5 +34,4 @@ pub fn word_laws()
     ensures append { JoinAppendsWords }
     ensures line { JoinedWordsAreLine }
     ensures lines { WordsAreLines }
-{
-}
+{}

@@ -1,6 +1,6 @@
 //! The lines of a text, one by one.
 
-ghost use Rattle.std.specs.Prelude.{◌≡◌, ◌+◌, ◌∷◌, ◌++◌, [], IfSome, IfNone, MatchOption, length};
+ghost use Rattle.std.specs.Prelude.{◌≡◌, ◌==◌, ◌+◌, ◌∷◌, ◌++◌, [], IfSome, IfNone, MatchOption, position};
 ghost use Rattle.bee_text.specs.Lines.{IsLine, lines_of};
 
 use std::marker::Model;
@@ -71,8 +71,6 @@ impl<'a> Lines<'a> {
         self.left
     }
 }
-
-ghost use Rattle.std.specs.Prelude.{position, ◌==◌};
 
 // The place of the first line feed.
 fn find_line_feed(text: &[u8]) -> Option<usize>

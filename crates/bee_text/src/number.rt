@@ -47,7 +47,8 @@ fn read_negative(digits: &[u8], most: u128) -> Option<i128>
         → 45 ∷ digits.now ≡ signed_decimal z → result ≡ Some z }
 {
     let n = read_number(digits, most.min(1 << 127))?;
-    if n == 0 { None } else { Some(-1 - (n - 1) as i128) }
+    let before = n.checked_sub(1)?;
+    Some(-1 - before as i128)
 }
 
 // Whether a text has a byte, and begins with the digit zero only where it is that digit alone.
@@ -75,8 +76,6 @@ fn add_digit(value: u128, byte: u8, most: u128) -> Option<u128>
     if !byte.is_ascii_digit() {
         return None;
     }
-    let next = value
-        .checked_mul(10)?
-        .checked_add(u128::from(byte - b'0'))?;
+    let next = value.checked_mul(10)?.checked_add(u128::from(byte - b'0'))?;
     if next <= most { Some(next) } else { None }
 }

@@ -3,3 +3,4 @@ pub mod SmallNames
 pub mod SmallComplete
 pub mod SmallSound
 pub mod SmallRead
+pub mod SmallWell

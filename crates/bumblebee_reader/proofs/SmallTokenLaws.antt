@@ -2,7 +2,8 @@
 use Rattle.std.proofs.Common.{◌≡◌, ℕ, zero, suc, ◌+◌, ◌<◌, ◌≤◌, Bool, true, false, cond, ◌||◌, List, [], ◌∷◌, length, get_or, take, drop, refl, ap, sym, ◌∙◌, arith, add-one, length-drop}
 use Rattle.std.proofs.lemmas.List.{at_drop_more, at_drop_all}
 use Rattle.std.specs.Prelude.{MatchOption}
-use Rattle.bumblebee_reader.specs.SmallTokens.{is_letter, is_digit, is_name_byte, is_gap, is_sign, run_length, Lexeme, Word, Digits, Sign, Misfit, lexeme_at, more_of, lexemes_after, lexemes, IsAtToken}
+use Rattle.bumblebee_reader.specs.Bytes.{is_letter, is_digit, is_word}
+use Rattle.bumblebee_reader.specs.SmallTokens.{is_gap, is_sign, run_length, Lexeme, Word, Digits, Sign, Misfit, lexeme_at, more_of, lexemes_after, lexemes, IsAtToken}
 
 pub run_length-more : (p : ℕ → Bool) (xs : List ℕ) (i : ℕ) → i < length xs → p (get_or xs i 0) ≡ true → run_length p (drop i xs) ≡ run_length p (drop (i + 1) xs) + 1
 unfolding run_length
@@ -57,16 +58,16 @@ run_length-front : (p : ℕ → Bool) (b : ℕ) (bs : List ℕ) → p b ≡ true
 unfolding run_length
 run_length-front p b bs t = ap (λ c. cond c (suc (run_length p bs)) 0) t
 
-is_name_byte-letter : (b : ℕ) → is_letter b ≡ true → is_name_byte b ≡ true
-is_name_byte-letter b t = ap (λ c. c || is_digit b) t
+is_word-letter : (b : ℕ) → is_letter b ≡ true → is_word b ≡ true
+is_word-letter b t = ap (λ c. c || is_digit b) t
 
-pub word-front : (b : ℕ) (bs : List ℕ) (n : ℕ) → is_gap b ≡ false → is_letter b ≡ true → n ≡ run_length is_name_byte (b ∷ bs) → (lexemes (b ∷ bs) ≡ Word (take n (b ∷ bs)) ∷ lexemes (drop n (b ∷ bs))) × (0 < n)
+pub word-front : (b : ℕ) (bs : List ℕ) (n : ℕ) → is_gap b ≡ false → is_letter b ≡ true → n ≡ run_length is_word (b ∷ bs) → (lexemes (b ∷ bs) ≡ Word (take n (b ∷ bs)) ∷ lexemes (drop n (b ∷ bs))) × (0 < n)
 word-front b bs n g t e =
     let s = b ∷ bs in
-    let k = run_length is_name_byte bs in
-    let m : n ≡ suc k = e ∙ run_length-front is_name_byte b bs (is_name_byte-letter b t) in
+    let k = run_length is_word bs in
+    let m : n ≡ suc k = e ∙ run_length-front is_word b bs (is_word-letter b t) in
     (lexemes-front b bs g
-    ∙ ap (λ c. cond c (Word (take (run_length is_name_byte s) s)) (cond (is_digit b) (Digits (take (run_length is_digit s) s)) (cond (is_sign b) (Sign b) (Misfit b))) ∷ lexemes (drop (cond c k (cond (is_digit b) (run_length is_digit bs) 0)) bs)) t
+    ∙ ap (λ c. cond c (Word (take (run_length is_word s) s)) (cond (is_digit b) (Digits (take (run_length is_digit s) s)) (cond (is_sign b) (Sign b) (Misfit b))) ∷ lexemes (drop (cond c k (cond (is_digit b) (run_length is_digit bs) 0)) bs)) t
     ∙ ap (λ j. Word (take j s) ∷ lexemes (drop k bs)) (sym e)
     ∙ ap (λ j. Word (take n s) ∷ lexemes (drop j s)) (sym m), omega arith)
 
@@ -76,7 +77,7 @@ digits-front b bs n g f t e =
     let k = run_length is_digit bs in
     let m : n ≡ suc k = e ∙ run_length-front is_digit b bs t in
     (lexemes-front b bs g
-    ∙ ap (λ c. cond c (Word (take (run_length is_name_byte s) s)) (cond (is_digit b) (Digits (take (run_length is_digit s) s)) (cond (is_sign b) (Sign b) (Misfit b))) ∷ lexemes (drop (cond c (run_length is_name_byte bs) (cond (is_digit b) k 0)) bs)) f
+    ∙ ap (λ c. cond c (Word (take (run_length is_word s) s)) (cond (is_digit b) (Digits (take (run_length is_digit s) s)) (cond (is_sign b) (Sign b) (Misfit b))) ∷ lexemes (drop (cond c (run_length is_word bs) (cond (is_digit b) k 0)) bs)) f
     ∙ ap (λ c. cond c (Digits (take (run_length is_digit s) s)) (cond (is_sign b) (Sign b) (Misfit b)) ∷ lexemes (drop (cond c k 0) bs)) t
     ∙ ap (λ j. Digits (take j s) ∷ lexemes (drop k bs)) (sym e)
     ∙ ap (λ j. Digits (take n s) ∷ lexemes (drop j s)) (sym m), omega arith)
@@ -85,11 +86,11 @@ pub single-front : (b : ℕ) (bs : List ℕ) → is_gap b ≡ false → is_lette
 single-front b bs g f d =
     let s = b ∷ bs in
     lexemes-front b bs g
-    ∙ ap (λ c. cond c (Word (take (run_length is_name_byte s) s)) (cond (is_digit b) (Digits (take (run_length is_digit s) s)) (cond (is_sign b) (Sign b) (Misfit b))) ∷ lexemes (drop (cond c (run_length is_name_byte bs) (cond (is_digit b) (run_length is_digit bs) 0)) bs)) f
+    ∙ ap (λ c. cond c (Word (take (run_length is_word s) s)) (cond (is_digit b) (Digits (take (run_length is_digit s) s)) (cond (is_sign b) (Sign b) (Misfit b))) ∷ lexemes (drop (cond c (run_length is_word bs) (cond (is_digit b) (run_length is_digit bs) 0)) bs)) f
     ∙ ap (λ c. cond c (Digits (take (run_length is_digit s) s)) (cond (is_sign b) (Sign b) (Misfit b)) ∷ lexemes (drop (cond c (run_length is_digit bs) 0) bs)) d
 
 -- the same of a list of which the first byte is read
-pub word-at : (s : List ℕ) (n : ℕ) → 0 < length s → IsAtToken s → is_letter (get_or s 0 0) ≡ true → n ≡ run_length is_name_byte s → (lexemes s ≡ Word (take n s) ∷ lexemes (drop n s)) × (0 < n)
+pub word-at : (s : List ℕ) (n : ℕ) → 0 < length s → IsAtToken s → is_letter (get_or s 0 0) ≡ true → n ≡ run_length is_word s → (lexemes s ≡ Word (take n s) ∷ lexemes (drop n s)) × (0 < n)
 word-at [] n h g t e = absurd (omega arith)
 word-at (b ∷ bs) n h g t e = word-front b bs n g t e
 

@@ -1,6 +1,6 @@
 -- What a model of the small language means: assignments of 0 or 1 to its declared Booleans, and when a
 -- statement holds under one.
-use Rattle.std.specs.Prelude.{◌≡◌, ℕ, Bool, true, false, not, ◌||◌, List, [], ◌∷◌, length, ℤ, pos, negsuc, ◌==◌, IsTrue, ◌⊎◌, slice_index_or, if◌then◌else◌}
+use Rattle.std.specs.Prelude.{◌≡◌, ℕ, ◌<◌, Bool, true, false, not, ◌||◌, List, [], ◌∷◌, length, ℤ, pos, negsuc, ◌==◌, IsTrue, ◌⊎◌, slice_index_or, if◌then◌else◌}
 use Rattle.bumblebee_reader.specs.declared.small.model.SmallTerm.{SmallTerm}
 use Rattle.bumblebee_reader.specs.declared.small.model.SmallTerm.TheVariants.{Const, Of}
 use Rattle.bumblebee_reader.specs.declared.small.model.SmallModel.{SmallModel}
@@ -44,3 +44,17 @@ AllHold a (s ∷ ss) = IsTrue (statement_holds a s) × AllHold a ss
 pub record IsSolution (m : SmallModel) (a : Assignment) : Type 0 where
   pub in_domains : InDomains m a
   pub holds : AllHold a m.statements
+
+-- a term speaks of a declaration below n
+abbrev pub IsPlaced : ℕ → SmallTerm → Type 0
+IsPlaced n (Const b) = Unit {0}
+IsPlaced n (Of place positive) = place < n
+
+abbrev pub AreTermsPlaced : ℕ → List SmallTerm → Type 0
+AreTermsPlaced n [] = Unit {0}
+AreTermsPlaced n (t ∷ ts) = IsPlaced n t × AreTermsPlaced n ts
+
+-- each term of each statement speaks of a declaration below n
+abbrev pub ArePlaced : ℕ → List (List SmallTerm) → Type 0
+ArePlaced n [] = Unit {0}
+ArePlaced n (s ∷ ss) = AreTermsPlaced n s × ArePlaced n ss

@@ -1,17 +1,7 @@
 -- The tokens of a text: names, runs of digits and single signs, each the longest that fits. Between tokens
 -- may stand blanks, tabs, carriage returns and line feeds. Any other byte is a token that fits nowhere.
-use Rattle.std.specs.Prelude.{◌≡◌, ℕ, zero, suc, Bool, true, false, ◌||◌, ◌&&◌, ◌==◌, List, [], ◌∷◌, nat_le, if◌then◌else◌, take}
-
--- a letter or `_`
-abbrev pub is_letter : ℕ → Bool
-is_letter b = (nat_le 97 b && nat_le b 122) || ((nat_le 65 b && nat_le b 90) || (b == 95))
-
-abbrev pub is_digit : ℕ → Bool
-is_digit b = nat_le 48 b && nat_le b 57
-
--- what a name goes on with: a letter, `_` or a digit
-abbrev pub is_name_byte : ℕ → Bool
-is_name_byte b = is_letter b || is_digit b
+use Rattle.std.specs.Prelude.{◌≡◌, ℕ, zero, suc, Bool, false, ◌||◌, ◌==◌, List, [], ◌∷◌, if◌then◌else◌, take}
+use Rattle.bumblebee_reader.specs.Bytes.{is_letter, is_digit, is_word}
 
 -- a blank, a tab, a line feed or a carriage return
 abbrev pub is_gap : ℕ → Bool
@@ -36,14 +26,14 @@ pub data Lexeme : Type 0 where
 -- the token that a byte which is no gap begins, where rest follows the byte
 abbrev pub lexeme_at : ℕ → List ℕ → Lexeme
 lexeme_at b rest =
-    if is_letter b then Word (take (run_length is_name_byte (b ∷ rest)) (b ∷ rest))
+    if is_letter b then Word (take (run_length is_word (b ∷ rest)) (b ∷ rest))
     else (if is_digit b then Digits (take (run_length is_digit (b ∷ rest)) (b ∷ rest))
     else (if is_sign b then Sign b else Misfit b))
 
 -- how many bytes after its first one the token has
 abbrev pub more_of : ℕ → List ℕ → ℕ
 more_of b rest =
-    if is_letter b then run_length is_name_byte rest else (if is_digit b then run_length is_digit rest else 0)
+    if is_letter b then run_length is_word rest else (if is_digit b then run_length is_digit rest else 0)
 
 -- the tokens of the bytes that are left, of which the first few belong to a token that was told already
 unfoldable pub lexemes_after : ℕ → List ℕ → List Lexeme

@@ -1,6 +1,6 @@
 //! Writing the compiled text.
 
-ghost use Rattle.std.specs.Prelude.{◌≡◌, ◌++◌, ◌∷◌, [], map, IfOk, OnOk};
+ghost use Rattle.std.specs.Prelude.{◌≡◌, ◌<◌, ◌^◌, ◌++◌, ◌∷◌, [], length, map, IfOk, OnOk};
 ghost use Rattle.bee_text.specs.Lines.{join_lines};
 ghost use Rattle.bee_text.specs.Words.{words_behind};
 ghost use Rattle.dimacs_out.specs.CompiledText.{literal_word, atom_word, step_word, entry_line, clause_line, problem_line, compiled_text};
@@ -119,19 +119,22 @@ fn push_clauses(out: &mut Vec<u8>, clauses: &[Sequence<Lit>]) -> Result<(), Allo
 
 /// Writes the line that tells the numbers of variables and clauses, and its line feed.
 fn push_problem(out: &mut Vec<u8>, cnf: &Cnf) -> Result<(), AllocError>
-    ensures { OnOk result (out.new.items ≡ out.old.items ++ problem_line cnf.now ++ 10 ∷ []) }
+    ensures line { OnOk result (out.new.items ≡ out.old.items ++ problem_line cnf.now ++ 10 ∷ []) }
+    ensures fits { length cnf.now.clauses < 2 ^ 64 }
 {
+    let count = cnf.clauses.len();
     push_bytes(out, b"p cnf ")?;
     push_number(out, u128::from(cnf.vars))?;
     push_blank(out)?;
-    push_number(out, cnf.clauses.len() as u128)?;
+    push_number(out, count as u128)?;
     end_line(out)
 }
 
 /// The compiled text of declared names, what they stand for, and a CNF. One pass over what is written; the
 /// text is held in memory once.
 pub fn write_map(alloc: Global, entries: &[MapEntry], cnf: &Cnf) -> Result<Vec<u8>, AllocError>
-    ensures { IfOk result (λ text. text.items ≡ compiled_text entries.now cnf.now) }
+    ensures text { IfOk result (λ text. text.items ≡ compiled_text entries.now cnf.now) }
+    ensures fits { OnOk result (length cnf.now.clauses < 2 ^ 64) }
 {
     let mut out = Vec::new(alloc);
     push_bytes(&mut out, b"c bee 1\n")?;

@@ -30,6 +30,11 @@ abbrev pub AtomsBelow : ℕ → List Atom → Type 0
 AtomsBelow n [] = Unit {0}
 AtomsBelow n (a ∷ atoms) = AtomBelow n a × AtomsBelow n atoms
 
+-- each atom of each clause is below n
+abbrev pub AtomClausesBelow : ℕ → List (List Atom) → Type 0
+AtomClausesBelow n [] = Unit {0}
+AtomClausesBelow n (c ∷ cs) = AtomsBelow n c × AtomClausesBelow n cs
+
 -- each step's atom is below n
 abbrev pub StepsBelow : ℕ → List (Atom × ℕ) → Type 0
 StepsBelow n [] = Unit {0}

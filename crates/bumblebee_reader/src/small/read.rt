@@ -1,6 +1,8 @@
 //! From a text of the small language to its model.
 
-ghost use Rattle.std.specs.Prelude.{◌≡◌, IfOk, List, ℕ};
+ghost use Rattle.std.specs.Prelude.{◌≡◌, ◌<◌, ◌^◌, length, IfOk};
+ghost use Rattle.bumblebee_reader.specs.Names.{AreDeclared};
+ghost use Rattle.bumblebee_reader.specs.SmallModel.{ArePlaced};
 ghost use Rattle.bumblebee_reader.specs.SmallTokens.{lexemes};
 ghost use Rattle.bumblebee_reader.specs.SmallText.{IsSmallText};
 ghost use Rattle.bumblebee_reader.specs.SmallReading.{outcome, start};
@@ -25,7 +27,8 @@ pub enum SmallFault {
 
 /// Reads the tokens one after another.
 fn read_tokens(alloc: Global, text: &[u8]) -> Result<SmallModel, SmallFault>
-    ensures { Reads result (outcome start (lexemes text.now)) }
+    ensures told { Reads result (outcome start (lexemes text.now)) }
+    ensures few { IfOk result (λ m. length m.names < 2 ^ 32) }
 {
     let mut tokens = Tokens::new(text);
     let mut reading = Reading::new(alloc);
@@ -50,6 +53,10 @@ pub fn read_small(alloc: Global, text: &[u8]) -> Result<SmallModel, SmallFault>
     ensures found { IfOk result (λ m. IsSmallText text.now m) }
     // A text of the small language is read as what it says, unless memory is wanting.
     ensures only { (m : SmallModel) → IsSmallText text.now m → OnlyReads result m }
+    // Its names are names that may be declared, each once, and its terms speak of them.
+    ensures declared { IfOk result (λ m. AreDeclared m.names) }
+    ensures placed { IfOk result (λ m. ArePlaced (length m.names) m.statements) }
+    ensures few { IfOk result (λ m. length m.names < 2 ^ 32) }
 {
     read_tokens(alloc, text)
 }

@@ -1,6 +1,6 @@
 //! Reading the tokens of a text of the small language, one by one.
 
-ghost use Rattle.std.specs.Prelude.{◌≡◌, ◌<◌, ◌^◌, ◌++◌, ◌∷◌, [], length, map, false, OnOk, OnErr};
+ghost use Rattle.std.specs.Prelude.{◌≡◌, ◌<◌, ◌^◌, ◌++◌, ◌∷◌, [], length, map, false, IfOk, OnOk, OnErr};
 ghost use Rattle.std.specs.List.{list_any};
 ghost use Rattle.std.specs.Str.{bytes_eq};
 ghost use Rattle.bumblebee_reader.specs.SmallText.{place_of, can_declare, plain_term, minus_term};
@@ -285,7 +285,8 @@ impl Reading {
 
     /// The model, where the text may end here.
     pub fn finish(self, alloc: Global) -> Result<SmallModel, Refusal>
-        ensures { Finishes result (finished self) }
+        ensures told { Finishes result (finished self) }
+        ensures few { IfOk result (λ m. length m.names < 2 ^ 32) }
     {
         let Reading {
             names,

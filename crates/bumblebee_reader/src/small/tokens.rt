@@ -1,7 +1,8 @@
 //! The tokens of a text, one by one, with their lines.
 
 ghost use Rattle.std.specs.Prelude.{◌≡◌, ◌≤◌, ◌<◌, ◌∷◌, [], length, MatchOption, IfSome, take, drop};
-ghost use Rattle.bumblebee_reader.specs.SmallTokens.{is_letter, is_digit, is_name_byte, is_gap, is_sign, run_length, lexemes, IsAtToken};
+ghost use Rattle.bumblebee_reader.specs.SmallTokens.{is_gap, is_sign, run_length, lexemes, IsAtToken};
+ghost use Rattle.bumblebee_reader.specs.Bytes.{is_letter, is_digit, is_word};
 ghost use Rattle.bumblebee_reader.specs.SmallLexeme.{lexeme_of};
 
 use std::marker::Model;
@@ -37,7 +38,7 @@ impl<'a> Model for Tokens<'a> {
 fn is_letter(byte: u8) -> bool
     ensures { result ≡ is_letter byte }
 {
-    byte.is_ascii_lowercase() || byte.is_ascii_uppercase() || byte == b'_'
+    byte.is_ascii_uppercase() || byte.is_ascii_lowercase() || byte == b'_'
 }
 
 fn is_digit(byte: u8) -> bool
@@ -47,7 +48,7 @@ fn is_digit(byte: u8) -> bool
 }
 
 fn is_name_byte(byte: u8) -> bool
-    ensures { result ≡ is_name_byte byte }
+    ensures { result ≡ is_word byte }
 {
     is_letter(byte) || is_digit(byte)
 }
@@ -68,7 +69,7 @@ fn is_sign(byte: u8) -> bool
 #[tactic(auto, using(crate::proofs::SmallTokenLaws::steps))]
 fn name_length(bytes: &[u8]) -> usize
     ensures within { result ≤ length bytes.now }
-    ensures run { result ≡ run_length is_name_byte bytes.now }
+    ensures run { result ≡ run_length is_word bytes.now }
 {
     let mut count = 0;
     for byte in bytes {

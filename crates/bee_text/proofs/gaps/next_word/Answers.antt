@@ -1,6 +1,6 @@
-use Rattle.std.proofs.Common.{◌≡◌, ◌∷◌, sym, ◌∙◌}
+use Rattle.std.proofs.Common.{sym, ◌∙◌}
 use Rattle.std.proofs.lemmas.List.{take_rest}
-use Rattle.bee_text.proofs.GapLemmas.{words_of-unfound, first_word, FirstWord}
+use Rattle.bee_text.proofs.GapLemmas.{words_of-unfound, first_word}
 use Rattle.bee_text.proofs.gaps.next_word.Goals as goal
 
 pub returns-in_err-start-clause-words : goal.returns-in_err-start-clause-words

@@ -1,4 +1,4 @@
-use Rattle.std.proofs.Common.{◌≡◌, ◌≤◌, suc, ap, sym, ◌∙◌, arith, Some, negsuc, min, ◌^◌, ◌-◌, ◌-ℤ◌}
+use Rattle.std.proofs.Common.{suc, ap, arith, Some}
 use Rattle.std.proofs.lemmas.Int.{ints}
 use Rattle.bee_text.proofs.NumberLemmas.{negative_read, none_some, some_same}
 use Rattle.bee_text.proofs.number.read_negative.Goals as goal
@@ -8,12 +8,12 @@ returns-in_err-n-clause-complete c = λ z fits within is.
     let d = negative_read c.args.most c.min.result c.args.digits.now c.read_number.result c.min.ensures c.read_number.ensures.complete z fits within is in
     absurd (none_some c.read_number.result (suc d.0) c.in_err-n.was d.3)
 
-pub returns-then-n-eq0-clause-complete : goal.returns-then-n-eq0-clause-complete
-returns-then-n-eq0-clause-complete c = λ z fits within is.
+pub returns-in_err-before-clause-complete : goal.returns-in_err-before-clause-complete
+returns-in_err-before-clause-complete c = λ z fits within is.
     let d = negative_read c.args.most c.min.result c.args.digits.now c.read_number.result c.min.ensures c.read_number.ensures.complete z fits within is in
     absurd (omega (arith, some_same c.read_number.result c.in_ok-n.n (suc d.0) c.in_ok-n.was d.3))
 
-pub returns-else-n-eq0-clause-complete : goal.returns-else-n-eq0-clause-complete
-returns-else-n-eq0-clause-complete c = λ z fits within is.
+pub returns-clause-complete : goal.returns-clause-complete
+returns-clause-complete c = λ z fits within is.
     let d = negative_read c.args.most c.min.result c.args.digits.now c.read_number.result c.min.ensures c.read_number.ensures.complete z fits within is in
     ap Some (omega (arith, ints, some_same c.read_number.result c.in_ok-n.n (suc d.0) c.in_ok-n.was d.3, d.1, d.2))

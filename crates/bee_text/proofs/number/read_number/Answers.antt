@@ -1,4 +1,4 @@
-use Rattle.std.proofs.Common.{ap, sym, ◌∙◌, arith}
+use Rattle.std.proofs.Common.{ap, ◌∙◌, arith}
 use Rattle.bee_text.specs.Digits.{leads_well, digits_after}
 use Rattle.bee_text.proofs.NumberLemmas.{read_leads, digits_after-decimal, decimal_leads_well}
 use Rattle.bee_text.proofs.number.read_number.Goals as goal

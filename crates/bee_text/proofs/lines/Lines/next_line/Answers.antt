@@ -1,5 +1,5 @@
-use Rattle.std.proofs.Common.{◌≡◌, ap, sym, subst, refl, ◌∙◌, true}
-use Rattle.bee_text.specs.Lines.{IsLine, lines_of, Progress}
+use Rattle.std.proofs.Common.{ap, sym, refl, ◌∙◌}
+use Rattle.bee_text.specs.Lines.{lines_of}
 use Rattle.bee_text.proofs.SearchLemmas.{none_at, separator_cut}
 use Rattle.bee_text.proofs.LineLemmas.{lines_of-cut, lines_of-rest}
 use Rattle.bee_text.proofs.lines.Lines.next_line.Goals as goal

@@ -1,4 +1,4 @@
-use Rattle.std.proofs.Common.{◌≡◌, ◌∷◌, ap, sym, subst, refl, ◌∙◌, true}
+use Rattle.std.proofs.Common.{ap, sym, ◌∙◌}
 use Rattle.std.specs.Option.{option_copied}
 use Rattle.bee_text.specs.Words.{split_blanks, pieces_left}
 use Rattle.bee_text.proofs.SearchLemmas.{none_at, separator_cut}

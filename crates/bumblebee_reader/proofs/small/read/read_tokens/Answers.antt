@@ -8,14 +8,14 @@ pub loop-token-preserved : goal.loop-token-preserved
 loop-token-preserved c =
     sym (outcome-told _ _ _ _ _ c.in-Some.ensures.told c.in-Ok.ensures) ∙ c.loop-token.invariant
 
-pub returns-in-Err-Misfit : goal.returns-in-Err-Misfit
-returns-in-Err-Misfit c =
+pub returns-in-Err-Misfit-clause-told : goal.returns-in-Err-Misfit-clause-told
+returns-in-Err-Misfit-clause-told c =
     sym c.loop-token.invariant ∙ outcome-misfit _ _ _ _ c.in-Some.ensures.told (rw c.in-Err-Misfit.field-0-is at c.in-Err-Misfit.ensures)
 
-pub returns-in-Ok-finish : goal.returns-in-Ok-finish
-returns-in-Ok-finish c =
-    sym c.loop-token.invariant ∙ outcome-end _ _ c.in_default.ensures.told ∙ c.in-Ok-finish.ensures
+pub returns-in-Ok-finish-clause-told : goal.returns-in-Ok-finish-clause-told
+returns-in-Ok-finish-clause-told c =
+    sym c.loop-token.invariant ∙ outcome-end _ _ c.in_default.ensures.told ∙ c.in-Ok-finish.ensures.told
 
-pub returns-in-Err-Misfit-finish : goal.returns-in-Err-Misfit-finish
-returns-in-Err-Misfit-finish c =
-    sym c.loop-token.invariant ∙ outcome-end _ _ c.in_default.ensures.told ∙ rw c.in-Err-Misfit-finish.field-0-is at c.in-Err-Misfit-finish.ensures
+pub returns-in-Err-Misfit-finish-clause-told : goal.returns-in-Err-Misfit-finish-clause-told
+returns-in-Err-Misfit-finish-clause-told c =
+    sym c.loop-token.invariant ∙ outcome-end _ _ c.in_default.ensures.told ∙ rw c.in-Err-Misfit-finish.field-0-is at c.in-Err-Misfit-finish.ensures.told

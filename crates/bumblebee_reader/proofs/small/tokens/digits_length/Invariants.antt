@@ -1,5 +1,6 @@
 use Rattle.std.proofs.Common.{◌≡◌, ◌+◌, drop}
-use Rattle.bumblebee_reader.specs.SmallTokens.{is_digit, run_length}
+use Rattle.bumblebee_reader.specs.Bytes.{is_digit}
+use Rattle.bumblebee_reader.specs.SmallTokens.{run_length}
 use Rattle.bumblebee_reader.proofs.small.tokens.digits_length.Given as goal
 
 -- what was counted, and the run of what is left, are the whole run

@@ -1,0 +1,5 @@
+pub mod Lowered
+pub mod Compiled
+pub mod Words
+pub mod Codes
+pub mod CompileMode

@@ -1,0 +1,6 @@
+pub mod Faults
+pub mod Bytes
+pub mod ReadText
+pub mod MemShelf
+pub mod MemFiles
+pub mod MemSink

@@ -1,23 +1,21 @@
 -- A line of a compiled text tells the entry, the clause, the numbers that it spells.
-use Rattle.std.proofs.Common.{◌≡◌, ℕ, ◌+◌, ◌^◌, ◌<◌, ◌≤◌, true, ◌&&◌, List, [], ◌∷◌, ◌++◌, length, map, codes, drop, get_or, refl, ap, ◌∙◌, arith}
+use Rattle.std.proofs.Common.{◌≡◌, ℕ, ◌^◌, ◌<◌, ◌≤◌, List, [], ◌∷◌, length, map, codes, drop, get_or, refl, ap, arith}
 use Rattle.std.specs.List.{list_all}
-use Rattle.std.specs.Fmt.{decimal, signed_decimal}
 use Rattle.std.proofs.lemmas.Bool.{and_from}
 use Rattle.std.proofs.lemmas.List.{same_from_push}
-use Rattle.std.proofs.lemmas.List.Folds.{list_all-append}
 use Rattle.bee_text.specs.Lines.{lacks, IsLine, AreLines}
-use Rattle.bee_text.specs.Words.{join_words, words_behind, AreWords}
+use Rattle.bee_text.specs.Words.{join_words, AreWords}
 use Rattle.bee_text.proofs.NumberLemmas.{decimal_injective_wide, signed_decimal_injective_wide}
 use Rattle.bee_text.proofs.WordLemmas.{join_words_line}
 use Rattle.bee_text.proofs.GapLemmas.{join_words_injective, words_lines}
-use Rattle.bumblebee_reader.specs.Names.{IsName, AreDeclared}
+use Rattle.bumblebee_reader.specs.Names.{IsName}
 use Rattle.order_ints.specs.declared.literal.Lit.{Lit}
 use Rattle.order_ints.specs.declared.order_int.MapValue.{MapValue}
 use Rattle.order_ints.specs.declared.order_int.MapValue.TheVariants.{Bool as OfBool, Int as OfInt}
 use Rattle.order_ints.specs.declared.cnf.Cnf.{Cnf}
 use Rattle.order_ints.specs.Place.{ClauseBelow, ClausesBelow}
 use Rattle.dimacs_out.specs.declared.entry.MapEntry.{MapEntry}
-use Rattle.dimacs_out.specs.CompiledText.{literal_word, step_word, atom_word, value_words, entry_line, clause_words, clause_line, problem_line, compiled_lines, ValueBelow, EntriesBelow, IsWritable}
+use Rattle.dimacs_out.specs.CompiledText.{literal_word, value_words, entry_line, clause_words, clause_line, problem_line, ValueBelow}
 use Rattle.dimacs_out.proofs.SpelledWords.{value_words_words, clause_words_words, problem_words, problem_words_words}
 use Rattle.dimacs_out.proofs.WordsTell.{atom_word_tells, step_words_tell, literal_words_tell}
 
@@ -34,9 +32,9 @@ pub record SameValue (name other : List ℕ) (v w : MapValue) : Type 0 where
 value_words_tell : (n m : ℕ) (name other : List ℕ) (v w : MapValue) → n ≤ 2 ^ 32 → m ≤ 2 ^ 32 → ValueBelow n v → ValueBelow m w
     → value_words name v ≡ value_words other w → SameValue name other v w
 value_words_tell n m name other (OfBool a) (OfBool b) bn bm p q e = record {
-    names = ap (λ ws. get_or ws 2 []) e;
-    values = ap OfBool (atom_word_tells n m a b bn bm p q (ap (λ ws. get_or ws 3 []) e));
-  }
+  names = ap (λ ws. get_or ws 2 []) e;
+  values = ap OfBool (atom_word_tells n m a b bn bm p q (ap (λ ws. get_or ws 3 []) e));
+}
 value_words_tell n m name other (OfBool a) (OfInt b) bn bm p q e = absurd (omega (arith, ap (λ ws. length (get_or ws 1 [])) e))
 value_words_tell n m name other (OfInt a) (OfBool b) bn bm p q e = absurd (omega (arith, ap (λ ws. length (get_or ws 1 [])) e))
 value_words_tell n m name other (OfInt a) (OfInt b) bn bm p q e =

@@ -1,33 +1,31 @@
 -- What a compiled text is made of are words, and its lines are lines.
-use Rattle.std.proofs.Common.{◌≡◌, ℕ, ◌+◌, ◌^◌, ◌<◌, ◌≤◌, Bool, true, false, not, ◌&&◌, ◌||◌, ◌==◌, List, [], ◌∷◌, ◌++◌, length, map, codes, cond, refl, sym, subst, ◌∙◌, ⊎_elim, arith, leb}
+use Rattle.std.proofs.Common.{◌≡◌, ℕ, ◌^◌, ◌<◌, ◌≤◌, Bool, true, false, not, ◌&&◌, ◌||◌, ◌==◌, List, [], ◌∷◌, ◌++◌, length, map, codes, cond, refl, ◌∙◌, ⊎_elim, arith, leb}
 use Rattle.std.specs.List.{list_all}
 use Rattle.std.specs.Char.{is_ascii_digit}
 use Rattle.std.specs.Fmt.{decimal, signed_decimal}
 use Rattle.std.proofs.lemmas.Bool.{and_parts, and_from, or_cases, or_left, or_right, leb-true, eqb-true, false≢true}
 use Rattle.std.proofs.lemmas.Bool.Decides.{nat_tests}
 use Rattle.std.proofs.lemmas.List.Folds.{list_all-append}
-use Rattle.bee_text.specs.Lines.{lacks, IsLine, AreLines}
-use Rattle.bee_text.specs.Words.{is_gap, is_word, IsWord, AreWords, join_words}
+use Rattle.bee_text.specs.Lines.{lacks}
+use Rattle.bee_text.specs.Words.{is_gap, is_word, IsWord, AreWords}
 use Rattle.bee_text.proofs.NumberLemmas.{decimal_word, decimal_digits, signed_decimal_word}
-use Rattle.bee_text.proofs.WordLemmas.{join_words_line}
-use Rattle.bee_text.proofs.GapLemmas.{solid, words_lines}
+use Rattle.bee_text.proofs.GapLemmas.{solid}
 use Rattle.bumblebee_reader.specs.Bytes.{is_letter, is_digit, is_word as is_name_byte}
-use Rattle.bumblebee_reader.specs.Names.{IsName, IsDeclarable, AreDeclared}
+use Rattle.bumblebee_reader.specs.Names.{IsName}
 use Rattle.order_ints.specs.declared.literal.Lit.{Lit}
 use Rattle.order_ints.specs.declared.atom.Atom.{Atom}
 use Rattle.order_ints.specs.declared.atom.Atom.TheVariants.{True, False, Of}
 use Rattle.order_ints.specs.declared.order_int.MapValue.{MapValue}
 use Rattle.order_ints.specs.declared.order_int.MapValue.TheVariants.{Bool as OfBool, Int as OfInt}
 use Rattle.order_ints.specs.declared.cnf.Cnf.{Cnf}
-use Rattle.order_ints.specs.Place.{LitBelow, AtomBelow, StepsBelow, ClauseBelow, ClausesBelow}
-use Rattle.dimacs_out.specs.declared.entry.MapEntry.{MapEntry}
-use Rattle.dimacs_out.specs.CompiledText.{literal_word, atom_word, step_word, value_words, entry_line, clause_words, clause_line, problem_line, compiled_lines, WeightsCount, ValueBelow, EntriesBelow, IsWritable}
+use Rattle.order_ints.specs.Place.{LitBelow, AtomBelow, StepsBelow, ClauseBelow}
+use Rattle.dimacs_out.specs.CompiledText.{literal_word, atom_word, step_word, value_words, clause_words, WeightsCount, ValueBelow}
 
 -- a byte of a number with its sign
 abbrev pub is_signed_digit : ℕ → Bool
 is_signed_digit b = b == 45 || is_ascii_digit b
 
--- a number with its sign, before its variable is taken from a literal
+-- the word of the literal that has this sign and this variable
 abbrev pub signed_word : Bool → ℕ → List ℕ
 signed_word positive v = cond positive (decimal v) (45 ∷ decimal v)
 
@@ -35,10 +33,10 @@ signed_digit_apart : (b : ℕ) → is_signed_digit b ≡ true → (not (is_gap b
 signed_digit_apart b h = ⊎_elim
     (λ (e : (b == 45) ≡ true). let is : b ≡ 45 = eqb-true b 45 e in rw is (refl, refl))
     (λ (e : is_ascii_digit b ≡ true).
-        let range = and_parts (leb 48 b) (leb b 57) e in
-        let low : 48 ≤ b = leb-true 48 b range.0 in
-        let high : b ≤ 57 = leb-true b 57 range.1 in
-        (solid_byte b low, no_colon b high))
+    let range = and_parts (leb 48 b) (leb b 57) e in
+    let low : 48 ≤ b = leb-true 48 b range.0 in
+    let high : b ≤ 57 = leb-true b 57 range.1 in
+    (solid_byte b low, no_colon b high))
     (or_cases (b == 45) (is_ascii_digit b) h)
   where
     solid_byte : (d : ℕ) → 48 ≤ d → not (is_gap d) ≡ true
@@ -105,7 +103,7 @@ steps_words : (n : ℕ) (steps : List (Atom × ℕ)) → n ≤ 2 ^ 32 → StepsB
 steps_words n [] bound below weights = refl
 steps_words n (s ∷ steps) bound below weights =
     and_from (is_word (step_word s)) (list_all is_word (map step_word steps))
-        (step_word_word n s bound below.0 weights.1) (steps_words n steps bound below.1 weights.2)
+    (step_word_word n s bound below.0 weights.1) (steps_words n steps bound below.1 weights.2)
 
 -- a name is a word
 name_word : (name : List ℕ) → IsName name → IsWord name
@@ -129,11 +127,11 @@ name_word (b ∷ bs) h =
 pub value_words_words : (n : ℕ) (name : List ℕ) (v : MapValue) → n ≤ 2 ^ 32 → IsName name → ValueBelow n v → AreWords (value_words name v)
 value_words_words n name (OfBool a) bound is_name below =
     and_from (is_word name) (is_word (atom_word a) && true) (name_word name is_name)
-        (and_from (is_word (atom_word a)) true (atom_word_word n a bound below) refl)
+    (and_from (is_word (atom_word a)) true (atom_word_word n a bound below) refl)
 value_words_words n name (OfInt a) bound is_name below =
     and_from (is_word name) (is_word (signed_decimal a.base) && list_all is_word (map step_word a.steps)) (name_word name is_name)
-        (and_from (is_word (signed_decimal a.base)) (list_all is_word (map step_word a.steps))
-            (signed_decimal_word a.base (omega (arith, below.0.sfits))) (steps_words n a.steps bound below.1 below.2))
+    (and_from (is_word (signed_decimal a.base)) (list_all is_word (map step_word a.steps))
+    (signed_decimal_word a.base (omega (arith, below.0.sfits))) (steps_words n a.steps bound below.1 below.2))
 
 pub clause_literals_words : (n : ℕ) (c : List Lit) → n ≤ 2 ^ 32 → ClauseBelow n c → AreWords (map literal_word c)
 clause_literals_words n [] bound below = refl
@@ -150,4 +148,4 @@ problem_words cnf = codes "p" ∷ codes "cnf" ∷ decimal cnf.vars ∷ decimal (
 pub problem_words_words : (cnf : Cnf) → cnf.vars < 2 ^ 32 → length cnf.clauses < 2 ^ 64 → AreWords (problem_words cnf)
 problem_words_words cnf vars count =
     and_from (is_word (decimal cnf.vars)) (is_word (decimal (length cnf.clauses)) && true) (decimal_word cnf.vars (omega arith))
-        (and_from (is_word (decimal (length cnf.clauses))) true (decimal_word (length cnf.clauses) (omega arith)) refl)
+    (and_from (is_word (decimal (length cnf.clauses))) true (decimal_word (length cnf.clauses) (omega arith)) refl)

@@ -1,5 +1,5 @@
 -- A compiled text tells the names, what they stand for, and the CNF; so it stands for what these give.
-use Rattle.std.proofs.Common.{◌≡◌, ◌↔◌, ℕ, ◌+◌, ◌^◌, ◌<◌, ◌≤◌, ◌&&◌, List, [], ◌∷◌, ◌++◌, length, map, codes, drop, get_or, refl, sym, ap, subst, ◌∙◌, arith, ℤ}
+use Rattle.std.proofs.Common.{◌≡◌, ℕ, ◌+◌, ◌^◌, ◌≤◌, ◌&&◌, List, [], ◌∷◌, ◌++◌, map, drop, get_or, refl, sym, ap, subst, ◌∙◌, arith}
 use Rattle.std.specs.List.{list_all}
 use Rattle.std.proofs.lemmas.Bool.{and_from}
 use Rattle.std.proofs.lemmas.List.Folds.{list_all-append}
@@ -31,7 +31,7 @@ entry_lines_lines : (n : ℕ) (entries : List MapEntry) → AreEntries n entries
 entry_lines_lines n [] h = refl
 entry_lines_lines n (e ∷ entries) h =
     and_from (lacks 10 (entry_line e)) (list_all (lacks 10) (map entry_line entries))
-        (entry_line_line n e (first_entry n e entries h)) (entry_lines_lines n entries (later_entries n e entries h))
+    (entry_line_line n e (first_entry n e entries h)) (entry_lines_lines n entries (later_entries n e entries h))
 
 -- the lines of entries and a line that does not begin as they do tell the entries, that line and the lines behind it
 pub record SameParts (entries fs : List MapEntry) (x y : List ℕ) (xs ys : List (List ℕ)) : Type 0 where
@@ -59,16 +59,16 @@ pub compiled_lines_lines : (entries : List MapEntry) (cnf : Cnf) → IsWritable 
 compiled_lines_lines entries cnf h =
     list_all-append (lacks 10) (map entry_line entries) (problem_line cnf ∷ map clause_line cnf.clauses)
     ∙ and_from (list_all (lacks 10) (map entry_line entries)) (lacks 10 (problem_line cnf) && list_all (lacks 10) (map clause_line cnf.clauses))
-        (entry_lines_lines (cnf.vars + 1) entries (writable_entries entries cnf h))
-        (and_from (lacks 10 (problem_line cnf)) (list_all (lacks 10) (map clause_line cnf.clauses))
-            (problem_line_line cnf h.vars h.count) (clause_lines_lines (cnf.vars + 1) cnf.clauses (omega (arith, h.vars)) h.clauses))
+    (entry_lines_lines (cnf.vars + 1) entries (writable_entries entries cnf h))
+    (and_from (lacks 10 (problem_line cnf)) (list_all (lacks 10) (map clause_line cnf.clauses))
+    (problem_line_line cnf h.vars h.count) (clause_lines_lines (cnf.vars + 1) cnf.clauses (omega (arith, h.vars)) h.clauses))
 
 -- the names, the map and the CNF of a compiled text are unique
 pub text_tells_all : TextTellsAll
 text_tells_all entries fs cnf dnf p q e =
     let lines = join_lines_injective (compiled_lines entries cnf) (compiled_lines fs dnf) (compiled_lines_lines entries cnf p) (compiled_lines_lines fs dnf q) e in
     let parts = entry_lines_tell (cnf.vars + 1) (dnf.vars + 1) entries fs (problem_line cnf) (problem_line dnf) (map clause_line cnf.clauses) (map clause_line dnf.clauses)
-        (writable_entries entries cnf p) (writable_entries fs dnf q) refl refl (ap (drop 1) lines) in
+    (writable_entries entries cnf p) (writable_entries fs dnf q) refl refl (ap (drop 1) lines) in
     let vars = problem_line_tells cnf dnf p.vars q.vars p.count q.count parts.line_same in
     let clauses = clause_lines_tell (cnf.vars + 1) (dnf.vars + 1) cnf.clauses dnf.clauses (omega (arith, p.vars)) (omega (arith, q.vars)) p.clauses q.clauses parts.lines_same in
     (parts.entries_same, λ i. record { vars = vars i; clauses = clauses i })

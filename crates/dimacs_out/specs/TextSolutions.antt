@@ -1,5 +1,5 @@
 -- The assignments that a compiled text stands for, said of its bytes.
-use Rattle.std.specs.Prelude.{◌≡◌, ℕ, Bool, List, ℤ, pos, map, if◌then◌else◌}
+use Rattle.std.specs.Prelude.{◌≡◌, ℕ, List, ℤ, pos, map, if◌then◌else◌}
 use Rattle.order_ints.specs.declared.order_int.MapValue.{MapValue}
 use Rattle.order_ints.specs.declared.order_int.MapValue.TheVariants as values
 use Rattle.order_ints.specs.declared.cnf.Cnf.{Cnf}

@@ -7,5 +7,4 @@ ghost use Rattle.dimacs_out.specs.TextLaws.{TextTellsAll, StandsForExactly};
 pub fn text_laws()
     ensures unique { TextTellsAll }
     ensures exact { StandsForExactly }
-{
-}
+{}

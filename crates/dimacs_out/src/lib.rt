@@ -8,3 +8,6 @@ mod write;
 pub use entry::MapEntry;
 pub use laws::text_laws;
 pub use write::write_map;
+
+#[cfg(test)]
+mod tests;

@@ -10,6 +10,6 @@ returns-clause-text c =
     let zs = map clause_line c.args.cnf.now.clauses in
     let y = problem_line c.args.cnf.now in
     text_written c.push_bytes.new.out.items c.push_entries.new.out.items c.push_problem.new.out.items c.push_clauses.new.out.items es y zs
-        c.in_ok-push_entries.ensures c.in_ok-push_problem.ensures.line
-        (c.in_ok-push_clauses.ensures ∙ ap (λ cs. c.push_problem.new.out.items ++ join_lines (map clause_line cs)) c.as_slice.ensures)
+    c.in_ok-push_entries.ensures c.in_ok-push_problem.ensures.line
+    (c.in_ok-push_clauses.ensures ∙ ap (λ cs. c.push_problem.new.out.items ++ join_lines (map clause_line cs)) c.as_slice.ensures)
     ∙ ap (λ h. h ++ join_lines (es ++ y ∷ zs)) (c.in_ok-push_bytes.ensures.ok ∙ ap (λ l. l ++ codes "c bee 1\n") c.new-out.ensures.items)

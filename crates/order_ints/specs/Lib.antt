@@ -1,5 +1,11 @@
 pub mod Truth
 pub mod Satisfies
 pub mod OrderValue
+pub mod OrderRange
+pub mod OrderLevels
+pub mod LevelsLeft
+pub mod OrderMade
+pub mod OrderChange
+pub mod Represents
 pub mod View
 pub mod Place

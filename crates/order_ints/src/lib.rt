@@ -3,10 +3,11 @@
 
 mod atom;
 mod cnf;
+mod holds;
 mod literal;
 mod order_int;
 
 pub use atom::Atom;
 pub use cnf::Cnf;
 pub use literal::Lit;
-pub use order_int::{MapValue, OrdInt};
+pub use order_int::{Levels, MapValue, OrdInt};

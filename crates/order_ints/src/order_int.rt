@@ -1,4 +1,12 @@
-//! An integer in the order encoding.
+//! Integers in the order encoding.
+
+mod change;
+mod levels;
+mod make;
+mod signed;
+mod value;
+
+pub use levels::Levels;
 
 use crate::atom::Atom;
 use bee_text::Sequence;

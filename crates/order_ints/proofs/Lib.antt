@@ -1,0 +1,9 @@
+pub mod Truths
+pub mod Tests
+pub mod Gains
+pub mod Reaching
+pub mod Negation
+pub mod Multiples
+pub mod Fresh
+pub mod Made
+pub mod Standing

@@ -1,9 +1,9 @@
 -- Integers over fresh variables: their values, their conditions, and that each value is taken.
-use Rattle.std.proofs.Common.{◌≡◌, ℕ, zero, suc, ◌+◌, ◌-◌, ◌<◌, ◌≤◌, ◌^◌, Bool, true, false, not, ◌&&◌, cond, ltb, List, [], ◌∷◌, ◌++◌, map, length, get_or, drop, Contains, ℤ, pos, ◌+ℤ◌, ◌-ℤ◌, ◌≤ℤ◌, ◌<ℤ◌, refl, sym, ap, subst, ◌∙◌, arith}
+use Rattle.std.proofs.Common.{◌≡◌, ℕ, zero, suc, ◌+◌, ◌-◌, ◌<◌, ◌≤◌, ◌^◌, Bool, true, false, not, ◌&&◌, cond, ltb, List, [], ◌∷◌, ◌++◌, map, length, get_or, take, drop, Contains, ℤ, pos, ◌+ℤ◌, ◌-ℤ◌, ◌≤ℤ◌, ◌<ℤ◌, refl, sym, ap, subst, ◌∙◌, arith}
 use Rattle.std.specs.Prelude.{IsTrue, unsigned_abs}
 use Rattle.std.proofs.lemmas.Int.{ints}
 use Rattle.std.proofs.lemmas.Bool.{lt-ltb, le-ltb}
-use Rattle.std.proofs.lemmas.List.{append_assoc}
+use Rattle.std.proofs.lemmas.List.{append_assoc, take_all}
 use Rattle.order_ints.specs.declared.literal.Lit.{Lit}
 use Rattle.order_ints.specs.declared.atom.Atom.{Atom}
 use Rattle.order_ints.specs.declared.atom.Atom.TheVariants.{True, False, Of}
@@ -179,6 +179,7 @@ pub least-integer_of_values : (values : List ℤ) (first : ℕ) → 0 < length v
 least-integer_of_values [] first some = absurd (omega arith)
 least-integer_of_values (least ∷ values) first some = refl
 
-pub further-integer_of_values : (values : List ℤ) (first : ℕ) → 0 < length values → steps_between (get_or values 0 (pos 0)) (drop 1 values) first ≡ (integer_of_values values first).steps
+pub further-integer_of_values : (values : List ℤ) (first : ℕ) → 0 < length values → steps_between (get_or values 0 (pos 0)) (take (length values - 1) (drop 1 values)) first ≡ (integer_of_values values first).steps
 further-integer_of_values [] first some = absurd (omega arith)
-further-integer_of_values (least ∷ values) first some = refl
+further-integer_of_values (least ∷ values) first some =
+    ap (λ vs. steps_between least vs first) (take_all (length (least ∷ values) - 1) values (omega arith))

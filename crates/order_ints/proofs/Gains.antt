@@ -3,10 +3,11 @@ use Rattle.std.proofs.Common.{◌≡◌, ℕ, ◌+◌, ◌<◌, ◌≤◌, Bool,
 use Rattle.std.proofs.lemmas.Int.{ints}
 use Rattle.std.proofs.lemmas.List.{at_drop_more}
 use Rattle.order_ints.specs.declared.atom.Atom.{Atom}
+use Rattle.order_ints.specs.declared.atom.Atom.TheVariants.{True, False, Of}
 use Rattle.order_ints.specs.declared.order_int.OrdInt.{OrdInt}
 use Rattle.order_ints.specs.Truth.{Valuation, Agree, atom_truth}
-use Rattle.order_ints.specs.Place.{StepsBelow}
-use Rattle.order_ints.specs.OrderValue.{gains, value_of, none_true, in_order}
+use Rattle.order_ints.specs.Place.{AtomBelow, StepsBelow}
+use Rattle.order_ints.specs.OrderValue.{gains, value_of, none_true, in_order, IsOrdered}
 use Rattle.order_ints.specs.OrderRange.{weights, low_of, high_of, IntBelow}
 use Rattle.order_ints.proofs.Truths.{atom_truth-agree}
 
@@ -70,3 +71,16 @@ pub ruleset gain_bounds = (arith, ints, gains-le)
 pub gains-drop : (σ : Valuation) (steps : List (Atom × ℕ)) (i : ℕ) (d : Atom × ℕ) → i < length steps → true ≡ atom_truth σ (get_or steps i d).0 → gains σ (drop i steps) ≡ (get_or steps i d).1 + gains σ (drop (i + 1) steps)
 gains-drop σ steps i d h e =
     at_drop_more (gains σ) steps i d h ∙ ap (λ t. cond t (get_or steps i d).1 0 + gains σ (drop (i + 1) steps)) (sym e)
+
+-- what has its variables below n has them below each greater bound
+pub AtomBelow-more : (n m : ℕ) (a : Atom) → n ≤ m → AtomBelow n a → AtomBelow m a
+AtomBelow-more n m True le below = tt
+AtomBelow-more n m False le below = tt
+AtomBelow-more n m (Of l) le below = (below.0, omega (arith, below.1))
+
+pub StepsBelow-more : (n m : ℕ) (steps : List (Atom × ℕ)) → n ≤ m → StepsBelow n steps → StepsBelow m steps
+StepsBelow-more n m [] le below = tt
+StepsBelow-more n m (s ∷ steps) le below = (AtomBelow-more n m s.0 le below.0, StepsBelow-more n m steps le below.1)
+
+pub IsOrdered-agree : (n : ℕ) (σ τ : Valuation) (a : OrdInt) → Agree n σ τ → IntBelow n a → IsOrdered σ a → IsOrdered τ a
+IsOrdered-agree n σ τ a same below ordered = sym (in_order-agree n σ τ a.steps same below) ∙ ordered

@@ -3,7 +3,7 @@ use Rattle.std.proofs.Common.{◌≡◌, ℕ, zero, suc, ◌+◌, ◌-◌, ◌*�
 use Rattle.std.specs.Prelude.{int_le, IsTrue, unsigned_abs, reverse}
 use Rattle.std.proofs.Math.IntN.{suc_ℤ-*ℤ, zero-*ℤ, *ℤ-zero, *ℤ_comm, *ℤ-negsuc, neg_ℤ-+ℤ}
 use Rattle.std.proofs.Math.Nat.{mul-le-mul_left}
-use Rattle.std.proofs.lemmas.Int.{ints}
+use Rattle.std.proofs.lemmas.Int.{ints, unsigned_abs-mul}
 use Rattle.std.proofs.lemmas.List.{length-map, length-take, get_or-append_right, get_or-drop}
 use Rattle.order_ints.specs.declared.atom.Atom.{Atom}
 use Rattle.order_ints.specs.declared.atom.Atom.TheVariants.{True, False, Of}
@@ -171,3 +171,26 @@ products-fit a by factor these steps h e f g =
     let fits : unsigned_abs by * weights steps < 2 ^ 128 =
       omega (arith, weights-fit (scaled_of a by) h, ap weights e, weights-multiplied (unsigned_abs by) steps) in
     rw (f, g) fits
+
+-- the ends of a multiple
+pub high_of-multiplied_of : (n : ℕ) (a : OrdInt) → high_of (multiplied_of n a) ≡ pos n *ℤ high_of a
+high_of-multiplied_of n a =
+    ap (λ (w : ℕ). (pos n *ℤ a.base) +ℤ pos w) (weights-multiplied n a.steps) ∙ sym (pos-*ℤ-sum n a.base (weights a.steps))
+
+abs-neg : (z : ℤ) → unsigned_abs (neg_ℤ z) ≡ unsigned_abs z
+abs-neg z = omega (arith, ints)
+
+product-small : (n m : ℕ) (z : ℤ) → unsigned_abs z ≤ m → n * m < 2 ^ 100 → unsigned_abs (pos n *ℤ z) < 2 ^ 100
+product-small n m z h k = rw (unsigned_abs-mul (pos n) z) (omega (arith, mul-le-mul_left n h))
+
+multiplied-small : (n m : ℕ) (a : OrdInt) → unsigned_abs (low_of a) ≤ m → unsigned_abs (high_of a) ≤ m → n * m < 2 ^ 100 → IsBounded (multiplied_of n a)
+multiplied-small n m a low high k =
+    (product-small n m a.base low k, subst (λ (z : ℤ). unsigned_abs z < 2 ^ 100) (sym (high_of-multiplied_of n a)) (product-small n m (high_of a) high k))
+
+-- a multiple is within the limits where the greatest absolute value, multiplied, is
+pub IsBounded-scaled_of : (a : OrdInt) (by : ℤ) (m : ℕ) → unsigned_abs (low_of a) ≤ m → unsigned_abs (high_of a) ≤ m → unsigned_abs by * m < 2 ^ 100 → IsBounded (scaled_of a by)
+IsBounded-scaled_of a (pos zero) m low high k = (omega arith, omega arith)
+IsBounded-scaled_of a (pos (suc n)) m low high k = multiplied-small (suc n) m a low high k
+IsBounded-scaled_of a (negsuc n) m low high k =
+    multiplied-small (suc n) m (negated_of a) (omega (arith, abs-neg (high_of a)))
+      (omega (arith, ap unsigned_abs (high_of-negated_of a), abs-neg (low_of a))) k

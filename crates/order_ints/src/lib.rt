@@ -6,6 +6,7 @@ mod cnf;
 mod holds;
 mod literal;
 mod order_int;
+pub mod order_laws;
 
 pub use atom::Atom;
 pub use cnf::Cnf;

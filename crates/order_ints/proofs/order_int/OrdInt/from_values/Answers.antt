@@ -1,4 +1,4 @@
-use Rattle.std.proofs.Common.{◌≡◌, ℤ, ℕ, pos, get_or, drop, sym, ap, subst, ◌∙◌, to_z, of_z, FitsSigned, map, rules, arith}
+use Rattle.std.proofs.Common.{◌≡◌, ℤ, ℕ, pos, get_or, length, take, drop, ◌-◌, sym, ap, subst, ◌∙◌, to_z, of_z, FitsSigned, map, rules, arith}
 use mir.Syntax.{w128}
 use Rattle.std.proofs.lemmas.Int.{to_z-of_z}
 use Rattle.order_ints.proofs.Made.{int_is}
@@ -16,7 +16,7 @@ shape c =
     let fits : FitsSigned w128 (get_or values 0 (pos 0)) = search rules in
     let same = to_z-of_z w128 (get_or values 0 (pos 0)) fits in
     int_is (integer_of_values values c.args.first_var) _ _ (same ∙ least-integer_of_values values c.args.first_var c.requires.some)
-      (c.in_ok-steps_upwards.ensures ∙ ap (λ (least : ℤ). steps_between least (drop 1 values) c.args.first_var) same ∙ further-integer_of_values values c.args.first_var c.requires.some)
+      (c.in_ok-steps_upwards.ensures ∙ ap (λ (least : ℤ). steps_between least (take (length values - 1) (drop 1 values)) c.args.first_var) same ∙ further-integer_of_values values c.args.first_var c.requires.some)
 
 pub returns-clause-values : goal.returns-clause-values
 returns-clause-values c =

@@ -68,8 +68,8 @@ pub values-steps_between : (value : ℤ) (x : Atom) (values : List ℤ) (first :
 values-steps_between value x [] first h = refl
 values-steps_between value x (next ∷ values) first h =
     ap (λ vs. value ∷ vs)
-      (ap (λ v. map (λ (level : ℤ × Atom). level.0) (levels v (atom_of_var first) (steps_between next values (first + 1)))) (raised-gap value next h.0)
-      ∙ values-steps_between next (atom_of_var first) values (first + 1) h.1)
+    (ap (λ v. map (λ (level : ℤ × Atom). level.0) (levels v (atom_of_var first) (steps_between next values (first + 1)))) (raised-gap value next h.0)
+    ∙ values-steps_between next (atom_of_var first) values (first + 1) h.1)
 
 pub values_of-integer_of_values : (values : List ℤ) (first : ℕ) → 0 < length values → AreAscending values → values_of (integer_of_values values first) ≡ values
 values_of-integer_of_values [] first some h = absurd (omega arith)
@@ -86,7 +86,7 @@ small-high : (value : ℤ) (values : List ℤ) (first : ℕ) → AscendFrom valu
 small-high value [] first h small = omega (arith, ints, small.0)
 small-high value (next ∷ values) first h small =
     let e : value +ℤ pos (unsigned_abs (next -ℤ value) + weights (steps_between next values (first + 1))) ≡ next +ℤ pos (weights (steps_between next values (first + 1))) =
-      omega (arith, ints, h.0) in
+    omega (arith, ints, h.0) in
     subst (λ z. unsigned_abs z < 2 ^ 100) (sym e) (small-high next values (first + 1) h.1 small.1)
 
 pub IsBounded-integer_of_values : (values : List ℤ) (first : ℕ) → AreAscending values → AreSmall values → IsBounded (integer_of_values values first)
@@ -134,9 +134,9 @@ pub takes_each_value : (σ : Valuation) (a : OrdInt) (first count : ℕ) (value 
 takes_each_value σ a first count value e c =
     let τ : Valuation = raised_from σ first c.0 in
     let rule : (v : ℕ) → first ≤ v → τ v ≡ ltb v (first + c.0) =
-      λ v le. ap (λ b. cond b (σ v) (ltb v (first + c.0))) (le-ltb v first le) in
+    λ v le. ap (λ b. cond b (σ v) (ltb v (first + c.0))) (le-ltb v first le) in
     let same : Agree first σ τ =
-      λ v lt. sym (ap (λ b. cond b (σ v) (ltb v (first + c.0))) (lt-ltb v first lt)) in
+    λ v lt. sym (ap (λ b. cond b (σ v) (ltb v (first + c.0))) (lt-ltb v first lt)) in
     let r = raised-value τ (first + c.0) first count c.0 a.base True a.steps value rule refl e c.1 c.2 in
     (τ, same, (r.0, r.1))
 
@@ -153,7 +153,7 @@ unit_steps-turn front more all s first k count h pushed is so_far =
     let e : first + (k + 1) ≡ first + k + 1 = omega arith in
     let f : count - (k + 1) ≡ count - k - 1 = omega arith in
     rw (pushed, e, f, append_assoc front (s ∷ []) (unit_steps (first + k + 1) (count - k - 1)), is)
-      (ap (λ steps. front ++ steps) (sym (unit_steps-next (first + k) (count - k) (omega arith))) ∙ so_far)
+    (ap (λ steps. front ++ steps) (sym (unit_steps-next (first + k) (count - k) (omega arith))) ∙ so_far)
 
 pub IsBounded-unit_range_of : (low : ℤ) (first count : ℕ) → unsigned_abs low < 2 ^ 100 → unsigned_abs (low +ℤ pos count) < 2 ^ 100 → IsBounded (unit_range_of low first count)
 IsBounded-unit_range_of low first count least greatest =

@@ -40,7 +40,7 @@ pub gains-none_true : (σ : Valuation) (steps : List (Atom × ℕ)) → none_tru
 gains-none_true σ [] h = refl
 gains-none_true σ (s ∷ steps) h =
     elim (atom_truth σ s.0) as (λ t. (not t && none_true σ steps) ≡ true → cond t s.1 0 + gains σ steps ≡ 0)
-      [ true ↦ λ e. absurd (cc) | false ↦ λ e. omega (arith, gains-none_true σ steps e) ] h
+    [ true ↦ λ e. absurd (cc) | false ↦ λ e. omega (arith, gains-none_true σ steps e) ] h
 
 -- value and order depend on the variables of the integer alone
 pub gains-agree : (n : ℕ) (σ τ : Valuation) (steps : List (Atom × ℕ)) → Agree n σ τ → StepsBelow n steps → gains σ steps ≡ gains τ steps

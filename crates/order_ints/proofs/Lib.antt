@@ -1,7 +1,8 @@
 pub mod Truths
-pub mod Tests
+pub mod Comparisons
 pub mod Gains
 pub mod Reaching
+pub mod Everywhere
 pub mod Negation
 pub mod Multiples
 pub mod Fresh

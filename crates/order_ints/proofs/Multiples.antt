@@ -14,7 +14,7 @@ use Rattle.order_ints.specs.OrderValue.{gains, value_of, none_true, in_order, Is
 use Rattle.order_ints.specs.OrderRange.{weights, low_of, high_of, AreRising, IntBelow, IsBounded}
 use Rattle.order_ints.specs.OrderLevels.{levels, levels_of, first_reaching, at_of}
 use Rattle.order_ints.specs.OrderChange.{negated_step, negated_of, shifted_of, multiplied_steps, multiplied_of, scaled_of}
-use Rattle.order_ints.proofs.Tests.{int_le-true, int_le-false, by_int_le}
+use Rattle.order_ints.proofs.Comparisons.{int_le-true, int_le-false, by_int_le}
 use Rattle.order_ints.proofs.Negation.{value_of-negated_of, in_order-negated, AreRising-negated, StepsBelow-negated, high_of-negated_of}
 
 -- the value of a shift
@@ -35,7 +35,7 @@ reaching-shifted v low by x [] = ap (λ b. cond b x False) (test-shift v low by)
 reaching-shifted v low by x (s ∷ steps) =
     ap (λ b. cond b x (first_reaching v (levels (low +ℤ by +ℤ pos s.1) s.0 steps))) (test-shift v low by)
     ∙ ap (cond (int_le (v -ℤ by) low) x)
-        (ap (λ z. first_reaching v (levels z s.0 steps)) (omega (arith, ints)) ∙ reaching-shifted v (low +ℤ pos s.1) by s.0 steps)
+    (ap (λ z. first_reaching v (levels z s.0 steps)) (omega (arith, ints)) ∙ reaching-shifted v (low +ℤ pos s.1) by s.0 steps)
 
 -- a shift is at least v exactly where the integer is at least v less the shift
 pub at_of-shifted_of : (a : OrdInt) (by v : ℤ) → at_of (shifted_of a by) v ≡ at_of a (v -ℤ by)
@@ -131,8 +131,8 @@ multiplied-fits n i steps now d h e =
     let front = multiplied_steps n (take i steps) in
     let long : length front ≡ i = simp (length-map, length-take) (omega arith) in
     let here : get_or now i d ≡ get_or steps i d =
-      ap (λ (xs : List (Atom × ℕ)). get_or xs i d) e ∙ get_or-append_right front (drop i steps) i i d long (omega arith) ∙ get_or-drop i steps (i - i) d
-      ∙ ap (λ k. get_or steps k d) (omega arith) in
+    ap (λ (xs : List (Atom × ℕ)). get_or xs i d) e ∙ get_or-append_right front (drop i steps) i i d long (omega arith) ∙ get_or-drop i steps (i - i) d
+    ∙ ap (λ k. get_or steps k d) (omega arith) in
     rw here (omega (arith, mul-le-mul_left n (weight-le steps i d h)))
 
 -- the parts of a multiple
@@ -169,7 +169,7 @@ weights-fit a h = omega (arith, ints, h.0, h.1)
 pub products-fit : (a : OrdInt) (by : ℤ) (factor : ℕ) (these steps : List (Atom × ℕ)) → IsBounded (scaled_of a by) → (scaled_of a by).steps ≡ multiplied_steps (unsigned_abs by) steps → factor ≡ unsigned_abs by → these ≡ steps → factor * weights these < 2 ^ 128
 products-fit a by factor these steps h e f g =
     let fits : unsigned_abs by * weights steps < 2 ^ 128 =
-      omega (arith, weights-fit (scaled_of a by) h, ap weights e, weights-multiplied (unsigned_abs by) steps) in
+    omega (arith, weights-fit (scaled_of a by) h, ap weights e, weights-multiplied (unsigned_abs by) steps) in
     rw (f, g) fits
 
 -- the ends of a multiple
@@ -193,4 +193,4 @@ IsBounded-scaled_of a (pos zero) m low high k = (omega arith, omega arith)
 IsBounded-scaled_of a (pos (suc n)) m low high k = multiplied-small (suc n) m a low high k
 IsBounded-scaled_of a (negsuc n) m low high k =
     multiplied-small (suc n) m (negated_of a) (omega (arith, abs-neg (high_of a)))
-      (omega (arith, ap unsigned_abs (high_of-negated_of a), abs-neg (low_of a))) k
+    (omega (arith, ap unsigned_abs (high_of-negated_of a), abs-neg (low_of a))) k

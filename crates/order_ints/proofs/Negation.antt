@@ -13,7 +13,7 @@ use Rattle.order_ints.specs.OrderValue.{gains, value_of, none_true, in_order, Is
 use Rattle.order_ints.specs.OrderRange.{weights, low_of, high_of, AreRising, IntBelow, IsBounded}
 use Rattle.order_ints.specs.OrderLevels.{levels, levels_of, first_reaching, at_of}
 use Rattle.order_ints.specs.OrderChange.{negated_step, negated_of, shifted_of}
-use Rattle.order_ints.proofs.Tests.{int_le-true, int_le-false, by_int_le}
+use Rattle.order_ints.proofs.Comparisons.{int_le-true, int_le-false, by_int_le}
 use Rattle.order_ints.proofs.Truths.{atom_truth-not_atom, AtomBelow-not_atom}
 use Rattle.order_ints.proofs.Gains.{gains-le, gains-append, weights-append}
 use Rattle.order_ints.proofs.Reaching.{reaching-low, reaching-above}
@@ -35,7 +35,7 @@ pub gains-negated : (σ : Valuation) (steps : List (Atom × ℕ)) → gains σ (
 gains-negated σ [] = refl
 gains-negated σ (s ∷ steps) =
     rw (negated-cons s steps, gains-append σ (map negated_step (reverse steps)) (negated_step s ∷ []))
-      (omega (arith, gains-negated σ steps, gain-not (atom_truth σ s.0) (atom_truth σ (not_atom s.0)) s.1 (atom_truth-not_atom σ s.0)))
+    (omega (arith, gains-negated σ steps, gain-not (atom_truth σ s.0) (atom_truth σ (not_atom s.0)) s.1 (atom_truth-not_atom σ s.0)))
 
 -- the value of the negation is minus the value
 pub value_of-negated_of : (σ : Valuation) (a : OrdInt) → value_of σ (negated_of a) ≡ neg_ℤ (value_of σ a)
@@ -71,13 +71,13 @@ in_order-append : (σ : Valuation) (xs : List (Atom × ℕ)) (s : Atom × ℕ) �
 in_order-append σ [] s = elim (atom_truth σ s.0) as (λ t. cond t true true ≡ cond t true true) [ true ↦ refl | false ↦ refl ]
 in_order-append σ (x ∷ xs) s =
     elim (atom_truth σ x.0) as (λ t. cond t (in_order σ (xs ++ s ∷ [])) (none_true σ (xs ++ s ∷ [])) ≡ cond (atom_truth σ s.0) (t && all_true σ xs) (cond t (in_order σ xs) (none_true σ xs)))
-      [ true ↦ in_order-append σ xs s | false ↦ none_true-append σ xs s ∙ and-not (none_true σ xs) (atom_truth σ s.0) ]
+    [ true ↦ in_order-append σ xs s | false ↦ none_true-append σ xs s ∙ and-not (none_true σ xs) (atom_truth σ s.0) ]
 
 all_true-negated : (σ : Valuation) (steps : List (Atom × ℕ)) → all_true σ (map negated_step (reverse steps)) ≡ none_true σ steps
 all_true-negated σ [] = refl
 all_true-negated σ (s ∷ steps) =
     rw (negated-cons s steps, all_true-append σ (map negated_step (reverse steps)) (negated_step s))
-      (let e = all_true-negated σ steps in let q = atom_truth-not_atom σ s.0 in rw (e, q) (and_comm (none_true σ steps) (not (atom_truth σ s.0))))
+    (let e = all_true-negated σ steps in let q = atom_truth-not_atom σ s.0 in rw (e, q) (and_comm (none_true σ steps) (not (atom_truth σ s.0))))
 
 cond-not : {X : Type 0} (t u : Bool) (x y : X) → u ≡ not t → cond u x y ≡ cond t y x
 cond-not true u x y e = rw e refl
@@ -88,7 +88,7 @@ pub in_order-negated : (σ : Valuation) (steps : List (Atom × ℕ)) → in_orde
 in_order-negated σ [] = refl
 in_order-negated σ (s ∷ steps) =
     rw (negated-cons s steps, in_order-append σ (map negated_step (reverse steps)) (negated_step s), all_true-negated σ steps, in_order-negated σ steps)
-      (cond-not (atom_truth σ s.0) (atom_truth σ (not_atom s.0)) (none_true σ steps) (in_order σ steps) (atom_truth-not_atom σ s.0))
+    (cond-not (atom_truth σ s.0) (atom_truth σ (not_atom s.0)) (none_true σ steps) (in_order σ steps) (atom_truth-not_atom σ s.0))
 
 AreRising-append : (xs ys : List (Atom × ℕ)) → AreRising xs → AreRising ys → AreRising (xs ++ ys)
 AreRising-append [] ys h k = k
@@ -144,30 +144,30 @@ reaching-first v low x y (s ∷ xs) h = rw (int_le-false v low h) refl
 reaching-negated : (v low : ℤ) (steps : List (Atom × ℕ)) → first_reaching v (levels (neg_ℤ (low +ℤ pos (weights steps))) True (map negated_step (reverse steps))) ≡ not_atom (first_reaching (pos 1 -ℤ v) (levels low True steps))
 reaching-negated v low [] =
     by_int_le v (neg_ℤ (low +ℤ pos 0)) True False (λ a. a ≡ not_atom (first_reaching (pos 1 -ℤ v) (levels low True [])))
-      (λ h. rw (int_le-false (pos 1 -ℤ v) low (omega (arith, ints))) refl)
-      (λ h. rw (int_le-true (pos 1 -ℤ v) low (omega (arith, ints))) refl)
+    (λ h. rw (int_le-false (pos 1 -ℤ v) low (omega (arith, ints))) refl)
+    (λ h. rw (int_le-true (pos 1 -ℤ v) low (omega (arith, ints))) refl)
 reaching-negated v low (s ∷ steps) =
     let least = neg_ℤ (low +ℤ pos (weights (s ∷ steps))) in
     let behind = map negated_step (reverse steps) in
     let t = pos 1 -ℤ v in
     let last = least +ℤ pos (weights behind) +ℤ pos s.1 in
     let split : levels least True (map negated_step (reverse (s ∷ steps))) ≡ levels least True behind ++ (last, not_atom s.0) ∷ [] =
-      ap (levels least True) (negated-cons s steps) ∙ levels-append least True behind (negated_step s) in
+    ap (levels least True) (negated-cons s steps) ∙ levels-append least True behind (negated_step s) in
     let w : weights behind ≡ weights steps = weights-negated steps in
     let all = levels least True behind ++ (last, not_atom s.0) ∷ [] in
     ap (first_reaching v) split
     ∙ by_int_le v (least +ℤ pos (weights behind)) true false (λ b. first_reaching v all ≡ not_atom (first_reaching t (levels low True (s ∷ steps))))
-        (λ h.
-          let above : (low +ℤ pos s.1) <ℤ t = omega (arith, ints) in
-          reaching-front v least True behind ((last, not_atom s.0) ∷ []) h
-          ∙ ap (λ b. first_reaching v (levels b True behind)) (omega (arith, ints))
-          ∙ reaching-negated v (low +ℤ pos s.1) steps
-          ∙ ap not_atom (reaching-first t (low +ℤ pos s.1) True s.0 steps above ∙ sym (reaching-above t low True s steps (omega (arith, ints)))))
-        (λ h.
-          reaching-end v least True behind ((last, not_atom s.0) ∷ []) h
-          ∙ by_int_le v last (not_atom s.0) False (λ a. a ≡ not_atom (first_reaching t (levels low True (s ∷ steps))))
-              (λ k. ap not_atom (sym (reaching-above t low True s steps (omega (arith, ints)) ∙ reaching-low t (low +ℤ pos s.1) s.0 steps (omega (arith, ints)))))
-              (λ k. ap not_atom (sym (reaching-low t low True (s ∷ steps) (omega (arith, ints))))))
+    (λ h.
+    let above : (low +ℤ pos s.1) <ℤ t = omega (arith, ints) in
+    reaching-front v least True behind ((last, not_atom s.0) ∷ []) h
+    ∙ ap (λ b. first_reaching v (levels b True behind)) (omega (arith, ints))
+    ∙ reaching-negated v (low +ℤ pos s.1) steps
+    ∙ ap not_atom (reaching-first t (low +ℤ pos s.1) True s.0 steps above ∙ sym (reaching-above t low True s steps (omega (arith, ints)))))
+    (λ h.
+    reaching-end v least True behind ((last, not_atom s.0) ∷ []) h
+    ∙ by_int_le v last (not_atom s.0) False (λ a. a ≡ not_atom (first_reaching t (levels low True (s ∷ steps))))
+    (λ k. ap not_atom (sym (reaching-above t low True s steps (omega (arith, ints)) ∙ reaching-low t (low +ℤ pos s.1) s.0 steps (omega (arith, ints)))))
+    (λ k. ap not_atom (sym (reaching-low t low True (s ∷ steps) (omega (arith, ints))))))
 
 -- minus the integer is at least v exactly where the integer is not at least 1 - v
 pub at_of-negated_of : (a : OrdInt) (v : ℤ) → at_of (negated_of a) v ≡ not_atom (at_of a (pos 1 -ℤ v))

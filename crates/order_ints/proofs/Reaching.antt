@@ -10,7 +10,7 @@ use Rattle.order_ints.specs.Place.{AtomBelow, StepsBelow}
 use Rattle.order_ints.specs.OrderValue.{gains, value_of, none_true, in_order, IsOrdered}
 use Rattle.order_ints.specs.OrderRange.{weights, low_of, high_of, AreRising, IntBelow}
 use Rattle.order_ints.specs.OrderLevels.{levels, levels_of, values_of, first_reaching, at_of}
-use Rattle.order_ints.proofs.Tests.{int_le-true, int_le-false, by_int_le, le_from_test}
+use Rattle.order_ints.proofs.Comparisons.{int_le-true, int_le-false, by_int_le, le_from_test}
 use Rattle.order_ints.proofs.Gains.{gains-none_true, gains-le}
 
 -- from a false atom on, with no true step, no level is true
@@ -18,21 +18,22 @@ reaching-none_true : (σ : Valuation) (v low : ℤ) (x : Atom) (steps : List (At
 reaching-none_true σ v low x [] e h = by_int_le v low x False (λ a. atom_truth σ a ≡ false) (λ _. e) (λ _. refl)
 reaching-none_true σ v low x (s ∷ steps) e h =
     by_int_le v low x (first_reaching v (levels (low +ℤ pos s.1) s.0 steps)) (λ a. atom_truth σ a ≡ false) (λ _. e)
-      (λ _. elim (atom_truth σ s.0) as (λ t. atom_truth σ s.0 ≡ t → (not t && none_true σ steps) ≡ true → atom_truth σ (first_reaching v (levels (low +ℤ pos s.1) s.0 steps)) ≡ false)
-        [ true ↦ λ _ r. absurd (cc) | false ↦ λ q r. reaching-none_true σ v (low +ℤ pos s.1) s.0 steps q r ] refl h)
+    (λ _. elim (atom_truth σ s.0) as (λ t. atom_truth σ s.0 ≡ t → (not t && none_true σ steps) ≡ true → atom_truth σ (first_reaching v (levels (low +ℤ pos s.1) s.0 steps)) ≡ false)
+    [ true ↦ λ _ r. absurd (cc) | false ↦ λ q r. reaching-none_true σ v (low +ℤ pos s.1) s.0 steps q r ] refl h)
 
 -- from a true atom on, the atom at which v is reached is true exactly where the gains reach v
 reaching-in_order : (σ : Valuation) (v low : ℤ) (x : Atom) (steps : List (Atom × ℕ)) → atom_truth σ x ≡ true → in_order σ steps ≡ true → atom_truth σ (first_reaching v (levels low x steps)) ≡ int_le v (low +ℤ pos (gains σ steps))
 reaching-in_order σ v low x [] e h =
     by_int_le v low x False (λ a. atom_truth σ a ≡ int_le v (low +ℤ pos 0))
-      (λ le. e ∙ sym (int_le-true v (low +ℤ pos 0) (omega (arith, ints))))
-      (λ lt. sym (int_le-false v (low +ℤ pos 0) (omega (arith, ints))))
+    (λ le. e ∙ sym (int_le-true v (low +ℤ pos 0) (omega (arith, ints))))
+    (λ lt. sym (int_le-false v (low +ℤ pos 0) (omega (arith, ints))))
 reaching-in_order σ v low x (s ∷ steps) e h =
     by_int_le v low x (first_reaching v (levels (low +ℤ pos s.1) s.0 steps)) (λ a. atom_truth σ a ≡ int_le v (low +ℤ pos (gains σ (s ∷ steps))))
-      (λ le. e ∙ sym (int_le-true v (low +ℤ pos (gains σ (s ∷ steps))) (omega (arith, ints))))
-      (λ lt. elim (atom_truth σ s.0) as (λ t. atom_truth σ s.0 ≡ t → cond t (in_order σ steps) (none_true σ steps) ≡ true → atom_truth σ (first_reaching v (levels (low +ℤ pos s.1) s.0 steps)) ≡ int_le v (low +ℤ pos (cond t s.1 0 + gains σ steps)))
-        [ true ↦ λ q r. reaching-in_order σ v (low +ℤ pos s.1) s.0 steps q r ∙ ap (int_le v) (omega (arith, ints))
-        | false ↦ λ q r. reaching-none_true σ v (low +ℤ pos s.1) s.0 steps q r ∙ sym (int_le-false v (low +ℤ pos (0 + gains σ steps)) (omega (arith, ints, gains-none_true σ steps r))) ] refl h)
+    (λ le. e ∙ sym (int_le-true v (low +ℤ pos (gains σ (s ∷ steps))) (omega (arith, ints))))
+    (λ lt. elim (atom_truth σ s.0) as (λ t. atom_truth σ s.0 ≡ t → cond t (in_order σ steps) (none_true σ steps) ≡ true → atom_truth σ (first_reaching v (levels (low +ℤ pos s.1) s.0 steps)) ≡ int_le v (low +ℤ pos (cond t s.1 0 + gains σ steps))) [
+      | true ↦ λ q r. reaching-in_order σ v (low +ℤ pos s.1) s.0 steps q r ∙ ap (int_le v) (omega (arith, ints))
+      | false ↦ λ q r. reaching-none_true σ v (low +ℤ pos s.1) s.0 steps q r ∙ sym (int_le-false v (low +ℤ pos (0 + gains σ steps)) (omega (arith, ints, gains-none_true σ steps r)))
+    ] refl h)
 
 -- on an ordered integer `at v` is true exactly where the value is at least v
 pub atom_truth-at_of : (σ : Valuation) (a : OrdInt) (v : ℤ) → IsOrdered σ a → atom_truth σ (at_of a v) ≡ int_le v (value_of σ a)
@@ -120,9 +121,10 @@ Contains-further xs x y z c e = subst (λ t. Contains (y ∷ xs) t) e (suc c.0, 
 values-in_order : (σ : Valuation) (low : ℤ) (x : Atom) (steps : List (Atom × ℕ)) → in_order σ steps ≡ true → Contains (map (λ level. level.0) (levels low x steps)) (low +ℤ pos (gains σ steps))
 values-in_order σ low x [] ordered = (0, omega arith, omega (arith, ints))
 values-in_order σ low x (s ∷ steps) ordered =
-    elim (atom_truth σ s.0) as (λ t. cond t (in_order σ steps) (none_true σ steps) ≡ true → Contains (map (λ level. level.0) (levels low x (s ∷ steps))) (low +ℤ pos (cond t s.1 0 + gains σ steps)))
-      [ true ↦ λ r. Contains-further _ (low +ℤ pos s.1 +ℤ pos (gains σ steps)) low _ (values-in_order σ (low +ℤ pos s.1) s.0 steps r) (omega (arith, ints))
-      | false ↦ λ r. (0, omega arith, omega (arith, ints, gains-none_true σ steps r)) ] ordered
+    elim (atom_truth σ s.0) as (λ t. cond t (in_order σ steps) (none_true σ steps) ≡ true → Contains (map (λ level. level.0) (levels low x (s ∷ steps))) (low +ℤ pos (cond t s.1 0 + gains σ steps))) [
+      | true ↦ λ r. Contains-further _ (low +ℤ pos s.1 +ℤ pos (gains σ steps)) low _ (values-in_order σ (low +ℤ pos s.1) s.0 steps r) (omega (arith, ints))
+      | false ↦ λ r. (0, omega arith, omega (arith, ints, gains-none_true σ steps r))
+    ] ordered
 
 -- the value of an ordered integer is one of its values
 pub Contains-value_of : (σ : Valuation) (a : OrdInt) → IsOrdered σ a → Contains (values_of a) (value_of σ a)
@@ -133,7 +135,7 @@ reaching-below : (n : ℕ) (v low : ℤ) (x : Atom) (steps : List (Atom × ℕ))
 reaching-below n v low x [] first below = by_int_le v low x False (λ a. AtomBelow n a) (λ _. first) (λ _. tt)
 reaching-below n v low x (s ∷ steps) first below =
     by_int_le v low x (first_reaching v (levels (low +ℤ pos s.1) s.0 steps)) (λ a. AtomBelow n a) (λ _. first)
-      (λ _. reaching-below n v (low +ℤ pos s.1) s.0 steps below.0 below.1)
+    (λ _. reaching-below n v (low +ℤ pos s.1) s.0 steps below.0 below.1)
 
 pub AtomBelow-at_of : (n : ℕ) (a : OrdInt) (v : ℤ) → IntBelow n a → AtomBelow n (at_of a v)
 AtomBelow-at_of n a v below = reaching-below n v a.base True a.steps tt below

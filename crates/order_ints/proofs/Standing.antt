@@ -75,9 +75,9 @@ Represents-through n m k Further Meets P r s = record {
   depends = r.depends;
   implies = λ σ met. r.implies σ (s.implies σ met);
   extends = λ σ holds.
-    let e = r.extends σ holds in
-    let f = s.extends e.0 e.2 in
-    (f.0, Agree-trans n σ e.0 f.0 e.1 (Agree-fewer n m e.0 f.0 r.fewer f.1), f.2);
+      let e = r.extends σ holds in
+      let f = s.extends e.0 e.2 in
+      (f.0, Agree-trans n σ e.0 f.0 e.1 (Agree-fewer n m e.0 f.0 r.fewer f.1), f.2);
 }
 
 -- constraints that stand for a property, and further ones, over fresh variables, for another: together they stand for both
@@ -88,13 +88,13 @@ Represents-both n m k Meets Also P Q r s depends = record {
   depends = λ σ τ same both. (r.depends σ τ same both.0, depends σ τ same both.1);
   implies = λ σ both. (r.implies σ both.0, s.implies σ both.1);
   extends = λ σ both.
-    let e = r.extends σ both.0 in
-    let f = s.extends e.0 (depends σ e.0 e.1 both.1) in
-    (f.0, Agree-trans n σ e.0 f.0 e.1 (Agree-fewer n m e.0 f.0 r.fewer f.1), (r.constrains e.0 f.0 f.1 e.2, f.2));
+      let e = r.extends σ both.0 in
+      let f = s.extends e.0 (depends σ e.0 e.1 both.1) in
+      (f.0, Agree-trans n σ e.0 f.0 e.1 (Agree-fewer n m e.0 f.0 r.fewer f.1), (r.constrains e.0 f.0 f.1 e.2, f.2));
 }
 
 -- the same along appended lists of constraints, where a valuation meets appended lists exactly where it meets both
 pub Represents-append : {C : Type 0} (meets : Valuation → List C → Type 0) (splits : (σ : Valuation) (cs ds : List C) → meets σ (cs ++ ds) ↔ (meets σ cs × meets σ ds)) (n m k : ℕ) (cs ds : List C) (P Q : Valuation → Type 0) → Represents n m (λ σ. meets σ cs) P → Represents m k (λ σ. meets σ ds) Q → DependsBelow n Q → Represents n k (λ σ. meets σ (cs ++ ds)) (λ σ. P σ × Q σ)
 Represents-append meets splits n m k cs ds P Q r s depends =
     Represents-met n k (λ σ. meets σ cs × meets σ ds) (λ σ. meets σ (cs ++ ds)) (λ σ. P σ × Q σ) (λ σ. ((splits σ cs ds).1, (splits σ cs ds).0))
-      (Represents-both n m k (λ σ. meets σ cs) (λ σ. meets σ ds) P Q r s depends)
+    (Represents-both n m k (λ σ. meets σ cs) (λ σ. meets σ ds) P Q r s depends)

@@ -7,6 +7,8 @@ mod holds;
 mod literal;
 mod order_int;
 pub mod order_laws;
+#[cfg(test)]
+mod tests;
 
 pub use atom::Atom;
 pub use cnf::Cnf;

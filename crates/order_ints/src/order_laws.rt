@@ -2,6 +2,7 @@
 //! function does nothing; its contract is the law.
 
 ghost use Rattle.std.specs.Prelude.{◌≡◌, ℕ, ◌+◌, ◌≤◌, Bool, not, ℤ, pos, neg_ℤ, ◌+ℤ◌, ◌-ℤ◌, ◌*ℤ◌, ◌≤ℤ◌, ◌<ℤ◌, int_le, List, ◌∷◌, ◌++◌, map, Contains, IsTrue};
+ghost use Rattle.std.specs.List.{AllByRecursion};
 ghost use Rattle.order_ints.specs.declared.atom.Atom.{Atom};
 ghost use Rattle.order_ints.specs.declared.atom.Atom.TheVariants.{True, False};
 ghost use Rattle.order_ints.specs.declared.order_int.OrdInt.{OrdInt};
@@ -20,8 +21,7 @@ pub fn negated_atom_law()
     ensures truth { (σ : Valuation) (a : Atom)
         → atom_truth σ (not_atom a) ≡ not (atom_truth σ a) }
     ensures twice { (a : Atom) → not_atom (not_atom a) ≡ a }
-{
-}
+{}
 
 /// The value lies between the least and the greatest, and on an ordered integer it is one of the
 /// values.
@@ -30,8 +30,7 @@ pub fn value_law()
     ensures high { (σ : Valuation) (a : OrdInt) → value_of σ a ≤ℤ high_of a }
     ensures listed { (σ : Valuation) (a : OrdInt)
         → IsOrdered σ a → Contains (values_of a) (value_of σ a) }
-{
-}
+{}
 
 /// What an integer's atoms mean: on an ordered integer the atom at v is true exactly where the value
 /// is at least v. It is that of the level at v, or of the next level above v; up to the least value it
@@ -48,8 +47,12 @@ pub fn at_law()
     ensures level_truth { (σ : Valuation) (a : OrdInt) (front back : List (ℤ × Atom)) (v : ℤ) (y : Atom)
         → AreRising a.steps → IsOrdered σ a → levels_of a ≡ front ++ (v, y) ∷ back
         → atom_truth σ y ≡ int_le v (value_of σ a) }
-{
-}
+    ensures levels { (a : OrdInt)
+        → AreRising a.steps → AllByRecursion (λ level. at_of a level.0 ≡ level.1) (levels_of a) }
+    ensures levels_truth { (σ : Valuation) (a : OrdInt)
+        → AreRising a.steps → IsOrdered σ a
+        → AllByRecursion (λ level. atom_truth σ level.1 ≡ int_le level.0 (value_of σ a)) (levels_of a) }
+{}
 
 /// What the negation, a shift and a multiple are, by the integer.
 pub fn change_law()
@@ -67,8 +70,7 @@ pub fn change_law()
         → at_of (negated_of a) v ≡ not_atom (at_of a (pos 1 -ℤ v)) }
     ensures shifted_at { (a : OrdInt) (by v : ℤ)
         → at_of (shifted_of a by) v ≡ at_of a (v -ℤ by) }
-{
-}
+{}
 
 /// Truth, value and order depend on the variables of the atom and of the integer alone.
 pub fn agreement_law()
@@ -78,17 +80,17 @@ pub fn agreement_law()
         → Agree n σ τ → IntBelow n a → value_of σ a ≡ value_of τ a }
     ensures order { (n : ℕ) (σ τ : Valuation) (a : OrdInt)
         → Agree n σ τ → IntBelow n a → in_order σ a.steps ≡ in_order τ a.steps }
-{
-}
+{}
 
 /// Where the variables of what is made of an integer have a place.
 pub fn place_law()
     ensures at { (n : ℕ) (a : OrdInt) (v : ℤ) → IntBelow n a → AtomBelow n (at_of a v) }
+    ensures levels { (n : ℕ) (a : OrdInt)
+        → IntBelow n a → AllByRecursion (λ level. AtomBelow n level.1) (levels_of a) }
     ensures negated { (n : ℕ) (a : OrdInt) → IntBelow n a → IntBelow n (negated_of a) }
     ensures scaled { (n : ℕ) (a : OrdInt) (by : ℤ) → IntBelow n a → IntBelow n (scaled_of a by) }
     ensures more { (n m : ℕ) (a : OrdInt) → n ≤ m → IntBelow n a → IntBelow m a }
-{
-}
+{}
 
 /// An integer over fresh variables, one for each step, has each of its values, in order, under a
 /// valuation that is as a given one below those variables.
@@ -96,8 +98,7 @@ pub fn fresh_law()
     ensures { (σ : Valuation) (a : OrdInt) (first count : ℕ) (value : ℤ)
         → map (λ s. s.0) a.steps ≡ vars_from first count → Contains (values_of a) value
         → (τ : Valuation) × Agree first σ τ × (IsOrdered τ a × (value_of τ a ≡ value)) }
-{
-}
+{}
 
 /// Constraints that stand for a property do so where more variables may be there, and where fewer are
 /// kept, down to a bound on which the property alone depends; and those that stand for two properties,
@@ -116,10 +117,9 @@ pub fn represents_law()
         → Represents m k (λ σ. IsTrue (also σ)) (λ σ. IsTrue (too σ))
         → DependsBelow n (λ σ. IsTrue (too σ))
         → Represents n k (λ σ. IsTrue (meets σ) × IsTrue (also σ))
-            (λ σ. IsTrue (holds σ) × IsTrue (too σ)) }
+        (λ σ. IsTrue (holds σ) × IsTrue (too σ)) }
     ensures through { (n m k : ℕ) (further meets holds : Valuation → Bool)
         → Represents n m (λ σ. IsTrue (meets σ)) (λ σ. IsTrue (holds σ))
         → Represents m k (λ σ. IsTrue (further σ)) (λ σ. IsTrue (meets σ))
         → Represents n k (λ σ. IsTrue (further σ)) (λ σ. IsTrue (holds σ)) }
-{
-}
+{}

@@ -1,9 +1,9 @@
 //! The negation, the shift and the multiples of an integer.
 
-ghost use Rattle.std.specs.Prelude.{◌≡◌, ◌^◌, ◌<◌, ◌*◌, ◌≤◌, neg_ℤ, ◌+ℤ◌, ◌*ℤ◌, IfOk, IsOk, map, reverse};
+ghost use Rattle.std.specs.Prelude.{◌≡◌, ℕ, ◌^◌, ◌<◌, ◌*◌, ◌≤◌, neg_ℤ, ◌+ℤ◌, ◌*ℤ◌, IfOk, IsOk, map, reverse};
 ghost use Rattle.order_ints.specs.Truth.{Valuation};
 ghost use Rattle.order_ints.specs.OrderValue.{value_of, IsOrdered};
-ghost use Rattle.order_ints.specs.OrderRange.{weights, IsBounded, AreRising};
+ghost use Rattle.order_ints.specs.OrderRange.{weights, IsBounded, AreRising, IntBelow};
 ghost use Rattle.order_ints.specs.OrderChange.{negated_step, negated_of, shifted_of, multiplied_steps, scaled_of};
 
 use super::OrdInt;
@@ -84,6 +84,7 @@ impl OrdInt {
         ensures ordered { IfOk result (λ a. (σ : Valuation) → IsOrdered σ self.now → IsOrdered σ a) }
         ensures bounded { IfOk result (λ a. IsBounded a) }
         ensures rising { AreRising self.now.steps → IfOk result (λ a. AreRising a.steps) }
+        ensures place { (n : ℕ) → IntBelow n self.now → IfOk result (λ a. IntBelow n a) }
     {
         Ok(OrdInt {
             base: minus(self.high()),
@@ -100,6 +101,7 @@ impl OrdInt {
         ensures ordered { IfOk result (λ a. (σ : Valuation) → IsOrdered σ self.now → IsOrdered σ a) }
         ensures bounded { IfOk result (λ a. IsBounded a) }
         ensures rising { AreRising self.now.steps → IfOk result (λ a. AreRising a.steps) }
+        ensures place { (n : ℕ) → IntBelow n self.now → IfOk result (λ a. IntBelow n a) }
     {
         Ok(OrdInt {
             base: sum(self.base, by),
@@ -117,6 +119,7 @@ impl OrdInt {
         ensures ordered { IfOk result (λ a. (σ : Valuation) → IsOrdered σ self.now → IsOrdered σ a) }
         ensures bounded { IfOk result (λ a. IsBounded a) }
         ensures rising { AreRising self.now.steps → IfOk result (λ a. AreRising a.steps) }
+        ensures place { (n : ℕ) → IntBelow n self.now → IfOk result (λ a. IntBelow n a) }
     {
         Ok(OrdInt {
             base: self.scaled_base(by),

@@ -1,6 +1,7 @@
 //! The walk along the values of an integer, and the atom at which it reaches a value.
 
 ghost use Rattle.std.specs.Prelude.{◌≡◌, ◌^◌, ◌<◌, ◌≤ℤ◌, ◌↔◌, ℤ, IsTrue, unsigned_abs};
+ghost use Rattle.std.specs.List.{AllByRecursion};
 ghost use Rattle.std.specs.Iterator.{YieldsFirst, item_count};
 ghost use Rattle.order_ints.specs.Truth.{Valuation, atom_truth};
 ghost use Rattle.order_ints.specs.OrderValue.{value_of, IsOrdered};
@@ -57,7 +58,8 @@ impl OrdInt {
     /// the first one is the base with the atom that is always true. Each item takes constant time.
     pub fn levels(&self) -> Levels<'_>
         requires { IsBounded self.now }
-        ensures { result ≡ levels_of self.now }
+        ensures shape { result ≡ levels_of self.now }
+        ensures range { AllByRecursion (λ level. unsigned_abs level.0 < 2 ^ 100) result }
     {
         Levels {
             next: Some((self.base, Atom::True)),

@@ -1,3 +1,4 @@
+use Rattle.order_ints.proofs.Everywhere.{levels_at, levels_tell}
 use Rattle.order_ints.proofs.Reaching.{atom_truth-at_of, at_of-low, at_of-high, at_of-level, at_of-between, atom_truth-level}
 use Rattle.order_ints.proofs.order_laws.at_law.Goals as goal
 
@@ -18,3 +19,9 @@ returns-clause-between c = at_of-between
 
 pub returns-clause-level_truth : goal.returns-clause-level_truth
 returns-clause-level_truth c = atom_truth-level
+
+pub returns-clause-levels : goal.returns-clause-levels
+returns-clause-levels c = levels_at
+
+pub returns-clause-levels_truth : goal.returns-clause-levels_truth
+returns-clause-levels_truth c = levels_tell

@@ -1,3 +1,4 @@
+use Rattle.order_ints.proofs.Everywhere.{levels_below}
 use Rattle.order_ints.proofs.Reaching.{AtomBelow-at_of}
 use Rattle.order_ints.proofs.Negation.{StepsBelow-negated}
 use Rattle.order_ints.proofs.Multiples.{IntBelow-scaled_of}
@@ -15,3 +16,6 @@ returns-clause-scaled c = IntBelow-scaled_of
 
 pub returns-clause-more : goal.returns-clause-more
 returns-clause-more c = λ n m a le below. StepsBelow-more n m a.steps le below
+
+pub returns-clause-levels : goal.returns-clause-levels
+returns-clause-levels c = levels_below

@@ -16,7 +16,7 @@ shape c =
     let fits : FitsSigned w128 (get_or values 0 (pos 0)) = search rules in
     let same = to_z-of_z w128 (get_or values 0 (pos 0)) fits in
     int_is (integer_of_values values c.args.first_var) _ _ (same ∙ least-integer_of_values values c.args.first_var c.requires.some)
-      (c.in_ok-steps_upwards.ensures ∙ ap (λ (least : ℤ). steps_between least (take (length values - 1) (drop 1 values)) c.args.first_var) same ∙ further-integer_of_values values c.args.first_var c.requires.some)
+    (c.in_ok-steps_upwards.ensures ∙ ap (λ (least : ℤ). steps_between least (take (length values - 1) (drop 1 values)) c.args.first_var) same ∙ further-integer_of_values values c.args.first_var c.requires.some)
 
 pub returns-clause-values : goal.returns-clause-values
 returns-clause-values c =
@@ -37,4 +37,4 @@ returns-clause-rising c =
 pub returns-clause-place : goal.returns-clause-place
 returns-clause-place c = λ n h.
     subst (λ (a : OrdInt). IntBelow n a) (sym (shape c))
-      (IntBelow-integer_of_values n c.args.values.now c.args.first_var c.requires.variables h)
+    (IntBelow-integer_of_values n c.args.values.now c.args.first_var c.requires.variables h)

@@ -1,3 +1,5 @@
+use Rattle.order_ints.specs.OrderRange.{IntBelow}
+use Rattle.order_ints.proofs.Negation.{StepsBelow-negated}
 use Rattle.std.proofs.Common.{◌≡◌, ℤ, sym, ap, subst, ◌∙◌, arith, to_z, of_z, ◌+ℤ◌}
 use mir.Syntax.{w128}
 use Rattle.std.proofs.lemmas.Int.{ints}
@@ -14,7 +16,7 @@ use Rattle.order_ints.proofs.order_int.OrdInt.negated.Goals as goal
 shape : (c : goal.In_ok-negated_steps) → record { base = to_z w128 (of_z w128 c.minus.result); steps = c.in_ok-negated_steps.field-0 } ≡ negated_of c.args.self.now
 shape c =
     int_is (negated_of c.args.self.now) _ _ (omega (arith, ints, c.high.ensures.value))
-      (c.in_ok-negated_steps.ensures ∙ ap (λ steps. map negated_step (reverse steps)) c.as_slice.ensures)
+    (c.in_ok-negated_steps.ensures ∙ ap (λ steps. map negated_step (reverse steps)) c.as_slice.ensures)
 
 pub returns-clause-shape : goal.returns-clause-shape
 returns-clause-shape c = shape c
@@ -30,3 +32,6 @@ returns-clause-bounded c = subst (λ (a : OrdInt). IsBounded a) (sym (shape c)) 
 
 pub returns-clause-rising : goal.returns-clause-rising
 returns-clause-rising c = λ h. subst (λ (a : OrdInt). AreRising a.steps) (sym (shape c)) (AreRising-negated c.args.self.now.steps h)
+
+pub returns-clause-place : goal.returns-clause-place
+returns-clause-place c = λ n below. subst (λ (a : OrdInt). IntBelow n a) (sym (shape c)) (StepsBelow-negated n c.args.self.now.steps below)

@@ -1,3 +1,5 @@
+use Rattle.order_ints.specs.OrderRange.{IntBelow}
+use Rattle.order_ints.proofs.Multiples.{IntBelow-scaled_of}
 use Rattle.std.proofs.Common.{◌≡◌, ℤ, sym, ap, subst, ◌∙◌, rules, to_z, of_z, ◌+ℤ◌}
 use mir.Syntax.{w128}
 use Rattle.std.proofs.lemmas.Int.{to_z-of_z}
@@ -14,8 +16,8 @@ shape c =
     let a = c.args.self.now in
     let same = to_z-of_z w128 c.args.by c.ranges.by in
     int_is (scaled_of a c.args.by) _ _
-      (to_z-of_z w128 c.scaled_base.result (search rules) ∙ c.scaled_base.ensures ∙ ap (λ (by : ℤ). (scaled_of a by).base) same)
-      (c.in_ok-scaled_steps.ensures ∙ ap (λ (by : ℤ). (scaled_of a by).steps) same)
+    (to_z-of_z w128 c.scaled_base.result (search rules) ∙ c.scaled_base.ensures ∙ ap (λ (by : ℤ). (scaled_of a by).base) same)
+    (c.in_ok-scaled_steps.ensures ∙ ap (λ (by : ℤ). (scaled_of a by).steps) same)
 
 pub returns-clause-shape : goal.returns-clause-shape
 returns-clause-shape c = shape c
@@ -31,3 +33,6 @@ returns-clause-bounded c = subst (λ (a : OrdInt). IsBounded a) (sym (shape c)) 
 
 pub returns-clause-rising : goal.returns-clause-rising
 returns-clause-rising c = λ h. subst (λ (a : OrdInt). AreRising a.steps) (sym (shape c)) (AreRising-scaled_of c.args.self.now c.args.by h)
+
+pub returns-clause-place : goal.returns-clause-place
+returns-clause-place c = λ n below. subst (λ (a : OrdInt). IntBelow n a) (sym (shape c)) (IntBelow-scaled_of n c.args.self.now c.args.by below)

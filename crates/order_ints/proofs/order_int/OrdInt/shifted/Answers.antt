@@ -1,3 +1,4 @@
+use Rattle.order_ints.specs.OrderRange.{IntBelow}
 use Rattle.std.proofs.Common.{◌≡◌, ℤ, sym, ap, subst, ◌∙◌, arith, to_z, of_z, ◌+ℤ◌}
 use mir.Syntax.{w128}
 use Rattle.std.proofs.lemmas.Int.{ints}
@@ -26,3 +27,6 @@ returns-clause-bounded c = subst (λ (a : OrdInt). IsBounded a) (sym (shape c)) 
 
 pub returns-clause-rising : goal.returns-clause-rising
 returns-clause-rising c = λ h. subst (λ (a : OrdInt). AreRising a.steps) (sym (shape c)) h
+
+pub returns-clause-place : goal.returns-clause-place
+returns-clause-place c = λ n below. subst (λ (a : OrdInt). IntBelow n a) (sym (shape c)) (below)

@@ -33,4 +33,4 @@ returns-clause-rising c =
 pub returns-clause-place : goal.returns-clause-place
 returns-clause-place c = λ n h.
     subst (λ (a : OrdInt). IntBelow n a) (sym (shape c))
-      (StepsBelow-vars n c.args.first_var c.args.count (unit_steps c.args.first_var c.args.count) (atoms-unit_steps c.args.first_var c.args.count) (λ some. (c.requires.variables some).0) h)
+    (StepsBelow-vars n c.args.first_var c.args.count (unit_steps c.args.first_var c.args.count) (atoms-unit_steps c.args.first_var c.args.count) (λ some. (c.requires.variables some).0) h)

@@ -18,4 +18,4 @@ loop-step-preserved c =
     let within : c.loop-step.step-index < length c.args.steps = omega (arith, same) in
     let here = get_or c.loop-step.step-items c.loop-step.step-index (True, 0) in
     map_over_more (λ (s : Atom × ℕ). (s.0, c.args.factor * s.1)) c.args.steps c.loop-step.step-items c.loop-step.step-index here within c.loop-step.invariant
-      (get_or_default c.loop-step.step-items c.loop-step.step-index (True, 0) here (omega arith))
+    (get_or_default c.loop-step.step-items c.loop-step.step-index (True, 0) here (omega arith))

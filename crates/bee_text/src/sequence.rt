@@ -2,6 +2,7 @@
 
 ghost use Rattle.std.specs.Prelude.{◌≡◌, ◌==◌, length};
 
+use std::alloc::Global;
 use std::marker::Model;
 
 /// A list of values. It is made from a `Vec` and gives it back without memory, and a clause sees it as
@@ -40,6 +41,11 @@ impl<T> Sequence<T> {
         ensures { result.now ≡ self.now }
     {
         self.items.as_slice()
+    }
+
+    /// The allocator that the list's memory comes from.
+    pub fn allocator(&self) -> Global {
+        *self.items.allocator()
     }
 
     /// The number of members.

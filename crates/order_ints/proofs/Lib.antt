@@ -5,3 +5,13 @@ pub mod TruthLaws
 pub mod PlaceLaws
 pub mod OrderedLaws
 pub mod FirstFalseLaws
+pub mod Truths
+pub mod Comparisons
+pub mod Gains
+pub mod Reaching
+pub mod Everywhere
+pub mod Negation
+pub mod Multiples
+pub mod Fresh
+pub mod Made
+pub mod Standing

@@ -1,6 +1,12 @@
 pub mod Truth
 pub mod Satisfies
 pub mod OrderValue
+pub mod OrderRange
+pub mod OrderLevels
+pub mod LevelsLeft
+pub mod OrderMade
+pub mod OrderChange
+pub mod Represents
 pub mod View
 pub mod Place
 pub mod AtomClauses

@@ -5,9 +5,15 @@ mod atom;
 mod cnf;
 mod cnf_laws;
 mod cnf_order;
+#[cfg(test)]
+mod cnf_tests;
 mod cnf_truth;
+mod holds;
 mod literal;
 mod order_int;
+pub mod order_laws;
+#[cfg(test)]
+mod tests;
 mod view;
 
 pub use atom::Atom;
@@ -16,8 +22,5 @@ pub use cnf_laws::{agreement_law, bound_law, negation_law, order_law, parts_law,
 pub use cnf_order::{ordered_clause, ordered_cnf};
 pub use cnf_truth::{first_false, is_clause_true};
 pub use literal::Lit;
-pub use order_int::{MapValue, OrdInt};
+pub use order_int::{Levels, MapValue, OrdInt};
 pub use view::{label_of, resolve};
-
-#[cfg(test)]
-mod cnf_tests;

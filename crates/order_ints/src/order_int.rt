@@ -1,7 +1,14 @@
-//! An integer in the order encoding.
+//! Integers in the order encoding.
+
+mod change;
+mod levels;
+mod make;
+mod signed;
+mod value;
 
 use crate::atom::Atom;
 use bee_text::Sequence;
+pub use levels::Levels;
 
 /// An integer whose value depends on a valuation: its base, and for each step that is true the step's
 /// weight. It is ordered where no true step follows a false one; then the number of true steps tells

@@ -1,2 +1,4 @@
 pub mod Bytes
 pub mod Tokens
+pub mod Numeral
+pub mod Reading

@@ -1,3 +1,6 @@
 pub mod Scan
 pub mod Numerals
 pub mod Parse
+pub mod Machine
+pub mod Complete
+pub mod Sound

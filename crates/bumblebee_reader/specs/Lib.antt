@@ -2,3 +2,4 @@ pub mod Bytes
 pub mod Tokens
 pub mod Numeral
 pub mod Reading
+pub mod Grammar

@@ -202,11 +202,15 @@ abbrev pub with_item : Item → Outcome → Outcome
 with_item i (Ok is) = Ok (i ∷ is)
 with_item i (Err f) = Err f
 
+-- a token that fits, unless it is a numeral that is too great
+abbrev pub bounded : TokenAt → Outcome → Outcome
+bounded t o = if is_too_great t.token then Err (fault.Number t.line) else o
+
 -- a token makes a move, and what comes behind it is read from the place that it leads to
 abbrev pub turn : Move → TokenAt → (Place → Outcome) → Outcome
 turn Misfit t next = Err (fault.Syntax t.line)
-turn (Go place) t next = if is_too_great t.token then Err (fault.Number t.line) else next place
-turn (Done item) t next = with_item item (next AtItem)
+turn (Go place) t next = bounded t (next place)
+turn (Done item) t next = bounded t (with_item item (next AtItem))
 
 -- the text ends at a place, on this line
 abbrev pub ended : Place → ℕ → Outcome

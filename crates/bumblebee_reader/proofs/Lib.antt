@@ -4,3 +4,5 @@ pub mod Parse
 pub mod Machine
 pub mod Complete
 pub mod Sound
+pub mod Begin
+pub mod Faults

@@ -6,3 +6,4 @@ pub mod Complete
 pub mod Sound
 pub mod Begin
 pub mod Faults
+pub mod Text

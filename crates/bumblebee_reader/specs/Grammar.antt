@@ -1,5 +1,5 @@
 -- The grammar of model texts: which tokens spell which items.
-use Rattle.std.specs.Prelude.{◌≡◌, ◌≢◌, ◌⊎◌, ℕ, Bool, true, false, Some, None, List, [], ◌∷◌, ◌++◌, map, pos, neg_ℤ, codes}
+use Rattle.std.specs.Prelude.{◌≡◌, ◌≢◌, ◌⊎◌, ℕ, false, Some, None, List, [], ◌∷◌, ◌++◌, pos, neg_ℤ, codes}
 use Rattle.bumblebee_reader.specs.declared.syntax.Syntax.{Syntax}
 use Rattle.bumblebee_reader.specs.declared.syntax.Item.{Item}
 use Rattle.bumblebee_reader.specs.declared.syntax.Item.TheVariants.{Call, Goal}
@@ -9,7 +9,7 @@ use Rattle.bumblebee_reader.specs.declared.syntax.Term.{Term}
 use Rattle.bumblebee_reader.specs.declared.syntax.Term.TheVariants.{Plain, Minus, Number}
 use Rattle.bumblebee_reader.specs.declared.syntax.GoalKind.TheVariants.{Satisfy, Minimize, Maximize}
 use Rattle.bumblebee_reader.specs.declared.lexeme.Sign.TheVariants.{OpenCall, CloseCall, OpenList, CloseList, Comma, Dash}
-use Rattle.bumblebee_reader.specs.Tokens.{Token, TokenAt, Word, Digits, Mark, Stray, tokens, last_line}
+use Rattle.bumblebee_reader.specs.Tokens.{Token, TokenAt, Word, Digits, Mark, tokens}
 use Rattle.bumblebee_reader.specs.Numeral.{number_of, is_too_great}
 
 -- a term: a name, `-` and a name, digits, or `-` and digits
@@ -86,36 +86,3 @@ kinds (t ∷ ts) = t.token ∷ kinds ts
 pub record IsText (text : List ℕ) (syntax : Syntax) : Type 0 where
   pub spelled : Spells (kinds (tokens text)) syntax.items
   pub within : AllWithin (kinds (tokens text))
-
--- a token on this line is the first such that the tokens up to it begin no text, and no numeral before it is too great
-pub record Misfits (text : List ℕ) (line : ℕ) : Type 0 where
-  pub before : List TokenAt
-  pub token : TokenAt
-  pub behind : List TokenAt
-  pub whole : tokens text ≡ before ++ token ∷ behind
-  pub begins : Begins (kinds before)
-  pub misfit : Begins (kinds (before ++ token ∷ [])) → ⊥
-  pub within : AllWithin (kinds before)
-  pub line_is : line ≡ token.line
-
--- all tokens begin a text and spell none, no numeral is too great, and the text ends on this line
-pub record EndsEarly (text : List ℕ) (line : ℕ) : Type 0 where
-  pub begins : Begins (kinds (tokens text))
-  pub early : (items : List Item) → Spells (kinds (tokens text)) items → ⊥
-  pub within : AllWithin (kinds (tokens text))
-  pub line_is : line ≡ last_line text
-
--- the first fault is a token that fits nowhere, or an end that comes too early, on this line
-abbrev pub IsSyntaxFault : List ℕ → ℕ → Type 0
-IsSyntaxFault text line = Misfits text line ⊎ EndsEarly text line
-
--- the first fault is a numeral that is too great: it stands on this line, and the tokens up to it begin a text
-pub record IsNumberFault (text : List ℕ) (line : ℕ) : Type 0 where
-  pub before : List TokenAt
-  pub token : TokenAt
-  pub behind : List TokenAt
-  pub whole : tokens text ≡ before ++ token ∷ behind
-  pub begins : Begins (kinds (before ++ token ∷ []))
-  pub within : AllWithin (kinds before)
-  pub too_great : is_too_great token.token ≡ true
-  pub line_is : line ≡ token.line

@@ -3,3 +3,5 @@ pub mod Tokens
 pub mod Numeral
 pub mod Reading
 pub mod Grammar
+pub mod Faults
+pub mod Laws

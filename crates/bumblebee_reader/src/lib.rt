@@ -2,7 +2,9 @@
 #![tactic(auto)]
 
 mod fault;
+mod laws;
 mod lexeme;
+mod model;
 mod name;
 mod numeral;
 mod read;
@@ -11,5 +13,7 @@ mod tokens;
 mod words;
 
 pub use fault::ReadFault;
+pub use laws::{one_syntax, text_or_fault};
+pub use model::read_model;
 pub use name::Name;
 pub use syntax::{Arg, GoalKind, Item, Syntax, Term};

@@ -7,3 +7,4 @@ pub mod Sound
 pub mod Begin
 pub mod Faults
 pub mod Text
+pub mod Shapes

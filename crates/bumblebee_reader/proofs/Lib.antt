@@ -8,3 +8,4 @@ pub mod Begin
 pub mod Faults
 pub mod Text
 pub mod Shapes
+pub mod Canonical

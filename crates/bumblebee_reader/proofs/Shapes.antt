@@ -2,7 +2,7 @@
 use Rattle.std.proofs.Common.{◌≡◌, ◌≢◌, ◌⊎◌, ℕ, zero, suc, ◌+◌, ◌≤◌, ◌<◌, Bool, true, false, cond, Option, Some, None, List, [], ◌∷◌, ◌++◌, take, refl, sym, ap, ◌∙◌, subst, inl, inr, ⊎_elim, one-add, arith, ltb, pos, negsuc, neg_ℤ}
 use Rattle.std.specs.Prelude.{codes, ◌&&◌, nat_lt, unsigned_abs}
 use Rattle.std.specs.List.{prefix_len, take_while, list_all}
-use Rattle.std.proofs.lemmas.Bool.{false≢true}
+use Rattle.std.proofs.lemmas.Bool.{false≢true, ltb-false}
 use Rattle.bumblebee_reader.specs.declared.syntax.Syntax.{Syntax}
 use Rattle.bumblebee_reader.specs.declared.syntax.Item.{Item}
 use Rattle.bumblebee_reader.specs.declared.syntax.Item.TheVariants.{Call, Goal}
@@ -70,3 +70,95 @@ shaped_behind [] n line = tt
 shaped_behind (b ∷ bs) zero line =
     shaped_with (token_from b bs) line (tokens_behind (length_from b bs) (next_line line b) bs) (shaped_from b bs) (shaped_behind bs (length_from b bs) (next_line line b))
 shaped_behind (b ∷ bs) (suc n) line = shaped_behind bs n line
+
+-- the tokens of a text: each has its shape and is within the bound
+abbrev AllGood : List Token → Type 0
+AllGood [] = Unit {0}
+AllGood (t ∷ ts) = (IsShaped t × (is_too_great t ≡ false)) × AllGood ts
+
+good : (ts : List Token) → AllShaped ts → AllWithin ts → AllGood ts
+good [] shaped within = tt
+good (t ∷ ts) shaped within = ((shaped.0, within.0), good ts shaped.1 within.1)
+
+good_left : (us vs : List Token) → AllGood (us ++ vs) → AllGood us
+good_left [] vs h = tt
+good_left (t ∷ us) vs h = (h.0, good_left us vs h.1)
+
+good_right : (us vs : List Token) → AllGood (us ++ vs) → AllGood vs
+good_right [] vs h = h
+good_right (t ∷ us) vs h = good_right us vs h.1
+
+good_as : (ts us : List Token) → ts ≡ us → AllGood ts → AllGood us
+good_as ts us e h = subst AllGood e h
+
+within_bound : (n : ℕ) (b : Bool) → nat_lt 1073741824 n ≡ b → b ≡ false → n ≤ 1073741824
+within_bound n b e f = ltb-false 1073741824 n (e ∙ f)
+
+abs_negated : (n : ℕ) → unsigned_abs (neg_ℤ (pos n)) ≡ n
+abs_negated zero = refl
+abs_negated (suc n) = refl
+
+spellable_term : (ts : List Token) (t : Term) → SpellsTerm ts t → AllGood ts → IsSpellableTerm t
+spellable_term ts (Plain name) h g = (good_as ts (Word name ∷ []) h g).0.0
+spellable_term ts (Minus name) h g = (good_as ts (Mark Dash ∷ Word name ∷ []) h g).1.0.0
+spellable_term ts (Number z) h g =
+    ⊎_elim (λ e. rw e.1 (within_bound (number_of h.0) (nat_lt 1073741824 (number_of h.0)) refl (good_as ts (Digits h.0 ∷ []) e.0 g).0.1)) (λ e. rw (e.1, abs_negated (number_of h.0)) (within_bound (number_of h.0) (nat_lt 1073741824 (number_of h.0)) refl (good_as ts (Mark Dash ∷ Digits h.0 ∷ []) e.0 g).1.0.1)) h.1
+
+spellable_terms : (ts : List Token) (terms : List Term) → SpellsTerms ts terms → AllGood ts → AreSpellableTerms terms
+spellable_terms ts [] h g = tt
+spellable_terms ts (t ∷ []) h g = (spellable_term ts t h g, tt)
+spellable_terms ts (t ∷ t' ∷ terms) h g =
+    let k = good_as ts (h.0 ++ Mark Comma ∷ h.1) h.2 g in
+    let right = good_right h.0 (Mark Comma ∷ h.1) k in
+    (spellable_term h.0 t h.3 (good_left h.0 (Mark Comma ∷ h.1) k), spellable_terms h.1 (t' ∷ terms) h.4 right.1)
+
+spellable_members : (ts : List Token) (terms : List Term) → SpellsMembers ts terms → AllGood ts → AreSpellableTerms terms
+spellable_members ts [] h g = tt
+spellable_members ts (t ∷ terms) h g = spellable_terms ts (t ∷ terms) h g
+
+spellable_arg : (ts : List Token) (a : Arg) → SpellsArg ts a → AllGood ts → IsSpellableArg a
+spellable_arg ts (One t) h g = spellable_term ts t h g
+spellable_arg ts (Many terms) h g =
+    let k = good_as ts (Mark OpenList ∷ (h.0 ++ Mark CloseList ∷ [])) h.1 g in
+    spellable_members h.0 terms h.2 (good_left h.0 (Mark CloseList ∷ []) k.1)
+
+spellable_args : (ts : List Token) (args : List Arg) → SpellsArgs ts args → AllGood ts → AreSpellableArgs args
+spellable_args ts [] h g = tt
+spellable_args ts (a ∷ []) h g = (spellable_arg ts a h g, tt)
+spellable_args ts (a ∷ a' ∷ args) h g =
+    let k = good_as ts (h.0 ++ Mark Comma ∷ h.1) h.2 g in
+    let right = good_right h.0 (Mark Comma ∷ h.1) k in
+    (spellable_arg h.0 a h.3 (good_left h.0 (Mark Comma ∷ h.1) k), spellable_args h.1 (a' ∷ args) h.4 right.1)
+
+some_args : (ts : List Token) (args : List Arg) → SpellsArgs ts args → args ≢ []
+some_args ts [] h e = h
+some_args ts (a ∷ args) h e = cc
+
+spellable_objective : (ts : List Token) (name : List ℕ) → SpellsObjective ts name → AllGood ts → is_name name ≡ true
+spellable_objective ts name h g =
+    ⊎_elim (λ e. (good_as ts (Word name ∷ []) e g).0.0) (λ e. (good_as ts (Mark OpenCall ∷ Word name ∷ Mark CloseCall ∷ []) e g).1.0.0) h
+
+spellable_item : (ts : List Token) (i : Item) → SpellsItem ts i → AllGood ts → IsSpellableItem i
+spellable_item ts (Call name args) h g =
+    let k = good_as ts (Word name ∷ Mark OpenCall ∷ (h.1 ++ Mark CloseCall ∷ [])) h.2 g in
+    (k.0.0, h.0, some_args h.1 args h.3, spellable_args h.1 args h.3 (good_left h.1 (Mark CloseCall ∷ []) k.1.1))
+spellable_item ts (Goal Satisfy None) h g = tt
+spellable_item ts (Goal Satisfy (Some name)) h g = h
+spellable_item ts (Goal Minimize None) h g = h
+spellable_item ts (Goal Minimize (Some name)) h g =
+    let k = good_as ts (Word (codes "solve") ∷ Word (codes "minimize") ∷ h.0) h.1 g in
+    spellable_objective h.0 name h.2 k.1.1
+spellable_item ts (Goal Maximize None) h g = h
+spellable_item ts (Goal Maximize (Some name)) h g =
+    let k = good_as ts (Word (codes "solve") ∷ Word (codes "maximize") ∷ h.0) h.1 g in
+    spellable_objective h.0 name h.2 k.1.1
+
+spellable_items : (ts : List Token) (is : List Item) → Spells ts is → AllGood ts → AreSpellableItems is
+spellable_items ts [] h g = tt
+spellable_items ts (i ∷ is) h g =
+    let k = good_as ts (h.0 ++ h.1) h.2 g in
+    (spellable_item h.0 i h.3 (good_left h.0 h.1 k), spellable_items h.1 is h.4 (good_right h.0 h.1 k))
+
+pub text_is_spellable_lem : TextIsSpellable
+text_is_spellable_lem text s h =
+    spellable_items (kinds (tokens text)) s.items h.spelled (good (kinds (tokens text)) (shaped_behind text 0 1) h.within)

@@ -1,14 +1,13 @@
 -- Tokens that fit begin a text, and only those.
-use Rattle.std.proofs.Common.{◌≡◌, ℕ, Bool, true, false, Option, Some, None, List, [], ◌∷◌, ◌++◌, refl, sym, ap, ◌∙◌}
+use Rattle.std.proofs.Common.{◌≡◌, true, Some, List, [], ◌∷◌, ◌++◌, refl}
 use Rattle.std.specs.Prelude.{codes}
-use Rattle.std.specs.Option.{option_map}
 use Rattle.std.proofs.lemmas.Bool.{false≢true}
 use Rattle.bumblebee_reader.specs.declared.syntax.Item.{Item}
 use Rattle.bumblebee_reader.specs.declared.lexeme.Sign.TheVariants.{CloseCall, OpenCall, CloseList}
 use Rattle.bumblebee_reader.specs.Tokens.{Token, Word, Mark}
 use Rattle.bumblebee_reader.specs.Grammar.{Begins}
 use Rattle.bumblebee_reader.specs.Reading.{InCall, InList, Place, AtItem, AtOpen, AtArg, BehindArg, AtFirst, AtTerm, BehindTerm, BehindDash, AtKind, AtObjective, AtInner, AtClose, Move, Misfit, Go, Done, move}
-use Rattle.bumblebee_reader.proofs.Machine.{accepts, accept_turn, lives, live_turn, lives_front}
+use Rattle.bumblebee_reader.proofs.Machine.{accepts, lives, live_turn, lives_front}
 use Rattle.bumblebee_reader.proofs.Complete.{accepts_spelled}
 use Rattle.bumblebee_reader.proofs.Sound.{spelled_accepted}
 

@@ -1,14 +1,13 @@
 -- The canonical text of a syntax has the tokens that spell it.
-use Rattle.std.proofs.Common.{◌≡◌, ◌≢◌, ◌⊎◌, ◌↔◌, ℕ, zero, suc, ◌+◌, ◌*◌, ◌-◌, ◌^◌, ◌≤◌, ◌<◌, Bool, true, false, cond, Option, Some, None, List, [], ◌∷◌, ◌++◌, length, take, drop, refl, sym, ap, ◌∙◌, subst, inl, inr, one-add, arith, rules, ltb, le-ltb, pos, negsuc, neg_ℤ, ℤ, append_assoc, append-nil}
-use Rattle.std.specs.Prelude.{codes, ◌&&◌, ◌||◌, not, nat_lt, unsigned_abs}
-use Rattle.std.specs.Fmt.{decimal, signed_decimal}
-use Rattle.std.specs.List.{prefix_len, take_while, list_all, flat_map}
+use Rattle.std.proofs.Common.{◌≡◌, ◌≢◌, ℕ, zero, suc, ◌+◌, ◌^◌, ◌≤◌, ◌<◌, Bool, true, false, cond, Option, Some, None, List, [], ◌∷◌, ◌++◌, length, refl, sym, ap, ◌∙◌, subst, inl, inr, one-add, arith, rules, le-ltb, pos, negsuc, neg_ℤ, ℤ, append_assoc, append-nil}
+use Rattle.std.specs.Prelude.{codes, ◌&&◌, ◌||◌, not, unsigned_abs}
+use Rattle.std.specs.Fmt.{decimal}
+use Rattle.std.specs.List.{prefix_len, list_all, flat_map}
 use Rattle.std.proofs.Math.Seq.{take-append_seam, drop-append_seam}
 use Rattle.std.proofs.lemmas.Bool.{false≢true}
 use Rattle.std.proofs.lemmas.Bool.Decides.{nat_tests}
-use Rattle.std.proofs.lemmas.Str.Parse.{IsNumeralModel, IsDigitsTest, numerals_by_fold}
+use Rattle.std.proofs.lemmas.Str.Parse.{IsNumeralModel, numerals_by_fold}
 use Rattle.std.proofs.lemmas.Fmt.{digits_decimal, digits_value-decimal, decimal_nonempty}
-use Rattle.bumblebee_reader.specs.declared.syntax.Syntax.{Syntax}
 use Rattle.bumblebee_reader.specs.declared.syntax.Item.{Item}
 use Rattle.bumblebee_reader.specs.declared.syntax.Item.TheVariants.{Call, Goal}
 use Rattle.bumblebee_reader.specs.declared.syntax.Arg.{Arg}
@@ -18,10 +17,10 @@ use Rattle.bumblebee_reader.specs.declared.syntax.Term.TheVariants.{Plain, Minus
 use Rattle.bumblebee_reader.specs.declared.syntax.GoalKind.TheVariants.{Satisfy, Minimize, Maximize}
 use Rattle.bumblebee_reader.specs.declared.lexeme.Sign.TheVariants.{OpenCall, CloseCall, OpenList, CloseList, Comma, Dash}
 use Rattle.bumblebee_reader.specs.Bytes.{is_letter, is_digit, is_word}
-use Rattle.bumblebee_reader.specs.Tokens.{Token, TokenAt, Word, Digits, Mark, Stray, token_from, length_from, next_line, with_token, tokens_behind, tokens_at, tokens}
+use Rattle.bumblebee_reader.specs.Tokens.{Token, TokenAt, Word, Digits, Mark, token_from, length_from, next_line, with_token, tokens_behind, tokens_at}
 use Rattle.bumblebee_reader.specs.Numeral.{number_of, number_behind, is_too_great}
 use Rattle.bumblebee_reader.specs.Grammar.{SpellsTerm, SpellsTerms, SpellsMembers, SpellsArg, SpellsArgs, SpellsItem, Spells, AllWithin, kinds, IsText}
-use Rattle.bumblebee_reader.specs.Canonical.{term_text, next_term_text, terms_text, arg_text, next_arg_text, args_text, item_text, item_line, canonical}
+use Rattle.bumblebee_reader.specs.Canonical.{term_text, next_term_text, terms_text, arg_text, next_arg_text, args_text, item_line, canonical}
 use Rattle.bumblebee_reader.specs.Spellable.{is_name, IsSpellableTerm, AreSpellableTerms, IsSpellableArg, AreSpellableArgs, IsSpellableItem, AreSpellableItems}
 use Rattle.bumblebee_reader.specs.Laws.{CanonicalIsText, RoundTrip}
 use Rattle.bumblebee_reader.proofs.Scan.{tokens_at-cons}
@@ -55,9 +54,9 @@ prefix_all_at : (p : ℕ → Bool) (bs : List ℕ) → stops p bs ≡ true → p
 prefix_all_at p [] h = refl
 prefix_all_at p (b ∷ bs) h = stop_at (p b) (1 + prefix_len p bs) h
   where
-  stop_at : (t : Bool) (n : ℕ) → not t ≡ true → cond t n 0 ≡ 0
-  stop_at true n h = absurd (false≢true h)
-  stop_at false n h = refl
+    stop_at : (t : Bool) (n : ℕ) → not t ≡ true → cond t n 0 ≡ 0
+    stop_at true n h = absurd (false≢true h)
+    stop_at false n h = refl
 
 and-left : (x y : Bool) → (x && y) ≡ true → x ≡ true
 and-left true y h = refl
@@ -341,7 +340,7 @@ canonical_is_text_lem s h =
     let e = scan_items s.items h in
     record {
       spelled = subst (λ l. Spells l s.items) (sym e) (spells_items s.items h);
-      within = subst AllWithin (sym e) (within_items s.items h)
+      within = subst AllWithin (sym e) (within_items s.items h);
     }
 
 pub round_trip_lem : RoundTrip

@@ -1,8 +1,7 @@
 -- What the grammar spells is accepted.
-use Rattle.std.proofs.Common.{◌≡◌, ◌≢◌, ◌⊎◌, ℕ, Bool, true, false, Option, Some, None, List, [], ◌∷◌, ◌++◌, refl, sym, ap, ◌∙◌, inl, inr, ⊎_elim, append_assoc, pos, neg_ℤ}
+use Rattle.std.proofs.Common.{◌≡◌, ◌≢◌, ℕ, Bool, true, false, Some, None, List, [], ◌∷◌, ◌++◌, refl, ap, ◌∙◌, ⊎_elim, append_assoc}
 use Rattle.std.specs.Prelude.{codes}
 use Rattle.std.specs.Option.{option_map}
-use Rattle.std.specs.Str.{bytes_eq}
 use Rattle.std.proofs.lemmas.Slice.Eq.{bytes_eq-Decides}
 use Rattle.bumblebee_reader.specs.declared.syntax.Item.{Item}
 use Rattle.bumblebee_reader.specs.declared.syntax.Item.TheVariants.{Call, Goal}
@@ -13,9 +12,9 @@ use Rattle.bumblebee_reader.specs.declared.syntax.Term.TheVariants.{Plain, Minus
 use Rattle.bumblebee_reader.specs.declared.syntax.GoalKind.{GoalKind}
 use Rattle.bumblebee_reader.specs.declared.syntax.GoalKind.TheVariants.{Satisfy, Minimize, Maximize}
 use Rattle.bumblebee_reader.specs.declared.lexeme.Sign.TheVariants.{OpenCall, CloseCall, OpenList, CloseList, Comma, Dash}
-use Rattle.bumblebee_reader.specs.Tokens.{Token, Word, Digits, Mark, Stray}
+use Rattle.bumblebee_reader.specs.Tokens.{Token, Word, Digits, Mark}
 use Rattle.bumblebee_reader.specs.Grammar.{SpellsTerm, SpellsTerms, SpellsMembers, SpellsArg, SpellsArgs, SpellsObjective, SpellsItem, Spells}
-use Rattle.bumblebee_reader.specs.Reading.{Owner, InCall, InList, Place, AtItem, AtOpen, AtArg, BehindArg, AtFirst, AtTerm, BehindTerm, BehindDash, AtKind, AtObjective, AtInner, AtClose, move, begin_term, behind_term, is_solve}
+use Rattle.bumblebee_reader.specs.Reading.{Owner, InCall, InList, Place, AtItem, AtArg, BehindArg, AtFirst, AtTerm, AtObjective, move, begin_term, behind_term, is_solve}
 use Rattle.bumblebee_reader.proofs.Machine.{accepts}
 
 -- a term may begin at the place

@@ -1,5 +1,5 @@
 -- The first fault of tokens, and what a run says of it.
-use Rattle.std.proofs.Common.{◌≡◌, ◌⊎◌, ℕ, Bool, true, false, cond, Option, Some, None, Result, Ok, Err, List, [], ◌∷◌, ◌++◌, refl, sym, ap, ◌∙◌, inl, inr, ⊎_elim, subst, ◌&&◌, not, is_none}
+use Rattle.std.proofs.Common.{◌≡◌, ◌⊎◌, ℕ, Bool, true, false, cond, Option, Some, None, Ok, Err, List, [], ◌∷◌, ◌++◌, refl, sym, ap, ◌∙◌, inl, inr, ⊎_elim, subst, ◌&&◌, not, is_none}
 use Rattle.std.specs.Option.{option_map}
 use Rattle.std.proofs.lemmas.Bool.{false≢true}
 use Rattle.bumblebee_reader.specs.declared.syntax.Item.{Item}
@@ -8,7 +8,7 @@ use Rattle.bumblebee_reader.specs.declared.fault.ReadFault.TheVariants as fault
 use Rattle.bumblebee_reader.specs.Tokens.{Token, TokenAt}
 use Rattle.bumblebee_reader.specs.Numeral.{is_too_great}
 use Rattle.bumblebee_reader.specs.Grammar.{AllWithin, kinds}
-use Rattle.bumblebee_reader.specs.Reading.{Place, AtItem, AtOpen, AtArg, BehindArg, AtFirst, AtTerm, BehindTerm, BehindDash, AtKind, AtObjective, AtInner, AtClose, Move, Misfit, Go, Done, Outcome, move, turn, with_item, ended, run}
+use Rattle.bumblebee_reader.specs.Reading.{Place, AtItem, Move, Misfit, Go, Done, Outcome, move, turn, with_item, ended, run}
 use Rattle.bumblebee_reader.proofs.Machine.{accepts, accept_turn, accept_end, lives, live_turn}
 
 -- from a place, a token on this line is the first that does not fit
@@ -60,7 +60,7 @@ misfit_behind p q t ts line leads small f = record {
   fits = leads.lives_on (kinds f.before) ∙ f.fits;
   misfit = leads.lives_on (kinds (f.before ++ f.token ∷ [])) ∙ f.misfit;
   within = (small, f.within);
-  line_is = f.line_is
+  line_is = f.line_is;
 }
 
 ends_behind : (p q : Place) (end : ℕ) (t : TokenAt) (ts : List TokenAt) (line : ℕ) → Leads p t.token q → is_too_great t.token ≡ false → EndsFrom q end ts line → EndsFrom p end (t ∷ ts) line
@@ -68,7 +68,7 @@ ends_behind p q end t ts line leads small f = record {
   fits = leads.lives_on (kinds ts) ∙ f.fits;
   early = leads.none (kinds ts) f.early;
   within = (small, f.within);
-  line_is = f.line_is
+  line_is = f.line_is;
 }
 
 number_behind : (p q : Place) (t : TokenAt) (ts : List TokenAt) (line : ℕ) → Leads p t.token q → is_too_great t.token ≡ false → NumberFrom q ts line → NumberFrom p (t ∷ ts) line
@@ -80,7 +80,7 @@ number_behind p q t ts line leads small f = record {
   fits = leads.lives_on (kinds (f.before ++ f.token ∷ [])) ∙ f.fits;
   within = (small, f.within);
   too_great = f.too_great;
-  line_is = f.line_is
+  line_is = f.line_is;
 }
 
 number_here : (p q : Place) (t : TokenAt) (ts : List TokenAt) → Leads p t.token q → is_too_great t.token ≡ true → NumberFrom p (t ∷ ts) t.line
@@ -92,7 +92,7 @@ number_here p q t ts leads great = record {
   fits = leads.lives_on [];
   within = tt;
   too_great = great;
-  line_is = refl
+  line_is = refl;
 }
 
 -- what a run's fault says
@@ -129,7 +129,7 @@ misfit_here p end t ts e = inl (record {
   fits = refl;
   misfit = rw e refl;
   within = tt;
-  line_is = refl
+  line_is = refl;
 })
 
 run_fault-turn : (p : Place) (end : ℕ) (t : TokenAt) (ts : List TokenAt) (f : ReadFault) (m : Move) → move p t.token ≡ m → turn m t (λ q. run q end ts) ≡ Err f → ((q : Place) → run q end ts ≡ Err f → FaultFrom q end ts f) → FaultFrom p end (t ∷ ts) f
@@ -200,8 +200,8 @@ pub misfit_run : (before : List TokenAt) (t : TokenAt) (behind : List TokenAt) (
 misfit_run [] t behind p end fits misfit within = dead-turn (move p t.token) t (λ q. run q end behind) misfit
 misfit_run (u ∷ before) t behind p end fits misfit within =
     behind-turn (move p u.token) u (λ q. lives q (kinds before) && not (lives q (kinds (before ++ t ∷ [])))) (λ q. run q end (before ++ t ∷ behind)) (fault.Syntax t.line) (both-turn (move p u.token) (λ q. lives q (kinds before)) (λ q. lives q (kinds (before ++ t ∷ []))) fits misfit) within.0 (λ q h.
-        let d = both_are (lives q (kinds before)) (lives q (kinds (before ++ t ∷ []))) h in
-        misfit_run before t behind q end d.0 d.1 within.1)
+    let d = both_are (lives q (kinds before)) (lives q (kinds (before ++ t ∷ []))) h in
+    misfit_run before t behind q end d.0 d.1 within.1)
 
 pub number_run : (before : List TokenAt) (t : TokenAt) (behind : List TokenAt) (p : Place) (end : ℕ) → lives p (kinds (before ++ t ∷ [])) ≡ true → AllWithin (kinds before) → is_too_great t.token ≡ true → run p end (before ++ t ∷ behind) ≡ Err (fault.Number t.line)
 number_run [] t behind p end fits within great = great-turn (move p t.token) t (λ q. run q end behind) fits great
@@ -226,5 +226,5 @@ pub ends_run : (ts : List TokenAt) (p : Place) (end : ℕ) → lives p (kinds ts
 ends_run [] p end fits early within = early_end p end early
 ends_run (t ∷ ts) p end fits early within =
     behind-turn (move p t.token) t (λ q. lives q (kinds ts) && is_none (accepts q (kinds ts))) (λ q. run q end ts) (fault.Syntax end) (none-turn (move p t.token) (kinds ts) fits early) within.0 (λ q h.
-        let d = none_are (lives q (kinds ts)) (accepts q (kinds ts)) h in
-        ends_run ts q end d.0 d.1 within.1)
+    let d = none_are (lives q (kinds ts)) (accepts q (kinds ts)) h in
+    ends_run ts q end d.0 d.1 within.1)

@@ -1,13 +1,12 @@
 -- The reading without lines and without the bound of numerals: what tokens give from a place, and whether they fit.
-use Rattle.std.proofs.Common.{◌≡◌, ◌≢◌, ℕ, Bool, true, false, cond, Option, Some, None, Result, Ok, Err, List, [], ◌∷◌, ◌++◌, refl, sym, ap, ◌∙◌}
+use Rattle.std.proofs.Common.{◌≡◌, ℕ, Bool, true, false, cond, Option, Some, None, Ok, Err, List, [], ◌∷◌, ◌++◌, refl, sym, ap, ◌∙◌}
 use Rattle.std.specs.Option.{option_map}
 use Rattle.bumblebee_reader.specs.declared.syntax.Item.{Item}
-use Rattle.bumblebee_reader.specs.declared.fault.ReadFault.{ReadFault}
 use Rattle.bumblebee_reader.specs.declared.fault.ReadFault.TheVariants as fault
 use Rattle.bumblebee_reader.specs.Tokens.{Token, TokenAt}
 use Rattle.bumblebee_reader.specs.Numeral.{is_too_great}
 use Rattle.bumblebee_reader.specs.Grammar.{AllWithin, kinds}
-use Rattle.bumblebee_reader.specs.Reading.{Place, AtItem, AtOpen, AtArg, BehindArg, AtFirst, AtTerm, BehindTerm, BehindDash, AtKind, AtObjective, AtInner, AtClose, Move, Misfit, Go, Done, Outcome, move, turn, bounded, with_item, ended, run}
+use Rattle.bumblebee_reader.specs.Reading.{Place, AtItem, Move, Misfit, Go, Done, Outcome, move, turn, with_item, ended, run}
 
 abbrev pub accept_turn : Move → (Place → Option (List Item)) → Option (List Item)
 accept_turn Misfit next = None

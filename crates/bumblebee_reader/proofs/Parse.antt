@@ -1,5 +1,5 @@
 -- How the parts of a text are read one behind another.
-use Rattle.std.proofs.Common.{◌≡◌, ℕ, Bool, true, false, Option, Some, None, List, refl, sym}
+use Rattle.std.proofs.Common.{◌≡◌, ℕ, false, Option, Some, None, List, refl, sym}
 use Rattle.std.proofs.lemmas.Bool.{false≢true}
 use Rattle.bumblebee_reader.specs.declared.syntax.Arg.{Arg}
 use Rattle.bumblebee_reader.specs.declared.lexeme.Sign.TheVariants.{OpenCall, CloseCall, OpenList, CloseList, Comma, Dash}

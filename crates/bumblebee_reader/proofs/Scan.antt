@@ -1,10 +1,10 @@
 -- One step of the way through a text.
-use Rattle.std.proofs.Common.{◌≡◌, ◌≢◌, ℕ, zero, suc, ◌+◌, ◌<◌, ◌≤◌, Bool, true, false, cond, eqb, Option, Some, None, List, [], ◌∷◌, length, drop, take, refl, sym, ap, ◌∙◌, arith, add-one, one-add}
+use Rattle.std.proofs.Common.{◌≡◌, ℕ, zero, suc, ◌+◌, Bool, true, false, cond, Some, None, List, [], ◌∷◌, drop, refl, sym, ap, ◌∙◌, one-add}
 use Rattle.std.proofs.lemmas.Bool.{false≢true, eqb-true}
 use Rattle.std.specs.Prelude.{nat_eq, ◌||◌, if◌then◌else◌}
 use Rattle.std.specs.List.{prefix_len}
 use Rattle.bumblebee_reader.specs.Bytes.{is_letter, is_digit, is_word, is_in_comment}
-use Rattle.bumblebee_reader.specs.Tokens.{Token, TokenAt, with_token, token_from, length_from, next_line, tokens_behind, tokens_at, last_line_at, begins_gap, lone_token}
+use Rattle.bumblebee_reader.specs.Tokens.{Token, with_token, token_from, length_from, next_line, tokens_behind, tokens_at, last_line_at, begins_gap}
 
 -- bytes that are passed over are left out
 pub tokens_behind-is : (n line : ℕ) (bs : List ℕ) → tokens_behind n line bs ≡ tokens_at line (drop n bs)

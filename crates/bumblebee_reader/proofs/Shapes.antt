@@ -1,9 +1,8 @@
 -- The tokens of a text have the shape of their kind, so what they spell can be spelled.
-use Rattle.std.proofs.Common.{◌≡◌, ◌≢◌, ◌⊎◌, ℕ, zero, suc, ◌+◌, ◌≤◌, ◌<◌, Bool, true, false, cond, Option, Some, None, List, [], ◌∷◌, ◌++◌, take, refl, sym, ap, ◌∙◌, subst, inl, inr, ⊎_elim, one-add, arith, ltb, pos, negsuc, neg_ℤ}
-use Rattle.std.specs.Prelude.{codes, ◌&&◌, nat_lt, unsigned_abs}
+use Rattle.std.proofs.Common.{◌≡◌, ◌≢◌, ℕ, zero, suc, ◌+◌, ◌≤◌, Bool, true, false, cond, Option, Some, None, List, [], ◌∷◌, ◌++◌, take, refl, ◌∙◌, subst, ⊎_elim, one-add, pos, neg_ℤ}
+use Rattle.std.specs.Prelude.{codes, nat_lt, unsigned_abs}
 use Rattle.std.specs.List.{prefix_len, take_while, list_all}
-use Rattle.std.proofs.lemmas.Bool.{false≢true, ltb-false}
-use Rattle.bumblebee_reader.specs.declared.syntax.Syntax.{Syntax}
+use Rattle.std.proofs.lemmas.Bool.{ltb-false}
 use Rattle.bumblebee_reader.specs.declared.syntax.Item.{Item}
 use Rattle.bumblebee_reader.specs.declared.syntax.Item.TheVariants.{Call, Goal}
 use Rattle.bumblebee_reader.specs.declared.syntax.Arg.{Arg}
@@ -15,7 +14,7 @@ use Rattle.bumblebee_reader.specs.declared.lexeme.Sign.TheVariants.{OpenCall, Cl
 use Rattle.bumblebee_reader.specs.Bytes.{is_letter, is_digit, is_word}
 use Rattle.bumblebee_reader.specs.Tokens.{Token, TokenAt, Word, Digits, Mark, Stray, token_from, length_from, next_line, with_token, tokens_behind, tokens, begins_gap, lone_token}
 use Rattle.bumblebee_reader.specs.Numeral.{number_of, is_too_great}
-use Rattle.bumblebee_reader.specs.Grammar.{SpellsTerm, SpellsTerms, SpellsMembers, SpellsArg, SpellsArgs, SpellsObjective, SpellsItem, Spells, AllWithin, kinds, IsText}
+use Rattle.bumblebee_reader.specs.Grammar.{SpellsTerm, SpellsTerms, SpellsMembers, SpellsArg, SpellsArgs, SpellsObjective, SpellsItem, Spells, AllWithin, kinds}
 use Rattle.bumblebee_reader.specs.Spellable.{is_name, IsSpellableTerm, AreSpellableTerms, IsSpellableArg, AreSpellableArgs, IsSpellableItem, AreSpellableItems}
 use Rattle.bumblebee_reader.specs.Laws.{TextIsSpellable}
 

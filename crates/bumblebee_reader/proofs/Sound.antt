@@ -1,5 +1,5 @@
 -- What is accepted is spelled by the grammar.
-use Rattle.std.proofs.Common.{◌≡◌, ◌≢◌, ◌⊎◌, ℕ, Bool, true, false, cond, Option, Some, None, List, [], ◌∷◌, ◌++◌, refl, sym, ap, subst, ◌∙◌, inl, inr, ⊎_elim, append_assoc, append-nil, pos, neg_ℤ}
+use Rattle.std.proofs.Common.{◌≡◌, ◌≢◌, ℕ, Bool, true, false, cond, Some, None, List, [], ◌∷◌, ◌++◌, refl, sym, ap, subst, ◌∙◌, inl, inr, append_assoc, append-nil, pos, neg_ℤ}
 use Rattle.std.specs.Prelude.{codes}
 use Rattle.std.specs.Option.{option_map}
 use Rattle.std.specs.Str.{bytes_eq}
@@ -14,10 +14,10 @@ use Rattle.bumblebee_reader.specs.declared.syntax.Term.TheVariants.{Plain, Minus
 use Rattle.bumblebee_reader.specs.declared.syntax.GoalKind.{GoalKind}
 use Rattle.bumblebee_reader.specs.declared.syntax.GoalKind.TheVariants.{Satisfy, Minimize, Maximize}
 use Rattle.bumblebee_reader.specs.declared.lexeme.Sign.TheVariants.{OpenCall, CloseCall, OpenList, CloseList, Comma, Dash}
-use Rattle.bumblebee_reader.specs.Tokens.{Token, Word, Digits, Mark, Stray}
+use Rattle.bumblebee_reader.specs.Tokens.{Token, Word, Digits, Mark}
 use Rattle.bumblebee_reader.specs.Numeral.{number_of}
 use Rattle.bumblebee_reader.specs.Grammar.{SpellsTerm, SpellsTerms, SpellsMembers, SpellsArg, SpellsArgs, SpellsObjective, SpellsItem, Spells}
-use Rattle.bumblebee_reader.specs.Reading.{Go, Owner, InCall, InList, Place, AtItem, AtOpen, AtArg, BehindArg, AtFirst, AtTerm, BehindTerm, BehindDash, AtKind, AtObjective, AtInner, AtClose, move, begin_term, behind_term, is_solve, begin_goal, goal_kind}
+use Rattle.bumblebee_reader.specs.Reading.{Go, Owner, InCall, InList, Place, AtItem, AtOpen, AtArg, BehindArg, AtFirst, AtTerm, BehindTerm, BehindDash, AtKind, AtObjective, AtInner, AtClose, move, begin_term, behind_term, is_solve, begin_goal}
 use Rattle.bumblebee_reader.proofs.Machine.{accepts, accept_turn, option_map_cons}
 
 -- terms behind another: nothing, or `,` and one term or more
@@ -160,7 +160,7 @@ behind_args_as name args args' ts items e h = record {
   vs = h.vs;
   parts = h.parts;
   spelled = h.spelled;
-  ends = ends_as (Call name (args ++ h.more)) (Call name (args' ++ h.more)) h.vs items (ap (λ l. Call name (l ++ h.more)) e) h.ends
+  ends = ends_as (Call name (args ++ h.more)) (Call name (args' ++ h.more)) h.vs items (ap (λ l. Call name (l ++ h.more)) e) h.ends;
 }
 
 -- what stands before a sign, in two parts
@@ -187,7 +187,7 @@ args_from name args a front ts items h c = record {
   vs = c.vs;
   parts = joined front ts c.us c.vs (Mark CloseCall) c.parts;
   spelled = spells_args_from a front c.us c.more h c.spelled;
-  ends = ends_as (Call name ((args ++ a ∷ []) ++ c.more)) (Call name (args ++ a ∷ c.more)) c.vs items (ap (Call name) (append_assoc args (a ∷ []) c.more)) c.ends
+  ends = ends_as (Call name ((args ++ a ∷ []) ++ c.more)) (Call name (args ++ a ∷ c.more)) c.vs items (ap (Call name) (append_assoc args (a ∷ []) c.more)) c.ends;
 }
 
 -- the first term of a list, and what stands behind it
@@ -198,7 +198,7 @@ terms_from name args terms t front ts items h c = record {
   vs = c.vs;
   parts = joined front ts c.us c.vs (Mark CloseList) c.parts;
   spelled = spells_terms_from t front c.us c.more h c.spelled;
-  rest = behind_args_as name (args ++ Many ((terms ++ t ∷ []) ++ c.more) ∷ []) (args ++ Many (terms ++ t ∷ c.more) ∷ []) c.vs items (ap (λ l. args ++ Many l ∷ []) (append_assoc terms (t ∷ []) c.more)) c.rest
+  rest = behind_args_as name (args ++ Many ((terms ++ t ∷ []) ++ c.more) ∷ []) (args ++ Many (terms ++ t ∷ c.more) ∷ []) c.vs items (ap (λ l. args ++ Many l ∷ []) (append_assoc terms (t ∷ []) c.more)) c.rest;
 }
 
 spells_members : (ts : List Token) (terms : List Term) → SpellsTerms ts terms → SpellsMembers ts terms
@@ -212,7 +212,7 @@ first_from name args ts items c = record {
   vs = c.vs;
   parts = c.parts;
   spelled = spells_members c.us c.more c.spelled;
-  rest = c.rest
+  rest = c.rest;
 }
 
 -- the place where a term begins
@@ -303,7 +303,7 @@ sound_behind_arg name args (Mark Comma) ts items h rest =
       vs = c.vs;
       parts = ap (λ l. Mark Comma ∷ l) c.parts;
       spelled = more_args c.us c.more c.spelled;
-      ends = c.ends
+      ends = c.ends;
     }
 sound_behind_arg name args (Mark CloseCall) ts items h rest = record {
   more = [];
@@ -311,7 +311,7 @@ sound_behind_arg name args (Mark CloseCall) ts items h rest = record {
   vs = ts;
   parts = refl;
   spelled = refl;
-  ends = ends_as (Call name args) (Call name (args ++ [])) ts items (ap (Call name) (sym (append-nil args))) (done (Call name args) ts items h rest)
+  ends = ends_as (Call name args) (Call name (args ++ [])) ts items (ap (Call name) (sym (append-nil args))) (done (Call name args) ts items h rest);
 }
 sound_behind_arg name args _ ts items h rest = cc
 
@@ -329,7 +329,7 @@ sound_first name args (Mark CloseList) ts items h rest = record {
   vs = ts;
   parts = refl;
   spelled = refl;
-  rest = rest (BehindArg name (args ++ Many [] ∷ [])) items h
+  rest = rest (BehindArg name (args ++ Many [] ∷ [])) items h;
 }
 sound_first name args _ ts items h rest = cc
 
@@ -343,7 +343,7 @@ sound_behind_term name args terms (Mark Comma) ts items h rest =
       vs = c.vs;
       parts = ap (λ l. Mark Comma ∷ l) c.parts;
       spelled = more_terms c.us c.more c.spelled;
-      rest = c.rest
+      rest = c.rest;
     }
 sound_behind_term name args terms (Mark CloseList) ts items h rest = record {
   more = [];
@@ -351,7 +351,7 @@ sound_behind_term name args terms (Mark CloseList) ts items h rest = record {
   vs = ts;
   parts = refl;
   spelled = refl;
-  rest = behind_args_as name (args ++ Many terms ∷ []) (args ++ Many (terms ++ []) ∷ []) ts items (ap (λ l. args ++ Many l ∷ []) (sym (append-nil terms))) (rest (BehindArg name (args ++ Many terms ∷ [])) items h)
+  rest = behind_args_as name (args ++ Many terms ∷ []) (args ++ Many (terms ++ []) ∷ []) ts items (ap (λ l. args ++ Many l ∷ []) (sym (append-nil terms))) (rest (BehindArg name (args ++ Many terms ∷ [])) items h);
 }
 sound_behind_term name args terms _ ts items h rest = cc
 
@@ -362,7 +362,7 @@ sound_dash owner (Word name) ts items h rest = record {
   us = ts;
   parts = refl;
   spelled = refl;
-  rest = owner_rest owner (Minus name) ts items h rest
+  rest = owner_rest owner (Minus name) ts items h rest;
 }
 sound_dash owner (Digits ds) ts items h rest = record {
   term = Number (neg_ℤ (pos (number_of ds)));
@@ -370,7 +370,7 @@ sound_dash owner (Digits ds) ts items h rest = record {
   us = ts;
   parts = refl;
   spelled = (ds, inr (refl, refl));
-  rest = owner_rest owner (Number (neg_ℤ (pos (number_of ds)))) ts items h rest
+  rest = owner_rest owner (Number (neg_ℤ (pos (number_of ds)))) ts items h rest;
 }
 sound_dash owner _ ts items h rest = cc
 
@@ -383,7 +383,7 @@ sound_words word true b c ea eb ec ts items h rest = record {
   vs = ts;
   parts = ap (λ l. Word l ∷ ts) ((bytes_eq-Decides word (codes "satisfy")).0 ea);
   spelled = refl;
-  ends = done (Goal Satisfy None) ts items h rest
+  ends = done (Goal Satisfy None) ts items h rest;
 }
 sound_words word false true c ea eb ec ts items h rest =
     let d = rest (AtObjective Minimize) items h in
@@ -393,7 +393,7 @@ sound_words word false true c ea eb ec ts items h rest =
       vs = d.vs;
       parts = ap (λ l. Word l ∷ ts) ((bytes_eq-Decides word (codes "minimize")).0 eb) ∙ ap (λ l. Word (codes "minimize") ∷ l) d.parts;
       spelled = (d.us, refl, d.spelled);
-      ends = d.ends
+      ends = d.ends;
     }
 sound_words word false false true ea eb ec ts items h rest =
     let d = rest (AtObjective Maximize) items h in
@@ -403,7 +403,7 @@ sound_words word false false true ea eb ec ts items h rest =
       vs = d.vs;
       parts = ap (λ l. Word l ∷ ts) ((bytes_eq-Decides word (codes "maximize")).0 ec) ∙ ap (λ l. Word (codes "maximize") ∷ l) d.parts;
       spelled = (d.us, refl, d.spelled);
-      ends = d.ends
+      ends = d.ends;
     }
 sound_words word false false false ea eb ec ts items h rest = cc
 
@@ -420,7 +420,7 @@ sound_objective kind (Word name) ts items h rest = record {
   vs = ts;
   parts = refl;
   spelled = inl refl;
-  ends = done (Goal kind (Some name)) ts items h rest
+  ends = done (Goal kind (Some name)) ts items h rest;
 }
 sound_objective kind (Mark OpenCall) ts items h rest =
     let c = rest (AtInner kind) items h in
@@ -430,7 +430,7 @@ sound_objective kind (Mark OpenCall) ts items h rest =
       vs = c.us;
       parts = ap (λ l. Mark OpenCall ∷ l) c.parts;
       spelled = inr refl;
-      ends = c.ends
+      ends = c.ends;
     }
 sound_objective kind _ ts items h rest = cc
 

@@ -5,8 +5,8 @@ use Rattle.bumblebee_reader.specs.declared.syntax.Syntax.{Syntax}
 use Rattle.bumblebee_reader.specs.declared.syntax.Item.{Item}
 use Rattle.bumblebee_reader.specs.declared.fault.ReadFault.{ReadFault}
 use Rattle.bumblebee_reader.specs.declared.fault.ReadFault.TheVariants as fault
-use Rattle.bumblebee_reader.specs.Tokens.{Token, TokenAt, tokens, last_line}
-use Rattle.bumblebee_reader.specs.Grammar.{Spells, Begins, AllWithin, kinds, IsText}
+use Rattle.bumblebee_reader.specs.Tokens.{Token, tokens, last_line}
+use Rattle.bumblebee_reader.specs.Grammar.{Spells, Begins, kinds, IsText}
 use Rattle.bumblebee_reader.specs.Faults.{Misfits, EndsEarly, IsSyntaxFault, IsNumberFault, MemoryFound}
 use Rattle.bumblebee_reader.specs.Laws.{OneSyntax, TextOrFault}
 use Rattle.bumblebee_reader.specs.Reading.{AtItem, Outcome, reading, run, Gives}
@@ -53,7 +53,7 @@ misfits text line f = record {
   begins = begins_lives (kinds f.before) f.fits;
   misfit = dead_begins (kinds (f.before ++ f.token ∷ [])) f.misfit;
   within = f.within;
-  line_is = f.line_is
+  line_is = f.line_is;
 }
 
 ends_early : (text : List ℕ) (line : ℕ) → EndsFrom AtItem (last_line text) (tokens text) line → EndsEarly text line
@@ -61,7 +61,7 @@ ends_early text line f = record {
   begins = begins_lives (kinds (tokens text)) f.fits;
   early = never_spelled (kinds (tokens text)) f.early;
   within = f.within;
-  line_is = f.line_is
+  line_is = f.line_is;
 }
 
 pub syntax_fault_from_reading : (text : List ℕ) (line : ℕ) → reading AtItem 1 text ≡ Err (fault.Syntax line) → IsSyntaxFault text line
@@ -92,7 +92,7 @@ number_fault text line f = record {
   begins = begins_lives (kinds (f.before ++ f.token ∷ [])) f.fits;
   within = f.within;
   too_great = f.too_great;
-  line_is = f.line_is
+  line_is = f.line_is;
 }
 
 pub number_fault_from_reading : (text : List ℕ) (line : ℕ) → reading AtItem 1 text ≡ Err (fault.Number line) → IsNumberFault text line

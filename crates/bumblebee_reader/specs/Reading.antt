@@ -9,7 +9,6 @@ use Rattle.bumblebee_reader.specs.declared.syntax.Term.{Term}
 use Rattle.bumblebee_reader.specs.declared.syntax.Term.TheVariants.{Plain, Minus, Number}
 use Rattle.bumblebee_reader.specs.declared.syntax.GoalKind.{GoalKind}
 use Rattle.bumblebee_reader.specs.declared.syntax.GoalKind.TheVariants.{Satisfy, Minimize, Maximize}
-use Rattle.bumblebee_reader.specs.declared.lexeme.Sign.{Sign}
 use Rattle.bumblebee_reader.specs.declared.lexeme.Sign.TheVariants.{OpenCall, CloseCall, OpenList, CloseList, Comma, Dash}
 use Rattle.bumblebee_reader.specs.declared.fault.ReadFault.{ReadFault}
 use Rattle.bumblebee_reader.specs.declared.fault.ReadFault.TheVariants as fault

@@ -1,5 +1,5 @@
 -- Which syntaxes some text has.
-use Rattle.std.specs.Prelude.{◌≡◌, ◌≢◌, ℕ, ◌≤◌, Bool, true, false, ◌&&◌, Some, None, List, [], ◌∷◌, ℤ, unsigned_abs, codes}
+use Rattle.std.specs.Prelude.{◌≡◌, ◌≢◌, ℕ, ◌≤◌, Bool, true, false, ◌&&◌, Some, None, List, [], ◌∷◌, unsigned_abs, codes}
 use Rattle.std.specs.List.{list_all}
 use Rattle.bumblebee_reader.specs.declared.syntax.Syntax.{Syntax}
 use Rattle.bumblebee_reader.specs.declared.syntax.Item.{Item}

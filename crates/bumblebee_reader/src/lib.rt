@@ -11,11 +11,13 @@ mod numeral;
 mod print;
 mod read;
 mod syntax;
+#[cfg(test)]
+mod tests;
 mod tokens;
 mod words;
 
 pub use fault::ReadFault;
-pub use laws::{one_syntax, text_or_fault};
+pub use laws::{canonical_is_text, one_syntax, round_trip, text_is_spellable, text_or_fault};
 pub use model::read_model;
 pub use name::Name;
 pub use print::print_model;

@@ -28,5 +28,7 @@ fn read_whole(alloc: Global, text: &[u8]) -> Result<Syntax, ReadFault>
 {
     let mut tokens = Tokens::new(text);
     let items = read_items(alloc, &mut tokens)?;
-    Ok(Syntax { items: Sequence::from_vec(items) })
+    Ok(Syntax {
+        items: Sequence::from_vec(items),
+    })
 }

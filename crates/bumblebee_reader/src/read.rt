@@ -56,14 +56,17 @@ fn read_goal(alloc: Global, tokens: &mut Tokens<'_>) -> Result<Item, ReadFault>
     let Some(Lexeme::Word(word)) = take(tokens) else {
         return Err(misfit(tokens));
     };
-    let goal = match goal_kind(word) {
-        None => return Err(misfit(tokens)),
-        Some(GoalKind::Satisfy) => {
-            return Ok(Item::Goal { kind: GoalKind::Satisfy, objective: None });
-        }
-        Some(kind) => Item::Goal { kind, objective: Some(read_objective(alloc, tokens)?) },
-    };
-    Ok(goal)
+    match goal_kind(word) {
+        None => Err(misfit(tokens)),
+        Some(GoalKind::Satisfy) => Ok(Item::Goal {
+            kind: GoalKind::Satisfy,
+            objective: None,
+        }),
+        Some(kind) => Ok(Item::Goal {
+            kind,
+            objective: Some(read_objective(alloc, tokens)?),
+        }),
+    }
 }
 
 /// The objective behind `minimize` or `maximize`.
@@ -104,7 +107,10 @@ fn read_call(alloc: Global, tokens: &mut Tokens<'_>, name: &[u8]) -> Result<Item
         return Err(misfit(tokens));
     };
     let args = read_args(alloc, tokens)?;
-    Ok(Item::Call { name: own_name(alloc, name)?, args: Sequence::from_vec(args) })
+    Ok(Item::Call {
+        name: own_name(alloc, name)?,
+        args: Sequence::from_vec(args),
+    })
 }
 
 /// One argument or more, and the closing parenthesis.
@@ -160,14 +166,21 @@ fn read_list(alloc: Global, tokens: &mut Tokens<'_>) -> Result<Vec<Term>, ReadFa
 }
 
 /// The term that begins with this token.
-fn read_term(alloc: Global, tokens: &mut Tokens<'_>, first: Option<Lexeme<'_>>) -> Result<Term, ReadFault>
+fn read_term(
+    alloc: Global,
+    tokens: &mut Tokens<'_>,
+    first: Option<Lexeme<'_>>,
+) -> Result<Term, ReadFault>
     ensures read { (owner : Owner) → Gives result (term_taken owner (option_map token_of first.entry) tokens.old.line tokens.old.rest.now)
         (λ term. reading (behind_term owner term) tokens.new.line tokens.new.rest.now) }
     ensures not_longer { length tokens.new.rest.now ≤ length tokens.old.rest.now }
 {
     match first {
         Some(Lexeme::Word(name)) => Ok(Term::Plain(own_name(alloc, name)?)),
-        Some(Lexeme::Digits(digits)) => Ok(Term::Number(i64::from(read_number(digits, tokens.line())?))),
+        Some(Lexeme::Digits(digits)) => {
+            let number = read_number(digits, tokens.line())?;
+            Ok(Term::Number(i64::from(number)))
+        }
         Some(Lexeme::Sign(Sign::Dash)) => read_negated(alloc, tokens),
         _ => Err(misfit(tokens)),
     }
@@ -181,7 +194,10 @@ fn read_negated(alloc: Global, tokens: &mut Tokens<'_>) -> Result<Term, ReadFaul
 {
     match take(tokens) {
         Some(Lexeme::Word(name)) => Ok(Term::Minus(own_name(alloc, name)?)),
-        Some(Lexeme::Digits(digits)) => Ok(Term::Number(-i64::from(read_number(digits, tokens.line())?))),
+        Some(Lexeme::Digits(digits)) => {
+            let number = read_number(digits, tokens.line())?;
+            Ok(Term::Number(-i64::from(number)))
+        }
         _ => Err(misfit(tokens)),
     }
 }

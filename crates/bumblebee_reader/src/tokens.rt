@@ -21,7 +21,10 @@ impl<'a> Tokens<'a> {
         ensures rest { result.rest.now ≡ text.now }
         ensures line { result.line ≡ 1 }
     {
-        Tokens { rest: text, line: 1 }
+        Tokens {
+            rest: text,
+            line: 1,
+        }
     }
 
     /// The line of the token that was taken last, or of the end where none was left.
@@ -35,7 +38,7 @@ impl<'a> Tokens<'a> {
     pub fn next(&mut self) -> Option<Lexeme<'a>>
         ensures token { MatchOption result (tokens_at self.old.line self.old.rest.now ≡ [])
             (λ t. tokens_at self.old.line self.old.rest.now
-                ≡ record { token = token_of t; line = self.new.line } ∷ tokens_at self.new.line self.new.rest.now) }
+            ≡ record { token = token_of t; line = self.new.line } ∷ tokens_at self.new.line self.new.rest.now) }
         ensures end { last_line_at self.new.line self.new.rest.now ≡ last_line_at self.old.line self.old.rest.now }
         ensures at_end { IfNone result (self.new.rest.now ≡ []) }
         ensures shorter { OnSome result (length self.new.rest.now < length self.old.rest.now) }

@@ -1,4 +1,4 @@
-use Rattle.std.proofs.Common.{◌≡◌, false, rules, ◌∙◌, sym, refl, arith}
+use Rattle.std.proofs.Common.{◌≡◌, false, rules, ◌∙◌, sym, arith}
 use Rattle.bumblebee_reader.specs.Tokens.{begins_gap}
 use Rattle.bumblebee_reader.proofs.Scan.{comment_step, token_step, token_step_line}
 use Rattle.bumblebee_reader.proofs.tokens.Tokens.next.Goals as goal

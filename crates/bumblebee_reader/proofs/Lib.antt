@@ -1,3 +1,14 @@
+pub mod Scan
+pub mod Numerals
+pub mod Parse
+pub mod Machine
+pub mod Complete
+pub mod Sound
+pub mod Begin
+pub mod Faults
+pub mod Text
+pub mod Shapes
+pub mod Canonical
 pub mod SmallTokenLaws
 pub mod SmallNames
 pub mod SmallComplete

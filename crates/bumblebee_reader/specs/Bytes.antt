@@ -1,5 +1,5 @@
 -- The classes of bytes of a model text.
-use Rattle.std.specs.Prelude.{ℕ, Bool, true, false, ◌||◌, ◌&&◌, not, nat_le, nat_eq}
+use Rattle.std.specs.Prelude.{ℕ, Bool, ◌||◌, ◌&&◌, not, nat_le, nat_eq}
 
 -- a letter or `_`
 abbrev pub is_letter : ℕ → Bool

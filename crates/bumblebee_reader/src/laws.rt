@@ -1,0 +1,28 @@
+//! Laws of model texts, for the crates above.
+
+ghost use Rattle.bumblebee_reader.specs.Laws.{OneSyntax, TextOrFault, TextIsSpellable, CanonicalIsText, RoundTrip};
+
+/// A text has at most one syntax.
+pub fn one_syntax()
+    ensures { OneSyntax }
+{}
+
+/// Bytes are a text, or they have a first fault.
+pub fn text_or_fault()
+    ensures { TextOrFault }
+{}
+
+/// The syntax of a text can be spelled.
+pub fn text_is_spellable()
+    ensures { TextIsSpellable }
+{}
+
+/// The canonical text of a syntax that can be spelled is a text of it.
+pub fn canonical_is_text()
+    ensures { CanonicalIsText }
+{}
+
+/// The canonical text of a syntax that some text has is a text of exactly that syntax.
+pub fn round_trip()
+    ensures { RoundTrip }
+{}

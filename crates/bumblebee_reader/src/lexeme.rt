@@ -1,0 +1,55 @@
+//! Tokens as they stand in the text, and the classes of bytes.
+
+ghost use Rattle.std.specs.Prelude.{◌≡◌};
+ghost use Rattle.bumblebee_reader.specs.Bytes.{is_letter, is_digit, is_word};
+
+/// One of the six signs.
+#[derive(Clone, Copy, Debug, PartialEq, Eq)]
+pub enum Sign {
+    /// `(`
+    OpenCall,
+    /// `)`
+    CloseCall,
+    /// `[`
+    OpenList,
+    /// `]`
+    CloseList,
+    /// `,`
+    Comma,
+    /// `-`
+    Dash,
+}
+
+/// A token, whose bytes are lent by the text.
+#[derive(Clone, Copy, Debug)]
+pub enum Lexeme<'a> {
+    /// A name.
+    Word(&'a [u8]),
+    /// A run of digits.
+    Digits(&'a [u8]),
+    /// One of the six signs.
+    Sign(Sign),
+    /// Any other byte, which fits nowhere.
+    Stray,
+}
+
+/// Whether a byte may begin a name.
+pub fn is_letter(byte: u8) -> bool
+    ensures { result ≡ is_letter byte }
+{
+    byte.is_ascii_alphabetic() || byte == b'_'
+}
+
+/// Whether a byte is a digit.
+pub fn is_digit(byte: u8) -> bool
+    ensures { result ≡ is_digit byte }
+{
+    byte.is_ascii_digit()
+}
+
+/// Whether a byte may stand in a name.
+pub fn is_word(byte: u8) -> bool
+    ensures { result ≡ is_word byte }
+{
+    is_letter(byte) || is_digit(byte)
+}

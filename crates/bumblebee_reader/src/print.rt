@@ -1,0 +1,122 @@
+//! Prints the canonical text of a syntax.
+
+ghost use Rattle.std.specs.Prelude.{◌≡◌, ◌++◌, IfOk, OnOk};
+ghost use Rattle.bumblebee_reader.specs.declared.syntax.Item.TheVariants.{Call, Goal};
+ghost use Rattle.bumblebee_reader.specs.declared.syntax.Arg.TheVariants.{Many};
+ghost use Rattle.bumblebee_reader.specs.Canonical.{canonical, item_line, args_text, arg_text, terms_text, term_text, kind_word};
+
+use crate::decimal::push_decimal;
+use crate::name::Name;
+use crate::syntax::{Arg, GoalKind, Item, Syntax, Term};
+use std::alloc::{AllocError, Global};
+
+/// The canonical text: one item a line, no gap but one blank between the words of a goal, no leading zero,
+/// no `-0`, and the objective without parentheses. Read again, it gives the same syntax, where some text
+/// has that syntax.
+pub fn print_model(alloc: Global, syntax: &Syntax) -> Result<Vec<u8>, AllocError>
+    ensures { IfOk result (λ text. text.items ≡ canonical syntax.now) }
+{
+    let mut out = Vec::new(alloc);
+    for item in syntax.items.as_slice() {
+        push_item(&mut out, item)?;
+    }
+    Ok(out)
+}
+
+fn push_item(out: &mut Vec<u8>, item: &Item) -> Result<(), AllocError>
+    ensures { OnOk result (out.new.items ≡ out.old.items ++ item_line item.now) }
+{
+    match item {
+        Item::Call { name, args } => push_call(out, name, args.as_slice()),
+        Item::Goal { kind, objective } => push_goal(out, *kind, objective),
+    }
+}
+
+fn push_call(out: &mut Vec<u8>, name: &Name, args: &[Arg]) -> Result<(), AllocError>
+    ensures { OnOk result (out.new.items ≡ out.old.items ++ item_line (Call name.now args.now)) }
+{
+    out.extend_from_slice(name.as_bytes())?;
+    out.extend_from_slice(b"(")?;
+    push_args(out, args)?;
+    out.extend_from_slice(b")\n")
+}
+
+fn push_goal(out: &mut Vec<u8>, kind: GoalKind, objective: &Option<Name>) -> Result<(), AllocError>
+    ensures { OnOk result (out.new.items ≡ out.old.items ++ item_line (Goal kind objective.now)) }
+{
+    out.extend_from_slice(b"solve ")?;
+    out.extend_from_slice(kind_word(kind))?;
+    if let Some(name) = objective {
+        out.extend_from_slice(b" ")?;
+        out.extend_from_slice(name.as_bytes())?;
+    }
+    out.extend_from_slice(b"\n")
+}
+
+fn kind_word(kind: GoalKind) -> &'static [u8]
+    ensures { result.now ≡ kind_word kind }
+{
+    match kind {
+        GoalKind::Satisfy => b"satisfy",
+        GoalKind::Minimize => b"minimize",
+        GoalKind::Maximize => b"maximize",
+    }
+}
+
+fn push_args(out: &mut Vec<u8>, args: &[Arg]) -> Result<(), AllocError>
+    ensures { OnOk result (out.new.items ≡ out.old.items ++ args_text args.now) }
+{
+    let Some((first, others)) = args.split_first() else {
+        return Ok(());
+    };
+    push_arg(out, first)?;
+    for arg in others {
+        out.extend_from_slice(b",")?;
+        push_arg(out, arg)?;
+    }
+    Ok(())
+}
+
+fn push_arg(out: &mut Vec<u8>, arg: &Arg) -> Result<(), AllocError>
+    ensures { OnOk result (out.new.items ≡ out.old.items ++ arg_text arg.now) }
+{
+    match arg {
+        Arg::One(term) => push_term(out, term),
+        Arg::Many(terms) => push_list(out, terms.as_slice()),
+    }
+}
+
+fn push_list(out: &mut Vec<u8>, terms: &[Term]) -> Result<(), AllocError>
+    ensures { OnOk result (out.new.items ≡ out.old.items ++ arg_text (Many terms.now)) }
+{
+    out.extend_from_slice(b"[")?;
+    push_terms(out, terms)?;
+    out.extend_from_slice(b"]")
+}
+
+fn push_terms(out: &mut Vec<u8>, terms: &[Term]) -> Result<(), AllocError>
+    ensures { OnOk result (out.new.items ≡ out.old.items ++ terms_text terms.now) }
+{
+    let Some((first, others)) = terms.split_first() else {
+        return Ok(());
+    };
+    push_term(out, first)?;
+    for term in others {
+        out.extend_from_slice(b",")?;
+        push_term(out, term)?;
+    }
+    Ok(())
+}
+
+fn push_term(out: &mut Vec<u8>, term: &Term) -> Result<(), AllocError>
+    ensures { OnOk result (out.new.items ≡ out.old.items ++ term_text term.now) }
+{
+    match term {
+        Term::Plain(name) => out.extend_from_slice(name.as_bytes()),
+        Term::Minus(name) => {
+            out.extend_from_slice(b"-")?;
+            out.extend_from_slice(name.as_bytes())
+        }
+        Term::Number(number) => push_decimal(out, *number),
+    }
+}

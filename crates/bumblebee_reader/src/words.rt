@@ -1,0 +1,45 @@
+//! The words of the language.
+
+ghost use Rattle.std.specs.Prelude.{◌≡◌, IfOk};
+ghost use Rattle.std.specs.Str.{bytes_eq};
+ghost use Rattle.bumblebee_reader.specs.Reading.{is_solve, goal_kind};
+
+use crate::name::Name;
+use crate::syntax::GoalKind;
+use std::alloc::{AllocError, Global};
+
+/// A name of its own, with the bytes that the text lends.
+pub fn own_name(alloc: Global, bytes: &[u8]) -> Result<Name, AllocError>
+    ensures { IfOk result (λ name. name ≡ bytes.now) }
+{
+    Ok(Name::from_vec(Vec::from_slice(alloc, bytes)?))
+}
+
+/// Whether a name is the word that begins a goal.
+pub fn is_solve(name: &[u8]) -> bool
+    ensures { result ≡ is_solve name.now }
+{
+    is_word(name, b"solve")
+}
+
+/// The kind of goal that a word names.
+pub fn goal_kind(word: &[u8]) -> Option<GoalKind>
+    ensures { result ≡ goal_kind word.now }
+{
+    if is_word(word, b"satisfy") {
+        return Some(GoalKind::Satisfy);
+    }
+    if is_word(word, b"minimize") {
+        return Some(GoalKind::Minimize);
+    }
+    if is_word(word, b"maximize") {
+        return Some(GoalKind::Maximize);
+    }
+    None
+}
+
+fn is_word(name: &[u8], word: &[u8]) -> bool
+    ensures { result ≡ bytes_eq name.now word.now }
+{
+    name == word
+}

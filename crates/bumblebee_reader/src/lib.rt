@@ -2,7 +2,6 @@
 //! the program starts.
 #![tactic(auto)]
 
-mod decimal;
 mod fault;
 mod laws;
 mod lexeme;

@@ -5,9 +5,9 @@ ghost use Rattle.bumblebee_reader.specs.declared.syntax.Item.TheVariants.{Call, 
 ghost use Rattle.bumblebee_reader.specs.declared.syntax.Arg.TheVariants.{Many};
 ghost use Rattle.bumblebee_reader.specs.Canonical.{canonical, item_line, args_text, arg_text, terms_text, term_text, kind_word};
 
-use crate::decimal::push_decimal;
 use crate::name::Name;
 use crate::syntax::{Arg, GoalKind, Item, Syntax, Term};
+use bee_text::push_signed;
 use std::alloc::{AllocError, Global};
 
 /// The canonical text: one item a line, no gap but one blank between the words of a goal, no leading zero,
@@ -117,6 +117,6 @@ fn push_term(out: &mut Vec<u8>, term: &Term) -> Result<(), AllocError>
             out.extend_from_slice(b"-")?;
             out.extend_from_slice(name.as_bytes())
         }
-        Term::Number(number) => push_decimal(out, *number),
+        Term::Number(number) => push_signed(out, i128::from(*number)),
     }
 }

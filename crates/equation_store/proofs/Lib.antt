@@ -6,3 +6,5 @@ pub mod Change
 pub mod Merge
 pub mod Own
 pub mod Walk
+pub mod Sizes
+pub mod Facts

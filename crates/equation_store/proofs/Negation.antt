@@ -12,7 +12,7 @@ pub not-not : (b : Bool) → not (not b) ≡ b
 not-not true = refl
 not-not false = refl
 
-not-other : (b : Bool) → b ≡ not b → ⊥
+pub not-other : (b : Bool) → b ≡ not b → ⊥
 not-other true e = true≢false e
 not-other false e = false≢true e
 

@@ -18,6 +18,10 @@ IsAtomOf view a = AtomBelow (length view + 1) a
 abbrev pub AlwaysEqual : List Atom → Atom → Atom → Type 0
 AlwaysEqual view a b = (σ : Valuation) → MeetsView σ view → atom_truth σ a ≡ atom_truth σ b
 
+-- no valuation that meets the view makes the two atoms equally true
+abbrev pub NeverEqual : List Atom → Atom → Atom → Type 0
+NeverEqual view a b = (σ : Valuation) → MeetsView σ view → atom_truth σ a ≢ atom_truth σ b
+
 -- a new view is met by exactly the valuations that meet the old one and make the two atoms equally true
 abbrev pub AddsEquation : List Atom → List Atom → Atom → Atom → Type 0
 AddsEquation old new a b = (σ : Valuation) → MeetsView σ new ↔ (MeetsView σ old × (atom_truth σ a ≡ atom_truth σ b))

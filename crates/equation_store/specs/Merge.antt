@@ -4,7 +4,7 @@ use Rattle.order_ints.specs.declared.literal.Lit.{Lit}
 use Rattle.order_ints.specs.declared.atom.Atom.{Atom}
 use Rattle.order_ints.specs.declared.atom.Atom.TheVariants.{True, False, Of}
 use Rattle.order_ints.specs.Truth.{not_atom}
-use Rattle.order_ints.specs.View.{resolve}
+use Rattle.order_ints.specs.View.{label_of, resolve}
 use Rattle.equation_store.specs.declared.relabel.Change.{Change}
 use Rattle.equation_store.specs.Class.{is_of, class_size}
 
@@ -50,3 +50,8 @@ changed_by (Some c) view = map (replaced c.loser c.label) view
 -- the view after a merge of two atoms
 abbrev pub merged : List Atom → Atom → Atom → List Atom
 merged view a b = changed_by (change_of view (resolve view a) (resolve view b)) view
+
+-- the class of x has a new label: a member whose label was x has the new label of x, one whose label was the negation of x
+-- has the negation of that, and every other label stays
+abbrev pub IsRelabelled : List Atom → List Atom → ℕ → Type 0
+IsRelabelled old new x = new ≡ map (replaced x (label_of new x)) old

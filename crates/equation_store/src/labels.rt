@@ -1,7 +1,9 @@
 //! Labels of variables 1, 2 and so on, as a slice.
 
 ghost use Rattle.std.specs.Prelude.{◌≡◌, ◌+◌, ◌^◌, ◌≤◌, ◌++◌, length, drop, OnOk, OnErr};
+ghost use Rattle.order_ints.specs.View.{resolve};
 ghost use Rattle.equation_store.specs.Label.{own_labels};
+ghost use Rattle.equation_store.specs.Laws.{IsAtomOf};
 ghost use Rattle.equation_store.specs.Class.{is_of, class_size, first_in};
 ghost use Rattle.equation_store.specs.Store.{members_from};
 
@@ -16,6 +18,21 @@ pub fn is_of(var: u32, atom: Atom) -> bool
         Atom::True => false,
         Atom::False => false,
         Atom::Of(literal) => literal.var == var,
+    }
+}
+
+/// The atom with its variable's label in place of the variable. It looks at one label.
+pub fn resolved(labels: &[Atom], atom: Atom) -> Atom
+    requires { IsAtomOf labels.now atom }
+    ensures { result ≡ resolve labels.now atom }
+{
+    match atom {
+        Atom::True => Atom::True,
+        Atom::False => Atom::False,
+        Atom::Of(literal) => {
+            let label = labels[literal.var as usize - 1];
+            if literal.positive { label } else { label.not() }
+        }
     }
 }
 

@@ -8,4 +8,5 @@ mod relabel;
 mod store;
 
 pub use laws::{merge_laws, resolve_laws};
-pub use store::{EqStore, Merged};
+pub use relabel::Merged;
+pub use store::EqStore;

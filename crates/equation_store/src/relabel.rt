@@ -1,12 +1,27 @@
 //! Which class gets which label where two become one, and how its members get it.
 
-ghost use Rattle.std.specs.Prelude.{◌≡◌, map};
-ghost use Rattle.equation_store.specs.Merge.{signed, replaced, losing, change_of, change_to};
+ghost use Rattle.std.specs.Prelude.{◌≡◌, ◌≢◌, ◌↔◌, map};
+ghost use Rattle.order_ints.specs.Truth.{not_atom};
+ghost use Rattle.order_ints.specs.View.{resolve};
+ghost use Rattle.equation_store.specs.Merge.{signed, replaced, losing, change_of, change_to, merged};
+ghost use Rattle.equation_store.specs.Laws.{IsAtomOf};
 
-use crate::labels::class_size;
+use crate::labels::{class_size, resolved};
 use order_ints::{Atom, Lit};
 
+/// What a merge found.
+#[derive(Clone, Copy, Debug, PartialEq, Eq)]
+pub enum Merged {
+    /// Two classes became one, or a class became constant.
+    Changed,
+    /// The atoms were equal already.
+    Already,
+    /// The atoms are opposite.
+    Clash,
+}
+
 /// A variable whose class gets a new label.
+#[derive(Clone, Copy, Debug)]
 pub struct Change {
     /// The variable, which is its own label so far.
     pub loser: u32,
@@ -85,10 +100,32 @@ pub fn change_of(labels: &[Atom], a: Atom, b: Atom) -> Option<Change>
 }
 
 /// Gives each label that is a literal of `var` its new value.
-pub fn relabel(labels: &mut [Atom], var: u32, by: Atom)
+fn relabel(labels: &mut [Atom], var: u32, by: Atom)
     ensures { labels.new ≡ map (replaced var by) labels.old }
 {
     for label in labels.iter_mut() {
         *label = replaced(var, by, *label);
+    }
+}
+
+/// Makes two atoms one.
+pub fn merge_labels(labels: &mut [Atom], a: Atom, b: Atom) -> Merged
+    requires first { IsAtomOf labels.old a }
+    requires second { IsAtomOf labels.old b }
+    ensures labels { labels.new ≡ merged labels.old a b }
+    ensures already { (result ≡ Merged.Already) ↔ (resolve labels.old a ≡ resolve labels.old b) }
+    ensures clash { (result ≡ Merged.Clash)
+        ↔ (resolve labels.old a ≡ not_atom (resolve labels.old b)) }
+    ensures stays { result ≢ Merged.Changed → labels.new ≡ labels.old }
+{
+    let a = resolved(labels, a);
+    let b = resolved(labels, b);
+    match change_of(labels, a, b) {
+        Some(change) => {
+            relabel(labels, change.loser, change.label);
+            Merged::Changed
+        }
+        None if a == b => Merged::Already,
+        None => Merged::Clash,
     }
 }

@@ -1,14 +1,14 @@
 -- Two different labels are told apart by a valuation that meets the view.
-use Rattle.std.proofs.Common.{◌≡◌, ℕ, ◌+◌, ◌-◌, ◌≤◌, ◌<◌, Bool, true, false, not, eqb, cond, List, length, refl, ap, sym, ◌∙◌, subst, arith, ⊎_elim}
-use Rattle.std.specs.Prelude.{if◌then◌else◌, ◌==◌, ◌↔◌}
+use Rattle.std.proofs.Common.{◌≡◌, ℕ, Bool, true, false, not, List, refl, ap, sym, ◌∙◌, ⊎_elim}
+use Rattle.std.specs.Prelude.{if◌then◌else◌, ◌==◌}
 use Rattle.std.proofs.lemmas.Bool.{true≢false, false≢true, cases_eq, eq-eqb, ne_eqb, cond-true, cond-false}
 use Rattle.order_ints.specs.declared.literal.Lit.{Lit}
 use Rattle.order_ints.specs.declared.atom.Atom.{Atom}
 use Rattle.order_ints.specs.declared.atom.Atom.TheVariants.{True, False, Of}
-use Rattle.order_ints.specs.Truth.{Valuation, lit_truth, atom_truth, not_atom}
+use Rattle.order_ints.specs.Truth.{Valuation, lit_truth, atom_truth}
 use Rattle.order_ints.specs.View.{label_of, resolve, MeetsView}
-use Rattle.equation_store.specs.Label.{variable, IsOwnLabel, IsLabel, IsLabelled}
-use Rattle.equation_store.specs.Laws.{IsAtomOf, AlwaysEqual, ResolvesExactly}
+use Rattle.equation_store.specs.Label.{IsLabel, IsLabelled}
+use Rattle.equation_store.specs.Laws.{AlwaysEqual, ResolvesExactly}
 use Rattle.equation_store.proofs.Resolve.{IsLabel-resolve, resolves_truly}
 
 -- the truth of each variable's label
@@ -57,6 +57,7 @@ same_from_truth (Of l) (Of m) h = ⊎_elim same apart (cases_eq l.var m.var)
     same e =
         let signs : l.positive ≡ m.positive = sym (sign-at_true l.positive) ∙ h (λ _. true) ∙ sign-at_true m.positive in
         ap (λ (v : ℕ). Of (record { var = v; positive = l.positive })) e ∙ ap (λ (p : Bool). Of (record { var = m.var; positive = p })) signs
+
     apart : (l.var ≡ m.var → ⊥) → Of l ≡ Of m
     apart ne =
         let at_l : tells l m l.var ≡ l.positive = cond-true _ _ _ (eq-eqb l.var l.var refl) in
@@ -70,6 +71,7 @@ resolves_exactly view a b labelled in_a in_b = (equal, same)
   where
     equal : resolve view a ≡ resolve view b → AlwaysEqual view a b
     equal e σ meets = sym (resolves_truly view a σ in_a meets) ∙ ap (atom_truth σ) e ∙ resolves_truly view b σ in_b meets
+
     same : AlwaysEqual view a b → resolve view a ≡ resolve view b
     same h = same_from_truth (resolve view a) (resolve view b) (λ τ.
         let σ : Valuation = by_labels view τ in

@@ -1,19 +1,18 @@
 -- A merge of two atoms: its equation, and what it does to labels and sizes.
-use Rattle.std.proofs.Common.{◌≡◌, ℕ, ◌+◌, ◌-◌, ◌*◌, ◌≤◌, ◌<◌, Bool, true, false, not, List, map, length, refl, ap, sym, ◌∙◌, subst, arith, ⊎_elim, inl, inr, Option, Some, None}
-use Rattle.std.specs.Prelude.{if◌then◌else◌, ◌==◌, ◌≢◌, ◌⊎◌, ◌↔◌, MatchOption}
-use Rattle.std.proofs.lemmas.Bool.{cases_Bool, eqb-true, eqb-false, cond-true}
-use Rattle.order_ints.specs.declared.literal.Lit.{Lit}
+use Rattle.std.proofs.Common.{◌≡◌, ℕ, ◌*◌, ◌≤◌, Bool, true, false, List, refl, sym, ◌∙◌, subst, arith, ⊎_elim, inl, inr, Option, Some, None}
+use Rattle.std.specs.Prelude.{◌==◌, ◌⊎◌, MatchOption}
+use Rattle.std.proofs.lemmas.Bool.{cases_Bool, eqb-true, eqb-false}
 use Rattle.order_ints.specs.declared.atom.Atom.{Atom}
 use Rattle.order_ints.specs.declared.atom.Atom.TheVariants.{True, False, Of}
-use Rattle.order_ints.specs.Truth.{Valuation, atom_truth, not_atom}
+use Rattle.order_ints.specs.Truth.{atom_truth, not_atom}
 use Rattle.order_ints.specs.View.{label_of, resolve, MeetsView}
 use Rattle.equation_store.specs.declared.relabel.Change.{Change}
-use Rattle.equation_store.specs.Label.{IsLabel, IsLabelled}
+use Rattle.equation_store.specs.Label.{IsLabelled}
 use Rattle.equation_store.specs.Class.{is_of, class_size}
-use Rattle.equation_store.specs.Merge.{signed, replaced, change_of, changed_by, merged}
+use Rattle.equation_store.specs.Merge.{signed, replaced, change_of, changed_by}
 use Rattle.equation_store.specs.Laws.{IsAtomOf, AddsEquation, IsConstant, size_at, Doubles, MergeResolves, MergeKeeps, MergeDoubles}
 use Rattle.equation_store.proofs.Resolve.{IsLabel-resolve, resolves_truly, resolves_once}
-use Rattle.equation_store.proofs.Replaced.{IsReplacement, relabelled, replaced-own, replaced-other, label_of-map, meets-relabelled, relabelled-meets, resolve-relabelled, resolve-relabelled_once, class_size-relabelled}
+use Rattle.equation_store.proofs.Replaced.{relabelled, replaced-own, replaced-other, label_of-map, meets-relabelled, relabelled-meets, resolve-relabelled, resolve-relabelled_once, class_size-relabelled}
 use Rattle.equation_store.proofs.Change.{IsChange, IsConstant-signed, size_at-signed, change_of-is}
 
 -- what is known of the change of two atoms
@@ -50,6 +49,7 @@ change-adds view a b c in_a in_b h σ = (down, up)
     down meets =
         let old : MeetsView σ view × (σ c.loser ≡ atom_truth σ c.label) = meets-relabelled view c.loser c.label σ h.replacement meets in
         (old.0, sym (resolves_truly view a σ in_a old.0) ∙ h.truth_from σ old.1 ∙ resolves_truly view b σ in_b old.0)
+
     up : MeetsView σ view × (atom_truth σ a ≡ atom_truth σ b) → MeetsView σ (relabelled view c.loser c.label)
     up old = relabelled-meets view c.loser c.label σ old.0 (h.truth_to σ (resolves_truly view a σ in_a old.0 ∙ old.1 ∙ sym (resolves_truly view b σ in_b old.0)))
 
@@ -72,7 +72,8 @@ doubles-at view x new (Of l) other size ne = ⊎_elim own stays (cases_Bool (l.v
     own t =
         let e : l.var ≡ x = eqb-true l.var x t in
         subst (λ (r : Atom). IsConstant r ⊎ (2 * class_size view l.var ≤ size_at (relabelled view x new) r)) (sym (replaced-own x new l e))
-            (subst (λ (y : ℕ). IsConstant (signed l.positive new) ⊎ (2 * class_size view y ≤ size_at (relabelled view x new) (signed l.positive new))) (sym e) (grown view x new l.positive other size))
+        (subst (λ (y : ℕ). IsConstant (signed l.positive new) ⊎ (2 * class_size view y ≤ size_at (relabelled view x new) (signed l.positive new))) (sym e) (grown view x new l.positive other size))
+
     stays : (l.var == x) ≡ false → IsConstant (replaced x new (Of l)) ⊎ (2 * class_size view l.var ≤ size_at (relabelled view x new) (replaced x new (Of l)))
     stays t = absurd (ne (replaced-other x new (Of l) t))
 
@@ -80,7 +81,7 @@ pub change-doubles : (view : List Atom) (a b : Atom) (c : Change) → IsChange v
 change-doubles view a b c h v low high changed =
     let now : label_of (relabelled view c.loser c.label) v ≡ replaced c.loser c.label (label_of view v) = label_of-map (replaced c.loser c.label) view v low high in
     subst (λ (n : Atom). IsConstant n ⊎ (2 * size_at view (label_of view v) ≤ size_at (relabelled view c.loser c.label) n)) (sym now)
-        (doubles-at view c.loser c.label (label_of view v) h.replacement.other h.smaller (λ e. changed (now ∙ e)))
+    (doubles-at view c.loser c.label (label_of view v) h.replacement.other h.smaller (λ e. changed (now ∙ e)))
 
 pub merge_doubles : MergeDoubles
 merge_doubles view a b labelled in_a in_b = by_change (change_of view (resolve view a) (resolve view b)) (change_of-atoms view a b labelled in_a in_b)

@@ -1,11 +1,10 @@
 -- Negated atoms: what literals and atoms alone have to do with negation.
-use Rattle.std.proofs.Common.{◌≡◌, ◌≢◌, ℕ, ◌+◌, ◌-◌, ◌≤◌, ◌<◌, Bool, true, false, not, List, length, refl, ap, sym, ◌∙◌}
+use Rattle.std.proofs.Common.{◌≡◌, Bool, true, false, not, refl, ap, sym}
 use Rattle.std.specs.Prelude.{if◌then◌else◌}
 use Rattle.std.proofs.lemmas.Bool.{true≢false, false≢true}
-use Rattle.order_ints.specs.declared.literal.Lit.{Lit}
 use Rattle.order_ints.specs.declared.atom.Atom.{Atom}
 use Rattle.order_ints.specs.declared.atom.Atom.TheVariants.{True, False, Of}
-use Rattle.order_ints.specs.Truth.{Valuation, lit_truth, not_lit, atom_truth, not_atom}
+use Rattle.order_ints.specs.Truth.{Valuation, atom_truth, not_atom}
 use Rattle.equation_store.specs.Merge.{signed}
 
 pub not-not : (b : Bool) → not (not b) ≡ b

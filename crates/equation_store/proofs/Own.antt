@@ -1,12 +1,11 @@
 -- Variables that are added, each its own label.
-use Rattle.std.proofs.Common.{◌≡◌, ℕ, zero, suc, ◌+◌, ◌-◌, ◌≤◌, ◌<◌, List, [], ◌∷◌, ◌++◌, length, get_or, refl, ap, sym, ◌∙◌, subst, arith, ⊎_elim, add-one}
+use Rattle.std.proofs.Common.{◌≡◌, ℕ, zero, suc, ◌+◌, ◌-◌, ◌≤◌, ◌<◌, List, [], ◌∷◌, ◌++◌, length, get_or, refl, ap, sym, ◌∙◌, subst, arith, ⊎_elim}
 use Rattle.std.proofs.lemmas.Bool.{cases_lt}
 use Rattle.std.proofs.lemmas.List.{length-append, get_or_append_left, get_or-append_right}
-use Rattle.order_ints.specs.declared.literal.Lit.{Lit}
 use Rattle.order_ints.specs.declared.atom.Atom.{Atom}
 use Rattle.order_ints.specs.declared.atom.Atom.TheVariants.{True, False, Of}
 use Rattle.order_ints.specs.View.{label_of}
-use Rattle.equation_store.specs.Label.{variable, IsOwnLabel, IsLabel, IsLabelled, own_labels}
+use Rattle.equation_store.specs.Label.{variable, IsLabel, IsLabelled, own_labels}
 
 pub length-own_labels : (first count : ℕ) → length (own_labels first count) ≡ count
 length-own_labels first zero = refl
@@ -20,9 +19,9 @@ own_labels-more first (suc count) =
     let last : first + 1 + count ≡ first + suc count = omega arith in
     ap (own_labels first) outer
     ∙ ap (λ (xs : List Atom). variable first ∷ xs)
-        (sym (ap (own_labels (first + 1)) inner)
-        ∙ own_labels-more (first + 1) count
-        ∙ ap (λ (v : ℕ). own_labels (first + 1) count ++ variable v ∷ []) last)
+    (sym (ap (own_labels (first + 1)) inner)
+    ∙ own_labels-more (first + 1) count
+    ∙ ap (λ (v : ℕ). own_labels (first + 1) count ++ variable v ∷ []) last)
 
 get_or-own_labels : (first count k : ℕ) (d : Atom) → k < count → get_or (own_labels first count) k d ≡ variable (first + k)
 get_or-own_labels first zero k d h = absurd (omega arith)
@@ -51,11 +50,13 @@ IsLabelled-grown view count labelled v low high = ⊎_elim added old (cases_lt (
   where
     inside : v ≤ length view + count
     inside = omega (arith, high, length-append view (own_labels (length view + 1) count), length-own_labels (length view + 1) count)
+
     added : length view < v → IsLabel (view ++ own_labels (length view + 1) count) (label_of (view ++ own_labels (length view + 1) count) v)
     added h =
         let own : label_of (view ++ own_labels (length view + 1) count) v ≡ variable v = label_of-added view count v h inside in
         subst (IsLabel (view ++ own_labels (length view + 1) count)) (sym own) (low, high, own)
+
     old : v ≤ length view → IsLabel (view ++ own_labels (length view + 1) count) (label_of (view ++ own_labels (length view + 1) count) v)
     old h =
         subst (IsLabel (view ++ own_labels (length view + 1) count)) (sym (label_of-old view (own_labels (length view + 1) count) v low h))
-            (IsLabel-grown view (own_labels (length view + 1) count) (label_of view v) (labelled v low h))
+        (IsLabel-grown view (own_labels (length view + 1) count) (label_of view v) (labelled v low h))

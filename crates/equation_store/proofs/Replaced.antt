@@ -1,7 +1,7 @@
 -- A view in which the members of one class have a new label.
-use Rattle.std.proofs.Common.{◌≡◌, ℕ, ◌+◌, ◌-◌, ◌*◌, ◌≤◌, ◌<◌, Bool, true, false, not, cond, eqb, ltb, max, List, [], ◌∷◌, map, length, refl, ap, sym, ◌∙◌, subst, arith, ⊎_elim, inl, inr, Option, Some, None}
-use Rattle.std.specs.Prelude.{if◌then◌else◌, ◌==◌, ◌≢◌, ◌⊎◌, ◌↔◌, nat_lt}
-use Rattle.std.proofs.lemmas.Bool.{true≢false, false≢true, cases_eq, cases_Bool, eq-eqb, ne_eqb, eqb-true, eqb-false, cond-true, cond-false, ltb-true, ltb-false}
+use Rattle.std.proofs.Common.{◌≡◌, ℕ, ◌+◌, ◌-◌, ◌≤◌, Bool, true, false, not, List, [], ◌∷◌, map, length, refl, ap, sym, ◌∙◌, subst, arith, ⊎_elim}
+use Rattle.std.specs.Prelude.{if◌then◌else◌, ◌==◌}
+use Rattle.std.proofs.lemmas.Bool.{cases_Bool, eq-eqb, ne_eqb, eqb-true, cond-true, cond-false}
 use Rattle.std.proofs.lemmas.List.{get_or-map, length-map}
 use Rattle.order_ints.specs.declared.literal.Lit.{Lit}
 use Rattle.order_ints.specs.declared.atom.Atom.{Atom}
@@ -12,8 +12,8 @@ use Rattle.equation_store.specs.Label.{variable, IsOwnLabel, IsLabel, IsLabelled
 use Rattle.equation_store.specs.Class.{is_of, class_size}
 use Rattle.equation_store.specs.Merge.{signed, replaced}
 use Rattle.equation_store.specs.Laws.{IsAtomOf}
-use Rattle.equation_store.proofs.Negation.{not-not, not_atom-not_atom, truth-not_atom, truth-signed, signed-not, not_atom-other}
-use Rattle.equation_store.proofs.Resolve.{resolve-label, IsLabel-signed, IsLabel-resolve, resolves_truly}
+use Rattle.equation_store.proofs.Negation.{truth-signed, signed-not}
+use Rattle.equation_store.proofs.Resolve.{resolve-label, IsLabel-signed, IsLabel-resolve}
 
 -- the label of a variable after its replacement
 pub label_of-map : (f : Atom → Atom) (view : List Atom) (v : ℕ) → 1 ≤ v → v ≤ length view → label_of (map f view) v ≡ f (label_of view v)
@@ -71,12 +71,15 @@ IsLabel-replaced view x new a r h = ⊎_elim own other (cases_Bool (is_of x a))
   where
     signed_new : (p : Bool) → IsLabel (relabelled view x new) (signed p new)
     signed_new p = IsLabel-signed (relabelled view x new) p new (IsLabel-relabelled view x new new r.label r.other)
+
     own_at : (b : Atom) → is_of x b ≡ true → IsLabel (relabelled view x new) (replaced x new b)
     own_at True e = tt
     own_at False e = tt
     own_at (Of l) e = subst (IsLabel (relabelled view x new)) (sym (cond-true _ _ _ e)) (signed_new l.positive)
+
     own : is_of x a ≡ true → IsLabel (relabelled view x new) (replaced x new a)
     own e = own_at a e
+
     other : is_of x a ≡ false → IsLabel (relabelled view x new) (replaced x new a)
     other e = subst (IsLabel (relabelled view x new)) (sym (replaced-other x new a e)) (IsLabel-relabelled view x new a h e)
 
@@ -91,8 +94,10 @@ meets-relabelled view x new σ r meets = (old, at_x)
   where
     longer : (v : ℕ) → v ≤ length view → v ≤ length (relabelled view x new)
     longer v high = omega (arith, length-map view (replaced x new))
+
     at_x : σ x ≡ atom_truth σ new
     at_x = meets x r.low (longer x r.high) ∙ ap (atom_truth σ) (label_of-relabelled view x new r)
+
     old : MeetsView σ view
     old v low high =
         meets v low (longer v high)
@@ -154,6 +159,7 @@ class_size-relabelled (a ∷ view) x m ne = omega (arith, class_size-relabelled 
         of_signed : (p : Bool) → is_of m.var (signed p (Of m)) ≡ true
         of_signed true = eq-eqb m.var m.var refl
         of_signed false = eq-eqb m.var m.var refl
+
         by_test : (t : Bool) → (t ≡ true → l.var ≡ x) → (if is_of m.var (if t then signed l.positive (Of m) else Of l) then 1 else 0) ≡ (if l.var == m.var then 1 else 0) + (if t then 1 else 0)
         by_test true e =
             cond-true _ 1 0 (of_signed l.positive)

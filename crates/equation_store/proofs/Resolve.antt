@@ -1,12 +1,11 @@
 -- Resolving: labels stay as they are, and nothing changes its truth.
-use Rattle.std.proofs.Common.{◌≡◌, ℕ, ◌+◌, ◌-◌, ◌≤◌, ◌<◌, Bool, true, false, not, List, length, refl, ap, sym, ◌∙◌, subst, arith}
+use Rattle.std.proofs.Common.{◌≡◌, ℕ, Bool, true, false, not, List, refl, ap, sym, ◌∙◌, arith}
 use Rattle.std.specs.Prelude.{if◌then◌else◌}
-use Rattle.order_ints.specs.declared.literal.Lit.{Lit}
 use Rattle.order_ints.specs.declared.atom.Atom.{Atom}
 use Rattle.order_ints.specs.declared.atom.Atom.TheVariants.{True, False, Of}
-use Rattle.order_ints.specs.Truth.{Valuation, lit_truth, atom_truth, not_atom}
-use Rattle.order_ints.specs.View.{label_of, resolve, MeetsView}
-use Rattle.equation_store.specs.Label.{variable, IsOwnLabel, IsLabel, IsLabelled}
+use Rattle.order_ints.specs.Truth.{not_atom}
+use Rattle.order_ints.specs.View.{label_of, resolve}
+use Rattle.equation_store.specs.Label.{variable, IsLabel, IsLabelled}
 use Rattle.equation_store.specs.Merge.{signed}
 use Rattle.equation_store.specs.Laws.{IsAtomOf, ResolvesOnce, ResolvesNegation, ResolvesTruly}
 use Rattle.equation_store.proofs.Negation.{truth-signed, signed-not}

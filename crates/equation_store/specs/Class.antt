@@ -1,6 +1,5 @@
 -- The class of a label: the variables whose labels are literals of it, and a walk through them.
-use Rattle.std.specs.Prelude.{◌≡◌, ◌==◌, ℕ, ◌+◌, Bool, false, ◌&&◌, nat_le, List, [], ◌∷◌, length, count_by, Option, Some, None, if◌then◌else◌}
-use Rattle.order_ints.specs.declared.literal.Lit.{Lit}
+use Rattle.std.specs.Prelude.{◌≡◌, ◌==◌, ℕ, ◌+◌, ◌≤◌, Bool, true, false, List, [], ◌∷◌, length, count_by, Option, Some, None, if◌then◌else◌}
 use Rattle.order_ints.specs.declared.atom.Atom.{Atom}
 use Rattle.order_ints.specs.declared.atom.Atom.TheVariants.{True, False, Of}
 use Rattle.order_ints.specs.View.{label_of}
@@ -11,18 +10,19 @@ is_of x True = false
 is_of x False = false
 is_of x (Of l) = l.var == x
 
--- whether v is a variable of the view whose label is a literal of x
-abbrev pub is_member : List Atom → ℕ → ℕ → Bool
-is_member view x v = nat_le 1 v && nat_le v (length view) && is_of x (label_of view v)
+-- v is a variable of the view whose label is a literal of x
+abbrev pub IsMember : List Atom → ℕ → ℕ → Type 0
+IsMember view x v = (1 ≤ v) × (v ≤ length view) × (is_of x (label_of view v) ≡ true)
 
 -- the size of the class of x: how many labels are literals of x
 abbrev pub class_size : List Atom → ℕ → ℕ
 class_size [] x = 0
 class_size (a ∷ view) x = (if is_of x a then 1 else 0) + class_size view x
 
--- a list is a walk of the class of x where each member stands in it once, and nothing else does
-abbrev pub IsWalk : List Atom → ℕ → List ℕ → Type 0
-IsWalk view x walk = (v : ℕ) → count_by (λ w. w == v) walk ≡ (if is_member view x v then 1 else 0)
+-- a walk of the class of x: each member stands in it once, and nothing else does
+pub record IsWalk (view : List Atom) (x : ℕ) (walk : List ℕ) : Type 0 where
+  pub once : (v : ℕ) → IsMember view x v → count_by (λ w. w == v) walk ≡ 1
+  pub others : (v : ℕ) → ¬ IsMember view x v → count_by (λ w. w == v) walk ≡ 0
 
 -- where a walk begins
 abbrev pub first_in : List ℕ → Option ℕ

@@ -1,6 +1,5 @@
 -- Laws of resolving and of merging.
 use Rattle.std.specs.Prelude.{◌≡◌, ◌≢◌, ◌⊎◌, ℕ, ◌+◌, ◌*◌, ◌≤◌, List, length, ◌↔◌}
-use Rattle.order_ints.specs.declared.literal.Lit.{Lit}
 use Rattle.order_ints.specs.declared.atom.Atom.{Atom}
 use Rattle.order_ints.specs.declared.atom.Atom.TheVariants.{True, False, Of}
 use Rattle.order_ints.specs.Truth.{Valuation, atom_truth, not_atom}
@@ -41,7 +40,7 @@ size_at view (Of l) = class_size view l.var
 -- the class of each variable that got a new label is at least twice its old one, or the label is a constant
 abbrev pub Doubles : List Atom → List Atom → Type 0
 Doubles old new =
-  (v : ℕ) → 1 ≤ v → v ≤ length old → label_of new v ≢ label_of old v →
+    (v : ℕ) → 1 ≤ v → v ≤ length old → label_of new v ≢ label_of old v →
     IsConstant (label_of new v) ⊎ (2 * size_at old (label_of old v) ≤ size_at new (label_of new v))
 
 -- resolving twice is resolving once

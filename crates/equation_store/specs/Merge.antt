@@ -1,12 +1,12 @@
 -- What a merge of two atoms does to a view.
-use Rattle.std.specs.Prelude.{◌≡◌, ◌==◌, ℕ, ◌≤◌, Bool, nat_lt, max, List, map, Option, Some, None, option_map, if◌then◌else◌}
+use Rattle.std.specs.Prelude.{◌≡◌, ◌==◌, ℕ, Bool, nat_lt, max, List, map, Option, Some, None, option_map, if◌then◌else◌}
 use Rattle.order_ints.specs.declared.literal.Lit.{Lit}
 use Rattle.order_ints.specs.declared.atom.Atom.{Atom}
 use Rattle.order_ints.specs.declared.atom.Atom.TheVariants.{True, False, Of}
 use Rattle.order_ints.specs.Truth.{not_atom}
 use Rattle.order_ints.specs.View.{label_of, resolve}
 use Rattle.equation_store.specs.declared.relabel.Change.{Change}
-use Rattle.equation_store.specs.Class.{is_of, class_size}
+use Rattle.equation_store.specs.Class.{class_size}
 
 -- an atom, or its negation
 abbrev pub signed : Bool → Atom → Atom

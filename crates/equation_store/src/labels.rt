@@ -62,7 +62,7 @@ pub fn push_own_labels(labels: &mut Vec<Atom>, more: u32) -> Result<(), AllocErr
     requires { length labels.old.items + more ≤ 2 ^ 27 }
     ensures ok { OnOk result
         (labels.new.items
-            ≡ labels.old.items ++ own_labels (length labels.old.items + 1) more) }
+        ≡ labels.old.items ++ own_labels (length labels.old.items + 1) more) }
     ensures err { OnErr result (labels.new.items ≡ labels.old.items) }
 {
     labels.reserve(more as usize)?;

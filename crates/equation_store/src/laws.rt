@@ -8,13 +8,11 @@ pub fn resolve_laws()
     ensures negation { ResolvesNegation }
     ensures truth { ResolvesTruly }
     ensures exact { ResolvesExactly }
-{
-}
+{}
 
 /// What a merge keeps.
 pub fn merge_laws()
     ensures resolves { MergeResolves }
     ensures keeps { MergeKeeps }
     ensures doubles { MergeDoubles }
-{
-}
+{}

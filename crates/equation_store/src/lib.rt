@@ -10,3 +10,6 @@ mod store;
 pub use laws::{merge_laws, resolve_laws};
 pub use relabel::Merged;
 pub use store::EqStore;
+
+#[cfg(test)]
+mod tests;

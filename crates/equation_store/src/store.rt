@@ -1,10 +1,10 @@
 //! The store of equations between literals.
 
-ghost use Rattle.std.specs.Prelude.{◌≡◌, ◌≢◌, ◌+◌, ◌^◌, ◌<◌, ◌≤◌, ◌⊎◌, ◌↔◌, ◌++◌, length, IsNone, IsSomeAnd, IfOk, OnOk, OnErr, ℕ, true};
+ghost use Rattle.std.specs.Prelude.{◌≡◌, ◌≢◌, ◌+◌, ◌^◌, ◌<◌, ◌≤◌, ◌⊎◌, ◌↔◌, ◌++◌, length, IsNone, IsSomeAnd, IfSome, IfOk, OnOk, OnErr, ℕ, true};
 ghost use Rattle.order_ints.specs.Truth.{Valuation, atom_truth, not_atom};
 ghost use Rattle.order_ints.specs.View.{label_of, resolve, MeetsView};
 ghost use Rattle.equation_store.specs.Label.{IsOwnLabel, own_labels};
-ghost use Rattle.equation_store.specs.Class.{is_of, IsWalk, first_in, after_in};
+ghost use Rattle.equation_store.specs.Class.{is_of, IsMember, IsWalk, first_in, after_in};
 ghost use Rattle.equation_store.specs.Store.{IsStore, class_walk};
 ghost use Rattle.equation_store.specs.Merge.{loser_of, IsRelabelled, merged};
 ghost use Rattle.equation_store.specs.Laws.{IsAtomOf, IsConstant, AlwaysEqual, NeverEqual, AddsEquation, Doubles};
@@ -81,7 +81,7 @@ impl EqStore {
         ensures value { result ≡ loser_of self.now.view a b }
         ensures none { IsNone result
             ↔ ((resolve self.now.view a ≡ resolve self.now.view b)
-                ⊎ (resolve self.now.view a ≡ not_atom (resolve self.now.view b))) }
+            ⊎ (resolve self.now.view a ≡ not_atom (resolve self.now.view b))) }
     {
         let labels = self.labels.as_slice();
         change_of(labels, resolved(labels, a), resolved(labels, b)).map(|change| change.loser)
@@ -117,6 +117,7 @@ impl EqStore {
         requires own { IsOwnLabel self.now.view label }
         ensures value { result ≡ first_in (class_walk self.now label) }
         ensures walk { IsWalk self.now.view label (class_walk self.now label) }
+        ensures member { IfSome result (IsMember self.now.view label) }
     {
         next_member(self.labels.as_slice(), label, 0)
     }
@@ -130,6 +131,8 @@ impl EqStore {
             → result ≡ after_in var (class_walk self.now x) }
         ensures walk { (x : ℕ) → is_of x (label_of self.now.view var) ≡ true
             → IsWalk self.now.view x (class_walk self.now x) }
+        ensures member { (x : ℕ) → is_of x (label_of self.now.view var) ≡ true
+            → IfSome result (IsMember self.now.view x) }
     {
         match self.labels[var as usize - 1] {
             Atom::True => unreachable!(),

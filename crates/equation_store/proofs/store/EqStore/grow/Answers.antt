@@ -1,4 +1,4 @@
-use Rattle.std.proofs.Common.{◌≡◌, ◌+◌, ◌≤◌, ◌^◌, length, ap, arith}
+use Rattle.std.proofs.Common.{◌≡◌, length, ap, arith}
 use Rattle.equation_store.proofs.Facts.{IsStore-grown_or_same}
 use Rattle.equation_store.specs.Store.{Store, IsStore, store_of}
 use Rattle.equation_store.proofs.store.EqStore.grow.Goals as goal

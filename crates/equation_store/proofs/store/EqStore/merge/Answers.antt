@@ -1,11 +1,10 @@
-use Rattle.std.proofs.Common.{◌≡◌, ◌∙◌, ◌≤◌, ◌^◌, List, length, ap, sym, subst, arith}
+use Rattle.std.proofs.Common.{◌≡◌, ◌∙◌, List, length, ap, sym, subst, arith}
 use Rattle.std.specs.Prelude.{◌↔◌}
 use Rattle.std.specs.Vec.{with_items}
 use Rattle.std.proofs.lemmas.List.{with_items_is}
 use Rattle.order_ints.specs.declared.atom.Atom.{Atom}
 use Rattle.order_ints.specs.Truth.{not_atom}
 use Rattle.order_ints.specs.View.{resolve}
-use Rattle.equation_store.specs.declared.relabel.Merged.{Merged}
 use Rattle.equation_store.specs.declared.relabel.Merged.TheVariants.{Changed, Already, Clash}
 use Rattle.equation_store.specs.Store.{Store, IsStore, store_of}
 use Rattle.equation_store.specs.Merge.{change_of, merged}
@@ -19,10 +18,10 @@ same_view c = ap (λ (s : Store). s.view) c.self.view_is
 facts : (c : After-merge_labels) → IsMerge c.args.self.now.view (with_items c.self.inside.labels c.merge_labels.new.labels).items c.args.a c.args.b
 facts c =
     let items : (with_items c.self.inside.labels c.merge_labels.new.labels).items ≡ c.merge_labels.new.labels =
-      with_items_is c.self.inside.labels c.merge_labels.new.labels (omega (arith, c.merge_labels.auto.labels, c.as_mut_slice.ensures.len)) in
+    with_items_is c.self.inside.labels c.merge_labels.new.labels (omega (arith, c.merge_labels.auto.labels, c.as_mut_slice.ensures.len)) in
     is_merge_from c.self.inside.labels.items c.args.self.now.view _ c.args.a c.args.b (same_view c) c.self.invariant.labelled
-        (items ∙ c.merge_labels.ensures.labels ∙ ap (λ (labels : List Atom). merged labels c.args.a c.args.b) c.as_mut_slice.ensures.value)
-        c.requires.first c.requires.second
+    (items ∙ c.merge_labels.ensures.labels ∙ ap (λ (labels : List Atom). merged labels c.args.a c.args.b) c.as_mut_slice.ensures.value)
+    c.requires.first c.requires.second
 
 is_store : (c : After-merge_labels) → IsStore (store_of (with_items c.self.inside.labels c.merge_labels.new.labels).items)
 is_store c = IsStore-merged c.args.self.now.view _ c.args.a c.args.b (facts c) (omega (arith, c.self.invariant.small, ap length (same_view c)))
@@ -31,13 +30,14 @@ changed : (c : After-merge_labels) → c.merge_labels.result ≡ Changed → IsC
 changed c e =
     let view : c.as_mut_slice.result.now ≡ c.args.self.now.view = c.as_mut_slice.ensures.value ∙ same_view c in
     let already : (c.merge_labels.result ≡ Already) ↔ (resolve c.args.self.now.view c.args.a ≡ resolve c.args.self.now.view c.args.b) =
-      subst (λ (v : List Atom). (c.merge_labels.result ≡ Already) ↔ (resolve v c.args.a ≡ resolve v c.args.b)) view c.merge_labels.ensures.already in
+    subst (λ (v : List Atom). (c.merge_labels.result ≡ Already) ↔ (resolve v c.args.a ≡ resolve v c.args.b)) view c.merge_labels.ensures.already in
     let clash : (c.merge_labels.result ≡ Clash) ↔ (resolve c.args.self.now.view c.args.a ≡ not_atom (resolve c.args.self.now.view c.args.b)) =
-      subst (λ (v : List Atom). (c.merge_labels.result ≡ Clash) ↔ (resolve v c.args.a ≡ not_atom (resolve v c.args.b))) view c.merge_labels.ensures.clash in
+    subst (λ (v : List Atom). (c.merge_labels.result ≡ Clash) ↔ (resolve v c.args.a ≡ not_atom (resolve v c.args.b))) view c.merge_labels.ensures.clash in
     (facts c).changes (λ h. changed_apart (sym e ∙ already.1 h)) (λ h. changed_no_clash (sym e ∙ clash.1 h))
   where
     changed_apart : Changed ≡ Already → ⊥
     changed_apart f = cc
+
     changed_no_clash : Changed ≡ Clash → ⊥
     changed_no_clash f = cc
 

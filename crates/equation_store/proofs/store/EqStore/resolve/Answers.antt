@@ -1,5 +1,4 @@
-use Rattle.std.proofs.Common.{◌≡◌, List, subst, ap, rules}
-use Rattle.order_ints.specs.declared.atom.Atom.{Atom}
+use Rattle.std.proofs.Common.{◌≡◌, subst, ap, rules}
 use Rattle.order_ints.specs.View.{resolve}
 use Rattle.equation_store.specs.Label.{IsLabelled}
 use Rattle.equation_store.specs.Store.{Store}

@@ -1,4 +1,4 @@
-use Rattle.std.proofs.Common.{◌≡◌, ◌+◌, ◌≤◌, ◌^◌, length, ap, arith}
+use Rattle.std.proofs.Common.{◌≡◌, length, ap, arith}
 use Rattle.equation_store.proofs.Facts.{IsLabelled-none, IsStore-grown}
 use Rattle.equation_store.specs.Store.{IsStore, store_of}
 use Rattle.equation_store.proofs.store.EqStore.with.Goals as goal
@@ -8,7 +8,7 @@ is_store : (c : In_ok-push_own_labels) → IsStore (store_of c.push_own_labels.n
 is_store c =
     let none : length c.new-labels.result.items ≡ 0 = ap length c.new-labels.ensures.items in
     IsStore-grown c.new-labels.result.items c.push_own_labels.new.labels.items c.args.vars c.in_ok-push_own_labels.ensures.ok (omega (arith, c.requires))
-        (IsLabelled-none c.new-labels.result.items c.new-labels.ensures.items)
+    (IsLabelled-none c.new-labels.result.items c.new-labels.ensures.items)
 
 pub invariant_of-result : goal.invariant_of-result
 invariant_of-result c = is_store c

@@ -1,8 +1,8 @@
 //! The store of equations between literals.
 
 ghost use Rattle.std.specs.Prelude.{◌≡◌, ◌≢◌, ◌+◌, ◌^◌, ◌<◌, ◌≤◌, ◌⊎◌, ◌↔◌, ◌++◌, length, IsNone, IsSomeAnd, IfSome, IfOk, OnOk, OnErr, ℕ, true};
-ghost use Rattle.order_ints.specs.Truth.{Valuation, atom_truth, not_atom};
-ghost use Rattle.order_ints.specs.View.{label_of, resolve, MeetsView};
+ghost use Rattle.order_ints.specs.Truth.{not_atom};
+ghost use Rattle.order_ints.specs.View.{label_of, resolve};
 ghost use Rattle.equation_store.specs.Label.{IsOwnLabel, own_labels};
 ghost use Rattle.equation_store.specs.Class.{is_of, IsMember, IsWalk, first_in, after_in};
 ghost use Rattle.equation_store.specs.Store.{IsStore, class_walk};
@@ -105,6 +105,7 @@ impl EqStore {
         ensures equation { result ≡ Merged.Changed → AddsEquation self.old.view self.new.view a b }
         ensures doubles { result ≡ Merged.Changed → Doubles self.old.view self.new.view }
         ensures opposite { result ≡ Merged.Clash → NeverEqual self.old.view a b }
+        ensures size { length self.new.view ≡ length self.old.view }
         ensures store { IsStore self.new }
     {
         merge_labels(self.labels.as_mut_slice(), a, b)

@@ -58,3 +58,6 @@ returns-clause-doubles c e = (facts (goal.at.returns-clause-doubles c).After-mer
 
 pub returns-clause-store : goal.returns-clause-store
 returns-clause-store c = is_store (goal.at.returns-clause-store c).After-merge_labels
+
+pub returns-clause-size : goal.returns-clause-size
+returns-clause-size c = (facts (goal.at.returns-clause-size c).After-merge_labels).size

@@ -1,0 +1,35 @@
+-- The class of a label: the variables whose labels are literals of it, and a walk through them.
+use Rattle.std.specs.Prelude.{◌≡◌, ◌==◌, ℕ, ◌+◌, ◌≤◌, Bool, true, false, List, [], ◌∷◌, length, count_by, Option, Some, None, if◌then◌else◌}
+use Rattle.order_ints.specs.declared.atom.Atom.{Atom}
+use Rattle.order_ints.specs.declared.atom.Atom.TheVariants.{True, False, Of}
+use Rattle.order_ints.specs.View.{label_of}
+
+-- whether an atom is a literal of the variable
+abbrev pub is_of : ℕ → Atom → Bool
+is_of x True = false
+is_of x False = false
+is_of x (Of l) = l.var == x
+
+-- v is a variable of the view whose label is a literal of x
+abbrev pub IsMember : List Atom → ℕ → ℕ → Type 0
+IsMember view x v = (1 ≤ v) × (v ≤ length view) × (is_of x (label_of view v) ≡ true)
+
+-- the size of the class of x: how many labels are literals of x
+abbrev pub class_size : List Atom → ℕ → ℕ
+class_size [] x = 0
+class_size (a ∷ view) x = (if is_of x a then 1 else 0) + class_size view x
+
+-- a walk of the class of x: each member stands in it once, and nothing else does
+pub record IsWalk (view : List Atom) (x : ℕ) (walk : List ℕ) : Type 0 where
+  pub once : (v : ℕ) → IsMember view x v → count_by (λ w. w == v) walk ≡ 1
+  pub others : (v : ℕ) → ¬ IsMember view x v → count_by (λ w. w == v) walk ≡ 0
+
+-- where a walk begins
+abbrev pub first_in : List ℕ → Option ℕ
+first_in [] = None
+first_in (w ∷ walk) = Some w
+
+-- where a walk goes on behind v
+abbrev pub after_in : ℕ → List ℕ → Option ℕ
+after_in v [] = None
+after_in v (w ∷ walk) = if w == v then first_in walk else after_in v walk

@@ -1,0 +1,72 @@
+-- Laws of resolving and of merging.
+use Rattle.std.specs.Prelude.{◌≡◌, ◌≢◌, ◌⊎◌, ℕ, ◌+◌, ◌*◌, ◌≤◌, List, length, ◌↔◌}
+use Rattle.order_ints.specs.declared.atom.Atom.{Atom}
+use Rattle.order_ints.specs.declared.atom.Atom.TheVariants.{True, False, Of}
+use Rattle.order_ints.specs.Truth.{Valuation, atom_truth, not_atom}
+use Rattle.order_ints.specs.View.{label_of, resolve, MeetsView}
+use Rattle.order_ints.specs.Place.{AtomBelow}
+use Rattle.equation_store.specs.Label.{IsLabelled}
+use Rattle.equation_store.specs.Class.{class_size}
+use Rattle.equation_store.specs.Merge.{merged}
+
+-- a constant, or a literal of a variable of the view
+abbrev pub IsAtomOf : List Atom → Atom → Type 0
+IsAtomOf view a = AtomBelow (length view + 1) a
+
+-- each valuation that meets the view makes the two atoms equally true
+abbrev pub AlwaysEqual : List Atom → Atom → Atom → Type 0
+AlwaysEqual view a b = (σ : Valuation) → MeetsView σ view → atom_truth σ a ≡ atom_truth σ b
+
+-- no valuation that meets the view makes the two atoms equally true
+abbrev pub NeverEqual : List Atom → Atom → Atom → Type 0
+NeverEqual view a b = (σ : Valuation) → MeetsView σ view → atom_truth σ a ≢ atom_truth σ b
+
+-- a new view is met by exactly the valuations that meet the old one and make the two atoms equally true
+abbrev pub AddsEquation : List Atom → List Atom → Atom → Atom → Type 0
+AddsEquation old new a b = (σ : Valuation) → MeetsView σ new ↔ (MeetsView σ old × (atom_truth σ a ≡ atom_truth σ b))
+
+-- an atom that is always true or never
+abbrev pub IsConstant : Atom → Type 0
+IsConstant True = Unit {0}
+IsConstant False = Unit {0}
+IsConstant (Of l) = ⊥
+
+-- the size of the class that has this label; a constant has none
+abbrev pub size_at : List Atom → Atom → ℕ
+size_at view True = 0
+size_at view False = 0
+size_at view (Of l) = class_size view l.var
+
+-- the class of each variable that got a new label is at least twice its old one, or the label is a constant
+abbrev pub Doubles : List Atom → List Atom → Type 0
+Doubles old new =
+    (v : ℕ) → 1 ≤ v → v ≤ length old → label_of new v ≢ label_of old v →
+    IsConstant (label_of new v) ⊎ (2 * size_at old (label_of old v) ≤ size_at new (label_of new v))
+
+-- resolving twice is resolving once
+abbrev pub ResolvesOnce : Type 0
+ResolvesOnce = (view : List Atom) (a : Atom) → IsLabelled view → IsAtomOf view a → resolve view (resolve view a) ≡ resolve view a
+
+-- the negation of an atom resolves to the negation
+abbrev pub ResolvesNegation : Type 0
+ResolvesNegation = (view : List Atom) (a : Atom) → resolve view (not_atom a) ≡ not_atom (resolve view a)
+
+-- an atom is as true as what it resolves to
+abbrev pub ResolvesTruly : Type 0
+ResolvesTruly = (view : List Atom) (a : Atom) (σ : Valuation) → IsAtomOf view a → MeetsView σ view → atom_truth σ (resolve view a) ≡ atom_truth σ a
+
+-- two atoms resolve to the same atom exactly where every valuation that meets the view makes them equally true
+abbrev pub ResolvesExactly : Type 0
+ResolvesExactly = (view : List Atom) (a b : Atom) → IsLabelled view → IsAtomOf view a → IsAtomOf view b → (resolve view a ≡ resolve view b) ↔ AlwaysEqual view a b
+
+-- after a merge of a and b each atom resolves to what its old label resolves to
+abbrev pub MergeResolves : Type 0
+MergeResolves = (view : List Atom) (a b c : Atom) → IsLabelled view → IsAtomOf view a → IsAtomOf view b → IsAtomOf view c → resolve (merged view a b) c ≡ resolve (merged view a b) (resolve view c)
+
+-- a valuation that meets a view after a merge met it before
+abbrev pub MergeKeeps : Type 0
+MergeKeeps = (view : List Atom) (a b : Atom) (σ : Valuation) → IsLabelled view → IsAtomOf view a → IsAtomOf view b → MeetsView σ (merged view a b) → MeetsView σ view
+
+-- a merge doubles the class of each variable whose label it changes, or makes it constant
+abbrev pub MergeDoubles : Type 0
+MergeDoubles = (view : List Atom) (a b : Atom) → IsLabelled view → IsAtomOf view a → IsAtomOf view b → Doubles view (merged view a b)

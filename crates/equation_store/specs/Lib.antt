@@ -1,0 +1,5 @@
+pub mod Label
+pub mod Class
+pub mod Store
+pub mod Merge
+pub mod Laws

@@ -1,0 +1,15 @@
+//! Classes of variables that are equally true or opposite, and how two classes become one. Each variable
+//! has a label: a constant, or a literal of a variable that is its own label.
+#![tactic(auto)]
+
+mod labels;
+mod laws;
+mod relabel;
+mod store;
+
+pub use laws::{merge_laws, resolve_laws};
+pub use relabel::Merged;
+pub use store::EqStore;
+
+#[cfg(test)]
+mod tests;

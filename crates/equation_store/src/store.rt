@@ -1,0 +1,144 @@
+//! The store of equations between literals.
+
+ghost use Rattle.std.specs.Prelude.{◌≡◌, ◌≢◌, ◌+◌, ◌^◌, ◌<◌, ◌≤◌, ◌⊎◌, ◌↔◌, ◌++◌, length, IsNone, IsSomeAnd, IfSome, IfOk, OnOk, OnErr, ℕ, true};
+ghost use Rattle.order_ints.specs.Truth.{not_atom};
+ghost use Rattle.order_ints.specs.View.{label_of, resolve};
+ghost use Rattle.equation_store.specs.Label.{IsOwnLabel, own_labels};
+ghost use Rattle.equation_store.specs.Class.{is_of, IsMember, IsWalk, first_in, after_in};
+ghost use Rattle.equation_store.specs.Store.{IsStore, class_walk};
+ghost use Rattle.equation_store.specs.Merge.{loser_of, IsRelabelled, merged};
+ghost use Rattle.equation_store.specs.Laws.{IsAtomOf, IsConstant, AlwaysEqual, NeverEqual, AddsEquation, Doubles};
+
+use crate::labels::{next_member, push_own_labels, resolved};
+use crate::relabel::{Merged, change_of, merge_labels};
+use order_ints::Atom;
+use std::alloc::{AllocError, Global};
+use std::marker::Model;
+
+/// Equations between literals: each variable has a label, a constant or a literal of a variable that is
+/// its own label, and is as true as its label. The variables whose labels are literals of the same
+/// variable are a class.
+#[derive(Debug, Drop)]
+pub struct EqStore {
+    labels: Vec<Atom>,
+}
+
+impl Model for EqStore {
+    ghost use Rattle.equation_store.specs.Store.{Store, IsStore, store_of};
+
+    ghost Value = { Store };
+
+    ghost view = { λ s. store_of s.labels.items };
+
+    ghost invariant = { λ s. IsStore (store_of s.labels.items) };
+}
+
+impl EqStore {
+    /// A store of variables 1 to `vars`, each its own label.
+    pub fn with(alloc: Global, vars: u32) -> Result<EqStore, AllocError>
+        requires { vars ≤ 2 ^ 27 }
+        ensures view { IfOk result (λ store. store.view ≡ own_labels 1 vars) }
+        ensures store { IfOk result IsStore }
+    {
+        let mut labels = Vec::new(alloc);
+        push_own_labels(&mut labels, vars)?;
+        Ok(EqStore { labels })
+    }
+
+    /// Adds variables, each its own label.
+    pub fn grow(&mut self, more: u32) -> Result<(), AllocError>
+        requires { length self.old.view + more ≤ 2 ^ 27 }
+        ensures view { OnOk result
+            (self.new.view ≡ self.old.view ++ own_labels (length self.old.view + 1) more) }
+        ensures err { OnErr result (self.new ≡ self.old) }
+        ensures store { IsStore self.new }
+    {
+        push_own_labels(&mut self.labels, more)
+    }
+
+    /// The label of each variable, that of variable 1 first.
+    pub fn view(&self) -> &[Atom]
+        ensures view { result.now ≡ self.now.view }
+        ensures store { IsStore self.now }
+    {
+        self.labels.as_slice()
+    }
+
+    /// The atom with its variable's label in place of the variable. It takes one look at the labels.
+    pub fn resolve(&self, a: Atom) -> Atom
+        requires { IsAtomOf self.now.view a }
+        ensures value { result ≡ resolve self.now.view a }
+        ensures exact { (b : Atom) → IsAtomOf self.now.view b
+            → ((result ≡ resolve self.now.view b) ↔ AlwaysEqual self.now.view a b) }
+    {
+        resolved(self.labels.as_slice(), a)
+    }
+
+    /// The variable whose class would get a new label by a merge. Its cost is that of two class sizes.
+    pub fn loser(&self, a: Atom, b: Atom) -> Option<u32>
+        requires first { IsAtomOf self.now.view a }
+        requires second { IsAtomOf self.now.view b }
+        ensures value { result ≡ loser_of self.now.view a b }
+        ensures none { IsNone result
+            ↔ ((resolve self.now.view a ≡ resolve self.now.view b)
+            ⊎ (resolve self.now.view a ≡ not_atom (resolve self.now.view b))) }
+    {
+        let labels = self.labels.as_slice();
+        change_of(labels, resolved(labels, a), resolved(labels, b)).map(|change| change.loser)
+    }
+
+    /// Makes two atoms equally true. Each member of the class that loses gets a new label. It looks at
+    /// every label.
+    pub fn merge(&mut self, a: Atom, b: Atom) -> Merged
+        requires first { IsAtomOf self.old.view a }
+        requires second { IsAtomOf self.old.view b }
+        ensures already { (result ≡ Merged.Already)
+            ↔ (resolve self.old.view a ≡ resolve self.old.view b) }
+        ensures clash { (result ≡ Merged.Clash)
+            ↔ (resolve self.old.view a ≡ not_atom (resolve self.old.view b)) }
+        ensures stays { result ≢ Merged.Changed → self.new ≡ self.old }
+        ensures view { result ≡ Merged.Changed → self.new.view ≡ merged self.old.view a b }
+        ensures relabels { result ≡ Merged.Changed
+            → IsSomeAnd (loser_of self.old.view a b) (λ x. IsRelabelled self.old.view self.new.view x) }
+        ensures equal { result ≡ Merged.Changed
+            → resolve self.new.view a ≡ resolve self.new.view b }
+        ensures equation { result ≡ Merged.Changed → AddsEquation self.old.view self.new.view a b }
+        ensures doubles { result ≡ Merged.Changed → Doubles self.old.view self.new.view }
+        ensures opposite { result ≡ Merged.Clash → NeverEqual self.old.view a b }
+        ensures size { length self.new.view ≡ length self.old.view }
+        ensures store { IsStore self.new }
+    {
+        merge_labels(self.labels.as_mut_slice(), a, b)
+    }
+
+    /// The member of the class of `label` at which its walk begins. It looks at labels until it finds one.
+    pub fn first(&self, label: u32) -> Option<u32>
+        requires low { 1 ≤ label }
+        requires high { label ≤ length self.now.view }
+        requires own { IsOwnLabel self.now.view label }
+        ensures value { result ≡ first_in (class_walk self.now label) }
+        ensures walk { IsWalk self.now.view label (class_walk self.now label) }
+        ensures member { IfSome result (IsMember self.now.view label) }
+    {
+        next_member(self.labels.as_slice(), label, 0)
+    }
+
+    /// The member behind `var` in the walk of its class. It looks at labels until it finds one.
+    pub fn after(&self, var: u32) -> Option<u32>
+        requires low { 1 ≤ var }
+        requires high { var ≤ length self.now.view }
+        requires own { ¬ IsConstant (label_of self.now.view var) }
+        ensures value { (x : ℕ) → is_of x (label_of self.now.view var) ≡ true
+            → result ≡ after_in var (class_walk self.now x) }
+        ensures walk { (x : ℕ) → is_of x (label_of self.now.view var) ≡ true
+            → IsWalk self.now.view x (class_walk self.now x) }
+        ensures member { (x : ℕ) → is_of x (label_of self.now.view var) ≡ true
+            → IfSome result (IsMember self.now.view x) }
+    {
+        match self.labels[var as usize - 1] {
+            Atom::True => unreachable!(),
+            Atom::False => unreachable!(),
+            Atom::Of(literal) => next_member(self.labels.as_slice(), literal.var, var as usize),
+        }
+    }
+}

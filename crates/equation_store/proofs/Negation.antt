@@ -5,6 +5,7 @@ use Rattle.std.proofs.lemmas.Bool.{true≢false, false≢true}
 use Rattle.order_ints.specs.declared.atom.Atom.{Atom}
 use Rattle.order_ints.specs.declared.atom.Atom.TheVariants.{True, False, Of}
 use Rattle.order_ints.specs.Truth.{Valuation, atom_truth, not_atom}
+pub use Rattle.order_ints.proofs.Truths.{not_atom-not_atom, atom_truth-not_atom as truth-not_atom}
 use Rattle.equation_store.specs.Merge.{signed}
 
 pub not-not : (b : Bool) → not (not b) ≡ b
@@ -15,21 +16,7 @@ pub not-other : (b : Bool) → b ≡ not b → ⊥
 not-other true e = true≢false e
 not-other false e = false≢true e
 
-pub not_atom-not_atom : (a : Atom) → not_atom (not_atom a) ≡ a
-not_atom-not_atom True = refl
-not_atom-not_atom False = refl
-not_atom-not_atom (Of l) = ap (λ (b : Bool). Of (record { var = l.var; positive = b })) (not-not l.positive)
-
 -- an atom, or its negation, is as true as the sign says
-pub truth-not_atom : (σ : Valuation) (a : Atom) → atom_truth σ (not_atom a) ≡ not (atom_truth σ a)
-truth-not_atom σ True = refl
-truth-not_atom σ False = refl
-truth-not_atom σ (Of l) = by_sign l.positive (σ l.var)
-  where
-    by_sign : (p s : Bool) → (if not p then s else not s) ≡ not (if p then s else not s)
-    by_sign true s = refl
-    by_sign false s = sym (not-not s)
-
 pub truth-signed : (σ : Valuation) (p : Bool) (a : Atom) → atom_truth σ (signed p a) ≡ (if p then atom_truth σ a else not (atom_truth σ a))
 truth-signed σ true a = refl
 truth-signed σ false a = truth-not_atom σ a

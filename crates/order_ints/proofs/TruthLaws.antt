@@ -11,31 +11,17 @@ use Rattle.order_ints.specs.AtomClauses.{atom_clause_truth, atom_clauses_truth}
 use Rattle.order_ints.specs.Place.{LitBelow, AtomBelow, ClauseBelow, ClausesBelow, AtomsBelow, AtomClausesBelow}
 use Rattle.order_ints.specs.View.{label_of, resolve, MeetsView}
 
--- a negated literal has the negated truth
-pub lit_truth-not_lit : (σ : Valuation) (l : Lit) → lit_truth σ (not_lit l) ≡ not (lit_truth σ l)
-lit_truth-not_lit σ l = by l.positive (σ l.var)
-  where
-    by : (p v : Bool) → cond (not p) v (not v) ≡ not (cond p v (not v))
-    by true true = refl
-    by true false = refl
-    by false true = refl
-    by false false = refl
-
--- a negated atom has the negated truth
-pub atom_truth-not_atom : (σ : Valuation) (a : Atom) → atom_truth σ (not_atom a) ≡ not (atom_truth σ a)
-atom_truth-not_atom σ True = refl
-atom_truth-not_atom σ False = refl
-atom_truth-not_atom σ (Of l) = lit_truth-not_lit σ l
+-- a negation has the negated truth
+pub use Rattle.order_ints.proofs.Truths.{lit_truth-not_lit, atom_truth-not_atom}
+use Rattle.order_ints.proofs.Truths.{lit_truth-agree, atom_truth-agree}
 
 -- truth depends on the variables below n alone, where all that occur are below n
 module _ (n : ℕ) (σ τ : Valuation) (agree : Agree n σ τ) where
   pub lit_agrees : (l : Lit) → LitBelow n l → lit_truth σ l ≡ lit_truth τ l
-  lit_agrees l h = ap (λ v. cond l.positive v (not v)) (agree l.var h.1)
+  lit_agrees l h = lit_truth-agree n σ τ l agree h
 
   pub atom_agrees : (a : Atom) → AtomBelow n a → atom_truth σ a ≡ atom_truth τ a
-  atom_agrees True h = refl
-  atom_agrees False h = refl
-  atom_agrees (Of l) h = lit_agrees l h
+  atom_agrees a h = atom_truth-agree n σ τ a agree h
 
   pub clause_agrees : (c : List Lit) → ClauseBelow n c → clause_truth σ c ≡ clause_truth τ c
   clause_agrees [] h = refl

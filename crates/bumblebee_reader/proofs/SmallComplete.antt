@@ -1,13 +1,13 @@
 -- Reading the tokens of items gives the model of the items, where they have one.
-use Rattle.std.proofs.Common.{◌≡◌, ℕ, Bool, true, false, cond, List, [], ◌∷◌, ◌++◌, Option, Some, None, codes, refl, ap, sym, ◌∙◌, append_assoc}
+use Rattle.std.proofs.Common.{◌≡◌, ℕ, Bool, true, false, cond, List, [], ◌∷◌, ◌++◌, Option, Some, None, refl, ap, sym, ◌∙◌, append_assoc}
 use Rattle.std.specs.Option.{option_map, option_and_then}
 use Rattle.bumblebee_reader.specs.declared.small.model.SmallTerm.{SmallTerm}
 use Rattle.bumblebee_reader.specs.declared.small.model.SmallModel.{SmallModel}
 use Rattle.bumblebee_reader.specs.declared.small.expect.Expect.{Expect}
 use Rattle.bumblebee_reader.specs.declared.small.expect.Expect.TheVariants as at
-use Rattle.bumblebee_reader.specs.SmallTokens.{Lexeme, Word, Digits, Sign, Misfit}
-use Rattle.bumblebee_reader.specs.SmallText.{WrittenTerm, Plain, Minus, WrittenItem, Declare, AnyOf, term_lexemes, more_terms, terms_lexemes, item_lexemes, text_lexemes, can_declare, plain_term, minus_term, term_of, terms_of, model_of}
-use Rattle.bumblebee_reader.specs.SmallReading.{Progress, expecting, with_term, advance, outcome, finished}
+use Rattle.bumblebee_reader.specs.SmallTokens.{Lexeme, Sign}
+use Rattle.bumblebee_reader.specs.SmallText.{WrittenTerm, Plain, Minus, WrittenItem, Declare, AnyOf, term_lexemes, more_terms, terms_lexemes, text_lexemes, can_declare, plain_term, minus_term, term_of, terms_of, model_of}
+use Rattle.bumblebee_reader.specs.SmallReading.{Progress, with_term, outcome}
 
 -- what was read where an item may come next
 abbrev pub between_items : List (List ℕ) → List (List SmallTerm) → Progress

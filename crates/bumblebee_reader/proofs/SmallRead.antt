@@ -1,12 +1,12 @@
 -- How reading goes on token by token, and what its outcome says of the text.
-use Rattle.std.proofs.Common.{◌≡◌, ℕ, List, [], ◌∷◌, Option, Some, None, Result, Ok, Err, refl, ap, sym, ◌∙◌}
+use Rattle.std.proofs.Common.{◌≡◌, ℕ, List, [], ◌∷◌, Some, None, Result, Ok, Err, ap, sym, ◌∙◌}
 use Rattle.std.specs.Option.{option_and_then}
 use Rattle.std.specs.Prelude.{IfOk}
 use Rattle.bumblebee_reader.specs.declared.small.model.SmallModel.{SmallModel}
 use Rattle.bumblebee_reader.specs.declared.small.read.SmallFault.{SmallFault}
 use Rattle.bumblebee_reader.specs.declared.small.read.SmallFault.TheVariants.{Unsupported, Memory}
 use Rattle.bumblebee_reader.specs.SmallTokens.{Lexeme, lexemes}
-use Rattle.bumblebee_reader.specs.SmallText.{WrittenItem, text_lexemes, model_of, IsSmallText}
+use Rattle.bumblebee_reader.specs.SmallText.{IsSmallText}
 use Rattle.bumblebee_reader.specs.SmallReading.{Progress, advance, outcome, finished, start}
 use Rattle.bumblebee_reader.specs.SmallFound.{Reads, OnlyReads}
 use Rattle.bumblebee_reader.proofs.SmallComplete.{outcome-items}

@@ -9,8 +9,8 @@ use Rattle.bumblebee_reader.specs.declared.small.model.SmallModel.{SmallModel}
 use Rattle.bumblebee_reader.specs.declared.small.expect.Expect.{Expect}
 use Rattle.bumblebee_reader.specs.declared.small.expect.Expect.TheVariants as at
 use Rattle.bumblebee_reader.specs.SmallTokens.{Lexeme, Word, Digits, Sign, Misfit}
-use Rattle.bumblebee_reader.specs.SmallText.{WrittenTerm, Plain, Minus, WrittenItem, Declare, AnyOf, term_lexemes, more_terms, terms_lexemes, item_lexemes, text_lexemes, can_declare, plain_term, minus_term}
-use Rattle.bumblebee_reader.specs.SmallReading.{Progress, sign, expecting, with_term, close_list, item_start, declare_word, term, first_term, advance, outcome, finished}
+use Rattle.bumblebee_reader.specs.SmallText.{WrittenTerm, Plain, Minus, WrittenItem, Declare, AnyOf, term_lexemes, more_terms, terms_lexemes, text_lexemes, can_declare, plain_term, minus_term}
+use Rattle.bumblebee_reader.specs.SmallReading.{Progress, sign, expecting, with_term, close_list, item_start, term, outcome}
 use Rattle.bumblebee_reader.proofs.SmallComplete.{list_end}
 
 -- what is left where this may come next
@@ -246,7 +246,7 @@ claims [] = record {
   more = λ p m e. none_is_some e;
   call_close = λ p m e. none_is_some e;
   satisfy = λ p m e. none_is_some e;
-  done = λ p m e. refl
+  done = λ p m e. refl;
 }
 claims (t ∷ ts) =
     let c = claims ts in
@@ -263,7 +263,7 @@ claims (t ∷ ts) =
       more = more_step t ts c;
       call_close = λ p m e. close_step t ts c (expecting p at.CallClose) m e;
       satisfy = satisfy_step t ts c;
-      done = λ p m e. none_is_some e
+      done = λ p m e. none_is_some e;
     }
 
 -- tokens of which reading makes a model are those of items

@@ -1,9 +1,8 @@
 -- How runs and tokens go on one byte further.
-use Rattle.std.proofs.Common.{◌≡◌, ℕ, zero, suc, ◌+◌, ◌<◌, ◌≤◌, Bool, true, false, cond, ◌||◌, List, [], ◌∷◌, length, get_or, take, drop, refl, ap, sym, ◌∙◌, arith, add-one, length-drop}
+use Rattle.std.proofs.Common.{◌≡◌, ℕ, zero, suc, ◌+◌, ◌<◌, ◌≤◌, Bool, true, false, cond, ◌||◌, List, [], ◌∷◌, length, get_or, take, drop, refl, ap, sym, ◌∙◌, arith, add-one}
 use Rattle.std.proofs.lemmas.List.{at_drop_more, at_drop_all}
-use Rattle.std.specs.Prelude.{MatchOption}
 use Rattle.bumblebee_reader.specs.Bytes.{is_letter, is_digit, is_word}
-use Rattle.bumblebee_reader.specs.SmallTokens.{is_gap, is_sign, run_length, Lexeme, Word, Digits, Sign, Misfit, lexeme_at, more_of, lexemes_after, lexemes, IsAtToken}
+use Rattle.bumblebee_reader.specs.SmallTokens.{is_gap, is_sign, run_length, Word, Digits, Sign, Misfit, lexeme_at, more_of, lexemes_after, lexemes, IsAtToken}
 
 pub run_length-more : (p : ℕ → Bool) (xs : List ℕ) (i : ℕ) → i < length xs → p (get_or xs i 0) ≡ true → run_length p (drop i xs) ≡ run_length p (drop (i + 1) xs) + 1
 unfolding run_length
@@ -65,22 +64,26 @@ pub word-front : (b : ℕ) (bs : List ℕ) (n : ℕ) → is_gap b ≡ false → 
 word-front b bs n g t e =
     let s = b ∷ bs in
     let k = run_length is_word bs in
-    let m : n ≡ suc k = e ∙ run_length-front is_word b bs (is_word-letter b t) in
-    (lexemes-front b bs g
-    ∙ ap (λ c. cond c (Word (take (run_length is_word s) s)) (cond (is_digit b) (Digits (take (run_length is_digit s) s)) (cond (is_sign b) (Sign b) (Misfit b))) ∷ lexemes (drop (cond c k (cond (is_digit b) (run_length is_digit bs) 0)) bs)) t
-    ∙ ap (λ j. Word (take j s) ∷ lexemes (drop k bs)) (sym e)
-    ∙ ap (λ j. Word (take n s) ∷ lexemes (drop j s)) (sym m), omega arith)
+    let m : n ≡ suc k = e ∙ run_length-front is_word b bs (is_word-letter b t) in (
+      lexemes-front b bs g
+          ∙ ap (λ c. cond c (Word (take (run_length is_word s) s)) (cond (is_digit b) (Digits (take (run_length is_digit s) s)) (cond (is_sign b) (Sign b) (Misfit b))) ∷ lexemes (drop (cond c k (cond (is_digit b) (run_length is_digit bs) 0)) bs)) t
+          ∙ ap (λ j. Word (take j s) ∷ lexemes (drop k bs)) (sym e)
+          ∙ ap (λ j. Word (take n s) ∷ lexemes (drop j s)) (sym m),
+      omega arith,
+    )
 
 pub digits-front : (b : ℕ) (bs : List ℕ) (n : ℕ) → is_gap b ≡ false → is_letter b ≡ false → is_digit b ≡ true → n ≡ run_length is_digit (b ∷ bs) → (lexemes (b ∷ bs) ≡ Digits (take n (b ∷ bs)) ∷ lexemes (drop n (b ∷ bs))) × (0 < n)
 digits-front b bs n g f t e =
     let s = b ∷ bs in
     let k = run_length is_digit bs in
-    let m : n ≡ suc k = e ∙ run_length-front is_digit b bs t in
-    (lexemes-front b bs g
-    ∙ ap (λ c. cond c (Word (take (run_length is_word s) s)) (cond (is_digit b) (Digits (take (run_length is_digit s) s)) (cond (is_sign b) (Sign b) (Misfit b))) ∷ lexemes (drop (cond c (run_length is_word bs) (cond (is_digit b) k 0)) bs)) f
-    ∙ ap (λ c. cond c (Digits (take (run_length is_digit s) s)) (cond (is_sign b) (Sign b) (Misfit b)) ∷ lexemes (drop (cond c k 0) bs)) t
-    ∙ ap (λ j. Digits (take j s) ∷ lexemes (drop k bs)) (sym e)
-    ∙ ap (λ j. Digits (take n s) ∷ lexemes (drop j s)) (sym m), omega arith)
+    let m : n ≡ suc k = e ∙ run_length-front is_digit b bs t in (
+      lexemes-front b bs g
+          ∙ ap (λ c. cond c (Word (take (run_length is_word s) s)) (cond (is_digit b) (Digits (take (run_length is_digit s) s)) (cond (is_sign b) (Sign b) (Misfit b))) ∷ lexemes (drop (cond c (run_length is_word bs) (cond (is_digit b) k 0)) bs)) f
+          ∙ ap (λ c. cond c (Digits (take (run_length is_digit s) s)) (cond (is_sign b) (Sign b) (Misfit b)) ∷ lexemes (drop (cond c k 0) bs)) t
+          ∙ ap (λ j. Digits (take j s) ∷ lexemes (drop k bs)) (sym e)
+          ∙ ap (λ j. Digits (take n s) ∷ lexemes (drop j s)) (sym m),
+      omega arith,
+    )
 
 pub single-front : (b : ℕ) (bs : List ℕ) → is_gap b ≡ false → is_letter b ≡ false → is_digit b ≡ false → lexemes (b ∷ bs) ≡ cond (is_sign b) (Sign b) (Misfit b) ∷ lexemes bs
 single-front b bs g f d =

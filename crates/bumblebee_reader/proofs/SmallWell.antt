@@ -1,6 +1,6 @@
 -- The names of a model that a text says may be declared, each once, and its terms speak of them.
-use Rattle.std.proofs.Common.{◌≡◌, ◌≢◌, ℕ, zero, suc, ◌+◌, ◌<◌, ◌≤◌, Bool, true, false, not, ◌||◌, ◌&&◌, cond, List, [], ◌∷◌, ◌++◌, length, take, Option, Some, None, Result, Ok, Err, codes, IsTrue, refl, ap, sym, ◌∙◌, subst, arith, length-append}
-use Rattle.std.specs.Prelude.{IfOk, nat_lt, position}
+use Rattle.std.proofs.Common.{◌≡◌, ◌≢◌, ℕ, zero, suc, ◌<◌, ◌≤◌, Bool, true, false, not, ◌||◌, ◌&&◌, cond, List, [], ◌∷◌, ◌++◌, length, take, Option, Some, None, Result, Ok, Err, codes, refl, ap, sym, ◌∙◌, subst, arith, length-append}
+use Rattle.std.specs.Prelude.{IfOk, nat_lt}
 use Rattle.std.specs.List.{list_all, list_any, position_or_len}
 use Rattle.std.specs.Option.{option_map, option_and_then}
 use Rattle.std.specs.Str.{bytes_eq}
@@ -13,8 +13,8 @@ use Rattle.bumblebee_reader.specs.declared.small.read.SmallFault.{SmallFault}
 use Rattle.bumblebee_reader.specs.Bytes.{is_letter, is_digit, is_word}
 use Rattle.bumblebee_reader.specs.Names.{IsName, IsDeclarable, IsNew, AreDeclared}
 use Rattle.bumblebee_reader.specs.SmallModel.{IsPlaced, AreTermsPlaced, ArePlaced}
-use Rattle.bumblebee_reader.specs.SmallTokens.{is_gap, is_sign, run_length, Lexeme, Word, Digits, Sign, Misfit, lexeme_at, more_of, lexemes_after, lexemes}
-use Rattle.bumblebee_reader.specs.SmallText.{WrittenTerm, Plain, Minus, WrittenItem, Declare, AnyOf, term_lexemes, more_terms, terms_lexemes, item_lexemes, text_lexemes, place_of, can_declare, plain_term, minus_term, term_of, terms_of, model_of, IsSmallText}
+use Rattle.bumblebee_reader.specs.SmallTokens.{is_gap, is_sign, run_length, Lexeme, Word, Digits, Sign, Misfit, more_of, lexemes_after, lexemes}
+use Rattle.bumblebee_reader.specs.SmallText.{WrittenTerm, Plain, Minus, WrittenItem, Declare, AnyOf, item_lexemes, text_lexemes, place_of, can_declare, term_of, terms_of, model_of, IsSmallText}
 use Rattle.bumblebee_reader.specs.SmallReading.{outcome, start}
 use Rattle.bumblebee_reader.specs.SmallFound.{Reads}
 use Rattle.bumblebee_reader.proofs.SmallRead.{small_text}
@@ -61,7 +61,7 @@ lexemes-names k [] = tt
 lexemes-names (suc k) (b ∷ bs) = lexemes-names k bs
 lexemes-names zero (b ∷ bs) =
     after-gap (is_gap b) _ _ (lexemes-names 0 bs)
-        (lexeme-name _ _ b _ (is_letter b) (is_digit b) (is_sign b) (word-is_name b bs) (lexemes-names (more_of b bs) bs))
+    (lexeme-name _ _ b _ (is_letter b) (is_digit b) (is_sign b) (word-is_name b bs) (lexemes-names (more_of b bs) bs))
 
 -- the names that items declare are names
 abbrev NamesAre : List WrittenItem → Type 0
@@ -182,12 +182,12 @@ model_well : (names : List (List ℕ)) (statements : List (List SmallTerm)) (ite
 model_well names statements [] m d p n e = let P : SmallModel → Type 0 = λ x. WellMade x in subst P (some_is e) (d, p)
 model_well names statements (Declare name ∷ items) m d p n e =
     declare_case names name (model_of (names ++ name ∷ []) statements items) m (can_declare names name) refl
-        (λ c f. let h = declarable names name n.0 c in
-            model_well (names ++ name ∷ []) statements items m (declared_push names name d h.0 h.1)
-                (all_placed-more (length names) (length (names ++ name ∷ [])) (omega (arith, length-append names (name ∷ []))) statements p) n.1 f) e
+    (λ c f. let h = declarable names name n.0 c in
+    model_well (names ++ name ∷ []) statements items m (declared_push names name d h.0 h.1)
+    (all_placed-more (length names) (length (names ++ name ∷ [])) (omega (arith, length-append names (name ∷ []))) statements p) n.1 f) e
 model_well names statements (AnyOf ts ∷ items) m d p n e =
     any_case names statements ts items m (terms_of names [] ts) refl
-        (λ s q f. model_well names (statements ++ s ∷ []) items m d (all_placed-push (length names) statements s p q) n f) e
+    (λ s q f. model_well names (statements ++ s ∷ []) items m d (all_placed-push (length names) statements s p q) n f) e
 
 -- what a text says is made well
 pub small_well : (bytes : List ℕ) (m : SmallModel) → IsSmallText bytes m → AreDeclared m.names × ArePlaced (length m.names) m.statements

@@ -1,5 +1,5 @@
 -- Names: a letter or `_`, then letters, digits and `_`. A declared name is none of the two constants.
-use Rattle.std.specs.Prelude.{◌≢◌, ℕ, ◌&&◌, Bool, List, [], ◌∷◌, codes, IsTrue}
+use Rattle.std.specs.Prelude.{◌≢◌, ℕ, ◌&&◌, List, [], ◌∷◌, codes, IsTrue}
 use Rattle.std.specs.List.{list_all}
 use Rattle.bumblebee_reader.specs.Bytes.{is_letter, is_word}
 

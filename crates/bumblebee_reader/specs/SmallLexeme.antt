@@ -1,5 +1,4 @@
 -- The tokens of the code, seen as tokens of the definitions.
-use Rattle.std.specs.Prelude.{ℕ}
 use Rattle.bumblebee_reader.specs.declared.small.tokens.Token.{Token}
 use Rattle.bumblebee_reader.specs.declared.small.tokens.Token.TheVariants as tokens
 use Rattle.bumblebee_reader.specs.SmallTokens as told

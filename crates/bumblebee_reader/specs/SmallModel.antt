@@ -1,6 +1,6 @@
 -- What a model of the small language means: assignments of 0 or 1 to its declared Booleans, and when a
 -- statement holds under one.
-use Rattle.std.specs.Prelude.{◌≡◌, ℕ, ◌<◌, Bool, true, false, not, ◌||◌, List, [], ◌∷◌, length, ℤ, pos, negsuc, ◌==◌, IsTrue, ◌⊎◌, slice_index_or, if◌then◌else◌}
+use Rattle.std.specs.Prelude.{◌≡◌, ℕ, ◌<◌, Bool, false, not, ◌||◌, List, [], ◌∷◌, length, ℤ, pos, negsuc, ◌==◌, IsTrue, ◌⊎◌, slice_index_or, if◌then◌else◌}
 use Rattle.bumblebee_reader.specs.declared.small.model.SmallTerm.{SmallTerm}
 use Rattle.bumblebee_reader.specs.declared.small.model.SmallTerm.TheVariants.{Const, Of}
 use Rattle.bumblebee_reader.specs.declared.small.model.SmallModel.{SmallModel}

@@ -1,7 +1,7 @@
 -- The texts of the small language: any number of items, `new_bool(X)` and `bool_array_or([..])`, and then
 -- `solve satisfy`. A declared name is neither `true` nor `false` and stands in no earlier declaration. A
 -- term is `true`, `false`, a name of an earlier declaration, or `-` and such a name.
-use Rattle.std.specs.Prelude.{◌≡◌, ℕ, Bool, true, false, not, ◌&&◌, ◌||◌, List, [], ◌∷◌, ◌++◌, Option, Some, None, codes, position, if◌then◌else◌}
+use Rattle.std.specs.Prelude.{◌≡◌, ℕ, Bool, true, false, not, ◌||◌, List, [], ◌∷◌, ◌++◌, Option, Some, None, codes, position, if◌then◌else◌}
 use Rattle.std.specs.List.{list_any}
 use Rattle.std.specs.Option.{option_map, option_and_then}
 use Rattle.std.specs.Str.{bytes_eq}

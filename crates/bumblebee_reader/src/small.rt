@@ -5,7 +5,6 @@ mod model;
 mod read;
 mod reading;
 mod refusal;
-
 mod tokens;
 
 pub use model::{SmallModel, SmallTerm};

@@ -1,8 +1,7 @@
 -- Tests on signed numbers, and cases on them.
-use Rattle.std.proofs.Common.{◌≡◌, Bool, true, false, cond, not, ℤ, pos, neg_ℤ, ◌+ℤ◌, ◌≤ℤ◌, ◌<ℤ◌, refl, arith}
+use Rattle.std.proofs.Common.{◌≡◌, true, false, cond, ℤ, ◌≤ℤ◌, ◌<ℤ◌, refl, arith}
 use Rattle.std.specs.Prelude.{int_le}
 use Rattle.std.proofs.lemmas.Int.{ints}
-use Rattle.std.proofs.lemmas.Bool.{true≢false, false≢true}
 
 pub int_le-true : (v w : ℤ) → v ≤ℤ w → int_le v w ≡ true
 int_le-true v w h = grind (arith, ints)

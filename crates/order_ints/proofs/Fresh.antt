@@ -1,18 +1,18 @@
 -- Integers over fresh variables: their values, their conditions, and that each value is taken.
-use Rattle.std.proofs.Common.{◌≡◌, ℕ, zero, suc, ◌+◌, ◌-◌, ◌<◌, ◌≤◌, ◌^◌, Bool, true, false, not, ◌&&◌, cond, ltb, List, [], ◌∷◌, ◌++◌, map, length, get_or, take, drop, Contains, ℤ, pos, ◌+ℤ◌, ◌-ℤ◌, ◌≤ℤ◌, ◌<ℤ◌, refl, sym, ap, subst, ◌∙◌, arith}
-use Rattle.std.specs.Prelude.{IsTrue, unsigned_abs}
+use Rattle.std.proofs.Common.{◌≡◌, ℕ, zero, suc, ◌+◌, ◌-◌, ◌<◌, ◌≤◌, ◌^◌, true, false, cond, ltb, List, [], ◌∷◌, ◌++◌, map, length, get_or, take, drop, Contains, ℤ, pos, ◌+ℤ◌, ◌-ℤ◌, ◌<ℤ◌, refl, sym, ap, subst, ◌∙◌, arith}
+use Rattle.std.specs.Prelude.{unsigned_abs}
 use Rattle.std.proofs.lemmas.Int.{ints}
 use Rattle.std.proofs.lemmas.Bool.{lt-ltb, le-ltb}
 use Rattle.std.proofs.lemmas.List.{append_assoc, take_all}
 use Rattle.order_ints.specs.declared.literal.Lit.{Lit}
 use Rattle.order_ints.specs.declared.atom.Atom.{Atom}
-use Rattle.order_ints.specs.declared.atom.Atom.TheVariants.{True, False, Of}
+use Rattle.order_ints.specs.declared.atom.Atom.TheVariants.{True, Of}
 use Rattle.order_ints.specs.declared.order_int.OrdInt.{OrdInt}
 use Rattle.order_ints.specs.Truth.{Valuation, Agree, atom_truth}
 use Rattle.order_ints.specs.Place.{AtomBelow, StepsBelow}
 use Rattle.order_ints.specs.OrderValue.{gains, value_of, none_true, in_order, IsOrdered}
-use Rattle.order_ints.specs.OrderRange.{weights, high_of, AreRising, IntBelow, IsBounded}
-use Rattle.order_ints.specs.OrderLevels.{levels, levels_of, values_of}
+use Rattle.order_ints.specs.OrderRange.{weights, AreRising, IntBelow, IsBounded}
+use Rattle.order_ints.specs.OrderLevels.{levels, values_of}
 use Rattle.order_ints.proofs.Gains.{gains-none_true}
 use Rattle.order_ints.specs.OrderMade.{atom_of_var, vars_from, unit_steps, unit_range_of, values_from, steps_between, integer_of_values, AscendFrom, AreAscending, AreSmall, AreVars}
 

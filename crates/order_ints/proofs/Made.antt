@@ -1,5 +1,5 @@
 -- An integer is known by its base and its steps.
-use Rattle.std.proofs.Common.{◌≡◌, ℕ, List, ℤ, refl, sym, ap, subst, ◌∙◌}
+use Rattle.std.proofs.Common.{◌≡◌, ℕ, List, ℤ, ap, ◌∙◌}
 use Rattle.order_ints.specs.declared.atom.Atom.{Atom}
 use Rattle.order_ints.specs.declared.order_int.OrdInt.{OrdInt}
 

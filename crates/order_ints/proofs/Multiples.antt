@@ -1,18 +1,18 @@
 -- Shifts and multiples of an integer: value, order, conditions, and at which atom a shift reaches a value.
-use Rattle.std.proofs.Common.{◌≡◌, ℕ, zero, suc, ◌+◌, ◌-◌, ◌*◌, ◌<◌, ◌≤◌, ◌^◌, Bool, true, false, not, cond, length, get_or, take, drop, List, [], ◌∷◌, ◌++◌, map, ℤ, pos, negsuc, neg_ℤ, ◌+ℤ◌, ◌-ℤ◌, ◌*ℤ◌, ◌≤ℤ◌, ◌<ℤ◌, refl, sym, ap, subst, ◌∙◌, arith}
-use Rattle.std.specs.Prelude.{int_le, IsTrue, unsigned_abs, reverse}
-use Rattle.std.proofs.Math.IntN.{suc_ℤ-*ℤ, zero-*ℤ, *ℤ-zero, *ℤ_comm, *ℤ-negsuc, neg_ℤ-+ℤ}
+use Rattle.std.proofs.Common.{◌≡◌, ℕ, zero, suc, ◌+◌, ◌-◌, ◌*◌, ◌<◌, ◌≤◌, ◌^◌, Bool, true, false, cond, length, get_or, take, drop, List, [], ◌∷◌, ◌++◌, map, ℤ, pos, negsuc, neg_ℤ, ◌+ℤ◌, ◌-ℤ◌, ◌*ℤ◌, ◌≤ℤ◌, ◌<ℤ◌, refl, sym, ap, subst, ◌∙◌, arith}
+use Rattle.std.specs.Prelude.{int_le, unsigned_abs, reverse}
+use Rattle.std.proofs.Math.IntN.{suc_ℤ-*ℤ, zero-*ℤ, *ℤ_comm, *ℤ-negsuc, neg_ℤ-+ℤ}
 use Rattle.std.proofs.Math.Nat.{mul-le-mul_left}
 use Rattle.std.proofs.lemmas.Int.{ints, unsigned_abs-mul}
 use Rattle.std.proofs.lemmas.List.{length-map, length-take, get_or-append_right, get_or-drop}
 use Rattle.order_ints.specs.declared.atom.Atom.{Atom}
-use Rattle.order_ints.specs.declared.atom.Atom.TheVariants.{True, False, Of}
+use Rattle.order_ints.specs.declared.atom.Atom.TheVariants.{True, False}
 use Rattle.order_ints.specs.declared.order_int.OrdInt.{OrdInt}
-use Rattle.order_ints.specs.Truth.{Valuation, atom_truth, not_atom}
-use Rattle.order_ints.specs.Place.{AtomBelow, StepsBelow}
+use Rattle.order_ints.specs.Truth.{Valuation, atom_truth}
+use Rattle.order_ints.specs.Place.{StepsBelow}
 use Rattle.order_ints.specs.OrderValue.{gains, value_of, none_true, in_order, IsOrdered}
 use Rattle.order_ints.specs.OrderRange.{weights, low_of, high_of, AreRising, IntBelow, IsBounded}
-use Rattle.order_ints.specs.OrderLevels.{levels, levels_of, first_reaching, at_of}
+use Rattle.order_ints.specs.OrderLevels.{levels, first_reaching, at_of}
 use Rattle.order_ints.specs.OrderChange.{negated_step, negated_of, shifted_of, multiplied_steps, multiplied_of, scaled_of}
 use Rattle.order_ints.proofs.Comparisons.{int_le-true, int_le-false, by_int_le}
 use Rattle.order_ints.proofs.Negation.{value_of-negated_of, in_order-negated, AreRising-negated, StepsBelow-negated, high_of-negated_of}

@@ -1,21 +1,21 @@
 -- The negation of an integer: its value, its order, its conditions, and at which atom it reaches a value.
-use Rattle.std.proofs.Common.{◌≡◌, ℕ, ◌+◌, ◌<◌, ◌≤◌, ◌^◌, Bool, true, false, not, ◌&&◌, cond, List, [], ◌∷◌, ◌++◌, map, ℤ, pos, neg_ℤ, ◌+ℤ◌, ◌-ℤ◌, ◌≤ℤ◌, ◌<ℤ◌, refl, sym, ap, subst, ◌∙◌, arith}
-use Rattle.std.specs.Prelude.{int_le, IsTrue, reverse, unsigned_abs}
+use Rattle.std.proofs.Common.{◌≡◌, ℕ, ◌+◌, Bool, true, false, not, ◌&&◌, cond, List, [], ◌∷◌, ◌++◌, map, ℤ, pos, neg_ℤ, ◌+ℤ◌, ◌-ℤ◌, ◌≤ℤ◌, ◌<ℤ◌, refl, sym, ap, ◌∙◌, arith}
+use Rattle.std.specs.Prelude.{int_le, reverse}
 use Rattle.std.proofs.lemmas.Int.{ints}
 use Rattle.std.proofs.lemmas.List.{reverse-append, map-append}
 use mathlib.Core.Bool.{and_comm}
 use Rattle.order_ints.specs.declared.atom.Atom.{Atom}
-use Rattle.order_ints.specs.declared.atom.Atom.TheVariants.{True, False, Of}
+use Rattle.order_ints.specs.declared.atom.Atom.TheVariants.{True, False}
 use Rattle.order_ints.specs.declared.order_int.OrdInt.{OrdInt}
 use Rattle.order_ints.specs.Truth.{Valuation, atom_truth, not_atom}
-use Rattle.order_ints.specs.Place.{AtomBelow, StepsBelow}
-use Rattle.order_ints.specs.OrderValue.{gains, value_of, none_true, in_order, IsOrdered}
-use Rattle.order_ints.specs.OrderRange.{weights, low_of, high_of, AreRising, IntBelow, IsBounded}
-use Rattle.order_ints.specs.OrderLevels.{levels, levels_of, first_reaching, at_of}
-use Rattle.order_ints.specs.OrderChange.{negated_step, negated_of, shifted_of}
+use Rattle.order_ints.specs.Place.{StepsBelow}
+use Rattle.order_ints.specs.OrderValue.{gains, value_of, none_true, in_order}
+use Rattle.order_ints.specs.OrderRange.{weights, low_of, high_of, AreRising, IsBounded}
+use Rattle.order_ints.specs.OrderLevels.{levels, first_reaching, at_of}
+use Rattle.order_ints.specs.OrderChange.{negated_step, negated_of}
 use Rattle.order_ints.proofs.Comparisons.{int_le-true, int_le-false, by_int_le}
 use Rattle.order_ints.proofs.Truths.{atom_truth-not_atom, AtomBelow-not_atom}
-use Rattle.order_ints.proofs.Gains.{gains-le, gains-append, weights-append}
+use Rattle.order_ints.proofs.Gains.{gains-append, weights-append}
 use Rattle.order_ints.proofs.Reaching.{reaching-low, reaching-above}
 
 pub negated-cons : (s : Atom × ℕ) (steps : List (Atom × ℕ)) → map negated_step (reverse (s ∷ steps)) ≡ map negated_step (reverse steps) ++ negated_step s ∷ []

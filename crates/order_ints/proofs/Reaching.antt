@@ -1,9 +1,9 @@
 -- At which atom a value is reached.
-use Rattle.std.proofs.Common.{◌≡◌, ℕ, ◌+◌, ◌<◌, ◌≤◌, suc, Bool, true, false, not, ◌&&◌, cond, List, [], ◌∷◌, ◌++◌, map, Contains, ℤ, pos, ◌+ℤ◌, ◌-ℤ◌, ◌≤ℤ◌, ◌<ℤ◌, refl, sym, ap, subst, ◌∙◌, ◌↔◌, arith}
+use Rattle.std.proofs.Common.{◌≡◌, ℕ, ◌+◌, suc, true, false, not, ◌&&◌, cond, List, [], ◌∷◌, ◌++◌, map, Contains, ℤ, pos, ◌+ℤ◌, ◌≤ℤ◌, ◌<ℤ◌, refl, sym, ap, subst, ◌∙◌, ◌↔◌, arith}
 use Rattle.std.specs.Prelude.{int_le, IsTrue}
 use Rattle.std.proofs.lemmas.Int.{ints}
 use Rattle.order_ints.specs.declared.atom.Atom.{Atom}
-use Rattle.order_ints.specs.declared.atom.Atom.TheVariants.{True, False, Of}
+use Rattle.order_ints.specs.declared.atom.Atom.TheVariants.{True, False}
 use Rattle.order_ints.specs.declared.order_int.OrdInt.{OrdInt}
 use Rattle.order_ints.specs.Truth.{Valuation, atom_truth}
 use Rattle.order_ints.specs.Place.{AtomBelow, StepsBelow}
@@ -11,7 +11,7 @@ use Rattle.order_ints.specs.OrderValue.{gains, value_of, none_true, in_order, Is
 use Rattle.order_ints.specs.OrderRange.{weights, low_of, high_of, AreRising, IntBelow}
 use Rattle.order_ints.specs.OrderLevels.{levels, levels_of, values_of, first_reaching, at_of}
 use Rattle.order_ints.proofs.Comparisons.{int_le-true, int_le-false, by_int_le, le_from_test}
-use Rattle.order_ints.proofs.Gains.{gains-none_true, gains-le}
+use Rattle.order_ints.proofs.Gains.{gains-none_true}
 
 -- from a false atom on, with no true step, no level is true
 reaching-none_true : (σ : Valuation) (v low : ℤ) (x : Atom) (steps : List (Atom × ℕ)) → atom_truth σ x ≡ false → none_true σ steps ≡ true → atom_truth σ (first_reaching v (levels low x steps)) ≡ false

@@ -1,5 +1,5 @@
 -- The laws of constraints that stand for a property.
-use Rattle.std.proofs.Common.{◌≡◌, ℕ, ◌≤◌, ◌<◌, List, ◌++◌, refl, sym, ◌∙◌, ◌↔◌, arith}
+use Rattle.std.proofs.Common.{ℕ, ◌≤◌, List, ◌++◌, refl, sym, ◌∙◌, ◌↔◌, arith}
 use Rattle.order_ints.specs.Truth.{Valuation, Agree}
 use Rattle.order_ints.specs.Represents.{DependsBelow, Represents}
 

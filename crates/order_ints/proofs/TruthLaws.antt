@@ -5,12 +5,11 @@ use Rattle.std.proofs.lemmas.List.{get_or_past}
 use Rattle.order_ints.specs.declared.literal.Lit.{Lit}
 use Rattle.order_ints.specs.declared.atom.Atom.{Atom}
 use Rattle.order_ints.specs.declared.atom.Atom.TheVariants.{True, False, Of}
-use Rattle.order_ints.specs.Truth.{Valuation, Agree, lit_truth, atom_truth, not_lit, not_atom}
+use Rattle.order_ints.specs.Truth.{Valuation, Agree, lit_truth, atom_truth, not_atom}
 use Rattle.order_ints.specs.Satisfies.{clause_truth, clauses_truth}
 use Rattle.order_ints.specs.AtomClauses.{atom_clause_truth, atom_clauses_truth}
 use Rattle.order_ints.specs.Place.{LitBelow, AtomBelow, ClauseBelow, ClausesBelow, AtomsBelow, AtomClausesBelow}
 use Rattle.order_ints.specs.View.{label_of, resolve, MeetsView}
-
 -- a negation has the negated truth
 pub use Rattle.order_ints.proofs.Truths.{lit_truth-not_lit, atom_truth-not_atom}
 use Rattle.order_ints.proofs.Truths.{lit_truth-agree, atom_truth-agree}

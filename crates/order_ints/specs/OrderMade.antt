@@ -1,6 +1,5 @@
 -- The integers that are made of a value, of an atom, and of values with fresh variables.
-use Rattle.std.specs.Prelude.{◌≡◌, ℕ, zero, suc, ◌+◌, ◌^◌, ◌<◌, ◌≤◌, true, ℤ, pos, ◌-ℤ◌, ◌+ℤ◌, ◌<ℤ◌, unsigned_abs, List, [], ◌∷◌}
-use Rattle.order_ints.specs.declared.literal.Lit.{Lit}
+use Rattle.std.specs.Prelude.{ℕ, zero, suc, ◌+◌, ◌^◌, ◌<◌, ◌≤◌, true, ℤ, pos, ◌-ℤ◌, ◌+ℤ◌, ◌<ℤ◌, unsigned_abs, List, [], ◌∷◌}
 use Rattle.order_ints.specs.declared.atom.Atom.{Atom}
 use Rattle.order_ints.specs.declared.atom.Atom.TheVariants.{Of}
 use Rattle.order_ints.specs.declared.order_int.OrdInt.{OrdInt}

@@ -35,10 +35,10 @@ impl Model for Reading {
     ghost Value = { Progress };
 
     ghost view = { λ r. record {
-        names = map (λ v. v.items) r.names.keys;
-        statements = r.statements.items;
-        terms = r.terms.items;
-        expect = r.expect;
+      names = map (λ v. v.items) r.names.keys;
+      statements = r.statements.items;
+      terms = r.terms.items;
+      expect = r.expect;
     } };
 
     ghost invariant = { λ r. length r.names.keys < 2 ^ 32 };

@@ -1,6 +1,4 @@
-use Rattle.std.proofs.Common.{◌≡◌, sym, ◌∙◌}
-use Rattle.bumblebee_reader.specs.SmallTokens.{lexemes}
-use Rattle.bumblebee_reader.specs.SmallReading.{outcome}
+use Rattle.std.proofs.Common.{sym, ◌∙◌}
 use Rattle.bumblebee_reader.proofs.SmallRead.{outcome-told, outcome-misfit, outcome-end}
 use Rattle.bumblebee_reader.proofs.small.read.read_tokens.Goals as goal
 

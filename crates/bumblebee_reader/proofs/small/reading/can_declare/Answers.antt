@@ -1,4 +1,4 @@
-use Rattle.std.proofs.Common.{◌≡◌, Bool, true, false, not, ◌||◌, codes, ap, sym, ◌∙◌}
+use Rattle.std.proofs.Common.{◌≡◌, Bool, false, not, ◌||◌, codes, ap, sym, ◌∙◌}
 use Rattle.std.specs.Str.{bytes_eq}
 use Rattle.bumblebee_reader.proofs.SmallNames.{list_any-map}
 use Rattle.bumblebee_reader.proofs.small.reading.can_declare.Goals as goal

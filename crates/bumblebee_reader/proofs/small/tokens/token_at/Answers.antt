@@ -1,4 +1,4 @@
-use Rattle.std.proofs.Common.{◌≡◌, ℕ, ◌<◌, false, List, [], ◌∷◌, eqb, sym, ◌∙◌, length, get_or, arith}
+use Rattle.std.proofs.Common.{◌≡◌, ℕ, ◌<◌, false, List, [], ◌∷◌, eqb, sym, ◌∙◌, length, arith}
 use Rattle.std.proofs.lemmas.Bool.{eqb-true}
 use Rattle.bumblebee_reader.proofs.SmallTokenLaws.{word-at, digits-at, none-at}
 use Rattle.bumblebee_reader.proofs.small.tokens.token_at.Goals as goal

@@ -1,4 +1,4 @@
-use Rattle.std.proofs.Common.{◌≡◌, ℤ, ℕ, pos, get_or, length, take, drop, ◌-◌, sym, ap, subst, ◌∙◌, to_z, of_z, FitsSigned, map, rules, arith}
+use Rattle.std.proofs.Common.{◌≡◌, ℤ, ℕ, pos, get_or, length, take, drop, ◌-◌, sym, ap, subst, ◌∙◌, to_z, of_z, FitsSigned, map, rules}
 use mir.Syntax.{w128}
 use Rattle.std.proofs.lemmas.Int.{to_z-of_z}
 use Rattle.order_ints.proofs.Made.{int_is}

@@ -1,12 +1,12 @@
 use Rattle.order_ints.specs.OrderRange.{IntBelow}
 use Rattle.order_ints.proofs.Negation.{StepsBelow-negated}
-use Rattle.std.proofs.Common.{◌≡◌, ℤ, sym, ap, subst, ◌∙◌, arith, to_z, of_z, ◌+ℤ◌}
+use Rattle.std.proofs.Common.{◌≡◌, sym, ap, subst, ◌∙◌, arith, to_z, of_z}
 use mir.Syntax.{w128}
 use Rattle.std.proofs.lemmas.Int.{ints}
 use Rattle.order_ints.specs.declared.order_int.OrdInt.{OrdInt}
 use Rattle.order_ints.specs.OrderValue.{value_of, IsOrdered}
-use Rattle.order_ints.specs.OrderRange.{IsBounded, AreRising, high_of}
-use Rattle.order_ints.specs.OrderChange.{negated_of, shifted_of, scaled_of, negated_step}
+use Rattle.order_ints.specs.OrderRange.{IsBounded, AreRising}
+use Rattle.order_ints.specs.OrderChange.{negated_of, negated_step}
 use Rattle.order_ints.proofs.Made.{int_is}
 use Rattle.std.proofs.Common.{map}
 use Rattle.std.specs.Prelude.{reverse}

@@ -1,12 +1,12 @@
 use Rattle.order_ints.specs.OrderRange.{IntBelow}
 use Rattle.order_ints.proofs.Multiples.{IntBelow-scaled_of}
-use Rattle.std.proofs.Common.{◌≡◌, ℤ, sym, ap, subst, ◌∙◌, rules, to_z, of_z, ◌+ℤ◌}
+use Rattle.std.proofs.Common.{◌≡◌, ℤ, sym, ap, subst, ◌∙◌, rules, to_z, of_z}
 use mir.Syntax.{w128}
 use Rattle.std.proofs.lemmas.Int.{to_z-of_z}
 use Rattle.order_ints.specs.declared.order_int.OrdInt.{OrdInt}
 use Rattle.order_ints.specs.OrderValue.{value_of, IsOrdered}
-use Rattle.order_ints.specs.OrderRange.{IsBounded, AreRising, high_of}
-use Rattle.order_ints.specs.OrderChange.{negated_of, shifted_of, scaled_of, negated_step}
+use Rattle.order_ints.specs.OrderRange.{IsBounded, AreRising}
+use Rattle.order_ints.specs.OrderChange.{scaled_of}
 use Rattle.order_ints.proofs.Made.{int_is}
 use Rattle.order_ints.proofs.Multiples.{value_of-scaled_of, IsOrdered-scaled_of, AreRising-scaled_of}
 use Rattle.order_ints.proofs.order_int.OrdInt.scaled.Goals as goal

@@ -1,4 +1,4 @@
-use Rattle.std.proofs.Common.{◌≡◌, ap, ◌∙◌, map, arith, pos, ◌<ℤ◌}
+use Rattle.std.proofs.Common.{ap, ◌∙◌, map, arith, pos, ◌<ℤ◌}
 use Rattle.std.specs.Prelude.{reverse, unsigned_abs}
 use Rattle.std.proofs.lemmas.Int.{ints, to_z-of_z}
 use mir.Syntax.{w128}

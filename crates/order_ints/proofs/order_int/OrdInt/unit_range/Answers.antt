@@ -1,12 +1,11 @@
-use Rattle.std.proofs.Common.{◌≡◌, ℤ, ℕ, ◌+◌, ◌^◌, ◌<◌, sym, ap, subst, ◌∙◌, to_z, of_z, ◌+ℤ◌, pos, map, refl}
+use Rattle.std.proofs.Common.{◌≡◌, ℕ, sym, ap, subst, ◌∙◌, to_z, of_z, map}
 use mir.Syntax.{w128}
 use Rattle.std.proofs.lemmas.Int.{to_z-of_z}
-use Rattle.std.specs.Prelude.{unsigned_abs}
 use Rattle.order_ints.specs.declared.atom.Atom.{Atom}
 use Rattle.order_ints.specs.declared.order_int.OrdInt.{OrdInt}
 use Rattle.order_ints.specs.OrderRange.{IsBounded, AreRising, IntBelow}
 use Rattle.order_ints.specs.OrderLevels.{values_of}
-use Rattle.order_ints.specs.OrderMade.{unit_range_of, unit_steps, vars_from, values_from}
+use Rattle.order_ints.specs.OrderMade.{unit_range_of, unit_steps}
 use Rattle.order_ints.proofs.Made.{int_is}
 use Rattle.order_ints.proofs.Fresh.{values_of-unit_range_of, atoms-unit_steps, AreRising-unit_steps, IsBounded-unit_range_of, StepsBelow-vars}
 use Rattle.order_ints.proofs.order_int.OrdInt.unit_range.Goals as goal

@@ -1,7 +1,6 @@
 use Rattle.std.proofs.Common.{ap}
 use Rattle.order_ints.proofs.Fresh.{atom_is, unit_steps-turn}
 use Rattle.order_ints.specs.declared.atom.Atom.{Atom}
-use Rattle.std.proofs.Common.{ℕ}
 use Rattle.order_ints.proofs.order_int.make.steps_of_ones.Goals as goal
 
 pub loop-k-preserved : goal.loop-k-preserved

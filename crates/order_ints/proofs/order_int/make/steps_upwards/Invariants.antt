@@ -1,4 +1,4 @@
-use Rattle.std.proofs.Common.{◌≡◌, ◌+◌, ◌-◌, ◌++◌, ◌<◌, ◌^◌, drop, length}
+use Rattle.std.proofs.Common.{◌≡◌, ◌++◌, ◌<◌, ◌^◌, drop, length}
 use Rattle.std.specs.Prelude.{unsigned_abs}
 use Rattle.order_ints.specs.OrderMade.{steps_between, AscendFrom, AreSmall, AreVars}
 use Rattle.order_ints.proofs.order_int.make.steps_upwards.Given as goal

@@ -4,9 +4,8 @@
 
 use bee_cli::{Status, code, run};
 use bee_outside::{HostShelf, HostSink};
-use std::env;
-use std::io;
 use std::process::ExitCode;
+use std::{env, io};
 
 /// The status where the words of the command line can't be had: one that is no text is no word of the
 /// command.

@@ -1,11 +1,9 @@
 -- What each end of a run says decides the rest of its promise.
-use Rattle.std.proofs.Common.{◌≡◌, ℕ, ◌+◌, ◌<◌, ◌≤◌, List, [], ◌++◌, length, Option, Some, None, refl, ap, sym, ◌∙◌, subst, arith, inl, inr, length-append}
+use Rattle.std.proofs.Common.{◌≡◌, ℕ, ◌+◌, ◌<◌, ◌≤◌, List, ◌++◌, length, Option, Some, None, refl, ap, sym, ◌∙◌, subst, arith, inl, inr, length-append}
 use Rattle.std.proofs.lemmas.List.{append-nil}
-use Rattle.std.specs.Prelude.{◌⊎◌, IfSome}
-use Rattle.bee_outside.specs.Faults.{Rose}
-use Rattle.bee_outside.specs.Bytes.{in_front, NothingLeft, TookPiece}
+use Rattle.bee_outside.specs.Bytes.{in_front, TookPiece}
 use Rattle.bee_cli.specs.Compiled.{Compiles, IsOfLanguage}
-use Rattle.bee_cli.specs.CompileMode.{longest_text, ReadWhole, Seen, IsSilent, IsHeadline, WroteWhole, WroteFront, IsForeign, IsTooLong, Says, NoFault, Answers, CompileMode}
+use Rattle.bee_cli.specs.CompileMode.{longest_text, ReadWhole, Seen, IsSilent, IsHeadline, Says, Answers, CompileMode}
 use Rattle.bee_cli.proofs.Headline.{headline}
 use Rattle.bee_cli.specs.declared.status.Status.{Status}
 use Rattle.bee_cli.specs.declared.status.Status.TheVariants.{Done, Usage, Model, Read, Write, Memory}
@@ -35,33 +33,33 @@ answers : (status : Status) (seen : Seen) → Says status seen → Answers statu
 answers Done seen s = record {
   too_long = λ text e h f. absurd (let q = same_length _ _ (told_whole text s.text _ _ e s.read) in let w = s.headline.within in omega arith);
   foreign = λ text e h n f. absurd (let P : List ℕ → Type 0 = λ l. IsOfLanguage l in n (subst P (told_whole text s.text _ _ e s.read) (s.headline.compiled.model, s.headline.compiled.says)));
-  complete = λ text e h n f. inl refl
+  complete = λ text e h n f. inl refl;
 }
 answers Usage seen s = absurd s
 answers (Model TooLong) seen s = record {
   too_long = λ text e h f. inl refl;
   foreign = λ text e h n f. absurd (let q = told_front text s.text _ _ e s.moved in let w = s.long in omega arith);
-  complete = λ text e h n f. absurd (let q = told_front text s.text _ _ e s.moved in let w = s.long in omega arith)
+  complete = λ text e h n f. absurd (let q = told_front text s.text _ _ e s.moved in let w = s.long in omega arith);
 }
 answers (Model (Unsupported line)) seen s = record {
   too_long = λ text e h f. absurd (let q = same_length _ _ (told_whole text s.text _ _ e s.read) in let w = s.within in omega arith);
   foreign = λ text e h n f. inl (line, refl);
-  complete = λ text e h n f. absurd (let P : List ℕ → Type 0 = λ l. IsOfLanguage l in s.foreign (subst P (sym (told_whole text s.text _ _ e s.read)) n))
+  complete = λ text e h n f. absurd (let P : List ℕ → Type 0 = λ l. IsOfLanguage l in s.foreign (subst P (sym (told_whole text s.text _ _ e s.read)) n));
 }
 answers Read seen s = record {
   too_long = λ text e h f. absurd (f.0 s);
   foreign = λ text e h n f. absurd (f.0 s);
-  complete = λ text e h n f. absurd (f.0 s)
+  complete = λ text e h n f. absurd (f.0 s);
 }
 answers Write seen s = record {
   too_long = λ text e h f. absurd (f.1 s.1);
   foreign = λ text e h n f. absurd (f.1 s.1);
-  complete = λ text e h n f. absurd (f.1 s.1)
+  complete = λ text e h n f. absurd (f.1 s.1);
 }
 answers Memory seen s = record {
   too_long = λ text e h f. inr refl;
   foreign = λ text e h n f. inr refl;
-  complete = λ text e h n f. inr refl
+  complete = λ text e h n f. inr refl;
 }
 
 pub mode : (status : Status) (seen : Seen) → Says status seen → (IsSilent status → seen.taken_after ≡ seen.taken_before) → TookPiece seen.left_before seen.left_after (Some (longest_text + 1)) → CompileMode status seen

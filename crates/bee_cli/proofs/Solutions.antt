@@ -1,6 +1,6 @@
 -- The assignments that the clauses of a model stand for are its solutions.
-use Rattle.std.proofs.Common.{◌≡◌, ℕ, zero, suc, ◌+◌, ◌-◌, ◌<◌, ◌≤◌, ◌^◌, Bool, true, false, not, ◌||◌, ◌&&◌, cond, List, [], ◌∷◌, ◌++◌, map, length, slice_index_or, refl, ap, sym, ◌∙◌, subst, arith, inl, inr, ℤ, pos}
-use Rattle.std.specs.Prelude.{IsTrue, ◌↔◌, ◌⊎◌}
+use Rattle.std.proofs.Common.{◌≡◌, ℕ, zero, suc, ◌+◌, ◌-◌, ◌<◌, ◌^◌, Bool, true, false, not, ◌||◌, ◌&&◌, cond, List, [], ◌∷◌, map, length, slice_index_or, refl, ap, sym, ◌∙◌, subst, arith, inl, inr, ℤ, pos}
+use Rattle.std.specs.Prelude.{◌⊎◌}
 use Rattle.order_ints.specs.Truth.{Valuation, atom_truth}
 use Rattle.order_ints.specs.Satisfies.{Satisfies, clauses_truth}
 use Rattle.order_ints.specs.AtomClauses.{atom_clause_truth, atom_clauses_truth}
@@ -11,11 +11,11 @@ use Rattle.bumblebee_reader.specs.declared.small.model.SmallTerm.{SmallTerm}
 use Rattle.bumblebee_reader.specs.declared.small.model.SmallTerm.TheVariants.{Const, Of}
 use Rattle.bumblebee_reader.specs.declared.small.model.SmallModel.{SmallModel}
 use Rattle.bumblebee_reader.specs.Names.{AreDeclared}
-use Rattle.bumblebee_reader.specs.SmallModel.{Assignment, AreTruthValues, InDomains, is_one, term_is_true, statement_holds, AllHold, IsSolution, IsPlaced, AreTermsPlaced, ArePlaced}
+use Rattle.bumblebee_reader.specs.SmallModel.{Assignment, AreTruthValues, is_one, term_is_true, statement_holds, AllHold, IsSolution, IsPlaced, AreTermsPlaced, ArePlaced}
 use Rattle.dimacs_out.specs.declared.entry.MapEntry.{MapEntry}
 use Rattle.dimacs_out.specs.CompiledText.{EntriesBelow, IsWritable}
-use Rattle.dimacs_out.specs.TextSolutions.{number_of, assignment_of}
-use Rattle.bee_cli.specs.Lowered.{atom_of, clause_of, clauses_of, entry_of, entries_from, entries_of}
+use Rattle.dimacs_out.specs.TextSolutions.{assignment_of}
+use Rattle.bee_cli.specs.Lowered.{atom_of, clause_of, clauses_of, entries_from, entries_of}
 use Rattle.bee_cli.specs.Compiled.{cnf_of}
 
 length-numbers : (σ : Valuation) (v : ℕ) (names : List (List ℕ)) → length (assignment_of σ (entries_from v names)) ≡ length names
@@ -114,12 +114,12 @@ valuation_from a v = is_one (slice_index_or a (v - 1) (pos 0))
 assignment_again : (names : List (List ℕ)) (a : Assignment) → length a ≡ length names → AreTruthValues a → assignment_of (valuation_from a) (entries_of names) ≡ a
 assignment_again names a e t =
     same_lists _ a (length-numbers (valuation_from a) 0 names ∙ sym e) (λ i h.
-        let k : i < length a = omega (arith, length-numbers (valuation_from a) 0 names) in
-        let j : i < length names = omega arith in
-        let p : (0 + i + 1) - 1 ≡ i = omega arith in
-        number_at (valuation_from a) 0 names i j
-        ∙ ap (λ q. cond (is_one (slice_index_or a q (pos 0))) (pos 1) (pos 0)) p
-        ∙ number_again _ (truth_at a i k t))
+    let k : i < length a = omega (arith, length-numbers (valuation_from a) 0 names) in
+    let j : i < length names = omega arith in
+    let p : (0 + i + 1) - 1 ≡ i = omega arith in
+    number_at (valuation_from a) 0 names i j
+    ∙ ap (λ q. cond (is_one (slice_index_or a q (pos 0))) (pos 1) (pos 0)) p
+    ∙ number_again _ (truth_at a i k t))
 
 -- the clauses of a model put in order are as true as its clauses
 cnf_truth : (σ : Valuation) (m : SmallModel) → ArePlaced (length m.names) m.statements → clauses_truth σ (cnf_of m).clauses ≡ atom_clauses_truth σ (clauses_of m.statements)
@@ -132,7 +132,7 @@ satisfied m p a (σ, s, e) =
     let P : Assignment → Type 0 = λ b. IsSolution m b in
     subst P (sym e) (record {
       in_domains = record { one_for_each = length-numbers σ 0 m.names; each = are_truth σ 0 m.names };
-      holds = all_hold σ m.names m.statements p (sym (cnf_truth σ m p) ∙ s)
+      holds = all_hold σ m.names m.statements p (sym (cnf_truth σ m p) ∙ s);
     })
 
 -- each solution is given by a valuation that satisfies the clauses
@@ -159,5 +159,5 @@ writable m d p few fits =
       values = values_below 0 m.names (length m.names + 1) (omega arith);
       clauses = ClausesBelow-ordered_clauses (length m.names + 1) [] tt (clauses_of m.statements) (clauses_below (length m.names) m.statements p);
       vars = few;
-      count = fits
+      count = fits;
     }

@@ -1,12 +1,10 @@
 -- What a run in compile mode promises.
-use Rattle.std.specs.Prelude.{◌≡◌, ℕ, ◌+◌, ◌≤◌, ◌<◌, ◌⊎◌, ◌↔◌, List, length, Option, Some, None, ℤ}
+use Rattle.std.specs.Prelude.{◌≡◌, ℕ, ◌+◌, ◌≤◌, ◌<◌, ◌⊎◌, ◌↔◌, List, length, Option, Some, ℤ}
 use Rattle.bee_outside.specs.Faults.{Rose}
 use Rattle.bee_outside.specs.Bytes.{in_front, grown, NothingLeft, AllFlushed, TookPiece, GrewByFront}
-use Rattle.bumblebee_reader.specs.declared.small.model.SmallModel.{SmallModel}
-use Rattle.bumblebee_reader.specs.SmallText.{IsSmallText}
 use Rattle.bumblebee_reader.specs.SmallModel.{IsSolution}
 use Rattle.dimacs_out.specs.TextSolutions.{StandsFor}
-use Rattle.bee_cli.specs.Compiled.{text_of, Compiles, IsOfLanguage}
+use Rattle.bee_cli.specs.Compiled.{Compiles, IsOfLanguage}
 use Rattle.bee_cli.specs.declared.status.Status.{Status}
 use Rattle.bee_cli.specs.declared.status.Status.TheVariants.{Done, Usage, Model, Read, Write, Memory}
 use Rattle.bee_cli.specs.declared.status.ModelFault.TheVariants.{TooLong, Unsupported}
@@ -98,11 +96,11 @@ NoFault seen =
 -- the answer that a told text has, unless memory is wanting or a fault of the outside ends the run
 pub record Answers (status : Status) (seen : Seen) : Type 0 where
   pub too_long : (text : List ℕ) → seen.left_before ≡ Some text → longest_text < length text → NoFault seen →
-    (status ≡ Model TooLong) ⊎ (status ≡ Memory)
+      (status ≡ Model TooLong) ⊎ (status ≡ Memory)
   pub foreign : (text : List ℕ) → seen.left_before ≡ Some text → length text ≤ longest_text → (IsOfLanguage text → ⊥) → NoFault seen →
-    ((line : ℕ) × (status ≡ Model (Unsupported line))) ⊎ (status ≡ Memory)
+      ((line : ℕ) × (status ≡ Model (Unsupported line))) ⊎ (status ≡ Memory)
   pub complete : (text : List ℕ) → seen.left_before ≡ Some text → length text ≤ longest_text → IsOfLanguage text → NoFault seen →
-    (status ≡ Done) ⊎ (status ≡ Memory)
+      (status ≡ Done) ⊎ (status ≡ Memory)
 
 -- a run in compile mode
 pub record CompileMode (status : Status) (seen : Seen) : Type 0 where

@@ -1,7 +1,6 @@
 -- What a model of the small language is compiled to: the Boolean at place k is variable k + 1, and each
 -- statement is the clause of its terms.
 use Rattle.std.specs.Prelude.{ℕ, ◌+◌, true, false, List, [], ◌∷◌, map}
-use Rattle.order_ints.specs.declared.literal.Lit.{Lit}
 use Rattle.order_ints.specs.declared.atom.Atom.{Atom}
 use Rattle.order_ints.specs.declared.atom.Atom.TheVariants as atoms
 use Rattle.order_ints.specs.declared.order_int.MapValue.TheVariants as values

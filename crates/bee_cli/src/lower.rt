@@ -25,11 +25,7 @@ fn atom_of(term: SmallTerm, vars: u32) -> Atom
 
 /// The clause of a statement.
 #[tactic(auto, using(crate::proofs::Lowering::places))]
-fn clause_of(
-    alloc: Global,
-    terms: &[SmallTerm],
-    vars: u32,
-) -> Result<Sequence<Atom>, AllocError>
+fn clause_of(alloc: Global, terms: &[SmallTerm], vars: u32) -> Result<Sequence<Atom>, AllocError>
     requires { AreTermsPlaced vars terms.now }
     ensures { IfOk result (λ clause. clause ≡ clause_of terms.now) }
 {

@@ -18,15 +18,15 @@ const LONGEST_TEXT: usize = 16_777_216;
 /// Compile mode: reads the model, makes the whole text, and then writes it.
 fn compile<S: Shelf, O: Sink>(alloc: Global, input: &str, shelf: &mut S, out: &mut O) -> Status
     ensures mode { CompileMode result (record {
-        left_before = S.left shelf.old input.now;
-        left_after = S.left shelf.new input.now;
-        shelf_faults_before = S.faults shelf.old input.now;
-        shelf_faults_after = S.faults shelf.new input.now;
-        taken_before = O.taken out.old;
-        taken_after = O.taken out.new;
-        flushed_after = O.flushed out.new;
-        sink_faults_before = O.faults out.old;
-        sink_faults_after = O.faults out.new;
+      left_before = S.left shelf.old input.now;
+      left_after = S.left shelf.new input.now;
+      shelf_faults_before = S.faults shelf.old input.now;
+      shelf_faults_after = S.faults shelf.new input.now;
+      taken_before = O.taken out.old;
+      taken_after = O.taken out.new;
+      flushed_after = O.flushed out.new;
+      sink_faults_before = O.faults out.old;
+      sink_faults_after = O.faults out.new;
     }) }
     ensures others_stay { (other : List ℕ) → other ≢ input.now →
         S.left shelf.new other ≡ S.left shelf.old other }
@@ -69,15 +69,15 @@ pub fn run<S: Shelf, O: Sink, E: Sink>(
     // Compile mode, with the headline: see `CompileMode`.
     ensures compile { (input : List ℕ) → compile_input (map string_bytes words.now.items) ≡ Some input →
         CompileMode result (record {
-            left_before = S.left shelf.old input;
-            left_after = S.left shelf.new input;
-            shelf_faults_before = S.faults shelf.old input;
-            shelf_faults_after = S.faults shelf.new input;
-            taken_before = O.taken out.old;
-            taken_after = O.taken out.new;
-            flushed_after = O.flushed out.new;
-            sink_faults_before = O.faults out.old;
-            sink_faults_after = O.faults out.new;
+          left_before = S.left shelf.old input;
+          left_after = S.left shelf.new input;
+          shelf_faults_before = S.faults shelf.old input;
+          shelf_faults_after = S.faults shelf.new input;
+          taken_before = O.taken out.old;
+          taken_after = O.taken out.new;
+          flushed_after = O.flushed out.new;
+          sink_faults_before = O.faults out.old;
+          sink_faults_after = O.faults out.new;
         }) }
     ensures others_stay { (input other : List ℕ) → compile_input (map string_bytes words.now.items) ≡ Some input →
         other ≢ input → S.left shelf.new other ≡ S.left shelf.old other }

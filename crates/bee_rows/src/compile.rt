@@ -8,6 +8,7 @@ const COMPILE: [&str; 3] = ["bee", "compile", "m.bee"];
 
 /// One declared Boolean, and its compiled text.
 const ONE: &str = "new_bool(x)\nsolve satisfy\n";
+
 const ONE_COMPILED: &str = "c bee 1\nc bool x 1\np cnf 1 0\n";
 
 fn bytes(alloc: Global, text: &str) -> Result<Vec<u8>, AllocError> {
@@ -32,9 +33,18 @@ fn texts_are_compiled(rt: HostRuntime) -> Result<(), Fail> {
             "new_bool(a)\nnew_bool(b)\nbool_array_or([a,-b,a])\nsolve satisfy\n",
             "c bee 1\nc bool a 1\nc bool b 2\np cnf 2 1\n1 -2 0\n",
         ),
-        ("bool_array_or([])\nsolve satisfy\n", "c bee 1\np cnf 0 1\n0\n"),
-        ("bool_array_or([false])\nsolve satisfy\n", "c bee 1\np cnf 0 1\n0\n"),
-        ("bool_array_or([true])\nsolve satisfy\n", "c bee 1\np cnf 0 0\n"),
+        (
+            "bool_array_or([])\nsolve satisfy\n",
+            "c bee 1\np cnf 0 1\n0\n",
+        ),
+        (
+            "bool_array_or([false])\nsolve satisfy\n",
+            "c bee 1\np cnf 0 1\n0\n",
+        ),
+        (
+            "bool_array_or([true])\nsolve satisfy\n",
+            "c bee 1\np cnf 0 0\n",
+        ),
         (
             "new_bool ( a )\tnew_bool(_b2)\r\nbool_array_or([_b2, - a])solve\nsatisfy",
             "c bee 1\nc bool a 1\nc bool _b2 2\np cnf 2 1\n-1 2 0\n",
@@ -97,7 +107,10 @@ fn other_words_are_refused(rt: HostRuntime) -> Result<(), Fail> {
         let run = run_over(alloc, words, bytes(alloc, ONE)?, AMPLE)?;
         assert_eq!(rt; run.status.0, "usage");
         assert_eq!(rt; run.out.taken(), b"".as_slice());
-        assert_eq!(rt; run.err.taken(), b"bee: usage: bee MODE INPUT [SECOND] [--budget N] [--no-restart]\n".as_slice());
+        assert_eq!(rt;
+            run.err.taken(),
+            b"bee: usage: bee MODE INPUT [SECOND] [--budget N] [--no-restart]\n".as_slice()
+        );
     }
     let absent = ["bee", "compile", "absent"];
     let run = run_over(alloc, absent.as_slice(), bytes(alloc, ONE)?, AMPLE)?;
@@ -131,7 +144,11 @@ fn faults_at_each_call(rt: HostRuntime) -> Result<(), Fail> {
         let word = if number <= 8 { "read" } else { "done" };
         assert_eq!(rt; run.status.0, word, "failing call {number} of the shelf");
         let wanted: &[u8] = if number <= 8 { b"" } else { whole };
-        assert_eq!(rt; run.out.taken(), wanted, "failing call {number} of the shelf");
+        assert_eq!(rt;
+            run.out.taken(),
+            wanted,
+            "failing call {number} of the shelf"
+        );
     }
     // The text has 30 bytes, which take four calls of eight, and then it is flushed.
     for number in 1..7u64 {
@@ -144,7 +161,10 @@ fn faults_at_each_call(rt: HostRuntime) -> Result<(), Fail> {
         let word = if number <= 5 { "write" } else { "done" };
         assert_eq!(rt; run.status.0, word, "failing call {number} of the sink");
         let taken = run.out.taken();
-        assert!(rt; whole.starts_with(taken), "failing call {number} of the sink");
+        assert!(rt;
+            whole.starts_with(taken),
+            "failing call {number} of the sink"
+        );
         assert_eq!(rt; taken.len(), whole.len().min(8 * (number as usize - 1)));
     }
     // A sink that is full, and one for errors that always fails.

@@ -1,8 +1,6 @@
-use Rattle.std.proofs.Common.{◌≡◌, ℕ, ◌+◌, ◌≤◌, List, length, Option, refl, sym, subst, ap, ◌∙◌, arith}
+use Rattle.std.proofs.Common.{ℕ, List, refl, subst, ap, ◌∙◌, arith}
 use Rattle.bee_outside.specs.Bytes.{grown, GrewByFront}
 use Rattle.bee_cli.specs.declared.status.Status.TheVariants.{Done, Write}
-use Rattle.bee_cli.specs.Compiled.{Compiles}
-use Rattle.bee_cli.specs.CompileMode.{longest_text, IsHeadline}
 use Rattle.bee_cli.proofs.Modes.{mode, took_text, within_limit, headline_of}
 use Rattle.bee_cli.proofs.running.compile.Goals as goal
 
@@ -19,7 +17,7 @@ returns-in-Ok-write_all-clause-mode g c =
       read = record { moved = moved; whole = whole };
       headline = headline_of text _ written (within_limit text short) c.as_slice.ensures.value c.in-Ok.ensures;
       taken = c.in-Ok-write_all.ensures.written ∙ ap (λ t. grown (g.O.Sink.taken c.args.out.now) t) c.as_slice-2.ensures.value;
-      flushed = c.in-Ok-write_all.ensures.flushed
+      flushed = c.in-Ok-write_all.ensures.flushed;
     }) (λ e. absurd e) (took_text _ _ text moved (omega arith))
 
 pub returns-clause-mode : goal.returns-clause-mode
@@ -30,10 +28,13 @@ returns-clause-mode g c =
     let text = c.in-Ok-Whole.text.items in
     let written = c.in-Ok.written.items in
     let P : List ℕ → Type 0 = λ t. GrewByFront (g.O.Sink.taken c.args.out.now) t (g.O.Sink.taken c.write_all.new.sink) in
-    mode Write _ (record {
-      text = text;
-      written = written;
-      read = record { moved = moved; whole = whole };
-      headline = headline_of text _ written (within_limit text short) c.as_slice.ensures.value c.in-Ok.ensures;
-      taken = subst P c.as_slice-2.ensures.value c.in-Err.ensures.fault_took_front
-    }, c.in-Err.ensures.fault_is_counted) (λ e. absurd e) (took_text _ _ text moved (omega arith))
+    mode Write _ (
+      record {
+        text = text;
+        written = written;
+        read = record { moved = moved; whole = whole };
+        headline = headline_of text _ written (within_limit text short) c.as_slice.ensures.value c.in-Ok.ensures;
+        taken = subst P c.as_slice-2.ensures.value c.in-Err.ensures.fault_took_front;
+      },
+      c.in-Err.ensures.fault_is_counted,
+    ) (λ e. absurd e) (took_text _ _ text moved (omega arith))

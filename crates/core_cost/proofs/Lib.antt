@@ -1,0 +1,3 @@
+pub mod SaturatedSums
+pub mod ListLengths
+pub mod ListSteps

@@ -1,0 +1,4 @@
+pub mod Saturated
+pub mod ListForms
+pub mod Comparisons
+pub mod Arithmetic

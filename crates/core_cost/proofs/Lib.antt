@@ -1,3 +1,6 @@
 pub mod SaturatedSums
 pub mod ListLengths
 pub mod ListSteps
+pub mod DivisorLaws
+pub mod NetworkLaws
+pub mod NeighbourLaws

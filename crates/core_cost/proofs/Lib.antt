@@ -4,3 +4,5 @@ pub mod ListSteps
 pub mod DivisorLaws
 pub mod NetworkLaws
 pub mod NeighbourLaws
+pub mod CountLaws
+pub mod SumLaws

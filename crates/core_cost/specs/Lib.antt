@@ -5,4 +5,5 @@ pub mod Arithmetic
 pub mod Divisor
 pub mod Network
 pub mod Neighbours
+pub mod Counts
 pub mod Sums

@@ -7,6 +7,7 @@
 
 mod arithmetic;
 mod comparisons;
+mod counts;
 mod divisor;
 mod list_forms;
 mod network;
@@ -15,8 +16,9 @@ mod sums;
 
 pub use arithmetic::{all_diff_cost, div_mod_cost, max_cost, prod_cost};
 pub use comparisons::{eq_cost, ladder_cost, leq_cost, lex_cost};
+pub use counts::count_cost;
 pub use divisor::common_divisor;
 pub use list_forms::{amo_cost, clause_cost, comp_cost, conj_cost, parity_cost};
 pub use network::network_cost;
 pub use shape::Shape;
-pub use sums::{is_network_cheaper, sum3_cost};
+pub use sums::{fresh_sum, is_network_cheaper, sum_cost, sum3_cost};

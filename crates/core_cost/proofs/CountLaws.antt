@@ -1,6 +1,6 @@
 -- The cost of a count meets its equation.
-use Rattle.std.proofs.Common.{◌≡◌, ℕ, ◌+◌, ◌*◌, ◌-◌, ◌/◌, ◌<◌, ◌≤◌, ◌⊎◌, Bool, true, false, cond, zero, suc, refl, sym, ap, ◌∙◌, arith, inl, inr, leb}
-use Rattle.std.proofs.lemmas.Bool.{leb-true, lt-leb, le-leb, cases_lt}
+use Rattle.std.proofs.Common.{◌≡◌, ℕ, ◌+◌, ◌<◌, ◌≤◌, Bool, true, false, cond, zero, suc, refl, arith}
+use Rattle.std.proofs.lemmas.Bool.{lt-leb, le-leb}
 use Rattle.core_cost.specs.Network.{half_up, half_down, cost_of_sum3_over}
 use Rattle.core_cost.specs.Counts.{cost_of_half, count_within, cost_of_count}
 

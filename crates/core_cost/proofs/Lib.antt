@@ -6,3 +6,5 @@ pub mod NetworkLaws
 pub mod NeighbourLaws
 pub mod CountLaws
 pub mod SumLaws
+pub mod Monotone
+pub mod ShapeLaws

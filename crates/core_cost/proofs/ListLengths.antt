@@ -1,5 +1,5 @@
 -- Costs by lengths in one step: parity and at most one.
-use Rattle.std.proofs.Common.{◌≡◌, ℕ, ◌+◌, ◌*◌, ◌-◌, ◌/◌, ◌%◌, ◌<◌, ◌≤◌, zero, suc, refl, sym, ap, ◌∙◌, arith}
+use Rattle.std.proofs.Common.{◌≡◌, ℕ, ◌+◌, ◌*◌, ◌-◌, ◌/◌, ◌%◌, ◌≤◌, zero, suc, refl, ap, ◌∙◌, arith}
 use Rattle.core_cost.specs.ListForms.{cost_of_parity, cost_of_amo}
 
 parity_from_three : (k : ℕ) → cost_of_parity (suc (suc (suc k))) ≡ 12 + 13 * k

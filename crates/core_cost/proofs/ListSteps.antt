@@ -1,7 +1,7 @@
 -- The steps of loops over lists of integers, and the last pair of lists in order.
-use Rattle.std.proofs.Common.{◌≡◌, ℕ, ◌+◌, ◌*◌, ◌-◌, ◌<◌, ◌≤◌, List, [], ◌∷◌, ◌++◌, length, get_or, drop, zero, suc, refl, sym, ap, ◌∙◌, arith}
+use Rattle.std.proofs.Common.{◌≡◌, ℕ, ◌+◌, ◌<◌, List, [], ◌∷◌, ◌++◌, length, get_or, drop, arith}
 use Rattle.std.proofs.lemmas.List.{at_drop_more}
-use Rattle.core_cost.specs.Comparisons.{cost_of_ladder, cost_of_leq, cost_of_pair, cost_of_lex}
+use Rattle.core_cost.specs.Comparisons.{cost_of_leq, cost_of_pair, cost_of_lex}
 use Rattle.core_cost.specs.Arithmetic.{cost_of_members, cost_of_member, cost_of_all_diff, cost_of_different}
 
 pub members-drop : (xs : List ℕ) (i d : ℕ) → i < length xs

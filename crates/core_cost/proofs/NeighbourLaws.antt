@@ -1,9 +1,8 @@
 -- The two roundings of a number over a power of two.
-use Rattle.std.proofs.Common.{◌≡◌, ℕ, ◌+◌, ◌*◌, ◌-◌, ◌/◌, ◌%◌, ◌<◌, ◌≤◌, ◌⊎◌, Bool, true, false, cond, zero, suc, refl, sym, ap, ◌∙◌, arith, inl, inr, ltb, eqb}
+use Rattle.std.proofs.Common.{◌≡◌, ℕ, ◌+◌, ◌/◌, ◌%◌, ◌≤◌, ◌⊎◌, true, false, zero, suc, refl, sym, ap, ◌∙◌, arith, inl, inr, ltb, eqb}
 use Rattle.std.proofs.lemmas.Bool.{ltb-true, ltb-false, eqb-true, eqb-false, cond_both}
-use Rattle.core_cost.specs.declared.network.Neighbours.{Neighbours}
 use Rattle.core_cost.specs.Saturated.{saturated}
-use Rattle.core_cost.specs.Network.{half_up, half_down, cost_of_unit_sum}
+use Rattle.core_cost.specs.Network.{half_up, cost_of_unit_sum}
 use Rattle.core_cost.specs.Neighbours.{AreAround, moved_up}
 
 -- one of two neighbours, by whether it is above the lower one

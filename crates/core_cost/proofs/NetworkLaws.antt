@@ -1,8 +1,8 @@
 -- The cost of a sum of unit steps meets its equation: it is the lesser of the table's and of the network's.
-use Rattle.std.proofs.Common.{◌≡◌, ℕ, ◌+◌, ◌*◌, ◌-◌, ◌/◌, ◌<◌, ◌≤◌, ◌⊎◌, Bool, true, false, cond, min, zero, suc, refl, sym, ap, ◌∙◌, arith, inl, inr, leb, ◌&&◌}
-use Rattle.std.proofs.lemmas.Bool.{leb-true, leb-false, le-leb, lt-leb, and_parts, cases_Bool}
-use Rattle.core_cost.specs.Comparisons.{cost_of_ladder, cost_of_eq}
-use Rattle.core_cost.specs.Network.{half_up, half_down, has_network, cost_of_table, cheaper, cost_over_halves, unit_sum_within, cost_of_unit_sum, cost_of_network, cost_of_sum3_over}
+use Rattle.std.proofs.Common.{◌≡◌, ℕ, ◌+◌, ◌≤◌, Bool, true, false, min, zero, suc, refl, ap, ◌∙◌, arith, inl, inr, leb, ◌&&◌}
+use Rattle.std.proofs.lemmas.Bool.{leb-true, and_parts, cases_Bool}
+use Rattle.core_cost.specs.Comparisons.{cost_of_ladder}
+use Rattle.core_cost.specs.Network.{half_up, half_down, has_network, cost_of_table, cheaper, unit_sum_within, cost_of_unit_sum, cost_of_network, cost_of_sum3_over}
 
 -- what a network asks of its sides
 pub sides : (n m : ℕ) → has_network n m ≡ true → (1 ≤ n) × (1 ≤ m) × (3 ≤ n + m)

@@ -1,8 +1,7 @@
 -- Products of saturated numbers.
-use Rattle.std.proofs.Common.{◌≡◌, ℕ, ◌+◌, ◌*◌, ◌-◌, ◌^◌, ◌<◌, ◌≤◌, ◌⊎◌, min, zero, suc, refl, sym, ap, ◌∙◌, arith, inl, inr}
+use Rattle.std.proofs.Common.{◌≡◌, ℕ, ◌*◌, ◌≤◌, min, arith, inl, inr}
 use Rattle.std.proofs.Math.Nat.{mul-le-mul}
 use Rattle.std.proofs.lemmas.Bool.{cases_lt}
-use Rattle.core_cost.specs.Saturated.{saturated}
 
 -- the product of two saturated numbers that are at least 1, saturated, is the product's
 pub saturated-product : (a b m : ℕ) → 1 ≤ a → 1 ≤ b → 1 ≤ m → min (min a m * min b m) m ≡ min (a * b) m

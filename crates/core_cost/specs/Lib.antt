@@ -7,3 +7,4 @@ pub mod Network
 pub mod Neighbours
 pub mod Counts
 pub mod Sums
+pub mod Relations

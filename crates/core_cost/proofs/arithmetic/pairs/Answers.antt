@@ -1,4 +1,4 @@
-use Rattle.std.proofs.Common.{◌≡◌, ◌+◌, ◌*◌, ◌-◌, ◌^◌, min, arith, ◌∙◌, rules}
+use Rattle.std.proofs.Common.{◌+◌, ◌-◌, ◌^◌, arith}
 use Rattle.core_cost.proofs.SaturatedSums.{saturated-product}
 use Rattle.core_cost.proofs.arithmetic.pairs.Goals as goal
 

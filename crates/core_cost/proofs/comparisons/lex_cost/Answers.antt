@@ -1,6 +1,6 @@
-use Rattle.std.proofs.Common.{◌≡◌, ◌+◌, ◌∷◌, [], ◌++◌, arith, ap, ◌∙◌}
+use Rattle.std.proofs.Common.{arith, ap}
 use Rattle.std.proofs.lemmas.List.{at_drop_all}
-use Rattle.core_cost.specs.Comparisons.{cost_of_lex, cost_of_leq}
+use Rattle.core_cost.specs.Comparisons.{cost_of_lex}
 use Rattle.core_cost.proofs.ListSteps.{cost_before, lex-last}
 use Rattle.core_cost.proofs.comparisons.lex_cost.Goals as goal
 

@@ -1,5 +1,4 @@
 use Rattle.std.proofs.Common.{arith}
-use Rattle.std.specs.Int.{IsGcd}
 use Rattle.std.proofs.lemmas.Nat.Gcd.{IsGcd-from_zero, IsGcd-from_mod}
 use Rattle.core_cost.proofs.DivisorLaws.{common_from_IsGcd}
 use Rattle.core_cost.proofs.divisor.common_divisor.Goals as goal

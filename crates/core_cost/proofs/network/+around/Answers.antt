@@ -1,4 +1,3 @@
-use Rattle.std.proofs.Common.{arith}
 use Rattle.core_cost.proofs.NeighbourLaws.{around_none}
 use Rattle.core_cost.proofs.network.+around.Goals as goal
 

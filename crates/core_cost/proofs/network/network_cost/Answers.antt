@@ -1,4 +1,4 @@
-use Rattle.std.proofs.Common.{◌≡◌, ◌+◌, ◌/◌, true, false, arith, rules, sym, ap, ◌∙◌}
+use Rattle.std.proofs.Common.{◌≡◌, ◌+◌, ◌/◌, rules, ap, ◌∙◌}
 use Rattle.core_cost.specs.Saturated.{saturated}
 use Rattle.core_cost.specs.Network.{half_up, half_down, cost_of_unit_sum, cost_over_halves}
 use Rattle.core_cost.proofs.NeighbourLaws.{moved-odd-both}

@@ -1,4 +1,4 @@
-use Rattle.std.proofs.Common.{◌≡◌, ◌+◌, ◌/◌, true, false, arith, sym, ap, ◌∙◌}
+use Rattle.std.proofs.Common.{◌≡◌, ◌+◌, true, false, arith, sym, ◌∙◌}
 use Rattle.core_cost.specs.Saturated.{saturated}
 use Rattle.core_cost.specs.Network.{half_up, half_down, has_network, cost_of_unit_sum, cost_of_network}
 use Rattle.core_cost.proofs.NetworkLaws.{unit_sum_by_table, unit_sum_by_network}

@@ -1,6 +1,5 @@
 use Rattle.std.proofs.Common.{◌≡◌, length, arith, sym, ap, ◌∙◌}
 use Rattle.std.proofs.lemmas.Bool.{eqb-true}
-use Rattle.core_cost.specs.Saturated.{saturated}
 use Rattle.core_cost.proofs.SumLaws.{sum_of_none, sum_of_one, sum_of_two, sum_of_three}
 use Rattle.core_cost.proofs.sums.short_sum.Goals as goal
 

@@ -1,0 +1,50 @@
+//! Laws of costs, for proofs of crates above. Each function does nothing; its contract is the law.
+
+ghost use Rattle.std.specs.Prelude.{◌≡◌, ℕ, ◌+◌, ◌*◌, ◌≤◌, List, IsTrue};
+ghost use Rattle.core_cost.specs.declared.shape.Shape.{Shape};
+ghost use Rattle.core_cost.specs.ListForms.{cost_of_parity, cost_of_amo};
+ghost use Rattle.core_cost.specs.Comparisons.{cost_of_ladder, cost_of_leq, cost_of_eq, cost_of_lex};
+ghost use Rattle.core_cost.specs.Arithmetic.{cost_of_max, cost_of_all_diff, cost_of_prod, cost_of_div_mod};
+ghost use Rattle.core_cost.specs.Network.{has_network, cost_of_table, cost_of_unit_sum, cost_of_network, cost_of_sum3_over};
+ghost use Rattle.core_cost.specs.Counts.{cost_of_count};
+ghost use Rattle.core_cost.specs.Sums.{cost_of_sum3, cost_of_sum};
+ghost use Rattle.core_cost.specs.Relations.{AreBelow, PairsAreBelow, AreWithin, IsShape, IsWithin};
+
+/// Costs grow with numbers of members.
+pub fn members_law()
+    ensures parity { (k l : ℕ) → k ≤ l → cost_of_parity k ≤ cost_of_parity l }
+    ensures amo { (k l : ℕ) → k ≤ l → cost_of_amo k ≤ cost_of_amo l }
+    ensures count { (k c l d : ℕ) → k ≤ l → c ≤ d → cost_of_count k c ≤ cost_of_count l d }
+{}
+
+/// Costs grow with numbers of steps; where there are lists, also with longer lists.
+pub fn steps_law()
+    ensures ladder { (n m : ℕ) → n ≤ m → cost_of_ladder n ≤ cost_of_ladder m }
+    ensures leq { (n m p q : ℕ) → n ≤ p → m ≤ q → cost_of_leq n m ≤ cost_of_leq p q }
+    ensures equal { (n m p q : ℕ) → n ≤ p → m ≤ q → cost_of_eq n m ≤ cost_of_eq p q }
+    ensures lex { (ps qs : List (ℕ × ℕ)) → PairsAreBelow ps qs → cost_of_lex ps ≤ cost_of_lex qs }
+    ensures max { (ns ms : List ℕ) (c d : ℕ) → AreBelow ns ms → c ≤ d → cost_of_max ns c ≤ cost_of_max ms d }
+    ensures all_diff { (ns ms : List ℕ) → AreBelow ns ms → cost_of_all_diff ns ≤ cost_of_all_diff ms }
+    ensures prod { (n m c p q d : ℕ) → n ≤ p → m ≤ q → c ≤ d → cost_of_prod n m c ≤ cost_of_prod p q d }
+    ensures div_mod { (n m c e p q d f : ℕ) → n ≤ p → m ≤ q → c ≤ d → e ≤ f
+        → cost_of_div_mod n m c e ≤ cost_of_div_mod p q d f }
+{}
+
+/// Costs of sums grow with the shapes: with the steps, the spans and fewer common divisors.
+pub fn shapes_law()
+    ensures over { (n m c N M p q d P Q : ℕ) → n ≤ N → m ≤ M → n ≤ p → m ≤ q → c ≤ d → N ≤ P → M ≤ Q
+        → cost_of_sum3_over n m c N M ≤ cost_of_sum3_over p q d P Q }
+    ensures sum3 { (a b p q : Shape) (c d : ℕ) → IsShape a → IsShape b → IsWithin a p → IsWithin b q → c ≤ d
+        → cost_of_sum3 a b c ≤ cost_of_sum3 p q d }
+    ensures sum { (members others : List Shape) → AreWithin members others
+        → cost_of_sum members ≤ cost_of_sum others }
+{}
+
+/// The cost of a sum of unit steps is that of a sum with as many atoms as steps. Where a side has no
+/// step, or both have one, its table costs at most any network of sides that are no shorter.
+pub fn network_law()
+    ensures unit_sum { (n m : ℕ) → cost_of_unit_sum n m ≡ cost_of_sum3_over n m (n + m) n m }
+    ensures first_side { (n m c : ℕ) → IsTrue (has_network n m) → 6 * (n + 1) ≤ cost_of_network n m c }
+    ensures second_side { (n m c : ℕ) → IsTrue (has_network n m) → 6 * (m + 1) ≤ cost_of_network n m c }
+    ensures one_step { (n m c : ℕ) → IsTrue (has_network n m) → 24 ≤ cost_of_network n m c }
+{}

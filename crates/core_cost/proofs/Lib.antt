@@ -8,3 +8,4 @@ pub mod CountLaws
 pub mod SumLaws
 pub mod Monotone
 pub mod ShapeLaws
+pub mod Bounds

@@ -1,10 +1,10 @@
 -- The cost of a sum of integers, by their shapes.
-use Rattle.std.specs.Prelude.{ℕ, ◌+◌, ◌-◌, ◌/◌, min, List, [], ◌∷◌, ◌++◌, length}
+use Rattle.std.specs.Prelude.{ℕ, ◌+◌, ◌-◌, ◌/◌, ◌&&◌, min, Bool, nat_lt, nat_le, if◌then◌else◌, List, [], ◌∷◌, ◌++◌, length}
 use Rattle.std.proofs.Common.{zero, suc}
 use Rattle.core_cost.specs.declared.shape.Shape.{Shape}
 use Rattle.core_cost.specs.Divisor.{common_divisor_of}
 use Rattle.core_cost.specs.Arithmetic.{pairs_of_values}
-use Rattle.core_cost.specs.Network.{cost_of_sum3_over}
+use Rattle.core_cost.specs.Network.{has_network, cost_of_table, cost_of_network, cost_of_sum3_over}
 
 -- the spans of A and of B in units of the common divisor of their weights; without steps they are 0
 abbrev pub first_units : Shape → Shape → ℕ
@@ -16,6 +16,16 @@ second_units a b = b.span / common_divisor_of a.divisor b.divisor
 -- A + B = C, where C has c steps
 abbrev pub cost_of_sum3 : Shape → Shape → ℕ → ℕ
 cost_of_sum3 a b c = cost_of_sum3_over a.steps b.steps c (first_units a b) (second_units a b)
+
+-- whether the sum of A and B, which has c steps, has a network that costs less than its table
+abbrev pub network_is_cheaper : Shape → Shape → ℕ → Bool
+network_is_cheaper a b c =
+    has_network (first_units a b) (second_units a b)
+    && nat_lt (cost_of_network (first_units a b) (second_units a b) c) (cost_of_table a.steps b.steps)
+
+-- n steps of weight 1
+abbrev pub unit_steps : ℕ → Shape
+unit_steps n = record { steps = n; span = n; divisor = if nat_le 1 n then 1 else 0 }
 
 -- a constant
 abbrev pub constant : Shape

@@ -1,6 +1,6 @@
 //! Laws of costs, for proofs of crates above. Each function does nothing; its contract is the law.
 
-ghost use Rattle.std.specs.Prelude.{◌≡◌, ℕ, ◌+◌, ◌*◌, ◌≤◌, List, IsTrue};
+ghost use Rattle.std.specs.Prelude.{◌≡◌, ℕ, ◌+◌, ◌*◌, ◌^◌, ◌<◌, ◌≤◌, List, length, IsTrue};
 ghost use Rattle.core_cost.specs.declared.shape.Shape.{Shape};
 ghost use Rattle.core_cost.specs.ListForms.{cost_of_parity, cost_of_amo};
 ghost use Rattle.core_cost.specs.Comparisons.{cost_of_ladder, cost_of_leq, cost_of_eq, cost_of_lex};
@@ -8,7 +8,7 @@ ghost use Rattle.core_cost.specs.Arithmetic.{cost_of_max, cost_of_all_diff, cost
 ghost use Rattle.core_cost.specs.Network.{has_network, cost_of_table, cost_of_unit_sum, cost_of_network, cost_of_sum3_over};
 ghost use Rattle.core_cost.specs.Counts.{cost_of_count};
 ghost use Rattle.core_cost.specs.Sums.{cost_of_sum3, cost_of_sum};
-ghost use Rattle.core_cost.specs.Relations.{AreBelow, PairsAreBelow, AreWithin, IsShape, IsWithin};
+ghost use Rattle.core_cost.specs.Relations.{AreBelow, PairsAreBelow, AreWithin, IsShape, IsWithin, FitsInMemory, AllFitInMemory, PairsFitInMemory};
 
 /// Costs grow with numbers of members.
 pub fn members_law()
@@ -47,4 +47,22 @@ pub fn network_law()
     ensures first_side { (n m c : ℕ) → IsTrue (has_network n m) → 6 * (n + 1) ≤ cost_of_network n m c }
     ensures second_side { (n m c : ℕ) → IsTrue (has_network n m) → 6 * (m + 1) ≤ cost_of_network n m c }
     ensures one_step { (n m c : ℕ) → IsTrue (has_network n m) → 24 ≤ cost_of_network n m c }
+{}
+
+/// What fits in memory costs less than 2^128, so that its cost is exact.
+pub fn fits_law()
+    ensures ladder { (n : ℕ) → FitsInMemory n → cost_of_ladder n < 2 ^ 128 }
+    ensures leq { (n m : ℕ) → FitsInMemory n → FitsInMemory m → cost_of_leq n m < 2 ^ 128 }
+    ensures equal { (n m : ℕ) → FitsInMemory n → FitsInMemory m → cost_of_eq n m < 2 ^ 128 }
+    ensures lex { (ps : List (ℕ × ℕ)) → PairsFitInMemory ps → FitsInMemory (length ps) → cost_of_lex ps < 2 ^ 128 }
+    ensures max { (ns : List ℕ) (c : ℕ) → AllFitInMemory ns → FitsInMemory (length ns) → FitsInMemory c
+        → cost_of_max ns c < 2 ^ 128 }
+    ensures all_diff { (ns : List ℕ) → AllFitInMemory ns → FitsInMemory (length ns) → cost_of_all_diff ns < 2 ^ 128 }
+    ensures prod { (n m c : ℕ) → FitsInMemory n → FitsInMemory m → FitsInMemory c → cost_of_prod n m c < 2 ^ 128 }
+    ensures div_mod { (n m q r : ℕ) → FitsInMemory n → FitsInMemory m → FitsInMemory q → FitsInMemory r
+        → cost_of_div_mod n m q r < 2 ^ 128 }
+    ensures table { (n m : ℕ) → n < 2 ^ 62 → m < 2 ^ 62 → cost_of_table n m < 2 ^ 128 }
+    ensures sum3 { (n m c N M : ℕ) → FitsInMemory n → FitsInMemory m → FitsInMemory c
+        → cost_of_sum3_over n m c N M < 2 ^ 128 }
+    ensures count { (k c : ℕ) → FitsInMemory k → FitsInMemory c → cost_of_count k c < 2 ^ 128 }
 {}

@@ -3,8 +3,8 @@
 ghost use Rattle.std.specs.Prelude.{◌≡◌, ◌^◌, ◌<◌, ◌↔◌, ◌+◌, ◌/◌, ◌≤◌, ◌∷◌, IsTrue, IfOk};
 ghost use Rattle.std.specs.VecDeque.{deque_len};
 ghost use Rattle.core_cost.specs.Saturated.{saturated};
-ghost use Rattle.core_cost.specs.Network.{has_network, cost_of_table, cost_of_network, cost_of_sum3_over};
-ghost use Rattle.core_cost.specs.Sums.{first_units, second_units, cost_of_sum3, fresh_sum_of, cost_of_sum, spans_of};
+ghost use Rattle.core_cost.specs.Network.{cost_of_table, cost_of_sum3_over};
+ghost use Rattle.core_cost.specs.Sums.{cost_of_sum3, network_is_cheaper, fresh_sum_of, cost_of_sum, spans_of};
 
 use crate::comparisons::ladder_cost;
 use crate::divisor::common_divisor;
@@ -45,13 +45,11 @@ pub fn sum3_cost(first: Shape, second: Shape, sum_steps: u128) -> u128
     sum_over(first.steps, second.steps, sum_steps, first_atoms, second_atoms)
 }
 
-/// Whether the sum has a network that costs less than the table of the pairs of values.
+/// Whether the sum has a network that costs less than the table of the pairs of values. The table's
+/// cost fits 128 bits wherever both numbers of steps are below 2^62.
 pub fn is_network_cheaper(first: Shape, second: Shape, sum_steps: u128) -> bool
     requires { cost_of_table first.steps second.steps < 2 ^ 128 }
-    ensures { IsTrue result
-        ↔ (IsTrue (has_network (first_units first second) (second_units first second))
-            × (cost_of_network (first_units first second) (second_units first second) sum_steps
-                < cost_of_table first.steps second.steps)) }
+    ensures { result ≡ network_is_cheaper first second sum_steps }
 {
     let divisor = common_divisor(first.divisor, second.divisor);
     let first_atoms = quotient(first.span, divisor);

@@ -1,20 +1,15 @@
 -- Costs of what fits in memory fit 128 bits; a network costs at most a multiple of its atoms and depths.
-use Rattle.std.proofs.Common.{◌≡◌, ℕ, ◌+◌, ◌*◌, ◌-◌, ◌/◌, ◌^◌, ◌<◌, ◌≤◌, ◌⊎◌, Bool, true, false, cond, min, List, [], ◌∷◌, ◌++◌, length, zero, suc, refl, sym, ap, ◌∙◌, arith, inl, inr}
-use Rattle.std.proofs.Math.Nat.{mul-le-mul, pow-suc, div-le_self}
+use Rattle.std.proofs.Common.{◌≡◌, ℕ, ◌+◌, ◌*◌, ◌^◌, ◌<◌, ◌≤◌, Bool, true, false, List, [], ◌∷◌, length, zero, suc, ap, arith, inl, inr}
+use Rattle.std.proofs.Math.Nat.{mul-le-mul}
 use Rattle.std.proofs.lemmas.Nat.{mul-le}
-use Rattle.std.proofs.lemmas.Bool.{le-leb, lt-leb, cases_Bool, cases_lt}
-use Rattle.std.proofs.lemmas.List.{length_push}
-use Rattle.core_cost.specs.declared.shape.Shape.{Shape}
+use Rattle.std.proofs.lemmas.Bool.{le-leb, lt-leb, cases_lt}
 use Rattle.core_cost.specs.ListForms.{cost_of_parity, cost_of_amo}
 use Rattle.core_cost.specs.Comparisons.{cost_of_ladder, cost_of_leq, cost_of_eq, cost_of_lex}
 use Rattle.core_cost.specs.Arithmetic.{cost_of_members, cost_of_max, cost_of_all_diff, pairs_of_values, cost_of_prod, cost_of_div_mod}
-use Rattle.core_cost.specs.Network.{half_up, half_down, has_network, cost_of_table, cheaper, cost_over_halves, cost_of_unit_sum, cost_of_network, cost_of_sum3_over}
+use Rattle.core_cost.specs.Network.{half_up, half_down, has_network, cost_of_table, cheaper, cost_of_network, cost_of_sum3_over}
 use Rattle.core_cost.specs.Counts.{cost_of_half, count_within, cost_of_count}
-use Rattle.core_cost.specs.Divisor.{common_divisor_of}
-use Rattle.core_cost.specs.Sums.{first_units, second_units, cost_of_sum3, constant, fresh_sum_of, sum_within, cost_of_sum, spans_of}
-use Rattle.core_cost.specs.Relations.{IsShape, AreShapes, FitsInMemory, AllFitInMemory, PairsFitInMemory}
-use Rattle.core_cost.proofs.NetworkLaws.{sides, unit_sum_by_table, unit_sum_by_network}
-use Rattle.core_cost.proofs.Monotone.{ladder_lem, pairs-mono, no_sides}
+use Rattle.core_cost.specs.Relations.{FitsInMemory, AllFitInMemory, PairsFitInMemory}
+use Rattle.core_cost.proofs.Monotone.{ladder_lem}
 
 pub parity-bound : (k : ℕ) → cost_of_parity k ≤ 13 * k
 parity-bound zero = omega arith
@@ -105,7 +100,7 @@ sum3_by_table n m c N M =
     sums a b d x t p q r s = omega arith
 
 pub sum3-fits : (n m c N M : ℕ) → FitsInMemory n → FitsInMemory m → FitsInMemory c → cost_of_sum3_over n m c N M < 2 ^ 128
-sum3-fits n m c N M h k i = 
+sum3-fits n m c N M h k i =
     let l = sum3_by_table n m c N M in
     let p = pairs-bound n m h k in
     sums (pairs_of_values n m) _ p l
@@ -132,12 +127,13 @@ few-bound : (k c N : ℕ) → cost_of_sum3_over k 0 c N 0 ≤ 32 * (k * k) + 12 
 few-bound k c N =
     let l = sum3_by_table k 0 c N 0 in
     elim (cases_lt k 1) [
-      inl none ↦ let e : k ≡ 0 = omega arith in small k _ e l
-    | inr some ↦ large k _ (square_least k some) l
+      | inl none ↦ let e : k ≡ 0 = omega arith in small k _ e l
+      | inr some ↦ large k _ (square_least k some) l
     ]
   where
     small : (k x : ℕ) → k ≡ 0 → x ≤ 2 * k + 2 * 0 + 2 * c + 6 * ((k + 1) * (0 + 1)) → x ≤ 32 * (k * k) + 12 + 2 * c
     small k x e l = omega arith
+
     large : (k x : ℕ) → k ≤ k * k → x ≤ 2 * k + 2 * 0 + 2 * c + 6 * ((k + 1) * (0 + 1)) → x ≤ 32 * (k * k) + 12 + 2 * c
     large k x e l = omega arith
 
@@ -152,9 +148,9 @@ count_within-bound : (most k c : ℕ) → count_within most k c ≤ 32 * (k * k)
 count_within-bound zero k c = few-bound k c k
 count_within-bound (suc most) k c =
     elim (cases_lt k 2) [
-      inl few ↦ rw (lt-leb 2 k few) (few-bound k c k)
-    | inr many ↦ rw (le-leb 2 k many)
-        (count_sums (half_up k) (half_down k) k _ _ _ c (omega arith) (omega arith) (omega arith)
+      | inl few ↦ rw (lt-leb 2 k few) (few-bound k c k)
+      | inr many ↦ rw (le-leb 2 k many)
+          (count_sums (half_up k) (half_down k) k _ _ _ c (omega arith) (omega arith) (omega arith)
           (half-bound (half_up k) _ (count_within-bound most (half_up k) (half_up k)))
           (half-bound (half_down k) _ (count_within-bound most (half_down k) (half_down k)))
           (sum3_by_table (half_up k) (half_down k) c (half_up k) (half_down k)))

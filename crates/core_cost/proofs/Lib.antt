@@ -9,3 +9,4 @@ pub mod SumLaws
 pub mod Monotone
 pub mod ShapeLaws
 pub mod Bounds
+pub mod NetworkBounds

@@ -124,11 +124,11 @@ over_halves-mono odd even wires c odd' even' wires' c' h k i j =
 pub no_sides : (n m : ℕ) → has_network n m ≡ false → (n ≡ 0) ⊎ ((m ≡ 0) ⊎ (n + m ≤ 2))
 no_sides n m h =
     elim (and_cases (leb 1 n && leb 1 m) (leb 3 (n + m)) h) [
-      inl either ↦ elim (and_cases (leb 1 n) (leb 1 m) either) [
-        inl fails ↦ inl (let l = leb-false 1 n fails in omega arith)
-      | inr fails ↦ inr (inl (let l = leb-false 1 m fails in omega arith))
+      | inl either ↦ elim (and_cases (leb 1 n) (leb 1 m) either) [
+        | inl fails ↦ inl (let l = leb-false 1 n fails in omega arith)
+        | inr fails ↦ inr (inl (let l = leb-false 1 m fails in omega arith))
       ]
-    | inr fails ↦ inr (inr (let l = leb-false 3 (n + m) fails in omega arith))
+      | inr fails ↦ inr (inr (let l = leb-false 3 (n + m) fails in omega arith))
     ]
 
 few_pairs : (n m : ℕ) → n + m ≤ 2 → pairs_of_values n m ≤ 4
@@ -146,10 +146,10 @@ table-floor n m N M N' M' odd even c h k i j stands none =
     let s = sides N' M' stands in
     let floor = over_halves-floor odd even (N' + M') c in
     elim (no_sides N M none) [
-      inl first ↦ floor_steps (pairs_of_values n m) (pairs_of_values 0 M') (N' + M') _ (pairs-mono n m 0 M' (omega arith) (omega arith)) (omega arith) floor
-    | inr more ↦ elim more [
-        inl second ↦ floor_steps (pairs_of_values n m) (pairs_of_values N' 0) (N' + M') _ (pairs-mono n m N' 0 (omega arith) (omega arith)) (omega arith) floor
-      | inr few ↦ floor_steps (pairs_of_values n m) 4 (N' + M') _ (few_pairs n m (omega arith)) (omega arith) floor
+      | inl first ↦ floor_steps (pairs_of_values n m) (pairs_of_values 0 M') (N' + M') _ (pairs-mono n m 0 M' (omega arith) (omega arith)) (omega arith) floor
+      | inr more ↦ elim more [
+        | inl second ↦ floor_steps (pairs_of_values n m) (pairs_of_values N' 0) (N' + M') _ (pairs-mono n m N' 0 (omega arith) (omega arith)) (omega arith) floor
+        | inr few ↦ floor_steps (pairs_of_values n m) 4 (N' + M') _ (few_pairs n m (omega arith)) (omega arith) floor
       ]
     ]
 
@@ -174,22 +174,22 @@ sum_parts-mono : (n m c N M odd even wires n' m' c' N' M' odd' even' wires' : �
     ≤ cost_of_ladder n' + cost_of_ladder m' + cost_of_ladder c' + cheaper (has_network N' M') (cost_of_table n' m') (cost_over_halves odd' even' wires' c')
 sum_parts-mono n m c N M odd even wires n' m' c' N' M' odd' even' wires' a b h k i u v x y z e =
     let rest = cheaper-mono (has_network N M) (has_network N' M') (cost_of_table n m) (cost_over_halves odd even wires c)
-          (cost_of_table n' m') (cost_over_halves odd' even' wires' c') (table-mono n m n' m' h k)
-          (λ t s. over_halves-mono odd even wires c odd' even' wires' c' x y z i)
-          (λ t s. rw e (table-floor n m N M N' M' odd' even' c' a b u v t s)) in
+    (cost_of_table n' m') (cost_over_halves odd' even' wires' c') (table-mono n m n' m' h k)
+    (λ t s. over_halves-mono odd even wires c odd' even' wires' c' x y z i)
+    (λ t s. rw e (table-floor n m N M N' M' odd' even' c' a b u v t s)) in
     four_sums (cost_of_ladder n) (cost_of_ladder m) (cost_of_ladder c) _ (cost_of_ladder n') (cost_of_ladder m') (cost_of_ladder c') _
-      (ladder-mono n n' h) (ladder-mono m m' k) (ladder-mono c c' i) rest
+    (ladder-mono n n' h) (ladder-mono m m' k) (ladder-mono c c' i) rest
 
 within-mono : (d n m n' m' : ℕ) → n ≤ n' → m ≤ m' → unit_sum_within d n m ≤ unit_sum_within d n' m'
 within-mono zero n m n' m' h k =
     four_sums (cost_of_ladder n) (cost_of_ladder m) (cost_of_ladder (n + m)) (cost_of_table n m)
-      (cost_of_ladder n') (cost_of_ladder m') (cost_of_ladder (n' + m')) (cost_of_table n' m')
-      (ladder-mono n n' h) (ladder-mono m m' k) (ladder-mono (n + m) (n' + m') (omega arith)) (table-mono n m n' m' h k)
+    (cost_of_ladder n') (cost_of_ladder m') (cost_of_ladder (n' + m')) (cost_of_table n' m')
+    (ladder-mono n n' h) (ladder-mono m m' k) (ladder-mono (n + m) (n' + m') (omega arith)) (table-mono n m n' m' h k)
 within-mono (suc d) n m n' m' h k =
     let odd = within-mono d (half_up n) (half_up m) (half_up n') (half_up m') (omega arith) (omega arith) in
     let even = within-mono d (half_down n) (half_down m) (half_down n') (half_down m') (omega arith) (omega arith) in
     sum_parts-mono n m (n + m) n m _ _ (n + m) n' m' (n' + m') n' m' _ _ (n' + m')
-      (omega arith) (omega arith) h k (omega arith) h k odd even (omega arith) refl
+    (omega arith) (omega arith) h k (omega arith) h k odd even (omega arith) refl
 
 pub unit_sum-mono : (n m n' m' : ℕ) → n ≤ n' → m ≤ m' → cost_of_unit_sum n m ≤ cost_of_unit_sum n' m'
 unfolding cost_of_unit_sum
@@ -200,25 +200,25 @@ unit_sum-mono n m n' m' h k =
 pub network-mono : (n m c n' m' c' : ℕ) → n ≤ n' → m ≤ m' → c ≤ c' → cost_of_network n m c ≤ cost_of_network n' m' c'
 network-mono n m c n' m' c' h k i =
     over_halves-mono _ _ (n + m) c _ _ (n' + m') c'
-      (unit_sum-mono (half_up n) (half_up m) (half_up n') (half_up m') (omega arith) (omega arith))
-      (unit_sum-mono (half_down n) (half_down m) (half_down n') (half_down m') (omega arith) (omega arith))
-      (omega arith) i
+    (unit_sum-mono (half_up n) (half_up m) (half_up n') (half_up m') (omega arith) (omega arith))
+    (unit_sum-mono (half_down n) (half_down m) (half_down n') (half_down m') (omega arith) (omega arith))
+    (omega arith) i
 
 pub sum3_over-mono : (n m c N M n' m' c' N' M' : ℕ) → n ≤ N → m ≤ M → n ≤ n' → m ≤ m' → c ≤ c' → N ≤ N' → M ≤ M'
     → cost_of_sum3_over n m c N M ≤ cost_of_sum3_over n' m' c' N' M'
 sum3_over-mono n m c N M n' m' c' N' M' a b h k i u v =
     sum_parts-mono n m c N M _ _ (N + M) n' m' c' N' M' _ _ (N' + M') a b h k i u v
-      (unit_sum-mono (half_up N) (half_up M) (half_up N') (half_up M') (omega arith) (omega arith))
-      (unit_sum-mono (half_down N) (half_down M) (half_down N') (half_down M') (omega arith) (omega arith))
-      (omega arith) refl
+    (unit_sum-mono (half_up N) (half_up M) (half_up N') (half_up M') (omega arith) (omega arith))
+    (unit_sum-mono (half_down N) (half_down M) (half_down N') (half_down M') (omega arith) (omega arith))
+    (omega arith) refl
 
 -- ---- counts
 
 half-mono : (h x h' x' : ℕ) → h ≤ h' → x ≤ x' → cost_of_half h x ≤ cost_of_half h' x'
 half-mono h x h' x' p q =
     elim (cases_lt h 2) [
-      inl few ↦ rw (lt-leb 2 h few) (omega arith)
-    | inr many ↦ let many' : 2 ≤ h' = omega arith in rw (le-leb 2 h many, le-leb 2 h' many') (omega arith)
+      | inl few ↦ rw (lt-leb 2 h few) (omega arith)
+      | inr many ↦ let many' : 2 ≤ h' = omega arith in rw (le-leb 2 h many, le-leb 2 h' many') (omega arith)
     ]
 
 three_sums : (a b c a' b' c' : ℕ) → a ≤ a' → b ≤ b' → c ≤ c' → a + b + c ≤ a' + b' + c'
@@ -231,22 +231,22 @@ count_within-mono : (d k c k' c' : ℕ) → k ≤ k' → c ≤ c' → count_with
 count_within-mono zero k c k' c' h i = sum3_over-mono k 0 c k 0 k' 0 c' k' 0 (omega arith) (omega arith) h (omega arith) i h (omega arith)
 count_within-mono (suc d) k c k' c' h i =
     elim (cases_lt k 2) [
-      inl few ↦ elim (cases_lt k' 2) [
-        inl few' ↦ rw (lt-leb 2 k few, lt-leb 2 k' few') (sum3_over-mono k 0 c k 0 k' 0 c' k' 0 (omega arith) (omega arith) h (omega arith) i h (omega arith))
-      | inr many' ↦ rw (lt-leb 2 k few, le-leb 2 k' many')
-          (last_of_three _ _ _ _ (sum3_over-mono k 0 c k 0 (half_up k') (half_down k') c' (half_up k') (half_down k')
+      | inl few ↦ elim (cases_lt k' 2) [
+        | inl few' ↦ rw (lt-leb 2 k few, lt-leb 2 k' few') (sum3_over-mono k 0 c k 0 k' 0 c' k' 0 (omega arith) (omega arith) h (omega arith) i h (omega arith))
+        | inr many' ↦ rw (lt-leb 2 k few, le-leb 2 k' many')
+            (last_of_three _ _ _ _ (sum3_over-mono k 0 c k 0 (half_up k') (half_down k') c' (half_up k') (half_down k')
             (omega arith) (omega arith) (omega arith) (omega arith) i (omega arith) (omega arith)))
       ]
-    | inr many ↦
-        let many' : 2 ≤ k' = omega arith in
-        let up : half_up k ≤ half_up k' = omega arith in
-        let down : half_down k ≤ half_down k' = omega arith in
-        rw (le-leb 2 k many, le-leb 2 k' many')
-        (three_sums _ _ _ _ _ _
+      | inr many ↦
+          let many' : 2 ≤ k' = omega arith in
+          let up : half_up k ≤ half_up k' = omega arith in
+          let down : half_down k ≤ half_down k' = omega arith in
+          rw (le-leb 2 k many, le-leb 2 k' many')
+          (three_sums _ _ _ _ _ _
           (half-mono (half_up k) _ (half_up k') _ up (count_within-mono d (half_up k) (half_up k) (half_up k') (half_up k') up up))
           (half-mono (half_down k) _ (half_down k') _ down (count_within-mono d (half_down k) (half_down k) (half_down k') (half_down k') down down))
           (sum3_over-mono (half_up k) (half_down k) c (half_up k) (half_down k) (half_up k') (half_down k') c' (half_up k') (half_down k')
-            (omega arith) (omega arith) up down i up down))
+          (omega arith) (omega arith) up down i up down))
     ]
 
 pub count-mono : (k c k' c' : ℕ) → k ≤ k' → c ≤ c' → cost_of_count k c ≤ cost_of_count k' c'

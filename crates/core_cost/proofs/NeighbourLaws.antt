@@ -27,7 +27,7 @@ moved-odd n =
   where
     even_or_odd : (n : ℕ) → (n % 2 ≡ 0) ⊎ (n % 2 ≡ 1)
     even_or_odd n = elim (eqb (n % 2) 0) as (λ b. b ≡ eqb (n % 2) 0 → (n % 2 ≡ 0) ⊎ (n % 2 ≡ 1))
-      [ true ↦ λ t. inl (eqb-true (n % 2) 0 (sym t)) | false ↦ λ f. inr (let e = eqb-false (n % 2) 0 (sym f) in omega arith) ] refl
+        [ true ↦ λ t. inl (eqb-true (n % 2) 0 (sym t)) | false ↦ λ f. inr (let e = eqb-false (n % 2) 0 (sym f) in omega arith) ] refl
 
 pub moved-odd-both : (n m : ℕ)
     → saturated (cost_of_unit_sum (moved_up (n / 2) (eqb (n % 2) 1)) (moved_up (m / 2) (eqb (m % 2) 1)))

@@ -34,11 +34,11 @@ unfolding cost_of_unit_sum
 unit_sum-equation n m =
     within-same (n + m) (suc (n + m)) n m (omega arith) (omega arith) (omega arith) (omega arith)
     ∙ ap (λ rest. cost_of_ladder n + cost_of_ladder m + cost_of_ladder (n + m) + rest)
-      (cheaper-same (has_network n m) (cost_of_table n m) _ _ (λ t.
-        let s = sides n m t in
-        let up = within-same (n + m) (half_up n + half_up m) (half_up n) (half_up m) (omega arith) (omega arith) (omega arith) (omega arith) in
-        let down = within-same (n + m) (half_down n + half_down m) (half_down n) (half_down m) (omega arith) (omega arith) (omega arith) (omega arith) in
-        rw (up, down) refl))
+    (cheaper-same (has_network n m) (cost_of_table n m) _ _ (λ t.
+    let s = sides n m t in
+    let up = within-same (n + m) (half_up n + half_up m) (half_up n) (half_up m) (omega arith) (omega arith) (omega arith) (omega arith) in
+    let down = within-same (n + m) (half_down n + half_down m) (half_down n) (half_down m) (omega arith) (omega arith) (omega arith) (omega arith) in
+    rw (up, down) refl))
 
 pub unit_sum_by_table : (n m : ℕ) → has_network n m ≡ false
     → cost_of_unit_sum n m ≡ cost_of_ladder n + cost_of_ladder m + cost_of_ladder (n + m) + cost_of_table n m

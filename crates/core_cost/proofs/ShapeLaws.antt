@@ -1,13 +1,14 @@
 -- Sums of integers by their shapes: units, fresh sums, and costs that grow with the shapes.
-use Rattle.std.proofs.Common.{◌≡◌, ℕ, ◌+◌, ◌*◌, ◌-◌, ◌/◌, ◌≤◌, min, List, [], ◌∷◌, ◌++◌, length, zero, suc, refl, ap, arith, inl, inr}
+use Rattle.std.proofs.Common.{◌≡◌, ℕ, ◌+◌, ◌*◌, ◌-◌, ◌/◌, ◌≤◌, min, List, [], ◌∷◌, ◌++◌, length, zero, suc, refl, ap, ◌∙◌, arith, inl, inr}
 use Prim.Native.Nat.{◌∣◌}
-use Rattle.std.proofs.Math.Nat.{div-mul-le_self, mul-le-mul, div-zero}
+use Rattle.std.proofs.Math.Nat.{div-mul-le_self, mul-le-mul, div-zero, div-one}
 use Rattle.std.proofs.lemmas.Nat.{le-div}
 use Rattle.std.proofs.lemmas.Nat.Gcd.{dvd_refl, dvd-zero, dvd_trans, dvd_antisymm, le_of_dvd}
 use Rattle.std.proofs.lemmas.Bool.{cases_lt}
 use Rattle.core_cost.specs.declared.shape.Shape.{Shape}
 use Rattle.core_cost.specs.Divisor.{common_divisor_of}
-use Rattle.core_cost.specs.Sums.{first_units, second_units, cost_of_sum3, constant, fresh_sum_of, sum_within, cost_of_sum}
+use Rattle.core_cost.specs.Network.{cost_of_sum3_over}
+use Rattle.core_cost.specs.Sums.{unit_steps, first_units, second_units, cost_of_sum3, constant, fresh_sum_of, sum_within, cost_of_sum}
 use Rattle.core_cost.specs.Relations.{IsShape, IsWithin, AreWithin}
 use Rattle.core_cost.proofs.DivisorLaws.{IsGcd-common}
 use Rattle.core_cost.proofs.Monotone.{pairs-mono, sum3_over-mono}
@@ -16,17 +17,17 @@ use Rattle.core_cost.proofs.Monotone.{pairs-mono, sum3_over-mono}
 zero_divides : (n : ℕ) → zero ∣ n → n ≡ 0
 zero_divides n h = dvd_antisymm (dvd-zero n) h
 
-common-divides_first : (a b : ℕ) → common_divisor_of a b ∣ a
+pub common-divides_first : (a b : ℕ) → common_divisor_of a b ∣ a
 common-divides_first a b = (IsGcd-common a b).0
 
-common-divides_second : (a b : ℕ) → common_divisor_of a b ∣ b
+pub common-divides_second : (a b : ℕ) → common_divisor_of a b ∣ b
 common-divides_second a b = (IsGcd-common a b).1
 
 -- the common divisor of divisors divides that of their multiples
 common-divides : (a b a' b' : ℕ) → a' ∣ a → b' ∣ b → common_divisor_of a' b' ∣ common_divisor_of a b
 common-divides a b a' b' h k =
     (IsGcd-common a b).2 (common_divisor_of a' b')
-      (dvd_trans _ (common-divides_first a' b') h) (dvd_trans _ (common-divides_second a' b') k)
+    (dvd_trans _ (common-divides_first a' b') h) (dvd_trans _ (common-divides_second a' b') k)
 
 -- a lesser span in units of a multiple
 quotient-mono : (x y g h : ℕ) → x ≤ y → h ∣ g → x / g ≤ y / h
@@ -39,22 +40,22 @@ quotient-mono x y (suc g) (suc h) l d =
     le-div (x / suc g) y (suc h) (omega arith) (omega arith)
 
 -- an integer has at most as many steps as units of any divisor of its weights
-steps-le_units : (a : Shape) (g : ℕ) → IsShape a → g ∣ a.divisor → (g ≡ 0 → a.divisor ≡ 0) → a.steps ≤ a.span / g
+pub steps-le_units : (a : Shape) (g : ℕ) → IsShape a → g ∣ a.divisor → (g ≡ 0 → a.divisor ≡ 0) → a.steps ≤ a.span / g
 steps-le_units a zero shape d z = let s = (shape.none (z refl)).0 in omega arith
 steps-le_units a (suc g) shape d z =
     elim (cases_lt 0 a.divisor) [
-      inl some ↦
-        let small : suc g ≤ a.divisor = le_of_dvd some d in
-        let p : a.steps * suc g ≤ a.steps * a.divisor = mul-le-mul (omega arith) small in
-        let w = shape.weights in
-        le-div a.steps a.span (suc g) (omega arith) (omega arith)
-    | inr none ↦ let s = (shape.none (omega arith)).0 in omega arith
+      | inl some ↦
+          let small : suc g ≤ a.divisor = le_of_dvd some d in
+          let p : a.steps * suc g ≤ a.steps * a.divisor = mul-le-mul (omega arith) small in
+          let w = shape.weights in
+          le-div a.steps a.span (suc g) (omega arith) (omega arith)
+      | inr none ↦ let s = (shape.none (omega arith)).0 in omega arith
     ]
 
-zero_common_first : (a b : ℕ) → common_divisor_of a b ≡ 0 → a ≡ 0
+pub zero_common_first : (a b : ℕ) → common_divisor_of a b ≡ 0 → a ≡ 0
 zero_common_first a b e = zero_divides a (rw e at (common-divides_first a b))
 
-zero_common_second : (a b : ℕ) → common_divisor_of a b ≡ 0 → b ≡ 0
+pub zero_common_second : (a b : ℕ) → common_divisor_of a b ≡ 0 → b ≡ 0
 zero_common_second a b e = zero_divides b (rw e at (common-divides_second a b))
 
 pub sum3-mono : (a b a' b' : Shape) (c c' : ℕ) → IsShape a → IsShape b → IsWithin a a' → IsWithin b b' → c ≤ c'
@@ -62,11 +63,11 @@ pub sum3-mono : (a b a' b' : Shape) (c c' : ℕ) → IsShape a → IsShape b →
 sum3-mono a b a' b' c c' first second h k l =
     let divides = common-divides a.divisor b.divisor a'.divisor b'.divisor h.divisor k.divisor in
     sum3_over-mono a.steps b.steps c (first_units a b) (second_units a b) a'.steps b'.steps c' (first_units a' b') (second_units a' b')
-      (steps-le_units a (common_divisor_of a.divisor b.divisor) first (common-divides_first a.divisor b.divisor) (zero_common_first a.divisor b.divisor))
-      (steps-le_units b (common_divisor_of a.divisor b.divisor) second (common-divides_second a.divisor b.divisor) (zero_common_second a.divisor b.divisor))
-      h.steps k.steps l
-      (quotient-mono a.span a'.span _ _ h.span divides)
-      (quotient-mono b.span b'.span _ _ k.span divides)
+    (steps-le_units a (common_divisor_of a.divisor b.divisor) first (common-divides_first a.divisor b.divisor) (zero_common_first a.divisor b.divisor))
+    (steps-le_units b (common_divisor_of a.divisor b.divisor) second (common-divides_second a.divisor b.divisor) (zero_common_second a.divisor b.divisor))
+    h.steps k.steps l
+    (quotient-mono a.span a'.span _ _ h.span divides)
+    (quotient-mono b.span b'.span _ _ k.span divides)
 
 pub IsShape-constant : IsShape constant
 IsShape-constant = record { weights = omega arith; none = λ _. (refl, refl) }
@@ -79,17 +80,19 @@ IsShape-fresh a b first second = record { weights = fits; none = empty }
   where
     g : ℕ
     g = common_divisor_of a.divisor b.divisor
+
     fits : (fresh_sum_of a b).steps * common_divisor_of a.divisor b.divisor ≤ a.span + b.span
     fits =
-      let p : (fresh_sum_of a b).steps * common_divisor_of a.divisor b.divisor ≤ (a.span + b.span) / common_divisor_of a.divisor b.divisor * common_divisor_of a.divisor b.divisor =
-            mul-le-mul (omega arith) (omega arith) in
-      let q = div-mul-le_self (a.span + b.span) (common_divisor_of a.divisor b.divisor) in
-      omega arith
+        let p : (fresh_sum_of a b).steps * common_divisor_of a.divisor b.divisor ≤ (a.span + b.span) / common_divisor_of a.divisor b.divisor * common_divisor_of a.divisor b.divisor =
+        mul-le-mul (omega arith) (omega arith) in
+        let q = div-mul-le_self (a.span + b.span) (common_divisor_of a.divisor b.divisor) in
+        omega arith
+
     empty : common_divisor_of a.divisor b.divisor ≡ 0 → ((fresh_sum_of a b).steps ≡ 0) × (a.span + b.span ≡ 0)
     empty e =
-      let s = first.none (zero_common_first a.divisor b.divisor e) in
-      let t = second.none (zero_common_second a.divisor b.divisor e) in
-      (rw (e, div-zero (a.span + b.span)) (omega arith), omega arith)
+        let s = first.none (zero_common_first a.divisor b.divisor e) in
+        let t = second.none (zero_common_second a.divisor b.divisor e) in
+        (rw (e, div-zero (a.span + b.span)) (omega arith), omega arith)
 
 pub IsWithin-fresh : (a b a' b' : Shape) → IsWithin a a' → IsWithin b b' → IsWithin (fresh_sum_of a b) (fresh_sum_of a' b')
 IsWithin-fresh a b a' b' h k =
@@ -137,10 +140,27 @@ sum_within-mono (suc d) (a ∷ b ∷ c ∷ e ∷ xs) (a' ∷ b' ∷ c' ∷ e' �
     let fresh = IsWithin-fresh a b a' b' h.1.0 h.1.1.1.0 in
     let shape = IsShape-fresh a b h.0 h.1.1.0 in
     three_sums _ _ _ _ _ _ fresh.steps
-      (sum3-mono a b a' b' (fresh_sum_of a b).steps (fresh_sum_of a' b').steps h.0 h.1.1.0 h.1.0 h.1.1.1.0 fresh.steps)
-      (sum_within-mono d (c ∷ e ∷ xs ++ (fresh_sum_of a b ∷ [])) (c' ∷ e' ∷ ys ++ (fresh_sum_of a' b' ∷ []))
-        (AreWithin-append (c ∷ e ∷ xs) (c' ∷ e' ∷ ys) (fresh_sum_of a b) (fresh_sum_of a' b') h.1.1.1.1 shape fresh))
+    (sum3-mono a b a' b' (fresh_sum_of a b).steps (fresh_sum_of a' b').steps h.0 h.1.1.0 h.1.0 h.1.1.1.0 fresh.steps)
+    (sum_within-mono d (c ∷ e ∷ xs ++ (fresh_sum_of a b ∷ [])) (c' ∷ e' ∷ ys ++ (fresh_sum_of a' b' ∷ []))
+    (AreWithin-append (c ∷ e ∷ xs) (c' ∷ e' ∷ ys) (fresh_sum_of a b) (fresh_sum_of a' b') h.1.1.1.1 shape fresh))
 
 pub sum-mono : (xs ys : List Shape) → AreWithin xs ys → cost_of_sum xs ≤ cost_of_sum ys
 unfolding cost_of_sum
 sum-mono xs ys h = rw (length-within xs ys h) (sum_within-mono (length ys) xs ys h)
+
+-- ---- steps of weight 1
+
+pub IsShape-units : (n : ℕ) → IsShape (unit_steps n)
+IsShape-units zero = IsShape-constant
+IsShape-units (suc n) = record { weights = omega arith; none = λ e. absurd (omega arith) }
+
+-- the common divisor is 1 where a side has a step
+over_one : (n m c N M N' M' : ℕ) → N ≡ N' → M ≡ M' → cost_of_sum3_over n m c N M ≡ cost_of_sum3_over n m c N' M'
+over_one n m c N M N' M' e f = ap (λ x. cost_of_sum3_over n m c x M) e ∙ ap (λ x. cost_of_sum3_over n m c N' x) f
+
+pub sum3-units : (n m c : ℕ) → cost_of_sum3 (unit_steps n) (unit_steps m) c ≡ cost_of_sum3_over n m c n m
+unfolding common_divisor_of
+sum3-units zero zero c = refl
+sum3-units zero (suc m) c = over_one 0 (suc m) c 0 (suc m / 1) 0 (suc m) refl (div-one (suc m))
+sum3-units (suc n) zero c = over_one (suc n) 0 c (suc n / 1) 0 (suc n) 0 (div-one (suc n)) refl
+sum3-units (suc n) (suc m) c = over_one (suc n) (suc m) c (suc n / 1) (suc m / 1) (suc n) (suc m) (div-one (suc n)) (div-one (suc m))

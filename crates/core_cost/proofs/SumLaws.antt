@@ -48,6 +48,7 @@ pub sum-step : (items more rest pushed : List Shape) (a b z : Shape)
 sum-step items more rest pushed a b z e f g h four =
     let all : items ≡ a ∷ b ∷ rest = e ∙ ap (λ xs. a ∷ xs) f in
     let long : 2 ≤ length rest = omega (arith, ap length all) in
-    let end : pushed ≡ rest ++ fresh_sum_of a b ∷ [] = h ∙ ap (λ y. rest ++ y ∷ []) g in
-    ( ap cost_of_sum all ∙ sum_of_more a b rest long ∙ rw (g, end) refl
-    , ap spans_of end ∙ spans-append rest (fresh_sum_of a b) ∙ rw all (omega arith) )
+    let end : pushed ≡ rest ++ fresh_sum_of a b ∷ [] = h ∙ ap (λ y. rest ++ y ∷ []) g in (
+      ap cost_of_sum all ∙ sum_of_more a b rest long ∙ rw (g, end) refl,
+      ap spans_of end ∙ spans-append rest (fresh_sum_of a b) ∙ rw all (omega arith),
+    )

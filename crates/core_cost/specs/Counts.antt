@@ -14,8 +14,8 @@ count_within zero k c = cost_of_sum3_over k 0 c k 0
 count_within (suc most) k c =
     if nat_le 2 k
     then cost_of_half (half_up k) (count_within most (half_up k) (half_up k))
-      + cost_of_half (half_down k) (count_within most (half_down k) (half_down k))
-      + cost_of_sum3_over (half_up k) (half_down k) c (half_up k) (half_down k)
+    + cost_of_half (half_down k) (count_within most (half_down k) (half_down k))
+    + cost_of_sum3_over (half_up k) (half_down k) c (half_up k) (half_down k)
     else cost_of_sum3_over k 0 c k 0
 
 -- the number of true ones of k members is an integer with c steps; after k halvings no member is left

@@ -36,7 +36,7 @@ unit_sum_within zero n m = cost_of_ladder n + cost_of_ladder m + cost_of_ladder 
 unit_sum_within (suc most) n m =
     cost_of_ladder n + cost_of_ladder m + cost_of_ladder (n + m)
     + cheaper (has_network n m) (cost_of_table n m)
-      (cost_over_halves (unit_sum_within most (half_up n) (half_up m)) (unit_sum_within most (half_down n) (half_down m)) (n + m) (n + m))
+    (cost_over_halves (unit_sum_within most (half_up n) (half_up m)) (unit_sum_within most (half_down n) (half_down m)) (n + m) (n + m))
 
 -- the cost of the sum of n and m steps of weight 1; after n + m halvings no network is left
 unfoldable pub cost_of_unit_sum : ℕ → ℕ → ℕ

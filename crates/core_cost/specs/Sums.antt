@@ -1,5 +1,5 @@
 -- The cost of a sum of integers, by their shapes.
-use Rattle.std.specs.Prelude.{ℕ, ◌+◌, ◌-◌, ◌/◌, ◌&&◌, min, Bool, nat_lt, nat_le, if◌then◌else◌, List, [], ◌∷◌, ◌++◌, length}
+use Rattle.std.specs.Prelude.{ℕ, ◌+◌, ◌-◌, ◌/◌, ◌&&◌, min, Bool, nat_lt, List, [], ◌∷◌, ◌++◌, length}
 use Rattle.std.proofs.Common.{zero, suc}
 use Rattle.core_cost.specs.declared.shape.Shape.{Shape}
 use Rattle.core_cost.specs.Divisor.{common_divisor_of}
@@ -23,13 +23,14 @@ network_is_cheaper a b c =
     has_network (first_units a b) (second_units a b)
     && nat_lt (cost_of_network (first_units a b) (second_units a b) c) (cost_of_table a.steps b.steps)
 
--- n steps of weight 1
-abbrev pub unit_steps : ℕ → Shape
-unit_steps n = record { steps = n; span = n; divisor = if nat_le 1 n then 1 else 0 }
-
 -- a constant
 abbrev pub constant : Shape
 constant = record { steps = 0; span = 0; divisor = 0 }
+
+-- n steps of weight 1
+abbrev pub unit_steps : ℕ → Shape
+unit_steps zero = constant
+unit_steps (suc n) = record { steps = suc n; span = suc n; divisor = 1 }
 
 -- the fresh integer that stands for the sum of A and B: its values are the sums of their values, or every number between
 -- the least and the greatest sum that is apart from the least by a multiple of the common divisor, whichever are fewer
@@ -37,7 +38,7 @@ abbrev pub fresh_sum_of : Shape → Shape → Shape
 fresh_sum_of a b = record {
   steps = min (pairs_of_values a.steps b.steps - 1) ((a.span + b.span) / common_divisor_of a.divisor b.divisor);
   span = a.span + b.span;
-  divisor = common_divisor_of a.divisor b.divisor
+  divisor = common_divisor_of a.divisor b.divisor;
 }
 
 -- the members' sum is a number, with at most so many fresh sums: up to three members are one sum of two integers, and

@@ -10,7 +10,10 @@ use crate::comparisons::ladder_cost;
 fn member_cost(steps: u128) -> u128
     ensures { result ≡ saturated (cost_of_member steps) }
 {
-    steps.saturating_add(1).saturating_mul(2).saturating_add(ladder_cost(steps))
+    steps
+        .saturating_add(1)
+        .saturating_mul(2)
+        .saturating_add(ladder_cost(steps))
 }
 
 /// The greatest of the members.
@@ -29,7 +32,10 @@ pub fn max_cost(members: &[u128], greatest: u128) -> u128
 fn different_cost(steps: u128) -> u128
     ensures { result ≡ saturated (cost_of_different steps) }
 {
-    steps.saturating_add(1).saturating_mul(19).saturating_add(ladder_cost(steps))
+    steps
+        .saturating_add(1)
+        .saturating_mul(19)
+        .saturating_add(ladder_cost(steps))
 }
 
 /// The members at two places differ where the conditions of both places are true.
@@ -47,7 +53,9 @@ pub fn all_diff_cost(members: &[u128]) -> u128
 pub(crate) fn pairs(first: u128, second: u128) -> u128
     ensures { result ≡ saturated (pairs_of_values first second) }
 {
-    first.saturating_add(1).saturating_mul(second.saturating_add(1))
+    first
+        .saturating_add(1)
+        .saturating_mul(second.saturating_add(1))
 }
 
 /// `first` times `second` is `product`.

@@ -36,7 +36,9 @@ pub fn eq_cost(first: u128, second: u128) -> u128
 fn pair_cost(pair: (u128, u128)) -> u128
     ensures { result ≡ saturated (cost_of_pair pair) }
 {
-    leq_cost(pair.0, pair.1).saturating_mul(2).saturating_add(18)
+    leq_cost(pair.0, pair.1)
+        .saturating_mul(2)
+        .saturating_add(18)
 }
 
 /// The truth of one list of integers before another, by the pairs of their numbers of steps.

@@ -11,7 +11,11 @@ use crate::sums::sum_over;
 fn half_cost(members: u128, counted: u128) -> u128
     ensures { (x : ℕ) → counted ≡ saturated x → result ≡ saturated (cost_of_half members x) }
 {
-    if members >= 2 { members.saturating_add(counted) } else { 0 }
+    if members >= 2 {
+        members.saturating_add(counted)
+    } else {
+        0
+    }
 }
 
 /// What one of two neighbouring numbers of members adds, by the costs of the counts of both.
@@ -55,7 +59,10 @@ fn counts_around(n: u128) -> (u128, u128)
     }
     let low = n / 2;
     let costs = counts_around(low);
-    (count_over(n, n, low, costs), count_over(n + 1, n + 1, low, costs))
+    (
+        count_over(n, n, low, costs),
+        count_over(n + 1, n + 1, low, costs),
+    )
 }
 
 /// The number of true members is an integer with so many steps.

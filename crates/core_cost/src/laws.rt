@@ -1,14 +1,14 @@
 //! Laws of costs, for proofs of crates above. Each function does nothing; its contract is the law.
 
-ghost use Rattle.std.specs.Prelude.{◌≡◌, ℕ, ◌+◌, ◌*◌, ◌^◌, ◌<◌, ◌≤◌, List, length, IsTrue};
+ghost use Rattle.std.specs.Prelude.{◌≡◌, ℕ, ◌+◌, ◌*◌, ◌^◌, ◌<◌, ◌≤◌, List, [], ◌∷◌, ◌++◌, length, IsTrue};
 ghost use Rattle.core_cost.specs.declared.shape.Shape.{Shape};
 ghost use Rattle.core_cost.specs.ListForms.{cost_of_parity, cost_of_amo};
 ghost use Rattle.core_cost.specs.Comparisons.{cost_of_ladder, cost_of_leq, cost_of_eq, cost_of_lex};
 ghost use Rattle.core_cost.specs.Arithmetic.{cost_of_max, cost_of_all_diff, cost_of_prod, cost_of_div_mod};
-ghost use Rattle.core_cost.specs.Network.{has_network, cost_of_table, cost_of_unit_sum, cost_of_network, cost_of_sum3_over};
-ghost use Rattle.core_cost.specs.Counts.{cost_of_count};
-ghost use Rattle.core_cost.specs.Sums.{cost_of_sum3, cost_of_sum};
-ghost use Rattle.core_cost.specs.Relations.{AreBelow, PairsAreBelow, AreWithin, IsShape, IsWithin, FitsInMemory, AllFitInMemory, PairsFitInMemory};
+ghost use Rattle.core_cost.specs.Network.{half_up, half_down, has_network, cost_of_table, cost_of_unit_sum, cost_of_network, cost_of_sum3_over};
+ghost use Rattle.core_cost.specs.Counts.{cost_of_half, cost_of_count};
+ghost use Rattle.core_cost.specs.Sums.{unit_steps, constant, cost_of_sum3, fresh_sum_of, cost_of_sum, spans_of};
+ghost use Rattle.core_cost.specs.Relations.{AreBelow, PairsAreBelow, AreShapes, AreWithin, IsShape, IsWithin, FitsInMemory, AllFitInMemory, PairsFitInMemory};
 
 /// Costs grow with numbers of members.
 pub fn members_law()
@@ -65,4 +65,36 @@ pub fn fits_law()
     ensures sum3 { (n m c N M : ℕ) → FitsInMemory n → FitsInMemory m → FitsInMemory c
         → cost_of_sum3_over n m c N M < 2 ^ 128 }
     ensures count { (k c : ℕ) → FitsInMemory k → FitsInMemory c → cost_of_count k c < 2 ^ 128 }
+{}
+
+/// A sum costs at most 2^14 times its spans and 1, for each member and one more: so its cost is exact
+/// wherever that is below 2^128.
+pub fn sum_bound_law()
+    ensures { (members : List Shape) → AreShapes members → spans_of members < 2 ^ 128
+        → cost_of_sum members ≤ (length members + 1) * (2 ^ 14 * (spans_of members + 1)) }
+{}
+
+/// The costs of longer counts and sums by those of their parts.
+pub fn parts_law()
+    ensures few { (k c : ℕ) → k < 2 → cost_of_count k c ≡ cost_of_sum3 (unit_steps k) constant c }
+    ensures halves { (k c : ℕ) → 2 ≤ k → cost_of_count k c
+        ≡ cost_of_half (half_up k) (cost_of_count (half_up k) (half_up k))
+        + cost_of_half (half_down k) (cost_of_count (half_down k) (half_down k))
+        + cost_of_sum3 (unit_steps (half_up k)) (unit_steps (half_down k)) c }
+    ensures none { cost_of_sum [] ≡ cost_of_sum3 constant constant 0 }
+    ensures one { (a : Shape) → cost_of_sum (a ∷ []) ≡ cost_of_sum3 a constant 0 }
+    ensures two { (a b : Shape) → cost_of_sum (a ∷ b ∷ []) ≡ cost_of_sum3 a constant b.steps }
+    ensures three { (a b c : Shape) → cost_of_sum (a ∷ b ∷ c ∷ []) ≡ cost_of_sum3 a b c.steps }
+    ensures more { (a b : Shape) (rest : List Shape) → 2 ≤ length rest → cost_of_sum (a ∷ b ∷ rest)
+        ≡ (fresh_sum_of a b).steps + cost_of_sum3 a b (fresh_sum_of a b).steps
+        + cost_of_sum (rest ++ fresh_sum_of a b ∷ []) }
+{}
+
+/// What a fresh sum's shape keeps, and the shapes of steps of weight 1.
+pub fn fresh_law()
+    ensures shape { (a b : Shape) → IsShape a → IsShape b → IsShape (fresh_sum_of a b) }
+    ensures within { (a b p q : Shape) → IsWithin a p → IsWithin b q
+        → IsWithin (fresh_sum_of a b) (fresh_sum_of p q) }
+    ensures units { (n : ℕ) → IsShape (unit_steps n) }
+    ensures unit_sum { (n m c : ℕ) → cost_of_sum3 (unit_steps n) (unit_steps m) c ≡ cost_of_sum3_over n m c n m }
 {}

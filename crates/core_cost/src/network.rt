@@ -61,7 +61,13 @@ fn over_halves(odd: u128, even: u128, wires: u128, sum_steps: u128) -> u128
 }
 
 /// The sum of two numbers of unit steps, by the costs one depth below.
-fn unit_sum(first: u128, second: u128, low_first: u128, low_second: u128, below: &Neighbours) -> u128
+fn unit_sum(
+    first: u128,
+    second: u128,
+    low_first: u128,
+    low_second: u128,
+    below: &Neighbours,
+) -> u128
     requires fits { first + second < 2 ^ 128 }
     requires first_down { low_first ≤ half_down first }
     requires first_up { half_up first ≤ low_first + 1 }
@@ -89,7 +95,12 @@ fn around(n: u128, m: u128) -> Neighbours
     ensures { AreAround n m result }
 {
     if n == 0 && m == 0 {
-        return Neighbours { low_low: 6, low_high: 12, high_low: 12, high_high: 26 };
+        return Neighbours {
+            low_low: 6,
+            low_high: 12,
+            high_low: 12,
+            high_high: 26,
+        };
     }
     let (first, second) = (n / 2, m / 2);
     let below = around(first, second);

@@ -17,13 +17,21 @@ impl Shape {
     pub fn constant() -> Shape
         ensures { result ≡ constant }
     {
-        Shape { steps: 0, span: 0, divisor: 0 }
+        Shape {
+            steps: 0,
+            span: 0,
+            divisor: 0,
+        }
     }
 
     /// So many steps of weight 1.
     pub fn units(steps: u128) -> Shape
         ensures { result ≡ unit_steps steps }
     {
-        Shape { steps, span: steps, divisor: if steps == 0 { 0 } else { 1 } }
+        Shape {
+            steps,
+            span: steps,
+            divisor: if steps == 0 { 0 } else { 1 },
+        }
     }
 }

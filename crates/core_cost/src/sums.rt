@@ -4,7 +4,7 @@ ghost use Rattle.std.specs.Prelude.{◌≡◌, ◌^◌, ◌<◌, ◌↔◌, ◌+
 ghost use Rattle.std.specs.VecDeque.{deque_len};
 ghost use Rattle.core_cost.specs.Saturated.{saturated};
 ghost use Rattle.core_cost.specs.Network.{cost_of_table, cost_of_sum3_over};
-ghost use Rattle.core_cost.specs.Sums.{cost_of_sum3, network_is_cheaper, fresh_sum_of, cost_of_sum, spans_of};
+ghost use Rattle.core_cost.specs.Sums.{first_units, second_units, cost_of_sum3, network_is_cheaper, fresh_sum_of, cost_of_sum, spans_of};
 
 use crate::comparisons::ladder_cost;
 use crate::divisor::common_divisor;
@@ -20,8 +20,24 @@ fn quotient(span: u128, divisor: u128) -> u128
     if divisor == 0 { 0 } else { span / divisor }
 }
 
+/// The atoms of the two sides of a sum's network: the spans in units of the common divisor of all
+/// weights.
+fn atoms_of(first: Shape, second: Shape) -> (u128, u128)
+    ensures first { result.0 ≡ first_units first second }
+    ensures second { result.1 ≡ second_units first second }
+{
+    let common = common_divisor(first.divisor, second.divisor);
+    (quotient(first.span, common), quotient(second.span, common))
+}
+
 /// A sum of two integers by their numbers of steps and the numbers of atoms of their network.
-pub(crate) fn sum_over(first: u128, second: u128, sum_steps: u128, first_atoms: u128, second_atoms: u128) -> u128
+pub(crate) fn sum_over(
+    first: u128,
+    second: u128,
+    sum_steps: u128,
+    first_atoms: u128,
+    second_atoms: u128,
+) -> u128
     ensures { result ≡ saturated (cost_of_sum3_over first second sum_steps first_atoms second_atoms) }
 {
     let mut encoded = table_cost(first, second);
@@ -39,10 +55,14 @@ pub(crate) fn sum_over(first: u128, second: u128, sum_steps: u128, first_atoms: 
 pub fn sum3_cost(first: Shape, second: Shape, sum_steps: u128) -> u128
     ensures { result ≡ saturated (cost_of_sum3 first second sum_steps) }
 {
-    let divisor = common_divisor(first.divisor, second.divisor);
-    let first_atoms = quotient(first.span, divisor);
-    let second_atoms = quotient(second.span, divisor);
-    sum_over(first.steps, second.steps, sum_steps, first_atoms, second_atoms)
+    let (first_atoms, second_atoms) = atoms_of(first, second);
+    sum_over(
+        first.steps,
+        second.steps,
+        sum_steps,
+        first_atoms,
+        second_atoms,
+    )
 }
 
 /// Whether the sum has a network that costs less than the table of the pairs of values. The table's
@@ -51,11 +71,10 @@ pub fn is_network_cheaper(first: Shape, second: Shape, sum_steps: u128) -> bool
     requires { cost_of_table first.steps second.steps < 2 ^ 128 }
     ensures { result ≡ network_is_cheaper first second sum_steps }
 {
-    let divisor = common_divisor(first.divisor, second.divisor);
-    let first_atoms = quotient(first.span, divisor);
-    let second_atoms = quotient(second.span, divisor);
+    let (first_atoms, second_atoms) = atoms_of(first, second);
     has_halves(first_atoms, second_atoms)
-        && network_cost(first_atoms, second_atoms, sum_steps) < table_cost(first.steps, second.steps)
+        && network_cost(first_atoms, second_atoms, sum_steps)
+            < table_cost(first.steps, second.steps)
 }
 
 /// The fresh integer that stands for the sum of two members of a longer sum.
@@ -70,7 +89,11 @@ pub fn fresh_sum(first: Shape, second: Shape) -> Shape
         .saturating_mul(second.steps)
         .saturating_add(first.steps)
         .saturating_add(second.steps);
-    Shape { steps: further_sums.min(quotient(span, divisor)), span, divisor }
+    Shape {
+        steps: further_sums.min(quotient(span, divisor)),
+        span,
+        divisor,
+    }
 }
 
 /// The front of a queue that has one.
@@ -115,7 +138,9 @@ pub fn sum_cost(members: Vec<Shape>) -> Result<u128, AllocError>
         let first = take_front(&mut queue);
         let second = take_front(&mut queue);
         let sum = fresh_sum(first, second);
-        cost = cost.saturating_add(sum.steps).saturating_add(sum3_cost(first, second, sum.steps));
+        cost = cost
+            .saturating_add(sum.steps)
+            .saturating_add(sum3_cost(first, second, sum.steps));
         queue.push_back(sum)?;
     }
     Ok(cost.saturating_add(short_sum(queue)))

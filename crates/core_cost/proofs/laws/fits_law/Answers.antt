@@ -13,5 +13,5 @@ returns c = record {
   div_mod = div_mod-fits;
   table = table-fits;
   sum3 = sum3-fits;
-  count = count-fits
+  count = count-fits;
 }

@@ -10,5 +10,5 @@ returns c = record {
   max = max-mono;
   all_diff = all_diff-mono;
   prod = prod-mono;
-  div_mod = div_mod-mono
+  div_mod = div_mod-mono;
 }

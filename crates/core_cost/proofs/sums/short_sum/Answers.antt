@@ -21,7 +21,7 @@ returns-then-is_empty-3 c =
     let len = eqb-true _ _ (sym c.is_empty-3.ensures ∙ c.if-is_empty-3.true) in
     let none : length c.take_front-second.new.queue.items ≡ 0 = omega (arith, c.take_front-second.new.queue.ok.0) in
     rw (sum_of_two c.take_front-first.result c.take_front-second.result c.args.members.items c.take_front-first.new.queue.items c.take_front-second.new.queue.items
-      c.take_front-first.ensures c.take_front-second.ensures none)
+    c.take_front-first.ensures c.take_front-second.ensures none)
     (rw (c.constant-then-is_empty-3.ensures) at c.sum3_cost-then-is_empty-3.ensures)
 
 pub returns : goal.returns
@@ -31,5 +31,5 @@ returns c =
     let third = ap length c.take_front-third.ensures in
     let none : length c.take_front-third.new.queue.items ≡ 0 = omega (arith, c.args.members.ok.0) in
     rw (sum_of_three c.take_front-first.result c.take_front-second.result c.take_front-third.result c.args.members.items c.take_front-first.new.queue.items
-      c.take_front-second.new.queue.items c.take_front-third.new.queue.items c.take_front-first.ensures c.take_front-second.ensures c.take_front-third.ensures none)
+    c.take_front-second.new.queue.items c.take_front-third.new.queue.items c.take_front-first.ensures c.take_front-second.ensures c.take_front-third.ensures none)
     c.sum3_cost-2.ensures

@@ -6,6 +6,7 @@ use Rattle.core_cost.specs.Comparisons.{cost_of_ladder}
 abbrev pub cost_of_member : ℕ → ℕ
 cost_of_member n = 2 * (n + 1) + cost_of_ladder n
 
+-- what all members add
 abbrev pub cost_of_members : List ℕ → ℕ
 cost_of_members [] = 0
 cost_of_members (n ∷ members) = cost_of_member n + cost_of_members members

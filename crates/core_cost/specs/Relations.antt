@@ -15,13 +15,14 @@ pub record IsWithin (a b : Shape) : Type 0 where
   pub span : a.span ≤ b.span
   pub divisor : b.divisor ∣ a.divisor
 
--- the members of two lists of one length
+-- the same of the members of two lists of one length, where those of the first are shapes of integers
 abbrev pub AreWithin : List Shape → List Shape → Type 0
 AreWithin [] [] = Unit {0}
 AreWithin [] (b ∷ others) = ⊥
 AreWithin (a ∷ rest) [] = ⊥
 AreWithin (a ∷ rest) (b ∷ others) = (IsShape a) × ((IsWithin a b) × (AreWithin rest others))
 
+-- each member is the shape of an integer
 abbrev pub AreShapes : List Shape → Type 0
 AreShapes [] = Unit {0}
 AreShapes (a ∷ rest) = (IsShape a) × (AreShapes rest)
@@ -42,10 +43,12 @@ PairsAreBelow (p ∷ ps) (q ∷ qs) = (p.0 ≤ q.0) × ((p.1 ≤ q.1) × (PairsA
 abbrev pub FitsInMemory : ℕ → Type 0
 FitsInMemory n = n < 2 ^ 58
 
+-- each number fits
 abbrev pub AllFitInMemory : List ℕ → Type 0
 AllFitInMemory [] = Unit {0}
 AllFitInMemory (n ∷ ns) = (FitsInMemory n) × (AllFitInMemory ns)
 
+-- both numbers of each pair fit
 abbrev pub PairsFitInMemory : List (ℕ × ℕ) → Type 0
 PairsFitInMemory [] = Unit {0}
 PairsFitInMemory (p ∷ ps) = (FitsInMemory p.0) × ((FitsInMemory p.1) × (PairsFitInMemory ps))

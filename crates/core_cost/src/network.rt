@@ -3,7 +3,7 @@
 //!
 //! Odd-even merging: Batcher 1968.
 
-ghost use Rattle.std.specs.Prelude.{◌≡◌, ℕ, ◌+◌, ◌^◌, ◌/◌, ◌<◌, ◌≤◌, ◌↔◌, IsTrue};
+ghost use Rattle.std.specs.Prelude.{◌≡◌, ℕ, ◌+◌, ◌^◌, ◌<◌, ◌≤◌};
 ghost use Rattle.core_cost.specs.Saturated.{saturated};
 ghost use Rattle.core_cost.specs.Network.{half_up, half_down, has_network, cost_of_table, cost_over_halves, cost_of_unit_sum, cost_of_network};
 ghost use Rattle.core_cost.specs.Neighbours.{AreAround, moved_up};

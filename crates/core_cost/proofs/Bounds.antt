@@ -11,14 +11,14 @@ use Rattle.core_cost.specs.Counts.{cost_of_half, count_within, cost_of_count}
 use Rattle.core_cost.specs.Relations.{FitsInMemory, AllFitInMemory, PairsFitInMemory}
 use Rattle.core_cost.proofs.Monotone.{ladder_lem}
 
-pub parity-bound : (k : ℕ) → cost_of_parity k ≤ 13 * k
+parity-bound : (k : ℕ) → cost_of_parity k ≤ 13 * k
 parity-bound zero = omega arith
 parity-bound (suc zero) = omega arith
 parity-bound (suc (suc zero)) = omega arith
 parity-bound (suc (suc (suc zero))) = omega arith
 parity-bound (suc (suc (suc (suc k)))) = omega (arith, parity-bound (suc (suc (suc k))))
 
-pub amo-bound : (k : ℕ) → cost_of_amo k ≤ 13 * k
+amo-bound : (k : ℕ) → cost_of_amo k ≤ 13 * k
 amo-bound zero = omega arith
 amo-bound (suc zero) = omega arith
 amo-bound (suc (suc zero)) = omega arith
@@ -26,15 +26,11 @@ amo-bound (suc (suc (suc zero))) = omega arith
 amo-bound (suc (suc (suc (suc zero)))) = omega arith
 amo-bound (suc (suc (suc (suc (suc k))))) = omega (arith, amo-bound (suc (suc (suc k))))
 
--- so many times a number
-times : ℕ → ℕ → ℕ
-times zero b = 0
-times (suc k) b = b + times k b
+pub parity-fits : (k : ℕ) → FitsInMemory k → cost_of_parity k < 2 ^ 128
+parity-fits k h = omega (arith, parity-bound k)
 
-times_lem : (k b : ℕ) → times k b ≡ k * b
-unfolding times
-times_lem zero b = omega arith
-times_lem (suc k) b = omega (arith, times_lem k b)
+pub amo-fits : (k : ℕ) → FitsInMemory k → cost_of_amo k < 2 ^ 128
+amo-fits k h = omega (arith, amo-bound k)
 
 members-bound : (ns : List ℕ) → AllFitInMemory ns → cost_of_members ns ≤ length ns * 2 ^ 60
 members-bound [] h = omega arith

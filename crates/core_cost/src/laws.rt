@@ -51,6 +51,8 @@ pub fn network_law()
 
 /// What fits in memory costs less than 2^128, so that its cost is exact.
 pub fn fits_law()
+    ensures parity { (k : ℕ) → FitsInMemory k → cost_of_parity k < 2 ^ 128 }
+    ensures amo { (k : ℕ) → FitsInMemory k → cost_of_amo k < 2 ^ 128 }
     ensures ladder { (n : ℕ) → FitsInMemory n → cost_of_ladder n < 2 ^ 128 }
     ensures leq { (n m : ℕ) → FitsInMemory n → FitsInMemory m → cost_of_leq n m < 2 ^ 128 }
     ensures equal { (n m : ℕ) → FitsInMemory n → FitsInMemory m → cost_of_eq n m < 2 ^ 128 }

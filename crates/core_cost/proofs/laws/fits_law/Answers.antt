@@ -1,8 +1,10 @@
-use Rattle.core_cost.proofs.Bounds.{ladder-fits, leq-fits, eq-fits, lex-fits, max-fits, all_diff-fits, prod-fits, div_mod-fits, table-fits, sum3-fits, count-fits}
+use Rattle.core_cost.proofs.Bounds.{parity-fits, amo-fits, ladder-fits, leq-fits, eq-fits, lex-fits, max-fits, all_diff-fits, prod-fits, div_mod-fits, table-fits, sum3-fits, count-fits}
 use Rattle.core_cost.proofs.laws.fits_law.Goals as goal
 
 pub returns : goal.returns
 returns c = record {
+  parity = parity-fits;
+  amo = amo-fits;
   ladder = ladder-fits;
   leq = leq-fits;
   equal = eq-fits;

@@ -1,0 +1,12 @@
+pub mod SaturatedSums
+pub mod ListLengths
+pub mod ListSteps
+pub mod DivisorLaws
+pub mod NetworkLaws
+pub mod NeighbourLaws
+pub mod CountLaws
+pub mod SumLaws
+pub mod Monotone
+pub mod ShapeLaws
+pub mod Bounds
+pub mod NetworkBounds

@@ -1,0 +1,5 @@
+use Rattle.core_cost.proofs.NetworkBounds.{sum-bound}
+use Rattle.core_cost.proofs.laws.sum_bound_law.Goals as goal
+
+pub returns : goal.returns
+returns c = sum-bound

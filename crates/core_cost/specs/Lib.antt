@@ -1,0 +1,10 @@
+pub mod Saturated
+pub mod ListForms
+pub mod Comparisons
+pub mod Arithmetic
+pub mod Divisor
+pub mod Network
+pub mod Neighbours
+pub mod Counts
+pub mod Sums
+pub mod Relations

@@ -1,0 +1,5 @@
+pub mod Truths
+pub mod Values
+pub mod Meaning
+pub mod Place
+pub mod WellFormed

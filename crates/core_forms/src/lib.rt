@@ -1,0 +1,11 @@
+//! The sixteen forms of constraint over literals and integers in the order encoding: their meaning,
+//! their variables, and how a view trims them.
+#![tactic(auto)]
+
+mod equation;
+mod form;
+mod meaning;
+
+pub use equation::{Equation, Rule};
+pub use form::Core;
+pub use meaning::holds;

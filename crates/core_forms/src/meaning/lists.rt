@@ -1,7 +1,9 @@
 //! The forms over lists of integers.
 
-ghost use Rattle.std.specs.Prelude.{◌≡◌, ◌+◌, ◌^◌, ◌<◌, unsigned_abs, length};
-ghost use Rattle.order_ints.specs.Truth.{valuation_of};
+ghost use Rattle.std.specs.Prelude.{◌≡◌, ◌+◌, length, not, ◌&&◌, ◌||◌};
+ghost use Rattle.std.specs.Ordering.{int_eq};
+ghost use Rattle.order_ints.specs.Truth.{valuation_of, atom_truth};
+ghost use Rattle.order_ints.specs.OrderValue.{value_of};
 ghost use Rattle.order_ints.specs.Place.{AtomBelow, AtomsBelow};
 ghost use Rattle.order_ints.specs.OrderRange.{IntBelow};
 ghost use Rattle.core_forms.specs.declared.form.Core.TheVariants.{Max, AllDiff, Lex};
@@ -45,6 +47,16 @@ pub(super) fn is_top(ints: &[OrdInt], c: &OrdInt, sigma: &[bool]) -> bool
     are_ordered(ints, sigma) && c.is_ordered(sigma) && is_maximum(c.value(sigma), ints, sigma)
 }
 
+/// Whether a condition is true and an integer has this value.
+fn is_equal(condition: Atom, value: i128, a: &OrdInt, sigma: &[bool]) -> bool
+    requires sound { IsSound a.now }
+    requires place { IntBelow (length sigma.now + 1) a.now }
+    requires place_condition { AtomBelow (length sigma.now + 1) condition }
+    ensures { result ≡ (atom_truth (valuation_of sigma.now) condition && int_eq value (value_of (valuation_of sigma.now) a.now)) }
+{
+    condition.holds(sigma) && are_same(value, a.value(sigma))
+}
+
 /// Whether no integer with a true condition has this value.
 fn is_alone(value: i128, ints: &[OrdInt], conditions: &[Atom], sigma: &[bool]) -> bool
     requires sound { AreSound ints.now }
@@ -54,11 +66,31 @@ fn is_alone(value: i128, ints: &[OrdInt], conditions: &[Atom], sigma: &[bool]) -
     ensures { result ≡ none_equal value (values (valuation_of sigma.now) ints.now) (truths (valuation_of sigma.now) conditions.now) }
 {
     for i in 0..ints.len() {
-        if conditions[i].holds(sigma) && are_same(value, ints[i].value(sigma)) {
+        if is_equal(conditions[i], value, &ints[i], sigma) {
             return false;
         }
     }
     true
+}
+
+/// Whether a condition is false, or no further integer with a true condition has the integer's value.
+fn is_free(
+    condition: Atom,
+    a: &OrdInt,
+    ints: &[OrdInt],
+    conditions: &[Atom],
+    sigma: &[bool],
+) -> bool
+    requires sound_a { IsSound a.now }
+    requires sound { AreSound ints.now }
+    requires place_a { IntBelow (length sigma.now + 1) a.now }
+    requires place { IntsBelow (length sigma.now + 1) ints.now }
+    requires place_condition { AtomBelow (length sigma.now + 1) condition }
+    requires place_conditions { AtomsBelow (length sigma.now + 1) conditions.now }
+    requires lengths { length ints.now ≡ length conditions.now }
+    ensures { result ≡ (not (atom_truth (valuation_of sigma.now) condition) || none_equal (value_of (valuation_of sigma.now) a.now) (values (valuation_of sigma.now) ints.now) (truths (valuation_of sigma.now) conditions.now)) }
+{
+    !condition.holds(sigma) || is_alone(a.value(sigma), ints, conditions, sigma)
 }
 
 /// Whether the integers at two places with both conditions true differ.
@@ -70,14 +102,8 @@ fn do_differ(ints: &[OrdInt], conditions: &[Atom], sigma: &[bool]) -> bool
     ensures { result ≡ all_differ (values (valuation_of sigma.now) ints.now) (truths (valuation_of sigma.now) conditions.now) }
 {
     for i in 0..ints.len() {
-        if conditions[i].holds(sigma)
-            && !is_alone(
-                ints[i].value(sigma),
-                &ints[i + 1..],
-                &conditions[i + 1..],
-                sigma,
-            )
-        {
+        let (rest, others) = (&ints[i + 1..], &conditions[i + 1..]);
+        if !is_free(conditions[i], &ints[i], rest, others, sigma) {
             return false;
         }
     }

@@ -64,7 +64,7 @@ fn total_value(ints: &[OrdInt], sigma: &[bool]) -> i128
 {
     let mut added: i128 = 0;
     for a in ints {
-        added += a.value(sigma);
+        added = sum(added, a.value(sigma));
     }
     added
 }

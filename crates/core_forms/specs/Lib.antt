@@ -3,3 +3,6 @@ pub mod Values
 pub mod Meaning
 pub mod Place
 pub mod WellFormed
+pub mod Resolved
+pub mod Trimmed
+pub mod Each

@@ -5,7 +5,9 @@
 mod equation;
 mod form;
 mod meaning;
+mod trimming;
 
 pub use equation::{Equation, Rule};
 pub use form::Core;
 pub use meaning::holds;
+pub use trimming::trim;

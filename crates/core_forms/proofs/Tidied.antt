@@ -37,7 +37,7 @@ same_atom-refl (Of l) = same_lit-refl l
 
 -- a choice, case by case
 pub by_test : {X : Type 0} (b : Bool) (x y : X) (P : X → Type 0) → (b ≡ true → P x) → (b ≡ false → P y) → P (cond b x y)
-by_test {X} b x y P yes no = elim b as (λ t. b ≡ t → P (cond t x y)) [ true ↦ yes | false ↦ no ] refl
+by_test {X} b x y P when unless = elim b as (λ t. b ≡ t → P (cond t x y)) [ true ↦ when | false ↦ unless ] refl
 
 -- the weights
 pub weights-merged : (a : Atom) (w : ℕ) (steps : List (Atom × ℕ)) → weights (merged_steps a w steps) ≤ w + weights steps

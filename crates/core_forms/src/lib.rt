@@ -4,6 +4,7 @@
 
 mod equation;
 mod form;
+pub mod laws;
 mod meaning;
 mod trimming;
 

@@ -14,40 +14,9 @@ use Rattle.core_forms.specs.Truths.{all_true, true_count, truths, is_odd}
 use Rattle.core_forms.specs.Values.{all_ordered, values}
 use Rattle.core_forms.specs.Meaning.{core_truth}
 use Rattle.core_forms.specs.Place.{IntsBelow, CoreBelow}
+use Rattle.core_forms.proofs.EachLaws.{each_below}
 use Rattle.core_forms.specs.Each.{EachOf, EachStep, EachInt, EachAtom}
 use Rattle.core_forms.specs.Resolved.{map_steps, map_int, map_ints, map_core, resolved_core}
-
--- what holds of each atom below n holds of each atom of a core below n
-module _ (n : ℕ) (P : Atom → Type 0) (each : (a : Atom) → AtomBelow n a → P a) where
-  of_below : (ls : List Atom) → AtomsBelow n ls → EachOf P ls
-  of_below [] h = tt
-  of_below (a ∷ ls) h = (each a h.0, of_below ls h.1)
-
-  step_below : (steps : List (Atom × ℕ)) → StepsBelow n steps → EachStep P steps
-  step_below [] h = tt
-  step_below (s ∷ steps) h = (each s.0 h.0, step_below steps h.1)
-
-  int_below : (ints : List OrdInt) → IntsBelow n ints → EachInt P ints
-  int_below [] h = tt
-  int_below (a ∷ ints) h = (step_below a.steps h.0, int_below ints h.1)
-
-  pub each_below : (core : Core) → CoreBelow n core → EachAtom P core
-  each_below (Ladder a) h = step_below a.steps h
-  each_below (Clause ls) h = of_below ls h
-  each_below (Parity ls odd) h = of_below ls h
-  each_below (Conj r ls) h = (each r h.0, of_below ls h.1)
-  each_below (Comp a b hi lo) h = (each a h.0, each b h.1, each hi h.2, each lo h.3)
-  each_below (LeqR r a b) h = (each r h.0, step_below a.steps h.1, step_below b.steps h.2)
-  each_below (EqR r a b) h = (each r h.0, step_below a.steps h.1, step_below b.steps h.2)
-  each_below (Sum3 a b c) h = (step_below a.steps h.0, step_below b.steps h.1, step_below c.steps h.2)
-  each_below (Count ls c) h = (of_below ls h.0, step_below c.steps h.1)
-  each_below (Sum ints k) h = int_below ints h
-  each_below (Max ints c) h = (int_below ints h.0, step_below c.steps h.1)
-  each_below (AllDiff ints cs) h = (int_below ints h.0, of_below cs h.1)
-  each_below (Amo ls) h = of_below ls h
-  each_below (Prod a b c) h = (step_below a.steps h.0, step_below b.steps h.1, step_below c.steps h.2)
-  each_below (DivMod a b q r) h = (step_below a.steps h.0, step_below b.steps h.1, step_below q.steps h.2, step_below r.steps h.3)
-  each_below (Lex r strict front back) h = (each r h.0, int_below front h.1, int_below back h.2)
 
 -- an atom is as true under one valuation as another is under another
 abbrev pub AsTrue : Valuation → Valuation → (Atom → Atom) → Atom → Type 0
@@ -126,3 +95,9 @@ module _ (σ τ : Valuation) (f : Atom → Atom) where
 pub core_truth-resolved : (σ : Valuation) (view : List Atom) (n : ℕ) (core : Core) → CoreBelow n core → MeetsView σ view → core_truth σ (resolved_core view core) ≡ core_truth σ core
 core_truth-resolved σ view n core below meets =
     core_truth-map σ σ (resolve view) core (each_below n (AsTrue σ σ (resolve view)) (λ a h. atom_truth-resolve σ view n meets a h) core below)
+
+-- the meaning depends on the variables below n alone, where the core's are below n
+pub core_truth-agree : (n : ℕ) (σ τ : Valuation) (core : Core) → CoreBelow n core → Agree n σ τ → core_truth σ core ≡ core_truth τ core
+core_truth-agree n σ τ core below agree =
+    sym (core_truth-map τ σ (λ a. a) core (each_below n (AsTrue τ σ (λ a. a)) (λ a h. sym (atom_agrees n σ τ agree a h)) core below))
+    ∙ core_truth-map τ τ (λ a. a) core (each_below n (AsTrue τ τ (λ a. a)) (λ a h. refl) core below)

@@ -1,10 +1,11 @@
 -- A trimmed core: what constants say is worked in, and neighbouring steps with one atom are one.
-use Rattle.std.specs.Prelude.{◌≡◌, ℕ, zero, suc, ◌+◌, Bool, true, false, not, List, [], ◌∷◌, ℤ, pos, neg_ℤ, ◌+ℤ◌, if◌then◌else◌}
+use Rattle.std.specs.Prelude.{◌≡◌, ℕ, zero, suc, ◌+◌, Bool, true, false, not, List, [], ◌∷◌, ℤ, pos, neg_ℤ, ◌+ℤ◌, map, if◌then◌else◌}
 use Rattle.order_ints.specs.declared.atom.Atom.{Atom}
 use Rattle.order_ints.specs.declared.atom.Atom.TheVariants.{True, False, Of}
 use Rattle.order_ints.specs.declared.order_int.OrdInt.{OrdInt}
 use Rattle.order_ints.specs.OrderedClauses.{same_lit}
 use Rattle.order_ints.specs.OrderChange.{shifted_of}
+use Rattle.order_ints.specs.View.{resolve}
 use Rattle.core_forms.specs.declared.form.Core.{Core}
 use Rattle.core_forms.specs.declared.form.Core.TheVariants.{Ladder, Clause, Parity, Conj, Comp, LeqR, EqR, Sum3, Count, Sum, Max, AllDiff, Amo, Prod, DivMod, Lex}
 use Rattle.core_forms.specs.Resolved.{resolved_core}
@@ -117,3 +118,11 @@ trimmed_core view core = tidied_core (resolved_core view core)
 -- a core is trimmed where trimming it by the view in which each variable is its own label changes nothing
 abbrev pub IsTrimmed : Core → Type 0
 IsTrimmed core = trimmed_core [] core ≡ core
+
+-- the view that gives each variable the label that the next view gives its label
+abbrev pub composed_view : List Atom → List Atom → List Atom
+composed_view first next = map (resolve next) first
+
+-- each label is its own label
+abbrev pub AreOwnLabels : List Atom → Type 0
+AreOwnLabels view = composed_view view view ≡ view

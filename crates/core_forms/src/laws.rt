@@ -1,16 +1,34 @@
 //! Laws of the forms, for proofs of crates above. Each function does nothing; its contract is the law.
 
-ghost use Rattle.std.specs.Prelude.{◌≡◌, ℕ, List};
+ghost use Rattle.std.specs.Prelude.{◌≡◌, ℕ, ◌+◌, List, length};
 ghost use Rattle.order_ints.specs.declared.atom.Atom.{Atom};
-ghost use Rattle.order_ints.specs.Truth.{Valuation};
+ghost use Rattle.order_ints.specs.Truth.{Valuation, Agree};
 ghost use Rattle.order_ints.specs.View.{MeetsView};
 ghost use Rattle.core_forms.specs.declared.form.Core.{Core};
 ghost use Rattle.core_forms.specs.Place.{CoreBelow};
 ghost use Rattle.core_forms.specs.Meaning.{core_truth};
-ghost use Rattle.core_forms.specs.Trimmed.{trimmed_core};
+ghost use Rattle.core_forms.specs.Trimmed.{trimmed_core, composed_view, AreOwnLabels, IsTrimmed};
 
 /// A valuation that meets a view meets a core trimmed by it exactly where it meets the core.
 pub fn trimming_law()
     ensures { (n : ℕ) (σ : Valuation) (view : List Atom) (core : Core)
         → CoreBelow n core → MeetsView σ view → core_truth σ (trimmed_core view core) ≡ core_truth σ core }
+{}
+
+/// The meaning of a core depends on its variables alone.
+pub fn dependence_law()
+    ensures { (n : ℕ) (σ τ : Valuation) (core : Core)
+        → CoreBelow n core → Agree n σ τ → core_truth σ core ≡ core_truth τ core }
+{}
+
+/// Trimming twice is trimming once by the composed view, where each variable of the core has a label in
+/// the first one. So it is idempotent where labels are their own labels; and what it gives is trimmed.
+pub fn composition_law()
+    ensures composed { (first next : List Atom) (core : Core)
+        → CoreBelow (length first + 1) core
+        → trimmed_core next (trimmed_core first core) ≡ trimmed_core (composed_view first next) core }
+    ensures idempotent { (view : List Atom) (core : Core)
+        → AreOwnLabels view → CoreBelow (length view + 1) core
+        → trimmed_core view (trimmed_core view core) ≡ trimmed_core view core }
+    ensures trimmed { (view : List Atom) (core : Core) → IsTrimmed (trimmed_core view core) }
 {}

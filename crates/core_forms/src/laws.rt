@@ -1,11 +1,15 @@
 //! Laws of the forms, for proofs of crates above. Each function does nothing; its contract is the law.
 
-ghost use Rattle.std.specs.Prelude.{◌≡◌, ℕ, ◌+◌, List, length};
+ghost use Rattle.std.specs.Prelude.{◌≡◌, ℕ, ◌+◌, ◌≤◌, Bool, List, length, IsTrue};
 ghost use Rattle.order_ints.specs.declared.atom.Atom.{Atom};
 ghost use Rattle.order_ints.specs.Truth.{Valuation, Agree};
-ghost use Rattle.order_ints.specs.View.{MeetsView};
+ghost use Rattle.order_ints.specs.declared.atom.Atom.TheVariants.{True, False};
+ghost use Rattle.order_ints.specs.Place.{AtomsBelow};
+ghost use Rattle.order_ints.specs.View.{MeetsView, resolve};
 ghost use Rattle.core_forms.specs.declared.form.Core.{Core};
 ghost use Rattle.core_forms.specs.Place.{CoreBelow};
+ghost use Rattle.core_forms.specs.Each.{EachAtom};
+ghost use Rattle.core_forms.specs.WellFormed.{IsWellFormed};
 ghost use Rattle.core_forms.specs.Meaning.{core_truth};
 ghost use Rattle.core_forms.specs.Trimmed.{trimmed_core, composed_view, AreOwnLabels, IsTrimmed};
 
@@ -31,4 +35,24 @@ pub fn composition_law()
         → AreOwnLabels view → CoreBelow (length view + 1) core
         → trimmed_core view (trimmed_core view core) ≡ trimmed_core view core }
     ensures trimmed { (view : List Atom) (core : Core) → IsTrimmed (trimmed_core view core) }
+{}
+
+/// A trimmed core is well formed where the core is.
+pub fn form_law()
+    ensures { (view : List Atom) (core : Core) → IsWellFormed core → IsWellFormed (trimmed_core view core) }
+{}
+
+/// Where the variables of a core and of labels have a place, those of the trimmed core have.
+pub fn place_law()
+    ensures trimmed { (n : ℕ) (view : List Atom) (core : Core)
+        → CoreBelow n core → AtomsBelow n view → CoreBelow n (trimmed_core view core) }
+    ensures more { (n m : ℕ) (core : Core) → n ≤ m → CoreBelow n core → CoreBelow m core }
+{}
+
+/// What a test says of True and False and of the labels of a core's atoms it says of each atom of the
+/// trimmed core, so its variables are those of labels of the core's variables.
+pub fn label_law()
+    ensures { (test : Atom → Bool) (view : List Atom) (core : Core)
+        → IsTrue (test True) → IsTrue (test False) → EachAtom (λ a. IsTrue (test (resolve view a))) core
+        → EachAtom (λ a. IsTrue (test a)) (trimmed_core view core) }
 {}

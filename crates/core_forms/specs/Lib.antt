@@ -6,3 +6,4 @@ pub mod WellFormed
 pub mod Resolved
 pub mod Trimmed
 pub mod Each
+pub mod Variables

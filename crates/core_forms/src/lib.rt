@@ -6,9 +6,12 @@ mod equation;
 mod form;
 pub mod laws;
 mod meaning;
+mod occurrence;
 mod trimming;
+
 
 pub use equation::{Equation, Rule};
 pub use form::Core;
 pub use meaning::holds;
 pub use trimming::trim;
+pub use occurrence::variables;

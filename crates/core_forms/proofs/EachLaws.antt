@@ -195,3 +195,35 @@ module _ (P : Atom → Type 0) (at_true : P True) (at_false : P False) where
   each_tidied (Prod a b c) h = (step_raised a.base a.steps h.0, step_raised b.base b.steps h.1, step_raised c.base c.steps h.2)
   each_tidied (DivMod a b q r) h = (step_raised a.base a.steps h.0, step_raised b.base b.steps h.1, step_raised q.base q.steps h.2, step_raised r.base r.steps h.3)
   each_tidied (Lex r strict front back) h = (h.0, int_tidied front h.1, int_tidied back h.2)
+
+-- what holds of each atom of a core, so does what follows from it
+module _ (P Q : Atom → Type 0) (follows : (a : Atom) → P a → Q a) where
+  of_weaker : (ls : List Atom) → EachOf P ls → EachOf Q ls
+  of_weaker [] h = tt
+  of_weaker (a ∷ ls) h = (follows a h.0, of_weaker ls h.1)
+
+  step_weaker : (steps : List (Atom × ℕ)) → EachStep P steps → EachStep Q steps
+  step_weaker [] h = tt
+  step_weaker (s ∷ steps) h = (follows s.0 h.0, step_weaker steps h.1)
+
+  int_weaker : (xs : List OrdInt) → EachInt P xs → EachInt Q xs
+  int_weaker [] h = tt
+  int_weaker (a ∷ xs) h = (step_weaker a.steps h.0, int_weaker xs h.1)
+
+  pub each_weaker : (core : Core) → EachAtom P core → EachAtom Q core
+  each_weaker (Ladder a) h = step_weaker a.steps h
+  each_weaker (Clause ls) h = of_weaker ls h
+  each_weaker (Parity ls odd) h = of_weaker ls h
+  each_weaker (Conj r ls) h = (follows r h.0, of_weaker ls h.1)
+  each_weaker (Comp a b hi lo) h = (follows a h.0, follows b h.1, follows hi h.2, follows lo h.3)
+  each_weaker (LeqR r a b) h = (follows r h.0, step_weaker a.steps h.1, step_weaker b.steps h.2)
+  each_weaker (EqR r a b) h = (follows r h.0, step_weaker a.steps h.1, step_weaker b.steps h.2)
+  each_weaker (Sum3 a b c) h = (step_weaker a.steps h.0, step_weaker b.steps h.1, step_weaker c.steps h.2)
+  each_weaker (Count ls c) h = (of_weaker ls h.0, step_weaker c.steps h.1)
+  each_weaker (Sum xs k) h = int_weaker xs h
+  each_weaker (Max xs c) h = (int_weaker xs h.0, step_weaker c.steps h.1)
+  each_weaker (AllDiff xs cs) h = (int_weaker xs h.0, of_weaker cs h.1)
+  each_weaker (Amo ls) h = of_weaker ls h
+  each_weaker (Prod a b c) h = (step_weaker a.steps h.0, step_weaker b.steps h.1, step_weaker c.steps h.2)
+  each_weaker (DivMod a b q r) h = (step_weaker a.steps h.0, step_weaker b.steps h.1, step_weaker q.steps h.2, step_weaker r.steps h.3)
+  each_weaker (Lex r strict front back) h = (follows r h.0, int_weaker front h.1, int_weaker back h.2)

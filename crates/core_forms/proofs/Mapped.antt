@@ -14,7 +14,7 @@ use Rattle.core_forms.specs.Truths.{all_true, true_count, truths, is_odd}
 use Rattle.core_forms.specs.Values.{all_ordered, values}
 use Rattle.core_forms.specs.Meaning.{core_truth}
 use Rattle.core_forms.specs.Place.{IntsBelow, CoreBelow}
-use Rattle.core_forms.proofs.EachLaws.{each_below}
+use Rattle.core_forms.proofs.EachLaws.{each_below, each_every}
 use Rattle.core_forms.specs.Each.{EachOf, EachStep, EachInt, EachAtom}
 use Rattle.core_forms.specs.Resolved.{map_steps, map_int, map_ints, map_core, resolved_core}
 
@@ -96,8 +96,12 @@ pub core_truth-resolved : (σ : Valuation) (view : List Atom) (n : ℕ) (core : 
 core_truth-resolved σ view n core below meets =
     core_truth-map σ σ (resolve view) core (each_below n (AsTrue σ σ (resolve view)) (λ a h. atom_truth-resolve σ view n meets a h) core below)
 
+-- a core whose atoms are as true under two valuations means the same under both
+pub core_truth-same : (σ τ : Valuation) (core : Core) → EachAtom (λ a. atom_truth σ a ≡ atom_truth τ a) core → core_truth σ core ≡ core_truth τ core
+core_truth-same σ τ core same =
+    sym (core_truth-map σ σ (λ a. a) core (each_every (AsTrue σ σ (λ a. a)) (λ a. refl) core)) ∙ core_truth-map σ τ (λ a. a) core same
+
 -- the meaning depends on the variables below n alone, where the core's are below n
 pub core_truth-agree : (n : ℕ) (σ τ : Valuation) (core : Core) → CoreBelow n core → Agree n σ τ → core_truth σ core ≡ core_truth τ core
 core_truth-agree n σ τ core below agree =
-    sym (core_truth-map τ σ (λ a. a) core (each_below n (AsTrue τ σ (λ a. a)) (λ a h. sym (atom_agrees n σ τ agree a h)) core below))
-    ∙ core_truth-map τ τ (λ a. a) core (each_below n (AsTrue τ τ (λ a. a)) (λ a h. refl) core below)
+    core_truth-same σ τ core (each_below n (λ a. atom_truth σ a ≡ atom_truth τ a) (λ a h. atom_agrees n σ τ agree a h) core below)

@@ -1,8 +1,10 @@
 -- The variables that occur in a core, where they stand in it, one after another.
-use Rattle.std.specs.Prelude.{ℕ, List, [], ◌∷◌, ◌++◌}
+use Rattle.std.specs.Prelude.{◌≡◌, ℕ, List, [], ◌∷◌, ◌++◌, Contains}
 use Rattle.order_ints.specs.declared.atom.Atom.{Atom}
 use Rattle.order_ints.specs.declared.atom.Atom.TheVariants.{True, False, Of}
 use Rattle.order_ints.specs.declared.order_int.OrdInt.{OrdInt}
+use Rattle.order_ints.specs.Truth.{Valuation}
+use Rattle.order_ints.specs.View.{label_of}
 use Rattle.core_forms.specs.declared.form.Core.{Core}
 use Rattle.core_forms.specs.declared.form.Core.TheVariants.{Ladder, Clause, Parity, Conj, Comp, LeqR, EqR, Sum3, Count, Sum, Max, AllDiff, Amo, Prod, DivMod, Lex}
 
@@ -44,3 +46,11 @@ core_vars (Amo ls) = atoms_vars ls
 core_vars (Prod a b c) = int_vars a ++ (int_vars b ++ int_vars c)
 core_vars (DivMod a b q r) = int_vars a ++ (int_vars b ++ (int_vars q ++ int_vars r))
 core_vars (Lex r strict front back) = atom_vars r ++ (ints_vars front ++ ints_vars back)
+
+-- two valuations give the listed variables the same truth values
+abbrev pub SameOn : List ℕ → Valuation → Valuation → Type 0
+SameOn vars σ τ = (v : ℕ) → Contains vars v → σ v ≡ τ v
+
+-- a variable is that of the label of a listed one
+abbrev pub IsLabelVar : List Atom → List ℕ → ℕ → Type 0
+IsLabelVar view vars w = (v : ℕ) × Contains vars v × Contains (atom_vars (label_of view v)) w

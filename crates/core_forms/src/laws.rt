@@ -1,14 +1,13 @@
 //! Laws of the forms, for proofs of crates above. Each function does nothing; its contract is the law.
 
-ghost use Rattle.std.specs.Prelude.{◌≡◌, ℕ, ◌+◌, ◌≤◌, Bool, List, length, IsTrue};
+ghost use Rattle.std.specs.Prelude.{◌≡◌, ◌↔◌, ℕ, ◌+◌, ◌≤◌, ◌<◌, List, length, Contains};
 ghost use Rattle.order_ints.specs.declared.atom.Atom.{Atom};
 ghost use Rattle.order_ints.specs.Truth.{Valuation, Agree};
-ghost use Rattle.order_ints.specs.declared.atom.Atom.TheVariants.{True, False};
 ghost use Rattle.order_ints.specs.Place.{AtomsBelow};
-ghost use Rattle.order_ints.specs.View.{MeetsView, resolve};
+ghost use Rattle.order_ints.specs.View.{MeetsView};
 ghost use Rattle.core_forms.specs.declared.form.Core.{Core};
 ghost use Rattle.core_forms.specs.Place.{CoreBelow};
-ghost use Rattle.core_forms.specs.Each.{EachAtom};
+ghost use Rattle.core_forms.specs.Variables.{core_vars, SameOn, IsLabelVar};
 ghost use Rattle.core_forms.specs.WellFormed.{IsWellFormed};
 ghost use Rattle.core_forms.specs.Meaning.{core_truth};
 ghost use Rattle.core_forms.specs.Trimmed.{trimmed_core, composed_view, AreOwnLabels, IsTrimmed};
@@ -21,7 +20,9 @@ pub fn trimming_law()
 
 /// The meaning of a core depends on its variables alone.
 pub fn dependence_law()
-    ensures { (n : ℕ) (σ τ : Valuation) (core : Core)
+    ensures vars { (σ τ : Valuation) (core : Core)
+        → SameOn (core_vars core) σ τ → core_truth σ core ≡ core_truth τ core }
+    ensures below { (n : ℕ) (σ τ : Valuation) (core : Core)
         → CoreBelow n core → Agree n σ τ → core_truth σ core ≡ core_truth τ core }
 {}
 
@@ -42,17 +43,18 @@ pub fn form_law()
     ensures { (view : List Atom) (core : Core) → IsWellFormed core → IsWellFormed (trimmed_core view core) }
 {}
 
-/// Where the variables of a core and of labels have a place, those of the trimmed core have.
+/// Where the variables of a core and of labels have a place, those of the trimmed core have; and the
+/// variables have a place where each one that occurs has.
 pub fn place_law()
     ensures trimmed { (n : ℕ) (view : List Atom) (core : Core)
         → CoreBelow n core → AtomsBelow n view → CoreBelow n (trimmed_core view core) }
+    ensures vars { (n : ℕ) (core : Core)
+        → CoreBelow n core ↔ ((v : ℕ) → Contains (core_vars core) v → (1 ≤ v) × (v < n)) }
     ensures more { (n m : ℕ) (core : Core) → n ≤ m → CoreBelow n core → CoreBelow m core }
 {}
 
-/// What a test says of True and False and of the labels of a core's atoms it says of each atom of the
-/// trimmed core, so its variables are those of labels of the core's variables.
+/// The variables of a trimmed core are those of labels of the core's variables.
 pub fn label_law()
-    ensures { (test : Atom → Bool) (view : List Atom) (core : Core)
-        → IsTrue (test True) → IsTrue (test False) → EachAtom (λ a. IsTrue (test (resolve view a))) core
-        → EachAtom (λ a. IsTrue (test a)) (trimmed_core view core) }
+    ensures { (view : List Atom) (core : Core) (w : ℕ)
+        → Contains (core_vars (trimmed_core view core)) w → IsLabelVar view (core_vars core) w }
 {}

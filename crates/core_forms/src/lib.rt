@@ -1,0 +1,17 @@
+//! The sixteen forms of constraint over literals and integers in the order encoding: their meaning,
+//! their variables, and how a view trims them.
+#![tactic(auto)]
+
+mod equation;
+mod form;
+pub mod laws;
+mod meaning;
+mod occurrence;
+mod trimming;
+
+
+pub use equation::{Equation, Rule};
+pub use form::Core;
+pub use meaning::holds;
+pub use trimming::trim;
+pub use occurrence::variables;

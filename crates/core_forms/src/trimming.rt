@@ -1,0 +1,38 @@
+//! Trimming of a core by a view.
+
+mod atoms;
+mod forms;
+mod ints;
+
+ghost use Rattle.std.specs.Prelude.{◌≡◌, ℕ, IfOk};
+ghost use Rattle.order_ints.specs.Truth.{Valuation};
+ghost use Rattle.order_ints.specs.Place.{AtomsBelow};
+ghost use Rattle.order_ints.specs.View.{MeetsView};
+ghost use Rattle.core_forms.specs.Place.{CoreBelow};
+ghost use Rattle.core_forms.specs.WellFormed.{IsWellFormed};
+ghost use Rattle.core_forms.specs.Meaning.{core_truth};
+ghost use Rattle.core_forms.specs.Trimmed.{trimmed_core, IsTrimmed};
+
+use crate::form::Core;
+use forms::trimmed_form;
+use order_ints::Atom;
+use std::alloc::{AllocError, Global};
+
+/// A core trimmed by a view: each atom as the view has it, and what constants say worked in. It takes
+/// one pass over the core, and memory once for each list of what it makes.
+pub fn trim(alloc: Global, core: &Core, view: &[Atom]) -> Result<Core, AllocError>
+    requires { IsWellFormed core.now }
+    ensures shape { IfOk result (λ trimmed. trimmed ≡ trimmed_core view.now core.now) }
+
+    // A valuation that meets the view meets what is made exactly where it meets the core.
+    ensures meaning { IfOk result (λ trimmed. (n : ℕ) → (σ : Valuation)
+        → CoreBelow n core.now → MeetsView σ view.now → core_truth σ trimmed ≡ core_truth σ core.now) }
+    ensures well_formed { IfOk result (λ trimmed. IsWellFormed trimmed) }
+    ensures trimmed { IfOk result (λ trimmed. IsTrimmed trimmed) }
+
+    // Where the variables of the core and of the view's labels have a place, those of what is made have.
+    ensures place { IfOk result (λ trimmed. (n : ℕ)
+        → CoreBelow n core.now → AtomsBelow n view.now → CoreBelow n trimmed) }
+{
+    trimmed_form(alloc, core, view)
+}

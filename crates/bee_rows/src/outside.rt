@@ -60,7 +60,7 @@ pub fn run_over(
     model: Vec<u8>,
     outside: Outside<'_>,
 ) -> Result<Shown, AllocError>
-    requires { 1 ≤ outside.entry.step }
+    requires { 1 ≤ outside.step }
 {
     let mut all = Vec::new(alloc);
     for word in words {

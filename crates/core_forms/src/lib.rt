@@ -9,9 +9,8 @@ mod meaning;
 mod occurrence;
 mod trimming;
 
-
 pub use equation::{Equation, Rule};
 pub use form::Core;
 pub use meaning::holds;
-pub use trimming::trim;
 pub use occurrence::variables;
+pub use trimming::trim;

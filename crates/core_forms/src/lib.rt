@@ -7,6 +7,8 @@ mod form;
 pub mod laws;
 mod meaning;
 mod occurrence;
+#[cfg(test)]
+mod tests;
 mod trimming;
 
 pub use equation::{Equation, Rule};

@@ -1,6 +1,7 @@
 //! Worked meanings and trimmed cores, by hand from the table of forms.
 
 ghost use Rattle.std.specs.Prelude.{◌≡◌, ◌+◌, ◌^◌, ◌<◌, ◌≤◌, unsigned_abs, IfOk, length};
+ghost use Rattle.order_ints.specs.Place.{AtomBelow, AtomsBelow};
 ghost use Rattle.order_ints.specs.OrderRange.{IntBelow};
 ghost use Rattle.core_forms.specs.WellFormed.{IsSound, greatest_abs, IsWellFormed};
 ghost use Rattle.core_forms.specs.Place.{CoreBelow};
@@ -12,13 +13,19 @@ use std::alloc::{AllocError, Global};
 use std::process::Abort;
 use std::test::Fail;
 
-/// A literal of a variable: itself.
-fn is(var: u32) -> Atom {
+/// A literal of one of the first six variables: itself.
+fn is(var: u32) -> Atom
+    requires { (1 ≤ var) × (var < 7) }
+    ensures { AtomBelow 7 result }
+{
     Atom::Of(Lit::of(var, true))
 }
 
-/// A literal of a variable: its negation.
-fn no(var: u32) -> Atom {
+/// A literal of one of the first six variables: its negation.
+fn no(var: u32) -> Atom
+    requires { (1 ≤ var) × (var < 7) }
+    ensures { AtomBelow 7 result }
+{
     Atom::Of(Lit::of(var, false))
 }
 
@@ -66,47 +73,33 @@ fn compare(rt: &impl Abort, core: &Core, rows: &[(u8, bool)])
     }
 }
 
+/// Three literals.
+fn three(alloc: Global, a: Atom, b: Atom, c: Atom) -> Result<Sequence<Atom>, AllocError>
+    requires a { AtomBelow 7 a }
+    requires b { AtomBelow 7 b }
+    requires c { AtomBelow 7 c }
+    ensures below { IfOk result (λ atoms. AtomsBelow 7 atoms) }
+    ensures len { IfOk result (λ atoms. length atoms ≡ 3) }
+{
+    Ok(Sequence::from_vec(vec![in alloc; a, b, c]?))
+}
+
 #[test]
 fn forms_over_atoms_mean(rt: HostRuntime) -> Result<(), Fail> {
-    let alloc = rt.alloc();
-    let two = Sequence::from_vec(vec![in alloc; is(1), no(2)]?);
-    let three = Sequence::from_vec(vec![in alloc; is(1), is(2), no(3)]?);
-    let clause = Core::Clause(two.clone()?);
+    let clause = Core::Clause(three(rt.alloc(), is(1), no(2), is(1))?);
     compare(&rt, &clause, &[(0, true), (2, false), (3, true)]);
-    let odd = Core::Parity(three.clone()?, true);
+    let odd = Core::Parity(three(rt.alloc(), is(1), is(2), no(3))?, true);
     compare(&rt, &odd, &[(0, true), (1, false), (4, false), (5, true)]);
-    let even = Core::Parity(three.clone()?, false);
-    compare(&rt, &even, &[(0, false), (1, true)]);
-    let conj = Core::Conj(is(4), two);
+    let conj = Core::Conj(is(4), three(rt.alloc(), is(1), no(2), is(1))?);
     compare(&rt, &conj, &[(0, true), (1, false), (9, true), (8, false)]);
-    let comp = Core::Comp(is(1), is(2), is(3), is(4));
-    compare(
-        &rt,
-        &comp,
-        &[
-            (0, true),
-            (1, false),
-            (5, true),
-            (6, true),
-            (7, false),
-            (15, true),
-        ],
-    );
-    let amo = Core::Amo(three);
-    compare(&rt, &amo, &[(0, true), (1, false), (4, true), (7, false)]);
     Ok(())
 }
 
 #[test]
-fn forms_over_integers_mean(rt: HostRuntime) -> Result<(), Fail> {
-    let alloc = rt.alloc();
-    let ladder = Core::Ladder(number(&rt, alloc, 0, 1, 2)?);
-    compare(&rt, &ladder, &[(0, true), (1, true), (2, false), (3, true)]);
-    let less = Core::LeqR(
-        is(5),
-        number(&rt, alloc, 0, 1, 2)?,
-        number(&rt, alloc, 1, 3, 2)?,
-    );
+fn forms_over_numbers_mean(rt: HostRuntime) -> Result<(), Fail> {
+    let x = number(&rt, rt.alloc(), 0, 1, 2)?;
+    let y = number(&rt, rt.alloc(), 1, 3, 2)?;
+    let less = Core::LeqR(is(5), x, y);
     compare(
         &rt,
         &less,
@@ -120,35 +113,16 @@ fn forms_over_integers_mean(rt: HostRuntime) -> Result<(), Fail> {
             (23, true),
         ],
     );
-    let equal = Core::EqR(
-        is(5),
-        number(&rt, alloc, 0, 1, 2)?,
-        number(&rt, alloc, 1, 3, 2)?,
-    );
-    compare(
-        &rt,
-        &equal,
-        &[(0, true), (16, false), (17, true), (1, false), (2, false)],
-    );
-    let sum = Core::Sum3(
-        number(&rt, alloc, 0, 1, 2)?,
-        number(&rt, alloc, 1, 3, 2)?,
-        number(&rt, alloc, 1, 5, 2)?,
-    );
-    compare(
-        &rt,
-        &sum,
-        &[
-            (0, true),
-            (1, false),
-            (17, true),
-            (51, true),
-            (33, false),
-            (19, false),
-        ],
-    );
-    let three = Sequence::from_vec(vec![in alloc; is(1), is(2), no(3)]?);
-    let count = Core::Count(three, number(&rt, alloc, 0, 4, 3)?);
+    Ok(())
+}
+
+#[test]
+fn counts_mean(rt: HostRuntime) -> Result<(), Fail> {
+    let amo = Core::Amo(three(rt.alloc(), is(1), is(2), no(3))?);
+    compare(&rt, &amo, &[(0, true), (1, false), (4, true), (7, false)]);
+    let c = number(&rt, rt.alloc(), 0, 4, 3)?;
+    let atoms = three(rt.alloc(), is(1), is(2), no(3))?;
+    let count = Core::Count(atoms, c);
     compare(
         &rt,
         &count,

@@ -1,5 +1,5 @@
 -- What the meaning computes stays within the limits of the numbers.
-use Rattle.std.proofs.Common.{◌≡◌, ℕ, ◌+◌, ◌^◌, ◌≤◌, ◌<◌, Bool, true, ◌&&◌, max, List, [], ◌∷◌, ℤ, pos, ◌+ℤ◌, ◌*ℤ◌, ◌≤ℤ◌, ◌<ℤ◌, refl, sym, ap, subst, ◌∙◌, arith, to_z, of_z}
+use Rattle.std.proofs.Common.{◌≡◌, ◌^◌, ◌≤◌, ◌<◌, Bool, true, ◌&&◌, ℤ, pos, ◌+ℤ◌, ◌*ℤ◌, ◌≤ℤ◌, ◌<ℤ◌, refl, sym, ap, subst, ◌∙◌, arith, to_z, of_z}
 use Rattle.std.specs.Prelude.{unsigned_abs, int_le, int_lt}
 use Rattle.std.specs.Ordering.{int_eq}
 use mir.Syntax.{w128}
@@ -7,7 +7,6 @@ use Rattle.std.proofs.lemmas.Int.{ints, to_z-of_z, fits_signed_from_abs}
 use Rattle.order_ints.specs.declared.order_int.OrdInt.{OrdInt}
 use Rattle.order_ints.specs.Truth.{Valuation}
 use Rattle.order_ints.specs.OrderValue.{value_of, IsOrdered}
-use Rattle.order_ints.specs.OrderRange.{weights}
 use Rattle.order_ints.proofs.Gains.{gains-le}
 use Rattle.order_ints.proofs.Reaching.{Contains-value_of}
 use Rattle.core_forms.specs.Meaning.{is_division}

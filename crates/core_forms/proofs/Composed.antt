@@ -1,14 +1,13 @@
 -- Trimming twice is trimming once.
-use Rattle.std.proofs.Common.{◌≡◌, ℕ, zero, suc, ◌+◌, ◌-◌, ◌<◌, ◌≤◌, Bool, true, false, not, cond, length, get_or, List, [], ◌∷◌, map, ℤ, pos, neg_ℤ, ◌+ℤ◌, refl, sym, ap, subst, ◌∙◌, arith}
+use Rattle.std.proofs.Common.{◌≡◌, ℕ, zero, suc, ◌+◌, ◌-◌, ◌<◌, Bool, true, false, not, cond, length, get_or, List, [], ◌∷◌, map, ℤ, pos, neg_ℤ, ◌+ℤ◌, refl, sym, ap, ◌∙◌, arith}
 use Rattle.std.proofs.lemmas.Int.{ints}
-use Rattle.order_ints.specs.declared.literal.Lit.{Lit}
 use Rattle.order_ints.specs.declared.atom.Atom.{Atom}
 use Rattle.order_ints.specs.declared.atom.Atom.TheVariants.{True, False, Of}
 use Rattle.order_ints.specs.declared.order_int.OrdInt.{OrdInt}
-use Rattle.order_ints.specs.Truth.{not_atom, not_lit}
+use Rattle.order_ints.specs.Truth.{not_atom}
 use Rattle.order_ints.specs.Place.{AtomBelow}
 use Rattle.order_ints.specs.OrderChange.{shifted_of}
-use Rattle.order_ints.specs.View.{label_of, resolve, resolve_lit}
+use Rattle.order_ints.specs.View.{label_of, resolve}
 use Rattle.order_ints.proofs.TruthLaws.{resolve-nil}
 use Rattle.core_forms.specs.declared.form.Core.{Core}
 use Rattle.core_forms.specs.declared.form.Core.TheVariants.{Ladder, Clause, Parity, Conj, Comp, LeqR, EqR, Sum3, Count, Sum, Max, AllDiff, Amo, Prod, DivMod, Lex}
@@ -62,9 +61,10 @@ module _ (f : Atom → Atom) (keeps_true : f True ≡ True) (keeps_false : f Fal
   -- two neighbours of one atom are one step
   merged-joined : (b : Atom) (u : ℕ) (x : Atom) (w v : ℕ) (ys : List (Atom × ℕ)) → merged_steps b u ((x, w) ∷ (x, v) ∷ ys) ≡ merged_steps b u ((x, w + v) ∷ ys)
   merged-joined b u x w v ys =
-      elim (same_atom b x) as (λ t. cond t (cond t (merged_steps b (u + w + v) ys) ((b, u + w) ∷ merged_steps x v ys)) ((b, u) ∷ merged_steps x w ((x, v) ∷ ys)) ≡ cond t (merged_steps b (u + (w + v)) ys) ((b, u) ∷ merged_steps x (w + v) ys))
-      [ true ↦ let e : u + w + v ≡ u + (w + v) = omega arith in ap (λ n. merged_steps b n ys) e
-      | false ↦ ap (λ t. (b, u) ∷ cond t (merged_steps x (w + v) ys) ((x, w) ∷ merged_steps x v ys)) (same_atom-refl x) ]
+      elim (same_atom b x) as (λ t. cond t (cond t (merged_steps b (u + w + v) ys) ((b, u + w) ∷ merged_steps x v ys)) ((b, u) ∷ merged_steps x w ((x, v) ∷ ys)) ≡ cond t (merged_steps b (u + (w + v)) ys) ((b, u) ∷ merged_steps x (w + v) ys)) [
+        | true ↦ let e : u + w + v ≡ u + (w + v) = omega arith in ap (λ n. merged_steps b n ys) e
+        | false ↦ ap (λ t. (b, u) ∷ cond t (merged_steps x (w + v) ys) ((x, w) ∷ merged_steps x v ys)) (same_atom-refl x)
+      ]
 
   false_gone : (b : Atom) (u w : ℕ) → merged_steps b u [] ≡ merged_steps b u ((False, w) ∷ [])
   false_gone True u w = refl
@@ -86,9 +86,10 @@ module _ (f : Atom → Atom) (keeps_true : f True ≡ True) (keeps_false : f Fal
 
   raised-joined : (base : ℤ) (x : Atom) (w v : ℕ) (ys : List (Atom × ℕ)) → raised_by base ((x, w + v) ∷ ys) ≡ raised_by base ((x, w) ∷ (x, v) ∷ ys)
   raised-joined base x w v ys =
-      elim (is_true x) as (λ t. cond t (raised_by (base +ℤ pos (w + v)) ys) (record { base = base; steps = merged_steps x (w + v) ys }) ≡ cond t (cond t (raised_by (base +ℤ pos w +ℤ pos v) ys) (record { base = base +ℤ pos w; steps = merged_steps x v ys })) (record { base = base; steps = merged_steps x w ((x, v) ∷ ys) }))
-      [ true ↦ let e : base +ℤ pos (w + v) ≡ base +ℤ pos w +ℤ pos v = omega (arith, ints) in ap (λ n. raised_by n ys) e
-      | false ↦ ap (λ t. record { base = base; steps = cond t (merged_steps x (w + v) ys) ((x, w) ∷ merged_steps x v ys) }) (sym (same_atom-refl x)) ]
+      elim (is_true x) as (λ t. cond t (raised_by (base +ℤ pos (w + v)) ys) (record { base = base; steps = merged_steps x (w + v) ys }) ≡ cond t (cond t (raised_by (base +ℤ pos w +ℤ pos v) ys) (record { base = base +ℤ pos w; steps = merged_steps x v ys })) (record { base = base; steps = merged_steps x w ((x, v) ∷ ys) })) [
+        | true ↦ let e : base +ℤ pos (w + v) ≡ base +ℤ pos w +ℤ pos v = omega (arith, ints) in ap (λ n. raised_by n ys) e
+        | false ↦ ap (λ t. record { base = base; steps = cond t (merged_steps x (w + v) ys) ((x, w) ∷ merged_steps x v ys) }) (sym (same_atom-refl x))
+      ]
 
   raised-merged : (base : ℤ) (a : Atom) (w : ℕ) (steps : List (Atom × ℕ)) → raised_by base (map_steps f (merged_steps a w steps)) ≡ raised_by base ((f a, w) ∷ map_steps f steps)
   raised-merged base a w [] =
@@ -121,9 +122,10 @@ module _ (f : Atom → Atom) (keeps_true : f True ≡ True) (keeps_false : f Fal
   raised-shifted : (base by : ℤ) (steps : List (Atom × ℕ)) → raised_by (base +ℤ by) steps ≡ shifted_of (raised_by base steps) by
   raised-shifted base by [] = refl
   raised-shifted base by (s ∷ steps) =
-      elim (is_true s.0) as (λ t. cond t (raised_by (base +ℤ by +ℤ pos s.1) steps) (record { base = base +ℤ by; steps = merged_steps s.0 s.1 steps }) ≡ shifted_of (cond t (raised_by (base +ℤ pos s.1) steps) (record { base = base; steps = merged_steps s.0 s.1 steps })) by)
-      [ true ↦ let e : base +ℤ by +ℤ pos s.1 ≡ base +ℤ pos s.1 +ℤ by = omega (arith, ints) in ap (λ n. raised_by n steps) e ∙ raised-shifted (base +ℤ pos s.1) by steps
-      | false ↦ refl ]
+      elim (is_true s.0) as (λ t. cond t (raised_by (base +ℤ by +ℤ pos s.1) steps) (record { base = base +ℤ by; steps = merged_steps s.0 s.1 steps }) ≡ shifted_of (cond t (raised_by (base +ℤ pos s.1) steps) (record { base = base; steps = merged_steps s.0 s.1 steps })) by) [
+        | true ↦ let e : base +ℤ by +ℤ pos s.1 ≡ base +ℤ pos s.1 +ℤ by = omega (arith, ints) in ap (λ n. raised_by n steps) e ∙ raised-shifted (base +ℤ pos s.1) by steps
+        | false ↦ refl
+      ]
 
   shifted_twice : (a : OrdInt) (j k : ℕ) → shifted_of (shifted_of a (neg_ℤ (pos j))) (neg_ℤ (pos k)) ≡ shifted_of a (neg_ℤ (pos (j + k)))
   shifted_twice a j k = let e : a.base +ℤ neg_ℤ (pos j) +ℤ neg_ℤ (pos k) ≡ a.base +ℤ neg_ℤ (pos (j + k)) = omega (arith, ints) in ap (λ (z : ℤ). record { base = z; steps = a.steps }) e
@@ -297,7 +299,7 @@ pub trimmed_twice : (first next : List Atom) (core : Core) → CoreBelow (length
 trimmed_twice first next core below =
     tidied_again (resolve next) refl refl (resolved_core first core)
     ∙ ap tidied_core (core_joined (resolve first) (resolve next) (resolve (composed_view first next)) core
-      (each_below (length first + 1) (Joins (resolve first) (resolve next) (resolve (composed_view first next))) (resolve-composed first next) core below))
+    (each_below (length first + 1) (Joins (resolve first) (resolve next) (resolve (composed_view first next))) (resolve-composed first next) core below))
 
 -- trimming is idempotent where labels are their own labels
 pub trimmed_again : (view : List Atom) (core : Core) → AreOwnLabels view → CoreBelow (length view + 1) core → trimmed_core view (trimmed_core view core) ≡ trimmed_core view core

@@ -1,5 +1,5 @@
 -- Trimming keeps a core well formed.
-use Rattle.std.proofs.Common.{◌≡◌, ℕ, zero, suc, ◌+◌, ◌<◌, ◌≤◌, ◌^◌, max, Bool, true, false, cond, ◌⊎◌, inl, inr, length, get_or, List, [], ◌∷◌, map, Contains, ℤ, pos, neg_ℤ, ◌+ℤ◌, ◌*ℤ◌, ◌≤ℤ◌, refl, sym, ap, subst, ◌∙◌, arith}
+use Rattle.std.proofs.Common.{◌≡◌, ℕ, zero, suc, ◌+◌, ◌<◌, ◌≤◌, ◌^◌, max, ◌⊎◌, inl, inr, length, get_or, List, [], ◌∷◌, map, Contains, ℤ, pos, neg_ℤ, ◌+ℤ◌, ◌≤ℤ◌, refl, sym, ap, subst, ◌∙◌, arith}
 use Rattle.std.specs.Prelude.{unsigned_abs}
 use Rattle.std.proofs.lemmas.Int.{ints}
 use Rattle.order_ints.specs.declared.atom.Atom.{Atom}
@@ -11,7 +11,7 @@ use Rattle.order_ints.specs.OrderChange.{shifted_of}
 use Rattle.order_ints.specs.View.{resolve}
 use Rattle.core_forms.specs.declared.form.Core.{Core}
 use Rattle.core_forms.specs.declared.form.Core.TheVariants.{Ladder, Clause, Parity, Conj, Comp, LeqR, EqR, Sum3, Count, Sum, Max, AllDiff, Amo, Prod, DivMod, Lex}
-use Rattle.core_forms.specs.WellFormed.{IsSound, AreSound, greatest_abs, abs_total, HasSmallProducts, HasSmallDivisions, IsWellFormed}
+use Rattle.core_forms.specs.WellFormed.{IsSound, AreSound, greatest_abs, abs_total, IsWellFormed}
 use Rattle.core_forms.specs.Resolved.{map_steps, map_int, map_ints, map_core}
 use Rattle.core_forms.specs.Trimmed.{is_true, is_false, same_atom, merged_steps, raised_by, without_constants, constant_trues, tidied_int, tidied_ints, tidied_core, trimmed_core}
 use Rattle.core_forms.proofs.Tidied.{by_test, weights-map_steps, low-raised_by, high-raised_by, IsBounded-trimmed}
@@ -34,7 +34,7 @@ Contains-rest xs v y c = at c.0 c.1 c.2
     at zero h e = inl e
     at (suc k) h e = inr (k, omega (arith, h), e)
 
-IsReached-from : (v base : ℤ) (x : Atom) (steps : List (Atom × ℕ)) → Contains (map (λ level. level.0) (levels base x steps)) v → IsReached v base steps
+pub IsReached-from : (v base : ℤ) (x : Atom) (steps : List (Atom × ℕ)) → Contains (map (λ level. level.0) (levels base x steps)) v → IsReached v base steps
 IsReached-from v base x [] c = by (Contains-rest [] v base c)
   where
     by : ((base ≡ v) ⊎ Contains [] v) → base ≡ v
@@ -186,9 +186,15 @@ module _ (f : Atom → Atom) where
   well_formed-kept (Amo ls) h = tt
   well_formed-kept (Prod a b c) h =
       (sound-kept a h.0, sound-kept b h.1, sound-kept c h.2, λ v w cv cw. h.3 v w (values-kept a v cv) (values-kept b w cw))
-  well_formed-kept (DivMod a b q r) h =
-      (sound-kept a h.0, sound-kept b h.1, sound-kept q h.2, sound-kept r h.3, (let p = low-kept a in omega (arith, ints, p, h.4)), (let p = low-kept b in omega (arith, ints, p, h.5)),
-      λ v w t cv cw ct. h.6 v w t (values-kept b v cv) (values-kept q w cw) (values-kept r t ct))
+  well_formed-kept (DivMod a b q r) h = (
+    sound-kept a h.0,
+    sound-kept b h.1,
+    sound-kept q h.2,
+    sound-kept r h.3,
+    (let p = low-kept a in omega (arith, ints, p, h.4)),
+    (let p = low-kept b in omega (arith, ints, p, h.5)),
+    λ v w t cv cw ct. h.6 v w t (values-kept b v cv) (values-kept q w cw) (values-kept r t ct),
+  )
   well_formed-kept (Lex r strict front back) h =
       (all_sound-kept front h.0, all_sound-kept back h.1, length-all front ∙ h.2 ∙ sym (length-all back))
 

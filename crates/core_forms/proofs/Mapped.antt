@@ -1,19 +1,18 @@
 -- A core with other atoms in place of its own means the same where the atoms are as true.
-use Rattle.std.proofs.Common.{◌≡◌, ℕ, ◌+◌, suc, Bool, true, false, not, ◌&&◌, ◌||◌, cond, length, List, [], ◌∷◌, ◌++◌, map, ℤ, pos, ◌+ℤ◌, refl, sym, ap, subst, ◌∙◌, arith}
+use Rattle.std.proofs.Common.{◌≡◌, ℕ, List, [], ◌∷◌, map, pos, ◌+ℤ◌, refl, sym, ap, ◌∙◌}
 use Rattle.order_ints.specs.declared.atom.Atom.{Atom}
 use Rattle.order_ints.specs.declared.order_int.OrdInt.{OrdInt}
 use Rattle.order_ints.specs.Truth.{Valuation, Agree, atom_truth}
-use Rattle.order_ints.specs.Place.{AtomBelow, AtomsBelow, StepsBelow}
 use Rattle.order_ints.specs.View.{MeetsView, resolve}
 use Rattle.order_ints.specs.AtomClauses.{atom_clause_truth}
 use Rattle.order_ints.specs.OrderValue.{gains, value_of, none_true, in_order}
 use Rattle.order_ints.proofs.TruthLaws.{atom_truth-resolve, atom_agrees}
 use Rattle.core_forms.specs.declared.form.Core.{Core}
 use Rattle.core_forms.specs.declared.form.Core.TheVariants.{Ladder, Clause, Parity, Conj, Comp, LeqR, EqR, Sum3, Count, Sum, Max, AllDiff, Amo, Prod, DivMod, Lex}
-use Rattle.core_forms.specs.Truths.{all_true, true_count, truths, is_odd}
+use Rattle.core_forms.specs.Truths.{all_true, true_count, truths}
 use Rattle.core_forms.specs.Values.{all_ordered, values}
 use Rattle.core_forms.specs.Meaning.{core_truth}
-use Rattle.core_forms.specs.Place.{IntsBelow, CoreBelow}
+use Rattle.core_forms.specs.Place.{CoreBelow}
 use Rattle.core_forms.proofs.EachLaws.{each_below, each_every}
 use Rattle.core_forms.specs.Each.{EachOf, EachStep, EachInt, EachAtom}
 use Rattle.core_forms.specs.Resolved.{map_steps, map_int, map_ints, map_core, resolved_core}

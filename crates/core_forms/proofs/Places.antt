@@ -1,5 +1,5 @@
 -- Where the variables of a trimmed core have a place.
-use Rattle.std.proofs.Common.{◌≡◌, ℕ, List, ◌≤◌, ◌<◌, arith}
+use Rattle.std.proofs.Common.{ℕ, List, ◌≤◌}
 use Rattle.order_ints.specs.declared.atom.Atom.{Atom}
 use Rattle.order_ints.specs.declared.atom.Atom.TheVariants.{True, False}
 use Rattle.order_ints.specs.Place.{AtomBelow, AtomsBelow}

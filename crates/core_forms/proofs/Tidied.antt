@@ -1,14 +1,13 @@
 -- What tidying an integer keeps: its gains and its order, and its limits.
-use Rattle.std.proofs.Common.{◌≡◌, ℕ, ◌+◌, ◌<◌, ◌≤◌, ◌^◌, Bool, true, false, not, ◌&&◌, cond, length, List, [], ◌∷◌, ◌++◌, map, ℤ, pos, ◌+ℤ◌, ◌≤ℤ◌, refl, sym, ap, subst, ◌∙◌, arith}
+use Rattle.std.proofs.Common.{◌≡◌, ℕ, ◌+◌, ◌<◌, ◌≤◌, ◌^◌, Bool, true, false, not, ◌&&◌, cond, List, [], ◌∷◌, ℤ, pos, ◌+ℤ◌, ◌≤ℤ◌, refl, sym, ap, subst, ◌∙◌, arith}
 use Rattle.std.specs.Prelude.{unsigned_abs}
 use Rattle.std.proofs.lemmas.Int.{ints}
-use Rattle.order_ints.specs.declared.literal.Lit.{Lit}
 use Rattle.order_ints.specs.declared.atom.Atom.{Atom}
 use Rattle.order_ints.specs.declared.atom.Atom.TheVariants.{True, False, Of}
 use Rattle.order_ints.specs.declared.order_int.OrdInt.{OrdInt}
 use Rattle.order_ints.specs.Truth.{Valuation, atom_truth}
 use Rattle.order_ints.specs.OrderValue.{gains, value_of, none_true, in_order}
-use Rattle.order_ints.specs.OrderRange.{weights, low_of, high_of, IsBounded, AreRising}
+use Rattle.order_ints.specs.OrderRange.{weights, low_of, high_of, IsBounded}
 use Rattle.order_ints.proofs.LitOrder.{same_lit-true, same_lit-refl}
 use Rattle.core_forms.specs.Resolved.{map_steps, map_int}
 use Rattle.core_forms.specs.Trimmed.{is_true, is_false, same_atom, merged_steps, raised_by, tidied_int}

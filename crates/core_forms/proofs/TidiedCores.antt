@@ -1,5 +1,5 @@
 -- A tidied core means what the core means.
-use Rattle.std.proofs.Common.{◌≡◌, ℕ, zero, suc, ◌+◌, ◌-◌, Bool, true, false, not, ◌&&◌, ◌||◌, cond, length, List, [], ◌∷◌, ◌++◌, map, ℤ, pos, neg_ℤ, ◌+ℤ◌, refl, sym, ap, subst, ◌∙◌, arith}
+use Rattle.std.proofs.Common.{◌≡◌, ℕ, zero, suc, ◌+◌, Bool, true, false, not, ◌&&◌, ◌||◌, cond, List, [], ◌∷◌, ℤ, pos, neg_ℤ, ◌+ℤ◌, refl, sym, ap, ◌∙◌, arith}
 use Rattle.std.specs.Prelude.{nat_le}
 use Rattle.std.specs.Bool.{beq}
 use Rattle.std.specs.Ordering.{int_eq}
@@ -11,7 +11,7 @@ use Rattle.order_ints.specs.declared.atom.Atom.TheVariants.{True, False, Of}
 use Rattle.order_ints.specs.declared.order_int.OrdInt.{OrdInt}
 use Rattle.order_ints.specs.Truth.{Valuation, atom_truth, lit_truth}
 use Rattle.order_ints.specs.AtomClauses.{atom_clause_truth}
-use Rattle.order_ints.specs.OrderValue.{value_of, in_order}
+use Rattle.order_ints.specs.OrderValue.{value_of}
 use Rattle.order_ints.specs.OrderChange.{shifted_of}
 use Rattle.order_ints.specs.View.{MeetsView}
 use Rattle.order_ints.proofs.Multiples.{value_of-shifted_of}

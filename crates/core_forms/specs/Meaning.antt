@@ -1,8 +1,7 @@
 -- What each form means: when a valuation meets a core.
-use Rattle.std.specs.Prelude.{◌≡◌, ℕ, Bool, true, ◌&&◌, ◌||◌, nat_le, List, ℤ, pos, ◌+ℤ◌, ◌*ℤ◌, int_le, int_lt, IsTrue}
+use Rattle.std.specs.Prelude.{Bool, ◌&&◌, ◌||◌, nat_le, ℤ, pos, ◌+ℤ◌, ◌*ℤ◌, int_le, int_lt, IsTrue}
 use Rattle.std.specs.Bool.{beq}
 use Rattle.std.specs.Ordering.{int_eq}
-use Rattle.order_ints.specs.declared.atom.Atom.{Atom}
 use Rattle.order_ints.specs.declared.order_int.OrdInt.{OrdInt}
 use Rattle.order_ints.specs.Truth.{Valuation, atom_truth}
 use Rattle.order_ints.specs.AtomClauses.{atom_clause_truth}

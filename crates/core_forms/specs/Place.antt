@@ -1,6 +1,5 @@
 -- Which variables a core may have: from 1, and below a bound.
 use Rattle.std.specs.Prelude.{ℕ, List, [], ◌∷◌}
-use Rattle.order_ints.specs.declared.atom.Atom.{Atom}
 use Rattle.order_ints.specs.declared.order_int.OrdInt.{OrdInt}
 use Rattle.order_ints.specs.Place.{AtomBelow, AtomsBelow}
 use Rattle.order_ints.specs.OrderRange.{IntBelow}

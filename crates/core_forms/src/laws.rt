@@ -1,14 +1,16 @@
 //! Laws of the forms, for proofs of crates above. Each function does nothing; its contract is the law.
 
-ghost use Rattle.std.specs.Prelude.{◌≡◌, ◌↔◌, ℕ, ◌+◌, ◌≤◌, ◌<◌, List, length, Contains};
+ghost use Rattle.std.specs.Prelude.{◌≡◌, ◌↔◌, ℕ, ◌+◌, ◌≤◌, ◌<◌, ◌*◌, ◌^◌, ℤ, unsigned_abs, List, length, Contains};
 ghost use Rattle.order_ints.specs.declared.atom.Atom.{Atom};
 ghost use Rattle.order_ints.specs.Truth.{Valuation, Agree};
 ghost use Rattle.order_ints.specs.Place.{AtomsBelow};
+ghost use Rattle.order_ints.specs.declared.order_int.OrdInt.{OrdInt};
+ghost use Rattle.order_ints.specs.OrderLevels.{values_of};
 ghost use Rattle.order_ints.specs.View.{MeetsView};
 ghost use Rattle.core_forms.specs.declared.form.Core.{Core};
 ghost use Rattle.core_forms.specs.Place.{CoreBelow};
 ghost use Rattle.core_forms.specs.Variables.{core_vars, SameOn, IsLabelVar};
-ghost use Rattle.core_forms.specs.WellFormed.{IsWellFormed};
+ghost use Rattle.core_forms.specs.WellFormed.{greatest_abs, HasSmallProducts, HasSmallDivisions, IsWellFormed};
 ghost use Rattle.core_forms.specs.Meaning.{core_truth};
 ghost use Rattle.core_forms.specs.Trimmed.{trimmed_core, composed_view, AreOwnLabels, IsTrimmed};
 
@@ -57,4 +59,12 @@ pub fn place_law()
 pub fn label_law()
     ensures { (view : List Atom) (core : Core) (w : ℕ)
         → Contains (core_vars (trimmed_core view core)) w → IsLabelVar view (core_vars core) w }
+{}
+
+/// Limits on the greatest absolute values make a product or a division well formed.
+pub fn limit_law()
+    ensures value { (a : OrdInt) (v : ℤ) → Contains (values_of a) v → unsigned_abs v ≤ greatest_abs a }
+    ensures products { (a b : OrdInt) → greatest_abs a * greatest_abs b < 2 ^ 100 → HasSmallProducts a b }
+    ensures divisions { (b q r : OrdInt)
+        → greatest_abs b * greatest_abs q + greatest_abs r < 2 ^ 100 → HasSmallDivisions b q r }
 {}

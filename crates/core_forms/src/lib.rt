@@ -7,11 +7,12 @@ mod form;
 pub mod laws;
 mod meaning;
 mod occurrence;
+#[cfg(test)]
+mod tests;
 mod trimming;
-
 
 pub use equation::{Equation, Rule};
 pub use form::Core;
 pub use meaning::holds;
-pub use trimming::trim;
 pub use occurrence::variables;
+pub use trimming::trim;

@@ -49,12 +49,7 @@ fn put_ints(vars: &mut Vec<u32>, ints: &[OrdInt]) -> Result<(), AllocError>
 }
 
 /// Puts the variables of an atom and of two integers behind those of a list.
-fn put_compared(
-    vars: &mut Vec<u32>,
-    r: Atom,
-    a: &OrdInt,
-    b: &OrdInt,
-) -> Result<(), AllocError>
+fn put_compared(vars: &mut Vec<u32>, r: Atom, a: &OrdInt, b: &OrdInt) -> Result<(), AllocError>
     ensures { OnOk result (vars.new.items ≡ vars.old.items ++ atom_vars r ++ (int_vars a.now ++ int_vars b.now)) }
 {
     put_atom(vars, r)?;
@@ -63,12 +58,7 @@ fn put_compared(
 }
 
 /// Puts the variables of three integers behind those of a list.
-fn put_three(
-    vars: &mut Vec<u32>,
-    a: &OrdInt,
-    b: &OrdInt,
-    c: &OrdInt,
-) -> Result<(), AllocError>
+fn put_three(vars: &mut Vec<u32>, a: &OrdInt, b: &OrdInt, c: &OrdInt) -> Result<(), AllocError>
     ensures { OnOk result (vars.new.items ≡ vars.old.items ++ int_vars a.now ++ (int_vars b.now ++ int_vars c.now)) }
 {
     put_int(vars, a)?;
@@ -77,13 +67,7 @@ fn put_three(
 }
 
 /// Puts the variables of four atoms behind those of a list.
-fn put_four(
-    vars: &mut Vec<u32>,
-    a: Atom,
-    b: Atom,
-    hi: Atom,
-    lo: Atom,
-) -> Result<(), AllocError>
+fn put_four(vars: &mut Vec<u32>, a: Atom, b: Atom, hi: Atom, lo: Atom) -> Result<(), AllocError>
     ensures { OnOk result (vars.new.items ≡ vars.old.items ++ atom_vars a ++ (atom_vars b ++ (atom_vars hi ++ atom_vars lo))) }
 {
     put_atom(vars, a)?;

@@ -58,11 +58,7 @@ pub(super) fn trimmed_form(alloc: Global, core: &Core, view: &[Atom]) -> Result<
 {
     match core {
         Core::Ladder(a) => Ok(Core::Ladder(trimmed_int(alloc, a, view)?)),
-        Core::Clause(atoms) => Ok(Core::Clause(trimmed_clause(
-            alloc,
-            atoms.as_slice(),
-            view,
-        )?)),
+        Core::Clause(atoms) => Ok(Core::Clause(trimmed_clause(alloc, atoms.as_slice(), view)?)),
         Core::Parity(atoms, odd) => {
             let (literals, trues) = only_literals(alloc, atoms.as_slice(), view)?;
             Ok(Core::Parity(literals, turns(trues, *odd)))
@@ -91,10 +87,7 @@ pub(super) fn trimmed_form(alloc: Global, core: &Core, view: &[Atom]) -> Result<
         }
         Core::Count(atoms, c) => {
             let (literals, trues) = only_literals(alloc, atoms.as_slice(), view)?;
-            Ok(Core::Count(
-                literals,
-                lowered(trimmed_int(alloc, c, view)?, trues),
-            ))
+            Ok(Core::Count(literals, lowered(trimmed_int(alloc, c, view)?, trues)))
         }
         Core::Sum(ints, k) => Ok(Core::Sum(trimmed_ints(alloc, ints.as_slice(), view)?, *k)),
         Core::Max(ints, c) => Ok(Core::Max(

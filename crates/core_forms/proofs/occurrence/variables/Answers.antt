@@ -17,5 +17,7 @@ returns-clause-exact c =
     let is = dedup_is _ _ _ c.dedup.ensures.filtered in
     let moved = c.sort_unstable.ensures.permutation in
     let all : c.put_core.new.vars.items ≡ core_vars c.args.core.now = from_none _ _ _ c.new-vars.ensures.items c.in_ok-put_core.ensures in
-    λ v. (λ h. subst (λ (xs : List ℕ). Contains xs v) all (Contains-permutation _ _ v (IsPermutation-sym _ _ moved) (Contains-from_dedup _ _ v (rw is at h))),
-    λ h. rw is (Contains-dedup_nat _ v (Contains-permutation _ _ v moved (subst (λ (xs : List ℕ). Contains xs v) (sym all) h))))
+    λ v. (
+      λ h. subst (λ (xs : List ℕ). Contains xs v) all (Contains-permutation _ _ v (IsPermutation-sym _ _ moved) (Contains-from_dedup _ _ v (rw is at h))),
+      λ h. rw is (Contains-dedup_nat _ v (Contains-permutation _ _ v moved (subst (λ (xs : List ℕ). Contains xs v) (sym all) h))),
+    )

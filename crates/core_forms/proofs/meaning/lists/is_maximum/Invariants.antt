@@ -1,4 +1,4 @@
-use Rattle.std.proofs.Common.{◌≡◌, ◌+◌, Bool, ◌&&◌, ◌||◌, drop, length}
+use Rattle.std.proofs.Common.{◌≡◌, ◌+◌, ◌&&◌, ◌||◌, drop, length}
 use Rattle.order_ints.specs.Truth.{valuation_of}
 use Rattle.core_forms.specs.Values.{values, is_among, all_at_most, is_greatest}
 use Rattle.core_forms.specs.Place.{IntsBelow}

@@ -1,1 +1,9 @@
 pub mod Names
+pub mod Terms
+pub mod Booleans
+pub mod Integers
+pub mod Lists
+pub mod Holds
+pub mod Limits
+pub mod Domains
+pub mod Solutions

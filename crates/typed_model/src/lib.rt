@@ -1,9 +1,15 @@
 //! Models: which texts are models, what each statement means, and when an assignment is a solution.
 #![tactic(auto)]
 
+mod booleans;
+mod holds;
+mod integers;
+mod lists;
 mod model;
 mod names;
+mod solutions;
 mod statement;
+mod terms;
 mod what;
 
 pub use model::{Assignment, Decl, Goal, Kind, Model, Stmt};

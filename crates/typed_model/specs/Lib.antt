@@ -7,3 +7,4 @@ pub mod Holds
 pub mod Limits
 pub mod Domains
 pub mod Solutions
+pub mod Laws

@@ -4,6 +4,7 @@
 mod booleans;
 mod holds;
 mod integers;
+mod laws;
 mod lists;
 mod model;
 mod names;

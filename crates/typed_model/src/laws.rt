@@ -1,0 +1,9 @@
+//! Facts about the definitions that crates above may use. Each is the contract of a function that does
+//! nothing.
+
+ghost use Rattle.typed_model.specs.Laws.{HoldsLaw};
+
+/// The test of a statement is true exactly where the statement holds.
+pub fn holds_law()
+    ensures { HoldsLaw }
+{}

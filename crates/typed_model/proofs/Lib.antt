@@ -4,6 +4,7 @@ pub mod HoldsLaws
 pub mod LimitLaws
 pub mod ListLaws
 pub mod Remainders
+pub mod ScopeLaws
 pub mod SolutionLaws
 pub mod Sums
 pub mod TableLaws

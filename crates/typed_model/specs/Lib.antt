@@ -7,4 +7,7 @@ pub mod Holds
 pub mod Limits
 pub mod Domains
 pub mod Solutions
+pub mod Signatures
+pub mod Scope
+pub mod Faults
 pub mod Laws

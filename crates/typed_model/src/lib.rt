@@ -2,12 +2,15 @@
 #![tactic(auto)]
 
 mod booleans;
+mod fault;
 mod holds;
 mod integers;
 mod laws;
 mod lists;
 mod model;
 mod names;
+mod scope;
+mod signature;
 mod solutions;
 mod statement;
 mod terms;

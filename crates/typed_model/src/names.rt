@@ -25,7 +25,7 @@ fn between<'a>(name: &'a [u8], front: &[u8], end: &[u8]) -> Option<&'a [u8]>
 }
 
 /// Whether a name is a word.
-fn is(name: &[u8], word: &[u8]) -> bool
+pub fn is(name: &[u8], word: &[u8]) -> bool
     ensures { result ≡ bytes_eq name.now word.now }
 {
     name == word

@@ -1,5 +1,6 @@
 pub mod BooleanLaws
 pub mod DomainLaws
+pub mod FaultLaws
 pub mod HoldsLaws
 pub mod LimitLaws
 pub mod ListLaws

@@ -10,4 +10,5 @@ pub mod Solutions
 pub mod Signatures
 pub mod Scope
 pub mod Faults
+pub mod Items
 pub mod Laws

@@ -3,6 +3,7 @@
 
 mod booleans;
 mod fault;
+mod faults;
 mod holds;
 mod integers;
 mod laws;

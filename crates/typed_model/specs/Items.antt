@@ -44,17 +44,18 @@ abbrev pub number_in : List Decl → Option Arg → IntTerm
 number_in ds (Some (arg.One t)) = number ds t
 number_in ds a = int_term.Number (pos 0)
 
+abbrev pub terms_in : Option Arg → List Term
+terms_in (Some (arg.Many ts)) = ts
+terms_in a = []
+
 abbrev pub truths_in : List Decl → Option Arg → List BoolTerm
-truths_in ds (Some (arg.Many ts)) = map (truth ds) ts
-truths_in ds a = []
+truths_in ds a = map (truth ds) (terms_in a)
 
 abbrev pub numbers_in : List Decl → Option Arg → List IntTerm
-numbers_in ds (Some (arg.Many ts)) = map (number ds) ts
-numbers_in ds a = []
+numbers_in ds a = map (number ds) (terms_in a)
 
 abbrev pub numerals_in : Option Arg → List ℤ
-numerals_in (Some (arg.Many ts)) = map numeral ts
-numerals_in a = []
+numerals_in a = map numeral (terms_in a)
 
 abbrev pub name_in : Option Arg → Option (List ℕ)
 name_in (Some (arg.One (term.Plain name))) = Some name
@@ -63,9 +64,12 @@ name_in a = None
 -- What an item declares, among the declarations before it.
 
 -- the declaration of a name that isn't declared yet
+abbrev pub declared_name : ℕ → List Decl → List ℕ → Kind → List Decl
+declared_name n ds name k = if is_some (place_of name ds) then [] else record { number = n; name = name; kind = k } ∷ []
+
 abbrev pub declared_as : ℕ → List Decl → Option (List ℕ) → Kind → List Decl
 declared_as n ds None k = []
-declared_as n ds (Some name) k = if is_some (place_of name ds) then [] else record { number = n; name = name; kind = k } ∷ []
+declared_as n ds (Some name) k = declared_name n ds name k
 
 unfoldable pub declared_by : ℕ → List Decl → Statement → List Arg → List Decl
 declared_by n ds statement.NewBool args = declared_as n ds (name_in (slice_get args 0)) kind.Bool

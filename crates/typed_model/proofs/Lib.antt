@@ -2,6 +2,7 @@ pub mod BooleanLaws
 pub mod DomainLaws
 pub mod FaultLaws
 pub mod HoldsLaws
+pub mod ItemLaws
 pub mod LimitLaws
 pub mod ListLaws
 pub mod Remainders

@@ -1,5 +1,5 @@
 -- The model of a list of items.
-use Rattle.std.specs.Prelude.{◌≡◌, ℕ, ◌+◌, ℤ, pos, Bool, true, false, not, ◌&&◌, ◌||◌, List, [], ◌∷◌, ◌++◌, map, slice_get, Option, Some, None, is_some, if◌then◌else◌}
+use Rattle.std.specs.Prelude.{◌≡◌, ◌⊎◌, ℕ, ◌+◌, ℤ, pos, Bool, true, false, not, ◌&&◌, ◌||◌, List, [], ◌∷◌, ◌++◌, map, slice_get, Option, Some, None, is_some, if◌then◌else◌}
 use Rattle.std.specs.Option.{option_map, option_and_then, option_to_list, unwrap_or}
 use Rattle.bumblebee_reader.specs.declared.syntax.Term.{Term}
 use Rattle.bumblebee_reader.specs.declared.syntax.Term.TheVariants as term
@@ -28,7 +28,7 @@ use Rattle.typed_model.specs.declared.model.Goal.{Goal}
 use Rattle.typed_model.specs.declared.model.Goal.TheVariants as goal
 use Rattle.typed_model.specs.declared.model.Model.{Model}
 use Rattle.typed_model.specs.declared.fault.TypeFault.{TypeFault}
-use Rattle.typed_model.specs.declared.fault.TypeFault.TheVariants.{NoGoal}
+use Rattle.typed_model.specs.declared.fault.TypeFault.TheVariants.{NoGoal, Memory}
 use Rattle.typed_model.specs.Names.{statement_of, first_of}
 use Rattle.typed_model.specs.Scope.{place_of, place_or_zero, truth, number, numeral}
 use Rattle.typed_model.specs.Faults.{numeral_in, item_fault}
@@ -181,3 +181,7 @@ model_of items =
       stmts = stmts_from 1 [] items;
       goal = unwrap_or (goal_from 1 [] None items) goal.Satisfy;
     }
+
+-- the answer to the items, where it isn't their model: memory was wanting, or it is the first fault
+abbrev pub IsFaultOf : TypeFault → List Item → Type 0
+IsFaultOf e items = (e ≡ Memory) ⊎ (first_fault items ≡ Some e)

@@ -2,6 +2,7 @@
 #![tactic(auto)]
 
 mod booleans;
+mod check;
 mod fault;
 mod faults;
 mod holds;

@@ -8,8 +8,8 @@ ghost use Rattle.typed_model.specs.Domains.{domain, in_domains};
 ghost use Rattle.typed_model.specs.Holds.{Holds, holds};
 ghost use Rattle.typed_model.specs.Solutions.{AllHold, first_broken};
 
-use crate::holds::what_holds;
 use crate::model::{Assignment, Decl, Kind, Model, Stmt};
+use crate::table::what_holds;
 
 /// Whether a value is from a least to a greatest one.
 fn in_range(low: i64, high: i64, value: i64) -> bool

@@ -11,6 +11,7 @@ mod faults;
 mod integers;
 mod items;
 mod laws;
+mod limits;
 mod lists;
 mod model;
 mod names;
@@ -28,6 +29,7 @@ mod what;
 pub use check::check_types;
 pub use fault::TypeFault;
 pub use laws::holds_law;
+pub use limits::in_limits;
 pub use model::{Assignment, Decl, Goal, Kind, Model, Stmt};
 pub use names::{
     aggregate, array_operator, array_truth_operator, compare_relation, compare_truth_relation,

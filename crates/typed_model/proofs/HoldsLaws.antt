@@ -1,14 +1,11 @@
 -- Each line of the table as a test is true exactly where the line holds.
-use Rattle.std.proofs.Common.{◌≡◌, ◌≢◌, ◌⊎◌, ◌↔◌, ℕ, zero, suc, ◌+◌, ◌*◌, ◌<◌, ◌≤◌, ◌%◌, ◌/◌, ℤ, pos, negsuc, ◌+ℤ◌, ◌-ℤ◌, ◌*ℤ◌, ◌≤ℤ◌, ◌<ℤ◌, Bool, true, false, not, ◌&&◌, ◌||◌, List, [], ◌∷◌, length, get_or, Option, Some, None, IsTrue, IsSomeAnd, arith, inl, inr, refl, sym, ◌∙◌, ap}
-use Rattle.std.specs.Prelude.{int_le, int_lt}
+use Rattle.std.proofs.Common.{◌≡◌, ◌≢◌, ◌⊎◌, ◌↔◌, ℕ, zero, suc, ◌<◌, ℤ, pos, ◌-ℤ◌, ◌*ℤ◌, ◌<ℤ◌, Bool, true, false, List, [], ◌∷◌, length, get_or, Option, Some, None, IsTrue, IsSomeAnd, arith, inl, inr, refl, sym}
 use Rattle.std.specs.Bool.{Decides}
-use Rattle.std.specs.Int.{int_rem_euclid}
-use Rattle.std.specs.Ordering.{int_eq}
 use Rattle.std.proofs.lemmas.Bool.{false≢true}
 use Rattle.std.proofs.lemmas.Bool.Decides.{Decides-int_eq, Decides-or, Decides-and, Decides-not, Decides-like}
-use Rattle.std.proofs.lemmas.Int.{ints, by_lt_z}
+use Rattle.std.proofs.lemmas.Int.{ints}
 use Rattle.typed_model.specs.Terms.{value_at}
-use Rattle.typed_model.specs.Integers.{IsQuotient, IsRemainder, is_quotient, is_remainder}
+use Rattle.typed_model.specs.Integers.{IsQuotient, is_quotient}
 use Rattle.typed_model.specs.Lists.{AllDiffer, DifferWhere, IsBefore, InOrder, differs_from, all_differ, differs_where, differ_where, in_order}
 use Rattle.typed_model.specs.Holds.{same, some_and, reified, Reified}
 use Rattle.typed_model.proofs.DomainLaws.{Decides-int_le, Decides-int_lt}

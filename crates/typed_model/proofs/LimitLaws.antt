@@ -1,5 +1,5 @@
 -- Numbers in the limit: what terms are worth, and how large products are.
-use Rattle.std.proofs.Common.{◌≡◌, ℕ, ◌≤◌, ◌*◌, ℤ, ◌*ℤ◌, unsigned_abs, List}
+use Rattle.std.proofs.Common.{◌≡◌, ◌≤◌, ℤ, ◌*ℤ◌, unsigned_abs, List}
 use Rattle.std.proofs.lemmas.Int.{unsigned_abs-mul}
 use Rattle.std.proofs.Math.Nat.{mul-le-mul}
 use Rattle.typed_model.specs.declared.what.IntTerm.{IntTerm}

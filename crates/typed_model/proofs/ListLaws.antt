@@ -1,11 +1,11 @@
 -- Differing members and orders of lists, at a list's end.
-use Rattle.std.proofs.Common.{◌≡◌, ℕ, ◌+◌, ◌<◌, ℤ, pos, Bool, true, false, not, ◌&&◌, List, [], ◌∷◌, length, get_or, drop, refl, arith}
+use Rattle.std.proofs.Common.{◌≡◌, ℕ, ◌+◌, ◌<◌, ℤ, Bool, true, false, not, ◌&&◌, List, [], ◌∷◌, length, get_or, drop, refl, arith}
 use Rattle.std.specs.Ordering.{int_eq}
 use Rattle.std.proofs.lemmas.List.{drop_more}
 use Rattle.typed_model.specs.declared.what.BoolTerm.{BoolTerm}
 use Rattle.typed_model.specs.declared.what.IntTerm.{IntTerm}
 use Rattle.typed_model.specs.Terms.{truth_of, number_of, truths_of, numbers_of}
-use Rattle.typed_model.specs.Lists.{differs_where, differ_where, in_order}
+use Rattle.typed_model.specs.Lists.{differs_where, in_order}
 use Rattle.typed_model.proofs.Sums.{no_truth, no_number}
 
 pub in_order-right_ends : (s : Bool) (xs ys : List ℤ) → 0 < length xs → length ys ≡ 0 → in_order s xs ys ≡ false

@@ -1,10 +1,10 @@
 -- The first statement that doesn't hold.
-use Rattle.std.proofs.Common.{◌≡◌, ◌↔◌, ℕ, zero, suc, ◌<◌, ℤ, Bool, true, false, List, [], ◌∷◌, length, get_or, Option, Some, None, IsNone, arith, refl, sym, ◌∙◌}
+use Rattle.std.proofs.Common.{◌↔◌, ℕ, zero, suc, ◌<◌, ℤ, Bool, true, false, List, [], ◌∷◌, length, get_or, Option, Some, IsNone, arith, refl}
 use Rattle.std.specs.Prelude.{if◌then◌else◌, IfSome, slice_get}
 use Rattle.std.specs.Bool.{Decides}
 use Rattle.std.proofs.lemmas.Bool.{false≢true}
 use Rattle.typed_model.specs.declared.model.Stmt.{Stmt}
-use Rattle.typed_model.specs.Holds.{Holds, holds}
+use Rattle.typed_model.specs.Holds.{holds}
 use Rattle.typed_model.specs.Limits.{WhatInLimit, StmtsInLimit}
 use Rattle.typed_model.specs.Solutions.{AllHold, first_broken}
 use Rattle.typed_model.proofs.TableLaws.{Decides-holds}

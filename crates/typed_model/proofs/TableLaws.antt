@@ -1,6 +1,5 @@
 -- The test of a statement is true exactly where the statement holds, line by line.
-use Rattle.std.proofs.Common.{ℤ, pos, Bool, List, [], ◌∷◌, Option, IsTrue}
-use Rattle.std.specs.Prelude.{unsigned_abs}
+use Rattle.std.proofs.Common.{ℤ, Bool, List, IsTrue}
 use Rattle.std.specs.Bool.{Decides}
 use Rattle.std.proofs.lemmas.Bool.Decides.{Decides-int_eq}
 use Rattle.typed_model.specs.declared.what.What.{What}

@@ -1,9 +1,8 @@
 -- When a statement holds under an assignment: the table of statements, line by line. Each line is read as
 -- it is printed, over whole numbers and truth values.
-use Rattle.std.specs.Prelude.{◌≡◌, ◌↔◌, ℕ, ℤ, pos, unsigned_abs, Bool, true, false, not, List, [], ◌∷◌, map, Option, Some, None, IsTrue, IsSomeAnd, if◌then◌else◌}
+use Rattle.std.specs.Prelude.{◌≡◌, ◌↔◌, ℤ, pos, unsigned_abs, Bool, true, false, not, List, [], ◌∷◌, map, Option, Some, None, IsTrue, IsSomeAnd, if◌then◌else◌}
 use Rattle.std.specs.Ordering.{int_eq}
 use Rattle.typed_model.specs.declared.what.BoolTerm.{BoolTerm}
-use Rattle.typed_model.specs.declared.what.IntTerm.{IntTerm}
 use Rattle.typed_model.specs.declared.what.What.{What}
 use Rattle.typed_model.specs.declared.what.What.TheVariants.{L3, L4, L5, L6, L7, L8, L9, L10, L11, L12, L13, L14, L15, L16, L17, L18}
 use Rattle.typed_model.specs.declared.statement.Difference.{Difference}

@@ -1,5 +1,5 @@
 -- The solutions of a model, and the best ones.
-use Rattle.std.specs.Prelude.{◌≡◌, ℕ, ℤ, Bool, true, false, List, [], ◌∷◌, Option, Some, None, IsTrue, IsFalse, if◌then◌else◌}
+use Rattle.std.specs.Prelude.{ℕ, ℤ, Bool, true, false, List, [], ◌∷◌, Option, Some, None, IsTrue, IsFalse, if◌then◌else◌}
 use Rattle.typed_model.specs.declared.model.Goal.{Goal}
 use Rattle.typed_model.specs.declared.model.Goal.TheVariants.{Satisfy, Minimize, Maximize}
 use Rattle.typed_model.specs.declared.model.Stmt.{Stmt}

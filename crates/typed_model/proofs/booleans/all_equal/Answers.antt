@@ -1,4 +1,4 @@
-use Rattle.std.proofs.Common.{ℕ, ◌≡◌, arith, length, Bool, List, nat_eq, ◌||◌, sym, ◌∙◌}
+use Rattle.std.proofs.Common.{ℕ, ◌≡◌, arith, length, Bool, nat_eq, ◌||◌}
 use Rattle.std.proofs.lemmas.List.{length-map}
 use Rattle.std.proofs.lemmas.Bool.Decides.{nat_tests}
 use Rattle.typed_model.specs.Terms.{truth_of, truths_of}

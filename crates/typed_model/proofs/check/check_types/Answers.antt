@@ -1,16 +1,11 @@
-use Rattle.std.proofs.Common.{◌≡◌, refl, sym, ◌∙◌, ap, inr, arith, drop, ◌+◌, [], ◌∷◌, is_some, Option, Some, None, Bool, get_or, length, List, ◌≤◌}
-use Rattle.std.specs.Prelude.{if◌then◌else◌}
+use Rattle.std.proofs.Common.{◌≡◌, refl, sym, ◌∙◌, ap, inr, arith, drop, ◌+◌, [], Option, Some, None, length, List, ◌≤◌}
 use Rattle.std.specs.Option.{unwrap_or}
-use Rattle.bumblebee_reader.specs.declared.syntax.Item.{Item}
 use Rattle.typed_model.specs.declared.model.Goal.{Goal}
 use Rattle.typed_model.specs.declared.model.Goal.TheVariants.{Satisfy}
 use Rattle.typed_model.specs.declared.model.Decl.{Decl}
 use Rattle.typed_model.specs.declared.model.Stmt.{Stmt}
 use Rattle.typed_model.specs.declared.model.Model.{Model}
-use Rattle.typed_model.specs.declared.fault.TypeFault.{TypeFault}
-use Rattle.typed_model.specs.declared.fault.TypeFault.TheVariants.{NoGoal}
-use Rattle.typed_model.specs.Faults.{item_fault}
-use Rattle.typed_model.specs.Items.{first_fault, decls_from, stmts_from, goal_from}
+use Rattle.typed_model.specs.Items.{decls_from, stmts_from, goal_from}
 use Rattle.typed_model.proofs.ItemLaws.{drop-item, faults-found, faults-more, decls-more, stmts-more, goal-more, faults-end, decls-end, stmts-end, goal-end}
 use Rattle.typed_model.proofs.check.check_types.Goals as goal
 

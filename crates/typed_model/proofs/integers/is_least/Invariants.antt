@@ -1,4 +1,4 @@
-use Rattle.std.proofs.Common.{◌≡◌, drop, ◌||◌, ◌&&◌}
+use Rattle.std.proofs.Common.{◌≡◌, drop, ◌||◌}
 use Rattle.typed_model.specs.Terms.{numbers_of}
 use Rattle.typed_model.specs.Integers.{is_member, not_undercut}
 use Rattle.typed_model.proofs.integers.is_least.Given as goal

@@ -1,4 +1,4 @@
-use Rattle.std.proofs.Common.{◌≡◌, ℕ, ◌≤◌, ℤ, pos, ◌*ℤ◌, unsigned_abs, get_or, to_z, of_z, w64, FitsSigned, arith, rules}
+use Rattle.std.proofs.Common.{◌≡◌, ◌≤◌, ℤ, pos, ◌*ℤ◌, unsigned_abs, get_or, to_z, of_z, w64, FitsSigned, arith, rules}
 use Rattle.std.proofs.lemmas.Int.{ints, to_z-of_z}
 use Rattle.typed_model.proofs.Sums.{linear_sum-drop, linear_sum-past, no_number}
 use Rattle.typed_model.proofs.LimitLaws.{InLimit-number_of, product_in_limit}

@@ -1,4 +1,4 @@
-use Rattle.std.proofs.Common.{arith, w64, ℤ, ◌≡◌, ◌∙◌, ◌*ℤ◌, ◌≤◌, ◌^◌, unsigned_abs, to_z, of_z, FitsSigned}
+use Rattle.std.proofs.Common.{w64, ℤ, ◌≡◌, ◌∙◌, ◌*ℤ◌, ◌≤◌, ◌^◌, unsigned_abs, to_z, of_z, FitsSigned}
 use Rattle.std.specs.Int.{w128}
 use Rattle.std.proofs.lemmas.Int.{to_z-of_z}
 use Rattle.typed_model.proofs.Wide.{wide-product, abs-product}

@@ -1,7 +1,6 @@
-use Rattle.std.proofs.Common.{◌≡◌, Bool, cond, ℤ, pos, get_or, to_z, of_z, w64, FitsSigned, arith, rules, ◌∙◌, ap, refl}
+use Rattle.std.proofs.Common.{◌≡◌, Bool, cond, ℤ, pos, get_or, to_z, of_z, w64, FitsSigned, arith, rules}
 use Rattle.std.proofs.lemmas.Int.{ints, to_z-of_z}
-use Rattle.typed_model.proofs.Sums.{weight_of_true-drop, weight_of_true-past, no_truth}
-use Rattle.typed_model.specs.Terms.{truth_of}
+use Rattle.typed_model.proofs.Sums.{weight_of_true-drop, weight_of_true-past}
 use Rattle.typed_model.proofs.integers.weight_of_true.Goals as goal
 
 chosen_is : (t u : Bool) (x r : ℤ) → FitsSigned w64 x → t ≡ u → r ≡ cond t (to_z w64 (of_z w64 x)) (pos 0) → r ≡ cond u x (pos 0)

@@ -1,7 +1,6 @@
-use Rattle.std.proofs.Common.{ℕ, ◌<◌, pos, slice_index_or}
-use Rattle.typed_model.specs.declared.what.IntTerm.TheVariants as int_term
+use Rattle.std.proofs.Common.{ℕ, ◌<◌}
 use Rattle.typed_model.specs.Terms.{value_at}
-use Rattle.typed_model.specs.Limits.{InLimit, TermInLimit}
+use Rattle.typed_model.specs.Limits.{InLimit}
 use Rattle.typed_model.proofs.limits.all_in_limit.Given as goal
 
 abbrev pub invariant-loop-number : goal.invariant-loop-number

@@ -1,5 +1,5 @@
 use Rattle.std.proofs.lemmas.Int.{to_z-of_z}
-use Rattle.std.proofs.Common.{w64, Bool, true, false, not, ◌&&◌, ◌≡◌, arith, length, sym, ◌∙◌, drop}
+use Rattle.std.proofs.Common.{w64, Bool, true, false, not, ◌&&◌, ◌≡◌, arith, sym, ◌∙◌, drop}
 use Rattle.std.proofs.lemmas.List.{length-map, length-drop}
 use Rattle.typed_model.specs.Terms.{truths_of, numbers_of}
 use Rattle.typed_model.proofs.ListLaws.{differs_where-end, differs_where-drop}

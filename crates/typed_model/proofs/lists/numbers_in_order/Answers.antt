@@ -1,9 +1,9 @@
-use Rattle.std.proofs.Common.{◌≡◌, ℕ, ℤ, Bool, false, nat_eq, List, arith, length, sym, ◌∙◌, drop, map}
+use Rattle.std.proofs.Common.{◌≡◌, ℕ, ℤ, Bool, false, nat_eq, List, arith, sym, ◌∙◌, drop, map}
 use Rattle.std.proofs.lemmas.Bool.Decides.{nat_tests}
 use Rattle.std.proofs.lemmas.List.{length-map, length-drop}
 use Rattle.typed_model.specs.declared.what.BoolTerm.{BoolTerm}
 use Rattle.typed_model.specs.Terms.{numbers_of, truths_of, as_number}
-use Rattle.typed_model.proofs.ListLaws.{in_order-right_ends, in_order-left_ends, in_order-both_end}
+use Rattle.typed_model.proofs.ListLaws.{in_order-right_ends, in_order-left_ends}
 use Rattle.typed_model.proofs.lists.numbers_in_order.Goals as goal
 
 abbrev ints : List ℤ → List BoolTerm → List ℤ

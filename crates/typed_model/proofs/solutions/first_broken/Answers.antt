@@ -1,4 +1,3 @@
-use Rattle.std.proofs.Common.{arith}
 use Rattle.typed_model.proofs.DomainLaws.{AllInLimit-in_domains}
 use Rattle.typed_model.proofs.SolutionLaws.{first_broken-none}
 use Rattle.typed_model.proofs.solutions.first_broken.Goals as goal

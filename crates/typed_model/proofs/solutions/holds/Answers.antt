@@ -1,7 +1,5 @@
-use Rattle.std.proofs.Common.{◌≡◌, ◌↔◌, Bool, List, ℤ, IsTrue, get_or, sym, ◌∙◌, length, ◌<◌}
-use Rattle.std.specs.Bool.{Decides}
+use Rattle.std.proofs.Common.{◌≡◌, ◌↔◌, Bool, List, ℤ, IsTrue, get_or}
 use Rattle.typed_model.specs.declared.model.Stmt.{Stmt}
-use Rattle.typed_model.specs.Limits.{WhatInLimit, AllInLimit}
 use Rattle.typed_model.specs.Holds.{Holds, holds}
 use Rattle.typed_model.proofs.DomainLaws.{AllInLimit-in_domains}
 use Rattle.typed_model.proofs.SolutionLaws.{StmtsInLimit-get_or, at_place}

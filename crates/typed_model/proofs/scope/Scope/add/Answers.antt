@@ -1,6 +1,5 @@
-use Rattle.std.proofs.Common.{◌≡◌, sym, ◌∙◌, ap, map, ◌++◌, ◌∷◌, [], rules}
+use Rattle.std.proofs.Common.{sym, ◌∙◌, ap, map}
 use Rattle.typed_model.specs.declared.model.Decl.{Decl}
-use Rattle.typed_model.specs.Scope.{place_of}
 use Rattle.typed_model.proofs.ScopeLaws.{keys-add}
 use Rattle.typed_model.proofs.scope.Scope.add.Goals as goal
 

@@ -1,6 +1,5 @@
-use Rattle.std.proofs.Common.{sym, ◌∙◌}
+use Rattle.std.proofs.Common.{◌∙◌}
 use Rattle.typed_model.proofs.ScopeLaws.{place_of-keys}
-use Rattle.typed_model.specs.Scope.{place_of}
 use Rattle.typed_model.proofs.scope.Scope.place_of.Goals as goal
 
 pub returns : goal.returns

@@ -10,4 +10,5 @@ pub mod ScopeLaws
 pub mod SolutionLaws
 pub mod Sums
 pub mod TableLaws
+pub mod TypingLaws
 pub mod Wide

@@ -11,4 +11,5 @@ pub mod Signatures
 pub mod Scope
 pub mod Faults
 pub mod Items
+pub mod WellTyped
 pub mod Laws

@@ -1,8 +1,10 @@
 -- What fits an argument's place is a term of a well typed model.
 use Rattle.std.proofs.Common.{◌≡◌, ◌⊎◌, ℕ, zero, suc, ◌+◌, ◌<◌, ◌≤◌, ℤ, pos, ◌≤ℤ◌, Bool, true, false, not, ◌&&◌, ◌||◌, cond, List, [], ◌∷◌, ◌++◌, map, length, Option, Some, None, IsSome, IsSomeAnd, arith, refl, sym, ◌∙◌, ap, inl, inr}
-use Rattle.std.specs.Prelude.{slice_get, position, if◌then◌else◌}
+use Rattle.std.specs.Prelude.{int_lt, nat_eq, slice_get, position, if◌then◌else◌}
 use Rattle.std.specs.Option.{option_and_then, option_map, option_map_or}
 use Rattle.std.proofs.lemmas.Bool.{false≢true}
+use Rattle.std.proofs.lemmas.Bool.Decides.{nat_tests}
+use Rattle.std.proofs.lemmas.Int.{ints}
 use Rattle.bumblebee_reader.specs.declared.syntax.Term.{Term}
 use Rattle.bumblebee_reader.specs.declared.syntax.Term.TheVariants as term
 use Rattle.bumblebee_reader.specs.declared.syntax.Arg.{Arg}
@@ -17,9 +19,12 @@ use Rattle.typed_model.specs.declared.model.Kind.{Kind}
 use Rattle.typed_model.specs.declared.model.Kind.TheVariants as kind
 use Rattle.typed_model.specs.declared.model.Decl.{Decl}
 use Rattle.typed_model.specs.Scope.{place_of, kind_of, is_bool, is_int, low_of, is_constant, is_true, place_or_zero, is_truth, is_number, all_truths, all_numbers, truth, number}
-use Rattle.typed_model.specs.Faults.{arg_fits, fit}
+use Rattle.typed_model.specs.Faults.{one_fits, arg_fits, fit, lists_differ, is_empty, least_in}
 use Rattle.typed_model.specs.Items.{truth_in, number_in, truths_in, numbers_in, terms_in}
-use Rattle.typed_model.specs.WellTyped.{IsInt, IsTruthAt, IsNumberAt, TruthFits, NumberFits, TruthsFit, NumbersFit, WellTyped}
+use Rattle.typed_model.specs.WellTyped.{IsInt, IsTruthAt, IsNumberAt, TruthFits, NumberFits, TruthsFit, NumbersFit, IsAtLeast, WellTyped}
+
+not_less : (x m : ℤ) → int_lt x m ≡ false → m ≤ℤ x
+not_less x m e = grind (arith, ints)
 
 -- every declaration is an earlier item's
 abbrev pub AllBefore : ℕ → List Decl → Type 0
@@ -91,3 +96,77 @@ module _ (n : ℕ) (ds : List Decl) (before : AllBefore n ds) where
   numbers-fit (t ∷ ts) e =
       let h = and_parts (is_number ds t) (all_numbers ds ts) e in
       (number-fits t h.0, numbers-fit ts h.1)
+
+-- an argument is there, and is what is wanted
+abbrev pub ArgFits : List Decl → Wanted → Option Arg → Type 0
+ArgFits ds w a = IsSomeAnd a (λ x. arg_fits ds w x ≡ true)
+
+-- the argument at a place is what the signature wants there
+abbrev pub FitsAt : List Decl → Option Wanted → Option Arg → Type 0
+FitsAt ds None a = Unit {0}
+FitsAt ds (Some w) a = ArgFits ds w a
+
+pub fit-at : (ds : List Decl) (ws : List Wanted) (args : List Arg) (k : ℕ) → fit ds ws args ≡ true → FitsAt ds (slice_get ws k) (slice_get args k)
+fit-at ds [] args k e = tt
+fit-at ds (w ∷ ws) [] k e = absurd (false≢true e)
+fit-at ds (w ∷ ws) (a ∷ rest) zero e = (and_parts (arg_fits ds w a) (fit ds ws rest) e).0
+fit-at ds (w ∷ ws) (a ∷ rest) (suc k) e = fit-at ds ws rest k (and_parts (arg_fits ds w a) (fit ds ws rest) e).1
+
+module _ (n : ℕ) (ds : List Decl) (before : AllBefore n ds) where
+  pub truth_in-fits : (a : Option Arg) → ArgFits ds wanted.Truth a → TruthFits ds n (truth_in ds a)
+  truth_in-fits None h = tt
+  truth_in-fits (Some (arg.One t)) h = truth-fits n ds before t h
+  truth_in-fits (Some (arg.Many ts)) h = tt
+
+  pub number_in-fits : (a : Option Arg) → ArgFits ds wanted.Number a → NumberFits ds n (number_in ds a)
+  number_in-fits None h = tt
+  number_in-fits (Some (arg.One t)) h = number-fits n ds before t h
+  number_in-fits (Some (arg.Many ts)) h = tt
+
+  pub truths_in-fit : (a : Option Arg) → ArgFits ds wanted.Truths a → TruthsFit ds n (truths_in ds a)
+  truths_in-fit None h = tt
+  truths_in-fit (Some (arg.One t)) h = tt
+  truths_in-fit (Some (arg.Many ts)) h = truths-fit n ds before ts h
+
+  pub numbers_in-fit : (a : Option Arg) → ArgFits ds wanted.Numbers a → NumbersFit ds n (numbers_in ds a)
+  numbers_in-fit None h = tt
+  numbers_in-fit (Some (arg.One t)) h = tt
+  numbers_in-fit (Some (arg.Many ts)) h = numbers-fit n ds before ts h
+
+-- Lists of one length.
+
+-- an argument that is wanted as a list is one
+abbrev pub WantsList : Wanted → Type 0
+WantsList w = (ds : List Decl) (t : Term) → one_fits ds w t ≡ false
+
+same_length : (x y : ℕ) → not (nat_eq x y) ≡ false → x ≡ y
+same_length x y e = grind (arith, nat_tests)
+
+pub lists-same : (ds : List Decl) (v w : Wanted) (a b : Option Arg) → WantsList v → WantsList w → ArgFits ds v a → ArgFits ds w b → lists_differ a b ≡ false → length (terms_in a) ≡ length (terms_in b)
+lists-same ds v w None b p q h k e = absurd h
+lists-same ds v w (Some (arg.One t)) b p q h k e = absurd (false≢true (sym (p ds t) ∙ h))
+lists-same ds v w (Some (arg.Many xs)) None p q h k e = absurd k
+lists-same ds v w (Some (arg.Many xs)) (Some (arg.One t)) p q h k e = absurd (false≢true (sym (q ds t) ∙ k))
+lists-same ds v w (Some (arg.Many xs)) (Some (arg.Many ys)) p q h k e = same_length (length xs) (length ys) e
+
+pub list-member : (ds : List Decl) (w : Wanted) (a : Option Arg) → WantsList w → ArgFits ds w a → is_empty a ≡ false → 0 < length (terms_in a)
+list-member ds w None p h e = absurd h
+list-member ds w (Some (arg.One t)) p h e = absurd (false≢true (sym (p ds t) ∙ h))
+list-member ds w (Some (arg.Many xs)) p h e = grind (arith, nat_tests)
+
+-- The least value of an argument.
+
+low_found : (m : ℤ) (o : Option Decl) → is_int (option_map (λ d. d.kind) o) ≡ true → int_lt (low_of (option_map (λ d. d.kind) o)) m ≡ false → IsSomeAnd o (λ d. m ≤ℤ low_of (Some d.kind))
+low_found m None i e = absurd (false≢true i)
+low_found m (Some d) i e = not_less (low_of (Some d.kind)) m e
+
+low_placed : (m : ℤ) (ds : List Decl) (o : Option ℕ) → is_int (option_and_then (λ p. option_map (λ (d : Decl). d.kind) (slice_get ds p)) o) ≡ true → int_lt (low_of (option_and_then (λ p. option_map (λ (d : Decl). d.kind) (slice_get ds p)) o)) m ≡ false → IsSomeAnd (slice_get ds (option_map_or (λ p. p) o 0)) (λ d. m ≤ℤ low_of (Some d.kind))
+low_placed m ds None i e = absurd (false≢true i)
+low_placed m ds (Some p) i e = low_found m (slice_get ds p) i e
+
+pub least-fits : (m : ℤ) (ds : List Decl) (a : Option Arg) → ArgFits ds wanted.Number a → int_lt (least_in ds a) m ≡ false → IsAtLeast ds m (number_in ds a)
+least-fits m ds None h e = absurd h
+least-fits m ds (Some (arg.One (term.Plain name))) h e = low_placed m ds (place_of name ds) h e
+least-fits m ds (Some (arg.One (term.Minus name))) h e = absurd (false≢true h)
+least-fits m ds (Some (arg.One (term.Number z))) h e = not_less z m e
+least-fits m ds (Some (arg.Many ts)) h e = absurd (false≢true h)

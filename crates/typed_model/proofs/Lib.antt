@@ -8,6 +8,7 @@ pub mod ListLaws
 pub mod Remainders
 pub mod ScopeLaws
 pub mod SolutionLaws
+pub mod StatementLaws
 pub mod Sums
 pub mod TableLaws
 pub mod TypingLaws

@@ -1,5 +1,5 @@
 use Rattle.typed_model.proofs.TableLaws.{Decides-holds}
-use Rattle.typed_model.proofs.TypingLaws.{truth-fits}
+use Rattle.typed_model.proofs.StatementLaws.{difference-fits}
 use Rattle.typed_model.proofs.laws.holds_law.Goals as goal
 
 pub returns : goal.returns

@@ -1,3 +1,4 @@
+pub mod AppendLaws
 pub mod BooleanLaws
 pub mod DomainLaws
 pub mod FaultLaws

@@ -4,6 +4,7 @@ pub mod DomainLaws
 pub mod FaultLaws
 pub mod HoldsLaws
 pub mod ItemLaws
+pub mod ItemTyping
 pub mod LimitLaws
 pub mod ListLaws
 pub mod Remainders

@@ -110,7 +110,7 @@ module _ (n : ℕ) (ds : List Decl) (before : AllBefore n ds) (args : List Arg) 
   order-fits name o m f e = at_name (lex name) o _ m (order_parts name o.of_booleans o.reified f e)
 
   -- a statement that declares nothing
-  abbrev PlainFits : List ℕ → Statement → Type 0
+  abbrev pub PlainFits : List ℕ → Statement → Type 0
   PlainFits name statement.BoolToInt = Unit {0}
   PlainFits name s = IfSome (what_of ds name s args) (WhatFits ds n)
 

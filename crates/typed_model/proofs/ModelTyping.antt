@@ -35,9 +35,17 @@ use Rattle.typed_model.specs.Scope.{place_of, kind_of, is_bool, is_int, is_const
 use Rattle.typed_model.specs.Faults.{call_fault, item_fault, numeral_in, objective_unknown, objective_fits, goal_fault}
 use Rattle.typed_model.specs.Items.{declared_name, declared_as, declared_by, declared_if, declared, what_of, name_in, numbered, stated_if, stated, objective_place, goal_of, sought, decls_from, stmts_from, goal_from, first_fault_from, first_fault, model_of}
 use Rattle.typed_model.specs.WellTyped.{IsInt, WhatFits, StmtsFit, IsFree, KindFits, DeclsFit, GoalFits}
-use Rattle.typed_model.proofs.TypingLaws.{AllBefore, ArgFits, fit-at, NameFits, name_fits, NoFault, no_fault}
+use Rattle.typed_model.proofs.TypingLaws.{not_less, AllBefore, ArgFits, fit-at, NameFits, name_fits, NoFault, no_fault}
 use Rattle.typed_model.proofs.AppendLaws.{at-append, WhatFits-append}
 use Rattle.typed_model.proofs.ItemTyping.{own_kind, stated-fits}
+
+and_parts : (x y : Bool) → (x && y) ≡ true → (x ≡ true) × (y ≡ true)
+and_parts true y e = (refl, e)
+and_parts false y e = absurd (false≢true e)
+
+not_true : (b : Bool) → not b ≡ true → b ≡ false
+not_true true e = absurd (false≢true e)
+not_true false e = refl
 
 -- Numbers of declarations.
 
@@ -160,3 +168,104 @@ stmts-fit n ds g (x ∷ items) before e =
   let r = decls-prefix (n + 1) es items in
   let more : (w : What) → WhatFits es n w → WhatFits (decls_from (n + 1) es items) n w = λ w h. subst (λ (D : List Decl). WhatFits D n w) (sym r.1) (WhatFits-append es r.0 n w h) in
   StmtsFit-join es (decls_from (n + 1) es items) n (stated n es x) (stmts_from (n + 1) es items) more (stated-one n ds x before (before-goal n (is_some g) ds x f.0)) (stmts-fit (n + 1) es (sought g ds x) items (AllBefore-declared n ds x before) f.1)
+
+-- Declarations.
+
+none_head : (b : Bool) (i : ℕ) (o : Option ℕ) → cond b (Some i) o ≡ None → (b ≡ false) × (o ≡ None)
+none_head true i o e = cc
+none_head false i o e = (refl, e)
+
+none_cond : (b : Bool) (i : ℕ) (o : Option ℕ) → b ≡ false → o ≡ None → cond b (Some i) o ≡ None
+none_cond true i o e h = cc
+none_cond false i o e h = h
+
+none-shift : {X : Type 0} (p : X → Bool) (i j : ℕ) (xs : List X) → position_from p i xs ≡ None → position_from p j xs ≡ None
+none-shift p i j [] e = refl
+none-shift p i j (x ∷ xs) e =
+  let h = none_head (p x) i (position_from p (i + 1) xs) e in
+  none_cond (p x) j (position_from p (j + 1) xs) h.0 (none-shift p (i + 1) (j + 1) xs h.1)
+
+none-last : {X : Type 0} (p : X → Bool) (i : ℕ) (xs : List X) (y : X) → position_from p i xs ≡ None → p y ≡ false → position_from p i (xs ++ y ∷ []) ≡ None
+none-last p i [] y e t = none_cond (p y) i None t refl
+none-last p i (x ∷ xs) y e t =
+  let h = none_head (p x) i (position_from p (i + 1) xs) e in
+  none_cond (p x) i (position_from p (i + 1) (xs ++ y ∷ [])) h.0 (none-last p (i + 1) xs y h.1 t)
+
+free_from : (name : List ℕ) (ds : List Decl) → IsFree name ds → position_from (λ (d : Decl). bytes_eq name d.name) 0 ds ≡ None
+free_from name ds h = sym (position_from-zero (λ (d : Decl). bytes_eq name d.name) ds) ∙ h
+
+from_free : (name : List ℕ) (ds : List Decl) → position_from (λ (d : Decl). bytes_eq name d.name) 0 ds ≡ None → IsFree name ds
+from_free name ds h = position_from-zero (λ (d : Decl). bytes_eq name d.name) ds ∙ h
+
+free-parts : (name : List ℕ) (d : Decl) (ds : List Decl) → IsFree name (d ∷ ds) → (bytes_eq name d.name ≡ false) × IsFree name ds
+free-parts name d ds h =
+  let r = none_head (bytes_eq name d.name) 0 (position_from (λ (d : Decl). bytes_eq name d.name) 1 ds) (free_from name (d ∷ ds) h) in
+  (r.0, from_free name ds (none-shift (λ (d : Decl). bytes_eq name d.name) 1 0 ds r.1))
+
+free-last : (name : List ℕ) (ds : List Decl) (d : Decl) → IsFree name ds → bytes_eq name d.name ≡ false → IsFree name (ds ++ d ∷ [])
+free-last name ds d h t = from_free name (ds ++ d ∷ []) (none-last (λ (d : Decl). bytes_eq name d.name) 0 ds d (free_from name ds h) t)
+
+false_of : (b : Bool) → (b ≡ true → ⊥) → b ≡ false
+false_of true f = absurd (f refl)
+false_of false f = refl
+
+bytes_other : (xs ys : List ℕ) → bytes_eq xs ys ≡ false → bytes_eq ys xs ≡ false
+bytes_other xs ys e = false_of (bytes_eq ys xs) (λ t. false≢true (sym e ∙ (bytes_eq-Decides xs ys).1 (sym ((bytes_eq-Decides ys xs).0 t))))
+
+DeclsFit-last : (m : ℕ) (ds : List Decl) (d : Decl) → DeclsFit m ds → AllBefore d.number ds → m ≤ d.number → is_constant d.name ≡ false → IsFree d.name ds → KindFits d.kind → DeclsFit m (ds ++ d ∷ [])
+DeclsFit-last m [] d h before l c f k = (l, (c, (refl, (k, tt))))
+DeclsFit-last m (e ∷ ds) d h before l c f k =
+  let p = free-parts d.name e ds f in
+  (h.0, (h.1.0, (free-last e.name ds d h.1.1.0 (bytes_other d.name e.name p.0), (h.1.1.1.0, DeclsFit-last (e.number + 1) ds d h.1.1.1.1 before.1 (omega (arith, before.0)) c p.1 k))))
+
+module _ (n : ℕ) (ds : List Decl) (fits : DeclsFit 1 ds) (before : AllBefore n ds) (one : 1 ≤ n) where
+  name-decls : (name : List ℕ) (k : Kind) (o : Option ℕ) → place_of name ds ≡ o → is_constant name ≡ false → KindFits k → DeclsFit 1 (ds ++ declared_name n ds name k)
+  name-decls name k None e c h =
+    let d : Decl = record { number = n; name = name; kind = k } in
+    let made : declared_name n ds name k ≡ d ∷ [] = ap (λ (o : Option ℕ). if is_some o then [] else d ∷ []) e in
+    subst (λ (es : List Decl). DeclsFit 1 (ds ++ es)) (sym made) (DeclsFit-last 1 ds d fits before one c e h)
+  name-decls name k (Some p) e c h =
+    let d : Decl = record { number = n; name = name; kind = k } in
+    let made : declared_name n ds name k ≡ [] = ap (λ (o : Option ℕ). if is_some o then [] else d ∷ []) e in
+    subst (λ (es : List Decl). DeclsFit 1 (ds ++ es)) (sym made) (subst (DeclsFit 1) (sym (append-nil ds)) fits)
+
+  same-decls : DeclsFit 1 (ds ++ [])
+  same-decls = subst (DeclsFit 1) (sym (append-nil ds)) fits
+
+  new_name-decls : (a : Option Arg) (k : Kind) → ArgFits ds wanted.NewName a → KindFits k → DeclsFit 1 (ds ++ declared_as n ds (name_in a) k)
+  new_name-decls None k h f = absurd h
+  new_name-decls (Some (arg.One (term.Plain name))) k h f = name-decls name k (place_of name ds) refl (not_true (is_constant name) h) f
+  new_name-decls (Some (arg.One (term.Minus name))) k h f = absurd (false≢true h)
+  new_name-decls (Some (arg.One (term.Number z))) k h f = absurd (false≢true h)
+  new_name-decls (Some (arg.Many ts)) k h f = absurd (false≢true h)
+
+  new_integer-decls : (a : Option Arg) → ArgFits ds wanted.NewInteger a → DeclsFit 1 (ds ++ declared_as n ds (name_in a) own_kind)
+  new_integer-decls None h = absurd h
+  new_integer-decls (Some (arg.One (term.Plain name))) h = name-decls name own_kind (place_of name ds) refl (not_true (is_constant name) (and_parts (not (is_constant name)) (not (is_bool (kind_of name ds))) h).0) (omega (arith, ints))
+  new_integer-decls (Some (arg.One (term.Minus name))) h = absurd (false≢true h)
+  new_integer-decls (Some (arg.One (term.Number z))) h = absurd (false≢true h)
+  new_integer-decls (Some (arg.Many ts)) h = absurd (false≢true h)
+
+  by-decls : (s : Statement) (args : List Arg) → NoFault ds s args → DeclsFit 1 (ds ++ declared_by n ds s args)
+  unfolding declared_by
+  by-decls statement.NewBool args ok = new_name-decls (slice_get args 0) kind.Bool (fit-at ds (signature statement.NewBool) args 0 ok.fits) tt
+  by-decls statement.NewInt args ok =
+    new_name-decls (slice_get args 0) (kind.Int (numeral_in (slice_get args 1)) (numeral_in (slice_get args 2))) (fit-at ds (signature statement.NewInt) args 0 ok.fits) (not_less (numeral_in (slice_get args 2)) (numeral_in (slice_get args 1)) ok.domain)
+  by-decls statement.BoolToInt args ok = new_integer-decls (slice_get args 1) (fit-at ds (signature statement.BoolToInt) args 1 ok.fits)
+  by-decls s args ok = same-decls
+
+  if-decls : (o : Option Statement) (args : List Arg) → call_fault n ds o args ≡ None → DeclsFit 1 (ds ++ declared_if n ds o args)
+  if-decls None args e = same-decls
+  if-decls (Some s) args e = by-decls s args (no_fault n ds s args e)
+
+  pub item-decls : (x : Item) → item_fault n false ds x ≡ None → DeclsFit 1 (ds ++ declared n ds x)
+  unfolding item_fault
+  item-decls (item.Call name args) e = if-decls (statement_of name) args e
+  item-decls (item.Goal k objective) e = same-decls
+
+pub decls-fit : (n : ℕ) (ds : List Decl) (g : Option Goal) (items : List Item) → DeclsFit 1 ds → AllBefore n ds → 1 ≤ n → first_fault_from n ds g items ≡ None → DeclsFit 1 (decls_from n ds items)
+unfolding decls_from
+decls-fit n ds g [] fits before one e = fits
+decls-fit n ds g (x ∷ items) fits before one e =
+  let f = faults-none n ds g x items e in
+  decls-fit (n + 1) (ds ++ declared n ds x) (sought g ds x) items (item-decls n ds fits before one x (before-goal n (is_some g) ds x f.0)) (AllBefore-declared n ds x before) (omega arith) f.1

@@ -29,7 +29,7 @@ use Rattle.typed_model.specs.declared.statement.Statement.TheVariants as stateme
 use Rattle.typed_model.specs.Items.{truth_in, number_in, truths_in, numbers_in, terms_in}
 use Rattle.typed_model.specs.WellTyped.{IsInt, IsTruthAt, IsNumberAt, TruthFits, NumberFits, TruthsFit, NumbersFit, IsAtLeast, WellTyped}
 
-not_less : (x m : ℤ) → int_lt x m ≡ false → m ≤ℤ x
+pub not_less : (x m : ℤ) → int_lt x m ≡ false → m ≤ℤ x
 not_less x m e = grind (arith, ints)
 
 -- every declaration is an earlier item's

@@ -96,12 +96,12 @@ module _ (ds es : List Decl) (n : ℕ) where
   WhatFits-append (L12 name is i) h = (h.0, (NumbersFit-append is h.1.0, NumberFits-append i h.1.1))
   WhatFits-append (L13 name cs is i) h = (h.0, (NumbersFit-append is h.1.0, (NumberFits-append i h.1.1.0, h.1.1.1)))
   WhatFits-append (L14 name i j k) h =
-    some_and-map (operation name) _ _ (λ o h. (NumberFits-append i h.0, (NumberFits-append j h.1.0, (NumberFits-append k h.1.1.0, DivisionFits-append o i j h.1.1.1)))) h
+      some_and-map (operation name) _ _ (λ o h. (NumberFits-append i h.0, (NumberFits-append j h.1.0, (NumberFits-append k h.1.1.0, DivisionFits-append o i j h.1.1.1)))) h
   WhatFits-append (L15 i j) h = (NumberFits-append i h.0, NumberFits-append j h.1)
   WhatFits-append (L16 name is i) h = some_and-map (aggregate name) _ _ (λ e h. (NumbersFit-append is h.0, (NumberFits-append i h.1.0, h.1.1))) h
   WhatFits-append (L17 name is z xs) h = some_and-map (differ name) _ _ (λ d h. (NumbersFit-append is h.0, DifferenceFits-append is z xs d h.1)) h
   WhatFits-append (L18 name xs ys is js z) h =
-    some_and-map (lex name) _ _ (λ (o : Order) h. (PairFits-map _ _ TruthsFit-append o.of_booleans xs ys h.0, (PairFits-map _ _ NumbersFit-append (not o.of_booleans) is js h.1.0, TruthFitsIf-append o.reified z h.1.1))) h
+      some_and-map (lex name) _ _ (λ (o : Order) h. (PairFits-map _ _ TruthsFit-append o.of_booleans xs ys h.0, (PairFits-map _ _ NumbersFit-append (not o.of_booleans) is js h.1.0, TruthFitsIf-append o.reified z h.1.1))) h
 
 -- The place of a name among more declarations.
 
@@ -123,11 +123,11 @@ from-last p i (x ∷ xs) y e t = by_head (p x) i (position_from p (i + 1) xs) (p
 
 pub place_of-append : (name : List ℕ) (ds es : List Decl) (k : ℕ) → place_of name ds ≡ Some k → place_of name (ds ++ es) ≡ Some k
 place_of-append name ds es k e =
-  position_from-zero (λ (d : Decl). bytes_eq name d.name) (ds ++ es) ∙ from-append _ 0 k ds es (sym (position_from-zero (λ (d : Decl). bytes_eq name d.name) ds) ∙ e)
+    position_from-zero (λ (d : Decl). bytes_eq name d.name) (ds ++ es) ∙ from-append _ 0 k ds es (sym (position_from-zero (λ (d : Decl). bytes_eq name d.name) ds) ∙ e)
 
 pub place_of-last : (name : List ℕ) (ds : List Decl) (d : Decl) → place_of name ds ≡ None → bytes_eq name d.name ≡ true → place_of name (ds ++ d ∷ []) ≡ Some (length ds)
 place_of-last name ds d e t =
-  position_from-zero (λ (d : Decl). bytes_eq name d.name) (ds ++ d ∷ []) ∙ (from-last _ 0 ds d (sym (position_from-zero (λ (d : Decl). bytes_eq name d.name) ds) ∙ e) t ∙ ap Some (omega arith))
+    position_from-zero (λ (d : Decl). bytes_eq name d.name) (ds ++ d ∷ []) ∙ (from-last _ 0 ds d (sym (position_from-zero (λ (d : Decl). bytes_eq name d.name) ds) ∙ e) t ∙ ap Some (omega arith))
 
 or_zero-same : (o q : Option ℕ) → ((k : ℕ) → o ≡ Some k → q ≡ Some k) → is_some o ≡ true → option_map_or (λ p. p) q 0 ≡ option_map_or (λ p. p) o 0
 or_zero-same None q f e = absurd (false≢true e)

@@ -73,19 +73,19 @@ kind_found name ds k e h = sym (ap (λ (o : Option ℕ). is_bool (option_and_the
 -- `bool2int`: the integer is declared, before or here
 integer_is : (n : ℕ) (ds : List Decl) (name : List ℕ) (o : Option ℕ) → place_of name ds ≡ o → AllBefore n ds → is_bool (kind_of name ds) ≡ false → IsNumberAt (ds ++ declared_name n ds name own_kind) (n + 1) (place_or_zero name (ds ++ declared_name n ds name own_kind))
 integer_is n ds name None e before h =
-  let d : Decl = record { number = n; name = name; kind = own_kind } in
-  let made : declared_name n ds name own_kind ≡ d ∷ [] = ap (λ (o : Option ℕ). if is_some o then [] else d ∷ []) e in
-  let last : place_of name (ds ++ d ∷ []) ≡ Some (length ds) = place_of-last name ds d e ((bytes_eq-Decides name name).1 refl) in
-  let there : IsNumberAt (ds ++ d ∷ []) (n + 1) (length ds) = at_end ds d _ (omega arith, tt) in
-  let placed : IsNumberAt (ds ++ d ∷ []) (n + 1) (place_or_zero name (ds ++ d ∷ [])) = subst (λ (o : Option ℕ). IsNumberAt (ds ++ d ∷ []) (n + 1) (option_map_or (λ p. p) o 0)) (sym last) there in
-  subst (λ (es : List Decl). IsNumberAt (ds ++ es) (n + 1) (place_or_zero name (ds ++ es))) (sym made) placed
+    let d : Decl = record { number = n; name = name; kind = own_kind } in
+    let made : declared_name n ds name own_kind ≡ d ∷ [] = ap (λ (o : Option ℕ). if is_some o then [] else d ∷ []) e in
+    let last : place_of name (ds ++ d ∷ []) ≡ Some (length ds) = place_of-last name ds d e ((bytes_eq-Decides name name).1 refl) in
+    let there : IsNumberAt (ds ++ d ∷ []) (n + 1) (length ds) = at_end ds d _ (omega arith, tt) in
+    let placed : IsNumberAt (ds ++ d ∷ []) (n + 1) (place_or_zero name (ds ++ d ∷ [])) = subst (λ (o : Option ℕ). IsNumberAt (ds ++ d ∷ []) (n + 1) (option_map_or (λ p. p) o 0)) (sym last) there in
+    subst (λ (es : List Decl). IsNumberAt (ds ++ es) (n + 1) (place_or_zero name (ds ++ es))) (sym made) placed
 integer_is n ds name (Some k) e before h =
-  let d : Decl = record { number = n; name = name; kind = own_kind } in
-  let made : declared_name n ds name own_kind ≡ [] = ap (λ (o : Option ℕ). if is_some o then [] else d ∷ []) e in
-  let there : IsNumberAt ds (n + 1) k = number_before n ds k (λ d. IsInt d.kind) before (some_at ds k (λ d. IsInt d.kind) (placed_within name ds no_decl k e) (λ x g. kind_at ds k x g (kind_found name ds k e h))) in
-  let placed : IsNumberAt ds (n + 1) (place_or_zero name ds) = subst (λ (o : Option ℕ). IsNumberAt ds (n + 1) (option_map_or (λ p. p) o 0)) (sym e) there in
-  let same : IsNumberAt (ds ++ []) (n + 1) (place_or_zero name (ds ++ [])) = subst (λ (es : List Decl). IsNumberAt es (n + 1) (place_or_zero name es)) (sym (append-nil ds)) placed in
-  subst (λ (es : List Decl). IsNumberAt (ds ++ es) (n + 1) (place_or_zero name (ds ++ es))) (sym made) same
+    let d : Decl = record { number = n; name = name; kind = own_kind } in
+    let made : declared_name n ds name own_kind ≡ [] = ap (λ (o : Option ℕ). if is_some o then [] else d ∷ []) e in
+    let there : IsNumberAt ds (n + 1) k = number_before n ds k (λ d. IsInt d.kind) before (some_at ds k (λ d. IsInt d.kind) (placed_within name ds no_decl k e) (λ x g. kind_at ds k x g (kind_found name ds k e h))) in
+    let placed : IsNumberAt ds (n + 1) (place_or_zero name ds) = subst (λ (o : Option ℕ). IsNumberAt ds (n + 1) (option_map_or (λ p. p) o 0)) (sym e) there in
+    let same : IsNumberAt (ds ++ []) (n + 1) (place_or_zero name (ds ++ [])) = subst (λ (es : List Decl). IsNumberAt es (n + 1) (place_or_zero name es)) (sym (append-nil ds)) placed in
+    subst (λ (es : List Decl). IsNumberAt (ds ++ es) (n + 1) (place_or_zero name (ds ++ es))) (sym made) same
 
 and_parts : (x y : Bool) → (x && y) ≡ true → (x ≡ true) × (y ≡ true)
 and_parts true y e = (refl, e)
@@ -99,10 +99,10 @@ bool2int-fits : (n : ℕ) (ds : List Decl) (a b : Option Arg) → AllBefore n ds
 unfolding WhatFits
 bool2int-fits n ds a None before h k = absurd k
 bool2int-fits n ds a (Some (arg.One (term.Plain name))) before h k =
-  let es = declared_name n ds name own_kind in
-  let x : TruthFits (ds ++ es) n (truth_in ds a) = TruthFits-append ds es n (truth_in ds a) (truth_in-fits n ds before a h) in
-  let y : TruthFits (ds ++ es) n (truth_in (ds ++ es) a) = subst (TruthFits (ds ++ es) n) (sym (truth_in-same ds es a h)) x in
-  (y, integer_is n ds name (place_of name ds) refl before (not_true _ (and_parts (not (is_constant name)) (not (is_bool (kind_of name ds))) k).1))
+    let es = declared_name n ds name own_kind in
+    let x : TruthFits (ds ++ es) n (truth_in ds a) = TruthFits-append ds es n (truth_in ds a) (truth_in-fits n ds before a h) in
+    let y : TruthFits (ds ++ es) n (truth_in (ds ++ es) a) = subst (TruthFits (ds ++ es) n) (sym (truth_in-same ds es a h)) x in
+    (y, integer_is n ds name (place_of name ds) refl before (not_true _ (and_parts (not (is_constant name)) (not (is_bool (kind_of name ds))) k).1))
 bool2int-fits n ds a (Some (arg.One (term.Minus name))) before h k = absurd (false≢true k)
 bool2int-fits n ds a (Some (arg.One (term.Number z))) before h k = absurd (false≢true k)
 bool2int-fits n ds a (Some (arg.Many ts)) before h k = absurd (false≢true k)
@@ -113,8 +113,8 @@ module _ (n : ℕ) (ds : List Decl) (before : AllBefore n ds) (args : List Arg) 
   stated-fits statement.NewBool m ok = tt
   stated-fits statement.NewInt m ok = tt
   stated-fits statement.BoolToInt m ok =
-    let F = λ (k : ℕ). fit-at ds (signature statement.BoolToInt) args k ok.fits in
-    bool2int-fits n ds (slice_get args 0) (slice_get args 1) before (F 0) (F 1)
+      let F = λ (k : ℕ). fit-at ds (signature statement.BoolToInt) args k ok.fits in
+      bool2int-fits n ds (slice_get args 0) (slice_get args 1) before (F 0) (F 1)
   stated-fits statement.BoolEq m ok = subst (λ (es : List Decl). IfSome (what_of es name statement.BoolEq args) (WhatFits es n)) (sym (append-nil ds)) (plain-fits n ds before args name statement.BoolEq m ok)
   stated-fits (statement.Pair op) m ok = subst (λ (es : List Decl). IfSome (what_of es name (statement.Pair op) args) (WhatFits es n)) (sym (append-nil ds)) (plain-fits n ds before args name (statement.Pair op) m ok)
   stated-fits (statement.Array op) m ok = subst (λ (es : List Decl). IfSome (what_of es name (statement.Array op) args) (WhatFits es n)) (sym (append-nil ds)) (plain-fits n ds before args name (statement.Array op) m ok)

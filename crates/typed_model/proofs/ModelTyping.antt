@@ -110,8 +110,8 @@ pub decls-prefix : (n : ℕ) (ds : List Decl) (items : List Item) → (more : Li
 unfolding decls_from
 decls-prefix n ds [] = ([], sym (append-nil ds), tt)
 decls-prefix n ds (x ∷ items) =
-  let r = decls-prefix (n + 1) (ds ++ declared n ds x) items in
-  (declared n ds x ++ r.0, r.1 ∙ append_assoc ds (declared n ds x) r.0, AllFrom-AllOf n (declared n ds x) r.0 (AllOf-declared n ds x) (AllFrom-less (n + 1) n r.0 (omega arith) r.2))
+    let r = decls-prefix (n + 1) (ds ++ declared n ds x) items in
+    (declared n ds x ++ r.0, r.1 ∙ append_assoc ds (declared n ds x) r.0, AllFrom-AllOf n (declared n ds x) r.0 (AllOf-declared n ds x) (AllFrom-less (n + 1) n r.0 (omega arith) r.2))
 
 -- Items without a fault.
 
@@ -142,7 +142,7 @@ numbered-fits ds n (Some w) h = (refl, h)
 call-fits : (n : ℕ) (ds : List Decl) (before : AllBefore n ds) (name : List ℕ) (args : List Arg) (o : Option Statement) → statement_of name ≡ o → call_fault n ds o args ≡ None → OneFits (ds ++ declared_if n ds o args) n (stated_if n (ds ++ declared_if n ds o args) name o args)
 call-fits n ds before name args None m e = tt
 call-fits n ds before name args (Some s) m e =
-  numbered-fits _ n _ (stated-fits n ds before args name s (name_fits name s m) (no_fault n ds s args e))
+    numbered-fits _ n _ (stated-fits n ds before args name s (name_fits name s m) (no_fault n ds s args e))
 
 pub stated-one : (n : ℕ) (ds : List Decl) (x : Item) → AllBefore n ds → item_fault n false ds x ≡ None → OneFits (ds ++ declared n ds x) n (stated n (ds ++ declared n ds x) x)
 unfolding item_fault
@@ -156,18 +156,18 @@ StmtsFit-less ds n m (s ∷ ss) l h = (omega (arith, h.0), h.1)
 StmtsFit-join : (es ds : List Decl) (n : ℕ) (xs rest : List Stmt) → ((w : What) → WhatFits es n w → WhatFits ds n w) → OneFits es n xs → StmtsFit ds (n + 1) rest → StmtsFit ds n (xs ++ rest)
 StmtsFit-join es ds n [] rest f h k = StmtsFit-less ds (n + 1) n rest (omega arith) k
 StmtsFit-join es ds n (s ∷ []) rest f h k =
-  (omega (arith, h.0), (subst (λ (m : ℕ). WhatFits ds m s.what) (sym h.0) (f s.what h.1), subst (λ (m : ℕ). StmtsFit ds (m + 1) rest) (sym h.0) k))
+    (omega (arith, h.0), (subst (λ (m : ℕ). WhatFits ds m s.what) (sym h.0) (f s.what h.1), subst (λ (m : ℕ). StmtsFit ds (m + 1) rest) (sym h.0) k))
 StmtsFit-join es ds n (s ∷ t ∷ ss) rest f h k = absurd h
 
 pub stmts-fit : (n : ℕ) (ds : List Decl) (g : Option Goal) (items : List Item) → AllBefore n ds → first_fault_from n ds g items ≡ None → StmtsFit (decls_from n ds items) n (stmts_from n ds items)
 unfolding stmts_from decls_from
 stmts-fit n ds g [] before e = tt
 stmts-fit n ds g (x ∷ items) before e =
-  let es = ds ++ declared n ds x in
-  let f = faults-none n ds g x items e in
-  let r = decls-prefix (n + 1) es items in
-  let more : (w : What) → WhatFits es n w → WhatFits (decls_from (n + 1) es items) n w = λ w h. subst (λ (D : List Decl). WhatFits D n w) (sym r.1) (WhatFits-append es r.0 n w h) in
-  StmtsFit-join es (decls_from (n + 1) es items) n (stated n es x) (stmts_from (n + 1) es items) more (stated-one n ds x before (before-goal n (is_some g) ds x f.0)) (stmts-fit (n + 1) es (sought g ds x) items (AllBefore-declared n ds x before) f.1)
+    let es = ds ++ declared n ds x in
+    let f = faults-none n ds g x items e in
+    let r = decls-prefix (n + 1) es items in
+    let more : (w : What) → WhatFits es n w → WhatFits (decls_from (n + 1) es items) n w = λ w h. subst (λ (D : List Decl). WhatFits D n w) (sym r.1) (WhatFits-append es r.0 n w h) in
+    StmtsFit-join es (decls_from (n + 1) es items) n (stated n es x) (stmts_from (n + 1) es items) more (stated-one n ds x before (before-goal n (is_some g) ds x f.0)) (stmts-fit (n + 1) es (sought g ds x) items (AllBefore-declared n ds x before) f.1)
 
 -- Declarations.
 
@@ -182,14 +182,14 @@ none_cond false i o e h = h
 none-shift : {X : Type 0} (p : X → Bool) (i j : ℕ) (xs : List X) → position_from p i xs ≡ None → position_from p j xs ≡ None
 none-shift p i j [] e = refl
 none-shift p i j (x ∷ xs) e =
-  let h = none_head (p x) i (position_from p (i + 1) xs) e in
-  none_cond (p x) j (position_from p (j + 1) xs) h.0 (none-shift p (i + 1) (j + 1) xs h.1)
+    let h = none_head (p x) i (position_from p (i + 1) xs) e in
+    none_cond (p x) j (position_from p (j + 1) xs) h.0 (none-shift p (i + 1) (j + 1) xs h.1)
 
 none-last : {X : Type 0} (p : X → Bool) (i : ℕ) (xs : List X) (y : X) → position_from p i xs ≡ None → p y ≡ false → position_from p i (xs ++ y ∷ []) ≡ None
 none-last p i [] y e t = none_cond (p y) i None t refl
 none-last p i (x ∷ xs) y e t =
-  let h = none_head (p x) i (position_from p (i + 1) xs) e in
-  none_cond (p x) i (position_from p (i + 1) (xs ++ y ∷ [])) h.0 (none-last p (i + 1) xs y h.1 t)
+    let h = none_head (p x) i (position_from p (i + 1) xs) e in
+    none_cond (p x) i (position_from p (i + 1) (xs ++ y ∷ [])) h.0 (none-last p (i + 1) xs y h.1 t)
 
 free_from : (name : List ℕ) (ds : List Decl) → IsFree name ds → position_from (λ (d : Decl). bytes_eq name d.name) 0 ds ≡ None
 free_from name ds h = sym (position_from-zero (λ (d : Decl). bytes_eq name d.name) ds) ∙ h
@@ -199,8 +199,8 @@ from_free name ds h = position_from-zero (λ (d : Decl). bytes_eq name d.name) d
 
 free-parts : (name : List ℕ) (d : Decl) (ds : List Decl) → IsFree name (d ∷ ds) → (bytes_eq name d.name ≡ false) × IsFree name ds
 free-parts name d ds h =
-  let r = none_head (bytes_eq name d.name) 0 (position_from (λ (d : Decl). bytes_eq name d.name) 1 ds) (free_from name (d ∷ ds) h) in
-  (r.0, from_free name ds (none-shift (λ (d : Decl). bytes_eq name d.name) 1 0 ds r.1))
+    let r = none_head (bytes_eq name d.name) 0 (position_from (λ (d : Decl). bytes_eq name d.name) 1 ds) (free_from name (d ∷ ds) h) in
+    (r.0, from_free name ds (none-shift (λ (d : Decl). bytes_eq name d.name) 1 0 ds r.1))
 
 free-last : (name : List ℕ) (ds : List Decl) (d : Decl) → IsFree name ds → bytes_eq name d.name ≡ false → IsFree name (ds ++ d ∷ [])
 free-last name ds d h t = from_free name (ds ++ d ∷ []) (none-last (λ (d : Decl). bytes_eq name d.name) 0 ds d (free_from name ds h) t)
@@ -215,19 +215,19 @@ bytes_other xs ys e = false_of (bytes_eq ys xs) (λ t. false≢true (sym e ∙ (
 DeclsFit-last : (m : ℕ) (ds : List Decl) (d : Decl) → DeclsFit m ds → AllBefore d.number ds → m ≤ d.number → is_constant d.name ≡ false → IsFree d.name ds → KindFits d.kind → DeclsFit m (ds ++ d ∷ [])
 DeclsFit-last m [] d h before l c f k = (l, (c, (refl, (k, tt))))
 DeclsFit-last m (e ∷ ds) d h before l c f k =
-  let p = free-parts d.name e ds f in
-  (h.0, (h.1.0, (free-last e.name ds d h.1.1.0 (bytes_other d.name e.name p.0), (h.1.1.1.0, DeclsFit-last (e.number + 1) ds d h.1.1.1.1 before.1 (omega (arith, before.0)) c p.1 k))))
+    let p = free-parts d.name e ds f in
+    (h.0, (h.1.0, (free-last e.name ds d h.1.1.0 (bytes_other d.name e.name p.0), (h.1.1.1.0, DeclsFit-last (e.number + 1) ds d h.1.1.1.1 before.1 (omega (arith, before.0)) c p.1 k))))
 
 module _ (n : ℕ) (ds : List Decl) (fits : DeclsFit 1 ds) (before : AllBefore n ds) (one : 1 ≤ n) where
   name-decls : (name : List ℕ) (k : Kind) (o : Option ℕ) → place_of name ds ≡ o → is_constant name ≡ false → KindFits k → DeclsFit 1 (ds ++ declared_name n ds name k)
   name-decls name k None e c h =
-    let d : Decl = record { number = n; name = name; kind = k } in
-    let made : declared_name n ds name k ≡ d ∷ [] = ap (λ (o : Option ℕ). if is_some o then [] else d ∷ []) e in
-    subst (λ (es : List Decl). DeclsFit 1 (ds ++ es)) (sym made) (DeclsFit-last 1 ds d fits before one c e h)
+      let d : Decl = record { number = n; name = name; kind = k } in
+      let made : declared_name n ds name k ≡ d ∷ [] = ap (λ (o : Option ℕ). if is_some o then [] else d ∷ []) e in
+      subst (λ (es : List Decl). DeclsFit 1 (ds ++ es)) (sym made) (DeclsFit-last 1 ds d fits before one c e h)
   name-decls name k (Some p) e c h =
-    let d : Decl = record { number = n; name = name; kind = k } in
-    let made : declared_name n ds name k ≡ [] = ap (λ (o : Option ℕ). if is_some o then [] else d ∷ []) e in
-    subst (λ (es : List Decl). DeclsFit 1 (ds ++ es)) (sym made) (subst (DeclsFit 1) (sym (append-nil ds)) fits)
+      let d : Decl = record { number = n; name = name; kind = k } in
+      let made : declared_name n ds name k ≡ [] = ap (λ (o : Option ℕ). if is_some o then [] else d ∷ []) e in
+      subst (λ (es : List Decl). DeclsFit 1 (ds ++ es)) (sym made) (subst (DeclsFit 1) (sym (append-nil ds)) fits)
 
   same-decls : DeclsFit 1 (ds ++ [])
   same-decls = subst (DeclsFit 1) (sym (append-nil ds)) fits
@@ -250,7 +250,7 @@ module _ (n : ℕ) (ds : List Decl) (fits : DeclsFit 1 ds) (before : AllBefore n
   unfolding declared_by
   by-decls statement.NewBool args ok = new_name-decls (slice_get args 0) kind.Bool (fit-at ds (signature statement.NewBool) args 0 ok.fits) tt
   by-decls statement.NewInt args ok =
-    new_name-decls (slice_get args 0) (kind.Int (numeral_in (slice_get args 1)) (numeral_in (slice_get args 2))) (fit-at ds (signature statement.NewInt) args 0 ok.fits) (not_less (numeral_in (slice_get args 2)) (numeral_in (slice_get args 1)) ok.domain)
+      new_name-decls (slice_get args 0) (kind.Int (numeral_in (slice_get args 1)) (numeral_in (slice_get args 2))) (fit-at ds (signature statement.NewInt) args 0 ok.fits) (not_less (numeral_in (slice_get args 2)) (numeral_in (slice_get args 1)) ok.domain)
   by-decls statement.BoolToInt args ok = new_integer-decls (slice_get args 1) (fit-at ds (signature statement.BoolToInt) args 1 ok.fits)
   by-decls s args ok = same-decls
 
@@ -267,5 +267,5 @@ pub decls-fit : (n : ℕ) (ds : List Decl) (g : Option Goal) (items : List Item)
 unfolding decls_from
 decls-fit n ds g [] fits before one e = fits
 decls-fit n ds g (x ∷ items) fits before one e =
-  let f = faults-none n ds g x items e in
-  decls-fit (n + 1) (ds ++ declared n ds x) (sought g ds x) items (item-decls n ds fits before one x (before-goal n (is_some g) ds x f.0)) (AllBefore-declared n ds x before) (omega arith) f.1
+    let f = faults-none n ds g x items e in
+    decls-fit (n + 1) (ds ++ declared n ds x) (sought g ds x) items (item-decls n ds fits before one x (before-goal n (is_some g) ds x f.0)) (AllBefore-declared n ds x before) (omega arith) f.1

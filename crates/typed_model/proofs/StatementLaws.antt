@@ -58,11 +58,11 @@ module _ (n : ℕ) (ds : List Decl) (before : AllBefore n ds) (args : List Arg) 
   division arithmetic.Plus h k e = tt
   division arithmetic.Times h k e = tt
   division arithmetic.Div h k e =
-    let p = or_parts (int_lt (least_in ds (slice_get args 0)) (pos 0)) (int_lt (least_in ds (slice_get args 1)) (pos 1)) e in
-    (least-fits (pos 0) ds (slice_get args 0) h p.0, least-fits (pos 1) ds (slice_get args 1) k p.1)
+      let p = or_parts (int_lt (least_in ds (slice_get args 0)) (pos 0)) (int_lt (least_in ds (slice_get args 1)) (pos 1)) e in
+      (least-fits (pos 0) ds (slice_get args 0) h p.0, least-fits (pos 1) ds (slice_get args 1) k p.1)
   division arithmetic.Mod h k e =
-    let p = or_parts (int_lt (least_in ds (slice_get args 0)) (pos 0)) (int_lt (least_in ds (slice_get args 1)) (pos 1)) e in
-    (least-fits (pos 0) ds (slice_get args 0) h p.0, least-fits (pos 1) ds (slice_get args 1) k p.1)
+      let p = or_parts (int_lt (least_in ds (slice_get args 0)) (pos 0)) (int_lt (least_in ds (slice_get args 1)) (pos 1)) e in
+      (least-fits (pos 0) ds (slice_get args 0) h p.0, least-fits (pos 1) ds (slice_get args 1) k p.1)
   division arithmetic.Max h k e = tt
   division arithmetic.Min h k e = tt
 
@@ -88,22 +88,22 @@ module _ (n : ℕ) (ds : List Decl) (before : AllBefore n ds) (args : List Arg) 
   difference-fits name difference.All m f e = at_name (differ name) difference.All _ m (is 0 (fit-at ds (differ_signature difference.All) args 0 f), (refl, refl))
   difference-fits name difference.Truth m f e = at_name (differ name) difference.Truth _ m (is 0 (fit-at ds (differ_signature difference.Truth) args 0 f), (t 1 (fit-at ds (differ_signature difference.Truth) args 1 f), refl))
   difference-fits name difference.Conditional m f e =
-    let l = two wanted.Numbers wanted.Truths (λ _ _. refl) (λ _ _. refl) (fit-at ds (differ_signature difference.Conditional) args 0 f) (fit-at ds (differ_signature difference.Conditional) args 1 f) e in
-    at_name (differ name) difference.Conditional _ m (is 0 (fit-at ds (differ_signature difference.Conditional) args 0 f), (refl, (ts 1 (fit-at ds (differ_signature difference.Conditional) args 1 f), length-map (terms_in (slice_get args 1)) (truth ds) ∙ (sym l ∙ sym (length-map (terms_in (slice_get args 0)) (number ds))))))
+      let l = two wanted.Numbers wanted.Truths (λ _ _. refl) (λ _ _. refl) (fit-at ds (differ_signature difference.Conditional) args 0 f) (fit-at ds (differ_signature difference.Conditional) args 1 f) e in
+      at_name (differ name) difference.Conditional _ m (is 0 (fit-at ds (differ_signature difference.Conditional) args 0 f), (refl, (ts 1 (fit-at ds (differ_signature difference.Conditional) args 1 f), length-map (terms_in (slice_get args 1)) (truth ds) ∙ (sym l ∙ sym (length-map (terms_in (slice_get args 0)) (number ds))))))
 
   order_parts : (name : List ℕ) (b r : Bool) → fit ds (if b then (if r then wanted.Truths ∷ wanted.Truths ∷ wanted.Truth ∷ [] else wanted.Truths ∷ wanted.Truths ∷ []) else (if r then wanted.Numbers ∷ wanted.Numbers ∷ wanted.Truth ∷ [] else wanted.Numbers ∷ wanted.Numbers ∷ [])) args ≡ true → lists_differ (slice_get args 0) (slice_get args 1) ≡ false → PairFits (TruthsFit ds n) b (if b then Some (truths_in ds (slice_get args 0)) else None) (if b then Some (truths_in ds (slice_get args 1)) else None) × (PairFits (NumbersFit ds n) (not b) (if b then None else Some (numbers_in ds (slice_get args 0))) (if b then None else Some (numbers_in ds (slice_get args 1))) × TruthFitsIf ds n r (if r then Some (truth_in ds (slice_get args 2)) else None))
   order_parts name true true f e =
-    let F = fit-at ds (wanted.Truths ∷ wanted.Truths ∷ wanted.Truth ∷ []) args in
-    ((ts 0 (F 0 f), (ts 1 (F 1 f), same_truths (F 0 f) (F 1 f) e)), ((refl, refl), t 2 (F 2 f)))
+      let F = fit-at ds (wanted.Truths ∷ wanted.Truths ∷ wanted.Truth ∷ []) args in
+      ((ts 0 (F 0 f), (ts 1 (F 1 f), same_truths (F 0 f) (F 1 f) e)), ((refl, refl), t 2 (F 2 f)))
   order_parts name true false f e =
-    let F = fit-at ds (wanted.Truths ∷ wanted.Truths ∷ []) args in
-    ((ts 0 (F 0 f), (ts 1 (F 1 f), same_truths (F 0 f) (F 1 f) e)), ((refl, refl), refl))
+      let F = fit-at ds (wanted.Truths ∷ wanted.Truths ∷ []) args in
+      ((ts 0 (F 0 f), (ts 1 (F 1 f), same_truths (F 0 f) (F 1 f) e)), ((refl, refl), refl))
   order_parts name false true f e =
-    let F = fit-at ds (wanted.Numbers ∷ wanted.Numbers ∷ wanted.Truth ∷ []) args in
-    ((refl, refl), ((is 0 (F 0 f), (is 1 (F 1 f), same_numbers (F 0 f) (F 1 f) e)), t 2 (F 2 f)))
+      let F = fit-at ds (wanted.Numbers ∷ wanted.Numbers ∷ wanted.Truth ∷ []) args in
+      ((refl, refl), ((is 0 (F 0 f), (is 1 (F 1 f), same_numbers (F 0 f) (F 1 f) e)), t 2 (F 2 f)))
   order_parts name false false f e =
-    let F = fit-at ds (wanted.Numbers ∷ wanted.Numbers ∷ []) args in
-    ((refl, refl), ((is 0 (F 0 f), (is 1 (F 1 f), same_numbers (F 0 f) (F 1 f) e)), refl))
+      let F = fit-at ds (wanted.Numbers ∷ wanted.Numbers ∷ []) args in
+      ((refl, refl), ((is 0 (F 0 f), (is 1 (F 1 f), same_numbers (F 0 f) (F 1 f) e)), refl))
 
   order-fits : (name : List ℕ) (o : Order) → lex name ≡ Some o → fit ds (lex_signature o) args ≡ true → lists_differ (slice_get args 0) (slice_get args 1) ≡ false → WhatFits ds n (order_what ds name o args)
   unfolding WhatFits
@@ -129,16 +129,16 @@ module _ (n : ℕ) (ds : List Decl) (before : AllBefore n ds) (args : List Arg) 
   plain-fits name (statement.Sum rel) m ok = (is_there (sum_relation name) rel m, (is 0 (fit-at ds (signature (statement.Sum rel)) args 0 ok.fits), i 1 (fit-at ds (signature (statement.Sum rel)) args 1 ok.fits)))
   plain-fits name statement.Absolute m ok = (i 0 (fit-at ds (signature statement.Absolute) args 0 ok.fits), i 1 (fit-at ds (signature statement.Absolute) args 1 ok.fits))
   plain-fits name (statement.Weigh rel) m ok =
-    let F = λ (k : ℕ). fit-at ds (signature (statement.Weigh rel)) args k ok.fits in
-    (is_there (weigh_relation name) rel m, (ts 1 (F 1), (i 2 (F 2), weigh_length (F 0) (F 1) ok.lengths)))
+      let F = λ (k : ℕ). fit-at ds (signature (statement.Weigh rel)) args k ok.fits in
+      (is_there (weigh_relation name) rel m, (ts 1 (F 1), (i 2 (F 2), weigh_length (F 0) (F 1) ok.lengths)))
   plain-fits name (statement.Linear rel) m ok =
-    let F = λ (k : ℕ). fit-at ds (signature (statement.Linear rel)) args k ok.fits in
-    (is_there (linear_relation name) rel m, (is 1 (F 1), (i 2 (F 2), linear_length (F 0) (F 1) ok.lengths)))
+      let F = λ (k : ℕ). fit-at ds (signature (statement.Linear rel)) args k ok.fits in
+      (is_there (linear_relation name) rel m, (is 1 (F 1), (i 2 (F 2), linear_length (F 0) (F 1) ok.lengths)))
   plain-fits name (statement.Operation o) m ok =
-    let F = λ (k : ℕ). fit-at ds (signature (statement.Operation o)) args k ok.fits in
-    at_name (operation name) o _ m (i 0 (F 0), (i 1 (F 1), (i 2 (F 2), division o (F 0) (F 1) ok.division)))
+      let F = λ (k : ℕ). fit-at ds (signature (statement.Operation o)) args k ok.fits in
+      at_name (operation name) o _ m (i 0 (F 0), (i 1 (F 1), (i 2 (F 2), division o (F 0) (F 1) ok.division)))
   plain-fits name (statement.Aggregate e) m ok =
-    let F = λ (k : ℕ). fit-at ds (signature (statement.Aggregate e)) args k ok.fits in
-    at_name (aggregate name) e _ m (is 0 (F 0), (i 1 (F 1), member e (F 0) ok.member))
+      let F = λ (k : ℕ). fit-at ds (signature (statement.Aggregate e)) args k ok.fits in
+      at_name (aggregate name) e _ m (is 0 (F 0), (i 1 (F 1), member e (F 0) ok.member))
   plain-fits name (statement.Differ d) m ok = difference-fits name d m ok.fits ok.lengths
   plain-fits name (statement.Lex o) m ok = order-fits name o m ok.fits ok.lengths

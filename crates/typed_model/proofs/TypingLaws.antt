@@ -66,7 +66,7 @@ bool_placed : (ds : List Decl) (o : Option ℕ) → is_bool (option_and_then (λ
 bool_placed ds None e = absurd (false≢true e)
 bool_placed ds (Some p) e = bool_found (slice_get ds p) e
 
-int_placed : (ds : List Decl) (o : Option ℕ) → is_int (option_and_then (λ p. option_map (λ (d : Decl). d.kind) (slice_get ds p)) o) ≡ true → IsSomeAnd (slice_get ds (option_map_or (λ p. p) o 0)) (λ d. IsInt d.kind)
+pub int_placed : (ds : List Decl) (o : Option ℕ) → is_int (option_and_then (λ p. option_map (λ (d : Decl). d.kind) (slice_get ds p)) o) ≡ true → IsSomeAnd (slice_get ds (option_map_or (λ p. p) o 0)) (λ d. IsInt d.kind)
 int_placed ds None e = absurd (false≢true e)
 int_placed ds (Some p) e = int_found (slice_get ds p) e
 

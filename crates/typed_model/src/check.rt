@@ -4,6 +4,7 @@ ghost use Rattle.std.specs.Prelude.{◌≡◌, ◌++◌, ◌⊎◌, IfOk, IfErr,
 ghost use Rattle.typed_model.specs.declared.fault.TypeFault.TheVariants.{Memory};
 ghost use Rattle.typed_model.specs.Names.{statement_of};
 ghost use Rattle.typed_model.specs.Items.{declared_if, declared, what_of, numbered, stated_if, stated, sought, first_fault, model_of, IsFaultOf};
+ghost use Rattle.typed_model.specs.WellTyped.{WellTyped};
 
 use crate::fault::TypeFault;
 use crate::faults::item_fault;
@@ -86,6 +87,7 @@ fn take_item(
 pub fn check_types(alloc: Global, syntax: &Syntax) -> Result<Model, TypeFault>
     ensures accepted { IfOk result (λ m. first_fault syntax.now.items ≡ None) }
     ensures model { IfOk result (λ m. m ≡ model_of syntax.now.items) }
+    ensures typed { IfOk result WellTyped }
     ensures fault { IfErr result (λ e. IsFaultOf e syntax.now.items) }
 {
     let mut scope = Scope::new(alloc);

@@ -6,6 +6,9 @@ use Rattle.typed_model.specs.declared.model.Decl.{Decl}
 use Rattle.typed_model.specs.declared.model.Stmt.{Stmt}
 use Rattle.typed_model.specs.declared.model.Model.{Model}
 use Rattle.typed_model.specs.Items.{decls_from, stmts_from, goal_from}
+use Rattle.typed_model.specs.WellTyped.{WellTyped}
+use Rattle.typed_model.specs.Items.{model_of}
+use Rattle.typed_model.proofs.ModelShares.{WellTyped-model_of}
 use Rattle.typed_model.proofs.ItemLaws.{drop-item, faults-found, faults-more, decls-more, stmts-more, goal-more, faults-end, decls-end, stmts-end, goal-end}
 use Rattle.typed_model.proofs.check.check_types.Goals as goal
 
@@ -67,3 +70,10 @@ pub returns-in-None-clause-fault : goal.returns-in-None-clause-fault
 returns-in-None-clause-fault c =
     let items = c.args.syntax.now.items in
     inr (rw c.in-None.is at (faults-end c.loop-item.number c.loop-item.scope c.loop-item.goal items c.loop-item.item-index (omega (arith, ap length c.as_slice-item-items.ensures)) _ c.loop-item.invariant.faults))
+
+typed : (m n : Model) → ◌≡◌ {A = Model} m n → WellTyped n → WellTyped m
+typed m n e h = rw e h
+
+pub returns-in-Some-goal-clause-typed : goal.returns-in-Some-goal-clause-typed
+returns-in-Some-goal-clause-typed c =
+    typed _ (model_of c.args.syntax.now.items) (returns-in-Some-goal-clause-model c) (WellTyped-model_of c.args.syntax.now.items (returns-in-Some-goal-clause-accepted c))

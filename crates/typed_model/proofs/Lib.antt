@@ -7,6 +7,7 @@ pub mod ItemLaws
 pub mod ItemTyping
 pub mod LimitLaws
 pub mod ListLaws
+pub mod ModelLimits
 pub mod ModelShares
 pub mod ModelTyping
 pub mod Remainders

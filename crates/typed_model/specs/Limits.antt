@@ -1,5 +1,11 @@
 -- Numbers in the limit of numerals. A text's numerals are in it, and so a model's numbers and domains.
 use Rattle.std.specs.Prelude.{ℕ, ◌≤◌, ℤ, pos, unsigned_abs, List, [], ◌∷◌, slice_index_or}
+use Rattle.bumblebee_reader.specs.declared.syntax.Term.{Term}
+use Rattle.bumblebee_reader.specs.declared.syntax.Term.TheVariants as term
+use Rattle.bumblebee_reader.specs.declared.syntax.Arg.{Arg}
+use Rattle.bumblebee_reader.specs.declared.syntax.Arg.TheVariants as arg
+use Rattle.bumblebee_reader.specs.declared.syntax.Item.{Item}
+use Rattle.bumblebee_reader.specs.declared.syntax.Item.TheVariants as item
 use Rattle.typed_model.specs.declared.what.IntTerm.{IntTerm}
 use Rattle.typed_model.specs.declared.what.IntTerm.TheVariants as int_term
 use Rattle.typed_model.specs.declared.what.What.{What}
@@ -71,3 +77,31 @@ DeclsInLimit (d ∷ ds) = KindInLimit d.kind × DeclsInLimit ds
 -- each number of a model, and the bounds of each of its domains
 abbrev pub InLimits : Model → Type 0
 InLimits model = DeclsInLimit model.decls × StmtsInLimit model.stmts
+
+-- The same of the items of a text.
+
+abbrev pub TextTermInLimit : Term → Type 0
+TextTermInLimit (term.Plain name) = Unit {0}
+TextTermInLimit (term.Minus name) = Unit {0}
+TextTermInLimit (term.Number n) = InLimit n
+
+abbrev pub TextTermsInLimit : List Term → Type 0
+TextTermsInLimit [] = Unit {0}
+TextTermsInLimit (t ∷ ts) = TextTermInLimit t × TextTermsInLimit ts
+
+abbrev pub ArgInLimit : Arg → Type 0
+ArgInLimit (arg.One t) = TextTermInLimit t
+ArgInLimit (arg.Many ts) = TextTermsInLimit ts
+
+abbrev pub ArgsInLimit : List Arg → Type 0
+ArgsInLimit [] = Unit {0}
+ArgsInLimit (a ∷ rest) = ArgInLimit a × ArgsInLimit rest
+
+abbrev pub ItemInLimit : Item → Type 0
+ItemInLimit (item.Call name args) = ArgsInLimit args
+ItemInLimit (item.Goal k objective) = Unit {0}
+
+-- each numeral of the items
+abbrev pub ItemsInLimit : List Item → Type 0
+ItemsInLimit [] = Unit {0}
+ItemsInLimit (i ∷ items) = ItemInLimit i × ItemsInLimit items

@@ -1,0 +1,132 @@
+-- What an item without fault declares, states and seeks fits.
+use Rattle.std.proofs.Common.{◌≡◌, ℕ, zero, suc, ◌+◌, ◌<◌, ◌≤◌, ℤ, pos, ◌≤ℤ◌, Bool, true, false, not, ◌||◌, ◌&&◌, List, [], ◌∷◌, ◌++◌, length, Option, Some, None, is_some, IsSome, IsSomeAnd, arith, refl, sym, ◌∙◌, ap, subst}
+use Rattle.std.specs.Prelude.{slice_get, IfSome, int_lt, if◌then◌else◌}
+use Rattle.std.specs.Str.{bytes_eq}
+use Rattle.std.specs.Option.{option_and_then, option_map, option_map_or}
+use Rattle.std.proofs.lemmas.Bool.{false≢true}
+use Rattle.std.proofs.lemmas.List.{append-nil, append_assoc}
+use Rattle.std.proofs.lemmas.List.Quantifiers.{position-Some}
+use Rattle.std.proofs.lemmas.Slice.Eq.{bytes_eq-Decides}
+use Rattle.bumblebee_reader.specs.declared.syntax.Term.{Term}
+use Rattle.bumblebee_reader.specs.declared.syntax.Term.TheVariants as term
+use Rattle.bumblebee_reader.specs.declared.syntax.Arg.{Arg}
+use Rattle.bumblebee_reader.specs.declared.syntax.Arg.TheVariants as arg
+use Rattle.bumblebee_reader.specs.declared.syntax.Item.{Item}
+use Rattle.bumblebee_reader.specs.declared.syntax.Item.TheVariants as item
+use Rattle.bumblebee_reader.specs.declared.syntax.GoalKind.{GoalKind}
+use Rattle.bumblebee_reader.specs.declared.syntax.GoalKind.TheVariants as goal_kind
+use Rattle.typed_model.specs.declared.signature.Wanted.TheVariants as wanted
+use Rattle.typed_model.specs.declared.statement.Statement.{Statement}
+use Rattle.typed_model.specs.declared.statement.Statement.TheVariants as statement
+use Rattle.typed_model.specs.declared.what.What.{What}
+use Rattle.typed_model.specs.declared.what.What.TheVariants.{L3}
+use Rattle.typed_model.specs.declared.model.Kind.{Kind}
+use Rattle.typed_model.specs.declared.model.Kind.TheVariants as kind
+use Rattle.typed_model.specs.declared.model.Decl.{Decl}
+use Rattle.typed_model.specs.declared.model.Stmt.{Stmt}
+use Rattle.typed_model.specs.Names.{statement_of}
+use Rattle.typed_model.specs.Signatures.{signature}
+use Rattle.typed_model.specs.Scope.{place_of, kind_of, is_bool, is_int, is_constant, place_or_zero, truth}
+use Rattle.typed_model.specs.Faults.{fit, arg_fits, call_fault, item_fault}
+use Rattle.typed_model.specs.Items.{declared_name, declared_as, declared_by, declared_if, declared, what_of, name_in, truth_in, number_in, numbered, stated_if, stated}
+use Rattle.typed_model.specs.WellTyped.{IsInt, IsNumberAt, TruthFits, WhatFits}
+use Rattle.typed_model.proofs.TypingLaws.{AllBefore, ArgFits, fit-at, truth_in-fits, NameFits, name_fits, NoFault, no_fault}
+use Rattle.typed_model.proofs.AppendLaws.{at-append, TruthFits-append, truth_in-same, place_of-append, place_of-last}
+use Rattle.typed_model.proofs.StatementLaws.{plain-fits}
+
+some_at : {A : Type 0} (xs : List A) (p : ℕ) (P : A → Type 0) → p < length xs → ((x : A) → slice_get xs p ≡ Some x → P x) → IsSomeAnd (slice_get xs p) P
+some_at [] p P h f = absurd (omega arith)
+some_at (x ∷ xs) zero P h f = f x refl
+some_at (x ∷ xs) (suc p) P h f = some_at xs p P (omega arith) f
+
+at_end : {A : Type 0} (xs : List A) (x : A) (P : A → Type 0) → P x → IsSomeAnd (slice_get (xs ++ x ∷ []) (length xs)) P
+at_end [] x P h = h
+at_end (y ∷ xs) x P h = at_end xs x P h
+
+-- a declared name that is no Boolean is an integer
+not_bool : (k : Kind) → is_bool (Some k) ≡ false → IsInt k
+not_bool kind.Bool e = absurd (false≢true (sym e))
+not_bool (kind.Int low high) e = tt
+
+number_before : (n : ℕ) (ds : List Decl) (p : ℕ) (P : Decl → Type 0) → AllBefore n ds → IsSomeAnd (slice_get ds p) P → IsSomeAnd (slice_get ds p) (λ d. (d.number < n + 1) × P d)
+number_before n [] p P h s = s
+number_before n (d ∷ ds) zero P h s = (omega (arith, h.0), s)
+number_before n (d ∷ ds) (suc p) P h s = number_before n ds p P h.1 s
+
+-- the place of a declared name is within
+placed_within : (name : List ℕ) (ds : List Decl) (d : Decl) (k : ℕ) → place_of name ds ≡ Some k → k < length ds
+placed_within name ds d k e = (position-Some (λ (d : Decl). bytes_eq name d.name) ds k d e).0
+
+-- a `bool2int`'s integer, where it declares it
+abbrev pub own_kind : Kind
+own_kind = kind.Int (pos 0) (pos 1)
+
+no_decl : Decl
+no_decl = record { number = 0; name = []; kind = kind.Bool }
+
+kind_at : (ds : List Decl) (k : ℕ) (d : Decl) → slice_get ds k ≡ Some d → is_bool (option_map (λ (d : Decl). d.kind) (slice_get ds k)) ≡ false → IsInt d.kind
+kind_at ds k d g h = not_bool d.kind (rw g at h)
+
+kind_found : (name : List ℕ) (ds : List Decl) (k : ℕ) → place_of name ds ≡ Some k → is_bool (kind_of name ds) ≡ false → is_bool (option_map (λ (d : Decl). d.kind) (slice_get ds k)) ≡ false
+kind_found name ds k e h = sym (ap (λ (o : Option ℕ). is_bool (option_and_then (λ p. option_map (λ (d : Decl). d.kind) (slice_get ds p)) o)) e) ∙ h
+
+-- `bool2int`: the integer is declared, before or here
+integer_is : (n : ℕ) (ds : List Decl) (name : List ℕ) (o : Option ℕ) → place_of name ds ≡ o → AllBefore n ds → is_bool (kind_of name ds) ≡ false → IsNumberAt (ds ++ declared_name n ds name own_kind) (n + 1) (place_or_zero name (ds ++ declared_name n ds name own_kind))
+integer_is n ds name None e before h =
+    let d : Decl = record { number = n; name = name; kind = own_kind } in
+    let made : declared_name n ds name own_kind ≡ d ∷ [] = ap (λ (o : Option ℕ). if is_some o then [] else d ∷ []) e in
+    let last : place_of name (ds ++ d ∷ []) ≡ Some (length ds) = place_of-last name ds d e ((bytes_eq-Decides name name).1 refl) in
+    let there : IsNumberAt (ds ++ d ∷ []) (n + 1) (length ds) = at_end ds d _ (omega arith, tt) in
+    let placed : IsNumberAt (ds ++ d ∷ []) (n + 1) (place_or_zero name (ds ++ d ∷ [])) = subst (λ (o : Option ℕ). IsNumberAt (ds ++ d ∷ []) (n + 1) (option_map_or (λ p. p) o 0)) (sym last) there in
+    subst (λ (es : List Decl). IsNumberAt (ds ++ es) (n + 1) (place_or_zero name (ds ++ es))) (sym made) placed
+integer_is n ds name (Some k) e before h =
+    let d : Decl = record { number = n; name = name; kind = own_kind } in
+    let made : declared_name n ds name own_kind ≡ [] = ap (λ (o : Option ℕ). if is_some o then [] else d ∷ []) e in
+    let there : IsNumberAt ds (n + 1) k = number_before n ds k (λ d. IsInt d.kind) before (some_at ds k (λ d. IsInt d.kind) (placed_within name ds no_decl k e) (λ x g. kind_at ds k x g (kind_found name ds k e h))) in
+    let placed : IsNumberAt ds (n + 1) (place_or_zero name ds) = subst (λ (o : Option ℕ). IsNumberAt ds (n + 1) (option_map_or (λ p. p) o 0)) (sym e) there in
+    let same : IsNumberAt (ds ++ []) (n + 1) (place_or_zero name (ds ++ [])) = subst (λ (es : List Decl). IsNumberAt es (n + 1) (place_or_zero name es)) (sym (append-nil ds)) placed in
+    subst (λ (es : List Decl). IsNumberAt (ds ++ es) (n + 1) (place_or_zero name (ds ++ es))) (sym made) same
+
+and_parts : (x y : Bool) → (x && y) ≡ true → (x ≡ true) × (y ≡ true)
+and_parts true y e = (refl, e)
+and_parts false y e = absurd (false≢true e)
+
+not_true : (b : Bool) → not b ≡ true → b ≡ false
+not_true true e = absurd (false≢true e)
+not_true false e = refl
+
+bool2int-fits : (n : ℕ) (ds : List Decl) (a b : Option Arg) → AllBefore n ds → ArgFits ds wanted.Truth a → ArgFits ds wanted.NewInteger b → WhatFits (ds ++ declared_as n ds (name_in b) own_kind) n (L3 (truth_in (ds ++ declared_as n ds (name_in b) own_kind) a) (number_in (ds ++ declared_as n ds (name_in b) own_kind) b))
+unfolding WhatFits
+bool2int-fits n ds a None before h k = absurd k
+bool2int-fits n ds a (Some (arg.One (term.Plain name))) before h k =
+    let es = declared_name n ds name own_kind in
+    let x : TruthFits (ds ++ es) n (truth_in ds a) = TruthFits-append ds es n (truth_in ds a) (truth_in-fits n ds before a h) in
+    let y : TruthFits (ds ++ es) n (truth_in (ds ++ es) a) = subst (TruthFits (ds ++ es) n) (sym (truth_in-same ds es a h)) x in
+    (y, integer_is n ds name (place_of name ds) refl before (not_true _ (and_parts (not (is_constant name)) (not (is_bool (kind_of name ds))) k).1))
+bool2int-fits n ds a (Some (arg.One (term.Minus name))) before h k = absurd (false≢true k)
+bool2int-fits n ds a (Some (arg.One (term.Number z))) before h k = absurd (false≢true k)
+bool2int-fits n ds a (Some (arg.Many ts)) before h k = absurd (false≢true k)
+
+module _ (n : ℕ) (ds : List Decl) (before : AllBefore n ds) (args : List Arg) (name : List ℕ) where
+  pub stated-fits : (s : Statement) → NameFits name s → NoFault ds s args → IfSome (what_of (ds ++ declared_by n ds s args) name s args) (WhatFits (ds ++ declared_by n ds s args) n)
+  unfolding what_of declared_by
+  stated-fits statement.NewBool m ok = tt
+  stated-fits statement.NewInt m ok = tt
+  stated-fits statement.BoolToInt m ok =
+      let F = λ (k : ℕ). fit-at ds (signature statement.BoolToInt) args k ok.fits in
+      bool2int-fits n ds (slice_get args 0) (slice_get args 1) before (F 0) (F 1)
+  stated-fits statement.BoolEq m ok = subst (λ (es : List Decl). IfSome (what_of es name statement.BoolEq args) (WhatFits es n)) (sym (append-nil ds)) (plain-fits n ds before args name statement.BoolEq m ok)
+  stated-fits (statement.Pair op) m ok = subst (λ (es : List Decl). IfSome (what_of es name (statement.Pair op) args) (WhatFits es n)) (sym (append-nil ds)) (plain-fits n ds before args name (statement.Pair op) m ok)
+  stated-fits (statement.Array op) m ok = subst (λ (es : List Decl). IfSome (what_of es name (statement.Array op) args) (WhatFits es n)) (sym (append-nil ds)) (plain-fits n ds before args name (statement.Array op) m ok)
+  stated-fits (statement.ArrayTruth op) m ok = subst (λ (es : List Decl). IfSome (what_of es name (statement.ArrayTruth op) args) (WhatFits es n)) (sym (append-nil ds)) (plain-fits n ds before args name (statement.ArrayTruth op) m ok)
+  stated-fits (statement.Compare rel) m ok = subst (λ (es : List Decl). IfSome (what_of es name (statement.Compare rel) args) (WhatFits es n)) (sym (append-nil ds)) (plain-fits n ds before args name (statement.Compare rel) m ok)
+  stated-fits (statement.CompareTruth rel) m ok = subst (λ (es : List Decl). IfSome (what_of es name (statement.CompareTruth rel) args) (WhatFits es n)) (sym (append-nil ds)) (plain-fits n ds before args name (statement.CompareTruth rel) m ok)
+  stated-fits (statement.Count rel) m ok = subst (λ (es : List Decl). IfSome (what_of es name (statement.Count rel) args) (WhatFits es n)) (sym (append-nil ds)) (plain-fits n ds before args name (statement.Count rel) m ok)
+  stated-fits (statement.Weigh rel) m ok = subst (λ (es : List Decl). IfSome (what_of es name (statement.Weigh rel) args) (WhatFits es n)) (sym (append-nil ds)) (plain-fits n ds before args name (statement.Weigh rel) m ok)
+  stated-fits (statement.Sum rel) m ok = subst (λ (es : List Decl). IfSome (what_of es name (statement.Sum rel) args) (WhatFits es n)) (sym (append-nil ds)) (plain-fits n ds before args name (statement.Sum rel) m ok)
+  stated-fits (statement.Linear rel) m ok = subst (λ (es : List Decl). IfSome (what_of es name (statement.Linear rel) args) (WhatFits es n)) (sym (append-nil ds)) (plain-fits n ds before args name (statement.Linear rel) m ok)
+  stated-fits (statement.Operation o) m ok = subst (λ (es : List Decl). IfSome (what_of es name (statement.Operation o) args) (WhatFits es n)) (sym (append-nil ds)) (plain-fits n ds before args name (statement.Operation o) m ok)
+  stated-fits statement.Absolute m ok = subst (λ (es : List Decl). IfSome (what_of es name statement.Absolute args) (WhatFits es n)) (sym (append-nil ds)) (plain-fits n ds before args name statement.Absolute m ok)
+  stated-fits (statement.Aggregate e) m ok = subst (λ (es : List Decl). IfSome (what_of es name (statement.Aggregate e) args) (WhatFits es n)) (sym (append-nil ds)) (plain-fits n ds before args name (statement.Aggregate e) m ok)
+  stated-fits (statement.Differ d) m ok = subst (λ (es : List Decl). IfSome (what_of es name (statement.Differ d) args) (WhatFits es n)) (sym (append-nil ds)) (plain-fits n ds before args name (statement.Differ d) m ok)
+  stated-fits (statement.Lex o) m ok = subst (λ (es : List Decl). IfSome (what_of es name (statement.Lex o) args) (WhatFits es n)) (sym (append-nil ds)) (plain-fits n ds before args name (statement.Lex o) m ok)

@@ -1,0 +1,20 @@
+-- Facts about the definitions that crates above may use.
+use Rattle.std.specs.Prelude.{◌≡◌, ◌↔◌, ℤ, List, None, IsTrue}
+use Rattle.bumblebee_reader.specs.declared.syntax.Item.{Item}
+use Rattle.typed_model.specs.Items.{first_fault, model_of}
+use Rattle.typed_model.specs.Limits.{InLimits, ItemsInLimit}
+use Rattle.typed_model.specs.WellTyped.{WellTyped}
+use Rattle.typed_model.specs.declared.what.What.{What}
+use Rattle.typed_model.specs.Holds.{Holds, holds}
+
+-- the test of a statement is true exactly where the statement holds
+abbrev pub HoldsLaw : Type 0
+HoldsLaw = (a : List ℤ) (w : What) → IsTrue (holds a w) ↔ Holds a w
+
+-- the model of items without a fault is well typed
+abbrev pub TypingLaw : Type 0
+TypingLaw = (items : List Item) → first_fault items ≡ None → WellTyped (model_of items)
+
+-- where the numerals of the items are in the limit, so are the numbers and domains of their model
+abbrev pub LimitLaw : Type 0
+LimitLaw = (items : List Item) → ItemsInLimit items → InLimits (model_of items)

@@ -1,0 +1,166 @@
+-- Which name is which statement.
+use Rattle.std.specs.Prelude.{ℕ, ◌-◌, Bool, true, false, List, length, take, drop, codes, Option, Some, None, if◌then◌else◌}
+use Rattle.std.specs.Option.{option_and_then, option_map}
+use Rattle.std.specs.Str.{bytes_eq}
+use Rattle.typed_model.specs.declared.statement.Relation.{Relation}
+use Rattle.typed_model.specs.declared.statement.Relation.TheVariants as relation
+use Rattle.typed_model.specs.declared.statement.Operator.{Operator}
+use Rattle.typed_model.specs.declared.statement.Operator.TheVariants as operator
+use Rattle.typed_model.specs.declared.statement.Arithmetic.{Arithmetic}
+use Rattle.typed_model.specs.declared.statement.Arithmetic.TheVariants as arithmetic
+use Rattle.typed_model.specs.declared.statement.Extreme.{Extreme}
+use Rattle.typed_model.specs.declared.statement.Extreme.TheVariants as extreme
+use Rattle.typed_model.specs.declared.statement.Difference.{Difference}
+use Rattle.typed_model.specs.declared.statement.Difference.TheVariants as difference
+use Rattle.typed_model.specs.declared.statement.Order.{Order}
+use Rattle.typed_model.specs.declared.statement.Statement.{Statement}
+use Rattle.typed_model.specs.declared.statement.Statement.TheVariants as statement
+
+-- the first of two answers that is there
+abbrev pub first_of : {A : Type 0} → Option A → Option A → Option A
+first_of (Some x) b = Some x
+first_of None b = b
+
+-- what follows a front of a name
+abbrev pub after : List ℕ → List ℕ → Option (List ℕ)
+after front name = if bytes_eq (take (length front) name) front then Some (drop (length front) name) else None
+
+-- what stands before an end of a name
+abbrev pub before : List ℕ → List ℕ → Option (List ℕ)
+before end name = if bytes_eq (drop (length name - length end) name) end then Some (take (length name - length end) name) else None
+
+-- what stands between the two
+abbrev pub between : List ℕ → List ℕ → List ℕ → Option (List ℕ)
+between front end name = option_and_then (before end) (after front name)
+
+-- REL in a name
+abbrev pub relation_of : List ℕ → Option Relation
+relation_of word = if bytes_eq word (codes "leq") then Some relation.Leq else
+    (if bytes_eq word (codes "geq") then Some relation.Geq else
+    (if bytes_eq word (codes "eq") then Some relation.Eq else
+    (if bytes_eq word (codes "lt") then Some relation.Lt else
+    (if bytes_eq word (codes "gt") then Some relation.Gt else
+    (if bytes_eq word (codes "neq") then Some relation.Neq else None)))))
+
+-- OP in a name
+abbrev pub operator_of : List ℕ → Option Operator
+operator_of word = if bytes_eq word (codes "or") then Some operator.Or else
+    (if bytes_eq word (codes "and") then Some operator.And else
+    (if bytes_eq word (codes "xor") then Some operator.Xor else
+    (if bytes_eq word (codes "iff") then Some operator.Iff else None)))
+
+-- the last word of a name of an operation on two integers
+abbrev pub arithmetic_of : List ℕ → Option Arithmetic
+arithmetic_of word = if bytes_eq word (codes "plus") then Some arithmetic.Plus else
+    (if bytes_eq word (codes "times") then Some arithmetic.Times else
+    (if bytes_eq word (codes "div") then Some arithmetic.Div else
+    (if bytes_eq word (codes "mod") then Some arithmetic.Mod else
+    (if bytes_eq word (codes "max") then Some arithmetic.Max else
+    (if bytes_eq word (codes "min") then Some arithmetic.Min else None)))))
+
+-- the last word of a name of an operation on a list of integers
+abbrev pub extreme_of : List ℕ → Option Extreme
+extreme_of word = if bytes_eq word (codes "plus") then Some extreme.Plus else
+    (if bytes_eq word (codes "max") then Some extreme.Max else
+    (if bytes_eq word (codes "min") then Some extreme.Min else None))
+
+-- the last word of a name that says that members differ
+abbrev pub difference_of : List ℕ → Option Difference
+difference_of word = if bytes_eq word (codes "allDiff") then Some difference.All else
+    (if bytes_eq word (codes "allDiff_reif") then Some difference.Truth else
+    (if bytes_eq word (codes "allDiffCond") then Some difference.Conditional else None))
+
+-- the last word of a name that says that two lists are in order; b says whether they are of Booleans
+abbrev pub order_of : Bool → List ℕ → Option Order
+order_of b word = if bytes_eq word (codes "lex") then Some (record { of_booleans = b; strict = false; reified = false }) else
+    (if bytes_eq word (codes "lexLt") then Some (record { of_booleans = b; strict = true; reified = false }) else
+    (if bytes_eq word (codes "lex_reif") then Some (record { of_booleans = b; strict = false; reified = true }) else
+    (if bytes_eq word (codes "lexLt_reif") then Some (record { of_booleans = b; strict = true; reified = true }) else None)))
+
+-- Line by line: the statements whose names have a part that is told apart.
+
+-- line 5: `bool_OP_reif`
+unfoldable pub pair_operator : List ℕ → Option Operator
+pair_operator name = option_and_then operator_of (between (codes "bool_") (codes "_reif") name)
+
+-- line 6: `bool_array_OP`
+unfoldable pub array_operator : List ℕ → Option Operator
+array_operator name = option_and_then operator_of (after (codes "bool_array_") name)
+
+-- line 7: `bool_array_OP_reif`
+unfoldable pub array_truth_operator : List ℕ → Option Operator
+array_truth_operator name = option_and_then operator_of (between (codes "bool_array_") (codes "_reif") name)
+
+-- line 8: `int_REL`
+unfoldable pub compare_relation : List ℕ → Option Relation
+compare_relation name = option_and_then relation_of (after (codes "int_") name)
+
+-- line 9: `int_REL_reif`
+unfoldable pub compare_truth_relation : List ℕ → Option Relation
+compare_truth_relation name = option_and_then relation_of (between (codes "int_") (codes "_reif") name)
+
+-- line 10: `bool_array_sum_REL`
+unfoldable pub count_relation : List ℕ → Option Relation
+count_relation name = option_and_then relation_of (after (codes "bool_array_sum_") name)
+
+-- line 11: `bool_array_pb_REL`
+unfoldable pub weigh_relation : List ℕ → Option Relation
+weigh_relation name = option_and_then relation_of (after (codes "bool_array_pb_") name)
+
+-- line 12: `int_array_sum_REL`
+unfoldable pub sum_relation : List ℕ → Option Relation
+sum_relation name = option_and_then relation_of (after (codes "int_array_sum_") name)
+
+-- line 13: `int_array_lin_REL`
+unfoldable pub linear_relation : List ℕ → Option Relation
+linear_relation name = option_and_then relation_of (after (codes "int_array_lin_") name)
+
+-- line 14: `int_plus`, `int_times`, `int_div`, `int_mod`, `int_max`, `int_min`
+unfoldable pub operation : List ℕ → Option Arithmetic
+operation name = option_and_then arithmetic_of (after (codes "int_") name)
+
+-- line 16: `int_array_plus`, `int_array_max`, `int_array_min`
+unfoldable pub aggregate : List ℕ → Option Extreme
+aggregate name = option_and_then extreme_of (after (codes "int_array_") name)
+
+-- line 17: `int_array_allDiff`, `int_array_allDiff_reif`, `int_array_allDiffCond`
+unfoldable pub differ : List ℕ → Option Difference
+differ name = option_and_then difference_of (after (codes "int_array_") name)
+
+-- line 18: `bool_arrays_` or `int_arrays_`, then `lex` or `lexLt`, and `_reif` where a Boolean is the truth of it
+unfoldable pub lex : List ℕ → Option Order
+lex name = first_of (option_and_then (order_of true) (after (codes "bool_arrays_") name)) (option_and_then (order_of false) (after (codes "int_arrays_") name))
+
+-- the names that stand alone in their lines
+unfoldable pub lone : List ℕ → Option Statement
+lone name = if bytes_eq name (codes "new_bool") then Some statement.NewBool else
+    (if bytes_eq name (codes "new_int") then Some statement.NewInt else
+    (if bytes_eq name (codes "bool2int") then Some statement.BoolToInt else
+    (if bytes_eq name (codes "bool_eq") then Some statement.BoolEq else
+    (if bytes_eq name (codes "int_abs") then Some statement.Absolute else None))))
+
+-- lines 5 to 7
+unfoldable pub boolean : List ℕ → Option Statement
+boolean name = first_of (option_map statement.Pair (pair_operator name))
+    (first_of (option_map statement.Array (array_operator name))
+    (option_map statement.ArrayTruth (array_truth_operator name)))
+
+-- lines 8 to 11
+unfoldable pub comparison : List ℕ → Option Statement
+comparison name = first_of (option_map statement.Compare (compare_relation name))
+    (first_of (option_map statement.CompareTruth (compare_truth_relation name))
+    (first_of (option_map statement.Count (count_relation name))
+    (option_map statement.Weigh (weigh_relation name))))
+
+-- lines 12 to 18
+unfoldable pub integral : List ℕ → Option Statement
+integral name = first_of (option_map statement.Sum (sum_relation name))
+    (first_of (option_map statement.Linear (linear_relation name))
+    (first_of (option_map statement.Operation (operation name))
+    (first_of (option_map statement.Aggregate (aggregate name))
+    (first_of (option_map statement.Differ (differ name))
+    (option_map statement.Lex (lex name))))))
+
+-- the declaration or statement of a name, where it is one
+unfoldable pub statement_of : List ℕ → Option Statement
+statement_of name = first_of (lone name) (first_of (boolean name) (first_of (comparison name) (integral name)))

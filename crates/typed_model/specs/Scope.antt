@@ -1,0 +1,110 @@
+-- The names that are declared so far, and what terms mean among them.
+use Rattle.std.specs.Prelude.{ℕ, ℤ, pos, Bool, true, false, not, ◌&&◌, ◌||◌, List, [], ◌∷◌, codes, position, slice_get, Option, Some, None, is_some, if◌then◌else◌}
+use Rattle.std.specs.Option.{option_and_then, option_map, option_map_or}
+use Rattle.std.specs.Str.{bytes_eq}
+use Rattle.bumblebee_reader.specs.declared.syntax.Term.{Term}
+use Rattle.bumblebee_reader.specs.declared.syntax.Term.TheVariants as term
+use Rattle.typed_model.specs.declared.model.Kind.{Kind}
+use Rattle.typed_model.specs.declared.model.Kind.TheVariants as kind
+use Rattle.typed_model.specs.declared.model.Decl.{Decl}
+use Rattle.typed_model.specs.declared.what.BoolTerm.{BoolTerm}
+use Rattle.typed_model.specs.declared.what.BoolTerm.TheVariants as bool_term
+use Rattle.typed_model.specs.declared.what.IntTerm.{IntTerm}
+use Rattle.typed_model.specs.declared.what.IntTerm.TheVariants as int_term
+
+-- the place of a declared name
+abbrev pub place_of : List ℕ → List Decl → Option ℕ
+place_of name ds = position (λ d. bytes_eq name d.name) ds
+
+-- what a declared name stands for
+abbrev pub kind_of : List ℕ → List Decl → Option Kind
+kind_of name ds = option_and_then (λ p. option_map (λ d. d.kind) (slice_get ds p)) (place_of name ds)
+
+-- whether it is a declared Boolean, or a declared integer
+abbrev pub is_bool : Option Kind → Bool
+is_bool None = false
+is_bool (Some kind.Bool) = true
+is_bool (Some (kind.Int low high)) = false
+
+abbrev pub is_int : Option Kind → Bool
+is_int None = false
+is_int (Some kind.Bool) = false
+is_int (Some (kind.Int low high)) = true
+
+-- the least value of a declared integer
+abbrev pub low_of : Option Kind → ℤ
+low_of None = pos 0
+low_of (Some kind.Bool) = pos 0
+low_of (Some (kind.Int low high)) = low
+
+-- `true` and `false` are no names
+abbrev pub is_true : List ℕ → Bool
+is_true name = bytes_eq name (codes "true")
+
+abbrev pub is_constant : List ℕ → Bool
+is_constant name = is_true name || bytes_eq name (codes "false")
+
+-- a name other than `true` and `false` that isn't declared
+abbrev pub is_unknown : List Decl → List ℕ → Bool
+is_unknown ds name = not (is_constant name) && not (is_some (place_of name ds))
+
+-- whether the name of a term is one
+abbrev pub term_unknown : List Decl → Term → Bool
+term_unknown ds (term.Plain name) = is_unknown ds name
+term_unknown ds (term.Minus name) = is_unknown ds name
+term_unknown ds (term.Number n) = false
+
+abbrev pub terms_unknown : List Decl → List Term → Bool
+terms_unknown ds [] = false
+terms_unknown ds (t ∷ ts) = term_unknown ds t || terms_unknown ds ts
+
+-- a Boolean term: `true`, `false`, a Boolean name, or `-` and a Boolean name
+abbrev pub is_truth : List Decl → Term → Bool
+is_truth ds (term.Plain name) = is_constant name || is_bool (kind_of name ds)
+is_truth ds (term.Minus name) = is_bool (kind_of name ds)
+is_truth ds (term.Number n) = false
+
+-- an integer term: a numeral or an integer name
+abbrev pub is_number : List Decl → Term → Bool
+is_number ds (term.Plain name) = is_int (kind_of name ds)
+is_number ds (term.Minus name) = false
+is_number ds (term.Number n) = true
+
+abbrev pub is_numeral : Term → Bool
+is_numeral (term.Plain name) = false
+is_numeral (term.Minus name) = false
+is_numeral (term.Number n) = true
+
+-- each term of a list
+abbrev pub all_truths : List Decl → List Term → Bool
+all_truths ds [] = true
+all_truths ds (t ∷ ts) = is_truth ds t && all_truths ds ts
+
+abbrev pub all_numbers : List Decl → List Term → Bool
+all_numbers ds [] = true
+all_numbers ds (t ∷ ts) = is_number ds t && all_numbers ds ts
+
+abbrev pub all_numerals : List Term → Bool
+all_numerals [] = true
+all_numerals (t ∷ ts) = is_numeral t && all_numerals ts
+
+-- What terms mean. Where a term is none of the wanted kind, the answer is a constant, which no model has.
+
+-- a place, or 0 where there is none
+abbrev pub place_or_zero : List ℕ → List Decl → ℕ
+place_or_zero name ds = option_map_or (λ p. p) (place_of name ds) 0
+
+abbrev pub truth : List Decl → Term → BoolTerm
+truth ds (term.Plain name) = if is_constant name then bool_term.Const (is_true name) else bool_term.Of (place_or_zero name ds) true
+truth ds (term.Minus name) = bool_term.Of (place_or_zero name ds) false
+truth ds (term.Number n) = bool_term.Const false
+
+abbrev pub number : List Decl → Term → IntTerm
+number ds (term.Plain name) = int_term.Of (place_or_zero name ds)
+number ds (term.Minus name) = int_term.Number (pos 0)
+number ds (term.Number n) = int_term.Number n
+
+abbrev pub numeral : Term → ℤ
+numeral (term.Plain name) = pos 0
+numeral (term.Minus name) = pos 0
+numeral (term.Number n) = n

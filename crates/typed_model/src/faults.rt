@@ -1,0 +1,324 @@
+//! The first fault of an item.
+
+ghost use Rattle.std.specs.Prelude.{◌≡◌, slice_get};
+ghost use Rattle.typed_model.specs.Scope.{place_of};
+ghost use Rattle.typed_model.specs.Faults.{declares, arg_unknown, undeclared, one_fits, many_fit, arg_fits, fit, is_declaration, names_declared, twice, lists_differ, wants_member, is_empty, misfit, numeral_in, declares_integer, empty_domain, divides, least_in, division_domain, statement_fault, objective_unknown, objective_fits, goal_fault, item_fault};
+
+use crate::fault::TypeFault;
+use crate::names::statement_of;
+use crate::scope::{
+    Scope, all_numerals, is_bool, is_constant, is_int, is_numeral, low_of, numeral,
+};
+use crate::signature::{Wanted, signature};
+use crate::statement::{Arithmetic, Extreme, Statement};
+use bumblebee_reader::{Arg, GoalKind, Item, Name, Term};
+
+/// Whether an argument is a plain name in a declaring place.
+fn declares(wanted: Wanted, arg: &Arg) -> bool
+    ensures { result ≡ declares wanted arg.now }
+{
+    match (wanted, arg) {
+        (Wanted::NewName, Arg::One(Term::Plain(_))) => true,
+        (Wanted::NewInteger, Arg::One(Term::Plain(_))) => true,
+        _ => false,
+    }
+}
+
+/// Whether a name of an argument isn't declared.
+fn arg_unknown(scope: &Scope, arg: &Arg) -> bool
+    ensures { result ≡ arg_unknown scope.now arg.now }
+{
+    match arg {
+        Arg::One(term) => scope.term_unknown(term),
+        Arg::Many(terms) => scope.terms_unknown(terms.as_slice()),
+    }
+}
+
+/// Whether a name that is to be looked up isn't declared.
+fn undeclared(scope: &Scope, wanted: &[Wanted], args: &[Arg]) -> bool
+    ensures { result ≡ undeclared scope.now wanted.now args.now }
+{
+    let mut places = wanted;
+    let mut rest = args;
+    while let [arg, others @ ..] = rest {
+        if let [place, later @ ..] = places {
+            if !declares(*place, arg) && arg_unknown(scope, arg) {
+                return true;
+            }
+            places = later;
+        } else if arg_unknown(scope, arg) {
+            return true;
+        }
+        rest = others;
+    }
+    false
+}
+
+/// Whether a term is what is wanted.
+fn one_fits(scope: &Scope, wanted: Wanted, term: &Term) -> bool
+    ensures { result ≡ one_fits scope.now wanted term.now }
+{
+    match wanted {
+        Wanted::Truth => scope.is_truth(term),
+        Wanted::Number => scope.is_number(term),
+        Wanted::Numeral => is_numeral(term),
+        Wanted::NewName => match term {
+            Term::Plain(name) => !is_constant(name.as_bytes()),
+            Term::Minus(_) => false,
+            Term::Number(_) => false,
+        },
+        Wanted::NewInteger => match term {
+            Term::Plain(name) => {
+                !is_constant(name.as_bytes()) && !is_bool(scope.kind_of(name.as_bytes()))
+            }
+            Term::Minus(_) => false,
+            Term::Number(_) => false,
+        },
+        Wanted::Truths => false,
+        Wanted::Numbers => false,
+        Wanted::Numerals => false,
+    }
+}
+
+/// Whether a list of terms is what is wanted.
+fn many_fit(scope: &Scope, wanted: Wanted, terms: &[Term]) -> bool
+    ensures { result ≡ many_fit scope.now wanted terms.now }
+{
+    match wanted {
+        Wanted::Truths => scope.all_truths(terms),
+        Wanted::Numbers => scope.all_numbers(terms),
+        Wanted::Numerals => all_numerals(terms),
+        Wanted::Truth => false,
+        Wanted::Number => false,
+        Wanted::Numeral => false,
+        Wanted::NewName => false,
+        Wanted::NewInteger => false,
+    }
+}
+
+/// Whether an argument is what is wanted.
+fn arg_fits(scope: &Scope, wanted: Wanted, arg: &Arg) -> bool
+    ensures { result ≡ arg_fits scope.now wanted arg.now }
+{
+    match arg {
+        Arg::One(term) => one_fits(scope, wanted, term),
+        Arg::Many(terms) => many_fit(scope, wanted, terms.as_slice()),
+    }
+}
+
+/// Whether the arguments are what is wanted.
+fn fit(scope: &Scope, wanted: &[Wanted], args: &[Arg]) -> bool
+    ensures { result ≡ fit scope.now wanted.now args.now }
+{
+    let mut places = wanted;
+    let mut rest = args;
+    while let [arg, others @ ..] = rest {
+        let [place, later @ ..] = places else {
+            return false;
+        };
+        if !arg_fits(scope, *place, arg) {
+            return false;
+        }
+        places = later;
+        rest = others;
+    }
+    places.is_empty()
+}
+
+/// Whether a statement declares the name of its first argument anew.
+fn is_declaration(statement: Statement) -> bool
+    ensures { result ≡ is_declaration statement }
+{
+    matches!(statement, Statement::NewBool | Statement::NewInt)
+}
+
+/// Whether an argument is a declared name.
+fn names_declared(scope: &Scope, args: &[Arg], at: usize) -> bool
+    ensures { result ≡ names_declared scope.now (slice_get args.now at) }
+{
+    match args.get(at) {
+        Some(Arg::One(Term::Plain(name))) => scope.place_of(name.as_bytes()).is_some(),
+        _ => false,
+    }
+}
+
+/// Whether a name is declared anew.
+fn twice(scope: &Scope, statement: Statement, args: &[Arg]) -> bool
+    ensures { result ≡ twice scope.now statement args.now }
+{
+    is_declaration(statement) && names_declared(scope, args, 0)
+}
+
+/// Whether the first two arguments are lists of different lengths.
+fn lists_differ(args: &[Arg]) -> bool
+    ensures { result ≡ lists_differ (slice_get args.now 0) (slice_get args.now 1) }
+{
+    match args {
+        [Arg::Many(left), Arg::Many(right), ..] => left.len() != right.len(),
+        _ => false,
+    }
+}
+
+/// Whether a statement is of the greatest or least member of a list.
+fn wants_member(statement: Statement) -> bool
+    ensures { result ≡ wants_member statement }
+{
+    matches!(
+        statement,
+        Statement::Aggregate(Extreme::Max) | Statement::Aggregate(Extreme::Min)
+    )
+}
+
+/// Whether the first argument is a list without members.
+fn is_empty(args: &[Arg]) -> bool
+    ensures { result ≡ is_empty (slice_get args.now 0) }
+{
+    match args {
+        [Arg::Many(members), ..] => members.is_empty(),
+        _ => false,
+    }
+}
+
+/// Whether lists differ in length, or a list lacks a member.
+fn misfit(statement: Statement, args: &[Arg]) -> bool
+    ensures { result ≡ misfit statement args.now }
+{
+    lists_differ(args) || (wants_member(statement) && is_empty(args))
+}
+
+/// The numeral that an argument is.
+pub fn numeral_in(args: &[Arg], at: usize) -> i64
+    ensures { result ≡ numeral_in (slice_get args.now at) }
+{
+    match args.get(at) {
+        Some(Arg::One(term)) => numeral(term),
+        _ => 0,
+    }
+}
+
+/// Whether the least value of a new integer is above its greatest.
+fn empty_domain(statement: Statement, args: &[Arg]) -> bool
+    ensures { result ≡ empty_domain statement args.now }
+{
+    match statement {
+        Statement::NewInt => numeral_in(args, 2) < numeral_in(args, 1),
+        _ => false,
+    }
+}
+
+/// Whether a statement is a division.
+fn divides(statement: Statement) -> bool
+    ensures { result ≡ divides statement }
+{
+    matches!(
+        statement,
+        Statement::Operation(Arithmetic::Div) | Statement::Operation(Arithmetic::Mod)
+    )
+}
+
+/// The least value of an argument.
+fn least_in(scope: &Scope, args: &[Arg], at: usize) -> i64
+    ensures { result ≡ least_in scope.now (slice_get args.now at) }
+{
+    match args.get(at) {
+        Some(Arg::One(Term::Plain(name))) => low_of(scope.kind_of(name.as_bytes())),
+        _ => numeral_in(args, at),
+    }
+}
+
+/// Whether a dividend may be below 0, or a divisor below 1.
+fn division_domain(scope: &Scope, statement: Statement, args: &[Arg]) -> bool
+    ensures { result ≡ division_domain scope.now statement args.now }
+{
+    divides(statement) && (least_in(scope, args, 0) < 0 || least_in(scope, args, 1) < 1)
+}
+
+/// The first fault of a declaration or statement, which is item `number`.
+#[tactic(auto, unfolding(crate::specs::Faults::statement_fault))]
+fn statement_fault(
+    scope: &Scope,
+    number: u64,
+    statement: Statement,
+    args: &[Arg],
+) -> Option<TypeFault>
+    ensures { result ≡ statement_fault number scope.now statement args.now }
+{
+    if undeclared(scope, signature(statement), args) {
+        return Some(TypeFault::Undeclared(number));
+    }
+    if !fit(scope, signature(statement), args) {
+        return Some(TypeFault::Kind(number));
+    }
+    if twice(scope, statement, args) {
+        return Some(TypeFault::Twice(number));
+    }
+    if misfit(statement, args) {
+        return Some(TypeFault::Lengths(number));
+    }
+    if empty_domain(statement, args) {
+        return Some(TypeFault::EmptyDomain(number));
+    }
+    if division_domain(scope, statement, args) {
+        return Some(TypeFault::DivDomain(number));
+    }
+    None
+}
+
+/// Whether an objective's name isn't declared.
+fn objective_unknown(scope: &Scope, objective: &Option<Name>) -> bool
+    ensures { result ≡ objective_unknown scope.now objective.now }
+{
+    match objective {
+        Some(name) => scope.is_unknown(name.as_bytes()),
+        None => false,
+    }
+}
+
+/// Whether an objective is an integer name where one is sought, and is left out otherwise.
+fn objective_fits(scope: &Scope, kind: GoalKind, objective: &Option<Name>) -> bool
+    ensures { result ≡ objective_fits scope.now kind objective.now }
+{
+    match (kind, objective) {
+        (GoalKind::Satisfy, None) => true,
+        (GoalKind::Satisfy, Some(_)) => false,
+        (GoalKind::Minimize, None) => false,
+        (GoalKind::Minimize, Some(name)) => is_int(scope.kind_of(name.as_bytes())),
+        (GoalKind::Maximize, None) => false,
+        (GoalKind::Maximize, Some(name)) => is_int(scope.kind_of(name.as_bytes())),
+    }
+}
+
+/// The first fault of a goal, which is item `number`.
+fn goal_fault(
+    scope: &Scope,
+    number: u64,
+    kind: GoalKind,
+    objective: &Option<Name>,
+) -> Option<TypeFault>
+    ensures { result ≡ goal_fault number scope.now kind objective.now }
+{
+    if objective_unknown(scope, objective) {
+        return Some(TypeFault::Undeclared(number));
+    }
+    if !objective_fits(scope, kind, objective) {
+        return Some(TypeFault::Kind(number));
+    }
+    None
+}
+
+/// The first fault of item `number`. It is linear in the item's size.
+#[tactic(auto, unfolding(crate::specs::Faults::item_fault))]
+pub fn item_fault(scope: &Scope, number: u64, after_goal: bool, item: &Item) -> Option<TypeFault>
+    ensures { result ≡ item_fault number after_goal scope.now item.now }
+{
+    if after_goal {
+        return Some(TypeFault::NoGoal(number));
+    }
+    match item {
+        Item::Call { name, args } => match statement_of(name.as_bytes()) {
+            Some(statement) => statement_fault(scope, number, statement, args.as_slice()),
+            None => Some(TypeFault::Unknown(number)),
+        },
+        Item::Goal { kind, objective } => goal_fault(scope, number, *kind, objective),
+    }
+}

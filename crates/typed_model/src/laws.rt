@@ -1,0 +1,19 @@
+//! Facts about the definitions that crates above may use. Each is the contract of a function that does
+//! nothing.
+
+ghost use Rattle.typed_model.specs.Laws.{HoldsLaw, TypingLaw, LimitLaw};
+
+/// The test of a statement is true exactly where the statement holds.
+pub fn holds_law()
+    ensures { HoldsLaw }
+{}
+
+/// The model of items without a fault is well typed.
+pub fn typing_law()
+    ensures { TypingLaw }
+{}
+
+/// Where the numerals of the items are in the limit, so are the numbers and domains of their model.
+pub fn limit_law()
+    ensures { LimitLaw }
+{}

@@ -1,0 +1,122 @@
+//! The statements of the language, told apart by their names.
+
+/// How two integers are compared.
+#[derive(Clone, Copy, Debug)]
+pub enum Relation {
+    /// At most.
+    Leq,
+    /// At least.
+    Geq,
+    /// Equal.
+    Eq,
+    /// Less.
+    Lt,
+    /// Greater.
+    Gt,
+    /// Not equal.
+    Neq,
+}
+
+/// How a list of Booleans is combined.
+#[derive(Clone, Copy, Debug)]
+pub enum Operator {
+    /// A member is true.
+    Or,
+    /// All members are true.
+    And,
+    /// An odd number of members is true.
+    Xor,
+    /// All members are equal.
+    Iff,
+}
+
+/// An operation on two integers.
+#[derive(Clone, Copy, Debug)]
+pub enum Arithmetic {
+    /// The sum.
+    Plus,
+    /// The product.
+    Times,
+    /// The quotient, rounded down.
+    Div,
+    /// The remainder of that quotient.
+    Mod,
+    /// The greater one.
+    Max,
+    /// The lesser one.
+    Min,
+}
+
+/// An operation on a list of integers.
+#[derive(Clone, Copy, Debug)]
+pub enum Extreme {
+    /// The sum.
+    Plus,
+    /// The greatest member.
+    Max,
+    /// The least member.
+    Min,
+}
+
+/// Which members of a list of integers differ.
+#[derive(Clone, Copy, Debug)]
+pub enum Difference {
+    /// Members at different places.
+    All,
+    /// A Boolean is the truth of that.
+    Truth,
+    /// Members at two places whose conditions are both true.
+    Conditional,
+}
+
+/// How two lists are ordered by the first place where they differ.
+#[derive(Clone, Copy, Debug)]
+pub struct Order {
+    /// Whether the lists are of Booleans, and else of integers.
+    pub of_booleans: bool,
+    /// Whether equal lists are out of order.
+    pub strict: bool,
+    /// Whether a Boolean is the truth of the order.
+    pub reified: bool,
+}
+
+/// A declaration or a statement, as its name says.
+#[derive(Clone, Copy, Debug)]
+pub enum Statement {
+    /// `new_bool`
+    NewBool,
+    /// `new_int`
+    NewInt,
+    /// `bool2int`
+    BoolToInt,
+    /// `bool_eq`
+    BoolEq,
+    /// `bool_OP_reif`
+    Pair(Operator),
+    /// `bool_array_OP`
+    Array(Operator),
+    /// `bool_array_OP_reif`
+    ArrayTruth(Operator),
+    /// `int_REL`
+    Compare(Relation),
+    /// `int_REL_reif`
+    CompareTruth(Relation),
+    /// `bool_array_sum_REL`
+    Count(Relation),
+    /// `bool_array_pb_REL`
+    Weigh(Relation),
+    /// `int_array_sum_REL`
+    Sum(Relation),
+    /// `int_array_lin_REL`
+    Linear(Relation),
+    /// `int_plus`, `int_times`, `int_div`, `int_mod`, `int_max`, `int_min`
+    Operation(Arithmetic),
+    /// `int_abs`
+    Absolute,
+    /// `int_array_plus`, `int_array_max`, `int_array_min`
+    Aggregate(Extreme),
+    /// `int_array_allDiff`, `int_array_allDiff_reif`, `int_array_allDiffCond`
+    Differ(Difference),
+    /// `bool_arrays_lex`, `int_arrays_lex`, with `Lt` and `_reif`
+    Lex(Order),
+}

@@ -1,0 +1,187 @@
+//! What a statement states: one variant for each line of the table of statements.
+
+use bee_text::Sequence;
+use bumblebee_reader::Name;
+
+/// A Boolean term.
+#[derive(Clone, Copy, Debug, PartialEq, Eq)]
+pub enum BoolTerm {
+    /// `true` or `false`.
+    Const(bool),
+    /// A declared Boolean, or its negation.
+    Of {
+        /// The place of its declaration.
+        place: usize,
+        /// Whether it is the Boolean itself.
+        positive: bool,
+    },
+}
+
+/// An integer term.
+#[derive(Clone, Copy, Debug, PartialEq, Eq)]
+pub enum IntTerm {
+    /// A numeral.
+    Number(i64),
+    /// A declared integer, by the place of its declaration.
+    Of(usize),
+}
+
+/// A statement without its number. The variants are the lines of the table of statements, and where a
+/// line has several statements, its variant begins with the statement's name.
+#[derive(Debug, Clone, Drop)]
+pub enum What {
+    /// `bool2int`: a Boolean as an integer.
+    L3 {
+        /// The Boolean.
+        truth: BoolTerm,
+        /// The integer, 1 where the Boolean is true and else 0.
+        number: IntTerm,
+    },
+    /// `bool_eq`: two Booleans are equal.
+    L4 {
+        /// One of them.
+        left: BoolTerm,
+        /// The other.
+        right: BoolTerm,
+    },
+    /// `bool_or_reif` and its kin: a Boolean is an operator of two.
+    L5 {
+        /// The statement's name.
+        name: Name,
+        /// The first operand.
+        left: BoolTerm,
+        /// The second operand.
+        right: BoolTerm,
+        /// The operator's truth.
+        truth: BoolTerm,
+    },
+    /// `bool_array_or` and its kin: an operator of a list is true.
+    L6 {
+        /// The statement's name.
+        name: Name,
+        /// The operands.
+        members: Sequence<BoolTerm>,
+    },
+    /// `bool_array_or_reif` and its kin: a Boolean is an operator of a list.
+    L7 {
+        /// The statement's name.
+        name: Name,
+        /// The operands.
+        members: Sequence<BoolTerm>,
+        /// The operator's truth.
+        truth: BoolTerm,
+    },
+    /// `int_leq` and its kin: a comparison of two integers.
+    L8 {
+        /// The statement's name.
+        name: Name,
+        /// The left side.
+        left: IntTerm,
+        /// The right side.
+        right: IntTerm,
+    },
+    /// `int_leq_reif` and its kin: a Boolean is the truth of a comparison.
+    L9 {
+        /// The statement's name.
+        name: Name,
+        /// The left side.
+        left: IntTerm,
+        /// The right side.
+        right: IntTerm,
+        /// The comparison's truth.
+        truth: BoolTerm,
+    },
+    /// `bool_array_sum_leq` and its kin: the number of true members is compared.
+    L10 {
+        /// The statement's name.
+        name: Name,
+        /// The members.
+        members: Sequence<BoolTerm>,
+        /// The right side.
+        bound: IntTerm,
+    },
+    /// `bool_array_pb_leq` and its kin: the coefficients of the true members are added and compared.
+    L11 {
+        /// The statement's name.
+        name: Name,
+        /// A coefficient for each member.
+        coefficients: Sequence<i64>,
+        /// The members.
+        members: Sequence<BoolTerm>,
+        /// The right side.
+        bound: IntTerm,
+    },
+    /// `int_array_sum_leq` and its kin: the members are added and compared.
+    L12 {
+        /// The statement's name.
+        name: Name,
+        /// The members.
+        members: Sequence<IntTerm>,
+        /// The right side.
+        bound: IntTerm,
+    },
+    /// `int_array_lin_leq` and its kin: the members times their coefficients are added and compared.
+    L13 {
+        /// The statement's name.
+        name: Name,
+        /// A coefficient for each member.
+        coefficients: Sequence<i64>,
+        /// The members.
+        members: Sequence<IntTerm>,
+        /// The right side.
+        bound: IntTerm,
+    },
+    /// `int_plus`, `int_times`, `int_div`, `int_mod`, `int_max`, `int_min`: an operation on two integers.
+    L14 {
+        /// The statement's name.
+        name: Name,
+        /// The first operand.
+        left: IntTerm,
+        /// The second operand.
+        right: IntTerm,
+        /// What the operation gives.
+        value: IntTerm,
+    },
+    /// `int_abs`: an absolute value.
+    L15 {
+        /// The integer.
+        operand: IntTerm,
+        /// Its absolute value.
+        value: IntTerm,
+    },
+    /// `int_array_plus`, `int_array_max`, `int_array_min`: an operation on a list of integers.
+    L16 {
+        /// The statement's name.
+        name: Name,
+        /// The members.
+        members: Sequence<IntTerm>,
+        /// What the operation gives.
+        value: IntTerm,
+    },
+    /// `int_array_allDiff`, `int_array_allDiff_reif`, `int_array_allDiffCond`: members differ.
+    L17 {
+        /// The statement's name.
+        name: Name,
+        /// The members.
+        members: Sequence<IntTerm>,
+        /// The truth of it, for `_reif`.
+        truth: Option<BoolTerm>,
+        /// A condition for each member, for `Cond`.
+        conditions: Option<Sequence<BoolTerm>>,
+    },
+    /// `bool_arrays_lex` and its kin: two lists are in order.
+    L18 {
+        /// The statement's name.
+        name: Name,
+        /// The first list, of Booleans.
+        left_truths: Option<Sequence<BoolTerm>>,
+        /// The second list, of Booleans.
+        right_truths: Option<Sequence<BoolTerm>>,
+        /// The first list, of integers.
+        left_numbers: Option<Sequence<IntTerm>>,
+        /// The second list, of integers.
+        right_numbers: Option<Sequence<IntTerm>>,
+        /// The truth of it, for `_reif`.
+        truth: Option<BoolTerm>,
+    },
+}

@@ -1,5 +1,5 @@
 -- What fits some declarations fits more of them.
-use Rattle.std.proofs.Common.{◌≡◌, ℕ, zero, suc, ◌+◌, ◌<◌, ◌≤◌, ℤ, Bool, true, false, not, cond, ◌||◌, ◌&&◌, List, [], ◌∷◌, ◌++◌, length, Option, Some, None, is_some, position, IsSome, IsSomeAnd, arith, refl, sym, ◌∙◌, ap, subst}
+use Rattle.std.proofs.Common.{◌≡◌, ℕ, zero, suc, ◌+◌, ℤ, Bool, true, false, not, cond, ◌||◌, List, [], ◌∷◌, ◌++◌, length, Option, Some, None, is_some, IsSomeAnd, arith, refl, sym, ◌∙◌, ap}
 use Rattle.std.specs.Prelude.{slice_get, if◌then◌else◌}
 use Rattle.std.specs.Str.{bytes_eq}
 use Rattle.std.specs.List.{position_from}
@@ -22,12 +22,11 @@ use Rattle.typed_model.specs.declared.statement.Difference.{Difference}
 use Rattle.typed_model.specs.declared.statement.Difference.TheVariants as difference
 use Rattle.typed_model.specs.declared.statement.Order.{Order}
 use Rattle.typed_model.specs.declared.signature.Wanted.TheVariants as wanted
-use Rattle.typed_model.specs.declared.model.Kind.{Kind}
 use Rattle.typed_model.specs.declared.model.Decl.{Decl}
 use Rattle.typed_model.specs.Scope.{place_of, kind_of, is_bool, is_constant, is_true, place_or_zero, is_truth, truth}
 use Rattle.typed_model.specs.Items.{truth_in}
 use Rattle.typed_model.specs.Names.{operation, aggregate, differ, lex}
-use Rattle.typed_model.specs.WellTyped.{IsTruthAt, IsNumberAt, TruthFits, NumberFits, TruthsFit, NumbersFit, IsAtLeast, DivisionFits, HasMember, DifferenceFits, PairFits, TruthFitsIf, WhatFits}
+use Rattle.typed_model.specs.WellTyped.{TruthFits, NumberFits, TruthsFit, NumbersFit, IsAtLeast, DivisionFits, DifferenceFits, PairFits, TruthFitsIf, WhatFits}
 use Rattle.typed_model.proofs.TypingLaws.{ArgFits}
 
 pub some_and-map : {A : Type 0} (o : Option A) (P Q : A → Type 0) → ((x : A) → P x → Q x) → IsSomeAnd o P → IsSomeAnd o Q

@@ -1,37 +1,28 @@
 -- What an item without fault declares, states and seeks fits.
-use Rattle.std.proofs.Common.{◌≡◌, ℕ, zero, suc, ◌+◌, ◌<◌, ◌≤◌, ℤ, pos, ◌≤ℤ◌, Bool, true, false, not, ◌||◌, ◌&&◌, List, [], ◌∷◌, ◌++◌, length, Option, Some, None, is_some, IsSome, IsSomeAnd, arith, refl, sym, ◌∙◌, ap, subst}
-use Rattle.std.specs.Prelude.{slice_get, IfSome, int_lt, if◌then◌else◌}
+use Rattle.std.proofs.Common.{◌≡◌, ℕ, zero, suc, ◌+◌, ◌<◌, pos, Bool, true, false, not, ◌&&◌, List, [], ◌∷◌, ◌++◌, length, Option, Some, None, is_some, IsSomeAnd, arith, refl, sym, ◌∙◌, ap, subst}
+use Rattle.std.specs.Prelude.{slice_get, IfSome, if◌then◌else◌}
 use Rattle.std.specs.Str.{bytes_eq}
 use Rattle.std.specs.Option.{option_and_then, option_map, option_map_or}
 use Rattle.std.proofs.lemmas.Bool.{false≢true}
-use Rattle.std.proofs.lemmas.List.{append-nil, append_assoc}
+use Rattle.std.proofs.lemmas.List.{append-nil}
 use Rattle.std.proofs.lemmas.List.Quantifiers.{position-Some}
 use Rattle.std.proofs.lemmas.Slice.Eq.{bytes_eq-Decides}
-use Rattle.bumblebee_reader.specs.declared.syntax.Term.{Term}
 use Rattle.bumblebee_reader.specs.declared.syntax.Term.TheVariants as term
 use Rattle.bumblebee_reader.specs.declared.syntax.Arg.{Arg}
 use Rattle.bumblebee_reader.specs.declared.syntax.Arg.TheVariants as arg
-use Rattle.bumblebee_reader.specs.declared.syntax.Item.{Item}
-use Rattle.bumblebee_reader.specs.declared.syntax.Item.TheVariants as item
-use Rattle.bumblebee_reader.specs.declared.syntax.GoalKind.{GoalKind}
-use Rattle.bumblebee_reader.specs.declared.syntax.GoalKind.TheVariants as goal_kind
 use Rattle.typed_model.specs.declared.signature.Wanted.TheVariants as wanted
 use Rattle.typed_model.specs.declared.statement.Statement.{Statement}
 use Rattle.typed_model.specs.declared.statement.Statement.TheVariants as statement
-use Rattle.typed_model.specs.declared.what.What.{What}
 use Rattle.typed_model.specs.declared.what.What.TheVariants.{L3}
 use Rattle.typed_model.specs.declared.model.Kind.{Kind}
 use Rattle.typed_model.specs.declared.model.Kind.TheVariants as kind
 use Rattle.typed_model.specs.declared.model.Decl.{Decl}
-use Rattle.typed_model.specs.declared.model.Stmt.{Stmt}
-use Rattle.typed_model.specs.Names.{statement_of}
 use Rattle.typed_model.specs.Signatures.{signature}
-use Rattle.typed_model.specs.Scope.{place_of, kind_of, is_bool, is_int, is_constant, place_or_zero, truth}
-use Rattle.typed_model.specs.Faults.{fit, arg_fits, call_fault, item_fault}
-use Rattle.typed_model.specs.Items.{declared_name, declared_as, declared_by, declared_if, declared, what_of, name_in, truth_in, number_in, numbered, stated_if, stated}
+use Rattle.typed_model.specs.Scope.{place_of, kind_of, is_bool, is_constant, place_or_zero}
+use Rattle.typed_model.specs.Items.{declared_name, declared_as, declared_by, what_of, name_in, truth_in, number_in}
 use Rattle.typed_model.specs.WellTyped.{IsInt, IsNumberAt, TruthFits, WhatFits}
-use Rattle.typed_model.proofs.TypingLaws.{AllBefore, ArgFits, fit-at, truth_in-fits, NameFits, name_fits, NoFault, no_fault}
-use Rattle.typed_model.proofs.AppendLaws.{at-append, TruthFits-append, truth_in-same, place_of-append, place_of-last}
+use Rattle.typed_model.proofs.TypingLaws.{AllBefore, ArgFits, fit-at, truth_in-fits, NameFits, NoFault}
+use Rattle.typed_model.proofs.AppendLaws.{TruthFits-append, truth_in-same, place_of-last}
 use Rattle.typed_model.proofs.StatementLaws.{plain-fits}
 
 some_at : {A : Type 0} (xs : List A) (p : ℕ) (P : A → Type 0) → p < length xs → ((x : A) → slice_get xs p ≡ Some x → P x) → IsSomeAnd (slice_get xs p) P

@@ -1,5 +1,5 @@
 -- The numbers of a model are those of its items.
-use Rattle.std.proofs.Common.{◌≡◌, ℕ, zero, suc, ◌+◌, ◌≤◌, ℤ, pos, Bool, true, false, List, [], ◌∷◌, ◌++◌, map, Option, Some, None, is_some, arith, slice_index_or, unsigned_abs}
+use Rattle.std.proofs.Common.{ℕ, zero, suc, ◌+◌, pos, Bool, true, false, List, [], ◌∷◌, ◌++◌, map, Option, Some, None, is_some, arith}
 use Rattle.std.specs.Prelude.{slice_get, IfSome, if◌then◌else◌}
 use Rattle.bumblebee_reader.specs.declared.syntax.Term.{Term}
 use Rattle.bumblebee_reader.specs.declared.syntax.Term.TheVariants as term
@@ -12,8 +12,6 @@ use Rattle.typed_model.specs.declared.statement.Statement.TheVariants as stateme
 use Rattle.typed_model.specs.declared.statement.Difference.{Difference}
 use Rattle.typed_model.specs.declared.statement.Difference.TheVariants as difference
 use Rattle.typed_model.specs.declared.statement.Order.{Order}
-use Rattle.typed_model.specs.declared.what.IntTerm.{IntTerm}
-use Rattle.typed_model.specs.declared.what.IntTerm.TheVariants as int_term
 use Rattle.typed_model.specs.declared.what.What.{What}
 use Rattle.typed_model.specs.declared.model.Kind.{Kind}
 use Rattle.typed_model.specs.declared.model.Decl.{Decl}
@@ -21,7 +19,6 @@ use Rattle.typed_model.specs.declared.model.Stmt.{Stmt}
 use Rattle.typed_model.specs.Names.{statement_of}
 use Rattle.typed_model.specs.Scope.{place_of, number, numeral}
 use Rattle.typed_model.specs.Faults.{numeral_in}
-use Rattle.typed_model.specs.Terms.{value_at}
 use Rattle.typed_model.specs.Items.{declared_as, declared_by, declared_if, declared, what_of, number_in, numbers_in, numerals_in, terms_in, difference_what, order_what, numbered, stated_if, stated, decls_from, stmts_from, model_of}
 use Rattle.typed_model.specs.Limits.{InLimit, AllInLimit, TermInLimit, TermsInLimit, TermsInLimitIf, WhatInLimit, StmtsInLimit, KindInLimit, DeclsInLimit, InLimits, TextTermInLimit, TextTermsInLimit, ArgInLimit, ArgsInLimit, ItemInLimit, ItemsInLimit}
 

@@ -1,12 +1,10 @@
 -- The goal of items without a fault fits, and a declaration and a statement of one item are a `bool2int`.
-use Rattle.std.proofs.Common.{◌≡◌, ℕ, zero, suc, ◌+◌, ◌<◌, ◌≤◌, ℤ, pos, Bool, true, false, not, List, [], ◌∷◌, ◌++◌, length, Option, Some, None, is_some, IsSome, IsSomeAnd, arith, refl, sym, ◌∙◌, ap, subst}
+use Rattle.std.proofs.Common.{◌≡◌, ℕ, zero, suc, ◌+◌, Bool, true, false, not, List, [], ◌∷◌, ◌++◌, length, Option, Some, None, is_some, arith, refl, sym, ◌∙◌, ap, subst}
 use Rattle.std.specs.Prelude.{slice_get, IfSome, if◌then◌else◌}
-use Rattle.std.specs.Str.{bytes_eq}
 use Rattle.std.specs.Option.{unwrap_or, option_map_or}
 use Rattle.std.proofs.lemmas.Bool.{false≢true}
-use Rattle.std.proofs.lemmas.List.{append-nil, append_assoc}
+use Rattle.std.proofs.lemmas.List.{append-nil}
 use Rattle.std.proofs.lemmas.Slice.Eq.{bytes_eq-Decides}
-use Rattle.bumblebee_reader.specs.declared.syntax.Term.{Term}
 use Rattle.bumblebee_reader.specs.declared.syntax.Term.TheVariants as term
 use Rattle.bumblebee_reader.specs.declared.syntax.Arg.{Arg}
 use Rattle.bumblebee_reader.specs.declared.syntax.Arg.TheVariants as arg
@@ -18,23 +16,19 @@ use Rattle.typed_model.specs.declared.signature.Wanted.TheVariants as wanted
 use Rattle.typed_model.specs.declared.statement.Statement.{Statement}
 use Rattle.typed_model.specs.declared.statement.Statement.TheVariants as statement
 use Rattle.typed_model.specs.declared.what.BoolTerm.{BoolTerm}
-use Rattle.typed_model.specs.declared.what.IntTerm.{IntTerm}
 use Rattle.typed_model.specs.declared.what.IntTerm.TheVariants as int_term
-use Rattle.typed_model.specs.declared.what.What.{What}
 use Rattle.typed_model.specs.declared.what.What.TheVariants.{L3}
 use Rattle.typed_model.specs.declared.model.Decl.{Decl}
 use Rattle.typed_model.specs.declared.model.Stmt.{Stmt}
 use Rattle.typed_model.specs.declared.model.Goal.{Goal}
 use Rattle.typed_model.specs.declared.model.Goal.TheVariants as goal
-use Rattle.typed_model.specs.declared.model.Model.{Model}
-use Rattle.typed_model.specs.declared.fault.TypeFault.{TypeFault}
 use Rattle.typed_model.specs.declared.fault.TypeFault.TheVariants.{Undeclared, Kind as KindFault}
 use Rattle.typed_model.specs.Names.{statement_of}
 use Rattle.typed_model.specs.Signatures.{signature}
 use Rattle.typed_model.specs.Scope.{place_of, place_or_zero}
 use Rattle.typed_model.specs.Faults.{call_fault, item_fault, objective_unknown, objective_fits, goal_fault}
-use Rattle.typed_model.specs.Items.{declared_name, declared_as, declared_by, declared_if, declared, what_of, name_in, truth_in, number_in, numbered, stated_if, stated, objective_place, goal_of, sought, decls_from, stmts_from, goal_from, first_fault_from, first_fault, model_of}
-use Rattle.typed_model.specs.WellTyped.{IsInt, GoalFits, DeclaresPlace, SharesFit, WellTyped}
+use Rattle.typed_model.specs.Items.{declared_name, declared_as, declared_by, declared_if, declared, what_of, name_in, truth_in, number_in, numbered, stated_if, stated, goal_of, sought, decls_from, stmts_from, goal_from, first_fault_from, first_fault, model_of}
+use Rattle.typed_model.specs.WellTyped.{GoalFits, DeclaresPlace, WellTyped}
 use Rattle.typed_model.proofs.TypingLaws.{AllBefore, ArgFits, fit-at, NoFault, no_fault, int_placed}
 use Rattle.typed_model.proofs.AppendLaws.{at-append, place_of-last}
 use Rattle.typed_model.proofs.ItemTyping.{own_kind}

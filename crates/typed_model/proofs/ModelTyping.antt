@@ -1,22 +1,18 @@
 -- The model of items without a fault is well typed.
-use Rattle.std.proofs.Common.{◌≡◌, ℕ, zero, suc, ◌+◌, ◌<◌, ◌≤◌, ℤ, pos, ◌≤ℤ◌, Bool, true, false, not, cond, ◌||◌, ◌&&◌, List, [], ◌∷◌, ◌++◌, length, Option, Some, None, is_some, position, IsSome, IsSomeAnd, IsFalse, arith, refl, sym, ◌∙◌, ap, subst}
-use Rattle.std.specs.Prelude.{slice_get, IfSome, int_lt, if◌then◌else◌}
+use Rattle.std.proofs.Common.{◌≡◌, ℕ, ◌+◌, ◌≤◌, Bool, true, false, not, cond, ◌&&◌, List, [], ◌∷◌, ◌++◌, Option, Some, None, is_some, arith, refl, sym, ◌∙◌, ap, subst}
+use Rattle.std.specs.Prelude.{slice_get, IfSome, if◌then◌else◌}
 use Rattle.std.specs.Str.{bytes_eq}
 use Rattle.std.specs.List.{position_from}
-use Rattle.std.specs.Option.{unwrap_or, option_map_or}
 use Rattle.std.proofs.lemmas.Bool.{false≢true}
 use Rattle.std.proofs.lemmas.Int.{ints}
 use Rattle.std.proofs.lemmas.List.{append-nil, append_assoc}
 use Rattle.std.proofs.lemmas.Iterator.Adapters.{position_from-zero}
 use Rattle.std.proofs.lemmas.Slice.Eq.{bytes_eq-Decides}
-use Rattle.bumblebee_reader.specs.declared.syntax.Term.{Term}
 use Rattle.bumblebee_reader.specs.declared.syntax.Term.TheVariants as term
 use Rattle.bumblebee_reader.specs.declared.syntax.Arg.{Arg}
 use Rattle.bumblebee_reader.specs.declared.syntax.Arg.TheVariants as arg
 use Rattle.bumblebee_reader.specs.declared.syntax.Item.{Item}
 use Rattle.bumblebee_reader.specs.declared.syntax.Item.TheVariants as item
-use Rattle.bumblebee_reader.specs.declared.syntax.GoalKind.{GoalKind}
-use Rattle.bumblebee_reader.specs.declared.syntax.GoalKind.TheVariants as goal_kind
 use Rattle.typed_model.specs.declared.signature.Wanted.TheVariants as wanted
 use Rattle.typed_model.specs.declared.statement.Statement.{Statement}
 use Rattle.typed_model.specs.declared.statement.Statement.TheVariants as statement
@@ -26,17 +22,14 @@ use Rattle.typed_model.specs.declared.model.Kind.TheVariants as kind
 use Rattle.typed_model.specs.declared.model.Decl.{Decl}
 use Rattle.typed_model.specs.declared.model.Stmt.{Stmt}
 use Rattle.typed_model.specs.declared.model.Goal.{Goal}
-use Rattle.typed_model.specs.declared.model.Goal.TheVariants as goal
-use Rattle.typed_model.specs.declared.model.Model.{Model}
-use Rattle.typed_model.specs.declared.fault.TypeFault.{TypeFault}
 use Rattle.typed_model.specs.Names.{statement_of, first_of}
 use Rattle.typed_model.specs.Signatures.{signature}
-use Rattle.typed_model.specs.Scope.{place_of, kind_of, is_bool, is_int, is_constant, place_or_zero}
-use Rattle.typed_model.specs.Faults.{call_fault, item_fault, numeral_in, objective_unknown, objective_fits, goal_fault}
-use Rattle.typed_model.specs.Items.{declared_name, declared_as, declared_by, declared_if, declared, what_of, name_in, numbered, stated_if, stated, objective_place, goal_of, sought, decls_from, stmts_from, goal_from, first_fault_from, first_fault, model_of}
-use Rattle.typed_model.specs.WellTyped.{IsInt, WhatFits, StmtsFit, IsFree, KindFits, DeclsFit, GoalFits}
-use Rattle.typed_model.proofs.TypingLaws.{not_less, AllBefore, ArgFits, fit-at, NameFits, name_fits, NoFault, no_fault}
-use Rattle.typed_model.proofs.AppendLaws.{at-append, WhatFits-append}
+use Rattle.typed_model.specs.Scope.{place_of, kind_of, is_bool, is_constant}
+use Rattle.typed_model.specs.Faults.{call_fault, item_fault, numeral_in}
+use Rattle.typed_model.specs.Items.{declared_name, declared_as, declared_by, declared_if, declared, name_in, numbered, stated_if, stated, sought, decls_from, stmts_from, first_fault_from}
+use Rattle.typed_model.specs.WellTyped.{WhatFits, StmtsFit, IsFree, KindFits, DeclsFit}
+use Rattle.typed_model.proofs.TypingLaws.{not_less, AllBefore, ArgFits, fit-at, name_fits, NoFault, no_fault}
+use Rattle.typed_model.proofs.AppendLaws.{WhatFits-append}
 use Rattle.typed_model.proofs.ItemTyping.{own_kind, stated-fits}
 
 and_parts : (x y : Bool) → (x && y) ≡ true → (x ≡ true) × (y ≡ true)

@@ -1,12 +1,10 @@
 -- A statement without fault fits the declarations before it.
-use Rattle.std.proofs.Common.{◌≡◌, ℕ, suc, ◌+◌, ◌<◌, ℤ, pos, Bool, true, false, not, ◌&&◌, ◌||◌, List, [], ◌∷◌, map, length, Option, Some, None, IsSome, IsSomeAnd, refl, sym, ◌∙◌, subst}
+use Rattle.std.proofs.Common.{◌≡◌, ℕ, pos, Bool, true, false, not, ◌&&◌, ◌||◌, List, [], ◌∷◌, length, Option, Some, None, IsSome, IsSomeAnd, refl, sym, ◌∙◌}
 use Rattle.std.specs.Prelude.{int_lt, slice_get, IfSome, if◌then◌else◌}
 use Rattle.std.proofs.lemmas.Bool.{false≢true}
 use Rattle.std.proofs.lemmas.List.{length-map}
 use Rattle.bumblebee_reader.specs.declared.syntax.Arg.{Arg}
 use Rattle.bumblebee_reader.specs.declared.syntax.Term.{Term}
-use Rattle.typed_model.specs.declared.what.What.{What}
-use Rattle.typed_model.specs.declared.what.IntTerm.{IntTerm}
 use Rattle.typed_model.specs.declared.signature.Wanted.{Wanted}
 use Rattle.typed_model.specs.declared.signature.Wanted.TheVariants as wanted
 use Rattle.typed_model.specs.declared.statement.Arithmetic.{Arithmetic}
@@ -23,7 +21,7 @@ use Rattle.typed_model.specs.Scope.{truth, number, numeral}
 use Rattle.typed_model.specs.Signatures.{signature, lex_signature, differ_signature}
 use Rattle.typed_model.specs.Faults.{one_fits, fit, lists_differ, is_empty, wants_member, least_in, division_domain}
 use Rattle.typed_model.specs.Items.{what_of, truth_in, number_in, truths_in, numbers_in, numerals_in, terms_in, difference_what, order_what}
-use Rattle.typed_model.specs.WellTyped.{TruthFits, NumberFits, TruthsFit, NumbersFit, IsAtLeast, DivisionFits, HasMember, DifferenceFits, PairFits, TruthFitsIf, WhatFits}
+use Rattle.typed_model.specs.WellTyped.{TruthFits, NumberFits, TruthsFit, NumbersFit, DivisionFits, HasMember, PairFits, TruthFitsIf, WhatFits}
 use Rattle.typed_model.specs.Names.{pair_operator, array_operator, array_truth_operator, compare_relation, compare_truth_relation, count_relation, weigh_relation, sum_relation, linear_relation, operation, aggregate, differ, lex}
 use Rattle.typed_model.proofs.TypingLaws.{AllBefore, ArgFits, fit-at, truth_in-fits, number_in-fits, truths_in-fit, numbers_in-fit, lists-same, list-member, least-fits, NameFits, NoFault}
 

@@ -1,7 +1,7 @@
 -- What fits an argument's place is a term of a well typed model.
-use Rattle.std.proofs.Common.{◌≡◌, ◌⊎◌, ℕ, zero, suc, ◌+◌, ◌<◌, ◌≤◌, ℤ, pos, ◌≤ℤ◌, Bool, true, false, not, ◌&&◌, ◌||◌, cond, List, [], ◌∷◌, ◌++◌, map, length, Option, Some, None, IsSome, IsSomeAnd, arith, refl, sym, subst, ◌∙◌, ap, inl, inr}
+use Rattle.std.proofs.Common.{◌≡◌, ℕ, zero, suc, ◌<◌, ℤ, ◌≤ℤ◌, Bool, true, false, not, ◌&&◌, ◌||◌, List, [], ◌∷◌, map, length, Option, Some, None, IsSomeAnd, arith, refl, sym, subst, ◌∙◌}
 use Rattle.std.specs.Str.{bytes_eq}
-use Rattle.std.specs.Prelude.{codes, int_lt, nat_eq, slice_get, position, if◌then◌else◌}
+use Rattle.std.specs.Prelude.{codes, int_lt, nat_eq, slice_get, if◌then◌else◌}
 use Rattle.std.specs.Option.{option_and_then, option_map, option_map_or}
 use Rattle.std.proofs.lemmas.Bool.{false≢true}
 use Rattle.std.proofs.lemmas.Bool.Decides.{nat_tests}
@@ -10,10 +10,7 @@ use Rattle.bumblebee_reader.specs.declared.syntax.Term.{Term}
 use Rattle.bumblebee_reader.specs.declared.syntax.Term.TheVariants as term
 use Rattle.bumblebee_reader.specs.declared.syntax.Arg.{Arg}
 use Rattle.bumblebee_reader.specs.declared.syntax.Arg.TheVariants as arg
-use Rattle.typed_model.specs.declared.what.BoolTerm.{BoolTerm}
 use Rattle.typed_model.specs.declared.what.BoolTerm.TheVariants as bool_term
-use Rattle.typed_model.specs.declared.what.IntTerm.{IntTerm}
-use Rattle.typed_model.specs.declared.what.IntTerm.TheVariants as int_term
 use Rattle.typed_model.specs.declared.signature.Wanted.{Wanted}
 use Rattle.typed_model.specs.declared.signature.Wanted.TheVariants as wanted
 use Rattle.typed_model.specs.declared.model.Kind.{Kind}
@@ -27,7 +24,7 @@ use Rattle.typed_model.specs.Names.{first_of, pair_operator, array_operator, arr
 use Rattle.typed_model.specs.declared.statement.Statement.{Statement}
 use Rattle.typed_model.specs.declared.statement.Statement.TheVariants as statement
 use Rattle.typed_model.specs.Items.{truth_in, number_in, truths_in, numbers_in, terms_in}
-use Rattle.typed_model.specs.WellTyped.{IsInt, IsTruthAt, IsNumberAt, TruthFits, NumberFits, TruthsFit, NumbersFit, IsAtLeast, WellTyped}
+use Rattle.typed_model.specs.WellTyped.{IsInt, IsTruthAt, IsNumberAt, TruthFits, NumberFits, TruthsFit, NumbersFit, IsAtLeast}
 
 pub not_less : (x m : ℤ) → int_lt x m ≡ false → m ≤ℤ x
 not_less x m e = grind (arith, ints)

@@ -1,5 +1,5 @@
 -- When a model is well typed, as a fact about the model alone.
-use Rattle.std.specs.Prelude.{◌≡◌, ◌≢◌, ◌⊎◌, ℕ, ◌+◌, ◌<◌, ℤ, pos, ◌≤ℤ◌, Bool, true, false, not, ◌≤◌, List, [], ◌∷◌, length, slice_get, Option, Some, None, IsSome, IfSome, IsSomeAnd, IsTrue, IsFalse}
+use Rattle.std.specs.Prelude.{◌≡◌, ℕ, ◌+◌, ◌<◌, ℤ, pos, ◌≤ℤ◌, Bool, true, false, not, ◌≤◌, List, [], ◌∷◌, length, slice_get, Option, Some, None, IsSome, IfSome, IsSomeAnd, IsFalse}
 use Rattle.typed_model.specs.declared.what.BoolTerm.{BoolTerm}
 use Rattle.typed_model.specs.declared.what.BoolTerm.TheVariants as bool_term
 use Rattle.typed_model.specs.declared.what.IntTerm.{IntTerm}
@@ -12,7 +12,6 @@ use Rattle.typed_model.specs.declared.statement.Extreme.{Extreme}
 use Rattle.typed_model.specs.declared.statement.Extreme.TheVariants as extreme
 use Rattle.typed_model.specs.declared.statement.Difference.{Difference}
 use Rattle.typed_model.specs.declared.statement.Difference.TheVariants as difference
-use Rattle.typed_model.specs.declared.statement.Order.{Order}
 use Rattle.typed_model.specs.declared.model.Kind.{Kind}
 use Rattle.typed_model.specs.declared.model.Kind.TheVariants as kind
 use Rattle.typed_model.specs.declared.model.Decl.{Decl}

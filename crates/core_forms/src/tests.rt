@@ -85,11 +85,21 @@ fn three(alloc: Global, a: Atom, b: Atom, c: Atom) -> Result<Sequence<Atom>, All
 }
 
 #[test]
-fn forms_over_atoms_mean(rt: HostRuntime) -> Result<(), Fail> {
+fn clauses_mean(rt: HostRuntime) -> Result<(), Fail> {
     let clause = Core::Clause(three(rt.alloc(), is(1), no(2), is(1))?);
     compare(&rt, &clause, &[(0, true), (2, false), (3, true)]);
+    Ok(())
+}
+
+#[test]
+fn parities_mean(rt: HostRuntime) -> Result<(), Fail> {
     let odd = Core::Parity(three(rt.alloc(), is(1), is(2), no(3))?, true);
     compare(&rt, &odd, &[(0, true), (1, false), (4, false), (5, true)]);
+    Ok(())
+}
+
+#[test]
+fn conjunctions_mean(rt: HostRuntime) -> Result<(), Fail> {
     let conj = Core::Conj(is(4), three(rt.alloc(), is(1), no(2), is(1))?);
     compare(&rt, &conj, &[(0, true), (1, false), (9, true), (8, false)]);
     Ok(())

@@ -1,18 +1,11 @@
 -- The assignments that a compiled text stands for, said of its bytes.
-use Rattle.std.specs.Prelude.{◌≡◌, ℕ, List, ℤ, pos, map, if◌then◌else◌}
-use Rattle.order_ints.specs.declared.order_int.MapValue.{MapValue}
-use Rattle.order_ints.specs.declared.order_int.MapValue.TheVariants as values
+use Rattle.std.specs.Prelude.{◌≡◌, ℕ, List, ℤ, map}
 use Rattle.order_ints.specs.declared.cnf.Cnf.{Cnf}
-use Rattle.order_ints.specs.Truth.{Valuation, atom_truth}
-use Rattle.order_ints.specs.OrderValue.{value_of}
+use Rattle.order_ints.specs.Truth.{Valuation}
+use Rattle.order_ints.specs.Numbers.{number_of}
 use Rattle.order_ints.specs.Satisfies.{Satisfies}
 use Rattle.dimacs_out.specs.declared.entry.MapEntry.{MapEntry}
 use Rattle.dimacs_out.specs.CompiledText.{compiled_text, IsWritable}
-
--- the number that a name has under a valuation: 0 or 1 for a Boolean, by its atom; an integer's value
-abbrev pub number_of : Valuation → MapValue → ℤ
-number_of σ (values.Bool a) = if atom_truth σ a then pos 1 else pos 0
-number_of σ (values.Int a) = value_of σ a
 
 -- the assignment that the map lines give under a valuation
 abbrev pub assignment_of : Valuation → List MapEntry → List ℤ

@@ -9,6 +9,7 @@ pub mod OrderChange
 pub mod Represents
 pub mod View
 pub mod Place
+pub mod Numbers
 pub mod AtomClauses
 pub mod OrderedClauses
 pub mod FirstFalse

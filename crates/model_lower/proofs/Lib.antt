@@ -6,3 +6,4 @@ pub mod DeclarationSteps
 pub mod Standing
 pub mod ItemOrder
 pub mod LoweringLaw
+pub mod LoweredItems

@@ -5,3 +5,4 @@ pub mod Built
 pub mod Decoded
 pub mod Fits
 pub mod ItemLaws
+pub mod Drafting

@@ -4,10 +4,14 @@
 //! map; a statement makes cores. A statement without cores yet is refused by its number.
 #![tactic(auto)]
 
+mod declarations;
+mod draft;
 mod fault;
 mod laws;
 mod lowering;
 mod state;
+mod statements;
+mod terms;
 
 pub use fault::LowerFault;
 pub use laws::{item_law, lowering_law};

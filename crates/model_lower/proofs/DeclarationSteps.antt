@@ -1,0 +1,174 @@
+-- What a declared name stands for: its ranges, and that it takes each value of its domain.
+use Rattle.std.proofs.Common.{◌≡◌, ℕ, zero, suc, ◌+◌, ◌<◌, ◌≤◌, ◌⊎◌, inl, inr, ℤ, pos, negsuc, ◌+ℤ◌, ◌-ℤ◌, ◌≤ℤ◌, ◌<ℤ◌, Bool, true, false, cond, ltb, ◌||◌, List, [], ◌∷◌, ◌++◌, length, Contains, Some, None, IsTrue, refl, sym, ap, subst, ◌∙◌, arith}
+use Rattle.std.specs.Prelude.{nat_le, if◌then◌else◌}
+use Rattle.std.specs.Bool.{Decides}
+use Rattle.std.specs.Ordering.{int_eq}
+use Rattle.std.proofs.lemmas.Bool.{false≢true, lt-ltb, le-ltb}
+use Rattle.std.proofs.lemmas.Bool.Decides.{Decides-int_eq, nat_tests}
+use Rattle.std.proofs.lemmas.Int.{ints, by_lt_z}
+use Rattle.order_ints.specs.declared.order_int.OrdInt.{OrdInt}
+use Rattle.order_ints.specs.Truth.{Valuation, Agree, atom_truth}
+use Rattle.order_ints.specs.OrderMade.{atom_of_var, unit_range_of, values_from}
+use Rattle.order_ints.specs.OrderRange.{IntBelow}
+use Rattle.order_ints.specs.OrderValue.{value_of}
+use Rattle.order_ints.specs.Numbers.{number_of, numbers_of}
+use Rattle.order_ints.proofs.Gains.{low-le, high-ge}
+use Rattle.order_ints.proofs.Fresh.{weights-unit_steps, atoms-unit_steps, values_of-unit_range_of, AreRising-unit_steps, StepsBelow-vars, IsBounded-unit_range_of, takes_each_value}
+use Rattle.core_forms.specs.WellFormed.{IsSound}
+use Rattle.typed_model.specs.declared.model.Kind.{Kind}
+use Rattle.typed_model.specs.declared.model.Kind.TheVariants as kind
+use Rattle.typed_model.specs.Integers.{is_member}
+use Rattle.typed_model.specs.Domains.{at_least_zero, domain}
+use Rattle.typed_model.specs.Limits.{KindInLimit}
+use Rattle.typed_model.specs.WellTyped.{KindFits}
+use Rattle.typed_model.proofs.DomainLaws.{Decides-domain}
+use Rattle.model_lower.specs.Lowering.{vars_taken, entry_of, entry_cores}
+use Rattle.model_lower.specs.Built.{most_vars}
+use Rattle.model_lower.specs.Decoded.{MeetsAll}
+use Rattle.model_lower.specs.Fits.{EntryFits, CoresFit}
+use Rattle.model_lower.specs.ItemLaws.{AreOrdered, DeclarationLaw}
+use Rattle.model_lower.proofs.EntryLaws.{EntriesFit-more, EntriesFit-append, numbers_of-append, numbers_of-agree, AreOrdered-append}
+use Rattle.model_lower.proofs.CoreLaws.{MeetsAll-append, MeetsAll-agree, CoresFit-more, CoresFit-append}
+
+-- what is known of the entry of a declaration
+pub record EntryLaws (vars : ℕ) (k : Kind) : Type 0 where
+  pub fits : EntryFits (vars + vars_taken k + 1) k (entry_of vars k)
+  pub cores : CoresFit (vars + vars_taken k + 1) (entry_cores (entry_of vars k))
+  pub ordered : (σ : Valuation) → MeetsAll σ (entry_cores (entry_of vars k)) → AreOrdered σ (entry_of vars k ∷ [])
+  pub some : (σ : Valuation) → MeetsAll σ (entry_cores (entry_of vars k)) → IsTrue (is_member (number_of σ (entry_of vars k)) (domain k))
+  pub each : (σ : Valuation) (v : ℤ) → IsTrue (is_member v (domain k)) → (τ : Valuation) × Agree (vars + 1) σ τ × MeetsAll τ (entry_cores (entry_of vars k)) × (number_of τ (entry_of vars k) ≡ v)
+
+-- A Boolean.
+
+bit-in_domain : (t : Bool) → IsTrue (is_member (if t then pos 1 else pos 0) (domain kind.Bool))
+unfolding domain
+bit-in_domain true = refl
+bit-in_domain false = refl
+
+one_of_two : {P Q : Type 0} (b c : Bool) → Decides b P → Decides c Q → (b || (c || false)) ≡ true → P ⊎ Q
+one_of_two true c d e h = inl (d.0 refl)
+one_of_two false true d e h = inr (e.0 refl)
+one_of_two false false d e h = absurd (false≢true h)
+
+is_bit : (v : ℤ) → IsTrue (is_member v (domain kind.Bool)) → (pos 0 ≡ v) ⊎ (pos 1 ≡ v)
+unfolding domain
+is_bit v h = one_of_two (int_eq (pos 0) v) (int_eq (pos 1) v) (Decides-int_eq (pos 0) v) (Decides-int_eq (pos 1) v) h
+
+bit_of : (v : ℤ) → (pos 0 ≡ v) ⊎ (pos 1 ≡ v) → (if int_eq v (pos 1) then pos 1 else pos 0) ≡ v
+bit_of v (inl e) = rw (← e) refl
+bit_of v (inr e) = rw (← e) refl
+
+-- the valuation that is as another below a variable, and has a value from it on
+abbrev set_from : Valuation → ℕ → Bool → Valuation
+set_from σ n t v = cond (ltb v n) (σ v) t
+
+set_from-same : (σ : Valuation) (n : ℕ) (t : Bool) → Agree n σ (set_from σ n t)
+set_from-same σ n t v below = sym (ap (λ b. cond b (σ v) t) (lt-ltb v n below))
+
+set_from-here : (σ : Valuation) (n : ℕ) (t : Bool) → set_from σ n t n ≡ t
+set_from-here σ n t = let le : n ≤ n = omega arith in ap (λ b. cond b (σ n) t) (le-ltb n n le)
+
+bool-laws : (vars : ℕ) → EntryLaws vars kind.Bool
+bool-laws vars = record {
+  fits = (omega arith, omega arith);
+  cores = tt;
+  ordered = λ σ h. tt;
+  some = λ σ h. bit-in_domain (atom_truth σ (atom_of_var (vars + 1)));
+  each = λ σ v h.
+      let t : Bool = int_eq v (pos 1) in (
+        set_from σ (vars + 1) t,
+        set_from-same σ (vars + 1) t,
+        tt,
+        ap (λ (b : Bool). if b then pos 1 else pos 0) (set_from-here σ (vars + 1) t) ∙ bit_of v (is_bit v h),
+      );
+}
+
+-- An integer.
+
+pub gap-at : (z low high : ℤ) → z ≡ high -ℤ low → low ≤ℤ high → low +ℤ pos (at_least_zero z) ≡ high
+gap-at (pos n) low high e h = omega (arith, ints, e)
+gap-at (negsuc n) low high e h = absurd (omega (arith, ints, e, h))
+
+pub gap-reaches : (low high : ℤ) → low ≤ℤ high → low +ℤ pos (vars_taken (kind.Int low high)) ≡ high
+gap-reaches low high h = gap-at (high -ℤ low) low high refl h
+
+Contains-values_from : (count : ℕ) (low v : ℤ) → low ≤ℤ v → v <ℤ (low +ℤ pos count) → Contains (values_from low count) v
+Contains-values_from zero low v h k = absurd (omega (arith, ints, h, k))
+Contains-values_from (suc count) low v h k =
+    by_lt_z low v
+    (λ l. let c : Contains (values_from (low +ℤ pos 1) count) v = Contains-values_from count (low +ℤ pos 1) v (omega (arith, ints, l)) (omega (arith, ints, k)) in
+    let within : c.0 < length (values_from (low +ℤ pos 1) count) = c.1 in
+    (suc c.0, omega (arith, within), c.2))
+    (λ l. (0, omega arith, (let e : low ≡ v = omega (arith, ints, l, h) in e)))
+
+int-laws : (vars : ℕ) (low high : ℤ) → KindFits (kind.Int low high) → KindInLimit (kind.Int low high) → EntryLaws vars (kind.Int low high)
+int-laws vars low high fit small =
+    let count : ℕ = vars_taken (kind.Int low high) in
+    let first : ℕ = vars + 1 in
+    let a : OrdInt = unit_range_of low first count in
+    let reach : low +ℤ pos count ≡ high = gap-reaches low high fit in
+    let below : IntBelow (vars + count + 1) a =
+    StepsBelow-vars (vars + count + 1) first count a.steps (atoms-unit_steps first count) (λ _. omega arith) (omega arith) in
+    let sound : IsSound a =
+    (IsBounded-unit_range_of low first count (omega (arith, small.0)) (rw reach (omega (arith, small.1))), AreRising-unit_steps first count) in
+    record {
+      fits = (below, sound);
+      cores = (record { below = below; well_formed = sound; form = tt }, tt);
+      ordered = λ σ h. (h.0, tt);
+      some = λ σ h.
+          (Decides-domain low high (value_of σ a)).1
+          (low-le σ a, subst (λ z. value_of σ a ≤ℤ z) (ap (λ (n : ℕ). low +ℤ pos n) (weights-unit_steps first count) ∙ reach) (high-ge σ a));
+      each = λ σ v h.
+          let range = (Decides-domain low high v).0 h in
+          let listed : Contains (values_from low (count + 1)) v = Contains-values_from (count + 1) low v range.0 (omega (arith, ints, reach, range.1)) in
+          let t = takes_each_value σ a first count v (atoms-unit_steps first count) (subst (λ vs. Contains vs v) (sym (values_of-unit_range_of low first count)) listed) in
+          (t.0, t.1, (t.2.0, tt), t.2.1);
+    }
+
+entry-laws : (vars : ℕ) (k : Kind) → KindFits k → KindInLimit k → EntryLaws vars k
+entry-laws vars kind.Bool fit small = bool-laws vars
+entry-laws vars (kind.Int low high) fit small = int-laws vars low high fit small
+
+-- The law of a declaration.
+
+pub none-within : (m n : ℕ) (number : ℕ) → (if nat_le m n then None else Some number) ≡ None → m ≤ n
+none-within m n number e = by_test (nat_le m n) (λ t. grind (arith, nat_tests)) e
+  where
+    by_test : (b : Bool) → (b ≡ true → m ≤ n) → (if b then None else Some number) ≡ None → m ≤ n
+    by_test true f e = f refl
+    by_test false f e = absurd (cc)
+
+pub declaration_law : DeclarationLaw
+declaration_law l decls d enc fit small none =
+    let k = d.kind in
+    let n : ℕ = l.vars + 1 in
+    let m : ℕ = l.vars + vars_taken k + 1 in
+    let le : n ≤ m = omega arith in
+    let entries = l.map.entries in
+    let e = entry_of l.vars k in
+    let laws = entry-laws l.vars k fit small in (
+      record {
+        fits = record {
+          vars = none-within (l.vars + vars_taken k) most_vars d.number none;
+          entries = EntriesFit-append m decls entries d e (EntriesFit-more n m decls entries le enc.fits.entries) laws.fits;
+          cores = CoresFit-append m l.cores (entry_cores e) (CoresFit-more n m l.cores le enc.fits.cores) laws.cores;
+        };
+        ordered = λ σ h.
+            let r = (MeetsAll-append σ l.cores (entry_cores e)).0 h in
+            AreOrdered-append σ entries (e ∷ []) (enc.ordered σ r.0) (laws.ordered σ r.1);
+      },
+      record {
+        some = λ σ h.
+            let r = (MeetsAll-append σ l.cores (entry_cores e)).0 h in
+            (r.0, (number_of σ e, laws.some σ r.1, numbers_of-append σ entries e));
+        each = λ σ v h mem.
+            let t = laws.each σ v mem in (
+              t.0,
+              t.1,
+              (MeetsAll-append t.0 l.cores (entry_cores e)).1 (MeetsAll-agree n σ t.0 l.cores t.1 enc.fits.cores h, t.2),
+              numbers_of-append t.0 entries e
+                  ∙ (ap (λ (v : ℤ). numbers_of t.0 entries ++ v ∷ []) t.3
+                  ∙ ap (λ (vs : List ℤ). vs ++ v ∷ []) (sym (numbers_of-agree n σ t.0 decls entries t.1 enc.fits.entries))),
+            );
+      },
+    )

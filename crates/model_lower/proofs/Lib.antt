@@ -1,0 +1,9 @@
+pub mod TermLaws
+pub mod EntryLaws
+pub mod CoreLaws
+pub mod StatementSteps
+pub mod DeclarationSteps
+pub mod Standing
+pub mod ItemOrder
+pub mod LoweringLaw
+pub mod LoweredItems

@@ -1,0 +1,65 @@
+-- What one more item makes of the assignments that cores and a map of names stand for.
+use Rattle.std.specs.Prelude.{◌≡◌, ◌↔◌, ◌+◌, ℤ, List, [], ◌∷◌, ◌++◌, None, IsTrue}
+use Rattle.order_ints.specs.declared.order_int.MapValue.{MapValue}
+use Rattle.order_ints.specs.declared.order_int.MapValue.TheVariants as values
+use Rattle.order_ints.specs.Truth.{Valuation, Agree}
+use Rattle.order_ints.specs.OrderValue.{IsOrdered}
+use Rattle.order_ints.specs.Numbers.{numbers_of}
+use Rattle.order_ints.specs.Represents.{Represents}
+use Rattle.typed_model.specs.declared.model.Kind.{Kind}
+use Rattle.typed_model.specs.declared.model.Decl.{Decl}
+use Rattle.typed_model.specs.declared.model.Stmt.{Stmt}
+use Rattle.typed_model.specs.declared.model.Model.{Model}
+use Rattle.typed_model.specs.Integers.{is_member}
+use Rattle.typed_model.specs.Domains.{domain}
+use Rattle.typed_model.specs.Holds.{Holds}
+use Rattle.typed_model.specs.Limits.{KindInLimit, WhatInLimit, InLimits}
+use Rattle.typed_model.specs.WellTyped.{KindFits, WhatFits, WellTyped}
+use Rattle.typed_model.specs.Solutions.{IsSolution}
+use Rattle.model_lower.specs.declared.state.Lowered.{Lowered}
+use Rattle.model_lower.specs.Items.{Declaration, Statement}
+use Rattle.model_lower.specs.Lowering.{with_declaration, with_statement, lowered_of}
+use Rattle.model_lower.specs.Built.{unbuilt, first_unbuilt_of}
+use Rattle.model_lower.specs.Decoded.{MeetsAll, IsDecoded}
+use Rattle.model_lower.specs.Fits.{Fits}
+
+-- each integer of a map is ordered
+abbrev pub AreOrdered : Valuation → List MapValue → Type 0
+AreOrdered σ [] = Unit {0}
+AreOrdered σ (values.Bool a ∷ entries) = AreOrdered σ entries
+AreOrdered σ (values.Int a ∷ entries) = IsOrdered σ a × AreOrdered σ entries
+
+-- what is lowered so far fits the declarations so far, and its cores keep the integers of its map ordered
+pub record Encodes (l : Lowered) (decls : List Decl) : Type 0 where
+  pub fits : Fits l decls
+  pub ordered : (σ : Valuation) → MeetsAll σ l.cores → AreOrdered σ l.map.entries
+
+-- a declaration adds a value of its domain, and it may be each of them
+pub record TakesEachValue (l m : Lowered) (k : Kind) : Type 0 where
+  pub some : (σ : Valuation) → MeetsAll σ m.cores
+      → MeetsAll σ l.cores × ((v : ℤ) × IsTrue (is_member v (domain k)) × (numbers_of σ m.map.entries ≡ numbers_of σ l.map.entries ++ v ∷ []))
+  pub each : (σ : Valuation) (v : ℤ) → MeetsAll σ l.cores → IsTrue (is_member v (domain k))
+      → (τ : Valuation) × Agree (l.vars + 1) σ τ × MeetsAll τ m.cores × (numbers_of τ m.map.entries ≡ numbers_of σ l.map.entries ++ v ∷ [])
+
+-- a declaration that is built
+abbrev pub DeclarationLaw : Type 0
+DeclarationLaw = (l : Lowered) (decls : List Decl) (d : Decl)
+    → Encodes l decls → KindFits d.kind → KindInLimit d.kind → unbuilt l.vars (Declaration d) ≡ None
+    → Encodes (with_declaration l d.kind) (decls ++ d ∷ []) × TakesEachValue l (with_declaration l d.kind) d.kind
+
+-- A statement that is built: together with the cores so far its cores stand for its being true of the numbers that
+-- the names have.
+abbrev pub StatementLaw : Type 0
+StatementLaw = (l : Lowered) (decls : List Decl) (s : Stmt)
+    → Encodes l decls → WhatFits decls s.number s.what → WhatInLimit s.what → unbuilt l.vars (Statement s) ≡ None
+    → Encodes (with_statement l s.what) decls
+    × Represents (l.vars + 1) ((with_statement l s.what).vars + 1) (λ σ. MeetsAll σ (with_statement l s.what).cores) (λ σ. MeetsAll σ l.cores × Holds (numbers_of σ l.map.entries) s.what)
+
+-- a model that is well typed, in the limits, and built throughout: the solutions are the assignments that are
+-- decoded
+pub record LoweringLaw (model : Model) : Type 0 where
+  pub solutions : (a : List ℤ) → IsSolution model a ↔ IsDecoded (lowered_of model) a
+  pub fits : Fits (lowered_of model) model.decls
+
+abbrev pub LoweringLaws : Type 0
+LoweringLaws = (model : Model) → WellTyped model → InLimits model → first_unbuilt_of model ≡ None → LoweringLaw model

@@ -1,0 +1,8 @@
+pub mod Items
+pub mod Cores
+pub mod Lowering
+pub mod Built
+pub mod Decoded
+pub mod Fits
+pub mod ItemLaws
+pub mod Drafting

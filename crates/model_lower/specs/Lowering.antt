@@ -1,0 +1,58 @@
+-- From a model to cores and to what each declared name stands for, item by item.
+use Rattle.std.specs.Prelude.{ℕ, ◌+◌, ◌-ℤ◌, List, [], ◌∷◌, ◌++◌}
+use Rattle.order_ints.specs.declared.order_int.MapValue.{MapValue}
+use Rattle.order_ints.specs.declared.order_int.MapValue.TheVariants as values
+use Rattle.order_ints.specs.OrderMade.{atom_of_var, unit_range_of}
+use Rattle.core_forms.specs.declared.form.Core.{Core}
+use Rattle.core_forms.specs.declared.form.Core.TheVariants.{Ladder}
+use Rattle.typed_model.specs.declared.model.Kind.{Kind}
+use Rattle.typed_model.specs.declared.model.Kind.TheVariants as kind
+use Rattle.typed_model.specs.declared.model.Model.{Model}
+use Rattle.typed_model.specs.declared.what.What.{What}
+use Rattle.typed_model.specs.Domains.{at_least_zero}
+use Rattle.model_lower.specs.declared.state.Lowered.{Lowered}
+use Rattle.model_lower.specs.Items.{Item, Declaration, Statement, items_of_model}
+use Rattle.model_lower.specs.Cores.{cores_of}
+
+-- how many variables a declared name takes: a Boolean one, an integer one for each value but the least
+abbrev pub vars_taken : Kind → ℕ
+vars_taken kind.Bool = 1
+vars_taken (kind.Int low high) = at_least_zero (high -ℤ low)
+
+-- what a name stands for that is declared where there are so many variables
+abbrev pub entry_of : ℕ → Kind → MapValue
+entry_of vars kind.Bool = values.Bool (atom_of_var (vars + 1))
+entry_of vars (kind.Int low high) = values.Int (unit_range_of low (vars + 1) (vars_taken (kind.Int low high)))
+
+-- an integer is to be ordered
+abbrev pub entry_cores : MapValue → List Core
+entry_cores (values.Bool a) = []
+entry_cores (values.Int a) = Ladder a ∷ []
+
+-- after one more declaration
+abbrev pub with_declaration : Lowered → Kind → Lowered
+with_declaration l k = record {
+  vars = l.vars + vars_taken k;
+  map = record { entries = l.map.entries ++ entry_of l.vars k ∷ [] };
+  cores = l.cores ++ entry_cores (entry_of l.vars k);
+}
+
+-- after one more statement
+abbrev pub with_statement : Lowered → What → Lowered
+with_statement l what = record { vars = l.vars; map = l.map; cores = l.cores ++ cores_of l.map.entries what }
+
+-- after one more item
+abbrev pub lowered_item : Lowered → Item → Lowered
+lowered_item l (Declaration d) = with_declaration l d.kind
+lowered_item l (Statement s) = with_statement l s.what
+
+abbrev pub lowered_items : Lowered → List Item → Lowered
+lowered_items l [] = l
+lowered_items l (i ∷ items) = lowered_items (lowered_item l i) items
+
+-- before the first item
+abbrev pub nothing_lowered : Lowered
+nothing_lowered = record { vars = 0; map = record { entries = [] }; cores = [] }
+
+abbrev pub lowered_of : Model → Lowered
+lowered_of model = lowered_items nothing_lowered (items_of_model model)

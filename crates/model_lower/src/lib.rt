@@ -1,0 +1,19 @@
+//! From a typed model to cores and a map of names.
+//!
+//! Items are taken in the order of their numbers. A declaration takes variables, and makes an entry of the
+//! map; a statement makes cores. A statement without cores yet is refused by its number.
+#![tactic(auto)]
+
+mod declarations;
+mod draft;
+mod fault;
+mod laws;
+mod lowering;
+mod state;
+mod statements;
+mod terms;
+
+pub use fault::LowerFault;
+pub use laws::{item_law, lowering_law};
+pub use lowering::lower;
+pub use state::{Lowered, NameMap};

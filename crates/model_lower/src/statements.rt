@@ -1,0 +1,141 @@
+//! The cores of a statement.
+
+ghost use Rattle.std.specs.Prelude.{◌≡◌, ◌++◌, OnOk, IfErr, None, Some};
+ghost use Rattle.order_ints.specs.declared.atom.Atom.TheVariants.{True};
+ghost use Rattle.typed_model.specs.Names.{array_operator, compare_relation};
+ghost use Rattle.model_lower.specs.Items.{Statement, statements};
+ghost use Rattle.model_lower.specs.Cores.{atoms_of, integer_of, comparison_core, array_cores, comparison_cores, cores_of};
+ghost use Rattle.model_lower.specs.Lowering.{lowered_item, lowered_items};
+ghost use Rattle.model_lower.specs.Built.{is_built_operator, is_built_relation, is_built, unbuilt, first_unbuilt, IsFaultOf};
+ghost use Rattle.model_lower.specs.Drafting.{lowered_so_far};
+
+use crate::draft::Draft;
+use crate::fault::LowerFault;
+use crate::terms::{atoms_of, integer_of};
+use bumblebee_reader::Name;
+use core_forms::Core;
+use order_ints::{Atom, MapValue, OrdInt};
+use std::alloc::{AllocError, Global};
+use typed_model::{
+    BoolTerm, IntTerm, Operator, Relation, Stmt, What, array_operator, compare_relation,
+};
+
+/// Whether a statement has cores yet.
+fn is_built(what: &What) -> bool
+    ensures { result ≡ is_built what.now }
+{
+    match what {
+        What::L6 { name, .. } => matches!(array_operator(name.as_bytes()), Some(Operator::Or)),
+        What::L8 { name, .. } => matches!(
+            compare_relation(name.as_bytes()),
+            Some(Relation::Leq) | Some(Relation::Neq)
+        ),
+        _ => false,
+    }
+}
+
+/// The core that says that an atom is the truth of a comparison.
+fn comparison_core(relation: Relation, truth: Atom, left: OrdInt, right: OrdInt) -> Core
+    ensures { result ≡ comparison_core relation truth left right }
+{
+    match relation {
+        Relation::Leq => Core::LeqR(truth, left, right),
+        Relation::Geq => Core::LeqR(truth, right, left),
+        Relation::Eq => Core::EqR(truth, left, right),
+        Relation::Lt => Core::LeqR(truth.not(), right, left),
+        Relation::Gt => Core::LeqR(truth.not(), left, right),
+        Relation::Neq => Core::EqR(truth.not(), left, right),
+    }
+}
+
+/// Adds that an operator of a list is true.
+fn add_array(
+    alloc: Global,
+    entries: &[MapValue],
+    cores: &mut Vec<Core>,
+    name: &Name,
+    members: &[BoolTerm],
+) -> Result<(), AllocError>
+    ensures { OnOk result (cores.new.items ≡ cores.old.items ++ array_cores (array_operator name.now) (atoms_of entries.now members.now)) }
+{
+    match array_operator(name.as_bytes()) {
+        Some(Operator::Or) => {
+            let atoms = atoms_of(alloc, entries, members)?;
+            cores.push(Core::Clause(atoms))?;
+            Ok(())
+        }
+        _ => Ok(()),
+    }
+}
+
+/// Adds that an atom is the truth of a comparison.
+fn add_comparison(
+    alloc: Global,
+    entries: &[MapValue],
+    cores: &mut Vec<Core>,
+    relation: Option<Relation>,
+    truth: Atom,
+    left: IntTerm,
+    right: IntTerm,
+) -> Result<(), AllocError>
+    ensures { OnOk result (cores.new.items ≡ cores.old.items ++ comparison_cores relation truth (integer_of entries.now left) (integer_of entries.now right)) }
+{
+    match relation {
+        Some(relation) => {
+            let left = integer_of(alloc, entries, left)?;
+            let right = integer_of(alloc, entries, right)?;
+            cores.push(comparison_core(relation, truth, left, right))?;
+            Ok(())
+        }
+        None => Ok(()),
+    }
+}
+
+/// Adds the cores of a statement.
+fn add_cores(
+    alloc: Global,
+    entries: &[MapValue],
+    cores: &mut Vec<Core>,
+    what: &What,
+) -> Result<(), AllocError>
+    ensures { OnOk result (cores.new.items ≡ cores.old.items ++ cores_of entries.now what.now) }
+{
+    match what {
+        What::L6 { name, members } => add_array(alloc, entries, cores, name, members.as_slice()),
+        What::L8 { name, left, right } => {
+            let relation = compare_relation(name.as_bytes());
+            add_comparison(alloc, entries, cores, relation, Atom::True, *left, *right)
+        }
+        _ => Ok(()),
+    }
+}
+
+/// Adds a statement.
+fn add_statement(alloc: Global, draft: &mut Draft, stmt: &Stmt) -> Result<(), LowerFault>
+    ensures built { OnOk result (unbuilt draft.old.vars (Statement stmt.now) ≡ None) }
+    ensures shape { OnOk result (lowered_so_far draft.new ≡ lowered_item (lowered_so_far draft.old) (Statement stmt.now)) }
+    ensures fault { IfErr result (λ e. IsFaultOf e (unbuilt draft.old.vars (Statement stmt.now))) }
+{
+    if !is_built(&stmt.what) {
+        return Err(LowerFault::Unbuilt(stmt.number));
+    }
+    add_cores(
+        alloc,
+        draft.entries.as_slice(),
+        &mut draft.cores,
+        &stmt.what,
+    )?;
+    Ok(())
+}
+
+/// Adds statements, up to the first one that isn't built.
+pub fn add_statements(alloc: Global, draft: &mut Draft, stmts: &[Stmt]) -> Result<(), LowerFault>
+    ensures built { OnOk result (first_unbuilt draft.old.vars (statements stmts.now) ≡ None) }
+    ensures shape { OnOk result (lowered_so_far draft.new ≡ lowered_items (lowered_so_far draft.old) (statements stmts.now)) }
+    ensures fault { IfErr result (λ e. IsFaultOf e (first_unbuilt draft.old.vars (statements stmts.now))) }
+{
+    for stmt in stmts {
+        add_statement(alloc, draft, stmt)?;
+    }
+    Ok(())
+}

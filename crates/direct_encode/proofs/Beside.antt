@@ -1,5 +1,5 @@
 -- A walk along one integer beside a loop along another: the clauses that it gives are those of the definitions.
-use Rattle.std.proofs.Common.{◌≡◌, ℕ, Bool, true, false, cond, List, [], ◌∷◌, map, ℤ, pos, ◌+ℤ◌, ◌≤ℤ◌, refl, sym, ap, ◌∙◌, arith}
+use Rattle.std.proofs.Common.{◌≡◌, Bool, true, false, cond, List, [], ◌∷◌, map, ℤ, pos, ◌+ℤ◌, ◌≤ℤ◌, refl, sym, ap, ◌∙◌, arith}
 use Rattle.std.specs.Prelude.{filter}
 use Rattle.std.specs.List.{AllByRecursion}
 use Rattle.std.proofs.lemmas.Int.{ints}
@@ -7,7 +7,7 @@ use Rattle.order_ints.specs.declared.atom.Atom.{Atom}
 use Rattle.order_ints.specs.declared.atom.Atom.TheVariants.{True}
 use Rattle.order_ints.specs.declared.order_int.OrdInt.{OrdInt}
 use Rattle.order_ints.specs.Truth.{not_atom}
-use Rattle.order_ints.specs.OrderLevels.{levels_of, values_of, first_reaching, at_of}
+use Rattle.order_ints.specs.OrderLevels.{levels_of, first_reaching, at_of}
 use Rattle.order_ints.proofs.Everywhere.{levels_at}
 use Rattle.core_forms.specs.Values.{is_among}
 use Rattle.core_forms.specs.WellFormed.{IsSound}
@@ -69,37 +69,35 @@ exceeding-beside r at whole left (l ∷ ls) u rise are serves =
     let rest = exceeding-beside r at whole (levels_reaching (l.0 +ℤ pos 1) left) ls (l.0 +ℤ pos 1) rise.1 are.1 (serves-later (u +ℤ pos 1) (l.0 +ℤ pos 1) (l.0 +ℤ pos 1 +ℤ pos 1) left whole above (omega (arith, ints)) serves) in
     cc
 
+-- the choice at a value of the loop: its clause and those that follow, or those that follow alone
+differing-choice : (t : Bool) (c d : List Atom) (cs ds es : List (List Atom)) → (t ≡ true → c ∷ cs ≡ d ∷ ds) → (t ≡ false → es ≡ ds) → cond t (c ∷ cs) es ≡ cond t (d ∷ ds) ds
+differing-choice true c d cs ds es both alone = both refl
+differing-choice false c d cs ds es both alone = alone refl
+
+map-cond : (t : Bool) (f : ℤ → List Atom) (v : ℤ) (vs : List ℤ) → map f (cond t (v ∷ vs) vs) ≡ cond t (f v ∷ map f vs) (map f vs)
+map-cond true f v vs = refl
+map-cond false f v vs = refl
+
 -- the clauses of the common values, by a function of the value
 differing-beside : (r : Atom) (at : ℤ → Atom) (A B xs ys ls : List (ℤ × Atom)) (u low : ℤ) → Rise u ls → Rise low B → AreAt at ls → Serves (u +ℤ pos 1) xs A → Serves u ys B → differing_beside r ls xs ys ≡ map (λ v. r ∷ not_atom (at v) ∷ first_reaching (v +ℤ pos 1) A ∷ not_atom (first_reaching v B) ∷ first_reaching (v +ℤ pos 1) B ∷ []) (filter (λ v. is_among v (map (λ level. level.0) B)) (map (λ level. level.0) ls))
-differing-beside r at A B xs ys [] u low rise other are sa sb = refl
-differing-beside r at A B xs ys (l ∷ ls) u low rise other are sa sb =
-    by (is_among l.0 (map (λ level. level.0) B)) (ap (stands_at l.0) (sb l.0 rise.0) ∙ stands-among low l.0 B other)
-  where
-    v : ℤ
-    v = l.0
-
-    clause : ℤ → List Atom
-    clause w = r ∷ not_atom (at w) ∷ first_reaching (w +ℤ pos 1) A ∷ not_atom (first_reaching w B) ∷ first_reaching (w +ℤ pos 1) B ∷ []
-
-    above : (u +ℤ pos 1) ≤ℤ (l.0 +ℤ pos 1)
-    above = omega (arith, ints, rise.0)
-
-    sb-here : Serves l.0 (levels_reaching l.0 ys) B
-    sb-here = serves-later u l.0 l.0 ys B rise.0 (omega (arith, ints)) sb
-
-    common : List ℤ
-    common = filter (λ w. is_among w (map (λ level. level.0) B)) (map (λ level. level.0) ls)
-
-    by : (t : Bool) → stands_at l.0 (levels_reaching l.0 ys) ≡ t → cond (stands_at l.0 (levels_reaching l.0 ys)) ((r ∷ not_atom l.1 ∷ first_reaching (l.0 +ℤ pos 1) xs ∷ not_atom (first_reaching l.0 ys) ∷ first_reaching (l.0 +ℤ pos 1) (levels_reaching l.0 ys) ∷ []) ∷ differing_beside r ls (levels_reaching (l.0 +ℤ pos 1) xs) (levels_reaching (l.0 +ℤ pos 1) (levels_reaching l.0 ys))) (differing_beside r ls xs (levels_reaching l.0 ys)) ≡ map (λ w. r ∷ not_atom (at w) ∷ first_reaching (w +ℤ pos 1) A ∷ not_atom (first_reaching w B) ∷ first_reaching (w +ℤ pos 1) B ∷ []) (cond t (l.0 ∷ filter (λ w. is_among w (map (λ level. level.0) B)) (map (λ level. level.0) ls)) (filter (λ w. is_among w (map (λ level. level.0) B)) (map (λ level. level.0) ls)))
-    by true e =
-        let a-next = first_reaching-same (l.0 +ℤ pos 1) xs A (sa (l.0 +ℤ pos 1) above) in
-        let b-here = first_reaching-same l.0 ys B (sb l.0 rise.0) in
-        let b-next = first_reaching-same (l.0 +ℤ pos 1) (levels_reaching l.0 ys) B (sb-here (l.0 +ℤ pos 1) (omega (arith, ints))) in
-        let there = are.0 in
-        let rest = differing-beside r at A B (levels_reaching (l.0 +ℤ pos 1) xs) (levels_reaching (l.0 +ℤ pos 1) (levels_reaching l.0 ys)) ls (l.0 +ℤ pos 1) low rise.1 other are.1 (serves-later (u +ℤ pos 1) (l.0 +ℤ pos 1) (l.0 +ℤ pos 1 +ℤ pos 1) xs A above (omega (arith, ints)) sa) (serves-later l.0 (l.0 +ℤ pos 1) (l.0 +ℤ pos 1) (levels_reaching l.0 ys) B (omega (arith, ints)) (omega (arith, ints)) sb-here) in
-        rw e (cc)
-    by false e =
-        rw e (differing-beside r at A B xs (levels_reaching l.0 ys) ls (l.0 +ℤ pos 1) low rise.1 other are.1 (serves-from (u +ℤ pos 1) (l.0 +ℤ pos 1 +ℤ pos 1) xs A (omega (arith, ints, rise.0)) sa) (serves-from l.0 (l.0 +ℤ pos 1) (levels_reaching l.0 ys) B (omega (arith, ints)) sb-here))
+differing-beside r at A B xs ys [] u low rise other are sx sy = refl
+differing-beside r at A B xs ys (l ∷ ls) u low rise other are sx sy =
+    let v = l.0 in
+    let f = λ (w : ℤ). r ∷ not_atom (at w) ∷ first_reaching (w +ℤ pos 1) A ∷ not_atom (first_reaching w B) ∷ first_reaching (w +ℤ pos 1) B ∷ [] in
+    let vs = filter (λ w. is_among w (map (λ level. level.0) B)) (map (λ level. level.0) ls) in
+    let above : (u +ℤ pos 1) ≤ℤ (l.0 +ℤ pos 1) = omega (arith, ints, rise.0) in
+    let next : l.0 ≤ℤ (l.0 +ℤ pos 1) = omega (arith, ints) in
+    let further : (l.0 +ℤ pos 1) ≤ℤ (l.0 +ℤ pos 1 +ℤ pos 1) = omega (arith, ints) in
+    let here : Serves l.0 (levels_reaching l.0 ys) B = serves-later u l.0 l.0 ys B rise.0 (omega (arith, ints)) sy in
+    let test = ap (stands_at l.0) (sy l.0 rise.0) ∙ stands-among low l.0 B other in
+    let x-next = first_reaching-same (l.0 +ℤ pos 1) xs A (sx (l.0 +ℤ pos 1) above) in
+    let y-here = first_reaching-same l.0 ys B (sy l.0 rise.0) in
+    let y-next = first_reaching-same (l.0 +ℤ pos 1) (levels_reaching l.0 ys) B (here (l.0 +ℤ pos 1) next) in
+    let there = are.0 in
+    let both = differing-beside r at A B (levels_reaching (l.0 +ℤ pos 1) xs) (levels_reaching (l.0 +ℤ pos 1) (levels_reaching l.0 ys)) ls (l.0 +ℤ pos 1) low rise.1 other are.1 (serves-later (u +ℤ pos 1) (l.0 +ℤ pos 1) (l.0 +ℤ pos 1 +ℤ pos 1) xs A above further sx) (serves-later l.0 (l.0 +ℤ pos 1) (l.0 +ℤ pos 1) (levels_reaching l.0 ys) B next (omega (arith, ints)) here) in
+    let alone = differing-beside r at A B xs (levels_reaching l.0 ys) ls (l.0 +ℤ pos 1) low rise.1 other are.1 (serves-from (u +ℤ pos 1) (l.0 +ℤ pos 1 +ℤ pos 1) xs A (omega (arith, ints, rise.0)) sx) (serves-from l.0 (l.0 +ℤ pos 1) (levels_reaching l.0 ys) B next here) in
+    let chosen = differing-choice (stands_at l.0 (levels_reaching l.0 ys)) (r ∷ not_atom l.1 ∷ first_reaching (l.0 +ℤ pos 1) xs ∷ not_atom (first_reaching l.0 ys) ∷ first_reaching (l.0 +ℤ pos 1) (levels_reaching l.0 ys) ∷ []) (f v) (differing_beside r ls (levels_reaching (l.0 +ℤ pos 1) xs) (levels_reaching (l.0 +ℤ pos 1) (levels_reaching l.0 ys))) (map f vs) (differing_beside r ls xs (levels_reaching l.0 ys)) (λ _. cc) (λ _. alone) in
+    chosen ∙ ap (λ t. cond t (f v ∷ map f vs) (map f vs)) test ∙ sym (map-cond (is_among l.0 (map (λ level. level.0) B)) f v vs)
 
 -- along whole integers: the clauses of the definitions
 pub reaching_is : (r : Atom) (a b : OrdInt) → IsSound a → reaching_beside r (levels_of a) (levels_of b) ≡ reaching_clauses r a b

@@ -1,12 +1,12 @@
 -- When the clauses of a core are true.
-use Rattle.std.proofs.Common.{◌≡◌, ℕ, zero, suc, ◌<◌, Bool, true, false, not, ◌||◌, ◌&&◌, cond, length, get_or, List, [], ◌∷◌, ◌++◌, map, Contains, ℤ, pos, ◌+ℤ◌, ◌≤ℤ◌, ◌<ℤ◌, refl, sym, ap, subst, ◌∙◌, arith}
+use Rattle.std.proofs.Common.{◌≡◌, ℕ, zero, suc, ◌<◌, Bool, true, false, not, ◌||◌, ◌&&◌, cond, length, get_or, List, [], ◌∷◌, ◌++◌, map, Contains, ℤ, pos, ◌+ℤ◌, refl, sym, ap, subst, ◌∙◌, arith}
 use Rattle.std.specs.Prelude.{int_le, filter}
 use Rattle.std.specs.Bool.{beq}
 use Rattle.std.specs.Ordering.{int_eq}
 use Rattle.std.proofs.lemmas.Int.{ints}
 use Rattle.order_ints.specs.declared.atom.Atom.{Atom}
 use Rattle.order_ints.specs.declared.order_int.OrdInt.{OrdInt}
-use Rattle.order_ints.specs.Truth.{Valuation, atom_truth, not_atom}
+use Rattle.order_ints.specs.Truth.{Valuation, atom_truth}
 use Rattle.order_ints.specs.AtomClauses.{atom_clause_truth, atom_clauses_truth}
 use Rattle.order_ints.specs.OrderValue.{value_of, none_true, in_order, IsOrdered}
 use Rattle.order_ints.specs.OrderLevels.{values_of, at_of}
@@ -53,11 +53,11 @@ and-false true c e = e
 and-false false c e = refl
 
 truth-one : (σ : Valuation) (f : ℤ → List Atom) (vs : List ℤ) (v : ℤ) (k : ℕ) → k < length vs → get_or vs k v ≡ v → atom_clause_truth σ (f v) ≡ false → atom_clauses_truth σ (map f vs) ≡ false
-truth-one σ f [] v k lt at no = absurd (omega (arith, lt))
-truth-one σ f (w ∷ vs) v zero lt at no =
-    ap (λ b. b && atom_clauses_truth σ (map f vs)) (ap (λ x. atom_clause_truth σ (f x)) at ∙ no)
-truth-one σ f (w ∷ vs) v (suc k) lt at no =
-    and-false (atom_clause_truth σ (f w)) (atom_clauses_truth σ (map f vs)) (truth-one σ f vs v k (omega (arith, lt)) at no)
+truth-one σ f [] v k lt at fails = absurd (omega (arith, lt))
+truth-one σ f (w ∷ vs) v zero lt at fails =
+    ap (λ b. b && atom_clauses_truth σ (map f vs)) (ap (λ x. atom_clause_truth σ (f x)) at ∙ fails)
+truth-one σ f (w ∷ vs) v (suc k) lt at fails =
+    and-false (atom_clause_truth σ (f w)) (atom_clauses_truth σ (map f vs)) (truth-one σ f vs v k (omega (arith, lt)) at fails)
 
 truth-map : (σ : Valuation) (f : ℤ → List Atom) (vs : List ℤ) (t : Bool) → (t ≡ true → (v : ℤ) → atom_clause_truth σ (f v) ≡ true) → (t ≡ false → (v : ℤ) × Contains vs v × (atom_clause_truth σ (f v) ≡ false)) → atom_clauses_truth σ (map f vs) ≡ t
 truth-map σ f vs true each one = truth-all σ f vs (each refl)
@@ -90,13 +90,13 @@ Contains-cons : (vs : List ℤ) (w v : ℤ) → Contains vs v → Contains (w �
 Contains-cons vs w v c = (suc c.0, omega (arith, c.1), c.2)
 
 Contains-filter : (test : ℤ → Bool) (vs : List ℤ) (v : ℤ) (k : ℕ) → k < length vs → get_or vs k v ≡ v → test v ≡ true → Contains (filter test vs) v
-Contains-filter test [] v k lt at yes = absurd (omega (arith, lt))
-Contains-filter test (w ∷ vs) v zero lt at yes =
-    subst (λ (b : Bool). Contains (cond b (w ∷ filter test vs) (filter test vs)) v) (sym (ap test at ∙ yes)) (0, omega arith, at)
-Contains-filter test (w ∷ vs) v (suc k) lt at yes =
+Contains-filter test [] v k lt at passes = absurd (omega (arith, lt))
+Contains-filter test (w ∷ vs) v zero lt at passes =
+    subst (λ (b : Bool). Contains (cond b (w ∷ filter test vs) (filter test vs)) v) (sym (ap test at ∙ passes)) (0, omega arith, at)
+Contains-filter test (w ∷ vs) v (suc k) lt at passes =
     elim (test w) as (λ b. Contains (cond b (w ∷ filter test vs) (filter test vs)) v) [
-      | true ↦ Contains-cons (filter test vs) w v (Contains-filter test vs v k (omega (arith, lt)) at yes)
-      | false ↦ Contains-filter test vs v k (omega (arith, lt)) at yes
+      | true ↦ Contains-cons (filter test vs) w v (Contains-filter test vs v k (omega (arith, lt)) at passes)
+      | false ↦ Contains-filter test vs v k (omega (arith, lt)) at passes
     ]
 
 or-true : (b c : Bool) → c ≡ true → (b || c) ≡ true
@@ -113,12 +113,6 @@ among-Contains (w ∷ vs) v (suc k) lt at =
     or-true (int_eq w v) (is_among v vs) (among-Contains vs v k (omega (arith, lt)) at)
 
 module _ (σ : Valuation) (r : Atom) (a b : OrdInt) (oa : IsOrdered σ a) (ob : IsOrdered σ b) where
-  x : ℤ
-  x = value_of σ a
-
-  y : ℤ
-  y = value_of σ b
-
   truth-reaching : (v : ℤ) → atom_clause_truth σ (reaching_clause r a b v) ≡ (not (atom_truth σ r) || (not (int_le v (value_of σ a)) || (int_le v (value_of σ b) || false)))
   truth-reaching v =
       let nr = atom_truth-not_atom σ r in

@@ -1,10 +1,10 @@
 -- A walk upwards along rising levels: it may go on from where it has come.
-use Rattle.std.proofs.Common.{◌≡◌, ℕ, suc, Bool, true, false, ◌||◌, cond, List, [], ◌∷◌, map, ℤ, pos, ◌+ℤ◌, ◌≤ℤ◌, ◌<ℤ◌, refl, sym, ap, ◌∙◌, arith}
+use Rattle.std.proofs.Common.{◌≡◌, ℕ, Bool, true, false, ◌||◌, cond, List, [], ◌∷◌, map, ℤ, pos, ◌+ℤ◌, ◌≤ℤ◌, ◌<ℤ◌, refl, sym, ap, ◌∙◌, arith}
 use Rattle.std.specs.Ordering.{int_eq}
 use Rattle.std.specs.Prelude.{int_le}
 use Rattle.std.proofs.lemmas.Int.{ints}
 use Rattle.order_ints.specs.declared.atom.Atom.{Atom}
-use Rattle.order_ints.specs.declared.atom.Atom.TheVariants.{True, False}
+use Rattle.order_ints.specs.declared.atom.Atom.TheVariants.{False}
 use Rattle.order_ints.specs.OrderRange.{AreRising}
 use Rattle.order_ints.specs.OrderLevels.{levels, first_reaching}
 use Rattle.order_ints.proofs.Comparisons.{int_le-true, int_le-false, by_int_le}
@@ -19,7 +19,7 @@ reaching-later v w le (l ∷ ls) =
     (λ lt. reaching-later v w le ls ∙ sym (ap (λ b. cond b (l ∷ ls) (levels_reaching w ls)) (int_le-false w l.0 (omega (arith, ints, lt, le)))))
 
 -- the atom of the first level
-pub first_atom : List (ℤ × Atom) → Atom
+abbrev pub first_atom : List (ℤ × Atom) → Atom
 first_atom [] = False
 first_atom (l ∷ ls) = l.1
 

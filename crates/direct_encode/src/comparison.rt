@@ -10,6 +10,7 @@ use bee_text::Sequence;
 use order_ints::{Atom, OrdInt};
 use std::alloc::AllocError;
 
+#[tactic(auto, using(crate::proofs::Beside::reaching_is))]
 /// Puts the clauses behind others that say: where `r` is true, `a` is at most `b`.
 pub(crate) fn push_reaching(
     clauses: &mut Vec<Sequence<Atom>>,
@@ -30,6 +31,7 @@ pub(crate) fn push_reaching(
     Ok(())
 }
 
+#[tactic(auto, using(crate::proofs::Beside::exceeding_is))]
 /// Puts the clauses behind others that say: where `r` is false, `a` is above `b`.
 pub(crate) fn push_exceeding(
     clauses: &mut Vec<Sequence<Atom>>,
@@ -50,6 +52,7 @@ pub(crate) fn push_exceeding(
     Ok(())
 }
 
+#[tactic(auto, using(crate::proofs::Beside::differing_is))]
 /// Puts the clauses behind others that say: where `r` is false, `a` and `b` differ.
 pub(crate) fn push_differing(
     clauses: &mut Vec<Sequence<Atom>>,

@@ -1,0 +1,5 @@
+pub mod Walks
+pub mod Beside
+pub mod Truths
+pub mod Places
+pub mod Outcomes

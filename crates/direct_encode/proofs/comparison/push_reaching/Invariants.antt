@@ -1,0 +1,9 @@
+use Rattle.std.proofs.Common.{◌≡◌, ◌++◌}
+use Rattle.direct_encode.specs.Clauses.{reaching_clauses}
+use Rattle.direct_encode.proofs.Beside.{reaching_beside}
+use Rattle.direct_encode.proofs.comparison.push_reaching.Given as goal
+
+-- those so far and those of the levels that are left are all
+abbrev pub invariant-loop-value : goal.invariant-loop-value
+invariant-loop-value l =
+    l.clauses.items ++ reaching_beside l.r l.value-iterator l.walk ≡ l.initial.clauses.items ++ reaching_clauses l.r l.a l.b

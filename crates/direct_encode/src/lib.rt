@@ -1,0 +1,12 @@
+//! The direct encoding: the clauses of a core in a basic form.
+#![tactic(auto)]
+
+mod comparison;
+mod forms;
+pub mod laws;
+mod order;
+#[cfg(test)]
+mod tests;
+mod walk;
+
+pub use forms::clauses;

@@ -1,0 +1,79 @@
+-- The clauses of cores are true where the valuation meets the cores.
+use Rattle.std.proofs.Common.{rules, ◌≡◌, ℕ, Bool, true, false, ◌&&◌, List, [], ◌∷◌, ◌++◌, refl, ap, ap₂, sym, ◌∙◌}
+use Rattle.std.specs.Prelude.{IsTrue, ◌↔◌}
+use Rattle.order_ints.specs.declared.atom.Atom.{Atom}
+use Rattle.order_ints.specs.Truth.{Valuation}
+use Rattle.order_ints.specs.AtomClauses.{atom_clauses_truth}
+use Rattle.order_ints.specs.Place.{AtomClausesBelow}
+use Rattle.order_ints.proofs.TruthLaws.{MeetsView-nil, atom_clauses_truth-append}
+use Rattle.core_forms.specs.declared.form.Core.{Core}
+use Rattle.core_forms.specs.declared.form.Core.TheVariants.{Ladder, Clause, Parity, Conj, Comp, LeqR, EqR, Sum3, Count, Sum, Max, AllDiff, Amo, Prod, DivMod, Lex}
+use Rattle.core_forms.specs.Meaning.{core_truth, Meets}
+use Rattle.core_forms.specs.Trimmed.{trimmed_core}
+use Rattle.core_forms.specs.WellFormed.{IsWellFormed}
+use Rattle.core_forms.proofs.Kept.{IsWellFormed-trimmed}
+use Rattle.core_forms.proofs.TidiedCores.{core_truth-trimmed}
+use Rattle.core_forms.proofs.Places.{CoreBelow-trimmed}
+use Rattle.direct_encode.specs.Clauses.{clauses_of, IsEncodable}
+use Rattle.direct_encode.proofs.Truths.{truth-clauses_of}
+use Rattle.direct_encode.proofs.Places.{below-clauses_of}
+use Rattle.model_lower.specs.Decoded.{MeetsAll}
+use Rattle.model_lower.specs.Fits.{IsFirstForm, CoreFits, CoresFit}
+use Rattle.bee_compile.specs.Encoded.{encoded_core, encoded}
+
+-- the first forms are encoded, trimmed or not
+pub encodable : (core : Core) → IsFirstForm core → IsEncodable (trimmed_core [] core)
+encodable (Ladder a) form = tt
+encodable (Clause ls) form = tt
+encodable (LeqR r a b) form = tt
+encodable (EqR r a b) form = tt
+encodable (Parity ls odd) form = elim form [ ]
+encodable (Conj r ls) form = elim form [ ]
+encodable (Comp a b hi lo) form = elim form [ ]
+encodable (Sum3 a b c) form = elim form [ ]
+encodable (Count ls c) form = elim form [ ]
+encodable (Sum ints k) form = elim form [ ]
+encodable (Max ints c) form = elim form [ ]
+encodable (AllDiff ints cs) form = elim form [ ]
+encodable (Amo ls) form = elim form [ ]
+encodable (Prod a b c) form = elim form [ ]
+encodable (DivMod a b q r) form = elim form [ ]
+encodable (Lex r strict front back) form = elim form [ ]
+
+pub truth-encoded_core : (σ : Valuation) (n : ℕ) (core : Core) → CoreFits n core → atom_clauses_truth σ (encoded_core core) ≡ core_truth σ core
+truth-encoded_core σ n core fits =
+    truth-clauses_of σ (trimmed_core [] core) (encodable core fits.form)
+    ∙ core_truth-trimmed σ [] n core fits.below (MeetsView-nil σ)
+
+pub below-encoded_core : (n : ℕ) (core : Core) → CoreFits n core → AtomClausesBelow n (encoded_core core)
+below-encoded_core n core fits = below-clauses_of n (trimmed_core [] core) (CoreBelow-trimmed n [] core fits.below tt)
+
+below-append : (n : ℕ) (cs ds : List (List Atom)) → AtomClausesBelow n cs → AtomClausesBelow n ds → AtomClausesBelow n (cs ++ ds)
+below-append n [] ds h k = k
+below-append n (c ∷ cs) ds h k = (h.0, below-append n cs ds h.1 k)
+
+pub below-encoded : (n : ℕ) (cores : List Core) → CoresFit n cores → AtomClausesBelow n (encoded cores)
+below-encoded n [] fits = tt
+below-encoded n (core ∷ cores) fits =
+    below-append n (encoded_core core) (encoded cores) (below-encoded_core n core fits.0) (below-encoded n cores fits.1)
+
+both : (a b : Bool) → IsTrue (a && b) → IsTrue a × IsTrue b
+both true b h = (refl, h)
+both false b h = absurd (search (rules, h))
+
+together : (a b : Bool) → IsTrue a → IsTrue b → IsTrue (a && b)
+together true b h k = k
+together false b h k = h
+
+-- the clauses of all cores are true exactly where the valuation meets the cores
+pub met-encoded : (σ : Valuation) (n : ℕ) (cores : List Core) → CoresFit n cores
+    → IsTrue (atom_clauses_truth σ (encoded cores)) ↔ MeetsAll σ cores
+met-encoded σ n [] fits = (λ h. tt, λ h. refl)
+met-encoded σ n (core ∷ cores) fits =
+    let parts = atom_clauses_truth-append σ (encoded_core core) (encoded cores) in
+    let first = truth-encoded_core σ n core fits.0 in
+    let rest = met-encoded σ n cores fits.1 in
+    (
+      λ h. let p = both _ _ (sym parts ∙ h) in (sym first ∙ p.0, rest.0 p.1),
+      λ m. parts ∙ together _ _ (first ∙ m.0) (rest.1 m.1),
+    )

@@ -1,14 +1,60 @@
 -- The assignments that a compiled text stands for are exactly the solutions of the model that was read.
-use Rattle.std.proofs.Common.{ℕ, ◌≤◌, List, length, sym, subst}
+use Rattle.std.proofs.Common.{rules, arith, ◌≡◌, ℕ, ◌+◌, ◌<◌, ◌≤◌, ◌^◌, List, [], map, length, refl, ap, sym, subst, ◌∙◌, ℤ, None}
 use Rattle.std.specs.Prelude.{◌↔◌}
-use Rattle.bumblebee_reader.specs.SmallModel.{IsSolution}
-use Rattle.bumblebee_reader.proofs.SmallWell.{small_well}
-use Rattle.dimacs_out.specs.TextSolutions.{StandsFor}
+use Rattle.order_ints.specs.Truth.{Valuation}
+use Rattle.order_ints.specs.Satisfies.{Satisfies}
+use Rattle.order_ints.specs.Numbers.{numbers_of}
+use Rattle.bumblebee_reader.specs.Names.{AreDeclared}
+use Rattle.bumblebee_reader.proofs.Shapes.{text_is_spellable_lem}
+use Rattle.typed_model.specs.declared.model.Decl.{Decl}
+use Rattle.typed_model.specs.declared.model.Model.{Model}
+use Rattle.typed_model.specs.Items.{decls_from, model_of}
+use Rattle.typed_model.specs.Limits.{InLimits}
+use Rattle.typed_model.specs.WellTyped.{WellTyped}
+use Rattle.typed_model.specs.Solutions.{IsSolution}
+use Rattle.typed_model.proofs.ModelShares.{WellTyped-model_of}
+use Rattle.typed_model.proofs.ModelLimits.{InLimits-model_of}
+use Rattle.model_lower.specs.Built.{first_unbuilt_of}
+use Rattle.bee_compile.specs.Compiled.{compiled_of, IsGiven, CompiledFits, IsCompiledWell}
+use Rattle.bee_compile.proofs.Compilation.{compilation}
+use Rattle.dimacs_out.specs.CompiledText.{compiled_text, IsWritable}
+use Rattle.dimacs_out.specs.TextSolutions.{StandsFor, assignment_of}
 use Rattle.dimacs_out.proofs.TextTells.{stands_for_exactly}
-use Rattle.bee_cli.specs.Lowered.{entries_of}
-use Rattle.bee_cli.specs.Compiled.{cnf_of, Compiles}
+use Rattle.bee_cli.specs.Compiled.{entries_of, cnf_of_model, text_of, IsModelOf, Compiles}
 use Rattle.bee_cli.specs.CompileMode.{longest_text, IsHeadline}
-use Rattle.bee_cli.proofs.Solutions.{satisfied, solved, writable}
+use Rattle.bee_cli.proofs.MapLines.{same_assignment, same_names, entries_below}
+use Rattle.bee_cli.proofs.Names.{items_limit, names_from, are_declared}
+
+-- a model that a text says is well typed, and its numbers are in the limit
+pub typed : (text : List ℕ) (m : Model) → IsModelOf text m → WellTyped m
+typed text m says = subst (λ (n : Model). WellTyped n) (sym says.model_is) (WellTyped-model_of says.syntax.items says.no_fault)
+
+pub limited : (text : List ℕ) (m : Model) → IsModelOf text m → InLimits m
+limited text m says =
+    subst (λ (n : Model). InLimits n) (sym says.model_is)
+    (InLimits-model_of says.syntax.items (items_limit says.syntax.items (text_is_spellable_lem text says.syntax says.spelled)))
+
+-- its names may be written
+names : (text : List ℕ) (m : Model) → IsModelOf text m → AreDeclared (map (λ (d : Decl). d.name) m.decls)
+names text m says =
+    let spelled = text_is_spellable_lem text says.syntax says.spelled in
+    let at = names_from 1 [] says.syntax.items tt spelled in
+    let fit = (WellTyped-model_of says.syntax.items says.no_fault).decls in
+    subst (λ (n : Model). AreDeclared (map (λ (d : Decl). d.name) n.decls)) (sym says.model_is) (are_declared 1 (model_of says.syntax.items).decls at fit)
+
+-- what it is compiled to can be written
+pub writable : (text : List ℕ) (m : Model) → IsModelOf text m → first_unbuilt_of m ≡ None → length (cnf_of_model m).clauses < 2 ^ 64
+    → IsWritable (entries_of m.decls (compiled_of m).map.entries) (cnf_of_model m)
+writable text m says built count =
+    let well = compilation m (typed text m says) (limited text m says) built in
+    let fits = well.fits in
+    record {
+      names = subst AreDeclared (sym (same_names _ m.decls (compiled_of m).map.entries fits.entries)) (names text m says);
+      values = entries_below _ m.decls (compiled_of m).map.entries fits.entries;
+      clauses = fits.clauses;
+      vars = omega (arith, fits.vars);
+      count = count;
+    }
 
 pub headline : (text written : List ℕ) → length text ≤ longest_text → Compiles text written → IsHeadline text written
 headline text written w c = record {
@@ -16,8 +62,14 @@ headline text written w c = record {
   compiled = c;
   solutions = λ a.
       let m = c.model in
-      let well = small_well text m c.says in
+      let well = compilation m (typed text m c.says) (limited text m c.says) c.built in
+      let entries = entries_of m.decls (compiled_of m).map.entries in
+      let same : (σ : Valuation) → assignment_of σ entries ≡ numbers_of σ (compiled_of m).map.entries =
+          λ σ. same_assignment σ _ m.decls (compiled_of m).map.entries well.fits.entries in
+      let s = stands_for_exactly entries (cnf_of_model m) a (writable text m c.says c.built c.fits) in
       let P : List ℕ → Type 0 = λ t. StandsFor t a ↔ IsSolution m a in
-      let s = stands_for_exactly (entries_of m.names) (cnf_of m) a (writable m well.0 well.1 c.few c.fits) in
-      subst P (sym c.writes) (λ x. satisfied m well.1 a (s.0 x), λ y. s.1 (solved m well.1 a y));
+      subst P (sym c.writes) (
+        λ x. let g = s.0 x in (well.solutions a).1 (g.0, g.1, g.2 ∙ same g.0),
+        λ y. let g = (well.solutions a).0 y in s.1 (g.0, g.1, g.2 ∙ sym (same g.0)),
+      );
 }

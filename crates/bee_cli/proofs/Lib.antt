@@ -1,5 +1,5 @@
-pub mod Lowering
-pub mod Solutions
-pub mod Compiling
-pub mod Modes
+pub mod MapLines
+pub mod Names
+pub mod FirstFaults
 pub mod Headline
+pub mod Modes

@@ -1,13 +1,15 @@
 -- What each end of a run says decides the rest of its promise.
-use Rattle.std.proofs.Common.{◌≡◌, ℕ, ◌+◌, ◌<◌, ◌≤◌, List, ◌++◌, length, Option, Some, None, refl, ap, sym, ◌∙◌, subst, arith, inl, inr, length-append}
+use Rattle.std.proofs.Common.{◌≡◌, ℕ, ◌+◌, ◌<◌, ◌≤◌, List, [], ◌++◌, length, Option, Some, None, refl, ap, sym, ◌∙◌, subst, arith, inl, inr, length-append}
 use Rattle.std.proofs.lemmas.List.{append-nil}
 use Rattle.bee_outside.specs.Bytes.{in_front, TookPiece}
-use Rattle.bee_cli.specs.Compiled.{Compiles, IsOfLanguage}
-use Rattle.bee_cli.specs.CompileMode.{longest_text, ReadWhole, Seen, IsSilent, IsHeadline, Says, Answers, CompileMode}
+use Rattle.bee_cli.specs.Compiled.{Compiles, IsCompilable, IsFirstFault}
+use Rattle.bee_cli.specs.CompileMode.{longest_text, ReadWhole, Seen, IsSilent, IsHeadline, IsRefused, Says, Answers, CompileMode}
+use Rattle.bee_cli.proofs.FirstFaults.{one_fault, no_fault}
 use Rattle.bee_cli.proofs.Headline.{headline}
 use Rattle.bee_cli.specs.declared.status.Status.{Status}
 use Rattle.bee_cli.specs.declared.status.Status.TheVariants.{Done, Usage, Model, Read, Write, Memory}
-use Rattle.bee_cli.specs.declared.status.ModelFault.TheVariants.{TooLong, Unsupported}
+use Rattle.bee_cli.specs.declared.status.ModelFault.{ModelFault}
+use Rattle.bee_cli.specs.declared.status.ModelFault.TheVariants.{TooLong, Syntax, Number, Typed, Unbuilt}
 
 -- a text that was told and read to its end is the text that was read
 told_whole : (text t : List ℕ) (before after : Option (List ℕ)) → before ≡ Some text → ReadWhole before after t → t ≡ text
@@ -28,39 +30,57 @@ told_front text t before (Some rest) e m =
 same_length : (x y : List ℕ) → x ≡ y → length x ≡ length y
 same_length x y e = ap length e
 
+-- a text that was refused has this fault, and no other
+refused_answers : (fault : ModelFault) (seen : Seen) → IsRefused seen fault → Answers (Model fault) seen
+refused_answers fault seen s = record {
+  too_long = λ text e h f. absurd (let q = same_length _ _ (told_whole text s.text _ _ e s.read) in let w = s.within in omega arith);
+  refused = λ text g e h n f.
+      let P : List ℕ → Type 0 = λ l. IsFirstFault l g in
+      inl (ap Model (one_fault s.text fault g s.first (subst P (sym (told_whole text s.text _ _ e s.read)) n)));
+  complete = λ text e h n f. absurd (
+    let P : List ℕ → Type 0 = λ l. IsFirstFault l fault in
+    no_fault text fault n.model n.says n.built (subst P (told_whole text s.text _ _ e s.read) s.first));
+}
+
 -- where a text is told, the answer is the one that it has
 answers : (status : Status) (seen : Seen) → Says status seen → Answers status seen
 answers Done seen s = record {
   too_long = λ text e h f. absurd (let q = same_length _ _ (told_whole text s.text _ _ e s.read) in let w = s.headline.within in omega arith);
-  foreign = λ text e h n f. absurd (let P : List ℕ → Type 0 = λ l. IsOfLanguage l in n (subst P (told_whole text s.text _ _ e s.read) (s.headline.compiled.model, s.headline.compiled.says)));
+  refused = λ text g e h n f. absurd (
+    let P : List ℕ → Type 0 = λ l. IsFirstFault l g in
+    let compiled = s.headline.compiled in
+    no_fault s.text g compiled.model compiled.says compiled.built (subst P (sym (told_whole text s.text _ _ e s.read)) n));
   complete = λ text e h n f. inl refl;
 }
 answers Usage seen s = absurd s
 answers (Model TooLong) seen s = record {
   too_long = λ text e h f. inl refl;
-  foreign = λ text e h n f. absurd (let q = told_front text s.text _ _ e s.moved in let w = s.long in omega arith);
+  refused = λ text g e h n f. absurd (let q = told_front text s.text _ _ e s.moved in let w = s.long in omega arith);
   complete = λ text e h n f. absurd (let q = told_front text s.text _ _ e s.moved in let w = s.long in omega arith);
 }
-answers (Model (Unsupported line)) seen s = record {
-  too_long = λ text e h f. absurd (let q = same_length _ _ (told_whole text s.text _ _ e s.read) in let w = s.within in omega arith);
-  foreign = λ text e h n f. inl (line, refl);
-  complete = λ text e h n f. absurd (let P : List ℕ → Type 0 = λ l. IsOfLanguage l in s.foreign (subst P (sym (told_whole text s.text _ _ e s.read)) n));
-}
+answers (Model (Syntax line)) seen s = refused_answers (Syntax line) seen s
+answers (Model (Number line)) seen s = refused_answers (Number line) seen s
+answers (Model (Typed g)) seen s = refused_answers (Typed g) seen s
+answers (Model (Unbuilt n)) seen s = refused_answers (Unbuilt n) seen s
 answers Read seen s = record {
   too_long = λ text e h f. absurd (f.0 s);
-  foreign = λ text e h n f. absurd (f.0 s);
+  refused = λ text g e h n f. absurd (f.0 s);
   complete = λ text e h n f. absurd (f.0 s);
 }
 answers Write seen s = record {
   too_long = λ text e h f. absurd (f.1 s.1);
-  foreign = λ text e h n f. absurd (f.1 s.1);
+  refused = λ text g e h n f. absurd (f.1 s.1);
   complete = λ text e h n f. absurd (f.1 s.1);
 }
 answers Memory seen s = record {
   too_long = λ text e h f. inr refl;
-  foreign = λ text e h n f. inr refl;
+  refused = λ text g e h n f. inr refl;
   complete = λ text e h n f. inr refl;
 }
+
+nothing_in_front : (left : Option (List ℕ)) → left ≡ in_front [] left
+nothing_in_front None = refl
+nothing_in_front (Some bytes) = refl
 
 pub mode : (status : Status) (seen : Seen) → Says status seen → (IsSilent status → seen.taken_after ≡ seen.taken_before) → TookPiece seen.left_before seen.left_after (Some (longest_text + 1)) → CompileMode status seen
 mode status seen s t b = record { says = s; answers = answers status seen s; silent = t; bounded = b }
@@ -76,3 +96,20 @@ within_limit text h = omega arith
 -- the headline of what was compiled from a text that was lent
 pub headline_of : (text lent written : List ℕ) → length text ≤ longest_text → lent ≡ text → Compiles lent written → IsHeadline text written
 headline_of text lent written w e c = let P : List ℕ → Type 0 = λ t. Compiles t written in headline text written w (subst P e c)
+
+-- a text that was read whole, is within the limit and has a fault
+pub refused_of : (seen : Seen) (text lent : List ℕ) (f : ModelFault) → ReadWhole seen.left_before seen.left_after text → length text ≤ longest_text → lent ≡ text → IsFirstFault lent f → Says (Model f) seen
+refused_of seen text lent TooLong r w e h = elim h [ ]
+refused_of seen text lent (Syntax line) r w e h = record { text = text; read = r; within = w; first = subst (λ (t : List ℕ). IsFirstFault t (Syntax line)) e h }
+refused_of seen text lent (Number line) r w e h = record { text = text; read = r; within = w; first = subst (λ (t : List ℕ). IsFirstFault t (Number line)) e h }
+refused_of seen text lent (Typed g) r w e h = record { text = text; read = r; within = w; first = subst (λ (t : List ℕ). IsFirstFault t (Typed g)) e h }
+refused_of seen text lent (Unbuilt n) r w e h = record { text = text; read = r; within = w; first = subst (λ (t : List ℕ). IsFirstFault t (Unbuilt n)) e h }
+
+-- nothing was read and nothing written
+pub idle : (seen : Seen) → seen.left_before ≡ seen.left_after → seen.taken_after ≡ seen.taken_before → CompileMode Memory seen
+idle seen read written = record {
+  says = tt;
+  answers = answers Memory seen tt;
+  silent = λ _. written;
+  bounded = record { piece = []; moved = read ∙ nothing_in_front seen.left_after; within = omega arith };
+}

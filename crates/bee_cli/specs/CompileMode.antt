@@ -2,12 +2,13 @@
 use Rattle.std.specs.Prelude.{◌≡◌, ℕ, ◌+◌, ◌≤◌, ◌<◌, ◌⊎◌, ◌↔◌, List, length, Option, Some, ℤ}
 use Rattle.bee_outside.specs.Faults.{Rose}
 use Rattle.bee_outside.specs.Bytes.{in_front, grown, NothingLeft, AllFlushed, TookPiece, GrewByFront}
-use Rattle.bumblebee_reader.specs.SmallModel.{IsSolution}
+use Rattle.typed_model.specs.Solutions.{IsSolution}
 use Rattle.dimacs_out.specs.TextSolutions.{StandsFor}
-use Rattle.bee_cli.specs.Compiled.{Compiles, IsOfLanguage}
+use Rattle.bee_cli.specs.Compiled.{Compiles, IsFirstFault, IsCompilable}
 use Rattle.bee_cli.specs.declared.status.Status.{Status}
 use Rattle.bee_cli.specs.declared.status.Status.TheVariants.{Done, Usage, Model, Read, Write, Memory}
-use Rattle.bee_cli.specs.declared.status.ModelFault.TheVariants.{TooLong, Unsupported}
+use Rattle.bee_cli.specs.declared.status.ModelFault.{ModelFault}
+use Rattle.bee_cli.specs.declared.status.ModelFault.TheVariants.{TooLong, Syntax, Number, Typed, Unbuilt}
 
 -- the greatest number of bytes of a model's text
 abbrev pub longest_text : ℕ
@@ -41,8 +42,8 @@ IsSilent (Model fault) = Unit {0}
 IsSilent Read = Unit {0}
 IsSilent Memory = Unit {0}
 
--- The text that was read is one of the language within the limit, the text written is the compiled text of
--- its model, and the assignments that the written text stands for are exactly the model's solutions.
+-- The text that was read is within the limit and says a model without fault, the text written is the compiled
+-- text of that model, and the assignments that the written text stands for are exactly the model's solutions.
 pub record IsHeadline (text written : List ℕ) : Type 0 where
   pub within : length text ≤ longest_text
   pub compiled : Compiles text written
@@ -65,12 +66,12 @@ pub record WroteFront (seen : Seen) : Type 0 where
   pub headline : IsHeadline text written
   pub taken : GrewByFront seen.taken_before written seen.taken_after
 
--- the text is no text of the language
-pub record IsForeign (seen : Seen) : Type 0 where
+-- the text was read to its end, is within the limit, and has this fault first
+pub record IsRefused (seen : Seen) (fault : ModelFault) : Type 0 where
   pub text : List ℕ
   pub read : ReadWhole seen.left_before seen.left_after text
   pub within : length text ≤ longest_text
-  pub foreign : IsOfLanguage text → ⊥
+  pub first : IsFirstFault text fault
 
 -- the text is longer than the limit: one byte more was read
 pub record IsTooLong (seen : Seen) : Type 0 where
@@ -83,7 +84,10 @@ abbrev pub Says : Status → Seen → Type 0
 Says Done seen = WroteWhole seen
 Says Usage seen = ⊥
 Says (Model TooLong) seen = IsTooLong seen
-Says (Model (Unsupported line)) seen = IsForeign seen
+Says (Model (Syntax line)) seen = IsRefused seen (Syntax line)
+Says (Model (Number line)) seen = IsRefused seen (Number line)
+Says (Model (Typed fault)) seen = IsRefused seen (Typed fault)
+Says (Model (Unbuilt number)) seen = IsRefused seen (Unbuilt number)
 Says Read seen = Rose seen.shelf_faults_before seen.shelf_faults_after
 Says Write seen = WroteFront seen × Rose seen.sink_faults_before seen.sink_faults_after
 Says Memory seen = Unit {0}
@@ -97,9 +101,9 @@ NoFault seen =
 pub record Answers (status : Status) (seen : Seen) : Type 0 where
   pub too_long : (text : List ℕ) → seen.left_before ≡ Some text → longest_text < length text → NoFault seen →
       (status ≡ Model TooLong) ⊎ (status ≡ Memory)
-  pub foreign : (text : List ℕ) → seen.left_before ≡ Some text → length text ≤ longest_text → (IsOfLanguage text → ⊥) → NoFault seen →
-      ((line : ℕ) × (status ≡ Model (Unsupported line))) ⊎ (status ≡ Memory)
-  pub complete : (text : List ℕ) → seen.left_before ≡ Some text → length text ≤ longest_text → IsOfLanguage text → NoFault seen →
+  pub refused : (text : List ℕ) (fault : ModelFault) → seen.left_before ≡ Some text → length text ≤ longest_text → IsFirstFault text fault → NoFault seen →
+      (status ≡ Model fault) ⊎ (status ≡ Memory)
+  pub complete : (text : List ℕ) → seen.left_before ≡ Some text → length text ≤ longest_text → IsCompilable text → NoFault seen →
       (status ≡ Done) ⊎ (status ≡ Memory)
 
 -- a run in compile mode

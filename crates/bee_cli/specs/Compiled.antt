@@ -1,37 +1,66 @@
--- The clauses and the compiled text of a model of the small language, and when a text is that of a model.
-use Rattle.std.specs.Prelude.{◌≡◌, ℕ, ◌<◌, ◌^◌, List, [], length, Result, Ok, Err}
-use Rattle.std.specs.Global.{Vec}
+-- The compiled text of the model that a text says, and why a text has none.
+use Rattle.std.specs.Prelude.{◌≡◌, ℕ, ◌<◌, ◌^◌, List, [], ◌∷◌, length, Some, None}
 use Rattle.order_ints.specs.declared.cnf.Cnf.{Cnf}
-use Rattle.order_ints.specs.OrderedClauses.{ordered_clauses}
-use Rattle.bumblebee_reader.specs.declared.small.model.SmallModel.{SmallModel}
-use Rattle.bumblebee_reader.specs.declared.small.read.SmallFault.{SmallFault}
-use Rattle.bumblebee_reader.specs.declared.small.read.SmallFault.TheVariants.{Unsupported, Memory}
-use Rattle.bumblebee_reader.specs.SmallText.{IsSmallText}
+use Rattle.order_ints.specs.declared.order_int.MapValue.{MapValue}
+use Rattle.bumblebee_reader.specs.declared.syntax.Syntax.{Syntax}
+use Rattle.bumblebee_reader.specs.Grammar.{IsText}
+use Rattle.bumblebee_reader.specs.Faults.{IsSyntaxFault, IsNumberFault}
+use Rattle.typed_model.specs.declared.model.Decl.{Decl}
+use Rattle.typed_model.specs.declared.model.Model.{Model}
+use Rattle.typed_model.specs.Items.{first_fault, model_of}
+use Rattle.model_lower.specs.Built.{first_unbuilt_of}
+use Rattle.bee_compile.specs.Compiled.{compiled_of}
+use Rattle.dimacs_out.specs.declared.entry.MapEntry.{MapEntry}
 use Rattle.dimacs_out.specs.CompiledText.{compiled_text}
-use Rattle.bee_cli.specs.Lowered.{clauses_of, entries_of}
+use Rattle.bee_cli.specs.declared.compile.TextFault.{TextFault}
+use Rattle.bee_cli.specs.declared.compile.TextFault.TheVariants as text_fault
+use Rattle.bee_cli.specs.declared.status.ModelFault.{ModelFault}
+use Rattle.bee_cli.specs.declared.status.ModelFault.TheVariants as fault
 
--- the clauses of a model put in order, over a variable for each declaration
-abbrev pub cnf_of : SmallModel → Cnf
-cnf_of m = record { vars = length m.names; clauses = ordered_clauses [] (clauses_of m.statements) }
+-- each declared name with what it stands for
+abbrev pub entries_of : List Decl → List MapValue → List MapEntry
+entries_of [] values = []
+entries_of (d ∷ decls) [] = []
+entries_of (d ∷ decls) (v ∷ values) = record { name = d.name; value = v } ∷ entries_of decls values
+
+abbrev pub cnf_of_model : Model → Cnf
+cnf_of_model model = (compiled_of model).cnf
 
 -- the compiled text of a model
-abbrev pub text_of : SmallModel → List ℕ
-text_of m = compiled_text (entries_of m.names) (cnf_of m)
+abbrev pub text_of : Model → List ℕ
+text_of model = compiled_text (entries_of model.decls (compiled_of model).map.entries) (cnf_of_model model)
 
--- a text of the small language, and the compiled text of the model that it says
+-- a text of the language whose items have no fault says this model
+pub record IsModelOf (text : List ℕ) (model : Model) : Type 0 where
+  pub syntax : Syntax
+  pub spelled : IsText text syntax
+  pub no_fault : first_fault syntax.items ≡ None
+  pub model_is : model ≡ model_of syntax.items
+
+-- a text says a model of which every item is built
+pub record IsCompilable (text : List ℕ) : Type 0 where
+  pub model : Model
+  pub says : IsModelOf text model
+  pub built : first_unbuilt_of model ≡ None
+
+-- the compiled text of the model that a text says
 pub record Compiles (text written : List ℕ) : Type 0 where
-  pub model : SmallModel
-  pub says : IsSmallText text model
-  pub few : length model.names < 2 ^ 32
-  pub fits : length (cnf_of model).clauses < 2 ^ 64
+  pub model : Model
+  pub says : IsModelOf text model
+  pub built : first_unbuilt_of model ≡ None
+  pub fits : length (cnf_of_model model).clauses < 2 ^ 64
   pub writes : written ≡ text_of model
 
--- the text is of the small language
-abbrev pub IsOfLanguage : List ℕ → Type 0
-IsOfLanguage text = (m : SmallModel) × IsSmallText text m
+-- a text within the limit has this fault first: a token that fits nowhere or a numeral that is too great, whichever
+-- stands first; a fault of its items; or an item that isn't built
+abbrev pub IsFirstFault : List ℕ → ModelFault → Type 0
+IsFirstFault text fault.TooLong = ⊥
+IsFirstFault text (fault.Syntax line) = IsSyntaxFault text line
+IsFirstFault text (fault.Number line) = IsNumberFault text line
+IsFirstFault text (fault.Typed f) = (s : Syntax) × IsText text s × (first_fault s.items ≡ Some f)
+IsFirstFault text (fault.Unbuilt number) = (m : Model) × IsModelOf text m × (first_unbuilt_of m ≡ Some number)
 
--- what compiling a text answers
-abbrev pub CompilesOr : List ℕ → Result (Vec ℕ) SmallFault → Type 0
-CompilesOr text (Ok written) = Compiles text written.items
-CompilesOr text (Err (Unsupported line)) = IsOfLanguage text → ⊥
-CompilesOr text (Err Memory) = Unit {0}
+-- why nothing comes of a text
+abbrev pub IsCauseOf : TextFault → List ℕ → Type 0
+IsCauseOf (text_fault.Model f) text = IsFirstFault text f
+IsCauseOf text_fault.Memory text = Unit {0}

@@ -1,5 +1,3 @@
-pub mod Lowered
 pub mod Compiled
-pub mod Words
 pub mod Codes
 pub mod CompileMode

@@ -1,41 +1,77 @@
 //! From the text of a model to its compiled text.
 
-ghost use Rattle.std.specs.Prelude.{◌≡◌, ◌<◌, ◌^◌, length, IfOk};
-ghost use Rattle.bumblebee_reader.specs.Names.{AreDeclared};
-ghost use Rattle.bumblebee_reader.specs.SmallModel.{ArePlaced};
-ghost use Rattle.bee_cli.specs.Compiled.{text_of, cnf_of, CompilesOr};
+ghost use Rattle.std.specs.Prelude.{◌≡◌, ◌<◌, ◌^◌, length, IfOk, IfErr, None};
+ghost use Rattle.typed_model.specs.WellTyped.{WellTyped};
+ghost use Rattle.typed_model.specs.Limits.{InLimits};
+ghost use Rattle.model_lower.specs.Built.{first_unbuilt_of, IsFaultOf};
+ghost use Rattle.bee_cli.specs.Compiled.{text_of, cnf_of_model, IsModelOf, IsCauseOf, Compiles};
 
-use crate::lower::{clauses_of, entries_of};
-use bumblebee_reader::{SmallFault, SmallModel, read_small};
+use crate::entries::entries_of;
+use crate::status::ModelFault;
+use bee_compile::{Compiled, compile};
+use bumblebee_reader::{ReadFault, read_model};
 use dimacs_out::write_map;
-use order_ints::ordered_cnf;
-use std::alloc::{AllocError, Global};
+use model_lower::LowerFault;
+use std::alloc::Global;
+use typed_model::{Model, TypeFault, check_types};
 
-/// The compiled text of a model.
-fn write_model(alloc: Global, model: SmallModel) -> Result<Vec<u8>, AllocError>
-    requires placed { ArePlaced (length model.names) model.statements }
-    requires few { length model.names < 2 ^ 32 }
-    ensures text { IfOk result (λ text. text.items ≡ text_of model) }
-    ensures fits { IfOk result (λ _. length (cnf_of model).clauses < 2 ^ 64) }
+/// Why nothing comes of a text.
+#[derive(Debug, Drop)]
+pub enum TextFault {
+    /// It has this fault.
+    Model(ModelFault),
+    /// Memory is wanting.
+    Memory,
+}
+
+/// The model that a text says. What was read of the text is let go before the answer.
+fn model_of(alloc: Global, text: &[u8]) -> Result<Model, TextFault>
+    ensures model { IfOk result (λ m. IsModelOf text.now m) }
+    ensures fault { IfErr result (λ e. IsCauseOf e text.now) }
 {
-    let SmallModel { names, statements } = model;
-    let vars = names.len() as u32;
-    let clauses = clauses_of(alloc, statements.as_slice(), vars)?;
-    let cnf = ordered_cnf(alloc, vars, &[], clauses.as_slice())?;
-    let entries = entries_of(alloc, names.into_vec())?;
-    write_map(alloc, entries.as_slice(), &cnf)
+    let syntax = match read_model(alloc, text) {
+        Ok(syntax) => syntax,
+        Err(ReadFault::Syntax(line)) => return Err(TextFault::Model(ModelFault::Syntax(line))),
+        Err(ReadFault::Number(line)) => return Err(TextFault::Model(ModelFault::Number(line))),
+        Err(ReadFault::Memory) => return Err(TextFault::Memory),
+    };
+    match check_types(alloc, &syntax) {
+        Ok(model) => Ok(model),
+        Err(TypeFault::Memory) => Err(TextFault::Memory),
+        Err(fault) => Err(TextFault::Model(ModelFault::Typed(fault))),
+    }
+}
+
+/// The compiled text of a model. The statements are let go before the text is written.
+fn write_model(alloc: Global, model: Model) -> Result<Vec<u8>, LowerFault>
+    requires typed { WellTyped model }
+    requires limits { InLimits model }
+    ensures built { IfOk result (λ text. first_unbuilt_of model.entry ≡ None) }
+    ensures text { IfOk result (λ text. text.items ≡ text_of model.entry) }
+    ensures fits { IfOk result (λ text. length (cnf_of_model model.entry).clauses < 2 ^ 64) }
+    ensures unbuilt { IfErr result (λ e. IsFaultOf e (first_unbuilt_of model.entry)) }
+{
+    let Compiled { cnf, map } = compile(alloc, &model)?;
+    let Model {
+        decls,
+        stmts,
+        goal: _,
+    } = model;
+    drop(stmts);
+    let entries = entries_of(alloc, decls.into_vec(), map.entries.into_vec())?;
+    let text = write_map(alloc, entries.as_slice(), &cnf)?;
+    Ok(text)
 }
 
 /// The compiled text of the model that a text says.
-pub fn compile_text(alloc: Global, text: &[u8]) -> Result<Vec<u8>, SmallFault>
-    ensures { CompilesOr text.now result }
+pub fn compile_text(alloc: Global, text: &[u8]) -> Result<Vec<u8>, TextFault>
+    ensures compiled { IfOk result (λ written. Compiles text.now written.items) }
+    ensures fault { IfErr result (λ e. IsCauseOf e text.now) }
 {
-    let model = match read_small(alloc, text) {
-        Ok(model) => model,
-        Err(fault) => return Err(fault),
-    };
+    let model = model_of(alloc, text)?;
     match write_model(alloc, model) {
         Ok(written) => Ok(written),
-        Err(AllocError) => Err(SmallFault::Memory),
+        Err(LowerFault::Unbuilt(number)) => Err(TextFault::Model(ModelFault::Unbuilt(number))),
+        Err(LowerFault::Memory) => Err(TextFault::Memory),
     }
 }

@@ -2,12 +2,11 @@
 #![tactic(auto)]
 
 mod compile;
+mod entries;
 mod exit_code;
-mod lower;
 mod reporting;
 mod running;
 mod status;
-mod words;
 
 pub use exit_code::code;
 pub use running::run;

@@ -1,16 +1,15 @@
 //! The program's one call.
 
 ghost use Rattle.std.specs.Prelude.{◌≡◌, ◌≢◌, ◌↔◌, ◌≤◌, ℕ, List, None, Some, map, string_bytes};
-ghost use Rattle.bee_cli.specs.Words.{compile_input};
+ghost use Rattle.command_words.specs.Command.{compile_input};
 ghost use Rattle.bee_cli.specs.CompileMode.{CompileMode};
 
-use crate::compile::compile_text;
+use crate::compile::{TextFault, compile_text};
 use crate::reporting::report;
 use crate::status::{ModelFault, Status};
-use crate::words::compile_input;
 use bee_outside::{Failed, ReadFault, ReadText, Shelf, Sink, read_all, write_all};
-use bumblebee_reader::SmallFault;
-use std::alloc::Global;
+use command_words::compile_input;
+use std::alloc::{AllocError, Global};
 
 /// The greatest number of bytes of a model's text.
 const LONGEST_TEXT: usize = 16_777_216;
@@ -39,10 +38,8 @@ fn compile<S: Shelf, O: Sink>(alloc: Global, input: &str, shelf: &mut S, out: &m
     };
     let written = match compile_text(alloc, text.as_slice()) {
         Ok(written) => written,
-        Err(SmallFault::Unsupported(line)) => {
-            return Status::Model(ModelFault::Unsupported(line));
-        }
-        Err(SmallFault::Memory) => return Status::Memory,
+        Err(TextFault::Model(fault)) => return Status::Model(fault),
+        Err(TextFault::Memory) => return Status::Memory,
     };
     match write_all(out, written.as_slice()) {
         Ok(()) => Status::Done,
@@ -61,10 +58,12 @@ pub fn run<S: Shelf, O: Sink, E: Sink>(
     err: &mut E,
 ) -> Status
     // The words are refused exactly where they aren't the command's; then nothing is read or written.
-    ensures usage { (result ≡ Status.Usage) ↔ (compile_input (map string_bytes words.now.items) ≡ None) }
-    ensures usage_reads_nothing { result ≡ Status.Usage → (name : List ℕ) →
+    ensures usage { result ≢ Status.Memory →
+        (result ≡ Status.Usage) ↔ (compile_input (map string_bytes words.now.items) ≡ None) }
+    ensures usage_reads_nothing { compile_input (map string_bytes words.now.items) ≡ None → (name : List ℕ) →
         S.left shelf.new name ≡ S.left shelf.old name }
-    ensures usage_writes_nothing { result ≡ Status.Usage → O.taken out.new ≡ O.taken out.old }
+    ensures usage_writes_nothing { compile_input (map string_bytes words.now.items) ≡ None →
+        O.taken out.new ≡ O.taken out.old }
 
     // Compile mode, with the headline: see `CompileMode`.
     ensures compile { (input : List ℕ) → compile_input (map string_bytes words.now.items) ≡ Some input →
@@ -82,9 +81,10 @@ pub fn run<S: Shelf, O: Sink, E: Sink>(
     ensures others_stay { (input other : List ℕ) → compile_input (map string_bytes words.now.items) ≡ Some input →
         other ≢ input → S.left shelf.new other ≡ S.left shelf.old other }
 {
-    let status = match compile_input(words.as_slice()) {
-        Some(input) => compile(alloc, input, shelf, out),
-        None => Status::Usage,
+    let status = match compile_input(alloc, words.as_slice()) {
+        Ok(Some(input)) => compile(alloc, input, shelf, out),
+        Ok(None) => Status::Usage,
+        Err(AllocError) => Status::Memory,
     };
     report(alloc, &status, err);
     status

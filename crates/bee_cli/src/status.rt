@@ -3,6 +3,7 @@
 ghost use Rattle.std.specs.Prelude.{◌≡◌};
 
 use thiserror::Error;
+use typed_model::TypeFault;
 
 /// How a run ends.
 #[derive(Debug, Drop)]
@@ -11,7 +12,7 @@ pub enum Status {
     Done,
     /// The words aren't the command's.
     Usage,
-    /// The input was read and is no model.
+    /// The input was read and is no model that is compiled.
     Model(ModelFault),
     /// The input could not be read.
     Read,
@@ -21,13 +22,24 @@ pub enum Status {
     Memory,
 }
 
-/// Why an input is no model.
+/// Why an input is no model that is compiled. The first of these that it has, in this order, is its fault;
+/// of `Syntax` and `Number` the one that stands first in the text.
 #[derive(Debug, Drop, Error)]
 pub enum ModelFault {
     /// Its text has more than 16,777,216 bytes.
     #[error("model: too long")]
     TooLong,
     /// It is no text of the language; the line of the first token that fits nowhere, or of its end.
-    #[error("model: line {0}: unsupported")]
-    Unsupported(u64),
+    #[error("model: line {0}: syntax")]
+    Syntax(u64),
+    /// A numeral is too great; its line.
+    #[error("model: line {0}: number")]
+    Number(u64),
+    /// An item has a fault of names, kinds or domains; never `Memory`.
+    #[error("model: {0}")]
+    Typed(TypeFault),
+    /// The number of the first statement that has no cores yet, or of the first declaration with which
+    /// there are more than 16,777,216 variables.
+    #[error("model: statement {0}: not built")]
+    Unbuilt(u64),
 }

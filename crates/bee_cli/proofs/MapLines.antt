@@ -1,0 +1,78 @@
+-- The map lines of a model: what can be written of them, and the assignment that they give.
+use Rattle.std.proofs.Common.{rules, arith, ◌≡◌, ℕ, ◌+◌, ◌<◌, ◌≤◌, ◌^◌, List, [], ◌∷◌, ◌++◌, length, reverse, map, refl, ap, ap₂, sym, ◌∙◌, ℤ, pos, FitsSigned}
+use Rattle.std.specs.Prelude.{unsigned_abs, ◌+ℤ◌}
+use Rattle.std.specs.Int.{w128}
+use Rattle.std.proofs.lemmas.Int.{ints}
+use Rattle.order_ints.specs.declared.atom.Atom.{Atom}
+use Rattle.order_ints.specs.declared.order_int.OrdInt.{OrdInt}
+use Rattle.order_ints.specs.declared.order_int.MapValue.{MapValue}
+use Rattle.order_ints.specs.declared.order_int.MapValue.TheVariants.{Bool, Int}
+use Rattle.order_ints.specs.Truth.{Valuation}
+use Rattle.order_ints.specs.Numbers.{number_of, numbers_of}
+use Rattle.order_ints.specs.OrderRange.{weights, low_of, high_of, IsBounded, AreRising}
+use Rattle.core_forms.specs.WellFormed.{IsSound}
+use Rattle.typed_model.specs.declared.model.Kind.{Kind}
+use Rattle.typed_model.specs.declared.model.Kind.TheVariants as kind
+use Rattle.typed_model.specs.declared.model.Decl.{Decl}
+use Rattle.model_lower.specs.Fits.{EntryFits, EntriesFit}
+use Rattle.dimacs_out.specs.declared.entry.MapEntry.{MapEntry}
+use Rattle.dimacs_out.specs.CompiledText.{WeightsCount, ValueBelow, EntriesBelow}
+use Rattle.dimacs_out.specs.TextSolutions.{assignment_of}
+use Rattle.bee_cli.specs.Compiled.{entries_of}
+
+-- one entry for each declaration
+pub as_many : (n : ℕ) (decls : List Decl) (values : List MapValue) → EntriesFit n decls values → length decls ≡ length values
+as_many n [] [] h = refl
+as_many n [] (v ∷ values) h = elim h [ ]
+as_many n (d ∷ decls) [] h = elim h [ ]
+as_many n (d ∷ decls) (v ∷ values) h = ap (λ k. k + 1) (as_many n decls values h.1)
+
+-- the assignment that the map lines give is that of the map
+pub same_assignment : (σ : Valuation) (n : ℕ) (decls : List Decl) (values : List MapValue) → EntriesFit n decls values
+    → assignment_of σ (entries_of decls values) ≡ numbers_of σ values
+same_assignment σ n [] [] h = refl
+same_assignment σ n [] (v ∷ values) h = elim h [ ]
+same_assignment σ n (d ∷ decls) [] h = elim h [ ]
+same_assignment σ n (d ∷ decls) (v ∷ values) h = ap (λ l. number_of σ v ∷ l) (same_assignment σ n decls values h.1)
+
+-- the names of the map lines are the declared names
+pub same_names : (n : ℕ) (decls : List Decl) (values : List MapValue) → EntriesFit n decls values
+    → map (λ (e : MapEntry). e.name) (entries_of decls values) ≡ map (λ (d : Decl). d.name) decls
+same_names n [] [] h = refl
+same_names n [] (v ∷ values) h = elim h [ ]
+same_names n (d ∷ decls) [] h = elim h [ ]
+same_names n (d ∷ decls) (v ∷ values) h = ap (λ l. d.name ∷ l) (same_names n decls values h.1)
+
+-- the weights of a bounded integer fit 128 bits
+weights_count : (steps : List (Atom × ℕ)) → AreRising steps → weights steps < 2 ^ 128 → WeightsCount steps
+weights_count [] r h = tt
+weights_count (s ∷ steps) r h = (r.0, omega (arith, h), weights_count steps r.1 (omega (arith, h)))
+
+small_weights : (base : ℤ) (w : ℕ) → unsigned_abs base < 2 ^ 100 → unsigned_abs (base +ℤ pos w) < 2 ^ 100 → w < 2 ^ 128
+small_weights base w low high = omega (arith, ints)
+
+small_base : (base : ℤ) → unsigned_abs base < 2 ^ 100 → FitsSigned w128 base
+small_base base low = omega (arith, ints)
+
+value_below : (n : ℕ) (k : Kind) (v : MapValue) → EntryFits n k v → ValueBelow n v
+value_below n kind.Bool (Bool a) h = h
+value_below n kind.Bool (Int a) h = elim h [ ]
+value_below n (kind.Int low high) (Bool a) h = elim h [ ]
+value_below n (kind.Int low high) (Int a) h =
+    (small_base a.base h.1.0.0, h.0, weights_count a.steps h.1.1 (small_weights a.base (weights a.steps) h.1.0.0 h.1.0.1))
+
+-- what each name stands for can be written
+pub entries_below : (n : ℕ) (decls : List Decl) (values : List MapValue) → EntriesFit n decls values → EntriesBelow n (entries_of decls values)
+entries_below n [] [] h = tt
+entries_below n [] (v ∷ values) h = elim h [ ]
+entries_below n (d ∷ decls) [] h = elim h [ ]
+entries_below n (d ∷ decls) (v ∷ values) h = (value_below n d.kind v h.0, entries_below n decls values h.1)
+
+-- one more declaration and one more value at the end give one more line at the end
+pub one_more : (decls : List Decl) (d : Decl) (values : List MapValue) (v : MapValue) → length decls ≡ length values
+    → entries_of (decls ++ d ∷ []) (values ++ v ∷ []) ≡ entries_of decls values ++ record { name = d.name; value = v } ∷ []
+one_more [] d [] v h = refl
+one_more [] d (w ∷ values) v h = absurd (omega arith)
+one_more (e ∷ decls) d [] v h = absurd (omega arith)
+one_more (e ∷ decls) d (w ∷ values) v h =
+    ap (λ (l : List MapEntry). record { name = e.name; value = w } ∷ l) (one_more decls d values v (omega arith))

@@ -12,6 +12,8 @@ mod lowering;
 mod state;
 mod statements;
 mod terms;
+#[cfg(test)]
+mod tests;
 
 pub use fault::LowerFault;
 pub use laws::{item_law, lowering_law};

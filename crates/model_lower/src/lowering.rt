@@ -33,7 +33,7 @@ fn count_before(stmts: &[Stmt], number: u64) -> usize
 }
 
 /// Lowers declarations and statements in the order of their numbers.
-fn lower_items(alloc: Global, decls: &[Decl], stmts: &[Stmt]) -> Result<Lowered, LowerFault>
+pub fn lower_items(alloc: Global, decls: &[Decl], stmts: &[Stmt]) -> Result<Lowered, LowerFault>
     ensures built { IfOk result (λ l. first_unbuilt 0 (items_of decls.now stmts.now) ≡ None) }
     ensures shape { IfOk result (λ l. l ≡ lowered_items nothing_lowered (items_of decls.now stmts.now)) }
     ensures fault { IfErr result (λ e. IsFaultOf e (first_unbuilt 0 (items_of decls.now stmts.now))) }

@@ -30,17 +30,17 @@ verdict (Err (read_fault.Number line)) = Some (fault.Number line)
 verdict (Err read_fault.Memory) = None
 
 typed_verdict : (items : List Item) (f : TypeFault) → first_fault items ≡ Some f → verdict (Ok items) ≡ Some (fault.Typed f)
-unfolding verdict, typed_fault
+unfolding verdict typed_fault
 typed_verdict items f e = ap (λ t. typed_fault t (first_unbuilt_of (model_of items))) e
 
 built_verdict : (items : List Item) (m : Model) (u : Option ℕ) → first_fault items ≡ None → m ≡ model_of items → first_unbuilt_of m ≡ u
     → verdict (Ok items) ≡ unbuilt_fault u
-unfolding verdict, typed_fault
+unfolding verdict typed_fault
 built_verdict items m u none same e =
     ap (λ t. typed_fault t (first_unbuilt_of (model_of items))) none ∙ ap unbuilt_fault (ap first_unbuilt_of (sym same) ∙ e)
 
 faulty : (text : List ℕ) (f : ModelFault) → IsFirstFault text f → verdict (reading AtItem 1 text) ≡ Some f
-unfolding verdict, unbuilt_fault
+unfolding verdict unbuilt_fault
 faulty text fault.TooLong h = elim h [ ]
 faulty text (fault.Syntax line) h = ap verdict (reading_from_syntax_fault text line h)
 faulty text (fault.Number line) h = ap verdict (reading_from_number_fault text line h)
@@ -50,7 +50,7 @@ faulty text (fault.Unbuilt n) h =
     ∙ built_verdict h.1.syntax.items h.0 (Some n) h.1.no_fault h.1.model_is h.2
 
 faultless : (text : List ℕ) (m : Model) → IsModelOf text m → first_unbuilt_of m ≡ None → verdict (reading AtItem 1 text) ≡ None
-unfolding verdict, unbuilt_fault
+unfolding verdict unbuilt_fault
 faultless text m says built =
     ap verdict (reading_from_text text says.syntax says.spelled)
     ∙ built_verdict says.syntax.items m None says.no_fault says.model_is built

@@ -1,8 +1,9 @@
 -- The map lines of a model: what can be written of them, and the assignment that they give.
-use Rattle.std.proofs.Common.{rules, arith, ◌≡◌, ℕ, ◌+◌, ◌<◌, ◌≤◌, ◌^◌, List, [], ◌∷◌, ◌++◌, length, reverse, map, refl, ap, ap₂, sym, ◌∙◌, ℤ, pos, FitsSigned}
+use Rattle.std.proofs.Common.{rules, arith, ◌≡◌, ℕ, ◌+◌, ◌<◌, ◌≤◌, ◌^◌, List, [], ◌∷◌, ◌++◌, length, length-append, append_assoc, reverse, map, refl, ap, ap₂, sym, ◌∙◌, ℤ, pos, FitsSigned}
 use Rattle.std.specs.Prelude.{unsigned_abs, ◌+ℤ◌}
 use Rattle.std.specs.Int.{w128}
 use Rattle.std.proofs.lemmas.Int.{ints}
+use Rattle.std.proofs.lemmas.List.{reverse-append}
 use Rattle.order_ints.specs.declared.atom.Atom.{Atom}
 use Rattle.order_ints.specs.declared.order_int.OrdInt.{OrdInt}
 use Rattle.order_ints.specs.declared.order_int.MapValue.{MapValue}
@@ -25,7 +26,7 @@ pub as_many : (n : ℕ) (decls : List Decl) (values : List MapValue) → Entries
 as_many n [] [] h = refl
 as_many n [] (v ∷ values) h = elim h [ ]
 as_many n (d ∷ decls) [] h = elim h [ ]
-as_many n (d ∷ decls) (v ∷ values) h = ap (λ k. k + 1) (as_many n decls values h.1)
+as_many n (d ∷ decls) (v ∷ values) h = omega (arith, as_many n decls values h.1)
 
 -- the assignment that the map lines give is that of the map
 pub same_assignment : (σ : Valuation) (n : ℕ) (decls : List Decl) (values : List MapValue) → EntriesFit n decls values
@@ -76,3 +77,24 @@ one_more [] d (w ∷ values) v h = absurd (omega arith)
 one_more (e ∷ decls) d [] v h = absurd (omega arith)
 one_more (e ∷ decls) d (w ∷ values) v h =
     ap (λ (l : List MapEntry). record { name = e.name; value = w } ∷ l) (one_more decls d values v (omega arith))
+
+shorter : {A B : Type 0} (old new : List A) (x : A) (others rest : List B) (y : B) → old ≡ new ++ x ∷ [] → others ≡ rest ++ y ∷ []
+    → length old ≡ length others → length new ≡ length rest
+shorter old new x others rest y e f same =
+    omega (arith, ap length e, ap length f, length-append new (x ∷ []), length-append rest (y ∷ []))
+
+-- the line of the last declaration goes before those that were made
+pub lines_taken : (decls rest : List Decl) (d : Decl) (values more : List MapValue) (v : MapValue) (made new all : List MapEntry)
+    → decls ≡ rest ++ d ∷ [] → values ≡ more ++ v ∷ [] → new ≡ made ++ record { name = d.name; value = v } ∷ []
+    → length decls ≡ length values → entries_of decls values ++ reverse made ≡ all
+    → (entries_of rest more ++ reverse new ≡ all) × (length rest ≡ length more)
+lines_taken decls rest d values more v made new all e f g same k =
+    let line : MapEntry = record { name = d.name; value = v } in
+    let fewer = shorter decls rest d values more v e f same in
+    (
+      ap (λ l. entries_of rest more ++ l) (ap reverse g ∙ reverse-append made (line ∷ []))
+      ∙ sym (append_assoc (entries_of rest more) (line ∷ []) (reverse made))
+      ∙ ap (λ l. l ++ reverse made) (sym (one_more rest d more v fewer))
+      ∙ ap₂ (λ ds vs. entries_of ds vs ++ reverse made) (sym e) (sym f) ∙ k,
+      fewer,
+    )

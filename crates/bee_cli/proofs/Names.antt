@@ -42,7 +42,7 @@ args_limit [] h = tt
 args_limit (a ∷ args) h = (arg_limit a h.0, args_limit args h.1)
 
 item_limit : (i : Item) → IsSpellableItem i → ItemInLimit i
-item_limit (Call name args) h = args_limit args h.2.1
+item_limit (Call name args) h = args_limit args h.3
 item_limit (Goal k objective) h = tt
 
 pub items_limit : (items : List Item) → AreSpellableItems items → ItemsInLimit items
@@ -105,7 +105,7 @@ if_declared n ds None args h = tt
 if_declared n ds (Some s) args h = by_declared n ds s args h
 
 item_declared : (n : ℕ) (ds : List Decl) (i : Item) → IsSpellableItem i → AreNames (declared n ds i)
-item_declared n ds (Call name args) h = if_declared n ds (statement_of name) args h.2.1
+item_declared n ds (Call name args) h = if_declared n ds (statement_of name) args h.3
 item_declared n ds (Goal k objective) h = tt
 
 pub names_from : (n : ℕ) (ds : List Decl) (items : List Item) → AreNames ds → AreSpellableItems items → AreNames (decls_from n ds items)

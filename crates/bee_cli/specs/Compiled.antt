@@ -7,6 +7,8 @@ use Rattle.bumblebee_reader.specs.Grammar.{IsText}
 use Rattle.bumblebee_reader.specs.Faults.{IsSyntaxFault, IsNumberFault}
 use Rattle.typed_model.specs.declared.model.Decl.{Decl}
 use Rattle.typed_model.specs.declared.model.Model.{Model}
+use Rattle.typed_model.specs.declared.fault.TypeFault.{TypeFault}
+use Rattle.typed_model.specs.declared.fault.TypeFault.TheVariants as type_fault
 use Rattle.typed_model.specs.Items.{first_fault, model_of}
 use Rattle.model_lower.specs.Built.{first_unbuilt_of}
 use Rattle.bee_compile.specs.Compiled.{compiled_of}
@@ -59,6 +61,11 @@ IsFirstFault text (fault.Syntax line) = IsSyntaxFault text line
 IsFirstFault text (fault.Number line) = IsNumberFault text line
 IsFirstFault text (fault.Typed f) = (s : Syntax) × IsText text s × (first_fault s.items ≡ Some f)
 IsFirstFault text (fault.Unbuilt number) = (m : Model) × IsModelOf text m × (first_unbuilt_of m ≡ Some number)
+
+-- what a fault of the items makes of a text: want of memory is no fault of it
+abbrev pub text_fault_of : TypeFault → TextFault
+text_fault_of type_fault.Memory = text_fault.Memory
+text_fault_of f = text_fault.Model (fault.Typed f)
 
 -- why nothing comes of a text
 abbrev pub IsCauseOf : TextFault → List ℕ → Type 0

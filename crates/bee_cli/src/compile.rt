@@ -4,7 +4,7 @@ ghost use Rattle.std.specs.Prelude.{◌≡◌, ◌<◌, ◌^◌, length, IfOk, I
 ghost use Rattle.typed_model.specs.WellTyped.{WellTyped};
 ghost use Rattle.typed_model.specs.Limits.{InLimits};
 ghost use Rattle.model_lower.specs.Built.{first_unbuilt_of, IsFaultOf};
-ghost use Rattle.bee_cli.specs.Compiled.{text_of, cnf_of_model, IsModelOf, IsCauseOf, Compiles};
+ghost use Rattle.bee_cli.specs.Compiled.{text_of, cnf_of_model, IsModelOf, IsCauseOf, Compiles, text_fault_of};
 
 use crate::entries::entries_of;
 use crate::status::ModelFault;
@@ -24,6 +24,16 @@ pub enum TextFault {
     Memory,
 }
 
+/// What a fault of the items makes of a text.
+fn text_fault(fault: TypeFault) -> TextFault
+    ensures { result ≡ text_fault_of fault }
+{
+    match fault {
+        TypeFault::Memory => TextFault::Memory,
+        other => TextFault::Model(ModelFault::Typed(other)),
+    }
+}
+
 /// The model that a text says. What was read of the text is let go before the answer.
 fn model_of(alloc: Global, text: &[u8]) -> Result<Model, TextFault>
     ensures model { IfOk result (λ m. IsModelOf text.now m) }
@@ -37,8 +47,7 @@ fn model_of(alloc: Global, text: &[u8]) -> Result<Model, TextFault>
     };
     match check_types(alloc, &syntax) {
         Ok(model) => Ok(model),
-        Err(TypeFault::Memory) => Err(TextFault::Memory),
-        Err(fault) => Err(TextFault::Model(ModelFault::Typed(fault))),
+        Err(fault) => Err(text_fault(fault)),
     }
 }
 
@@ -46,10 +55,10 @@ fn model_of(alloc: Global, text: &[u8]) -> Result<Model, TextFault>
 fn write_model(alloc: Global, model: Model) -> Result<Vec<u8>, LowerFault>
     requires typed { WellTyped model }
     requires limits { InLimits model }
-    ensures built { IfOk result (λ text. first_unbuilt_of model.entry ≡ None) }
-    ensures text { IfOk result (λ text. text.items ≡ text_of model.entry) }
-    ensures fits { IfOk result (λ text. length (cnf_of_model model.entry).clauses < 2 ^ 64) }
-    ensures unbuilt { IfErr result (λ e. IsFaultOf e (first_unbuilt_of model.entry)) }
+    ensures built { IfOk result (λ text. first_unbuilt_of model ≡ None) }
+    ensures text { IfOk result (λ text. text.items ≡ text_of model) }
+    ensures fits { IfOk result (λ text. length (cnf_of_model model).clauses < 2 ^ 64) }
+    ensures unbuilt { IfErr result (λ e. IsFaultOf e (first_unbuilt_of model)) }
 {
     let Compiled { cnf, map } = compile(alloc, &model)?;
     let Model {

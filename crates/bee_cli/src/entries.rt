@@ -15,7 +15,7 @@ pub fn entries_of(
     mut values: Vec<MapValue>,
 ) -> Result<Vec<MapEntry>, AllocError>
     requires { length decls.items ≡ length values.items }
-    ensures { IfOk result (λ entries. entries.items ≡ entries_of decls.entry.items values.entry.items) }
+    ensures { IfOk result (λ entries. entries.items ≡ entries_of decls.items values.items) }
 {
     let mut entries = Vec::with_capacity(alloc, decls.len())?;
     while let Some(decl) = decls.pop() {

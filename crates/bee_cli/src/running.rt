@@ -47,6 +47,41 @@ fn compile<S: Shelf, O: Sink>(alloc: Global, input: &str, shelf: &mut S, out: &m
     }
 }
 
+/// What comes of the words.
+fn obey<S: Shelf, O: Sink>(
+    alloc: Global,
+    words: &[String],
+    shelf: &mut S,
+    out: &mut O,
+) -> Status
+    ensures usage { result ≢ Status.Memory →
+        (result ≡ Status.Usage) ↔ (compile_input (map string_bytes words.now) ≡ None) }
+    ensures usage_reads_nothing { compile_input (map string_bytes words.now) ≡ None → (name : List ℕ) →
+        S.left shelf.new name ≡ S.left shelf.old name }
+    ensures usage_writes_nothing { compile_input (map string_bytes words.now) ≡ None →
+        O.taken out.new ≡ O.taken out.old }
+    ensures compile { (input : List ℕ) → compile_input (map string_bytes words.now) ≡ Some input →
+        CompileMode result (record {
+          left_before = S.left shelf.old input;
+          left_after = S.left shelf.new input;
+          shelf_faults_before = S.faults shelf.old input;
+          shelf_faults_after = S.faults shelf.new input;
+          taken_before = O.taken out.old;
+          taken_after = O.taken out.new;
+          flushed_after = O.flushed out.new;
+          sink_faults_before = O.faults out.old;
+          sink_faults_after = O.faults out.new;
+        }) }
+    ensures others_stay { (input other : List ℕ) → compile_input (map string_bytes words.now) ≡ Some input →
+        other ≢ input → S.left shelf.new other ≡ S.left shelf.old other }
+{
+    match compile_input(alloc, words) {
+        Ok(Some(input)) => compile(alloc, input, shelf, out),
+        Ok(None) => Status::Usage,
+        Err(AllocError) => Status::Memory,
+    }
+}
+
 /// Does what the words say, from the shelf to `out`, and says on `err` in one line why nothing came of it.
 /// A fault of `err` changes no status. The whole text is made before the first byte of it is written, so
 /// `out` has a byte of it only where the run ends in `Done` or in `Write`.
@@ -81,11 +116,7 @@ pub fn run<S: Shelf, O: Sink, E: Sink>(
     ensures others_stay { (input other : List ℕ) → compile_input (map string_bytes words.now.items) ≡ Some input →
         other ≢ input → S.left shelf.new other ≡ S.left shelf.old other }
 {
-    let status = match compile_input(alloc, words.as_slice()) {
-        Ok(Some(input)) => compile(alloc, input, shelf, out),
-        Ok(None) => Status::Usage,
-        Err(AllocError) => Status::Memory,
-    };
+    let status = obey(alloc, words.as_slice(), shelf, out);
     report(alloc, &status, err);
     status
 }

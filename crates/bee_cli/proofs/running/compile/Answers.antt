@@ -1,7 +1,7 @@
 use Rattle.std.proofs.Common.{ℕ, List, refl, subst, ap, ◌∙◌, arith}
 use Rattle.bee_outside.specs.Bytes.{grown, GrewByFront}
-use Rattle.bee_cli.specs.declared.status.Status.TheVariants.{Done, Write}
-use Rattle.bee_cli.proofs.Modes.{mode, took_text, within_limit, headline_of}
+use Rattle.bee_cli.specs.declared.status.Status.TheVariants.{Done, Write, Model}
+use Rattle.bee_cli.proofs.Modes.{mode, took_text, within_limit, headline_of, refused_of}
 use Rattle.bee_cli.proofs.running.compile.Goals as goal
 
 pub returns-in-Ok-write_all-clause-mode : goal.returns-in-Ok-write_all-clause-mode
@@ -15,7 +15,7 @@ returns-in-Ok-write_all-clause-mode g c =
       text = text;
       written = written;
       read = record { moved = moved; whole = whole };
-      headline = headline_of text _ written (within_limit text short) c.as_slice.ensures.value c.in-Ok.ensures;
+      headline = headline_of text _ written (within_limit text short) c.as_slice.ensures.value c.in-Ok.ensures.compiled;
       taken = c.in-Ok-write_all.ensures.written ∙ ap (λ t. grown (g.O.Sink.taken c.args.out.now) t) c.as_slice-2.ensures.value;
       flushed = c.in-Ok-write_all.ensures.flushed;
     }) (λ e. absurd e) (took_text _ _ text moved (omega arith))
@@ -33,8 +33,19 @@ returns-clause-mode g c =
         text = text;
         written = written;
         read = record { moved = moved; whole = whole };
-        headline = headline_of text _ written (within_limit text short) c.as_slice.ensures.value c.in-Ok.ensures;
+        headline = headline_of text _ written (within_limit text short) c.as_slice.ensures.value c.in-Ok.ensures.compiled;
         taken = subst P c.as_slice-2.ensures.value c.in-Err.ensures.fault_took_front;
       },
       c.in-Err.ensures.fault_is_counted,
     ) (λ e. absurd e) (took_text _ _ text moved (omega arith))
+
+pub returns-in-Err-Model-clause-mode : goal.returns-in-Err-Model-clause-mode
+returns-in-Err-Model-clause-mode g c =
+    let moved = rw c.in-Ok-Whole.field-0-is at c.in-Ok-Whole.ensures.text in
+    let whole = (rw c.in-Ok-Whole.field-0-is at c.in-Ok-Whole.ensures.whole) refl in
+    let short = (rw c.in-Ok-Whole.field-0-is at c.in-Ok-Whole.ensures.whole_within) refl in
+    let text = c.in-Ok-Whole.text.items in
+    let cause = rw c.in-Err-Model.field-0-is at c.in-Err-Model.ensures.fault in
+    mode (Model c.in-Err-Model.fault) _
+    (refused_of _ text _ c.in-Err-Model.fault (record { moved = moved; whole = whole }) (within_limit text short) c.as_slice.ensures.value cause) (λ _. refl)
+    (took_text _ _ text moved (omega arith))

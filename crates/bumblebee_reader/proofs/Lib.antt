@@ -9,9 +9,3 @@ pub mod Faults
 pub mod Text
 pub mod Shapes
 pub mod Canonical
-pub mod SmallTokenLaws
-pub mod SmallNames
-pub mod SmallComplete
-pub mod SmallSound
-pub mod SmallRead
-pub mod SmallWell

@@ -8,9 +8,3 @@ pub mod Laws
 pub mod Canonical
 pub mod Spellable
 pub mod Names
-pub mod SmallTokens
-pub mod SmallModel
-pub mod SmallText
-pub mod SmallReading
-pub mod SmallLexeme
-pub mod SmallFound

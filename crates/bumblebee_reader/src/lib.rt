@@ -1,5 +1,4 @@
-//! The model language: from a text to its syntax and back. Beside it stands the small language with which
-//! the program starts.
+//! The model language: from a text to its syntax and back.
 #![tactic(auto)]
 
 mod fault;
@@ -10,7 +9,6 @@ mod name;
 mod numeral;
 mod print;
 mod read;
-mod small;
 mod syntax;
 #[cfg(test)]
 mod tests;
@@ -22,5 +20,4 @@ pub use laws::{canonical_is_text, one_syntax, round_trip, text_is_spellable, tex
 pub use model::read_model;
 pub use name::Name;
 pub use print::print_model;
-pub use small::{SmallFault, SmallModel, SmallTerm, read_small};
 pub use syntax::{Arg, GoalKind, Item, Syntax, Term};

@@ -12,9 +12,10 @@ use std::alloc::{AllocError, Global};
 use std::process::Abort;
 use std::test::Fail;
 
-const T: Atom = Atom::True;
+/// What stands for the constants, where a literal is its variable's number with a sign.
+const T: i64 = 1000;
 
-const F: Atom = Atom::False;
+const F: i64 = -1000;
 
 /// The literal that is a variable itself.
 fn is(var: u32) -> Atom {
@@ -60,16 +61,35 @@ fn rising_twice(alloc: Global, base: i128, weights: (u128, u128)) -> Result<OrdI
     })
 }
 
-/// Asserts which clauses a core has.
-fn has(rt: &impl Abort, alloc: Global, core: &Core, wanted: &[&[Atom]]) -> Result<(), AllocError>
+/// The number that stands for an atom.
+fn number(atom: Atom) -> i64 {
+    match atom {
+        Atom::True => T,
+        Atom::False => F,
+        Atom::Of(literal) if literal.positive => i64::from(literal.var),
+        Atom::Of(literal) => -i64::from(literal.var),
+    }
+}
+
+/// Puts the numbers of a clause behind others, and 0 at its end.
+fn put(numbers: &mut Vec<i64>, clause: &Sequence<Atom>) -> Result<(), AllocError> {
+    for atom in clause.as_slice() {
+        numbers.push(number(*atom))?;
+    }
+    numbers.push(0)?;
+    Ok(())
+}
+
+/// Asserts which clauses a core has: their numbers, and 0 at the end of each.
+fn has(rt: &impl Abort, alloc: Global, core: &Core, wanted: &[i64]) -> Result<(), AllocError>
     requires form { IsEncodable core.now }
     requires well_formed { IsWellFormed core.now }
 {
-    let made = clauses(alloc, core)?;
-    assert_eq!(rt; made.len(), wanted.len());
-    for (clause, atoms) in made.iter().zip(wanted) {
-        assert_eq!(rt; clause.as_slice(), *atoms);
+    let mut numbers = Vec::new(alloc);
+    for clause in clauses(alloc, core)?.iter() {
+        put(&mut numbers, clause)?;
     }
+    assert_eq!(rt; numbers.as_slice(), wanted);
     Ok(())
 }
 
@@ -77,7 +97,7 @@ fn has(rt: &impl Abort, alloc: Global, core: &Core, wanted: &[&[Atom]]) -> Resul
 fn ladder(rt: HostRuntime) -> Result<(), Fail> {
     let alloc = rt.alloc();
     let core = Core::Ladder(OrdInt::unit_range(alloc, 0, 1, 3)?);
-    has(&rt, alloc, &core, &[&[is(1), no(2)], &[is(2), no(3)]])?;
+    has(&rt, alloc, &core, &[1, -2, 0, 2, -3, 0])?;
     Ok(())
 }
 
@@ -86,21 +106,20 @@ fn clause(rt: HostRuntime) -> Result<(), Fail> {
     let alloc = rt.alloc();
     let members = vec![in alloc; is(1), no(2), is(1)]?;
     let core = Core::Clause(Sequence::from_vec(members));
-    has(&rt, alloc, &core, &[&[is(1), no(2), is(1)]])?;
+    has(&rt, alloc, &core, &[1, -2, 1, 0])?;
     Ok(())
 }
 
 #[test]
 fn at_most_is_stated(rt: HostRuntime) -> Result<(), Fail> {
     let alloc = rt.alloc();
-    let core = Core::LeqR(T, rising(alloc, 0, 1, 1)?, rising(alloc, 0, 2, 1)?);
-    let wanted: [&[Atom]; 4] = [
-        &[F, F, T],
-        &[F, no(1), is(2)],
-        &[T, F, is(1)],
-        &[T, no(2), F],
-    ];
-    has(&rt, alloc, &core, &wanted)?;
+    let core = Core::LeqR(Atom::True, rising(alloc, 0, 1, 1)?, rising(alloc, 0, 2, 1)?);
+    has(
+        &rt,
+        alloc,
+        &core,
+        &[F, F, T, 0, F, -1, 2, 0, T, F, 1, 0, T, -2, F, 0],
+    )?;
     Ok(())
 }
 
@@ -113,15 +132,14 @@ fn at_most_with_weights(rt: HostRuntime) -> Result<(), Fail> {
         rising_twice(alloc, 0, (2, 3))?,
         rising(alloc, 1, 3, 3)?,
     );
-    let wanted: [&[Atom]; 6] = [
-        &[is(1), no(2)],
-        &[no(5), F, T],
-        &[no(5), no(1), is(3)],
-        &[no(5), no(2), F],
-        &[is(5), F, is(1)],
-        &[is(5), no(3), is(2)],
-    ];
-    has(&rt, alloc, &core, &wanted)?;
+    has(
+        &rt,
+        alloc,
+        &core,
+        &[
+            1, -2, 0, -5, F, T, 0, -5, -1, 3, 0, -5, -2, F, 0, 5, F, 1, 0, 5, -3, 2, 0,
+        ],
+    )?;
     Ok(())
 }
 
@@ -129,30 +147,31 @@ fn at_most_with_weights(rt: HostRuntime) -> Result<(), Fail> {
 fn constant_at_most(rt: HostRuntime) -> Result<(), Fail> {
     let alloc = rt.alloc();
     let core = Core::LeqR(is(3), constant(alloc, 1)?, rising_twice(alloc, 0, (1, 1))?);
-    let wanted: [&[Atom]; 5] = [
-        &[is(1), no(2)],
-        &[no(3), F, is(1)],
-        &[is(3), F, T],
-        &[is(3), no(1), F],
-        &[is(3), no(2), F],
-    ];
-    has(&rt, alloc, &core, &wanted)?;
+    has(
+        &rt,
+        alloc,
+        &core,
+        &[1, -2, 0, -3, F, 1, 0, 3, F, T, 0, 3, -1, F, 0, 3, -2, F, 0],
+    )?;
     Ok(())
 }
 
 #[test]
 fn different_from_a_constant(rt: HostRuntime) -> Result<(), Fail> {
     let alloc = rt.alloc();
-    let core = Core::EqR(F, rising_twice(alloc, 0, (1, 1))?, constant(alloc, 1)?);
-    let wanted: [&[Atom]; 6] = [
-        &[is(1), no(2)],
-        &[T, F, T],
-        &[T, no(1), T],
-        &[T, no(2), F],
-        &[T, F, is(1)],
-        &[F, no(1), is(2), F, F],
-    ];
-    has(&rt, alloc, &core, &wanted)?;
+    let core = Core::EqR(
+        Atom::False,
+        rising_twice(alloc, 0, (1, 1))?,
+        constant(alloc, 1)?,
+    );
+    has(
+        &rt,
+        alloc,
+        &core,
+        &[
+            1, -2, 0, T, F, T, 0, T, -1, T, 0, T, -2, F, 0, T, F, 1, 0, F, -1, 2, F, F, 0,
+        ],
+    )?;
     Ok(())
 }
 
@@ -161,13 +180,12 @@ fn different_from_a_constant(rt: HostRuntime) -> Result<(), Fail> {
 fn equal_without_common_values(rt: HostRuntime) -> Result<(), Fail> {
     let alloc = rt.alloc();
     let core = Core::EqR(is(3), rising(alloc, 0, 1, 2)?, rising(alloc, 1, 2, 2)?);
-    let wanted: [&[Atom]; 4] = [
-        &[no(3), F, T],
-        &[no(3), no(1), is(2)],
-        &[no(3), F, is(1)],
-        &[no(3), no(2), F],
-    ];
-    has(&rt, alloc, &core, &wanted)?;
+    has(
+        &rt,
+        alloc,
+        &core,
+        &[-3, F, T, 0, -3, -1, 2, 0, -3, F, 1, 0, -3, -2, F, 0],
+    )?;
     Ok(())
 }
 
@@ -180,16 +198,14 @@ fn equal_with_weights(rt: HostRuntime) -> Result<(), Fail> {
         rising_twice(alloc, 0, (2, 3))?,
         rising(alloc, 2, 3, 3)?,
     );
-    let wanted: [&[Atom]; 8] = [
-        &[is(1), no(2)],
-        &[no(4), F, T],
-        &[no(4), no(1), T],
-        &[no(4), no(2), is(3)],
-        &[no(4), F, is(1)],
-        &[no(4), no(3), is(2)],
-        &[is(4), no(1), is(2), F, is(3)],
-        &[is(4), no(2), F, no(3), F],
-    ];
-    has(&rt, alloc, &core, &wanted)?;
+    has(
+        &rt,
+        alloc,
+        &core,
+        &[
+            1, -2, 0, -4, F, T, 0, -4, -1, T, 0, -4, -2, 3, 0, -4, F, 1, 0, -4, -3, 2, 0, 4, -1, 2,
+            F, 3, 0, 4, -2, F, -3, F, 0,
+        ],
+    )?;
     Ok(())
 }

@@ -27,14 +27,6 @@ fn no(var: u32) -> Atom {
     Atom::Of(Lit::of(var, false))
 }
 
-/// The integer that always has one value.
-fn constant(alloc: Global, value: i128) -> Result<OrdInt, AllocError>
-    requires { unsigned_abs value < 100 }
-    ensures { IfOk result (λ a. IsSound a) }
-{
-    OrdInt::constant(alloc, value)
-}
-
 /// An integer with one step.
 fn rising(alloc: Global, base: i128, var: u32, weight: u128) -> Result<OrdInt, AllocError>
     requires base { unsigned_abs base < 100 }
@@ -59,6 +51,79 @@ fn rising_twice(alloc: Global, base: i128, weights: (u128, u128)) -> Result<OrdI
         base,
         steps: Sequence::from_vec(vec![in alloc; (is(1), weights.0), (is(2), weights.1)]?),
     })
+}
+
+/// The comparison of two integers: whether they are equal, or the first one is at most the second.
+fn comparison(equal: bool, r: Atom, a: OrdInt, b: OrdInt) -> Core
+    requires a { IsSound a }
+    requires b { IsSound b }
+    ensures form { IsEncodable result }
+    ensures well_formed { IsWellFormed result }
+{
+    if equal {
+        Core::EqR(r, a, b)
+    } else {
+        Core::LeqR(r, a, b)
+    }
+}
+
+/// The comparison of two integers with one step each: base, variable and weight.
+fn small(
+    alloc: Global,
+    equal: bool,
+    r: Atom,
+    a: (i128, u32, u128),
+    b: (i128, u32, u128),
+) -> Result<Core, AllocError>
+    requires bases { (unsigned_abs a.0 < 100) × (unsigned_abs b.0 < 100) }
+    requires rises { (1 ≤ a.2) × (1 ≤ b.2) }
+    requires weights { (a.2 < 100) × (b.2 < 100) }
+    ensures form { IfOk result (λ core. IsEncodable core) }
+    ensures well_formed { IfOk result (λ core. IsWellFormed core) }
+{
+    let a = rising(alloc, a.0, a.1, a.2)?;
+    let b = rising(alloc, b.0, b.1, b.2)?;
+    Ok(comparison(equal, r, a, b))
+}
+
+/// The comparison of an integer with two steps, the variables of which are 1 and 2, and one with one
+/// step, the variable of which is 3.
+fn large(
+    alloc: Global,
+    equal: bool,
+    r: Atom,
+    a: (i128, u128, u128),
+    b: (i128, u128),
+) -> Result<Core, AllocError>
+    requires bases { (unsigned_abs a.0 < 100) × (unsigned_abs b.0 < 100) }
+    requires rises { (1 ≤ a.1) × (1 ≤ a.2) × (1 ≤ b.1) }
+    requires weights { (a.1 < 100) × (a.2 < 100) × (b.1 < 100) }
+    ensures form { IfOk result (λ core. IsEncodable core) }
+    ensures well_formed { IfOk result (λ core. IsWellFormed core) }
+{
+    let a = rising_twice(alloc, a.0, (a.1, a.2))?;
+    let b = rising(alloc, b.0, 3, b.1)?;
+    Ok(comparison(equal, r, a, b))
+}
+
+/// That the constant 1 is at most an integer with the values 0, 1 and 2.
+fn one_at_most(alloc: Global, r: Atom) -> Result<Core, AllocError>
+    ensures form { IfOk result (λ core. IsEncodable core) }
+    ensures well_formed { IfOk result (λ core. IsWellFormed core) }
+{
+    let a = OrdInt::constant(alloc, 1)?;
+    let b = rising_twice(alloc, 0, (1, 1))?;
+    Ok(comparison(false, r, a, b))
+}
+
+/// That an integer with the values 0, 1 and 2 is the constant 1.
+fn equal_to_one(alloc: Global, r: Atom) -> Result<Core, AllocError>
+    ensures form { IfOk result (λ core. IsEncodable core) }
+    ensures well_formed { IfOk result (λ core. IsWellFormed core) }
+{
+    let a = rising_twice(alloc, 0, (1, 1))?;
+    let b = OrdInt::constant(alloc, 1)?;
+    Ok(comparison(true, r, a, b))
 }
 
 /// The number that stands for an atom.
@@ -113,13 +178,9 @@ fn clause(rt: HostRuntime) -> Result<(), Fail> {
 #[test]
 fn at_most_is_stated(rt: HostRuntime) -> Result<(), Fail> {
     let alloc = rt.alloc();
-    let core = Core::LeqR(Atom::True, rising(alloc, 0, 1, 1)?, rising(alloc, 0, 2, 1)?);
-    has(
-        &rt,
-        alloc,
-        &core,
-        &[F, F, T, 0, F, -1, 2, 0, T, F, 1, 0, T, -2, F, 0],
-    )?;
+    let core = small(alloc, false, Atom::True, (0, 1, 1), (0, 2, 1))?;
+    let wanted = [F, F, T, 0, F, -1, 2, 0, T, F, 1, 0, T, -2, F, 0];
+    has(&rt, alloc, &core, &wanted)?;
     Ok(())
 }
 
@@ -127,51 +188,31 @@ fn at_most_is_stated(rt: HostRuntime) -> Result<(), Fail> {
 #[test]
 fn at_most_with_weights(rt: HostRuntime) -> Result<(), Fail> {
     let alloc = rt.alloc();
-    let core = Core::LeqR(
-        is(5),
-        rising_twice(alloc, 0, (2, 3))?,
-        rising(alloc, 1, 3, 3)?,
-    );
-    has(
-        &rt,
-        alloc,
-        &core,
-        &[
-            1, -2, 0, -5, F, T, 0, -5, -1, 3, 0, -5, -2, F, 0, 5, F, 1, 0, 5, -3, 2, 0,
-        ],
-    )?;
+    let core = large(alloc, false, is(5), (0, 2, 3), (1, 3))?;
+    let wanted = [
+        1, -2, 0, -5, F, T, 0, -5, -1, 3, 0, -5, -2, F, 0, 5, F, 1, 0, 5, -3, 2, 0,
+    ];
+    has(&rt, alloc, &core, &wanted)?;
     Ok(())
 }
 
 #[test]
 fn constant_at_most(rt: HostRuntime) -> Result<(), Fail> {
     let alloc = rt.alloc();
-    let core = Core::LeqR(is(3), constant(alloc, 1)?, rising_twice(alloc, 0, (1, 1))?);
-    has(
-        &rt,
-        alloc,
-        &core,
-        &[1, -2, 0, -3, F, 1, 0, 3, F, T, 0, 3, -1, F, 0, 3, -2, F, 0],
-    )?;
+    let core = one_at_most(alloc, is(3))?;
+    let wanted = [1, -2, 0, -3, F, 1, 0, 3, F, T, 0, 3, -1, F, 0, 3, -2, F, 0];
+    has(&rt, alloc, &core, &wanted)?;
     Ok(())
 }
 
 #[test]
 fn different_from_a_constant(rt: HostRuntime) -> Result<(), Fail> {
     let alloc = rt.alloc();
-    let core = Core::EqR(
-        Atom::False,
-        rising_twice(alloc, 0, (1, 1))?,
-        constant(alloc, 1)?,
-    );
-    has(
-        &rt,
-        alloc,
-        &core,
-        &[
-            1, -2, 0, T, F, T, 0, T, -1, T, 0, T, -2, F, 0, T, F, 1, 0, F, -1, 2, F, F, 0,
-        ],
-    )?;
+    let core = equal_to_one(alloc, Atom::False)?;
+    let wanted = [
+        1, -2, 0, T, F, T, 0, T, -1, T, 0, T, -2, F, 0, T, F, 1, 0, F, -1, 2, F, F, 0,
+    ];
+    has(&rt, alloc, &core, &wanted)?;
     Ok(())
 }
 
@@ -179,13 +220,9 @@ fn different_from_a_constant(rt: HostRuntime) -> Result<(), Fail> {
 #[test]
 fn equal_without_common_values(rt: HostRuntime) -> Result<(), Fail> {
     let alloc = rt.alloc();
-    let core = Core::EqR(is(3), rising(alloc, 0, 1, 2)?, rising(alloc, 1, 2, 2)?);
-    has(
-        &rt,
-        alloc,
-        &core,
-        &[-3, F, T, 0, -3, -1, 2, 0, -3, F, 1, 0, -3, -2, F, 0],
-    )?;
+    let core = small(alloc, true, is(3), (0, 1, 2), (1, 2, 2))?;
+    let wanted = [-3, F, T, 0, -3, -1, 2, 0, -3, F, 1, 0, -3, -2, F, 0];
+    has(&rt, alloc, &core, &wanted)?;
     Ok(())
 }
 
@@ -193,19 +230,11 @@ fn equal_without_common_values(rt: HostRuntime) -> Result<(), Fail> {
 #[test]
 fn equal_with_weights(rt: HostRuntime) -> Result<(), Fail> {
     let alloc = rt.alloc();
-    let core = Core::EqR(
-        is(4),
-        rising_twice(alloc, 0, (2, 3))?,
-        rising(alloc, 2, 3, 3)?,
-    );
-    has(
-        &rt,
-        alloc,
-        &core,
-        &[
-            1, -2, 0, -4, F, T, 0, -4, -1, T, 0, -4, -2, 3, 0, -4, F, 1, 0, -4, -3, 2, 0, 4, -1, 2,
-            F, 3, 0, 4, -2, F, -3, F, 0,
-        ],
-    )?;
+    let core = large(alloc, true, is(4), (0, 2, 3), (2, 3))?;
+    let wanted = [
+        1, -2, 0, -4, F, T, 0, -4, -1, T, 0, -4, -2, 3, 0, -4, F, 1, 0, -4, -3, 2, 0, 4, -1, 2, F,
+        3, 0, 4, -2, F, -3, F, 0,
+    ];
+    has(&rt, alloc, &core, &wanted)?;
     Ok(())
 }

@@ -5,17 +5,12 @@ ghost use Rattle.core_forms.specs.WellFormed.{IsSound, IsWellFormed};
 ghost use Rattle.direct_encode.specs.Clauses.{IsEncodable};
 
 use crate::clauses;
-use bee_text::Sequence;
+use bee_text::{Sequence, push_blank, push_bytes, push_signed};
 use core_forms::Core;
 use order_ints::{Atom, Lit, OrdInt};
 use std::alloc::{AllocError, Global};
 use std::process::Abort;
 use std::test::Fail;
-
-/// What stands for the constants, where a literal is its variable's number with a sign.
-const T: i64 = 1000;
-
-const F: i64 = -1000;
 
 /// The literal that is a variable itself.
 fn is(var: u32) -> Atom {
@@ -126,35 +121,38 @@ fn equal_to_one(alloc: Global, r: Atom) -> Result<Core, AllocError>
     Ok(comparison(true, r, a, b))
 }
 
-/// The number that stands for an atom.
-fn number(atom: Atom) -> i64 {
+/// Puts an atom behind a text: `T`, `F`, or the variable's number with the sign.
+fn put_atom(text: &mut Vec<u8>, atom: Atom) -> Result<(), AllocError> {
     match atom {
-        Atom::True => T,
-        Atom::False => F,
-        Atom::Of(literal) if literal.positive => i64::from(literal.var),
-        Atom::Of(literal) => -i64::from(literal.var),
+        Atom::True => push_bytes(text, b"T"),
+        Atom::False => push_bytes(text, b"F"),
+        Atom::Of(literal) => {
+            let number = i128::from(literal.var);
+            push_signed(text, if literal.positive { number } else { -number })
+        }
     }
 }
 
-/// Puts the numbers of a clause behind others, and 0 at its end.
-fn put(numbers: &mut Vec<i64>, clause: &Sequence<Atom>) -> Result<(), AllocError> {
+/// Puts a clause behind a text, each atom with a blank behind it.
+fn put(text: &mut Vec<u8>, clause: &Sequence<Atom>) -> Result<(), AllocError> {
     for atom in clause.as_slice() {
-        numbers.push(number(*atom))?;
+        put_atom(text, *atom)?;
+        push_blank(text)?;
     }
-    numbers.push(0)?;
     Ok(())
 }
 
-/// Asserts which clauses a core has: their numbers, and 0 at the end of each.
-fn has(rt: &impl Abort, alloc: Global, core: &Core, wanted: &[i64]) -> Result<(), AllocError>
+/// Asserts which clauses a core has, a bar and a blank standing behind each.
+fn has(rt: &impl Abort, alloc: Global, core: &Core, wanted: &str) -> Result<(), AllocError>
     requires form { IsEncodable core.now }
     requires well_formed { IsWellFormed core.now }
 {
-    let mut numbers = Vec::new(alloc);
+    let mut text = Vec::new(alloc);
     for clause in clauses(alloc, core)?.iter() {
-        put(&mut numbers, clause)?;
+        put(&mut text, clause)?;
+        push_bytes(&mut text, b"| ")?;
     }
-    assert_eq!(rt; numbers.as_slice(), wanted);
+    assert_eq!(rt; text.as_slice(), wanted.as_bytes());
     Ok(())
 }
 
@@ -162,7 +160,7 @@ fn has(rt: &impl Abort, alloc: Global, core: &Core, wanted: &[i64]) -> Result<()
 fn ladder(rt: HostRuntime) -> Result<(), Fail> {
     let alloc = rt.alloc();
     let core = Core::Ladder(OrdInt::unit_range(alloc, 0, 1, 3)?);
-    has(&rt, alloc, &core, &[1, -2, 0, 2, -3, 0])?;
+    has(&rt, alloc, &core, "1 -2 | 2 -3 | ")?;
     Ok(())
 }
 
@@ -171,7 +169,7 @@ fn clause(rt: HostRuntime) -> Result<(), Fail> {
     let alloc = rt.alloc();
     let members = vec![in alloc; is(1), no(2), is(1)]?;
     let core = Core::Clause(Sequence::from_vec(members));
-    has(&rt, alloc, &core, &[1, -2, 1, 0])?;
+    has(&rt, alloc, &core, "1 -2 1 | ")?;
     Ok(())
 }
 
@@ -179,8 +177,8 @@ fn clause(rt: HostRuntime) -> Result<(), Fail> {
 fn at_most_is_stated(rt: HostRuntime) -> Result<(), Fail> {
     let alloc = rt.alloc();
     let core = small(alloc, false, Atom::True, (0, 1, 1), (0, 2, 1))?;
-    let wanted = [F, F, T, 0, F, -1, 2, 0, T, F, 1, 0, T, -2, F, 0];
-    has(&rt, alloc, &core, &wanted)?;
+    let wanted = "F F T | F -1 2 | T F 1 | T -2 F | ";
+    has(&rt, alloc, &core, wanted)?;
     Ok(())
 }
 
@@ -189,10 +187,8 @@ fn at_most_is_stated(rt: HostRuntime) -> Result<(), Fail> {
 fn at_most_with_weights(rt: HostRuntime) -> Result<(), Fail> {
     let alloc = rt.alloc();
     let core = large(alloc, false, is(5), (0, 2, 3), (1, 3))?;
-    let wanted = [
-        1, -2, 0, -5, F, T, 0, -5, -1, 3, 0, -5, -2, F, 0, 5, F, 1, 0, 5, -3, 2, 0,
-    ];
-    has(&rt, alloc, &core, &wanted)?;
+    let wanted = "1 -2 | -5 F T | -5 -1 3 | -5 -2 F | 5 F 1 | 5 -3 2 | ";
+    has(&rt, alloc, &core, wanted)?;
     Ok(())
 }
 
@@ -200,8 +196,8 @@ fn at_most_with_weights(rt: HostRuntime) -> Result<(), Fail> {
 fn constant_at_most(rt: HostRuntime) -> Result<(), Fail> {
     let alloc = rt.alloc();
     let core = one_at_most(alloc, is(3))?;
-    let wanted = [1, -2, 0, -3, F, 1, 0, 3, F, T, 0, 3, -1, F, 0, 3, -2, F, 0];
-    has(&rt, alloc, &core, &wanted)?;
+    let wanted = "1 -2 | -3 F 1 | 3 F T | 3 -1 F | 3 -2 F | ";
+    has(&rt, alloc, &core, wanted)?;
     Ok(())
 }
 
@@ -209,10 +205,8 @@ fn constant_at_most(rt: HostRuntime) -> Result<(), Fail> {
 fn different_from_a_constant(rt: HostRuntime) -> Result<(), Fail> {
     let alloc = rt.alloc();
     let core = equal_to_one(alloc, Atom::False)?;
-    let wanted = [
-        1, -2, 0, T, F, T, 0, T, -1, T, 0, T, -2, F, 0, T, F, 1, 0, F, -1, 2, F, F, 0,
-    ];
-    has(&rt, alloc, &core, &wanted)?;
+    let wanted = "1 -2 | T F T | T -1 T | T -2 F | T F 1 | F -1 2 F F | ";
+    has(&rt, alloc, &core, wanted)?;
     Ok(())
 }
 
@@ -221,8 +215,8 @@ fn different_from_a_constant(rt: HostRuntime) -> Result<(), Fail> {
 fn equal_without_common_values(rt: HostRuntime) -> Result<(), Fail> {
     let alloc = rt.alloc();
     let core = small(alloc, true, is(3), (0, 1, 2), (1, 2, 2))?;
-    let wanted = [-3, F, T, 0, -3, -1, 2, 0, -3, F, 1, 0, -3, -2, F, 0];
-    has(&rt, alloc, &core, &wanted)?;
+    let wanted = "-3 F T | -3 -1 2 | -3 F 1 | -3 -2 F | ";
+    has(&rt, alloc, &core, wanted)?;
     Ok(())
 }
 
@@ -231,10 +225,8 @@ fn equal_without_common_values(rt: HostRuntime) -> Result<(), Fail> {
 fn equal_with_weights(rt: HostRuntime) -> Result<(), Fail> {
     let alloc = rt.alloc();
     let core = large(alloc, true, is(4), (0, 2, 3), (2, 3))?;
-    let wanted = [
-        1, -2, 0, -4, F, T, 0, -4, -1, T, 0, -4, -2, 3, 0, -4, F, 1, 0, -4, -3, 2, 0, 4, -1, 2, F,
-        3, 0, 4, -2, F, -3, F, 0,
-    ];
-    has(&rt, alloc, &core, &wanted)?;
+    let wanted =
+        "1 -2 | -4 F T | -4 -1 T | -4 -2 3 | -4 F 1 | -4 -3 2 | 4 -1 2 F 3 | 4 -2 F -3 F | ";
+    has(&rt, alloc, &core, wanted)?;
     Ok(())
 }

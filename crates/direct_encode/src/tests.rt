@@ -1,4 +1,4 @@
-//! Clauses worked out by hand from the table of forms.
+//! Clauses worked out by hand, for each form.
 
 ghost use Rattle.std.specs.Prelude.{◌^◌, ◌<◌, ◌≤◌, unsigned_abs, IfOk};
 ghost use Rattle.core_forms.specs.WellFormed.{IsSound, IsWellFormed};

@@ -16,7 +16,8 @@ use core_forms::Core;
 use order_ints::Atom;
 use std::alloc::{AllocError, Global};
 
-/// Puts the clauses of a core behind others, form by form.
+/// Puts the clauses of a core behind others, form by form. Its callers have no core of another form
+/// than those that have clauses here.
 fn push_clauses(clauses: &mut Vec<Sequence<Atom>>, core: &Core) -> Result<(), AllocError>
     requires form { IsEncodable core.now }
     requires well_formed { IsWellFormed core.now }

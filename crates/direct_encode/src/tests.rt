@@ -1,20 +1,16 @@
-//! Clauses worked out by hand from the table of forms.
+//! Clauses worked out by hand, for each form.
 
 ghost use Rattle.std.specs.Prelude.{◌^◌, ◌<◌, ◌≤◌, unsigned_abs, IfOk};
 ghost use Rattle.core_forms.specs.WellFormed.{IsSound, IsWellFormed};
 ghost use Rattle.direct_encode.specs.Clauses.{IsEncodable};
 
 use crate::clauses;
-use bee_text::Sequence;
+use bee_text::{Sequence, push_blank, push_bytes, push_signed};
 use core_forms::Core;
 use order_ints::{Atom, Lit, OrdInt};
 use std::alloc::{AllocError, Global};
 use std::process::Abort;
 use std::test::Fail;
-
-const T: Atom = Atom::True;
-
-const F: Atom = Atom::False;
 
 /// The literal that is a variable itself.
 fn is(var: u32) -> Atom {
@@ -24,14 +20,6 @@ fn is(var: u32) -> Atom {
 /// The literal that is a variable's negation.
 fn no(var: u32) -> Atom {
     Atom::Of(Lit::of(var, false))
-}
-
-/// The integer that always has one value.
-fn constant(alloc: Global, value: i128) -> Result<OrdInt, AllocError>
-    requires { unsigned_abs value < 100 }
-    ensures { IfOk result (λ a. IsSound a) }
-{
-    OrdInt::constant(alloc, value)
 }
 
 /// An integer with one step.
@@ -60,16 +48,111 @@ fn rising_twice(alloc: Global, base: i128, weights: (u128, u128)) -> Result<OrdI
     })
 }
 
-/// Asserts which clauses a core has.
-fn has(rt: &impl Abort, alloc: Global, core: &Core, wanted: &[&[Atom]]) -> Result<(), AllocError>
+/// The comparison of two integers: whether they are equal, or the first one is at most the second.
+fn comparison(equal: bool, r: Atom, a: OrdInt, b: OrdInt) -> Core
+    requires a { IsSound a }
+    requires b { IsSound b }
+    ensures form { IsEncodable result }
+    ensures well_formed { IsWellFormed result }
+{
+    if equal {
+        Core::EqR(r, a, b)
+    } else {
+        Core::LeqR(r, a, b)
+    }
+}
+
+/// The comparison of two integers with one step each: base, variable and weight.
+fn small(
+    alloc: Global,
+    equal: bool,
+    r: Atom,
+    a: (i128, u32, u128),
+    b: (i128, u32, u128),
+) -> Result<Core, AllocError>
+    requires bases { (unsigned_abs a.0 < 100) × (unsigned_abs b.0 < 100) }
+    requires rises { (1 ≤ a.2) × (1 ≤ b.2) }
+    requires weights { (a.2 < 100) × (b.2 < 100) }
+    ensures form { IfOk result (λ core. IsEncodable core) }
+    ensures well_formed { IfOk result (λ core. IsWellFormed core) }
+{
+    let a = rising(alloc, a.0, a.1, a.2)?;
+    let b = rising(alloc, b.0, b.1, b.2)?;
+    Ok(comparison(equal, r, a, b))
+}
+
+/// The comparison of an integer with two steps, the variables of which are 1 and 2, and one with one
+/// step, the variable of which is 3.
+fn large(
+    alloc: Global,
+    equal: bool,
+    r: Atom,
+    a: (i128, u128, u128),
+    b: (i128, u128),
+) -> Result<Core, AllocError>
+    requires bases { (unsigned_abs a.0 < 100) × (unsigned_abs b.0 < 100) }
+    requires rises { (1 ≤ a.1) × (1 ≤ a.2) × (1 ≤ b.1) }
+    requires weights { (a.1 < 100) × (a.2 < 100) × (b.1 < 100) }
+    ensures form { IfOk result (λ core. IsEncodable core) }
+    ensures well_formed { IfOk result (λ core. IsWellFormed core) }
+{
+    let a = rising_twice(alloc, a.0, (a.1, a.2))?;
+    let b = rising(alloc, b.0, 3, b.1)?;
+    Ok(comparison(equal, r, a, b))
+}
+
+/// That the constant 1 is at most an integer with the values 0, 1 and 2.
+fn one_at_most(alloc: Global, r: Atom) -> Result<Core, AllocError>
+    ensures form { IfOk result (λ core. IsEncodable core) }
+    ensures well_formed { IfOk result (λ core. IsWellFormed core) }
+{
+    let a = OrdInt::constant(alloc, 1)?;
+    let b = rising_twice(alloc, 0, (1, 1))?;
+    Ok(comparison(false, r, a, b))
+}
+
+/// That an integer with the values 0, 1 and 2 is the constant 1.
+fn equal_to_one(alloc: Global, r: Atom) -> Result<Core, AllocError>
+    ensures form { IfOk result (λ core. IsEncodable core) }
+    ensures well_formed { IfOk result (λ core. IsWellFormed core) }
+{
+    let a = rising_twice(alloc, 0, (1, 1))?;
+    let b = OrdInt::constant(alloc, 1)?;
+    Ok(comparison(true, r, a, b))
+}
+
+/// Puts an atom behind a text: `T`, `F`, or the variable's number with the sign.
+fn put_atom(text: &mut Vec<u8>, atom: Atom) -> Result<(), AllocError> {
+    match atom {
+        Atom::True => push_bytes(text, b"T"),
+        Atom::False => push_bytes(text, b"F"),
+        Atom::Of(literal) => {
+            let number = i128::from(literal.var);
+            push_signed(text, if literal.positive { number } else { -number })
+        }
+    }
+}
+
+/// Puts a clause behind a text, each atom with a blank behind it.
+fn put(text: &mut Vec<u8>, clause: &Sequence<Atom>) -> Result<(), AllocError> {
+    for atom in clause.as_slice() {
+        put_atom(text, *atom)?;
+        push_blank(text)?;
+    }
+    Ok(())
+}
+
+/// Asserts which clauses a core has, a bar and a blank standing behind each.
+fn has(rt: &impl Abort, alloc: Global, core: &Core, wanted: &str) -> Result<(), AllocError>
     requires form { IsEncodable core.now }
     requires well_formed { IsWellFormed core.now }
 {
-    let made = clauses(alloc, core)?;
-    assert_eq!(rt; made.len(), wanted.len());
-    for (clause, atoms) in made.iter().zip(wanted) {
-        assert_eq!(rt; clause.as_slice(), *atoms);
+    let mut text = Vec::new(alloc);
+    for clause in clauses(alloc, core)?.iter() {
+        put(&mut text, clause)?;
+        push_bytes(&mut text, b"| ")?;
     }
+    assert_eq!(rt; text.as_slice(), wanted.as_bytes());
     Ok(())
 }
 
@@ -77,7 +160,7 @@ fn has(rt: &impl Abort, alloc: Global, core: &Core, wanted: &[&[Atom]]) -> Resul
 fn ladder(rt: HostRuntime) -> Result<(), Fail> {
     let alloc = rt.alloc();
     let core = Core::Ladder(OrdInt::unit_range(alloc, 0, 1, 3)?);
-    has(&rt, alloc, &core, &[&[is(1), no(2)], &[is(2), no(3)]])?;
+    has(&rt, alloc, &core, "1 -2 | 2 -3 | ")?;
     Ok(())
 }
 
@@ -86,21 +169,16 @@ fn clause(rt: HostRuntime) -> Result<(), Fail> {
     let alloc = rt.alloc();
     let members = vec![in alloc; is(1), no(2), is(1)]?;
     let core = Core::Clause(Sequence::from_vec(members));
-    has(&rt, alloc, &core, &[&[is(1), no(2), is(1)]])?;
+    has(&rt, alloc, &core, "1 -2 1 | ")?;
     Ok(())
 }
 
 #[test]
 fn at_most_is_stated(rt: HostRuntime) -> Result<(), Fail> {
     let alloc = rt.alloc();
-    let core = Core::LeqR(T, rising(alloc, 0, 1, 1)?, rising(alloc, 0, 2, 1)?);
-    let wanted: [&[Atom]; 4] = [
-        &[F, F, T],
-        &[F, no(1), is(2)],
-        &[T, F, is(1)],
-        &[T, no(2), F],
-    ];
-    has(&rt, alloc, &core, &wanted)?;
+    let core = small(alloc, false, Atom::True, (0, 1, 1), (0, 2, 1))?;
+    let wanted = "F F T | F -1 2 | T F 1 | T -2 F | ";
+    has(&rt, alloc, &core, wanted)?;
     Ok(())
 }
 
@@ -108,51 +186,27 @@ fn at_most_is_stated(rt: HostRuntime) -> Result<(), Fail> {
 #[test]
 fn at_most_with_weights(rt: HostRuntime) -> Result<(), Fail> {
     let alloc = rt.alloc();
-    let core = Core::LeqR(
-        is(5),
-        rising_twice(alloc, 0, (2, 3))?,
-        rising(alloc, 1, 3, 3)?,
-    );
-    let wanted: [&[Atom]; 6] = [
-        &[is(1), no(2)],
-        &[no(5), F, T],
-        &[no(5), no(1), is(3)],
-        &[no(5), no(2), F],
-        &[is(5), F, is(1)],
-        &[is(5), no(3), is(2)],
-    ];
-    has(&rt, alloc, &core, &wanted)?;
+    let core = large(alloc, false, is(5), (0, 2, 3), (1, 3))?;
+    let wanted = "1 -2 | -5 F T | -5 -1 3 | -5 -2 F | 5 F 1 | 5 -3 2 | ";
+    has(&rt, alloc, &core, wanted)?;
     Ok(())
 }
 
 #[test]
 fn constant_at_most(rt: HostRuntime) -> Result<(), Fail> {
     let alloc = rt.alloc();
-    let core = Core::LeqR(is(3), constant(alloc, 1)?, rising_twice(alloc, 0, (1, 1))?);
-    let wanted: [&[Atom]; 5] = [
-        &[is(1), no(2)],
-        &[no(3), F, is(1)],
-        &[is(3), F, T],
-        &[is(3), no(1), F],
-        &[is(3), no(2), F],
-    ];
-    has(&rt, alloc, &core, &wanted)?;
+    let core = one_at_most(alloc, is(3))?;
+    let wanted = "1 -2 | -3 F 1 | 3 F T | 3 -1 F | 3 -2 F | ";
+    has(&rt, alloc, &core, wanted)?;
     Ok(())
 }
 
 #[test]
 fn different_from_a_constant(rt: HostRuntime) -> Result<(), Fail> {
     let alloc = rt.alloc();
-    let core = Core::EqR(F, rising_twice(alloc, 0, (1, 1))?, constant(alloc, 1)?);
-    let wanted: [&[Atom]; 6] = [
-        &[is(1), no(2)],
-        &[T, F, T],
-        &[T, no(1), T],
-        &[T, no(2), F],
-        &[T, F, is(1)],
-        &[F, no(1), is(2), F, F],
-    ];
-    has(&rt, alloc, &core, &wanted)?;
+    let core = equal_to_one(alloc, Atom::False)?;
+    let wanted = "1 -2 | T F T | T -1 T | T -2 F | T F 1 | F -1 2 F F | ";
+    has(&rt, alloc, &core, wanted)?;
     Ok(())
 }
 
@@ -160,14 +214,9 @@ fn different_from_a_constant(rt: HostRuntime) -> Result<(), Fail> {
 #[test]
 fn equal_without_common_values(rt: HostRuntime) -> Result<(), Fail> {
     let alloc = rt.alloc();
-    let core = Core::EqR(is(3), rising(alloc, 0, 1, 2)?, rising(alloc, 1, 2, 2)?);
-    let wanted: [&[Atom]; 4] = [
-        &[no(3), F, T],
-        &[no(3), no(1), is(2)],
-        &[no(3), F, is(1)],
-        &[no(3), no(2), F],
-    ];
-    has(&rt, alloc, &core, &wanted)?;
+    let core = small(alloc, true, is(3), (0, 1, 2), (1, 2, 2))?;
+    let wanted = "-3 F T | -3 -1 2 | -3 F 1 | -3 -2 F | ";
+    has(&rt, alloc, &core, wanted)?;
     Ok(())
 }
 
@@ -175,21 +224,9 @@ fn equal_without_common_values(rt: HostRuntime) -> Result<(), Fail> {
 #[test]
 fn equal_with_weights(rt: HostRuntime) -> Result<(), Fail> {
     let alloc = rt.alloc();
-    let core = Core::EqR(
-        is(4),
-        rising_twice(alloc, 0, (2, 3))?,
-        rising(alloc, 2, 3, 3)?,
-    );
-    let wanted: [&[Atom]; 8] = [
-        &[is(1), no(2)],
-        &[no(4), F, T],
-        &[no(4), no(1), T],
-        &[no(4), no(2), is(3)],
-        &[no(4), F, is(1)],
-        &[no(4), no(3), is(2)],
-        &[is(4), no(1), is(2), F, is(3)],
-        &[is(4), no(2), F, no(3), F],
-    ];
-    has(&rt, alloc, &core, &wanted)?;
+    let core = large(alloc, true, is(4), (0, 2, 3), (2, 3))?;
+    let wanted =
+        "1 -2 | -4 F T | -4 -1 T | -4 -2 3 | -4 F 1 | -4 -3 2 | 4 -1 2 F 3 | 4 -2 F -3 F | ";
+    has(&rt, alloc, &core, wanted)?;
     Ok(())
 }

@@ -71,27 +71,131 @@ fn texts_are_compiled(rt: HostRuntime) -> Result<(), Fail> {
 }
 
 #[test]
-fn other_texts_are_refused_with_their_line(rt: HostRuntime) -> Result<(), Fail> {
+fn integers_are_compiled(rt: HostRuntime) -> Result<(), Fail> {
     let alloc = rt.alloc();
-    for (text, line) in [
-        ("new_bool(x)\nint_leq(x,x)\nsolve satisfy\n", 2),
-        ("new_bool(x)", 1),
-        ("new_bool(x)\n", 2),
-        ("", 1),
-        ("% c\nsolve satisfy\n", 1),
-        ("new_bool(x)\nnew_bool(x)\nsolve satisfy\n", 2),
-        ("bool_array_or([x])\nnew_bool(x)\nsolve satisfy\n", 1),
-        ("\nnew_bool(true)\nsolve satisfy\n", 2),
-        ("bool_array_or(\n[-true])\nsolve satisfy\n", 2),
-        ("bool_array_or([true,])solve satisfy", 1),
-        ("solve satisfy\nsolve satisfy\n", 2),
-        ("solve minimize", 1),
-        ("new_bool(7)\nsolve satisfy\n", 1),
+    for (text, compiled) in [
+        // 0, 2
+        (
+            "new_int(x,0,2)\nint_neq(x,1)\nsolve satisfy\n",
+            "c bee 1\nc int x 0 1:1 2:1\np cnf 2 2\n1 -2 0\n-1 2 0\n",
+        ),
+        // 0 0, 0 1, 1 1
+        (
+            "new_int(x,0,1)\nnew_int(y,0,1)\nint_leq(x,y)\nsolve satisfy\n",
+            "c bee 1\nc int x 0 1:1\nc int y 0 2:1\np cnf 2 1\n-1 2 0\n",
+        ),
+        // Of two numerals: none, and the one empty assignment.
+        ("int_leq(1,0)\nsolve satisfy\n", "c bee 1\np cnf 0 1\n0\n"),
+        ("int_leq(-1,0)\nsolve satisfy\n", "c bee 1\np cnf 0 0\n"),
+        // -1, for -2 is other than x, and x is at most -1
+        (
+            "new_int(x,-2,0)int_neq(-2,x)int_leq(x,-1)solve satisfy",
+            "c bee 1\nc int x -2 1:1 2:1\np cnf 2 3\n1 -2 0\n1 0\n-2 0\n",
+        ),
+        // A domain of one value.
+        (
+            "new_int(x,7,7)int_leq(x,7)solve satisfy",
+            "c bee 1\nc int x 7\np cnf 0 0\n",
+        ),
+        (
+            "new_int(x,7,7)int_neq(x,7)solve satisfy",
+            "c bee 1\nc int x 7\np cnf 0 1\n0\n",
+        ),
+        // Other than itself: none.
+        (
+            "new_int(x,3,4)int_neq(x,x)solve satisfy",
+            "c bee 1\nc int x 3 1:1\np cnf 1 2\n1 0\n-1 0\n",
+        ),
+        // Numerals outside of the domain: each value, and none.
+        (
+            "new_int(x,0,1)int_neq(x,5)int_leq(x,9)solve satisfy",
+            "c bee 1\nc int x 0 1:1\np cnf 1 0\n",
+        ),
+        (
+            "new_int(x,0,1)int_leq(5,x)solve satisfy",
+            "c bee 1\nc int x 0 1:1\np cnf 1 1\n0\n",
+        ),
+        // A Boolean declared behind an integer and a statement.
+        (
+            "new_int(x,1,2)int_neq(x,1)new_bool(b)bool_array_or([-b])solve maximize x",
+            "c bee 1\nc int x 1 1:1\nc bool b 2\np cnf 2 2\n1 0\n-2 0\n",
+        ),
     ] {
         let run = run_over(alloc, COMPILE.as_slice(), bytes(alloc, text)?, AMPLE)?;
-        assert_eq!(rt; run.status, ("unsupported", line), "{text}");
+        assert_eq!(rt; run.status.0, "done", "{text}");
+        assert_eq!(rt; run.out.taken(), compiled.as_bytes(), "{text}");
+    }
+    Ok(())
+}
+
+#[test]
+fn other_texts_are_refused(rt: HostRuntime) -> Result<(), Fail> {
+    let alloc = rt.alloc();
+    for (text, word, number) in [
+        ("new_bool(x", "syntax", 1),
+        ("new_bool(x)\nsolve\n", "syntax", 3),
+        ("bool_array_or([true,])solve satisfy", "syntax", 1),
+        (
+            "new_bool(x)\nnew_int(y,0,1073741825)\nsolve satisfy\n",
+            "number",
+            2,
+        ),
+        ("", "goal", 1),
+        ("new_bool(x)", "goal", 2),
+        ("solve satisfy\nsolve satisfy\n", "goal", 2),
+        ("foo(x)\nsolve satisfy\n", "unknown", 1),
+        (
+            "bool_array_or([x])\nnew_bool(x)\nsolve satisfy\n",
+            "undeclared",
+            1,
+        ),
+        ("new_bool(x)\nint_eq(y,1)\nsolve satisfy\n", "undeclared", 2),
+        ("new_bool(x)\nint_leq(x,x)\nsolve satisfy\n", "kind", 2),
+        ("new_bool(x)\nint_eq(x,1)\nsolve satisfy\n", "kind", 2),
+        ("new_bool(x)\nnew_bool(x)\nsolve satisfy\n", "twice", 2),
+        (
+            "new_bool(x)\nbool_arrays_lex([x],[x,x])\nsolve satisfy\n",
+            "lengths",
+            2,
+        ),
+        ("new_int(x,3,2)\nsolve satisfy\n", "empty domain", 1),
+        (
+            "new_int(a,0,5)new_int(b,0,3)new_int(c,0,5)int_div(a,b,c)solve satisfy",
+            "division domain",
+            4,
+        ),
+    ] {
+        let run = run_over(alloc, COMPILE.as_slice(), bytes(alloc, text)?, AMPLE)?;
+        assert_eq!(rt; run.status, (word, number), "{text}");
         assert_eq!(rt; run.out.taken(), b"".as_slice(), "{text}");
-        let told = format!(in alloc; "bee: model: line {line}: unsupported\n")?;
+        let place = if word == "syntax" || word == "number" {
+            "line"
+        } else {
+            "statement"
+        };
+        let told = format!(in alloc; "bee: model: {place} {number}: {word}\n")?;
+        assert_eq!(rt; run.err.taken(), told.as_bytes(), "{text}");
+    }
+    Ok(())
+}
+
+#[test]
+fn statements_that_are_not_built_are_refused(rt: HostRuntime) -> Result<(), Fail> {
+    let alloc = rt.alloc();
+    for (text, item) in [
+        ("new_bool(x)\nnew_bool(y)\nbool_eq(x,y)\nsolve satisfy\n", 3),
+        ("new_int(x,0,3)int_lt(x,2)int_eq(x,1)solve satisfy", 2),
+        ("new_bool(x)bool2int(x,i)solve maximize i", 2),
+        ("new_int(x,-1000000000,1000000000)solve satisfy", 1),
+        (
+            "new_bool(x)new_int(y,0,16777216)bool_eq(x,x)solve satisfy",
+            2,
+        ),
+        ("bool_eq(true,true)new_int(y,0,16777217)solve satisfy", 1),
+    ] {
+        let run = run_over(alloc, COMPILE.as_slice(), bytes(alloc, text)?, AMPLE)?;
+        assert_eq!(rt; run.status, ("not built", item), "{text}");
+        let told = format!(in alloc; "bee: model: statement {item}: not built\n")?;
         assert_eq!(rt; run.err.taken(), told.as_bytes(), "{text}");
     }
     Ok(())
@@ -103,7 +207,21 @@ fn other_words_are_refused(rt: HostRuntime) -> Result<(), Fail> {
     let two = ["bee", "compile"];
     let four = ["bee", "compile", "m.bee", "m.bee"];
     let mode = ["bee", "solve", "m.bee"];
-    for words in [two.as_slice(), four.as_slice(), mode.as_slice()] {
+    let check = ["bee", "check", "m.bee"];
+    let queens = ["bee", "queens", "3"];
+    let budget = ["bee", "solve", "m.bee", "--budget", "0"];
+    let nothing = ["bee", "compile", "m.bee", "--budget", "0"];
+    let help = ["bee", "compile", "m.bee", "--help"];
+    for words in [
+        two.as_slice(),
+        four.as_slice(),
+        mode.as_slice(),
+        check.as_slice(),
+        queens.as_slice(),
+        budget.as_slice(),
+        nothing.as_slice(),
+        help.as_slice(),
+    ] {
         let run = run_over(alloc, words, bytes(alloc, ONE)?, AMPLE)?;
         assert_eq!(rt; run.status.0, "usage");
         assert_eq!(rt; run.out.taken(), b"".as_slice());
@@ -116,6 +234,16 @@ fn other_words_are_refused(rt: HostRuntime) -> Result<(), Fail> {
     let run = run_over(alloc, absent.as_slice(), bytes(alloc, ONE)?, AMPLE)?;
     assert_eq!(rt; run.status.0, "read");
     assert_eq!(rt; run.err.taken(), b"bee: read fault\n".as_slice());
+    Ok(())
+}
+
+#[test]
+fn options_mean_nothing_to_compile(rt: HostRuntime) -> Result<(), Fail> {
+    let alloc = rt.alloc();
+    let words = ["bee", "--no-restart", "compile", "m.bee", "--budget", "007"];
+    let run = run_over(alloc, words.as_slice(), bytes(alloc, ONE)?, AMPLE)?;
+    assert_eq!(rt; run.status.0, "done");
+    assert_eq!(rt; run.out.taken(), ONE_COMPILED.as_bytes());
     Ok(())
 }
 
@@ -177,7 +305,7 @@ fn faults_at_each_call(rt: HostRuntime) -> Result<(), Fail> {
         ..AMPLE
     };
     let run = run_over(alloc, COMPILE.as_slice(), bytes(alloc, "solve")?, mute)?;
-    assert_eq!(rt; run.status, ("unsupported", 1));
+    assert_eq!(rt; run.status, ("syntax", 1));
     assert_eq!(rt; run.err.taken(), b"".as_slice());
     Ok(())
 }

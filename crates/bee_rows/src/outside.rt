@@ -5,6 +5,7 @@ ghost use Rattle.std.specs.Prelude.{◌≤◌};
 use bee_cli::{ModelFault, Status, run};
 use bee_outside::{MemShelf, MemSink};
 use std::alloc::{AllocError, Global};
+use typed_model::TypeFault;
 
 /// How often and where the outside fails, and how much it gives and takes at once.
 #[derive(Clone, Copy)]
@@ -41,12 +42,30 @@ pub struct Shown {
     pub err: MemSink,
 }
 
+/// A fault of an item in one word, and the item's number.
+fn fault_described(fault: &TypeFault) -> (&'static str, u64) {
+    match fault {
+        TypeFault::NoGoal(item) => ("goal", *item),
+        TypeFault::Unknown(item) => ("unknown", *item),
+        TypeFault::Undeclared(item) => ("undeclared", *item),
+        TypeFault::Kind(item) => ("kind", *item),
+        TypeFault::Twice(item) => ("twice", *item),
+        TypeFault::Lengths(item) => ("lengths", *item),
+        TypeFault::EmptyDomain(item) => ("empty domain", *item),
+        TypeFault::DivDomain(item) => ("division domain", *item),
+        TypeFault::Memory => ("memory", 0),
+    }
+}
+
 fn described(status: &Status) -> (&'static str, u64) {
     match status {
         Status::Done => ("done", 0),
         Status::Usage => ("usage", 0),
         Status::Model(ModelFault::TooLong) => ("too long", 0),
-        Status::Model(ModelFault::Unsupported(line)) => ("unsupported", *line),
+        Status::Model(ModelFault::Syntax(line)) => ("syntax", *line),
+        Status::Model(ModelFault::Number(line)) => ("number", *line),
+        Status::Model(ModelFault::Typed(fault)) => fault_described(fault),
+        Status::Model(ModelFault::Unbuilt(item)) => ("not built", *item),
         Status::Read => ("read", 0),
         Status::Write => ("write", 0),
         Status::Memory => ("memory", 0),

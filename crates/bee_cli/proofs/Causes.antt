@@ -1,5 +1,5 @@
 -- Why nothing comes of a text.
-use Rattle.std.proofs.Common.{rules, ◌≡◌, ◌≢◌, ℕ, List, sym, subst, ◌∙◌, Option, Some, None, Result, Ok, Err, inl, inr}
+use Rattle.std.proofs.Common.{◌≡◌, ◌≢◌, ℕ, List, sym, ◌∙◌, Some, Result, Ok, inl, inr}
 use Rattle.bumblebee_reader.specs.declared.syntax.Syntax.{Syntax}
 use Rattle.bumblebee_reader.specs.declared.fault.ReadFault.{ReadFault}
 use Rattle.bumblebee_reader.specs.Grammar.{IsText}

@@ -1,10 +1,7 @@
 -- A text has one first fault, or it says a model that is compiled.
-use Rattle.std.proofs.Common.{rules, ◌≡◌, ℕ, List, [], refl, ap, sym, subst, ◌∙◌, Option, Some, None, Result, Ok, Err}
-use Rattle.bumblebee_reader.specs.declared.syntax.Syntax.{Syntax}
+use Rattle.std.proofs.Common.{◌≡◌, ℕ, List, ap, sym, ◌∙◌, Option, Some, None, Ok, Err}
 use Rattle.bumblebee_reader.specs.declared.syntax.Item.{Item}
-use Rattle.bumblebee_reader.specs.declared.fault.ReadFault.{ReadFault}
 use Rattle.bumblebee_reader.specs.declared.fault.ReadFault.TheVariants as read_fault
-use Rattle.bumblebee_reader.specs.Grammar.{IsText}
 use Rattle.bumblebee_reader.specs.Reading.{AtItem, Outcome, reading}
 use Rattle.bumblebee_reader.proofs.Text.{reading_from_text, reading_from_syntax_fault, reading_from_number_fault}
 use Rattle.typed_model.specs.declared.fault.TypeFault.{TypeFault}
@@ -13,7 +10,7 @@ use Rattle.typed_model.specs.Items.{first_fault, model_of}
 use Rattle.model_lower.specs.Built.{first_unbuilt_of}
 use Rattle.bee_cli.specs.declared.status.ModelFault.{ModelFault}
 use Rattle.bee_cli.specs.declared.status.ModelFault.TheVariants as fault
-use Rattle.bee_cli.specs.Compiled.{IsModelOf, IsCompilable, IsFirstFault}
+use Rattle.bee_cli.specs.Compiled.{IsModelOf, IsFirstFault}
 
 unbuilt_fault : Option ℕ → Option ModelFault
 unbuilt_fault None = None

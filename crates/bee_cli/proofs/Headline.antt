@@ -1,26 +1,25 @@
 -- The assignments that a compiled text stands for are exactly the solutions of the model that was read.
-use Rattle.std.proofs.Common.{rules, arith, ◌≡◌, ℕ, ◌+◌, ◌<◌, ◌≤◌, ◌^◌, List, [], map, length, refl, ap, sym, subst, ◌∙◌, ℤ, None}
+use Rattle.std.proofs.Common.{arith, ◌≡◌, ℕ, ◌<◌, ◌≤◌, ◌^◌, List, [], map, length, sym, subst, ◌∙◌, None}
 use Rattle.std.specs.Prelude.{◌↔◌}
 use Rattle.order_ints.specs.Truth.{Valuation}
-use Rattle.order_ints.specs.Satisfies.{Satisfies}
 use Rattle.order_ints.specs.Numbers.{numbers_of}
 use Rattle.bumblebee_reader.specs.Names.{AreDeclared}
 use Rattle.bumblebee_reader.proofs.Shapes.{text_is_spellable_lem}
 use Rattle.typed_model.specs.declared.model.Decl.{Decl}
 use Rattle.typed_model.specs.declared.model.Model.{Model}
-use Rattle.typed_model.specs.Items.{decls_from, model_of}
+use Rattle.typed_model.specs.Items.{model_of}
 use Rattle.typed_model.specs.Limits.{InLimits}
 use Rattle.typed_model.specs.WellTyped.{WellTyped}
 use Rattle.typed_model.specs.Solutions.{IsSolution}
 use Rattle.typed_model.proofs.ModelShares.{WellTyped-model_of}
 use Rattle.typed_model.proofs.ModelLimits.{InLimits-model_of}
 use Rattle.model_lower.specs.Built.{first_unbuilt_of}
-use Rattle.bee_compile.specs.Compiled.{compiled_of, IsGiven, CompiledFits, IsCompiledWell}
+use Rattle.bee_compile.specs.Compiled.{compiled_of}
 use Rattle.bee_compile.proofs.Compilation.{compilation}
-use Rattle.dimacs_out.specs.CompiledText.{compiled_text, IsWritable}
+use Rattle.dimacs_out.specs.CompiledText.{IsWritable}
 use Rattle.dimacs_out.specs.TextSolutions.{StandsFor, assignment_of}
 use Rattle.dimacs_out.proofs.TextTells.{stands_for_exactly}
-use Rattle.bee_cli.specs.Compiled.{entries_of, cnf_of_model, text_of, IsModelOf, Compiles}
+use Rattle.bee_cli.specs.Compiled.{entries_of, cnf_of_model, IsModelOf, Compiles}
 use Rattle.bee_cli.specs.CompileMode.{longest_text, IsHeadline}
 use Rattle.bee_cli.proofs.MapLines.{same_assignment, same_names, entries_below}
 use Rattle.bee_cli.proofs.Names.{items_limit, names_from, are_declared}
@@ -65,7 +64,7 @@ headline text written w c = record {
       let well = compilation m (typed text m c.says) (limited text m c.says) c.built in
       let entries = entries_of m.decls (compiled_of m).map.entries in
       let same : (σ : Valuation) → assignment_of σ entries ≡ numbers_of σ (compiled_of m).map.entries =
-          λ σ. same_assignment σ _ m.decls (compiled_of m).map.entries well.fits.entries in
+      λ σ. same_assignment σ _ m.decls (compiled_of m).map.entries well.fits.entries in
       let s = stands_for_exactly entries (cnf_of_model m) a (writable text m c.says c.built c.fits) in
       let P : List ℕ → Type 0 = λ t. StandsFor t a ↔ IsSolution m a in
       subst P (sym c.writes) (

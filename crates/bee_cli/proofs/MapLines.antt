@@ -1,17 +1,15 @@
 -- The map lines of a model: what can be written of them, and the assignment that they give.
-use Rattle.std.proofs.Common.{rules, arith, ◌≡◌, ℕ, ◌+◌, ◌<◌, ◌≤◌, ◌^◌, List, [], ◌∷◌, ◌++◌, length, length-append, append_assoc, reverse, map, refl, ap, ap₂, sym, ◌∙◌, ℤ, pos, FitsSigned}
+use Rattle.std.proofs.Common.{arith, ◌≡◌, ℕ, ◌<◌, ◌^◌, List, [], ◌∷◌, ◌++◌, length, length-append, append_assoc, reverse, map, refl, ap, ap₂, sym, ◌∙◌, ℤ, pos, FitsSigned}
 use Rattle.std.specs.Prelude.{unsigned_abs, ◌+ℤ◌}
 use Rattle.std.specs.Int.{w128}
 use Rattle.std.proofs.lemmas.Int.{ints}
 use Rattle.std.proofs.lemmas.List.{reverse-append}
 use Rattle.order_ints.specs.declared.atom.Atom.{Atom}
-use Rattle.order_ints.specs.declared.order_int.OrdInt.{OrdInt}
 use Rattle.order_ints.specs.declared.order_int.MapValue.{MapValue}
 use Rattle.order_ints.specs.declared.order_int.MapValue.TheVariants.{Bool, Int}
 use Rattle.order_ints.specs.Truth.{Valuation}
 use Rattle.order_ints.specs.Numbers.{number_of, numbers_of}
-use Rattle.order_ints.specs.OrderRange.{weights, low_of, high_of, IsBounded, AreRising}
-use Rattle.core_forms.specs.WellFormed.{IsSound}
+use Rattle.order_ints.specs.OrderRange.{weights, AreRising}
 use Rattle.typed_model.specs.declared.model.Kind.{Kind}
 use Rattle.typed_model.specs.declared.model.Kind.TheVariants as kind
 use Rattle.typed_model.specs.declared.model.Decl.{Decl}
@@ -90,11 +88,10 @@ pub lines_taken : (decls rest : List Decl) (d : Decl) (values more : List MapVal
     → (entries_of rest more ++ reverse new ≡ all) × (length rest ≡ length more)
 lines_taken decls rest d values more v made new all e f g same k =
     let line : MapEntry = record { name = d.name; value = v } in
-    let fewer = shorter decls rest d values more v e f same in
-    (
+    let fewer = shorter decls rest d values more v e f same in (
       ap (λ l. entries_of rest more ++ l) (ap reverse g ∙ reverse-append made (line ∷ []))
-      ∙ sym (append_assoc (entries_of rest more) (line ∷ []) (reverse made))
-      ∙ ap (λ l. l ++ reverse made) (sym (one_more rest d more v fewer))
-      ∙ ap₂ (λ ds vs. entries_of ds vs ++ reverse made) (sym e) (sym f) ∙ k,
+          ∙ sym (append_assoc (entries_of rest more) (line ∷ []) (reverse made))
+          ∙ ap (λ l. l ++ reverse made) (sym (one_more rest d more v fewer))
+          ∙ ap₂ (λ ds vs. entries_of ds vs ++ reverse made) (sym e) (sym f) ∙ k,
       fewer,
     )

@@ -2,7 +2,7 @@
 use Rattle.std.proofs.Common.{◌≡◌, ℕ, ◌+◌, ◌<◌, ◌≤◌, List, [], ◌++◌, length, Option, Some, None, refl, ap, sym, ◌∙◌, subst, arith, inl, inr, length-append}
 use Rattle.std.proofs.lemmas.List.{append-nil}
 use Rattle.bee_outside.specs.Bytes.{in_front, TookPiece}
-use Rattle.bee_cli.specs.Compiled.{Compiles, IsCompilable, IsFirstFault}
+use Rattle.bee_cli.specs.Compiled.{Compiles, IsFirstFault}
 use Rattle.bee_cli.specs.CompileMode.{longest_text, ReadWhole, Seen, IsSilent, IsHeadline, IsRefused, Says, Answers, CompileMode}
 use Rattle.bee_cli.proofs.FirstFaults.{one_fault, no_fault}
 use Rattle.bee_cli.proofs.Headline.{headline}
@@ -38,8 +38,8 @@ refused_answers fault seen s = record {
       let P : List ℕ → Type 0 = λ l. IsFirstFault l g in
       inl (ap Model (one_fault s.text fault g s.first (subst P (sym (told_whole text s.text _ _ e s.read)) n)));
   complete = λ text e h n f. absurd (
-    let P : List ℕ → Type 0 = λ l. IsFirstFault l fault in
-    no_fault text fault n.model n.says n.built (subst P (told_whole text s.text _ _ e s.read) s.first));
+      let P : List ℕ → Type 0 = λ l. IsFirstFault l fault in
+      no_fault text fault n.model n.says n.built (subst P (told_whole text s.text _ _ e s.read) s.first));
 }
 
 -- where a text is told, the answer is the one that it has
@@ -47,9 +47,9 @@ answers : (status : Status) (seen : Seen) → Says status seen → Answers statu
 answers Done seen s = record {
   too_long = λ text e h f. absurd (let q = same_length _ _ (told_whole text s.text _ _ e s.read) in let w = s.headline.within in omega arith);
   refused = λ text g e h n f. absurd (
-    let P : List ℕ → Type 0 = λ l. IsFirstFault l g in
-    let compiled = s.headline.compiled in
-    no_fault s.text g compiled.model compiled.says compiled.built (subst P (sym (told_whole text s.text _ _ e s.read)) n));
+      let P : List ℕ → Type 0 = λ l. IsFirstFault l g in
+      let compiled = s.headline.compiled in
+      no_fault s.text g compiled.model compiled.says compiled.built (subst P (sym (told_whole text s.text _ _ e s.read)) n));
   complete = λ text e h n f. inl refl;
 }
 answers Usage seen s = absurd s

@@ -1,8 +1,6 @@
 -- The declared names of a model that a text says may be written.
-use Rattle.std.proofs.Common.{rules, arith, ◌≡◌, ◌≢◌, ℕ, zero, suc, ◌+◌, Bool, true, false, ◌&&◌, ◌||◌, List, [], ◌∷◌, ◌++◌, map, refl, ap, sym, ◌∙◌, Option, Some, None, codes, position, slice_get}
-use Rattle.std.specs.Prelude.{IsTrue, IsFalse, is_some, option_map, option_and_then}
-use Rattle.std.specs.Str.{bytes_eq}
-use Rattle.std.specs.List.{list_all}
+use Rattle.std.proofs.Common.{rules, ◌≡◌, ℕ, zero, suc, ◌+◌, Bool, true, false, List, [], ◌∷◌, ◌++◌, map, refl, Option, Some, None, slice_get}
+use Rattle.std.specs.Prelude.{IsFalse, is_some}
 use Rattle.bumblebee_reader.specs.declared.syntax.Item.{Item}
 use Rattle.bumblebee_reader.specs.declared.syntax.Item.TheVariants.{Call, Goal}
 use Rattle.bumblebee_reader.specs.declared.syntax.Arg.{Arg}

@@ -48,12 +48,7 @@ fn compile<S: Shelf, O: Sink>(alloc: Global, input: &str, shelf: &mut S, out: &m
 }
 
 /// What comes of the words.
-fn obey<S: Shelf, O: Sink>(
-    alloc: Global,
-    words: &[String],
-    shelf: &mut S,
-    out: &mut O,
-) -> Status
+fn obey<S: Shelf, O: Sink>(alloc: Global, words: &[String], shelf: &mut S, out: &mut O) -> Status
     ensures usage { result ≢ Status.Memory →
         (result ≡ Status.Usage) ↔ (compile_input (map string_bytes words.now) ≡ None) }
     ensures usage_reads_nothing { compile_input (map string_bytes words.now) ≡ None → (name : List ℕ) →

@@ -1,4 +1,4 @@
-use Rattle.std.proofs.Common.{rules, ◌≡◌, length, ap, sym, ◌∙◌}
+use Rattle.std.proofs.Common.{length, ap, sym, ◌∙◌}
 use Rattle.bee_cli.proofs.MapLines.{as_many}
 use Rattle.bee_cli.proofs.compile.write_model.Goals as goal
 

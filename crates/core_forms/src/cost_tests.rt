@@ -107,43 +107,71 @@ fn ladders_cost(rt: HostRuntime) -> Result<(), Fail> {
 fn clauses_cost(rt: HostRuntime) -> Result<(), Fail> {
     let alloc = rt.alloc();
     costs(&rt, alloc, &Core::Clause(three(alloc)?), 3)?;
+    Ok(())
+}
+
+#[test]
+fn conjunctions_cost(rt: HostRuntime) -> Result<(), Fail> {
+    let alloc = rt.alloc();
     costs(&rt, alloc, &Core::Conj(is(9), three(alloc)?), 10)?;
-    let comparator = Core::Comp(is(1), is(2), is(3), is(4));
-    costs(&rt, alloc, &comparator, 14)?;
     Ok(())
 }
 
 #[test]
-fn parities_cost(rt: HostRuntime) -> Result<(), Fail> {
-    let alloc = rt.alloc();
-    let basic = Core::Parity(three(alloc)?, true);
-    costs(&rt, alloc, &basic, 12)?;
-    assert!(rt; is_basic(&basic));
-    let compound = Core::Parity(four(alloc)?, true);
-    costs(&rt, alloc, &compound, 25)?;
-    assert!(rt; !is_basic(&compound));
+fn comparators_cost(rt: HostRuntime) -> Result<(), Fail> {
+    costs(&rt, rt.alloc(), &Core::Comp(is(1), is(2), is(3), is(4)), 14)?;
     Ok(())
 }
 
 #[test]
-fn at_most_one_costs(rt: HostRuntime) -> Result<(), Fail> {
+fn short_parities_are_basic(rt: HostRuntime) -> Result<(), Fail> {
     let alloc = rt.alloc();
-    let basic = Core::Amo(four(alloc)?);
-    costs(&rt, alloc, &basic, 12)?;
-    assert!(rt; is_basic(&basic));
-    let compound = Core::Amo(five(alloc)?);
-    costs(&rt, alloc, &compound, 19)?;
-    assert!(rt; !is_basic(&compound));
+    let parity = Core::Parity(three(alloc)?, true);
+    costs(&rt, alloc, &parity, 12)?;
+    assert!(rt; is_basic(&parity));
     Ok(())
 }
 
 #[test]
-fn comparisons_cost(rt: HostRuntime) -> Result<(), Fail> {
+fn longer_parities_are_compound(rt: HostRuntime) -> Result<(), Fail> {
     let alloc = rt.alloc();
-    let less = Core::LeqR(is(9), number(&rt, alloc, 0, 2)?, number(&rt, alloc, -4, 3)?);
-    costs(&rt, alloc, &less, 27)?;
-    let equal = Core::EqR(is(9), number(&rt, alloc, 0, 2)?, number(&rt, alloc, -4, 3)?);
-    costs(&rt, alloc, &equal, 42)?;
+    let parity = Core::Parity(four(alloc)?, true);
+    costs(&rt, alloc, &parity, 25)?;
+    assert!(rt; !is_basic(&parity));
+    Ok(())
+}
+
+#[test]
+fn at_most_one_of_four_is_basic(rt: HostRuntime) -> Result<(), Fail> {
+    let alloc = rt.alloc();
+    let amo = Core::Amo(four(alloc)?);
+    costs(&rt, alloc, &amo, 12)?;
+    assert!(rt; is_basic(&amo));
+    Ok(())
+}
+
+#[test]
+fn at_most_one_of_five_is_compound(rt: HostRuntime) -> Result<(), Fail> {
+    let alloc = rt.alloc();
+    let amo = Core::Amo(five(alloc)?);
+    costs(&rt, alloc, &amo, 19)?;
+    assert!(rt; !is_basic(&amo));
+    Ok(())
+}
+
+#[test]
+fn orders_cost(rt: HostRuntime) -> Result<(), Fail> {
+    let alloc = rt.alloc();
+    let (a, b) = (number(&rt, alloc, 0, 2)?, number(&rt, alloc, -4, 3)?);
+    costs(&rt, alloc, &Core::LeqR(is(9), a, b), 27)?;
+    Ok(())
+}
+
+#[test]
+fn equalities_cost(rt: HostRuntime) -> Result<(), Fail> {
+    let alloc = rt.alloc();
+    let (a, b) = (number(&rt, alloc, 0, 2)?, number(&rt, alloc, -4, 3)?);
+    costs(&rt, alloc, &Core::EqR(is(9), a, b), 42)?;
     Ok(())
 }
 
@@ -176,21 +204,28 @@ fn networks_of_sums_cost(rt: HostRuntime) -> Result<(), Fail> {
 }
 
 #[test]
-fn networks_are_cheaper_from_twelve_steps_on(rt: HostRuntime) -> Result<(), Fail> {
+fn sums_of_eleven_steps_are_basic(rt: HostRuntime) -> Result<(), Fail> {
     let alloc = rt.alloc();
-    // At 11 steps the network costs 887 and the table 864, at 12 they cost 1,001 and 1,014.
-    let basic = Core::Sum3(
+    // The network costs 887, and the table 864.
+    let sum = Core::Sum3(
         number(&rt, alloc, 0, 11)?,
         number(&rt, alloc, 0, 11)?,
         number(&rt, alloc, 5, 0)?,
     );
-    assert!(rt; is_basic(&basic));
-    let compound = Core::Sum3(
+    assert!(rt; is_basic(&sum));
+    Ok(())
+}
+
+#[test]
+fn sums_of_twelve_steps_are_compound(rt: HostRuntime) -> Result<(), Fail> {
+    let alloc = rt.alloc();
+    // The network costs 1,001, and the table 1,014.
+    let sum = Core::Sum3(
         number(&rt, alloc, 0, 12)?,
         number(&rt, alloc, 0, 12)?,
         number(&rt, alloc, 5, 0)?,
     );
-    assert!(rt; !is_basic(&compound));
+    assert!(rt; !is_basic(&sum));
     Ok(())
 }
 
@@ -241,30 +276,49 @@ fn differences_cost(rt: HostRuntime) -> Result<(), Fail> {
     Ok(())
 }
 
+/// A product of two small integers.
+fn product(a: OrdInt, b: OrdInt, c: OrdInt) -> Core
+    requires a { IsSound a × (greatest_abs a < 1000) }
+    requires b { IsSound b × (greatest_abs b < 1000) }
+    requires c { IsSound c }
+    ensures { IsWellFormed result }
+{
+    Core::Prod(a, b, c)
+}
+
 #[test]
 fn products_cost(rt: HostRuntime) -> Result<(), Fail> {
     let alloc = rt.alloc();
-    let product = Core::Prod(
+    let core = product(
         number(&rt, alloc, -1, 2)?,
         number(&rt, alloc, 0, 3)?,
         number(&rt, alloc, -3, 4)?,
     );
-    costs(&rt, alloc, &product, 132)?;
-    assert!(rt; is_basic(&product));
+    costs(&rt, alloc, &core, 132)?;
     Ok(())
+}
+
+/// A division of small integers.
+fn division(a: OrdInt, b: OrdInt, q: OrdInt, r: OrdInt) -> Core
+    requires a { IsSound a × (pos 0 ≤ℤ low_of a) }
+    requires b { IsSound b × (pos 1 ≤ℤ low_of b) × (greatest_abs b < 1000) }
+    requires q { IsSound q × (greatest_abs q < 1000) }
+    requires r { IsSound r × (greatest_abs r < 1000) }
+    ensures { IsWellFormed result }
+{
+    Core::DivMod(a, b, q, r)
 }
 
 #[test]
 fn divisions_cost(rt: HostRuntime) -> Result<(), Fail> {
     let alloc = rt.alloc();
-    let division = Core::DivMod(
+    let core = division(
         number(&rt, alloc, 0, 2)?,
         number(&rt, alloc, 1, 3)?,
         number(&rt, alloc, 0, 1)?,
         number(&rt, alloc, 0, 2)?,
     );
-    costs(&rt, alloc, &division, 248)?;
-    assert!(rt; is_basic(&division));
+    costs(&rt, alloc, &core, 248)?;
     Ok(())
 }
 

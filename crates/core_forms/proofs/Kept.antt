@@ -107,10 +107,10 @@ module _ (f : Atom → Atom) where
       by_test (is_true s.0) (raised_by (base +ℤ pos s.1) steps) (record { base = base; steps = merged_steps s.0 s.1 steps }) (λ a. AreRising a.steps)
       (λ _. rising-raised (base +ℤ pos s.1) steps h.1) (λ _. rising-merged s.0 s.1 steps h.0 h.1)
 
-  sound-kept : (a : OrdInt) → IsSound a → IsSound (one a)
+  pub sound-kept : (a : OrdInt) → IsSound a → IsSound (one a)
   sound-kept a h = (IsBounded-trimmed f a h.0, rising-raised a.base (map_steps f a.steps) (rising-map a.steps h.1))
 
-  all_sound-kept : (xs : List OrdInt) → AreSound xs → AreSound (all xs)
+  pub all_sound-kept : (xs : List OrdInt) → AreSound xs → AreSound (all xs)
   all_sound-kept [] h = tt
   all_sound-kept (a ∷ xs) h = (sound-kept a h.0, all_sound-kept xs h.1)
 

@@ -25,7 +25,7 @@ pub value-within : (a : OrdInt) (v : ℤ) → Contains (values_of a) v → unsig
 value-within a v c =
     let h = reached-between v a.base a.steps (IsReached-from v a.base True a.steps c) in between-abs (low_of a) (high_of a) v h.0 h.1
 
-times-le : (x y m n : ℕ) → x ≤ m → y ≤ n → x * y ≤ m * n
+pub times-le : (x y m n : ℕ) → x ≤ m → y ≤ n → x * y ≤ m * n
 times-le x y m n p q = grind arith
 
 pub small-products : (a b : OrdInt) → greatest_abs a * greatest_abs b < 2 ^ 100 → HasSmallProducts a b

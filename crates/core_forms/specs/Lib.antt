@@ -7,3 +7,7 @@ pub mod Resolved
 pub mod Trimmed
 pub mod Each
 pub mod Variables
+pub mod Shapes
+pub mod Cost
+pub mod Basic
+pub mod Sums

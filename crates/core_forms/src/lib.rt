@@ -1,18 +1,29 @@
 //! The sixteen forms of constraint over literals and integers in the order encoding: their meaning,
-//! their variables, and how a view trims them.
+//! their variables, how a view trims them, what they cost, and which of them are basic.
 #![tactic(auto)]
 
+mod basic;
+pub mod cost_laws;
+#[cfg(test)]
+mod cost_tests;
+mod costs;
 mod equation;
 mod form;
+mod fresh_sums;
 pub mod laws;
 mod meaning;
 mod occurrence;
+mod shapes;
 #[cfg(test)]
 mod tests;
 mod trimming;
 
+pub use basic::is_basic;
+pub use costs::cost;
 pub use equation::{Equation, Rule};
 pub use form::Core;
+pub use fresh_sums::sums;
 pub use meaning::holds;
 pub use occurrence::variables;
+pub use shapes::shape;
 pub use trimming::trim;

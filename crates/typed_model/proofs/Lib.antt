@@ -9,6 +9,7 @@ pub mod LimitLaws
 pub mod ListLaws
 pub mod ModelLimits
 pub mod ModelShares
+pub mod ModelSizes
 pub mod ModelTyping
 pub mod Remainders
 pub mod ScopeLaws

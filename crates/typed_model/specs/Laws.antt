@@ -1,8 +1,9 @@
 -- Facts about the definitions that crates above may use.
-use Rattle.std.specs.Prelude.{◌≡◌, ◌↔◌, ℤ, List, None, IsTrue}
+use Rattle.std.specs.Prelude.{◌≡◌, ◌↔◌, ◌≤◌, ℤ, List, length, None, IsTrue}
 use Rattle.bumblebee_reader.specs.declared.syntax.Item.{Item}
 use Rattle.typed_model.specs.Items.{first_fault, model_of}
 use Rattle.typed_model.specs.Limits.{InLimits, ItemsInLimit}
+use Rattle.typed_model.specs.Sizes.{terms_of, members_of}
 use Rattle.typed_model.specs.WellTyped.{WellTyped}
 use Rattle.typed_model.specs.declared.what.What.{What}
 use Rattle.typed_model.specs.Holds.{Holds, holds}
@@ -18,3 +19,10 @@ TypingLaw = (items : List Item) → first_fault items ≡ None → WellTyped (mo
 -- where the numerals of the items are in the limit, so are the numbers and domains of their model
 abbrev pub LimitLaw : Type 0
 LimitLaw = (items : List Item) → ItemsInLimit items → InLimits (model_of items)
+
+-- the model of items has at most as many declarations and at most as many statements as there are items, and the
+-- lists of its statements have at most as many members as the items have terms
+abbrev pub SizeLaw : Type 0
+SizeLaw =
+    (items : List Item)
+    → (length (model_of items).decls ≤ length items) × (length (model_of items).stmts ≤ length items) × (members_of (model_of items).stmts ≤ terms_of items)

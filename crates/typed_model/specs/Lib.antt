@@ -12,4 +12,5 @@ pub mod Scope
 pub mod Faults
 pub mod Items
 pub mod WellTyped
+pub mod Sizes
 pub mod Laws

@@ -1,7 +1,7 @@
 //! Facts about the definitions that crates above may use. Each is the contract of a function that does
 //! nothing.
 
-ghost use Rattle.typed_model.specs.Laws.{HoldsLaw, TypingLaw, LimitLaw};
+ghost use Rattle.typed_model.specs.Laws.{HoldsLaw, TypingLaw, LimitLaw, SizeLaw};
 
 /// The test of a statement is true exactly where the statement holds.
 pub fn holds_law()
@@ -16,4 +16,10 @@ pub fn typing_law()
 /// Where the numerals of the items are in the limit, so are the numbers and domains of their model.
 pub fn limit_law()
     ensures { LimitLaw }
+{}
+
+/// The model of items is not larger than they are: no item declares or states more than once, and each member
+/// of a list is a term.
+pub fn size_law()
+    ensures { SizeLaw }
 {}

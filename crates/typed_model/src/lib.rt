@@ -28,7 +28,7 @@ mod what;
 
 pub use check::check_types;
 pub use fault::TypeFault;
-pub use laws::{holds_law, limit_law, typing_law};
+pub use laws::{holds_law, limit_law, size_law, typing_law};
 pub use limits::in_limits;
 pub use model::{Assignment, Decl, Goal, Kind, Model, Stmt};
 pub use names::{

@@ -72,8 +72,7 @@ met-encoded σ n [] fits = (λ h. tt, λ h. refl)
 met-encoded σ n (core ∷ cores) fits =
     let parts = atom_clauses_truth-append σ (encoded_core core) (encoded cores) in
     let first = truth-encoded_core σ n core fits.0 in
-    let rest = met-encoded σ n cores fits.1 in
-    (
+    let rest = met-encoded σ n cores fits.1 in (
       λ h. let p = both _ _ (sym parts ∙ h) in (sym first ∙ p.0, rest.0 p.1),
       λ m. parts ∙ together _ _ (first ∙ m.0) (rest.1 m.1),
     )

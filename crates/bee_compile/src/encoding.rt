@@ -11,11 +11,7 @@ use order_ints::Atom;
 use std::alloc::{AllocError, Global};
 
 /// Adds the clauses of a core, trimmed by the view in which each variable is its own label.
-fn add_clauses(
-    alloc: Global,
-    made: &mut Vec<Sequence<Atom>>,
-    core: &Core,
-) -> Result<(), AllocError>
+fn add_clauses(alloc: Global, made: &mut Vec<Sequence<Atom>>, core: &Core) -> Result<(), AllocError>
     requires { (n : ℕ) × CoreFits n core.now }
     ensures { OnOk result (made.new.items ≡ made.old.items ++ encoded_core core.now) }
 {

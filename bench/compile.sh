@@ -9,10 +9,14 @@
 # Wants python3.
 set -eu
 top=$(cd "$(dirname "${BASH_SOURCE[0]}")/.." && pwd)
-"$top/bee" compile "$top/examples/pigeonhole.bee" >/dev/null
-exec python3 - "$top/crates/bee/out/bee" <<'PY'
-import math, os, random, subprocess, sys, tempfile
-program = sys.argv[1]
+[ -n "${BEE_BUILT:-}" ] || "$top/bee" compile "$top/examples/pigeonhole.bee" >/dev/null
+folder=$(mktemp -d)
+trap 'rm -rf "$folder"' EXIT
+# A process of its own writes the models, so that the one that measures stays small: what a child shows as its peak
+# begins with that of its parent.
+cat >"$folder/model.py" <<'PY'
+import random, sys
+family, size, path = sys.argv[1], int(sys.argv[2]), sys.argv[3]
 first = "abcdefghijklmnopqrstuvwxyzABCDEFGHIJKLMNOPQRSTUVWXYZ_"
 later = first + "0123456789"
 
@@ -40,46 +44,54 @@ def row(size):
 def chain(size):
     return row(size) + [f"int_leq({name(n)},{name(n + 1)})" for n in range(size - 1)]
 
-def measured(path, out):
+made = {"empty": lambda _: [], "clauses": clauses, "row": row, "chain": chain}[family](size)
+with open(path, "w") as sink:
+    sink.write("\n".join(made + ["solve satisfy", ""]))
+PY
+python3 - "$top/crates/bee/out/bee" "$folder" <<'PY'
+import math, os, subprocess, sys
+program, folder = sys.argv[1:]
+path, out = os.path.join(folder, "m.bee"), os.path.join(folder, "m.cnf")
+
+def write(family, size):
+    subprocess.run([sys.executable, os.path.join(folder, "model.py"), family, str(size), path], check=True)
+
+def measured():
     with open(out, "wb") as sink:
         child = subprocess.Popen([program, "compile", path], stdout=sink)
         _, status, usage = os.wait4(child.pid, 0)
         assert status == 0, f"status {status}"
         return usage.ru_utime + usage.ru_stime, usage.ru_maxrss * 1024
 
-def items(out):
+def items():
+    found = 0
     with open(out) as text:
         for line in text:
             if line.startswith("p cnf"):
-                found = int(line.split()[2])
+                found += int(line.split()[2])
             elif not line.startswith("c"):
                 found += line.count(" ")
     return found
 
 families = [
-    ("clauses", clauses, [20000, 40000, 80000, 160000, 320000, 520000]),
-    ("chain", chain, [32, 64, 128, 256, 512]),
-    ("row", row, [62, 125, 250, 500, 1000]),
+    ("clauses", [20000, 40000, 80000, 160000, 320000, 520000]),
+    ("chain", [32, 64, 128, 256, 512]),
+    ("row", [62, 125, 250, 500, 1000]),
 ]
 exponents = []
 print("family      size  seconds  peak MB  bytes/item  model bytes  text bytes")
-with tempfile.TemporaryDirectory() as folder:
-    path, out = os.path.join(folder, "m.bee"), os.path.join(folder, "m.cnf")
-    with open(path, "w") as sink:
-        sink.write("solve satisfy\n")
-    _, base = measured(path, out)
-    for family, model, sizes in families:
-        times = []
-        for size in sizes:
-            text = "\n".join(model(size) + ["solve satisfy", ""])
-            with open(path, "w") as sink:
-                sink.write(text)
-            seconds, peak = min(measured(path, out) for _ in range(5))
-            written = os.path.getsize(out)
-            beside = (peak - base - len(text) - written) / items(out)
-            print(f"{family:8} {size:7}  {seconds:7.3f}  {peak / 1e6:7.1f}  {beside:10.1f}  {len(text):11}  {written:10}", flush=True)
-            times.append((size, seconds))
-        (a, s), (b, t) = times[0], times[-1]
-        exponents.append(f"{family} {math.log(t / s) / math.log(b / a):.2f}")
+write("empty", 0)
+_, base = measured()
+for family, sizes in families:
+    times = []
+    for size in sizes:
+        write(family, size)
+        seconds, peak = min(measured() for _ in range(5))
+        read, written = os.path.getsize(path), os.path.getsize(out)
+        beside = (peak - base - read - written) / items()
+        print(f"{family:8} {size:7}  {seconds:7.3f}  {peak / 1e6:7.1f}  {beside:10.1f}  {read:11}  {written:10}", flush=True)
+        times.append((size, seconds))
+    (a, s), (b, t) = times[0], times[-1]
+    exponents.append(f"{family} {math.log(t / s) / math.log(b / a):.2f}")
 print("growth exponents: " + ", ".join(exponents))
 PY

@@ -1,5 +1,5 @@
 -- The clauses of cores are true where the valuation meets the cores.
-use Rattle.std.proofs.Common.{rules, ◌≡◌, ℕ, Bool, true, false, ◌&&◌, List, [], ◌∷◌, ◌++◌, refl, ap, ap₂, sym, ◌∙◌}
+use Rattle.std.proofs.Common.{rules, ◌≡◌, ℕ, Bool, true, false, ◌&&◌, List, [], ◌∷◌, ◌++◌, refl, ap, sym, subst, append_assoc, ◌∙◌}
 use Rattle.std.specs.Prelude.{IsTrue, ◌↔◌}
 use Rattle.order_ints.specs.declared.atom.Atom.{Atom}
 use Rattle.order_ints.specs.Truth.{Valuation}
@@ -76,3 +76,13 @@ met-encoded σ n (core ∷ cores) fits =
       λ h. let p = both _ _ (sym parts ∙ h) in (sym first ∙ p.0, rest.0 p.1),
       λ m. parts ∙ together _ _ (first ∙ m.0) (rest.1 m.1),
     )
+
+-- one core less is left, and its clauses are made
+pub core_taken : (made new : List (List Atom)) (core : Core) (left rest : List Core) (all : List (List Atom))
+    → left ≡ core ∷ rest → new ≡ made ++ encoded_core core
+    → (made ++ encoded left ≡ all) × ((n : ℕ) × CoresFit n left)
+    → (new ++ encoded rest ≡ all) × ((n : ℕ) × CoresFit n rest)
+core_taken made new core left rest all e f h = (
+  ap (λ l. l ++ encoded rest) f ∙ (append_assoc made (encoded_core core) (encoded rest) ∙ (ap (λ l. made ++ encoded l) (sym e) ∙ h.0)),
+  (h.1.0, (subst (λ (cores : List Core). CoresFit h.1.0 cores) e h.1.1).1),
+)

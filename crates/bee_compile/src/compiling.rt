@@ -29,8 +29,7 @@ pub fn compile(alloc: Global, model: &Model) -> Result<Compiled, LowerFault>
     ensures fits { IfOk result (λ c. CompiledFits c model.now.decls) }
 {
     let Lowered { vars, map, cores } = lower(alloc, model)?;
-    let clauses = clauses_of(alloc, cores.as_slice())?;
-    drop(cores);
+    let clauses = clauses_of(alloc, cores.into_vec())?;
     let cnf = ordered_cnf(alloc, vars, &[], clauses.as_slice())?;
     Ok(Compiled { cnf, map })
 }

@@ -10,26 +10,26 @@ use direct_encode::clauses;
 use order_ints::Atom;
 use std::alloc::{AllocError, Global};
 
-/// Adds the clauses of a core, trimmed by the view in which each variable is its own label.
-fn add_clauses(alloc: Global, made: &mut Vec<Sequence<Atom>>, core: &Core) -> Result<(), AllocError>
-    requires { (n : ℕ) × CoreFits n core.now }
-    ensures { OnOk result (made.new.items ≡ made.old.items ++ encoded_core core.now) }
+/// Adds the clauses of a core, trimmed by the view in which each variable is its own label; the core is
+/// let go.
+fn add_clauses(alloc: Global, made: &mut Vec<Sequence<Atom>>, core: Core) -> Result<(), AllocError>
+    requires { (n : ℕ) × CoreFits n core }
+    ensures { OnOk result (made.new.items ≡ made.old.items ++ encoded_core core) }
 {
-    let trimmed = trim(alloc, core, &[])?;
+    let trimmed = trim(alloc, &core, &[])?;
+    drop(core);
     let mut added = clauses(alloc, &trimmed)?;
     made.append(&mut added)
 }
 
-/// The clauses of cores, one core after the other.
-pub fn clauses_of(alloc: Global, cores: &[Core]) -> Result<Vec<Sequence<Atom>>, AllocError>
-    requires { (n : ℕ) × CoresFit n cores.now }
-    ensures { IfOk result (λ made. made.items ≡ encoded cores.now) }
+/// The clauses of cores, one core after the other. Each core is let go when it is trimmed.
+pub fn clauses_of(alloc: Global, cores: Vec<Core>) -> Result<Vec<Sequence<Atom>>, AllocError>
+    requires { (n : ℕ) × CoresFit n cores.items }
+    ensures { IfOk result (λ made. made.items ≡ encoded cores.items) }
 {
     let mut made = Vec::new(alloc);
-    let mut rest = cores;
-    while let [core, others @ ..] = rest {
+    for core in cores {
         add_clauses(alloc, &mut made, core)?;
-        rest = others;
     }
     Ok(made)
 }

@@ -8,7 +8,7 @@ use Rattle.bee_compile.proofs.compiling.compile.Goals as goal
 pub clauses_of-requires : goal.clauses_of-requires
 clauses_of-requires c =
     let l = c.in_ok-vars.field-0 in
-    (l.vars + 1, subst (λ cores. CoresFit (l.vars + 1) cores) (sym c.as_slice.ensures) c.in_ok-vars.ensures.fits.cores)
+    (l.vars + 1, subst (λ cores. CoresFit (l.vars + 1) cores) (sym c.into_vec.ensures) c.in_ok-vars.ensures.fits.cores)
 
 pub returns-clause-solutions : goal.returns-clause-solutions
 returns-clause-solutions c =

@@ -128,6 +128,15 @@ fn integers_are_compiled(rt: HostRuntime) -> Result<(), Fail> {
     Ok(())
 }
 
+/// The line on `err` for a fault of a text.
+fn told(alloc: Global, word: &'static str, number: u64) -> Result<String, AllocError> {
+    if word == "syntax" || word == "number" {
+        format!(in alloc; "bee: model: line {number}: {word}\n")
+    } else {
+        format!(in alloc; "bee: model: statement {number}: {word}\n")
+    }
+}
+
 #[test]
 fn other_texts_are_refused(rt: HostRuntime) -> Result<(), Fail> {
     let alloc = rt.alloc();
@@ -168,12 +177,7 @@ fn other_texts_are_refused(rt: HostRuntime) -> Result<(), Fail> {
         let run = run_over(alloc, COMPILE.as_slice(), bytes(alloc, text)?, AMPLE)?;
         assert_eq!(rt; run.status, (word, number), "{text}");
         assert_eq!(rt; run.out.taken(), b"".as_slice(), "{text}");
-        let place = if word == "syntax" || word == "number" {
-            "line"
-        } else {
-            "statement"
-        };
-        let told = format!(in alloc; "bee: model: {place} {number}: {word}\n")?;
+        let told = told(alloc, word, number)?;
         assert_eq!(rt; run.err.taken(), told.as_bytes(), "{text}");
     }
     Ok(())

@@ -4,4 +4,6 @@
 #[cfg(test)]
 mod compile;
 #[cfg(test)]
+mod examples;
+#[cfg(test)]
 mod outside;

@@ -158,10 +158,18 @@ fn other_texts_are_refused(rt: HostRuntime) -> Result<(), Fail> {
             "undeclared",
             1,
         ),
-        ("new_bool(x)\nint_eq(y,1)\nsolve satisfy\n", "undeclared", 2),
+        (
+            "new_bool(x)\nint_eq(y,1)\nbool_arrays_lex([x],[x,x])\nsolve satisfy\n",
+            "undeclared",
+            2,
+        ),
         ("new_bool(x)\nint_leq(x,x)\nsolve satisfy\n", "kind", 2),
         ("new_bool(x)\nint_eq(x,1)\nsolve satisfy\n", "kind", 2),
-        ("new_bool(x)\nnew_bool(x)\nsolve satisfy\n", "twice", 2),
+        (
+            "new_bool(x)\nnew_bool(x)\nint_eq(y,1)\nbool_arrays_lex([x],[x,x])\nsolve satisfy\n",
+            "twice",
+            2,
+        ),
         (
             "new_bool(x)\nbool_arrays_lex([x],[x,x])\nsolve satisfy\n",
             "lengths",
@@ -208,7 +216,7 @@ fn statements_that_are_not_built_are_refused(rt: HostRuntime) -> Result<(), Fail
 #[test]
 fn other_words_are_refused(rt: HostRuntime) -> Result<(), Fail> {
     let alloc = rt.alloc();
-    let two = ["bee", "compile"];
+    let two = ["bee", "solve"];
     let four = ["bee", "compile", "m.bee", "m.bee"];
     let mode = ["bee", "solve", "m.bee"];
     let check = ["bee", "check", "m.bee"];

@@ -4,7 +4,7 @@ ghost use Rattle.std.specs.Prelude.{◌≡◌, ◌+◌, ◌++◌, ℕ, IfOk, OnO
 ghost use Rattle.model_lower.specs.Fits.{CoreFits, CoresFit};
 ghost use Rattle.bee_compile.specs.Encoded.{encoded_core, encoded};
 
-use bee_text::Sequence;
+use bee_list::Sequence;
 use core_forms::{Core, trim};
 use direct_encode::clauses;
 use order_ints::Atom;

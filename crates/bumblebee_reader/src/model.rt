@@ -10,7 +10,7 @@ use crate::fault::ReadFault;
 use crate::read::read_items;
 use crate::syntax::Syntax;
 use crate::tokens::Tokens;
-use bee_text::Sequence;
+use bee_list::Sequence;
 use std::alloc::Global;
 
 /// The syntax of a text, or its first fault. One pass over the bytes, each of which is looked at once; a

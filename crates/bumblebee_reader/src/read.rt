@@ -15,7 +15,7 @@ use crate::numeral::read_number;
 use crate::syntax::{Arg, GoalKind, Item, Term};
 use crate::tokens::Tokens;
 use crate::words::{goal_kind, is_solve, own_name};
-use bee_text::Sequence;
+use bee_list::Sequence;
 use std::alloc::Global;
 
 /// The items to the end of the text.

@@ -1,7 +1,7 @@
 //! What a text of the model language says, before any name is looked up.
 
 use crate::name::Name;
-use bee_text::Sequence;
+use bee_list::Sequence;
 
 /// A model text: its items, in order.
 #[derive(Debug, Clone, Drop)]

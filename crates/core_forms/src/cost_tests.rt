@@ -6,7 +6,7 @@ ghost use Rattle.order_ints.specs.OrderMade.{AreAscending, AreSmall};
 ghost use Rattle.core_forms.specs.WellFormed.{IsSound, greatest_abs, IsWellFormed};
 
 use crate::{Core, cost, is_basic, shape, sums};
-use bee_text::Sequence;
+use bee_list::Sequence;
 use core_cost::Shape;
 use order_ints::{Atom, Lit, OrdInt};
 use std::alloc::{AllocError, Global};

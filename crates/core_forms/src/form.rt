@@ -1,6 +1,6 @@
 //! The forms of constraint.
 
-use bee_text::Sequence;
+use bee_list::Sequence;
 use order_ints::{Atom, OrdInt};
 
 /// A constraint over literals and integers in the order encoding, in one of sixteen forms. Each form

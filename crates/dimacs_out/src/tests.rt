@@ -1,7 +1,7 @@
 //! The compiled texts of small examples, worked out by hand.
 
 use crate::{MapEntry, write_map};
-use bee_text::Sequence;
+use bee_list::Sequence;
 use bumblebee_reader::Name;
 use order_ints::{Atom, Cnf, Lit, MapValue, OrdInt};
 use std::alloc::{AllocError, Global};

@@ -7,7 +7,8 @@ ghost use Rattle.dimacs_out.specs.CompiledText.{literal_word, atom_word, step_wo
 ghost use Rattle.dimacs_out.specs.Written.{words_ended};
 
 use crate::entry::MapEntry;
-use bee_text::{Sequence, end_line, push_blank, push_bytes, push_number, push_signed};
+use bee_list::Sequence;
+use bee_text::{end_line, push_blank, push_bytes, push_number, push_signed};
 use itoa::Buffer;
 use order_ints::{Atom, Cnf, Lit, MapValue};
 use std::alloc::{AllocError, Global};

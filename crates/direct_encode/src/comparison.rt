@@ -6,7 +6,7 @@ ghost use Rattle.core_forms.specs.WellFormed.{IsSound};
 ghost use Rattle.direct_encode.specs.Clauses.{reaching_clauses, exceeding_clauses, differing_clauses};
 
 use crate::walk::Walk;
-use bee_text::Sequence;
+use bee_list::Sequence;
 use order_ints::{Atom, OrdInt};
 use std::alloc::AllocError;
 

@@ -11,7 +11,7 @@ ghost use Rattle.direct_encode.specs.Clauses.{IsEncodable, clauses_of};
 
 use crate::comparison::{push_differing, push_exceeding, push_reaching};
 use crate::order::{push_order, push_orders};
-use bee_text::Sequence;
+use bee_list::Sequence;
 use core_forms::Core;
 use order_ints::Atom;
 use std::alloc::{AllocError, Global};

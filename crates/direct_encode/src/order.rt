@@ -3,7 +3,7 @@
 ghost use Rattle.std.specs.Prelude.{◌≡◌, ◌++◌, OnOk};
 ghost use Rattle.direct_encode.specs.Clauses.{order_clauses};
 
-use bee_text::Sequence;
+use bee_list::Sequence;
 use order_ints::{Atom, OrdInt};
 use std::alloc::AllocError;
 

@@ -5,7 +5,8 @@ ghost use Rattle.core_forms.specs.WellFormed.{IsSound, IsWellFormed};
 ghost use Rattle.direct_encode.specs.Clauses.{IsEncodable};
 
 use crate::clauses;
-use bee_text::{Sequence, push_blank, push_bytes, push_signed};
+use bee_list::Sequence;
+use bee_text::{push_blank, push_bytes, push_signed};
 use core_forms::Core;
 use order_ints::{Atom, Lit, OrdInt};
 use std::alloc::{AllocError, Global};

@@ -5,7 +5,7 @@ ghost use Rattle.model_lower.specs.Lowering.{nothing_lowered};
 ghost use Rattle.model_lower.specs.Drafting.{lowered_so_far};
 
 use crate::state::{Lowered, NameMap};
-use bee_text::Sequence;
+use bee_list::Sequence;
 use core_forms::Core;
 use order_ints::MapValue;
 use std::alloc::Global;

@@ -1,6 +1,6 @@
 //! What a model is lowered to.
 
-use bee_text::Sequence;
+use bee_list::Sequence;
 use core_forms::Core;
 use order_ints::MapValue;
 

@@ -3,7 +3,7 @@
 ghost use Rattle.std.specs.Prelude.{◌≡◌, IfOk};
 ghost use Rattle.model_lower.specs.Cores.{atom_of, atoms_of, integer_of};
 
-use bee_text::Sequence;
+use bee_list::Sequence;
 use order_ints::{Atom, MapValue, OrdInt};
 use std::alloc::{AllocError, Global};
 use typed_model::{BoolTerm, IntTerm};

@@ -2,7 +2,7 @@
 
 use crate::lowering::lower_items;
 use crate::{LowerFault, Lowered, lower};
-use bee_text::Sequence;
+use bee_list::Sequence;
 use bumblebee_reader::{Arg, GoalKind, Item, Name, Syntax, Term};
 use core_forms::Core;
 use order_ints::{Atom, MapValue, OrdInt};

@@ -1,7 +1,7 @@
 //! Clauses.
 
 use crate::literal::Lit;
-use bee_text::Sequence;
+use bee_list::Sequence;
 
 /// A conjunction of clauses over the variables 1 to `vars`. A clause is a disjunction of literals.
 #[derive(Debug, Clone, Drop)]

@@ -14,7 +14,7 @@ use crate::atom::Atom;
 use crate::cnf::Cnf;
 use crate::literal::Lit;
 use crate::view::resolve;
-use bee_text::Sequence;
+use bee_list::Sequence;
 use indexmap::IndexSet;
 use std::alloc::{AllocError, Global};
 
@@ -85,7 +85,7 @@ fn kept_clauses(
 ) -> Result<IndexSet<Vec<Lit>>, AllocError>
     ensures { IfOk result (λ kept. map (λ v. v.items) kept.keys ≡ ordered_clauses view.now clauses.now) }
 {
-    let mut kept = IndexSet::new(alloc);
+    let mut kept = IndexSet::with_capacity(alloc, clauses.len())?;
     for clause in clauses {
         if let Some(literals) = ordered_clause(alloc, view, clause.as_slice())? {
             kept.insert(literals.into_vec())?;

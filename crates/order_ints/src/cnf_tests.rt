@@ -3,28 +3,73 @@
 use crate::{
     Atom, Cnf, Lit, first_false, is_clause_true, label_of, ordered_clause, ordered_cnf, resolve,
 };
-use bee_text::Sequence;
+use bee_list::Sequence;
 use std::alloc::{AllocError, Global};
-use std::test::Fail;
 
-fn lit(number: i32) -> Lit {
-    Lit::of(number.unsigned_abs(), number > 0)
+/// A small letter is a variable, `a` the first, and a great letter its negation.
+fn lit(letter: u8) -> Lit {
+    let first = if letter < b'a' { b'A' } else { b'a' };
+    Lit::of(u32::from(letter.saturating_sub(first)) + 1, letter >= b'a')
 }
 
-fn clause(alloc: Global, numbers: &[i32]) -> Result<Sequence<Atom>, AllocError> {
+fn clause(alloc: Global, letters: &str) -> Result<Sequence<Atom>, AllocError> {
     let mut atoms = Vec::new(alloc);
-    for number in numbers {
-        atoms.push(Atom::Of(lit(*number)))?;
+    for letter in letters.bytes() {
+        atoms.push(Atom::Of(lit(letter)))?;
     }
     Ok(Sequence::from_vec(atoms))
 }
 
-fn literals(alloc: Global, numbers: &[i32]) -> Result<Sequence<Lit>, AllocError> {
+fn literals(alloc: Global, letters: &str) -> Result<Sequence<Lit>, AllocError> {
     let mut literals = Vec::new(alloc);
-    for number in numbers {
-        literals.push(lit(*number))?;
+    for letter in letters.bytes() {
+        literals.push(lit(letter))?;
     }
     Ok(Sequence::from_vec(literals))
+}
+
+/// The clauses between blanks.
+fn clauses(alloc: Global, text: &str) -> Result<Vec<Sequence<Atom>>, AllocError> {
+    let mut clauses = Vec::new(alloc);
+    for letters in text.split(' ') {
+        clauses.push(clause(alloc, letters)?)?;
+    }
+    Ok(clauses)
+}
+
+/// The clauses between blanks, over six variables.
+fn cnf(alloc: Global, text: &str) -> Result<Cnf, AllocError> {
+    let mut clauses = Vec::new(alloc);
+    for letters in text.split(' ') {
+        clauses.push(literals(alloc, letters)?)?;
+    }
+    Ok(Cnf {
+        vars: 6,
+        clauses: Sequence::from_vec(clauses),
+    })
+}
+
+/// The letter of a literal.
+fn letter(literal: Lit) -> u8 {
+    let first = if literal.positive { b'a' } else { b'A' };
+    first.saturating_add(u8::try_from(literal.var.saturating_sub(1)).unwrap_or(0))
+}
+
+fn show_clause(text: &mut Vec<u8>, literals: &[Lit]) -> Result<(), AllocError> {
+    for literal in literals {
+        text.push(letter(*literal))?;
+    }
+    text.push(b' ')?;
+    Ok(())
+}
+
+/// The clauses, each with a blank behind it.
+fn show(alloc: Global, cnf: &Cnf) -> Result<Vec<u8>, AllocError> {
+    let mut text = Vec::new(alloc);
+    for clause in cnf.clauses.as_slice() {
+        show_clause(&mut text, clause.as_slice())?;
+    }
+    Ok(text)
 }
 
 /// Variable 2 is true, 3 is false, and 4 is the negation of 1; 6 is past the view's end.
@@ -46,49 +91,43 @@ const VIEW: [Atom; 5] = [
 ];
 
 #[test]
-fn clauses_are_put_in_order(rt: HostRuntime) -> Result<(), Fail> {
+fn clauses_are_put_in_order(rt: HostRuntime) -> Result<(), AllocError> {
     let alloc = rt.alloc();
-    let mut clauses = Vec::new(alloc);
-    clauses.push(clause(alloc, &[5, 1])?)?;
-    clauses.push(clause(alloc, &[3, -6, 3, -6])?)?;
-    clauses.push(clause(alloc, &[2, 5])?)?;
-    clauses.push(clause(alloc, &[1, 6, 4])?)?;
-    clauses.push(clause(alloc, &[5, -4, 1])?)?;
-    clauses.push(clause(alloc, &[-2, 3])?)?;
-    clauses.push(clause(alloc, &[-5, 4])?)?;
-    clauses.push(clause(alloc, &[-6])?)?;
-    let cnf = ordered_cnf(alloc, 6, &VIEW, clauses.as_slice())?;
-    let wanted: [&[i32]; 4] = [&[1, 5], &[-6], &[], &[-1, -5]];
-    assert_eq!(rt; cnf.vars, 6);
-    assert_eq!(rt; cnf.clauses.len(), 4);
-    for (kept, numbers) in cnf.clauses.as_slice().iter().zip(wanted) {
-        assert_eq!(rt; kept.as_slice(), literals(alloc, numbers)?.as_slice());
-    }
-    let kept = ordered_clause(alloc, &[], clause(alloc, &[4, -2, 4])?.as_slice())?;
-    assert_eq!(rt;
-        kept.ok_or("kept")?.as_slice(),
-        [lit(-2), lit(4)].as_slice()
-    );
-    assert_eq!(rt; resolve(&VIEW, Atom::Of(lit(-4))), Atom::Of(lit(1)));
-    assert_eq!(rt; label_of(&VIEW, 6), Atom::Of(lit(6)));
+    let unordered = clauses(alloc, "ea cFcF be afd eDa Bc Ed F")?;
+    let found = show(alloc, &ordered_cnf(alloc, 6, &VIEW, unordered.as_slice())?)?;
+    assert_eq!(rt; found.as_slice(), b"ae F  AE ".as_slice());
     Ok(())
 }
 
 #[test]
-fn first_false_clauses(rt: HostRuntime) -> Result<(), Fail> {
-    let alloc = rt.alloc();
-    let mut clauses = Vec::new(alloc);
-    clauses.push(literals(alloc, &[1, -2])?)?;
-    clauses.push(literals(alloc, &[2, 3])?)?;
-    clauses.push(literals(alloc, &[-1, -3])?)?;
-    let cnf = Cnf {
-        vars: 3,
-        clauses: Sequence::from_vec(clauses),
-    };
-    assert_eq!(rt; first_false(&cnf, &[true, true, false]), None);
-    assert_eq!(rt; first_false(&cnf, &[false, true, false]), Some(0));
-    assert_eq!(rt; first_false(&cnf, &[true, false, false]), Some(1));
-    assert_eq!(rt; first_false(&cnf, &[true, true, true]), Some(2));
-    assert!(rt; is_clause_true(&[lit(-1), lit(2)], &[true, true]));
+fn one_clause_is_put_in_order(rt: HostRuntime) -> Result<(), AllocError> {
+    let unordered = clause(rt.alloc(), "dBd")?;
+    let kept = ordered_clause(rt.alloc(), &[], unordered.as_slice())?;
+    let mut found = Vec::new(rt.alloc());
+    if let Some(kept) = kept {
+        show_clause(&mut found, kept.as_slice())?;
+    }
+    assert_eq!(rt; found.as_slice(), b"Bd ".as_slice());
+    Ok(())
+}
+
+#[test]
+fn views(rt: HostRuntime) {
+    assert_eq!(rt; resolve(&VIEW, Atom::Of(lit(b'D'))), Atom::Of(lit(b'a')));
+    assert_eq!(rt; label_of(&VIEW, 6), Atom::Of(lit(b'f')));
+    assert!(rt; is_clause_true(&[lit(b'A'), lit(b'b')], &[true, true]));
+}
+
+#[test]
+fn first_false_clauses(rt: HostRuntime) -> Result<(), AllocError> {
+    let cnf = cnf(rt.alloc(), "aB bc AC")?;
+    for (values, place) in [
+        ([true, true, false], None),
+        ([false, true, false], Some(0)),
+        ([true, false, false], Some(1)),
+        ([true, true, true], Some(2)),
+    ] {
+        assert_eq!(rt; first_false(&cnf, &values), place);
+    }
     Ok(())
 }

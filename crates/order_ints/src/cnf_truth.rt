@@ -7,7 +7,7 @@ ghost use Rattle.order_ints.specs.FirstFalse.{first_false_place, FirstFalseAt};
 
 use crate::cnf::Cnf;
 use crate::literal::Lit;
-use bee_text::Sequence;
+use bee_list::Sequence;
 
 /// Whether a literal is true. The truth value of variable 1 stands first; a variable that has none is
 /// false.

@@ -7,7 +7,7 @@ mod signed;
 mod value;
 
 use crate::atom::Atom;
-use bee_text::Sequence;
+use bee_list::Sequence;
 pub use levels::Levels;
 
 /// An integer whose value depends on a valuation: its base, and for each step that is true the step's

@@ -4,9 +4,8 @@ ghost use Rattle.std.specs.Prelude.{◌+◌, ◌^◌, ◌<◌, IfOk};
 ghost use Rattle.order_ints.specs.OrderRange.{IsBounded, IntBelow};
 
 use crate::{Atom, Lit, OrdInt};
-use std::alloc::AllocError;
+use std::alloc::{AllocError, Global};
 use std::process::Abort;
-use std::test::Fail;
 
 /// An integer of small values over nine variables, multiplied by a small number.
 fn multiple(rt: &impl Abort, a: &OrdInt, by: i128) -> Result<OrdInt, AllocError>
@@ -37,22 +36,39 @@ fn moved(rt: &impl Abort, a: &OrdInt, by: i128) -> Result<OrdInt, AllocError>
     a.shifted(by)
 }
 
-/// A literal and its weight.
-fn step(var: u32, positive: bool, weight: u128) -> (Atom, u128) {
-    (Atom::Of(Lit::of(var, positive)), weight)
+/// The number of a literal's variable, below 0 for a negation; 0 for False, and 99 for True.
+fn numbered(atom: Atom) -> i64 {
+    match atom {
+        Atom::True => 99,
+        Atom::False => 0,
+        Atom::Of(literal) => {
+            let number = i64::from(literal.var);
+            if literal.positive { number } else { -number }
+        }
+    }
 }
 
-/// Asserts which integer it is.
-fn shows(rt: &impl Abort, a: &OrdInt, base: i128, steps: &[(Atom, u128)]) {
-    assert_eq!(rt; a.base, base);
-    assert_eq!(rt; a.steps.as_slice(), steps);
+/// The base, and then the weight and the literal of each step.
+fn show(alloc: Global, a: &OrdInt) -> Result<String, AllocError> {
+    let base = a.base;
+    let mut text = format!(in alloc; "{base}")?;
+    for (atom, weight) in a.steps.as_slice() {
+        let number = numbered(*atom);
+        text = format!(in alloc; "{text} {weight}*{number}")?;
+    }
+    Ok(text)
 }
 
-/// Asserts at which atom the integer is at least a value.
-fn reaches(rt: &impl Abort, a: &OrdInt, v: i128, atom: Atom)
-    requires { IsBounded a.now }
-{
-    assert_eq!(rt; a.at(v), atom, "at {v}");
+/// Asserts which integer was made.
+fn shows(
+    rt: &impl Abort,
+    alloc: Global,
+    made: Result<OrdInt, AllocError>,
+    want: &str,
+) -> Result<(), AllocError> {
+    let found = show(alloc, &made?)?;
+    assert_eq!(rt; found.as_str(), want);
+    Ok(())
 }
 
 /// Asserts the value under nine truth values, and whether the integer is ordered there.
@@ -65,51 +81,73 @@ fn values(rt: &impl Abort, a: &OrdInt, sigma: &[bool; 9], value: i128, ordered: 
 }
 
 #[test]
-fn integers_are_made(rt: HostRuntime) -> Result<(), Fail> {
+fn integers_are_made(rt: HostRuntime) -> Result<(), AllocError> {
+    let alloc = rt.alloc();
     let x = Lit::of(3, true);
     assert_eq!(rt; x.negated(), Lit::of(x.var(), !x.positive()));
-    assert_eq!(rt; Atom::Of(x).not(), step(3, false, 0).0);
-    let constant = OrdInt::constant(rt.alloc(), -7)?;
-    shows(&rt, &constant, -7, &[]);
-    reaches(&rt, &constant, i128::MIN, Atom::True);
-    reaches(&rt, &constant, i128::MAX, Atom::False);
-    let negation = OrdInt::of_atom(rt.alloc(), step(2, false, 0).0)?;
-    shows(&rt, &negation, 0, &[step(2, false, 1)]);
-    let even = OrdInt::from_values(rt.alloc(), &[0, 2], 1)?;
-    shows(&rt, &even, 0, &[step(1, true, 2)]);
-    Ok(())
-}
-
-#[test]
-fn values_are_reached(rt: HostRuntime) -> Result<(), Fail> {
-    let wide = OrdInt::from_values(rt.alloc(), &[-5, -1, 100], 7)?;
-    shows(&rt, &wide, -5, &[step(7, true, 4), step(8, true, 101)]);
-    reaches(&rt, &wide, -5, Atom::True);
-    reaches(&rt, &wide, -4, step(7, true, 0).0);
-    reaches(&rt, &wide, -1, step(7, true, 0).0);
-    reaches(&rt, &wide, 100, step(8, true, 0).0);
-    reaches(&rt, &wide, 101, Atom::False);
-    let mut walk = wide.levels();
-    assert_eq!(rt; walk.next(), Some((-5, Atom::True)));
-    assert_eq!(rt; walk.next(), Some((-1, step(7, true, 0).0)));
-    assert_eq!(rt; walk.count(), 1);
-    Ok(())
-}
-
-#[test]
-fn integers_are_changed(rt: HostRuntime) -> Result<(), Fail> {
-    let range = OrdInt::unit_range(rt.alloc(), 0, 4, 3)?;
-    let down = moved(&rt, &range.negated()?, 3)?;
+    assert_eq!(rt; numbered(Atom::Of(x).not()), -3);
+    shows(&rt, alloc, OrdInt::constant(alloc, -7), "-7")?;
     shows(
         &rt,
-        &down,
-        0,
-        &[step(6, false, 1), step(5, false, 1), step(4, false, 1)],
-    );
-    let digit = OrdInt::unit_range(rt.alloc(), 0, 1, 9)?;
+        alloc,
+        OrdInt::of_atom(alloc, Atom::Of(x.negated())),
+        "0 1*-3",
+    )?;
+    shows(&rt, alloc, OrdInt::from_values(alloc, &[0, 2], 1), "0 2*1")?;
+    shows(
+        &rt,
+        alloc,
+        OrdInt::unit_range(alloc, -1, 4, 2),
+        "-1 1*4 1*5",
+    )
+}
+
+#[test]
+fn values_are_reached(rt: HostRuntime) -> Result<(), AllocError> {
+    let wide = OrdInt::from_values(rt.alloc(), &[-5, -1, 100], 7)?;
+    for (value, number) in [
+        (i128::MIN, 99),
+        (-5, 99),
+        (-4, 7),
+        (-1, 7),
+        (100, 8),
+        (101, 0),
+        (i128::MAX, 0),
+    ] {
+        assert_eq!(rt; numbered(wide.at(value)), number, "at {value}");
+    }
+    for (value, atom) in wide.levels() {
+        assert_eq!(rt; atom, wide.at(value));
+    }
+    assert_eq!(rt; wide.levels().count(), 3);
+    Ok(())
+}
+
+#[test]
+fn integers_are_turned(rt: HostRuntime) -> Result<(), AllocError> {
+    let range = OrdInt::unit_range(rt.alloc(), 0, 4, 3)?;
+    let down = range.negated()?;
+    shows(&rt, rt.alloc(), moved(&rt, &down, 3), "0 1*-6 1*-5 1*-4")
+}
+
+/// Asserts the base of a multiple of a digit, and its value where the digit is four.
+fn multiplied(
+    rt: &impl Abort,
+    alloc: Global,
+    by: i128,
+    base: i128,
+    value: i128,
+) -> Result<(), AllocError> {
+    let digit = OrdInt::unit_range(alloc, 0, 1, 9)?;
+    let term = multiple(rt, &digit, by)?;
+    assert_eq!(rt; term.base, base, "by {by}");
     let four = [true, true, true, true, false, false, false, false, false];
-    let mixed = [true, false, true, true, false, false, false, false, false];
-    values(&rt, &digit, &mixed, 3, false);
+    values(rt, &term, &four, value, true);
+    Ok(())
+}
+
+#[test]
+fn integers_are_multiplied(rt: HostRuntime) -> Result<(), AllocError> {
     for (by, base, value) in [
         (1000, 0, 4000),
         (91, 0, 364),
@@ -121,9 +159,15 @@ fn integers_are_changed(rt: HostRuntime) -> Result<(), Fail> {
         (-1, -9, -4),
         (0, 0, 0),
     ] {
-        let term = multiple(&rt, &digit, by)?;
-        assert_eq!(rt; term.base, base, "by {by}");
-        values(&rt, &term, &four, value, true);
+        multiplied(&rt, rt.alloc(), by, base, value)?;
     }
+    Ok(())
+}
+
+#[test]
+fn a_digit_out_of_order(rt: HostRuntime) -> Result<(), AllocError> {
+    let digit = OrdInt::unit_range(rt.alloc(), 0, 1, 9)?;
+    let mixed = [true, false, true, true, false, false, false, false, false];
+    values(&rt, &digit, &mixed, 3, false);
     Ok(())
 }

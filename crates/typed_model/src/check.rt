@@ -14,7 +14,7 @@ use crate::names::statement_of;
 use crate::scope::Scope;
 use crate::stated::what_of;
 use crate::statement::Statement;
-use bee_text::Sequence;
+use bee_list::Sequence;
 use bumblebee_reader::{Arg, Item, Name, Syntax};
 use std::alloc::{AllocError, Global};
 

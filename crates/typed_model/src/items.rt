@@ -11,7 +11,7 @@ use crate::model::{Decl, Goal, Kind};
 use crate::scope::{Scope, numeral};
 use crate::statement::Statement;
 use crate::what::{BoolTerm, IntTerm};
-use bee_text::Sequence;
+use bee_list::Sequence;
 use bumblebee_reader::{Arg, GoalKind, Name, Term};
 use std::alloc::{AllocError, Global};
 

@@ -5,7 +5,7 @@ ghost use Rattle.typed_model.specs.Limits.{InLimit, AllInLimit, TermInLimit, Ter
 
 use crate::model::{Decl, Kind, Model, Stmt};
 use crate::what::{IntTerm, What};
-use bee_text::Sequence;
+use bee_list::Sequence;
 
 /// The greatest absolute value of a numeral.
 const LIMIT: i64 = 1_073_741_824;

@@ -1,7 +1,7 @@
 //! A model and an assignment of it.
 
 use crate::what::What;
-use bee_text::Sequence;
+use bee_list::Sequence;
 use bumblebee_reader::Name;
 
 /// A model: what it declares, what it states, and what it seeks. The items of its text are numbered

@@ -8,7 +8,7 @@ use crate::items::{number_in, numbers_in, numerals_in, truth_in, truths_in};
 use crate::scope::Scope;
 use crate::statement::{Difference, Order, Statement};
 use crate::what::{BoolTerm, IntTerm, What};
-use bee_text::Sequence;
+use bee_list::Sequence;
 use bumblebee_reader::{Arg, Name};
 use std::alloc::{AllocError, Global};
 

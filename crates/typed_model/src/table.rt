@@ -18,7 +18,7 @@ use crate::names::{
 use crate::statement::{Difference, Order};
 use crate::terms::{number_of, truth_of};
 use crate::what::{BoolTerm, IntTerm, What};
-use bee_text::Sequence;
+use bee_list::Sequence;
 use bumblebee_reader::Name;
 
 /// Whether two truth values are equal.

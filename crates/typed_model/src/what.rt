@@ -1,6 +1,6 @@
 //! What a statement states: one variant for each line of the table of statements.
 
-use bee_text::Sequence;
+use bee_list::Sequence;
 use bumblebee_reader::Name;
 
 /// A Boolean term.

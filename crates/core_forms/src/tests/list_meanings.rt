@@ -2,7 +2,7 @@
 
 use super::made::{compare, is, list, no, number, three, two};
 use crate::Core;
-use bee_text::Sequence;
+use bee_list::Sequence;
 use order_ints::Atom;
 use std::test::Fail;
 

@@ -7,7 +7,7 @@ ghost use Rattle.core_forms.specs.WellFormed.{IsSound, AreSound, greatest_abs, a
 ghost use Rattle.core_forms.specs.Place.{CoreBelow, IntsBelow};
 
 use crate::{Core, holds};
-use bee_text::Sequence;
+use bee_list::Sequence;
 use order_ints::{Atom, Lit, OrdInt};
 use std::alloc::{AllocError, Global};
 use std::process::Abort;

@@ -6,7 +6,7 @@ ghost use Rattle.core_forms.specs.Place.{CoreBelow, IntsBelow};
 
 use super::made::{compare, is, number, two};
 use crate::Core;
-use bee_text::Sequence;
+use bee_list::Sequence;
 use order_ints::OrdInt;
 use std::alloc::{AllocError, Global};
 use std::process::Abort;

@@ -4,7 +4,7 @@ ghost use Rattle.std.specs.Prelude.{◌≡◌, ◌≤◌, IfOk, map, length};
 ghost use Rattle.order_ints.specs.View.{resolve};
 ghost use Rattle.core_forms.specs.Trimmed.{without_false, without_constants, constant_trues, turned, tidied_clause, tidied_members};
 
-use bee_text::Sequence;
+use bee_list::Sequence;
 use order_ints::{Atom, resolve};
 use std::alloc::{AllocError, Global};
 

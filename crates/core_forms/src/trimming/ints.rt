@@ -8,7 +8,7 @@ ghost use Rattle.core_forms.specs.Resolved.{map_steps, map_int, map_ints};
 ghost use Rattle.core_forms.specs.WellFormed.{AreSound};
 ghost use Rattle.core_forms.specs.Trimmed.{is_true, is_false, same_atom, merged_steps, tidied_int, tidied_ints};
 
-use bee_text::Sequence;
+use bee_list::Sequence;
 use order_ints::{Atom, OrdInt, resolve};
 use std::alloc::{AllocError, Global};
 

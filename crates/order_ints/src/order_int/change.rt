@@ -9,7 +9,7 @@ ghost use Rattle.order_ints.specs.OrderChange.{negated_step, negated_of, shifted
 use super::OrdInt;
 use super::signed::{minus, product, sum};
 use crate::atom::Atom;
-use bee_text::Sequence;
+use bee_list::Sequence;
 use std::alloc::{AllocError, Global};
 
 /// The steps in reverse order, with negated atoms.

@@ -11,7 +11,7 @@ use super::OrdInt;
 use super::signed::gap;
 use crate::atom::Atom;
 use crate::literal::Lit;
-use bee_text::Sequence;
+use bee_list::Sequence;
 use std::alloc::{AllocError, Global};
 
 /// Steps of weight 1, with the variables from one on.

@@ -1,7 +1,7 @@
 //! A statement with assignments under which it holds, and under which it doesn't.
 
 use crate::{Assignment, Model, check_types, first_broken, holds, in_domains, in_limits};
-use bee_text::Sequence;
+use bee_list::Sequence;
 use bumblebee_reader::read_model;
 use std::alloc::Global;
 use std::process::Abort;

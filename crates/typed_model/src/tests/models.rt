@@ -5,7 +5,7 @@ use crate::{
     Assignment, BoolTerm, Decl, Goal, IntTerm, Kind, Model, Stmt, What, first_broken, in_domains,
     in_limits,
 };
-use bee_text::Sequence;
+use bee_list::Sequence;
 use bumblebee_reader::Name;
 use std::alloc::{AllocError, Global};
 use std::process::Abort;

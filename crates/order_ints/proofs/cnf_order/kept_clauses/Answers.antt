@@ -13,8 +13,8 @@ loop-clause-preserved c =
     let before : List (List Lit) = map literals_of c.loop-clause.kept.keys in
     let i = c.loop-clause.clause-index in
     let after = drop (i + 1) c.args.clauses.now in
-    let more : map literals_of c.match-branch-2.kept.keys ≡ with_ordered before (ordered_clause view c.as_slice.result.now) =
-    elim c.match-branch-2.branch [
+    let more : map literals_of c.match-branch-3.kept.keys ≡ with_ordered before (ordered_clause view c.as_slice.result.now) =
+    elim c.match-branch-3.branch [
       | in-Some+in_ok-insert w ↦ ap (map literals_of) (ap (λ s. s.keys) w.kept-is ∙ w.in_ok-insert.ensures.keys) ∙ with_clause-insert c.loop-clause.kept.keys w.into_vec.result ∙ ap (with_clause before) w.into_vec.ensures ∙ ap (with_ordered before) (sym w.in-Some.is ∙ c.in_ok-literals.ensures)
       | in_default w ↦ ap (map literals_of) (ap (λ s. s.keys) w.kept-is) ∙ ap (with_ordered before) (sym w.in_default.is ∙ c.in_ok-literals.ensures)
     ] in

@@ -1,0 +1,8 @@
+//! Lists over a `Vec`.
+#![tactic(auto)]
+
+mod sequence;
+#[cfg(test)]
+mod tests;
+
+pub use sequence::Sequence;

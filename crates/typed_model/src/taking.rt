@@ -6,7 +6,7 @@ ghost use Rattle.typed_model.specs.declared.fault.TypeFault.{TypeFault};
 ghost use Rattle.typed_model.specs.declared.fault.TypeFault.TheVariants.{Memory};
 ghost use Rattle.typed_model.specs.Names.{statement_of};
 ghost use Rattle.typed_model.specs.Items.{declared_if, declared, what_of, numbered, stated_if, stated, sought, first_fault, model_of, IsFaultOf};
-ghost use Rattle.typed_model.specs.Taken.{Taken, HasTaken, added};
+ghost use Rattle.typed_model.specs.Taken.{HasTaken, added};
 ghost use Rattle.typed_model.specs.WellTyped.{WellTyped};
 
 use crate::fault::TypeFault;

@@ -14,13 +14,12 @@ fn told(alloc: Global, answer: Result<Model, TypeFault>) -> Result<String, Fail>
     }
 }
 
-/// What comes of the items of a text, each let go before the next is taken.
+/// What comes of the items of a text that are taken one by one.
 fn one_by_one(alloc: Global, text: &str) -> Result<String, Fail> {
-    let mut items = read_model(alloc, text.as_bytes())?.items.into_vec();
-    items.reverse();
+    let syntax = read_model(alloc, text.as_bytes())?;
     let mut typing = Typing::new(alloc);
-    while let Some(item) = items.pop() {
-        typing.take(alloc, &item)?;
+    for item in syntax.items.as_slice() {
+        typing.take(alloc, item)?;
     }
     told(alloc, typing.finish())
 }

@@ -25,14 +25,6 @@ impl<T> Apart<T> {
     {
         &self.inner
     }
-
-    /// The value, taken back to where it is used.
-    pub fn into_inner(self) -> T
-        ensures { result ≡ self }
-    {
-        let Apart { inner } = self;
-        Box::into_inner(inner)
-    }
 }
 
 impl<T: Drop> Apart<T> {

@@ -5,7 +5,10 @@ ghost use Rattle.typed_model.specs.declared.what.What.TheVariants.{L3, L4, L5, L
 ghost use Rattle.typed_model.specs.Items.{truth_in, number_in, truths_in, numbers_in, numerals_in, difference_what, order_what, what_of};
 
 use crate::apart::Apart;
-use crate::items::{number_in, numbers_in, numerals_in, truth_in, truths_in};
+use crate::items::{
+    number_in, numbers_apart, numbers_in, numerals_in, truth_apart, truth_in, truths_apart,
+    truths_in,
+};
 use crate::scope::Scope;
 use crate::statement::{Difference, Order, Statement};
 use crate::what::{BoolTerm, IntTerm, What};
@@ -200,45 +203,6 @@ fn aggregate(alloc: Global, scope: &Scope, name: &Name, args: &[Arg]) -> Result<
         members,
         value,
     })
-}
-
-/// The Boolean term of an argument, put apart.
-fn truth_apart(
-    alloc: Global,
-    scope: &Scope,
-    args: &[Arg],
-    at: usize,
-) -> Result<Apart<BoolTerm>, AllocError>
-    ensures { IfOk result (λ t. t ≡ truth_in scope.now (slice_get args.now at)) }
-{
-    let truth = truth_in(scope, args, at);
-    Apart::new(alloc, truth)
-}
-
-/// The Boolean terms of an argument, put apart.
-fn truths_apart(
-    alloc: Global,
-    scope: &Scope,
-    args: &[Arg],
-    at: usize,
-) -> Result<Apart<Sequence<BoolTerm>>, AllocError>
-    ensures { IfOk result (λ xs. xs ≡ truths_in scope.now (slice_get args.now at)) }
-{
-    let members = truths_in(alloc, scope, args, at)?;
-    Apart::new(alloc, members)
-}
-
-/// The integer terms of an argument, put apart.
-fn numbers_apart(
-    alloc: Global,
-    scope: &Scope,
-    args: &[Arg],
-    at: usize,
-) -> Result<Apart<Sequence<IntTerm>>, AllocError>
-    ensures { IfOk result (λ xs. xs ≡ numbers_in scope.now (slice_get args.now at)) }
-{
-    let members = numbers_in(alloc, scope, args, at)?;
-    Apart::new(alloc, members)
 }
 
 /// The statement that members differ.

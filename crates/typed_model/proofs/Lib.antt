@@ -3,7 +3,6 @@ pub mod BooleanLaws
 pub mod DomainLaws
 pub mod FaultLaws
 pub mod HoldsLaws
-pub mod ItemLaws
 pub mod ItemTyping
 pub mod LimitLaws
 pub mod ListLaws
@@ -17,5 +16,6 @@ pub mod SolutionLaws
 pub mod StatementLaws
 pub mod Sums
 pub mod TableLaws
+pub mod TakenLaws
 pub mod TypingLaws
 pub mod Wide

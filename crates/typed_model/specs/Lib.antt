@@ -11,6 +11,7 @@ pub mod Signatures
 pub mod Scope
 pub mod Faults
 pub mod Items
+pub mod Taken
 pub mod WellTyped
 pub mod Sizes
 pub mod Laws

@@ -1,12 +1,11 @@
 //! From a text's items to a model.
 
-ghost use Rattle.std.specs.Prelude.{◌≡◌, ◌++◌, ◌⊎◌, IfOk, IfErr, OnOk, None, Some};
-ghost use Rattle.typed_model.specs.declared.fault.TypeFault.TheVariants.{Memory};
-ghost use Rattle.typed_model.specs.Names.{statement_of};
-ghost use Rattle.typed_model.specs.Items.{declared_if, declared, what_of, numbered, stated_if, stated, sought, first_fault, model_of, IsFaultOf};
+ghost use Rattle.std.specs.Prelude.{◌≡◌, IfOk, IfErr, None};
+ghost use Rattle.typed_model.specs.Items.{first_fault, model_of, IsFaultOf};
 ghost use Rattle.typed_model.specs.WellTyped.{WellTyped};
 
 use crate::fault::TypeFault;
+<<<<<<< HEAD
 use crate::faults::item_fault;
 use crate::items::{declare_by, goal_of};
 use crate::model::{Goal, Model, Stmt};
@@ -81,6 +80,12 @@ fn take_item(
         }
     }
 }
+=======
+use crate::model::Model;
+use crate::taking::Typing;
+use bumblebee_reader::Syntax;
+use std::alloc::Global;
+>>>>>>> 280bf1b3015419c0780a38c7ea2e04fce3ba95fc
 
 /// The model of a text's items, or the first fault: that of the first item that has one. It is linear in
 /// the text.
@@ -90,23 +95,9 @@ pub fn check_types(alloc: Global, syntax: &Syntax) -> Result<Model, TypeFault>
     ensures typed { IfOk result WellTyped }
     ensures fault { IfErr result (λ e. IsFaultOf e syntax.now.items) }
 {
-    let mut scope = Scope::new(alloc);
-    let mut stmts = Vec::new(alloc);
-    let mut goal = None;
-    let mut number: u64 = 1;
+    let mut typing = Typing::new(alloc);
     for item in syntax.items.as_slice() {
-        if let Some(fault) = item_fault(&scope, number, goal.is_some(), item) {
-            return Err(fault);
-        }
-        take_item(alloc, &mut scope, &mut stmts, &mut goal, number, item)?;
-        number += 1;
+        typing.take(alloc, item)?;
     }
-    match goal {
-        Some(goal) => Ok(Model {
-            decls: Sequence::from_vec(scope.into_decls()),
-            stmts: Sequence::from_vec(stmts),
-            goal,
-        }),
-        None => Err(TypeFault::NoGoal(number)),
-    }
+    typing.finish()
 }

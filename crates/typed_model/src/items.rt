@@ -6,6 +6,7 @@ ghost use Rattle.typed_model.specs.Scope.{truth, number, numeral};
 ghost use Rattle.typed_model.specs.Faults.{numeral_in};
 ghost use Rattle.typed_model.specs.Items.{truth_in, number_in, truths_in, numbers_in, numerals_in, terms_in, declared_name, declared_as, declared_by, declared_if, declared, difference_what, order_what, what_of, objective_place, goal_of, name_in};
 
+use crate::apart::Apart;
 use crate::faults::numeral_in;
 use crate::model::{Decl, Goal, Kind};
 use crate::scope::{Scope, numeral};
@@ -100,6 +101,45 @@ pub fn numbers_in(
     ensures { IfOk result (λ xs. xs ≡ numbers_in scope.now (slice_get args.now at)) }
 {
     numbers(alloc, scope, terms_in(args, at))
+}
+
+/// The Boolean term of an argument, put apart.
+pub fn truth_apart(
+    alloc: Global,
+    scope: &Scope,
+    args: &[Arg],
+    at: usize,
+) -> Result<Apart<BoolTerm>, AllocError>
+    ensures { IfOk result (λ t. t ≡ truth_in scope.now (slice_get args.now at)) }
+{
+    let truth = truth_in(scope, args, at);
+    Apart::new(alloc, truth)
+}
+
+/// The Boolean terms of an argument, put apart.
+pub fn truths_apart(
+    alloc: Global,
+    scope: &Scope,
+    args: &[Arg],
+    at: usize,
+) -> Result<Apart<Sequence<BoolTerm>>, AllocError>
+    ensures { IfOk result (λ xs. xs ≡ truths_in scope.now (slice_get args.now at)) }
+{
+    let members = truths_in(alloc, scope, args, at)?;
+    Apart::new(alloc, members)
+}
+
+/// The integer terms of an argument, put apart.
+pub fn numbers_apart(
+    alloc: Global,
+    scope: &Scope,
+    args: &[Arg],
+    at: usize,
+) -> Result<Apart<Sequence<IntTerm>>, AllocError>
+    ensures { IfOk result (λ xs. xs ≡ numbers_in scope.now (slice_get args.now at)) }
+{
+    let members = numbers_in(alloc, scope, args, at)?;
+    Apart::new(alloc, members)
 }
 
 /// The numerals of an argument.

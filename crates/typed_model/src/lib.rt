@@ -4,6 +4,7 @@
 //! `specs/Faults.antt`.
 #![tactic(auto)]
 
+mod apart;
 mod booleans;
 mod check;
 mod fault;
@@ -21,11 +22,13 @@ mod solutions;
 mod stated;
 mod statement;
 mod table;
+mod taking;
 mod terms;
 #[cfg(test)]
 mod tests;
 mod what;
 
+pub use apart::Apart;
 pub use check::check_types;
 pub use fault::TypeFault;
 pub use laws::{holds_law, limit_law, size_law, typing_law};
@@ -38,4 +41,5 @@ pub use names::{
 };
 pub use solutions::{first_broken, holds, in_domains};
 pub use statement::{Arithmetic, Difference, Extreme, Operator, Order, Relation, Statement};
+pub use taking::Typing;
 pub use what::{BoolTerm, IntTerm, What};

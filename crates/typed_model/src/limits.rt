@@ -3,6 +3,7 @@
 ghost use Rattle.std.specs.Prelude.{◌↔◌, IsTrue};
 ghost use Rattle.typed_model.specs.Limits.{InLimit, AllInLimit, TermInLimit, TermsInLimit, TermsInLimitIf, WhatInLimit, StmtsInLimit, KindInLimit, DeclsInLimit, InLimits};
 
+use crate::apart::Apart;
 use crate::model::{Decl, Kind, Model, Stmt};
 use crate::what::{IntTerm, What};
 use bee_list::Sequence;
@@ -52,11 +53,11 @@ fn terms_in_limit(terms: &[IntTerm]) -> bool
 }
 
 /// Whether the number of each term is, where there is a list.
-fn terms_in_limit_if(terms: &Option<Sequence<IntTerm>>) -> bool
+fn terms_in_limit_if(terms: &Option<Apart<Sequence<IntTerm>>>) -> bool
     ensures { IsTrue result ↔ TermsInLimitIf terms.now }
 {
     match terms {
-        Some(members) => terms_in_limit(members.as_slice()),
+        Some(members) => terms_in_limit(members.get().as_slice()),
         None => true,
     }
 }

@@ -4,7 +4,11 @@ ghost use Rattle.std.specs.Prelude.{◌≡◌, IfOk, slice_get, None, Some, ℕ,
 ghost use Rattle.typed_model.specs.declared.what.What.TheVariants.{L3, L4, L5, L6, L7, L8, L9, L10, L11, L12, L13, L14, L15, L16, L17, L18};
 ghost use Rattle.typed_model.specs.Items.{truth_in, number_in, truths_in, numbers_in, numerals_in, difference_what, order_what, what_of};
 
-use crate::items::{number_in, numbers_in, numerals_in, truth_in, truths_in};
+use crate::apart::Apart;
+use crate::items::{
+    number_in, numbers_apart, numbers_in, numerals_in, truth_apart, truth_in, truths_apart,
+    truths_in,
+};
 use crate::scope::Scope;
 use crate::statement::{Difference, Order, Statement};
 use crate::what::{BoolTerm, IntTerm, What};
@@ -220,14 +224,17 @@ fn difference(
             truth: None,
             conditions: None,
         }),
-        Difference::Truth => Ok(What::L17 {
-            name,
-            members,
-            truth: Some(truth_in(scope, args, 1)),
-            conditions: None,
-        }),
+        Difference::Truth => {
+            let truth = truth_apart(alloc, scope, args, 1)?;
+            Ok(What::L17 {
+                name,
+                members,
+                truth: Some(truth),
+                conditions: None,
+            })
+        }
         Difference::Conditional => {
-            let conditions = truths_in(alloc, scope, args, 1)?;
+            let conditions = truths_apart(alloc, scope, args, 1)?;
             Ok(What::L17 {
                 name,
                 members,
@@ -243,13 +250,13 @@ fn truths_order(
     alloc: Global,
     scope: &Scope,
     name: &Name,
-    truth: Option<BoolTerm>,
+    truth: Option<Apart<BoolTerm>>,
     args: &[Arg],
 ) -> Result<What, AllocError>
     ensures { IfOk result (λ w. w ≡ L18 name.now (Some (truths_in scope.now (slice_get args.now 0))) (Some (truths_in scope.now (slice_get args.now 1))) None None truth) }
 {
-    let left = truths_in(alloc, scope, args, 0)?;
-    let right = truths_in(alloc, scope, args, 1)?;
+    let left = truths_apart(alloc, scope, args, 0)?;
+    let right = truths_apart(alloc, scope, args, 1)?;
     let name = own(name)?;
     Ok(What::L18 {
         name,
@@ -266,13 +273,13 @@ fn numbers_order(
     alloc: Global,
     scope: &Scope,
     name: &Name,
-    truth: Option<BoolTerm>,
+    truth: Option<Apart<BoolTerm>>,
     args: &[Arg],
 ) -> Result<What, AllocError>
     ensures { IfOk result (λ w. w ≡ L18 name.now None None (Some (numbers_in scope.now (slice_get args.now 0))) (Some (numbers_in scope.now (slice_get args.now 1))) truth) }
 {
-    let left = numbers_in(alloc, scope, args, 0)?;
-    let right = numbers_in(alloc, scope, args, 1)?;
+    let left = numbers_apart(alloc, scope, args, 0)?;
+    let right = numbers_apart(alloc, scope, args, 1)?;
     let name = own(name)?;
     Ok(What::L18 {
         name,
@@ -285,13 +292,19 @@ fn numbers_order(
 }
 
 /// The truth of an order, where a Boolean is it.
-fn order_truth(scope: &Scope, order: Order, args: &[Arg]) -> Option<BoolTerm>
-    ensures { result ≡ (if order.reified then Some (truth_in scope.now (slice_get args.now 2)) else None) }
+fn order_truth(
+    alloc: Global,
+    scope: &Scope,
+    order: Order,
+    args: &[Arg],
+) -> Result<Option<Apart<BoolTerm>>, AllocError>
+    ensures { IfOk result (λ t. t ≡ (if order.reified then Some (truth_in scope.now (slice_get args.now 2)) else None)) }
 {
     if order.reified {
-        Some(truth_in(scope, args, 2))
+        let truth = truth_apart(alloc, scope, args, 2)?;
+        Ok(Some(truth))
     } else {
-        None
+        Ok(None)
     }
 }
 
@@ -305,7 +318,7 @@ fn order(
 ) -> Result<What, AllocError>
     ensures { IfOk result (λ w. w ≡ order_what scope.now name.now order args.now) }
 {
-    let truth = order_truth(scope, order, args);
+    let truth = order_truth(alloc, scope, order, args)?;
     if order.of_booleans {
         truths_order(alloc, scope, name, truth, args)
     } else {

@@ -7,6 +7,7 @@ ghost use Rattle.typed_model.specs.Terms.{truths_of, numbers_of};
 ghost use Rattle.typed_model.specs.Holds.{Holds, holds, same, truth_or_true, terms_or_none, differs, ordered};
 ghost use Rattle.typed_model.specs.Limits.{AllInLimit, TermsInLimit, WhatInLimit};
 
+use crate::apart::Apart;
 use crate::booleans::{combined, count_true};
 use crate::integers::{gives, linear_sum, relates, sums, total, weight_of_true};
 use crate::lists::{all_differ, differ_where, numbers_in_order, truths_in_order};
@@ -224,21 +225,21 @@ fn aggregates(values: &[i64], name: &Name, members: &Sequence<IntTerm>, value: I
 }
 
 /// The truth value of a term that may be left out; one that is left out is true.
-fn truth_or_true(values: &[i64], truth: &Option<BoolTerm>) -> bool
+fn truth_or_true(values: &[i64], truth: &Option<Apart<BoolTerm>>) -> bool
     ensures { result ≡ truth_or_true values.now truth.now }
 {
     match truth {
-        Some(term) => truth_of(values, *term),
+        Some(term) => truth_of(values, *term.get()),
         None => true,
     }
 }
 
 /// The members of a list that may be left out.
-fn terms<T>(list: &Option<Sequence<T>>) -> &[T]
+fn terms<T>(list: &Option<Apart<Sequence<T>>>) -> &[T]
     ensures { result.now ≡ terms_or_none list.now }
 {
     match list {
-        Some(members) => members.as_slice(),
+        Some(members) => members.get().as_slice(),
         None => &[],
     }
 }
@@ -265,8 +266,8 @@ fn difference(
     values: &[i64],
     name: &Name,
     members: &Sequence<IntTerm>,
-    truth: &Option<BoolTerm>,
-    conditions: &Option<Sequence<BoolTerm>>,
+    truth: &Option<Apart<BoolTerm>>,
+    conditions: &Option<Apart<Sequence<BoolTerm>>>,
 ) -> bool
     ensures { result ≡ holds values.now (L17 name.now members.now truth.now conditions.now) }
 {
@@ -316,11 +317,11 @@ fn ordered(order: Order, values: &[i64], lists: &Lists, truth: bool) -> bool
 fn lists_in_order(
     values: &[i64],
     name: &Name,
-    left_truths: &Option<Sequence<BoolTerm>>,
-    right_truths: &Option<Sequence<BoolTerm>>,
-    left_numbers: &Option<Sequence<IntTerm>>,
-    right_numbers: &Option<Sequence<IntTerm>>,
-    truth: &Option<BoolTerm>,
+    left_truths: &Option<Apart<Sequence<BoolTerm>>>,
+    right_truths: &Option<Apart<Sequence<BoolTerm>>>,
+    left_numbers: &Option<Apart<Sequence<IntTerm>>>,
+    right_numbers: &Option<Apart<Sequence<IntTerm>>>,
+    truth: &Option<Apart<BoolTerm>>,
 ) -> bool
     ensures { result ≡ holds values.now (L18 name.now left_truths.now right_truths.now left_numbers.now right_numbers.now truth.now) }
 {

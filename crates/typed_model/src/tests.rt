@@ -7,6 +7,7 @@ mod fault_order;
 mod faults;
 mod list_lines;
 mod models;
+mod one_by_one;
 mod operation_lines;
 mod order_lines;
 mod sum_lines;

@@ -1,5 +1,6 @@
 //! What a statement states: one variant for each line of the table of statements.
 
+use crate::apart::Apart;
 use bee_list::Sequence;
 use bumblebee_reader::Name;
 
@@ -27,7 +28,8 @@ pub enum IntTerm {
 }
 
 /// A statement without its number. The variants are the lines of the table of statements, and where a
-/// line has several statements, its variant begins with the statement's name.
+/// line has several statements, its variant begins with the statement's name. Parts that a statement may
+/// leave out stand apart, so that a statement that has none of them is small.
 #[derive(Debug, Clone, Drop)]
 pub enum What {
     /// `bool2int`: a Boolean as an integer.
@@ -165,23 +167,23 @@ pub enum What {
         /// The members.
         members: Sequence<IntTerm>,
         /// The truth of it, for `_reif`.
-        truth: Option<BoolTerm>,
+        truth: Option<Apart<BoolTerm>>,
         /// A condition for each member, for `Cond`.
-        conditions: Option<Sequence<BoolTerm>>,
+        conditions: Option<Apart<Sequence<BoolTerm>>>,
     },
     /// `bool_arrays_lex` and its kin: two lists are in order.
     L18 {
         /// The statement's name.
         name: Name,
         /// The first list, of Booleans.
-        left_truths: Option<Sequence<BoolTerm>>,
+        left_truths: Option<Apart<Sequence<BoolTerm>>>,
         /// The second list, of Booleans.
-        right_truths: Option<Sequence<BoolTerm>>,
+        right_truths: Option<Apart<Sequence<BoolTerm>>>,
         /// The first list, of integers.
-        left_numbers: Option<Sequence<IntTerm>>,
+        left_numbers: Option<Apart<Sequence<IntTerm>>>,
         /// The second list, of integers.
-        right_numbers: Option<Sequence<IntTerm>>,
+        right_numbers: Option<Apart<Sequence<IntTerm>>>,
         /// The truth of it, for `_reif`.
-        truth: Option<BoolTerm>,
+        truth: Option<Apart<BoolTerm>>,
     },
 }

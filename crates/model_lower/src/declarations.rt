@@ -14,10 +14,10 @@ use std::alloc::{AllocError, Global};
 use typed_model::{Decl, Kind};
 
 /// How many variables there may be.
-const MOST_VARS: u128 = 16_777_216;
+pub const MOST_VARS: u128 = 16_777_216;
 
 /// How many variables a declared name takes.
-fn vars_taken(kind: Kind) -> u64
+pub fn vars_taken(kind: Kind) -> u64
     ensures { result ≡ vars_taken kind }
 {
     match kind {

@@ -12,6 +12,7 @@ mod lowering;
 mod state;
 mod statements;
 mod terms;
+mod unbuilt;
 #[cfg(test)]
 mod tests;
 
@@ -19,3 +20,4 @@ pub use fault::LowerFault;
 pub use laws::{item_law, lowering_law};
 pub use lowering::lower;
 pub use state::{Lowered, NameMap};
+pub use unbuilt::first_unbuilt;

@@ -19,7 +19,7 @@ use std::alloc::Global;
 use typed_model::{Decl, Model, Stmt};
 
 /// How many statements stand before the first one whose number is `number` or more.
-fn count_before(stmts: &[Stmt], number: u64) -> usize
+pub fn count_before(stmts: &[Stmt], number: u64) -> usize
     ensures within { result ≤ length stmts.now }
     ensures before { take result stmts.now ≡ stmts_before number stmts.now }
     ensures from { drop result stmts.now ≡ stmts_from number stmts.now }

@@ -21,7 +21,7 @@ use typed_model::{
 };
 
 /// Whether a statement has cores yet.
-fn is_built(what: &What) -> bool
+pub fn is_built(what: &What) -> bool
     ensures { result ≡ is_built what.now }
 {
     match what {

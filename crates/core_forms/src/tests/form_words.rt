@@ -12,7 +12,15 @@ use order_ints::OrdInt;
 use std::alloc::{AllocError, Global};
 use std::process::Abort;
 
-/// The form over three integers that begins with a sum.
+/// An ordered integer.
+fn ladder(rt: &impl Abort, alloc: Global, text: &str) -> Result<Core, AllocError>
+    ensures form { IfOk result (λ core. IsWellFormed core) }
+    ensures place { IfOk result (λ core. CoreBelow 25 core) }
+{
+    Ok(Core::Ladder(int(rt, alloc, word(text, 1))?))
+}
+
+/// The first two integers, added up, are the third.
 fn sum3(rt: &impl Abort, alloc: Global, text: &str) -> Result<Core, AllocError>
     ensures form { IfOk result (λ core. IsWellFormed core) }
     ensures place { IfOk result (λ core. CoreBelow 25 core) }
@@ -198,7 +206,7 @@ fn of_numbers(rt: &impl Abort, alloc: Global, text: &str) -> Result<Core, AllocE
     ensures place { IfOk result (λ core. CoreBelow 25 core) }
 {
     match word(text, 0) {
-        "Ladder" => Ok(Core::Ladder(int(rt, alloc, word(text, 1))?)),
+        "Ladder" => ladder(rt, alloc, text),
         "LeqR" => comparison(rt, alloc, text),
         "EqR" => equality(rt, alloc, text),
         "Sum3" => sum3(rt, alloc, text),

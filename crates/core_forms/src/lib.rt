@@ -4,8 +4,6 @@
 
 mod basic;
 pub mod cost_laws;
-#[cfg(test)]
-mod cost_tests;
 mod costs;
 mod equation;
 mod form;

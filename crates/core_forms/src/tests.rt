@@ -1,13 +1,12 @@
-//! Meanings and trimmed cores, worked out by hand from the table of forms.
+//! What the contracts can't say of themselves: meanings, trimmed cores, variables, costs and sums, worked
+//! out by hand from the table of forms. Each row is a core in words, and what is wanted of it.
 
-mod atom_meanings;
-mod atom_trimmings;
-mod list_meanings;
-mod list_trimmings;
-mod made;
-mod number_meanings;
-mod number_trimmings;
+mod costs;
+mod form_words;
+mod int_words;
+mod meanings;
 mod occurring;
-mod order_meanings;
 mod shown;
-mod trimmed;
+mod sums;
+mod trimmings;
+mod words;

@@ -1,25 +1,29 @@
 //! Which variables a core has.
 
-use super::made::{is, list, no, number};
-use crate::{Core, variables};
-use order_ints::Atom;
-use std::test::Fail;
+use super::form_words::core_of;
+use crate::variables;
+use std::alloc::{AllocError, Global};
+use std::process::Abort;
 
-#[test]
-fn variables_are_told_once_and_ascending(rt: HostRuntime) -> Result<(), Fail> {
-    let alloc = rt.alloc();
-    let members = list(alloc, &[no(8), is(2), Atom::True, is(8)])?;
-    let count = Core::Count(members, number(&rt, alloc, 3, 4, 2)?);
-    let found = variables(alloc, &count)?;
-    assert_eq!(rt; found.as_slice(), [2, 4, 5, 8].as_slice());
-    Ok(())
+/// The variables of a core in words, with a blank behind each.
+fn found_variables(rt: &impl Abort, alloc: Global, text: &str) -> Result<String, AllocError> {
+    let core = core_of(rt, alloc, text)?;
+    let mut out = String::new(alloc);
+    for variable in variables(alloc, &core)?.as_slice() {
+        write!(out, "{variable} ")?;
+    }
+    Ok(out)
 }
 
 #[test]
-fn constants_have_no_variables(rt: HostRuntime) -> Result<(), Fail> {
-    let alloc = rt.alloc();
-    let conj = Core::Conj(Atom::False, list(alloc, &[Atom::True, no(3)])?);
-    let found = variables(alloc, &conj)?;
-    assert_eq!(rt; found.as_slice(), [3].as_slice());
+fn variables_are_told_once_and_ascending(rt: HostRuntime) -> Result<(), AllocError> {
+    for (text, want) in [
+        ("Count -8,2,T,8 3..5@4", "2 4 5 8 "),
+        ("Conj F T,-3", "3 "),
+        ("Clause F,T", ""),
+    ] {
+        let found = found_variables(&rt, rt.alloc(), text)?;
+        assert_eq!(rt; found.as_str(), want, "{text}");
+    }
     Ok(())
 }

@@ -30,143 +30,145 @@ fn put_int(out: &mut String, a: &OrdInt) -> Result<(), AllocError> {
     out.push(')')
 }
 
-/// An atom.
-fn atom(alloc: Global, atom: Atom) -> Result<String, AllocError> {
-    let mut out = String::new(alloc);
-    put_atom(&mut out, atom)?;
-    Ok(out)
+/// Writes an atom behind a blank.
+fn atom_word(out: &mut String, atom: Atom) -> Result<(), AllocError> {
+    out.push(' ')?;
+    put_atom(out, atom)
 }
 
-/// An integer.
-fn int(alloc: Global, a: &OrdInt) -> Result<String, AllocError> {
-    let mut out = String::new(alloc);
-    put_int(&mut out, a)?;
-    Ok(out)
+/// Writes an integer behind a blank.
+fn int_word(out: &mut String, a: &OrdInt) -> Result<(), AllocError> {
+    out.push(' ')?;
+    put_int(out, a)
 }
 
-/// A list of atoms.
-fn atoms(alloc: Global, atoms: &[Atom]) -> Result<String, AllocError> {
-    let mut out = String::new(alloc);
+/// Writes a list of atoms behind a blank.
+fn atoms(out: &mut String, atoms: &[Atom]) -> Result<(), AllocError> {
+    out.push(' ')?;
+    let mut before = '[';
     for atom in atoms {
-        out.push(if out.is_empty() { '[' } else { ' ' })?;
-        put_atom(&mut out, *atom)?;
+        out.push(before)?;
+        put_atom(out, *atom)?;
+        before = ' ';
     }
-    closed(out)
+    closed(out, atoms.is_empty())
 }
 
-/// A list of integers.
-fn ints(alloc: Global, ints: &[OrdInt]) -> Result<String, AllocError> {
-    let mut out = String::new(alloc);
+/// Writes a list of integers behind a blank.
+fn ints(out: &mut String, ints: &[OrdInt]) -> Result<(), AllocError> {
+    out.push(' ')?;
+    let mut before = '[';
     for a in ints {
-        out.push(if out.is_empty() { '[' } else { ' ' })?;
-        put_int(&mut out, a)?;
+        out.push(before)?;
+        put_int(out, a)?;
+        before = ' ';
     }
-    closed(out)
+    closed(out, ints.is_empty())
 }
 
-/// A list with its closing bracket.
-fn closed(mut out: String) -> Result<String, AllocError> {
-    if out.is_empty() {
+/// Writes the closing bracket of a list, and the opening one too if the list is empty.
+fn closed(out: &mut String, empty: bool) -> Result<(), AllocError> {
+    if empty {
         out.push('[')?;
     }
-    out.push(']')?;
-    Ok(out)
+    out.push(']')
 }
 
-/// Three integers.
-fn triple(alloc: Global, a: &OrdInt, b: &OrdInt, c: &OrdInt) -> Result<String, AllocError> {
-    let (a, b, c) = (int(alloc, a)?, int(alloc, b)?, int(alloc, c)?);
-    format!(in alloc; "{a} {b} {c}")
+/// Writes three integers.
+fn triple(out: &mut String, a: &OrdInt, b: &OrdInt, c: &OrdInt) -> Result<(), AllocError> {
+    int_word(out, a)?;
+    int_word(out, b)?;
+    int_word(out, c)
 }
 
-/// A form over atoms.
-fn of_atoms(alloc: Global, core: &Core) -> Result<String, AllocError> {
+/// Writes an atom and two integers.
+fn compared(out: &mut String, r: Atom, a: &OrdInt, b: &OrdInt) -> Result<(), AllocError> {
+    atom_word(out, r)?;
+    int_word(out, a)?;
+    int_word(out, b)
+}
+
+/// Writes an atom, a flag and two lists.
+fn order(
+    out: &mut String,
+    r: Atom,
+    strict: bool,
+    front: &[OrdInt],
+    back: &[OrdInt],
+) -> Result<(), AllocError> {
+    atom_word(out, r)?;
+    write!(out, " {strict}")?;
+    ints(out, front)?;
+    ints(out, back)
+}
+
+/// The name of a form.
+fn name(core: &Core) -> &'static str {
     match core {
-        Core::Clause(ls) => {
-            let ls = atoms(alloc, ls.as_slice())?;
-            format!(in alloc; "Clause {ls}")
-        }
-        Core::Parity(ls, odd) => {
-            let ls = atoms(alloc, ls.as_slice())?;
-            format!(in alloc; "Parity {ls} {odd}")
-        }
-        Core::Conj(r, ls) => {
-            let (r, ls) = (atom(alloc, *r)?, atoms(alloc, ls.as_slice())?);
-            format!(in alloc; "Conj {r} {ls}")
-        }
-        Core::Amo(ls) => {
-            let ls = atoms(alloc, ls.as_slice())?;
-            format!(in alloc; "Amo {ls}")
-        }
-        Core::Comp(a, b, hi, lo) => {
-            let four = atoms(alloc, &[*a, *b, *hi, *lo])?;
-            format!(in alloc; "Comp {four}")
-        }
-        _ => String::from_str(alloc, "another form"),
+        Core::Ladder(_) => "Ladder",
+        Core::Clause(_) => "Clause",
+        Core::Parity(_, _) => "Parity",
+        Core::Conj(_, _) => "Conj",
+        Core::Comp(_, _, _, _) => "Comp",
+        Core::LeqR(_, _, _) => "LeqR",
+        Core::EqR(_, _, _) => "EqR",
+        Core::Sum3(_, _, _) => "Sum3",
+        Core::Count(_, _) => "Count",
+        Core::Sum(_, _) => "Sum",
+        Core::Max(_, _) => "Max",
+        Core::AllDiff(_, _) => "AllDiff",
+        Core::Amo(_) => "Amo",
+        Core::Prod(_, _, _) => "Prod",
+        Core::DivMod(_, _, _, _) => "DivMod",
+        Core::Lex(_, _, _, _) => "Lex",
     }
 }
 
-/// A form over a few integers.
-fn of_numbers(alloc: Global, core: &Core) -> Result<String, AllocError> {
+/// Writes the members of a core, each behind a blank.
+fn members(out: &mut String, core: &Core) -> Result<(), AllocError> {
     match core {
-        Core::Ladder(a) => {
-            let a = int(alloc, a)?;
-            format!(in alloc; "Ladder {a}")
+        Core::Ladder(a) => int_word(out, a),
+        Core::Clause(ls) | Core::Amo(ls) => atoms(out, ls.as_slice()),
+        Core::Parity(ls, odd) => {
+            atoms(out, ls.as_slice())?;
+            write!(out, " {odd}")
         }
-        Core::LeqR(r, a, b) => {
-            let (r, a, b) = (atom(alloc, *r)?, int(alloc, a)?, int(alloc, b)?);
-            format!(in alloc; "LeqR {r} {a} {b}")
+        Core::Conj(r, ls) => {
+            atom_word(out, *r)?;
+            atoms(out, ls.as_slice())
         }
-        Core::EqR(r, a, b) => {
-            let (r, a, b) = (atom(alloc, *r)?, int(alloc, a)?, int(alloc, b)?);
-            format!(in alloc; "EqR {r} {a} {b}")
+        Core::Comp(a, b, hi, lo) => atoms(out, &[*a, *b, *hi, *lo]),
+        Core::LeqR(r, a, b) | Core::EqR(r, a, b) => compared(out, *r, a, b),
+        Core::Sum3(a, b, c) | Core::Prod(a, b, c) => triple(out, a, b, c),
+        Core::Count(ls, c) => {
+            atoms(out, ls.as_slice())?;
+            int_word(out, c)
         }
-        Core::Sum3(a, b, c) => {
-            let three = triple(alloc, a, b, c)?;
-            format!(in alloc; "Sum3 {three}")
+        Core::Sum(list, k) => {
+            ints(out, list.as_slice())?;
+            write!(out, " {k}")
         }
-        Core::Prod(a, b, c) => {
-            let three = triple(alloc, a, b, c)?;
-            format!(in alloc; "Prod {three}")
+        Core::Max(list, c) => {
+            ints(out, list.as_slice())?;
+            int_word(out, c)
+        }
+        Core::AllDiff(list, cs) => {
+            ints(out, list.as_slice())?;
+            atoms(out, cs.as_slice())
         }
         Core::DivMod(a, b, q, r) => {
-            let (a, three) = (int(alloc, a)?, triple(alloc, b, q, r)?);
-            format!(in alloc; "DivMod {a} {three}")
+            int_word(out, a)?;
+            triple(out, b, q, r)
         }
-        _ => of_atoms(alloc, core),
+        Core::Lex(r, strict, front, back) => {
+            order(out, *r, *strict, front.as_slice(), back.as_slice())
+        }
     }
 }
 
 /// A core.
 pub(super) fn shown(alloc: Global, core: &Core) -> Result<String, AllocError> {
-    match core {
-        Core::Count(ls, c) => {
-            let (ls, c) = (atoms(alloc, ls.as_slice())?, int(alloc, c)?);
-            format!(in alloc; "Count {ls} {c}")
-        }
-        Core::Sum(members, k) => {
-            let members = ints(alloc, members.as_slice())?;
-            format!(in alloc; "Sum {members} {k}")
-        }
-        Core::Max(members, c) => {
-            let (members, c) = (ints(alloc, members.as_slice())?, int(alloc, c)?);
-            format!(in alloc; "Max {members} {c}")
-        }
-        Core::AllDiff(members, cs) => {
-            let (members, cs) = (
-                ints(alloc, members.as_slice())?,
-                atoms(alloc, cs.as_slice())?,
-            );
-            format!(in alloc; "AllDiff {members} {cs}")
-        }
-        Core::Lex(r, strict, front, back) => {
-            let r = atom(alloc, *r)?;
-            let (front, back) = (
-                ints(alloc, front.as_slice())?,
-                ints(alloc, back.as_slice())?,
-            );
-            format!(in alloc; "Lex {r} {strict} {front} {back}")
-        }
-        _ => of_numbers(alloc, core),
-    }
+    let mut out = String::from_str(alloc, name(core))?;
+    members(&mut out, core)?;
+    Ok(out)
 }

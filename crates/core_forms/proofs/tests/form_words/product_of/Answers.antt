@@ -2,7 +2,7 @@ use Rattle.std.proofs.Common.{◌≤◌, arith}
 use Rattle.std.proofs.Math.Nat.{mul-le-mul}
 use Rattle.core_forms.specs.WellFormed.{greatest_abs}
 use Rattle.core_forms.proofs.Limits.{small-products}
-use Rattle.core_forms.proofs.tests.number_meanings.product.Goals as goal
+use Rattle.core_forms.proofs.tests.form_words.product_of.Goals as goal
 
 pub returns-clause-form : goal.returns-clause-form
 returns-clause-form c =

@@ -7,9 +7,8 @@ ghost use Rattle.bumblebee_reader.specs.Faults.{IsSyntaxFault, IsNumberFault, Me
 ghost use Rattle.bumblebee_reader.specs.Reading.{AtItem, reading, Gives};
 
 use crate::fault::ReadFault;
-use crate::read::read_items;
+use crate::items::Items;
 use crate::syntax::Syntax;
-use crate::tokens::Tokens;
 use bee_text::Sequence;
 use std::alloc::Global;
 
@@ -26,8 +25,11 @@ pub fn read_model(alloc: Global, text: &[u8]) -> Result<Syntax, ReadFault>
 fn read_whole(alloc: Global, text: &[u8]) -> Result<Syntax, ReadFault>
     ensures { Gives result (reading AtItem 1 text.now) (λ s. Ok s.items) }
 {
-    let mut tokens = Tokens::new(text);
-    let items = read_items(alloc, &mut tokens)?;
+    let mut left = Items::new(text);
+    let mut items = Vec::new(alloc);
+    while let Some(item) = left.next_item(alloc)? {
+        items.push(item)?;
+    }
     Ok(Syntax {
         items: Sequence::from_vec(items),
     })

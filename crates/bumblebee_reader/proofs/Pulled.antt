@@ -8,7 +8,7 @@ use Rattle.bumblebee_reader.specs.declared.fault.ReadFault.TheVariants as fault
 use Rattle.bumblebee_reader.specs.Grammar.{IsText}
 use Rattle.bumblebee_reader.specs.Faults.{IsSyntaxFault, IsNumberFault}
 use Rattle.bumblebee_reader.specs.Laws.{UnreadTells}
-use Rattle.bumblebee_reader.specs.Reading.{AtItem, Outcome, reading, with_item, with_items}
+use Rattle.bumblebee_reader.specs.Reading.{Outcome, with_item, with_items}
 use Rattle.bumblebee_reader.specs.Unread.{Left, whole_text, unread, IsTaken}
 use Rattle.bumblebee_reader.proofs.Text.{text_from_reading, reading_from_text, syntax_fault_from_reading, reading_from_syntax_fault, number_fault_from_reading, reading_from_number_fault, no_memory_fault}
 

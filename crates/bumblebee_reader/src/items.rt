@@ -11,8 +11,8 @@ use crate::tokens::Tokens;
 use std::alloc::Global;
 use std::marker::Model;
 
-/// The items of a text, which are read when they are asked for. A clause sees what is left of the text. The
-/// memory of an item is the caller's, so that a long text need not be held as syntax.
+/// The items of a text, each of which is read when it is asked for, so that a long text need not be held as
+/// syntax. A clause sees the bytes that are left and the line on which they begin.
 #[derive(Drop)]
 pub struct Items<'a> {
     tokens: Tokens<'a>,

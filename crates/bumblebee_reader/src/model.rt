@@ -13,7 +13,7 @@ use bee_text::Sequence;
 use std::alloc::Global;
 
 /// The syntax of a text, or its first fault. One pass over the bytes, each of which is looked at once; a
-/// name takes memory once, when it is whole.
+/// name of more than 16 bytes takes memory once, when it is whole. `Items` gives the same items one at a time.
 pub fn read_model(alloc: Global, text: &[u8]) -> Result<Syntax, ReadFault>
     ensures ok { MemoryFound result → (s : Syntax) → (result ≡ Ok s) ↔ IsText text.now s }
     ensures syntax { MemoryFound result → (line : ℕ) → (result ≡ Err (ReadFault.Syntax line)) ↔ IsSyntaxFault text.now line }

@@ -8,7 +8,7 @@ use std::marker::Model;
 
 /// A name: a letter or `_`, then letters, digits and `_`. A clause sees it as the list of its bytes. Up to 16
 /// bytes are kept in the name itself, and only a longer name takes memory of its own.
-#[derive(Debug, Clone, Drop)]
+#[derive(Debug, Drop)]
 pub struct Name {
     bytes: SmallVec<u8, 16>,
 }
@@ -45,5 +45,14 @@ impl Name {
         ensures { result.now ≡ self.now }
     {
         self.bytes.as_slice()
+    }
+}
+
+/// By hand, so that what a clause knows of a copy is that it equals its source, however the bytes are kept.
+impl Clone for Name {
+    ghost is_clone = { λ n copy. copy ≡ n };
+
+    fn clone(&self) -> Result<Name, AllocError> {
+        Name::from_slice(*self.bytes.allocator(), self.as_bytes())
     }
 }

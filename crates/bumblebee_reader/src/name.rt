@@ -8,7 +8,7 @@ use std::marker::Model;
 
 /// A name: a letter or `_`, then letters, digits and `_`. A clause sees it as the list of its bytes. Up to 16
 /// bytes are kept in the name itself, and only a longer name takes memory of its own.
-#[derive(Debug, Drop)]
+#[derive(Debug)]
 pub struct Name {
     bytes: SmallVec<u8, 16>,
 }
@@ -54,5 +54,13 @@ impl Clone for Name {
 
     fn clone(&self) -> Result<Name, AllocError> {
         Name::from_slice(*self.bytes.allocator(), self.as_bytes())
+    }
+}
+
+/// By hand, so that a function in which a name falls out of use need not tell how its bytes are kept.
+impl Drop for Name {
+    fn drop(self) {
+        let Name { bytes } = self;
+        drop(bytes);
     }
 }

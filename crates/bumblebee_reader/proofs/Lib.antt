@@ -7,5 +7,6 @@ pub mod Sound
 pub mod Begin
 pub mod Faults
 pub mod Text
+pub mod Pulled
 pub mod Shapes
 pub mod Canonical

@@ -105,6 +105,9 @@ reading_from_number_fault text line f =
     ∙ number_run f.before f.token f.behind AtItem (last_line text) (lives_begins (kinds (f.before ++ f.token ∷ [])) f.begins) f.within f.too_great
     ∙ ap (λ l. Err (fault.Number l)) (sym f.line_is)
 
+pub no_memory_fault : (text : List ℕ) → reading AtItem 1 text ≡ Err fault.Memory → ⊥
+no_memory_fault text h = run_fault (tokens text) AtItem (last_line text) fault.Memory h
+
 -- what `read_model` answers, from what the reading gives
 
 ok_items : (a b : List Item) → ◌≡◌ {A = Outcome} (Ok a) (Ok b) → a ≡ b
@@ -163,7 +166,7 @@ text_or_fault_at : (text : List ℕ) (o : Outcome) → reading AtItem 1 text ≡
 text_or_fault_at text (Ok is) e = inl (record { items = is }, text_from_reading text (record { items = is }) e)
 text_or_fault_at text (Err (fault.Syntax line)) e = inr (inl (line, syntax_fault_from_reading text line e))
 text_or_fault_at text (Err (fault.Number line)) e = inr (inr (line, number_fault_from_reading text line e))
-text_or_fault_at text (Err fault.Memory) e = absurd (run_fault (tokens text) AtItem (last_line text) fault.Memory e)
+text_or_fault_at text (Err fault.Memory) e = absurd (no_memory_fault text e)
 
 pub text_or_fault_lem : TextOrFault
 text_or_fault_lem text = text_or_fault_at text (reading AtItem 1 text) refl

@@ -2,6 +2,7 @@ pub mod Bytes
 pub mod Tokens
 pub mod Numeral
 pub mod Reading
+pub mod Unread
 pub mod Grammar
 pub mod Faults
 pub mod Laws

@@ -1,6 +1,6 @@
 //! Laws of model texts, for the crates above.
 
-ghost use Rattle.bumblebee_reader.specs.Laws.{OneSyntax, TextOrFault, TextIsSpellable, CanonicalIsText, RoundTrip};
+ghost use Rattle.bumblebee_reader.specs.Laws.{OneSyntax, TextOrFault, UnreadTells, TextIsSpellable, CanonicalIsText, RoundTrip};
 
 /// A text has at most one syntax.
 pub fn one_syntax()
@@ -10,6 +10,11 @@ pub fn one_syntax()
 /// Bytes are a text, or they have a first fault.
 pub fn text_or_fault()
     ensures { TextOrFault }
+{}
+
+/// What the items of a text give, one after another, is what the grammar says of the text.
+pub fn unread_tells()
+    ensures { UnreadTells }
 {}
 
 /// The syntax of a text can be spelled.

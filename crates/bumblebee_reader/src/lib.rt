@@ -2,6 +2,7 @@
 #![tactic(auto)]
 
 mod fault;
+mod items;
 mod laws;
 mod lexeme;
 mod model;
@@ -16,7 +17,10 @@ mod tokens;
 mod words;
 
 pub use fault::ReadFault;
-pub use laws::{canonical_is_text, one_syntax, round_trip, text_is_spellable, text_or_fault};
+pub use items::Items;
+pub use laws::{
+    canonical_is_text, one_syntax, round_trip, text_is_spellable, text_or_fault, unread_tells,
+};
 pub use model::read_model;
 pub use name::Name;
 pub use print::print_model;

@@ -7,14 +7,13 @@ ghost use Rattle.bumblebee_reader.specs.Faults.{IsSyntaxFault, IsNumberFault, Me
 ghost use Rattle.bumblebee_reader.specs.Reading.{AtItem, reading, Gives};
 
 use crate::fault::ReadFault;
-use crate::read::read_items;
+use crate::items::Items;
 use crate::syntax::Syntax;
-use crate::tokens::Tokens;
 use bee_list::Sequence;
 use std::alloc::Global;
 
 /// The syntax of a text, or its first fault. One pass over the bytes, each of which is looked at once; a
-/// name takes memory once, when it is whole.
+/// name of more than 16 bytes takes memory once, when it is whole. `Items` gives the same items one at a time.
 pub fn read_model(alloc: Global, text: &[u8]) -> Result<Syntax, ReadFault>
     ensures ok { MemoryFound result → (s : Syntax) → (result ≡ Ok s) ↔ IsText text.now s }
     ensures syntax { MemoryFound result → (line : ℕ) → (result ≡ Err (ReadFault.Syntax line)) ↔ IsSyntaxFault text.now line }
@@ -26,8 +25,11 @@ pub fn read_model(alloc: Global, text: &[u8]) -> Result<Syntax, ReadFault>
 fn read_whole(alloc: Global, text: &[u8]) -> Result<Syntax, ReadFault>
     ensures { Gives result (reading AtItem 1 text.now) (λ s. Ok s.items) }
 {
-    let mut tokens = Tokens::new(text);
-    let items = read_items(alloc, &mut tokens)?;
+    let mut left = Items::new(text);
+    let mut items = Vec::new(alloc);
+    while let Some(item) = left.next_item(alloc)? {
+        items.push(item)?;
+    }
     Ok(Syntax {
         items: Sequence::from_vec(items),
     })

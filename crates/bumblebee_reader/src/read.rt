@@ -1,12 +1,13 @@
 //! Reads a model text, token by token.
 
-ghost use Rattle.std.specs.Prelude.{◌≡◌, ◌<◌, ◌≤◌, ◌++◌, ◌∷◌, [], Ok, Err, Some, Option, List, ℕ, length, option_map, OnSome, OnOk};
+ghost use Rattle.std.specs.Prelude.{◌≡◌, ◌<◌, ◌≤◌, ◌++◌, ◌∷◌, [], Ok, Err, Some, Option, List, ℕ, length, option_map, IfOk, OnSome};
 ghost use Rattle.bumblebee_reader.specs.Tokens.{token_of};
 ghost use Rattle.bumblebee_reader.specs.declared.syntax.Arg.{Arg};
 ghost use Rattle.bumblebee_reader.specs.declared.syntax.Arg.TheVariants.{Many};
 ghost use Rattle.bumblebee_reader.specs.declared.syntax.Item.TheVariants.{Call, Goal};
 ghost use Rattle.bumblebee_reader.specs.declared.syntax.GoalKind.{GoalKind};
 ghost use Rattle.bumblebee_reader.specs.Reading.{AtItem, AtOpen, AtArg, BehindArg, AtFirst, AtKind, AtObjective, AtInner, BehindDash, Owner, Place, behind_term, at_item, taken, term_taken, turn_at, reading, with_item, Gives, is_open_list, is_close_list};
+ghost use Rattle.bumblebee_reader.specs.Unread.{next_before};
 
 use crate::fault::ReadFault;
 use crate::lexeme::{Lexeme, Sign};
@@ -18,15 +19,16 @@ use crate::words::{goal_kind, is_solve, own_name};
 use bee_list::Sequence;
 use std::alloc::Global;
 
-/// The items to the end of the text.
-pub fn read_items(alloc: Global, tokens: &mut Tokens<'_>) -> Result<Vec<Item>, ReadFault>
-    ensures { Gives result (reading AtItem tokens.old.line tokens.old.rest.now) (λ items. Ok items.items) }
+/// The next item, or none at the end of the text.
+pub fn read_next(alloc: Global, tokens: &mut Tokens<'_>) -> Result<Option<Item>, ReadFault>
+    ensures read { Gives result (reading AtItem tokens.old.line tokens.old.rest.now)
+        (λ next. next_before next (reading AtItem tokens.new.line tokens.new.rest.now)) }
+    ensures shorter { IfOk result (λ next. OnSome next (length tokens.new.rest.now < length tokens.old.rest.now)) }
 {
-    let mut items = Vec::new(alloc);
-    while let Some(first) = take(tokens) {
-        items.push(read_item(alloc, tokens, first)?)?;
-    }
-    Ok(items)
+    let Some(first) = take(tokens) else {
+        return Ok(None);
+    };
+    Ok(Some(read_item(alloc, tokens, first)?))
 }
 
 /// The item that begins with this token.

@@ -1,23 +1,32 @@
 //! Short texts with their syntax or fault, worked out from the grammar by hand.
 
 use crate::fault::ReadFault;
+use crate::items::Items;
 use crate::model::read_model;
 use crate::print::print_model;
-use crate::syntax::{Arg, GoalKind, Item, Term};
+use crate::syntax::{Arg, GoalKind, Item, Syntax, Term};
+use bee_list::Sequence;
 use std::alloc::Global;
 use std::test::Fail;
+
+/// A fault in words.
+fn fault_shown(alloc: Global, fault: ReadFault) -> Result<Vec<u8>, Fail> {
+    match fault {
+        ReadFault::Syntax(line) => Ok(format!(in alloc; "syntax {line}")?.into_bytes()),
+        ReadFault::Number(line) => Ok(format!(in alloc; "number {line}")?.into_bytes()),
+        ReadFault::Memory => Ok(Vec::from_slice(alloc, b"memory")?),
+    }
+}
 
 /// The canonical text of what was read, or the fault in words.
 fn shown(alloc: Global, text: &[u8]) -> Result<Vec<u8>, Fail> {
     match read_model(alloc, text) {
         Ok(syntax) => Ok(print_model(alloc, &syntax)?),
-        Err(ReadFault::Syntax(line)) => Ok(format!(in alloc; "syntax {line}")?.into_bytes()),
-        Err(ReadFault::Number(line)) => Ok(format!(in alloc; "number {line}")?.into_bytes()),
-        Err(ReadFault::Memory) => Ok(Vec::from_slice(alloc, b"memory")?),
+        Err(fault) => fault_shown(alloc, fault),
     }
 }
 
-static TEXTS: [(&[u8], &[u8]); 70] = [
+static TEXTS: [(&[u8], &[u8]); 72] = [
     // Gaps and comments.
     (b"", b""),
     (b" \t\r\n", b""),
@@ -41,6 +50,14 @@ static TEXTS: [(&[u8], &[u8]); 70] = [
     (b"f([x])", b"f([x])\n"),
     (b"f([x,-y,3,-4],-z)", b"f([x,-y,3,-4],-z)\n"),
     (b"x_1(_a9,A)", b"x_1(_a9,A)\n"),
+    (
+        b"sixteen_letters_(seventeen_letters)",
+        b"sixteen_letters_(seventeen_letters)\n",
+    ),
+    (
+        b"a_name_that_is_not_kept_inline(-another_name_of_more_than_sixteen_bytes)",
+        b"a_name_that_is_not_kept_inline(-another_name_of_more_than_sixteen_bytes)\n",
+    ),
     (b"f()", b"syntax 1"),
     (b"f", b"syntax 1"),
     (b"f(", b"syntax 1"),
@@ -147,5 +164,46 @@ fn reads_the_parts_of_items(rt: HostRuntime) -> Result<(), Fail> {
         return Err(Fail::from("no syntax"));
     };
     assert!(rt; has_parts(syntax.items.as_slice()));
+    Ok(())
+}
+
+/// What one call gives: the item's canonical text, `end`, or the fault in words.
+fn next_shown(alloc: Global, items: &mut Items<'_>) -> Result<Vec<u8>, Fail> {
+    match items.next_item(alloc) {
+        Ok(Some(item)) => {
+            let mut alone = Vec::new(alloc);
+            alone.push(item)?;
+            let items = Sequence::from_vec(alone);
+            Ok(print_model(alloc, &Syntax { items })?)
+        }
+        Ok(None) => Ok(Vec::from_slice(alloc, b"end")?),
+        Err(fault) => fault_shown(alloc, fault),
+    }
+}
+
+/// Texts, and what three calls give of each.
+static CALLS: [(&[u8], [&[u8]; 3]); 5] = [
+    (b" % no item", [b"end", b"end", b"end"]),
+    (b"f(x)\n% c\n", [b"f(x)\n", b"end", b"end"]),
+    (
+        b"f(x)solve minimize (z)\n",
+        [b"f(x)\n", b"solve minimize z\n", b"end"],
+    ),
+    (b"f(x)\ng(\n)", [b"f(x)\n", b"syntax 3", b"syntax 3"]),
+    (
+        b"f(x)\ng(1073741825)\nh(y)",
+        [b"f(x)\n", b"number 2", b"number 2"],
+    ),
+];
+
+#[test]
+fn gives_items_one_at_a_time(rt: HostRuntime) -> Result<(), Fail> {
+    for (text, wants) in CALLS {
+        let mut items = Items::new(text);
+        for want in wants {
+            let got = next_shown(rt.alloc(), &mut items)?;
+            assert_eq!(rt; got.as_slice(), want, "at {text:?}");
+        }
+    }
     Ok(())
 }

@@ -8,7 +8,7 @@ ghost use Rattle.bumblebee_reader.specs.Tokens.{tokens_at, last_line_at, token_o
 use crate::lexeme::{Lexeme, Sign, is_digit, is_letter, is_word};
 
 /// What is left of a text, and the line on which it begins.
-#[derive(Drop)]
+#[derive(Clone, Copy)]
 pub struct Tokens<'a> {
     rest: &'a [u8],
     line: u64,

@@ -12,7 +12,7 @@ use std::alloc::{AllocError, Global};
 pub fn own_name(alloc: Global, bytes: &[u8]) -> Result<Name, AllocError>
     ensures { IfOk result (λ name. name ≡ bytes.now) }
 {
-    Ok(Name::from_vec(Vec::from_slice(alloc, bytes)?))
+    Name::from_slice(alloc, bytes)
 }
 
 /// Whether a name is the word that begins a goal.

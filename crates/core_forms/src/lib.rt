@@ -12,8 +12,6 @@ pub mod laws;
 mod meaning;
 mod occurrence;
 mod shapes;
-#[cfg(test)]
-mod tests;
 mod trimming;
 
 pub use basic::is_basic;

@@ -7,3 +7,4 @@ pub mod Standing
 pub mod ItemOrder
 pub mod LoweringLaw
 pub mod LoweredItems
+pub mod UnbuiltItems

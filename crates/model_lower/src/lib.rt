@@ -16,8 +16,11 @@ mod unbuilt;
 #[cfg(test)]
 mod tests;
 
+pub use declarations::add_declaration;
+pub use draft::Draft;
 pub use fault::LowerFault;
 pub use laws::{item_law, lowering_law};
 pub use lowering::lower;
 pub use state::{Lowered, NameMap};
+pub use statements::add_statement;
 pub use unbuilt::first_unbuilt;

@@ -111,7 +111,7 @@ fn add_cores(
 }
 
 /// Adds a statement.
-fn add_statement(alloc: Global, draft: &mut Draft, stmt: &Stmt) -> Result<(), LowerFault>
+pub fn add_statement(alloc: Global, draft: &mut Draft, stmt: &Stmt) -> Result<(), LowerFault>
     ensures built { OnOk result (unbuilt draft.old.vars (Statement stmt.now) ≡ None) }
     ensures shape { OnOk result (lowered_so_far draft.new ≡ lowered_item (lowered_so_far draft.old) (Statement stmt.now)) }
     ensures fault { IfErr result (λ e. IsFaultOf e (unbuilt draft.old.vars (Statement stmt.now))) }

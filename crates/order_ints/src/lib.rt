@@ -5,15 +5,11 @@ mod atom;
 mod cnf;
 mod cnf_laws;
 mod cnf_order;
-#[cfg(test)]
-mod cnf_tests;
 mod cnf_truth;
 mod holds;
 mod literal;
 mod order_int;
 pub mod order_laws;
-#[cfg(test)]
-mod tests;
 mod view;
 
 pub use atom::Atom;

@@ -1,0 +1,41 @@
+use Rattle.std.proofs.Common.{◌≡◌, ℕ, ◌+◌, ◌*◌, ◌<◌, ◌≤◌, List, [], ◌∷◌, ◌++◌, length, sym, subst, arith}
+use Rattle.order_ints.specs.declared.order_int.OrdInt.{OrdInt}
+use Rattle.order_ints.specs.OrderRange.{IntBelow}
+use Rattle.core_forms.specs.WellFormed.{IsSound, AreSound, greatest_abs, abs_total}
+use Rattle.core_forms.specs.Place.{IntsBelow}
+use Rattle.core_rows.proofs.int_words.ints.Goals as goal
+
+sound-more : (xs : List OrdInt) (a : OrdInt) → AreSound xs → IsSound a → AreSound (xs ++ a ∷ [])
+sound-more [] a h k = (k, tt)
+sound-more (x ∷ xs) a h k = (h.0, sound-more xs a h.1 k)
+
+place-more : (n : ℕ) (xs : List OrdInt) (a : OrdInt) → IntsBelow n xs → IntBelow n a → IntsBelow n (xs ++ a ∷ [])
+place-more n [] a h k = (k, tt)
+place-more n (x ∷ xs) a h k = (h.0, place-more n xs a h.1 k)
+
+total-more : (xs : List OrdInt) (a : OrdInt) → abs_total (xs ++ a ∷ []) ≡ abs_total xs + greatest_abs a
+total-more [] a = omega arith
+total-more (x ∷ xs) a = let e = total-more xs a in omega (arith, e)
+
+length-more : (xs : List OrdInt) (a : OrdInt) → length (xs ++ a ∷ []) ≡ length xs + 1
+length-more [] a = omega arith
+length-more (x ∷ xs) a = let e = length-more xs a in omega (arith, e)
+
+small-more : (xs : List OrdInt) (a : OrdInt) → abs_total xs ≤ 1000 * length xs → greatest_abs a < 1000 → abs_total (xs ++ a ∷ []) ≤ 1000 * length (xs ++ a ∷ [])
+small-more xs a h k =
+    let total = total-more xs a in
+    let count = length-more xs a in
+    omega (arith, total, count, h, k)
+
+pub loop-member-preserved-in_ok-push : goal.loop-member-preserved-in_ok-push
+loop-member-preserved-in_ok-push g c =
+    let read = c.in_ok-int.ensures in
+    let before = c.loop-member.invariant in
+    let xs = c.loop-member.ints.items in
+    let a = c.in_ok-int.field-0 in
+    let is = sym c.in_ok-push.ensures.items in
+    record {
+      sound = subst AreSound is (sound-more xs a before.sound read.sound);
+      small = subst (λ ys. abs_total ys ≤ 1000 * length ys) is (small-more xs a before.small read.small);
+      place = subst (IntsBelow 25) is (place-more 25 xs a before.place read.place);
+    }

@@ -1,0 +1,27 @@
+//! Rows worked out by hand, over the public calls of the crates of integers, clauses and forms: integers made
+//! and changed, clauses put in order, and of each form its meaning, how it is trimmed, its variables and its
+//! cost. They stand apart from those crates, so that proving them proves none of those crates anew.
+#![tactic(auto)]
+
+#[cfg(test)]
+mod clauses;
+#[cfg(test)]
+mod costs;
+#[cfg(test)]
+mod form_words;
+#[cfg(test)]
+mod int_words;
+#[cfg(test)]
+mod integers;
+#[cfg(test)]
+mod meanings;
+#[cfg(test)]
+mod occurring;
+#[cfg(test)]
+mod shown;
+#[cfg(test)]
+mod sums;
+#[cfg(test)]
+mod trimmings;
+#[cfg(test)]
+mod words;

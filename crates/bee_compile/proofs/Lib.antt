@@ -1,2 +1,4 @@
 pub mod Encodings
 pub mod Compilation
+pub mod Steps
+pub mod Merging

@@ -1,6 +1,6 @@
 //! The clauses of cores.
 
-ghost use Rattle.std.specs.Prelude.{◌≡◌, ◌+◌, ◌++◌, ℕ, IfOk, OnOk};
+ghost use Rattle.std.specs.Prelude.{◌≡◌, ◌++◌, ℕ, OnOk};
 ghost use Rattle.model_lower.specs.Fits.{CoreFits, CoresFit};
 ghost use Rattle.bee_compile.specs.Encoded.{encoded_core, encoded};
 
@@ -12,7 +12,7 @@ use std::alloc::{AllocError, Global};
 
 /// Adds the clauses of a core, trimmed by the view in which each variable is its own label; the core is
 /// let go.
-fn add_clauses(alloc: Global, made: &mut Vec<Sequence<Atom>>, core: Core) -> Result<(), AllocError>
+fn add_core(alloc: Global, made: &mut Vec<Sequence<Atom>>, core: Core) -> Result<(), AllocError>
     requires { (n : ℕ) × CoreFits n core }
     ensures { OnOk result (made.new.items ≡ made.old.items ++ encoded_core core) }
 {
@@ -22,14 +22,17 @@ fn add_clauses(alloc: Global, made: &mut Vec<Sequence<Atom>>, core: Core) -> Res
     made.append(&mut added)
 }
 
-/// The clauses of cores, one core after the other. Each core is let go when it is trimmed.
-pub fn clauses_of(alloc: Global, cores: Vec<Core>) -> Result<Vec<Sequence<Atom>>, AllocError>
+/// Adds the clauses of cores, one core after the other. Each core is let go when it is trimmed.
+pub fn add_cores(
+    alloc: Global,
+    made: &mut Vec<Sequence<Atom>>,
+    cores: Vec<Core>,
+) -> Result<(), AllocError>
     requires { (n : ℕ) × CoresFit n cores.items }
-    ensures { IfOk result (λ made. made.items ≡ encoded cores.items) }
+    ensures { OnOk result (made.new.items ≡ made.old.items ++ encoded cores.items) }
 {
-    let mut made = Vec::new(alloc);
     for core in cores {
-        add_clauses(alloc, &mut made, core)?;
+        add_core(alloc, made, core)?;
     }
-    Ok(made)
+    Ok(())
 }

@@ -1,14 +1,15 @@
 //! The compilation: from a typed model to a CNF and a map of names, of which the satisfying assignments
 //! are the model's solutions.
 //!
-//! The model is lowered to cores; each core is trimmed by the view in which each variable is its own
-//! label, and gives its clauses; the clauses of all cores are put in order.
+//! Item by item, the model is lowered to cores; each core is trimmed by the view in which each variable is
+//! its own label, gives its clauses, and is let go; the clauses of all cores are put in order.
 #![tactic(auto)]
 
 mod compiled;
 mod compiling;
 mod encoding;
 pub mod laws;
+mod progress;
 #[cfg(test)]
 mod tests;
 

@@ -1,25 +1,30 @@
-use Rattle.std.proofs.Common.{rules, ◌≡◌, ◌+◌, [], sym, subst}
-use Rattle.order_ints.specs.OrderedClauses.{ordered_clauses}
+use Rattle.std.proofs.Common.{rules, ◌≡◌, ◌↔◌, sym, subst, ◌∙◌, None}
+use Rattle.typed_model.specs.declared.model.Model.{Model}
+use Rattle.typed_model.specs.Solutions.{IsSolution}
+use Rattle.model_lower.specs.Built.{first_unbuilt_of}
+use Rattle.model_lower.specs.Lowering.{lowered_items, nothing_lowered}
+use Rattle.model_lower.specs.Items.{items_of}
 use Rattle.model_lower.specs.Fits.{CoresFit}
-use Rattle.bee_compile.specs.Encoded.{encoded}
-use Rattle.bee_compile.proofs.Compilation.{same_cnf, given_by, fitting_by}
+use Rattle.bee_compile.specs.declared.compiled.Compiled.{Compiled}
+use Rattle.bee_compile.specs.Compiled.{compiled_of, IsGiven, CompiledFits}
+use Rattle.bee_compile.proofs.Compilation.{cores-fit, compilation}
 use Rattle.bee_compile.proofs.compiling.compile.Goals as goal
 
-pub clauses_of-requires : goal.clauses_of-requires
-clauses_of-requires c =
-    let l = c.in_ok-vars.field-0 in
-    (l.vars + 1, subst (λ cores. CoresFit (l.vars + 1) cores) (sym c.into_vec.ensures) c.in_ok-vars.ensures.fits.cores)
+pub compile_items-requires-clause-fits : goal.compile_items-requires-clause-fits
+compile_items-requires-clause-fits c =
+    let none : first_unbuilt_of c.args.model ≡ None = sym c.first_unbuilt.ensures ∙ c.in_default.is in
+    rw (c.as_slice.ensures, c.into_vec.ensures) (cores-fit c.args.model c.requires.typed c.requires.limits none)
 
 pub returns-clause-solutions : goal.returns-clause-solutions
-returns-clause-solutions c =
-    let l = c.in_ok-vars.field-0 in
-    let clauses : c.in_ok-cnf.cnf.clauses ≡ ordered_clauses [] (encoded l.cores) = search rules in
-    let same = same_cnf c.in_ok-cnf.cnf l c.in_ok-cnf.ensures.vars clauses in
-    given_by c.in_ok-cnf.cnf c.args.model.now l same c.in_ok-vars.ensures.fits c.in_ok-vars.ensures.solutions
+returns-clause-solutions c a =
+    let model = c.args.model in
+    let none : first_unbuilt_of model ≡ None = sym c.first_unbuilt.ensures ∙ c.in_default.is in
+    let same : ◌≡◌ {A = Compiled} (record { cnf = c.in_ok-cnf.cnf; decls = model.decls; map = c.finish-vars.result.map }) (compiled_of model) = search rules in
+    subst (λ (k : Compiled). IsSolution model a ↔ IsGiven k a) (sym same) ((compilation model c.requires.typed c.requires.limits none).solutions a)
 
 pub returns-clause-fits : goal.returns-clause-fits
 returns-clause-fits c =
-    let l = c.in_ok-vars.field-0 in
-    let clauses : c.in_ok-cnf.cnf.clauses ≡ ordered_clauses [] (encoded l.cores) = search rules in
-    let same = same_cnf c.in_ok-cnf.cnf l c.in_ok-cnf.ensures.vars clauses in
-    fitting_by c.in_ok-cnf.cnf c.args.model.now l same c.in_ok-vars.ensures.fits
+    let model = c.args.model in
+    let none : first_unbuilt_of model ≡ None = sym c.first_unbuilt.ensures ∙ c.in_default.is in
+    let same : ◌≡◌ {A = Compiled} (record { cnf = c.in_ok-cnf.cnf; decls = model.decls; map = c.finish-vars.result.map }) (compiled_of model) = search rules in
+    subst CompiledFits (sym same) (compilation model c.requires.typed c.requires.limits none).fits

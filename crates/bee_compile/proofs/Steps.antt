@@ -1,0 +1,95 @@
+-- One more item is compiled.
+use Rattle.std.proofs.Common.{◌≡◌, ℕ, List, [], ◌∷◌, ◌++◌, Option, Some, None, refl, sym, ap, subst, append_assoc, ◌∙◌}
+use Rattle.order_ints.specs.declared.atom.Atom.{Atom}
+use Rattle.core_forms.specs.declared.form.Core.{Core}
+use Rattle.typed_model.specs.Names.{first_of}
+use Rattle.model_lower.specs.declared.state.Lowered.{Lowered}
+use Rattle.model_lower.specs.declared.fault.LowerFault.{LowerFault}
+use Rattle.model_lower.specs.declared.fault.LowerFault.TheVariants.{Unbuilt, Memory}
+use Rattle.model_lower.specs.Items.{Item, Declaration, Statement}
+use Rattle.model_lower.specs.Lowering.{lowered_item, lowered_items}
+use Rattle.model_lower.specs.Built.{vars_after, unbuilt, first_unbuilt, IsFaultOf}
+use Rattle.model_lower.specs.Drafting.{lowered_so_far, emptied}
+use Rattle.model_lower.specs.Fits.{CoresFit}
+use Rattle.model_lower.proofs.LoweredItems.{vars-item}
+use Rattle.model_lower.proofs.Standing.{first_of-none}
+use Rattle.bee_compile.specs.declared.progress.Progress.{Progress}
+use Rattle.bee_compile.specs.Encoded.{encoded_core, encoded}
+use Rattle.bee_compile.specs.Progressed.{HasCompiled}
+
+-- an item adds the cores that it adds where there is none
+cores-apart : (l : Lowered) (i : Item) → (lowered_item l i).cores ≡ l.cores ++ (lowered_item (emptied l) i).cores
+cores-apart l (Declaration d) = refl
+cores-apart l (Statement s) = refl
+
+others-apart : (l : Lowered) (i : Item) → emptied (lowered_item (emptied l) i) ≡ emptied (lowered_item l i)
+others-apart l (Declaration d) = refl
+others-apart l (Statement s) = refl
+
+fits-parts : (n : ℕ) (cs ds : List Core) → CoresFit n (cs ++ ds) → CoresFit n cs × CoresFit n ds
+fits-parts n [] ds h = (tt, h)
+fits-parts n (c ∷ cs) ds h =
+    let p = fits-parts n cs ds h.1 in
+    ((h.0, p.0), p.1)
+
+-- the cores so far fit where all fit
+pub fits-so-far : (n : ℕ) (l : Lowered) (items : List Item) → CoresFit n (lowered_items l items).cores → CoresFit n l.cores
+fits-so-far n l [] h = h
+fits-so-far n l (i ∷ items) h =
+    (fits-parts n l.cores (lowered_item (emptied l) i).cores
+    (subst (CoresFit n) (cores-apart l i) (fits-so-far n (lowered_item l i) items h))).0
+
+encoded-append : (cs ds : List Core) → encoded (cs ++ ds) ≡ encoded cs ++ encoded ds
+encoded-append [] ds = refl
+encoded-append (c ∷ cs) ds =
+    ap (λ es. encoded_core c ++ es) (encoded-append cs ds) ∙ sym (append_assoc (encoded_core c) (encoded cs) (encoded ds))
+
+-- the item is lowered behind those that are compiled
+module _ (l : Lowered) (i : Item) (old drafted : Lowered) (before : old ≡ emptied l) (next : drafted ≡ lowered_item old i) where
+  at-empty : drafted ≡ lowered_item (emptied l) i
+  at-empty = next ∙ ap (λ (k : Lowered). lowered_item k i) before
+
+  -- its cores fit
+  pub new-fit : (n : ℕ) → CoresFit n (lowered_item l i).cores → (m : ℕ) × CoresFit m drafted.cores
+  new-fit n h = (n, subst (λ (k : Lowered). CoresFit n k.cores) (sym at-empty) (fits-parts n l.cores (lowered_item (emptied l) i).cores (subst (CoresFit n) (cores-apart l i) h)).1)
+
+  pub compiled-draft : (new : Lowered) → new ≡ emptied drafted → new ≡ emptied (lowered_item l i)
+  compiled-draft new e = e ∙ (ap emptied at-empty ∙ others-apart l i)
+
+  pub compiled-clauses : (made new : List (List Atom)) → made ≡ encoded l.cores → new ≡ made ++ encoded drafted.cores → new ≡ encoded (lowered_item l i).cores
+  compiled-clauses made new e f =
+      f ∙ (ap (λ cs. cs ++ encoded drafted.cores) e
+      ∙ (ap (λ (k : Lowered). encoded l.cores ++ encoded k.cores) at-empty
+      ∙ (sym (encoded-append l.cores (lowered_item (emptied l) i).cores) ∙ ap encoded (sym (cores-apart l i)))))
+
+-- what is compiled so far, and what the items that are left make of it
+pub record Compiling (p : Progress) (items : List Item) (all : Lowered) : Type 0 where
+  pub l : Lowered
+  pub here : HasCompiled p l
+  pub rest : lowered_items l items ≡ all
+  pub built : first_unbuilt l.vars items ≡ None
+
+module _ (p : Progress) (i : Item) (items : List Item) (all : Lowered) (c : Compiling p (i ∷ items) all) where
+  parts-built : (unbuilt c.l.vars i ≡ None) × (first_unbuilt (vars_after c.l.vars i) items ≡ None)
+  parts-built = first_of-none (unbuilt c.l.vars i) (first_unbuilt (vars_after c.l.vars i) items) c.built
+
+  pub may-add : (n : ℕ) → CoresFit n all.cores → (l : Lowered) × (n : ℕ) × HasCompiled p l × CoresFit n (lowered_item l i).cores
+  may-add n h = (c.l, n, c.here, fits-so-far n (lowered_item c.l i) items (subst (λ (k : Lowered). CoresFit n k.cores) (sym c.rest) h))
+
+  pub added : (q : Progress) → HasCompiled q (lowered_item c.l i) → Compiling q items all
+  added q h = record {
+    l = lowered_item c.l i;
+    here = h;
+    rest = c.rest;
+    built = ap (λ (v : ℕ). first_unbuilt v items) (vars-item c.l i) ∙ parts-built.1;
+  }
+
+  -- the only fault is want of memory
+  pub only-memory : (e : LowerFault) → IsFaultOf e (unbuilt p.draft.vars i) → e ≡ Memory
+  only-memory Memory h = refl
+  only-memory (Unbuilt n) h =
+      absurd (none-some (unbuilt c.l.vars i) n parts-built.0 (subst (λ (v : ℕ). unbuilt v i ≡ Some n) (ap (λ (k : Lowered). k.vars) c.here.draft) h))
+    where
+      none-some : (o : Option ℕ) (n : ℕ) → o ≡ None → o ≡ Some n → ⊥
+      none-some None n e f = absurd (cc)
+      none-some (Some m) n e f = absurd (cc)

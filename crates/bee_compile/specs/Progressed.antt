@@ -1,0 +1,19 @@
+-- A model while it is compiled.
+use Rattle.std.specs.Prelude.{◌≡◌, List, [], ◌∷◌}
+use Rattle.typed_model.specs.declared.model.Decl.{Decl}
+use Rattle.typed_model.specs.declared.model.Stmt.{Stmt}
+use Rattle.model_lower.specs.declared.state.Lowered.{Lowered}
+use Rattle.model_lower.specs.Items.{Declaration, items_of}
+use Rattle.model_lower.specs.Drafting.{lowered_so_far, emptied}
+use Rattle.bee_compile.specs.declared.progress.Progress.{Progress}
+use Rattle.bee_compile.specs.Encoded.{encoded}
+
+-- the items that are lowered to l are compiled: the draft has all of it but the cores, of which the clauses are made
+pub record HasCompiled (p : Progress) (l : Lowered) : Type 0 where
+  pub draft : lowered_so_far p.draft ≡ emptied l
+  pub clauses : p.clauses.items ≡ encoded l.cores
+
+-- no statement stands before the first declaration, and there is none where there is no declaration
+abbrev pub DeclarationFirst : List Decl → List Stmt → Type 0
+DeclarationFirst [] ss = ss ≡ []
+DeclarationFirst (d ∷ ds) ss = items_of (d ∷ ds) ss ≡ Declaration d ∷ items_of ds ss

@@ -3,6 +3,8 @@ use Rattle.std.specs.Prelude.{◌≡◌, ℕ, ◌<◌, ◌^◌, List, [], ◌∷
 use Rattle.order_ints.specs.declared.cnf.Cnf.{Cnf}
 use Rattle.order_ints.specs.declared.order_int.MapValue.{MapValue}
 use Rattle.bumblebee_reader.specs.declared.syntax.Syntax.{Syntax}
+use Rattle.bumblebee_reader.specs.declared.fault.ReadFault.{ReadFault}
+use Rattle.bumblebee_reader.specs.declared.fault.ReadFault.TheVariants as read_fault
 use Rattle.bumblebee_reader.specs.Grammar.{IsText}
 use Rattle.bumblebee_reader.specs.Faults.{IsSyntaxFault, IsNumberFault}
 use Rattle.typed_model.specs.declared.model.Decl.{Decl}
@@ -66,6 +68,12 @@ IsFirstFault text (fault.Unbuilt number) = (m : Model) × IsModelOf text m × (f
 abbrev pub text_fault_of : TypeFault → TextFault
 text_fault_of type_fault.Memory = text_fault.Memory
 text_fault_of f = text_fault.Model (fault.Typed f)
+
+-- what a fault of the reading makes of a text
+abbrev pub read_fault_of : ReadFault → TextFault
+read_fault_of (read_fault.Syntax line) = text_fault.Model (fault.Syntax line)
+read_fault_of (read_fault.Number line) = text_fault.Model (fault.Number line)
+read_fault_of read_fault.Memory = text_fault.Memory
 
 -- why nothing comes of a text
 abbrev pub IsCauseOf : TextFault → List ℕ → Type 0

@@ -1,9 +1,9 @@
 //! Values worked out by hand.
 
+use bee_list::Sequence;
 use order_ints::{
     Atom, Cnf, Lit, first_false, is_clause_true, label_of, ordered_clause, ordered_cnf, resolve,
 };
-use bee_list::Sequence;
 use std::alloc::{AllocError, Global};
 
 /// A small letter is a variable, `a` the first, and a great letter its negation.

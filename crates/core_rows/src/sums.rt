@@ -5,8 +5,8 @@ ghost use Rattle.order_ints.specs.OrderMade.{AreAscending, AreSmall};
 ghost use Rattle.core_forms.specs.WellFormed.{IsSound, greatest_abs};
 
 use crate::int_words::int;
-use core_forms::{shape, sums};
 use core_cost::Shape;
+use core_forms::{shape, sums};
 use order_ints::OrdInt;
 use std::alloc::{AllocError, Global};
 use std::process::Abort;

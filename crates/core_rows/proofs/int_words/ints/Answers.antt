@@ -27,15 +27,23 @@ small-more xs a h k =
     let count = length-more xs a in
     omega (arith, total, count, h, k)
 
+-- the list with one more, named by what pushing told of it
+sound-pushed : (xs ys : List OrdInt) (a : OrdInt) → ys ≡ xs ++ a ∷ [] → AreSound xs → IsSound a → AreSound ys
+sound-pushed xs ys a e h k = subst AreSound (sym e) (sound-more xs a h k)
+
+small-pushed : (xs ys : List OrdInt) (a : OrdInt) → ys ≡ xs ++ a ∷ [] → abs_total xs ≤ 1000 * length xs → greatest_abs a < 1000 → abs_total ys ≤ 1000 * length ys
+small-pushed xs ys a e h k = subst (λ zs. abs_total zs ≤ 1000 * length zs) (sym e) (small-more xs a h k)
+
+place-pushed : (n : ℕ) (xs ys : List OrdInt) (a : OrdInt) → ys ≡ xs ++ a ∷ [] → IntsBelow n xs → IntBelow n a → IntsBelow n ys
+place-pushed n xs ys a e h k = subst (IntsBelow n) (sym e) (place-more n xs a h k)
+
 pub loop-member-preserved-in_ok-push : goal.loop-member-preserved-in_ok-push
 loop-member-preserved-in_ok-push g c =
     let read = c.in_ok-int.ensures in
     let before = c.loop-member.invariant in
-    let xs = c.loop-member.ints.items in
-    let a = c.in_ok-int.field-0 in
-    let is = sym c.in_ok-push.ensures.items in
+    let is = c.in_ok-push.ensures.items in
     record {
-      sound = subst AreSound is (sound-more xs a before.sound read.sound);
-      small = subst (λ ys. abs_total ys ≤ 1000 * length ys) is (small-more xs a before.small read.small);
-      place = subst (IntsBelow 25) is (place-more 25 xs a before.place read.place);
+      sound = sound-pushed _ _ _ is before.sound read.sound;
+      small = small-pushed _ _ _ is before.small read.small;
+      place = place-pushed 25 _ _ _ is before.place read.place;
     }

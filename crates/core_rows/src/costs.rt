@@ -1,12 +1,31 @@
 //! What cores cost, and which of them are basic: a row for each form, and further ones where a form
 //! changes from basic to compound.
 
+ghost use Rattle.core_forms.specs.WellFormed.{IsWellFormed};
+
 use crate::form_words::core_of;
-use core_forms::{cost, is_basic};
+use core_forms::{Core, cost, is_basic};
 use std::alloc::{AllocError, Global};
 use std::process::Abort;
 
 /// Asserts what a core costs, and whether it is basic.
+fn core_costs(
+    rt: &impl Abort,
+    alloc: Global,
+    text: &str,
+    core: &Core,
+    expected: u128,
+    basic: bool,
+) -> Result<(), AllocError>
+    requires { IsWellFormed core.now }
+{
+    let found = cost(alloc, core)?;
+    assert_eq!(rt; found, expected, "{text}");
+    assert_eq!(rt; is_basic(core), basic, "{text}");
+    Ok(())
+}
+
+/// Asserts the same of a core in words.
 fn costs(
     rt: &impl Abort,
     alloc: Global,
@@ -15,10 +34,7 @@ fn costs(
     basic: bool,
 ) -> Result<(), AllocError> {
     let core = core_of(rt, alloc, text)?;
-    let found = cost(alloc, &core)?;
-    assert_eq!(rt; found, expected, "{text}");
-    assert_eq!(rt; is_basic(&core), basic, "{text}");
-    Ok(())
+    core_costs(rt, alloc, text, &core, expected, basic)
 }
 
 #[test]

@@ -1,6 +1,6 @@
 //! Cores in words: the form's name, then its members in the order of its fields.
 
-ghost use Rattle.std.specs.Prelude.{◌≡◌, ◌<◌, ◌≤ℤ◌, ℤ, pos, IfOk};
+ghost use Rattle.std.specs.Prelude.{◌<◌, ◌≤ℤ◌, ℤ, pos, IfOk};
 ghost use Rattle.order_ints.specs.OrderRange.{low_of, IntBelow};
 ghost use Rattle.core_forms.specs.WellFormed.{IsSound, greatest_abs, IsWellFormed};
 ghost use Rattle.core_forms.specs.Place.{CoreBelow};

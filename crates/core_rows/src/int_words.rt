@@ -1,7 +1,7 @@
 //! Integers in words: `2..5@7` is the one from 2 to 5 by ones, whose steps have the variables from 7 on.
 //! Without `@7` they are those from 1 on, and `2` alone is the constant.
 
-ghost use Rattle.std.specs.Prelude.{◌≡◌, ◌+◌, ◌*◌, ◌<◌, ◌≤◌, unsigned_abs, IfOk, length};
+ghost use Rattle.std.specs.Prelude.{◌+◌, ◌<◌, ◌≤◌, unsigned_abs, IfOk};
 ghost use Rattle.order_ints.specs.OrderRange.{IntBelow};
 ghost use Rattle.core_forms.specs.WellFormed.{IsSound, AreSound, greatest_abs, abs_total};
 ghost use Rattle.core_forms.specs.Place.{IntsBelow};

@@ -1,6 +1,6 @@
 //! Worked values of the integers, by hand.
 
-ghost use Rattle.std.specs.Prelude.{◌+◌, ◌^◌, ◌<◌, IfOk};
+ghost use Rattle.std.specs.Prelude.{IfOk};
 ghost use Rattle.order_ints.specs.OrderRange.{IsBounded, IntBelow};
 
 use order_ints::{Atom, Lit, OrdInt};

@@ -1,18 +1,29 @@
 //! Which variables a core has.
 
 use crate::form_words::core_of;
-use core_forms::variables;
+use core_forms::{Core, variables};
 use std::alloc::{AllocError, Global};
 use std::process::Abort;
+
+/// Numbers, with a blank behind each.
+fn spaced(alloc: Global, numbers: &[u32]) -> Result<String, AllocError> {
+    let mut out = String::new(alloc);
+    for number in numbers {
+        write!(out, "{number} ")?;
+    }
+    Ok(out)
+}
+
+/// The variables of a core, with a blank behind each.
+fn core_variables(alloc: Global, core: &Core) -> Result<String, AllocError> {
+    let found = variables(alloc, core)?;
+    spaced(alloc, found.as_slice())
+}
 
 /// The variables of a core in words, with a blank behind each.
 fn found_variables(rt: &impl Abort, alloc: Global, text: &str) -> Result<String, AllocError> {
     let core = core_of(rt, alloc, text)?;
-    let mut out = String::new(alloc);
-    for variable in variables(alloc, &core)?.as_slice() {
-        write!(out, "{variable} ")?;
-    }
-    Ok(out)
+    core_variables(alloc, &core)
 }
 
 #[test]

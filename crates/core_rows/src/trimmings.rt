@@ -1,9 +1,11 @@
 //! How a core is trimmed by one view, compared whole.
 
+ghost use Rattle.core_forms.specs.WellFormed.{IsWellFormed};
+
 use crate::form_words::core_of;
 use crate::shown::shown;
 use crate::words::atom;
-use core_forms::trim;
+use core_forms::{Core, trim};
 use order_ints::Atom;
 use std::alloc::{AllocError, Global};
 use std::process::Abort;
@@ -25,10 +27,17 @@ fn view(rt: &impl Abort) -> [Atom; 8] {
 }
 
 /// What a core is trimmed to by the view.
+fn core_trimmed(rt: &impl Abort, alloc: Global, core: &Core) -> Result<String, AllocError>
+    requires { IsWellFormed core.now }
+{
+    let trimmed = trim(alloc, core, &view(rt))?;
+    shown(alloc, &trimmed)
+}
+
+/// What a core in words is trimmed to by the view.
 fn trimmed(rt: &impl Abort, alloc: Global, text: &str) -> Result<String, AllocError> {
     let core = core_of(rt, alloc, text)?;
-    let trimmed = trim(alloc, &core, &view(rt))?;
-    shown(alloc, &trimmed)
+    core_trimmed(rt, alloc, &core)
 }
 
 #[test]

@@ -1,7 +1,7 @@
 //! Atoms in words: `T`, `F`, or a variable, with a minus sign where it is negated. A list has commas
 //! between its members; the empty one is `none`.
 
-ghost use Rattle.std.specs.Prelude.{◌≡◌, ◌<◌, ◌≤◌, unsigned_abs, IfOk, length};
+ghost use Rattle.std.specs.Prelude.{◌<◌, ◌≤◌, unsigned_abs, IfOk, length};
 ghost use Rattle.order_ints.specs.Place.{AtomBelow, AtomsBelow};
 
 use bee_list::Sequence;

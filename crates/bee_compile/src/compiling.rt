@@ -90,8 +90,7 @@ pub fn compile(alloc: Global, model: Model) -> Result<Compiled, LowerFault>
         stmts,
         goal: _,
     } = model;
-    let Progress { draft, clauses } =
-        compile_items(alloc, decls.as_slice(), stmts.into_vec())?;
+    let Progress { draft, clauses } = compile_items(alloc, decls.as_slice(), stmts.into_vec())?;
     let Lowered { vars, map, .. } = draft.finish();
     let cnf = ordered_cnf(alloc, vars, &[], clauses.as_slice())?;
     Ok(Compiled { cnf, decls, map })

@@ -12,9 +12,9 @@ mod lowering;
 mod state;
 mod statements;
 mod terms;
-mod unbuilt;
 #[cfg(test)]
 mod tests;
+mod unbuilt;
 
 pub use declarations::add_declaration;
 pub use draft::Draft;

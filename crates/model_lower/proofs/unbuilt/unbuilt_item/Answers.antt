@@ -1,4 +1,4 @@
-use Rattle.std.proofs.Common.{◌≡◌, ◌+◌, ◌<◌, ◌≤◌, drop, sym, ◌∙◌, None, arith}
+use Rattle.std.proofs.Common.{◌≡◌, ◌+◌, ◌<◌, ◌≤◌, drop, sym, ◌∙◌, arith}
 use Rattle.model_lower.specs.Items.{items_of}
 use Rattle.model_lower.specs.Lowering.{vars_taken}
 use Rattle.model_lower.specs.Built.{most_vars}
@@ -39,5 +39,5 @@ loop-decl-preserved c =
     record {
       vars = rw (← same) at room;
       unbuilt = rw (← same) at (declaration-passed c.loop-decl.vars (items_of (drop i ds) c.loop-decl.rest.now) (items_of (drop (i + 1) ds) c.split_at.result.1.now) c.split_at.result.0.now d _ parts
-    c.loop-decl.invariant.unbuilt (sym (c.unbuilt_statement.ensures c.loop-decl.vars) ∙ c.in_default.is) room);
+          c.loop-decl.invariant.unbuilt (sym (c.unbuilt_statement.ensures c.loop-decl.vars) ∙ c.in_default.is) room);
     }

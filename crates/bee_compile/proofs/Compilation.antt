@@ -1,31 +1,24 @@
 -- The compilation keeps the solutions.
-use Rattle.std.proofs.Common.{rules, ◌≡◌, ℕ, ◌+◌, List, [], refl, ap, ap₂, sym, ◌∙◌, None, ℤ}
-use Rattle.std.specs.Prelude.{IsTrue, ◌↔◌}
-use Rattle.order_ints.specs.declared.literal.Lit.{Lit}
+use Rattle.std.proofs.Common.{◌≡◌, ℕ, ◌+◌, List, [], sym, ◌∙◌, None, ℤ}
+use Rattle.std.specs.Prelude.{◌↔◌}
 use Rattle.order_ints.specs.declared.cnf.Cnf.{Cnf}
 use Rattle.order_ints.specs.Truth.{Valuation}
-use Rattle.order_ints.specs.Satisfies.{Satisfies, clauses_truth}
-use Rattle.order_ints.specs.Numbers.{numbers_of}
-use Rattle.order_ints.specs.OrderedClauses.{ordered_clauses}
+use Rattle.order_ints.specs.Satisfies.{Satisfies}
 use Rattle.order_ints.proofs.TruthLaws.{MeetsView-nil}
 use Rattle.order_ints.proofs.OrderedLaws.{clauses_truth-ordered_clauses, ClausesBelow-ordered_clauses}
 use Rattle.typed_model.specs.declared.model.Decl.{Decl}
 use Rattle.typed_model.specs.declared.model.Model.{Model}
-use Rattle.typed_model.specs.Solutions.{IsSolution}
 use Rattle.model_lower.specs.declared.state.Lowered.{Lowered}
 use Rattle.model_lower.specs.Lowering.{lowered_of}
 use Rattle.model_lower.specs.Decoded.{MeetsAll, IsDecoded}
 use Rattle.model_lower.specs.Built.{first_unbuilt_of}
-use Rattle.model_lower.specs.Drafting.{lowered_so_far}
 use Rattle.model_lower.specs.Fits.{CoresFit, Fits}
 use Rattle.typed_model.specs.WellTyped.{WellTyped}
 use Rattle.typed_model.specs.Limits.{InLimits}
 use Rattle.model_lower.proofs.LoweringLaw.{lowering_law}
 use Rattle.bee_compile.specs.Encoded.{encoded}
 use Rattle.bee_compile.specs.declared.compiled.Compiled.{Compiled}
-use Rattle.bee_compile.specs.declared.progress.Progress.{Progress}
-use Rattle.bee_compile.specs.Progressed.{HasCompiled}
-use Rattle.bee_compile.specs.Compiled.{cnf_of, compiled_of, IsGiven, CompiledFits, IsCompiledWell, CompilationLaw}
+use Rattle.bee_compile.specs.Compiled.{cnf_of, IsGiven, CompiledFits, CompilationLaw}
 use Rattle.bee_compile.proofs.Encodings.{below-encoded, met-encoded}
 
 -- a valuation satisfies the clauses exactly where it meets the cores

@@ -8,13 +8,11 @@ use Rattle.order_ints.specs.Place.{AtomClausesBelow}
 use Rattle.order_ints.proofs.TruthLaws.{MeetsView-nil, atom_clauses_truth-append}
 use Rattle.core_forms.specs.declared.form.Core.{Core}
 use Rattle.core_forms.specs.declared.form.Core.TheVariants.{Ladder, Clause, Parity, Conj, Comp, LeqR, EqR, Sum3, Count, Sum, Max, AllDiff, Amo, Prod, DivMod, Lex}
-use Rattle.core_forms.specs.Meaning.{core_truth, Meets}
+use Rattle.core_forms.specs.Meaning.{core_truth}
 use Rattle.core_forms.specs.Trimmed.{trimmed_core}
-use Rattle.core_forms.specs.WellFormed.{IsWellFormed}
-use Rattle.core_forms.proofs.Kept.{IsWellFormed-trimmed}
 use Rattle.core_forms.proofs.TidiedCores.{core_truth-trimmed}
 use Rattle.core_forms.proofs.Places.{CoreBelow-trimmed}
-use Rattle.direct_encode.specs.Clauses.{clauses_of, IsEncodable}
+use Rattle.direct_encode.specs.Clauses.{IsEncodable}
 use Rattle.direct_encode.proofs.Truths.{truth-clauses_of}
 use Rattle.direct_encode.proofs.Places.{below-clauses_of}
 use Rattle.model_lower.specs.Decoded.{MeetsAll}

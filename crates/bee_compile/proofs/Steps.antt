@@ -2,14 +2,13 @@
 use Rattle.std.proofs.Common.{◌≡◌, ℕ, List, [], ◌∷◌, ◌++◌, Option, Some, None, refl, sym, ap, subst, append_assoc, ◌∙◌}
 use Rattle.order_ints.specs.declared.atom.Atom.{Atom}
 use Rattle.core_forms.specs.declared.form.Core.{Core}
-use Rattle.typed_model.specs.Names.{first_of}
 use Rattle.model_lower.specs.declared.state.Lowered.{Lowered}
 use Rattle.model_lower.specs.declared.fault.LowerFault.{LowerFault}
 use Rattle.model_lower.specs.declared.fault.LowerFault.TheVariants.{Unbuilt, Memory}
 use Rattle.model_lower.specs.Items.{Item, Declaration, Statement}
 use Rattle.model_lower.specs.Lowering.{lowered_item, lowered_items}
 use Rattle.model_lower.specs.Built.{vars_after, unbuilt, first_unbuilt, IsFaultOf}
-use Rattle.model_lower.specs.Drafting.{lowered_so_far, emptied}
+use Rattle.model_lower.specs.Drafting.{emptied}
 use Rattle.model_lower.specs.Fits.{CoresFit}
 use Rattle.model_lower.proofs.LoweredItems.{vars-item}
 use Rattle.model_lower.proofs.Standing.{first_of-none}

@@ -1,10 +1,6 @@
 use Rattle.std.proofs.Common.{rules, ◌≡◌, ◌↔◌, sym, subst, ◌∙◌, None}
-use Rattle.typed_model.specs.declared.model.Model.{Model}
 use Rattle.typed_model.specs.Solutions.{IsSolution}
 use Rattle.model_lower.specs.Built.{first_unbuilt_of}
-use Rattle.model_lower.specs.Lowering.{lowered_items, nothing_lowered}
-use Rattle.model_lower.specs.Items.{items_of}
-use Rattle.model_lower.specs.Fits.{CoresFit}
 use Rattle.bee_compile.specs.declared.compiled.Compiled.{Compiled}
 use Rattle.bee_compile.specs.Compiled.{compiled_of, IsGiven, CompiledFits}
 use Rattle.bee_compile.proofs.Compilation.{cores-fit, compilation}

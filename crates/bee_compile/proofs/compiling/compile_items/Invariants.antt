@@ -1,4 +1,4 @@
-use Rattle.std.proofs.Common.{◌≡◌, ◌+◌, length}
+use Rattle.std.proofs.Common.{◌+◌, length}
 use Rattle.std.specs.Prelude.{reverse}
 use Rattle.model_lower.specs.Items.{items_of}
 use Rattle.model_lower.specs.Lowering.{lowered_items, nothing_lowered}

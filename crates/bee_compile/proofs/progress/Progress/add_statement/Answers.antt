@@ -1,4 +1,3 @@
-use Rattle.std.proofs.Common.{◌≡◌}
 use Rattle.model_lower.specs.Items.{Statement}
 use Rattle.model_lower.specs.Drafting.{lowered_so_far}
 use Rattle.bee_compile.proofs.Steps.{new-fit, compiled-draft, compiled-clauses}

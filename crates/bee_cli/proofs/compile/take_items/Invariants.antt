@@ -5,8 +5,8 @@ use Rattle.typed_model.specs.Taken.{HasTaken}
 use Rattle.bee_cli.proofs.compile.take_items.Given as goal
 
 -- the items that were taken from the text are those that were typed
-abbrev pub invariant-loop-item : goal.invariant-loop-item
-invariant-loop-item l = (items : List Item) × IsTaken l.text items l.items × HasTaken l.typing items
+abbrev pub invariant-loop-typing : goal.invariant-loop-typing
+invariant-loop-typing l = (items : List Item) × IsTaken l.text items l.items × HasTaken l.typing items
 
-abbrev pub decreases-loop-item : goal.decreases-loop-item
-decreases-loop-item l = length l.items.bytes
+abbrev pub decreases-loop-typing : goal.decreases-loop-typing
+decreases-loop-typing l = length l.items.bytes

@@ -7,8 +7,8 @@ folder=$(mktemp -d)
 trap 'rm -rf "$folder"' EXIT
 git init -q "$folder"
 mkdir -p "$folder/crates/reading/src"
-cp -r "$top/crates/bee_text" "$top/crates/bumblebee_reader" "$folder/crates/"
-grep -E '^(bee_text|bumblebee_reader):' "$top/crates.txt" >"$folder/crates.txt"
+cp -r "$top/crates/bee_list" "$top/crates/bee_text" "$top/crates/bumblebee_reader" "$folder/crates/"
+grep -E '^(bee_list|bee_text|bumblebee_reader):' "$top/crates.txt" >"$folder/crates.txt"
 echo 'reading: bumblebee_reader' >>"$folder/crates.txt"
 cat >"$folder/crates/reading/src/main.rt" <<'RT'
 //! Reads the model on standard input, and prints how many items it has.

@@ -1,5 +1,5 @@
-//! Rows worked out by hand, over the public calls of the crates of integers, clauses and forms: integers made
-//! and changed, clauses put in order, and of each form its meaning, how it is trimmed, its variables and its
+//! Rows worked out by hand, over the public calls of the crates of lists, integers, clauses and forms: integers
+//! made and changed, clauses put in order, and of each form its meaning, how it is trimmed, its variables and its
 //! cost. They stand apart from those crates, so that proving them proves none of those crates anew.
 #![tactic(auto)]
 
@@ -13,6 +13,8 @@ mod form_words;
 mod int_words;
 #[cfg(test)]
 mod integers;
+#[cfg(test)]
+mod lists;
 #[cfg(test)]
 mod meanings;
 #[cfg(test)]

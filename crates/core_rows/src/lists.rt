@@ -1,6 +1,6 @@
-//! Each call once.
+//! Each call of a list once.
 
-use crate::Sequence;
+use bee_list::Sequence;
 use std::alloc::AllocError;
 
 #[test]

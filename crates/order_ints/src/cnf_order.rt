@@ -1,21 +1,14 @@
-//! Clauses of atoms put in order: resolved by a view, the literals by variable, nothing twice, and
-//! nothing that is always true.
+//! A clause of atoms put in order: resolved by a view, the literals by variable, none twice; nothing where it
+//! is always true.
 
-ghost use Rattle.std.specs.Prelude.{◌≡◌, IfOk, OnOk, map, Option, Some, None, option_map, List, ◌+◌, ℕ};
+ghost use Rattle.std.specs.Prelude.{◌≡◌, IfOk, option_map, List};
 ghost use Rattle.order_ints.specs.declared.literal.Lit.{Lit};
-ghost use Rattle.order_ints.specs.Truth.{Valuation};
-ghost use Rattle.order_ints.specs.Place.{AtomsBelow, AtomClausesBelow, InRange};
-ghost use Rattle.order_ints.specs.View.{MeetsView};
-ghost use Rattle.order_ints.specs.Satisfies.{clauses_truth};
-ghost use Rattle.order_ints.specs.AtomClauses.{atom_clauses_truth};
-ghost use Rattle.order_ints.specs.OrderedClauses.{by_variable, has_opposites, resolved_lits, ordered_clause, ordered_clauses, ClausesAscend};
+ghost use Rattle.order_ints.specs.OrderedClauses.{by_variable, has_opposites, resolved_lits, ordered_clause};
 
 use crate::atom::Atom;
-use crate::cnf::Cnf;
 use crate::literal::Lit;
 use crate::view::resolve;
 use bee_list::Sequence;
-use indexmap::IndexSet;
 use std::alloc::{AllocError, Global};
 
 /// The literals of a clause as the view has them, in the clause's order; `None` where an atom is True.
@@ -75,63 +68,4 @@ pub fn ordered_clause(
     }
     literals.shrink_to_fit();
     Ok(Some(Sequence::from_vec(literals)))
-}
-
-/// The clauses put in order, each once.
-fn kept_clauses(
-    alloc: Global,
-    view: &[Atom],
-    clauses: &[Sequence<Atom>],
-) -> Result<IndexSet<Vec<Lit>>, AllocError>
-    ensures { IfOk result (λ kept. map (λ v. v.items) kept.keys ≡ ordered_clauses view.now clauses.now) }
-{
-    let mut kept = IndexSet::with_capacity(alloc, clauses.len())?;
-    for clause in clauses {
-        if let Some(literals) = ordered_clause(alloc, view, clause.as_slice())? {
-            kept.insert(literals.into_vec())?;
-        }
-    }
-    Ok(kept)
-}
-
-/// The clauses of a set, in its order.
-fn clauses_of(
-    alloc: Global,
-    kept: IndexSet<Vec<Lit>>,
-) -> Result<Sequence<Sequence<Lit>>, AllocError>
-    ensures { IfOk result (λ clauses. clauses ≡ map (λ v. v.items) kept.keys) }
-{
-    let mut clauses = Vec::with_capacity(alloc, kept.len())?;
-    for literals in kept {
-        clauses.push(Sequence::from_vec(literals))?;
-    }
-    Ok(Sequence::from_vec(clauses))
-}
-
-/// The CNF of clauses of atoms, put in order. It takes the time of one sort of each clause's literals
-/// and of one look into a hash set for each clause.
-pub fn ordered_cnf(
-    alloc: Global,
-    vars: u32,
-    view: &[Atom],
-    clauses: &[Sequence<Atom>],
-) -> Result<Cnf, AllocError>
-    ensures vars { IfOk result (λ cnf. cnf.vars ≡ vars) }
-    ensures clauses { IfOk result (λ cnf. cnf.clauses ≡ ordered_clauses view.now clauses.now) }
-
-    // The variables of a clause ascend, so that each occurs once in it.
-    ensures ascending { IfOk result (λ cnf. ClausesAscend cnf.clauses) }
-
-    // Under each valuation that meets the view, the CNF is as true as the clauses.
-    ensures same_truth { IfOk result
-        (λ cnf. (σ : Valuation) → (n : ℕ) → MeetsView σ view.now → AtomClausesBelow n clauses.now
-        → clauses_truth σ cnf.clauses ≡ atom_clauses_truth σ clauses.now) }
-
-    // Where the atoms' variables are from 1 to `vars`, so are the CNF's.
-    ensures in_range { IfOk result
-        (λ cnf. AtomsBelow (vars + 1) view.now → AtomClausesBelow (vars + 1) clauses.now → InRange cnf) }
-{
-    let kept = kept_clauses(alloc, view, clauses)?;
-    let clauses = clauses_of(alloc, kept)?;
-    Ok(Cnf { vars, clauses })
 }

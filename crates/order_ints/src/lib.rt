@@ -15,7 +15,7 @@ mod view;
 pub use atom::Atom;
 pub use cnf::Cnf;
 pub use cnf_laws::{agreement_law, bound_law, negation_law, order_law, parts_law, view_law};
-pub use cnf_order::{ordered_clause, ordered_cnf};
+pub use cnf_order::ordered_clause;
 pub use cnf_truth::{first_false, is_clause_true};
 pub use literal::Lit;
 pub use order_int::{Levels, MapValue, OrdInt};

@@ -1,0 +1,7 @@
+//! Clauses put in order one by one, and each once in a CNF.
+#![tactic(auto)]
+
+mod distinct;
+mod ordered;
+
+pub use ordered::OrderedClauses;

@@ -1,7 +1,10 @@
 -- The clauses of cores are true where the valuation meets the cores.
 use Rattle.std.proofs.Common.{rules, ◌≡◌, ℕ, Bool, true, false, ◌&&◌, List, [], ◌∷◌, ◌++◌, refl, ap, sym, subst, append_assoc, ◌∙◌}
 use Rattle.std.specs.Prelude.{IsTrue, ◌↔◌}
+use Rattle.std.proofs.lemmas.List.Elements.{filter_map-append}
 use Rattle.order_ints.specs.declared.atom.Atom.{Atom}
+use Rattle.order_ints.specs.declared.literal.Lit.{Lit}
+use Rattle.order_ints.specs.OrderedClauses.{ordered_clause}
 use Rattle.order_ints.specs.Truth.{Valuation}
 use Rattle.order_ints.specs.AtomClauses.{atom_clauses_truth}
 use Rattle.order_ints.specs.Place.{AtomClausesBelow}
@@ -17,7 +20,7 @@ use Rattle.direct_encode.proofs.Truths.{truth-clauses_of}
 use Rattle.direct_encode.proofs.Places.{below-clauses_of}
 use Rattle.model_lower.specs.Decoded.{MeetsAll}
 use Rattle.model_lower.specs.Fits.{IsFirstForm, CoreFits, CoresFit}
-use Rattle.bee_compile.specs.Encoded.{encoded_core, encoded}
+use Rattle.bee_compile.specs.Encoded.{encoded_core, encoded, each_ordered}
 
 -- the first forms are encoded, trimmed or not
 pub encodable : (core : Core) → IsFirstForm core → IsEncodable (trimmed_core [] core)
@@ -76,11 +79,12 @@ met-encoded σ n (core ∷ cores) fits =
     )
 
 -- one core less is left, and its clauses are made
-pub core_taken : (made new : List (List Atom)) (core : Core) (left rest : List Core) (all : List (List Atom))
-    → left ≡ core ∷ rest → new ≡ made ++ encoded_core core
-    → (made ++ encoded left ≡ all) × ((n : ℕ) × CoresFit n left)
-    → (new ++ encoded rest ≡ all) × ((n : ℕ) × CoresFit n rest)
+pub core_taken : (made new : List (List Lit)) (core : Core) (left rest : List Core) (all : List (List Lit))
+    → left ≡ core ∷ rest → new ≡ made ++ each_ordered (encoded_core core)
+    → (made ++ each_ordered (encoded left) ≡ all) × ((n : ℕ) × CoresFit n left)
+    → (new ++ each_ordered (encoded rest) ≡ all) × ((n : ℕ) × CoresFit n rest)
 core_taken made new core left rest all e f h = (
-  ap (λ l. l ++ encoded rest) f ∙ (append_assoc made (encoded_core core) (encoded rest) ∙ (ap (λ l. made ++ encoded l) (sym e) ∙ h.0)),
+  ap (λ l. l ++ each_ordered (encoded rest)) f ∙ (append_assoc made (each_ordered (encoded_core core)) (each_ordered (encoded rest))
+  ∙ (ap (λ l. made ++ l) (sym (filter_map-append (ordered_clause []) (encoded_core core) (encoded rest))) ∙ (ap (λ l. made ++ each_ordered (encoded l)) (sym e) ∙ h.0))),
   (h.1.0, (subst (λ (cores : List Core). CoresFit h.1.0 cores) e h.1.1).1),
 )

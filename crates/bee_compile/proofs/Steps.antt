@@ -1,6 +1,8 @@
 -- One more item is compiled.
 use Rattle.std.proofs.Common.{◌≡◌, ℕ, List, [], ◌∷◌, ◌++◌, Option, Some, None, refl, sym, ap, subst, append_assoc, ◌∙◌}
-use Rattle.order_ints.specs.declared.atom.Atom.{Atom}
+use Rattle.std.proofs.lemmas.List.Elements.{filter_map-append}
+use Rattle.order_ints.specs.declared.literal.Lit.{Lit}
+use Rattle.order_ints.specs.OrderedClauses.{ordered_clause}
 use Rattle.core_forms.specs.declared.form.Core.{Core}
 use Rattle.model_lower.specs.declared.state.Lowered.{Lowered}
 use Rattle.model_lower.specs.declared.fault.LowerFault.{LowerFault}
@@ -13,7 +15,7 @@ use Rattle.model_lower.specs.Fits.{CoresFit}
 use Rattle.model_lower.proofs.LoweredItems.{vars-item}
 use Rattle.model_lower.proofs.Standing.{first_of-none}
 use Rattle.bee_compile.specs.declared.progress.Progress.{Progress}
-use Rattle.bee_compile.specs.Encoded.{encoded_core, encoded}
+use Rattle.bee_compile.specs.Encoded.{encoded_core, encoded, each_ordered}
 use Rattle.bee_compile.specs.Progressed.{HasCompiled}
 
 -- an item adds the cores that it adds where there is none
@@ -55,11 +57,13 @@ module _ (l : Lowered) (i : Item) (old drafted : Lowered) (before : old ≡ empt
   pub compiled-draft : (new : Lowered) → new ≡ emptied drafted → new ≡ emptied (lowered_item l i)
   compiled-draft new e = e ∙ (ap emptied at-empty ∙ others-apart l i)
 
-  pub compiled-clauses : (made new : List (List Atom)) → made ≡ encoded l.cores → new ≡ made ++ encoded drafted.cores → new ≡ encoded (lowered_item l i).cores
+  pub compiled-clauses : (made new : List (List Lit)) → made ≡ each_ordered (encoded l.cores) → new ≡ made ++ each_ordered (encoded drafted.cores)
+      → new ≡ each_ordered (encoded (lowered_item l i).cores)
   compiled-clauses made new e f =
-      f ∙ (ap (λ cs. cs ++ encoded drafted.cores) e
-      ∙ (ap (λ (k : Lowered). encoded l.cores ++ encoded k.cores) at-empty
-      ∙ (sym (encoded-append l.cores (lowered_item (emptied l) i).cores) ∙ ap encoded (sym (cores-apart l i)))))
+      f ∙ (ap (λ cs. cs ++ each_ordered (encoded drafted.cores)) e
+      ∙ (ap (λ (k : Lowered). each_ordered (encoded l.cores) ++ each_ordered (encoded k.cores)) at-empty
+      ∙ (sym (filter_map-append (ordered_clause []) (encoded l.cores) (encoded (lowered_item (emptied l) i).cores))
+      ∙ ap each_ordered (sym (encoded-append l.cores (lowered_item (emptied l) i).cores) ∙ ap encoded (sym (cores-apart l i))))))
 
 -- what is compiled so far, and what the items that are left make of it
 pub record Compiling (p : Progress) (items : List Item) (all : Lowered) : Type 0 where

@@ -6,12 +6,12 @@ use Rattle.model_lower.specs.declared.state.Lowered.{Lowered}
 use Rattle.model_lower.specs.Items.{Declaration, items_of}
 use Rattle.model_lower.specs.Drafting.{lowered_so_far, emptied}
 use Rattle.bee_compile.specs.declared.progress.Progress.{Progress}
-use Rattle.bee_compile.specs.Encoded.{encoded}
+use Rattle.bee_compile.specs.Encoded.{encoded, each_ordered}
 
--- the items that are lowered to l are compiled: the draft has all of it but the cores, of which the clauses are made
+-- the items that are lowered to l are compiled: the draft has all of it but the cores, of which the clauses are made and put in order
 pub record HasCompiled (p : Progress) (l : Lowered) : Type 0 where
   pub draft : lowered_so_far p.draft ≡ emptied l
-  pub clauses : p.clauses.items ≡ encoded l.cores
+  pub clauses : p.clauses ≡ each_ordered (encoded l.cores)
 
 -- no statement stands before the first declaration, and there is none where there is no declaration
 abbrev pub DeclarationFirst : List Decl → List Stmt → Type 0

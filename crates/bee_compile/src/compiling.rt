@@ -16,7 +16,6 @@ ghost use Rattle.bee_compile.specs.Progressed.{HasCompiled, DeclarationFirst};
 use crate::compiled::Compiled;
 use crate::progress::Progress;
 use model_lower::{LowerFault, Lowered, first_unbuilt};
-use order_ints::ordered_cnf;
 use std::alloc::Global;
 use typed_model::{Decl, Model, Stmt};
 
@@ -92,6 +91,6 @@ pub fn compile(alloc: Global, model: Model) -> Result<Compiled, LowerFault>
     } = model;
     let Progress { draft, clauses } = compile_items(alloc, decls.as_slice(), stmts.into_vec())?;
     let Lowered { vars, map, .. } = draft.finish();
-    let cnf = ordered_cnf(alloc, vars, &[], clauses.as_slice())?;
+    let cnf = clauses.into_cnf(alloc, vars)?;
     Ok(Compiled { cnf, decls, map })
 }

@@ -7,13 +7,12 @@ ghost use Rattle.model_lower.specs.Lowering.{lowered_item, nothing_lowered};
 ghost use Rattle.model_lower.specs.Built.{unbuilt, IsFaultOf};
 ghost use Rattle.model_lower.specs.Drafting.{lowered_so_far, emptied};
 ghost use Rattle.model_lower.specs.Fits.{CoresFit};
-ghost use Rattle.bee_compile.specs.Encoded.{encoded};
+ghost use Rattle.bee_compile.specs.Encoded.{encoded, each_ordered};
 ghost use Rattle.bee_compile.specs.Progressed.{HasCompiled};
 
 use crate::encoding::add_cores;
-use bee_list::Sequence;
+use clause_order::OrderedClauses;
 use model_lower::{Draft, LowerFault, add_declaration, add_statement};
-use order_ints::Atom;
 use std::alloc::{AllocError, Global};
 use typed_model::{Decl, Stmt};
 
@@ -22,8 +21,8 @@ use typed_model::{Decl, Stmt};
 pub struct Progress {
     /// What they are lowered to, but for the cores, which are let go when they are encoded.
     pub draft: Draft,
-    /// The clauses of their cores.
-    pub clauses: Vec<Sequence<Atom>>,
+    /// The clauses of their cores, put in order.
+    pub clauses: OrderedClauses,
 }
 
 impl Progress {
@@ -33,7 +32,7 @@ impl Progress {
     {
         Progress {
             draft: Draft::new(alloc),
-            clauses: Vec::new(alloc),
+            clauses: OrderedClauses::new(alloc),
         }
     }
 
@@ -41,7 +40,7 @@ impl Progress {
     fn encode(&mut self, alloc: Global) -> Result<(), AllocError>
         requires { (n : ℕ) × CoresFit n self.old.draft.cores.items }
         ensures draft { OnOk result (lowered_so_far self.new.draft ≡ emptied (lowered_so_far self.old.draft)) }
-        ensures clauses { OnOk result (self.new.clauses.items ≡ self.old.clauses.items ++ encoded self.old.draft.cores.items) }
+        ensures clauses { OnOk result (self.new.clauses ≡ self.old.clauses ++ each_ordered (encoded self.old.draft.cores.items)) }
     {
         let cores = self.draft.take_cores(alloc);
         add_cores(alloc, &mut self.clauses, cores)

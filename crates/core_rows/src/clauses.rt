@@ -1,9 +1,8 @@
 //! Values worked out by hand.
 
 use bee_list::Sequence;
-use order_ints::{
-    Atom, Cnf, Lit, first_false, is_clause_true, label_of, ordered_clause, ordered_cnf, resolve,
-};
+use clause_order::OrderedClauses;
+use order_ints::{Atom, Cnf, Lit, first_false, is_clause_true, label_of, ordered_clause, resolve};
 use std::alloc::{AllocError, Global};
 
 /// A small letter is a variable, `a` the first, and a great letter its negation.
@@ -26,15 +25,6 @@ fn literals(alloc: Global, letters: &str) -> Result<Sequence<Lit>, AllocError> {
         literals.push(lit(letter))?;
     }
     Ok(Sequence::from_vec(literals))
-}
-
-/// The clauses between blanks.
-fn clauses(alloc: Global, text: &str) -> Result<Vec<Sequence<Atom>>, AllocError> {
-    let mut clauses = Vec::new(alloc);
-    for letters in text.split(' ') {
-        clauses.push(clause(alloc, letters)?)?;
-    }
-    Ok(clauses)
 }
 
 /// The clauses between blanks, over six variables.
@@ -93,8 +83,12 @@ const VIEW: [Atom; 5] = [
 #[test]
 fn clauses_are_put_in_order(rt: HostRuntime) -> Result<(), AllocError> {
     let alloc = rt.alloc();
-    let unordered = clauses(alloc, "ea cFcF be afd eDa Bc Ed F")?;
-    let found = show(alloc, &ordered_cnf(alloc, 6, &VIEW, unordered.as_slice())?)?;
+    let mut ordered = OrderedClauses::new(alloc);
+    for letters in "ea cFcF be afd eDa Bc Ed F".split(' ') {
+        let unordered = clause(alloc, letters)?;
+        ordered.add(alloc, &VIEW, unordered.as_slice())?;
+    }
+    let found = show(alloc, &ordered.into_cnf(alloc, 6)?)?;
     assert_eq!(rt; found.as_slice(), b"ae F  AE ".as_slice());
     Ok(())
 }

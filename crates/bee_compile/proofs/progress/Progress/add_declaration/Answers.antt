@@ -16,5 +16,5 @@ returns-clause-compiled c l h =
     let next = c.in_ok-add_declaration.ensures.shape in
     record {
       draft = compiled-draft l i old drafted h.draft next (lowered_so_far c.encode.new.self.draft) c.in_ok-encode.ensures.draft;
-      clauses = compiled-clauses l i old drafted h.draft next c.args.self.now.clauses.items c.encode.new.self.clauses.items h.clauses c.in_ok-encode.ensures.clauses;
+      clauses = compiled-clauses l i old drafted h.draft next c.args.self.now.clauses c.encode.new.self.clauses h.clauses c.in_ok-encode.ensures.clauses;
     }

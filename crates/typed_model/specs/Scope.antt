@@ -7,10 +7,15 @@ use Rattle.bumblebee_reader.specs.declared.syntax.Term.TheVariants as term
 use Rattle.typed_model.specs.declared.model.Kind.{Kind}
 use Rattle.typed_model.specs.declared.model.Kind.TheVariants as kind
 use Rattle.typed_model.specs.declared.model.Decl.{Decl}
+use Rattle.typed_model.specs.declared.scope.Declared.{Declared}
 use Rattle.typed_model.specs.declared.what.BoolTerm.{BoolTerm}
 use Rattle.typed_model.specs.declared.what.BoolTerm.TheVariants as bool_term
 use Rattle.typed_model.specs.declared.what.IntTerm.{IntTerm}
 use Rattle.typed_model.specs.declared.what.IntTerm.TheVariants as int_term
+
+-- the declaration of a name, with what is kept beside it
+abbrev pub decl_of : List ℕ × Declared → Decl
+decl_of e = record { number = e.1.number; name = e.0; kind = e.1.kind }
 
 -- the place of a declared name
 abbrev pub place_of : List ℕ → List Decl → Option ℕ

@@ -68,9 +68,7 @@ fn one_fits(scope: &Scope, wanted: Wanted, term: &Term) -> bool
             Term::Number(_) => false,
         },
         Wanted::NewInteger => match term {
-            Term::Plain(name) => {
-                !is_constant(name.as_bytes()) && !is_bool(scope.kind_of(name.as_bytes()))
-            }
+            Term::Plain(name) => !is_constant(name.as_bytes()) && !is_bool(scope.kind_of(name)),
             Term::Minus(_) => false,
             Term::Number(_) => false,
         },
@@ -137,7 +135,7 @@ fn names_declared(scope: &Scope, args: &[Arg], at: usize) -> bool
     ensures { result ≡ names_declared scope.now (slice_get args.now at) }
 {
     match args.get(at) {
-        Some(Arg::One(Term::Plain(name))) => scope.place_of(name.as_bytes()).is_some(),
+        Some(Arg::One(Term::Plain(name))) => scope.place_of(name).is_some(),
         _ => false,
     }
 }
@@ -221,7 +219,7 @@ fn least_in(scope: &Scope, args: &[Arg], at: usize) -> i64
     ensures { result ≡ least_in scope.now (slice_get args.now at) }
 {
     match args.get(at) {
-        Some(Arg::One(Term::Plain(name))) => low_of(scope.kind_of(name.as_bytes())),
+        Some(Arg::One(Term::Plain(name))) => low_of(scope.kind_of(name)),
         _ => numeral_in(args, at),
     }
 }
@@ -269,7 +267,7 @@ fn objective_unknown(scope: &Scope, objective: &Option<Name>) -> bool
     ensures { result ≡ objective_unknown scope.now objective.now }
 {
     match objective {
-        Some(name) => scope.is_unknown(name.as_bytes()),
+        Some(name) => scope.is_unknown(name),
         None => false,
     }
 }
@@ -282,9 +280,9 @@ fn objective_fits(scope: &Scope, kind: GoalKind, objective: &Option<Name>) -> bo
         (GoalKind::Satisfy, None) => true,
         (GoalKind::Satisfy, Some(_)) => false,
         (GoalKind::Minimize, None) => false,
-        (GoalKind::Minimize, Some(name)) => is_int(scope.kind_of(name.as_bytes())),
+        (GoalKind::Minimize, Some(name)) => is_int(scope.kind_of(name)),
         (GoalKind::Maximize, None) => false,
-        (GoalKind::Maximize, Some(name)) => is_int(scope.kind_of(name.as_bytes())),
+        (GoalKind::Maximize, Some(name)) => is_int(scope.kind_of(name)),
     }
 }
 

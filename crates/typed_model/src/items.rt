@@ -163,7 +163,7 @@ fn name_in(args: &[Arg], at: usize) -> Option<&Name>
 fn declare_name(scope: &mut Scope, number: u64, name: &Name, kind: Kind) -> Result<(), AllocError>
     ensures { OnOk result (scope.new ≡ scope.old ++ declared_name number scope.old name.now kind) }
 {
-    if scope.place_of(name.as_bytes()).is_some() {
+    if scope.place_of(name).is_some() {
         return Ok(());
     }
     let name = name.clone()?;
@@ -213,7 +213,7 @@ fn objective_place(scope: &Scope, objective: &Option<Name>) -> usize
     ensures { result ≡ objective_place scope.now objective.now }
 {
     match objective {
-        Some(name) => scope.place_or_zero(name.as_bytes()),
+        Some(name) => scope.place_or_zero(name),
         None => 0,
     }
 }

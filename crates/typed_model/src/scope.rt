@@ -7,28 +7,36 @@ ghost use Rattle.typed_model.specs.Scope.{place_of, kind_of, is_bool, is_int, lo
 use crate::model::{Decl, Kind};
 use crate::names::is;
 use crate::what::{BoolTerm, IntTerm};
-use bumblebee_reader::Term;
-use indexmap::IndexSet;
+use bumblebee_reader::{Name, Term};
+use indexmap::IndexMap;
 use std::alloc::{AllocError, Global};
 use std::marker::Model;
 
-/// The declarations so far, with their names for look-up. A clause sees it as the list of the
-/// declarations.
+/// What is kept of a declaration beside its name.
+#[derive(Clone, Copy)]
+struct Declared {
+    /// The number of the item that declares it.
+    number: u64,
+    /// What it names, with its domain.
+    kind: Kind,
+}
+
+/// The declarations so far, by their names. A clause sees it as the list of the declarations, in order. A look-up
+/// touches three places of memory at most, in the index, the names and what is kept beside them, but for a long
+/// name, whose bytes lie apart.
 #[derive(Drop)]
 pub struct Scope {
-    names: IndexSet<Vec<u8>>,
-    decls: Vec<Decl>,
+    table: IndexMap<Name, Declared>,
 }
 
 impl Model for Scope {
-    ghost use Rattle.std.specs.Prelude.{◌≡◌, List, map};
+    ghost use Rattle.std.specs.Prelude.{List, map};
     ghost use Rattle.typed_model.specs.declared.model.Decl.{Decl};
+    ghost use Rattle.typed_model.specs.Scope.{decl_of};
 
     ghost Value = { List Decl };
 
-    ghost view = { λ s. s.decls.items };
-
-    ghost invariant = { λ s. map (λ k. k.items) s.names.keys ≡ map (λ d. d.name) s.decls.items };
+    ghost view = { λ s. map decl_of s.table.entries };
 }
 
 impl Scope {
@@ -37,36 +45,32 @@ impl Scope {
         ensures { result ≡ [] }
     {
         Scope {
-            names: IndexSet::new(alloc),
-            decls: Vec::new(alloc),
+            table: IndexMap::new(alloc),
         }
     }
 
     /// The place of a name.
-    pub fn place_of(&self, name: &[u8]) -> Option<usize>
+    pub fn place_of(&self, name: &Name) -> Option<usize>
         ensures { result ≡ place_of name.now self.now }
     {
-        self.names.get_index_of(name)
+        self.table.get_index_of(name)
     }
 
     /// What a name stands for.
-    pub fn kind_of(&self, name: &[u8]) -> Option<Kind>
+    pub fn kind_of(&self, name: &Name) -> Option<Kind>
         ensures { result ≡ kind_of name.now self.now }
     {
-        match self.place_of(name) {
-            Some(place) => match self.decls.get(place) {
-                Some(decl) => Some(decl.kind),
-                None => None,
-            },
+        match self.table.get_full(name) {
+            Some((_, _, declared)) => Some(declared.kind),
             None => None,
         }
     }
 
     /// Whether a name other than `true` and `false` isn't declared.
-    pub fn is_unknown(&self, name: &[u8]) -> bool
+    pub fn is_unknown(&self, name: &Name) -> bool
         ensures { result ≡ is_unknown self.now name.now }
     {
-        !is_constant(name) && self.place_of(name).is_none()
+        !is_constant(name.as_bytes()) && self.place_of(name).is_none()
     }
 
     /// Whether the name of a term isn't declared.
@@ -74,8 +78,8 @@ impl Scope {
         ensures { result ≡ term_unknown self.now term.now }
     {
         match term {
-            Term::Plain(name) => self.is_unknown(name.as_bytes()),
-            Term::Minus(name) => self.is_unknown(name.as_bytes()),
+            Term::Plain(name) => self.is_unknown(name),
+            Term::Minus(name) => self.is_unknown(name),
             Term::Number(_) => false,
         }
     }
@@ -97,10 +101,8 @@ impl Scope {
         ensures { result ≡ is_truth self.now term.now }
     {
         match term {
-            Term::Plain(name) => {
-                is_constant(name.as_bytes()) || is_bool(self.kind_of(name.as_bytes()))
-            }
-            Term::Minus(name) => is_bool(self.kind_of(name.as_bytes())),
+            Term::Plain(name) => is_constant(name.as_bytes()) || is_bool(self.kind_of(name)),
+            Term::Minus(name) => is_bool(self.kind_of(name)),
             Term::Number(_) => false,
         }
     }
@@ -110,7 +112,7 @@ impl Scope {
         ensures { result ≡ is_number self.now term.now }
     {
         match term {
-            Term::Plain(name) => is_int(self.kind_of(name.as_bytes())),
+            Term::Plain(name) => is_int(self.kind_of(name)),
             Term::Minus(_) => false,
             Term::Number(_) => true,
         }
@@ -141,7 +143,7 @@ impl Scope {
     }
 
     /// The place of a name, or 0 where it isn't declared.
-    pub fn place_or_zero(&self, name: &[u8]) -> usize
+    pub fn place_or_zero(&self, name: &Name) -> usize
         ensures { result ≡ place_or_zero name.now self.now }
     {
         match self.place_of(name) {
@@ -161,13 +163,13 @@ impl Scope {
                     BoolTerm::Const(is_true(bytes))
                 } else {
                     BoolTerm::Of {
-                        place: self.place_or_zero(bytes),
+                        place: self.place_or_zero(name),
                         positive: true,
                     }
                 }
             }
             Term::Minus(name) => BoolTerm::Of {
-                place: self.place_or_zero(name.as_bytes()),
+                place: self.place_or_zero(name),
                 positive: false,
             },
             Term::Number(_) => BoolTerm::Const(false),
@@ -179,7 +181,7 @@ impl Scope {
         ensures { result ≡ number self.now term.now }
     {
         match term {
-            Term::Plain(name) => IntTerm::Of(self.place_or_zero(name.as_bytes())),
+            Term::Plain(name) => IntTerm::Of(self.place_or_zero(name)),
             Term::Minus(_) => IntTerm::Number(0),
             Term::Number(number) => IntTerm::Number(*number),
         }
@@ -190,21 +192,21 @@ impl Scope {
         requires { place_of decl.name self.old ≡ None }
         ensures { OnOk result (self.new ≡ self.old ++ decl ∷ []) }
     {
-        let alloc = *self.decls.allocator();
-        let key = Vec::from_slice(alloc, decl.name.as_bytes())?;
-        self.decls.reserve(1)?;
-        self.names.insert(key)?;
-        self.decls.push(decl).unwrap();
+        let Decl { number, name, kind } = decl;
+        self.table.insert(name, Declared { number, kind })?;
         Ok(())
     }
 
-    /// The declarations, in order.
-    pub fn into_decls(self) -> Vec<Decl>
-        ensures { result.items ≡ self }
+    /// The declarations, in order. The names are moved, and only the list itself takes memory.
+    pub fn into_decls(self) -> Result<Vec<Decl>, AllocError>
+        ensures { IfOk result (λ decls. decls.items ≡ self) }
     {
-        let Scope { names, decls } = self;
-        drop(names);
-        decls
+        let Scope { table } = self;
+        let mut decls = Vec::with_capacity(*table.allocator(), table.len())?;
+        for (name, Declared { number, kind }) in table {
+            decls.push(Decl { number, name, kind })?;
+        }
+        Ok(decls)
     }
 }
 

@@ -85,6 +85,6 @@ pub core_taken : (made new : List (List Lit)) (core : Core) (left rest : List Co
     → (new ++ each_ordered (encoded rest) ≡ all) × ((n : ℕ) × CoresFit n rest)
 core_taken made new core left rest all e f h = (
   ap (λ l. l ++ each_ordered (encoded rest)) f ∙ (append_assoc made (each_ordered (encoded_core core)) (each_ordered (encoded rest))
-  ∙ (ap (λ l. made ++ l) (sym (filter_map-append (ordered_clause []) (encoded_core core) (encoded rest))) ∙ (ap (λ l. made ++ each_ordered (encoded l)) (sym e) ∙ h.0))),
+      ∙ (ap (λ l. made ++ l) (sym (filter_map-append (ordered_clause []) (encoded_core core) (encoded rest))) ∙ (ap (λ l. made ++ each_ordered (encoded l)) (sym e) ∙ h.0))),
   (h.1.0, (subst (λ (cores : List Core). CoresFit h.1.0 cores) e h.1.1).1),
 )

@@ -21,7 +21,7 @@ enum Sort {
 
 /// The declarations so far, and beside them their names and sorts for look-up. A clause sees it as the list of the
 /// declarations. The names lie in the table itself, unless they are long, and a sort takes a single byte, so that a
-/// look-up seldom waits for memory.
+/// look-up touches few places of memory.
 #[derive(Drop)]
 pub struct Scope {
     sorts: IndexMap<Name, Sort>,
@@ -58,7 +58,7 @@ impl Scope {
         self.sorts.get_index_of(name)
     }
 
-    /// What a name stands for.
+    /// What a name stands for. It reads the declaration, which its sort alone does without.
     pub fn kind_of(&self, name: &Name) -> Option<Kind>
         ensures { result ≡ kind_of name.now self.now }
     {

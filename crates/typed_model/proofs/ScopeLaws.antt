@@ -8,8 +8,12 @@ use Rattle.std.proofs.lemmas.List.{length-map, map-append}
 use Rattle.std.proofs.lemmas.Option.{slice_get-map}
 use Rattle.std.specs.Str.{bytes_eq}
 use Rattle.indexmap.specs.IndexMap.{insert_entry}
-use Rattle.typed_model.specs.declared.scope.Declared.{Declared}
-use Rattle.typed_model.specs.Scope.{decl_of, place_of, kind_of}
+use Rattle.typed_model.specs.declared.scope.Sort.{Sort}
+use Rattle.typed_model.specs.declared.model.Decl.{Decl}
+use Rattle.typed_model.specs.declared.model.Kind.{Kind}
+use Rattle.typed_model.specs.declared.model.Kind.TheVariants as kind
+use Rattle.std.specs.Option.{option_map}
+use Rattle.typed_model.specs.Scope.{entry_of, sort_of, sort_is_bool, sort_is_int, is_bool, is_int, place_of, kind_of}
 
 module _ {X Y : Type 0} (f : X → Y) where
   prefix_len-map : (p : Y → Bool) (xs : List X) → prefix_len p (map f xs) ≡ prefix_len (λ x. p (f x)) xs
@@ -19,30 +23,50 @@ module _ {X Y : Type 0} (f : X → Y) where
   position-map : (p : Y → Bool) (xs : List X) → position p (map f xs) ≡ position (λ x. p (f x)) xs
   position-map p xs = rw (prefix_len-map (λ y. not (p y)) xs, length-map xs f) refl
 
--- a name's place among the keys is its place among the declarations
-pub place_of-entries : (name : List ℕ) (es : List (List ℕ × Declared)) → position (bytes_eq name) (keys_of es) ≡ place_of name (map decl_of es)
-place_of-entries name es =
-    position-map (λ (e : List ℕ × Declared). e.0) (bytes_eq name) es ∙ sym (position-map decl_of (λ d. bytes_eq name d.name) es)
+module _ (name : List ℕ) (es : List (List ℕ × Sort)) (ds : List Decl) (h : es ≡ map entry_of ds) where
+  -- a name's place among the entries is its place among the declarations
+  pub place_of-entries : position (bytes_eq name) (keys_of es) ≡ place_of name ds
+  place_of-entries =
+      ap (λ (xs : List (List ℕ × Sort)). position (bytes_eq name) (keys_of xs)) h
+      ∙ (position-map (λ (e : List ℕ × Sort). e.0) (bytes_eq name) (map entry_of ds)
+      ∙ position-map entry_of (λ (e : List ℕ × Sort). bytes_eq name e.0) ds)
 
--- what stands in the entry at that place is what the name stands for
-pub kind_of-entry : (name : List ℕ) (es : List (List ℕ × Declared)) (i : ℕ) (key : List ℕ) (d : Declared) → position (bytes_eq name) (keys_of es) ≡ Some i → slice_get es i ≡ Some (key, d) → kind_of name (map decl_of es) ≡ Some d.kind
-kind_of-entry name es i key d found at =
-    rw (sym (place_of-entries name es) ∙ found, slice_get-map decl_of es i, at) refl
+  -- the entry at that place has the sort of what the name stands for
+  pub sort_of-entry : (i : ℕ) (key : List ℕ) (s : Sort) → position (bytes_eq name) (keys_of es) ≡ Some i → slice_get es i ≡ Some (key, s) → option_map sort_of (kind_of name ds) ≡ Some s
+  sort_of-entry i key s found at =
+      rw (sym place_of-entries ∙ found) (by (slice_get ds i) (sym (slice_get-map entry_of ds i) ∙ (ap (λ xs. slice_get xs i) (sym h) ∙ at)))
+    where
+      by : (o : Option Decl) → option_map entry_of o ≡ Some (key, s) → option_map sort_of (option_map (λ d. d.kind) o) ≡ Some s
+      by None q = absurd (cc)
+      by (Some d) q = ap (option_map (λ (e : List ℕ × Sort). e.1)) q
 
--- a name that has no place stands for nothing
-pub kind_of-absent : (name : List ℕ) (es : List (List ℕ × Declared)) → position (bytes_eq name) (keys_of es) ≡ None → kind_of name (map decl_of es) ≡ None
-kind_of-absent name es absent = rw (sym (place_of-entries name es) ∙ absent) refl
+  -- a name that has no place stands for nothing
+  pub sort_of-absent : position (bytes_eq name) (keys_of es) ≡ None → option_map sort_of (kind_of name ds) ≡ None
+  sort_of-absent absent = rw (sym place_of-entries ∙ absent) refl
+
+-- the sort alone tells whether a Boolean or an integer is declared
+pub is_bool-sort : (k : Option Kind) → sort_is_bool (option_map sort_of k) ≡ is_bool k
+is_bool-sort None = refl
+is_bool-sort (Some kind.Bool) = refl
+is_bool-sort (Some (kind.Int low high)) = refl
+
+pub is_int-sort : (k : Option Kind) → sort_is_int (option_map sort_of k) ≡ is_int k
+is_int-sort None = refl
+is_int-sort (Some kind.Bool) = refl
+is_int-sort (Some (kind.Int low high)) = refl
 
 goes_on : {X : Type 0} (b : Bool) (i : ℕ) (o : Option ℕ) (e f : X) (es rest all : List X) → cond b (Some i) o ≡ None → (o ≡ None → rest ≡ all) → (if b then f ∷ es else e ∷ rest) ≡ e ∷ all
 goes_on true i o e f es rest all absent h = absurd (cc)
 goes_on false i o e f es rest all absent h = ap (λ xs. e ∷ xs) (h absent)
 
-goes_last : (name : List ℕ) (d : Declared) (i : ℕ) (es : List (List ℕ × Declared)) → position_from (λ e. bytes_eq name e.0) i es ≡ None → insert_entry bytes_eq es name d ≡ es ++ (name, d) ∷ []
-goes_last name d i [] absent = refl
-goes_last name d i (e ∷ es) absent = goes_on (bytes_eq name e.0) i _ e (e.0, d) es _ _ absent (goes_last name d (i + 1) es)
+goes_last : (name : List ℕ) (s : Sort) (i : ℕ) (es : List (List ℕ × Sort)) → position_from (λ e. bytes_eq name e.0) i es ≡ None → insert_entry bytes_eq es name s ≡ es ++ (name, s) ∷ []
+goes_last name s i [] absent = refl
+goes_last name s i (e ∷ es) absent = goes_on (bytes_eq name e.0) i _ e (e.0, s) es _ _ absent (goes_last name s (i + 1) es)
 
 -- the entry of a new name goes last, as its declaration does
-pub declared_last : (name : List ℕ) (d : Declared) (es new : List (List ℕ × Declared)) → place_of name (map decl_of es) ≡ None → new ≡ insert_entry bytes_eq es name d → map decl_of new ≡ map decl_of es ++ decl_of (name, d) ∷ []
-declared_last name d es new absent h =
-    let p : position (λ (e : List ℕ × Declared). bytes_eq name e.0) es ≡ None = sym (position-map decl_of (λ d. bytes_eq name d.name) es) ∙ absent in
-    ap (map decl_of) (h ∙ goes_last name d 0 es (sym (position_from-zero (λ (e : List ℕ × Declared). bytes_eq name e.0) es) ∙ p)) ∙ map-append decl_of es ((name, d) ∷ [])
+pub entry-added : (d : Decl) (es added : List (List ℕ × Sort)) (ds : List Decl) → es ≡ map entry_of ds → place_of d.name ds ≡ None → added ≡ insert_entry bytes_eq es d.name (sort_of d.kind) → added ≡ map entry_of (ds ++ d ∷ [])
+entry-added d es added ds h absent a =
+    let p : position (λ (e : List ℕ × Sort). bytes_eq d.name e.0) es ≡ None =
+    ap (position (λ (e : List ℕ × Sort). bytes_eq d.name e.0)) h ∙ (position-map entry_of (λ (e : List ℕ × Sort). bytes_eq d.name e.0) ds ∙ absent) in
+    a ∙ (goes_last d.name (sort_of d.kind) 0 es (sym (position_from-zero (λ (e : List ℕ × Sort). bytes_eq d.name e.0) es) ∙ p)
+    ∙ (ap (λ (xs : List (List ℕ × Sort)). xs ++ entry_of d ∷ []) h ∙ sym (map-append entry_of ds (d ∷ []))))

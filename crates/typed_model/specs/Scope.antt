@@ -7,15 +7,31 @@ use Rattle.bumblebee_reader.specs.declared.syntax.Term.TheVariants as term
 use Rattle.typed_model.specs.declared.model.Kind.{Kind}
 use Rattle.typed_model.specs.declared.model.Kind.TheVariants as kind
 use Rattle.typed_model.specs.declared.model.Decl.{Decl}
-use Rattle.typed_model.specs.declared.scope.Declared.{Declared}
+use Rattle.typed_model.specs.declared.scope.Sort.{Sort}
+use Rattle.typed_model.specs.declared.scope.Sort.TheVariants as sort
 use Rattle.typed_model.specs.declared.what.BoolTerm.{BoolTerm}
 use Rattle.typed_model.specs.declared.what.BoolTerm.TheVariants as bool_term
 use Rattle.typed_model.specs.declared.what.IntTerm.{IntTerm}
 use Rattle.typed_model.specs.declared.what.IntTerm.TheVariants as int_term
 
--- the declaration of a name, with what is kept beside it
-abbrev pub decl_of : List ℕ × Declared → Decl
-decl_of e = record { number = e.1.number; name = e.0; kind = e.1.kind }
+-- the sort of what is declared, and what is kept of a declaration for look-up
+abbrev pub sort_of : Kind → Sort
+sort_of kind.Bool = sort.Bool
+sort_of (kind.Int low high) = sort.Int
+
+abbrev pub entry_of : Decl → List ℕ × Sort
+entry_of d = (d.name, sort_of d.kind)
+
+-- whether it is the sort of a declared Boolean, or of a declared integer
+abbrev pub sort_is_bool : Option Sort → Bool
+sort_is_bool None = false
+sort_is_bool (Some sort.Bool) = true
+sort_is_bool (Some sort.Int) = false
+
+abbrev pub sort_is_int : Option Sort → Bool
+sort_is_int None = false
+sort_is_int (Some sort.Bool) = false
+sort_is_int (Some sort.Int) = true
 
 -- the place of a declared name
 abbrev pub place_of : List ℕ → List Decl → Option ℕ

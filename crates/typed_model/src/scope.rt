@@ -1,8 +1,8 @@
 //! The names that are declared so far, and what terms mean among them.
 
 ghost use Rattle.std.specs.Prelude.{◌≡◌, ◌∷◌, ◌++◌, [], ℤ, List, pos, OnOk, IfOk, None, is_some, slice_get};
-ghost use Rattle.std.specs.Option.{option_copied};
-ghost use Rattle.typed_model.specs.Scope.{place_of, kind_of, is_bool, is_int, low_of, is_true, is_constant, is_unknown, term_unknown, terms_unknown, is_truth, is_number, is_numeral, all_truths, all_numbers, all_numerals, place_or_zero, truth, number, numeral};
+ghost use Rattle.std.specs.Option.{option_copied, option_map};
+ghost use Rattle.typed_model.specs.Scope.{sort_of, sort_is_bool, sort_is_int, place_of, kind_of, is_bool, is_int, low_of, is_true, is_constant, is_unknown, term_unknown, terms_unknown, is_truth, is_number, is_numeral, all_truths, all_numbers, all_numerals, place_or_zero, truth, number, numeral};
 
 use crate::model::{Decl, Kind};
 use crate::names::is;
@@ -12,31 +12,32 @@ use indexmap::IndexMap;
 use std::alloc::{AllocError, Global};
 use std::marker::Model;
 
-/// What is kept of a declaration beside its name.
+/// The sort of a declared name, without a domain.
 #[derive(Clone, Copy)]
-struct Declared {
-    /// The number of the item that declares it.
-    number: u64,
-    /// What it names, with its domain.
-    kind: Kind,
+enum Sort {
+    Bool,
+    Int,
 }
 
-/// The declarations so far, by their names. A clause sees it as the list of the declarations, in order. A look-up
-/// touches three places of memory at most, in the index, the names and what is kept beside them, but for a long
-/// name, whose bytes lie apart.
+/// The declarations so far, and beside them their names and sorts for look-up. A clause sees it as the list of the
+/// declarations. The names lie in the table itself, unless they are long, and a sort takes a single byte, so that a
+/// look-up touches few places of memory.
 #[derive(Drop)]
 pub struct Scope {
-    table: IndexMap<Name, Declared>,
+    sorts: IndexMap<Name, Sort>,
+    decls: Vec<Decl>,
 }
 
 impl Model for Scope {
-    ghost use Rattle.std.specs.Prelude.{List, map};
+    ghost use Rattle.std.specs.Prelude.{◌≡◌, List, map};
     ghost use Rattle.typed_model.specs.declared.model.Decl.{Decl};
-    ghost use Rattle.typed_model.specs.Scope.{decl_of};
+    ghost use Rattle.typed_model.specs.Scope.{entry_of};
 
     ghost Value = { List Decl };
 
-    ghost view = { λ s. map decl_of s.table.entries };
+    ghost view = { λ s. s.decls.items };
+
+    ghost invariant = { λ s. s.sorts.entries ≡ map entry_of s.decls.items };
 }
 
 impl Scope {
@@ -45,7 +46,8 @@ impl Scope {
         ensures { result ≡ [] }
     {
         Scope {
-            table: IndexMap::new(alloc),
+            sorts: IndexMap::new(alloc),
+            decls: Vec::new(alloc),
         }
     }
 
@@ -53,17 +55,44 @@ impl Scope {
     pub fn place_of(&self, name: &Name) -> Option<usize>
         ensures { result ≡ place_of name.now self.now }
     {
-        self.table.get_index_of(name)
+        self.sorts.get_index_of(name)
     }
 
-    /// What a name stands for.
+    /// What a name stands for. It reads the declaration, which its sort alone does without.
     pub fn kind_of(&self, name: &Name) -> Option<Kind>
         ensures { result ≡ kind_of name.now self.now }
     {
-        match self.table.get_full(name) {
-            Some((_, _, declared)) => Some(declared.kind),
+        match self.place_of(name) {
+            Some(place) => match self.decls.get(place) {
+                Some(decl) => Some(decl.kind),
+                None => None,
+            },
             None => None,
         }
+    }
+
+    /// The sort of what a name stands for. The declaration itself isn't touched.
+    fn sort_of(&self, name: &Name) -> Option<Sort>
+        ensures { result ≡ option_map sort_of (kind_of name.now self.now) }
+    {
+        match self.sorts.get_full(name) {
+            Some((_, _, sort)) => Some(*sort),
+            None => None,
+        }
+    }
+
+    /// Whether a name stands for a Boolean.
+    fn names_bool(&self, name: &Name) -> bool
+        ensures { result ≡ is_bool (kind_of name.now self.now) }
+    {
+        sort_is_bool(self.sort_of(name))
+    }
+
+    /// Whether a name stands for an integer.
+    fn names_int(&self, name: &Name) -> bool
+        ensures { result ≡ is_int (kind_of name.now self.now) }
+    {
+        sort_is_int(self.sort_of(name))
     }
 
     /// Whether a name other than `true` and `false` isn't declared.
@@ -101,8 +130,8 @@ impl Scope {
         ensures { result ≡ is_truth self.now term.now }
     {
         match term {
-            Term::Plain(name) => is_constant(name.as_bytes()) || is_bool(self.kind_of(name)),
-            Term::Minus(name) => is_bool(self.kind_of(name)),
+            Term::Plain(name) => is_constant(name.as_bytes()) || self.names_bool(name),
+            Term::Minus(name) => self.names_bool(name),
             Term::Number(_) => false,
         }
     }
@@ -112,7 +141,7 @@ impl Scope {
         ensures { result ≡ is_number self.now term.now }
     {
         match term {
-            Term::Plain(name) => is_int(self.kind_of(name)),
+            Term::Plain(name) => self.names_int(name),
             Term::Minus(_) => false,
             Term::Number(_) => true,
         }
@@ -192,21 +221,52 @@ impl Scope {
         requires { place_of decl.name self.old ≡ None }
         ensures { OnOk result (self.new ≡ self.old ++ decl ∷ []) }
     {
-        let Decl { number, name, kind } = decl;
-        self.table.insert(name, Declared { number, kind })?;
+        let name = decl.name.clone()?;
+        self.decls.reserve(1)?;
+        self.sorts.insert(name, sort_of(decl.kind))?;
+        self.decls.push(decl).unwrap();
         Ok(())
     }
 
-    /// The declarations, in order. The names are moved, and only the list itself takes memory.
-    pub fn into_decls(self) -> Result<Vec<Decl>, AllocError>
-        ensures { IfOk result (λ decls. decls.items ≡ self) }
+    /// The declarations, in order.
+    pub fn into_decls(self) -> Vec<Decl>
+        ensures { result.items ≡ self }
     {
-        let Scope { table } = self;
-        let mut decls = Vec::with_capacity(*table.allocator(), table.len())?;
-        for (name, Declared { number, kind }) in table {
-            decls.push(Decl { number, name, kind })?;
-        }
-        Ok(decls)
+        let Scope { sorts, decls } = self;
+        drop(sorts);
+        decls
+    }
+}
+
+/// The sort of what is declared.
+fn sort_of(kind: Kind) -> Sort
+    ensures { result ≡ sort_of kind }
+{
+    match kind {
+        Kind::Bool => Sort::Bool,
+        Kind::Int { low: _, high: _ } => Sort::Int,
+    }
+}
+
+/// Whether it is a declared Boolean's sort.
+fn sort_is_bool(sort: Option<Sort>) -> bool
+    ensures { result ≡ sort_is_bool sort }
+{
+    match sort {
+        Some(Sort::Bool) => true,
+        Some(Sort::Int) => false,
+        None => false,
+    }
+}
+
+/// Whether it is a declared integer's sort.
+fn sort_is_int(sort: Option<Sort>) -> bool
+    ensures { result ≡ sort_is_int sort }
+{
+    match sort {
+        Some(Sort::Bool) => false,
+        Some(Sort::Int) => true,
+        None => false,
     }
 }
 

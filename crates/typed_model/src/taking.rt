@@ -180,7 +180,7 @@ impl Typing {
         }
         match goal {
             Some(goal) => Ok(Model {
-                decls: Sequence::from_vec(scope.into_decls()?),
+                decls: Sequence::from_vec(scope.into_decls()),
                 stmts: Sequence::from_vec(stmts),
                 goal,
             }),

@@ -13,5 +13,6 @@ pub mod Everywhere
 pub mod Negation
 pub mod Multiples
 pub mod Fresh
+pub mod Upwards
 pub mod Made
 pub mod Standing

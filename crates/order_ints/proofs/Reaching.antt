@@ -145,3 +145,8 @@ pub at_tells : (a : OrdInt) (v : ℤ) (x : Atom) → x ≡ at_of a v → (σ : V
 at_tells a v x e σ ordered =
     let truth : atom_truth σ x ≡ int_le v (value_of σ a) = ap (atom_truth σ) e ∙ atom_truth-at_of σ a v ordered in
     ((λ h. le_from_test v (value_of σ a) (sym truth ∙ h)), (λ h. truth ∙ int_le-true v (value_of σ a) h))
+
+-- where the first level is below v, the levels behind it reach v at the same atom
+pub reaches_behind : (v : ℤ) (level : ℤ × Atom) (above all : List (ℤ × Atom)) → all ≡ level ∷ above → level.0 <ℤ v → first_reaching v above ≡ first_reaching v all
+reaches_behind v level above all e below =
+    sym (ap (first_reaching v) e ∙ ap (λ t. cond t level.1 (first_reaching v above)) (int_le-false v level.0 below))

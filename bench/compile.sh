@@ -3,8 +3,8 @@
 #   clauses  clauses of three literals over a tenth as many names, and one near the limit of 16 MB;
 #   chain    a chain of `int_leq` over integers of 1,000 values each;
 #   row      a row of declared integers of 1,000 values each, up to 1,000,000 values together.
-# Prints for each model the family, its size, the processor's seconds (the least of five runs), the peak memory in
-# MB, that memory beside the two texts and beside what an empty model takes, in bytes for each variable and literal,
+# Prints for each model the family, its size, the processor's seconds (the least of five runs or more), the peak memory
+# in MB, that memory beside the two texts and beside what an empty model takes, in bytes for each variable and literal,
 # and the bytes of both texts; and for each family the growth exponent from its first model to its last.
 # Wants python3.
 set -eu
@@ -63,6 +63,13 @@ def measured():
         assert status == 0, f"status {status}"
         return usage.ru_utime + usage.ru_stime, usage.ru_maxrss * 1024
 
+# The least of five runs, or of as many as a second holds: short ones differ most.
+def least():
+    runs = [measured()]
+    while len(runs) < 5 or sum(seconds for seconds, _ in runs) < 1:
+        runs.append(measured())
+    return min(runs)
+
 def items():
     found = 0
     with open(out) as text:
@@ -86,7 +93,7 @@ for family, sizes in families:
     times = []
     for size in sizes:
         write(family, size)
-        seconds, peak = min(measured() for _ in range(5))
+        seconds, peak = least()
         read, written = os.path.getsize(path), os.path.getsize(out)
         beside = (peak - base - read - written) / items()
         print(f"{family:8} {size:7}  {seconds:7.3f}  {peak / 1e6:7.1f}  {beside:10.1f}  {read:11}  {written:10}", flush=True)

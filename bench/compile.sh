@@ -3,9 +3,10 @@
 #   clauses  clauses of three literals over a tenth as many names, and one near the limit of 16 MB;
 #   chain    a chain of `int_leq` over integers of 1,000 values each;
 #   row      a row of declared integers of 1,000 values each, up to 1,000,000 values together.
-# Prints for each model the family, its size, the processor's seconds (the least of five runs or more), the peak memory
+# Prints for each model the family, its size, the processor's seconds (the least of nine runs or more), the peak memory
 # in MB, that memory beside the two texts and beside what an empty model takes, in bytes for each variable and literal,
-# and the bytes of both texts; and for each family the growth exponent from its first model to its last.
+# and the bytes of both texts; and for each family the growth exponents from its first model to its last, of the seconds
+# against the size and against the bytes of both texts.
 # Wants python3.
 set -eu
 top=$(cd "$(dirname "${BASH_SOURCE[0]}")/.." && pwd)
@@ -63,10 +64,10 @@ def measured():
         assert status == 0, f"status {status}"
         return usage.ru_utime + usage.ru_stime, usage.ru_maxrss * 1024
 
-# The least of five runs, or of as many as a second holds: short ones differ most.
+# The least of nine runs, or of as many as a second holds: short ones differ most.
 def least():
     runs = [measured()]
-    while len(runs) < 5 or sum(seconds for seconds, _ in runs) < 1:
+    while len(runs) < 9 or sum(seconds for seconds, _ in runs) < 1:
         runs.append(measured())
     return min(runs)
 
@@ -97,8 +98,9 @@ for family, sizes in families:
         read, written = os.path.getsize(path), os.path.getsize(out)
         beside = (peak - base - read - written) / items()
         print(f"{family:8} {size:7}  {seconds:7.3f}  {peak / 1e6:7.1f}  {beside:10.1f}  {read:11}  {written:10}", flush=True)
-        times.append((size, seconds))
-    (a, s), (b, t) = times[0], times[-1]
-    exponents.append(f"{family} {math.log(t / s) / math.log(b / a):.2f}")
-print("growth exponents: " + ", ".join(exponents))
+        times.append((size, read + written, seconds))
+    (a, c, s), (b, d, t) = times[0], times[-1]
+    more = math.log(t / s)
+    exponents.append(f"{family} {more / math.log(b / a):.2f} ({more / math.log(d / c):.2f})")
+print("growth exponents against the size (against the bytes): " + ", ".join(exponents))
 PY

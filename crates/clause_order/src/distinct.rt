@@ -3,16 +3,25 @@
 ghost use Rattle.std.specs.Prelude.{◌≡◌, IfOk, map};
 ghost use Rattle.order_ints.specs.OrderedClauses.{distinct};
 
+use crate::hash::ClauseHasher;
 use bee_list::Sequence;
 use indexmap::IndexSet;
 use order_ints::Lit;
 use std::alloc::{AllocError, Global};
+use std::hash::BuildHasherDefault;
+
+/// Clauses in the order in which they came, each once.
+type ClauseSet = IndexSet<Vec<Lit>, BuildHasherDefault<ClauseHasher>>;
 
 /// The clauses as a set.
-fn set_of(alloc: Global, clauses: Vec<Sequence<Lit>>) -> Result<IndexSet<Vec<Lit>>, AllocError>
+fn set_of(alloc: Global, clauses: Vec<Sequence<Lit>>) -> Result<ClauseSet, AllocError>
     ensures { IfOk result (λ set. map (λ v. v.items) set.keys ≡ distinct clauses.items) }
 {
-    let mut set = IndexSet::with_capacity(alloc, clauses.len())?;
+    let mut set = IndexSet::with_capacity_and_hasher(
+        alloc,
+        clauses.len(),
+        BuildHasherDefault::new(),
+    )?;
     for clause in clauses {
         set.insert(clause.into_vec())?;
     }
@@ -20,7 +29,7 @@ fn set_of(alloc: Global, clauses: Vec<Sequence<Lit>>) -> Result<IndexSet<Vec<Lit
 }
 
 /// The clauses of a set, in its order.
-fn clauses_of(alloc: Global, set: IndexSet<Vec<Lit>>) -> Result<Sequence<Sequence<Lit>>, AllocError>
+fn clauses_of(alloc: Global, set: ClauseSet) -> Result<Sequence<Sequence<Lit>>, AllocError>
     ensures { IfOk result (λ clauses. clauses ≡ map (λ v. v.items) set.keys) }
 {
     let mut clauses = Vec::with_capacity(alloc, set.len())?;

@@ -2,6 +2,7 @@
 #![tactic(auto)]
 
 mod distinct;
+mod hash;
 mod ordered;
 
 pub use ordered::OrderedClauses;

@@ -20,6 +20,8 @@ mod meanings;
 #[cfg(test)]
 mod occurring;
 #[cfg(test)]
+mod rings;
+#[cfg(test)]
 mod shown;
 #[cfg(test)]
 mod sums;

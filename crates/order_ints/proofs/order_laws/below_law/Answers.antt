@@ -3,7 +3,7 @@ use Rattle.order_ints.proofs.Reaching.{AtomBelow-at_of}
 use Rattle.order_ints.proofs.Negation.{StepsBelow-negated}
 use Rattle.order_ints.proofs.Multiples.{IntBelow-scaled_of}
 use Rattle.order_ints.proofs.Gains.{StepsBelow-more}
-use Rattle.order_ints.proofs.order_laws.place_law.Goals as goal
+use Rattle.order_ints.proofs.order_laws.below_law.Goals as goal
 
 pub returns-clause-at : goal.returns-clause-at
 returns-clause-at c = AtomBelow-at_of

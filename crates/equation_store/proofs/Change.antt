@@ -7,7 +7,7 @@ use Rattle.order_ints.specs.declared.atom.Atom.{Atom}
 use Rattle.order_ints.specs.declared.atom.Atom.TheVariants.{True, False, Of}
 use Rattle.order_ints.specs.Truth.{Valuation, atom_truth, not_atom}
 use Rattle.equation_store.specs.declared.relabel.Change.{Change}
-use Rattle.equation_store.specs.Label.{IsLabel}
+use Rattle.order_ints.specs.Label.{IsLabel}
 use Rattle.equation_store.specs.Class.{is_of, class_size}
 use Rattle.equation_store.specs.Merge.{signed, replaced, losing, change_to, change_of}
 use Rattle.equation_store.specs.Laws.{IsConstant, size_at}

@@ -5,7 +5,7 @@ use Rattle.order_ints.specs.declared.atom.Atom.TheVariants.{True, False, Of}
 use Rattle.order_ints.specs.Truth.{Valuation, atom_truth, not_atom}
 use Rattle.order_ints.specs.View.{label_of, resolve, MeetsView}
 use Rattle.order_ints.specs.Place.{AtomBelow}
-use Rattle.equation_store.specs.Label.{IsLabelled}
+use Rattle.order_ints.specs.Label.{IsLabelled}
 use Rattle.equation_store.specs.Class.{class_size}
 use Rattle.equation_store.specs.Merge.{merged}
 
@@ -42,18 +42,6 @@ abbrev pub Doubles : List Atom → List Atom → Type 0
 Doubles old new =
     (v : ℕ) → 1 ≤ v → v ≤ length old → label_of new v ≢ label_of old v →
     IsConstant (label_of new v) ⊎ (2 * size_at old (label_of old v) ≤ size_at new (label_of new v))
-
--- resolving twice is resolving once
-abbrev pub ResolvesOnce : Type 0
-ResolvesOnce = (view : List Atom) (a : Atom) → IsLabelled view → IsAtomOf view a → resolve view (resolve view a) ≡ resolve view a
-
--- the negation of an atom resolves to the negation
-abbrev pub ResolvesNegation : Type 0
-ResolvesNegation = (view : List Atom) (a : Atom) → resolve view (not_atom a) ≡ not_atom (resolve view a)
-
--- an atom is as true as what it resolves to
-abbrev pub ResolvesTruly : Type 0
-ResolvesTruly = (view : List Atom) (a : Atom) (σ : Valuation) → IsAtomOf view a → MeetsView σ view → atom_truth σ (resolve view a) ≡ atom_truth σ a
 
 -- two atoms resolve to the same atom exactly where every valuation that meets the view makes them equally true
 abbrev pub ResolvesExactly : Type 0

@@ -1,13 +1,10 @@
 //! Laws of the definitions that the clauses of the store cite.
 
-ghost use Rattle.equation_store.specs.Laws.{ResolvesOnce, ResolvesNegation, ResolvesTruly, ResolvesExactly, MergeResolves, MergeKeeps, MergeDoubles};
+ghost use Rattle.equation_store.specs.Laws.{ResolvesExactly, MergeResolves, MergeKeeps, MergeDoubles};
 
-/// What resolving keeps.
-pub fn resolve_laws()
-    ensures once { ResolvesOnce }
-    ensures negation { ResolvesNegation }
-    ensures truth { ResolvesTruly }
-    ensures exact { ResolvesExactly }
+/// What resolving tells.
+pub fn resolve_law()
+    ensures { ResolvesExactly }
 {}
 
 /// What a merge keeps.

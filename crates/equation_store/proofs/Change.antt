@@ -25,7 +25,7 @@ pub record IsChange (view : List Atom) (a b : Atom) (c : Change) : Type 0 where
   pub differs : a ≡ b → ⊥
   pub not_opposite : a ≡ not_atom b → ⊥
 
-is_of-signed : (x : ℕ) (p : Bool) (a : Atom) → is_of x (signed p a) ≡ is_of x a
+pub is_of-signed : (x : ℕ) (p : Bool) (a : Atom) → is_of x (signed p a) ≡ is_of x a
 is_of-signed x true a = refl
 is_of-signed x false True = refl
 is_of-signed x false False = refl

@@ -54,7 +54,7 @@ of_label view x True h e = cc
 of_label view x False h e = cc
 of_label view x (Of l) h e = let same : l.var ≡ x = eqb-true l.var x e in (omega (arith, h.0), omega (arith, h.1))
 
-own_label : (view : List Atom) (x : ℕ) (a : Atom) → IsLabel view a → is_of x a ≡ true → IsOwnLabel view x
+pub own_label : (view : List Atom) (x : ℕ) (a : Atom) → IsLabel view a → is_of x a ≡ true → IsOwnLabel view x
 own_label view x True h e = cc
 own_label view x False h e = cc
 own_label view x (Of l) h e = subst (IsOwnLabel view) (eqb-true l.var x e) h.2
@@ -97,7 +97,7 @@ pub record IsMerge (old new : List Atom) (a b : Atom) : Type 0 where
   pub changes : (resolve old a ≡ resolve old b → ⊥) → (resolve old a ≡ not_atom (resolve old b) → ⊥) → IsChangedBy (change_of old (resolve old a) (resolve old b)) old new a b
   pub opposite : resolve old a ≡ not_atom (resolve old b) → NeverEqual old a b
 
-is_merge : (view : List Atom) (a b : Atom) → IsLabelled view → IsAtomOf view a → IsAtomOf view b → IsMerge view (merged view a b) a b
+pub is_merge : (view : List Atom) (a b : Atom) → IsLabelled view → IsAtomOf view a → IsAtomOf view b → IsMerge view (merged view a b) a b
 is_merge view a b labelled in_a in_b = record {
   labelled = kept (change_of view (resolve view a) (resolve view b)) of_change;
   size = same_size (change_of view (resolve view a) (resolve view b));

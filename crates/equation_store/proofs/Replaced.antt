@@ -59,7 +59,7 @@ label_of-relabelled view x new r =
     label_of-map (replaced x new) view x r.low r.high ∙ ap (replaced x new) r.own ∙ replaced-own x new (record { var = x; positive = true }) refl
 
 -- labels of the old view that are of another variable are labels of the new one
-IsLabel-relabelled : (view : List Atom) (x : ℕ) (new a : Atom) → IsLabel view a → is_of x a ≡ false → IsLabel (relabelled view x new) a
+pub IsLabel-relabelled : (view : List Atom) (x : ℕ) (new a : Atom) → IsLabel view a → is_of x a ≡ false → IsLabel (relabelled view x new) a
 IsLabel-relabelled view x new True h other = tt
 IsLabel-relabelled view x new False h other = tt
 IsLabel-relabelled view x new (Of l) h other =

@@ -97,7 +97,7 @@ impl EqStore {
         ensures clash { (result ≡ Merged.Clash)
             ↔ (resolve self.old.view a ≡ not_atom (resolve self.old.view b)) }
         ensures stays { result ≢ Merged.Changed → self.new ≡ self.old }
-        ensures view { result ≡ Merged.Changed → self.new.view ≡ merged self.old.view a b }
+        ensures view { self.new.view ≡ merged self.old.view a b }
         ensures relabels { result ≡ Merged.Changed
             → IsSomeAnd (loser_of self.old.view a b) (λ x. IsRelabelled self.old.view self.new.view x) }
         ensures equal { result ≡ Merged.Changed

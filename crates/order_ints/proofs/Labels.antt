@@ -1,5 +1,5 @@
 -- Labels: what resolves to itself, added variables, and later views.
-use Rattle.std.proofs.Common.{◌≡◌, ℕ, zero, suc, ◌+◌, ◌-◌, ◌≤◌, ◌<◌, Bool, true, false, not, cond, ◌⊎◌, inl, inr, List, [], ◌∷◌, ◌++◌, length, get_or, refl, ap, sym, ◌∙◌, subst, arith, ⊎_elim}
+use Rattle.std.proofs.Common.{◌≡◌, ℕ, zero, suc, ◌+◌, ◌-◌, ◌≤◌, ◌<◌, Bool, true, false, not, cond, List, [], ◌∷◌, ◌++◌, length, get_or, refl, ap, sym, ◌∙◌, subst, arith, ⊎_elim}
 use Rattle.std.specs.Prelude.{◌↔◌}
 use Rattle.std.proofs.lemmas.Bool.{cases_lt}
 use Rattle.std.proofs.lemmas.List.{length-append, get_or_append_left, get_or-append_right, get_or_past, get_or_default}
@@ -9,7 +9,7 @@ use Rattle.order_ints.specs.Truth.{Valuation, atom_truth, not_atom}
 use Rattle.order_ints.specs.Place.{AtomBelow, AtomsBelow}
 use Rattle.order_ints.specs.View.{label_of, resolve, MeetsView}
 use Rattle.order_ints.specs.Label.{variable, IsOwnLabel, IsLabel, IsLabelled, own_labels, IsLater}
-use Rattle.order_ints.specs.LabelLaws.{LabelResolves, LabelNegation, LabelsBelow, ResolvesToLabel, ResolvesOnce, ResolvesNegation, EmptyLabelled, OwnLabelsLength, OldKeepLabels, LabelsStay, AddedLabels, AddedResolve, AddedMet, AddedLabelled, MoreIsLater, LaterThanItself, LaterThanLater, LaterResolves, LaterMeets}
+use Rattle.order_ints.specs.LabelLaws.{LabelResolves, LabelNegation, LabelsBelow, ResolvesToLabel, ResolvesOnce, ResolvesNegation, EmptyLabelled, OwnLabelsLength, OldKeepLabels, LabelsStay, MoreIsLater, LaterThanItself, LaterThanLater, LaterResolves, LaterMeets}
 use Rattle.order_ints.proofs.Truths.{not_atom-not_atom}
 use Rattle.order_ints.proofs.TruthLaws.{atom_truth-label_of, atom_truth-resolve}
 use Rattle.order_ints.proofs.PlaceLaws.{AtomBelow-get_or}
@@ -31,10 +31,10 @@ with_sign-not true a = refl
 with_sign-not false a = sym (not_atom-not_atom a)
 
 -- a literal of a variable that is its own label resolves to itself, and back
-own-stays : (view : List Atom) (v : ℕ) (p : Bool) → IsOwnLabel view v → with_sign p (label_of view v) ≡ Of (record { var = v; positive = p })
+pub own-stays : (view : List Atom) (v : ℕ) (p : Bool) → IsOwnLabel view v → with_sign p (label_of view v) ≡ Of (record { var = v; positive = p })
 own-stays view v p own = ap (with_sign p) own ∙ with_sign-variable v p
 
-stays-own : (view : List Atom) (v : ℕ) (p : Bool) → with_sign p (label_of view v) ≡ Of (record { var = v; positive = p }) → IsOwnLabel view v
+pub stays-own : (view : List Atom) (v : ℕ) (p : Bool) → with_sign p (label_of view v) ≡ Of (record { var = v; positive = p }) → IsOwnLabel view v
 stays-own view v p e =
     sym (with_sign-twice p (label_of view v))
     ∙ ap (with_sign p) (e ∙ sym (with_sign-variable v p))

@@ -103,7 +103,7 @@ module _ (R : ℕ → Type 0) where
   vars_each (Lex r strict front back) h = both_parts R (atom_vars r) (ints_vars front ++ ints_vars back) h.0 (both_parts R (ints_vars front) (ints_vars back) (vars_int front h.1) (vars_int back h.2))
 
 -- an atom's variable is one of its variables
-own_var : (v : ℕ) → Contains (v ∷ []) v
+pub own_var : (v : ℕ) → Contains (v ∷ []) v
 own_var v = (0, omega arith, refl)
 
 truth_same : (σ τ : Valuation) (a : Atom) → OfVars (λ v. σ v ≡ τ v) a → atom_truth σ a ≡ atom_truth τ a

@@ -8,6 +8,7 @@ mod costs;
 mod equation;
 mod form;
 mod fresh_sums;
+pub mod labelled_laws;
 pub mod laws;
 mod meaning;
 mod occurrence;

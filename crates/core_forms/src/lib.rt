@@ -10,10 +10,12 @@ mod equation;
 mod form;
 mod fresh_sums;
 pub mod laws;
+pub mod list_laws;
 mod meaning;
 mod occurrence;
 mod shapes;
 mod trimming;
+pub mod view_laws;
 
 pub use basic::is_basic;
 pub use contents::Members;

@@ -9,6 +9,7 @@ mod equation;
 mod form;
 mod fresh_sums;
 pub mod laws;
+mod made;
 mod meaning;
 mod occurrence;
 mod shapes;

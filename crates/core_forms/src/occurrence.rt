@@ -81,40 +81,40 @@ fn put_core(vars: &mut Vec<u32>, core: &Core) -> Result<(), AllocError>
     ensures { OnOk result (vars.new.items ≡ vars.old.items ++ core_vars core.now) }
 {
     match core {
-        Core::Ladder(a) => put_int(vars, a),
+        Core::Ladder(a) => put_int(vars, a.get()),
         Core::Clause(atoms) => put_atoms(vars, atoms.as_slice()),
         Core::Parity(atoms, _) => put_atoms(vars, atoms.as_slice()),
         Core::Conj(r, atoms) => {
             put_atom(vars, *r)?;
             put_atoms(vars, atoms.as_slice())
         }
-        Core::Comp(a, b, hi, lo) => put_four(vars, *a, *b, *hi, *lo),
-        Core::LeqR(r, a, b) => put_compared(vars, *r, a, b),
-        Core::EqR(r, a, b) => put_compared(vars, *r, a, b),
-        Core::Sum3(a, b, c) => put_three(vars, a, b, c),
+        Core::Comp(a, b, hi, lo) => put_four(vars, *a, *b, *hi, *lo.get()),
+        Core::LeqR(r, a, b) => put_compared(vars, *r, a.get(), b.get()),
+        Core::EqR(r, a, b) => put_compared(vars, *r, a.get(), b.get()),
+        Core::Sum3(a, b, c) => put_three(vars, a.get(), b.get(), c.get()),
         Core::Count(atoms, c) => {
             put_atoms(vars, atoms.as_slice())?;
-            put_int(vars, c)
+            put_int(vars, c.get())
         }
         Core::Sum(ints, _) => put_ints(vars, ints.as_slice()),
         Core::Max(ints, c) => {
             put_ints(vars, ints.as_slice())?;
-            put_int(vars, c)
+            put_int(vars, c.get())
         }
         Core::AllDiff(ints, conditions) => {
             put_ints(vars, ints.as_slice())?;
-            put_atoms(vars, conditions.as_slice())
+            put_atoms(vars, conditions.get().as_slice())
         }
         Core::Amo(atoms) => put_atoms(vars, atoms.as_slice()),
-        Core::Prod(a, b, c) => put_three(vars, a, b, c),
+        Core::Prod(a, b, c) => put_three(vars, a.get(), b.get(), c.get()),
         Core::DivMod(a, b, q, r) => {
-            put_int(vars, a)?;
-            put_three(vars, b, q, r)
+            put_int(vars, a.get())?;
+            put_three(vars, b.get(), q.get(), r.get())
         }
         Core::Lex(r, _, front, back) => {
             put_atom(vars, *r)?;
-            put_ints(vars, front.as_slice())?;
-            put_ints(vars, back.as_slice())
+            put_ints(vars, front.get().as_slice())?;
+            put_ints(vars, back.get().as_slice())
         }
     }
 }

@@ -12,6 +12,7 @@ mod fresh_sums;
 pub mod labelled_laws;
 pub mod laws;
 pub mod list_laws;
+mod made;
 mod meaning;
 mod occurrence;
 mod shapes;

@@ -1,0 +1,3 @@
+pub mod CoreLists
+pub mod PartLaws
+pub mod FreshLaws

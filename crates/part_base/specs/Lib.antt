@@ -1,0 +1,3 @@
+pub mod Cores
+pub mod PartsFor
+pub mod FreshTruths

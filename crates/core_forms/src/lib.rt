@@ -3,6 +3,7 @@
 #![tactic(auto)]
 
 mod basic;
+mod contents;
 pub mod cost_laws;
 mod costs;
 mod equation;
@@ -15,6 +16,7 @@ mod shapes;
 mod trimming;
 
 pub use basic::is_basic;
+pub use contents::Members;
 pub use costs::cost;
 pub use equation::{Equation, Rule};
 pub use form::Core;

@@ -1,3 +1,2 @@
-pub mod CoreLists
 pub mod PartLaws
 pub mod FreshLaws

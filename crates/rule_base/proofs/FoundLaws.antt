@@ -3,7 +3,7 @@ use Rattle.std.proofs.Common.{◌≡◌, Bool, true, false, not, ◌&&◌, List,
 use Rattle.std.specs.Prelude.{Option, None, Some, IsNone, IfSome}
 use Rattle.std.specs.Option.{option_or}
 use Rattle.order_ints.specs.declared.atom.Atom.{Atom}
-use Rattle.order_ints.specs.Truth.{Valuation, atom_truth}
+use Rattle.order_ints.specs.Truth.{Valuation}
 use Rattle.core_forms.specs.declared.equation.Rule.{Rule}
 use Rattle.core_forms.specs.declared.equation.Rule.TheVariants.{Order, Form, Table}
 use Rattle.core_forms.specs.declared.equation.Equation.{Equation}
@@ -11,7 +11,7 @@ use Rattle.core_forms.specs.declared.form.Core.{Core}
 use Rattle.core_forms.specs.Meaning.{Meets}
 use Rattle.core_forms.specs.Trimmed.{same_atom}
 use Rattle.rule_base.specs.declared.sought.Sought.TheVariants.{Apart}
-use Rattle.rule_base.specs.Pairs.{first_sought, is_sought, is_listed, AreEqual, EachOfPairs}
+use Rattle.rule_base.specs.Pairs.{first_sought, is_listed, AreEqual, EachOfPairs}
 use Rattle.rule_base.specs.Found.{stated_by, found_by, is_instance_by, IsImplied}
 use Rattle.rule_base.proofs.PairLaws.{listed-found, sought-found, none-apart, equal-listed, each-listed}
 
@@ -66,12 +66,12 @@ module _ (pairs : Rule → List (Atom × Atom)) where
       and-listed (same_atom e.a e.b) (is_listed e.a e.b (pairs e.rule)) (none-apart (pairs e.rule) e.a e.b (no-pair e.rule none))
 
   instance-none : (o : Option Equation) → found_by pairs ≡ o → ((e : Equation) → is_instance_by pairs e ≡ false) → IsNone o
-  instance-none None is never = tt
+  instance-none None is never = refl
   instance-none (Some e) is never = absurd (let yes = found-instance e is in let not_so = never e in cc)
 
   none-found : (o : Option Equation) → found_by pairs ≡ o → IsNone o → (e : Equation) → is_instance_by pairs e ≡ false
   none-found None is none = none-instance is
-  none-found (Some e) is none = absurd none
+  none-found (Some e) is none = absurd (cc)
 
   -- nothing is found exactly where there is no instance
   pub found-none : (o : Option Equation) → o ≡ found_by pairs → IsNone o ↔ ((e : Equation) → is_instance_by pairs e ≡ false)

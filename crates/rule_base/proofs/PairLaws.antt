@@ -15,7 +15,7 @@ pub first_sought-append : (sought : Sought) (ps qs : List (Atom × Atom)) → fi
 first_sought-append sought [] qs = refl
 first_sought-append sought (p ∷ ps) qs =
     elim (is_sought sought p) as (λ t. cond t (Some p) (first_sought sought (ps ++ qs)) ≡ option_or (cond t (Some p) (first_sought sought ps)) (first_sought sought qs)) [
-      true ↦ refl
+      | true ↦ refl
       | false ↦ first_sought-append sought ps qs
     ]
 
@@ -101,7 +101,7 @@ pub first_sought-Pair : (a b : Atom) (ps : List (Atom × Atom)) → is_some (fir
 first_sought-Pair a b [] = refl
 first_sought-Pair a b (p ∷ ps) =
     elim (is_pair_of a b p) as (λ t. is_some (cond t (Some p) (first_sought (Pair a b) ps)) ≡ (t || is_listed a b ps)) [
-      true ↦ refl
+      | true ↦ refl
       | false ↦ first_sought-Pair a b ps
     ]
 

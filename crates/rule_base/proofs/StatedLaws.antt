@@ -1,13 +1,13 @@
 -- Laws of equations that state bounds of an integer or truths of atoms: when they hold, and of what atoms they are.
-use Rattle.std.proofs.Common.{◌≡◌, ℕ, zero, suc, Bool, true, false, cond, List, [], ◌∷◌, map, ℤ, pos, ◌+ℤ◌, ◌≤ℤ◌, ◌<ℤ◌, refl, sym, ap, ◌∙◌, arith}
+use Rattle.std.proofs.Common.{◌≡◌, ℕ, suc, Bool, true, false, ◌&&◌, cond, List, [], ◌∷◌, ℤ, pos, ◌+ℤ◌, ◌≤ℤ◌, ◌<ℤ◌, refl, sym, ◌∙◌, arith}
 use Rattle.std.specs.Prelude.{int_le}
 use Rattle.std.proofs.lemmas.Int.{ints}
 use Rattle.order_ints.specs.declared.atom.Atom.{Atom}
 use Rattle.order_ints.specs.declared.atom.Atom.TheVariants.{True, False}
 use Rattle.order_ints.specs.declared.order_int.OrdInt.{OrdInt}
-use Rattle.order_ints.specs.Truth.{Valuation, atom_truth, not_atom}
+use Rattle.order_ints.specs.Truth.{Valuation, atom_truth}
 use Rattle.order_ints.specs.OrderValue.{value_of, IsOrdered}
-use Rattle.order_ints.specs.OrderLevels.{levels, levels_of, first_reaching, at_of}
+use Rattle.order_ints.specs.OrderLevels.{levels, first_reaching, at_of}
 use Rattle.order_ints.proofs.Comparisons.{int_le-true, int_le-false, by_int_le}
 use Rattle.order_ints.proofs.Reaching.{atom_truth-at_of}
 use Rattle.core_forms.specs.Truths.{all_true, true_count}
@@ -39,19 +39,19 @@ is_not-equal σ a v ordered differ =
 -- where all atoms are true, each is equal to True; where none is, each is equal to False
 pub all_equal-true : (σ : Valuation) (atoms : List Atom) → all_true σ atoms ≡ true → AreEqual σ (all_equal atoms True)
 all_equal-true σ [] all = tt
-all_equal-true σ (a ∷ atoms) all = split (atom_truth σ a) (all_true σ atoms) refl all
+all_equal-true σ (a ∷ atoms) all = split (atom_truth σ a) refl all (all_equal-true σ atoms)
   where
-    split : (s t : Bool) → atom_truth σ a ≡ s → cond s (all_true σ atoms) false ≡ true → AreEqual σ (all_equal (a ∷ atoms) True)
-    split true t is rest = (is, all_equal-true σ atoms rest)
-    split false t is rest = absurd (cc)
+    split : (s : Bool) → atom_truth σ a ≡ s → (s && all_true σ atoms) ≡ true → (all_true σ atoms ≡ true → AreEqual σ (all_equal atoms True)) → AreEqual σ (all_equal (a ∷ atoms) True)
+    split true is rest equal = (is, equal rest)
+    split false is rest equal = absurd (cc)
 
 pub all_equal-false : (σ : Valuation) (atoms : List Atom) → true_count σ atoms ≡ 0 → AreEqual σ (all_equal atoms False)
 all_equal-false σ [] none = tt
-all_equal-false σ (a ∷ atoms) none = split (atom_truth σ a) refl none
+all_equal-false σ (a ∷ atoms) none = split (atom_truth σ a) refl none (all_equal-false σ atoms)
   where
-    split : (s : Bool) → atom_truth σ a ≡ s → cond s (suc (true_count σ atoms)) (true_count σ atoms) ≡ 0 → AreEqual σ (all_equal (a ∷ atoms) False)
-    split true is rest = absurd (omega (arith, rest))
-    split false is rest = (is, all_equal-false σ atoms rest)
+    split : (s : Bool) → atom_truth σ a ≡ s → cond s (suc (true_count σ atoms)) (true_count σ atoms) ≡ 0 → (true_count σ atoms ≡ 0 → AreEqual σ (all_equal atoms False)) → AreEqual σ (all_equal (a ∷ atoms) False)
+    split true is rest equal = absurd (omega (arith, rest))
+    split false is rest equal = (is, equal rest)
 
 -- what holds of the constants and of each step's atom holds of the atom at each value
 module _ (P : Atom → Type 0) (closed : IsClosed P) where

@@ -8,4 +8,5 @@ mod stated;
 mod steps;
 
 pub use sought::Sought;
+pub use stated::next;
 pub use steps::Steps;

@@ -2,7 +2,7 @@
 
 ghost use Rattle.std.specs.Prelude.{◌≡◌, not, [], ◌∷◌};
 ghost use Rattle.core_forms.specs.Trimmed.{same_atom};
-ghost use Rattle.rule_base.specs.Pairs.{is_pair_of, is_sought, first_sought};
+ghost use Rattle.rule_base.specs.Pairs.{is_pair_of, is_sought, first_sought, only_if};
 ghost use Rattle.rule_base.specs.Stated.{all_equal};
 
 use order_ints::Atom;
@@ -55,6 +55,16 @@ impl Sought {
         ensures { result ≡ first_sought self ((x, y) ∷ []) }
     {
         if self.is(x, y) { Some((x, y)) } else { None }
+    }
+
+    /// The equation of two atoms, if the test holds and it is looked for.
+    pub fn when(self, test: bool, x: Atom, y: Atom) -> Option<(Atom, Atom)>
+        ensures { result ≡ first_sought self (only_if test ((x, y) ∷ [])) }
+    {
+        if test && self.is(x, y) {
+            return Some((x, y));
+        }
+        None
     }
 
     /// Of the equations of each listed atom with one, the first that is looked for.

@@ -1,5 +1,0 @@
-pub mod OrderSound
-pub mod AtomSound
-pub mod CompareSound
-pub mod Sound
-pub mod EachRows

@@ -1,4 +1,0 @@
-pub mod OrderRows
-pub mod AtomRows
-pub mod CompareRows
-pub mod Instances

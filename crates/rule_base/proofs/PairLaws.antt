@@ -4,7 +4,7 @@ use Rattle.std.specs.Prelude.{Option, None, Some}
 use Rattle.std.specs.Option.{option_or, is_some}
 use Rattle.order_ints.specs.declared.atom.Atom.{Atom}
 use Rattle.order_ints.specs.Truth.{Valuation, atom_truth}
-use Rattle.core_forms.specs.Trimmed.{same_atom}
+use Rattle.order_ints.specs.Same.{same_atom}
 use Rattle.core_forms.proofs.Tidied.{by_test, same_atom-true, same_atom-refl}
 use Rattle.rule_base.specs.declared.sought.Sought.{Sought}
 use Rattle.rule_base.specs.declared.sought.Sought.TheVariants.{Apart, Pair}

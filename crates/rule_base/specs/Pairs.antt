@@ -3,7 +3,7 @@ use Rattle.std.specs.Prelude.{◌≡◌, Bool, false, not, ◌&&◌, ◌||◌, L
 use Rattle.order_ints.specs.declared.atom.Atom.{Atom}
 use Rattle.order_ints.specs.declared.atom.Atom.TheVariants.{True, False}
 use Rattle.order_ints.specs.Truth.{Valuation, atom_truth, not_atom}
-use Rattle.core_forms.specs.Trimmed.{same_atom}
+use Rattle.order_ints.specs.Same.{same_atom}
 use Rattle.rule_base.specs.declared.sought.Sought.{Sought}
 use Rattle.rule_base.specs.declared.sought.Sought.TheVariants.{Apart, Pair}
 

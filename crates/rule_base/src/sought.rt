@@ -1,7 +1,7 @@
 //! The search along equations, for one of two different atoms or for a given one.
 
 ghost use Rattle.std.specs.Prelude.{◌≡◌, not, [], ◌∷◌};
-ghost use Rattle.core_forms.specs.Trimmed.{same_atom};
+ghost use Rattle.order_ints.specs.Same.{same_atom};
 ghost use Rattle.rule_base.specs.Pairs.{is_pair_of, is_sought, first_sought, only_if};
 ghost use Rattle.rule_base.specs.Stated.{all_equal};
 

@@ -1,9 +1,8 @@
 -- The laws of lists of nodes.
-use Rattle.std.proofs.Common.{◌≡◌, ◌≢◌, ℕ, zero, suc, ◌+◌, ◌-◌, ◌≤◌, ◌<◌, ◌^◌, List, [], ◌∷◌, ◌++◌, length, get_or, set, map, refl, ap, sym, ◌∙◌, subst, arith, ⊎_elim, append_assoc, Option}
-use Rattle.std.specs.Prelude.{◌⊎◌, ◌↔◌}
+use Rattle.std.proofs.Common.{◌≡◌, ℕ, zero, suc, ◌+◌, ◌≤◌, ◌<◌, List, [], ◌∷◌, ◌++◌, length, map, refl, ap, sym, ◌∙◌, arith, ⊎_elim, append_assoc, Option}
 use Rattle.std.proofs.lemmas.Bool.{cases_eq, cases_lt}
 use Rattle.std.proofs.lemmas.List.{get_or_past, get_or-map, get_or-set_other, length-map}
-use Rattle.index_ring.specs.Lists.{RingLists, IsRings, IsFree, Stands, list_of, times, times_in_all, without, unlinked, after_in, first_in}
+use Rattle.index_ring.specs.Lists.{RingLists, IsRings, list_of, times, times_in_all, without, unlinked, after_in, first_in}
 use Rattle.index_ring.specs.Laws.{StandsOnce, FreeExactly, LengthsFit, WalkMeets, WalkIsList, walk_from, UnlinkCloses, OthersStay}
 use Rattle.index_ring.proofs.Times.{times-same, times-append, all-get, all-two, all-find, without-none, without-cut, total_length-le}
 use Rattle.index_ring.proofs.Seen.{after_in-cut}

@@ -9,13 +9,15 @@ use Rattle.order_ints.specs.Place.{AtomBelow}
 use Rattle.order_ints.specs.OrderChange.{shifted_of}
 use Rattle.order_ints.specs.View.{label_of, resolve}
 use Rattle.order_ints.proofs.TruthLaws.{resolve-nil}
+use Rattle.order_ints.specs.Equality.{same_atom-true, same_atom-refl, is_true-True, is_false-False}
+use Rattle.order_ints.specs.Same.{is_true, is_false, same_atom}
 use Rattle.core_forms.specs.declared.form.Core.{Core}
 use Rattle.core_forms.specs.declared.form.Core.TheVariants.{Ladder, Clause, Parity, Conj, Comp, LeqR, EqR, Sum3, Count, Sum, Max, AllDiff, Amo, Prod, DivMod, Lex}
 use Rattle.core_forms.specs.Place.{CoreBelow}
 use Rattle.core_forms.specs.Each.{EachOf, EachStep, EachInt, EachAtom}
 use Rattle.core_forms.specs.Resolved.{map_steps, map_int, map_ints, map_core, resolved_core}
-use Rattle.core_forms.specs.Trimmed.{is_true, is_false, same_atom, merged_steps, raised_by, has_true, has_false, without_true, without_false, without_constants, constant_trues, turned, tidied_clause, tidied_members, tidied_int, tidied_ints, tidied_core, trimmed_core, IsTrimmed, composed_view, AreOwnLabels}
-use Rattle.core_forms.proofs.Tidied.{by_test, same_atom-true, same_atom-refl, is_true-True, is_false-False}
+use Rattle.core_forms.specs.Trimmed.{merged_steps, raised_by, has_true, has_false, without_true, without_false, without_constants, constant_trues, turned, tidied_clause, tidied_members, tidied_int, tidied_ints, tidied_core, trimmed_core, IsTrimmed, composed_view, AreOwnLabels}
+use Rattle.core_forms.proofs.Tidied.{by_test}
 use Rattle.core_forms.proofs.EachLaws.{EachInt-left, EachInt-right, each_below, each_every}
 
 -- two maps after another are one

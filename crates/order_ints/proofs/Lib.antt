@@ -15,4 +15,6 @@ pub mod Multiples
 pub mod Fresh
 pub mod Upwards
 pub mod Made
+pub mod Wide
+pub mod Walks
 pub mod Standing

@@ -4,6 +4,9 @@ pub mod OrderValue
 pub mod OrderRange
 pub mod OrderLevels
 pub mod LevelsLeft
+pub mod Walk
+pub mod Same
+pub mod Equality
 pub mod OrderMade
 pub mod OrderChange
 pub mod Represents

@@ -3,13 +3,13 @@ use Rattle.std.proofs.Common.{◌≡◌, Bool, true, false, not, ◌&&◌, List,
 use Rattle.std.specs.Prelude.{Option, None, Some, IsNone, IfSome}
 use Rattle.std.specs.Option.{option_or}
 use Rattle.order_ints.specs.declared.atom.Atom.{Atom}
+use Rattle.order_ints.specs.Same.{same_atom}
 use Rattle.order_ints.specs.Truth.{Valuation}
 use Rattle.core_forms.specs.declared.equation.Rule.{Rule}
 use Rattle.core_forms.specs.declared.equation.Rule.TheVariants.{Order, Form, Table}
 use Rattle.core_forms.specs.declared.equation.Equation.{Equation}
 use Rattle.core_forms.specs.declared.form.Core.{Core}
 use Rattle.core_forms.specs.Meaning.{Meets}
-use Rattle.core_forms.specs.Trimmed.{same_atom}
 use Rattle.rule_base.specs.declared.sought.Sought.TheVariants.{Apart}
 use Rattle.rule_base.specs.Pairs.{first_sought, is_listed, AreEqual, EachOfPairs}
 use Rattle.rule_base.specs.Found.{stated_by, found_by, is_instance_by, IsImplied}

@@ -3,9 +3,10 @@ use Rattle.std.proofs.Common.{◌≡◌, Bool, true, false, cond, not, ◌&&◌,
 use Rattle.std.specs.Prelude.{Option, None, Some}
 use Rattle.std.specs.Option.{option_or, is_some}
 use Rattle.order_ints.specs.declared.atom.Atom.{Atom}
+use Rattle.order_ints.specs.Same.{same_atom}
 use Rattle.order_ints.specs.Truth.{Valuation, atom_truth}
-use Rattle.core_forms.specs.Trimmed.{same_atom}
-use Rattle.core_forms.proofs.Tidied.{by_test, same_atom-true, same_atom-refl}
+use Rattle.order_ints.specs.Equality.{same_atom-true, same_atom-refl}
+use Rattle.core_forms.proofs.Tidied.{by_test}
 use Rattle.rule_base.specs.declared.sought.Sought.{Sought}
 use Rattle.rule_base.specs.declared.sought.Sought.TheVariants.{Apart, Pair}
 use Rattle.rule_base.specs.Pairs.{is_pair_of, is_sought, first_sought, is_listed, only_if, AreEqual, EachOfPairs}

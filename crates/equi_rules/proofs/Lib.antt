@@ -1,0 +1,5 @@
+pub mod OrderSound
+pub mod AtomSound
+pub mod CompareSound
+pub mod Sound
+pub mod EachRows

@@ -11,6 +11,7 @@ use Rattle.core_forms.specs.declared.form.Core.{Core}
 use Rattle.core_forms.specs.declared.form.Core.TheVariants.{Ladder, Clause, Parity, Conj, Comp, LeqR, EqR, Sum3, Count, Sum, Max, AllDiff, Amo, Prod, DivMod, Lex}
 use Rattle.core_forms.specs.Meaning.{ordered, Meets}
 use Rattle.core_forms.specs.Contents.{ints_of}
+use Rattle.core_forms.proofs.ContentLaws.{ordered-met}
 use Rattle.rule_base.specs.Pairs.{AreEqual}
 use Rattle.equi_rules.specs.Instances.{form_equations, equations_of}
 use Rattle.equi_rules.proofs.OrderSound.{ints-equal}
@@ -56,6 +57,6 @@ form-equal σ (DivMod a b q r) met = tt
 form-equal σ (Lex r strict front back) met = tt
 
 pub equations-equal : (core : Core) (σ : Valuation) (rule : Rule) → Meets σ core → AreEqual σ (equations_of core rule)
-equations-equal core σ Order met = ints-equal σ (ints_of core) (ints-ordered σ core met)
+equations-equal core σ Order met = ints-equal σ (ints_of core) (ordered-met σ core met)
 equations-equal core σ Form met = form-equal σ core met
 equations-equal core σ Table met = tt

@@ -1,5 +1,5 @@
 -- The equations that the forms over lists of atoms state.
-use Rattle.std.specs.Prelude.{Bool, List, [], ◌∷◌, ◌++◌, if◌then◌else◌}
+use Rattle.std.specs.Prelude.{ℕ, ◌+◌, Bool, List, [], ◌∷◌, ◌++◌, Option, Some, None, if◌then◌else◌}
 use Rattle.order_ints.specs.declared.atom.Atom.{Atom}
 use Rattle.order_ints.specs.declared.atom.Atom.TheVariants.{True, False}
 use Rattle.order_ints.specs.Truth.{not_atom}
@@ -36,6 +36,11 @@ conj_equations r ls = conjunction_equations r ls ++ only_if (is_true r) (all_equ
 abbrev pub beside_true : List Atom → List Atom
 beside_true [] = []
 beside_true (l ∷ ls) = if is_true l then ls else (if has_true ls then l ∷ beside_true ls else [])
+
+-- the place of the first True member, of which the first one stands at n
+abbrev pub place_of_true : ℕ → List Atom → Option ℕ
+place_of_true n [] = None
+place_of_true n (l ∷ ls) = if is_true l then Some n else place_of_true (n + 1) ls
 
 -- at most one: where a member is True, each other one is false
 abbrev pub amo_equations : List Atom → List (Atom × Atom)

@@ -1,6 +1,6 @@
 //! The equations that the forms over lists of atoms state.
 
-ghost use Rattle.std.specs.Prelude.{◌≡◌};
+ghost use Rattle.std.specs.Prelude.{◌≡◌, ◌<◌, length, IfSome};
 ghost use Rattle.rule_base.specs.Pairs.{first_sought};
 ghost use Rattle.equi_rules.specs.AtomRows.{clause_equations, parity_equations, conjunction_equations, conj_equations, amo_equations, place_of_true};
 
@@ -54,7 +54,8 @@ pub(crate) fn by_conj(sought: Sought, r: Atom, atoms: &[Atom]) -> Option<(Atom, 
 
 /// The place of the first member that is True.
 fn first_true(atoms: &[Atom]) -> Option<usize>
-    ensures { result ≡ place_of_true 0 atoms.now }
+    ensures place { result ≡ place_of_true 0 atoms.now }
+    ensures within { IfSome result (λ place. place < length atoms.now) }
 {
     for (i, atom) in atoms.iter().enumerate() {
         if atom.is_true() {
@@ -69,9 +70,11 @@ pub(crate) fn by_amo(sought: Sought, atoms: &[Atom]) -> Option<(Atom, Atom)>
     ensures { result ≡ first_sought sought (amo_equations atoms.now) }
 {
     let place = first_true(atoms)?;
-    let before = sought.each(&atoms[..place], Atom::False);
-    if before.is_some() {
-        return before;
+    let (before, _) = atoms.split_at(place);
+    let pair = sought.each(before, Atom::False);
+    if pair.is_some() {
+        return pair;
     }
-    sought.each(&atoms[place + 1..], Atom::False)
+    let (_, behind) = atoms.split_at(place + 1);
+    sought.each(behind, Atom::False)
 }

@@ -33,6 +33,15 @@ pub option_or-None : {X : Type 0} (o : Option X) → option_or o None ≡ o
 option_or-None None = refl
 option_or-None (Some x) = refl
 
+-- the first of two options, by a test of it
+pub option_or-some : {X : Type 0} (o p : Option X) → is_some o ≡ true → option_or o p ≡ o
+option_or-some None p h = absurd (cc)
+option_or-some (Some x) p h = refl
+
+pub option_or-none : {X : Type 0} (o p : Option X) → is_some o ≡ false → option_or o p ≡ p
+option_or-none None p h = refl
+option_or-none (Some x) p h = absurd (cc)
+
 and-left : (s t : Bool) → (s && t) ≡ true → s ≡ true
 and-left true t h = refl
 and-left false t h = absurd (cc)

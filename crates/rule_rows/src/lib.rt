@@ -5,4 +5,8 @@
 #[cfg(test)]
 mod direct_encode;
 #[cfg(test)]
+mod equations;
+#[cfg(test)]
+mod equi_rules;
+#[cfg(test)]
 mod words;

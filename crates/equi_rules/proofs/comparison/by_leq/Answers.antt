@@ -1,0 +1,4 @@
+use Rattle.equi_rules.proofs.comparison.by_leq.Goals as goal
+
+pub returns : goal.returns
+returns c = ?

@@ -1,13 +1,15 @@
--- The integers of a core: ordered where it is met, and sound where it is well formed.
-use Rattle.std.proofs.Common.{Bool, true, false, ◌&&◌, [], ◌∷◌, refl, ap, ◌∙◌}
+-- The integers of a core: ordered where it is met, and sound where it is well formed. And the two parts of its variables.
+use Rattle.std.proofs.Common.{◌↔◌, ℕ, Bool, true, false, ◌&&◌, [], ◌∷◌, ◌⊎◌, inl, inr, Contains, refl, ap, ◌∙◌}
 use Rattle.std.specs.Prelude.{IsTrue}
+use Rattle.std.proofs.lemmas.List.Elements.{Contains-append_left, Contains-append_right, Contains-append_cases}
 use Rattle.order_ints.specs.Truth.{Valuation}
 use Rattle.core_forms.specs.declared.form.Core.{Core}
 use Rattle.core_forms.specs.declared.form.Core.TheVariants.{Ladder, Clause, Parity, Conj, Comp, LeqR, EqR, Sum3, Count, Sum, Max, AllDiff, Amo, Prod, DivMod, Lex}
-use Rattle.core_forms.specs.Contents.{ints_of}
+use Rattle.core_forms.specs.Contents.{ints_of, atoms_of}
 use Rattle.core_forms.specs.Values.{all_ordered}
 use Rattle.core_forms.specs.Meaning.{ordered, Meets}
 use Rattle.core_forms.specs.WellFormed.{AreSound, IsWellFormed}
+use Rattle.core_forms.specs.Variables.{atoms_vars, ints_vars, core_vars}
 use Rattle.core_forms.proofs.IntLists.{AreSound-append, all_ordered-append}
 
 one : (b x : Bool) → IsTrue (b && x) → IsTrue (b && true)
@@ -67,3 +69,11 @@ sound-well_formed (Amo ls) h = tt
 sound-well_formed (Prod a b c) h = (h.0, (h.1, (h.2, tt)))
 sound-well_formed (DivMod a b q r) h = (h.0, (h.1, (h.2, (h.3, tt))))
 sound-well_formed (Lex r strict front back) h = AreSound-append front back h.0 h.1
+
+-- a variable of a core is one of its atoms or one of its integers
+pub core_vars-parts : (core : Core) (v : ℕ) → Contains (core_vars core) v ↔ (Contains (atoms_vars (atoms_of core)) v ⊎ Contains (ints_vars (ints_of core)) v)
+core_vars-parts core v = (Contains-append_cases (atoms_vars (atoms_of core)) (ints_vars (ints_of core)) v, λ c. by c)
+  where
+    by : Contains (atoms_vars (atoms_of core)) v ⊎ Contains (ints_vars (ints_of core)) v → Contains (core_vars core) v
+    by (inl d) = Contains-append_left (atoms_vars (atoms_of core)) (ints_vars (ints_of core)) v d
+    by (inr d) = Contains-append_right (atoms_vars (atoms_of core)) (ints_vars (ints_of core)) v d

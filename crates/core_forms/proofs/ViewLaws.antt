@@ -39,6 +39,10 @@ trimmed_by_labels view next core same =
     (each_weaker (OfVars (λ v. label_of view v ≡ label_of next v)) (λ a. resolve view a ≡ resolve next a) (resolved_alike view next) core
     (each_vars (λ v. label_of view v ≡ label_of next v) core same))
 
+-- after a further view a core is still well formed
+pub well_formed-further : (first next : List Atom) (core : Core) → IsWellFormed core → IsWellFormed (trimmed_core next (trimmed_core first core))
+well_formed-further first next core h = IsWellFormed-trimmed next (trimmed_core first core) (IsWellFormed-trimmed first core h)
+
 -- the cost after a further view is at most the cost before it
 pub cost-further : (first next : List Atom) (core : Core) → IsWellFormed core → cost_of (trimmed_core next (trimmed_core first core)) ≤ cost_of (trimmed_core first core)
 cost-further first next core h = cost-trimmed next (trimmed_core first core) (IsWellFormed-trimmed first core h)

@@ -9,11 +9,15 @@ mod costs;
 mod equation;
 mod form;
 mod fresh_sums;
+pub mod labelled_laws;
 pub mod laws;
+pub mod list_laws;
+mod made;
 mod meaning;
 mod occurrence;
 mod shapes;
 mod trimming;
+pub mod view_laws;
 
 pub use basic::is_basic;
 pub use contents::Members;

@@ -21,7 +21,7 @@ use Rattle.rule_base.specs.Pairs.{only_if, AreEqual}
 use Rattle.rule_base.specs.Stated.{at_least, is_below, is_not}
 use Rattle.rule_base.proofs.PairLaws.{AreEqual-append, AreEqual-only_if, AreEqual-map}
 use Rattle.rule_base.proofs.StatedLaws.{at_least-equal, is_below-equal, is_not-equal}
-use Rattle.equi_rules.specs.CompareRows.{is_constant, leq_equations_true, leq_equations_false, leq_equations_decided, leq_equations_constant, leq_equations, equal_at, eq_equations_true, eq_equations_apart, eq_equations_value, eq_equations_constant, eq_equations}
+use Rattle.equi_rules.specs.CompareRows.{is_constant, leq_equations_true, leq_equations_false, leq_equations_known, leq_equations_decided, leq_equations_constant, leq_equations, equal_at, eq_equations_true, eq_equations_apart, eq_equations_value, eq_equations_constant, eq_equations}
 
 -- an integer without steps has its base as its value
 constant-value : (σ : Valuation) (a : OrdInt) → is_constant a ≡ true → value_of σ a ≡ low_of a
@@ -92,16 +92,16 @@ module _ (σ : Valuation) (r : Atom) (a b : OrdInt) (oa : IsOrdered σ a) (ob : 
           tt,
         )))
 
+    leq-known : AreEqual σ (leq_equations_known r a b)
+    leq-known =
+        AreEqual-append σ (only_if (is_true r) (leq_equations_true a b)) (only_if (is_false r) (leq_equations_false a b))
+        (AreEqual-only_if σ (is_true r) (leq_equations_true a b) (λ e. leq-true (le-true (value_of σ a) (value_of σ b) (sym is ∙ truth-True e))))
+        (AreEqual-only_if σ (is_false r) (leq_equations_false a b) (λ e. leq-false (le-false (value_of σ a) (value_of σ b) (sym is ∙ truth-False e))))
+
     pub leq-equal : AreEqual σ (leq_equations r a b)
     leq-equal =
-        let known = only_if (is_true r) (leq_equations_true a b) in
-        let refuted = only_if (is_false r) (leq_equations_false a b) in
-        AreEqual-append σ (known ++ refuted ++ leq_equations_decided r a b) (leq_equations_constant r a b)
-        (AreEqual-append σ (known ++ refuted) (leq_equations_decided r a b)
-        (AreEqual-append σ known refuted
-        (AreEqual-only_if σ (is_true r) (leq_equations_true a b) (λ e. leq-true (le-true (value_of σ a) (value_of σ b) (sym is ∙ truth-True e))))
-        (AreEqual-only_if σ (is_false r) (leq_equations_false a b) (λ e. leq-false (le-false (value_of σ a) (value_of σ b) (sym is ∙ truth-False e)))))
-        leq-decided)
+        AreEqual-append σ (leq_equations_known r a b ++ leq_equations_decided r a b) (leq_equations_constant r a b)
+        (AreEqual-append σ (leq_equations_known r a b) (leq_equations_decided r a b) leq-known leq-decided)
         leq-constant
 
 eq-true : (v w : ℤ) → int_eq v w ≡ true → v ≡ w
@@ -201,22 +201,28 @@ module _ (σ : Valuation) (r : Atom) (a b : OrdInt) (oa : IsOrdered σ a) (ob : 
       above : high_of b <ℤ low_of a → value_of σ b ≡ value_of σ a → ⊥
       above lt same = omega (arith, ints, lt, same, high-ge σ b, low-le σ a)
 
-  eq-constant : AreEqual σ (eq_equations_constant r a b)
-  eq-constant =
-      AreEqual-append σ (only_if (is_constant a) (eq_equations_value r (low_of a) b)) (only_if (is_constant b) (eq_equations_value r (low_of b) a))
-      (AreEqual-only_if σ (is_constant a) (eq_equations_value r (low_of a) b) (λ e.
-      value-equal σ r (low_of a) b ob (is ∙ ap (λ v. int_eq v (value_of σ b)) (constant-value σ a e))))
-      (AreEqual-only_if σ (is_constant b) (eq_equations_value r (low_of b) a) (λ e.
-      value-equal σ r (low_of b) a oa (is ∙ eq-turned (value_of σ a) (value_of σ b) ∙ ap (λ v. int_eq v (value_of σ a)) (constant-value σ b e))))
+  first-constant : AreEqual σ (eq_equations_constant r a b)
+  first-constant =
+      AreEqual-only_if σ (is_constant a) (eq_equations_value r (low_of a) b) (λ e.
+      value-equal σ r (low_of a) b ob (is ∙ ap (λ v. int_eq v (value_of σ b)) (constant-value σ a e)))
+
+  second-constant : AreEqual σ (eq_equations_constant r b a)
+  second-constant =
+      AreEqual-only_if σ (is_constant b) (eq_equations_value r (low_of b) a) (λ e.
+      value-equal σ r (low_of b) a oa (is ∙ eq-turned (value_of σ a) (value_of σ b) ∙ ap (λ v. int_eq v (value_of σ a)) (constant-value σ b e)))
 
   pub eq-equal : AreEqual σ (eq_equations r a b)
   eq-equal =
       let known = only_if (is_true r) (eq_equations_true a b) in
-      AreEqual-append σ (known ++ eq_equations_constant r a b ++ eq_equations_apart r a b) (only_if (same_int a b) ((r, True) ∷ []))
-      (AreEqual-append σ (known ++ eq_equations_constant r a b) (eq_equations_apart r a b)
-      (AreEqual-append σ known (eq_equations_constant r a b)
+      let first = eq_equations_constant r a b in
+      let second = eq_equations_constant r b a in
+      AreEqual-append σ (known ++ first ++ second ++ eq_equations_apart r a b) (only_if (same_int a b) ((r, True) ∷ []))
+      (AreEqual-append σ (known ++ first ++ second) (eq_equations_apart r a b)
+      (AreEqual-append σ (known ++ first) second
+      (AreEqual-append σ known first
       (AreEqual-only_if σ (is_true r) (eq_equations_true a b) (λ e. eq-known (eq-true (value_of σ a) (value_of σ b) (sym is ∙ ap (atom_truth σ) (is_true-True r e)))))
-      eq-constant)
+      first-constant)
+      second-constant)
       eq-apart)
       (AreEqual-only_if σ (same_int a b) ((r, True) ∷ []) (λ e.
       (is ∙ is-eq (value_of σ a) (value_of σ b) (ap (value_of σ) ((same_int-tells a b).0 e)), tt)))

@@ -23,7 +23,7 @@ use Rattle.rule_base.proofs.PairLaws.{EachOfPairs-append, EachOfPairs-only_if, E
 use Rattle.rule_base.proofs.StatedLaws.{each-at_of, each-at_least, each-is_below, each-is_not, each-all_equal}
 use Rattle.equi_rules.specs.OrderRows.{neighbour_equations, equations_above, step_equations, int_equations}
 use Rattle.equi_rules.specs.AtomRows.{clause_equations, parity_equations, conjunction_equations, conj_equations, beside_true, amo_equations}
-use Rattle.equi_rules.specs.CompareRows.{is_constant, leq_equations_true, leq_equations_false, leq_equations_decided, leq_equations_constant, leq_equations, equal_at, eq_equations_true, eq_equations_apart, eq_equations_value, eq_equations_constant, eq_equations}
+use Rattle.equi_rules.specs.CompareRows.{is_constant, leq_equations_true, leq_equations_false, leq_equations_known, leq_equations_decided, leq_equations_constant, leq_equations, equal_at, eq_equations_true, eq_equations_apart, eq_equations_value, eq_equations_constant, eq_equations}
 use Rattle.equi_rules.specs.Instances.{form_equations, equations_of}
 
 module _ (P : Atom → Type 0) (closed : IsClosed P) where
@@ -112,16 +112,16 @@ module _ (P : Atom → Type 0) (closed : IsClosed P) where
         (each-one (is_constant a) r (at_of b (low_of a)) one (each-at_of P closed b (low_of a) eb))
         (each-one (is_constant b) r (not_atom (at_of a (low_of b +ℤ pos 1))) one (closed.negation (at_of a (low_of b +ℤ pos 1)) (each-at_of P closed a (low_of b +ℤ pos 1) ea)))
 
+    each-leq_known : EachOfPairs P (leq_equations_known r a b)
+    each-leq_known =
+        EachOfPairs-append P (only_if (is_true r) (leq_equations_true a b)) (only_if (is_false r) (leq_equations_false a b))
+        (EachOfPairs-only_if P (is_true r) (leq_equations_true a b) each-leq_true)
+        (EachOfPairs-only_if P (is_false r) (leq_equations_false a b) each-leq_false)
+
     each-leq : EachOfPairs P (leq_equations r a b)
     each-leq =
-        let known = only_if (is_true r) (leq_equations_true a b) in
-        let refuted = only_if (is_false r) (leq_equations_false a b) in
-        EachOfPairs-append P (known ++ refuted ++ leq_equations_decided r a b) (leq_equations_constant r a b)
-        (EachOfPairs-append P (known ++ refuted) (leq_equations_decided r a b)
-        (EachOfPairs-append P known refuted
-        (EachOfPairs-only_if P (is_true r) (leq_equations_true a b) each-leq_true)
-        (EachOfPairs-only_if P (is_false r) (leq_equations_false a b) each-leq_false))
-        each-leq_decided)
+        EachOfPairs-append P (leq_equations_known r a b ++ leq_equations_decided r a b) (leq_equations_constant r a b)
+        (EachOfPairs-append P (leq_equations_known r a b) (leq_equations_decided r a b) each-leq_known each-leq_decided)
         each-leq_constant
 
     each-eq_true : EachOfPairs P (eq_equations_true a b)
@@ -147,16 +147,22 @@ module _ (P : Atom → Type 0) (closed : IsClosed P) where
       (each-one (int_eq v (low_of d)) r (not_atom (at_of d (v +ℤ pos 1))) one (closed.negation (at_of d (v +ℤ pos 1)) (each-at_of P closed d (v +ℤ pos 1) each))))
       (each-one (int_eq v (high_of d)) r (at_of d v) one (each-at_of P closed d v each))
 
+  each-eq_constant : (r : Atom) (a d : OrdInt) → P r → EachStep P d.steps → EachOfPairs P (eq_equations_constant r a d)
+  each-eq_constant r a d one each =
+      EachOfPairs-only_if P (is_constant a) (eq_equations_value r (low_of a) d) (each-eq_value r (low_of a) d one each)
+
   each-eq : (r : Atom) (a b : OrdInt) → P r → EachStep P a.steps → EachStep P b.steps → EachOfPairs P (eq_equations r a b)
   each-eq r a b one ea eb =
       let known = only_if (is_true r) (eq_equations_true a b) in
-      EachOfPairs-append P (known ++ eq_equations_constant r a b ++ eq_equations_apart r a b) (only_if (same_int a b) ((r, True) ∷ []))
-      (EachOfPairs-append P (known ++ eq_equations_constant r a b) (eq_equations_apart r a b)
-      (EachOfPairs-append P known (eq_equations_constant r a b)
+      let first = eq_equations_constant r a b in
+      let second = eq_equations_constant r b a in
+      EachOfPairs-append P (known ++ first ++ second ++ eq_equations_apart r a b) (only_if (same_int a b) ((r, True) ∷ []))
+      (EachOfPairs-append P (known ++ first ++ second) (eq_equations_apart r a b)
+      (EachOfPairs-append P (known ++ first) second
+      (EachOfPairs-append P known first
       (EachOfPairs-only_if P (is_true r) (eq_equations_true a b) (each-eq_true r a b one ea eb))
-      (EachOfPairs-append P (only_if (is_constant a) (eq_equations_value r (low_of a) b)) (only_if (is_constant b) (eq_equations_value r (low_of b) a))
-      (EachOfPairs-only_if P (is_constant a) (eq_equations_value r (low_of a) b) (each-eq_value r (low_of a) b one eb))
-      (EachOfPairs-only_if P (is_constant b) (eq_equations_value r (low_of b) a) (each-eq_value r (low_of b) a one ea))))
+      (each-eq_constant r a b one eb))
+      (each-eq_constant r b a one ea))
       (each-eq_apart r a b one ea eb))
       (each-one (same_int a b) r True one closed.truth)
 

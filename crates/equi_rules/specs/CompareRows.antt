@@ -25,6 +25,10 @@ leq_equations_true a b = is_below a (high_of b +ℤ pos 1) ∷ at_least b (low_o
 abbrev pub leq_equations_false : OrdInt → OrdInt → List (Atom × Atom)
 leq_equations_false a b = at_least a (low_of b +ℤ pos 1) ∷ is_below b (high_of a) ∷ []
 
+abbrev pub leq_equations_known : Atom → OrdInt → OrdInt → List (Atom × Atom)
+leq_equations_known r a b =
+    only_if (is_true r) (leq_equations_true a b) ++ only_if (is_false r) (leq_equations_false a b)
+
 -- all values of a are at most all of b, or all are above
 abbrev pub leq_equations_decided : Atom → OrdInt → OrdInt → List (Atom × Atom)
 leq_equations_decided r a b =
@@ -37,11 +41,7 @@ leq_equations_constant r a b =
     ++ only_if (is_constant b) ((r, not_atom (at_of a (low_of b +ℤ pos 1))) ∷ [])
 
 abbrev pub leq_equations : Atom → OrdInt → OrdInt → List (Atom × Atom)
-leq_equations r a b =
-    only_if (is_true r) (leq_equations_true a b)
-    ++ only_if (is_false r) (leq_equations_false a b)
-    ++ leq_equations_decided r a b
-    ++ leq_equations_constant r a b
+leq_equations r a b = leq_equations_known r a b ++ leq_equations_decided r a b ++ leq_equations_constant r a b
 
 -- both integers are at least v, or neither is
 abbrev pub equal_at : OrdInt → OrdInt → ℤ → Atom × Atom
@@ -67,13 +67,12 @@ eq_equations_value r v d =
     ++ only_if (int_eq v (high_of d)) ((r, at_of d v) ∷ [])
 
 abbrev pub eq_equations_constant : Atom → OrdInt → OrdInt → List (Atom × Atom)
-eq_equations_constant r a b =
-    only_if (is_constant a) (eq_equations_value r (low_of a) b)
-    ++ only_if (is_constant b) (eq_equations_value r (low_of b) a)
+eq_equations_constant r a d = only_if (is_constant a) (eq_equations_value r (low_of a) d)
 
 abbrev pub eq_equations : Atom → OrdInt → OrdInt → List (Atom × Atom)
 eq_equations r a b =
     only_if (is_true r) (eq_equations_true a b)
     ++ eq_equations_constant r a b
+    ++ eq_equations_constant r b a
     ++ eq_equations_apart r a b
     ++ only_if (same_int a b) ((r, True) ∷ [])

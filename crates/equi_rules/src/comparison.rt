@@ -3,10 +3,10 @@
 ghost use Rattle.std.specs.Prelude.{◌≡◌};
 ghost use Rattle.core_forms.specs.WellFormed.{IsSound};
 ghost use Rattle.rule_base.specs.Pairs.{first_sought};
-ghost use Rattle.equi_rules.specs.CompareRows.{is_constant, leq_equations_true, leq_equations_false, leq_equations_decided, leq_equations_constant, leq_equations};
+ghost use Rattle.equi_rules.specs.CompareRows.{is_constant, leq_equations_true, leq_equations_false, leq_equations_known, leq_equations_decided, leq_equations_constant, leq_equations};
 
 use order_ints::{Atom, OrdInt};
-use rule_base::{Sought, next};
+use rule_base::Sought;
 
 /// Whether an integer has one value.
 pub(crate) fn is_constant(a: &OrdInt) -> bool
@@ -22,7 +22,7 @@ fn by_leq_true(sought: Sought, a: &OrdInt, b: &OrdInt) -> Option<(Atom, Atom)>
     ensures { result ≡ first_sought sought (leq_equations_true a.now b.now) }
 {
     sought
-        .is_below(a, next(b.high()))
+        .is_below(a, b.high() + 1)
         .or(sought.at_least(b, a.low()))
 }
 
@@ -33,7 +33,7 @@ fn by_leq_false(sought: Sought, a: &OrdInt, b: &OrdInt) -> Option<(Atom, Atom)>
     ensures { result ≡ first_sought sought (leq_equations_false a.now b.now) }
 {
     sought
-        .at_least(a, next(b.low()))
+        .at_least(a, b.low() + 1)
         .or(sought.is_below(b, a.high()))
 }
 
@@ -54,7 +54,20 @@ fn by_leq_constant(sought: Sought, r: Atom, a: &OrdInt, b: &OrdInt) -> Option<(A
     ensures { result ≡ first_sought sought (leq_equations_constant r a.now b.now) }
 {
     let first = sought.when(is_constant(a), r, b.at(a.low()));
-    first.or(sought.when(is_constant(b), r, a.at(next(b.low())).not()))
+    first.or(sought.when(is_constant(b), r, a.at(b.low() + 1).not()))
+}
+
+/// The equations where `r` is a constant.
+fn by_leq_known(sought: Sought, r: Atom, a: &OrdInt, b: &OrdInt) -> Option<(Atom, Atom)>
+    requires a { IsSound a.now }
+    requires b { IsSound b.now }
+    ensures { result ≡ first_sought sought (leq_equations_known r a.now b.now) }
+{
+    match r {
+        Atom::True => by_leq_true(sought, a, b),
+        Atom::False => by_leq_false(sought, a, b),
+        Atom::Of(_) => None,
+    }
 }
 
 /// The equations of `r` being the truth of `a` being at most `b`.
@@ -63,12 +76,7 @@ pub(crate) fn by_leq(sought: Sought, r: Atom, a: &OrdInt, b: &OrdInt) -> Option<
     requires b { IsSound b.now }
     ensures { result ≡ first_sought sought (leq_equations r a.now b.now) }
 {
-    let known = match r {
-        Atom::True => by_leq_true(sought, a, b),
-        Atom::False => by_leq_false(sought, a, b),
-        Atom::Of(_) => None,
-    };
-    known
+    by_leq_known(sought, r, a, b)
         .or(by_leq_decided(sought, r, a, b))
         .or(by_leq_constant(sought, r, a, b))
 }

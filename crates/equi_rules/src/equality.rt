@@ -3,12 +3,13 @@
 ghost use Rattle.std.specs.Prelude.{◌≡◌, ◌^◌, ◌<◌, map, unsigned_abs};
 ghost use Rattle.order_ints.specs.OrderLevels.{values_of};
 ghost use Rattle.core_forms.specs.WellFormed.{IsSound};
-ghost use Rattle.rule_base.specs.Pairs.{first_sought};
+ghost use Rattle.order_ints.specs.Same.{is_true};
+ghost use Rattle.rule_base.specs.Pairs.{first_sought, only_if};
 ghost use Rattle.equi_rules.specs.CompareRows.{equal_at, eq_equations_true, eq_equations_apart, eq_equations_value, eq_equations_constant, eq_equations};
 
 use crate::comparison::is_constant;
 use order_ints::{Atom, OrdInt, Walk};
-use rule_base::{Sought, next};
+use rule_base::Sought;
 
 /// The equations at the values of `a`: one loop along them, beside a walk along `b`.
 fn at_values_of_first(sought: Sought, a: &OrdInt, b: &OrdInt) -> Option<(Atom, Atom)>
@@ -72,37 +73,38 @@ fn by_eq_value(sought: Sought, r: Atom, v: i128, d: &OrdInt) -> Option<(Atom, At
     ensures { result ≡ first_sought sought (eq_equations_value r v d.now) }
 {
     let mut walk = Walk::along(d);
-    let from = walk.at(v);
     let is_value = walk.has(v);
-    let above = walk.at(next(v));
-    let differ = if r.is_false() {
-        sought.one(from, above)
-    } else {
-        None
-    };
-    differ
+    let reached = walk.at(v);
+    let above = walk.at(v + 1);
+    sought
+        .when(r.is_false(), reached, above)
         .or(sought.when(!is_value, r, Atom::False))
         .or(sought.when(v == d.low(), r, above.not()))
-        .or(sought.when(v == d.high(), r, from))
+        .or(sought.when(v == d.high(), r, reached))
 }
 
-/// The equations where one of the integers is constant.
-fn by_eq_constant(sought: Sought, r: Atom, a: &OrdInt, b: &OrdInt) -> Option<(Atom, Atom)>
+/// The equations where `a` is constant, and `d` is the other integer.
+fn by_eq_constant(sought: Sought, r: Atom, a: &OrdInt, d: &OrdInt) -> Option<(Atom, Atom)>
+    requires a { IsSound a.now }
+    requires d { IsSound d.now }
+    ensures { result ≡ first_sought sought (eq_equations_constant r a.now d.now) }
+{
+    if is_constant(a) {
+        return by_eq_value(sought, r, a.low(), d);
+    }
+    None
+}
+
+/// The equations where `r` is True.
+fn by_eq_known(sought: Sought, r: Atom, a: &OrdInt, b: &OrdInt) -> Option<(Atom, Atom)>
     requires a { IsSound a.now }
     requires b { IsSound b.now }
-    ensures { result ≡ first_sought sought (eq_equations_constant r a.now b.now) }
+    ensures { result ≡ first_sought sought (only_if (is_true r) (eq_equations_true a.now b.now)) }
 {
-    let first = if is_constant(a) {
-        by_eq_value(sought, r, a.low(), b)
-    } else {
-        None
-    };
-    let second = if is_constant(b) {
-        by_eq_value(sought, r, b.low(), a)
-    } else {
-        None
-    };
-    first.or(second)
+    if r.is_true() {
+        return by_eq_true(sought, a, b);
+    }
+    None
 }
 
 /// The equations of `r` being the truth of `a` and `b` being equal.
@@ -111,13 +113,9 @@ pub(crate) fn by_eq(sought: Sought, r: Atom, a: &OrdInt, b: &OrdInt) -> Option<(
     requires b { IsSound b.now }
     ensures { result ≡ first_sought sought (eq_equations r a.now b.now) }
 {
-    let known = if r.is_true() {
-        by_eq_true(sought, a, b)
-    } else {
-        None
-    };
-    known
+    by_eq_known(sought, r, a, b)
         .or(by_eq_constant(sought, r, a, b))
+        .or(by_eq_constant(sought, r, b, a))
         .or(by_eq_apart(sought, r, a, b))
         .or(sought.when(a == b, r, Atom::True))
 }

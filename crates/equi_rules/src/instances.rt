@@ -5,7 +5,7 @@ ghost use Rattle.core_forms.specs.declared.equation.Equation.{Equation};
 ghost use Rattle.core_forms.specs.WellFormed.{IsWellFormed};
 ghost use Rattle.rule_base.specs.Pairs.{first_sought};
 ghost use Rattle.rule_base.specs.Found.{IsImplied};
-ghost use Rattle.equi_rules.specs.Instances.{form_equations, found_at, is_instance_of};
+ghost use Rattle.equi_rules.specs.Instances.{form_equations, equations_of, found_at, is_instance_of};
 
 use crate::atoms::{by_amo, by_clause, by_conj, by_parity};
 use crate::comparison::by_leq;
@@ -26,9 +26,21 @@ fn by_form(sought: Sought, core: &Core) -> Option<(Atom, Atom)>
         Core::Parity(atoms, odd) => by_parity(sought, atoms.as_slice(), *odd),
         Core::Conj(r, atoms) => by_conj(sought, *r, atoms.as_slice()),
         Core::Amo(atoms) => by_amo(sought, atoms.as_slice()),
-        Core::LeqR(r, a, b) => by_leq(sought, *r, a, b),
-        Core::EqR(r, a, b) => by_eq(sought, *r, a, b),
+        Core::LeqR(r, a, b) => by_leq(sought, *r, a.get(), b.get()),
+        Core::EqR(r, a, b) => by_eq(sought, *r, a.get(), b.get()),
         _ => None,
+    }
+}
+
+/// The equations of a core by one rule.
+fn by_rule(sought: Sought, rule: Rule, core: &Core) -> Option<(Atom, Atom)>
+    requires { IsWellFormed core.now }
+    ensures { result ≡ first_sought sought (equations_of core.now rule) }
+{
+    match rule {
+        Rule::Order => by_order(sought, core),
+        Rule::Form => by_form(sought, core),
+        Rule::Table => None,
     }
 }
 
@@ -75,11 +87,8 @@ pub fn is_instance(core: &Core, e: &Equation) -> bool
     requires { IsWellFormed core.now }
     ensures { result ≡ is_instance_of core.now e.now }
 {
-    let sought = Sought::Pair(e.a, e.b);
-    let found = match e.rule {
-        Rule::Order => by_order(sought, core),
-        Rule::Form => by_form(sought, core),
-        Rule::Table => None,
-    };
-    e.a != e.b && found.is_some()
+    if e.a == e.b {
+        return false;
+    }
+    by_rule(Sought::Pair(e.a, e.b), e.rule, core).is_some()
 }

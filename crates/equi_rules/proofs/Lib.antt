@@ -4,5 +4,7 @@ pub mod CompareSound
 pub mod Sound
 pub mod EachRows
 pub mod Beside
+pub mod RowFound
+pub mod OrderFound
 pub mod Places
 pub mod Found

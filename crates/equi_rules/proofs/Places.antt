@@ -1,7 +1,7 @@
 -- The members beside the first True one, by its place.
-use Rattle.std.proofs.Common.{◌≡◌, ℕ, zero, suc, ◌+◌, ◌<◌, Bool, true, false, cond, List, [], ◌∷◌, ◌++◌, map, length, take, drop, refl, sym, ap, ◌∙◌, arith}
+use Rattle.std.proofs.Common.{◌≡◌, ℕ, suc, ◌+◌, ◌<◌, Bool, true, false, cond, List, [], ◌∷◌, ◌++◌, length, take, drop, refl, sym, ap, ◌∙◌, arith}
 use Rattle.std.specs.Prelude.{Option, None, Some}
-use Rattle.std.specs.Option.{option_or}
+use Rattle.std.specs.Option.{option_or, is_some}
 use Rattle.order_ints.specs.declared.atom.Atom.{Atom}
 use Rattle.order_ints.specs.declared.atom.Atom.TheVariants.{False}
 use Rattle.order_ints.specs.Same.{is_true}
@@ -9,7 +9,7 @@ use Rattle.core_forms.specs.Trimmed.{has_true}
 use Rattle.rule_base.specs.declared.sought.Sought.{Sought}
 use Rattle.rule_base.specs.Pairs.{first_sought}
 use Rattle.rule_base.specs.Stated.{all_equal}
-use Rattle.rule_base.proofs.PairLaws.{first_sought-append}
+use Rattle.rule_base.proofs.PairLaws.{first_sought-append, option_or-some, option_or-none}
 use Rattle.equi_rules.specs.AtomRows.{place_of_true, beside_true, amo_equations}
 
 -- the first True member has a place, and the others stand before it and behind it
@@ -66,7 +66,20 @@ amo-at sought ls i j next e =
     let r = beside-place 0 i ls e in
     let same : r.place ≡ i = omega (arith, r.counted) in
     let others : beside_true ls ≡ take i ls ++ drop j ls =
-      r.others ∙ ap (λ k. take k ls ++ drop (suc k) ls) same ∙ ap (λ k. take i ls ++ drop k ls) (sym next) in
+    r.others ∙ ap (λ k. take k ls ++ drop (suc k) ls) same ∙ ap (λ k. take i ls ++ drop k ls) (sym next) in
     ap (λ (xs : List Atom). first_sought sought (all_equal xs False)) others
     ∙ ap (first_sought sought) (all_equal-append (take i ls) (drop j ls) False)
     ∙ first_sought-append sought (all_equal (take i ls) False) (all_equal (drop j ls) False)
+
+pub amo-front : (sought : Sought) (ls front : List Atom) (i : ℕ) (o : Option (Atom × Atom)) → place_of_true 0 ls ≡ Some i → front ≡ take i ls → o ≡ first_sought sought (all_equal front False) → is_some o ≡ true → o ≡ first_sought sought (amo_equations ls)
+amo-front sought ls front i o at is found some =
+    sym (option_or-some o (first_sought sought (all_equal (drop (suc i) ls) False)) some)
+    ∙ ap (λ (x : Option (Atom × Atom)). option_or x (first_sought sought (all_equal (drop (suc i) ls) False))) (found ∙ ap (λ (xs : List Atom). first_sought sought (all_equal xs False)) is)
+    ∙ sym (amo-at sought ls i (suc i) refl at)
+
+pub amo-behind : (sought : Sought) (ls front behind : List Atom) (i j : ℕ) (o p : Option (Atom × Atom)) → j ≡ suc i → place_of_true 0 ls ≡ Some i → front ≡ take i ls → behind ≡ drop j ls → o ≡ first_sought sought (all_equal front False) → is_some o ≡ false → p ≡ first_sought sought (all_equal behind False) → p ≡ first_sought sought (amo_equations ls)
+amo-behind sought ls front behind i j o p next at is rest found none more =
+    sym (option_or-none o p none)
+    ∙ ap (λ (x : Option (Atom × Atom)). option_or x p) (found ∙ ap (λ (xs : List Atom). first_sought sought (all_equal xs False)) is)
+    ∙ ap (option_or (first_sought sought (all_equal (take i ls) False))) (more ∙ ap (λ (xs : List Atom). first_sought sought (all_equal xs False)) rest)
+    ∙ sym (amo-at sought ls i j next at)

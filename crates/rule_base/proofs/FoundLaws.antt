@@ -90,10 +90,13 @@ module _ (pairs : Rule → List (Atom × Atom)) where
   and-right true t h = h
   and-right false t h = absurd (cc)
 
-  -- an equation of two different atoms is an instance where it is found among those of its rule
-  pub instance-tested : (e : Equation) (o : Option (Atom × Atom)) → not (same_atom e.a e.b) ≡ true → o ≡ first_sought (Pair e.a e.b) (pairs e.rule) → is_some o ≡ is_instance_by pairs e
+  -- an equation of one atom is no instance, and one of two is where it is found among those of its rule
+  pub instance-same : (e : Equation) → same_atom e.a e.b ≡ true → false ≡ is_instance_by pairs e
+  instance-same e same = ap (λ t. not t && is_listed e.a e.b (pairs e.rule)) (sym same)
+
+  pub instance-tested : (e : Equation) (o : Option (Atom × Atom)) → same_atom e.a e.b ≡ false → o ≡ first_sought (Pair e.a e.b) (pairs e.rule) → is_some o ≡ is_instance_by pairs e
   instance-tested e o differ found =
-      ap is_some found ∙ first_sought-Pair e.a e.b (pairs e.rule) ∙ ap (λ t. t && is_listed e.a e.b (pairs e.rule)) (sym differ)
+      ap is_some found ∙ first_sought-Pair e.a e.b (pairs e.rule) ∙ ap (λ t. not t && is_listed e.a e.b (pairs e.rule)) (sym differ)
 
   -- an instance is listed by its rule
   pub instance-listed : (e : Equation) → is_instance_by pairs e ≡ true → is_listed e.a e.b (pairs e.rule) ≡ true

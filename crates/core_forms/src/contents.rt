@@ -109,17 +109,19 @@ impl Core {
         ensures { result ≡ ints_of self.now }
     {
         match self {
-            Core::Ladder(a) => Members::of(from_ref(a)),
-            Core::LeqR(_, a, b) => Members::of_two(from_ref(a), from_ref(b)),
-            Core::EqR(_, a, b) => Members::of_two(from_ref(a), from_ref(b)),
-            Core::Sum3(a, b, c) => three_ints(a, b, c),
-            Core::Count(_, c) => Members::of(from_ref(c)),
+            Core::Ladder(a) => Members::of(from_ref(a.get())),
+            Core::LeqR(_, a, b) => Members::of_two(from_ref(a.get()), from_ref(b.get())),
+            Core::EqR(_, a, b) => Members::of_two(from_ref(a.get()), from_ref(b.get())),
+            Core::Sum3(a, b, c) => three_ints(a.get(), b.get(), c.get()),
+            Core::Count(_, c) => Members::of(from_ref(c.get())),
             Core::Sum(ints, _) => Members::of(ints.as_slice()),
-            Core::Max(ints, c) => Members::of_two(ints.as_slice(), from_ref(c)),
+            Core::Max(ints, c) => Members::of_two(ints.as_slice(), from_ref(c.get())),
             Core::AllDiff(ints, _) => Members::of(ints.as_slice()),
-            Core::Prod(a, b, c) => three_ints(a, b, c),
-            Core::DivMod(a, b, q, r) => four_ints(a, b, q, r),
-            Core::Lex(_, _, front, back) => Members::of_two(front.as_slice(), back.as_slice()),
+            Core::Prod(a, b, c) => three_ints(a.get(), b.get(), c.get()),
+            Core::DivMod(a, b, q, r) => four_ints(a.get(), b.get(), q.get(), r.get()),
+            Core::Lex(_, _, front, back) => {
+                Members::of_two(front.get().as_slice(), back.get().as_slice())
+            }
             Core::Clause(_) | Core::Parity(_, _) | Core::Conj(_, _) => Members::of(&[]),
             Core::Comp(_, _, _, _) | Core::Amo(_) => Members::of(&[]),
         }
@@ -133,9 +135,9 @@ impl Core {
         match self {
             Core::Clause(atoms) | Core::Amo(atoms) => Members::of(atoms.as_slice()),
             Core::Parity(atoms, _) | Core::Count(atoms, _) => Members::of(atoms.as_slice()),
-            Core::AllDiff(_, conditions) => Members::of(conditions.as_slice()),
+            Core::AllDiff(_, conditions) => Members::of(conditions.get().as_slice()),
             Core::Conj(r, atoms) => Members::of_two(from_ref(r), atoms.as_slice()),
-            Core::Comp(a, b, hi, lo) => four_atoms(a, b, hi, lo),
+            Core::Comp(a, b, hi, lo) => four_atoms(a, b, hi, lo.get()),
             Core::LeqR(r, _, _) | Core::EqR(r, _, _) => Members::of(from_ref(r)),
             Core::Lex(r, _, _, _) => Members::of(from_ref(r)),
             Core::Ladder(_) | Core::Sum3(_, _, _) | Core::Sum(_, _) => Members::of(&[]),

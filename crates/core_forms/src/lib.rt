@@ -11,6 +11,7 @@ mod form;
 mod fresh_sums;
 pub mod laws;
 pub mod list_laws;
+mod made;
 mod meaning;
 mod occurrence;
 mod shapes;

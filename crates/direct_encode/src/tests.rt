@@ -50,16 +50,16 @@ fn rising_twice(alloc: Global, base: i128, weights: (u128, u128)) -> Result<OrdI
 }
 
 /// The comparison of two integers: whether they are equal, or the first one is at most the second.
-fn comparison(equal: bool, r: Atom, a: OrdInt, b: OrdInt) -> Core
+fn comparison(alloc: Global, equal: bool, r: Atom, a: OrdInt, b: OrdInt) -> Result<Core, AllocError>
     requires a { IsSound a }
     requires b { IsSound b }
-    ensures form { IsEncodable result }
-    ensures well_formed { IsWellFormed result }
+    ensures form { IfOk result (λ core. IsEncodable core) }
+    ensures well_formed { IfOk result (λ core. IsWellFormed core) }
 {
     if equal {
-        Core::EqR(r, a, b)
+        Core::eq_r(alloc, r, a, b)
     } else {
-        Core::LeqR(r, a, b)
+        Core::leq_r(alloc, r, a, b)
     }
 }
 
@@ -79,7 +79,7 @@ fn small(
 {
     let a = rising(alloc, a.0, a.1, a.2)?;
     let b = rising(alloc, b.0, b.1, b.2)?;
-    Ok(comparison(equal, r, a, b))
+    comparison(alloc, equal, r, a, b)
 }
 
 /// The comparison of an integer with two steps, the variables of which are 1 and 2, and one with one
@@ -99,7 +99,7 @@ fn large(
 {
     let a = rising_twice(alloc, a.0, (a.1, a.2))?;
     let b = rising(alloc, b.0, 3, b.1)?;
-    Ok(comparison(equal, r, a, b))
+    comparison(alloc, equal, r, a, b)
 }
 
 /// That the constant 1 is at most an integer with the values 0, 1 and 2.
@@ -109,7 +109,7 @@ fn one_at_most(alloc: Global, r: Atom) -> Result<Core, AllocError>
 {
     let a = OrdInt::constant(alloc, 1)?;
     let b = rising_twice(alloc, 0, (1, 1))?;
-    Ok(comparison(false, r, a, b))
+    comparison(alloc, false, r, a, b)
 }
 
 /// That an integer with the values 0, 1 and 2 is the constant 1.
@@ -119,7 +119,7 @@ fn equal_to_one(alloc: Global, r: Atom) -> Result<Core, AllocError>
 {
     let a = rising_twice(alloc, 0, (1, 1))?;
     let b = OrdInt::constant(alloc, 1)?;
-    Ok(comparison(true, r, a, b))
+    comparison(alloc, true, r, a, b)
 }
 
 /// Puts an atom behind a text: `T`, `F`, or the variable's number with the sign.
@@ -160,7 +160,7 @@ fn has(rt: &impl Abort, alloc: Global, core: &Core, wanted: &str) -> Result<(), 
 #[test]
 fn ladder(rt: HostRuntime) -> Result<(), Fail> {
     let alloc = rt.alloc();
-    let core = Core::Ladder(OrdInt::unit_range(alloc, 0, 1, 3)?);
+    let core = Core::ladder(alloc, OrdInt::unit_range(alloc, 0, 1, 3)?)?;
     has(&rt, alloc, &core, "1 -2 | 2 -3 | ")?;
     Ok(())
 }

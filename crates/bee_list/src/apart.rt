@@ -5,8 +5,8 @@ ghost use Rattle.std.specs.Prelude.{◌≡◌, IfOk};
 use std::alloc::{AllocError, Global};
 use std::marker::Model;
 
-/// A value that stands apart from what holds it, so that a part that is rarely there takes no more than a
-/// pointer where it isn't. A clause sees it as the value wherever it stands.
+/// A value that stands apart from what holds it, which so takes no more than a pointer for it. A clause
+/// sees it as the value wherever it stands.
 #[derive(Debug, Clone, Drop)]
 pub struct Apart<T> {
     inner: Box<T>,
@@ -24,6 +24,14 @@ impl<T> Apart<T> {
         ensures { result.now ≡ self.now }
     {
         &self.inner
+    }
+
+    /// The value, whose place is given back.
+    pub fn into_inner(self) -> T
+        ensures { result ≡ self }
+    {
+        let Apart { inner } = self;
+        Box::into_inner(inner)
     }
 }
 

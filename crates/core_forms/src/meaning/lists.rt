@@ -48,7 +48,7 @@ pub(super) fn is_top(ints: &[OrdInt], c: &OrdInt, sigma: &[bool]) -> bool
 }
 
 /// Whether a condition is true and an integer has this value.
-fn is_equal(condition: Atom, value: i128, a: &OrdInt, sigma: &[bool]) -> bool
+fn has_value(condition: Atom, value: i128, a: &OrdInt, sigma: &[bool]) -> bool
     requires sound { IsSound a.now }
     requires place { IntBelow (length sigma.now + 1) a.now }
     requires place_condition { AtomBelow (length sigma.now + 1) condition }
@@ -66,7 +66,7 @@ fn is_alone(value: i128, ints: &[OrdInt], conditions: &[Atom], sigma: &[bool]) -
     ensures { result ≡ none_equal value (values (valuation_of sigma.now) ints.now) (truths (valuation_of sigma.now) conditions.now) }
 {
     for i in 0..ints.len() {
-        if is_equal(conditions[i], value, &ints[i], sigma) {
+        if has_value(conditions[i], value, &ints[i], sigma) {
             return false;
         }
     }

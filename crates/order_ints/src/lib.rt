@@ -10,6 +10,7 @@ mod holds;
 mod literal;
 mod order_int;
 pub mod order_laws;
+mod truth_values;
 mod view;
 
 pub use atom::Atom;
@@ -19,4 +20,5 @@ pub use cnf_order::ordered_clause;
 pub use cnf_truth::{first_false, is_clause_true};
 pub use literal::Lit;
 pub use order_int::{Levels, MapValue, OrdInt};
+pub use truth_values::{TruthRow, TruthValues};
 pub use view::{label_of, resolve};

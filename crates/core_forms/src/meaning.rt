@@ -1,13 +1,11 @@
-//! The meaning of a core under a list of truth values.
+//! The meaning of a core under truth values of its variables.
 
 mod atoms;
 mod lists;
 mod numbers;
 mod sums;
 
-ghost use Rattle.std.specs.Prelude.{◌≡◌, ◌+◌, length};
-ghost use Rattle.order_ints.specs.Truth.{valuation_of};
-ghost use Rattle.core_forms.specs.Place.{CoreBelow};
+ghost use Rattle.std.specs.Prelude.{◌≡◌};
 ghost use Rattle.core_forms.specs.WellFormed.{IsWellFormed};
 ghost use Rattle.core_forms.specs.Meaning.{core_truth};
 
@@ -15,14 +13,14 @@ use crate::form::Core;
 use atoms::{are_all, are_compared, are_few, has_parity, is_some_true};
 use lists::{are_apart, are_in_order, is_top};
 use numbers::{is_equal, is_less, is_quotient};
+use order_ints::TruthValues;
 use sums::{is_count, is_product, is_sum, is_total};
 
-/// Whether a valuation meets a core, where the truth value of variable 1 stands first. It takes no
-/// memory, and one pass over the core; of an `AllDiff` one over what stands behind each true condition.
-pub fn holds(core: &Core, sigma: &[bool]) -> bool
+/// Whether truth values meet a core. It takes no memory, and one pass over the core; of an `AllDiff` one
+/// over what stands behind each true condition.
+pub fn holds<T: TruthValues>(core: &Core, sigma: T) -> bool
     requires well_formed { IsWellFormed core.now }
-    requires place { CoreBelow (length sigma.now + 1) core.now }
-    ensures { result ≡ core_truth (valuation_of sigma.now) core.now }
+    ensures { result ≡ core_truth (T.valuation sigma) core.now }
 {
     match core {
         Core::Ladder(a) => a.get().is_ordered(sigma),

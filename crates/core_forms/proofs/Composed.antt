@@ -16,7 +16,7 @@ use Rattle.core_forms.specs.Each.{EachOf, EachStep, EachInt, EachAtom}
 use Rattle.core_forms.specs.Resolved.{map_steps, map_int, map_ints, map_core, resolved_core}
 use Rattle.core_forms.specs.Trimmed.{is_true, is_false, same_atom, merged_steps, raised_by, has_true, has_false, without_true, without_false, without_constants, constant_trues, turned, tidied_clause, tidied_members, tidied_int, tidied_ints, tidied_core, trimmed_core, IsTrimmed, composed_view, AreOwnLabels}
 use Rattle.core_forms.proofs.Tidied.{by_test, same_atom-true, same_atom-refl, is_true-True, is_false-False}
-use Rattle.core_forms.proofs.EachLaws.{each_below, each_every}
+use Rattle.core_forms.proofs.EachLaws.{EachInt-left, EachInt-right, each_below, each_every}
 
 -- two maps after another are one
 module _ (f g h : Atom → Atom) where
@@ -39,22 +39,25 @@ module _ (f g h : Atom → Atom) where
   int_joined (a ∷ xs) e = let p = one_joined a e.0 in let r = int_joined xs e.1 in cc
 
   pub core_joined : (core : Core) → EachAtom Joins core → map_core g (map_core f core) ≡ map_core h core
-  core_joined (Ladder a) h' = let e00 = one_joined a h' in cc
-  core_joined (Clause ls) h' = let e00 = of_joined ls h' in cc
-  core_joined (Parity ls odd) h' = let e00 = of_joined ls h' in cc
-  core_joined (Conj r ls) h' = let e00 = h'.0 in let e10 = of_joined ls h'.1 in cc
-  core_joined (Comp a b hi lo) h' = let e00 = h'.0 in let e10 = h'.1 in let e20 = h'.2 in let e30 = h'.3 in cc
-  core_joined (LeqR r a b) h' = let e00 = h'.0 in let e10 = one_joined a h'.1 in let e20 = one_joined b h'.2 in cc
-  core_joined (EqR r a b) h' = let e00 = h'.0 in let e10 = one_joined a h'.1 in let e20 = one_joined b h'.2 in cc
-  core_joined (Sum3 a b c) h' = let e00 = one_joined a h'.0 in let e10 = one_joined b h'.1 in let e20 = one_joined c h'.2 in cc
-  core_joined (Count ls c) h' = let e00 = of_joined ls h'.0 in let e10 = one_joined c h'.1 in cc
-  core_joined (Sum xs k) h' = let e00 = int_joined xs h' in cc
-  core_joined (Max xs c) h' = let e00 = int_joined xs h'.0 in let e10 = one_joined c h'.1 in cc
-  core_joined (AllDiff xs cs) h' = let e00 = int_joined xs h'.0 in let e10 = of_joined cs h'.1 in cc
-  core_joined (Amo ls) h' = let e00 = of_joined ls h' in cc
-  core_joined (Prod a b c) h' = let e00 = one_joined a h'.0 in let e10 = one_joined b h'.1 in let e20 = one_joined c h'.2 in cc
-  core_joined (DivMod a b q r) h' = let e00 = one_joined a h'.0 in let e10 = one_joined b h'.1 in let e20 = one_joined q h'.2 in let e30 = one_joined r h'.3 in cc
-  core_joined (Lex r strict front back) h' = let e00 = h'.0 in let e10 = int_joined front h'.1 in let e20 = int_joined back h'.2 in cc
+  core_joined (Ladder a) e = let p = one_joined a e.1.0 in cc
+  core_joined (Clause ls) e = let p = of_joined ls e.0 in cc
+  core_joined (Parity ls odd) e = let p = of_joined ls e.0 in cc
+  core_joined (Conj r ls) e = let p = e.0.0 in let q = of_joined ls e.0.1 in cc
+  core_joined (Comp a b hi lo) e = let p = e.0.0 in let q = e.0.1.0 in let s = e.0.1.1.0 in let t = e.0.1.1.1.0 in cc
+  core_joined (LeqR r a b) e = let p = e.0.0 in let q = one_joined a e.1.0 in let s = one_joined b e.1.1.0 in cc
+  core_joined (EqR r a b) e = let p = e.0.0 in let q = one_joined a e.1.0 in let s = one_joined b e.1.1.0 in cc
+  core_joined (Sum3 a b c) e = let p = one_joined a e.1.0 in let q = one_joined b e.1.1.0 in let s = one_joined c e.1.1.1.0 in cc
+  core_joined (Count ls c) e = let p = of_joined ls e.0 in let q = one_joined c e.1.0 in cc
+  core_joined (Sum xs k) e = let p = int_joined xs e.1 in cc
+  core_joined (Max xs c) e =
+      let p = int_joined xs (EachInt-left Joins xs (c ∷ []) e.1) in let q = one_joined c (EachInt-right Joins xs (c ∷ []) e.1).0 in cc
+  core_joined (AllDiff xs cs) e = let p = int_joined xs e.1 in let q = of_joined cs e.0 in cc
+  core_joined (Amo ls) e = let p = of_joined ls e.0 in cc
+  core_joined (Prod a b c) e = let p = one_joined a e.1.0 in let q = one_joined b e.1.1.0 in let s = one_joined c e.1.1.1.0 in cc
+  core_joined (DivMod a b q r) e =
+      let p = one_joined a e.1.0 in let s = one_joined b e.1.1.0 in let t = one_joined q e.1.1.1.0 in let u = one_joined r e.1.1.1.1.0 in cc
+  core_joined (Lex r strict front back) e =
+      let p = e.0.0 in let q = int_joined front (EachInt-left Joins front back e.1) in let s = int_joined back (EachInt-right Joins front back e.1) in cc
 
 -- a map that leaves the constants, after tidying and tidied again, is as if it were not tidied before
 module _ (f : Atom → Atom) (keeps_true : f True ≡ True) (keeps_false : f False ≡ False) where

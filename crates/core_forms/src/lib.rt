@@ -3,24 +3,30 @@
 #![tactic(auto)]
 
 mod basic;
+mod contents;
 pub mod cost_laws;
 mod costs;
 mod equation;
+mod few;
 mod form;
 mod fresh_sums;
 pub mod laws;
+pub mod list_laws;
 mod made;
 mod meaning;
 mod occurrence;
 mod shapes;
 mod trimming;
+pub mod view_laws;
 
 pub use basic::is_basic;
+pub use contents::Members;
 pub use costs::cost;
 pub use equation::{Equation, Rule};
+pub use few::{FewVars, few_variables};
 pub use form::Core;
 pub use fresh_sums::sums;
-pub use meaning::holds;
+pub use meaning::{holds, holds_in_row};
 pub use occurrence::variables;
 pub use shapes::shape;
 pub use trimming::trim;

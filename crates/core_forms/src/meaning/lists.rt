@@ -42,7 +42,7 @@ pub(super) fn is_top<T: TruthValues>(ints: &[OrdInt], c: &OrdInt, sigma: T) -> b
 }
 
 /// Whether a condition is true and an integer has this value.
-fn is_equal<T: TruthValues>(condition: Atom, value: i128, a: &OrdInt, sigma: T) -> bool
+fn has_value<T: TruthValues>(condition: Atom, value: i128, a: &OrdInt, sigma: T) -> bool
     requires sound { IsSound a.now }
     ensures { result ≡ (atom_truth (T.valuation sigma) condition && int_eq value (value_of (T.valuation sigma) a.now)) }
 {
@@ -56,7 +56,7 @@ fn is_alone<T: TruthValues>(value: i128, ints: &[OrdInt], conditions: &[Atom], s
     ensures { result ≡ none_equal value (values (T.valuation sigma) ints.now) (truths (T.valuation sigma) conditions.now) }
 {
     for i in 0..ints.len() {
-        if is_equal(conditions[i], value, &ints[i], sigma) {
+        if has_value(conditions[i], value, &ints[i], sigma) {
             return false;
         }
     }

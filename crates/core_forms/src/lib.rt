@@ -10,6 +10,7 @@ mod equation;
 mod few;
 mod form;
 mod fresh_sums;
+pub mod labelled_laws;
 pub mod laws;
 pub mod list_laws;
 mod made;

@@ -1,5 +1,6 @@
 use Rattle.std.proofs.Common.{◌≡◌, ◌&&◌, ◌||◌, drop}
-use Rattle.core_forms.specs.Values.{values, is_among, all_at_most, is_greatest}
+use Rattle.order_ints.specs.OrderLevels.{is_among}
+use Rattle.core_forms.specs.Values.{values, all_at_most, is_greatest}
 use Rattle.core_forms.specs.WellFormed.{AreSound}
 use Rattle.core_forms.proofs.meaning.lists.is_maximum.Given as goal
 

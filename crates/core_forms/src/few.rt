@@ -1,6 +1,6 @@
 //! A core of few variables.
 
-ghost use Rattle.std.specs.Prelude.{◌≡◌, ◌<◌, ◌≤◌, ◌++◌, length, [], ◌∷◌, IfSome, IfNone, MatchOption};
+ghost use Rattle.std.specs.Prelude.{◌≡◌, ◌<◌, ◌≤◌, ◌++◌, length, [], ◌∷◌, IfSome, IfNone};
 ghost use Rattle.core_forms.specs.Contents.{ints_of, atoms_of};
 ghost use Rattle.core_forms.specs.Variables.{atom_vars, atoms_vars, int_vars, ints_vars, core_vars};
 ghost use Rattle.core_forms.specs.OwnVars.{with_var, with_vars, own_vars, if_few};
@@ -100,4 +100,37 @@ impl FewVars {
         }
         Some(())
     }
+}
+
+/// Puts the variables of a core's atoms among others.
+fn put_atoms(vars: &mut FewVars, core: &Core) -> Option<()>
+    ensures put { IfSome result (λ _. vars.new ≡ with_vars (atoms_vars (atoms_of core.now)) vars.old) }
+    ensures full { IfNone result (8 < length (with_vars (atoms_vars (atoms_of core.now)) vars.old)) }
+{
+    for atom in core.atoms() {
+        vars.put_atom(*atom)?;
+    }
+    Some(())
+}
+
+/// Puts the variables of a core's integers among others.
+fn put_ints(vars: &mut FewVars, core: &Core) -> Option<()>
+    ensures put { IfSome result (λ _. vars.new ≡ with_vars (ints_vars (ints_of core.now)) vars.old) }
+    ensures full { IfNone result (8 < length (with_vars (ints_vars (ints_of core.now)) vars.old)) }
+{
+    for a in core.ints() {
+        vars.put_int(a)?;
+    }
+    Some(())
+}
+
+/// The different variables of a core, ascending, where there are at most eight. It takes no memory and
+/// one pass over the core, which ends at the ninth.
+pub fn few_variables(core: &Core) -> Option<FewVars>
+    ensures { result ≡ if_few (own_vars core.now) }
+{
+    let mut vars = FewVars::none();
+    put_atoms(&mut vars, core)?;
+    put_ints(&mut vars, core)?;
+    Some(vars)
 }

@@ -5,15 +5,17 @@ mod lists;
 mod numbers;
 mod sums;
 
-ghost use Rattle.std.specs.Prelude.{◌≡◌};
+ghost use Rattle.std.specs.Prelude.{◌≡◌, map};
+ghost use Rattle.order_ints.specs.Truth.{Valuation, valuation_at};
 ghost use Rattle.core_forms.specs.WellFormed.{IsWellFormed};
+ghost use Rattle.core_forms.specs.Variables.{core_vars, AreAmong};
 ghost use Rattle.core_forms.specs.Meaning.{core_truth};
 
 use crate::form::Core;
 use atoms::{are_all, are_compared, are_few, has_parity, is_some_true};
 use lists::{are_apart, are_in_order, is_top};
 use numbers::{is_equal, is_less, is_quotient};
-use order_ints::TruthValues;
+use order_ints::{TruthRow, TruthValues};
 use sums::{is_count, is_product, is_sum, is_total};
 
 /// Whether truth values meet a core. It takes no memory, and one pass over the core; of an `AllDiff` one
@@ -50,4 +52,17 @@ pub fn holds<T: TruthValues>(core: &Core, sigma: T) -> bool
             )
         }
     }
+}
+
+/// Whether truth values of listed variables meet a core, each at the place of its variable. It takes no
+/// memory, and the time of `holds` with a scan of the list for each literal.
+pub fn holds_in_row(core: &Core, vars: &[u32], values: &[bool]) -> bool
+    requires { IsWellFormed core.now }
+    ensures shape { result ≡ core_truth (valuation_at vars.now values.now) core.now }
+
+    // Where the core has no other variables, that is what each valuation with these values says.
+    ensures meaning { (σ : Valuation)
+        → AreAmong (core_vars core.now) vars.now → map σ vars.now ≡ values.now → result ≡ core_truth σ core.now }
+{
+    holds(core, TruthRow { vars, values })
 }

@@ -4,13 +4,14 @@ use Rattle.order_ints.specs.declared.atom.Atom.{Atom}
 use Rattle.order_ints.specs.declared.atom.Atom.TheVariants.{True, False, Of}
 use Rattle.order_ints.specs.declared.order_int.OrdInt.{OrdInt}
 use Rattle.order_ints.specs.Place.{AtomBelow, AtomsBelow, StepsBelow}
+use Rattle.order_ints.specs.Same.{is_true, is_false, same_atom}
 use Rattle.core_forms.specs.declared.form.Core.{Core}
 use Rattle.core_forms.specs.declared.form.Core.TheVariants.{Ladder, Clause, Parity, Conj, Comp, LeqR, EqR, Sum3, Count, Sum, Max, AllDiff, Amo, Prod, DivMod, Lex}
 use Rattle.core_forms.specs.Contents.{ints_of, atoms_of}
 use Rattle.core_forms.specs.Place.{IntsBelow, CoreBelow}
 use Rattle.core_forms.specs.Each.{EachOf, EachStep, EachInt, EachAtom}
 use Rattle.core_forms.specs.Resolved.{map_steps, map_int, map_ints, map_core}
-use Rattle.core_forms.specs.Trimmed.{is_true, is_false, same_atom, merged_steps, raised_by, has_true, has_false, without_true, without_false, without_constants, tidied_clause, tidied_members, tidied_int, tidied_ints, tidied_core}
+use Rattle.core_forms.specs.Trimmed.{merged_steps, raised_by, has_true, has_false, without_true, without_false, without_constants, tidied_clause, tidied_members, tidied_int, tidied_ints, tidied_core}
 use Rattle.core_forms.proofs.Tidied.{by_test}
 
 -- what holds of each of the first integers and of the others holds of all, and back

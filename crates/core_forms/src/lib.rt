@@ -9,6 +9,7 @@ mod costs;
 mod equation;
 mod form;
 mod fresh_sums;
+pub mod labelled_laws;
 pub mod laws;
 pub mod list_laws;
 mod made;

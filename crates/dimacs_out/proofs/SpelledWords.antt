@@ -1,24 +1,21 @@
 -- What a compiled text is made of are words, and its lines are lines.
-use Rattle.std.proofs.Common.{◌≡◌, ℕ, ◌^◌, ◌<◌, ◌≤◌, Bool, true, false, not, ◌&&◌, ◌||◌, ◌==◌, List, [], ◌∷◌, ◌++◌, length, map, codes, cond, refl, ◌∙◌, ⊎_elim, arith, leb}
+use Rattle.std.proofs.Common.{◌≡◌, ℕ, ◌^◌, ◌<◌, ◌≤◌, true, not, ◌&&◌, List, [], ◌∷◌, ◌++◌, length, map, codes, refl, ◌∙◌, arith}
 use Rattle.std.specs.List.{list_all}
-use Rattle.std.specs.Char.{is_ascii_digit}
 use Rattle.std.specs.Fmt.{decimal, signed_decimal}
-use Rattle.std.proofs.lemmas.Bool.{and_parts, and_from, or_cases, or_left, or_right, leb-true, eqb-true, false≢true}
+use Rattle.std.proofs.lemmas.Bool.{and_parts, and_from, or_left, false≢true}
 use Rattle.std.proofs.lemmas.Bool.Decides.{nat_tests}
 use Rattle.std.proofs.lemmas.List.Folds.{list_all-append}
-use Rattle.bee_text.specs.Lines.{lacks}
 use Rattle.bee_text.specs.Words.{is_gap, is_word, IsWord, AreWords}
-use Rattle.bee_text.proofs.NumberLemmas.{decimal_word, decimal_digits, signed_decimal_word}
+use Rattle.bee_text.proofs.NumberLemmas.{decimal_word, signed_decimal_word}
 use Rattle.bee_text.proofs.GapLemmas.{solid}
 use Rattle.bumblebee_reader.specs.Bytes.{is_letter, is_digit, is_word as is_name_byte}
 use Rattle.bumblebee_reader.specs.Names.{IsName}
 use Rattle.order_ints.specs.declared.literal.Lit.{Lit}
 use Rattle.order_ints.specs.declared.atom.Atom.{Atom}
-use Rattle.order_ints.specs.declared.atom.Atom.TheVariants.{True, False, Of}
 use Rattle.order_ints.specs.declared.order_int.MapValue.{MapValue}
 use Rattle.order_ints.specs.declared.order_int.MapValue.TheVariants.{Bool as OfBool, Int as OfInt}
 use Rattle.order_ints.specs.declared.cnf.Cnf.{Cnf}
-use Rattle.order_ints.specs.Place.{LitBelow, AtomBelow, StepsBelow, ClauseBelow}
+use Rattle.order_ints.specs.Place.{AtomBelow, StepsBelow, ClauseBelow}
 use Rattle.ledger_text.specs.Words.{literal_word, atom_word}
 use Rattle.ledger_text.proofs.Spelled.{literal_word_word, atom_word_word}
 use Rattle.dimacs_out.specs.CompiledText.{step_word, value_words, clause_words, WeightsCount, ValueBelow}

@@ -1,14 +1,12 @@
 -- A word of a compiled text tells the literal, the atom, the step that it spells.
-use Rattle.std.proofs.Common.{◌≡◌, ℕ, ◌^◌, ◌<◌, ◌≤◌, Bool, true, false, not, ◌==◌, List, [], ◌∷◌, ◌++◌, map, drop, get_or, refl, sym, ap, subst, ◌∙◌, arith}
-use Rattle.std.specs.List.{list_all}
+use Rattle.std.proofs.Common.{◌≡◌, ℕ, ◌^◌, ◌<◌, ◌≤◌, true, not, ◌==◌, List, [], ◌∷◌, ◌++◌, map, drop, get_or, refl, sym, ap, arith}
 use Rattle.std.specs.Fmt.{decimal}
-use Rattle.std.proofs.lemmas.Bool.{and_parts, not-true, eqb-false, false≢true}
+use Rattle.std.proofs.lemmas.Bool.{and_parts, not-true, eqb-false}
 use Rattle.bee_text.specs.Lines.{lacks}
-use Rattle.bee_text.proofs.NumberLemmas.{decimal_injective_wide, decimal_unsigned}
+use Rattle.bee_text.proofs.NumberLemmas.{decimal_injective_wide}
 use Rattle.order_ints.specs.declared.literal.Lit.{Lit}
 use Rattle.order_ints.specs.declared.atom.Atom.{Atom}
-use Rattle.order_ints.specs.declared.atom.Atom.TheVariants.{True, False, Of}
-use Rattle.order_ints.specs.Place.{LitBelow, AtomBelow, StepsBelow, ClauseBelow}
+use Rattle.order_ints.specs.Place.{AtomBelow, StepsBelow, ClauseBelow}
 use Rattle.ledger_text.specs.Words.{literal_word, atom_word}
 use Rattle.ledger_text.proofs.Spelled.{atom_no_colon, literal_word_tells, atom_word_tells}
 use Rattle.dimacs_out.specs.CompiledText.{step_word, WeightsCount}

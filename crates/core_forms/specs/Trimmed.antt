@@ -104,7 +104,3 @@ IsTrimmed core = trimmed_core [] core ≡ core
 -- the view that gives each variable the label that the next view gives its label
 abbrev pub composed_view : List Atom → List Atom → List Atom
 composed_view first next = map (resolve next) first
-
--- each label is its own label
-abbrev pub AreOwnLabels : List Atom → Type 0
-AreOwnLabels view = composed_view view view ≡ view

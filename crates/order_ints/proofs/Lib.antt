@@ -3,6 +3,7 @@ pub mod Opposites
 pub mod ClauseSteps
 pub mod TruthLaws
 pub mod PlaceLaws
+pub mod Labels
 pub mod OrderedLaws
 pub mod FirstFalseLaws
 pub mod Truths

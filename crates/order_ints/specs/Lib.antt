@@ -11,9 +11,11 @@ pub mod OrderMade
 pub mod OrderChange
 pub mod Represents
 pub mod View
+pub mod Label
 pub mod Place
 pub mod Numbers
 pub mod AtomClauses
 pub mod OrderedClauses
 pub mod FirstFalse
 pub mod CnfLaws
+pub mod LabelLaws

@@ -7,6 +7,7 @@ mod cnf_laws;
 mod cnf_order;
 mod cnf_truth;
 mod holds;
+pub mod label_laws;
 mod literal;
 mod order_int;
 pub mod order_laws;

@@ -117,9 +117,9 @@ fn comparison(rt: &impl Abort, alloc: Global, text: &str, equal: bool) -> Result
     let a = int(rt, alloc, word(text, 2))?;
     let b = int(rt, alloc, word(text, 3))?;
     if equal {
-        return Ok(Core::EqR(r, a, b));
+        return Core::eq_r(alloc, r, a, b);
     }
-    Ok(Core::LeqR(r, a, b))
+    Core::leq_r(alloc, r, a, b)
 }
 
 /// A core.
@@ -127,7 +127,7 @@ pub(super) fn core_of(rt: &impl Abort, alloc: Global, text: &str) -> Result<Core
     ensures { IfOk result (λ core. IsWellFormed core) }
 {
     match word(text, 0) {
-        "Ladder" => Ok(Core::Ladder(int(rt, alloc, word(text, 1))?)),
+        "Ladder" => Core::ladder(alloc, int(rt, alloc, word(text, 1))?),
         "Clause" => Ok(Core::Clause(atoms(rt, alloc, word(text, 1))?)),
         "LeqR" => comparison(rt, alloc, text, false),
         "EqR" => comparison(rt, alloc, text, true),

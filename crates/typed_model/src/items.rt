@@ -6,13 +6,12 @@ ghost use Rattle.typed_model.specs.Scope.{truth, number, numeral};
 ghost use Rattle.typed_model.specs.Faults.{numeral_in};
 ghost use Rattle.typed_model.specs.Items.{truth_in, number_in, truths_in, numbers_in, numerals_in, terms_in, declared_name, declared_as, declared_by, declared_if, declared, difference_what, order_what, what_of, objective_place, goal_of, name_in};
 
-use crate::apart::Apart;
 use crate::faults::numeral_in;
 use crate::model::{Decl, Goal, Kind};
 use crate::scope::{Scope, numeral};
 use crate::statement::Statement;
 use crate::what::{BoolTerm, IntTerm};
-use bee_list::Sequence;
+use bee_list::{Apart, Sequence};
 use bumblebee_reader::{Arg, GoalKind, Name, Term};
 use std::alloc::{AllocError, Global};
 

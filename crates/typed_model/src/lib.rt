@@ -4,7 +4,6 @@
 //! `specs/Faults.antt`.
 #![tactic(auto)]
 
-mod apart;
 mod booleans;
 mod check;
 mod fault;
@@ -28,7 +27,6 @@ mod terms;
 mod tests;
 mod what;
 
-pub use apart::Apart;
 pub use check::check_types;
 pub use fault::TypeFault;
 pub use laws::{holds_law, limit_law, size_law, typing_law};

@@ -3,10 +3,9 @@
 ghost use Rattle.std.specs.Prelude.{◌↔◌, IsTrue};
 ghost use Rattle.typed_model.specs.Limits.{InLimit, AllInLimit, TermInLimit, TermsInLimit, TermsInLimitIf, WhatInLimit, StmtsInLimit, KindInLimit, DeclsInLimit, InLimits};
 
-use crate::apart::Apart;
 use crate::model::{Decl, Kind, Model, Stmt};
 use crate::what::{IntTerm, What};
-use bee_list::Sequence;
+use bee_list::{Apart, Sequence};
 
 /// The greatest absolute value of a numeral.
 const LIMIT: i64 = 1_073_741_824;

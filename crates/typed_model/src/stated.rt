@@ -4,7 +4,6 @@ ghost use Rattle.std.specs.Prelude.{◌≡◌, IfOk, slice_get, None, Some, ℕ,
 ghost use Rattle.typed_model.specs.declared.what.What.TheVariants.{L3, L4, L5, L6, L7, L8, L9, L10, L11, L12, L13, L14, L15, L16, L17, L18};
 ghost use Rattle.typed_model.specs.Items.{truth_in, number_in, truths_in, numbers_in, numerals_in, difference_what, order_what, what_of};
 
-use crate::apart::Apart;
 use crate::items::{
     number_in, numbers_apart, numbers_in, numerals_in, truth_apart, truth_in, truths_apart,
     truths_in,
@@ -12,7 +11,7 @@ use crate::items::{
 use crate::scope::Scope;
 use crate::statement::{Difference, Order, Statement};
 use crate::what::{BoolTerm, IntTerm, What};
-use bee_list::Sequence;
+use bee_list::{Apart, Sequence};
 use bumblebee_reader::{Arg, Name};
 use std::alloc::{AllocError, Global};
 

@@ -7,7 +7,6 @@ ghost use Rattle.typed_model.specs.Terms.{truths_of, numbers_of};
 ghost use Rattle.typed_model.specs.Holds.{Holds, holds, same, truth_or_true, terms_or_none, differs, ordered};
 ghost use Rattle.typed_model.specs.Limits.{AllInLimit, TermsInLimit, WhatInLimit};
 
-use crate::apart::Apart;
 use crate::booleans::{combined, count_true};
 use crate::integers::{gives, linear_sum, relates, sums, total, weight_of_true};
 use crate::lists::{all_differ, differ_where, numbers_in_order, truths_in_order};
@@ -19,7 +18,7 @@ use crate::names::{
 use crate::statement::{Difference, Order};
 use crate::terms::{number_of, truth_of};
 use crate::what::{BoolTerm, IntTerm, What};
-use bee_list::Sequence;
+use bee_list::{Apart, Sequence};
 use bumblebee_reader::Name;
 
 /// Whether two truth values are equal.

@@ -1,7 +1,6 @@
 //! What a statement states: one variant for each line of the table of statements.
 
-use crate::apart::Apart;
-use bee_list::Sequence;
+use bee_list::{Apart, Sequence};
 use bumblebee_reader::Name;
 
 /// A Boolean term.

@@ -2,7 +2,7 @@
 
 ghost use Rattle.std.specs.Prelude.{◌≡◌, slice_get};
 ghost use Rattle.typed_model.specs.Scope.{place_of};
-ghost use Rattle.typed_model.specs.Faults.{declares, arg_unknown, undeclared, one_fits, many_fit, arg_fits, fit, is_declaration, names_declared, twice, lists_differ, wants_member, is_empty, misfit, numeral_in, declares_integer, empty_domain, divides, least_in, division_domain, statement_fault, objective_unknown, objective_fits, goal_fault, item_fault};
+ghost use Rattle.typed_model.specs.Faults.{declares, arg_unknown, has_undeclared, one_fits, many_fit, arg_fits, fit, is_declaration, names_declared, declares_twice, lists_differ, wants_member, is_empty, has_wrong_lengths, numeral_in, declares_integer, empty_domain, divides, least_in, division_domain, statement_fault, objective_unknown, objective_fits, goal_fault, item_fault};
 
 use crate::fault::TypeFault;
 use crate::names::statement_of;
@@ -10,7 +10,7 @@ use crate::scope::{
     Scope, all_numerals, is_bool, is_constant, is_int, is_numeral, low_of, numeral,
 };
 use crate::signature::{Wanted, signature};
-use crate::statement::{Arithmetic, Extreme, Statement};
+use crate::statement::{Aggregate, Arithmetic, Statement};
 use bumblebee_reader::{Arg, GoalKind, Item, Name, Term};
 
 /// Whether an argument is a plain name in a declaring place.
@@ -35,8 +35,8 @@ fn arg_unknown(scope: &Scope, arg: &Arg) -> bool
 }
 
 /// Whether a name that is to be looked up isn't declared.
-fn undeclared(scope: &Scope, wanted: &[Wanted], args: &[Arg]) -> bool
-    ensures { result ≡ undeclared scope.now wanted.now args.now }
+fn has_undeclared(scope: &Scope, wanted: &[Wanted], args: &[Arg]) -> bool
+    ensures { result ≡ has_undeclared scope.now wanted.now args.now }
 {
     let mut places = wanted;
     let mut rest = args;
@@ -141,8 +141,8 @@ fn names_declared(scope: &Scope, args: &[Arg], at: usize) -> bool
 }
 
 /// Whether a name is declared anew.
-fn twice(scope: &Scope, statement: Statement, args: &[Arg]) -> bool
-    ensures { result ≡ twice scope.now statement args.now }
+fn declares_twice(scope: &Scope, statement: Statement, args: &[Arg]) -> bool
+    ensures { result ≡ declares_twice scope.now statement args.now }
 {
     is_declaration(statement) && names_declared(scope, args, 0)
 }
@@ -163,7 +163,7 @@ fn wants_member(statement: Statement) -> bool
 {
     matches!(
         statement,
-        Statement::Aggregate(Extreme::Max) | Statement::Aggregate(Extreme::Min)
+        Statement::Aggregate(Aggregate::Max) | Statement::Aggregate(Aggregate::Min)
     )
 }
 
@@ -178,8 +178,8 @@ fn is_empty(args: &[Arg]) -> bool
 }
 
 /// Whether lists differ in length, or a list lacks a member.
-fn misfit(statement: Statement, args: &[Arg]) -> bool
-    ensures { result ≡ misfit statement args.now }
+fn has_wrong_lengths(statement: Statement, args: &[Arg]) -> bool
+    ensures { result ≡ has_wrong_lengths statement args.now }
 {
     lists_differ(args) || (wants_member(statement) && is_empty(args))
 }
@@ -241,16 +241,16 @@ fn statement_fault(
 ) -> Option<TypeFault>
     ensures { result ≡ statement_fault number scope.now statement args.now }
 {
-    if undeclared(scope, signature(statement), args) {
+    if has_undeclared(scope, signature(statement), args) {
         return Some(TypeFault::Undeclared(number));
     }
     if !fit(scope, signature(statement), args) {
         return Some(TypeFault::Kind(number));
     }
-    if twice(scope, statement, args) {
+    if declares_twice(scope, statement, args) {
         return Some(TypeFault::Twice(number));
     }
-    if misfit(statement, args) {
+    if has_wrong_lengths(statement, args) {
         return Some(TypeFault::Lengths(number));
     }
     if empty_domain(statement, args) {

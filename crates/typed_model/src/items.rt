@@ -4,7 +4,7 @@ ghost use Rattle.std.specs.Prelude.{◌≡◌, ◌++◌, ◌∷◌, [], Some, No
 ghost use Rattle.std.specs.Option.{option_copied};
 ghost use Rattle.typed_model.specs.Scope.{truth, number, numeral};
 ghost use Rattle.typed_model.specs.Faults.{numeral_in};
-ghost use Rattle.typed_model.specs.Items.{truth_in, number_in, truths_in, numbers_in, numerals_in, terms_in, declared_name, declared_as, declared_by, declared_if, declared, difference_what, order_what, what_of, objective_place, goal_of, name_in};
+ghost use Rattle.typed_model.specs.Items.{truth_in, number_in, truths_in, numbers_in, numerals_in, terms_in, declare_name, declare, declare_by, declare_if, declarations_of, all_different_what, order_what, what_of, objective_place, goal_of, name_in};
 
 use crate::apart::Apart;
 use crate::faults::numeral_in;
@@ -161,7 +161,7 @@ fn name_in(args: &[Arg], at: usize) -> Option<&Name>
 
 /// Declares a name where it isn't declared.
 fn declare_name(scope: &mut Scope, number: u64, name: &Name, kind: Kind) -> Result<(), AllocError>
-    ensures { OnOk result (scope.new ≡ scope.old ++ declared_name number scope.old name.now kind) }
+    ensures { OnOk result (scope.new ≡ scope.old ++ declare_name number scope.old name.now kind) }
 {
     if scope.place_of(name).is_some() {
         return Ok(());
@@ -178,7 +178,7 @@ fn declare(
     at: usize,
     kind: Kind,
 ) -> Result<(), AllocError>
-    ensures { OnOk result (scope.new ≡ scope.old ++ declared_as number scope.old (name_in (slice_get args.now at)) kind) }
+    ensures { OnOk result (scope.new ≡ scope.old ++ declare number scope.old (name_in (slice_get args.now at)) kind) }
 {
     match name_in(args, at) {
         Some(name) => declare_name(scope, number, name, kind),
@@ -187,14 +187,14 @@ fn declare(
 }
 
 /// Declares what item `number` declares.
-#[tactic(auto, unfolding(crate::specs::Items::declared_by))]
+#[tactic(auto, unfolding(crate::specs::Items::declare_by))]
 pub fn declare_by(
     scope: &mut Scope,
     number: u64,
     statement: Statement,
     args: &[Arg],
 ) -> Result<(), AllocError>
-    ensures { OnOk result (scope.new ≡ scope.old ++ declared_by number scope.old statement args.now) }
+    ensures { OnOk result (scope.new ≡ scope.old ++ declare_by number scope.old statement args.now) }
 {
     match statement {
         Statement::NewBool => declare(scope, number, args, 0, Kind::Bool),

@@ -1,6 +1,6 @@
 -- What a run in compile mode promises.
 use Rattle.std.specs.Prelude.{◌≡◌, ℕ, ◌+◌, ◌≤◌, ◌<◌, ◌⊎◌, ◌↔◌, List, length, Option, Some, ℤ}
-use Rattle.bee_outside.specs.Faults.{Rose}
+use Rattle.bee_outside.specs.Faults.{Rose, next_count}
 use Rattle.bee_outside.specs.Bytes.{in_front, grown, NothingLeft, AllFlushed, TookPiece, GrewByFront}
 use Rattle.typed_model.specs.Solutions.{IsSolution}
 use Rattle.dimacs_out.specs.TextSolutions.{StandsFor}
@@ -92,18 +92,39 @@ Says Read seen = Rose seen.shelf_faults_before seen.shelf_faults_after
 Says Write seen = WroteFront seen × Rose seen.sink_faults_before seen.sink_faults_after
 Says Memory seen = Unit {0}
 
--- no fault of the outside happened
-abbrev pub NoFault : Seen → Type 0
-NoFault seen =
-    (Rose seen.shelf_faults_before seen.shelf_faults_after → ⊥) × (Rose seen.sink_faults_before seen.sink_faults_after → ⊥)
+-- the shelf's count of faults after a run that ended so: a fault of reading ends the run, and no call follows it
+abbrev pub count_read : Status → ℕ → ℕ
+count_read Done n = n
+count_read Usage n = n
+count_read (Model fault) n = n
+count_read Read n = next_count n
+count_read Write n = n
+count_read Memory n = n
 
--- the answer that a told text has, unless memory is wanting or a fault of the outside ends the run
+-- the sink's count of faults after a run that ended so: a fault of writing ends the run, and no call follows it
+abbrev pub count_written : Status → ℕ → ℕ
+count_written Done n = n
+count_written Usage n = n
+count_written (Model fault) n = n
+count_written Read n = n
+count_written Write n = next_count n
+count_written Memory n = n
+
+-- no fault of the shelf happened, and none of the sink
+abbrev pub NoReadFault : Seen → Type 0
+NoReadFault seen = Rose seen.shelf_faults_before seen.shelf_faults_after → ⊥
+
+abbrev pub NoWriteFault : Seen → Type 0
+NoWriteFault seen = Rose seen.sink_faults_before seen.sink_faults_after → ⊥
+
+-- the answer that a told text has, unless memory is wanting or a fault of the outside ends the run; what is refused
+-- wants no word of the sink
 pub record Answers (status : Status) (seen : Seen) : Type 0 where
-  pub too_long : (text : List ℕ) → seen.left_before ≡ Some text → longest_text < length text → NoFault seen →
+  pub too_long : (text : List ℕ) → seen.left_before ≡ Some text → longest_text < length text → NoReadFault seen →
       (status ≡ Model TooLong) ⊎ (status ≡ Memory)
-  pub refused : (text : List ℕ) (fault : ModelFault) → seen.left_before ≡ Some text → length text ≤ longest_text → IsFirstFault text fault → NoFault seen →
+  pub refused : (text : List ℕ) (fault : ModelFault) → seen.left_before ≡ Some text → length text ≤ longest_text → IsFirstFault text fault → NoReadFault seen →
       (status ≡ Model fault) ⊎ (status ≡ Memory)
-  pub complete : (text : List ℕ) → seen.left_before ≡ Some text → length text ≤ longest_text → IsCompilable text → NoFault seen →
+  pub complete : (text : List ℕ) → seen.left_before ≡ Some text → length text ≤ longest_text → IsCompilable text → NoReadFault seen → NoWriteFault seen →
       (status ≡ Done) ⊎ (status ≡ Memory)
 
 -- a run in compile mode
@@ -111,4 +132,6 @@ pub record CompileMode (status : Status) (seen : Seen) : Type 0 where
   pub says : Says status seen
   pub answers : Answers status seen
   pub silent : IsSilent status → seen.taken_after ≡ seen.taken_before
+  pub read_faults : seen.shelf_faults_after ≡ count_read status seen.shelf_faults_before
+  pub write_faults : seen.sink_faults_after ≡ count_written status seen.sink_faults_before
   pub bounded : TookPiece seen.left_before seen.left_after (Some (longest_text + 1))

@@ -10,8 +10,6 @@ mod compiling;
 mod encoding;
 pub mod laws;
 mod progress;
-#[cfg(test)]
-mod tests;
 
 pub use compiled::Compiled;
 pub use compiling::compile;

@@ -1,7 +1,7 @@
 //! The shelf over real files and standard input.
 
-ghost use Rattle.std.specs.Prelude.{◌≡◌, ◌≤◌, None, length, IfOk, OnErr, is_ok, if◌then◌else◌};
-ghost use Rattle.bee_outside.specs.Faults.{Rose, next_count};
+ghost use Rattle.std.specs.Prelude.{◌≡◌, ◌≤◌, None, length, IfOk};
+ghost use Rattle.bee_outside.specs.Faults.{counted};
 
 use crate::failed::Failed;
 use crate::names::place_of;
@@ -85,8 +85,7 @@ impl<R: Files, I: Read> Shelf for HostShelf<R, I> {
     fn next(&mut self, name: &str, into: &mut [u8]) -> Result<usize, Failed>
         ensures no_count_falls { self.old ≤ self.new }
         ensures fits { IfOk result (λ k. k ≤ length into.old) }
-        ensures fault_is_counted { OnErr result (Rose self.old self.new) }
-        ensures counts_faults_alone { self.new ≡ (if is_ok result then self.old else next_count self.old) }
+        ensures counts_faults { self.new ≡ counted result self.old }
     {
         let read = if name == STANDARD_INPUT {
             self.input.read(into)

@@ -1,7 +1,7 @@
 //! The sink over a real stream.
 
-ghost use Rattle.std.specs.Prelude.{◌≡◌, ◌≤◌, ◌<◌, None, length, IfOk, OnErr, is_ok, if◌then◌else◌};
-ghost use Rattle.bee_outside.specs.Faults.{Rose, next_count};
+ghost use Rattle.std.specs.Prelude.{◌≡◌, ◌≤◌, ◌<◌, None, length, IfOk};
+ghost use Rattle.bee_outside.specs.Faults.{counted};
 
 use crate::failed::Failed;
 use crate::sink::Sink;
@@ -49,11 +49,9 @@ impl<W: Write> Sink for HostSink<W> {
     ghost faults = { λ s. s };
 
     fn put(&mut self, piece: &[u8]) -> Result<usize, Failed>
-        ensures count_stays_or_rises { self.old ≤ self.new }
         ensures fits { IfOk result (λ k. k ≤ length piece.now) }
         ensures takes_some { IfOk result (λ k. 0 < length piece.now → 1 ≤ k) }
-        ensures fault_is_counted { OnErr result (Rose self.old self.new) }
-        ensures counts_faults_alone { self.new ≡ (if is_ok result then self.old else next_count self.old) }
+        ensures counts_faults { self.new ≡ counted result self.old }
     {
         if piece.is_empty() {
             return Ok(0);
@@ -68,9 +66,7 @@ impl<W: Write> Sink for HostSink<W> {
     }
 
     fn flush(&mut self) -> Result<(), Failed>
-        ensures count_stays_or_rises { self.old ≤ self.new }
-        ensures fault_is_counted { OnErr result (Rose self.old self.new) }
-        ensures counts_faults_alone { self.new ≡ (if is_ok result then self.old else next_count self.old) }
+        ensures counts_faults { self.new ≡ counted result self.old }
     {
         match self.writer.flush() {
             Ok(()) => Ok(()),

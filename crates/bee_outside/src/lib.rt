@@ -13,8 +13,6 @@ mod names;
 mod reading;
 mod shelf;
 mod sink;
-#[cfg(test)]
-mod tests;
 mod writing;
 
 pub use failed::Failed;

@@ -1,7 +1,7 @@
 //! A shelf over memory, for tests: it gives small pieces and fails at chosen calls.
 
 ghost use Rattle.std.specs.Prelude.{◌≡◌, ◌≢◌, ℕ, ◌≤◌, ◌<◌, ◌↔◌, List, [], ◌++◌, map, reverse, take, drop, length, vec_len, IfOk, OnErr, IfSome, MatchOption};
-ghost use Rattle.bee_outside.specs.Faults.{Rose};
+ghost use Rattle.bee_outside.specs.Faults.{counted};
 ghost use Rattle.bee_outside.specs.Bytes.{IsTold, in_front};
 ghost use Rattle.bee_outside.specs.MemShelf.{given_file, fresh_shelf, left_under, next_answer, next_slice, after_next};
 ghost use Rattle.bee_outside.specs.MemFiles.{kept_file, GivesNothing, GivesFront};
@@ -79,7 +79,7 @@ impl Shelf for MemShelf {
             drop k into.new ≡ drop k into.old) }
         ensures fault_takes_nothing { OnErr result
             (left_under self.new.files name.now ≡ left_under self.old.files name.now) }
-        ensures fault_is_counted { OnErr result (Rose self.old.faults self.new.faults) }
+        ensures counts_faults { self.new.faults ≡ counted result self.old.faults }
     {
         self.calls = self.calls.saturating_add(1);
         if !self.failing.contains(&self.calls) {

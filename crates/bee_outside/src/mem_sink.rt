@@ -2,7 +2,7 @@
 //! calls.
 
 ghost use Rattle.std.specs.Prelude.{◌≡◌, ◌≤◌, ◌<◌, ◌↔◌, length, take, Some, IfOk, OnOk, OnErr};
-ghost use Rattle.bee_outside.specs.Faults.{Rose};
+ghost use Rattle.bee_outside.specs.Faults.{counted};
 ghost use Rattle.bee_outside.specs.Bytes.{IsTold, grown, AllFlushed};
 ghost use Rattle.bee_outside.specs.MemSink.{fresh_sink, put_answer, after_put, flush_answer, after_flush};
 
@@ -89,14 +89,13 @@ impl Sink for MemSink {
         ensures after { self.new ≡ after_put self.old piece.now }
 
         // What every sink keeps.
-        ensures count_stays_or_rises { self.old.faults ≤ self.new.faults }
         ensures fits { IfOk result (λ k. k ≤ length piece.now) }
         ensures takes_some { IfOk result (λ k. 0 < length piece.now → 1 ≤ k) }
         ensures takes { IfOk result (λ k.
             Some self.new.taken ≡ grown (Some self.old.taken) (take k piece.now)) }
         ensures flushed_stays { Some self.new.flushed ≡ Some self.old.flushed }
         ensures fault_takes_nothing { OnErr result (Some self.new.taken ≡ Some self.old.taken) }
-        ensures fault_is_counted { OnErr result (Rose self.old.faults self.new.faults) }
+        ensures counts_faults { self.new.faults ≡ counted result self.old.faults }
     {
         self.calls = self.calls.saturating_add(1);
         let is_full = !piece.is_empty() && self.taken.len() >= self.room;
@@ -116,11 +115,10 @@ impl Sink for MemSink {
         ensures after { self.new ≡ after_flush self.old }
 
         // What every sink keeps.
-        ensures count_stays_or_rises { self.old.faults ≤ self.new.faults }
         ensures takes_nothing { Some self.new.taken ≡ Some self.old.taken }
         ensures told_stays { IsTold (Some self.new.flushed) ↔ IsTold (Some self.old.flushed) }
         ensures flushes { OnOk result (AllFlushed (Some self.new.taken) (Some self.new.flushed)) }
-        ensures fault_is_counted { OnErr result (Rose self.old.faults self.new.faults) }
+        ensures counts_faults { self.new.faults ≡ counted result self.old.faults }
     {
         self.calls = self.calls.saturating_add(1);
         if self.failing.contains(&self.calls) {

@@ -1,7 +1,7 @@
 //! Reading a whole text.
 
-ghost use Rattle.std.specs.Prelude.{◌≡◌, ◌≢◌, ℕ, ◌≤◌, ◌<◌, ◌+◌, ◌++◌, List, take, length, vec_len, IfOk, OnErr, IfSome, IsSomeAnd, IsErrOf, IsTrue, IsFalse};
-ghost use Rattle.bee_outside.specs.Faults.{Rose};
+ghost use Rattle.std.specs.Prelude.{◌≡◌, ◌≢◌, ℕ, ◌≤◌, ◌<◌, ◌+◌, ◌++◌, List, take, length, vec_len, IfOk, OnErr, IfSome, IsSomeAnd, IsTrue, IsFalse};
+ghost use Rattle.bee_outside.specs.Faults.{read_count};
 ghost use Rattle.bee_outside.specs.Bytes.{in_front, NothingLeft, TookPiece};
 ghost use Rattle.bee_outside.specs.ReadText.{text_of, is_whole};
 
@@ -55,8 +55,10 @@ pub fn read_all<S: Shelf>(
     // A fault may come after some bytes were taken.
     ensures fault_took_front { OnErr result
         (TookPiece (S.left shelf.old name.now) (S.left shelf.new name.now) limit) }
-    ensures fault_is_counted { IsErrOf result ReadFault.Failed →
-        Rose (S.faults shelf.old name.now) (S.faults shelf.new name.now) }
+
+    // A fault ends it: no call follows one that failed.
+    ensures counts_faults {
+        S.faults shelf.new name.now ≡ read_count result (S.faults shelf.old name.now) }
 {
     let mut text = Vec::new(alloc);
     let mut buffer = match zeroed(alloc, PIECE) {
@@ -115,8 +117,8 @@ fn read_piece<S: Shelf>(
     ensures end { IfOk result (λ k. k ≡ 0 → NothingLeft (S.left shelf.new name.now)) }
     ensures fault_took_front { OnErr result (TookPiece (S.left shelf.old name.now)
         (S.left shelf.new name.now) (Some (length into.old))) }
-    ensures fault_is_counted { IsErrOf result ReadFault.Failed →
-        Rose (S.faults shelf.old name.now) (S.faults shelf.new name.now) }
+    ensures counts_faults {
+        S.faults shelf.new name.now ≡ read_count result (S.faults shelf.old name.now) }
 {
     let taken = match shelf.next(name, into) {
         Ok(taken) => taken,

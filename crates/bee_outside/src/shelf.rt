@@ -1,7 +1,7 @@
 //! What a program reads from.
 
 ghost use Rattle.std.specs.Prelude.{◌≡◌, ◌≢◌, ℕ, ◌≤◌, ◌<◌, ◌↔◌, List, [], take, drop, length, IfOk, OnErr, IfSome};
-ghost use Rattle.bee_outside.specs.Faults.{Rose};
+ghost use Rattle.bee_outside.specs.Faults.{counted};
 ghost use Rattle.bee_outside.specs.Bytes.{IsTold, in_front};
 
 use crate::failed::Failed;
@@ -34,8 +34,7 @@ pub trait Shelf {
         ensures rest_stays { IfOk result (λ k. IsTold (left self.old name.now) →
             drop k into.new ≡ drop k into.old) }
 
-        // A fault takes nothing, and is counted.
+        // A fault takes nothing. Each fault is counted, and nothing else is.
         ensures fault_takes_nothing { OnErr result (left self.new name.now ≡ left self.old name.now) }
-        ensures fault_is_counted { OnErr result
-            (Rose (faults self.old name.now) (faults self.new name.now)) };
+        ensures counts_faults { faults self.new name.now ≡ counted result (faults self.old name.now) };
 }

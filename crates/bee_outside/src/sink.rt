@@ -1,7 +1,7 @@
 //! What a program writes to.
 
 ghost use Rattle.std.specs.Prelude.{◌≡◌, ◌≤◌, ◌<◌, ◌↔◌, take, length, IfOk, OnOk, OnErr};
-ghost use Rattle.bee_outside.specs.Faults.{Rose};
+ghost use Rattle.bee_outside.specs.Faults.{counted};
 ghost use Rattle.bee_outside.specs.Bytes.{IsTold, grown, AllFlushed};
 
 use crate::failed::Failed;
@@ -19,19 +19,17 @@ pub trait Sink {
 
     /// Takes bytes from the front of the piece, at least one where it has any, and answers how many.
     fn put(&mut self, piece: &[u8]) -> Result<usize, Failed>
-        ensures count_stays_or_rises { faults self.old ≤ faults self.new }
         ensures fits { IfOk result (λ k. k ≤ length piece.now) }
         ensures takes_some { IfOk result (λ k. 0 < length piece.now → 1 ≤ k) }
         ensures takes { IfOk result (λ k. taken self.new ≡ grown (taken self.old) (take k piece.now)) }
         ensures flushed_stays { flushed self.new ≡ flushed self.old }
         ensures fault_takes_nothing { OnErr result (taken self.new ≡ taken self.old) }
-        ensures fault_is_counted { OnErr result (Rose (faults self.old) (faults self.new)) };
+        ensures counts_faults { faults self.new ≡ counted result (faults self.old) };
 
     /// Hands all bytes that were taken on to where they belong.
     fn flush(&mut self) -> Result<(), Failed>
-        ensures count_stays_or_rises { faults self.old ≤ faults self.new }
         ensures takes_nothing { taken self.new ≡ taken self.old }
         ensures told_stays { IsTold (flushed self.new) ↔ IsTold (flushed self.old) }
         ensures flushes { OnOk result (AllFlushed (taken self.new) (flushed self.new)) }
-        ensures fault_is_counted { OnErr result (Rose (faults self.old) (faults self.new)) };
+        ensures counts_faults { faults self.new ≡ counted result (faults self.old) };
 }

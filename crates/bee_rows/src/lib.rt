@@ -1,4 +1,5 @@
-//! Tests that call the one call of the program, over a shelf and sinks in memory.
+//! Tests of the program's one call, over a shelf and sinks in memory, of the words, and of shelves and
+//! sinks.
 #![tactic(auto)]
 
 #[cfg(test)]
@@ -7,3 +8,7 @@ mod compile;
 mod examples;
 #[cfg(test)]
 mod outside;
+#[cfg(test)]
+mod shelves;
+#[cfg(test)]
+mod words;

@@ -15,5 +15,3 @@ pub use number::{read_number, read_signed};
 pub use words::{Words, is_word, split_words};
 pub use write::{end_line, push_blank, push_bytes, push_number, push_signed};
 
-#[cfg(test)]
-mod tests;

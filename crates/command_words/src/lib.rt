@@ -4,8 +4,5 @@
 mod budgets;
 mod command;
 mod read;
-#[cfg(test)]
-mod tests;
 
-pub use budgets::budget;
 pub use read::compile_input;

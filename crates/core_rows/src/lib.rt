@@ -1,5 +1,5 @@
-//! Rows worked out by hand, over the public calls of the crates of lists, integers, clauses and forms: integers
-//! made and changed, clauses put in order, and of each form its meaning, how it is trimmed, its variables and its
+//! Rows worked out by hand, over the public calls of the crates of lists, texts, integers, clauses and forms: numbers,
+//! lines and words, integers made and changed, clauses put in order, and of each form its meaning, how it is trimmed, its variables and its
 //! cost. They stand apart from those crates, so that proving them proves none of those crates anew.
 #![tactic(auto)]
 
@@ -23,6 +23,8 @@ mod occurring;
 mod shown;
 #[cfg(test)]
 mod sums;
+#[cfg(test)]
+mod texts;
 #[cfg(test)]
 mod trimmings;
 #[cfg(test)]

@@ -9,5 +9,3 @@ pub use entry::MapEntry;
 pub use laws::text_laws;
 pub use write::write_map;
 
-#[cfg(test)]
-mod tests;

@@ -1,5 +1,7 @@
-use Rattle.std.proofs.Common.{ℕ, List, refl, subst, ap, ◌∙◌, arith}
+use Rattle.std.proofs.Common.{ℕ, List, refl, subst, sym, ap, ◌∙◌, arith}
 use Rattle.bee_outside.specs.Bytes.{grown, GrewByFront}
+use Rattle.bee_outside.specs.Faults.{Rose}
+use Rattle.bee_outside.proofs.FaultLaws.{Rose-next}
 use Rattle.bee_cli.specs.declared.status.Status.TheVariants.{Done, Write, Model}
 use Rattle.bee_cli.proofs.Modes.{mode, took_text, within_limit, headline_of, refused_of}
 use Rattle.bee_cli.proofs.running.compile.Goals as goal
@@ -19,6 +21,7 @@ returns-in-Ok-write_all-clause-mode g c =
       taken = c.in-Ok-write_all.ensures.written ∙ ap (λ t. grown (g.O.Sink.taken c.args.out.now) t) c.as_slice-2.ensures.value;
       flushed = c.in-Ok-write_all.ensures.flushed;
     }) (λ e. absurd e) (took_text _ _ text moved (omega arith))
+    (rw c.in-Ok-Whole.is at c.read_all.ensures.counts_faults) (rw c.in-Ok-write_all.is at c.write_all.ensures.counts_faults)
 
 pub returns-clause-mode : goal.returns-clause-mode
 returns-clause-mode g c =
@@ -36,8 +39,9 @@ returns-clause-mode g c =
         headline = headline_of text _ written (within_limit text short) c.as_slice.ensures.value c.in-Ok.ensures.compiled;
         taken = subst P c.as_slice-2.ensures.value c.in-Err.ensures.fault_took_front;
       },
-      c.in-Err.ensures.fault_is_counted,
+      subst (λ n. Rose (g.O.Sink.faults c.args.out.now) n) (sym (rw c.in-Err.is at c.write_all.ensures.counts_faults)) (Rose-next (g.O.Sink.faults c.args.out.now)),
     ) (λ e. absurd e) (took_text _ _ text moved (omega arith))
+    (rw c.in-Ok-Whole.is at c.read_all.ensures.counts_faults) (rw c.in-Err.is at c.write_all.ensures.counts_faults)
 
 pub returns-in-Err-Model-clause-mode : goal.returns-in-Err-Model-clause-mode
 returns-in-Err-Model-clause-mode g c =
@@ -48,7 +52,7 @@ returns-in-Err-Model-clause-mode g c =
     let cause = rw c.in-Err-Model.field-0-is at c.in-Err-Model.ensures.fault in
     mode (Model c.in-Err-Model.fault) _
     (refused_of _ text _ c.in-Err-Model.fault (record { moved = moved; whole = whole }) (within_limit text short) c.as_slice.ensures.value cause) (λ _. refl)
-    (took_text _ _ text moved (omega arith))
+    (took_text _ _ text moved (omega arith)) (rw c.in-Ok-Whole.is at c.read_all.ensures.counts_faults) refl
 
 pub compile_text-requires : goal.compile_text-requires
 compile_text-requires g c =

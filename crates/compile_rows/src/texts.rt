@@ -1,8 +1,8 @@
 //! The compiled texts of small examples, worked out by hand.
 
-use crate::{MapEntry, write_map};
 use bee_list::Sequence;
 use bumblebee_reader::Name;
+use dimacs_out::{MapEntry, write_map};
 use order_ints::{Atom, Cnf, Lit, MapValue, OrdInt};
 use std::alloc::{AllocError, Global};
 use std::test::Fail;

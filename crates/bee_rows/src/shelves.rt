@@ -2,7 +2,7 @@
 
 ghost use Rattle.std.specs.Prelude.{◌≤◌};
 
-use crate::{
+use bee_outside::{
     Failed, HostShelf, HostSink, MemShelf, MemSink, ReadFault, ReadText, Shelf, Sink, read_all,
     write_all,
 };

@@ -1,6 +1,6 @@
 //! What small models are compiled to, worked out by hand.
 
-use crate::{Compiled, compile};
+use bee_compile::{Compiled, compile};
 use bumblebee_reader::read_model;
 use order_ints::Lit;
 use std::alloc::{AllocError, Global};

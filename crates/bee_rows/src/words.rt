@@ -1,6 +1,6 @@
 //! Words of the command line.
 
-use crate::{budget, compile_input};
+use command_words::compile_input;
 use std::alloc::{AllocError, Global};
 
 /// The input to compile, of words that are written apart by blanks.
@@ -30,6 +30,11 @@ fn words_of_the_command(rt: HostRuntime) {
         ("bee compile m.bee n.bee o.bee", None),
         ("bee compile m.bee --budget 0", None),
         ("bee compile m.bee --budget +1", None),
+        ("bee compile m.bee --budget=-1", None),
+        ("bee compile m.bee --budget=", None),
+        ("bee compile m.bee --budget 1x", None),
+        ("bee compile m.bee --budget 9223372036854775807", Some("m.bee")),
+        ("bee compile m.bee --budget 99999999999999999999999", None),
         ("bee compile m.bee --budget 9223372036854775808", None),
         ("bee compile m.bee --budget 1 --budget 1", None),
         ("bee compile m.bee --no-restart --no-restart", None),
@@ -40,24 +45,5 @@ fn words_of_the_command(rt: HostRuntime) {
     for (line, wanted) in cases {
         let input = input_of(rt.alloc(), line).expect(&rt, "memory");
         assert!(rt; input.as_deref() == wanted);
-    }
-}
-
-#[test]
-fn budgets(rt: HostRuntime) {
-    let cases = [
-        ("1", Some(1)),
-        ("0009", Some(9)),
-        ("9223372036854775807", Some(9_223_372_036_854_775_807)),
-        ("9223372036854775808", None),
-        ("99999999999999999999999", None),
-        ("0", None),
-        ("", None),
-        ("-1", None),
-        ("+1", None),
-        ("1x", None),
-    ];
-    for (word, wanted) in cases {
-        assert!(rt; budget(word) == wanted);
     }
 }

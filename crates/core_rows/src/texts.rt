@@ -1,6 +1,6 @@
 //! Worked values of numbers, lines and words.
 
-use crate::{
+use bee_text::{
     Lines, end_line, is_word, next_word, push_blank, push_bytes, push_number, push_signed,
     read_number, read_signed, split_words,
 };

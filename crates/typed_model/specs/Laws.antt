@@ -1,6 +1,8 @@
 -- Facts about the definitions that crates above may use.
 use Rattle.std.specs.Prelude.{◌≡◌, ◌↔◌, ◌≤◌, ℕ, ℤ, List, ◌++◌, length, None, IsTrue}
 use Rattle.bumblebee_reader.specs.declared.syntax.Item.{Item}
+use Rattle.bumblebee_reader.specs.declared.syntax.Syntax.{Syntax}
+use Rattle.bumblebee_reader.specs.Grammar.{IsText}
 use Rattle.typed_model.specs.Items.{first_fault, model_of}
 use Rattle.typed_model.specs.Limits.{InLimits, ItemsInLimit}
 use Rattle.typed_model.specs.Sizes.{terms_of, members_of}
@@ -28,6 +30,10 @@ abbrev pub SizeLaw : Type 0
 SizeLaw =
     (items : List Item)
     → (length (model_of items).decls ≤ length items) × (length (model_of items).stmts ≤ length items) × (members_of (model_of items).stmts ≤ terms_of items)
+
+-- the items of a text have at most as many terms as it has bytes
+abbrev pub TextSizeLaw : Type 0
+TextSizeLaw = (text : List ℕ) (s : Syntax) → IsText text s → terms_of s.items ≤ length text
 
 -- a statement that fits some declarations fits more of them; it holds under values of the first exactly where it does
 -- when values are added behind

@@ -64,17 +64,13 @@ fn one_fits(scope: &Scope, wanted: Wanted, term: &Term) -> bool
         Wanted::Numeral => is_numeral(term),
         Wanted::NewName => match term {
             Term::Plain(name) => !is_constant(name.as_bytes()),
-            Term::Minus(_) => false,
-            Term::Number(_) => false,
+            _ => false,
         },
         Wanted::NewInteger => match term {
             Term::Plain(name) => !is_constant(name.as_bytes()) && !is_bool(scope.kind_of(name)),
-            Term::Minus(_) => false,
-            Term::Number(_) => false,
+            _ => false,
         },
-        Wanted::Truths => false,
-        Wanted::Numbers => false,
-        Wanted::Numerals => false,
+        Wanted::Truths | Wanted::Numbers | Wanted::Numerals => false,
     }
 }
 
@@ -86,11 +82,7 @@ fn many_fit(scope: &Scope, wanted: Wanted, terms: &[Term]) -> bool
         Wanted::Truths => scope.all_truths(terms),
         Wanted::Numbers => scope.all_numbers(terms),
         Wanted::Numerals => all_numerals(terms),
-        Wanted::Truth => false,
-        Wanted::Number => false,
-        Wanted::Numeral => false,
-        Wanted::NewName => false,
-        Wanted::NewInteger => false,
+        _ => false,
     }
 }
 
@@ -278,11 +270,9 @@ fn objective_fits(scope: &Scope, kind: GoalKind, objective: &Option<Name>) -> bo
 {
     match (kind, objective) {
         (GoalKind::Satisfy, None) => true,
-        (GoalKind::Satisfy, Some(_)) => false,
-        (GoalKind::Minimize, None) => false,
         (GoalKind::Minimize, Some(name)) => is_int(scope.kind_of(name)),
-        (GoalKind::Maximize, None) => false,
         (GoalKind::Maximize, Some(name)) => is_int(scope.kind_of(name)),
+        _ => false,
     }
 }
 

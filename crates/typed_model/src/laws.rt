@@ -1,7 +1,7 @@
 //! Facts about the definitions that crates above may use. Each is the contract of a function that does
 //! nothing.
 
-ghost use Rattle.typed_model.specs.Laws.{HoldsLaw, TypingLaw, LimitLaw, SizeLaw, BehindLaw};
+ghost use Rattle.typed_model.specs.Laws.{HoldsLaw, TypingLaw, LimitLaw, SizeLaw, TextSizeLaw, BehindLaw};
 
 /// The test of a statement is true exactly where the statement holds.
 pub fn holds_law()
@@ -20,9 +20,10 @@ pub fn limit_law()
 {}
 
 /// The model of items is not larger than they are: no item declares or states more than once, and each member
-/// of a list is a term.
+/// of a list is a term. A text's items have no more terms than it has bytes.
 pub fn size_law()
-    ensures { SizeLaw }
+    ensures items { SizeLaw }
+    ensures text { TextSizeLaw }
 {}
 
 /// A statement fits, and holds, the same when declarations and values are added behind.

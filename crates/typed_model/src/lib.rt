@@ -7,6 +7,7 @@
 mod apart;
 mod arguments;
 mod booleans;
+mod call;
 mod check;
 mod fault;
 mod faults;

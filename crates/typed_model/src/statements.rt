@@ -5,116 +5,98 @@ ghost use Rattle.typed_model.specs.declared.what.What.TheVariants.{L3, L4, L5, L
 ghost use Rattle.typed_model.specs.Items.{truth_in, number_in, truths_in, numbers_in, numerals_in, all_different_what, order_what, what_of};
 
 use crate::apart::Apart;
-use crate::items::{
-    number_in, numbers_apart, numbers_in, numerals_in, truth_apart, truth_in, truths_apart,
-    truths_in,
-};
-use crate::scope::Scope;
+use crate::call::Call;
 use crate::statement::{Aggregate, AllDifferent, Arithmetic, Operator, Order, Relation, Statement};
 use crate::what::{BoolTerm, What};
-use bumblebee_reader::{Arg, Name};
-use std::alloc::{AllocError, Global};
-
-/// The name of a statement, as its own.
-fn own(name: &Name) -> Result<Name, AllocError>
-    ensures { IfOk result (λ n. n ≡ name.now) }
-{
-    name.clone()
-}
+use std::alloc::AllocError;
 
 /// The statement `bool2int`.
-fn bool_to_int(scope: &Scope, args: &[Arg]) -> What
-    ensures { result ≡ L3 (truth_in scope.now (slice_get args.now 0)) (number_in scope.now (slice_get args.now 1)) }
+fn bool_to_int(call: &Call<'_>) -> What
+    ensures { result ≡ L3 (truth_in call.now.scope.now (slice_get call.now.args.now 0)) (number_in call.now.scope.now (slice_get call.now.args.now 1)) }
 {
     What::L3 {
-        truth: truth_in(scope, args, 0),
-        number: number_in(scope, args, 1),
+        truth: call.truth(0),
+        number: call.number(1),
     }
 }
 
 /// The statement `bool_eq`.
-fn bool_eq(scope: &Scope, args: &[Arg]) -> What
-    ensures { result ≡ L4 (truth_in scope.now (slice_get args.now 0)) (truth_in scope.now (slice_get args.now 1)) }
+fn bool_eq(call: &Call<'_>) -> What
+    ensures { result ≡ L4 (truth_in call.now.scope.now (slice_get call.now.args.now 0)) (truth_in call.now.scope.now (slice_get call.now.args.now 1)) }
 {
     What::L4 {
-        left: truth_in(scope, args, 0),
-        right: truth_in(scope, args, 1),
+        left: call.truth(0),
+        right: call.truth(1),
     }
 }
 
 /// The statement `bool_OP_reif`.
-fn pair(scope: &Scope, name: Name, operator: Operator, args: &[Arg]) -> What
-    ensures { result ≡ L5 name operator (truth_in scope.now (slice_get args.now 0)) (truth_in scope.now (slice_get args.now 1)) (truth_in scope.now (slice_get args.now 2)) }
+fn pair(call: &Call<'_>, operator: Operator) -> Result<What, AllocError>
+    ensures { IfOk result (λ w. w ≡ L5 call.now.name.now operator (truth_in call.now.scope.now (slice_get call.now.args.now 0)) (truth_in call.now.scope.now (slice_get call.now.args.now 1)) (truth_in call.now.scope.now (slice_get call.now.args.now 2))) }
 {
-    What::L5 {
-        name,
+    Ok(What::L5 {
+        name: call.own_name()?,
         operator,
-        left: truth_in(scope, args, 0),
-        right: truth_in(scope, args, 1),
-        truth: truth_in(scope, args, 2),
-    }
+        left: call.truth(0),
+        right: call.truth(1),
+        truth: call.truth(2),
+    })
 }
 
 /// The statement `int_REL`.
-fn compare(scope: &Scope, name: Name, relation: Relation, args: &[Arg]) -> What
-    ensures { result ≡ L8 name relation (number_in scope.now (slice_get args.now 0)) (number_in scope.now (slice_get args.now 1)) }
+fn compare(call: &Call<'_>, relation: Relation) -> Result<What, AllocError>
+    ensures { IfOk result (λ w. w ≡ L8 call.now.name.now relation (number_in call.now.scope.now (slice_get call.now.args.now 0)) (number_in call.now.scope.now (slice_get call.now.args.now 1))) }
 {
-    What::L8 {
-        name,
+    Ok(What::L8 {
+        name: call.own_name()?,
         relation,
-        left: number_in(scope, args, 0),
-        right: number_in(scope, args, 1),
-    }
+        left: call.number(0),
+        right: call.number(1),
+    })
 }
 
 /// The statement `int_REL_reif`.
-fn compare_reified(scope: &Scope, name: Name, relation: Relation, args: &[Arg]) -> What
-    ensures { result ≡ L9 name relation (number_in scope.now (slice_get args.now 0)) (number_in scope.now (slice_get args.now 1)) (truth_in scope.now (slice_get args.now 2)) }
+fn compare_reified(call: &Call<'_>, relation: Relation) -> Result<What, AllocError>
+    ensures { IfOk result (λ w. w ≡ L9 call.now.name.now relation (number_in call.now.scope.now (slice_get call.now.args.now 0)) (number_in call.now.scope.now (slice_get call.now.args.now 1)) (truth_in call.now.scope.now (slice_get call.now.args.now 2))) }
 {
-    What::L9 {
-        name,
+    Ok(What::L9 {
+        name: call.own_name()?,
         relation,
-        left: number_in(scope, args, 0),
-        right: number_in(scope, args, 1),
-        truth: truth_in(scope, args, 2),
-    }
+        left: call.number(0),
+        right: call.number(1),
+        truth: call.truth(2),
+    })
 }
 
 /// The statement of an operation on two integers.
-fn operation(scope: &Scope, name: Name, operation: Arithmetic, args: &[Arg]) -> What
-    ensures { result ≡ L14 name operation (number_in scope.now (slice_get args.now 0)) (number_in scope.now (slice_get args.now 1)) (number_in scope.now (slice_get args.now 2)) }
+fn operation(call: &Call<'_>, operation: Arithmetic) -> Result<What, AllocError>
+    ensures { IfOk result (λ w. w ≡ L14 call.now.name.now operation (number_in call.now.scope.now (slice_get call.now.args.now 0)) (number_in call.now.scope.now (slice_get call.now.args.now 1)) (number_in call.now.scope.now (slice_get call.now.args.now 2))) }
 {
-    What::L14 {
-        name,
+    Ok(What::L14 {
+        name: call.own_name()?,
         operation,
-        left: number_in(scope, args, 0),
-        right: number_in(scope, args, 1),
-        value: number_in(scope, args, 2),
-    }
+        left: call.number(0),
+        right: call.number(1),
+        value: call.number(2),
+    })
 }
 
 /// The statement `int_abs`.
-fn absolute(scope: &Scope, args: &[Arg]) -> What
-    ensures { result ≡ L15 (number_in scope.now (slice_get args.now 0)) (number_in scope.now (slice_get args.now 1)) }
+fn absolute(call: &Call<'_>) -> What
+    ensures { result ≡ L15 (number_in call.now.scope.now (slice_get call.now.args.now 0)) (number_in call.now.scope.now (slice_get call.now.args.now 1)) }
 {
     What::L15 {
-        operand: number_in(scope, args, 0),
-        value: number_in(scope, args, 1),
+        operand: call.number(0),
+        value: call.number(1),
     }
 }
 
 /// The statement `bool_array_OP`.
-fn array(
-    alloc: Global,
-    scope: &Scope,
-    name: &Name,
-    operator: Operator,
-    args: &[Arg],
-) -> Result<What, AllocError>
-    ensures { IfOk result (λ w. w ≡ L6 name.now operator (truths_in scope.now (slice_get args.now 0))) }
+fn array(call: &Call<'_>, operator: Operator) -> Result<What, AllocError>
+    ensures { IfOk result (λ w. w ≡ L6 call.now.name.now operator (truths_in call.now.scope.now (slice_get call.now.args.now 0))) }
 {
-    let members = truths_in(alloc, scope, args, 0)?;
-    let name = own(name)?;
+    let members = call.truths(0)?;
+    let name = call.own_name()?;
     Ok(What::L6 {
         name,
         operator,
@@ -123,146 +105,104 @@ fn array(
 }
 
 /// The statement `bool_array_OP_reif`.
-fn array_reified(
-    alloc: Global,
-    scope: &Scope,
-    name: &Name,
-    operator: Operator,
-    args: &[Arg],
-) -> Result<What, AllocError>
-    ensures { IfOk result (λ w. w ≡ L7 name.now operator (truths_in scope.now (slice_get args.now 0)) (truth_in scope.now (slice_get args.now 1))) }
+fn array_reified(call: &Call<'_>, operator: Operator) -> Result<What, AllocError>
+    ensures { IfOk result (λ w. w ≡ L7 call.now.name.now operator (truths_in call.now.scope.now (slice_get call.now.args.now 0)) (truth_in call.now.scope.now (slice_get call.now.args.now 1))) }
 {
-    let members = truths_in(alloc, scope, args, 0)?;
-    let name = own(name)?;
+    let members = call.truths(0)?;
+    let name = call.own_name()?;
     Ok(What::L7 {
         name,
         operator,
         members,
-        truth: truth_in(scope, args, 1),
+        truth: call.truth(1),
     })
 }
 
 /// The statement `bool_array_sum_REL`.
-fn count(
-    alloc: Global,
-    scope: &Scope,
-    name: &Name,
-    relation: Relation,
-    args: &[Arg],
-) -> Result<What, AllocError>
-    ensures { IfOk result (λ w. w ≡ L10 name.now relation (truths_in scope.now (slice_get args.now 0)) (number_in scope.now (slice_get args.now 1))) }
+fn count(call: &Call<'_>, relation: Relation) -> Result<What, AllocError>
+    ensures { IfOk result (λ w. w ≡ L10 call.now.name.now relation (truths_in call.now.scope.now (slice_get call.now.args.now 0)) (number_in call.now.scope.now (slice_get call.now.args.now 1))) }
 {
-    let members = truths_in(alloc, scope, args, 0)?;
-    let name = own(name)?;
+    let members = call.truths(0)?;
+    let name = call.own_name()?;
     Ok(What::L10 {
         name,
         relation,
         members,
-        bound: number_in(scope, args, 1),
+        bound: call.number(1),
     })
 }
 
 /// The statement `bool_array_pb_REL`.
-fn pseudo_boolean(
-    alloc: Global,
-    scope: &Scope,
-    name: &Name,
-    relation: Relation,
-    args: &[Arg],
-) -> Result<What, AllocError>
-    ensures { IfOk result (λ w. w ≡ L11 name.now relation (numerals_in (slice_get args.now 0)) (truths_in scope.now (slice_get args.now 1)) (number_in scope.now (slice_get args.now 2))) }
+fn pseudo_boolean(call: &Call<'_>, relation: Relation) -> Result<What, AllocError>
+    ensures { IfOk result (λ w. w ≡ L11 call.now.name.now relation (numerals_in (slice_get call.now.args.now 0)) (truths_in call.now.scope.now (slice_get call.now.args.now 1)) (number_in call.now.scope.now (slice_get call.now.args.now 2))) }
 {
-    let coefficients = numerals_in(alloc, args, 0)?;
-    let members = truths_in(alloc, scope, args, 1)?;
-    let name = own(name)?;
+    let coefficients = call.numerals(0)?;
+    let members = call.truths(1)?;
+    let name = call.own_name()?;
     Ok(What::L11 {
         name,
         relation,
         coefficients,
         members,
-        bound: number_in(scope, args, 2),
+        bound: call.number(2),
     })
 }
 
 /// The statement `int_array_sum_REL`.
-fn sum(
-    alloc: Global,
-    scope: &Scope,
-    name: &Name,
-    relation: Relation,
-    args: &[Arg],
-) -> Result<What, AllocError>
-    ensures { IfOk result (λ w. w ≡ L12 name.now relation (numbers_in scope.now (slice_get args.now 0)) (number_in scope.now (slice_get args.now 1))) }
+fn sum(call: &Call<'_>, relation: Relation) -> Result<What, AllocError>
+    ensures { IfOk result (λ w. w ≡ L12 call.now.name.now relation (numbers_in call.now.scope.now (slice_get call.now.args.now 0)) (number_in call.now.scope.now (slice_get call.now.args.now 1))) }
 {
-    let members = numbers_in(alloc, scope, args, 0)?;
-    let name = own(name)?;
+    let members = call.numbers(0)?;
+    let name = call.own_name()?;
     Ok(What::L12 {
         name,
         relation,
         members,
-        bound: number_in(scope, args, 1),
+        bound: call.number(1),
     })
 }
 
 /// The statement `int_array_lin_REL`.
-fn linear(
-    alloc: Global,
-    scope: &Scope,
-    name: &Name,
-    relation: Relation,
-    args: &[Arg],
-) -> Result<What, AllocError>
-    ensures { IfOk result (λ w. w ≡ L13 name.now relation (numerals_in (slice_get args.now 0)) (numbers_in scope.now (slice_get args.now 1)) (number_in scope.now (slice_get args.now 2))) }
+fn linear(call: &Call<'_>, relation: Relation) -> Result<What, AllocError>
+    ensures { IfOk result (λ w. w ≡ L13 call.now.name.now relation (numerals_in (slice_get call.now.args.now 0)) (numbers_in call.now.scope.now (slice_get call.now.args.now 1)) (number_in call.now.scope.now (slice_get call.now.args.now 2))) }
 {
-    let coefficients = numerals_in(alloc, args, 0)?;
-    let members = numbers_in(alloc, scope, args, 1)?;
-    let name = own(name)?;
+    let coefficients = call.numerals(0)?;
+    let members = call.numbers(1)?;
+    let name = call.own_name()?;
     Ok(What::L13 {
         name,
         relation,
         coefficients,
         members,
-        bound: number_in(scope, args, 2),
+        bound: call.number(2),
     })
 }
 
 /// The statement of an operation on a list of integers.
-fn aggregate(
-    alloc: Global,
-    scope: &Scope,
-    name: &Name,
-    operation: Aggregate,
-    args: &[Arg],
-) -> Result<What, AllocError>
-    ensures { IfOk result (λ w. w ≡ L16 name.now operation (numbers_in scope.now (slice_get args.now 0)) (number_in scope.now (slice_get args.now 1))) }
+fn aggregate(call: &Call<'_>, operation: Aggregate) -> Result<What, AllocError>
+    ensures { IfOk result (λ w. w ≡ L16 call.now.name.now operation (numbers_in call.now.scope.now (slice_get call.now.args.now 0)) (number_in call.now.scope.now (slice_get call.now.args.now 1))) }
 {
-    let members = numbers_in(alloc, scope, args, 0)?;
-    let name = own(name)?;
+    let members = call.numbers(0)?;
+    let name = call.own_name()?;
     Ok(What::L16 {
         name,
         operation,
         members,
-        value: number_in(scope, args, 1),
+        value: call.number(1),
     })
 }
 
 /// The statement that members differ.
-fn all_different(
-    alloc: Global,
-    scope: &Scope,
-    name: &Name,
-    kind: AllDifferent,
-    args: &[Arg],
-) -> Result<What, AllocError>
-    ensures { IfOk result (λ w. w ≡ all_different_what scope.now name.now kind args.now) }
+fn all_different(call: &Call<'_>, kind: AllDifferent) -> Result<What, AllocError>
+    ensures { IfOk result (λ w. w ≡ all_different_what call.now.scope.now call.now.name.now kind call.now.args.now) }
 {
-    let members = numbers_in(alloc, scope, args, 0)?;
+    let members = call.numbers(0)?;
     let (truth, conditions) = match kind {
         AllDifferent::Plain => (None, None),
-        AllDifferent::Reified => (Some(truth_apart(alloc, scope, args, 1)?), None),
-        AllDifferent::Conditional => (None, Some(truths_apart(alloc, scope, args, 1)?)),
+        AllDifferent::Reified => (Some(call.truth_apart(1)?), None),
+        AllDifferent::Conditional => (None, Some(call.truths_apart(1)?)),
     };
-    let name = own(name)?;
+    let name = call.own_name()?;
     Ok(What::L17 {
         name,
         kind,
@@ -274,18 +214,15 @@ fn all_different(
 
 /// The statement that two lists of Booleans are in order.
 fn truths_order(
-    alloc: Global,
-    scope: &Scope,
-    name: &Name,
+    call: &Call<'_>,
     order: Order,
     truth: Option<Apart<BoolTerm>>,
-    args: &[Arg],
 ) -> Result<What, AllocError>
-    ensures { IfOk result (λ w. w ≡ L18 name.now order (Some (truths_in scope.now (slice_get args.now 0))) (Some (truths_in scope.now (slice_get args.now 1))) None None truth) }
+    ensures { IfOk result (λ w. w ≡ L18 call.now.name.now order (Some (truths_in call.now.scope.now (slice_get call.now.args.now 0))) (Some (truths_in call.now.scope.now (slice_get call.now.args.now 1))) None None truth) }
 {
-    let left = truths_apart(alloc, scope, args, 0)?;
-    let right = truths_apart(alloc, scope, args, 1)?;
-    let name = own(name)?;
+    let left = call.truths_apart(0)?;
+    let right = call.truths_apart(1)?;
+    let name = call.own_name()?;
     Ok(What::L18 {
         name,
         order,
@@ -299,18 +236,15 @@ fn truths_order(
 
 /// The statement that two lists of integers are in order.
 fn numbers_order(
-    alloc: Global,
-    scope: &Scope,
-    name: &Name,
+    call: &Call<'_>,
     order: Order,
     truth: Option<Apart<BoolTerm>>,
-    args: &[Arg],
 ) -> Result<What, AllocError>
-    ensures { IfOk result (λ w. w ≡ L18 name.now order None None (Some (numbers_in scope.now (slice_get args.now 0))) (Some (numbers_in scope.now (slice_get args.now 1))) truth) }
+    ensures { IfOk result (λ w. w ≡ L18 call.now.name.now order None None (Some (numbers_in call.now.scope.now (slice_get call.now.args.now 0))) (Some (numbers_in call.now.scope.now (slice_get call.now.args.now 1))) truth) }
 {
-    let left = numbers_apart(alloc, scope, args, 0)?;
-    let right = numbers_apart(alloc, scope, args, 1)?;
-    let name = own(name)?;
+    let left = call.numbers_apart(0)?;
+    let right = call.numbers_apart(1)?;
+    let name = call.own_name()?;
     Ok(What::L18 {
         name,
         order,
@@ -323,16 +257,11 @@ fn numbers_order(
 }
 
 /// The truth of an order, where a Boolean is it.
-fn order_truth(
-    alloc: Global,
-    scope: &Scope,
-    order: Order,
-    args: &[Arg],
-) -> Result<Option<Apart<BoolTerm>>, AllocError>
-    ensures { IfOk result (λ t. t ≡ (if order.reified then Some (truth_in scope.now (slice_get args.now 2)) else None)) }
+fn order_truth(call: &Call<'_>, order: Order) -> Result<Option<Apart<BoolTerm>>, AllocError>
+    ensures { IfOk result (λ t. t ≡ (if order.reified then Some (truth_in call.now.scope.now (slice_get call.now.args.now 2)) else None)) }
 {
     if order.reified {
-        let truth = truth_apart(alloc, scope, args, 2)?;
+        let truth = call.truth_apart(2)?;
         Ok(Some(truth))
     } else {
         Ok(None)
@@ -340,61 +269,40 @@ fn order_truth(
 }
 
 /// The statement that two lists are in order.
-fn order(
-    alloc: Global,
-    scope: &Scope,
-    name: &Name,
-    order: Order,
-    args: &[Arg],
-) -> Result<What, AllocError>
-    ensures { IfOk result (λ w. w ≡ order_what scope.now name.now order args.now) }
+fn order(call: &Call<'_>, order: Order) -> Result<What, AllocError>
+    ensures { IfOk result (λ w. w ≡ order_what call.now.scope.now call.now.name.now order call.now.args.now) }
 {
-    let truth = order_truth(alloc, scope, order, args)?;
+    let truth = order_truth(call, order)?;
     if order.of_booleans {
-        truths_order(alloc, scope, name, order, truth, args)
+        truths_order(call, order, truth)
     } else {
-        numbers_order(alloc, scope, name, order, truth, args)
+        numbers_order(call, order, truth)
     }
 }
 
 /// What a statement states, among the declarations of a scope. A declaration alone states nothing.
 #[tactic(auto, unfolding(crate::specs::Items::what_of))]
-pub fn what_of(
-    alloc: Global,
-    scope: &Scope,
-    name: &Name,
-    statement: Statement,
-    args: &[Arg],
-) -> Result<Option<What>, AllocError>
-    ensures { IfOk result (λ w. w ≡ what_of scope.now name.now statement args.now) }
+pub fn what_of(call: &Call<'_>, statement: Statement) -> Result<Option<What>, AllocError>
+    ensures { IfOk result (λ w. w ≡ what_of call.now.scope.now call.now.name.now statement call.now.args.now) }
 {
     match statement {
         Statement::NewBool => Ok(None),
         Statement::NewInt => Ok(None),
-        Statement::BoolToInt => Ok(Some(bool_to_int(scope, args))),
-        Statement::BoolEq => Ok(Some(bool_eq(scope, args))),
-        Statement::PairReified(operator) => Ok(Some(pair(scope, own(name)?, operator, args))),
-        Statement::Array(operator) => Ok(Some(array(alloc, scope, name, operator, args)?)),
-        Statement::ArrayReified(operator) => Ok(Some(array_reified(
-            alloc, scope, name, operator, args,
-        )?)),
-        Statement::Compare(relation) => Ok(Some(compare(scope, own(name)?, relation, args))),
-        Statement::CompareReified(relation) => Ok(Some(compare_reified(
-            scope,
-            own(name)?,
-            relation,
-            args,
-        ))),
-        Statement::Count(relation) => Ok(Some(count(alloc, scope, name, relation, args)?)),
-        Statement::PseudoBoolean(relation) => Ok(Some(pseudo_boolean(
-            alloc, scope, name, relation, args,
-        )?)),
-        Statement::Sum(relation) => Ok(Some(sum(alloc, scope, name, relation, args)?)),
-        Statement::Linear(relation) => Ok(Some(linear(alloc, scope, name, relation, args)?)),
-        Statement::Operation(which) => Ok(Some(operation(scope, own(name)?, which, args))),
-        Statement::Absolute => Ok(Some(absolute(scope, args))),
-        Statement::Aggregate(which) => Ok(Some(aggregate(alloc, scope, name, which, args)?)),
-        Statement::AllDifferent(kind) => Ok(Some(all_different(alloc, scope, name, kind, args)?)),
-        Statement::Lex(kind) => Ok(Some(order(alloc, scope, name, kind, args)?)),
+        Statement::BoolToInt => Ok(Some(bool_to_int(call))),
+        Statement::BoolEq => Ok(Some(bool_eq(call))),
+        Statement::PairReified(operator) => Ok(Some(pair(call, operator)?)),
+        Statement::Array(operator) => Ok(Some(array(call, operator)?)),
+        Statement::ArrayReified(operator) => Ok(Some(array_reified(call, operator)?)),
+        Statement::Compare(relation) => Ok(Some(compare(call, relation)?)),
+        Statement::CompareReified(relation) => Ok(Some(compare_reified(call, relation)?)),
+        Statement::Count(relation) => Ok(Some(count(call, relation)?)),
+        Statement::PseudoBoolean(relation) => Ok(Some(pseudo_boolean(call, relation)?)),
+        Statement::Sum(relation) => Ok(Some(sum(call, relation)?)),
+        Statement::Linear(relation) => Ok(Some(linear(call, relation)?)),
+        Statement::Operation(which) => Ok(Some(operation(call, which)?)),
+        Statement::Absolute => Ok(Some(absolute(call))),
+        Statement::Aggregate(which) => Ok(Some(aggregate(call, which)?)),
+        Statement::AllDifferent(kind) => Ok(Some(all_different(call, kind)?)),
+        Statement::Lex(kind) => Ok(Some(order(call, kind)?)),
     }
 }

@@ -9,6 +9,7 @@ ghost use Rattle.typed_model.specs.Items.{declare_if, declarations_of, what_of, 
 ghost use Rattle.typed_model.specs.Taken.{HasTaken, with_item};
 ghost use Rattle.typed_model.specs.WellTyped.{WellTyped};
 
+use crate::call::Call;
 use crate::fault::TypeFault;
 use crate::faults::item_fault;
 use crate::items::{declare_by, goal_of};
@@ -33,7 +34,13 @@ fn state(
 ) -> Result<(), AllocError>
     ensures { OnOk result (stmts.new.items ≡ stmts.old.items ++ state number (what_of scope.now name.now statement args.now)) }
 {
-    match what_of(alloc, scope, name, statement, args)? {
+    let call = Call {
+        alloc,
+        scope,
+        name,
+        args,
+    };
+    match what_of(&call, statement)? {
         Some(what) => {
             stmts.push(Stmt { number, what })?;
             Ok(())

@@ -6,11 +6,12 @@ use Rattle.order_ints.specs.Truth.{Valuation}
 use Rattle.order_ints.specs.Satisfies.{Satisfies}
 use Rattle.order_ints.proofs.TruthLaws.{MeetsView-nil}
 use Rattle.order_ints.proofs.OrderedLaws.{clauses_truth-ordered_clauses, ClausesBelow-ordered_clauses}
+use Rattle.core_forms.specs.Cores.{MeetsAll}
 use Rattle.typed_model.specs.declared.model.Decl.{Decl}
 use Rattle.typed_model.specs.declared.model.Model.{Model}
 use Rattle.model_lower.specs.declared.state.Lowered.{Lowered}
 use Rattle.model_lower.specs.Lowering.{lowered_of}
-use Rattle.model_lower.specs.Decoded.{MeetsAll, IsDecoded}
+use Rattle.model_lower.specs.Decoded.{IsDecoded}
 use Rattle.model_lower.specs.Built.{first_unbuilt_of}
 use Rattle.model_lower.specs.Fits.{CoresFit, Fits}
 use Rattle.typed_model.specs.WellTyped.{WellTyped}
@@ -19,15 +20,15 @@ use Rattle.model_lower.proofs.LoweringLaw.{lowering_law}
 use Rattle.bee_compile.specs.Encoded.{encoded}
 use Rattle.bee_compile.specs.declared.compiled.Compiled.{Compiled}
 use Rattle.bee_compile.specs.Compiled.{cnf_of, IsGiven, CompiledFits, CompilationLaw}
-use Rattle.bee_compile.proofs.Encodings.{below-encoded, met-encoded}
+use Rattle.bee_compile.proofs.Encodings.{below-encoded, truth-encoded}
 
 -- a valuation satisfies the clauses exactly where it meets the cores
 pub satisfied : (σ : Valuation) (l : Lowered) (decls : List Decl) → Fits l decls → Satisfies σ (cnf_of l) ↔ MeetsAll σ l.cores
 satisfied σ l decls fits =
     let n = l.vars + 1 in
     let same = clauses_truth-ordered_clauses σ [] n (MeetsView-nil σ) (encoded l.cores) (below-encoded n l.cores fits.cores) in
-    let met = met-encoded σ n l.cores fits.cores in
-    (λ h. met.0 (sym same ∙ h), λ m. same ∙ met.1 m)
+    let met = truth-encoded σ n l.cores fits.cores in
+    (λ h. sym met ∙ (sym same ∙ h), λ m. same ∙ (met ∙ m))
 
 module _ (decls : List Decl) where
   abbrev with_cnf : Cnf → Lowered → Compiled

@@ -1,6 +1,5 @@
 -- The clauses of cores are true where the valuation meets the cores.
-use Rattle.std.proofs.Common.{rules, ◌≡◌, ℕ, Bool, true, false, ◌&&◌, List, [], ◌∷◌, ◌++◌, refl, ap, sym, subst, append_assoc, ◌∙◌}
-use Rattle.std.specs.Prelude.{IsTrue, ◌↔◌}
+use Rattle.std.proofs.Common.{◌≡◌, ℕ, List, [], ◌∷◌, ◌++◌, refl, ap, sym, subst, append_assoc, ◌∙◌}
 use Rattle.std.proofs.lemmas.List.Elements.{filter_map-append}
 use Rattle.order_ints.specs.declared.atom.Atom.{Atom}
 use Rattle.order_ints.specs.declared.literal.Lit.{Lit}
@@ -12,13 +11,13 @@ use Rattle.order_ints.proofs.TruthLaws.{MeetsView-nil, atom_clauses_truth-append
 use Rattle.core_forms.specs.declared.form.Core.{Core}
 use Rattle.core_forms.specs.declared.form.Core.TheVariants.{Ladder, Clause, Parity, Conj, Comp, LeqR, EqR, Sum3, Count, Sum, Max, AllDiff, Amo, Prod, DivMod, Lex}
 use Rattle.core_forms.specs.Meaning.{core_truth}
+use Rattle.core_forms.specs.Cores.{cores_truth}
 use Rattle.core_forms.specs.Trimmed.{trimmed_core}
 use Rattle.core_forms.proofs.TidiedCores.{core_truth-trimmed}
 use Rattle.core_forms.proofs.Places.{CoreBelow-trimmed}
 use Rattle.direct_encode.specs.Clauses.{IsEncodable}
 use Rattle.direct_encode.proofs.Truths.{truth-clauses_of}
 use Rattle.direct_encode.proofs.Places.{below-clauses_of}
-use Rattle.model_lower.specs.Decoded.{MeetsAll}
 use Rattle.model_lower.specs.Fits.{IsFirstForm, CoreFits, CoresFit}
 use Rattle.bee_compile.specs.Encoded.{encoded_core, encoded, each_ordered}
 
@@ -58,25 +57,14 @@ below-encoded n [] fits = tt
 below-encoded n (core ∷ cores) fits =
     below-append n (encoded_core core) (encoded cores) (below-encoded_core n core fits.0) (below-encoded n cores fits.1)
 
-both : (a b : Bool) → IsTrue (a && b) → IsTrue a × IsTrue b
-both true b h = (refl, h)
-both false b h = absurd (search (rules, h))
-
-together : (a b : Bool) → IsTrue a → IsTrue b → IsTrue (a && b)
-together true b h k = k
-together false b h k = h
-
--- the clauses of all cores are true exactly where the valuation meets the cores
-pub met-encoded : (σ : Valuation) (n : ℕ) (cores : List Core) → CoresFit n cores
-    → IsTrue (atom_clauses_truth σ (encoded cores)) ↔ MeetsAll σ cores
-met-encoded σ n [] fits = (λ h. tt, λ h. refl)
-met-encoded σ n (core ∷ cores) fits =
+-- the clauses of all cores are as true as the cores
+pub truth-encoded : (σ : Valuation) (n : ℕ) (cores : List Core) → CoresFit n cores → atom_clauses_truth σ (encoded cores) ≡ cores_truth σ cores
+truth-encoded σ n [] fits = refl
+truth-encoded σ n (core ∷ cores) fits =
     let parts = atom_clauses_truth-append σ (encoded_core core) (encoded cores) in
     let first = truth-encoded_core σ n core fits.0 in
-    let rest = met-encoded σ n cores fits.1 in (
-      λ h. let p = both _ _ (sym parts ∙ h) in (sym first ∙ p.0, rest.0 p.1),
-      λ m. parts ∙ together _ _ (first ∙ m.0) (rest.1 m.1),
-    )
+    let rest = truth-encoded σ n cores fits.1 in
+    cc
 
 -- one core less is left, and its clauses are made
 pub core_taken : (made new : List (List Lit)) (core : Core) (left rest : List Core) (all : List (List Lit))

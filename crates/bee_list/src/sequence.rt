@@ -1,6 +1,7 @@
 //! A list over a `Vec`, which contracts see as the list of its members at every depth.
 
-ghost use Rattle.std.specs.Prelude.{◌≡◌, ◌==◌, length};
+ghost use Rattle.std.specs.Prelude.{◌≡◌, ◌==◌, ◌↔◌, IsTrue, length};
+ghost use Rattle.std.specs.Cmp.Lexicographic.{pointwise, lists_per, lists_equiv};
 
 use std::alloc::Global;
 use std::marker::Model;
@@ -61,4 +62,23 @@ impl<T> Sequence<T> {
     {
         self.items.is_empty()
     }
+}
+
+/// Lists are equal where their members are, place by place. Where `==` of members is equality, so is that of
+/// lists.
+impl<T: PartialEq> PartialEq for Sequence<T> {
+    ghost eq = { pointwise T.eq };
+
+    ghost laws = { lists_per T.PartialEq.laws };
+
+    fn eq(&self, other: &Sequence<T>) -> bool
+        ensures members { result ≡ pointwise T.eq self.now other.now }
+        ensures equal { ((x y : T) → IsTrue (T.eq x y) ↔ (x ≡ y)) → IsTrue result ↔ (self.now ≡ other.now) }
+    {
+        self.as_slice() == other.as_slice()
+    }
+}
+
+impl<T: Eq> Eq for Sequence<T> {
+    ghost laws = { lists_equiv T.Eq.laws };
 }

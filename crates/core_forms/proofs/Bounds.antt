@@ -16,9 +16,13 @@ use Rattle.core_forms.specs.WellFormed.{greatest_abs, HasSmallProducts, HasSmall
 pub value-abs : (σ : Valuation) (a : OrdInt) → unsigned_abs (value_of σ a) ≤ greatest_abs a
 value-abs σ a = omega (arith, ints, gains-le σ a.steps)
 
--- a small number is its bits
+-- a number that fits 128 bits with its sign is what its bits say
+pub wide_bits : (z : ℤ) → unsigned_abs z < 2 ^ 127 → to_z w128 (of_z w128 z) ≡ z
+wide_bits z h = to_z-of_z w128 z (fits_signed_from_abs w128 z (omega (arith, h)))
+
+-- and so is each within the limits of values
 pub small_bits : (z : ℤ) → unsigned_abs z < 2 ^ 100 → to_z w128 (of_z w128 z) ≡ z
-small_bits z h = to_z-of_z w128 z (fits_signed_from_abs w128 z (omega (arith, h)))
+small_bits z h = wide_bits z (omega (arith, h))
 
 pub small_product : (σ : Valuation) (a b : OrdInt) (x y : ℤ) → HasSmallProducts a b → IsOrdered σ a → IsOrdered σ b → x ≡ value_of σ a → y ≡ value_of σ b → unsigned_abs x < 2 ^ 100 → unsigned_abs y < 2 ^ 100 → unsigned_abs (to_z w128 (of_z w128 x) *ℤ to_z w128 (of_z w128 y)) < 2 ^ 100
 small_product σ a b x y small oa ob ex ey hx hy =

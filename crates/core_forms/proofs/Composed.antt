@@ -8,15 +8,19 @@ use Rattle.order_ints.specs.Truth.{not_atom}
 use Rattle.order_ints.specs.Place.{AtomBelow}
 use Rattle.order_ints.specs.OrderChange.{shifted_of}
 use Rattle.order_ints.specs.View.{label_of, resolve}
+use Rattle.order_ints.specs.Label.{IsLabelled}
 use Rattle.order_ints.proofs.TruthLaws.{resolve-nil}
+use Rattle.order_ints.specs.Equality.{same_atom-true, same_atom-refl, is_true-True, is_false-False}
+use Rattle.order_ints.specs.Same.{is_true, is_false, same_atom}
+use Rattle.order_ints.proofs.Labels.{resolves_once, resolves_negation}
 use Rattle.core_forms.specs.declared.form.Core.{Core}
 use Rattle.core_forms.specs.declared.form.Core.TheVariants.{Ladder, Clause, Parity, Conj, Comp, LeqR, EqR, Sum3, Count, Sum, Max, AllDiff, Amo, Prod, DivMod, Lex}
 use Rattle.core_forms.specs.Place.{CoreBelow}
 use Rattle.core_forms.specs.Each.{EachOf, EachStep, EachInt, EachAtom}
 use Rattle.core_forms.specs.Resolved.{map_steps, map_int, map_ints, map_core, resolved_core}
-use Rattle.core_forms.specs.Trimmed.{is_true, is_false, same_atom, merged_steps, raised_by, has_true, has_false, without_true, without_false, without_constants, constant_trues, turned, tidied_clause, tidied_members, tidied_int, tidied_ints, tidied_core, trimmed_core, IsTrimmed, composed_view, AreOwnLabels}
-use Rattle.core_forms.proofs.Tidied.{by_test, same_atom-true, same_atom-refl, is_true-True, is_false-False}
-use Rattle.core_forms.proofs.EachLaws.{each_below, each_every}
+use Rattle.core_forms.specs.Trimmed.{merged_steps, raised_by, has_true, has_false, without_true, without_false, without_constants, constant_trues, turned, tidied_clause, tidied_members, tidied_int, tidied_ints, tidied_core, trimmed_core, IsTrimmed, composed_view}
+use Rattle.core_forms.proofs.Tidied.{by_test}
+use Rattle.core_forms.proofs.EachLaws.{EachInt-left, EachInt-right, each_below, each_every}
 
 -- two maps after another are one
 module _ (f g h : Atom → Atom) where
@@ -39,22 +43,25 @@ module _ (f g h : Atom → Atom) where
   int_joined (a ∷ xs) e = let p = one_joined a e.0 in let r = int_joined xs e.1 in cc
 
   pub core_joined : (core : Core) → EachAtom Joins core → map_core g (map_core f core) ≡ map_core h core
-  core_joined (Ladder a) h' = let e00 = one_joined a h' in cc
-  core_joined (Clause ls) h' = let e00 = of_joined ls h' in cc
-  core_joined (Parity ls odd) h' = let e00 = of_joined ls h' in cc
-  core_joined (Conj r ls) h' = let e00 = h'.0 in let e10 = of_joined ls h'.1 in cc
-  core_joined (Comp a b hi lo) h' = let e00 = h'.0 in let e10 = h'.1 in let e20 = h'.2 in let e30 = h'.3 in cc
-  core_joined (LeqR r a b) h' = let e00 = h'.0 in let e10 = one_joined a h'.1 in let e20 = one_joined b h'.2 in cc
-  core_joined (EqR r a b) h' = let e00 = h'.0 in let e10 = one_joined a h'.1 in let e20 = one_joined b h'.2 in cc
-  core_joined (Sum3 a b c) h' = let e00 = one_joined a h'.0 in let e10 = one_joined b h'.1 in let e20 = one_joined c h'.2 in cc
-  core_joined (Count ls c) h' = let e00 = of_joined ls h'.0 in let e10 = one_joined c h'.1 in cc
-  core_joined (Sum xs k) h' = let e00 = int_joined xs h' in cc
-  core_joined (Max xs c) h' = let e00 = int_joined xs h'.0 in let e10 = one_joined c h'.1 in cc
-  core_joined (AllDiff xs cs) h' = let e00 = int_joined xs h'.0 in let e10 = of_joined cs h'.1 in cc
-  core_joined (Amo ls) h' = let e00 = of_joined ls h' in cc
-  core_joined (Prod a b c) h' = let e00 = one_joined a h'.0 in let e10 = one_joined b h'.1 in let e20 = one_joined c h'.2 in cc
-  core_joined (DivMod a b q r) h' = let e00 = one_joined a h'.0 in let e10 = one_joined b h'.1 in let e20 = one_joined q h'.2 in let e30 = one_joined r h'.3 in cc
-  core_joined (Lex r strict front back) h' = let e00 = h'.0 in let e10 = int_joined front h'.1 in let e20 = int_joined back h'.2 in cc
+  core_joined (Ladder a) e = let p = one_joined a e.1.0 in cc
+  core_joined (Clause ls) e = let p = of_joined ls e.0 in cc
+  core_joined (Parity ls odd) e = let p = of_joined ls e.0 in cc
+  core_joined (Conj r ls) e = let p = e.0.0 in let q = of_joined ls e.0.1 in cc
+  core_joined (Comp a b hi lo) e = let p = e.0.0 in let q = e.0.1.0 in let s = e.0.1.1.0 in let t = e.0.1.1.1.0 in cc
+  core_joined (LeqR r a b) e = let p = e.0.0 in let q = one_joined a e.1.0 in let s = one_joined b e.1.1.0 in cc
+  core_joined (EqR r a b) e = let p = e.0.0 in let q = one_joined a e.1.0 in let s = one_joined b e.1.1.0 in cc
+  core_joined (Sum3 a b c) e = let p = one_joined a e.1.0 in let q = one_joined b e.1.1.0 in let s = one_joined c e.1.1.1.0 in cc
+  core_joined (Count ls c) e = let p = of_joined ls e.0 in let q = one_joined c e.1.0 in cc
+  core_joined (Sum xs k) e = let p = int_joined xs e.1 in cc
+  core_joined (Max xs c) e =
+      let p = int_joined xs (EachInt-left Joins xs (c ∷ []) e.1) in let q = one_joined c (EachInt-right Joins xs (c ∷ []) e.1).0 in cc
+  core_joined (AllDiff xs cs) e = let p = int_joined xs e.1 in let q = of_joined cs e.0 in cc
+  core_joined (Amo ls) e = let p = of_joined ls e.0 in cc
+  core_joined (Prod a b c) e = let p = one_joined a e.1.0 in let q = one_joined b e.1.1.0 in let s = one_joined c e.1.1.1.0 in cc
+  core_joined (DivMod a b q r) e =
+      let p = one_joined a e.1.0 in let s = one_joined b e.1.1.0 in let t = one_joined q e.1.1.1.0 in let u = one_joined r e.1.1.1.1.0 in cc
+  core_joined (Lex r strict front back) e =
+      let p = e.0.0 in let q = int_joined front (EachInt-left Joins front back e.1) in let s = int_joined back (EachInt-right Joins front back e.1) in cc
 
 -- a map that leaves the constants, after tidying and tidied again, is as if it were not tidied before
 module _ (f : Atom → Atom) (keeps_true : f True ≡ True) (keeps_false : f False ≡ False) where
@@ -259,24 +266,6 @@ module _ (f : Atom → Atom) (keeps_true : f True ≡ True) (keeps_false : f Fal
   tidied_again (Lex r strict front back) = let e10 = int_again front in let e20 = int_again back in cc
 
 -- a label of a composed view
-not_twice : (a : Atom) → not_atom (not_atom a) ≡ a
-not_twice True = refl
-not_twice False = refl
-not_twice (Of l) = by l.positive
-  where
-    by : (p : Bool) → Of (record { var = l.var; positive = not (not p) }) ≡ Of (record { var = l.var; positive = p })
-    by true = refl
-    by false = refl
-
-resolve-not : (view : List Atom) (a : Atom) → resolve view (not_atom a) ≡ not_atom (resolve view a)
-resolve-not view True = refl
-resolve-not view False = refl
-resolve-not view (Of l) = by l.positive
-  where
-    by : (p : Bool) → cond (not p) (label_of view l.var) (not_atom (label_of view l.var)) ≡ not_atom (cond p (label_of view l.var) (not_atom (label_of view l.var)))
-    by true = refl
-    by false = sym (not_twice (label_of view l.var))
-
 get_or-within : (f : Atom → Atom) (xs : List Atom) (i : ℕ) (d e : Atom) → i < length xs → f (get_or xs i d) ≡ get_or (map f xs) i e
 get_or-within f [] i d e h = absurd (omega (arith, h))
 get_or-within f (x ∷ xs) zero d e h = refl
@@ -292,7 +281,7 @@ resolve-composed first next (Of l) h = by l.positive
 
     by : (p : Bool) → resolve next (cond p (label_of first l.var) (not_atom (label_of first l.var))) ≡ cond p (label_of (composed_view first next) l.var) (not_atom (label_of (composed_view first next) l.var))
     by true = label
-    by false = resolve-not next (label_of first l.var) ∙ ap not_atom label
+    by false = resolves_negation next (label_of first l.var) ∙ ap not_atom label
 
 -- trimming twice is trimming once by the composed view
 pub trimmed_twice : (first next : List Atom) (core : Core) → CoreBelow (length first + 1) core → trimmed_core next (trimmed_core first core) ≡ trimmed_core (composed_view first next) core
@@ -301,9 +290,16 @@ trimmed_twice first next core below =
     ∙ ap tidied_core (core_joined (resolve first) (resolve next) (resolve (composed_view first next)) core
     (each_below (length first + 1) (Joins (resolve first) (resolve next) (resolve (composed_view first next))) (resolve-composed first next) core below))
 
--- trimming is idempotent where labels are their own labels
-pub trimmed_again : (view : List Atom) (core : Core) → AreOwnLabels view → CoreBelow (length view + 1) core → trimmed_core view (trimmed_core view core) ≡ trimmed_core view core
-trimmed_again view core own below = trimmed_twice view view core below ∙ ap (λ (v : List Atom). trimmed_core v core) own
+-- trimming twice is trimming by the second view where that has for the atoms' labels what it has for the atoms
+pub trimmed_joined : (first next : List Atom) (core : Core) → EachAtom (Joins (resolve first) (resolve next) (resolve next)) core → trimmed_core next (trimmed_core first core) ≡ trimmed_core next core
+trimmed_joined first next core joins =
+    tidied_again (resolve next) refl refl (resolved_core first core)
+    ∙ ap tidied_core (core_joined (resolve first) (resolve next) (resolve next) core joins)
+
+-- trimming is idempotent where labels label themselves
+pub trimmed_again : (view : List Atom) (core : Core) → IsLabelled view → trimmed_core view (trimmed_core view core) ≡ trimmed_core view core
+trimmed_again view core labelled =
+    trimmed_joined view view core (each_every (Joins (resolve view) (resolve view) (resolve view)) (λ a. resolves_once view a labelled) core)
 
 -- what trimming gives is trimmed
 pub IsTrimmed-trimmed : (view : List Atom) (core : Core) → IsTrimmed (trimmed_core view core)

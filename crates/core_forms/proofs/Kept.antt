@@ -9,11 +9,12 @@ use Rattle.order_ints.specs.OrderRange.{weights, low_of, high_of, IsBounded, Are
 use Rattle.order_ints.specs.OrderLevels.{levels, values_of}
 use Rattle.order_ints.specs.OrderChange.{shifted_of}
 use Rattle.order_ints.specs.View.{resolve}
+use Rattle.order_ints.specs.Same.{is_true, is_false, same_atom}
 use Rattle.core_forms.specs.declared.form.Core.{Core}
 use Rattle.core_forms.specs.declared.form.Core.TheVariants.{Ladder, Clause, Parity, Conj, Comp, LeqR, EqR, Sum3, Count, Sum, Max, AllDiff, Amo, Prod, DivMod, Lex}
 use Rattle.core_forms.specs.WellFormed.{IsSound, AreSound, greatest_abs, abs_total, IsWellFormed}
 use Rattle.core_forms.specs.Resolved.{map_steps, map_int, map_ints, map_core}
-use Rattle.core_forms.specs.Trimmed.{is_true, is_false, same_atom, merged_steps, raised_by, without_constants, constant_trues, tidied_int, tidied_ints, tidied_core, trimmed_core}
+use Rattle.core_forms.specs.Trimmed.{merged_steps, raised_by, without_constants, constant_trues, tidied_int, tidied_ints, tidied_core, trimmed_core}
 use Rattle.core_forms.proofs.Tidied.{by_test, weights-map_steps, low-raised_by, high-raised_by, IsBounded-trimmed}
 
 -- a value is reached from a base along steps

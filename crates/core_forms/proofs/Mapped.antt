@@ -13,7 +13,7 @@ use Rattle.core_forms.specs.Truths.{all_true, true_count, truths}
 use Rattle.core_forms.specs.Values.{all_ordered, values}
 use Rattle.core_forms.specs.Meaning.{core_truth}
 use Rattle.core_forms.specs.Place.{CoreBelow}
-use Rattle.core_forms.proofs.EachLaws.{each_below, each_every}
+use Rattle.core_forms.proofs.EachLaws.{EachInt-left, EachInt-right, each_below, each_every}
 use Rattle.core_forms.specs.Each.{EachOf, EachStep, EachInt, EachAtom}
 use Rattle.core_forms.specs.Resolved.{map_steps, map_int, map_ints, map_core, resolved_core}
 
@@ -63,32 +63,34 @@ module _ (σ τ : Valuation) (f : Atom → Atom) where
 
   -- a core with atoms that are as true as its own means the same
   pub core_truth-map : (core : Core) → EachAtom (AsTrue σ τ f) core → core_truth σ (map_core f core) ≡ core_truth τ core
-  core_truth-map (Ladder a) h = in_order-map a.steps h
-  core_truth-map (Clause ls) h = clause-map ls h
-  core_truth-map (Parity ls odd) h = let e = true_count-map ls h in cc
-  core_truth-map (Conj r ls) h = let e = h.0 in let q = all_true-map ls h.1 in cc
-  core_truth-map (Comp a b hi lo) h = let ea = h.0 in let eb = h.1 in let eh = h.2 in let el = h.3 in cc
+  core_truth-map (Ladder a) h = in_order-map a.steps h.1.0
+  core_truth-map (Clause ls) h = clause-map ls h.0
+  core_truth-map (Parity ls odd) h = let e = true_count-map ls h.0 in cc
+  core_truth-map (Conj r ls) h = let e = h.0.0 in let q = all_true-map ls h.0.1 in cc
+  core_truth-map (Comp a b hi lo) h = let ea = h.0.0 in let eb = h.0.1.0 in let eh = h.0.1.1.0 in let el = h.0.1.1.1.0 in cc
   core_truth-map (LeqR r a b) h =
-      let e = h.0 in let oa = in_order-map a.steps h.1 in let ob = in_order-map b.steps h.2 in let va = value-map a h.1 in let vb = value-map b h.2 in cc
+      let e = h.0.0 in let oa = in_order-map a.steps h.1.0 in let ob = in_order-map b.steps h.1.1.0 in let va = value-map a h.1.0 in let vb = value-map b h.1.1.0 in cc
   core_truth-map (EqR r a b) h =
-      let e = h.0 in let oa = in_order-map a.steps h.1 in let ob = in_order-map b.steps h.2 in let va = value-map a h.1 in let vb = value-map b h.2 in cc
+      let e = h.0.0 in let oa = in_order-map a.steps h.1.0 in let ob = in_order-map b.steps h.1.1.0 in let va = value-map a h.1.0 in let vb = value-map b h.1.1.0 in cc
   core_truth-map (Sum3 a b c) h =
-      let oa = in_order-map a.steps h.0 in let ob = in_order-map b.steps h.1 in let oc = in_order-map c.steps h.2 in
-      let va = value-map a h.0 in let vb = value-map b h.1 in let vc = value-map c h.2 in cc
-  core_truth-map (Count ls c) h = let e = true_count-map ls h.0 in let o = in_order-map c.steps h.1 in let v = value-map c h.1 in cc
-  core_truth-map (Sum ints k) h = let o = all_ordered-map ints h in let v = values-map ints h in cc
+      let oa = in_order-map a.steps h.1.0 in let ob = in_order-map b.steps h.1.1.0 in let oc = in_order-map c.steps h.1.1.1.0 in
+      let va = value-map a h.1.0 in let vb = value-map b h.1.1.0 in let vc = value-map c h.1.1.1.0 in cc
+  core_truth-map (Count ls c) h = let e = true_count-map ls h.0 in let o = in_order-map c.steps h.1.0 in let v = value-map c h.1.0 in cc
+  core_truth-map (Sum ints k) h = let o = all_ordered-map ints h.1 in let v = values-map ints h.1 in cc
   core_truth-map (Max ints c) h =
-      let o = all_ordered-map ints h.0 in let v = values-map ints h.0 in let oc = in_order-map c.steps h.1 in let vc = value-map c h.1 in cc
-  core_truth-map (AllDiff ints cs) h = let o = all_ordered-map ints h.0 in let v = values-map ints h.0 in let t = truths-map cs h.1 in cc
-  core_truth-map (Amo ls) h = let e = true_count-map ls h in cc
+      let hs = EachInt-left (AsTrue σ τ f) ints (c ∷ []) h.1 in let hc = EachInt-right (AsTrue σ τ f) ints (c ∷ []) h.1 in
+      let o = all_ordered-map ints hs in let v = values-map ints hs in let oc = in_order-map c.steps hc.0 in let vc = value-map c hc.0 in cc
+  core_truth-map (AllDiff ints cs) h = let o = all_ordered-map ints h.1 in let v = values-map ints h.1 in let t = truths-map cs h.0 in cc
+  core_truth-map (Amo ls) h = let e = true_count-map ls h.0 in cc
   core_truth-map (Prod a b c) h =
-      let oa = in_order-map a.steps h.0 in let ob = in_order-map b.steps h.1 in let oc = in_order-map c.steps h.2 in
-      let va = value-map a h.0 in let vb = value-map b h.1 in let vc = value-map c h.2 in cc
+      let oa = in_order-map a.steps h.1.0 in let ob = in_order-map b.steps h.1.1.0 in let oc = in_order-map c.steps h.1.1.1.0 in
+      let va = value-map a h.1.0 in let vb = value-map b h.1.1.0 in let vc = value-map c h.1.1.1.0 in cc
   core_truth-map (DivMod a b q r) h =
-      let oa = in_order-map a.steps h.0 in let ob = in_order-map b.steps h.1 in let oq = in_order-map q.steps h.2 in let or = in_order-map r.steps h.3 in
-      let va = value-map a h.0 in let vb = value-map b h.1 in let vq = value-map q h.2 in let vr = value-map r h.3 in cc
+      let oa = in_order-map a.steps h.1.0 in let ob = in_order-map b.steps h.1.1.0 in let oq = in_order-map q.steps h.1.1.1.0 in let or = in_order-map r.steps h.1.1.1.1.0 in
+      let va = value-map a h.1.0 in let vb = value-map b h.1.1.0 in let vq = value-map q h.1.1.1.0 in let vr = value-map r h.1.1.1.1.0 in cc
   core_truth-map (Lex r strict front back) h =
-      let e = h.0 in let of = all_ordered-map front h.1 in let ob = all_ordered-map back h.2 in let vf = values-map front h.1 in let vb = values-map back h.2 in cc
+      let hf = EachInt-left (AsTrue σ τ f) front back h.1 in let hb = EachInt-right (AsTrue σ τ f) front back h.1 in
+      let e = h.0.0 in let of = all_ordered-map front hf in let ob = all_ordered-map back hb in let vf = values-map front hf in let vb = values-map back hb in cc
 
 -- where a valuation meets a view, it meets a core as the view has it exactly where it meets the core
 pub core_truth-resolved : (σ : Valuation) (view : List Atom) (n : ℕ) (core : Core) → CoreBelow n core → MeetsView σ view → core_truth σ (resolved_core view core) ≡ core_truth σ core

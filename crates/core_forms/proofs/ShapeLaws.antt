@@ -13,9 +13,10 @@ use Rattle.core_cost.specs.Sums.{spans_of}
 use Rattle.core_cost.specs.Relations.{IsShape, IsWithin, AreShapes, AreWithin, AreBelow, PairsAreBelow}
 use Rattle.core_cost.proofs.DivisorLaws.{IsGcd-common}
 use Rattle.core_cost.proofs.ShapeLaws.{common-divides_first, common-divides_second}
+use Rattle.order_ints.specs.Same.{is_true, is_false, same_atom}
 use Rattle.core_forms.specs.WellFormed.{AreSound, greatest_abs, abs_total}
 use Rattle.core_forms.specs.Resolved.{map_steps, map_int, map_ints}
-use Rattle.core_forms.specs.Trimmed.{is_true, is_false, same_atom, merged_steps, raised_by, tidied_int, tidied_ints}
+use Rattle.core_forms.specs.Trimmed.{merged_steps, raised_by, tidied_int, tidied_ints}
 use Rattle.core_forms.specs.Shapes.{divisor_of, steps_of, shape_of, shapes_of, numbers_of_steps, pairs_of_steps}
 use Rattle.core_forms.proofs.Tidied.{by_test, weights-map_steps, weights-merged}
 use Rattle.core_forms.proofs.Kept.{sound-kept}

@@ -3,15 +3,12 @@ use Rattle.std.proofs.Common.{◌≡◌, ℕ, ◌+◌, ◌-◌, ◌*◌, ◌<◌
 use Rattle.std.specs.Prelude.{unsigned_abs}
 use Rattle.std.specs.List.{AllByRecursion}
 use Rattle.std.proofs.Math.Nat.{mul-le-mul}
-use Rattle.std.proofs.lemmas.Int.{ints, to_z-of_z, fits_signed_from_abs}
+use Rattle.std.proofs.lemmas.Int.{ints}
 use mir.Syntax.{w128}
 use Rattle.order_ints.specs.declared.atom.Atom.{Atom}
 use Rattle.order_ints.specs.OrderRange.{weights}
 use Rattle.core_forms.specs.Sums.{pair_sums, spaced}
-
--- a number within the limits is its bits
-pub wide_bits : (z : ℤ) → unsigned_abs z < 2 ^ 110 → to_z w128 (of_z w128 z) ≡ z
-wide_bits z h = to_z-of_z w128 z (fits_signed_from_abs w128 z (omega (arith, h)))
+use Rattle.core_forms.proofs.Bounds.{wide_bits}
 
 abbrev pub AreNear : List (ℤ × Atom) → Type 0
 AreNear walk = AllByRecursion (λ level. unsigned_abs level.0 < 2 ^ 100) walk
@@ -26,7 +23,7 @@ put-more V v w s x walk rest xs ys W e same near all f g h =
     let fw = wide_bits w (omega (arith, these.0)) in
     let sum : s ≡ V +ℤ w = f ∙ ap (λ z. V +ℤ z) fw in
     let size : unsigned_abs s < 2 ^ 110 = far V v w s same near these.0 sum in
-    let fs : to_z w128 (of_z w128 s) ≡ V +ℤ w = wide_bits s size ∙ sum in
+    let fs : to_z w128 (of_z w128 s) ≡ V +ℤ w = wide_bits s (omega (arith, size)) ∙ sum in
     let put : ys ≡ xs ++ (V +ℤ w) ∷ [] = g ∙ ap (λ z. xs ++ z ∷ []) fs in
     (these.1, ap (λ l. l ++ map (λ u. V +ℤ u) (map (λ level. level.0) rest)) put ∙ append_assoc xs ((V +ℤ w) ∷ []) _ ∙ ap (λ l. xs ++ map (λ u. V +ℤ u) (map (λ level. level.0) l)) (sym e) ∙ h)
   where
@@ -41,7 +38,8 @@ pub spaced-more : (low V value next : ℤ) (gap gaps k : ℕ) (xs ys W : List �
 spaced-more low V value next gap gaps k xs ys W same near span below at e put h =
     let most : (k + 1) * gap ≤ gaps * gap = mul-le-mul (omega arith) (omega arith) in
     let there : next ≡ V +ℤ pos ((k + 1) * gap) = reached V value next gap k at e in
-    let bits = wide_bits next (far low V next ((k + 1) * gap) (gaps * gap) same near most span there) in
+    let size = far low V next ((k + 1) * gap) (gaps * gap) same near most span there in
+    let bits = wide_bits next (omega (arith, size)) in
     let one : gaps - k ≡ suc (gaps - (k + 1)) = omega (arith, below) in
     let front : xs ++ spaced next gap (suc (gaps - (k + 1))) ≡ W =
     subst (λ (n : ℕ). xs ++ spaced next gap n ≡ W) one (subst (λ (z : ℤ). xs ++ spaced z gap (gaps - k) ≡ W) (sym e) h) in

@@ -8,31 +8,10 @@ use Rattle.order_ints.specs.declared.order_int.OrdInt.{OrdInt}
 use Rattle.order_ints.specs.Truth.{Valuation, atom_truth}
 use Rattle.order_ints.specs.OrderValue.{gains, value_of, none_true, in_order}
 use Rattle.order_ints.specs.OrderRange.{weights, low_of, high_of, IsBounded}
-use Rattle.order_ints.proofs.LitOrder.{same_lit-true, same_lit-refl}
+use Rattle.order_ints.specs.Same.{is_true, is_false, same_atom}
+use Rattle.order_ints.specs.Equality.{same_atom-true, is_true-True, is_false-False}
 use Rattle.core_forms.specs.Resolved.{map_steps, map_int}
-use Rattle.core_forms.specs.Trimmed.{is_true, is_false, same_atom, merged_steps, raised_by, tidied_int}
-
-pub is_true-True : (a : Atom) → is_true a ≡ true → a ≡ True
-is_true-True True h = refl
-is_true-True False h = absurd (cc)
-is_true-True (Of l) h = absurd (cc)
-
-pub is_false-False : (a : Atom) → is_false a ≡ true → a ≡ False
-is_false-False True h = absurd (cc)
-is_false-False False h = refl
-is_false-False (Of l) h = absurd (cc)
-
-pub same_atom-true : (a b : Atom) → same_atom a b ≡ true → a ≡ b
-same_atom-true True b h = sym (is_true-True b h)
-same_atom-true False b h = sym (is_false-False b h)
-same_atom-true (Of l) True h = absurd (cc)
-same_atom-true (Of l) False h = absurd (cc)
-same_atom-true (Of l) (Of m) h = ap Of (same_lit-true l m h)
-
-pub same_atom-refl : (a : Atom) → same_atom a a ≡ true
-same_atom-refl True = refl
-same_atom-refl False = refl
-same_atom-refl (Of l) = same_lit-refl l
+use Rattle.core_forms.specs.Trimmed.{merged_steps, raised_by, tidied_int}
 
 -- a choice, case by case
 pub by_test : {X : Type 0} (b : Bool) (x y : X) (P : X → Type 0) → (b ≡ true → P x) → (b ≡ false → P y) → P (cond b x y)

@@ -8,7 +8,7 @@ use Rattle.order_ints.specs.Truth.{Valuation, atom_truth, not_atom}
 use Rattle.order_ints.specs.Place.{AtomBelow}
 use Rattle.order_ints.specs.View.{label_of, resolve}
 use Rattle.core_forms.specs.declared.form.Core.{Core}
-use Rattle.core_forms.specs.declared.form.Core.TheVariants.{Ladder, Clause, Parity, Conj, Comp, LeqR, EqR, Sum3, Count, Sum, Max, AllDiff, Amo, Prod, DivMod, Lex}
+use Rattle.core_forms.specs.Contents.{ints_of, atoms_of}
 use Rattle.core_forms.specs.Meaning.{core_truth}
 use Rattle.core_forms.specs.Place.{CoreBelow}
 use Rattle.core_forms.specs.Each.{EachOf, EachStep, EachInt, EachAtom}
@@ -54,22 +54,10 @@ module _ (R : ℕ → Type 0) where
 
   -- what holds of each variable of a core holds of those of each of its atoms
   pub each_vars : (core : Core) → ((v : ℕ) → Contains (core_vars core) v → R v) → EachAtom OfVars core
-  each_vars (Ladder a) h = step_vars a.steps h
-  each_vars (Clause ls) h = of_vars ls h
-  each_vars (Parity ls odd) h = of_vars ls h
-  each_vars (Conj r ls) h = ((left_part R (atom_vars r) (atoms_vars ls) h), of_vars ls (right_part R (atom_vars r) (atoms_vars ls) h))
-  each_vars (Comp a b hi lo) h = ((left_part R (atom_vars a) (atom_vars b ++ (atom_vars hi ++ atom_vars lo)) h), (left_part R (atom_vars b) (atom_vars hi ++ atom_vars lo) (right_part R (atom_vars a) (atom_vars b ++ (atom_vars hi ++ atom_vars lo)) h)), (left_part R (atom_vars hi) (atom_vars lo) (right_part R (atom_vars b) (atom_vars hi ++ atom_vars lo) (right_part R (atom_vars a) (atom_vars b ++ (atom_vars hi ++ atom_vars lo)) h))), (right_part R (atom_vars hi) (atom_vars lo) (right_part R (atom_vars b) (atom_vars hi ++ atom_vars lo) (right_part R (atom_vars a) (atom_vars b ++ (atom_vars hi ++ atom_vars lo)) h))))
-  each_vars (LeqR r a b) h = ((left_part R (atom_vars r) (int_vars a ++ int_vars b) h), step_vars a.steps (left_part R (int_vars a) (int_vars b) (right_part R (atom_vars r) (int_vars a ++ int_vars b) h)), step_vars b.steps (right_part R (int_vars a) (int_vars b) (right_part R (atom_vars r) (int_vars a ++ int_vars b) h)))
-  each_vars (EqR r a b) h = ((left_part R (atom_vars r) (int_vars a ++ int_vars b) h), step_vars a.steps (left_part R (int_vars a) (int_vars b) (right_part R (atom_vars r) (int_vars a ++ int_vars b) h)), step_vars b.steps (right_part R (int_vars a) (int_vars b) (right_part R (atom_vars r) (int_vars a ++ int_vars b) h)))
-  each_vars (Sum3 a b c) h = (step_vars a.steps (left_part R (int_vars a) (int_vars b ++ int_vars c) h), step_vars b.steps (left_part R (int_vars b) (int_vars c) (right_part R (int_vars a) (int_vars b ++ int_vars c) h)), step_vars c.steps (right_part R (int_vars b) (int_vars c) (right_part R (int_vars a) (int_vars b ++ int_vars c) h)))
-  each_vars (Count ls c) h = (of_vars ls (left_part R (atoms_vars ls) (int_vars c) h), step_vars c.steps (right_part R (atoms_vars ls) (int_vars c) h))
-  each_vars (Sum xs k) h = int_vars' xs h
-  each_vars (Max xs c) h = (int_vars' xs (left_part R (ints_vars xs) (int_vars c) h), step_vars c.steps (right_part R (ints_vars xs) (int_vars c) h))
-  each_vars (AllDiff xs cs) h = (int_vars' xs (left_part R (ints_vars xs) (atoms_vars cs) h), of_vars cs (right_part R (ints_vars xs) (atoms_vars cs) h))
-  each_vars (Amo ls) h = of_vars ls h
-  each_vars (Prod a b c) h = (step_vars a.steps (left_part R (int_vars a) (int_vars b ++ int_vars c) h), step_vars b.steps (left_part R (int_vars b) (int_vars c) (right_part R (int_vars a) (int_vars b ++ int_vars c) h)), step_vars c.steps (right_part R (int_vars b) (int_vars c) (right_part R (int_vars a) (int_vars b ++ int_vars c) h)))
-  each_vars (DivMod a b q r) h = (step_vars a.steps (left_part R (int_vars a) (int_vars b ++ (int_vars q ++ int_vars r)) h), step_vars b.steps (left_part R (int_vars b) (int_vars q ++ int_vars r) (right_part R (int_vars a) (int_vars b ++ (int_vars q ++ int_vars r)) h)), step_vars q.steps (left_part R (int_vars q) (int_vars r) (right_part R (int_vars b) (int_vars q ++ int_vars r) (right_part R (int_vars a) (int_vars b ++ (int_vars q ++ int_vars r)) h))), step_vars r.steps (right_part R (int_vars q) (int_vars r) (right_part R (int_vars b) (int_vars q ++ int_vars r) (right_part R (int_vars a) (int_vars b ++ (int_vars q ++ int_vars r)) h))))
-  each_vars (Lex r strict front back) h = ((left_part R (atom_vars r) (ints_vars front ++ ints_vars back) h), int_vars' front (left_part R (ints_vars front) (ints_vars back) (right_part R (atom_vars r) (ints_vars front ++ ints_vars back) h)), int_vars' back (right_part R (ints_vars front) (ints_vars back) (right_part R (atom_vars r) (ints_vars front ++ ints_vars back) h)))
+  each_vars core h = (
+    of_vars (atoms_of core) (left_part R (atoms_vars (atoms_of core)) (ints_vars (ints_of core)) h),
+    int_vars' (ints_of core) (right_part R (atoms_vars (atoms_of core)) (ints_vars (ints_of core)) h),
+  )
 
   vars_of : (ls : List Atom) → EachOf OfVars ls → (v : ℕ) → Contains (atoms_vars ls) v → R v
   vars_of [] h = λ v c. absurd (none_there v c)
@@ -85,25 +73,11 @@ module _ (R : ℕ → Type 0) where
 
   -- and back
   pub vars_each : (core : Core) → EachAtom OfVars core → (v : ℕ) → Contains (core_vars core) v → R v
-  vars_each (Ladder a) h = vars_step a.steps h
-  vars_each (Clause ls) h = vars_of ls h
-  vars_each (Parity ls odd) h = vars_of ls h
-  vars_each (Conj r ls) h = both_parts R (atom_vars r) (atoms_vars ls) h.0 (vars_of ls h.1)
-  vars_each (Comp a b hi lo) h = both_parts R (atom_vars a) (atom_vars b ++ (atom_vars hi ++ atom_vars lo)) h.0 (both_parts R (atom_vars b) (atom_vars hi ++ atom_vars lo) h.1 (both_parts R (atom_vars hi) (atom_vars lo) h.2 h.3))
-  vars_each (LeqR r a b) h = both_parts R (atom_vars r) (int_vars a ++ int_vars b) h.0 (both_parts R (int_vars a) (int_vars b) (vars_step a.steps h.1) (vars_step b.steps h.2))
-  vars_each (EqR r a b) h = both_parts R (atom_vars r) (int_vars a ++ int_vars b) h.0 (both_parts R (int_vars a) (int_vars b) (vars_step a.steps h.1) (vars_step b.steps h.2))
-  vars_each (Sum3 a b c) h = both_parts R (int_vars a) (int_vars b ++ int_vars c) (vars_step a.steps h.0) (both_parts R (int_vars b) (int_vars c) (vars_step b.steps h.1) (vars_step c.steps h.2))
-  vars_each (Count ls c) h = both_parts R (atoms_vars ls) (int_vars c) (vars_of ls h.0) (vars_step c.steps h.1)
-  vars_each (Sum xs k) h = vars_int xs h
-  vars_each (Max xs c) h = both_parts R (ints_vars xs) (int_vars c) (vars_int xs h.0) (vars_step c.steps h.1)
-  vars_each (AllDiff xs cs) h = both_parts R (ints_vars xs) (atoms_vars cs) (vars_int xs h.0) (vars_of cs h.1)
-  vars_each (Amo ls) h = vars_of ls h
-  vars_each (Prod a b c) h = both_parts R (int_vars a) (int_vars b ++ int_vars c) (vars_step a.steps h.0) (both_parts R (int_vars b) (int_vars c) (vars_step b.steps h.1) (vars_step c.steps h.2))
-  vars_each (DivMod a b q r) h = both_parts R (int_vars a) (int_vars b ++ (int_vars q ++ int_vars r)) (vars_step a.steps h.0) (both_parts R (int_vars b) (int_vars q ++ int_vars r) (vars_step b.steps h.1) (both_parts R (int_vars q) (int_vars r) (vars_step q.steps h.2) (vars_step r.steps h.3)))
-  vars_each (Lex r strict front back) h = both_parts R (atom_vars r) (ints_vars front ++ ints_vars back) h.0 (both_parts R (ints_vars front) (ints_vars back) (vars_int front h.1) (vars_int back h.2))
+  vars_each core h =
+      both_parts R (atoms_vars (atoms_of core)) (ints_vars (ints_of core)) (vars_of (atoms_of core) h.0) (vars_int (ints_of core) h.1)
 
 -- an atom's variable is one of its variables
-own_var : (v : ℕ) → Contains (v ∷ []) v
+pub own_var : (v : ℕ) → Contains (v ∷ []) v
 own_var v = (0, omega arith, refl)
 
 truth_same : (σ τ : Valuation) (a : Atom) → OfVars (λ v. σ v ≡ τ v) a → atom_truth σ a ≡ atom_truth τ a

@@ -1,6 +1,7 @@
 pub mod Truths
 pub mod Values
 pub mod Meaning
+pub mod Contents
 pub mod Place
 pub mod WellFormed
 pub mod Resolved
@@ -9,5 +10,6 @@ pub mod Each
 pub mod Variables
 pub mod Shapes
 pub mod Cost
+pub mod Cores
 pub mod Basic
 pub mod Sums

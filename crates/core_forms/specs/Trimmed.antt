@@ -3,30 +3,12 @@ use Rattle.std.specs.Prelude.{◌≡◌, ℕ, zero, suc, ◌+◌, Bool, true, fa
 use Rattle.order_ints.specs.declared.atom.Atom.{Atom}
 use Rattle.order_ints.specs.declared.atom.Atom.TheVariants.{True, False, Of}
 use Rattle.order_ints.specs.declared.order_int.OrdInt.{OrdInt}
-use Rattle.order_ints.specs.OrderedClauses.{same_lit}
+use Rattle.order_ints.specs.Same.{is_true, is_false, same_atom}
 use Rattle.order_ints.specs.OrderChange.{shifted_of}
 use Rattle.order_ints.specs.View.{resolve}
 use Rattle.core_forms.specs.declared.form.Core.{Core}
 use Rattle.core_forms.specs.declared.form.Core.TheVariants.{Ladder, Clause, Parity, Conj, Comp, LeqR, EqR, Sum3, Count, Sum, Max, AllDiff, Amo, Prod, DivMod, Lex}
 use Rattle.core_forms.specs.Resolved.{resolved_core}
-
-abbrev pub is_true : Atom → Bool
-is_true True = true
-is_true False = false
-is_true (Of l) = false
-
-abbrev pub is_false : Atom → Bool
-is_false True = false
-is_false False = true
-is_false (Of l) = false
-
--- the atoms are one
-abbrev pub same_atom : Atom → Atom → Bool
-same_atom True b = is_true b
-same_atom False b = is_false b
-same_atom (Of l) True = false
-same_atom (Of l) False = false
-same_atom (Of l) (Of m) = same_lit l m
 
 -- a step and those behind it: as long as the next one has the same atom its weight is added; and False steps at
 -- the end are gone
@@ -122,7 +104,3 @@ IsTrimmed core = trimmed_core [] core ≡ core
 -- the view that gives each variable the label that the next view gives its label
 abbrev pub composed_view : List Atom → List Atom → List Atom
 composed_view first next = map (resolve next) first
-
--- each label is its own label
-abbrev pub AreOwnLabels : List Atom → Type 0
-AreOwnLabels view = composed_view view view ≡ view

@@ -4,6 +4,7 @@ use Rattle.std.specs.Ordering.{int_eq}
 use Rattle.order_ints.specs.declared.order_int.OrdInt.{OrdInt}
 use Rattle.order_ints.specs.Truth.{Valuation}
 use Rattle.order_ints.specs.OrderValue.{value_of, in_order}
+use Rattle.order_ints.specs.OrderLevels.{is_among}
 
 -- all integers are ordered
 abbrev pub all_ordered : Valuation → List OrdInt → Bool
@@ -24,11 +25,6 @@ total (v ∷ vs) = v +ℤ total vs
 abbrev pub all_at_most : ℤ → List ℤ → Bool
 all_at_most top [] = true
 all_at_most top (v ∷ vs) = int_le v top && all_at_most top vs
-
--- this value is among those
-abbrev pub is_among : ℤ → List ℤ → Bool
-is_among top [] = false
-is_among top (v ∷ vs) = int_eq v top || is_among top vs
 
 -- this value is the greatest one of those: one of them, and none is above it
 abbrev pub is_greatest : ℤ → List ℤ → Bool

@@ -35,7 +35,7 @@ pub fn is_basic(core: &Core) -> bool
     match core {
         Core::Parity(atoms, _) => atoms.len() <= 3,
         Core::Amo(atoms) => atoms.len() <= 4,
-        Core::Sum3(a, b, c) => !has_cheap_network(a, b, c),
+        Core::Sum3(a, b, c) => !has_cheap_network(a.get(), b.get(), c.get()),
         Core::Count(_, _) | Core::Sum(_, _) => false,
         Core::AllDiff(_, _) | Core::Lex(_, _, _, _) => false,
         _ => true,

@@ -31,29 +31,34 @@ fn form_cost(alloc: Global, core: &Core) -> Result<u128, AllocError>
     ensures { IfOk result (λ cost. cost ≡ saturated (cost_of core.now)) }
 {
     match core {
-        Core::Ladder(a) => Ok(ladder_cost(steps(a))),
+        Core::Ladder(a) => Ok(ladder_cost(steps(a.get()))),
         Core::Clause(atoms) => Ok(clause_cost(atoms.len())),
         Core::Parity(atoms, _) => Ok(parity_cost(atoms.len())),
         Core::Conj(_, atoms) => Ok(conj_cost(atoms.len())),
         Core::Comp(_, _, _, _) => Ok(comp_cost()),
-        Core::LeqR(_, a, b) => Ok(leq_cost(steps(a), steps(b))),
-        Core::EqR(_, a, b) => Ok(eq_cost(steps(a), steps(b))),
-        Core::Sum3(a, b, c) => Ok(sum3_cost(shape(a), shape(b), steps(c))),
-        Core::Count(atoms, c) => Ok(count_cost(atoms.len(), steps(c))),
+        Core::LeqR(_, a, b) => Ok(leq_cost(steps(a.get()), steps(b.get()))),
+        Core::EqR(_, a, b) => Ok(eq_cost(steps(a.get()), steps(b.get()))),
+        Core::Sum3(a, b, c) => Ok(sum3_cost(shape(a.get()), shape(b.get()), steps(c.get()))),
+        Core::Count(atoms, c) => Ok(count_cost(atoms.len(), steps(c.get()))),
         Core::Sum(ints, _) => members_cost(alloc, ints.as_slice()),
         Core::Max(ints, c) => {
             let numbers = step_numbers(alloc, ints.as_slice())?;
-            Ok(max_cost(numbers.as_slice(), steps(c)))
+            Ok(max_cost(numbers.as_slice(), steps(c.get())))
         }
         Core::AllDiff(ints, _) => {
             let numbers = step_numbers(alloc, ints.as_slice())?;
             Ok(all_diff_cost(numbers.as_slice()))
         }
         Core::Amo(atoms) => Ok(amo_cost(atoms.len())),
-        Core::Prod(a, b, c) => Ok(prod_cost(steps(a), steps(b), steps(c))),
-        Core::DivMod(a, b, q, r) => Ok(div_mod_cost(steps(a), steps(b), steps(q), steps(r))),
+        Core::Prod(a, b, c) => Ok(prod_cost(steps(a.get()), steps(b.get()), steps(c.get()))),
+        Core::DivMod(a, b, q, r) => Ok(div_mod_cost(
+            steps(a.get()),
+            steps(b.get()),
+            steps(q.get()),
+            steps(r.get()),
+        )),
         Core::Lex(_, _, front, back) => {
-            let pairs = step_pairs(alloc, front.as_slice(), back.as_slice())?;
+            let pairs = step_pairs(alloc, front.get().as_slice(), back.get().as_slice())?;
             Ok(lex_cost(pairs.as_slice()))
         }
     }

@@ -1,14 +1,15 @@
 //! The forms of constraint.
 
-use bee_list::Sequence;
+use bee_list::{Apart, Sequence};
 use order_ints::{Atom, OrdInt};
 
 /// A constraint over literals and integers in the order encoding, in one of sixteen forms. Each form
-/// also says that all its integers are ordered.
-#[derive(Debug, Clone, Drop)]
+/// also says that all its integers are ordered. What only greater forms hold stands apart, so that a
+/// core takes at most 48 bytes beside its lists and integers.
+#[derive(Debug, Clone)]
 pub enum Core {
     /// The integer is ordered.
-    Ladder(OrdInt),
+    Ladder(Apart<OrdInt>),
     /// Some member is true.
     Clause(Sequence<Atom>),
     /// The number of true members is odd, where the flag is true, and otherwise even.
@@ -16,29 +17,51 @@ pub enum Core {
     /// The atom is true exactly where all members are.
     Conj(Atom, Sequence<Atom>),
     /// Of the first two atoms, the third is their disjunction and the fourth their conjunction.
-    Comp(Atom, Atom, Atom, Atom),
+    Comp(Atom, Atom, Atom, Apart<Atom>),
     /// The atom is the truth of the first integer being at most the second.
-    LeqR(Atom, OrdInt, OrdInt),
+    LeqR(Atom, Apart<OrdInt>, Apart<OrdInt>),
     /// The atom is the truth of the integers being equal.
-    EqR(Atom, OrdInt, OrdInt),
+    EqR(Atom, Apart<OrdInt>, Apart<OrdInt>),
     /// The first two integers, added up, are the third.
-    Sum3(OrdInt, OrdInt, OrdInt),
+    Sum3(Apart<OrdInt>, Apart<OrdInt>, Apart<OrdInt>),
     /// The integer is the number of true members.
-    Count(Sequence<Atom>, OrdInt),
+    Count(Sequence<Atom>, Apart<OrdInt>),
     /// The members, added up, are the number.
-    Sum(Sequence<OrdInt>, i128),
+    Sum(Sequence<OrdInt>, Apart<i128>),
     /// The integer is the greatest member.
-    Max(Sequence<OrdInt>, OrdInt),
+    Max(Sequence<OrdInt>, Apart<OrdInt>),
     /// Members at two places with both conditions true differ.
-    AllDiff(Sequence<OrdInt>, Sequence<Atom>),
+    AllDiff(Sequence<OrdInt>, Apart<Sequence<Atom>>),
     /// At most one member is true.
     Amo(Sequence<Atom>),
     /// The first integer times the second is the third.
-    Prod(OrdInt, OrdInt, OrdInt),
+    Prod(Apart<OrdInt>, Apart<OrdInt>, Apart<OrdInt>),
     /// The first integer is the second times the third plus the fourth, which is from 0 and below the
     /// second: the third and fourth are quotient and rest.
-    DivMod(OrdInt, OrdInt, OrdInt, OrdInt),
+    DivMod(Apart<OrdInt>, Apart<OrdInt>, Apart<OrdInt>, Apart<OrdInt>),
     /// The atom is the truth of the first list standing before the second in the order of words, where
     /// the flag is true, and otherwise before it or being equal.
-    Lex(Atom, bool, Sequence<OrdInt>, Sequence<OrdInt>),
+    Lex(Atom, bool, Apart<Sequence<OrdInt>>, Apart<Sequence<OrdInt>>),
+}
+
+const _: () = prove!(size_of::<Core>() <= 48);
+
+/// By hand, so that a function in which a core falls out of use need not tell its form.
+impl Drop for Core {
+    fn drop(self) {
+        match self {
+            Core::Ladder(a) => drop(a),
+            Core::Clause(atoms) | Core::Parity(atoms, _) => drop(atoms),
+            Core::Conj(_, atoms) | Core::Amo(atoms) => drop(atoms),
+            Core::Comp(_, _, _, lo) => drop(lo),
+            Core::LeqR(_, a, b) | Core::EqR(_, a, b) => drop((a, b)),
+            Core::Sum3(a, b, c) | Core::Prod(a, b, c) => drop((a, b, c)),
+            Core::Count(atoms, c) => drop((atoms, c)),
+            Core::Sum(ints, k) => drop((ints, k)),
+            Core::Max(ints, c) => drop((ints, c)),
+            Core::AllDiff(ints, conditions) => drop((ints, conditions)),
+            Core::DivMod(a, b, q, r) => drop((a, b, q, r)),
+            Core::Lex(_, _, front, back) => drop((front, back)),
+        }
+    }
 }

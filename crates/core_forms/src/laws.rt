@@ -7,12 +7,13 @@ ghost use Rattle.order_ints.specs.Place.{AtomsBelow};
 ghost use Rattle.order_ints.specs.declared.order_int.OrdInt.{OrdInt};
 ghost use Rattle.order_ints.specs.OrderLevels.{values_of};
 ghost use Rattle.order_ints.specs.View.{MeetsView};
+ghost use Rattle.order_ints.specs.Label.{IsLabelled};
 ghost use Rattle.core_forms.specs.declared.form.Core.{Core};
 ghost use Rattle.core_forms.specs.Place.{CoreBelow};
 ghost use Rattle.core_forms.specs.Variables.{core_vars, SameOn, IsLabelVar};
 ghost use Rattle.core_forms.specs.WellFormed.{greatest_abs, HasSmallProducts, HasSmallDivisions, IsWellFormed};
 ghost use Rattle.core_forms.specs.Meaning.{core_truth};
-ghost use Rattle.core_forms.specs.Trimmed.{trimmed_core, composed_view, AreOwnLabels, IsTrimmed};
+ghost use Rattle.core_forms.specs.Trimmed.{trimmed_core, composed_view, IsTrimmed};
 
 /// A valuation that meets a view meets a core trimmed by it exactly where it meets the core.
 pub fn trimming_law()
@@ -29,13 +30,13 @@ pub fn dependence_law()
 {}
 
 /// Trimming twice is trimming once by the composed view, where each variable of the core has a label in
-/// the first one. So it is idempotent where labels are their own labels; and what it gives is trimmed.
+/// the first one. It is idempotent where labels label themselves; and what it gives is trimmed.
 pub fn composition_law()
     ensures composed { (first next : List Atom) (core : Core)
         → CoreBelow (length first + 1) core
         → trimmed_core next (trimmed_core first core) ≡ trimmed_core (composed_view first next) core }
     ensures idempotent { (view : List Atom) (core : Core)
-        → AreOwnLabels view → CoreBelow (length view + 1) core
+        → IsLabelled view
         → trimmed_core view (trimmed_core view core) ≡ trimmed_core view core }
     ensures trimmed { (view : List Atom) (core : Core) → IsTrimmed (trimmed_core view core) }
 {}

@@ -3,18 +3,24 @@
 #![tactic(auto)]
 
 mod basic;
+mod contents;
 pub mod cost_laws;
 mod costs;
 mod equation;
 mod form;
 mod fresh_sums;
+pub mod labelled_laws;
 pub mod laws;
+pub mod list_laws;
+mod made;
 mod meaning;
 mod occurrence;
 mod shapes;
 mod trimming;
+pub mod view_laws;
 
 pub use basic::is_basic;
+pub use contents::Members;
 pub use costs::cost;
 pub use equation::{Equation, Rule};
 pub use form::Core;

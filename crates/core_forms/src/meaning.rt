@@ -25,25 +25,31 @@ pub fn holds(core: &Core, sigma: &[bool]) -> bool
     ensures { result ≡ core_truth (valuation_of sigma.now) core.now }
 {
     match core {
-        Core::Ladder(a) => a.is_ordered(sigma),
+        Core::Ladder(a) => a.get().is_ordered(sigma),
         Core::Clause(atoms) => is_some_true(atoms.as_slice(), sigma),
         Core::Parity(atoms, odd) => has_parity(atoms.as_slice(), *odd, sigma),
         Core::Conj(r, atoms) => are_all(*r, atoms.as_slice(), sigma),
-        Core::Comp(a, b, hi, lo) => are_compared(*a, *b, *hi, *lo, sigma),
-        Core::LeqR(r, a, b) => is_less(*r, a, b, sigma),
-        Core::EqR(r, a, b) => is_equal(*r, a, b, sigma),
-        Core::Sum3(a, b, c) => is_sum(a, b, c, sigma),
-        Core::Count(atoms, c) => is_count(atoms.as_slice(), c, sigma),
-        Core::Sum(ints, k) => is_total(ints.as_slice(), *k, sigma),
-        Core::Max(ints, c) => is_top(ints.as_slice(), c, sigma),
+        Core::Comp(a, b, hi, lo) => are_compared(*a, *b, *hi, *lo.get(), sigma),
+        Core::LeqR(r, a, b) => is_less(*r, a.get(), b.get(), sigma),
+        Core::EqR(r, a, b) => is_equal(*r, a.get(), b.get(), sigma),
+        Core::Sum3(a, b, c) => is_sum(a.get(), b.get(), c.get(), sigma),
+        Core::Count(atoms, c) => is_count(atoms.as_slice(), c.get(), sigma),
+        Core::Sum(ints, k) => is_total(ints.as_slice(), *k.get(), sigma),
+        Core::Max(ints, c) => is_top(ints.as_slice(), c.get(), sigma),
         Core::AllDiff(ints, conditions) => {
-            are_apart(ints.as_slice(), conditions.as_slice(), sigma)
+            are_apart(ints.as_slice(), conditions.get().as_slice(), sigma)
         }
         Core::Amo(atoms) => are_few(atoms.as_slice(), sigma),
-        Core::Prod(a, b, c) => is_product(a, b, c, sigma),
-        Core::DivMod(a, b, q, r) => is_quotient(a, b, q, r, sigma),
+        Core::Prod(a, b, c) => is_product(a.get(), b.get(), c.get(), sigma),
+        Core::DivMod(a, b, q, r) => is_quotient(a.get(), b.get(), q.get(), r.get(), sigma),
         Core::Lex(r, strict, front, back) => {
-            are_in_order(*r, *strict, front.as_slice(), back.as_slice(), sigma)
+            are_in_order(
+                *r,
+                *strict,
+                front.get().as_slice(),
+                back.get().as_slice(),
+                sigma,
+            )
         }
     }
 }

@@ -17,7 +17,7 @@ fn ladder(rt: &impl Abort, alloc: Global, text: &str) -> Result<Core, AllocError
     ensures form { IfOk result (λ core. IsWellFormed core) }
     ensures place { IfOk result (λ core. CoreBelow 25 core) }
 {
-    Ok(Core::Ladder(int(rt, alloc, word(text, 1))?))
+    Core::ladder(alloc, int(rt, alloc, word(text, 1))?)
 }
 
 /// The first two integers, added up, are the third.
@@ -28,18 +28,18 @@ fn sum3(rt: &impl Abort, alloc: Global, text: &str) -> Result<Core, AllocError>
     let a = int(rt, alloc, word(text, 1))?;
     let b = int(rt, alloc, word(text, 2))?;
     let c = int(rt, alloc, word(text, 3))?;
-    Ok(Core::Sum3(a, b, c))
+    Core::sum3(alloc, a, b, c)
 }
 
 /// The first two small integers, multiplied, are the third.
-fn product_of(a: OrdInt, b: OrdInt, c: OrdInt) -> Core
+fn product_of(alloc: Global, a: OrdInt, b: OrdInt, c: OrdInt) -> Result<Core, AllocError>
     requires sound { IsSound a × IsSound b × IsSound c }
     requires small { (greatest_abs a < 1000) × (greatest_abs b < 1000) }
     requires place { IntBelow 25 a × IntBelow 25 b × IntBelow 25 c }
-    ensures form { IsWellFormed result }
-    ensures place { CoreBelow 25 result }
+    ensures form { IfOk result (λ core. IsWellFormed core) }
+    ensures place { IfOk result (λ core. CoreBelow 25 core) }
 {
-    Core::Prod(a, b, c)
+    Core::prod(alloc, a, b, c)
 }
 
 /// A product.
@@ -50,19 +50,25 @@ fn product(rt: &impl Abort, alloc: Global, text: &str) -> Result<Core, AllocErro
     let a = int(rt, alloc, word(text, 1))?;
     let b = int(rt, alloc, word(text, 2))?;
     let c = int(rt, alloc, word(text, 3))?;
-    Ok(product_of(a, b, c))
+    product_of(alloc, a, b, c)
 }
 
 /// The third and fourth of small integers are quotient and rest of the first by the second.
-fn division_of(a: OrdInt, b: OrdInt, q: OrdInt, r: OrdInt) -> Core
+fn division_of(
+    alloc: Global,
+    a: OrdInt,
+    b: OrdInt,
+    q: OrdInt,
+    r: OrdInt,
+) -> Result<Core, AllocError>
     requires sound { IsSound a × IsSound b × IsSound q × IsSound r }
     requires small { (greatest_abs b < 1000) × (greatest_abs q < 1000) × (greatest_abs r < 1000) }
     requires least { (pos 0 ≤ℤ low_of a) × (pos 1 ≤ℤ low_of b) }
     requires place { IntBelow 25 a × IntBelow 25 b × IntBelow 25 q × IntBelow 25 r }
-    ensures form { IsWellFormed result }
-    ensures place { CoreBelow 25 result }
+    ensures form { IfOk result (λ core. IsWellFormed core) }
+    ensures place { IfOk result (λ core. CoreBelow 25 core) }
 {
-    Core::DivMod(a, b, q, r)
+    Core::div_mod(alloc, a, b, q, r)
 }
 
 /// An integer whose least value is at least a number.
@@ -87,7 +93,7 @@ fn division(rt: &impl Abort, alloc: Global, text: &str) -> Result<Core, AllocErr
     let b = int_from(rt, alloc, word(text, 2), 1)?;
     let q = int(rt, alloc, word(text, 3))?;
     let r = int(rt, alloc, word(text, 4))?;
-    Ok(division_of(a, b, q, r))
+    division_of(alloc, a, b, q, r)
 }
 
 /// The truth of the first integer being at most the second.
@@ -98,7 +104,7 @@ fn comparison(rt: &impl Abort, alloc: Global, text: &str) -> Result<Core, AllocE
     let r = atom(rt, word(text, 1));
     let a = int(rt, alloc, word(text, 2))?;
     let b = int(rt, alloc, word(text, 3))?;
-    Ok(Core::LeqR(r, a, b))
+    Core::leq_r(alloc, r, a, b)
 }
 
 /// The truth of two integers being equal.
@@ -109,7 +115,7 @@ fn equality(rt: &impl Abort, alloc: Global, text: &str) -> Result<Core, AllocErr
     let r = atom(rt, word(text, 1));
     let a = int(rt, alloc, word(text, 2))?;
     let b = int(rt, alloc, word(text, 3))?;
-    Ok(Core::EqR(r, a, b))
+    Core::eq_r(alloc, r, a, b)
 }
 
 /// The number of true members.
@@ -119,7 +125,7 @@ fn count(rt: &impl Abort, alloc: Global, text: &str) -> Result<Core, AllocError>
 {
     let members = atoms(rt, alloc, word(text, 1))?;
     let c = int(rt, alloc, word(text, 2))?;
-    Ok(Core::Count(members, c))
+    Core::count(alloc, members, c)
 }
 
 /// The members, added up.
@@ -129,7 +135,7 @@ fn sum(rt: &impl Abort, alloc: Global, text: &str) -> Result<Core, AllocError>
 {
     let total = number(rt, word(text, 2));
     let members = ints(rt, alloc, word(text, 1))?;
-    Ok(Core::Sum(members, total))
+    Core::sum(alloc, members, total)
 }
 
 /// The greatest member.
@@ -140,7 +146,7 @@ fn maximum(rt: &impl Abort, alloc: Global, text: &str) -> Result<Core, AllocErro
     let members = ints(rt, alloc, word(text, 1))?;
     assert!(rt; 0 < members.as_slice().len());
     let c = int(rt, alloc, word(text, 2))?;
-    Ok(Core::Max(members, c))
+    Core::max(alloc, members, c)
 }
 
 /// Different members, as far as their conditions say.
@@ -151,7 +157,7 @@ fn differences(rt: &impl Abort, alloc: Global, text: &str) -> Result<Core, Alloc
     let members = ints(rt, alloc, word(text, 1))?;
     let conditions = atoms(rt, alloc, word(text, 2))?;
     assert!(rt; members.as_slice().len() == conditions.as_slice().len());
-    Ok(Core::AllDiff(members, conditions))
+    Core::all_diff(alloc, members, conditions)
 }
 
 /// The order of two lists.
@@ -164,19 +170,19 @@ fn order(rt: &impl Abort, alloc: Global, text: &str) -> Result<Core, AllocError>
     let front = ints(rt, alloc, word(text, 3))?;
     let back = ints(rt, alloc, word(text, 4))?;
     assert!(rt; front.as_slice().len() == back.as_slice().len());
-    Ok(Core::Lex(r, strict, front, back))
+    Core::lex(alloc, r, strict, front, back)
 }
 
 /// The third and fourth atom are the disjunction and the conjunction of the first two.
-fn comparator(rt: &impl Abort, text: &str) -> Core
-    ensures form { IsWellFormed result }
-    ensures place { CoreBelow 25 result }
+fn comparator(rt: &impl Abort, alloc: Global, text: &str) -> Result<Core, AllocError>
+    ensures form { IfOk result (λ core. IsWellFormed core) }
+    ensures place { IfOk result (λ core. CoreBelow 25 core) }
 {
     let a = atom(rt, word(text, 1));
     let b = atom(rt, word(text, 2));
     let hi = atom(rt, word(text, 3));
     let lo = atom(rt, word(text, 4));
-    Core::Comp(a, b, hi, lo)
+    Core::comp(alloc, a, b, hi, lo)
 }
 
 /// A form over a list of atoms.
@@ -195,7 +201,7 @@ fn of_atoms(rt: &impl Abort, alloc: Global, text: &str) -> Result<Core, AllocErr
             let r = atom(rt, word(text, 1));
             Ok(Core::Conj(r, atoms(rt, alloc, word(text, 2))?))
         }
-        "Comp" => Ok(comparator(rt, text)),
+        "Comp" => comparator(rt, alloc, text),
         other => panic!(rt; "no form: {other}"),
     }
 }

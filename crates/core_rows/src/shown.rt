@@ -127,7 +127,7 @@ fn name(core: &Core) -> &'static str {
 /// Writes the members of a core, each behind a blank.
 fn members(out: &mut String, core: &Core) -> Result<(), AllocError> {
     match core {
-        Core::Ladder(a) => int_word(out, a),
+        Core::Ladder(a) => int_word(out, a.get()),
         Core::Clause(ls) | Core::Amo(ls) => atoms(out, ls.as_slice()),
         Core::Parity(ls, odd) => {
             atoms(out, ls.as_slice())?;
@@ -137,31 +137,37 @@ fn members(out: &mut String, core: &Core) -> Result<(), AllocError> {
             atom_word(out, *r)?;
             atoms(out, ls.as_slice())
         }
-        Core::Comp(a, b, hi, lo) => atoms(out, &[*a, *b, *hi, *lo]),
-        Core::LeqR(r, a, b) | Core::EqR(r, a, b) => compared(out, *r, a, b),
-        Core::Sum3(a, b, c) | Core::Prod(a, b, c) => triple(out, a, b, c),
+        Core::Comp(a, b, hi, lo) => atoms(out, &[*a, *b, *hi, *lo.get()]),
+        Core::LeqR(r, a, b) | Core::EqR(r, a, b) => compared(out, *r, a.get(), b.get()),
+        Core::Sum3(a, b, c) | Core::Prod(a, b, c) => triple(out, a.get(), b.get(), c.get()),
         Core::Count(ls, c) => {
             atoms(out, ls.as_slice())?;
-            int_word(out, c)
+            int_word(out, c.get())
         }
         Core::Sum(list, k) => {
             ints(out, list.as_slice())?;
-            write!(out, " {k}")
+            write!(out, " {}", k.get())
         }
         Core::Max(list, c) => {
             ints(out, list.as_slice())?;
-            int_word(out, c)
+            int_word(out, c.get())
         }
         Core::AllDiff(list, cs) => {
             ints(out, list.as_slice())?;
-            atoms(out, cs.as_slice())
+            atoms(out, cs.get().as_slice())
         }
         Core::DivMod(a, b, q, r) => {
-            int_word(out, a)?;
-            triple(out, b, q, r)
+            int_word(out, a.get())?;
+            triple(out, b.get(), q.get(), r.get())
         }
         Core::Lex(r, strict, front, back) => {
-            order(out, *r, *strict, front.as_slice(), back.as_slice())
+            order(
+                out,
+                *r,
+                *strict,
+                front.get().as_slice(),
+                back.get().as_slice(),
+            )
         }
     }
 }

@@ -1,4 +1,3 @@
-pub mod Walks
 pub mod Beside
 pub mod Truths
 pub mod Places

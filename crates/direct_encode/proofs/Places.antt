@@ -63,13 +63,13 @@ module _ (n : ℕ) where
 
 -- each variable of the clauses is below n where those of the core are
 pub below-clauses_of : (n : ℕ) (core : Core) → CoreBelow n core → AtomClausesBelow n (clauses_of core)
-below-clauses_of n (Ladder a) h = below-order_clauses n a h
-below-clauses_of n (Clause ls) h = (h, tt)
+below-clauses_of n (Ladder a) h = below-order_clauses n a h.1.0
+below-clauses_of n (Clause ls) h = (h.0, tt)
 below-clauses_of n (Parity ls odd) h = tt
 below-clauses_of n (Conj r ls) h = tt
 below-clauses_of n (Comp a b hi lo) h = tt
-below-clauses_of n (LeqR r a b) h = below-compared n a b (leq_clauses r a b) h.1 h.2 (below-leq_clauses n r a b h.0 h.1 h.2)
-below-clauses_of n (EqR r a b) h = below-compared n a b (eq_clauses r a b) h.1 h.2 (below-eq_clauses n r a b h.0 h.1 h.2)
+below-clauses_of n (LeqR r a b) h = below-compared n a b (leq_clauses r a b) h.1.0 h.1.1.0 (below-leq_clauses n r a b h.0.0 h.1.0 h.1.1.0)
+below-clauses_of n (EqR r a b) h = below-compared n a b (eq_clauses r a b) h.1.0 h.1.1.0 (below-eq_clauses n r a b h.0.0 h.1.0 h.1.1.0)
 below-clauses_of n (Sum3 a b c) h = tt
 below-clauses_of n (Count ls c) h = tt
 below-clauses_of n (Sum ints k) h = tt

@@ -9,12 +9,11 @@ use Rattle.order_ints.specs.declared.order_int.OrdInt.{OrdInt}
 use Rattle.order_ints.specs.Truth.{Valuation, atom_truth}
 use Rattle.order_ints.specs.AtomClauses.{atom_clause_truth, atom_clauses_truth}
 use Rattle.order_ints.specs.OrderValue.{value_of, none_true, in_order, IsOrdered}
-use Rattle.order_ints.specs.OrderLevels.{values_of, at_of}
+use Rattle.order_ints.specs.OrderLevels.{is_among, values_of, at_of}
 use Rattle.order_ints.proofs.Reaching.{atom_truth-at_of, Contains-value_of}
 use Rattle.order_ints.proofs.TruthLaws.{atom_truth-not_atom, atom_clauses_truth-append}
 use Rattle.core_forms.specs.declared.form.Core.{Core}
 use Rattle.core_forms.specs.declared.form.Core.TheVariants.{Ladder, Clause, Parity, Conj, Comp, LeqR, EqR, Sum3, Count, Sum, Max, AllDiff, Amo, Prod, DivMod, Lex}
-use Rattle.core_forms.specs.Values.{is_among}
 use Rattle.core_forms.specs.Meaning.{core_truth}
 use Rattle.direct_encode.specs.Clauses.{order_clauses_above, order_clauses_of_steps, order_clauses, reaching_clause, reaching_clauses, exceeding_clause, exceeding_clauses, differing_clause, common_values, differing_clauses, leq_clauses, eq_clauses, clauses_of, IsEncodable}
 

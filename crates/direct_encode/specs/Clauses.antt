@@ -4,9 +4,9 @@ use Rattle.order_ints.specs.declared.atom.Atom.{Atom}
 use Rattle.order_ints.specs.declared.order_int.OrdInt.{OrdInt}
 use Rattle.order_ints.specs.Truth.{not_atom}
 use Rattle.order_ints.specs.OrderLevels.{values_of, at_of}
+use Rattle.order_ints.specs.Walk.{has_value}
 use Rattle.core_forms.specs.declared.form.Core.{Core}
 use Rattle.core_forms.specs.declared.form.Core.TheVariants.{Ladder, Clause, Parity, Conj, Comp, LeqR, EqR, Sum3, Count, Sum, Max, AllDiff, Amo, Prod, DivMod, Lex}
-use Rattle.core_forms.specs.Values.{is_among}
 
 -- a step is true, or the step above it is not; so for each two neighbouring steps, the lower one given first
 abbrev pub order_clauses_above : Atom → List (Atom × ℕ) → List (List Atom)
@@ -45,7 +45,7 @@ differing_clause r a b v =
 
 -- the values that both have, upwards
 abbrev pub common_values : OrdInt → OrdInt → List ℤ
-common_values a b = filter (λ v. is_among v (values_of b)) (values_of a)
+common_values a b = filter (has_value b) (values_of a)
 
 -- where r is false, a and b differ: one clause for each value that both have
 abbrev pub differing_clauses : Atom → OrdInt → OrdInt → List (List Atom)

@@ -5,9 +5,8 @@ ghost use Rattle.std.specs.Prelude.{◌≡◌, ◌++◌, OnOk};
 ghost use Rattle.core_forms.specs.WellFormed.{IsSound};
 ghost use Rattle.direct_encode.specs.Clauses.{reaching_clauses, exceeding_clauses, differing_clauses};
 
-use crate::walk::Walk;
 use bee_list::Sequence;
-use order_ints::{Atom, OrdInt};
+use order_ints::{Atom, OrdInt, Walk};
 use std::alloc::AllocError;
 
 #[tactic(auto, using(crate::proofs::Beside::reaching_is))]
@@ -25,7 +24,7 @@ pub(crate) fn push_reaching(
     let alloc = *clauses.allocator();
     let mut walk = Walk::along(b);
     for (value, atom) in a.levels() {
-        let reached = walk.reach(value);
+        let reached = walk.at(value);
         clauses.push(Sequence::from_vec(vec![in alloc; r.not(), atom.not(), reached]?))?;
     }
     Ok(())
@@ -46,7 +45,7 @@ pub(crate) fn push_exceeding(
     let alloc = *clauses.allocator();
     let mut walk = Walk::along(a);
     for (value, atom) in b.levels() {
-        let exceeded = walk.reach(value + 1);
+        let exceeded = walk.at(value + 1);
         clauses.push(Sequence::from_vec(vec![in alloc; r, atom.not(), exceeded]?))?;
     }
     Ok(())
@@ -68,10 +67,10 @@ pub(crate) fn push_differing(
     let mut walk_a = Walk::along(a);
     let mut walk_b = Walk::along(b);
     for (value, a_reached) in a.levels() {
-        let b_reached = walk_b.reach(value);
-        if walk_b.stands_at(value) {
-            let a_exceeded = walk_a.reach(value + 1);
-            let b_exceeded = walk_b.reach(value + 1);
+        if walk_b.has(value) {
+            let b_reached = walk_b.at(value);
+            let a_exceeded = walk_a.at(value + 1);
+            let b_exceeded = walk_b.at(value + 1);
             clauses.push(Sequence::from_vec(vec![in alloc;
                 r,
                 a_reached.not(),

@@ -24,14 +24,16 @@ fn push_clauses(clauses: &mut Vec<Sequence<Atom>>, core: &Core) -> Result<(), Al
     ensures { OnOk result (clauses.new.items ≡ clauses.old.items ++ clauses_of core.now) }
 {
     match core {
-        Core::Ladder(a) => push_order(clauses, a),
+        Core::Ladder(a) => push_order(clauses, a.get()),
         Core::Clause(atoms) => push_members(clauses, atoms),
         Core::LeqR(r, a, b) => {
+            let (a, b) = (a.get(), b.get());
             push_orders(clauses, a, b)?;
             push_reaching(clauses, *r, a, b)?;
             push_exceeding(clauses, *r, a, b)
         }
         Core::EqR(r, a, b) => {
+            let (a, b) = (a.get(), b.get());
             push_orders(clauses, a, b)?;
             push_reaching(clauses, *r, a, b)?;
             push_reaching(clauses, *r, b, a)?;

@@ -5,8 +5,5 @@ mod comparison;
 mod forms;
 pub mod laws;
 mod order;
-#[cfg(test)]
-mod tests;
-mod walk;
 
 pub use forms::clauses;

@@ -7,7 +7,7 @@ use Rattle.order_ints.specs.declared.atom.Atom.{Atom}
 use Rattle.order_ints.specs.declared.atom.Atom.TheVariants.{True, False, Of}
 use Rattle.order_ints.specs.Truth.{Valuation, lit_truth, atom_truth}
 use Rattle.order_ints.specs.View.{label_of, resolve, MeetsView}
-use Rattle.equation_store.specs.Label.{IsLabel, IsLabelled}
+use Rattle.order_ints.specs.Label.{IsLabel, IsLabelled}
 use Rattle.equation_store.specs.Laws.{AlwaysEqual, ResolvesExactly}
 use Rattle.equation_store.proofs.Resolve.{IsLabel-resolve, resolves_truly}
 

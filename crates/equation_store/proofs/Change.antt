@@ -7,7 +7,7 @@ use Rattle.order_ints.specs.declared.atom.Atom.{Atom}
 use Rattle.order_ints.specs.declared.atom.Atom.TheVariants.{True, False, Of}
 use Rattle.order_ints.specs.Truth.{Valuation, atom_truth, not_atom}
 use Rattle.equation_store.specs.declared.relabel.Change.{Change}
-use Rattle.equation_store.specs.Label.{IsLabel}
+use Rattle.order_ints.specs.Label.{IsLabel}
 use Rattle.equation_store.specs.Class.{is_of, class_size}
 use Rattle.equation_store.specs.Merge.{signed, replaced, losing, change_to, change_of}
 use Rattle.equation_store.specs.Laws.{IsConstant, size_at}
@@ -25,7 +25,7 @@ pub record IsChange (view : List Atom) (a b : Atom) (c : Change) : Type 0 where
   pub differs : a ≡ b → ⊥
   pub not_opposite : a ≡ not_atom b → ⊥
 
-is_of-signed : (x : ℕ) (p : Bool) (a : Atom) → is_of x (signed p a) ≡ is_of x a
+pub is_of-signed : (x : ℕ) (p : Bool) (a : Atom) → is_of x (signed p a) ≡ is_of x a
 is_of-signed x true a = refl
 is_of-signed x false True = refl
 is_of-signed x false False = refl

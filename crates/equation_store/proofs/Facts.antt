@@ -8,7 +8,7 @@ use Rattle.order_ints.specs.declared.atom.Atom.TheVariants.{True, False, Of}
 use Rattle.order_ints.specs.Truth.{atom_truth, not_atom}
 use Rattle.order_ints.specs.View.{label_of, resolve}
 use Rattle.equation_store.specs.declared.relabel.Change.{Change}
-use Rattle.equation_store.specs.Label.{IsOwnLabel, IsLabel, IsLabelled, own_labels}
+use Rattle.order_ints.specs.Label.{IsOwnLabel, IsLabel, IsLabelled, own_labels}
 use Rattle.equation_store.specs.Class.{is_of, IsWalk, first_in, after_in}
 use Rattle.equation_store.specs.Store.{Store, class_walk, IsStore, members_from, store_of}
 use Rattle.equation_store.specs.Merge.{replaced, change_of, changed_by, merged, IsRelabelled}
@@ -18,7 +18,7 @@ use Rattle.equation_store.proofs.Apart.{resolves_exactly}
 use Rattle.equation_store.proofs.Resolve.{resolves_truly}
 use Rattle.equation_store.proofs.Replaced.{IsLabelled-relabelled, label_of-relabelled}
 use Rattle.equation_store.proofs.Merge.{ChangeOf, change_of-atoms, change-joins, change-adds, merge_doubles}
-use Rattle.equation_store.proofs.Own.{IsLabelled-grown, length-own_labels}
+use Rattle.order_ints.proofs.Labels.{IsLabelled-more, length-own_labels}
 use Rattle.equation_store.proofs.Walk.{IsStore-store_of, class_walk-store_of, after_in-members_from}
 
 -- no variables, and more variables
@@ -29,7 +29,7 @@ pub IsStore-grown : (old new : List Atom) (count : ℕ) → new ≡ old ++ own_l
 IsStore-grown old new count e small labelled =
     IsStore-store_of new
     (omega (arith, ap length e, length-append old (own_labels (length old + 1) count), length-own_labels (length old + 1) count))
-    (subst IsLabelled (sym e) (IsLabelled-grown old count labelled))
+    (subst IsLabelled (sym e) (IsLabelled-more old count labelled))
 
 pub IsStore-grown_or_same : {T E : Type 0} (r : Result T E) (old new : List Atom) (count : ℕ) → OnOk r (new ≡ old ++ own_labels (length old + 1) count) → OnErr r (new ≡ old) → length old + count ≤ 2 ^ 27 → IsLabelled old → IsStore (store_of new)
 IsStore-grown_or_same (Ok x) old new count ok err small labelled = IsStore-grown old new count ok small labelled
@@ -54,7 +54,7 @@ of_label view x True h e = cc
 of_label view x False h e = cc
 of_label view x (Of l) h e = let same : l.var ≡ x = eqb-true l.var x e in (omega (arith, h.0), omega (arith, h.1))
 
-own_label : (view : List Atom) (x : ℕ) (a : Atom) → IsLabel view a → is_of x a ≡ true → IsOwnLabel view x
+pub own_label : (view : List Atom) (x : ℕ) (a : Atom) → IsLabel view a → is_of x a ≡ true → IsOwnLabel view x
 own_label view x True h e = cc
 own_label view x False h e = cc
 own_label view x (Of l) h e = subst (IsOwnLabel view) (eqb-true l.var x e) h.2
@@ -97,7 +97,7 @@ pub record IsMerge (old new : List Atom) (a b : Atom) : Type 0 where
   pub changes : (resolve old a ≡ resolve old b → ⊥) → (resolve old a ≡ not_atom (resolve old b) → ⊥) → IsChangedBy (change_of old (resolve old a) (resolve old b)) old new a b
   pub opposite : resolve old a ≡ not_atom (resolve old b) → NeverEqual old a b
 
-is_merge : (view : List Atom) (a b : Atom) → IsLabelled view → IsAtomOf view a → IsAtomOf view b → IsMerge view (merged view a b) a b
+pub is_merge : (view : List Atom) (a b : Atom) → IsLabelled view → IsAtomOf view a → IsAtomOf view b → IsMerge view (merged view a b) a b
 is_merge view a b labelled in_a in_b = record {
   labelled = kept (change_of view (resolve view a) (resolve view b)) of_change;
   size = same_size (change_of view (resolve view a) (resolve view b));

@@ -8,3 +8,5 @@ pub mod Own
 pub mod Walk
 pub mod Sizes
 pub mod Facts
+pub mod Changes
+pub mod Owners

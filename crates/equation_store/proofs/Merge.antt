@@ -7,7 +7,7 @@ use Rattle.order_ints.specs.declared.atom.Atom.TheVariants.{True, False, Of}
 use Rattle.order_ints.specs.Truth.{atom_truth, not_atom}
 use Rattle.order_ints.specs.View.{label_of, resolve, MeetsView}
 use Rattle.equation_store.specs.declared.relabel.Change.{Change}
-use Rattle.equation_store.specs.Label.{IsLabelled}
+use Rattle.order_ints.specs.Label.{IsLabelled}
 use Rattle.equation_store.specs.Class.{is_of, class_size}
 use Rattle.equation_store.specs.Merge.{signed, replaced, change_of, changed_by}
 use Rattle.equation_store.specs.Laws.{IsAtomOf, AddsEquation, IsConstant, size_at, Doubles, MergeResolves, MergeKeeps, MergeDoubles}
@@ -26,7 +26,7 @@ pub merge_resolves : MergeResolves
 merge_resolves view a b c labelled in_a in_b in_c = by_change (change_of view (resolve view a) (resolve view b))
   where
     by_change : (o : Option Change) → resolve (changed_by o view) c ≡ resolve (changed_by o view) (resolve view c)
-    by_change None = sym (resolves_once view c labelled in_c)
+    by_change None = sym (resolves_once view c labelled)
     by_change (Some change) = resolve-relabelled_once view change.loser change.label c labelled in_c
 
 pub merge_keeps : MergeKeeps

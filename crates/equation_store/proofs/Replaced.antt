@@ -8,7 +8,7 @@ use Rattle.order_ints.specs.declared.atom.Atom.{Atom}
 use Rattle.order_ints.specs.declared.atom.Atom.TheVariants.{True, False, Of}
 use Rattle.order_ints.specs.Truth.{Valuation, lit_truth, atom_truth, not_atom}
 use Rattle.order_ints.specs.View.{label_of, resolve, MeetsView}
-use Rattle.equation_store.specs.Label.{variable, IsOwnLabel, IsLabel, IsLabelled}
+use Rattle.order_ints.specs.Label.{variable, IsOwnLabel, IsLabel, IsLabelled}
 use Rattle.equation_store.specs.Class.{is_of, class_size}
 use Rattle.equation_store.specs.Merge.{signed, replaced}
 use Rattle.equation_store.specs.Laws.{IsAtomOf}
@@ -59,7 +59,7 @@ label_of-relabelled view x new r =
     label_of-map (replaced x new) view x r.low r.high ∙ ap (replaced x new) r.own ∙ replaced-own x new (record { var = x; positive = true }) refl
 
 -- labels of the old view that are of another variable are labels of the new one
-IsLabel-relabelled : (view : List Atom) (x : ℕ) (new a : Atom) → IsLabel view a → is_of x a ≡ false → IsLabel (relabelled view x new) a
+pub IsLabel-relabelled : (view : List Atom) (x : ℕ) (new a : Atom) → IsLabel view a → is_of x a ≡ false → IsLabel (relabelled view x new) a
 IsLabel-relabelled view x new True h other = tt
 IsLabel-relabelled view x new False h other = tt
 IsLabel-relabelled view x new (Of l) h other =

@@ -5,7 +5,7 @@ use Rattle.std.proofs.lemmas.Bool.{false≢true, cases_lt, cases_Bool, eq-eqb, n
 use Rattle.std.proofs.lemmas.List.Sums.{sum_by-cons}
 use Rattle.order_ints.specs.declared.atom.Atom.{Atom}
 use Rattle.order_ints.specs.View.{label_of}
-use Rattle.equation_store.specs.Label.{variable, IsLabelled}
+use Rattle.order_ints.specs.Label.{variable, IsLabelled}
 use Rattle.equation_store.specs.Class.{is_of, IsMember, IsWalk, first_in, after_in}
 use Rattle.equation_store.specs.Store.{class_walk, IsStore, members_from, walks_from, store_of}
 

@@ -1,13 +1,13 @@
 -- Laws of resolving and of merging.
-use Rattle.std.specs.Prelude.{◌≡◌, ◌≢◌, ◌⊎◌, ℕ, ◌+◌, ◌*◌, ◌≤◌, List, length, ◌↔◌}
+use Rattle.std.specs.Prelude.{◌≡◌, ◌≢◌, ◌⊎◌, ℕ, ◌+◌, ◌*◌, ◌≤◌, true, false, List, ◌++◌, length, ◌↔◌, IfSome, IsSomeAnd, is_some, if◌then◌else◌}
 use Rattle.order_ints.specs.declared.atom.Atom.{Atom}
 use Rattle.order_ints.specs.declared.atom.Atom.TheVariants.{True, False, Of}
-use Rattle.order_ints.specs.Truth.{Valuation, atom_truth, not_atom}
+use Rattle.order_ints.specs.Truth.{Valuation, atom_truth}
 use Rattle.order_ints.specs.View.{label_of, resolve, MeetsView}
 use Rattle.order_ints.specs.Place.{AtomBelow}
-use Rattle.equation_store.specs.Label.{IsLabelled}
-use Rattle.equation_store.specs.Class.{class_size}
-use Rattle.equation_store.specs.Merge.{merged}
+use Rattle.order_ints.specs.Label.{variable, IsLabel, IsLabelled, own_labels, IsLater}
+use Rattle.equation_store.specs.Class.{is_of, IsMember, class_size, is_own, number_own}
+use Rattle.equation_store.specs.Merge.{loser_of, merged}
 
 -- a constant, or a literal of a variable of the view
 abbrev pub IsAtomOf : List Atom → Atom → Type 0
@@ -43,17 +43,10 @@ Doubles old new =
     (v : ℕ) → 1 ≤ v → v ≤ length old → label_of new v ≢ label_of old v →
     IsConstant (label_of new v) ⊎ (2 * size_at old (label_of old v) ≤ size_at new (label_of new v))
 
--- resolving twice is resolving once
-abbrev pub ResolvesOnce : Type 0
-ResolvesOnce = (view : List Atom) (a : Atom) → IsLabelled view → IsAtomOf view a → resolve view (resolve view a) ≡ resolve view a
-
--- the negation of an atom resolves to the negation
-abbrev pub ResolvesNegation : Type 0
-ResolvesNegation = (view : List Atom) (a : Atom) → resolve view (not_atom a) ≡ not_atom (resolve view a)
-
--- an atom is as true as what it resolves to
-abbrev pub ResolvesTruly : Type 0
-ResolvesTruly = (view : List Atom) (a : Atom) (σ : Valuation) → IsAtomOf view a → MeetsView σ view → atom_truth σ (resolve view a) ≡ atom_truth σ a
+-- the class of a variable that keeps its label never gets smaller
+abbrev pub NeverShrinks : List Atom → List Atom → Type 0
+NeverShrinks old new =
+    (v : ℕ) → 1 ≤ v → v ≤ length old → label_of new v ≡ label_of old v → size_at old (label_of old v) ≤ size_at new (label_of new v)
 
 -- two atoms resolve to the same atom exactly where every valuation that meets the view makes them equally true
 abbrev pub ResolvesExactly : Type 0
@@ -70,3 +63,39 @@ MergeKeeps = (view : List Atom) (a b : Atom) (σ : Valuation) → IsLabelled vie
 -- a merge doubles the class of each variable whose label it changes, or makes it constant
 abbrev pub MergeDoubles : Type 0
 MergeDoubles = (view : List Atom) (a b : Atom) → IsLabelled view → IsAtomOf view a → IsAtomOf view b → Doubles view (merged view a b)
+
+-- a merge gives each class that keeps its label at least its old size
+abbrev pub MergeNeverShrinks : Type 0
+MergeNeverShrinks = (view : List Atom) (a b : Atom) → IsLabelled view → IsAtomOf view a → IsAtomOf view b → NeverShrinks view (merged view a b)
+
+-- as many variables have a label after a merge, and labels label themselves
+abbrev pub MergeLabelled : Type 0
+MergeLabelled = (view : List Atom) (a b : Atom) → IsLabelled view → IsAtomOf view a → IsAtomOf view b → (length (merged view a b) ≡ length view) × IsLabelled (merged view a b)
+
+-- the labels after a merge are the labels before it but for the literals of the loser
+abbrev pub MergeLabels : Type 0
+MergeLabels = (view : List Atom) (a b c : Atom) → IsLabelled view → IsAtomOf view a → IsAtomOf view b → IsLabel (merged view a b) c ↔ (IsLabel view c × IfSome (loser_of view a b) (λ x. is_of x c ≡ false))
+
+-- a merge changes exactly the labels of the members of the loser's class
+abbrev pub MergeChanges : Type 0
+MergeChanges = (view : List Atom) (a b : Atom) (v : ℕ) → IsLabelled view → IsAtomOf view a → IsAtomOf view b → 1 ≤ v → v ≤ length view → (label_of (merged view a b) v ≢ label_of view v) ↔ IsSomeAnd (loser_of view a b) (λ x. IsMember view x v)
+
+-- a merge takes one variable out of those that are their own label exactly where some class loses
+abbrev pub MergeTakesOne : Type 0
+MergeTakesOne = (view : List Atom) (a b : Atom) → IsLabelled view → IsAtomOf view a → IsAtomOf view b → number_own (merged view a b) + (if is_some (loser_of view a b) then 1 else 0) ≡ number_own view
+
+-- the view after a merge is later than the one before it
+abbrev pub MergeIsLater : Type 0
+MergeIsLater = (view : List Atom) (a b : Atom) → IsLabelled view → IsAtomOf view a → IsAtomOf view b → IsLater view (merged view a b)
+
+-- the test of a variable that is its own label
+abbrev pub OwnTest : Type 0
+OwnTest = (v : ℕ) (a : Atom) → (is_own v a ≡ true) ↔ (a ≡ variable v)
+
+-- at most all variables are their own label
+abbrev pub OwnBound : Type 0
+OwnBound = (view : List Atom) → number_own view ≤ length view
+
+-- each variable that is added as its own label counts
+abbrev pub OwnAdded : Type 0
+OwnAdded = (view : List Atom) (count : ℕ) → number_own (view ++ own_labels (length view + 1) count) ≡ number_own view + count

@@ -1,4 +1,3 @@
-pub mod Label
 pub mod Class
 pub mod Store
 pub mod Merge

@@ -1,7 +1,7 @@
 -- What contracts see of a store: its view, and a walk through each class.
 use Rattle.std.specs.Prelude.{ℕ, zero, suc, ◌+◌, ◌-◌, ◌^◌, ◌≤◌, List, [], ◌∷◌, length, slice_index_or, if◌then◌else◌}
 use Rattle.order_ints.specs.declared.atom.Atom.{Atom}
-use Rattle.equation_store.specs.Label.{IsOwnLabel, IsLabelled}
+use Rattle.order_ints.specs.Label.{IsOwnLabel, IsLabelled}
 use Rattle.equation_store.specs.Class.{is_of, IsWalk}
 
 -- a view, and for each variable a list: where the variable is its own label, the walk of its class

@@ -2,7 +2,7 @@
 
 ghost use Rattle.std.specs.Prelude.{◌≡◌, ◌+◌, ◌^◌, ◌≤◌, ◌++◌, length, drop, OnOk, OnErr};
 ghost use Rattle.order_ints.specs.View.{resolve};
-ghost use Rattle.equation_store.specs.Label.{own_labels};
+ghost use Rattle.order_ints.specs.Label.{own_labels};
 ghost use Rattle.equation_store.specs.Laws.{IsAtomOf};
 ghost use Rattle.equation_store.specs.Class.{is_of, class_size, first_in};
 ghost use Rattle.equation_store.specs.Store.{members_from};

@@ -7,9 +7,6 @@ mod laws;
 mod relabel;
 mod store;
 
-pub use laws::{merge_laws, resolve_laws};
+pub use laws::{change_laws, merge_laws, own_laws, resolve_law};
 pub use relabel::Merged;
 pub use store::EqStore;
-
-#[cfg(test)]
-mod tests;

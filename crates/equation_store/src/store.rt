@@ -3,7 +3,7 @@
 ghost use Rattle.std.specs.Prelude.{◌≡◌, ◌≢◌, ◌+◌, ◌^◌, ◌<◌, ◌≤◌, ◌⊎◌, ◌↔◌, ◌++◌, length, IsNone, IsSomeAnd, IfSome, IfOk, OnOk, OnErr, ℕ, true};
 ghost use Rattle.order_ints.specs.Truth.{not_atom};
 ghost use Rattle.order_ints.specs.View.{label_of, resolve};
-ghost use Rattle.equation_store.specs.Label.{IsOwnLabel, own_labels};
+ghost use Rattle.order_ints.specs.Label.{IsOwnLabel, own_labels};
 ghost use Rattle.equation_store.specs.Class.{is_of, IsMember, IsWalk, first_in, after_in};
 ghost use Rattle.equation_store.specs.Store.{IsStore, class_walk};
 ghost use Rattle.equation_store.specs.Merge.{loser_of, IsRelabelled, merged};
@@ -97,7 +97,7 @@ impl EqStore {
         ensures clash { (result ≡ Merged.Clash)
             ↔ (resolve self.old.view a ≡ not_atom (resolve self.old.view b)) }
         ensures stays { result ≢ Merged.Changed → self.new ≡ self.old }
-        ensures view { result ≡ Merged.Changed → self.new.view ≡ merged self.old.view a b }
+        ensures view { self.new.view ≡ merged self.old.view a b }
         ensures relabels { result ≡ Merged.Changed
             → IsSomeAnd (loser_of self.old.view a b) (λ x. IsRelabelled self.old.view self.new.view x) }
         ensures equal { result ≡ Merged.Changed

@@ -66,12 +66,16 @@ fn show_clause(alloc: Global, atoms: &[Atom]) -> Result<String, AllocError> {
 fn show_core(alloc: Global, core: &Core) -> Result<String, AllocError> {
     match core {
         Core::Ladder(integer) => {
-            let integer = show_int(alloc, integer)?;
+            let integer = show_int(alloc, integer.get())?;
             format!(in alloc; "ladder {integer}")
         }
         Core::Clause(atoms) => show_clause(alloc, atoms.as_slice()),
-        Core::LeqR(truth, left, right) => show_comparison(alloc, "leq", *truth, left, right),
-        Core::EqR(truth, left, right) => show_comparison(alloc, "eq", *truth, left, right),
+        Core::LeqR(truth, left, right) => {
+            show_comparison(alloc, "leq", *truth, left.get(), right.get())
+        }
+        Core::EqR(truth, left, right) => {
+            show_comparison(alloc, "eq", *truth, left.get(), right.get())
+        }
         _ => String::from_str(alloc, "another form"),
     }
 }

@@ -14,7 +14,10 @@ use Rattle.order_ints.specs.OrderValue.{value_of}
 use Rattle.order_ints.specs.Numbers.{number_of, numbers_of}
 use Rattle.order_ints.proofs.Gains.{low-le, high-ge}
 use Rattle.order_ints.proofs.Fresh.{weights-unit_steps, atoms-unit_steps, values_of-unit_range_of, AreRising-unit_steps, StepsBelow-vars, IsBounded-unit_range_of, takes_each_value}
+use Rattle.core_forms.specs.declared.form.Core.TheVariants.{Ladder}
 use Rattle.core_forms.specs.WellFormed.{IsSound}
+use Rattle.core_forms.specs.Cores.{MeetsAll}
+use Rattle.core_forms.proofs.CoreLists.{MeetsAll-one, MeetsAll-append, MeetsAll-agree}
 use Rattle.typed_model.specs.declared.model.Kind.{Kind}
 use Rattle.typed_model.specs.declared.model.Kind.TheVariants as kind
 use Rattle.typed_model.specs.Integers.{is_member}
@@ -24,11 +27,10 @@ use Rattle.typed_model.specs.WellTyped.{KindFits}
 use Rattle.typed_model.proofs.DomainLaws.{Decides-domain}
 use Rattle.model_lower.specs.Lowering.{vars_taken, entry_of, entry_cores}
 use Rattle.model_lower.specs.Built.{most_vars}
-use Rattle.model_lower.specs.Decoded.{MeetsAll}
 use Rattle.model_lower.specs.Fits.{EntryFits, CoresFit}
 use Rattle.model_lower.specs.ItemLaws.{AreOrdered, DeclarationLaw}
 use Rattle.model_lower.proofs.EntryLaws.{EntriesFit-more, EntriesFit-append, numbers_of-append, numbers_of-agree, AreOrdered-append}
-use Rattle.model_lower.proofs.CoreLaws.{MeetsAll-append, MeetsAll-agree, CoresFit-more, CoresFit-append}
+use Rattle.model_lower.proofs.CoreLaws.{CoresFit-below, CoresFit-more, CoresFit-append}
 
 -- what is known of the entry of a declaration
 pub record EntryLaws (vars : ℕ) (k : Kind) : Type 0 where
@@ -78,7 +80,7 @@ bool-laws vars = record {
       let t : Bool = int_eq v (pos 1) in (
         set_from σ (vars + 1) t,
         set_from-same σ (vars + 1) t,
-        tt,
+        refl,
         ap (λ (b : Bool). if b then pos 1 else pos 0) (set_from-here σ (vars + 1) t) ∙ bit_of v (is_bit v h),
       );
 }
@@ -113,8 +115,8 @@ int-laws vars low high fit small =
     (IsBounded-unit_range_of low first count (omega (arith, small.0)) (rw reach (omega (arith, small.1))), AreRising-unit_steps first count) in
     record {
       fits = (below, sound);
-      cores = (record { below = below; well_formed = sound; form = tt }, tt);
-      ordered = λ σ h. (h.0, tt);
+      cores = (record { below = (tt, (below, tt)); well_formed = sound; form = tt }, tt);
+      ordered = λ σ h. ((MeetsAll-one σ (Ladder a)).0 h, tt);
       some = λ σ h.
           (Decides-domain low high (value_of σ a)).1
           (low-le σ a, subst (λ z. value_of σ a ≤ℤ z) (ap (λ (n : ℕ). low +ℤ pos n) (weights-unit_steps first count) ∙ reach) (high-ge σ a));
@@ -122,7 +124,7 @@ int-laws vars low high fit small =
           let range = (Decides-domain low high v).0 h in
           let listed : Contains (values_from low (count + 1)) v = Contains-values_from (count + 1) low v range.0 (omega (arith, ints, reach, range.1)) in
           let t = takes_each_value σ a first count v (atoms-unit_steps first count) (subst (λ vs. Contains vs v) (sym (values_of-unit_range_of low first count)) listed) in
-          (t.0, t.1, (t.2.0, tt), t.2.1);
+          (t.0, t.1, (MeetsAll-one t.0 (Ladder a)).1 t.2.0, t.2.1);
     }
 
 entry-laws : (vars : ℕ) (k : Kind) → KindFits k → KindInLimit k → EntryLaws vars k
@@ -165,7 +167,7 @@ declaration_law l decls d enc fit small none =
             let t = laws.each σ v mem in (
               t.0,
               t.1,
-              (MeetsAll-append t.0 l.cores (entry_cores e)).1 (MeetsAll-agree n σ t.0 l.cores t.1 enc.fits.cores h, t.2),
+              (MeetsAll-append t.0 l.cores (entry_cores e)).1 (MeetsAll-agree n σ t.0 l.cores t.1 (CoresFit-below n l.cores enc.fits.cores) h, t.2),
               numbers_of-append t.0 entries e
                   ∙ (ap (λ (v : ℤ). numbers_of t.0 entries ++ v ∷ []) t.3
                   ∙ ap (λ (vs : List ℤ). vs ++ v ∷ []) (sym (numbers_of-agree n σ t.0 decls entries t.1 enc.fits.entries))),

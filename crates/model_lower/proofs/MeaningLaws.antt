@@ -8,6 +8,7 @@ use Rattle.order_ints.specs.declared.atom.Atom.{Atom}
 use Rattle.order_ints.specs.Truth.{Valuation, atom_truth}
 use Rattle.core_forms.specs.Truths.{true_count, truths, is_odd}
 use Rattle.core_forms.specs.Values as cores
+use Rattle.order_ints.specs.OrderLevels.{is_among}
 use Rattle.typed_model.specs.Booleans.{count_true}
 use Rattle.typed_model.specs.Integers.{total, is_member, not_exceeded, not_undercut}
 use Rattle.typed_model.specs.Lists.{differs_from, all_differ, differs_where, differ_where, in_order}
@@ -18,7 +19,7 @@ total-same : (xs : List ℤ) → total xs ≡ cores.total xs
 total-same [] = refl
 total-same (x ∷ xs) = ap (λ t. x +ℤ t) (total-same xs)
 
-member-same : (m : ℤ) (xs : List ℤ) → is_member m xs ≡ cores.is_among m xs
+member-same : (m : ℤ) (xs : List ℤ) → is_member m xs ≡ is_among m xs
 member-same m [] = refl
 member-same m (x ∷ xs) = ap (λ t. int_eq x m || t) (member-same m xs)
 
@@ -34,7 +35,7 @@ most-negated : (x m : ℤ) → int_le m x ≡ int_le (neg_ℤ x) (neg_ℤ m)
 most-negated x m =
     same_from_decides _ _ (Decides-int_le m x) (Decides-like _ (λ e. omega (arith, ints, e)) (λ e. omega (arith, ints, e)) (Decides-int_le (neg_ℤ x) (neg_ℤ m)))
 
-member-negated : (m : ℤ) (xs : List ℤ) → is_member m xs ≡ cores.is_among (neg_ℤ m) (map neg_ℤ xs)
+member-negated : (m : ℤ) (xs : List ℤ) → is_member m xs ≡ is_among (neg_ℤ m) (map neg_ℤ xs)
 member-negated m [] = refl
 member-negated m (x ∷ xs) = rw (equal-negated x m, member-negated m xs) refl
 
@@ -66,6 +67,7 @@ by_equal x y true rest h = by_less (int_lt x y) rest (not-less x y ((Decides-int
   where
     not-less : (x y : ℤ) → x ≡ y → int_lt x y ≡ false
     not-less x y e = grind (arith, ints)
+
     by_less : (l rest : Bool) → l ≡ false → (l || rest) ≡ rest
     by_less true rest h = cc
     by_less false rest h = refl

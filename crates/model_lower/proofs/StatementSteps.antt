@@ -15,7 +15,10 @@ use Rattle.order_ints.specs.Place.{AtomBelow, AtomsBelow}
 use Rattle.order_ints.specs.OrderValue.{value_of, in_order, IsOrdered}
 use Rattle.order_ints.specs.Numbers.{numbers_of}
 use Rattle.order_ints.proofs.Truths.{atom_truth-not_atom, AtomBelow-not_atom}
+use Rattle.core_forms.specs.declared.form.Core.TheVariants.{Clause}
 use Rattle.core_forms.specs.Meaning.{core_truth}
+use Rattle.core_forms.specs.Cores.{MeetsAll}
+use Rattle.core_forms.proofs.CoreLists.{MeetsAll-one, MeetsAll-append, MeetsAll-agree, MeetsAll-depends}
 use Rattle.typed_model.specs.declared.model.Decl.{Decl}
 use Rattle.typed_model.specs.declared.what.What.{What}
 use Rattle.typed_model.specs.declared.what.What.TheVariants.{L6, L8}
@@ -32,11 +35,10 @@ use Rattle.typed_model.specs.WellTyped.{WhatFits}
 use Rattle.typed_model.proofs.DomainLaws.{Decides-int_le, Decides-int_lt}
 use Rattle.model_lower.specs.Cores.{atoms_of, integer_of, comparison_core, array_cores, cores_of}
 use Rattle.model_lower.specs.Built.{is_built_operator, is_built}
-use Rattle.model_lower.specs.Decoded.{MeetsAll}
 use Rattle.model_lower.specs.Fits.{CoreFits, CoresFit, EntriesFit}
 use Rattle.model_lower.specs.ItemLaws.{AreOrdered, StatementLaw}
 use Rattle.model_lower.proofs.EntryLaws.{IntegerLaws, atoms_of-truth, atoms_of-below, integer_of-laws, IsOrdered-integer_of, numbers_of-agree}
-use Rattle.model_lower.proofs.CoreLaws.{MeetsAll-append, MeetsAll-agree, MeetsAll-depends, CoresFit-append}
+use Rattle.model_lower.proofs.CoreLaws.{CoresFit-below, CoresFit-append}
 
 -- Comparisons.
 
@@ -78,17 +80,17 @@ comparison-truth σ relation.Neq r a b h k =
 
 -- ranges of integers that are compared
 pub comparison-fits : (σ : Valuation) (n : ℕ) (rel : Relation) (r : Atom) (a b : OrdInt) (v w : ℤ) → AtomBelow n r → IntegerLaws σ n a v → IntegerLaws σ n b w → CoreFits n (comparison_core rel r a b)
-comparison-fits σ n relation.Leq r a b v w at h k = record { below = (at, h.below, k.below); well_formed = (h.sound, k.sound); form = tt }
-comparison-fits σ n relation.Geq r a b v w at h k = record { below = (at, k.below, h.below); well_formed = (k.sound, h.sound); form = tt }
-comparison-fits σ n relation.Eq r a b v w at h k = record { below = (at, h.below, k.below); well_formed = (h.sound, k.sound); form = tt }
-comparison-fits σ n relation.Lt r a b v w at h k = record { below = (AtomBelow-not_atom n r at, k.below, h.below); well_formed = (k.sound, h.sound); form = tt }
-comparison-fits σ n relation.Gt r a b v w at h k = record { below = (AtomBelow-not_atom n r at, h.below, k.below); well_formed = (h.sound, k.sound); form = tt }
-comparison-fits σ n relation.Neq r a b v w at h k = record { below = (AtomBelow-not_atom n r at, h.below, k.below); well_formed = (h.sound, k.sound); form = tt }
+comparison-fits σ n relation.Leq r a b v w at h k = record { below = ((at, tt), (h.below, (k.below, tt))); well_formed = (h.sound, k.sound); form = tt }
+comparison-fits σ n relation.Geq r a b v w at h k = record { below = ((at, tt), (k.below, (h.below, tt))); well_formed = (k.sound, h.sound); form = tt }
+comparison-fits σ n relation.Eq r a b v w at h k = record { below = ((at, tt), (h.below, (k.below, tt))); well_formed = (h.sound, k.sound); form = tt }
+comparison-fits σ n relation.Lt r a b v w at h k = record { below = ((AtomBelow-not_atom n r at, tt), (k.below, (h.below, tt))); well_formed = (k.sound, h.sound); form = tt }
+comparison-fits σ n relation.Gt r a b v w at h k = record { below = ((AtomBelow-not_atom n r at, tt), (h.below, (k.below, tt))); well_formed = (h.sound, k.sound); form = tt }
+comparison-fits σ n relation.Neq r a b v w at h k = record { below = ((AtomBelow-not_atom n r at, tt), (h.below, (k.below, tt))); well_formed = (h.sound, k.sound); form = tt }
 
 -- Line by line: the cores fit.
 
 array-fit : (n : ℕ) (op : Operator) (atoms : List Atom) → AtomsBelow n atoms → CoresFit n (array_cores op atoms)
-array-fit n operator.Or atoms h = (record { below = h; well_formed = tt; form = tt }, tt)
+array-fit n operator.Or atoms h = (record { below = (h, tt); well_formed = tt; form = tt }, tt)
 array-fit n operator.And atoms h = tt
 array-fit n operator.Xor atoms h = tt
 array-fit n operator.Iff atoms h = tt
@@ -96,11 +98,10 @@ array-fit n operator.Iff atoms h = tt
 pub statement-fits : (n m : ℕ) (ds : List Decl) (entries : List MapValue) (w : What) → EntriesFit n ds entries → WhatFits ds m w → WhatInLimit w → is_built w ≡ true → CoresFit n (cores_of entries w)
 statement-fits n m ds entries (L6 name op xs) h k small built = array-fit n op (atoms_of entries xs) (atoms_of-below n m ds entries xs h k.arguments.0)
 statement-fits n m ds entries (L8 name rel i j) h k small built =
-    let σ : Valuation = λ _. false in
-    (
+    let σ : Valuation = λ _. false in (
       comparison-fits σ n rel True (integer_of entries i) (integer_of entries j) _ _ tt
-      (integer_of-laws σ n m ds entries i h k.arguments.0 small.0.0)
-      (integer_of-laws σ n m ds entries j h k.arguments.1.0 small.0.1.0),
+          (integer_of-laws σ n m ds entries i h k.arguments.0 small.0.0)
+          (integer_of-laws σ n m ds entries j h k.arguments.1.0 small.0.1.0),
       tt,
     )
 statement-fits n m ds entries w h k small built = absurd (false≢true built)
@@ -108,7 +109,7 @@ statement-fits n m ds entries w h k small built = absurd (false≢true built)
 -- Line by line: the cores are met exactly where the statement holds.
 
 array-met : (σ : Valuation) (op : Operator) (atoms : List Atom) (ts : List Bool) → is_built_operator op ≡ true → atom_clause_truth σ atoms ≡ some_true ts → MeetsAll σ (array_cores op atoms) ↔ IsTrue (combine op ts)
-array-met σ operator.Or atoms ts built e = (λ h. sym e ∙ h.0, λ h. (e ∙ h, tt))
+array-met σ operator.Or atoms ts built e = let one = MeetsAll-one σ (Clause atoms) in (λ h. sym e ∙ one.0 h, λ h. one.1 (e ∙ h))
 array-met σ operator.And atoms ts built e = absurd (false≢true built)
 array-met σ operator.Xor atoms ts built e = absurd (false≢true built)
 array-met σ operator.Iff atoms ts built e = absurd (false≢true built)
@@ -117,7 +118,8 @@ comparison-met : (σ : Valuation) (rel : Relation) (a b : OrdInt) → IsOrdered 
 comparison-met σ rel a b h k =
     let e : core_truth σ (comparison_core rel True a b) ≡ relates rel (value_of σ a) (value_of σ b) =
     comparison-truth σ rel True a b h k ∙ beq-true (relates rel (value_of σ a) (value_of σ b)) in
-    (λ m. sym e ∙ m.0, λ m. (e ∙ m, tt))
+    let one = MeetsAll-one σ (comparison_core rel True a b) in
+    (λ m. sym e ∙ one.0 m, λ m. one.1 (e ∙ m))
 
 pub statement-met : (σ : Valuation) (n m : ℕ) (ds : List Decl) (entries : List MapValue) (w : What) → EntriesFit n ds entries → WhatFits ds m w → WhatInLimit w → is_built w ≡ true → AreOrdered σ entries → MeetsAll σ (cores_of entries w) ↔ Holds (numbers_of σ entries) w
 unfolding Holds
@@ -151,8 +153,8 @@ statement_law l decls s enc fit small none =
       },
       record {
         fewer = omega arith;
-        constrains = MeetsAll-depends n (l.cores ++ more) fits;
-        depends = λ σ τ same h. (MeetsAll-agree n σ τ l.cores same enc.fits.cores h.0, subst (λ a. Holds a s.what) (numbers_of-agree n σ τ decls entries same enc.fits.entries) h.1);
+        constrains = MeetsAll-depends n (l.cores ++ more) (CoresFit-below n (l.cores ++ more) fits);
+        depends = λ σ τ same h. (MeetsAll-agree n σ τ l.cores same (CoresFit-below n l.cores enc.fits.cores) h.0, subst (λ a. Holds a s.what) (numbers_of-agree n σ τ decls entries same enc.fits.entries) h.1);
         implies = λ σ h. let r = (MeetsAll-append σ l.cores more).0 h in (r.0, (met σ r.0).0 r.1);
         extends = λ σ h. (σ, (λ v below. refl), (MeetsAll-append σ l.cores more).1 (h.0, (met σ h.0).1 h.1));
       },

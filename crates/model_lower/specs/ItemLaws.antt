@@ -6,6 +6,7 @@ use Rattle.order_ints.specs.Truth.{Valuation, Agree}
 use Rattle.order_ints.specs.OrderValue.{IsOrdered}
 use Rattle.order_ints.specs.Numbers.{numbers_of}
 use Rattle.order_ints.specs.Represents.{Represents}
+use Rattle.core_forms.specs.Cores.{MeetsAll}
 use Rattle.typed_model.specs.declared.model.Kind.{Kind}
 use Rattle.typed_model.specs.declared.model.Decl.{Decl}
 use Rattle.typed_model.specs.declared.model.Stmt.{Stmt}
@@ -20,7 +21,7 @@ use Rattle.model_lower.specs.declared.state.Lowered.{Lowered}
 use Rattle.model_lower.specs.Items.{Declaration, Statement}
 use Rattle.model_lower.specs.Lowering.{with_declaration, with_statement, lowered_of}
 use Rattle.model_lower.specs.Built.{unbuilt, first_unbuilt_of}
-use Rattle.model_lower.specs.Decoded.{MeetsAll, IsDecoded}
+use Rattle.model_lower.specs.Decoded.{IsDecoded}
 use Rattle.model_lower.specs.Fits.{Fits}
 
 -- each integer of a map is ordered

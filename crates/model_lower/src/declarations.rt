@@ -43,14 +43,13 @@ fn entry_of(alloc: Global, vars: u32, kind: Kind, taken: u32) -> Result<MapValue
 }
 
 /// Adds that an integer is to be ordered.
-fn add_ladder(cores: &mut Vec<Core>, entry: &MapValue) -> Result<(), AllocError>
+fn add_ladder(alloc: Global, cores: &mut Vec<Core>, entry: &MapValue) -> Result<(), AllocError>
     ensures { OnOk result (cores.new.items ≡ cores.old.items ++ entry_cores entry.now) }
 {
     match entry {
         MapValue::Bool(_) => Ok(()),
         MapValue::Int(integer) => {
-            let integer = integer.clone()?;
-            cores.push(Core::Ladder(integer))?;
+            cores.push(Core::ladder(alloc, integer.clone()?)?)?;
             Ok(())
         }
     }
@@ -68,7 +67,7 @@ pub fn add_declaration(alloc: Global, draft: &mut Draft, decl: &Decl) -> Result<
         return Err(LowerFault::Unbuilt(decl.number));
     }
     let entry = entry_of(alloc, draft.vars, decl.kind, taken as u32)?;
-    add_ladder(&mut draft.cores, &entry)?;
+    add_ladder(alloc, &mut draft.cores, &entry)?;
     draft.entries.push(entry)?;
     draft.vars = vars as u32;
     Ok(())

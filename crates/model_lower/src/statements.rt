@@ -1,6 +1,6 @@
 //! The cores of a statement.
 
-ghost use Rattle.std.specs.Prelude.{◌≡◌, ◌++◌, ◌∷◌, [], OnOk, IfErr, None, Some};
+ghost use Rattle.std.specs.Prelude.{◌≡◌, ◌++◌, ◌∷◌, [], IfOk, OnOk, IfErr, None, Some};
 ghost use Rattle.order_ints.specs.declared.atom.Atom.TheVariants.{True};
 ghost use Rattle.model_lower.specs.Items.{Statement, statements};
 ghost use Rattle.model_lower.specs.Cores.{atoms_of, integer_of, comparison_core, array_cores, cores_of};
@@ -28,16 +28,22 @@ pub fn is_built(what: &What) -> bool
 }
 
 /// The core that says that an atom is the truth of a comparison.
-fn comparison_core(relation: Relation, truth: Atom, left: OrdInt, right: OrdInt) -> Core
-    ensures { result ≡ comparison_core relation truth left right }
+fn comparison_core(
+    alloc: Global,
+    relation: Relation,
+    truth: Atom,
+    left: OrdInt,
+    right: OrdInt,
+) -> Result<Core, AllocError>
+    ensures { IfOk result (λ core. core ≡ comparison_core relation truth left right) }
 {
     match relation {
-        Relation::Leq => Core::LeqR(truth, left, right),
-        Relation::Geq => Core::LeqR(truth, right, left),
-        Relation::Eq => Core::EqR(truth, left, right),
-        Relation::Lt => Core::LeqR(truth.not(), right, left),
-        Relation::Gt => Core::LeqR(truth.not(), left, right),
-        Relation::Neq => Core::EqR(truth.not(), left, right),
+        Relation::Leq => Core::leq_r(alloc, truth, left, right),
+        Relation::Geq => Core::leq_r(alloc, truth, right, left),
+        Relation::Eq => Core::eq_r(alloc, truth, left, right),
+        Relation::Lt => Core::leq_r(alloc, truth.not(), right, left),
+        Relation::Gt => Core::leq_r(alloc, truth.not(), left, right),
+        Relation::Neq => Core::eq_r(alloc, truth.not(), left, right),
     }
 }
 
@@ -75,7 +81,7 @@ fn add_comparison(
 {
     let left = integer_of(alloc, entries, left)?;
     let right = integer_of(alloc, entries, right)?;
-    cores.push(comparison_core(relation, truth, left, right))?;
+    cores.push(comparison_core(alloc, relation, truth, left, right)?)?;
     Ok(())
 }
 
@@ -90,7 +96,9 @@ fn add_cores(
 {
     match what {
         What::L6 {
-            operator, members, ..
+            operator,
+            members,
+            ..
         } => add_array(alloc, entries, cores, *operator, members.as_slice()),
         What::L8 {
             relation,

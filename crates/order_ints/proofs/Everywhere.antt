@@ -1,6 +1,6 @@
 -- What holds of each level of an integer.
-use Rattle.std.proofs.Common.{◌≡◌, ℕ, ◌<◌, ◌^◌, List, [], ◌∷◌, ◌++◌, ℤ, pos, ◌+ℤ◌, refl, sym, ◌∙◌, arith}
-use Rattle.std.specs.Prelude.{unsigned_abs, int_le}
+use Rattle.std.proofs.Common.{◌≡◌, ℕ, ◌<◌, ◌^◌, Bool, true, false, cond, List, [], ◌∷◌, ◌++◌, map, ℤ, pos, ◌+ℤ◌, refl, sym, ◌∙◌, arith}
+use Rattle.std.specs.Prelude.{unsigned_abs, int_le, filter}
 use Rattle.std.specs.List.{AllByRecursion}
 use Rattle.std.proofs.lemmas.Int.{ints}
 use Rattle.std.proofs.lemmas.List.{append_assoc}
@@ -11,7 +11,7 @@ use Rattle.order_ints.specs.Truth.{Valuation, atom_truth}
 use Rattle.order_ints.specs.Place.{AtomBelow, StepsBelow}
 use Rattle.order_ints.specs.OrderValue.{value_of, IsOrdered}
 use Rattle.order_ints.specs.OrderRange.{weights, AreRising, IntBelow, IsBounded}
-use Rattle.order_ints.specs.OrderLevels.{levels, levels_of, at_of}
+use Rattle.order_ints.specs.OrderLevels.{levels, levels_of, values_of, at_of}
 use Rattle.order_ints.proofs.Reaching.{at_of-level, atom_truth-level}
 
 -- what holds of each member of a list, wherever it stands
@@ -45,6 +45,26 @@ below-levels : (n : ℕ) (low : ℤ) (x : Atom) (steps : List (Atom × ℕ)) →
 below-levels n low x [] first below = (first, tt)
 below-levels n low x (s ∷ steps) first below = (first, below-levels n (low +ℤ pos s.1) s.0 steps below.0 below.1)
 
--- and its atom has a place where the integer has
+-- and its atom is below a bound where the integer is
 pub levels_below : (n : ℕ) (a : OrdInt) → IntBelow n a → AllByRecursion (λ (level : ℤ × Atom). AtomBelow n level.1) (levels_of a)
 levels_below n a below = below-levels n a.base True a.steps tt below
+
+-- what is made of values and their atoms, one after another, is made of the values alone
+map-levels : {X : Type 0} (f : ℤ → Atom → X) (at : ℤ → Atom) (ls : List (ℤ × Atom)) → AllByRecursion (λ (level : ℤ × Atom). at level.0 ≡ level.1) ls → map (λ (level : ℤ × Atom). f level.0 level.1) ls ≡ map (λ v. f v (at v)) (map (λ (level : ℤ × Atom). level.0) ls)
+map-levels f at [] are = refl
+map-levels f at (l ∷ ls) are = λ i. f l.0 (sym are.0 i) ∷ map-levels f at ls are.1 i
+
+pub map_levels : {X : Type 0} (f : ℤ → Atom → X) (a : OrdInt) → AreRising a.steps → map (λ (level : ℤ × Atom). f level.0 level.1) (levels_of a) ≡ map (λ v. f v (at_of a v)) (values_of a)
+map_levels f a rising = map-levels f (at_of a) (levels_of a) (levels_at a rising)
+
+-- the same of those whose value passes a test
+filter-levels : {X : Type 0} (f : ℤ → Atom → X) (test : ℤ → Bool) (at : ℤ → Atom) (ls : List (ℤ × Atom)) → AllByRecursion (λ (level : ℤ × Atom). at level.0 ≡ level.1) ls → map (λ (level : ℤ × Atom). f level.0 level.1) (filter (λ (level : ℤ × Atom). test level.0) ls) ≡ map (λ v. f v (at v)) (filter test (map (λ (level : ℤ × Atom). level.0) ls))
+filter-levels f test at [] are = refl
+filter-levels f test at (l ∷ ls) are =
+    elim (test l.0) as (λ t. map (λ (level : ℤ × Atom). f level.0 level.1) (cond t (l ∷ filter (λ (level : ℤ × Atom). test level.0) ls) (filter (λ (level : ℤ × Atom). test level.0) ls)) ≡ map (λ v. f v (at v)) (cond t (l.0 ∷ filter test (map (λ (level : ℤ × Atom). level.0) ls)) (filter test (map (λ (level : ℤ × Atom). level.0) ls)))) [
+      | true ↦ λ i. f l.0 (sym are.0 i) ∷ filter-levels f test at ls are.1 i
+      | false ↦ filter-levels f test at ls are.1
+    ]
+
+pub filter_levels : {X : Type 0} (f : ℤ → Atom → X) (test : ℤ → Bool) (a : OrdInt) → AreRising a.steps → map (λ (level : ℤ × Atom). f level.0 level.1) (filter (λ (level : ℤ × Atom). test level.0) (levels_of a)) ≡ map (λ v. f v (at_of a v)) (filter test (values_of a))
+filter_levels f test a rising = filter-levels f test (at_of a) (levels_of a) (levels_at a rising)

@@ -159,7 +159,7 @@ pub IsBounded-unit_range_of : (low : ℤ) (first count : ℕ) → unsigned_abs l
 IsBounded-unit_range_of low first count least greatest =
     (least, subst (λ (n : ℕ). unsigned_abs (low +ℤ pos n) < 2 ^ 100) (sym (weights-unit_steps first count)) greatest)
 
--- the integer of listed values: its variables, that it rises, and where they have a place
+-- the integer of listed values: its variables, that it rises, and below which bound they are
 pub atoms-integer_of_values : (values : List ℤ) (first : ℕ) → map (λ (s : Atom × ℕ). s.0) (integer_of_values values first).steps ≡ vars_from first (length values - 1)
 atoms-integer_of_values [] first = let e : 0 ≡ zero - 1 = omega arith in ap (vars_from first) e
 atoms-integer_of_values (least ∷ values) first =

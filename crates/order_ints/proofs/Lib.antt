@@ -3,6 +3,7 @@ pub mod Opposites
 pub mod ClauseSteps
 pub mod TruthLaws
 pub mod PlaceLaws
+pub mod Labels
 pub mod OrderedLaws
 pub mod FirstFalseLaws
 pub mod Truths
@@ -15,4 +16,6 @@ pub mod Multiples
 pub mod Fresh
 pub mod Upwards
 pub mod Made
+pub mod Wide
+pub mod Walks
 pub mod Standing

@@ -130,7 +130,7 @@ values-in_order σ low x (s ∷ steps) ordered =
 pub Contains-value_of : (σ : Valuation) (a : OrdInt) → IsOrdered σ a → Contains (values_of a) (value_of σ a)
 Contains-value_of σ a ordered = values-in_order σ a.base True a.steps ordered
 
--- the atom at which a value is reached has a place where the integer has
+-- the atom at which a value is reached is below a bound where the integer is
 reaching-below : (n : ℕ) (v low : ℤ) (x : Atom) (steps : List (Atom × ℕ)) → AtomBelow n x → StepsBelow n steps → AtomBelow n (first_reaching v (levels low x steps))
 reaching-below n v low x [] first below = by_int_le v low x False (λ a. AtomBelow n a) (λ _. first) (λ _. tt)
 reaching-below n v low x (s ∷ steps) first below =

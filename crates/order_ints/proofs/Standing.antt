@@ -1,5 +1,7 @@
 -- The laws of constraints that stand for a property.
-use Rattle.std.proofs.Common.{ℕ, ◌≤◌, List, ◌++◌, refl, sym, ◌∙◌, ◌↔◌, arith}
+use Rattle.std.proofs.Common.{ℕ, ◌≤◌, Bool, true, false, ◌&&◌, List, ◌++◌, refl, sym, ◌∙◌, ◌↔◌, arith}
+use Rattle.std.specs.Prelude.{IsTrue}
+use Rattle.std.proofs.lemmas.Bool.{false≢true}
 use Rattle.order_ints.specs.Truth.{Valuation, Agree}
 use Rattle.order_ints.specs.Represents.{DependsBelow, Represents}
 
@@ -92,6 +94,18 @@ Represents-both n m k Meets Also P Q r s depends = record {
       let f = s.extends e.0 (depends σ e.0 e.1 both.1) in
       (f.0, Agree-trans n σ e.0 f.0 e.1 (Agree-fewer n m e.0 f.0 r.fewer f.1), (r.constrains e.0 f.0 f.1 e.2, f.2));
 }
+
+-- both facts are those of one test
+both-test : (b c : Bool) → (IsTrue b × IsTrue c) ↔ IsTrue (b && c)
+both-test true c = ((λ h. h.1), (λ h. (refl, h)))
+both-test false c = ((λ h. h.0), (λ h. (h, absurd (false≢true h))))
+
+-- the same of tests, of which both are one test again
+pub Represents-both_tests : (n m k : ℕ) (meets also holds too : Valuation → Bool) → Represents n m (λ σ. IsTrue (meets σ)) (λ σ. IsTrue (holds σ)) → Represents m k (λ σ. IsTrue (also σ)) (λ σ. IsTrue (too σ)) → DependsBelow n (λ σ. IsTrue (too σ)) → Represents n k (λ σ. IsTrue (meets σ && also σ)) (λ σ. IsTrue (holds σ && too σ))
+Represents-both_tests n m k meets also holds too r s depends =
+    let both = Represents-both n m k (λ σ. IsTrue (meets σ)) (λ σ. IsTrue (also σ)) (λ σ. IsTrue (holds σ)) (λ σ. IsTrue (too σ)) r s depends in
+    Represents-same n k (λ σ. IsTrue (meets σ && also σ)) (λ σ. IsTrue (holds σ) × IsTrue (too σ)) (λ σ. IsTrue (holds σ && too σ)) (λ σ. both-test (holds σ) (too σ))
+    (Represents-met n k (λ σ. IsTrue (meets σ) × IsTrue (also σ)) (λ σ. IsTrue (meets σ && also σ)) (λ σ. IsTrue (holds σ) × IsTrue (too σ)) (λ σ. both-test (meets σ) (also σ)) both)
 
 -- the same along appended lists of constraints, where a valuation meets appended lists exactly where it meets both
 pub Represents-append : {C : Type 0} (meets : Valuation → List C → Type 0) (splits : (σ : Valuation) (cs ds : List C) → meets σ (cs ++ ds) ↔ (meets σ cs × meets σ ds)) (n m k : ℕ) (cs ds : List C) (P Q : Valuation → Type 0) → Represents n m (λ σ. meets σ cs) P → Represents m k (λ σ. meets σ ds) Q → DependsBelow n Q → Represents n k (λ σ. meets σ (cs ++ ds)) (λ σ. P σ × Q σ)

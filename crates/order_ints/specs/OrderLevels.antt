@@ -1,5 +1,6 @@
 -- The levels of an integer: its values upwards, each with the atom that is true where that value is reached.
-use Rattle.std.specs.Prelude.{ℕ, ℤ, pos, ◌+ℤ◌, int_le, List, [], ◌∷◌, map, if◌then◌else◌}
+use Rattle.std.specs.Prelude.{ℕ, Bool, false, ◌||◌, ℤ, pos, ◌+ℤ◌, int_le, List, [], ◌∷◌, map, if◌then◌else◌}
+use Rattle.std.specs.Ordering.{int_eq}
 use Rattle.order_ints.specs.declared.atom.Atom.{Atom}
 use Rattle.order_ints.specs.declared.atom.Atom.TheVariants.{True, False}
 use Rattle.order_ints.specs.declared.order_int.OrdInt.{OrdInt}
@@ -25,3 +26,8 @@ first_reaching v (level ∷ above) = if int_le v level.0 then level.1 else first
 -- the atom that says that an integer is at least v
 abbrev pub at_of : OrdInt → ℤ → Atom
 at_of a v = first_reaching v (levels_of a)
+
+-- the value is one of those
+abbrev pub is_among : ℤ → List ℤ → Bool
+is_among value [] = false
+is_among value (v ∷ vs) = int_eq v value || is_among value vs

@@ -7,6 +7,7 @@ mod cnf_laws;
 mod cnf_order;
 mod cnf_truth;
 mod holds;
+pub mod label_laws;
 mod literal;
 mod order_int;
 pub mod order_laws;
@@ -18,5 +19,5 @@ pub use cnf_laws::{agreement_law, bound_law, negation_law, order_law, parts_law,
 pub use cnf_order::ordered_clause;
 pub use cnf_truth::{first_false, is_clause_true};
 pub use literal::Lit;
-pub use order_int::{Levels, MapValue, OrdInt};
+pub use order_int::{Levels, MapValue, OrdInt, Walk};
 pub use view::{label_of, resolve};

@@ -1,14 +1,21 @@
 //! Integers in the order encoding.
 
+ghost use Rattle.std.specs.Prelude.{◌≡◌, ◌↔◌, IsTrue};
+ghost use Rattle.std.specs.Cmp.{partial_equiv_from_equiv};
+ghost use Rattle.order_ints.specs.Same.{same_int};
+ghost use Rattle.order_ints.specs.Equality.{same_int_equiv};
+
 mod change;
 mod levels;
 mod make;
 mod signed;
 mod value;
+mod walk;
 
 use crate::atom::Atom;
 use bee_list::Sequence;
 pub use levels::Levels;
+pub use walk::Walk;
 
 /// An integer whose value depends on a valuation: its base, and for each step that is true the step's
 /// weight. It is ordered where no true step follows a false one; then the number of true steps tells
@@ -29,4 +36,22 @@ pub enum MapValue {
     Bool(Atom),
     /// The value of a declared integer.
     Int(OrdInt),
+}
+
+/// Integers are equal where they have one base and the same steps.
+impl PartialEq for OrdInt {
+    ghost eq = { same_int };
+
+    ghost laws = { partial_equiv_from_equiv same_int_equiv };
+
+    fn eq(&self, other: &OrdInt) -> bool
+        ensures test { result ≡ same_int self.now other.now }
+        ensures equal { IsTrue result ↔ (self.now ≡ other.now) }
+    {
+        self.base == other.base && self.steps == other.steps
+    }
+}
+
+impl Eq for OrdInt {
+    ghost laws = { same_int_equiv };
 }

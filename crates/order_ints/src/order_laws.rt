@@ -1,11 +1,12 @@
 //! Laws of literals, atoms and integers in the order encoding, for proofs of crates above. Each
 //! function does nothing; its contract is the law.
 
-ghost use Rattle.std.specs.Prelude.{◌≡◌, ℕ, ◌+◌, ◌≤◌, Bool, not, ℤ, pos, neg_ℤ, ◌+ℤ◌, ◌-ℤ◌, ◌*ℤ◌, ◌≤ℤ◌, ◌<ℤ◌, int_le, List, ◌∷◌, ◌++◌, map, Contains, IsTrue};
+ghost use Rattle.std.specs.Prelude.{◌≡◌, ℕ, ◌+◌, ◌≤◌, Bool, not, ◌&&◌, ◌↔◌, ℤ, pos, neg_ℤ, ◌+ℤ◌, ◌-ℤ◌, ◌*ℤ◌, ◌≤ℤ◌, ◌<ℤ◌, int_le, List, ◌∷◌, ◌++◌, map, Contains, IsTrue};
 ghost use Rattle.std.specs.List.{AllByRecursion};
 ghost use Rattle.order_ints.specs.declared.atom.Atom.{Atom};
 ghost use Rattle.order_ints.specs.declared.atom.Atom.TheVariants.{True, False};
 ghost use Rattle.order_ints.specs.declared.order_int.OrdInt.{OrdInt};
+ghost use Rattle.order_ints.specs.Same.{same_atom, same_step, same_int};
 ghost use Rattle.order_ints.specs.Truth.{Valuation, Agree, atom_truth, not_atom};
 ghost use Rattle.order_ints.specs.Place.{AtomBelow};
 ghost use Rattle.order_ints.specs.OrderValue.{value_of, in_order, IsOrdered};
@@ -30,6 +31,13 @@ pub fn value_law()
     ensures high { (σ : Valuation) (a : OrdInt) → value_of σ a ≤ℤ high_of a }
     ensures listed { (σ : Valuation) (a : OrdInt)
         → IsOrdered σ a → Contains (values_of a) (value_of σ a) }
+{}
+
+/// The tests of equality, which `==` computes, tell it: of atoms, of steps, of integers.
+pub fn equality_law()
+    ensures atom { (a b : Atom) → IsTrue (same_atom a b) ↔ (a ≡ b) }
+    ensures step { (s t : Atom × ℕ) → IsTrue (same_step s t) ↔ (s ≡ t) }
+    ensures int { (a b : OrdInt) → IsTrue (same_int a b) ↔ (a ≡ b) }
 {}
 
 /// What an integer's atoms mean: on an ordered integer the atom at v is true exactly where the value
@@ -82,8 +90,8 @@ pub fn agreement_law()
         → Agree n σ τ → IntBelow n a → in_order σ a.steps ≡ in_order τ a.steps }
 {}
 
-/// Where the variables of what is made of an integer have a place.
-pub fn place_law()
+/// Below which bound the variables of what is made of an integer are.
+pub fn below_law()
     ensures at { (n : ℕ) (a : OrdInt) (v : ℤ) → IntBelow n a → AtomBelow n (at_of a v) }
     ensures levels { (n : ℕ) (a : OrdInt)
         → IntBelow n a → AllByRecursion (λ level. AtomBelow n level.1) (levels_of a) }
@@ -102,8 +110,9 @@ pub fn fresh_law()
 
 /// Constraints that stand for a property do so where more variables may be there, and where fewer are
 /// kept, down to a bound on which the property alone depends; and those that stand for two properties,
-/// the second ones over fresh variables, stand together for both. Here constraints and properties are
-/// tests; the lemmas have the laws for any.
+/// the second ones over fresh variables, stand together for both, said of pairs and again of one
+/// test, which may be fed to the law once more. Here constraints and properties are tests; the lemmas have
+/// the laws for any.
 pub fn represents_law()
     ensures more { (n m k : ℕ) (meets holds : Valuation → Bool) → m ≤ k
         → Represents n m (λ σ. IsTrue (meets σ)) (λ σ. IsTrue (holds σ))
@@ -118,6 +127,11 @@ pub fn represents_law()
         → DependsBelow n (λ σ. IsTrue (too σ))
         → Represents n k (λ σ. IsTrue (meets σ) × IsTrue (also σ))
         (λ σ. IsTrue (holds σ) × IsTrue (too σ)) }
+    ensures both_tests { (n m k : ℕ) (meets also holds too : Valuation → Bool)
+        → Represents n m (λ σ. IsTrue (meets σ)) (λ σ. IsTrue (holds σ))
+        → Represents m k (λ σ. IsTrue (also σ)) (λ σ. IsTrue (too σ))
+        → DependsBelow n (λ σ. IsTrue (too σ))
+        → Represents n k (λ σ. IsTrue (meets σ && also σ)) (λ σ. IsTrue (holds σ && too σ)) }
     ensures through { (n m k : ℕ) (further meets holds : Valuation → Bool)
         → Represents n m (λ σ. IsTrue (meets σ)) (λ σ. IsTrue (holds σ))
         → Represents m k (λ σ. IsTrue (further σ)) (λ σ. IsTrue (meets σ))

@@ -4,9 +4,8 @@ ghost use Rattle.std.specs.Prelude.{◌≡◌, ◌∷◌, []};
 ghost use Rattle.std.specs.Option.{option_map};
 ghost use Rattle.typed_model.specs.Arguments.{Truth, Truths, Numbers, argument, arguments, arguments_of};
 
-use crate::apart::Apart;
 use crate::what::{BoolTerm, IntTerm, What};
-use bee_list::Sequence;
+use bee_list::{Apart, Sequence};
 
 /// An argument, whose members a list lends.
 #[derive(Clone, Copy)]

@@ -4,10 +4,9 @@ ghost use Rattle.std.specs.Prelude.{◌≡◌, IfOk, slice_get, map};
 ghost use Rattle.typed_model.specs.Scope.{truth, number, numeral};
 ghost use Rattle.typed_model.specs.Items.{truth_in, number_in, terms_in, truths_in, numbers_in, numerals_in};
 
-use crate::apart::Apart;
 use crate::scope::{Scope, numeral};
 use crate::what::{BoolTerm, IntTerm};
-use bee_list::Sequence;
+use bee_list::{Apart, Sequence};
 use bumblebee_reader::{Arg, Name, Term};
 use std::alloc::{AllocError, Global};
 

@@ -4,7 +4,6 @@
 //! `specs/Faults.antt`.
 #![tactic(auto)]
 
-mod apart;
 mod arguments;
 mod booleans;
 mod call;
@@ -28,7 +27,6 @@ mod taking;
 mod terms;
 mod what;
 
-pub use apart::Apart;
 pub use check::check_types;
 pub use fault::TypeFault;
 pub use laws::{behind_law, holds_law, limit_law, size_law, typing_law};

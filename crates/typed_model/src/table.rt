@@ -7,14 +7,13 @@ ghost use Rattle.typed_model.specs.Integers.{relates};
 ghost use Rattle.typed_model.specs.Holds.{holds, same, truth_or_true, terms_or_none, members_differ, lists_in_order};
 ghost use Rattle.typed_model.specs.Limits.{AllInLimit, WhatInLimit};
 
-use crate::apart::Apart;
 use crate::booleans::{combine, count_true};
 use crate::integers::{gives, is_aggregate, linear_sum, relates, total, weight_of_true};
 use crate::lists::{all_differ, differ_where, numbers_in_order, truths_in_order};
 use crate::statement::{AllDifferent, Order, Relation};
 use crate::terms::{as_number, number_of, truth_of};
 use crate::what::{BoolTerm, IntTerm, What};
-use bee_list::Sequence;
+use bee_list::{Apart, Sequence};
 
 /// Whether two truth values are equal.
 fn same(left: bool, right: bool) -> bool

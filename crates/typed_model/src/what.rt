@@ -1,8 +1,7 @@
 //! What a statement states: one variant for each line of the table of statements.
 
-use crate::apart::Apart;
 use crate::statement::{Aggregate, AllDifferent, Arithmetic, Operator, Order, Relation};
-use bee_list::Sequence;
+use bee_list::{Apart, Sequence};
 use bumblebee_reader::Name;
 
 /// A Boolean term.

@@ -57,7 +57,7 @@ pub(super) fn trimmed_form(alloc: Global, core: &Core, view: &[Atom]) -> Result<
     ensures { IfOk result (λ trimmed. trimmed ≡ trimmed_core view.now core.now) }
 {
     match core {
-        Core::Ladder(a) => Ok(Core::Ladder(trimmed_int(alloc, a, view)?)),
+        Core::Ladder(a) => Core::ladder(alloc, trimmed_int(alloc, a.get(), view)?),
         Core::Clause(atoms) => Ok(Core::Clause(trimmed_clause(alloc, atoms.as_slice(), view)?)),
         Core::Parity(atoms, odd) => {
             let (literals, trues) = only_literals(alloc, atoms.as_slice(), view)?;
@@ -67,52 +67,57 @@ pub(super) fn trimmed_form(alloc: Global, core: &Core, view: &[Atom]) -> Result<
             resolve(view, *r),
             trimmed_members(alloc, atoms.as_slice(), view)?,
         )),
-        Core::Comp(a, b, hi, lo) => Ok(Core::Comp(
+        Core::Comp(a, b, hi, lo) => Core::comp(
+            alloc,
             resolve(view, *a),
             resolve(view, *b),
             resolve(view, *hi),
-            resolve(view, *lo),
-        )),
+            resolve(view, *lo.get()),
+        ),
         Core::LeqR(r, a, b) => {
-            let (a, b) = trimmed_two(alloc, a, b, view)?;
-            Ok(Core::LeqR(resolve(view, *r), a, b))
+            let (a, b) = trimmed_two(alloc, a.get(), b.get(), view)?;
+            Core::leq_r(alloc, resolve(view, *r), a, b)
         }
         Core::EqR(r, a, b) => {
-            let (a, b) = trimmed_two(alloc, a, b, view)?;
-            Ok(Core::EqR(resolve(view, *r), a, b))
+            let (a, b) = trimmed_two(alloc, a.get(), b.get(), view)?;
+            Core::eq_r(alloc, resolve(view, *r), a, b)
         }
         Core::Sum3(a, b, c) => {
-            let (a, b, c) = trimmed_three(alloc, a, b, c, view)?;
-            Ok(Core::Sum3(a, b, c))
+            let (a, b, c) = trimmed_three(alloc, a.get(), b.get(), c.get(), view)?;
+            Core::sum3(alloc, a, b, c)
         }
         Core::Count(atoms, c) => {
             let (literals, trues) = only_literals(alloc, atoms.as_slice(), view)?;
-            Ok(Core::Count(literals, lowered(trimmed_int(alloc, c, view)?, trues)))
+            let c = lowered(trimmed_int(alloc, c.get(), view)?, trues);
+            Core::count(alloc, literals, c)
         }
-        Core::Sum(ints, k) => Ok(Core::Sum(trimmed_ints(alloc, ints.as_slice(), view)?, *k)),
-        Core::Max(ints, c) => Ok(Core::Max(
-            trimmed_ints(alloc, ints.as_slice(), view)?,
-            trimmed_int(alloc, c, view)?,
-        )),
-        Core::AllDiff(ints, conditions) => Ok(Core::AllDiff(
-            trimmed_ints(alloc, ints.as_slice(), view)?,
-            resolved(alloc, conditions.as_slice(), view)?,
-        )),
+        Core::Sum(ints, k) => {
+            let ints = trimmed_ints(alloc, ints.as_slice(), view)?;
+            Core::sum(alloc, ints, *k.get())
+        }
+        Core::Max(ints, c) => {
+            let ints = trimmed_ints(alloc, ints.as_slice(), view)?;
+            Core::max(alloc, ints, trimmed_int(alloc, c.get(), view)?)
+        }
+        Core::AllDiff(ints, conditions) => {
+            let ints = trimmed_ints(alloc, ints.as_slice(), view)?;
+            let conditions = resolved(alloc, conditions.get().as_slice(), view)?;
+            Core::all_diff(alloc, ints, conditions)
+        }
         Core::Amo(atoms) => Ok(Core::Amo(without_false(alloc, atoms.as_slice(), view)?)),
         Core::Prod(a, b, c) => {
-            let (a, b, c) = trimmed_three(alloc, a, b, c, view)?;
-            Ok(Core::Prod(a, b, c))
+            let (a, b, c) = trimmed_three(alloc, a.get(), b.get(), c.get(), view)?;
+            Core::prod(alloc, a, b, c)
         }
         Core::DivMod(a, b, q, r) => {
-            let a = trimmed_int(alloc, a, view)?;
-            let (b, q, r) = trimmed_three(alloc, b, q, r, view)?;
-            Ok(Core::DivMod(a, b, q, r))
+            let a = trimmed_int(alloc, a.get(), view)?;
+            let (b, q, r) = trimmed_three(alloc, b.get(), q.get(), r.get(), view)?;
+            Core::div_mod(alloc, a, b, q, r)
         }
-        Core::Lex(r, strict, front, back) => Ok(Core::Lex(
-            resolve(view, *r),
-            *strict,
-            trimmed_ints(alloc, front.as_slice(), view)?,
-            trimmed_ints(alloc, back.as_slice(), view)?,
-        )),
+        Core::Lex(r, strict, front, back) => {
+            let front = trimmed_ints(alloc, front.get().as_slice(), view)?;
+            let back = trimmed_ints(alloc, back.get().as_slice(), view)?;
+            Core::lex(alloc, resolve(view, *r), *strict, front, back)
+        }
     }
 }

@@ -6,48 +6,11 @@ ghost use Rattle.order_ints.specs.OrderRange.{weights, IsBounded};
 ghost use Rattle.order_ints.specs.OrderChange.{shifted_of};
 ghost use Rattle.core_forms.specs.Resolved.{map_steps, map_int, map_ints};
 ghost use Rattle.core_forms.specs.WellFormed.{AreSound};
-ghost use Rattle.core_forms.specs.Trimmed.{is_true, is_false, same_atom, merged_steps, tidied_int, tidied_ints};
+ghost use Rattle.core_forms.specs.Trimmed.{merged_steps, tidied_int, tidied_ints};
 
 use bee_list::Sequence;
 use order_ints::{Atom, OrdInt, resolve};
 use std::alloc::{AllocError, Global};
-
-/// Whether an atom is True.
-fn is_true(atom: Atom) -> bool
-    ensures { result ≡ is_true atom }
-{
-    match atom {
-        Atom::True => true,
-        Atom::False => false,
-        Atom::Of(_) => false,
-    }
-}
-
-/// Whether an atom is False.
-fn is_false(atom: Atom) -> bool
-    ensures { result ≡ is_false atom }
-{
-    match atom {
-        Atom::True => false,
-        Atom::False => true,
-        Atom::Of(_) => false,
-    }
-}
-
-/// Whether atoms are one.
-fn are_same(a: Atom, b: Atom) -> bool
-    ensures { result ≡ same_atom a b }
-{
-    match a {
-        Atom::True => is_true(b),
-        Atom::False => is_false(b),
-        Atom::Of(l) => match b {
-            Atom::True => false,
-            Atom::False => false,
-            Atom::Of(m) => l.var == m.var && l.positive == m.positive,
-        },
-    }
-}
 
 /// A step and those behind it, where neighbours with one atom are one step and False steps at the end
 /// are gone.
@@ -66,7 +29,7 @@ fn merged(
     let mut weight = least;
     for step in rest {
         let next = resolve(view, step.0);
-        if are_same(atom, next) {
+        if atom == next {
             weight += step.1;
         } else {
             steps.push((atom, weight))?;
@@ -74,7 +37,7 @@ fn merged(
             weight = step.1;
         }
     }
-    if !is_false(atom) {
+    if !atom.is_false() {
         steps.push((atom, weight))?;
     }
     Ok(Sequence::from_vec(steps))
@@ -100,7 +63,7 @@ pub(super) fn trimmed_int(alloc: Global, a: &OrdInt, view: &[Atom]) -> Result<Or
     let mut base = a.base;
     for i in 0..steps.len() {
         let atom = resolve(view, steps[i].0);
-        if !is_true(atom) {
+        if !atom.is_true() {
             let steps = merged(alloc, atom, steps[i].1, &steps[i + 1..], view)?;
             return Ok(OrdInt { base, steps });
         }

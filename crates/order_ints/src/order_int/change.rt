@@ -84,7 +84,7 @@ impl OrdInt {
         ensures ordered { IfOk result (λ a. (σ : Valuation) → IsOrdered σ self.now → IsOrdered σ a) }
         ensures bounded { IfOk result (λ a. IsBounded a) }
         ensures rising { AreRising self.now.steps → IfOk result (λ a. AreRising a.steps) }
-        ensures place { (n : ℕ) → IntBelow n self.now → IfOk result (λ a. IntBelow n a) }
+        ensures below { (n : ℕ) → IntBelow n self.now → IfOk result (λ a. IntBelow n a) }
     {
         Ok(OrdInt {
             base: minus(self.high()),
@@ -101,7 +101,7 @@ impl OrdInt {
         ensures ordered { IfOk result (λ a. (σ : Valuation) → IsOrdered σ self.now → IsOrdered σ a) }
         ensures bounded { IfOk result (λ a. IsBounded a) }
         ensures rising { AreRising self.now.steps → IfOk result (λ a. AreRising a.steps) }
-        ensures place { (n : ℕ) → IntBelow n self.now → IfOk result (λ a. IntBelow n a) }
+        ensures below { (n : ℕ) → IntBelow n self.now → IfOk result (λ a. IntBelow n a) }
     {
         Ok(OrdInt {
             base: sum(self.base, by),
@@ -119,7 +119,7 @@ impl OrdInt {
         ensures ordered { IfOk result (λ a. (σ : Valuation) → IsOrdered σ self.now → IsOrdered σ a) }
         ensures bounded { IfOk result (λ a. IsBounded a) }
         ensures rising { AreRising self.now.steps → IfOk result (λ a. AreRising a.steps) }
-        ensures place { (n : ℕ) → IntBelow n self.now → IfOk result (λ a. IntBelow n a) }
+        ensures below { (n : ℕ) → IntBelow n self.now → IfOk result (λ a. IntBelow n a) }
     {
         Ok(OrdInt {
             base: self.scaled_base(by),

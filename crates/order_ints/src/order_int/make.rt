@@ -101,7 +101,7 @@ impl OrdInt {
         ensures variables { IfOk result (λ a. map (λ s. s.0) a.steps ≡ vars_from first_var count) }
         ensures bounded { IfOk result (λ a. IsBounded a) }
         ensures rising { IfOk result (λ a. AreRising a.steps) }
-        ensures place { IfOk result (λ a. (n : ℕ) → first_var + count ≤ n → IntBelow n a) }
+        ensures below { IfOk result (λ a. (n : ℕ) → first_var + count ≤ n → IntBelow n a) }
     {
         Ok(OrdInt {
             base: low,
@@ -122,7 +122,7 @@ impl OrdInt {
             (λ a. map (λ s. s.0) a.steps ≡ vars_from first_var (length values.now - 1)) }
         ensures bounded { IfOk result (λ a. IsBounded a) }
         ensures rising { IfOk result (λ a. AreRising a.steps) }
-        ensures place { IfOk result
+        ensures below { IfOk result
             (λ a. (n : ℕ) → first_var + length values.now ≤ n + 1 → IntBelow n a) }
     {
         let least = values[0];

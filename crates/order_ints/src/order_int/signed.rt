@@ -11,6 +11,15 @@ pub(super) fn raised(value: i128, by: u128) -> i128
     value + by as i128
 }
 
+/// A value lowered by a weight.
+pub(super) fn lowered(value: i128, by: u128) -> i128
+    requires from { unsigned_abs value < 2 ^ 100 }
+    requires to { unsigned_abs (value -ℤ pos by) < 2 ^ 100 }
+    ensures { result ≡ value -ℤ pos by }
+{
+    value - by as i128
+}
+
 /// How far a value is above another.
 pub(super) fn gap(low: i128, high: i128) -> u128
     requires ascending { low <ℤ high }

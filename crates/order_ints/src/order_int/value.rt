@@ -13,7 +13,7 @@ impl OrdInt {
     /// The value, where the truth value of variable 1 stands first: one pass over the steps.
     pub fn value(&self, sigma: &[bool]) -> i128
         requires bounded { IsBounded self.now }
-        requires place { IntBelow (length sigma.now + 1) self.now }
+        requires below { IntBelow (length sigma.now + 1) self.now }
         ensures value { result ≡ value_of (valuation_of sigma.now) self.now }
         ensures range { unsigned_abs result < 2 ^ 100 }
     {

@@ -2,7 +2,7 @@ use Rattle.std.proofs.Common.{◌≡◌, ◌+◌, ◌++◌, ◌∷◌, [], List,
 use Rattle.std.specs.Prelude.{is_ok, vec_len}
 use Rattle.std.proofs.lemmas.Bool.{cond-true}
 use Rattle.order_ints.specs.declared.atom.Atom.{Atom}
-use Rattle.equation_store.specs.Label.{variable, own_labels}
+use Rattle.order_ints.specs.Label.{variable, own_labels}
 use Rattle.equation_store.proofs.Own.{own_labels-more}
 use Rattle.equation_store.proofs.labels.push_own_labels.Goals as goal
 

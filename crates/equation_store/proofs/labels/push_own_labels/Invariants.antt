@@ -1,6 +1,6 @@
 use Rattle.std.proofs.Common.{◌≡◌, ◌+◌, ◌≤◌, ◌++◌}
 use Rattle.std.specs.Prelude.{vec_len, vec_capacity}
-use Rattle.equation_store.specs.Label.{own_labels}
+use Rattle.order_ints.specs.Label.{own_labels}
 use Rattle.equation_store.proofs.labels.push_own_labels.Given as goal
 
 abbrev pub invariant-loop-k : goal.invariant-loop-k

@@ -1,11 +1,13 @@
 use Rattle.equation_store.proofs.Merge.{merge_resolves, merge_keeps, merge_doubles}
+use Rattle.equation_store.proofs.Changes.{merge_never_shrinks, merge_labelled, merge_is_later}
 use Rattle.equation_store.proofs.laws.merge_laws.Goals as goal
 
-pub returns-clause-resolves : goal.returns-clause-resolves
-returns-clause-resolves c = merge_resolves
-
-pub returns-clause-keeps : goal.returns-clause-keeps
-returns-clause-keeps c = merge_keeps
-
-pub returns-clause-doubles : goal.returns-clause-doubles
-returns-clause-doubles c = merge_doubles
+pub returns : goal.returns
+returns c = record {
+  resolves = merge_resolves;
+  keeps = merge_keeps;
+  doubles = merge_doubles;
+  never_shrinks = merge_never_shrinks;
+  labelled = merge_labelled;
+  later = merge_is_later;
+}

@@ -1,5 +1,5 @@
 use Rattle.std.specs.Prelude.{IsTrue}
-use Rattle.order_ints.proofs.Standing.{Represents-more, Represents-fewer, Represents-both, Represents-through}
+use Rattle.order_ints.proofs.Standing.{Represents-more, Represents-fewer, Represents-both, Represents-both_tests, Represents-through}
 use Rattle.order_ints.proofs.order_laws.represents_law.Goals as goal
 
 pub returns-clause-more : goal.returns-clause-more
@@ -13,3 +13,6 @@ returns-clause-both c = λ n m k meets also holds too r s depends. Represents-bo
 
 pub returns-clause-through : goal.returns-clause-through
 returns-clause-through c = λ n m k further meets holds r s. Represents-through n m k (λ σ. IsTrue (further σ)) (λ σ. IsTrue (meets σ)) (λ σ. IsTrue (holds σ)) r s
+
+pub returns-clause-both_tests : goal.returns-clause-both_tests
+returns-clause-both_tests c = Represents-both_tests

@@ -1,6 +1,7 @@
 use Rattle.std.proofs.Common.{◌≡◌, ◌+◌, ◌&&◌, ◌||◌, drop, length}
 use Rattle.order_ints.specs.Truth.{valuation_of}
-use Rattle.core_forms.specs.Values.{values, is_among, all_at_most, is_greatest}
+use Rattle.order_ints.specs.OrderLevels.{is_among}
+use Rattle.core_forms.specs.Values.{values, all_at_most, is_greatest}
 use Rattle.core_forms.specs.Place.{IntsBelow}
 use Rattle.core_forms.specs.WellFormed.{AreSound}
 use Rattle.core_forms.proofs.meaning.lists.is_maximum.Given as goal

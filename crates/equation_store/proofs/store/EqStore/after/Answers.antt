@@ -5,7 +5,7 @@ use Rattle.std.proofs.lemmas.List.{get_or_read}
 use Rattle.order_ints.specs.declared.atom.Atom.{Atom}
 use Rattle.order_ints.specs.declared.atom.Atom.TheVariants.{Of}
 use Rattle.order_ints.specs.View.{label_of}
-use Rattle.equation_store.specs.Label.{variable}
+use Rattle.order_ints.specs.Label.{variable}
 use Rattle.equation_store.specs.Class.{is_of, first_in, after_in, IsMember}
 use Rattle.equation_store.specs.Store.{Store, IsStore, members_from, class_walk}
 use Rattle.equation_store.proofs.Walk.{after_in-member}

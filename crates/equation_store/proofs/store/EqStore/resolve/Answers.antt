@@ -1,6 +1,6 @@
 use Rattle.std.proofs.Common.{◌≡◌, subst, ap, rules}
 use Rattle.order_ints.specs.View.{resolve}
-use Rattle.equation_store.specs.Label.{IsLabelled}
+use Rattle.order_ints.specs.Label.{IsLabelled}
 use Rattle.equation_store.specs.Store.{Store}
 use Rattle.equation_store.proofs.Facts.{exact_from}
 use Rattle.equation_store.proofs.store.EqStore.resolve.Goals as goal

@@ -34,7 +34,7 @@ pub returns-clause-rising : goal.returns-clause-rising
 returns-clause-rising c =
     subst (λ (a : OrdInt). AreRising a.steps) (sym (shape c)) (AreRising-integer_of_values c.args.values.now c.args.first_var c.requires.ascending)
 
-pub returns-clause-place : goal.returns-clause-place
-returns-clause-place c = λ n h.
+pub returns-clause-below : goal.returns-clause-below
+returns-clause-below c = λ n h.
     subst (λ (a : OrdInt). IntBelow n a) (sym (shape c))
     (IntBelow-integer_of_values n c.args.values.now c.args.first_var c.requires.variables h)

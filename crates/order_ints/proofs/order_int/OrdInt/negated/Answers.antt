@@ -33,5 +33,5 @@ returns-clause-bounded c = subst (λ (a : OrdInt). IsBounded a) (sym (shape c)) 
 pub returns-clause-rising : goal.returns-clause-rising
 returns-clause-rising c = λ h. subst (λ (a : OrdInt). AreRising a.steps) (sym (shape c)) (AreRising-negated c.args.self.now.steps h)
 
-pub returns-clause-place : goal.returns-clause-place
-returns-clause-place c = λ n below. subst (λ (a : OrdInt). IntBelow n a) (sym (shape c)) (StepsBelow-negated n c.args.self.now.steps below)
+pub returns-clause-below : goal.returns-clause-below
+returns-clause-below c = λ n below. subst (λ (a : OrdInt). IntBelow n a) (sym (shape c)) (StepsBelow-negated n c.args.self.now.steps below)

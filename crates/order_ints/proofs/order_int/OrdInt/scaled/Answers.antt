@@ -34,5 +34,5 @@ returns-clause-bounded c = subst (λ (a : OrdInt). IsBounded a) (sym (shape c)) 
 pub returns-clause-rising : goal.returns-clause-rising
 returns-clause-rising c = λ h. subst (λ (a : OrdInt). AreRising a.steps) (sym (shape c)) (AreRising-scaled_of c.args.self.now c.args.by h)
 
-pub returns-clause-place : goal.returns-clause-place
-returns-clause-place c = λ n below. subst (λ (a : OrdInt). IntBelow n a) (sym (shape c)) (IntBelow-scaled_of n c.args.self.now c.args.by below)
+pub returns-clause-below : goal.returns-clause-below
+returns-clause-below c = λ n below. subst (λ (a : OrdInt). IntBelow n a) (sym (shape c)) (IntBelow-scaled_of n c.args.self.now c.args.by below)

@@ -29,7 +29,7 @@ pub returns-clause-rising : goal.returns-clause-rising
 returns-clause-rising c =
     subst (λ (a : OrdInt). AreRising a.steps) (sym (shape c)) (AreRising-unit_steps c.args.first_var c.args.count)
 
-pub returns-clause-place : goal.returns-clause-place
-returns-clause-place c = λ n h.
+pub returns-clause-below : goal.returns-clause-below
+returns-clause-below c = λ n h.
     subst (λ (a : OrdInt). IntBelow n a) (sym (shape c))
     (StepsBelow-vars n c.args.first_var c.args.count (unit_steps c.args.first_var c.args.count) (atoms-unit_steps c.args.first_var c.args.count) (λ some. (c.requires.variables some).0) h)

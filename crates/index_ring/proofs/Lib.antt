@@ -1,0 +1,9 @@
+pub mod Times
+pub mod Chains
+pub mod Moved
+pub mod Splicing
+pub mod Views
+pub mod Alone
+pub mod Written
+pub mod Seen
+pub mod Lawful

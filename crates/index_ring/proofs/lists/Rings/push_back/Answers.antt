@@ -1,0 +1,7 @@
+use Rattle.std.proofs.Common.{arith, ap, length}
+use Rattle.index_ring.proofs.Written.{ring-count}
+use Rattle.index_ring.proofs.lists.Rings.push_back.Goals as goal
+
+pub push_back-requires-clause-ring : goal.push_back-requires-clause-ring
+push_back-requires-clause-ring c =
+    omega (arith, ring-count c.self.inside.nodes.items c.self.inside.rings.items c.args.self.now c.self.view_is, ap length c.as_mut_slice.ensures.value)

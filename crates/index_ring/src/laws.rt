@@ -1,0 +1,20 @@
+//! Laws of the lists that clauses cite.
+
+ghost use Rattle.index_ring.specs.Laws.{StandsOnce, FreeExactly, LengthsFit, WalkMeets, OthersStay};
+
+/// Where a node stands.
+pub fn place_laws()
+    ensures once { StandsOnce }
+    ensures free { FreeExactly }
+    ensures lengths { LengthsFit }
+{}
+
+/// What a walk by `first` and `after` meets.
+pub fn walk_laws()
+    ensures meets { WalkMeets }
+{}
+
+/// What a move of a node from its ring to another one changes.
+pub fn move_laws()
+    ensures others { OthersStay }
+{}

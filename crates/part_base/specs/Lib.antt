@@ -1,0 +1,2 @@
+pub mod PartsFor
+pub mod FreshTruths

@@ -1,0 +1,3 @@
+pub mod PairLaws
+pub mod FoundLaws
+pub mod StatedLaws

@@ -1,0 +1,44 @@
+//! Equations that state bounds of an integer.
+
+ghost use Rattle.std.specs.Prelude.{◌≡◌, [], ◌∷◌, ◌^◌, ◌<◌, ◌+ℤ◌, pos, unsigned_abs};
+ghost use Rattle.order_ints.specs.OrderRange.{IsBounded};
+ghost use Rattle.rule_base.specs.Pairs.{first_sought};
+ghost use Rattle.rule_base.specs.Stated.{at_least, is_below, is_not};
+
+use crate::sought::Sought;
+use order_ints::{Atom, OrdInt};
+
+/// The value above another by 1.
+pub fn next(v: i128) -> i128
+    requires { unsigned_abs v < 2 ^ 120 }
+    ensures { result ≡ v +ℤ pos 1 }
+{
+    v + 1
+}
+
+impl Sought {
+    /// That an integer is at least a value, if that is looked for. Its time is that of `at`.
+    pub fn at_least(self, a: &OrdInt, v: i128) -> Option<(Atom, Atom)>
+        requires { IsBounded a.now }
+        ensures { result ≡ first_sought self (at_least a.now v ∷ []) }
+    {
+        self.one(a.at(v), Atom::True)
+    }
+
+    /// That an integer is below a value, if that is looked for. Its time is that of `at`.
+    pub fn is_below(self, a: &OrdInt, v: i128) -> Option<(Atom, Atom)>
+        requires { IsBounded a.now }
+        ensures { result ≡ first_sought self (is_below a.now v ∷ []) }
+    {
+        self.one(a.at(v), Atom::False)
+    }
+
+    /// That an integer is not a value, if that is looked for. Its time is that of `at`.
+    pub fn is_not(self, a: &OrdInt, v: i128) -> Option<(Atom, Atom)>
+        requires bounded { IsBounded a.now }
+        requires value { unsigned_abs v < 2 ^ 120 }
+        ensures { result ≡ first_sought self (is_not a.now v ∷ []) }
+    {
+        self.one(a.at(v), a.at(next(v)))
+    }
+}

@@ -1,0 +1,8 @@
+//! Rows worked out by hand, over the public calls of the crates of what one core gives, one file for each of these
+//! crates. They stand apart from those crates, so that proving them proves none of those anew.
+#![tactic(auto)]
+
+#[cfg(test)]
+mod direct_encode;
+#[cfg(test)]
+mod words;

@@ -1,10 +1,11 @@
 -- Variables put among ascending ones: how many there are, which ones, and that they ascend.
 use Rattle.std.proofs.Common.{◌≡◌, ◌↔◌, ℕ, zero, suc, ◌+◌, ◌<◌, ◌≤◌, ◌⊎◌, inl, inr, Bool, true, false, cond, eqb, ltb, get_or, length, List, [], ◌∷◌, ◌++◌, Contains, refl, sym, ap, ◌∙◌, arith}
+use Rattle.std.specs.Prelude.{Option, None, Some, IfNone}
 use Rattle.std.specs.List.Sorted.{IsStrictlyIncreasing}
-use Rattle.std.proofs.lemmas.Bool.{eqb-true, eqb-false, ltb-true, ltb-false}
+use Rattle.std.proofs.lemmas.Bool.{eqb-true, eqb-false, ltb-true, ltb-false, le-leb, lt-leb}
 use Rattle.core_forms.specs.declared.form.Core.{Core}
 use Rattle.core_forms.specs.Variables.{core_vars}
-use Rattle.core_forms.specs.OwnVars.{with_var, with_vars, own_vars}
+use Rattle.core_forms.specs.OwnVars.{with_var, with_vars, own_vars, if_few}
 
 -- there are no fewer with one more
 pub with_var-longer : (v : ℕ) (vars : List ℕ) → length vars ≤ length (with_var v vars)
@@ -25,9 +26,26 @@ pub with_vars-append : (xs ys vars : List ℕ) → with_vars (xs ++ ys) vars ≡
 with_vars-append [] ys vars = refl
 with_vars-append (v ∷ xs) ys vars = with_vars-append xs ys (with_var v vars)
 
+-- with the first ones put, the others are left to put
+pub others-left : (xs ys vars new whole : List ℕ) → with_vars (xs ++ ys) vars ≡ whole → new ≡ with_vars xs vars → with_vars ys new ≡ whole
+others-left xs ys vars new whole e is = ap (with_vars ys) is ∙ sym (with_vars-append xs ys vars) ∙ e
+
 -- where the first ones are too many, all are
-pub too-many : (xs ys vars : List ℕ) → 8 < length (with_vars xs vars) → 8 < length (with_vars (xs ++ ys) vars)
-too-many xs ys vars h = rw (with_vars-append xs ys vars) (omega (arith, with_vars-longer ys (with_vars xs vars)))
+pub too-many : (xs ys vars whole : List ℕ) → with_vars (xs ++ ys) vars ≡ whole → 8 < length (with_vars xs vars) → 8 < length whole
+too-many xs ys vars whole e h =
+    let same : with_vars ys (with_vars xs vars) ≡ whole = sym (with_vars-append xs ys vars) ∙ e in
+    omega (arith, with_vars-longer ys (with_vars xs vars), ap length same)
+
+pub few-none : (vars : List ℕ) → 8 < length vars → if_few vars ≡ None
+few-none vars h = ap (λ t. cond t (Some vars) None) (lt-leb (length vars) 8 h)
+
+pub few-some : (vars : List ℕ) → length vars ≤ 8 → if_few vars ≡ Some vars
+few-some vars h = ap (λ t. cond t (Some vars) None) (le-leb (length vars) 8 h)
+
+-- what holds anyway holds where there is nothing
+pub where-none : {X P : Type 0} (o : Option X) → P → IfNone o P
+where-none None p = p
+where-none (Some x) p = tt
 
 -- the first member of a list, and a later one
 first : (x : ℕ) (xs : List ℕ) → Contains (x ∷ xs) x
@@ -129,11 +147,11 @@ own_vars-exact core v = (λ c. held ((with_vars-members (core_vars core) [] v).0
     held (inr c) = absurd (omega (arith, c.1))
 
 -- each number is above the one before it, and the first one above k
-abbrev UpFrom : ℕ → List ℕ → Type 0
+abbrev pub UpFrom : ℕ → List ℕ → Type 0
 UpFrom k [] = Unit {0}
 UpFrom k (x ∷ xs) = (k < x) × UpFrom x xs
 
-abbrev Up : List ℕ → Type 0
+abbrev pub Up : List ℕ → Type 0
 Up [] = Unit {0}
 Up (x ∷ xs) = UpFrom x xs
 
@@ -175,8 +193,11 @@ increasing x [] u k h = absurd (omega arith)
 increasing x (y ∷ xs) u zero h = u.0
 increasing x (y ∷ xs) u (suc k) h = let e : suc k + 1 ≡ suc (k + 1) = omega arith in rw e (increasing y xs u.1 k (omega arith))
 
+pub own_vars-up : (core : Core) → Up (own_vars core)
+own_vars-up core = up-with_vars (core_vars core) [] tt
+
 pub own_vars-ascending : (core : Core) → IsStrictlyIncreasing (own_vars core)
-own_vars-ascending core = from (own_vars core) (up-with_vars (core_vars core) [] tt)
+own_vars-ascending core = from (own_vars core) (own_vars-up core)
   where
     from : (xs : List ℕ) → Up xs → IsStrictlyIncreasing xs
     from [] u k h = absurd (omega arith)

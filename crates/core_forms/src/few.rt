@@ -132,5 +132,6 @@ pub fn few_variables(core: &Core) -> Option<FewVars>
     let mut vars = FewVars::none();
     put_atoms(&mut vars, core)?;
     put_ints(&mut vars, core)?;
+    let _known = &vars.count;
     Some(vars)
 }

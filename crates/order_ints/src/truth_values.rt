@@ -18,7 +18,11 @@ impl TruthValues for &[bool] {
 
     fn truth(&self, var: u32) -> bool {
         let place = (var as usize).saturating_sub(1);
-        if place < self.len() { self[place] } else { false }
+        if place < self.len() {
+            self[place]
+        } else {
+            false
+        }
     }
 }
 

@@ -87,7 +87,13 @@ fn is_divided<T: TruthValues>(a: &OrdInt, b: &OrdInt, q: &OrdInt, r: &OrdInt, si
 }
 
 /// Whether the third and fourth integers are quotient and rest of the first by the second.
-pub(super) fn is_quotient<T: TruthValues>(a: &OrdInt, b: &OrdInt, q: &OrdInt, r: &OrdInt, sigma: T) -> bool
+pub(super) fn is_quotient<T: TruthValues>(
+    a: &OrdInt,
+    b: &OrdInt,
+    q: &OrdInt,
+    r: &OrdInt,
+    sigma: T,
+) -> bool
     requires sound_a { IsSound a.now }
     requires sound_b { IsSound b.now }
     requires sound_q { IsSound q.now }

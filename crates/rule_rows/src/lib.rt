@@ -3,7 +3,7 @@
 #![tactic(auto)]
 
 #[cfg(test)]
-mod direct_encode;
+mod encodings;
 #[cfg(test)]
 mod equations;
 #[cfg(test)]

@@ -27,6 +27,8 @@ mod occurring;
 #[cfg(test)]
 mod rings;
 #[cfg(test)]
+mod shape_costs;
+#[cfg(test)]
 mod shown;
 #[cfg(test)]
 mod sums;

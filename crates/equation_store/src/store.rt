@@ -114,7 +114,8 @@ impl EqStore {
         ensures stays { result ≢ Merged.Changed → self.new ≡ self.old }
         ensures view { self.new.view ≡ merged self.old.view a b }
         ensures relabels { result ≡ Merged.Changed
-            → IsSomeAnd (loser_of self.old.view a b) (λ x. IsRelabelled self.old.view self.new.view x) }
+            → IsSomeAnd (loser_of self.old.view a b)
+            (λ x. IsRelabelled self.old.view self.new.view x) }
         ensures walked { result ≡ Merged.Changed
             → IsSomeAnd (loser_of self.old.view a b) (λ x. ListsChanged self.old self.new x) }
         ensures equal { result ≡ Merged.Changed

@@ -4,8 +4,8 @@ ghost use Rattle.std.specs.Prelude.{◌↔◌, ◌+◌, IsTrue};
 ghost use Rattle.order_ints.specs.Place.{AtomBelow};
 ghost use Rattle.equation_store.specs.Laws.{IsConstant};
 
-use crate::words::{atom, word};
 use crate::numbers::Numbers;
+use crate::words::{atom, word};
 use equation_store::{EqStore, Merged};
 use order_ints::{Atom, Lit};
 use std::alloc::AllocError;
@@ -148,7 +148,10 @@ fn plain_size(labels: &[Atom], a: Atom) -> usize {
     match a {
         Atom::True => usize::MAX,
         Atom::False => usize::MAX,
-        Atom::Of(literal) => labels.iter().filter(|label| is_of(literal.var, **label)).count(),
+        Atom::Of(literal) => labels
+            .iter()
+            .filter(|label| is_of(literal.var, **label))
+            .count(),
     }
 }
 
@@ -262,9 +265,16 @@ fn random_merges(rt: HostRuntime) -> Result<(), Fail> {
                 push_own(&mut labels, 20)?;
             }
             let vars = if count < 60 { 80 } else { 100 };
-            let (a, b) = (random_atom(&mut numbers, vars), random_atom(&mut numbers, vars));
+            let (a, b) = (
+                random_atom(&mut numbers, vars),
+                random_atom(&mut numbers, vars),
+            );
             let (_loser, answer) = merge(&rt, &mut store, a, b);
-            assert_eq!(rt; answer, plain_merge(labels.as_mut_slice(), a, b), "{count}: {a:?} and {b:?}");
+            assert_eq!(rt;
+                answer,
+                plain_merge(labels.as_mut_slice(), a, b),
+                "{count}: {a:?} and {b:?}"
+            );
             compare(&rt, &store, labels.as_slice());
         }
     }

@@ -19,7 +19,10 @@ impl Numbers {
         requires { 0 < bound }
         ensures { result < bound }
     {
-        self.last = self.last.wrapping_mul(6_364_136_223_846_793_005).wrapping_add(1);
+        self.last = self
+            .last
+            .wrapping_mul(6_364_136_223_846_793_005)
+            .wrapping_add(1);
         ((self.last >> 33) % u64::from(bound)) as u32
     }
 }

@@ -25,14 +25,22 @@ fn may_push(rings: &Rings, ring: u32, node: u32) -> bool
     ensures node { IsTrue result → node < rings.now.nodes }
     ensures free { IsTrue result → IsFree rings.now node }
 {
-    if ring < rings.rings() && node < rings.nodes() { rings.is_free(node) } else { false }
+    if ring < rings.rings() && node < rings.nodes() {
+        rings.is_free(node)
+    } else {
+        false
+    }
 }
 
 /// Whether a node stands in a ring.
 fn stands(rings: &Rings, node: u32) -> bool
     ensures { IsTrue result → ¬ IsFree rings.now node }
 {
-    if node < rings.nodes() { !rings.is_free(node) } else { false }
+    if node < rings.nodes() {
+        !rings.is_free(node)
+    } else {
+        false
+    }
 }
 
 /// Whether two rings may be spliced.
@@ -166,7 +174,11 @@ fn random_move(numbers: &mut Numbers, rings: &Rings) -> Move {
     let ring = numbers.below(8);
     let node = numbers.below(40);
     if !stands(rings, node) {
-        if numbers.below(2) == 0 { Move::Back(ring, node) } else { Move::Front(ring, node) }
+        if numbers.below(2) == 0 {
+            Move::Back(ring, node)
+        } else {
+            Move::Front(ring, node)
+        }
     } else if numbers.below(8) == 0 {
         Move::Splice(ring, (ring + 1) % 8)
     } else {

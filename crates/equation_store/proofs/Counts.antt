@@ -40,7 +40,7 @@ pub walk-from : (view : List Atom) (x : ℕ) (walk : List ℕ) → IsCounted vie
 walk-from view x walk h = record {
   once = λ v m. times-count v walk ∙ h.inside v m.0 m.1 ∙ ap one_if m.2;
   others = λ v ne. times-count v walk
-    ∙ ⊎_elim (λ (low : v < 1). h.outside v (λ l k. omega arith))
+      ∙ ⊎_elim (λ (low : v < 1). h.outside v (λ l k. omega arith))
       (λ low. ⊎_elim (λ (high : length view < v). h.outside v (λ l k. omega arith))
       (λ high. h.inside v low high ∙ ap one_if (false_from_ne_true (is_of x (label_of view v)) (λ e. ne (low, high, e)))) (cases_lt (length view) v)) (cases_lt v 1);
 }

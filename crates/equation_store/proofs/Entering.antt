@@ -163,8 +163,8 @@ module _ (labels : List Atom) (sizes : List ℕ) (classes entered : RingLists) (
   new-size : (x : ℕ) → length labels < x → x ≤ length longer → class_size longer x ≡ 1
   new-size x past high =
       let none : class_size labels x ≡ 0 = class_size-none labels x (λ i low. let e : i + 1 - 1 ≡ i = omega arith in
-        ap (is_of x) (get_or_default labels i True (variable (i + 1)) low ∙ ap (λ (j : ℕ). get_or labels j (variable (i + 1))) (sym e))
-        ∙ of-past labels x (label_of labels (i + 1)) (kept.sizes_are.labelled (i + 1) (omega arith) (omega arith)) past) in
+      ap (is_of x) (get_or_default labels i True (variable (i + 1)) low ∙ ap (λ (j : ℕ). get_or labels j (variable (i + 1))) (sym e))
+      ∙ of-past labels x (label_of labels (i + 1)) (kept.sizes_are.labelled (i + 1) (omega arith) (omega arith)) past) in
       omega (arith, class_size-append labels (own_labels (length labels + 1) more) x, none, class_size-own (length labels + 1) more x (omega arith) (omega (arith, length-longer)))
 
   old-own : (x : ℕ) → 1 ≤ x → x ≤ length labels → IsOwnLabel longer x → IsOwnLabel labels x
@@ -183,9 +183,9 @@ module _ (labels : List Atom) (sizes : List ℕ) (classes entered : RingLists) (
     ring_count = omega (arith, h.ring_count, added-rings labels sizes classes kept more, length-longer);
     node_count = omega (arith, h.node_count, kept.node_count, length-longer);
     walked = λ x low high own. ⊎_elim (λ (past : length labels < x). subst (IsWalk longer x) (sym (h.entered x (omega arith) (omega (arith, length-longer)))) (walk-from longer x (x ∷ []) (new-counted x past high)))
-      (λ within. subst (IsWalk longer x) (sym (old-list x within)) (walk-from longer x (list_of classes x) (old-counted x within (counted-from labels x (list_of classes x) (kept.walked x low within (old-own x low within own)))))) (cases_lt (length labels) x);
+        (λ within. subst (IsWalk longer x) (sym (old-list x within)) (walk-from longer x (list_of classes x) (old-counted x within (counted-from labels x (list_of classes x) (kept.walked x low within (old-own x low within own)))))) (cases_lt (length labels) x);
     long = λ x low high own. ⊎_elim (λ (past : length labels < x). ap length (h.entered x (omega arith) (omega (arith, length-longer))) ∙ sym (new-size x past high))
-      (λ within. ap length (old-list x within) ∙ kept.long x low within (old-own x low within own) ∙ sym (old-size x within)) (cases_lt (length labels) x);
+        (λ within. ap length (old-list x within) ∙ kept.long x low within (old-own x low within own) ∙ sym (old-size x within)) (cases_lt (length labels) x);
   }
 
 -- the same of what is written step by step

@@ -82,6 +82,6 @@ lists-changed old new a b store in_a in_b = by (change_of old.view (resolve old.
 
         listed : ListsChanged old new c.loser
         listed v = (
-            λ stands. let m : IsMember old.view c.loser v = member_from_times old.view c.loser (class_walk old c.loser) v walk stands in (m.0, m.1, (moved v m.0 m.1).1 m),
-            λ r. omega (arith, walk.once v ((moved v r.0 r.1).0 r.2)),
-          )
+          λ stands. let m : IsMember old.view c.loser v = member_from_times old.view c.loser (class_walk old c.loser) v walk stands in (m.0, m.1, (moved v m.0 m.1).1 m),
+          λ r. omega (arith, walk.once v ((moved v r.0 r.1).0 r.2)),
+        )

@@ -116,10 +116,10 @@ pub walking-all : (old labels : List Atom) (x : ℕ) (new : Atom) (walk : List �
 walking-all old labels x new walk k next h w all =
     ext_get_or True labels (map (replaced x new) old) (w.size ∙ sym (length-map old (replaced x new)))
     (λ p low. let within : p < length old = omega (arith, w.size) in
-      w.label p within
-      ∙ ap (λ (l : List ℕ). picked (times (p + 1) l) (replaced x new (get_or old p True)) (get_or old p True)) (take_all k walk all)
-      ∙ ⊎_elim (member p within) (other p within) (cases_member old x (p + 1))
-      ∙ sym (get_or-map (replaced x new) old p True True within))
+    w.label p within
+    ∙ ap (λ (l : List ℕ). picked (times (p + 1) l) (replaced x new (get_or old p True)) (get_or old p True)) (take_all k walk all)
+    ∙ ⊎_elim (member p within) (other p within) (cases_member old x (p + 1))
+    ∙ sym (get_or-map (replaced x new) old p True True within))
   where
     at : (p : ℕ) → p < length old → label_of old (p + 1) ≡ get_or old p True
     at p low =

@@ -30,9 +30,9 @@ after-next-requires c = λ free.
 
 pub loop-k-preserved : goal.loop-k-preserved
 loop-k-preserved c = elim c.match-next.branch [
-  in-Some w ↦ walking-here c.args.labels.now c.loop-k.labels c.args.var c.args.by (list_of c.args.classes.now c.args.var) c.requires.walk c.loop-k.k w.in-Some.member c.loop-k.next c.loop-k.invariant w.in-Some.is (omega (arith, c.requires.size))
-    c.match-next.labels _ c.match-next.next (w.labels-is ∙ ap (set c.loop-k.labels (w.in-Some.member - 1)) w.replaced.ensures)
-    (w.next-is ∙ w.after-next.ensures.node c.args.var (stands-here c.args.labels.now c.loop-k.labels c.args.var c.args.by (list_of c.args.classes.now c.args.var) c.requires.walk c.loop-k.k w.in-Some.member c.loop-k.next c.loop-k.invariant w.in-Some.is (omega (arith, c.requires.size))))
+  | in-Some w ↦ walking-here c.args.labels.now c.loop-k.labels c.args.var c.args.by (list_of c.args.classes.now c.args.var) c.requires.walk c.loop-k.k w.in-Some.member c.loop-k.next c.loop-k.invariant w.in-Some.is (omega (arith, c.requires.size))
+      c.match-next.labels _ c.match-next.next (w.labels-is ∙ ap (set c.loop-k.labels (w.in-Some.member - 1)) w.replaced.ensures)
+      (w.next-is ∙ w.after-next.ensures.node c.args.var (stands-here c.args.labels.now c.loop-k.labels c.args.var c.args.by (list_of c.args.classes.now c.args.var) c.requires.walk c.loop-k.k w.in-Some.member c.loop-k.next c.loop-k.invariant w.in-Some.is (omega (arith, c.requires.size))))
   | in_default w ↦ absurd (w.in_default.not-Some _ (next-there c.args.labels.now c.loop-k.labels c.args.var c.args.by (list_of c.args.classes.now c.args.var) c.loop-k.k c.loop-k.next c.loop-k.invariant (omega (arith, c.requires.size))))
 ]
 

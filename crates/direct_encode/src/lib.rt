@@ -1,10 +1,12 @@
 //! The direct encoding: the clauses of a core in a basic form.
 #![tactic(auto)]
 
+mod atom_lists;
 mod clause;
 mod comparison;
 mod forms;
 pub mod laws;
+mod maxima;
 mod order;
 
 pub use forms::clauses;

@@ -4,7 +4,7 @@
 
 ghost use Rattle.std.specs.Prelude.{◌≤◌, unsigned_abs, IfOk, IsTrue};
 ghost use Rattle.order_ints.specs.OrderMade.{AscendFrom, AreSmall};
-ghost use Rattle.core_forms.specs.WellFormed.{IsSound, IsWellFormed};
+ghost use Rattle.core_forms.specs.WellFormed.{IsSound, AreSound, IsWellFormed};
 
 use bee_list::Sequence;
 use bee_text::read_signed;
@@ -109,6 +109,26 @@ pub(super) fn int(rt: &impl Abort, alloc: Global, word: &str) -> Result<OrdInt, 
     int_of(rt, alloc, &values, first.unsigned_abs() as u32)
 }
 
+/// A list of integers, with semicolons between them.
+fn ints(rt: &impl Abort, alloc: Global, word: &str) -> Result<Sequence<OrdInt>, AllocError>
+    ensures { IfOk result (λ ints. AreSound ints) }
+{
+    let mut ints = Vec::new(alloc);
+    for member in word.split(';') {
+        ints.push(int(rt, alloc, member)?)?;
+    }
+    Ok(Sequence::from_vec(ints))
+}
+
+/// A comparator.
+fn comparator(rt: &impl Abort, alloc: Global, text: &str) -> Result<Core, AllocError>
+    ensures { IfOk result (λ core. IsWellFormed core) }
+{
+    let (a, b) = (atom(rt, word(text, 1)), atom(rt, word(text, 2)));
+    let (hi, lo) = (atom(rt, word(text, 3)), atom(rt, word(text, 4)));
+    Core::comp(alloc, a, b, hi, lo)
+}
+
 /// A comparison of two integers.
 fn comparison(rt: &impl Abort, alloc: Global, text: &str, equal: bool) -> Result<Core, AllocError>
     ensures { IfOk result (λ core. IsWellFormed core) }
@@ -122,15 +142,40 @@ fn comparison(rt: &impl Abort, alloc: Global, text: &str, equal: bool) -> Result
     Core::leq_r(alloc, r, a, b)
 }
 
+/// A greatest member.
+fn maximum(rt: &impl Abort, alloc: Global, text: &str) -> Result<Core, AllocError>
+    ensures { IfOk result (λ core. IsWellFormed core) }
+{
+    let members = ints(rt, alloc, word(text, 1))?;
+    assert!(rt; 0 < members.as_slice().len());
+    let c = int(rt, alloc, word(text, 2))?;
+    Core::max(alloc, members, c)
+}
+
+/// A core over a list of atoms.
+fn over_atoms(rt: &impl Abort, alloc: Global, text: &str) -> Result<Core, AllocError>
+    ensures { IfOk result (λ core. IsWellFormed core) }
+{
+    match word(text, 0) {
+        "Clause" => Ok(Core::Clause(atoms(rt, alloc, word(text, 1))?)),
+        "Odd" => Ok(Core::Parity(atoms(rt, alloc, word(text, 1))?, true)),
+        "Even" => Ok(Core::Parity(atoms(rt, alloc, word(text, 1))?, false)),
+        "Conj" => Ok(Core::Conj(atom(rt, word(text, 1)), atoms(rt, alloc, word(text, 2))?)),
+        "Amo" => Ok(Core::Amo(atoms(rt, alloc, word(text, 1))?)),
+        other => panic!(rt; "no form: {other}"),
+    }
+}
+
 /// A core.
 pub(super) fn core_of(rt: &impl Abort, alloc: Global, text: &str) -> Result<Core, AllocError>
     ensures { IfOk result (λ core. IsWellFormed core) }
 {
     match word(text, 0) {
         "Ladder" => Core::ladder(alloc, int(rt, alloc, word(text, 1))?),
-        "Clause" => Ok(Core::Clause(atoms(rt, alloc, word(text, 1))?)),
+        "Comp" => comparator(rt, alloc, text),
         "LeqR" => comparison(rt, alloc, text, false),
         "EqR" => comparison(rt, alloc, text, true),
-        other => panic!(rt; "no form: {other}"),
+        "Max" => maximum(rt, alloc, text),
+        _ => over_atoms(rt, alloc, text),
     }
 }

@@ -14,6 +14,7 @@ use Rattle.core_forms.specs.Meaning.{core_truth}
 use Rattle.core_forms.specs.Cores.{cores_truth}
 use Rattle.core_forms.specs.Trimmed.{trimmed_core}
 use Rattle.core_forms.proofs.TidiedCores.{core_truth-trimmed}
+use Rattle.core_forms.proofs.Kept.{IsWellFormed-trimmed}
 use Rattle.core_forms.proofs.Places.{CoreBelow-trimmed}
 use Rattle.direct_encode.specs.Clauses.{IsEncodable}
 use Rattle.direct_encode.proofs.CoreTruths.{truth-clauses_of}
@@ -42,7 +43,7 @@ encodable (Lex r strict front back) form = elim form [ ]
 
 pub truth-encoded_core : (σ : Valuation) (n : ℕ) (core : Core) → CoreFits n core → atom_clauses_truth σ (encoded_core core) ≡ core_truth σ core
 truth-encoded_core σ n core fits =
-    truth-clauses_of σ (trimmed_core [] core) (encodable core fits.form).1
+    truth-clauses_of σ (trimmed_core [] core) (encodable core fits.form).0 (IsWellFormed-trimmed [] core fits.well_formed)
     ∙ core_truth-trimmed σ [] n core fits.below (MeetsView-nil σ)
 
 pub below-encoded_core : (n : ℕ) (core : Core) → CoreFits n core → AtomClausesBelow n (encoded_core core)

@@ -95,3 +95,10 @@ told_value a b v w r e same is there =
 pub told_all : (ints others : List OrdInt) (v w : ℤ) (x y : Atom) (clause : List Atom) → clause ≡ x ∷ all_at others w → others ≡ ints → w ≡ v → x ≡ y → clause ≡ y ∷ all_at ints v
 told_all ints others v w x y clause e same is head =
     e ∙ ap (λ (xs : List OrdInt). x ∷ all_at xs w) same ∙ ap (λ (u : ℤ). x ∷ all_at ints u) is ∙ ap (λ (z : Atom). z ∷ all_at ints v) head
+
+-- a value well below the limit of 128 bits comes back
+pub wide_bits : (z : ℤ) → unsigned_abs z < 2 ^ 102 → to_z w128 (of_z w128 z) ≡ z
+wide_bits z h = to_z-of_z w128 z (fits_signed_from_abs w128 z (omega (arith, h)))
+
+pub wider : (z : ℤ) → unsigned_abs z < 2 ^ 101 → unsigned_abs z < 2 ^ 102
+wider z h = omega (arith, h)

@@ -6,8 +6,12 @@ pub mod CoreTruths
 pub mod Places
 pub mod WalkedLaws
 pub mod Sizes
+pub mod TableSizes
 pub mod TableLaws
+pub mod TableLoops
 pub mod TableTruths
 pub mod SumTruths
 pub mod ProductTruths
+pub mod DivisionTruths
+pub mod CoreSizes
 pub mod Outcomes

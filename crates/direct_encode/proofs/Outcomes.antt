@@ -11,10 +11,10 @@ use Rattle.core_forms.specs.WellFormed.{IsWellFormed}
 use Rattle.core_forms.specs.Basic.{is_basic_of}
 use Rattle.core_forms.specs.Cost.{cost_of}
 use Rattle.core_forms.specs.Meaning.{core_truth}
-use Rattle.direct_encode.specs.Clauses.{clauses_of, HasClauses}
+use Rattle.direct_encode.specs.Clauses.{clauses_of}
 use Rattle.direct_encode.proofs.CoreTruths.{truth-clauses_of}
 use Rattle.direct_encode.specs.Literals.{literals}
-use Rattle.direct_encode.proofs.Sizes.{literals-clauses_of}
+use Rattle.direct_encode.proofs.CoreSizes.{literals-clauses_of}
 use Rattle.direct_encode.proofs.Places.{below-clauses_of}
 
 module _ (core : Core) (old new : List (List Atom)) (none : old ≡ []) (put : new ≡ old ++ clauses_of core) where
@@ -22,8 +22,8 @@ module _ (core : Core) (old new : List (List Atom)) (none : old ≡ []) (put : n
   all = put ∙ ap (λ cs. cs ++ clauses_of core) none
 
   -- they are true together exactly where the core is met
-  pub truth-put : HasClauses core → (σ : Valuation) → atom_clauses_truth σ new ≡ core_truth σ core
-  truth-put form σ = ap (atom_clauses_truth σ) all ∙ truth-clauses_of σ core form
+  pub truth-put : IsTrue (is_basic_of core) → IsWellFormed core → (σ : Valuation) → atom_clauses_truth σ new ≡ core_truth σ core
+  truth-put basic well σ = ap (atom_clauses_truth σ) all ∙ truth-clauses_of σ core basic well
 
   -- and their variables have a place where those of the core have
   pub below-put : (n : ℕ) → CoreBelow n core → AtomClausesBelow n new

@@ -15,6 +15,8 @@ use Rattle.direct_encode.specs.Orders.{order_clauses_above, order_clauses_of_ste
 use Rattle.direct_encode.specs.Comparisons.{reaching_clause, reaching_clauses, exceeding_clause, exceeding_clauses, differing_clause, common_values, differing_clauses, leq_clauses, eq_clauses}
 use Rattle.direct_encode.specs.AtomLists.{parity_clauses, member_clauses, conj_clauses, comp_clauses, apart_clauses, amo_clauses}
 use Rattle.direct_encode.specs.Maxima.{at_most_clause, at_most_clauses, all_at_most_clauses, all_at, some_reaching_clause, some_reaching_clauses, max_clauses}
+use Rattle.direct_encode.specs.Tables.{sum3_clauses, prod_clauses, div_mod_clauses}
+use Rattle.direct_encode.proofs.TableSizes.{below-sum3, below-prod, below-div_mod}
 use Rattle.direct_encode.specs.Clauses.{clauses_of}
 
 module _ (n : ℕ) where
@@ -133,6 +135,11 @@ module _ (n : ℕ) where
       (AtomClausesBelow-append n (all_at_most_clauses ints c) (some_reaching_clauses ints c) (below-all_at_most ints c both.0 both.1)
       (below-map (some_reaching_clause ints c) (values_of c) (λ v. (below-not_at c v both.1, below-all_at ints v both.0)))))
 
+  below-three : (a b c : OrdInt) (cs : List (List Atom)) → IntBelow n a → IntBelow n b → IntBelow n c → AtomClausesBelow n cs → AtomClausesBelow n (order_clauses a ++ (order_clauses b ++ (order_clauses c ++ cs)))
+  below-three a b c cs ha hb hc h =
+      AtomClausesBelow-append n (order_clauses a) (order_clauses b ++ (order_clauses c ++ cs)) (below-order_clauses a ha)
+      (below-compared b c cs hb hc h)
+
 -- each variable of the clauses is below n where those of the core are
 pub below-clauses_of : (n : ℕ) (core : Core) → CoreBelow n core → AtomClausesBelow n (clauses_of core)
 below-clauses_of n (Ladder a) h = below-order_clauses n a h.1.0
@@ -142,12 +149,14 @@ below-clauses_of n (Conj r ls) h = below-conj n r ls h.0.0 h.0.1
 below-clauses_of n (Comp a b hi lo) h = below-comp n a b hi lo h.0.0 h.0.1.0 h.0.1.1.0 h.0.1.1.1.0
 below-clauses_of n (LeqR r a b) h = below-compared n a b (leq_clauses r a b) h.1.0 h.1.1.0 (below-leq_clauses n r a b h.0.0 h.1.0 h.1.1.0)
 below-clauses_of n (EqR r a b) h = below-compared n a b (eq_clauses r a b) h.1.0 h.1.1.0 (below-eq_clauses n r a b h.0.0 h.1.0 h.1.1.0)
-below-clauses_of n (Sum3 a b c) h = tt
+below-clauses_of n (Sum3 a b c) h = below-three n a b c (sum3_clauses a b c) h.1.0 h.1.1.0 h.1.1.1.0 (below-sum3 n a b h.1.0 h.1.1.0 c h.1.1.1.0)
 below-clauses_of n (Count ls c) h = tt
 below-clauses_of n (Sum ints k) h = tt
 below-clauses_of n (Max ints c) h = below-of_max n ints c h.1
 below-clauses_of n (AllDiff ints cs) h = tt
 below-clauses_of n (Amo ls) h = below-amo n ls h.0
-below-clauses_of n (Prod a b c) h = tt
-below-clauses_of n (DivMod a b q r) h = tt
+below-clauses_of n (Prod a b c) h = below-three n a b c (prod_clauses a b c) h.1.0 h.1.1.0 h.1.1.1.0 (below-prod n a b h.1.0 h.1.1.0 c h.1.1.1.0)
+below-clauses_of n (DivMod a b q r) h =
+    AtomClausesBelow-append n (order_clauses a) (order_clauses b ++ (order_clauses q ++ (order_clauses r ++ div_mod_clauses a b q r))) (below-order_clauses n a h.1.0)
+    (below-three n b q r (div_mod_clauses a b q r) h.1.1.0 h.1.1.1.0 h.1.1.1.1.0 (below-div_mod n a b h.1.0 h.1.1.0 q r h.1.1.1.0 h.1.1.1.1.0))
 below-clauses_of n (Lex r strict front back) h = tt

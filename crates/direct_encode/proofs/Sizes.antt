@@ -76,7 +76,7 @@ four n h = false≢true (sym (over n) ∙ h)
     over : (n : ℕ) → nat_le (suc (suc (suc (suc n)))) 3 ≡ false
     over n = grind (arith, nat_tests)
 
-literals-parity : (ls : List Atom) (odd : Bool) → nat_le (length ls) 3 ≡ true → literals (parity_clauses ls odd) ≤ cost_of_parity (length ls)
+pub literals-parity : (ls : List Atom) (odd : Bool) → nat_le (length ls) 3 ≡ true → literals (parity_clauses ls odd) ≤ cost_of_parity (length ls)
 literals-parity [] true h = omega arith
 literals-parity [] false h = omega arith
 literals-parity (a ∷ []) true h = omega arith
@@ -87,14 +87,14 @@ literals-parity (a ∷ b ∷ c ∷ []) true h = omega arith
 literals-parity (a ∷ b ∷ c ∷ []) false h = omega arith
 literals-parity (a ∷ b ∷ c ∷ d ∷ ls) odd h = absurd (four (length ls) h)
 
-literals-conj : (r : Atom) (ls : List Atom) → literals (conj_clauses r ls) ≡ cost_of_conj (length ls)
+pub literals-conj : (r : Atom) (ls : List Atom) → literals (conj_clauses r ls) ≡ cost_of_conj (length ls)
 literals-conj r ls =
     let split = literals-append (member_clauses r ls) ((r ∷ map not_atom ls) ∷ []) in
     let members = literals-map (λ l. not_atom r ∷ l ∷ []) 2 ls (λ l. refl) in
     let last = length-map ls not_atom in
     omega (arith, split, members, last)
 
-literals-amo : (ls : List Atom) → nat_le (length ls) 4 ≡ true → literals (amo_clauses ls) ≤ cost_of_amo (length ls)
+pub literals-amo : (ls : List Atom) → nat_le (length ls) 4 ≡ true → literals (amo_clauses ls) ≤ cost_of_amo (length ls)
 literals-amo [] h = omega arith
 literals-amo (a ∷ []) h = omega arith
 literals-amo (a ∷ b ∷ []) h = omega arith
@@ -186,14 +186,14 @@ common-few a b rising =
     let nb = length-values b in
     omega (arith, one, other, na, nb)
 
-literals-leq : (r : Atom) (a b : OrdInt) → literals (leq_clauses r a b) ≡ 3 * (steps_of a + steps_of b + 2)
+pub literals-leq : (r : Atom) (a b : OrdInt) → literals (leq_clauses r a b) ≡ 3 * (steps_of a + steps_of b + 2)
 literals-leq r a b =
     let split = literals-append (reaching_clauses r a b) (exceeding_clauses r a b) in
     let first = literals-reaching r a b in
     let second = literals-exceeding r a b in
     omega (arith, split, first, second)
 
-literals-eq : (r : Atom) (a b : OrdInt) → AreRising a.steps → literals (eq_clauses r a b) ≤ 3 * (steps_of a + steps_of b + 2) + 5 * (min (steps_of a) (steps_of b) + 1)
+pub literals-eq : (r : Atom) (a b : OrdInt) → AreRising a.steps → literals (eq_clauses r a b) ≤ 3 * (steps_of a + steps_of b + 2) + 5 * (min (steps_of a) (steps_of b) + 1)
 literals-eq r a b rising =
     let split = literals-append (reaching_clauses r a b) (reaching_clauses r b a ++ differing_clauses r a b) in
     let more = literals-append (reaching_clauses r b a) (differing_clauses r a b) in
@@ -203,7 +203,7 @@ literals-eq r a b rising =
     let few = common-few a b rising in
     omega (arith, split, more, first, second, third, few)
 
-literals-compared : (a b : OrdInt) (cs : List (List Atom)) → literals (order_clauses a ++ (order_clauses b ++ cs)) ≡ cost_of_ladder (steps_of a) + cost_of_ladder (steps_of b) + literals cs
+pub literals-compared : (a b : OrdInt) (cs : List (List Atom)) → literals (order_clauses a ++ (order_clauses b ++ cs)) ≡ cost_of_ladder (steps_of a) + cost_of_ladder (steps_of b) + literals cs
 literals-compared a b cs =
     let split = literals-append (order_clauses a) (order_clauses b ++ cs) in
     let more = literals-append (order_clauses b) cs in
@@ -243,7 +243,7 @@ literals-some_reaching ints c =
         let numbers = length-numbers ints in
         omega (arith, all, numbers)
 
-literals-of_max : (ints : List OrdInt) (c : OrdInt) → literals (orders_of ints ++ (order_clauses c ++ max_clauses ints c)) ≡ cost_of (Max ints c)
+pub literals-of_max : (ints : List OrdInt) (c : OrdInt) → literals (orders_of ints ++ (order_clauses c ++ max_clauses ints c)) ≡ cost_of (Max ints c)
 literals-of_max ints c =
     let split = literals-append (orders_of ints) (order_clauses c ++ max_clauses ints c) in
     let more = literals-append (order_clauses c) (max_clauses ints c) in
@@ -252,31 +252,3 @@ literals-of_max ints c =
     let order = literals-order c in
     let some = literals-some_reaching ints c in
     omega (arith, split, more, parts, members, order, some)
-
-equal : (m n : ℕ) → m ≡ n → m ≤ n
-equal m n e = omega (arith, e)
-
--- the literals of the clauses of a basic core are at most its cost
-pub literals-clauses_of : (core : Core) → IsTrue (is_basic_of core) → IsWellFormed core → literals (clauses_of core) ≤ cost_of core
-literals-clauses_of (Ladder a) basic well = equal _ _ (literals-order a)
-literals-clauses_of (Clause ls) basic well = omega arith
-literals-clauses_of (Parity ls odd) basic well = literals-parity ls odd basic
-literals-clauses_of (Conj r ls) basic well = equal _ _ (literals-conj r ls)
-literals-clauses_of (Comp a b hi lo) basic well = omega arith
-literals-clauses_of (LeqR r a b) basic well =
-    let all = literals-compared a b (leq_clauses r a b) in
-    let leq = literals-leq r a b in
-    omega (arith, all, leq)
-literals-clauses_of (EqR r a b) basic well =
-    let all = literals-compared a b (eq_clauses r a b) in
-    let eq = literals-eq r a b well.0.1 in
-    omega (arith, all, eq)
-literals-clauses_of (Sum3 a b c) basic well = omega arith
-literals-clauses_of (Count ls c) basic well = omega arith
-literals-clauses_of (Sum ints k) basic well = omega arith
-literals-clauses_of (Max ints c) basic well = equal _ _ (literals-of_max ints c)
-literals-clauses_of (AllDiff ints cs) basic well = omega arith
-literals-clauses_of (Amo ls) basic well = literals-amo ls basic
-literals-clauses_of (Prod a b c) basic well = omega arith
-literals-clauses_of (DivMod a b q r) basic well = omega arith
-literals-clauses_of (Lex r strict front back) basic well = omega arith

@@ -100,3 +100,19 @@ pub place_of : (a : OrdInt) (v : ℤ) → Contains (values_of a) v → (k : ℕ)
 place_of a v c =
     let count = length-values a in
     (c.0, omega (arith, c.1, count), sym (value_at-get a c.0 v c.1) ∙ c.2)
+
+-- what is read from a table at a place
+pub read : (a : OrdInt) (items : List (ℤ × Atom)) (k : ℕ) (x : ℤ × Atom) → items ≡ levels_of a → k ≤ steps_of a → x ≡ get_or items k x → x ≡ (value_at a k, atom_at a k)
+read a items k x lists le at = at ∙ ap (λ (ls : List (ℤ × Atom)). get_or ls k x) lists ∙ level_at_place a k x le
+
+pub table_length : (a : OrdInt) (items : List (ℤ × Atom)) → items ≡ levels_of a → length items ≡ steps_of a + 1
+table_length a items lists = ap length lists ∙ length-levels_of a
+
+pub found_in : (a : OrdInt) (items : List (ℤ × Atom)) (v w : ℤ) (k : ℕ) (x : ℤ × Atom) → items ≡ levels_of a → IsReachedAt items w k → k < length items → x ≡ get_or items k x → w ≡ v → x.1 ≡ at_of a v
+found_in a items v w k x lists at lt read is =
+    ap (λ (l : ℤ × Atom). l.1) (read ∙ ap (λ (ls : List (ℤ × Atom)). get_or ls k x) lists)
+    ∙ found a w k x (subst (λ (ls : List (ℤ × Atom)). IsReachedAt ls w k) lists at) (subst (λ (ls : List (ℤ × Atom)). k < length ls) lists lt) ∙ ap (at_of a) is
+
+pub none_in : (a : OrdInt) (items : List (ℤ × Atom)) (v w : ℤ) (k : ℕ) → items ≡ levels_of a → IsReachedAt items w k → length items ≤ k → w ≡ v → False ≡ at_of a v
+none_in a items v w k lists at ge is =
+    sym (not_found a w k (subst (λ (ls : List (ℤ × Atom)). IsReachedAt ls w k) lists at) (subst (λ (ls : List (ℤ × Atom)). length ls ≤ k) lists ge)) ∙ ap (at_of a) is

@@ -8,6 +8,7 @@ use Rattle.direct_encode.specs.Orders.{order_clauses, orders_of}
 use Rattle.direct_encode.specs.AtomLists.{parity_clauses, conj_clauses, comp_clauses, amo_clauses}
 use Rattle.direct_encode.specs.Comparisons.{leq_clauses, eq_clauses}
 use Rattle.direct_encode.specs.Maxima.{max_clauses}
+use Rattle.direct_encode.specs.Tables.{sum3_clauses, prod_clauses, div_mod_clauses}
 
 -- the clauses of a core: those of the order of its integers, and then those of its form
 abbrev pub clauses_of : Core → List (List Atom)
@@ -18,35 +19,36 @@ clauses_of (Conj r ls) = conj_clauses r ls
 clauses_of (Comp a b hi lo) = comp_clauses a b hi lo
 clauses_of (LeqR r a b) = order_clauses a ++ (order_clauses b ++ leq_clauses r a b)
 clauses_of (EqR r a b) = order_clauses a ++ (order_clauses b ++ eq_clauses r a b)
-clauses_of (Sum3 a b c) = []
+clauses_of (Sum3 a b c) = order_clauses a ++ (order_clauses b ++ (order_clauses c ++ sum3_clauses a b c))
 clauses_of (Count ls c) = []
 clauses_of (Sum ints k) = []
 clauses_of (Max ints c) = orders_of ints ++ (order_clauses c ++ max_clauses ints c)
 clauses_of (AllDiff ints cs) = []
 clauses_of (Amo ls) = amo_clauses ls
-clauses_of (Prod a b c) = []
-clauses_of (DivMod a b q r) = []
+clauses_of (Prod a b c) = order_clauses a ++ (order_clauses b ++ (order_clauses c ++ prod_clauses a b c))
+clauses_of (DivMod a b q r) =
+    order_clauses a ++ (order_clauses b ++ (order_clauses q ++ (order_clauses r ++ div_mod_clauses a b q r)))
 clauses_of (Lex r strict front back) = []
 
--- the forms whose clauses are given above
-abbrev pub HasClauses : Core → Type 0
-HasClauses (Ladder a) = Unit {0}
-HasClauses (Clause ls) = Unit {0}
-HasClauses (Parity ls odd) = Unit {0}
-HasClauses (Conj r ls) = Unit {0}
-HasClauses (Comp a b hi lo) = Unit {0}
-HasClauses (LeqR r a b) = Unit {0}
-HasClauses (EqR r a b) = Unit {0}
-HasClauses (Sum3 a b c) = ⊥
-HasClauses (Count ls c) = ⊥
-HasClauses (Sum ints k) = ⊥
-HasClauses (Max ints c) = Unit {0}
-HasClauses (AllDiff ints cs) = ⊥
-HasClauses (Amo ls) = Unit {0}
-HasClauses (Prod a b c) = ⊥
-HasClauses (DivMod a b q r) = ⊥
-HasClauses (Lex r strict front back) = ⊥
+-- the forms of which the clauses are written today: all that are basic, but products and divisions
+abbrev pub IsWritten : Core → Type 0
+IsWritten (Ladder a) = Unit {0}
+IsWritten (Clause ls) = Unit {0}
+IsWritten (Parity ls odd) = Unit {0}
+IsWritten (Conj r ls) = Unit {0}
+IsWritten (Comp a b hi lo) = Unit {0}
+IsWritten (LeqR r a b) = Unit {0}
+IsWritten (EqR r a b) = Unit {0}
+IsWritten (Sum3 a b c) = Unit {0}
+IsWritten (Count ls c) = ⊥
+IsWritten (Sum ints k) = ⊥
+IsWritten (Max ints c) = Unit {0}
+IsWritten (AllDiff ints cs) = ⊥
+IsWritten (Amo ls) = Unit {0}
+IsWritten (Prod a b c) = ⊥
+IsWritten (DivMod a b q r) = ⊥
+IsWritten (Lex r strict front back) = ⊥
 
--- a core is basic, and of a form whose clauses are given above
+-- a core is basic, and of a form of which the clauses are written today
 abbrev pub IsEncodable : Core → Type 0
-IsEncodable core = IsTrue (is_basic_of core) × HasClauses core
+IsEncodable core = IsTrue (is_basic_of core) × IsWritten core

@@ -15,7 +15,8 @@ use crate::atom_lists::{push_amo, push_comp, push_conj, push_parity};
 use crate::clause::push_clause;
 use crate::comparison::{push_differing, push_exceeding, push_reaching};
 use crate::maxima::push_max;
-use crate::order::{push_order, push_orders, push_orders_of};
+use crate::order::{push_order, push_orders, push_orders_of, push_three_orders};
+use crate::sums::push_sum3;
 use bee_list::Sequence;
 use core_forms::Core;
 use order_ints::Atom;
@@ -53,6 +54,11 @@ fn push_clauses(clauses: &mut Vec<Sequence<Atom>>, core: &Core) -> Result<(), Al
             push_reaching(clauses, *r, a, b)?;
             push_reaching(clauses, *r, b, a)?;
             push_differing(clauses, *r, a, b)
+        }
+        Core::Sum3(a, b, c) => {
+            let (a, b, c) = (a.get(), b.get(), c.get());
+            push_three_orders(clauses, a, b, c)?;
+            push_sum3(clauses, a, b, c)
         }
         _ => Ok(()),
     }

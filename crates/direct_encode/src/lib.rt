@@ -8,5 +8,7 @@ mod forms;
 pub mod laws;
 mod maxima;
 mod order;
+mod sums;
+mod table;
 
 pub use forms::clauses;

@@ -51,3 +51,18 @@ pub(crate) fn push_orders_of(
     }
     Ok(())
 }
+
+/// Puts the clauses of the order of three integers behind others.
+pub(crate) fn push_three_orders(
+    clauses: &mut Vec<Sequence<Atom>>,
+    a: &OrdInt,
+    b: &OrdInt,
+    c: &OrdInt,
+) -> Result<(), AllocError>
+    ensures { OnOk result
+        (clauses.new.items ≡ clauses.old.items
+        ++ (order_clauses a.now ++ (order_clauses b.now ++ order_clauses c.now))) }
+{
+    push_order(clauses, a)?;
+    push_orders(clauses, b, c)
+}

@@ -2,7 +2,7 @@
 
 ghost use Rattle.std.specs.Prelude.{IsTrue};
 ghost use Rattle.core_forms.specs.WellFormed.{IsWellFormed};
-ghost use Rattle.direct_encode.specs.Clauses.{HasClauses};
+ghost use Rattle.direct_encode.specs.Clauses.{IsWritten};
 
 use crate::words::core_of;
 use bee_list::Sequence;
@@ -13,14 +13,13 @@ use order_ints::Atom;
 use std::alloc::{AllocError, Global};
 use std::process::Abort;
 
-/// Whether the clauses of a core's form are built.
-fn is_built(core: &Core) -> bool
-    ensures { IsTrue result → HasClauses core.now }
+/// Whether clauses of the core's form are written today.
+fn is_written(core: &Core) -> bool
+    ensures { IsTrue result → IsWritten core.now }
 {
     !matches!(
         core,
-        Core::Sum3(_, _, _)
-            | Core::Count(_, _)
+        Core::Count(_, _)
             | Core::Sum(_, _)
             | Core::AllDiff(_, _)
             | Core::Prod(_, _, _)
@@ -54,8 +53,8 @@ fn put(text: &mut Vec<u8>, clause: &Sequence<Atom>) -> Result<(), AllocError> {
 fn shown(rt: &impl Abort, alloc: Global, core: &Core) -> Result<Vec<u8>, AllocError>
     requires { IsWellFormed core.now }
 {
-    let (basic, built) = (is_basic(core), is_built(core));
-    assert!(rt; basic && built);
+    let (basic, written) = (is_basic(core), is_written(core));
+    assert!(rt; basic && written);
     let mut text = Vec::new(alloc);
     for clause in clauses(alloc, core)?.iter() {
         put(&mut text, clause)?;
@@ -100,7 +99,10 @@ fn clauses_over_integers(rt: HostRuntime) -> Result<(), AllocError> {
             "LeqR 5 0,2,5 1,4@3",
             "1 -2 | -5 F T | -5 -1 3 | -5 -2 F | 5 F 1 | 5 -3 2 | ",
         ),
-        ("LeqR 3 1 0,1,2", "1 -2 | -3 F 1 | 3 F T | 3 -1 F | 3 -2 F | "),
+        (
+            "LeqR 3 1 0,1,2",
+            "1 -2 | -3 F 1 | 3 F T | 3 -1 F | 3 -2 F | ",
+        ),
         (
             "EqR F 0,1,2 1",
             "1 -2 | T F T | T -1 T | T -2 F | T F 1 | F -1 2 F F | ",
@@ -113,6 +115,27 @@ fn clauses_over_integers(rt: HostRuntime) -> Result<(), AllocError> {
         (
             "Max -1,2@1;0,4@2 -1,2,4@3",
             "3 -4 | F T | -1 3 | F 3 | -2 4 | F T T | -3 1 2 | -4 F 2 | ",
+        ),
+    ] {
+        let core = core_of(&rt, rt.alloc(), text)?;
+        let found = shown(&rt, rt.alloc(), &core)?;
+        assert_eq!(rt; found.as_slice(), wanted.as_bytes(), "{text}");
+    }
+    Ok(())
+}
+
+/// A sum has the clauses that hold from a pair of values on, and those that hold up to it; one is left out
+/// where the place beside it has the same atom.
+#[test]
+fn clauses_of_sums(rt: HostRuntime) -> Result<(), AllocError> {
+    for (text, wanted) in [
+        (
+            "Sum3 0,1@1 0,1@2 0,1,2@3",
+            "3 -4 | F F T | 1 2 -3 | F -2 3 | 1 F -4 | -1 F 3 | F 2 -4 | -1 -2 4 | F F T | ",
+        ),
+        (
+            "Sum3 0,2@1 -1,2@2 -1,4@3",
+            "F F T | F -2 3 | 1 F -3 | -1 F 3 | F 2 -3 | F F T | ",
         ),
     ] {
         let core = core_of(&rt, rt.alloc(), text)?;

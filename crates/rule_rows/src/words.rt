@@ -2,9 +2,9 @@
 //! between its members, and the empty one is `none`. An integer is the list of its values, the variables of which
 //! are those from 1 on, or with `@7` behind it those from 7 on. A core is its form's name and then its members.
 
-ghost use Rattle.std.specs.Prelude.{◌≤◌, unsigned_abs, IfOk, IsTrue};
+ghost use Rattle.std.specs.Prelude.{◌<◌, ◌≤◌, unsigned_abs, IfOk, IsTrue};
 ghost use Rattle.order_ints.specs.OrderMade.{AscendFrom, AreSmall};
-ghost use Rattle.core_forms.specs.WellFormed.{IsSound, AreSound, IsWellFormed};
+ghost use Rattle.core_forms.specs.WellFormed.{IsSound, AreSound, greatest_abs, IsWellFormed};
 
 use bee_list::Sequence;
 use bee_text::read_signed;
@@ -84,7 +84,8 @@ fn ascend_from(value: i128, values: &[i128]) -> bool
 
 /// The integer of some values, of which there are at most 20, over the variables from one on.
 fn int_of(rt: &impl Abort, alloc: Global, values: &[i128], first: u32) -> Result<OrdInt, AllocError>
-    ensures { IfOk result (λ a. IsSound a) }
+    ensures sound { IfOk result (λ a. IsSound a) }
+    ensures small { IfOk result (λ a. greatest_abs a < 1000) }
 {
     assert!(rt; values.len() < 20 && 1 <= first && first < 80);
     let Some((least, rest)) = values.split_first() else {
@@ -94,12 +95,17 @@ fn int_of(rt: &impl Abort, alloc: Global, values: &[i128], first: u32) -> Result
     assert!(rt; -1000 < least && least < 1000);
     let ascending = ascend_from(least, rest);
     assert!(rt; ascending);
-    OrdInt::from_values(alloc, values, first)
+    let a = OrdInt::from_values(alloc, values, first)?;
+    let (low, high) = (a.low(), a.high());
+    assert!(rt; -1000 < low && low < 1000);
+    assert!(rt; -1000 < high && high < 1000);
+    Ok(a)
 }
 
 /// An integer.
 pub(super) fn int(rt: &impl Abort, alloc: Global, word: &str) -> Result<OrdInt, AllocError>
-    ensures { IfOk result (λ a. IsSound a) }
+    ensures sound { IfOk result (λ a. IsSound a) }
+    ensures small { IfOk result (λ a. greatest_abs a < 1000) }
 {
     let (list, first) = match word.split_once('@') {
         Some((list, first)) => (list, number(rt, first)),
@@ -142,6 +148,16 @@ fn comparison(rt: &impl Abort, alloc: Global, text: &str, equal: bool) -> Result
     Core::leq_r(alloc, r, a, b)
 }
 
+/// A sum of two integers.
+fn sum(rt: &impl Abort, alloc: Global, text: &str) -> Result<Core, AllocError>
+    ensures { IfOk result (λ core. IsWellFormed core) }
+{
+    let a = int(rt, alloc, word(text, 1))?;
+    let b = int(rt, alloc, word(text, 2))?;
+    let c = int(rt, alloc, word(text, 3))?;
+    Core::sum3(alloc, a, b, c)
+}
+
 /// A greatest member.
 fn maximum(rt: &impl Abort, alloc: Global, text: &str) -> Result<Core, AllocError>
     ensures { IfOk result (λ core. IsWellFormed core) }
@@ -175,6 +191,7 @@ pub(super) fn core_of(rt: &impl Abort, alloc: Global, text: &str) -> Result<Core
         "Comp" => comparator(rt, alloc, text),
         "LeqR" => comparison(rt, alloc, text, false),
         "EqR" => comparison(rt, alloc, text, true),
+        "Sum3" => sum(rt, alloc, text),
         "Max" => maximum(rt, alloc, text),
         _ => over_atoms(rt, alloc, text),
     }

@@ -1,4 +1,4 @@
-use Rattle.direct_encode.proofs.Sizes.{literals-clauses_of}
+use Rattle.direct_encode.proofs.CoreSizes.{literals-clauses_of}
 use Rattle.direct_encode.proofs.laws.size_law.Goals as goal
 
 pub returns : goal.returns

@@ -11,4 +11,4 @@ sound-pushed : (xs ys : List OrdInt) (a : OrdInt) → ys ≡ xs ++ a ∷ [] → 
 sound-pushed xs ys a e h k = subst AreSound (sym e) (sound-more xs a h k)
 
 pub loop-member-preserved-in_ok-push : goal.loop-member-preserved-in_ok-push
-loop-member-preserved-in_ok-push g c = sound-pushed _ _ _ c.in_ok-push.ensures.items c.loop-member.invariant c.in_ok-int.ensures
+loop-member-preserved-in_ok-push g c = sound-pushed _ _ _ c.in_ok-push.ensures.items c.loop-member.invariant c.in_ok-int.ensures.sound

@@ -116,3 +116,8 @@ found_in a items v w k x lists at lt read is =
 pub none_in : (a : OrdInt) (items : List (ℤ × Atom)) (v w : ℤ) (k : ℕ) → items ≡ levels_of a → IsReachedAt items w k → length items ≤ k → w ≡ v → False ≡ at_of a v
 none_in a items v w k lists at ge is =
     sym (not_found a w k (subst (λ (ls : List (ℤ × Atom)). IsReachedAt ls w k) lists at) (subst (λ (ls : List (ℤ × Atom)). length ls ≤ k) lists ge)) ∙ ap (at_of a) is
+
+pub has_value_at : (a : OrdInt) (k : ℕ) → k ≤ steps_of a → Contains (values_of a) (value_at a k)
+has_value_at a k le =
+    let count = length-values a in
+    (k, omega (arith, le, count), value_at-get a k (value_at a k) (omega (arith, le, count)))

@@ -5,5 +5,6 @@ pub mod Walked
 pub mod Maxima
 pub mod Search
 pub mod Tables
+pub mod Products
 pub mod Literals
 pub mod Clauses

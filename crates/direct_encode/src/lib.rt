@@ -8,6 +8,7 @@ mod forms;
 pub mod laws;
 mod maxima;
 mod order;
+mod products;
 mod sums;
 mod table;
 

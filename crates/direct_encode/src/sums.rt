@@ -24,7 +24,7 @@ fn sum(a: &Table<'_>, b: &Table<'_>, i: usize, j: usize) -> i128
 }
 
 /// The next value.
-fn above(value: i128) -> i128
+pub(crate) fn above(value: i128) -> i128
     requires { unsigned_abs value < 2 ^ 101 }
     ensures value { result ≡ value +ℤ pos 1 }
     ensures range { unsigned_abs result < 2 ^ 102 }

@@ -1,6 +1,7 @@
 //! The levels of an integer as a list, in which a value is searched.
 
 ghost use Rattle.std.specs.Prelude.{◌≡◌, ◌+◌, ◌^◌, ◌<◌, ◌≤◌, pos, ◌+ℤ◌, unsigned_abs, IfOk};
+ghost use Rattle.order_ints.specs.OrderRange.{low_of};
 ghost use Rattle.order_ints.specs.OrderLevels.{levels_of, at_of};
 ghost use Rattle.order_ints.specs.Walk.{value_at};
 ghost use Rattle.core_forms.specs.WellFormed.{IsSound};
@@ -36,6 +37,13 @@ impl<'a> Table<'a> {
         ensures { result ≡ steps_of self.now.int.now + 1 }
     {
         self.levels.len()
+    }
+
+    /// The least value.
+    pub(crate) fn low(&self) -> i128
+        ensures { result ≡ low_of self.now.int.now }
+    {
+        self.int.base
     }
 
     /// The last place.

@@ -67,13 +67,13 @@ fn shown(rt: &impl Abort, alloc: Global, core: &Core) -> Result<Vec<u8>, AllocEr
 fn clauses_over_atoms(rt: HostRuntime) -> Result<(), AllocError> {
     for (text, wanted) in [
         ("Clause 1,-2,1", "1 -2 1 | "),
-        ("Odd none", "| "),
-        ("Even none", ""),
-        ("Even 1", "-1 | "),
-        ("Odd 1,-2", "1 -2 | -1 2 | "),
-        ("Even 1,2", "1 -2 | -1 2 | "),
-        ("Odd 1,2,3", "1 2 3 | 1 -2 -3 | -1 2 -3 | -1 -2 3 | "),
-        ("Even 1,2,3", "1 2 -3 | 1 -2 3 | -1 2 3 | -1 -2 -3 | "),
+        ("Parity none odd", "| "),
+        ("Parity none even", ""),
+        ("Parity 1 even", "-1 | "),
+        ("Parity 1,-2 odd", "1 -2 | -1 2 | "),
+        ("Parity 1,2 even", "1 -2 | -1 2 | "),
+        ("Parity 1,2,3 odd", "1 2 3 | 1 -2 -3 | -1 2 -3 | -1 -2 3 | "),
+        ("Parity 1,2,3 even", "1 2 -3 | 1 -2 3 | -1 2 3 | -1 -2 -3 | "),
         ("Conj 1 2,-3", "-1 2 | -1 -3 | 1 -2 3 | "),
         ("Conj -1 none", "-1 | "),
         (

@@ -1,6 +1,7 @@
 //! Cores in words. An atom is `T`, `F`, or a variable, with a minus sign where it is negated; a list has commas
 //! between its members, and the empty one is `none`. An integer is the list of its values, the variables of which
-//! are those from 1 on, or with `@7` behind it those from 7 on. A core is its form's name and then its members.
+//! are those from 1 on, or with `@7` behind it those from 7 on; or it is its least value, `^`, and the atoms of three
+//! steps of weight 1. A core is its form's name and then its members.
 
 ghost use Rattle.std.specs.Prelude.{◌<◌, ◌≤◌, unsigned_abs, IfOk, IsTrue};
 ghost use Rattle.order_ints.specs.OrderMade.{AscendFrom, AreSmall};
@@ -82,6 +83,18 @@ fn ascend_from(value: i128, values: &[i128]) -> bool
     value < next && next < 1000 && -1000 < next && ascend_from(next, rest)
 }
 
+/// An integer that is found to be small.
+fn small(rt: &impl Abort, a: OrdInt) -> OrdInt
+    requires { IsSound a }
+    ensures sound { IsSound result }
+    ensures small { greatest_abs result < 1000 }
+{
+    let (low, high) = (a.low(), a.high());
+    assert!(rt; -1000 < low && low < 1000);
+    assert!(rt; -1000 < high && high < 1000);
+    a
+}
+
 /// The integer of some values, of which there are at most 20, over the variables from one on.
 fn int_of(rt: &impl Abort, alloc: Global, values: &[i128], first: u32) -> Result<OrdInt, AllocError>
     ensures sound { IfOk result (λ a. IsSound a) }
@@ -96,10 +109,24 @@ fn int_of(rt: &impl Abort, alloc: Global, values: &[i128], first: u32) -> Result
     let ascending = ascend_from(least, rest);
     assert!(rt; ascending);
     let a = OrdInt::from_values(alloc, values, first)?;
-    let (low, high) = (a.low(), a.high());
-    assert!(rt; -1000 < low && low < 1000);
-    assert!(rt; -1000 < high && high < 1000);
-    Ok(a)
+    Ok(small(rt, a))
+}
+
+/// The integer of three steps of weight 1.
+fn stepped(rt: &impl Abort, alloc: Global, base: &str, steps: &str) -> Result<OrdInt, AllocError>
+    ensures sound { IfOk result (λ a. IsSound a) }
+    ensures small { IfOk result (λ a. greatest_abs a < 1000) }
+{
+    let base = number(rt, base);
+    let atoms = atoms(rt, alloc, steps)?;
+    let atoms = atoms.as_slice();
+    assert!(rt; atoms.len() == 3);
+    let steps = vec![in alloc; (atoms[0], 1), (atoms[1], 1), (atoms[2], 1)]?;
+    let a = OrdInt {
+        base,
+        steps: Sequence::from_vec(steps),
+    };
+    Ok(small(rt, a))
 }
 
 /// An integer.
@@ -107,6 +134,9 @@ pub(super) fn int(rt: &impl Abort, alloc: Global, word: &str) -> Result<OrdInt, 
     ensures sound { IfOk result (λ a. IsSound a) }
     ensures small { IfOk result (λ a. greatest_abs a < 1000) }
 {
+    if let Some((base, steps)) = word.split_once('^') {
+        return stepped(rt, alloc, base, steps);
+    }
     let (list, first) = match word.split_once('@') {
         Some((list, first)) => (list, number(rt, first)),
         None => (word, 1),
@@ -168,16 +198,16 @@ fn maximum(rt: &impl Abort, alloc: Global, text: &str) -> Result<Core, AllocErro
     Core::max(alloc, members, c)
 }
 
-/// A core over a list of atoms.
-fn over_atoms(rt: &impl Abort, alloc: Global, text: &str) -> Result<Core, AllocError>
+/// A core over a few integers, or a comparator.
+fn of_numbers(rt: &impl Abort, alloc: Global, text: &str) -> Result<Core, AllocError>
     ensures { IfOk result (λ core. IsWellFormed core) }
 {
     match word(text, 0) {
-        "Clause" => Ok(Core::Clause(atoms(rt, alloc, word(text, 1))?)),
-        "Odd" => Ok(Core::Parity(atoms(rt, alloc, word(text, 1))?, true)),
-        "Even" => Ok(Core::Parity(atoms(rt, alloc, word(text, 1))?, false)),
-        "Conj" => Ok(Core::Conj(atom(rt, word(text, 1)), atoms(rt, alloc, word(text, 2))?)),
-        "Amo" => Ok(Core::Amo(atoms(rt, alloc, word(text, 1))?)),
+        "Comp" => comparator(rt, alloc, text),
+        "LeqR" => comparison(rt, alloc, text, false),
+        "EqR" => comparison(rt, alloc, text, true),
+        "Sum3" => sum(rt, alloc, text),
+        "Max" => maximum(rt, alloc, text),
         other => panic!(rt; "no form: {other}"),
     }
 }
@@ -188,11 +218,16 @@ pub(super) fn core_of(rt: &impl Abort, alloc: Global, text: &str) -> Result<Core
 {
     match word(text, 0) {
         "Ladder" => Core::ladder(alloc, int(rt, alloc, word(text, 1))?),
-        "Comp" => comparator(rt, alloc, text),
-        "LeqR" => comparison(rt, alloc, text, false),
-        "EqR" => comparison(rt, alloc, text, true),
-        "Sum3" => sum(rt, alloc, text),
-        "Max" => maximum(rt, alloc, text),
-        _ => over_atoms(rt, alloc, text),
+        "Clause" => Ok(Core::Clause(atoms(rt, alloc, word(text, 1))?)),
+        "Parity" => Ok(Core::Parity(
+            atoms(rt, alloc, word(text, 1))?,
+            word(text, 2) == "odd",
+        )),
+        "Conj" => Ok(Core::Conj(
+            atom(rt, word(text, 1)),
+            atoms(rt, alloc, word(text, 2))?,
+        )),
+        "Amo" => Ok(Core::Amo(atoms(rt, alloc, word(text, 1))?)),
+        _ => of_numbers(rt, alloc, text),
     }
 }

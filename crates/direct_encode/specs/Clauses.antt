@@ -1,9 +1,8 @@
 -- The clauses of a core in a basic form.
-use Rattle.std.specs.Prelude.{List, [], ◌∷◌, ◌++◌, IsTrue}
+use Rattle.std.specs.Prelude.{List, [], ◌∷◌, ◌++◌}
 use Rattle.order_ints.specs.declared.atom.Atom.{Atom}
 use Rattle.core_forms.specs.declared.form.Core.{Core}
 use Rattle.core_forms.specs.declared.form.Core.TheVariants.{Ladder, Clause, Parity, Conj, Comp, LeqR, EqR, Sum3, Count, Sum, Max, AllDiff, Amo, Prod, DivMod, Lex}
-use Rattle.core_forms.specs.Basic.{is_basic_of}
 use Rattle.direct_encode.specs.Orders.{order_clauses, orders_of}
 use Rattle.direct_encode.specs.AtomLists.{parity_clauses, conj_clauses, comp_clauses, amo_clauses}
 use Rattle.direct_encode.specs.Comparisons.{leq_clauses, eq_clauses}
@@ -29,26 +28,3 @@ clauses_of (Prod a b c) = order_clauses a ++ (order_clauses b ++ (order_clauses 
 clauses_of (DivMod a b q r) =
     order_clauses a ++ (order_clauses b ++ (order_clauses q ++ (order_clauses r ++ div_mod_clauses a b q r)))
 clauses_of (Lex r strict front back) = []
-
--- the forms of which the clauses are written today: all that are basic, but products and divisions
-abbrev pub IsWritten : Core → Type 0
-IsWritten (Ladder a) = Unit {0}
-IsWritten (Clause ls) = Unit {0}
-IsWritten (Parity ls odd) = Unit {0}
-IsWritten (Conj r ls) = Unit {0}
-IsWritten (Comp a b hi lo) = Unit {0}
-IsWritten (LeqR r a b) = Unit {0}
-IsWritten (EqR r a b) = Unit {0}
-IsWritten (Sum3 a b c) = Unit {0}
-IsWritten (Count ls c) = ⊥
-IsWritten (Sum ints k) = ⊥
-IsWritten (Max ints c) = Unit {0}
-IsWritten (AllDiff ints cs) = ⊥
-IsWritten (Amo ls) = Unit {0}
-IsWritten (Prod a b c) = ⊥
-IsWritten (DivMod a b q r) = ⊥
-IsWritten (Lex r strict front back) = ⊥
-
--- a core is basic, and of a form of which the clauses are written today
-abbrev pub IsEncodable : Core → Type 0
-IsEncodable core = IsTrue (is_basic_of core) × IsWritten core

@@ -4,6 +4,7 @@
 mod atom_lists;
 mod clause;
 mod comparison;
+mod divisions;
 mod forms;
 pub mod laws;
 mod maxima;

@@ -41,7 +41,7 @@ fn are_natural(a: &Table<'_>, b: &Table<'_>) -> bool
 }
 
 /// Puts the clause behind others that says: where both integers have the values at two places, `x`.
-fn push_at_pair(
+pub(crate) fn push_at_pair(
     clauses: &mut Vec<Sequence<Atom>>,
     a: &Table<'_>,
     b: &Table<'_>,
@@ -188,6 +188,10 @@ pub(crate) fn push_prod(
     ensures { OnOk result (clauses.new.items ≡ clauses.old.items ++ prod_clauses a.now b.now c.now) }
 {
     let alloc = *clauses.allocator();
-    let (a, b, c) = (Table::of(alloc, a)?, Table::of(alloc, b)?, Table::of(alloc, c)?);
+    let (a, b, c) = (
+        Table::of(alloc, a)?,
+        Table::of(alloc, b)?,
+        Table::of(alloc, c)?,
+    );
     push_rows(clauses, &a, &b, &c)
 }

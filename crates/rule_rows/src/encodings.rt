@@ -1,8 +1,6 @@
 //! Clauses worked out by hand, for each form.
 
-ghost use Rattle.std.specs.Prelude.{IsTrue};
 ghost use Rattle.core_forms.specs.WellFormed.{IsWellFormed};
-ghost use Rattle.direct_encode.specs.Clauses.{IsWritten};
 
 use crate::words::core_of;
 use bee_list::Sequence;
@@ -12,21 +10,6 @@ use direct_encode::clauses;
 use order_ints::Atom;
 use std::alloc::{AllocError, Global};
 use std::process::Abort;
-
-/// Whether clauses of the core's form are written today.
-fn is_written(core: &Core) -> bool
-    ensures { IsTrue result → IsWritten core.now }
-{
-    !matches!(
-        core,
-        Core::Count(_, _)
-            | Core::Sum(_, _)
-            | Core::AllDiff(_, _)
-            | Core::Prod(_, _, _)
-            | Core::DivMod(_, _, _, _)
-            | Core::Lex(_, _, _, _)
-    )
-}
 
 /// Puts an atom behind a text: `T`, `F`, or the variable's number with the sign.
 fn put_atom(text: &mut Vec<u8>, atom: Atom) -> Result<(), AllocError> {
@@ -53,8 +36,8 @@ fn put(text: &mut Vec<u8>, clause: &Sequence<Atom>) -> Result<(), AllocError> {
 fn shown(rt: &impl Abort, alloc: Global, core: &Core) -> Result<Vec<u8>, AllocError>
     requires { IsWellFormed core.now }
 {
-    let (basic, written) = (is_basic(core), is_written(core));
-    assert!(rt; basic && written);
+    let basic = is_basic(core);
+    assert!(rt; basic);
     let mut text = Vec::new(alloc);
     for clause in clauses(alloc, core)?.iter() {
         put(&mut text, clause)?;
@@ -73,7 +56,10 @@ fn clauses_over_atoms(rt: HostRuntime) -> Result<(), AllocError> {
         ("Parity 1,-2 odd", "1 -2 | -1 2 | "),
         ("Parity 1,2 even", "1 -2 | -1 2 | "),
         ("Parity 1,2,3 odd", "1 2 3 | 1 -2 -3 | -1 2 -3 | -1 -2 3 | "),
-        ("Parity 1,2,3 even", "1 2 -3 | 1 -2 3 | -1 2 3 | -1 -2 -3 | "),
+        (
+            "Parity 1,2,3 even",
+            "1 2 -3 | 1 -2 3 | -1 2 3 | -1 -2 -3 | ",
+        ),
         ("Conj 1 2,-3", "-1 2 | -1 -3 | 1 -2 3 | "),
         ("Conj -1 none", "-1 | "),
         (
@@ -136,6 +122,31 @@ fn clauses_of_sums(rt: HostRuntime) -> Result<(), AllocError> {
         (
             "Sum3 0,2@1 -1,2@2 -1,4@3",
             "F F T | F -2 3 | 1 F -3 | -1 F 3 | F 2 -3 | F F T | ",
+        ),
+    ] {
+        let core = core_of(&rt, rt.alloc(), text)?;
+        let found = shown(&rt, rt.alloc(), &core)?;
+        assert_eq!(rt; found.as_slice(), wanted.as_bytes(), "{text}");
+    }
+    Ok(())
+}
+
+/// A product has the clauses from a pair of values on and up to it, or where a value may be negative those at
+/// the pair alone; quotient and rest have the latter.
+#[test]
+fn clauses_of_products_and_divisions(rt: HostRuntime) -> Result<(), AllocError> {
+    for (text, wanted) in [
+        (
+            "Prod 0,1@1 0,2@2 0,2@3",
+            "F F T | 1 2 -3 | F -2 T | 1 F -3 | -1 F T | F 2 -3 | -1 -2 3 | F F T | ",
+        ),
+        (
+            "Prod -1,1@1 1 -1,1@2",
+            "F 1 F F T | F 1 F F -2 | -1 F F F 2 | -1 F F F T | ",
+        ),
+        (
+            "DivMod 3,5@1 1,2@2 1,2,3,5@3 0,1@6",
+            "3 -4 | 4 -5 | F 1 F 2 4 | F 1 F 2 -5 | F 1 F 2 T | F 1 F 2 -6 | F 1 -2 F T | F 1 -2 F -3 | F 1 -2 F 6 | F 1 -2 F T | -1 F F 2 5 | -1 F F 2 T | -1 F F 2 T | -1 F F 2 -6 | -1 F -2 F 3 | -1 F -2 F -4 | -1 F -2 F 6 | -1 F -2 F T | ",
         ),
     ] {
         let core = core_of(&rt, rt.alloc(), text)?;

@@ -3,7 +3,8 @@
 //! are those from 1 on, or with `@7` behind it those from 7 on; or it is its least value, `^`, and the atoms of three
 //! steps of weight 1. A core is its form's name and then its members.
 
-ghost use Rattle.std.specs.Prelude.{◌<◌, ◌≤◌, unsigned_abs, IfOk, IsTrue};
+ghost use Rattle.std.specs.Prelude.{◌<◌, ◌≤◌, pos, ◌≤ℤ◌, unsigned_abs, IfOk, IsTrue};
+ghost use Rattle.order_ints.specs.OrderRange.{low_of};
 ghost use Rattle.order_ints.specs.OrderMade.{AscendFrom, AreSmall};
 ghost use Rattle.core_forms.specs.WellFormed.{IsSound, AreSound, greatest_abs, IsWellFormed};
 
@@ -188,6 +189,64 @@ fn sum(rt: &impl Abort, alloc: Global, text: &str) -> Result<Core, AllocError>
     Core::sum3(alloc, a, b, c)
 }
 
+/// The first two small integers, multiplied, are the third.
+fn product_of(alloc: Global, a: OrdInt, b: OrdInt, c: OrdInt) -> Result<Core, AllocError>
+    requires sound { IsSound a × IsSound b × IsSound c }
+    requires small { (greatest_abs a < 1000) × (greatest_abs b < 1000) }
+    ensures { IfOk result (λ core. IsWellFormed core) }
+{
+    Core::prod(alloc, a, b, c)
+}
+
+/// A product.
+fn product(rt: &impl Abort, alloc: Global, text: &str) -> Result<Core, AllocError>
+    ensures { IfOk result (λ core. IsWellFormed core) }
+{
+    let a = int(rt, alloc, word(text, 1))?;
+    let b = int(rt, alloc, word(text, 2))?;
+    let c = int(rt, alloc, word(text, 3))?;
+    product_of(alloc, a, b, c)
+}
+
+/// The third and fourth of small integers are quotient and rest of the first by the second.
+fn division_of(
+    alloc: Global,
+    a: OrdInt,
+    b: OrdInt,
+    q: OrdInt,
+    r: OrdInt,
+) -> Result<Core, AllocError>
+    requires sound { IsSound a × IsSound b × IsSound q × IsSound r }
+    requires small { (greatest_abs b < 1000) × (greatest_abs q < 1000) × (greatest_abs r < 1000) }
+    requires least { (pos 0 ≤ℤ low_of a) × (pos 1 ≤ℤ low_of b) }
+    ensures { IfOk result (λ core. IsWellFormed core) }
+{
+    Core::div_mod(alloc, a, b, q, r)
+}
+
+/// An integer whose least value is at least a number.
+fn int_from(rt: &impl Abort, alloc: Global, word: &str, least: i128) -> Result<OrdInt, AllocError>
+    ensures sound { IfOk result (λ a. IsSound a) }
+    ensures small { IfOk result (λ a. greatest_abs a < 1000) }
+    ensures least { IfOk result (λ a. least ≤ℤ low_of a) }
+{
+    let a = int(rt, alloc, word)?;
+    let low = a.low();
+    assert!(rt; least <= low);
+    Ok(a)
+}
+
+/// A division.
+fn division(rt: &impl Abort, alloc: Global, text: &str) -> Result<Core, AllocError>
+    ensures { IfOk result (λ core. IsWellFormed core) }
+{
+    let a = int_from(rt, alloc, word(text, 1), 0)?;
+    let b = int_from(rt, alloc, word(text, 2), 1)?;
+    let q = int(rt, alloc, word(text, 3))?;
+    let r = int(rt, alloc, word(text, 4))?;
+    division_of(alloc, a, b, q, r)
+}
+
 /// A greatest member.
 fn maximum(rt: &impl Abort, alloc: Global, text: &str) -> Result<Core, AllocError>
     ensures { IfOk result (λ core. IsWellFormed core) }
@@ -208,6 +267,8 @@ fn of_numbers(rt: &impl Abort, alloc: Global, text: &str) -> Result<Core, AllocE
         "EqR" => comparison(rt, alloc, text, true),
         "Sum3" => sum(rt, alloc, text),
         "Max" => maximum(rt, alloc, text),
+        "Prod" => product(rt, alloc, text),
+        "DivMod" => division(rt, alloc, text),
         other => panic!(rt; "no form: {other}"),
     }
 }
@@ -219,14 +280,8 @@ pub(super) fn core_of(rt: &impl Abort, alloc: Global, text: &str) -> Result<Core
     match word(text, 0) {
         "Ladder" => Core::ladder(alloc, int(rt, alloc, word(text, 1))?),
         "Clause" => Ok(Core::Clause(atoms(rt, alloc, word(text, 1))?)),
-        "Parity" => Ok(Core::Parity(
-            atoms(rt, alloc, word(text, 1))?,
-            word(text, 2) == "odd",
-        )),
-        "Conj" => Ok(Core::Conj(
-            atom(rt, word(text, 1)),
-            atoms(rt, alloc, word(text, 2))?,
-        )),
+        "Parity" => Ok(Core::Parity(atoms(rt, alloc, word(text, 1))?, word(text, 2) == "odd")),
+        "Conj" => Ok(Core::Conj(atom(rt, word(text, 1)), atoms(rt, alloc, word(text, 2))?)),
         "Amo" => Ok(Core::Amo(atoms(rt, alloc, word(text, 1))?)),
         _ => of_numbers(rt, alloc, text),
     }

@@ -3,7 +3,7 @@ use Rattle.direct_encode.proofs.forms.clauses.Goals as goal
 
 pub returns-clause-meaning : goal.returns-clause-meaning
 returns-clause-meaning c =
-    truth-put c.args.core.now _ c.push_clauses.new.clauses.items c.new-clauses.ensures.items c.in_ok-push_clauses.ensures c.requires.form.0 c.requires.well_formed
+    truth-put c.args.core.now _ c.push_clauses.new.clauses.items c.new-clauses.ensures.items c.in_ok-push_clauses.ensures c.requires.basic c.requires.well_formed
 
 pub returns-clause-below : goal.returns-clause-below
 returns-clause-below c =
@@ -11,4 +11,4 @@ returns-clause-below c =
 
 pub returns-clause-size : goal.returns-clause-size
 returns-clause-size c =
-    size-put c.args.core.now _ c.push_clauses.new.clauses.items c.new-clauses.ensures.items c.in_ok-push_clauses.ensures c.requires.form.0 c.requires.well_formed
+    size-put c.args.core.now _ c.push_clauses.new.clauses.items c.new-clauses.ensures.items c.in_ok-push_clauses.ensures c.requires.basic c.requires.well_formed

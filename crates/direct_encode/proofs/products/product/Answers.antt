@@ -18,7 +18,7 @@ returns-clause-value c =
     let b = c.args.b.now.int.now in
     let small = c.requires.small (value_at a c.args.i) (value_at b c.args.j) (has_value_at a c.args.i c.requires.i) (has_value_at b c.args.j c.requires.j) in
     let is : c.times.result ≡ product_at a b c.args.i c.args.j =
-        (rw (small_bits c.value.result c.value.ensures.range, small_bits c.value-2.result c.value-2.ensures.range, c.value.ensures.value, c.value-2.ensures.value) at c.times.ensures) in
+    (rw (small_bits c.value.result c.value.ensures.range, small_bits c.value-2.result c.value-2.ensures.range, c.value.ensures.value, c.value-2.ensures.value) at c.times.ensures) in
     rw (is, small_bits (product_at a b c.args.i c.args.j) small) refl
 
 pub returns-clause-range : goal.returns-clause-range
@@ -27,5 +27,5 @@ returns-clause-range c =
     let b = c.args.b.now.int.now in
     let small = c.requires.small (value_at a c.args.i) (value_at b c.args.j) (has_value_at a c.args.i c.requires.i) (has_value_at b c.args.j c.requires.j) in
     let is : c.times.result ≡ product_at a b c.args.i c.args.j =
-        (rw (small_bits c.value.result c.value.ensures.range, small_bits c.value-2.result c.value-2.ensures.range, c.value.ensures.value, c.value-2.ensures.value) at c.times.ensures) in
+    (rw (small_bits c.value.result c.value.ensures.range, small_bits c.value-2.result c.value-2.ensures.range, c.value.ensures.value, c.value-2.ensures.value) at c.times.ensures) in
     rw (is, small_bits (product_at a b c.args.i c.args.j) small) small

@@ -109,8 +109,8 @@ module _ (core : Core) (e : Equation) where
       (true-and (leb (length (own_vars core)) 8) (are_equal_over core (own_vars core) e.a e.b) (le-leb (length (own_vars core)) 8 h.few)
       (true-and (is_over (own_vars core) e.a && is_over (own_vars core) e.b) (are_equal_below core (own_vars core) (e.a, e.b) (2 ^ length (own_vars core)))
       (true-and (is_over (own_vars core) e.a) (is_over (own_vars core) e.b)
-        (among-over (own_vars core) e.a (λ v c. (own_vars-exact core v).1 (h.a_over v c)))
-        (among-over (own_vars core) e.b (λ v c. (own_vars-exact core v).1 (h.b_over v c))))
+      (among-over (own_vars core) e.a (λ v c. (own_vars-exact core v).1 (h.a_over v c)))
+      (among-over (own_vars core) e.b (λ v c. (own_vars-exact core v).1 (h.b_over v c))))
       (implied-rows core (own_vars core) e.a e.b h.implied)))
 
 -- what is first in a list of pairs is in it

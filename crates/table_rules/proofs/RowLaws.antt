@@ -142,7 +142,7 @@ pub implied-rows : (core : Core) (vars : List ℕ) (a b : Atom) → ((σ : Valua
     → are_equal_below core vars (a, b) (2 ^ length vars) ≡ true
 implied-rows core vars a b h =
     each-below core vars (a, b) (2 ^ length vars) (λ r l met.
-      ap (λ t. beq (atom_truth (valuation_in vars r) a) t) (sym (h (valuation_in vars r) met)) ∙ beq-refl (atom_truth (valuation_in vars r) a))
+    ap (λ t. beq (atom_truth (valuation_in vars r) a) t) (sym (h (valuation_in vars r) met)) ∙ beq-refl (atom_truth (valuation_in vars r) a))
 
 -- a pair is in a list
 abbrev pub IsIn : Atom × Atom → List (Atom × Atom) → Type 0

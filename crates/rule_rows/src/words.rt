@@ -7,6 +7,7 @@ ghost use Rattle.std.specs.Prelude.{◌≤◌, unsigned_abs, IfOk, IsTrue};
 ghost use Rattle.order_ints.specs.OrderMade.{AscendFrom, AreSmall};
 ghost use Rattle.core_forms.specs.WellFormed.{IsSound, IsWellFormed};
 
+use crate::form_words::form_of;
 use bee_list::Sequence;
 use bee_text::read_signed;
 use core_forms::Core;
@@ -23,7 +24,7 @@ pub(super) fn word(text: &str, place: usize) -> &str {
 }
 
 /// A small number.
-fn number(rt: &impl Abort, word: &str) -> i128
+pub(super) fn number(rt: &impl Abort, word: &str) -> i128
     ensures { unsigned_abs result ≤ 100 }
 {
     match read_signed(word.as_bytes(), 100) {
@@ -159,6 +160,6 @@ pub(super) fn core_of(rt: &impl Abort, alloc: Global, text: &str) -> Result<Core
         "Amo" => Ok(Core::Amo(atoms(rt, alloc, word(text, 1))?)),
         "LeqR" => comparison(rt, alloc, text, false),
         "EqR" => comparison(rt, alloc, text, true),
-        other => panic!(rt; "no form: {other}"),
+        _ => form_of(rt, alloc, text),
     }
 }

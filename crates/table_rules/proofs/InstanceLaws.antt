@@ -34,16 +34,16 @@ has_var-listed (w ∷ vars) v h = by (eqb w v) refl h (has_var-listed vars v)
     by true e k rest = (0, omega arith, eqb-true w v e)
     by false e k rest = let c = rest k in (suc c.0, omega (arith, c.1), c.2)
 
-listed-has_var : (vars : List ℕ) (v : ℕ) → Contains vars v → has_var vars v ≡ true
-listed-has_var [] v c = absurd (omega (arith, c.1))
-listed-has_var (w ∷ vars) v c = at c.0 c.1 c.2
-  where
-    later : has_var vars v ≡ true → has_var (w ∷ vars) v ≡ true
-    later h = elim (eqb w v) as (λ t. (t || has_var vars v) ≡ true) [ true ↦ refl | false ↦ h ]
+later : (w v : ℕ) (vars : List ℕ) → has_var vars v ≡ true → has_var (w ∷ vars) v ≡ true
+later w v vars h = elim (eqb w v) as (λ t. (t || has_var vars v) ≡ true) [ true ↦ refl | false ↦ h ]
 
-    at : (k : ℕ) → k < length (w ∷ vars) → get_or (w ∷ vars) k v ≡ v → has_var (w ∷ vars) v ≡ true
-    at zero l e = ap (λ t. t || has_var vars v) (eq-eqb w v e)
-    at (suc k) l e = later (listed-has_var vars v (k, omega arith, e))
+at-place : (vars : List ℕ) (v k : ℕ) → k < length vars → get_or vars k v ≡ v → has_var vars v ≡ true
+at-place [] v k l e = absurd (omega arith)
+at-place (w ∷ vars) v zero l e = ap (λ t. t || has_var vars v) (eq-eqb w v e)
+at-place (w ∷ vars) v (suc k) l e = later w v vars (at-place vars v k (omega arith) e)
+
+listed-has_var : (vars : List ℕ) (v : ℕ) → Contains vars v → has_var vars v ≡ true
+listed-has_var vars v c = at-place vars v c.0 c.1 c.2
 
 -- an atom is over listed variables where its variables are among them
 over-among : (vars : List ℕ) (a : Atom) → is_over vars a ≡ true → AreAmong (atom_vars a) vars

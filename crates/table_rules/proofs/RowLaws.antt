@@ -1,5 +1,5 @@
 -- The rows of a truth table are all valuations of its variables; what they leave of equations is what they imply.
-use Rattle.std.proofs.Common.{◌≡◌, ◌↔◌, ℕ, zero, suc, ◌+◌, ◌*◌, ◌/◌, ◌%◌, ◌^◌, ◌<◌, ◌≤◌, ◌⊎◌, inl, inr, Bool, true, false, not, ◌&&◌, ◌||◌, cond, eqb, length, map, take, set, length-set, List, [], ◌∷◌, ◌++◌, append_assoc, Contains, refl, sym, ap, subst, ◌∙◌, arith, add-one, ◌-◌}
+use Rattle.std.proofs.Common.{◌≡◌, ℕ, zero, suc, ◌+◌, ◌*◌, ◌/◌, ◌%◌, ◌^◌, ◌<◌, ◌≤◌, ◌⊎◌, inl, inr, Bool, true, false, not, ◌&&◌, ◌||◌, cond, eqb, length, map, take, set, length-set, List, [], ◌∷◌, ◌++◌, append_assoc, refl, sym, ap, subst, ◌∙◌, arith, add-one, ◌-◌}
 use Rattle.std.specs.Bool.{beq}
 use Rattle.std.specs.List.{filter}
 use Rattle.std.proofs.Math.Nat.{pow-suc}
@@ -10,7 +10,7 @@ use Rattle.order_ints.specs.declared.atom.Atom.TheVariants.{True, False, Of}
 use Rattle.order_ints.specs.Truth.{Valuation, valuation_at, atom_truth}
 use Rattle.order_ints.proofs.TruthRows.{row-agrees}
 use Rattle.core_forms.specs.declared.form.Core.{Core}
-use Rattle.core_forms.specs.Meaning.{core_truth, Meets}
+use Rattle.core_forms.specs.Meaning.{core_truth}
 use Rattle.core_forms.specs.Variables.{atom_vars, core_vars, AreAmong}
 use Rattle.core_forms.proofs.Rows.{core_truth-row}
 use Rattle.table_rules.specs.Rows.{row_of, valuation_in, are_equal_in, are_equal_below, left_below}

@@ -1,12 +1,12 @@
 -- The pairs of atoms over variables: both atoms are over them and different, and up to order and to the negation of
 -- both there is one for any two atoms over them.
-use Rattle.std.proofs.Common.{◌≡◌, ℕ, ◌<◌, ◌⊎◌, inl, inr, Bool, true, false, not, ◌&&◌, ◌||◌, cond, eqb, List, [], ◌∷◌, ◌++◌, refl, sym, ap, subst, ◌∙◌, arith}
+use Rattle.std.proofs.Common.{◌≡◌, ℕ, ◌⊎◌, inl, inr, Bool, true, false, not, ◌||◌, cond, eqb, List, [], ◌∷◌, ◌++◌, refl, sym, ap, subst, ◌∙◌}
 use Rattle.std.specs.Bool.{beq}
-use Rattle.std.proofs.lemmas.Bool.{eq-eqb, ne_eqb, eqb-true, eqb-false}
+use Rattle.std.proofs.lemmas.Bool.{eq-eqb, eqb-true, eqb-false}
 use Rattle.order_ints.specs.declared.literal.Lit.{Lit}
 use Rattle.order_ints.specs.declared.atom.Atom.{Atom}
 use Rattle.order_ints.specs.declared.atom.Atom.TheVariants.{True, False, Of}
-use Rattle.order_ints.specs.Truth.{Valuation, lit_truth, atom_truth}
+use Rattle.order_ints.specs.Truth.{Valuation, lit_truth}
 use Rattle.table_rules.specs.Rows.{are_equal_in}
 use Rattle.table_rules.specs.Pairs.{pairs_with, pairs_among, pairs_over}
 use Rattle.table_rules.specs.Instances.{has_var, is_over}

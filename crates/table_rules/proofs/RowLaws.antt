@@ -1,5 +1,5 @@
 -- The rows of a truth table are all valuations of its variables; what they leave of equations is what they imply.
-use Rattle.std.proofs.Common.{◌≡◌, ◌↔◌, ℕ, zero, suc, ◌+◌, ◌*◌, ◌/◌, ◌%◌, ◌^◌, ◌<◌, ◌≤◌, ◌⊎◌, inl, inr, Bool, true, false, not, ◌&&◌, ◌||◌, cond, eqb, length, map, take, set, length-set, List, [], ◌∷◌, ◌++◌, append_assoc, Contains, refl, sym, ap, subst, ◌∙◌, arith, add-one, ◌-◌}
+use Rattle.std.proofs.Common.{◌≡◌, ℕ, zero, suc, ◌+◌, ◌*◌, ◌/◌, ◌%◌, ◌^◌, ◌<◌, ◌≤◌, ◌⊎◌, inl, inr, Bool, true, false, not, ◌&&◌, ◌||◌, cond, eqb, length, map, take, set, length-set, List, [], ◌∷◌, ◌++◌, append_assoc, refl, sym, ap, subst, ◌∙◌, arith, add-one, ◌-◌}
 use Rattle.std.specs.Bool.{beq}
 use Rattle.std.specs.List.{filter}
 use Rattle.std.proofs.Math.Nat.{pow-suc}
@@ -10,7 +10,7 @@ use Rattle.order_ints.specs.declared.atom.Atom.TheVariants.{True, False, Of}
 use Rattle.order_ints.specs.Truth.{Valuation, valuation_at, atom_truth}
 use Rattle.order_ints.proofs.TruthRows.{row-agrees}
 use Rattle.core_forms.specs.declared.form.Core.{Core}
-use Rattle.core_forms.specs.Meaning.{core_truth, Meets}
+use Rattle.core_forms.specs.Meaning.{core_truth}
 use Rattle.core_forms.specs.Variables.{atom_vars, core_vars, AreAmong}
 use Rattle.core_forms.proofs.Rows.{core_truth-row}
 use Rattle.table_rules.specs.Rows.{row_of, valuation_in, are_equal_in, are_equal_below, left_below}
@@ -224,7 +224,7 @@ row-more values i rest whole l e =
     let m : length values - i ≡ suc (length values - suc i) = omega arith in
     rw (add-one, take-suc-set values i (eqb (rest % 2) 1) l)
     (append_assoc (take i values) (eqb (rest % 2) 1 ∷ []) (row_of (length values - suc i) (rest / 2))
-      ∙ ap (λ n. take i values ++ row_of n rest) (sym m) ∙ e)
+    ∙ ap (λ n. take i values ++ row_of n rest) (sym m) ∙ e)
 
 pub row-step : (values : List Bool) (i rest number : ℕ) → i < length values
     → take i values ++ row_of (length values - i) rest ≡ row_of (length values) number
@@ -240,8 +240,8 @@ written core vars old new number b is long e =
     let row : new ≡ row_of (length vars) number = is ∙ ap (λ n. row_of n number) long in
     ap (λ r. core_truth (valuation_at vars r) core) (sym row) ∙ sym e
 
-pub written-differ : (vars : List ℕ) (old new : List Bool) (number : ℕ) (a b : Atom) (s t : Bool) → new ≡ row_of (length old) number → length old ≡ length vars
-    → s ≡ atom_truth (valuation_at vars new) a → t ≡ atom_truth (valuation_at vars new) b → beq s t ≡ false → are_equal_in (valuation_in vars number) (a, b) ≡ false
-written-differ vars old new number a b s t is long p q differ =
+pub written-differ : (vars : List ℕ) (old new : List Bool) (number : ℕ) (p : Atom × Atom) (b : Bool) → new ≡ row_of (length old) number → length old ≡ length vars
+    → b ≡ are_equal_in (valuation_at vars new) p → b ≡ false → are_equal_in (valuation_in vars number) p ≡ false
+written-differ vars old new number p b is long e differ =
     let row : new ≡ row_of (length vars) number = is ∙ ap (λ n. row_of n number) long in
-    ap (λ r. are_equal_in (valuation_at vars r) (a, b)) (sym row) ∙ ap (λ x. beq x (atom_truth (valuation_at vars new) b)) (sym p) ∙ ap (beq s) (sym q) ∙ differ
+    ap (λ r. are_equal_in (valuation_at vars r) p) (sym row) ∙ sym e ∙ differ

@@ -119,7 +119,7 @@ module _ (nodes rings : List Links) (more_rings more_nodes : ℕ) (few : length 
     };
     linked = λ r small. ⊎_elim (old r) (λ high. new r high (omega (arith, length-append view.lists (replicate more_rings []), length-replicate more_rings (let none : List ℕ = [] in none)))) (cases_lt r (length view.lists));
     free = λ v small none. ⊎_elim (λ (low : v < length nodes). next-old_node v low ∙ h.free v (omega arith) (omega (arith, all v)))
-      (λ high. next_at-node grown_nodes grown_rings v no_links (omega (arith, nodes-length)) (omega arith) ∙ ap (λ (l : Links). l.next) (at-new_node v high (omega arith))) (cases_lt v (length nodes));
+        (λ high. next_at-node grown_nodes grown_rings v no_links (omega (arith, nodes-length)) (omega arith) ∙ ap (λ (l : Links). l.next) (at-new_node v high (omega arith))) (cases_lt v (length nodes));
   }
     where
       all : (v : ℕ) → times_in_all v (view.lists ++ replicate more_rings []) ≡ times_in_all v view.lists

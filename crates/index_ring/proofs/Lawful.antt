@@ -10,15 +10,15 @@ use Rattle.index_ring.proofs.Seen.{after_in-cut}
 
 pub stands_once : StandsOnce
 stands_once rings r s v h stands = (
-    λ there. ⊎_elim (λ e. e) (λ ne. absurd (omega (arith, all-two v rings.lists s r ne, h.once v))) (cases_eq s r),
-    omega (arith, all-get v rings.lists r, h.once v),
-  )
+  λ there. ⊎_elim (λ e. e) (λ ne. absurd (omega (arith, all-two v rings.lists s r ne, h.once v))) (cases_eq s r),
+  omega (arith, all-get v rings.lists r, h.once v),
+)
 
 pub free_exactly : FreeExactly
 free_exactly rings v = (
-    λ free r stands. omega (arith, all-get v rings.lists r),
-    λ nowhere. ⊎_elim (λ (low : times_in_all v rings.lists < 1). omega arith) (λ some. let found = all-find v rings.lists some in absurd (nowhere found.0 found.2)) (cases_lt (times_in_all v rings.lists) 1),
-  )
+  λ free r stands. omega (arith, all-get v rings.lists r),
+  λ nowhere. ⊎_elim (λ (low : times_in_all v rings.lists < 1). omega arith) (λ some. let found = all-find v rings.lists some in absurd (nowhere found.0 found.2)) (cases_lt (times_in_all v rings.lists) 1),
+)
 
 pub lengths_fit : LengthsFit
 lengths_fit rings h = total_length-le rings.nodes rings.lists h.once h.inside

@@ -101,8 +101,8 @@ module _ (n p n1 p1 n2 p2 : ℕ → ℕ) (rings : RingLists) (h : IsLinked n p r
     stand = IsRings-pushed rings r v list h.stand inside low free more;
     linked = with_list-linked n2 p2 rings r list inside here others;
     free = λ w small none. let was = still-free list w more none in next-elsewhere n1 p1 n2 p2 v (sentinel r) second w was.1
-      ∙ next-elsewhere n p n1 p1 (p (sentinel r)) v first w (λ e. apart w small was.0 e)
-      ∙ h.free w small was.0;
+        ∙ next-elsewhere n p n1 p1 (p (sentinel r)) v first w (λ e. apart w small was.0 e)
+        ∙ h.free w small was.0;
   }
     where
       list : List ℕ
@@ -137,8 +137,8 @@ module _ (n p n1 p1 n2 p2 : ℕ → ℕ) (rings : RingLists) (h : IsLinked n p r
     stand = IsRings-pushed rings r v list h.stand inside low free more;
     linked = with_list-linked n2 p2 rings r list inside here others;
     free = λ w small none. let was = still-free list w more none in next-elsewhere n1 p1 n2 p2 (sentinel r) v second w (λ e. omega (arith, h.stand.small))
-      ∙ next-elsewhere n p n1 p1 v (n (sentinel r)) first w was.1
-      ∙ h.free w small was.0;
+        ∙ next-elsewhere n p n1 p1 v (n (sentinel r)) first w was.1
+        ∙ h.free w small was.0;
   }
     where
       list : List ℕ

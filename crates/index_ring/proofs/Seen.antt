@@ -71,9 +71,9 @@ module _ (nodes rings : List Links) (h : IsSound nodes rings) where
 
   pub free-read : (v : ℕ) (d : Links) → v < length nodes → ((get_or nodes v d).next ≡ v) ↔ IsFree (view_of nodes rings) v
   free-read v d low = (
-      λ e. ⊎_elim (λ (none : times_in_all v (view_of nodes rings).lists < 1). omega arith) (λ some. absurd (stands-apart v (standing-from (view_of nodes rings) v (λ none. omega arith)) low (at_v ∙ e))) (cases_lt (times_in_all v (view_of nodes rings).lists) 1),
-      λ none. sym at_v ∙ h.free v low none,
-    )
+    λ e. ⊎_elim (λ (none : times_in_all v (view_of nodes rings).lists < 1). omega arith) (λ some. absurd (stands-apart v (standing-from (view_of nodes rings) v (λ none. omega arith)) low (at_v ∙ e))) (cases_lt (times_in_all v (view_of nodes rings).lists) 1),
+    λ none. sym at_v ∙ h.free v low none,
+  )
     where
       at_v : next_at nodes rings v ≡ (get_or nodes v d).next
       at_v = next_at-node nodes rings v d low (omega (arith, few-rings nodes rings h))

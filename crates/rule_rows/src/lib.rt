@@ -3,6 +3,6 @@
 #![tactic(auto)]
 
 #[cfg(test)]
-mod direct_encode;
+mod encodings;
 #[cfg(test)]
 mod words;

@@ -23,6 +23,8 @@ mod meanings;
 #[cfg(test)]
 mod occurring;
 #[cfg(test)]
+mod rings;
+#[cfg(test)]
 mod shape_costs;
 #[cfg(test)]
 mod shown;

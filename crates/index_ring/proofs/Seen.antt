@@ -1,11 +1,11 @@
 -- What the links tell of the lists.
-use Rattle.std.proofs.Common.{◌≡◌, ◌≢◌, ℕ, zero, suc, ◌+◌, ◌-◌, ◌≤◌, ◌<◌, ◌^◌, List, [], ◌∷◌, ◌++◌, length, get_or, refl, ap, sym, ◌∙◌, subst, arith, ⊎_elim, Option, Some, None}
-use Rattle.std.specs.Prelude.{if◌then◌else◌, ◌==◌, ◌⊎◌, nat_lt, ◌↔◌, IsTrue}
-use Rattle.std.proofs.lemmas.Bool.{cases_eq, cases_lt, eq-eqb, ne_eqb, eqb-true, cond-true, cond-false, lt-ltb, le-ltb}
+use Rattle.std.proofs.Common.{◌≡◌, ℕ, ◌+◌, ◌≤◌, ◌<◌, ◌^◌, List, [], ◌∷◌, ◌++◌, length, get_or, refl, ap, sym, ◌∙◌, subst, arith, ⊎_elim, Option, Some, None}
+use Rattle.std.specs.Prelude.{if◌then◌else◌, ◌==◌, nat_lt, ◌↔◌, IsTrue}
+use Rattle.std.proofs.lemmas.Bool.{cases_lt, eq-eqb, ne_eqb, eqb-true, cond-true, cond-false, lt-ltb, le-ltb}
 use Rattle.std.proofs.lemmas.List.{get_or_past}
 use Rattle.index_ring.specs.declared.links.Links.{Links}
-use Rattle.index_ring.specs.Lists.{RingLists, IsRings, IsFree, Stands, list_of, times, times_in_all, first_in, after_in}
-use Rattle.index_ring.specs.Links.{sentinel, no_links, next_at, previous_at, Chain, view_of, IsLinked, IsSound}
+use Rattle.index_ring.specs.Lists.{RingLists, IsFree, Stands, list_of, times, times_in_all, first_in, after_in}
+use Rattle.index_ring.specs.Links.{sentinel, no_links, next_at, previous_at, Chain, view_of, IsSound}
 use Rattle.index_ring.proofs.Times.{times-same, times-other, times-append, all-get, cut}
 use Rattle.index_ring.proofs.Chains.{chain-back, first-stands}
 use Rattle.index_ring.proofs.Views.{length-view_of, next_at-sentinel, next_at-node}

@@ -164,7 +164,7 @@ pub nothing-stands : Stands nothing_lowered [] []
 nothing-stands = record {
   encodes = record { fits = record { vars = omega arith; entries = tt; cores = tt }; ordered = λ σ h. tt };
   placed = tt;
-  solutions = λ a. (λ h. ((λ v. false), tt, empty-alone a h.0), λ c. (subst (λ (vs : List ℤ). IsTrue (in_domains [] vs)) (sym c.2) refl, tt));
+  solutions = λ a. (λ h. ((λ v. false), refl, empty-alone a h.0), λ c. (subst (λ (vs : List ℤ). IsTrue (in_domains [] vs)) (sym c.2) refl, tt));
 }
 
 -- All items.

@@ -5,4 +5,8 @@
 #[cfg(test)]
 mod encodings;
 #[cfg(test)]
+mod equations;
+#[cfg(test)]
+mod equi_rules;
+#[cfg(test)]
 mod words;

@@ -1,0 +1,3 @@
+pub mod LexParts
+pub mod SumParts
+pub mod PartsOf

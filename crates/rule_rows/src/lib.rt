@@ -9,4 +9,6 @@ mod equations;
 #[cfg(test)]
 mod equi_rules;
 #[cfg(test)]
+mod network_encode;
+#[cfg(test)]
 mod words;

@@ -1,37 +1,33 @@
 -- The parts of an order of words stand for it: their meaning, their limits and their costs.
-use Rattle.std.proofs.Common.{◌≡◌, ℕ, ◌+◌, ◌<◌, ◌≤◌, zero, suc, Bool, true, false, not, ◌&&◌, ◌||◌, cond, ℤ, List, [], ◌∷◌, length, refl, sym, ap, ◌∙◌, subst, arith}
+use Rattle.std.proofs.Common.{◌≡◌, ℕ, ◌+◌, ◌≤◌, zero, suc, Bool, true, false, not, ◌&&◌, ◌||◌, cond, ℤ, List, [], ◌∷◌, length, refl, sym, ap, ◌∙◌, subst, arith}
 use Rattle.std.specs.Prelude.{int_le, int_lt, IsTrue}
 use Rattle.std.specs.Bool.{beq}
 use Rattle.std.specs.Ordering.{int_eq}
-use Rattle.std.proofs.lemmas.Int.{ints}
 use Rattle.order_ints.specs.declared.atom.Atom.{Atom}
 use Rattle.order_ints.specs.declared.order_int.OrdInt.{OrdInt}
 use Rattle.order_ints.specs.Truth.{Valuation, Agree, atom_truth, not_atom}
 use Rattle.order_ints.specs.Place.{AtomBelow}
 use Rattle.order_ints.specs.OrderMade.{atom_of_var}
-use Rattle.order_ints.specs.OrderRange.{IntBelow}
 use Rattle.order_ints.specs.OrderValue.{value_of, in_order}
 use Rattle.order_ints.proofs.Truths.{atom_truth-not_atom, AtomBelow-not_atom}
 use Rattle.order_ints.proofs.Gains.{value_of-agree}
 use Rattle.core_forms.specs.declared.form.Core.{Core}
-use Rattle.core_forms.specs.declared.form.Core.TheVariants.{Clause, Conj, LeqR, Lex}
+use Rattle.core_forms.specs.declared.form.Core.TheVariants.{Conj, LeqR, Lex}
 use Rattle.core_forms.specs.Values.{all_ordered, values, is_before}
 use Rattle.core_forms.specs.Meaning.{core_truth, Meets}
 use Rattle.core_forms.specs.Place.{IntsBelow, CoreBelow}
-use Rattle.core_forms.specs.WellFormed.{IsSound, AreSound, IsWellFormed}
-use Rattle.core_forms.specs.Shapes.{pairs_of_steps}
+use Rattle.core_forms.specs.WellFormed.{IsWellFormed}
 use Rattle.core_forms.specs.Cost.{cost_of}
 use Rattle.core_forms.specs.Cores.{MeetsAll, costs_of}
 use Rattle.core_forms.proofs.Mapped.{core_truth-agree}
 use Rattle.core_forms.proofs.IntLists.{IntsBelow-append, IntsBelow-left, IntsBelow-right}
 use Rattle.core_forms.proofs.Places.{CoreBelow-more}
 use Rattle.core_forms.proofs.CoreLists.{MeetsAll-first}
-use Rattle.part_base.specs.declared.parts.Parts.{Parts}
 use Rattle.part_base.specs.PartsFor.{DoFit, ArePartsFor}
 use Rattle.part_base.specs.FreshTruths.{with_fresh}
 use Rattle.part_base.proofs.FreshLaws.{with_fresh-Agree, truth-with_fresh}
 use Rattle.part_base.proofs.PartLaws.{parts-made}
-use Rattle.decompose.specs.LexParts.{alone, empty_order, last_order, split_order, lex_parts}
+use Rattle.decompose.specs.LexParts.{empty_order, last_order, split_order, lex_parts}
 use Rattle.decompose.proofs.Tests.{and_first, and_second, and_made, beq_tells, beq_made, not_not, by_order}
 use Rattle.decompose.proofs.PartLaws.{alone-made}
 
@@ -154,11 +150,19 @@ module _ (next : ℕ) (r : Atom) (strict : Bool) (a b : OrdInt) (front back : Li
 
   split_made : (τ : Valuation) → Splits τ → MeetsAll τ (split_order next r strict a b front back)
   split_made τ s =
-      (MeetsAll-first τ one (two ∷ three ∷ four ∷ five ∷ [])).1 (leq_made τ (atom_of_var next) a b s.first s.second s.less,
-      (MeetsAll-first τ two (three ∷ four ∷ five ∷ [])).1 (leq_made τ (atom_of_var (next + 1)) b a s.second s.first s.greater,
-      (MeetsAll-first τ three (four ∷ five ∷ [])).1 (lex_made τ (atom_of_var (next + 2)) strict front back s.fronts s.backs s.rest,
-      (MeetsAll-first τ four (five ∷ [])).1 (beq_made (not (τ (next + 3))) (τ (next + 1) && (not (τ (next + 2)) && true)) s.undecided,
-      (MeetsAll-first τ five []).1 (beq_made (atom_truth τ r) (τ next && (τ (next + 3) && true)) s.order, refl)))))
+      (MeetsAll-first τ one (two ∷ three ∷ four ∷ five ∷ [])).1 (
+        leq_made τ (atom_of_var next) a b s.first s.second s.less,
+        (MeetsAll-first τ two (three ∷ four ∷ five ∷ [])).1 (
+          leq_made τ (atom_of_var (next + 1)) b a s.second s.first s.greater,
+          (MeetsAll-first τ three (four ∷ five ∷ [])).1 (
+            lex_made τ (atom_of_var (next + 2)) strict front back s.fronts s.backs s.rest,
+            (MeetsAll-first τ four (five ∷ [])).1 (
+              beq_made (not (τ (next + 3))) (τ (next + 1) && (not (τ (next + 2)) && true)) s.undecided,
+              (MeetsAll-first τ five []).1 (beq_made (atom_truth τ r) (τ next && (τ (next + 3) && true)) s.order, refl),
+            ),
+          ),
+        ),
+      )
 
   decided : (τ : Valuation) → Splits τ → atom_truth τ r ≡ is_before strict (value_of τ a ∷ values τ front) (value_of τ b ∷ values τ back)
   decided τ s =
@@ -218,10 +222,13 @@ module _ (next : ℕ) (r : Atom) (strict : Bool) (a b : OrdInt) (front back : Li
       let fresh = four_of (int_le (value_of σ a) (value_of σ b)) ge before (not (ge && (not before && true))) in
       let τ : Valuation = with_fresh next σ fresh in
       let same = with_fresh-Agree next σ fresh in
-      let e : next + 0 ≡ next = omega arith in
-      (τ, same, split_extended σ τ below met same
-      (subst (λ (v : ℕ). τ v ≡ int_le (value_of σ a) (value_of σ b)) e (truth-with_fresh next σ fresh 0))
-      (truth-with_fresh next σ fresh 1) (truth-with_fresh next σ fresh 2) (truth-with_fresh next σ fresh 3))
+      let e : next + 0 ≡ next = omega arith in (
+        τ,
+        same,
+        split_extended σ τ below met same
+            (subst (λ (v : ℕ). τ v ≡ int_le (value_of σ a) (value_of σ b)) e (truth-with_fresh next σ fresh 0))
+            (truth-with_fresh next σ fresh 1) (truth-with_fresh next σ fresh 2) (truth-with_fresh next σ fresh 3),
+      )
 
 -- what the parts may have, and what they cost
 split_fits : (next : ℕ) (r : Atom) (strict : Bool) (a b : OrdInt) (front back : List OrdInt) → 1 ≤ next
@@ -237,8 +244,16 @@ split_fits next r strict a b front back some well below =
     let u : AtomBelow (next + 4) (atom_of_var (next + 3)) = (omega arith, omega arith) in
     record {
       formed = ((well.0.0, well.1.0), ((well.1.0, well.0.0), ((well.0.1, well.1.1, omega (arith, well.2)), (tt, (tt, tt)))));
-      below = (((l, tt), (all.0, (others.0, tt))), (((g, tt), (others.0, (all.0, tt))), (((t, tt), IntsBelow-append (next + 4) front back all.1 others.1),
-      (((u, (g, (t, tt))), tt), (((up.0.0, (l, (u, tt))), tt), tt)))));
+      below = (
+        ((l, tt), (all.0, (others.0, tt))),
+        (
+          ((g, tt), (others.0, (all.0, tt))),
+          (
+            ((t, tt), IntsBelow-append (next + 4) front back all.1 others.1),
+            (((u, (g, (t, tt))), tt), (((up.0.0, (l, (u, tt))), tt), tt)),
+          ),
+        ),
+      );
     }
 
 split_costs : (next : ℕ) (r : Atom) (strict : Bool) (a b c : OrdInt) (front back : List OrdInt) → length (a ∷ c ∷ front) ≡ length (b ∷ back)

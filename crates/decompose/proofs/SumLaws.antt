@@ -1,33 +1,31 @@
 -- The parts of a sum stand for it: their meaning, their limits and their costs.
-use Rattle.std.proofs.Common.{◌≡◌, ℕ, ◌+◌, ◌-◌, ◌<◌, ◌≤◌, ◌^◌, zero, suc, Bool, true, ◌&&◌, List, [], ◌∷◌, ◌++◌, map, length, Contains, ℤ, pos, neg_ℤ, ◌+ℤ◌, refl, sym, ap, ◌∙◌, subst, arith}
+use Rattle.std.proofs.Common.{◌≡◌, ℕ, ◌+◌, ◌-◌, ◌<◌, ◌≤◌, ◌^◌, Bool, ◌&&◌, List, [], ◌∷◌, ◌++◌, length, Contains, ℤ, pos, neg_ℤ, ◌+ℤ◌, refl, sym, ap, ◌∙◌, subst, arith}
 use Rattle.std.specs.Prelude.{unsigned_abs, max, reverse, IsTrue}
 use Rattle.std.specs.Ordering.{int_eq}
 use Rattle.std.proofs.lemmas.Int.{ints}
 use Rattle.std.proofs.lemmas.List.{length-map, length-reverse}
-use Prim.Native.Nat.{◌∣◌}
 use Rattle.std.proofs.lemmas.Nat.Gcd.{dvd_refl}
 use Rattle.order_ints.specs.declared.order_int.OrdInt.{OrdInt}
 use Rattle.order_ints.specs.Truth.{Valuation, Agree}
 use Rattle.order_ints.specs.OrderValue.{value_of, in_order}
-use Rattle.order_ints.specs.OrderRange.{weights, low_of, high_of, IsBounded, AreRising, IntBelow}
+use Rattle.order_ints.specs.OrderRange.{weights, IsBounded, AreRising, IntBelow}
 use Rattle.order_ints.specs.OrderLevels.{values_of}
-use Rattle.order_ints.specs.OrderMade.{constant_of, integer_of_values, vars_from}
-use Rattle.order_ints.specs.OrderChange.{negated_step, negated_of, shifted_of}
-use Rattle.order_ints.proofs.Gains.{value_of-agree, StepsBelow-more}
+use Rattle.order_ints.specs.OrderMade.{constant_of}
+use Rattle.order_ints.specs.OrderChange.{negated_step, negated_of}
+use Rattle.order_ints.proofs.Gains.{value_of-agree}
 use Rattle.order_ints.proofs.Negation.{weights-negated, value_of-negated_of, in_order-negated, AreRising-negated, StepsBelow-negated}
 use Rattle.order_ints.proofs.Reaching.{Contains-value_of}
 use Rattle.order_ints.proofs.Fresh.{takes_each_value, values_of-integer_of_values, atoms-integer_of_values, AreRising-integer_of_values, IsBounded-integer_of_values, StepsBelow-vars}
-use Rattle.core_cost.specs.Comparisons.{cost_of_ladder}
 use Rattle.core_cost.specs.Sums.{constant, cost_of_sum3, fresh_sum_of, cost_of_sum}
-use Rattle.core_cost.specs.Relations.{IsShape, IsWithin, AreWithin}
+use Rattle.core_cost.specs.Relations.{IsWithin, AreWithin}
 use Rattle.core_cost.proofs.SumLaws.{sum_of_more}
 use Rattle.core_cost.proofs.ShapeLaws.{sum3-mono, sum-mono}
 use Rattle.core_forms.specs.declared.form.Core.{Core}
 use Rattle.core_forms.specs.declared.form.Core.TheVariants.{Sum3, Sum}
 use Rattle.core_forms.specs.Values.{all_ordered, values, total}
-use Rattle.core_forms.specs.Meaning.{core_truth, Meets}
-use Rattle.core_forms.specs.Place.{IntsBelow, CoreBelow}
-use Rattle.core_forms.specs.WellFormed.{IsSound, AreSound, greatest_abs, abs_total, IsWellFormed}
+use Rattle.core_forms.specs.Meaning.{Meets}
+use Rattle.core_forms.specs.Place.{CoreBelow}
+use Rattle.core_forms.specs.WellFormed.{IsSound, AreSound, greatest_abs, IsWellFormed}
 use Rattle.core_forms.specs.Shapes.{steps_of, shape_of, shapes_of}
 use Rattle.core_forms.specs.Sums.{sums_of}
 use Rattle.core_forms.specs.Cost.{cost_of}
@@ -40,7 +38,6 @@ use Rattle.core_forms.proofs.ShapeLaws.{IsShape-of, length-shapes}
 use Rattle.core_forms.proofs.SumValues.{sums-some, sums-ascend, sums-small, sums-among, sums-few, fresh-within, fresh-abs}
 use Rattle.part_base.specs.PartsFor.{DoFit, ArePartsFor}
 use Rattle.part_base.proofs.PartLaws.{parts-made}
-use Rattle.decompose.specs.LexParts.{alone}
 use Rattle.decompose.specs.SumParts.{less_of, fresh_of, sum_parts}
 use Rattle.decompose.proofs.Tests.{and_first, and_second, and_made, int_eq_tells, int_eq_made}
 use Rattle.decompose.proofs.PartLaws.{alone-met}
@@ -57,9 +54,12 @@ module _ (τ : Valuation) where
   sum3_tells a b c h =
       let all = and_first (in_order τ a.steps && (in_order τ b.steps && in_order τ c.steps)) (int_eq (value_of τ a +ℤ value_of τ b) (value_of τ c)) h in
       let same = and_second (in_order τ a.steps && (in_order τ b.steps && in_order τ c.steps)) (int_eq (value_of τ a +ℤ value_of τ b) (value_of τ c)) h in
-      let rest = and_second (in_order τ a.steps) (in_order τ b.steps && in_order τ c.steps) all in
-      (and_first (in_order τ a.steps) (in_order τ b.steps && in_order τ c.steps) all, and_first (in_order τ b.steps) (in_order τ c.steps) rest,
-      and_second (in_order τ b.steps) (in_order τ c.steps) rest, int_eq_tells (value_of τ a +ℤ value_of τ b) (value_of τ c) same)
+      let rest = and_second (in_order τ a.steps) (in_order τ b.steps && in_order τ c.steps) all in (
+        and_first (in_order τ a.steps) (in_order τ b.steps && in_order τ c.steps) all,
+        and_first (in_order τ b.steps) (in_order τ c.steps) rest,
+        and_second (in_order τ b.steps) (in_order τ c.steps) rest,
+        int_eq_tells (value_of τ a +ℤ value_of τ b) (value_of τ c) same,
+      )
 
   pub sum3_made : (a b c : OrdInt) → IsTrue (in_order τ a.steps) → IsTrue (in_order τ b.steps) → IsTrue (in_order τ c.steps)
       → value_of τ a +ℤ value_of τ b ≡ value_of τ c → Meets τ (Sum3 a b c)

@@ -1,14 +1,14 @@
 -- The parts of a sum of four members and more, and the steps of their fresh integer.
-use Rattle.std.proofs.Common.{◌≡◌, ℕ, ◌+◌, ◌-◌, ◌<◌, ◌≤◌, ◌^◌, List, [], ◌∷◌, ◌++◌, length, ℤ, refl, sym, ap, ◌∙◌, subst, arith}
+use Rattle.std.proofs.Common.{◌≡◌, ℕ, ◌+◌, ◌-◌, ◌<◌, ◌≤◌, List, [], ◌∷◌, ◌++◌, length, ℤ, ap, ◌∙◌, arith}
 use Rattle.order_ints.specs.declared.order_int.OrdInt.{OrdInt}
-use Rattle.core_cost.specs.Sums.{fresh_sum_of, cost_of_sum3, cost_of_sum}
+use Rattle.core_cost.specs.Sums.{fresh_sum_of, cost_of_sum}
 use Rattle.core_cost.proofs.SumLaws.{sum_of_more}
 use Rattle.core_forms.specs.declared.form.Core.TheVariants.{Sum3, Sum}
 use Rattle.core_forms.specs.Sums.{sums_of}
 use Rattle.core_forms.specs.Shapes.{shape_of, shapes_of}
 use Rattle.core_forms.proofs.ShapeLaws.{length-shapes}
 use Rattle.part_base.specs.declared.parts.Parts.{Parts}
-use Rattle.decompose.specs.SumParts.{fresh_of, sum_parts}
+use Rattle.decompose.specs.SumParts.{fresh_of}
 
 -- from four members on
 abbrev pub long_of : ℤ → ℕ → OrdInt → OrdInt → List OrdInt → Parts

@@ -1,7 +1,7 @@
 -- The parts of a core, form by form.
 use Rattle.std.specs.Prelude.{ℕ, []}
 use Rattle.core_forms.specs.declared.form.Core.{Core}
-use Rattle.core_forms.specs.declared.form.Core.TheVariants.{Sum, AllDiff, Lex}
+use Rattle.core_forms.specs.declared.form.Core.TheVariants.{Sum, Lex}
 use Rattle.part_base.specs.declared.parts.Parts.{Parts}
 use Rattle.decompose.specs.LexParts.{lex_parts}
 use Rattle.decompose.specs.SumParts.{sum_parts}

@@ -16,10 +16,7 @@ use std::alloc::{AllocError, Global};
 fn conjunction(alloc: Global, r: Atom, first: Atom, second: Atom) -> Result<Core, AllocError>
     ensures { IfOk result (λ core. core ≡ Conj r (first ∷ second ∷ [])) }
 {
-    Ok(Core::Conj(
-        r,
-        Sequence::from_vec(vec![in alloc; first, second]?),
-    ))
+    Ok(Core::Conj(r, Sequence::from_vec(vec![in alloc; first, second]?)))
 }
 
 /// Two lists without members.
@@ -31,13 +28,7 @@ fn empty_part(alloc: Global, r: Atom, strict: bool) -> Result<Core, AllocError>
 }
 
 /// The last pair.
-fn last_part(
-    alloc: Global,
-    r: Atom,
-    strict: bool,
-    a: OrdInt,
-    b: OrdInt,
-) -> Result<Core, AllocError>
+fn last_part(alloc: Global, r: Atom, strict: bool, a: OrdInt, b: OrdInt) -> Result<Core, AllocError>
     ensures { IfOk result (λ core. core ≡ last_order r strict a b) }
 {
     if strict {
@@ -91,7 +82,9 @@ fn split_parts(
 ) -> Result<Parts, AllocError>
     requires { next_var + 4 < 2 ^ 32 }
     ensures { IfOk result (λ parts. parts ≡ record {
-        cores = split_order next_var r strict pair.0 pair.1 rests.0.items rests.1.items; fresh = 4 }) }
+      cores = split_order next_var r strict pair.0 pair.1 rests.0.items rests.1.items;
+      fresh = 4;
+    }) }
 {
     let (less, greater) = (atom_of(next_var), atom_of(next_var + 1));
     let (rest, undecided) = (atom_of(next_var + 2), atom_of(next_var + 3));

@@ -5,7 +5,6 @@ mod forms;
 mod fresh;
 pub mod laws;
 mod lex;
-
 mod sums;
 
 pub use forms::parts;

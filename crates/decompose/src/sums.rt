@@ -65,13 +65,7 @@ fn pair_part(alloc: Global, a: OrdInt, b: OrdInt, k: i128) -> Result<Parts, Allo
 }
 
 /// Three members.
-fn triple_part(
-    alloc: Global,
-    a: OrdInt,
-    b: OrdInt,
-    c: OrdInt,
-    k: i128,
-) -> Result<Parts, AllocError>
+fn triple_part(alloc: Global, a: OrdInt, b: OrdInt, c: OrdInt, k: i128) -> Result<Parts, AllocError>
     requires sound { IsSound c }
     requires limit { greatest_abs c + unsigned_abs k < 2 ^ 100 }
     ensures { IfOk result (λ parts. parts ≡ sum_parts 0 (a ∷ b ∷ c ∷ []) k) }
@@ -123,6 +117,15 @@ fn fresh_sum(
     Ok((sum, (values.len() - 1) as u32))
 }
 
+/// The other members with the fresh one behind them.
+fn with_last(others: Vec<OrdInt>, last: &OrdInt) -> Result<Sequence<OrdInt>, AllocError>
+    ensures { IfOk result (λ ints. ints ≡ others.items ++ last.now ∷ []) }
+{
+    let mut ints = others;
+    ints.push(last.clone()?)?;
+    Ok(Sequence::from_vec(ints))
+}
+
 /// Four members and more, by the first two and the others.
 fn long_parts(
     alloc: Global,
@@ -138,14 +141,14 @@ fn long_parts(
     requires first { 1 ≤ next_var }
     requires room { next_var + (fresh_sum_of (shape_of a) (shape_of b)).steps ≤ 2 ^ 27 }
     ensures { IfOk result (λ parts. parts ≡ record {
-        cores = Sum3 a b (fresh_of next_var a b) ∷ Sum (others.items ++ fresh_of next_var a b ∷ []) k ∷ [];
-        fresh = length (sums_of a b) - 1 }) }
+      cores = Sum3 a b (fresh_of next_var a b) ∷ Sum (others.items ++ fresh_of next_var a b ∷ []) k ∷ [];
+      fresh = length (sums_of a b) - 1;
+    }) }
 {
-    let mut others = others;
     let (sum, fresh) = fresh_sum(alloc, &a, &b, next_var)?;
-    others.push(sum.clone()?)?;
+    let others = with_last(others, &sum)?;
     let first = Core::sum3(alloc, a, b, sum)?;
-    let second = Core::sum(alloc, Sequence::from_vec(others), k)?;
+    let second = Core::sum(alloc, others, k)?;
     Ok(Parts {
         cores: Sequence::from_vec(vec![in alloc; first, second]?),
         fresh,

@@ -1,4 +1,0 @@
-use Rattle.decompose.proofs.sums.long_parts.Goals as goal
-
-pub returns : goal.returns
-returns c = ?

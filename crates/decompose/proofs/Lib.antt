@@ -4,3 +4,6 @@ pub mod SumLaws
 pub mod SumSteps
 pub mod PartLaws
 pub mod FormLaws
+pub mod Marks
+pub mod Differ
+pub mod DifferingLaws

@@ -1,5 +1,5 @@
 -- What holds of the constants, of negations, and of each atom of a core holds of each atom of its equations.
-use Rattle.std.proofs.Common.{ℕ, Bool, List, [], ◌∷◌, ◌++◌, map, length, ℤ, pos, neg_ℤ, ◌+ℤ◌, ◌-ℤ◌, ◌*ℤ◌}
+use Rattle.std.proofs.Common.{Bool, List, [], ◌∷◌, ◌++◌, length, ℤ, pos, neg_ℤ, ◌+ℤ◌, ◌-ℤ◌, ◌*ℤ◌}
 use Rattle.std.specs.Prelude.{◌==◌, ◌&&◌, not, filter, int_le, int_lt}
 use Rattle.std.specs.Ordering.{int_eq}
 use Rattle.order_ints.specs.declared.atom.Atom.{Atom}
@@ -23,7 +23,7 @@ use Rattle.arith_rules.specs.Links.{within, linked, opposed, opposed_above, alik
 use Rattle.arith_rules.specs.SumRows.{sum3_ranges, raised_equations, mirrored_equations, sum3_constants, sum3_equations, count_equations, lows_of, highs_of, shares, sum_equations}
 use Rattle.arith_rules.specs.MaxRows.{member_ranges, top_from, top_equations, reaching, is_sole, linked_equations, leader_equations, unreached_equations, max_equations}
 use Rattle.arith_rules.specs.ProductRows.{floor_of, ceiling_of, least_product, greatest_product, factor_equations, multiple_equations, negative_equations, scaled_equations, prod_equations, quotient_equations, dividend_equations, div_mod_equations}
-use Rattle.arith_rules.specs.Instances.{form_equations, equations_by}
+use Rattle.arith_rules.specs.Instances.{form_equations, equations_of}
 
 module _ (P : Atom → Type 0) (closed : IsClosed P) where
   each-within : (a : OrdInt) (low high : ℤ) → EachStep P a.steps → EachOfPairs P (within a low high)
@@ -181,7 +181,7 @@ module _ (P : Atom → Type 0) (closed : IsClosed P) where
   each-form (DivMod a b q r) each = each-div_mod a b q r each.1.0 each.1.1.1.0 each.1.1.1.1.0
   each-form (Lex r strict front back) each = tt
 
-  pub each-equations : (core : Core) → EachAtom P core → (rule : Rule) → EachOfPairs P (equations_by core rule)
+  pub each-equations : (core : Core) → EachAtom P core → (rule : Rule) → EachOfPairs P (equations_of core rule)
   each-equations core each Order = tt
   each-equations core each Form = each-form core each
   each-equations core each Table = tt

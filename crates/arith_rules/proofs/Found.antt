@@ -13,18 +13,18 @@ use Rattle.core_forms.proofs.EachLaws.{each_below}
 use Rattle.rule_base.specs.Pairs.{IsClosed}
 use Rattle.rule_base.specs.Found.{IsImplied}
 use Rattle.rule_base.proofs.FoundLaws as laws
-use Rattle.arith_rules.specs.Instances.{equations_by, found_at, is_instance_of}
+use Rattle.arith_rules.specs.Instances.{equations_of, found_at, is_instance_of}
 use Rattle.arith_rules.proofs.Sound.{equations-equal}
 use Rattle.arith_rules.proofs.EachRows.{each-equations}
 
 pub instance-implied : (core : Core) (e : Equation) → IsWellFormed core → is_instance_of core e ≡ true → IsImplied core e
-instance-implied core e well is = laws.instance-implied (equations_by core) core (λ σ rule met. equations-equal core σ rule well met) e is
+instance-implied core e well is = laws.instance-implied (equations_of core) core (λ σ rule met. equations-equal core σ rule well met) e is
 
 pub found-implied : (core : Core) (o : Option Equation) → IsWellFormed core → o ≡ found_at core → IfSome o (IsImplied core)
-found-implied core o well is = laws.found-implied (equations_by core) core (λ σ rule met. equations-equal core σ rule well met) o is
+found-implied core o well is = laws.found-implied (equations_of core) core (λ σ rule met. equations-equal core σ rule well met) o is
 
 pub instance-each : (P : Atom → Type 0) (core : Core) (e : Equation) → IsClosed P → EachAtom P core → is_instance_of core e ≡ true → P e.a × P e.b
-instance-each P core e closed each is = laws.instance-each (equations_by core) P (each-equations P closed core each) e is
+instance-each P core e closed each is = laws.instance-each (equations_of core) P (each-equations P closed core each) e is
 
 below-closed : (n : ℕ) → IsClosed (AtomBelow n)
 below-closed n = record { truth = tt; falsehood = tt; negation = AtomBelow-not_atom n }

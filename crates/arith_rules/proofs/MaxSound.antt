@@ -1,5 +1,5 @@
 -- The equations of a greatest member hold where it is met.
-use Rattle.std.proofs.Common.{◌≡◌, ℕ, zero, suc, ◌+◌, ◌≤◌, ◌<◌, ◌==◌, Bool, true, false, ◌&&◌, ◌||◌, cond, List, [], ◌∷◌, ◌++◌, map, append_assoc, ℤ, pos, ◌+ℤ◌, ◌≤ℤ◌, ◌<ℤ◌, refl, sym, ap, subst, ◌∙◌, arith}
+use Rattle.std.proofs.Common.{◌≡◌, ℕ, ◌+◌, ◌≤◌, ◌==◌, Bool, true, false, ◌&&◌, ◌||◌, cond, List, [], ◌∷◌, ◌++◌, map, append_assoc, ℤ, pos, ◌+ℤ◌, ◌≤ℤ◌, ◌<ℤ◌, refl, sym, ap, subst, ◌∙◌, arith}
 use Rattle.std.specs.Prelude.{int_le, nat_le, filter, IsTrue}
 use Rattle.std.specs.Ordering.{int_eq}
 use Rattle.std.proofs.lemmas.Int.{ints}
@@ -15,7 +15,6 @@ use Rattle.order_ints.proofs.Gains.{low-le, high-ge}
 use Rattle.order_ints.proofs.Comparisons.{int_le-true, int_le-false, by_int_le}
 use Rattle.core_forms.specs.Values.{all_ordered, values, all_at_most, is_greatest}
 use Rattle.rule_base.specs.Pairs.{only_if, AreEqual}
-use Rattle.rule_base.specs.Stated.{at_least, is_below}
 use Rattle.rule_base.proofs.PairLaws.{AreEqual-append, AreEqual-only_if}
 use Rattle.rule_base.proofs.StatedLaws.{at_of-reached, at_of-passed}
 use Rattle.arith_rules.specs.Links.{alike_where}
@@ -96,9 +95,13 @@ module _ (σ : Valuation) (c : OrdInt) where
   ranges-equal [] oc order most = tt
   ranges-equal (a ∷ xs) oc order most =
       let oa : IsOrdered σ a = and-left (in_order σ a.steps) (all_ordered σ xs) order in
-      let le = le-true (value_of σ a) (value_of σ c) (and-left (int_le (value_of σ a) (value_of σ c)) (all_at_most (value_of σ c) (values σ xs)) most) in
-      (at_of-reached σ c (low_of a) oc (omega (arith, ints, le, low-le σ a)), (at_of-passed σ a (high_of c +ℤ pos 1) oa (omega (arith, ints, le, high-ge σ c)),
-      ranges-equal xs oc (and-right (in_order σ a.steps) (all_ordered σ xs) order) (and-right (int_le (value_of σ a) (value_of σ c)) (all_at_most (value_of σ c) (values σ xs)) most)))
+      let le = le-true (value_of σ a) (value_of σ c) (and-left (int_le (value_of σ a) (value_of σ c)) (all_at_most (value_of σ c) (values σ xs)) most) in (
+        at_of-reached σ c (low_of a) oc (omega (arith, ints, le, low-le σ a)),
+        (
+          at_of-passed σ a (high_of c +ℤ pos 1) oa (omega (arith, ints, le, high-ge σ c)),
+          ranges-equal xs oc (and-right (in_order σ a.steps) (all_ordered σ xs) order) (and-right (int_le (value_of σ a) (value_of σ c)) (all_at_most (value_of σ c) (values σ xs)) most),
+        ),
+      )
 
   top-equal : (xs : List OrdInt) → IsOrdered σ c → is_among (value_of σ c) (values σ xs) ≡ true → AreEqual σ (top_equations c xs)
   top-equal [] oc among = tt
@@ -166,9 +169,9 @@ module _ (σ : Valuation) (c : OrdInt) where
       let oa : IsOrdered σ a = and-left (in_order σ a.steps) (all_ordered σ ys) order in
       let le = le-true (value_of σ a) (value_of σ c) (and-left (int_le (value_of σ a) (value_of σ c)) (all_at_most (value_of σ c) (values σ ys)) most) in
       let whole : is_sole all (high_of a) ≡ true → (v : ℤ) → is_sole all v ≡ true → int_le v (value_of σ c) ≡ int_le v (value_of σ a) =
-        λ leads v sole. linked-test xs ys a le (subst (λ (zs : List OrdInt). is_among (value_of σ c) (values σ zs) ≡ true) (sym parts) among)
-        (subst (λ (zs : List OrdInt). reaching (high_of a) zs ≤ 1) (sym parts) (at-most (reaching (high_of a) all) 1 leads)) v
-        (subst (λ (zs : List OrdInt). reaching v zs ≤ 1) (sym parts) (at-most (reaching v all) 1 sole)) in
+      λ leads v sole. linked-test xs ys a le (subst (λ (zs : List OrdInt). is_among (value_of σ c) (values σ zs) ≡ true) (sym parts) among)
+      (subst (λ (zs : List OrdInt). reaching (high_of a) zs ≤ 1) (sym parts) (at-most (reaching (high_of a) all) 1 leads)) v
+      (subst (λ (zs : List OrdInt). reaching v zs ≤ 1) (sym parts) (at-most (reaching v all) 1 sole)) in
       AreEqual-append σ (only_if (is_sole all (high_of a)) (linked_equations c a all)) (leader_equations c all ys)
       (AreEqual-only_if σ (is_sole all (high_of a)) (linked_equations c a all) (λ leads.
       AreEqual-append σ (alike_where (is_sole all) c a) (alike_where (is_sole all) a c)

@@ -1,14 +1,12 @@
 -- The equations of products and divisions hold where these are met.
-use Rattle.std.proofs.Common.{◌≡◌, Bool, true, false, not, ◌&&◌, List, [], ◌∷◌, ◌++◌, map, ℤ, pos, negsuc, neg_ℤ, ◌+ℤ◌, ◌*ℤ◌, ◌≤ℤ◌, ◌<ℤ◌, refl, sym, ap, subst, ◌∙◌, arith}
+use Rattle.std.proofs.Common.{◌≡◌, Bool, true, false, not, ◌&&◌, [], ◌∷◌, ◌++◌, ℤ, pos, negsuc, neg_ℤ, ◌+ℤ◌, ◌*ℤ◌, ◌≤ℤ◌, ◌<ℤ◌, refl, sym, ap, subst, ◌∙◌, arith}
 use Rattle.std.specs.Prelude.{int_le, int_lt}
 use Rattle.std.proofs.Math.IntN.{zero-*ℤ, *ℤ_comm}
 use Rattle.std.proofs.lemmas.Int.{ints, by_lt_z}
-use Rattle.order_ints.specs.declared.atom.Atom.{Atom}
 use Rattle.order_ints.specs.declared.order_int.OrdInt.{OrdInt}
-use Rattle.order_ints.specs.Truth.{Valuation, atom_truth, not_atom}
+use Rattle.order_ints.specs.Truth.{Valuation}
 use Rattle.order_ints.specs.OrderValue.{value_of, IsOrdered}
 use Rattle.order_ints.specs.OrderRange.{low_of, high_of}
-use Rattle.order_ints.specs.OrderLevels.{values_of, at_of}
 use Rattle.order_ints.proofs.Gains.{low-le, high-ge}
 use Rattle.order_ints.proofs.Comparisons.{int_le-true, le_from_test}
 use Rattle.order_ints.proofs.Multiples.{pos-*ℤ-neg}
@@ -73,15 +71,16 @@ module _ (σ : Valuation) where
       let product : (value_of σ a *ℤ value_of σ b) ≤ℤ high_of c = subst (λ z. z ≤ℤ high_of c) (sym is) (high-ge σ c) in
       let least : low_of c ≤ℤ (value_of σ a *ℤ value_of σ b) = subst (λ z. low_of c ≤ℤ z) (sym is) (low-le σ c) in
       let under : (low_of b *ℤ value_of σ a) ≤ℤ high_of c =
-        le-le (low_of b *ℤ value_of σ a) (value_of σ a *ℤ value_of σ b) (high_of c)
-        (subst (λ z. z ≤ℤ (value_of σ a *ℤ value_of σ b)) (*ℤ_comm (value_of σ a) (low_of b)) (times-up (value_of σ a) (low_of b) (value_of σ b) va (low-le σ b))) product in
+      le-le (low_of b *ℤ value_of σ a) (value_of σ a *ℤ value_of σ b) (high_of c)
+      (subst (λ z. z ≤ℤ (value_of σ a *ℤ value_of σ b)) (*ℤ_comm (value_of σ a) (low_of b)) (times-up (value_of σ a) (low_of b) (value_of σ b) va (low-le σ b))) product in
       let over : low_of c ≤ℤ (high_of b *ℤ value_of σ a) =
-        le-le (low_of c) (value_of σ a *ℤ value_of σ b) (high_of b *ℤ value_of σ a) least
-        (subst (λ z. (value_of σ a *ℤ value_of σ b) ≤ℤ z) (*ℤ_comm (value_of σ a) (high_of b)) (times-up (value_of σ a) (value_of σ b) (high_of b) va (high-ge σ b))) in
+      le-le (low_of c) (value_of σ a *ℤ value_of σ b) (high_of b *ℤ value_of σ a) least
+      (subst (λ z. (value_of σ a *ℤ value_of σ b) ≤ℤ z) (*ℤ_comm (value_of σ a) (high_of b)) (times-up (value_of σ a) (value_of σ b) (high_of b) va (high-ge σ b))) in
       let most = le_from_test (value_of σ a) (floor_of (high_of c) (low_of b)) (floor-test (high_of c) (value_of σ a) (low_of b) lb ∙ int_le-true (low_of b *ℤ value_of σ a) (high_of c) under) in
-      let from = le_from_test (ceiling_of (low_of c) (high_of b)) (value_of σ a) (ceiling-test (low_of c) (value_of σ a) (high_of b) hb ∙ int_le-true (low_of c) (high_of b *ℤ value_of σ a) over) in
-      (at_of-passed σ a (floor_of (high_of c) (low_of b) +ℤ pos 1) oa (next-above (value_of σ a) (floor_of (high_of c) (low_of b)) most),
-      (at_of-reached σ a (ceiling_of (low_of c) (high_of b)) oa from, tt)))
+      let from = le_from_test (ceiling_of (low_of c) (high_of b)) (value_of σ a) (ceiling-test (low_of c) (value_of σ a) (high_of b) hb ∙ int_le-true (low_of c) (high_of b *ℤ value_of σ a) over) in (
+        at_of-passed σ a (floor_of (high_of c) (low_of b) +ℤ pos 1) oa (next-above (value_of σ a) (floor_of (high_of c) (low_of b)) most),
+        (at_of-reached σ a (ceiling_of (low_of c) (high_of b)) oa from, tt),
+      ))
     where
       next-above : (v w : ℤ) → v ≤ℤ w → v <ℤ (w +ℤ pos 1)
       next-above v w le = omega (arith, ints, le)
@@ -171,13 +170,13 @@ module _ (σ : Valuation) where
         (λ lt. absurd (
         let next = value_of σ q +ℤ pos 1 in
         let times : (high_of b *ℤ next) ≤ℤ low_of a =
-          le-le (high_of b *ℤ next) (high_of b *ℤ floor_of (low_of a) (high_of b)) (low_of a)
-          (times-up (high_of b) next (floor_of (low_of a) (high_of b)) (one-zero (high_of b) hb) (omega (arith, ints, lt))) (floor-low (low_of a) (high_of b) hb) in
+        le-le (high_of b *ℤ next) (high_of b *ℤ floor_of (low_of a) (high_of b)) (low_of a)
+        (times-up (high_of b) next (floor_of (low_of a) (high_of b)) (one-zero (high_of b) hb) (omega (arith, ints, lt))) (floor-low (low_of a) (high_of b) hb) in
         let wider : (value_of σ b *ℤ next) ≤ℤ (high_of b *ℤ next) =
-          subst (λ z. z ≤ℤ (high_of b *ℤ next)) (*ℤ_comm next (value_of σ b)) (subst (λ z. (next *ℤ value_of σ b) ≤ℤ z) (*ℤ_comm next (high_of b))
-          (times-up next (value_of σ b) (high_of b) (omega (arith, ints, vq)) (high-ge σ b))) in
+        subst (λ z. z ≤ℤ (high_of b *ℤ next)) (*ℤ_comm next (value_of σ b)) (subst (λ z. (next *ℤ value_of σ b) ≤ℤ z) (*ℤ_comm next (high_of b))
+        (times-up next (value_of σ b) (high_of b) (omega (arith, ints, vq)) (high-ge σ b))) in
         let above : value_of σ a <ℤ (value_of σ b *ℤ next) =
-          next-product (value_of σ b *ℤ value_of σ q) (value_of σ b *ℤ next) (value_of σ b) (value_of σ a) (value_of σ r) is to (times-next (value_of σ b) (value_of σ q) vb) in
+        next-product (value_of σ b *ℤ value_of σ q) (value_of σ b *ℤ next) (value_of σ b) (value_of σ a) (value_of σ r) is to (times-next (value_of σ b) (value_of σ q) vb) in
         not-both (high_of b *ℤ next) (low_of a) times (less-than (low_of a) (value_of σ a) (value_of σ b *ℤ next) (high_of b *ℤ next) (low-le σ a) above wider)))
         (λ le. le)
 
@@ -185,9 +184,13 @@ module _ (σ : Valuation) where
     quotient-equal =
         let product = zero-product (value_of σ b) (value_of σ q) (one-zero (value_of σ b) vb) vq in
         AreEqual-append σ (within q (floor_of (low_of a) (high_of b)) (floor_of (high_of a) (low_of b))) (at_least r (pos 0) ∷ is_below r (high_of b) ∷ is_below r (high_of a +ℤ pos 1) ∷ [])
-        (within-equal σ q (floor_of (low_of a) (high_of b)) (floor_of (high_of a) (low_of b)) oq quotient-least quotient-most)
-        (at_of-reached σ r (pos 0) or from, (at_of-passed σ r (high_of b) or (below-high (value_of σ r) (value_of σ b) (high_of b) to (high-ge σ b)),
-        (at_of-passed σ r (high_of a +ℤ pos 1) or (rest-most (value_of σ b *ℤ value_of σ q) (value_of σ a) (value_of σ r) (high_of a) is product (high-ge σ a)), tt)))
+        (within-equal σ q (floor_of (low_of a) (high_of b)) (floor_of (high_of a) (low_of b)) oq quotient-least quotient-most) (
+          at_of-reached σ r (pos 0) or from,
+          (
+            at_of-passed σ r (high_of b) or (below-high (value_of σ r) (value_of σ b) (high_of b) to (high-ge σ b)),
+            (at_of-passed σ r (high_of a +ℤ pos 1) or (rest-most (value_of σ b *ℤ value_of σ q) (value_of σ a) (value_of σ r) (high_of a) is product (high-ge σ a)), tt),
+          ),
+        )
       where
         below-high : (v w x : ℤ) → v <ℤ w → w ≤ℤ x → v <ℤ x
         below-high v w x lt le = omega (arith, ints, lt, le)

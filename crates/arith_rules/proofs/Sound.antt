@@ -1,9 +1,8 @@
 -- Each equation that a rule states of a well formed core holds under each valuation that meets the core.
-use Rattle.std.proofs.Common.{◌≡◌, Bool, true, false, ◌&&◌, List, pos, ◌+ℤ◌, ◌*ℤ◌, ◌≤ℤ◌, ◌<ℤ◌, ℤ, refl, ap, ◌∙◌, arith}
+use Rattle.std.proofs.Common.{◌≡◌, Bool, true, false, ◌&&◌, pos, ◌+ℤ◌, ◌*ℤ◌, ◌≤ℤ◌, ◌<ℤ◌, ℤ, refl, arith}
 use Rattle.std.specs.Prelude.{int_le, int_lt}
 use Rattle.std.specs.Ordering.{int_eq}
 use Rattle.std.proofs.lemmas.Int.{ints}
-use Rattle.order_ints.specs.declared.atom.Atom.{Atom}
 use Rattle.order_ints.specs.declared.order_int.OrdInt.{OrdInt}
 use Rattle.order_ints.specs.Truth.{Valuation}
 use Rattle.order_ints.specs.OrderValue.{value_of}
@@ -16,7 +15,7 @@ use Rattle.core_forms.specs.Values.{all_ordered, values, total, is_greatest}
 use Rattle.core_forms.specs.WellFormed.{IsWellFormed}
 use Rattle.core_forms.specs.Meaning.{ordered, is_division, Meets}
 use Rattle.rule_base.specs.Pairs.{AreEqual}
-use Rattle.arith_rules.specs.Instances.{form_equations, equations_by}
+use Rattle.arith_rules.specs.Instances.{form_equations, equations_of}
 use Rattle.arith_rules.proofs.SumSound.{sum3-equal, count-equal, sum-equal}
 use Rattle.arith_rules.proofs.MaxSound.{max-equal}
 use Rattle.arith_rules.proofs.ProductSound.{prod-equal, div_mod-equal}
@@ -99,7 +98,7 @@ form-equal σ (Prod a b c) well met =
 form-equal σ (DivMod a b q r) well met = division-equal σ a b q r well met
 form-equal σ (Lex r strict front back) well met = tt
 
-pub equations-equal : (core : Core) (σ : Valuation) (rule : Rule) → IsWellFormed core → Meets σ core → AreEqual σ (equations_by core rule)
+pub equations-equal : (core : Core) (σ : Valuation) (rule : Rule) → IsWellFormed core → Meets σ core → AreEqual σ (equations_of core rule)
 equations-equal core σ Order well met = tt
 equations-equal core σ Form well met = form-equal σ core well met
 equations-equal core σ Table well met = tt

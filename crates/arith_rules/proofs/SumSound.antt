@@ -1,18 +1,15 @@
 -- The equations of sums and counts hold where these are met.
-use Rattle.std.proofs.Common.{◌≡◌, ℕ, zero, suc, ◌+◌, ◌≤◌, Bool, true, false, not, ◌&&◌, cond, List, [], ◌∷◌, ◌++◌, map, length, ℤ, pos, ◌+ℤ◌, ◌-ℤ◌, ◌≤ℤ◌, ◌<ℤ◌, refl, sym, ap, ◌∙◌, arith}
+use Rattle.std.proofs.Common.{◌≡◌, suc, ◌≤◌, Bool, true, false, not, ◌&&◌, cond, List, [], ◌∷◌, ◌++◌, length, ℤ, pos, ◌+ℤ◌, ◌-ℤ◌, ◌≤ℤ◌, refl, arith}
 use Rattle.std.specs.Prelude.{int_le, IsTrue}
 use Rattle.std.specs.Ordering.{int_eq}
 use Rattle.std.proofs.lemmas.Int.{ints}
 use Rattle.order_ints.specs.declared.atom.Atom.{Atom}
 use Rattle.order_ints.specs.declared.atom.Atom.TheVariants.{True, False}
 use Rattle.order_ints.specs.declared.order_int.OrdInt.{OrdInt}
-use Rattle.order_ints.specs.Truth.{Valuation, atom_truth, not_atom}
+use Rattle.order_ints.specs.Truth.{Valuation, atom_truth}
 use Rattle.order_ints.specs.OrderValue.{value_of, in_order, IsOrdered}
 use Rattle.order_ints.specs.OrderRange.{low_of, high_of}
-use Rattle.order_ints.specs.OrderLevels.{values_of, at_of}
 use Rattle.order_ints.proofs.Gains.{low-le, high-ge}
-use Rattle.order_ints.proofs.Truths.{atom_truth-not_atom}
-use Rattle.order_ints.proofs.Reaching.{atom_truth-at_of}
 use Rattle.core_forms.specs.Truths.{all_true, true_count}
 use Rattle.core_forms.specs.Values.{all_ordered, values, total}
 use Rattle.rule_base.specs.Pairs.{only_if, AreEqual}

@@ -31,15 +31,15 @@ form_equations (DivMod a b q r) = div_mod_equations a b q r
 form_equations (Lex r strict front back) = []
 
 -- Order and Table state nothing here
-abbrev pub equations_by : Core → Rule → List (Atom × Atom)
-equations_by core Order = []
-equations_by core Form = form_equations core
-equations_by core Table = []
+abbrev pub equations_of : Core → Rule → List (Atom × Atom)
+equations_of core Order = []
+equations_of core Form = form_equations core
+equations_of core Table = []
 
 -- the first equation of two different atoms
 abbrev pub found_at : Core → Option Equation
-found_at core = found_by (equations_by core)
+found_at core = found_by (equations_of core)
 
 -- whether an equation is an instance at a core
 abbrev pub is_instance_of : Core → Equation → Bool
-is_instance_of core e = is_instance_by (equations_by core) e
+is_instance_of core e = is_instance_by (equations_of core) e

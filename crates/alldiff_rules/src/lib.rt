@@ -1,0 +1,2 @@
+//! Equations that all-different and lexicographic order imply.
+#![tactic(auto)]

@@ -1,3 +1,6 @@
 pub mod Pigeonhole
 pub mod Places
 pub mod Sound
+pub mod Shown
+pub mod Atoms
+pub mod Tables

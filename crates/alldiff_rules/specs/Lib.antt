@@ -1,3 +1,4 @@
 pub mod Members
+pub mod Table
 pub mod Rows
 pub mod Instances

@@ -27,6 +27,14 @@ AreAllSure cs = EachOf (λ c. c ≡ True) cs
 abbrev pub choice_of : ℤ → Atom → ℕ → OrdInt
 choice_of v p d = record { base = v; steps = (p, d) ∷ [] }
 
+-- the member at the place is sure, and is the constant v
+abbrev pub IsConstantAt : List OrdInt → List Atom → ℤ → ℕ → Type 0
+IsConstantAt ints cs v i = IsSure cs i × (int_at ints i ≡ constant_of v)
+
+-- it is sure, and has two values, v and the greater one by d
+abbrev pub IsChoiceAt : List OrdInt → List Atom → ℤ → ℕ → ℕ → Type 0
+IsChoiceAt ints cs v d i = IsSure cs i × ((p : Atom) × (int_at ints i ≡ choice_of v p d))
+
 -- the values of all members, one member after another
 abbrev pub all_values : List OrdInt → List ℤ
 all_values [] = []

@@ -1,2 +1,6 @@
 //! Equations that all-different and lexicographic order imply.
 #![tactic(auto)]
+
+pub mod laws;
+mod narrow;
+mod table;

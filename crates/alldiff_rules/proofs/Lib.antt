@@ -4,3 +4,5 @@ pub mod Sound
 pub mod Shown
 pub mod Atoms
 pub mod Tables
+pub mod Sounds
+pub mod Holders

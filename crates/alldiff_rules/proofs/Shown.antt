@@ -1,9 +1,10 @@
 -- The first three places: one more, and how many are others than a given one.
 use Rattle.std.proofs.Common.{◌≡◌, ℕ, zero, suc, ◌+◌, ◌≤◌, ◌<◌, Bool, true, false, cond, ◌⊎◌, inl, inr, refl, ap, sym, ◌∙◌, subst, arith, ⊎_elim, Option, None, Some}
-use Rattle.std.specs.Prelude.{◌==◌}
-use Rattle.std.proofs.lemmas.Bool.{eqb-true, eqb-false, eq-eqb, ne_eqb, cases_eq, cond-true, cond-false}
+use Rattle.std.specs.Prelude.{◌==◌, nat_le}
+use Rattle.std.proofs.lemmas.Bool.Decides.{nat_tests}
+use Rattle.std.proofs.lemmas.Bool.{false≢true, eqb-true, eqb-false, eq-eqb, ne_eqb, cases_eq, cond-true, cond-false}
 use Rattle.alldiff_rules.specs.declared.table.Places.{Places}
-use Rattle.alldiff_rules.specs.Table.{with_third, with_second, with_place, joined, other_than, number_other, ShowsThird, ShowsSecond, Shows}
+use Rattle.alldiff_rules.specs.Table.{with_third, with_second, with_place, joined, other_than, number_other, has_others, HasOther, HasTwoOthers, ShowsThird, ShowsSecond, Shows}
 
 module _ (P Q : ℕ → Type 0) (i : ℕ) (here : Q i) (more : (j : ℕ) → P j → Q j) (fewer : (j : ℕ) → Q j → P j ⊎ (j ≡ i)) where
   -- one place more
@@ -61,13 +62,6 @@ module _ (P Q : ℕ → Type 0) (more : (j : ℕ) → P j → Q j) (fewer : (j :
   pub same-shown : (o : Option Places) → Shows P o → Shows Q o
   same-shown None none = λ j q. none j (fewer j q)
   same-shown (Some h) shown = (more h.first shown.0, second-same h.first h.second h.third shown.1)
-
--- how many are others than k
-abbrev pub HasOther : (ℕ → Type 0) → ℕ → Type 0
-HasOther P k = (i : ℕ) × P i × (i ≡ k → ⊥)
-
-abbrev pub HasTwoOthers : (ℕ → Type 0) → ℕ → Type 0
-HasTwoOthers P k = (i : ℕ) × (j : ℕ) × P i × P j × (i ≡ j → ⊥) × (i ≡ k → ⊥) × (j ≡ k → ⊥)
 
 -- whether a place is k, and what it counts
 counted : (k i : ℕ) → ((i ≡ k) × (other_than k (Some i) ≡ 0)) ⊎ ((i ≡ k → ⊥) × (other_than k (Some i) ≡ 1))
@@ -136,3 +130,27 @@ module _ (P : ℕ → Type 0) (k : ℕ) where
       by (Some s) (Some t) is (inr a) = ⊎_elim
           (λ (b : (s ≡ k) × (other_than k (Some s) ≡ 0)). ⊎_elim (λ (d : (t ≡ k) × (other_than k (Some t) ≡ 0)). absurd (is.2.2 (d.0 ∙ sym b.0))) (λ (d : (t ≡ k → ⊥) × (other_than k (Some t) ≡ 1)). omega (arith, a.1, d.1)) (counted k t))
           (λ (b : (s ≡ k → ⊥) × (other_than k (Some s) ≡ 1)). omega (arith, a.1, b.1)) (counted k s)
+
+-- the tests of them
+leb-true : (m n : ℕ) → nat_le m n ≡ true → m ≤ n
+leb-true m n e = grind (arith, nat_tests)
+
+true-leb : (m n : ℕ) → m ≤ n → nat_le m n ≡ true
+true-leb m n h = grind (arith, nat_tests)
+
+module _ (P : ℕ → Type 0) (k : ℕ) where
+  pub one-told : (o : Option Places) → Shows P o → has_others 1 k o ≡ true → HasOther P k
+  one-told None shown e = absurd (false≢true e)
+  one-told (Some h) shown e = other-shown P k h shown (leb-true 1 (number_other k h) e)
+
+  pub told-one : (o : Option Places) → Shows P o → HasOther P k → has_others 1 k o ≡ true
+  told-one None shown other = absurd (shown other.0 other.1)
+  told-one (Some h) shown other = true-leb 1 (number_other k h) (shown-other P k h shown other)
+
+  pub two-told : (o : Option Places) → Shows P o → has_others 2 k o ≡ true → HasTwoOthers P k
+  two-told None shown e = absurd (false≢true e)
+  two-told (Some h) shown e = two-shown P k h shown (leb-true 2 (number_other k h) e)
+
+  pub told-two : (o : Option Places) → Shows P o → HasTwoOthers P k → has_others 2 k o ≡ true
+  told-two None shown two = absurd (shown two.0 two.2)
+  told-two (Some h) shown two = true-leb 2 (number_other k h) (shown-two P k h shown two)

@@ -3,9 +3,9 @@ use Rattle.std.proofs.Common.{◌≡◌, ℕ, ◌+◌, ◌≤◌, ◌<◌, Bool,
 use Rattle.std.specs.declared.cmp.Ordering.{Ordering}
 use Rattle.std.specs.declared.cmp.Ordering.TheVariants.{Less, Equal, Greater}
 use Rattle.std.specs.BTreeMap.{BTreeMap, get, Updates, IsEmpty}
-use Rattle.std.specs.Ordering.{int_cmp, nat_cmp, is_eq}
+use Rattle.std.specs.Ordering.{int_cmp, nat_cmp, ordering_then, is_eq}
 use Rattle.std.proofs.lemmas.Bool.{false≢true, cases_Bool, cases_lt}
-use Rattle.std.proofs.lemmas.Cmp.{tied_itself, int_cmp_total}
+use Rattle.std.proofs.lemmas.Cmp.{tied_itself, int_cmp_total, nat_cmp_total}
 use Rattle.std.proofs.lemmas.Map.Lookups.{CmpEqualImpliesEq, exact_signed, exact_unsigned, exact_pairs}
 use Rattle.alldiff_rules.specs.declared.table.Places.{Places}
 use Rattle.alldiff_rules.specs.Table.{pair_cmp, joined, Shows}
@@ -45,3 +45,6 @@ module _ {K : Type 0} (R : K → K → Ordering) (exact : CmpEqualImpliesEq R) (
     where
       fewer : (i : ℕ) → (i < k + 1) × P v i → (i < k) × P v i
       fewer i q = ⊎_elim (λ (lt : i < k). (lt, q.1)) (λ (le : k ≤ i). let e : i ≡ k = omega (arith, le, q.0) in absurd (none v (subst (P v) e q.1))) (cases_lt i k)
+
+pub tied_choice : (key : ℤ × ℕ) → pair_cmp key key ≡ Equal
+tied_choice key = ap (λ (o : Ordering). ordering_then o (nat_cmp key.1 key.1)) (tied_itself int_cmp_total key.0) ∙ tied_itself nat_cmp_total key.1

@@ -1,5 +1,5 @@
 -- The first three places at which something stands.
-use Rattle.std.specs.Prelude.{◌≡◌, ◌≢◌, ◌⊎◌, ◌==◌, ℕ, ◌+◌, ℤ, Option, None, Some, if◌then◌else◌}
+use Rattle.std.specs.Prelude.{◌≡◌, ◌≢◌, ◌⊎◌, ◌==◌, ℕ, ◌+◌, nat_le, Bool, false, ℤ, Option, None, Some, if◌then◌else◌}
 use Rattle.std.specs.declared.cmp.Ordering.{Ordering}
 use Rattle.std.specs.Ordering.{int_cmp, nat_cmp, ordering_then}
 use Rattle.alldiff_rules.specs.declared.table.Places.{Places}
@@ -37,6 +37,18 @@ other_than k (Some i) = if i == k then 0 else 1
 -- how many of them are others than k
 abbrev pub number_other : ℕ → Places → ℕ
 number_other k h = other_than k (Some h.first) + other_than k h.second + other_than k h.third
+
+-- there are at least n others than k
+abbrev pub has_others : ℕ → ℕ → Option Places → Bool
+has_others n k None = false
+has_others n k (Some h) = nat_le n (number_other k h)
+
+-- something holds of another place than k, or of two
+abbrev pub HasOther : (ℕ → Type 0) → ℕ → Type 0
+HasOther P k = (i : ℕ) × P i × (i ≢ k)
+
+abbrev pub HasTwoOthers : (ℕ → Type 0) → ℕ → Type 0
+HasTwoOthers P k = (i : ℕ) × (j : ℕ) × P i × P j × (i ≢ j) × (i ≢ k) × (j ≢ k)
 
 -- the first three of the places of which something holds: where there are fewer, all of them
 abbrev pub ShowsThird : (ℕ → Type 0) → ℕ → ℕ → Option ℕ → Type 0

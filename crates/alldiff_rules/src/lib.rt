@@ -3,4 +3,5 @@
 
 pub mod laws;
 mod narrow;
+mod order;
 mod table;

@@ -3,7 +3,7 @@
 ghost use Rattle.std.specs.Prelude.{◌≡◌, Some, OnOk};
 ghost use Rattle.std.specs.BTreeMap.{get, Updates};
 ghost use Rattle.std.specs.Ordering.{int_cmp};
-ghost use Rattle.alldiff_rules.specs.Table.{pair_cmp, with_place, joined, number_other, other_than};
+ghost use Rattle.alldiff_rules.specs.Table.{pair_cmp, with_place, joined, number_other, other_than, has_others};
 
 use std::alloc::AllocError;
 use std::collections::BTreeMap;
@@ -60,6 +60,16 @@ impl Places {
     }
 }
 
+/// Whether there are so many others than a place.
+pub(crate) fn has_others(count: usize, place: usize, found: Option<Places>) -> bool
+    ensures { result ≡ has_others count place found }
+{
+    match found {
+        Some(places) => count <= places.others(place),
+        None => false,
+    }
+}
+
 /// A place more than those that were there.
 fn joined(places: Option<Places>, place: usize) -> Places
     ensures { result ≡ joined places place }
@@ -72,6 +82,13 @@ fn joined(places: Option<Places>, place: usize) -> Places
             third: None,
         },
     }
+}
+
+/// The places of a value.
+pub(crate) fn found(table: &BTreeMap<i128, Places>, value: i128) -> Option<Places>
+    ensures { result ≡ get int_cmp table.now value }
+{
+    table.get(&value).copied()
 }
 
 /// Puts a place behind those of a value.

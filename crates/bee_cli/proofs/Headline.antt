@@ -13,6 +13,7 @@ use Rattle.typed_model.specs.WellTyped.{WellTyped}
 use Rattle.typed_model.specs.Solutions.{IsSolution}
 use Rattle.typed_model.proofs.ModelShares.{WellTyped-model_of}
 use Rattle.typed_model.proofs.ModelLimits.{InLimits-model_of}
+use Rattle.typed_model.proofs.TextSizes.{text-size}
 use Rattle.model_lower.specs.Built.{first_unbuilt_of}
 use Rattle.bee_compile.specs.Compiled.{compiled_of}
 use Rattle.bee_compile.proofs.Compilation.{compilation}
@@ -24,14 +25,14 @@ use Rattle.bee_cli.specs.CompileMode.{longest_text, IsHeadline}
 use Rattle.bee_cli.proofs.MapLines.{same_assignment, same_names, entries_below}
 use Rattle.bee_cli.proofs.Names.{items_limit, names_from, are_declared}
 
--- a model that a text says is well typed, and its numbers are in the limit
+-- a model that a text within the limit says is well typed, and its numbers and lists are in their limits
 pub typed : (text : List ℕ) (m : Model) → IsModelOf text m → WellTyped m
 typed text m says = subst (λ (n : Model). WellTyped n) (sym says.model_is) (WellTyped-model_of says.syntax.items says.no_fault)
 
-pub limited : (text : List ℕ) (m : Model) → IsModelOf text m → InLimits m
-limited text m says =
+pub limited : (text : List ℕ) (m : Model) → length text ≤ longest_text → IsModelOf text m → InLimits m
+limited text m short says =
     subst (λ (n : Model). InLimits n) (sym says.model_is)
-    (InLimits-model_of says.syntax.items (items_limit says.syntax.items (text_is_spellable_lem text says.syntax says.spelled)))
+    (InLimits-model_of says.syntax.items (items_limit says.syntax.items (text_is_spellable_lem text says.syntax says.spelled)) (omega (arith, text-size text says.syntax says.spelled, short)))
 
 -- its names may be written
 names : (text : List ℕ) (m : Model) → IsModelOf text m → AreDeclared (map (λ (d : Decl). d.name) m.decls)
@@ -42,10 +43,10 @@ names text m says =
     subst (λ (n : Model). AreDeclared (map (λ (d : Decl). d.name) n.decls)) (sym says.model_is) (are_declared 1 (model_of says.syntax.items).decls at fit)
 
 -- what it is compiled to can be written
-pub writable : (text : List ℕ) (m : Model) → IsModelOf text m → first_unbuilt_of m ≡ None → length (cnf_of_model m).clauses < 2 ^ 64
+pub writable : (text : List ℕ) (m : Model) → length text ≤ longest_text → IsModelOf text m → first_unbuilt_of m ≡ None → length (cnf_of_model m).clauses < 2 ^ 64
     → IsWritable (entries_of m.decls (compiled_of m).map.entries) (cnf_of_model m)
-writable text m says built count =
-    let well = compilation m (typed text m says) (limited text m says) built in
+writable text m short says built count =
+    let well = compilation m (typed text m says) (limited text m short says) built in
     let fits = well.fits in
     record {
       names = subst AreDeclared (sym (same_names _ m.decls (compiled_of m).map.entries fits.entries)) (names text m says);
@@ -56,16 +57,16 @@ writable text m says built count =
     }
 
 pub headline : (text written : List ℕ) → length text ≤ longest_text → Compiles text written → IsHeadline text written
-headline text written w c = record {
-  within = w;
+headline text written short c = record {
+  within = short;
   compiled = c;
   solutions = λ a.
       let m = c.model in
-      let well = compilation m (typed text m c.says) (limited text m c.says) c.built in
+      let well = compilation m (typed text m c.says) (limited text m short c.says) c.built in
       let entries = entries_of m.decls (compiled_of m).map.entries in
       let same : (σ : Valuation) → assignment_of σ entries ≡ numbers_of σ (compiled_of m).map.entries =
       λ σ. same_assignment σ _ m.decls (compiled_of m).map.entries well.fits.entries in
-      let s = stands_for_exactly entries (cnf_of_model m) a (writable text m c.says c.built c.fits) in
+      let s = stands_for_exactly entries (cnf_of_model m) a (writable text m short c.says c.built c.fits) in
       let P : List ℕ → Type 0 = λ t. StandsFor t a ↔ IsSolution m a in
       subst P (sym c.writes) (
         λ x. let g = s.0 x in (well.solutions a).1 (g.0, g.1, g.2 ∙ same g.0),

@@ -16,7 +16,7 @@ use Rattle.typed_model.specs.declared.statement.Statement.{Statement}
 use Rattle.typed_model.specs.declared.statement.Statement.TheVariants as statement
 use Rattle.typed_model.specs.Names.{statement_of}
 use Rattle.typed_model.specs.Scope.{place_of, is_constant}
-use Rattle.typed_model.specs.Items.{name_in, declared_name, declared_as, declared_by, declared_if, declared, decls_from}
+use Rattle.typed_model.specs.Items.{name_in, declare_name, declare, declare_by, declare_if, declarations_of, decls_from}
 use Rattle.typed_model.specs.Limits.{TextTermInLimit, TextTermsInLimit, ArgInLimit, ArgsInLimit, ItemInLimit, ItemsInLimit}
 use Rattle.typed_model.specs.WellTyped.{IsFree, DeclsFit}
 
@@ -69,40 +69,26 @@ name_at (One (Number n) ∷ args) zero h = tt
 name_at (Many ts ∷ args) zero h = tt
 name_at (a ∷ args) (suc k) h = name_at args k h.1
 
-name_declared : (n : ℕ) (ds : List Decl) (name : List ℕ) (k : Kind) (b : Bool) → is_some (place_of name ds) ≡ b → is_name name ≡ true → AreNames (declared_name n ds name k)
+name_declared : (n : ℕ) (ds : List Decl) (name : List ℕ) (k : Kind) (b : Bool) → is_some (place_of name ds) ≡ b → is_name name ≡ true → AreNames (declare_name n ds name k)
 name_declared n ds name k true e h = search (rules, e)
 name_declared n ds name k false e h = search (rules, e, h)
 
-as_declared : (n : ℕ) (ds : List Decl) (name : Option (List ℕ)) (k : Kind) → NameIf name → AreNames (declared_as n ds name k)
+as_declared : (n : ℕ) (ds : List Decl) (name : Option (List ℕ)) (k : Kind) → NameIf name → AreNames (declare n ds name k)
 as_declared n ds None k h = tt
 as_declared n ds (Some name) k h = name_declared n ds name k (is_some (place_of name ds)) refl h
 
-by_declared : (n : ℕ) (ds : List Decl) (s : Statement) (args : List Arg) → AreSpellableArgs args → AreNames (declared_by n ds s args)
-unfolding declared_by
+by_declared : (n : ℕ) (ds : List Decl) (s : Statement) (args : List Arg) → AreSpellableArgs args → AreNames (declare_by n ds s args)
+unfolding declare_by
 by_declared n ds statement.NewBool args h = as_declared n ds (name_in (slice_get args 0)) kind.Bool (name_at args 0 h)
 by_declared n ds statement.NewInt args h = as_declared n ds (name_in (slice_get args 0)) _ (name_at args 0 h)
 by_declared n ds statement.BoolToInt args h = as_declared n ds (name_in (slice_get args 1)) _ (name_at args 1 h)
-by_declared n ds statement.BoolEq args h = tt
-by_declared n ds (statement.Pair op) args h = tt
-by_declared n ds (statement.Array op) args h = tt
-by_declared n ds (statement.ArrayTruth op) args h = tt
-by_declared n ds (statement.Compare rel) args h = tt
-by_declared n ds (statement.CompareTruth rel) args h = tt
-by_declared n ds (statement.Count rel) args h = tt
-by_declared n ds (statement.Weigh rel) args h = tt
-by_declared n ds (statement.Sum rel) args h = tt
-by_declared n ds (statement.Linear rel) args h = tt
-by_declared n ds (statement.Operation o) args h = tt
-by_declared n ds statement.Absolute args h = tt
-by_declared n ds (statement.Aggregate e) args h = tt
-by_declared n ds (statement.Differ d) args h = tt
-by_declared n ds (statement.Lex o) args h = tt
+by_declared n ds s args h = tt
 
-if_declared : (n : ℕ) (ds : List Decl) (s : Option Statement) (args : List Arg) → AreSpellableArgs args → AreNames (declared_if n ds s args)
+if_declared : (n : ℕ) (ds : List Decl) (s : Option Statement) (args : List Arg) → AreSpellableArgs args → AreNames (declare_if n ds s args)
 if_declared n ds None args h = tt
 if_declared n ds (Some s) args h = by_declared n ds s args h
 
-item_declared : (n : ℕ) (ds : List Decl) (i : Item) → IsSpellableItem i → AreNames (declared n ds i)
+item_declared : (n : ℕ) (ds : List Decl) (i : Item) → IsSpellableItem i → AreNames (declarations_of n ds i)
 item_declared n ds (Call name args) h = if_declared n ds (statement_of name) args h.3
 item_declared n ds (Goal k objective) h = tt
 
@@ -110,7 +96,7 @@ pub names_from : (n : ℕ) (ds : List Decl) (items : List Item) → AreNames ds 
 unfolding decls_from
 names_from n ds [] h s = h
 names_from n ds (i ∷ items) h s =
-    names_from (n + 1) (ds ++ declared n ds i) items (names_append ds (declared n ds i) h (item_declared n ds i s.0)) s.1
+    names_from (n + 1) (ds ++ declarations_of n ds i) items (names_append ds (declarations_of n ds i) h (item_declared n ds i s.0)) s.1
 
 -- a name that is none of the constants and is declared once may be written
 

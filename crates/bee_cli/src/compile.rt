@@ -1,6 +1,6 @@
 //! From the text of a model to its compiled text.
 
-ghost use Rattle.std.specs.Prelude.{◌≡◌, ◌≢◌, ◌<◌, ◌^◌, ◌++◌, ◌∷◌, [], List, length, IfOk, IfErr, OnOk, MatchResult, Ok, Err, None};
+ghost use Rattle.std.specs.Prelude.{◌≡◌, ◌≢◌, ◌<◌, ◌≤◌, ◌^◌, ◌++◌, ◌∷◌, [], List, length, IfOk, IfErr, OnOk, MatchResult, Ok, Err, None};
 ghost use Rattle.bumblebee_reader.specs.declared.syntax.Item.{Item};
 ghost use Rattle.bumblebee_reader.specs.Unread.{unread, whole_text};
 ghost use Rattle.typed_model.specs.Taken.{HasTaken};
@@ -8,6 +8,7 @@ ghost use Rattle.typed_model.specs.WellTyped.{WellTyped};
 ghost use Rattle.typed_model.specs.Limits.{InLimits};
 ghost use Rattle.model_lower.specs.Built.{first_unbuilt_of, IsFaultOf};
 ghost use Rattle.bee_cli.specs.Compiled.{text_of, cnf_of_model, IsModelOf, IsCauseOf, Compiles, text_fault_of, read_fault_of};
+ghost use Rattle.bee_cli.specs.CompileMode.{longest_text};
 
 use crate::entries::entries_of;
 use crate::status::ModelFault;
@@ -104,6 +105,7 @@ fn write_model(alloc: Global, model: Model) -> Result<Vec<u8>, LowerFault>
 
 /// The compiled text of the model that a text says.
 pub fn compile_text(alloc: Global, text: &[u8]) -> Result<Vec<u8>, TextFault>
+    requires { length text.now ≤ longest_text }
     ensures compiled { IfOk result (λ written. Compiles text.now written.items) }
     ensures fault { IfErr result (λ e. IsCauseOf e text.now) }
 {

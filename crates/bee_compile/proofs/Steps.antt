@@ -7,7 +7,7 @@ use Rattle.core_forms.specs.declared.form.Core.{Core}
 use Rattle.model_lower.specs.declared.state.Lowered.{Lowered}
 use Rattle.model_lower.specs.declared.fault.LowerFault.{LowerFault}
 use Rattle.model_lower.specs.declared.fault.LowerFault.TheVariants.{Unbuilt, Memory}
-use Rattle.model_lower.specs.Items.{Item, Declaration, Statement}
+use Rattle.model_lower.specs.Items.{ModelItem, Declaration, Statement}
 use Rattle.model_lower.specs.Lowering.{lowered_item, lowered_items}
 use Rattle.model_lower.specs.Built.{vars_after, unbuilt, first_unbuilt, IsFaultOf}
 use Rattle.model_lower.specs.Drafting.{emptied}
@@ -19,11 +19,11 @@ use Rattle.bee_compile.specs.Encoded.{encoded_core, encoded, each_ordered}
 use Rattle.bee_compile.specs.Progressed.{HasCompiled}
 
 -- an item adds the cores that it adds where there is none
-cores-apart : (l : Lowered) (i : Item) → (lowered_item l i).cores ≡ l.cores ++ (lowered_item (emptied l) i).cores
+cores-apart : (l : Lowered) (i : ModelItem) → (lowered_item l i).cores ≡ l.cores ++ (lowered_item (emptied l) i).cores
 cores-apart l (Declaration d) = refl
 cores-apart l (Statement s) = refl
 
-others-apart : (l : Lowered) (i : Item) → emptied (lowered_item (emptied l) i) ≡ emptied (lowered_item l i)
+others-apart : (l : Lowered) (i : ModelItem) → emptied (lowered_item (emptied l) i) ≡ emptied (lowered_item l i)
 others-apart l (Declaration d) = refl
 others-apart l (Statement s) = refl
 
@@ -34,7 +34,7 @@ fits-parts n (c ∷ cs) ds h =
     ((h.0, p.0), p.1)
 
 -- the cores so far fit where all fit
-pub fits-so-far : (n : ℕ) (l : Lowered) (items : List Item) → CoresFit n (lowered_items l items).cores → CoresFit n l.cores
+pub fits-so-far : (n : ℕ) (l : Lowered) (items : List ModelItem) → CoresFit n (lowered_items l items).cores → CoresFit n l.cores
 fits-so-far n l [] h = h
 fits-so-far n l (i ∷ items) h =
     (fits-parts n l.cores (lowered_item (emptied l) i).cores
@@ -46,7 +46,7 @@ encoded-append (c ∷ cs) ds =
     ap (λ es. encoded_core c ++ es) (encoded-append cs ds) ∙ sym (append_assoc (encoded_core c) (encoded cs) (encoded ds))
 
 -- the item is lowered behind those that are compiled
-module _ (l : Lowered) (i : Item) (old drafted : Lowered) (before : old ≡ emptied l) (next : drafted ≡ lowered_item old i) where
+module _ (l : Lowered) (i : ModelItem) (old drafted : Lowered) (before : old ≡ emptied l) (next : drafted ≡ lowered_item old i) where
   at-empty : drafted ≡ lowered_item (emptied l) i
   at-empty = next ∙ ap (λ (k : Lowered). lowered_item k i) before
 
@@ -66,13 +66,13 @@ module _ (l : Lowered) (i : Item) (old drafted : Lowered) (before : old ≡ empt
       ∙ ap each_ordered (sym (encoded-append l.cores (lowered_item (emptied l) i).cores) ∙ ap encoded (sym (cores-apart l i))))))
 
 -- what is compiled so far, and what the items that are left make of it
-pub record Compiling (p : Progress) (items : List Item) (all : Lowered) : Type 0 where
+pub record Compiling (p : Progress) (items : List ModelItem) (all : Lowered) : Type 0 where
   pub l : Lowered
   pub here : HasCompiled p l
   pub rest : lowered_items l items ≡ all
   pub built : first_unbuilt l.vars items ≡ None
 
-module _ (p : Progress) (i : Item) (items : List Item) (all : Lowered) (c : Compiling p (i ∷ items) all) where
+module _ (p : Progress) (i : ModelItem) (items : List ModelItem) (all : Lowered) (c : Compiling p (i ∷ items) all) where
   parts-built : (unbuilt c.l.vars i ≡ None) × (first_unbuilt (vars_after c.l.vars i) items ≡ None)
   parts-built = first_of-none (unbuilt c.l.vars i) (first_unbuilt (vars_after c.l.vars i) items) c.built
 

@@ -1,6 +1,6 @@
 -- A count that rose in one of several calls rose over all of them.
 use Rattle.std.proofs.Common.{ℕ, ◌≤◌, arith, inl, inr}
-use Rattle.bee_outside.specs.Faults.{Rose, next_count, last_count}
+use Rattle.bee_outside.specs.Faults.{Rose, next_count}
 
 -- the call comes later
 pub Rose-from_before : (a b c : ℕ) → a ≤ b → Rose b c → Rose a c

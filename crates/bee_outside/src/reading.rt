@@ -57,8 +57,7 @@ pub fn read_all<S: Shelf>(
         (TookPiece (S.left shelf.old name.now) (S.left shelf.new name.now) limit) }
 
     // A fault ends it: no call follows one that failed.
-    ensures counts_faults {
-        S.faults shelf.new name.now ≡ read_count result (S.faults shelf.old name.now) }
+    ensures counts_faults { S.faults shelf.new name.now ≡ read_count result (S.faults shelf.old name.now) }
 {
     let mut text = Vec::new(alloc);
     let mut buffer = match zeroed(alloc, PIECE) {
@@ -117,8 +116,7 @@ fn read_piece<S: Shelf>(
     ensures end { IfOk result (λ k. k ≡ 0 → NothingLeft (S.left shelf.new name.now)) }
     ensures fault_took_front { OnErr result (TookPiece (S.left shelf.old name.now)
         (S.left shelf.new name.now) (Some (length into.old))) }
-    ensures counts_faults {
-        S.faults shelf.new name.now ≡ read_count result (S.faults shelf.old name.now) }
+    ensures counts_faults { S.faults shelf.new name.now ≡ read_count result (S.faults shelf.old name.now) }
 {
     let taken = match shelf.next(name, into) {
         Ok(taken) => taken,

@@ -33,7 +33,10 @@ fn words_of_the_command(rt: HostRuntime) {
         ("bee compile m.bee --budget=-1", None),
         ("bee compile m.bee --budget=", None),
         ("bee compile m.bee --budget 1x", None),
-        ("bee compile m.bee --budget 9223372036854775807", Some("m.bee")),
+        (
+            "bee compile m.bee --budget 9223372036854775807",
+            Some("m.bee"),
+        ),
         ("bee compile m.bee --budget 99999999999999999999999", None),
         ("bee compile m.bee --budget 9223372036854775808", None),
         ("bee compile m.bee --budget 1 --budget 1", None),

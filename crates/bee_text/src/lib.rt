@@ -14,4 +14,3 @@ pub use lines::{Line, Lines};
 pub use number::{read_number, read_signed};
 pub use words::{Words, is_word, split_words};
 pub use write::{end_line, push_blank, push_bytes, push_number, push_signed};
-

@@ -11,8 +11,6 @@ mod numeral;
 mod print;
 mod read;
 mod syntax;
-#[cfg(test)]
-mod tests;
 mod tokens;
 mod words;
 

@@ -18,7 +18,7 @@ parity-bound (suc (suc zero)) = omega arith
 parity-bound (suc (suc (suc zero))) = omega arith
 parity-bound (suc (suc (suc (suc k)))) = omega (arith, parity-bound (suc (suc (suc k))))
 
-amo-bound : (k : ℕ) → cost_of_amo k ≤ 13 * k
+pub amo-bound : (k : ℕ) → 2 * cost_of_amo k ≤ 13 * k
 amo-bound zero = omega arith
 amo-bound (suc zero) = omega arith
 amo-bound (suc (suc zero)) = omega arith
@@ -32,21 +32,21 @@ parity-fits k h = omega (arith, parity-bound k)
 pub amo-fits : (k : ℕ) → FitsInMemory k → cost_of_amo k < 2 ^ 128
 amo-fits k h = omega (arith, amo-bound k)
 
-members-bound : (ns : List ℕ) → AllFitInMemory ns → cost_of_members ns ≤ length ns * 2 ^ 60
+members-bound : (ns : List ℕ) → AllFitInMemory ns → cost_of_members ns ≤ length ns * 2 ^ 62
 members-bound [] h = omega arith
 members-bound (n ∷ ns) h = omega (arith, ladder_lem n, h.0, members-bound ns h.1)
 
-all_diff-bound : (ns : List ℕ) → AllFitInMemory ns → cost_of_all_diff ns ≤ length ns * 2 ^ 63
+all_diff-bound : (ns : List ℕ) → AllFitInMemory ns → cost_of_all_diff ns ≤ length ns * 2 ^ 65
 all_diff-bound [] h = omega arith
 all_diff-bound (n ∷ ns) h = omega (arith, ladder_lem n, h.0, all_diff-bound ns h.1)
 
-lex-bound : (ps : List (ℕ × ℕ)) → PairsFitInMemory ps → cost_of_lex ps ≤ length ps * 2 ^ 63 + 1
+lex-bound : (ps : List (ℕ × ℕ)) → PairsFitInMemory ps → cost_of_lex ps ≤ length ps * 2 ^ 65 + 1
 lex-bound [] h = omega arith
 lex-bound (p ∷ []) h = omega (arith, ladder_lem p.0, ladder_lem p.1, h.0, h.1.0)
 lex-bound (p ∷ q ∷ ps) h = omega (arith, ladder_lem p.0, ladder_lem p.1, h.0, h.1.0, lex-bound (q ∷ ps) h.1.1)
 
-pub pairs-bound : (n m : ℕ) → FitsInMemory n → FitsInMemory m → pairs_of_values n m ≤ 2 ^ 116
-pairs-bound n m h k = mul-le (n + 1) (m + 1) (2 ^ 58) (2 ^ 58) (omega arith) (omega arith)
+pub pairs-bound : (n m : ℕ) → FitsInMemory n → FitsInMemory m → pairs_of_values n m ≤ 2 ^ 120
+pairs-bound n m h k = mul-le (n + 1) (m + 1) (2 ^ 60) (2 ^ 60) (omega arith) (omega arith)
 
 pub ladder-fits : (n : ℕ) → FitsInMemory n → cost_of_ladder n < 2 ^ 128
 ladder-fits n h = omega (arith, ladder_lem n)
@@ -67,7 +67,7 @@ max-fits ns c h k i =
     let order = ladder-fits c i in
     sums (cost_of_members ns) (pairs_of_values c (length ns)) (cost_of_ladder c) (length ns) members k pairs (omega (arith, ladder_lem c))
   where
-    sums : (a b d k : ℕ) → a ≤ k * 2 ^ 60 → k < 2 ^ 58 → b ≤ 2 ^ 116 → d ≤ 2 ^ 60 → a + b + d < 2 ^ 128
+    sums : (a b d k : ℕ) → a ≤ k * 2 ^ 62 → k < 2 ^ 60 → b ≤ 2 ^ 120 → d ≤ 2 ^ 62 → a + b + d < 2 ^ 128
     sums a b d k x y z w = omega arith
 
 pub all_diff-fits : (ns : List ℕ) → AllFitInMemory ns → FitsInMemory (length ns) → cost_of_all_diff ns < 2 ^ 128
@@ -101,7 +101,7 @@ sum3-fits n m c N M h k i =
     let p = pairs-bound n m h k in
     sums (pairs_of_values n m) _ p l
   where
-    sums : (p x : ℕ) → p ≤ 2 ^ 116 → x ≤ 2 * n + 2 * m + 2 * c + 6 * p → x < 2 ^ 128
+    sums : (p x : ℕ) → p ≤ 2 ^ 120 → x ≤ 2 * n + 2 * m + 2 * c + 6 * p → x < 2 ^ 128
     sums p x q r = omega arith
 
 -- ---- counts
@@ -156,5 +156,5 @@ pub count-fits : (k c : ℕ) → FitsInMemory k → FitsInMemory c → cost_of_c
 unfolding cost_of_count
 count-fits k c h i =
     let l = count_within-bound k k c in
-    let sq : k * k ≤ 2 ^ 58 * 2 ^ 58 = mul-le k k (2 ^ 58) (2 ^ 58) (omega arith) (omega arith) in
+    let sq : k * k ≤ 2 ^ 60 * 2 ^ 60 = mul-le k k (2 ^ 60) (2 ^ 60) (omega arith) (omega arith) in
     omega arith

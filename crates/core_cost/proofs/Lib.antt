@@ -10,3 +10,4 @@ pub mod Monotone
 pub mod ShapeLaws
 pub mod Bounds
 pub mod NetworkBounds
+pub mod SumBounds

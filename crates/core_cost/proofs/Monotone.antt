@@ -7,7 +7,7 @@ use Rattle.core_cost.specs.Comparisons.{cost_of_ladder, cost_of_leq, cost_of_eq,
 use Rattle.core_cost.specs.Arithmetic.{cost_of_members, cost_of_max, cost_of_all_diff, pairs_of_values, cost_of_prod, cost_of_div_mod}
 use Rattle.core_cost.specs.Network.{half_up, half_down, has_network, cost_of_table, cheaper, cost_over_halves, unit_sum_within, cost_of_unit_sum, cost_of_network, cost_of_sum3_over}
 use Rattle.core_cost.specs.Counts.{cost_of_half, count_within, cost_of_count}
-use Rattle.core_cost.specs.Relations.{AreBelow, PairsAreBelow}
+use Rattle.core_cost.specs.Relations.{AreAtMost, PairsAreAtMost}
 use Rattle.core_cost.proofs.NetworkLaws.{sides, within-same}
 use Rattle.core_cost.proofs.CountLaws.{count_within-same}
 
@@ -58,7 +58,7 @@ one_le_lex [] = omega arith
 one_le_lex (p ∷ []) = omega arith
 one_le_lex (p ∷ q ∷ ps) = omega arith
 
-pub lex-mono : (ps qs : List (ℕ × ℕ)) → PairsAreBelow ps qs → cost_of_lex ps ≤ cost_of_lex qs
+pub lex-mono : (ps qs : List (ℕ × ℕ)) → PairsAreAtMost ps qs → cost_of_lex ps ≤ cost_of_lex qs
 lex-mono [] qs h = one_le_lex qs
 lex-mono (p ∷ ps) [] h = absurd h
 lex-mono (p ∷ []) (q ∷ []) h = leq-mono p.0 p.1 q.0 q.1 h.0 h.1.0
@@ -69,19 +69,19 @@ lex-mono (p ∷ p' ∷ ps) (q ∷ q' ∷ qs) h = omega (arith, leq-mono p.0 p.1 
 pub pairs-mono : (n m n' m' : ℕ) → n ≤ n' → m ≤ m' → pairs_of_values n m ≤ pairs_of_values n' m'
 pairs-mono n m n' m' h k = mul-le (n + 1) (m + 1) (n' + 1) (m' + 1) (omega arith) (omega arith)
 
-length-below : (ns ms : List ℕ) → AreBelow ns ms → length ns ≤ length ms
-length-below [] ms h = omega arith
-length-below (n ∷ ns) [] h = absurd h
-length-below (n ∷ ns) (m ∷ ms) h = omega (arith, length-below ns ms h.1)
+length-at_most : (ns ms : List ℕ) → AreAtMost ns ms → length ns ≤ length ms
+length-at_most [] ms h = omega arith
+length-at_most (n ∷ ns) [] h = absurd h
+length-at_most (n ∷ ns) (m ∷ ms) h = omega (arith, length-at_most ns ms h.1)
 
-members-mono : (ns ms : List ℕ) → AreBelow ns ms → cost_of_members ns ≤ cost_of_members ms
+members-mono : (ns ms : List ℕ) → AreAtMost ns ms → cost_of_members ns ≤ cost_of_members ms
 members-mono [] ms h = omega arith
 members-mono (n ∷ ns) [] h = absurd h
 members-mono (n ∷ ns) (m ∷ ms) h = omega (arith, h.0, ladder-mono n m h.0, members-mono ns ms h.1)
 
-pub max-mono : (ns ms : List ℕ) (c d : ℕ) → AreBelow ns ms → c ≤ d → cost_of_max ns c ≤ cost_of_max ms d
+pub max-mono : (ns ms : List ℕ) (c d : ℕ) → AreAtMost ns ms → c ≤ d → cost_of_max ns c ≤ cost_of_max ms d
 max-mono ns ms c d h k =
-    let places = pairs-mono c (length ns) d (length ms) k (length-below ns ms h) in
+    let places = pairs-mono c (length ns) d (length ms) k (length-at_most ns ms h) in
     let members = members-mono ns ms h in
     let order = ladder-mono c d k in
     sums (cost_of_members ns) (cost_of_members ms) (pairs_of_values c (length ns)) (pairs_of_values d (length ms)) (cost_of_ladder c) (cost_of_ladder d) members places order
@@ -89,7 +89,7 @@ max-mono ns ms c d h k =
     sums : (a a' b b' c c' : ℕ) → a ≤ a' → b ≤ b' → c ≤ c' → a + b + c ≤ a' + b' + c'
     sums a a' b b' c c' x y z = omega arith
 
-pub all_diff-mono : (ns ms : List ℕ) → AreBelow ns ms → cost_of_all_diff ns ≤ cost_of_all_diff ms
+pub all_diff-mono : (ns ms : List ℕ) → AreAtMost ns ms → cost_of_all_diff ns ≤ cost_of_all_diff ms
 all_diff-mono [] ms h = omega arith
 all_diff-mono (n ∷ ns) [] h = absurd h
 all_diff-mono (n ∷ ns) (m ∷ ms) h = omega (arith, h.0, ladder-mono n m h.0, all_diff-mono ns ms h.1)

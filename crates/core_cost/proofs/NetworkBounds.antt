@@ -1,4 +1,4 @@
--- A network costs at most a multiple of its atoms and its depths, and a sum at most a multiple of its members and spans.
+-- A network costs at most a multiple of its atoms and its depths.
 use Rattle.std.proofs.Common.{◌≡◌, ℕ, ◌+◌, ◌*◌, ◌^◌, ◌<◌, ◌≤◌, false, min, List, [], ◌∷◌, ◌++◌, length, zero, suc, refl, ap, arith, inl, inr}
 use Rattle.std.proofs.Math.Nat.{mul-le-mul, pow-suc, div-le_self}
 use Rattle.std.proofs.lemmas.Bool.{cases_Bool, cases_lt}
@@ -103,69 +103,3 @@ sum3_over-bound n m c N M a b h k =
   where
     last : (s c ladders table : ℕ) → ladders ≤ 2 * s + 2 * c → table ≤ 6 * s + 12 → ladders + table ≤ 2 ^ 12 * (s + c + 1)
     last s c ladders table x y = omega arith
-
--- ---- sums
-
-pub sum3-bound : (a b : Shape) (c : ℕ) → IsShape a → IsShape b → a.span < 2 ^ 128 → b.span < 2 ^ 128 → cost_of_sum3 a b c ≤ 2 ^ 12 * (a.span + b.span + c + 1)
-sum3-bound a b c first second h k =
-    let x = div-le_self a.span (common_divisor_of a.divisor b.divisor) in
-    let y = div-le_self b.span (common_divisor_of a.divisor b.divisor) in
-    let l = sum3_over-bound a.steps b.steps c (first_units a b) (second_units a b)
-    (steps-le_units a _ first (common-divides_first a.divisor b.divisor) (zero_common_first a.divisor b.divisor))
-    (steps-le_units b _ second (common-divides_second a.divisor b.divisor) (zero_common_second a.divisor b.divisor))
-    (omega arith) (omega arith) in
-    more _ (first_units a b) (second_units a b) l x y
-  where
-    more : (x u v : ℕ) → x ≤ 2 ^ 12 * (u + v + c + 1) → u ≤ a.span → v ≤ b.span → x ≤ 2 ^ 12 * (a.span + b.span + c + 1)
-    more x u v l p q = omega arith
-
-steps-le_span : (a : Shape) → IsShape a → a.steps ≤ a.span
-steps-le_span a shape =
-    elim (cases_lt 0 a.divisor) [
-      | inl some ↦ let l : a.steps * 1 ≤ a.steps * a.divisor = mul-le-mul (omega arith) some in let w = shape.weights in omega arith
-      | inr none ↦ let e = (shape.none (omega arith)).0 in omega arith
-    ]
-
-fresh-le_span : (a b : Shape) → (fresh_sum_of a b).steps ≤ a.span + b.span
-fresh-le_span a b = let l = div-le_self (a.span + b.span) (common_divisor_of a.divisor b.divisor) in omega arith
-
-AreShapes-append : (members : List Shape) (a : Shape) → AreShapes members → IsShape a → AreShapes (members ++ a ∷ [])
-AreShapes-append [] a h shape = (shape, tt)
-AreShapes-append (b ∷ members) a h shape = (h.0, AreShapes-append members a h.1 shape)
-
-at_first : (k b x : ℕ) → x ≤ b → x ≤ (k + 1) * b
-at_first k b x h = let l : 1 * b ≤ (k + 1) * b = mul-le-mul (omega arith) (omega arith) in omega arith
-
-one_more : (k l b x y : ℕ) → k ≡ l + 1 → x ≤ b → y ≤ (l + 1) * b → x + y ≤ (k + 1) * b
-one_more k l b x y e h i = rw e (let m : (l + 1 + 1) * b ≡ (l + 1) * b + b = omega arith in add ((l + 1) * b) ((l + 1 + 1) * b) i m)
-  where
-    add : (p q : ℕ) → y ≤ p → q ≡ p + b → x + y ≤ q
-    add p q u v = omega arith
-
-sum_within-bound : (d : ℕ) (members : List Shape) (S : ℕ) → AreShapes members → spans_of members ≡ S → S < 2 ^ 128
-    → sum_within d members ≤ (length members + 1) * (2 ^ 14 * (S + 1))
-sum_within-bound d [] S h e k =
-    at_first 0 (2 ^ 14 * (S + 1)) _ (let l = sum3-bound constant constant 0 IsShape-constant IsShape-constant (omega arith) (omega arith) in omega arith)
-sum_within-bound d (a ∷ []) S h e k =
-    at_first 1 (2 ^ 14 * (S + 1)) _ (let l = sum3-bound a constant 0 h.0 IsShape-constant (omega arith) (omega arith) in omega arith)
-sum_within-bound d (a ∷ b ∷ []) S h e k =
-    at_first 2 (2 ^ 14 * (S + 1)) _ (let l = sum3-bound a constant b.steps h.0 IsShape-constant (omega arith) (omega arith) in
-    let m = steps-le_span b h.1.0 in omega arith)
-sum_within-bound d (a ∷ b ∷ c ∷ []) S h e k =
-    at_first 3 (2 ^ 14 * (S + 1)) _ (let l = sum3-bound a b c.steps h.0 h.1.0 (omega arith) (omega arith) in
-    let m = steps-le_span c h.1.1.0 in omega arith)
-sum_within-bound zero (a ∷ b ∷ c ∷ x ∷ rest) S h e k = omega arith
-sum_within-bound (suc d) (a ∷ b ∷ c ∷ x ∷ rest) S h e k =
-    let l = sum3-bound a b (fresh_sum_of a b).steps h.0 h.1.0 (omega arith) (omega arith) in
-    let m = fresh-le_span a b in
-    let spans = spans-append (c ∷ x ∷ rest) (fresh_sum_of a b) in
-    let more = sum_within-bound d (c ∷ x ∷ rest ++ (fresh_sum_of a b ∷ [])) S
-    (AreShapes-append (c ∷ x ∷ rest) (fresh_sum_of a b) h.1.1 (IsShape-fresh a b h.0 h.1.0)) (omega arith) k in
-    let shorter = length_push (c ∷ x ∷ rest) (fresh_sum_of a b) in
-    one_more (length (a ∷ b ∷ c ∷ x ∷ rest)) (length (c ∷ x ∷ rest ++ (fresh_sum_of a b ∷ []))) (2 ^ 14 * (S + 1)) _ _
-    (omega arith) (omega arith) more
-
-pub sum-bound : (members : List Shape) → AreShapes members → spans_of members < 2 ^ 128
-    → cost_of_sum members ≤ (length members + 1) * (2 ^ 14 * (spans_of members + 1))
-unfolding cost_of_sum
-sum-bound members h k = sum_within-bound (length members) members (spans_of members) h refl k

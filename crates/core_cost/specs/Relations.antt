@@ -1,4 +1,4 @@
--- What the laws of costs speak of: shapes within others, and lists below others.
+-- What the laws of costs speak of: shapes within others, and lists of numbers that are at most others.
 use Rattle.std.specs.Prelude.{◌≡◌, ℕ, ◌*◌, ◌^◌, ◌<◌, ◌≤◌, List, [], ◌∷◌}
 use Prim.Native.Nat.{◌∣◌}
 use Rattle.core_cost.specs.declared.shape.Shape.{Shape}
@@ -28,20 +28,20 @@ AreShapes [] = Unit {0}
 AreShapes (a ∷ rest) = (IsShape a) × (AreShapes rest)
 
 -- each number is at most the one at its place in the other list, which may be longer
-abbrev pub AreBelow : List ℕ → List ℕ → Type 0
-AreBelow [] ms = Unit {0}
-AreBelow (n ∷ ns) [] = ⊥
-AreBelow (n ∷ ns) (m ∷ ms) = (n ≤ m) × (AreBelow ns ms)
+abbrev pub AreAtMost : List ℕ → List ℕ → Type 0
+AreAtMost [] ms = Unit {0}
+AreAtMost (n ∷ ns) [] = ⊥
+AreAtMost (n ∷ ns) (m ∷ ms) = (n ≤ m) × (AreAtMost ns ms)
 
 -- the same of pairs
-abbrev pub PairsAreBelow : List (ℕ × ℕ) → List (ℕ × ℕ) → Type 0
-PairsAreBelow [] qs = Unit {0}
-PairsAreBelow (p ∷ ps) [] = ⊥
-PairsAreBelow (p ∷ ps) (q ∷ qs) = (p.0 ≤ q.0) × ((p.1 ≤ q.1) × (PairsAreBelow ps qs))
+abbrev pub PairsAreAtMost : List (ℕ × ℕ) → List (ℕ × ℕ) → Type 0
+PairsAreAtMost [] qs = Unit {0}
+PairsAreAtMost (p ∷ ps) [] = ⊥
+PairsAreAtMost (p ∷ ps) (q ∷ qs) = (p.0 ≤ q.0) × ((p.1 ≤ q.1) × (PairsAreAtMost ps qs))
 
--- a number of steps or of members that fits in memory
+-- a number of steps or of members that fits in memory: a list takes fewer than 2 ^ 63 bytes, and each member at least 8
 abbrev pub FitsInMemory : ℕ → Type 0
-FitsInMemory n = n < 2 ^ 58
+FitsInMemory n = n < 2 ^ 60
 
 -- each number fits
 abbrev pub AllFitInMemory : List ℕ → Type 0

@@ -30,7 +30,7 @@ fn half_of(members: u128, low: u128, costs: (u128, u128)) -> u128
     half_cost(members, counted)
 }
 
-/// The count of members, by the costs one depth below.
+/// The count of members, by the costs one depth further down.
 fn count_over(members: u128, sum_steps: u128, low: u128, costs: (u128, u128)) -> u128
     requires fits { members + 1 < 2 ^ 128 }
     requires low { low ≤ half_down members }

@@ -8,7 +8,7 @@ ghost use Rattle.core_cost.specs.Arithmetic.{cost_of_max, cost_of_all_diff, cost
 ghost use Rattle.core_cost.specs.Network.{half_up, half_down, has_network, cost_of_table, cost_of_unit_sum, cost_of_network, cost_of_sum3_over};
 ghost use Rattle.core_cost.specs.Counts.{cost_of_half, cost_of_count};
 ghost use Rattle.core_cost.specs.Sums.{unit_steps, constant, cost_of_sum3, fresh_sum_of, cost_of_sum, spans_of};
-ghost use Rattle.core_cost.specs.Relations.{AreBelow, PairsAreBelow, AreShapes, AreWithin, IsShape, IsWithin, FitsInMemory, AllFitInMemory, PairsFitInMemory};
+ghost use Rattle.core_cost.specs.Relations.{AreAtMost, PairsAreAtMost, AreShapes, AreWithin, IsShape, IsWithin, FitsInMemory, AllFitInMemory, PairsFitInMemory};
 
 /// Costs grow with numbers of members.
 pub fn members_law()
@@ -17,14 +17,19 @@ pub fn members_law()
     ensures count { (k c l d : ℕ) → k ≤ l → c ≤ d → cost_of_count k c ≤ cost_of_count l d }
 {}
 
+/// At most one of many costs at most 13/2 for each member.
+pub fn amo_law()
+    ensures { (k : ℕ) → 2 * cost_of_amo k ≤ 13 * k }
+{}
+
 /// Costs grow with numbers of steps; where there are lists, also with longer lists.
 pub fn steps_law()
     ensures ladder { (n m : ℕ) → n ≤ m → cost_of_ladder n ≤ cost_of_ladder m }
     ensures leq { (n m p q : ℕ) → n ≤ p → m ≤ q → cost_of_leq n m ≤ cost_of_leq p q }
     ensures equal { (n m p q : ℕ) → n ≤ p → m ≤ q → cost_of_eq n m ≤ cost_of_eq p q }
-    ensures lex { (ps qs : List (ℕ × ℕ)) → PairsAreBelow ps qs → cost_of_lex ps ≤ cost_of_lex qs }
-    ensures max { (ns ms : List ℕ) (c d : ℕ) → AreBelow ns ms → c ≤ d → cost_of_max ns c ≤ cost_of_max ms d }
-    ensures all_diff { (ns ms : List ℕ) → AreBelow ns ms → cost_of_all_diff ns ≤ cost_of_all_diff ms }
+    ensures lex { (ps qs : List (ℕ × ℕ)) → PairsAreAtMost ps qs → cost_of_lex ps ≤ cost_of_lex qs }
+    ensures max { (ns ms : List ℕ) (c d : ℕ) → AreAtMost ns ms → c ≤ d → cost_of_max ns c ≤ cost_of_max ms d }
+    ensures all_diff { (ns ms : List ℕ) → AreAtMost ns ms → cost_of_all_diff ns ≤ cost_of_all_diff ms }
     ensures prod { (n m c p q d : ℕ) → n ≤ p → m ≤ q → c ≤ d → cost_of_prod n m c ≤ cost_of_prod p q d }
     ensures div_mod { (n m c e p q d f : ℕ) → n ≤ p → m ≤ q → c ≤ d → e ≤ f
         → cost_of_div_mod n m c e ≤ cost_of_div_mod p q d f }
@@ -67,13 +72,16 @@ pub fn fits_law()
     ensures sum3 { (n m c N M : ℕ) → FitsInMemory n → FitsInMemory m → FitsInMemory c
         → cost_of_sum3_over n m c N M < 2 ^ 128 }
     ensures count { (k c : ℕ) → FitsInMemory k → FitsInMemory c → cost_of_count k c < 2 ^ 128 }
+    ensures sum { (members : List Shape) → AreShapes members → FitsInMemory (length members)
+        → spans_of members < 2 ^ 108 → cost_of_sum members < 2 ^ 128 }
 {}
 
-/// A sum costs at most 2^14 times its spans and 1, for each member and one more: so its cost is exact
-/// wherever that is below 2^128.
+/// Of a sum's members each two are joined in a fresh sum before the first fresh sum is joined again, so
+/// that 2^r members take r rounds, in each of which the spans together are those of the members.
 pub fn sum_bound_law()
-    ensures { (members : List Shape) → AreShapes members → spans_of members < 2 ^ 128
-        → cost_of_sum members ≤ (length members + 1) * (2 ^ 14 * (spans_of members + 1)) }
+    ensures { (r : ℕ) (members : List Shape) → AreShapes members → spans_of members < 2 ^ 128
+        → length members ≤ 2 ^ r
+        → cost_of_sum members ≤ 2 ^ 14 * ((r + 1) * spans_of members + length members + 1) }
 {}
 
 /// The costs of longer counts and sums by those of their parts.

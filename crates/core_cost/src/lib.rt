@@ -14,15 +14,14 @@ mod list_forms;
 mod network;
 mod shape;
 mod sums;
-#[cfg(test)]
-mod tests;
 
 pub use arithmetic::{all_diff_cost, div_mod_cost, max_cost, prod_cost};
 pub use comparisons::{eq_cost, ladder_cost, leq_cost, lex_cost};
 pub use counts::count_cost;
 pub use divisor::common_divisor;
 pub use laws::{
-    fits_law, fresh_law, members_law, network_law, parts_law, shapes_law, steps_law, sum_bound_law,
+    amo_law, fits_law, fresh_law, members_law, network_law, parts_law, shapes_law, steps_law,
+    sum_bound_law,
 };
 pub use list_forms::{amo_cost, clause_cost, comp_cost, conj_cost, parity_cost};
 pub use network::network_cost;

@@ -60,20 +60,20 @@ fn over_halves(odd: u128, even: u128, wires: u128, sum_steps: u128) -> u128
         .saturating_add(eq_cost(wires, sum_steps))
 }
 
-/// The sum of two numbers of unit steps, by the costs one depth below.
+/// The sum of two numbers of unit steps, by the costs one depth further down.
 fn unit_sum(
     first: u128,
     second: u128,
     low_first: u128,
     low_second: u128,
-    below: &Neighbours,
+    deeper: &Neighbours,
 ) -> u128
     requires fits { first + second < 2 ^ 128 }
     requires first_down { low_first ≤ half_down first }
     requires first_up { half_up first ≤ low_first + 1 }
     requires second_down { low_second ≤ half_down second }
     requires second_up { half_up second ≤ low_second + 1 }
-    requires below { AreAround low_first low_second below.now }
+    requires deeper { AreAround low_first low_second deeper.now }
     ensures { result ≡ saturated (cost_of_unit_sum first second) }
 {
     let wires = first + second;
@@ -84,8 +84,8 @@ fn unit_sum(
     if !has_halves(first, second) {
         return ladders.saturating_add(table);
     }
-    let odd = below.at((first + 1) / 2 > low_first, (second + 1) / 2 > low_second);
-    let even = below.at(first / 2 > low_first, second / 2 > low_second);
+    let odd = deeper.at((first + 1) / 2 > low_first, (second + 1) / 2 > low_second);
+    let even = deeper.at(first / 2 > low_first, second / 2 > low_second);
     ladders.saturating_add(table.min(over_halves(odd, even, wires, wires)))
 }
 
@@ -103,12 +103,12 @@ fn around(n: u128, m: u128) -> Neighbours
         };
     }
     let (first, second) = (n / 2, m / 2);
-    let below = around(first, second);
+    let deeper = around(first, second);
     Neighbours {
-        low_low: unit_sum(n, m, first, second, &below),
-        low_high: unit_sum(n, m + 1, first, second, &below),
-        high_low: unit_sum(n + 1, m, first, second, &below),
-        high_high: unit_sum(n + 1, m + 1, first, second, &below),
+        low_low: unit_sum(n, m, first, second, &deeper),
+        low_high: unit_sum(n, m + 1, first, second, &deeper),
+        high_low: unit_sum(n + 1, m, first, second, &deeper),
+        high_high: unit_sum(n + 1, m + 1, first, second, &deeper),
     }
 }
 

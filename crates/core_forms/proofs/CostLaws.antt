@@ -1,26 +1,27 @@
 -- Trimming never raises a cost, and the costs of what fits in memory fit 128 bits.
-use Rattle.std.proofs.Common.{◌≡◌, ℕ, ◌+◌, ◌-◌, ◌*◌, ◌<◌, ◌≤◌, ◌^◌, true, List, [], ◌∷◌, map, length, suc, refl, ap, subst, arith}
+use Rattle.std.proofs.Common.{◌≡◌, ℕ, ◌+◌, ◌-◌, ◌*◌, ◌<◌, ◌≤◌, ◌^◌, true, List, [], ◌∷◌, ◌++◌, map, length, suc, refl, ap, subst, arith}
 use Rattle.std.specs.Prelude.{IfOk}
 use Rattle.std.specs.declared.result.Result.{Result}
-use Rattle.std.proofs.lemmas.Result.{IfOk-weaker}
+use Rattle.std.specs.declared.result.Result.TheVariants.{Ok, Err}
 use Rattle.std.proofs.Math.Nat.{mul-le-mul}
 use Rattle.order_ints.specs.declared.atom.Atom.{Atom}
 use Rattle.order_ints.specs.declared.atom.Atom.TheVariants.{True, False, Of}
 use Rattle.order_ints.specs.declared.order_int.OrdInt.{OrdInt}
 use Rattle.order_ints.specs.View.{resolve}
 use Rattle.core_cost.specs.Saturated.{saturated}
-use Rattle.core_cost.specs.Sums.{first_units, second_units, spans_of, cost_of_sum}
+use Rattle.core_cost.specs.Sums.{first_units, second_units, cost_of_sum}
+use Rattle.core_cost.specs.Relations.{FitsInMemory, AllFitInMemory, PairsFitInMemory}
 use Rattle.core_cost.proofs.Monotone.{ladder-mono, leq-mono, eq-mono, lex-mono, max-mono, all_diff-mono, prod-mono, div_mod-mono, parity-mono, amo-mono, count-mono}
 use Rattle.core_cost.proofs.ShapeLaws.{sum3-mono, sum-mono}
 use Rattle.core_cost.proofs.Bounds.{parity-fits, amo-fits, ladder-fits, leq-fits, eq-fits, lex-fits, max-fits, all_diff-fits, prod-fits, div_mod-fits, sum3-fits, count-fits}
-use Rattle.core_cost.proofs.NetworkBounds.{sum-bound}
+use Rattle.core_cost.proofs.SumBounds.{sum-fits as shapes-fit}
 use Rattle.core_forms.specs.declared.form.Core.{Core}
 use Rattle.core_forms.specs.declared.form.Core.TheVariants.{Ladder, Clause, Parity, Conj, Comp, LeqR, EqR, Sum3, Count, Sum, Max, AllDiff, Amo, Prod, DivMod, Lex}
 use Rattle.core_forms.specs.WellFormed.{AreSound, abs_total, IsWellFormed}
 use Rattle.core_forms.specs.Resolved.{map_int, map_core}
 use Rattle.core_forms.specs.Trimmed.{has_true, has_false, without_true, without_false, without_constants, tidied_clause, tidied_members, tidied_int, tidied_core, trimmed_core}
 use Rattle.core_forms.specs.Shapes.{shape_of, shapes_of}
-use Rattle.core_forms.specs.Cost.{cost_of, IsMeasured}
+use Rattle.core_forms.specs.Cost.{cost_of, HasListsInMemory}
 use Rattle.core_forms.proofs.Tidied.{by_test}
 use Rattle.core_forms.proofs.Kept.{sound-kept}
 use Rattle.core_forms.proofs.ShapeLaws.{IsShape-of, AreShapes-of, length-shapes, length-numbers, length-pairs, spans-within, trimmed-within, steps-trimmed, shapes-trimmed, numbers-trimmed, pairs-trimmed}
@@ -97,30 +98,13 @@ cost-trimmed view core h = cost-kept (resolve view) core h
 
 -- ---- costs of what fits in memory
 
-small-sum : (l s cost : ℕ) → cost ≤ (l + 1) * (2 ^ 14 * (s + 1)) → (l + 1) * (s + 1) < 2 ^ 114 → cost < 2 ^ 128
-small-sum l s cost h k = omega arith
-
-small-spans : (l s : ℕ) → (l + 1) * (s + 1) < 2 ^ 114 → s < 2 ^ 128
-small-spans l s h = omega arith
-
-sum-fits : (ints : List OrdInt) → AreSound ints → (length ints + 1) * (spans_of (shapes_of ints) + 1) < 2 ^ 114 → cost_of_sum (shapes_of ints) < 2 ^ 128
-sum-fits ints sound small =
+sum-fits : (ints : List OrdInt) → AreSound ints → abs_total ints < 2 ^ 100 → FitsInMemory (length ints) → cost_of_sum (shapes_of ints) < 2 ^ 128
+sum-fits ints sound limit few =
     let l = length-shapes ints in
-    let bound = sum-bound (shapes_of ints) (AreShapes-of ints sound) (small-spans (length ints) (spans_of (shapes_of ints)) small) in
-    small-sum (length ints) (spans_of (shapes_of ints)) (cost_of_sum (shapes_of ints))
-    (subst (λ (n : ℕ). cost_of_sum (shapes_of ints) ≤ (n + 1) * (2 ^ 14 * (spans_of (shapes_of ints) + 1))) l bound) small
-
--- few members have small spans together
-pub few-fit : (ints : List OrdInt) → AreSound ints → abs_total ints < 2 ^ 100 → length ints < 2 ^ 13 → (length ints + 1) * (spans_of (shapes_of ints) + 1) < 2 ^ 114
-few-fit ints sound limit few =
     let spans = spans-within ints in
-    let most = times (length ints + 1) (spans_of (shapes_of ints) + 1) (2 ^ 13) (2 ^ 101 - 1) (omega (arith, few)) (omega (arith, spans, limit)) in
-    omega (arith, most)
-  where
-    times : (x y m n : ℕ) → x ≤ m → y ≤ n → x * y ≤ m * n
-    times x y m n h k = mul-le-mul h k
+    shapes-fit (shapes_of ints) (AreShapes-of ints sound) (omega arith) (omega arith)
 
-pub cost-fits : (core : Core) → IsWellFormed core → IsMeasured core → cost_of core < 2 ^ 128
+pub cost-fits : (core : Core) → IsWellFormed core → HasListsInMemory core → cost_of core < 2 ^ 128
 cost-fits (Ladder a) h m = ladder-fits _ m
 cost-fits (Clause ls) h m = omega arith
 cost-fits (Parity ls odd) h m = parity-fits _ m
@@ -130,7 +114,7 @@ cost-fits (LeqR r a b) h m = leq-fits _ _ m.0 m.1
 cost-fits (EqR r a b) h m = eq-fits _ _ m.0 m.1
 cost-fits (Sum3 a b c) h m = sum3-fits _ _ _ (first_units (shape_of a) (shape_of b)) (second_units (shape_of a) (shape_of b)) m.0 m.1 m.2
 cost-fits (Count ls c) h m = count-fits _ _ m.0 m.1
-cost-fits (Sum ints k) h m = sum-fits ints h.0 m
+cost-fits (Sum ints k) h m = sum-fits ints h.0 (omega (arith, h.1)) m
 cost-fits (Max ints c) h m = max-fits _ _ m.0 (let e = length-numbers ints in omega (arith, e, m.1)) m.2
 cost-fits (AllDiff ints cs) h m = all_diff-fits _ m.0 (let e = length-numbers ints in omega (arith, e, m.1))
 cost-fits (Amo ls) h m = amo-fits _ m
@@ -139,10 +123,19 @@ cost-fits (DivMod a b q r) h m = div_mod-fits _ _ _ _ m.0 m.1 m.2 m.3
 cost-fits (Lex r strict front back) h m = lex-fits _ m.0 (let e = length-pairs front back in omega (arith, e, m.1))
 
 -- where a cost fits, what is given is the cost
-pub exact_ok : {E : Type 0} (r : Result ℕ E) (core : Core) → IsWellFormed core → IfOk r (λ cost. cost ≡ saturated (cost_of core)) → IsMeasured core → IfOk r (λ cost. cost ≡ cost_of core)
-exact_ok r core well h measured =
-    let fits = cost-fits core well measured in
-    IfOk-weaker r (λ cost. cost ≡ saturated (cost_of core)) (λ cost. cost ≡ cost_of core) (λ cost e. itself cost (cost_of core) e fits) h
+pub exact_ok : {E : Type 0} (r : Result ℕ E) (core : Core) → IsWellFormed core → IfOk r (λ cost. cost ≡ saturated (cost_of core))
+    → IfOk r (λ cost. HasListsInMemory core) → IfOk r (λ cost. cost ≡ cost_of core)
+exact_ok (Ok cost) core well h fit = let fits = cost-fits core well fit in itself cost (cost_of core) h fits
   where
     itself : (x y : ℕ) → x ≡ saturated y → y < 2 ^ 128 → x ≡ y
     itself x y e h = omega (arith, e, h)
+exact_ok (Err e) core well h fit = tt
+
+-- one more number that fits
+pub AllFit-append : (ns : List ℕ) (n : ℕ) → AllFitInMemory ns → FitsInMemory n → AllFitInMemory (ns ++ n ∷ [])
+AllFit-append [] n h fits = (fits, tt)
+AllFit-append (m ∷ ns) n h fits = (h.0, AllFit-append ns n h.1 fits)
+
+pub PairsFit-append : (ps : List (ℕ × ℕ)) (p : ℕ × ℕ) → PairsFitInMemory ps → FitsInMemory p.0 → FitsInMemory p.1 → PairsFitInMemory (ps ++ p ∷ [])
+PairsFit-append [] p h first second = (first, (second, tt))
+PairsFit-append (q ∷ ps) p h first second = (h.0, (h.1.0, PairsFit-append ps p h.1.1 first second))

@@ -1,15 +1,11 @@
 -- Lists of integers, one behind another: what holds of both holds of all, and back.
-use Rattle.std.proofs.Common.{◌≡◌, ℕ, ◌+◌, Bool, true, false, ◌&&◌, List, [], ◌∷◌, ◌++◌, ℤ, ◌+ℤ◌, refl, ap, subst, ◌∙◌, arith}
+use Rattle.std.proofs.Common.{◌≡◌, ℕ, ◌+◌, Bool, true, false, ◌&&◌, List, [], ◌∷◌, ◌++◌, ℤ, ◌+ℤ◌, refl, ap, ◌∙◌, arith}
 use Rattle.std.proofs.lemmas.Int.{ints}
-use Rattle.order_ints.specs.declared.atom.Atom.{Atom}
 use Rattle.order_ints.specs.declared.order_int.OrdInt.{OrdInt}
 use Rattle.order_ints.specs.Truth.{Valuation}
 use Rattle.order_ints.specs.OrderValue.{value_of, in_order}
-use Rattle.order_ints.specs.OrderRange.{IntBelow}
-use Rattle.core_forms.specs.declared.form.Core.{Core}
-use Rattle.core_forms.specs.declared.form.Core.TheVariants.{Max, Lex}
 use Rattle.core_forms.specs.Values.{all_ordered, values, total}
-use Rattle.core_forms.specs.Place.{IntsBelow, CoreBelow}
+use Rattle.core_forms.specs.Place.{IntsBelow}
 use Rattle.core_forms.specs.WellFormed.{AreSound, abs_total}
 
 -- the variables of all are below n where those of the first ones and of the others are
@@ -25,13 +21,6 @@ module _ (n : ℕ) where
   pub IntsBelow-right : (xs ys : List OrdInt) → IntsBelow n (xs ++ ys) → IntsBelow n ys
   IntsBelow-right [] ys h = h
   IntsBelow-right (a ∷ xs) ys h = IntsBelow-right xs ys h.1
-
-  -- of a greatest member and of an order of words, each list by itself
-  pub below-max : (core : Core) (xs : List OrdInt) (c : OrdInt) → core ≡ Max xs c → CoreBelow n core → IntsBelow n xs × IntBelow n c
-  below-max core xs c is h = let k = subst (λ (x : Core). CoreBelow n x) is h in (IntsBelow-left xs (c ∷ []) k.1, (IntsBelow-right xs (c ∷ []) k.1).0)
-
-  pub below-lex : (core : Core) (r : Atom) (strict : Bool) (front back : List OrdInt) → core ≡ Lex r strict front back → CoreBelow n core → IntsBelow n front × IntsBelow n back
-  below-lex core r strict front back is h = let k = subst (λ (x : Core). CoreBelow n x) is h in (IntsBelow-left front back k.1, IntsBelow-right front back k.1)
 
 -- and all are sound where the first ones and the others are
 pub AreSound-append : (xs ys : List OrdInt) → AreSound xs → AreSound ys → AreSound (xs ++ ys)

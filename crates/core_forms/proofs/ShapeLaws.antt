@@ -10,7 +10,7 @@ use Rattle.order_ints.specs.declared.order_int.OrdInt.{OrdInt}
 use Rattle.order_ints.specs.OrderRange.{weights, IsBounded, AreRising}
 use Rattle.core_cost.specs.Divisor.{common_divisor_of}
 use Rattle.core_cost.specs.Sums.{spans_of}
-use Rattle.core_cost.specs.Relations.{IsShape, IsWithin, AreShapes, AreWithin, AreBelow, PairsAreBelow}
+use Rattle.core_cost.specs.Relations.{IsShape, IsWithin, AreShapes, AreWithin, AreAtMost, PairsAreAtMost}
 use Rattle.core_cost.proofs.DivisorLaws.{IsGcd-common}
 use Rattle.core_cost.proofs.ShapeLaws.{common-divides_first, common-divides_second}
 use Rattle.order_ints.specs.Same.{is_true, is_false, same_atom}
@@ -115,18 +115,18 @@ divides-merged d a w (s ∷ steps) h k =
     (λ _. divides-common d w (divisor_of (merged_steps s.0 s.1 steps)) h (divides-merged d s.0 s.1 steps here rest))
 
 -- the tidied integer's shape is within one of these steps, this span and this divisor
-record IsBelow (a : OrdInt) (n w d : ℕ) : Type 0 where
+record IsShrunk (a : OrdInt) (n w d : ℕ) : Type 0 where
   pub steps : length a.steps ≤ n
   pub span : weights a.steps ≤ w
   pub divisor : d ∣ divisor_of a.steps
 
-below-raised : (d : ℕ) (base : ℤ) (steps : List (Atom × ℕ)) → d ∣ divisor_of steps → IsBelow (raised_by base steps) (length steps) (weights steps) d
-below-raised d base [] h = record { steps = omega arith; span = omega arith; divisor = h }
-below-raised d base (s ∷ steps) h =
+shrunk-raised : (d : ℕ) (base : ℤ) (steps : List (Atom × ℕ)) → d ∣ divisor_of steps → IsShrunk (raised_by base steps) (length steps) (weights steps) d
+shrunk-raised d base [] h = record { steps = omega arith; span = omega arith; divisor = h }
+shrunk-raised d base (s ∷ steps) h =
     let here = divides-first d s.1 (divisor_of steps) h in
     let rest = divides-second d s.1 (divisor_of steps) h in
-    by_test (is_true s.0) (raised_by (base +ℤ pos s.1) steps) (record { base = base; steps = merged_steps s.0 s.1 steps }) (λ a. IsBelow a (suc (length steps)) (s.1 + weights steps) d)
-    (λ _. let r = below-raised d (base +ℤ pos s.1) steps rest in
+    by_test (is_true s.0) (raised_by (base +ℤ pos s.1) steps) (record { base = base; steps = merged_steps s.0 s.1 steps }) (λ a. IsShrunk a (suc (length steps)) (s.1 + weights steps) d)
+    (λ _. let r = shrunk-raised d (base +ℤ pos s.1) steps rest in
     record { steps = omega (arith, r.steps); span = omega (arith, r.span); divisor = r.divisor })
     (λ _. record { steps = steps-merged s.0 s.1 steps; span = weights-merged s.0 s.1 steps; divisor = divides-merged d s.0 s.1 steps here rest })
 
@@ -135,7 +135,7 @@ below-raised d base (s ∷ steps) h =
 module _ (f : Atom → Atom) where
   pub trimmed-within : (a : OrdInt) → IsWithin (shape_of (tidied_int (map_int f a))) (shape_of a)
   trimmed-within a =
-      let r = below-raised (divisor_of a.steps) a.base (map_steps f a.steps) (rw (divisor-map f a.steps) (dvd_refl _)) in
+      let r = shrunk-raised (divisor_of a.steps) a.base (map_steps f a.steps) (rw (divisor-map f a.steps) (dvd_refl _)) in
       record {
         steps = omega (arith, r.steps, steps-map f a.steps);
         span = omega (arith, r.span, weights-map_steps f a.steps);
@@ -149,12 +149,12 @@ module _ (f : Atom → Atom) where
   shapes-trimmed [] h = tt
   shapes-trimmed (a ∷ ints) h = (IsShape-of (tidied_int (map_int f a)) (sound-kept f a h.0).1, (trimmed-within a, shapes-trimmed ints h.1))
 
-  pub numbers-trimmed : (ints : List OrdInt) → AreBelow (numbers_of_steps (tidied_ints (map_ints f ints))) (numbers_of_steps ints)
+  pub numbers-trimmed : (ints : List OrdInt) → AreAtMost (numbers_of_steps (tidied_ints (map_ints f ints))) (numbers_of_steps ints)
   numbers-trimmed [] = tt
   numbers-trimmed (a ∷ ints) = (steps-trimmed a, numbers-trimmed ints)
 
   pub pairs-trimmed : (front back : List OrdInt)
-      → PairsAreBelow (pairs_of_steps (tidied_ints (map_ints f front)) (tidied_ints (map_ints f back))) (pairs_of_steps front back)
+      → PairsAreAtMost (pairs_of_steps (tidied_ints (map_ints f front)) (tidied_ints (map_ints f back))) (pairs_of_steps front back)
   pairs-trimmed [] back = tt
   pairs-trimmed (a ∷ front) [] = tt
   pairs-trimmed (a ∷ front) (b ∷ back) = (steps-trimmed a, (steps-trimmed b, pairs-trimmed front back))

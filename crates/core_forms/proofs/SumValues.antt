@@ -320,11 +320,39 @@ span-made a b (v ∷ vs) var up all least greatest =
     meet : (p q v : ℤ) (m n w from : ℕ) → from + w ≤ m + n → v ≤ℤ (p +ℤ q) → ((p +ℤ pos m) +ℤ (q +ℤ pos n)) ≤ℤ (v +ℤ pos w) → w ≡ m + n
     meet p q v m n w from h l g = omega (arith, ints, h, l, g)
 
+least-among : (a b : OrdInt) → Among (low_of a +ℤ low_of b) (sums_of a b)
+least-among a b =
+    Among-from _ _ (sums-among a b a.base b.base (Contains-among _ _ (Among-least a.base True a.steps)) (Contains-among _ _ (Among-least b.base True b.steps)))
+
 pub fresh-span : (a b : OrdInt) (var : ℕ) → weights (integer_of_values (sums_of a b) var).steps ≡ weights a.steps + weights b.steps
 fresh-span a b var =
-    span-made a b (sums_of a b) var (sums-ascend a b) (sums-offset a b)
-    (Among-from _ _ (sums-among a b a.base b.base (Contains-among _ _ (Among-least a.base True a.steps)) (Contains-among _ _ (Among-least b.base True b.steps))))
+    span-made a b (sums_of a b) var (sums-ascend a b) (sums-offset a b) (least-among a b)
     (Among-from _ _ (sums-among a b (high_of a) (high_of b) (Contains-among _ _ (Among-greatest a.base True a.steps)) (Contains-among _ _ (Among-greatest b.base True b.steps))))
+
+-- its base is the least sum, and its greatest value the greatest one
+base-made : (a b : OrdInt) (vs : List ℤ) (var : ℕ) → AreAscending vs
+    → ((u : ℤ) → Among u vs → IsOffset (gap_of a b) (low_of a +ℤ low_of b) (weights a.steps + weights b.steps) u)
+    → Among (low_of a +ℤ low_of b) vs → low_of (integer_of_values vs var) ≡ low_of a +ℤ low_of b
+base-made a b [] var up all least = absurd least
+base-made a b (v ∷ vs) var up all least =
+    let l = within-climb (low_of a +ℤ low_of b) v vs var up least in
+    let o = all v (inl refl) in
+    meet a.base b.base v o.by o.is l.0
+  where
+    meet : (p q v : ℤ) (k : ℕ) → v ≡ p +ℤ q +ℤ pos k → v ≤ℤ (p +ℤ q) → v ≡ p +ℤ q
+    meet p q v k e h = omega (arith, ints, e, h)
+
+pub fresh-base : (a b : OrdInt) (var : ℕ) → low_of (integer_of_values (sums_of a b) var) ≡ low_of a +ℤ low_of b
+fresh-base a b var = base-made a b (sums_of a b) var (sums-ascend a b) (sums-offset a b) (least-among a b)
+
+pub fresh-abs : (a b : OrdInt) (var : ℕ) → greatest_abs (integer_of_values (sums_of a b) var) ≤ greatest_abs a + greatest_abs b
+fresh-abs a b var =
+    both a.base b.base (low_of (integer_of_values (sums_of a b) var)) (weights a.steps) (weights b.steps) (weights (integer_of_values (sums_of a b) var).steps)
+    (fresh-base a b var) (fresh-span a b var)
+  where
+    both : (p q v : ℤ) (m n w : ℕ) → v ≡ p +ℤ q → w ≡ m + n
+        → max (unsigned_abs v) (unsigned_abs (v +ℤ pos w)) ≤ max (unsigned_abs p) (unsigned_abs (p +ℤ pos m)) + max (unsigned_abs q) (unsigned_abs (q +ℤ pos n))
+    both p q v m n w e f = omega (arith, ints, e, f)
 
 -- each value is from the least sum to the greatest
 pub sums-between : (a b : OrdInt) (u : ℤ) → Contains (sums_of a b) u → ((low_of a +ℤ low_of b) ≤ℤ u) × (u ≤ℤ (high_of a +ℤ high_of b))

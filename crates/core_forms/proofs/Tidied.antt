@@ -9,7 +9,7 @@ use Rattle.order_ints.specs.Truth.{Valuation, atom_truth}
 use Rattle.order_ints.specs.OrderValue.{gains, value_of, none_true, in_order}
 use Rattle.order_ints.specs.OrderRange.{weights, low_of, high_of, IsBounded}
 use Rattle.order_ints.specs.Same.{is_true, is_false, same_atom}
-use Rattle.order_ints.specs.Equality.{same_atom-true, is_true-True, is_false-False}
+use Rattle.order_ints.specs.Equality.{same_atom-true, is_true-True}
 use Rattle.core_forms.specs.Resolved.{map_steps, map_int}
 use Rattle.core_forms.specs.Trimmed.{merged_steps, raised_by, tidied_int}
 

@@ -1,10 +1,10 @@
 -- What a core costs: the cost of its form, at the shapes of its integers and the lengths of its lists.
-use Rattle.std.specs.Prelude.{ℕ, ◌+◌, ◌*◌, ◌^◌, ◌<◌, length}
+use Rattle.std.specs.Prelude.{ℕ, length}
 use Rattle.core_cost.specs.ListForms.{cost_of_clause, cost_of_parity, cost_of_conj, cost_of_comp, cost_of_amo}
 use Rattle.core_cost.specs.Comparisons.{cost_of_ladder, cost_of_leq, cost_of_eq, cost_of_lex}
 use Rattle.core_cost.specs.Arithmetic.{cost_of_max, cost_of_all_diff, cost_of_prod, cost_of_div_mod}
 use Rattle.core_cost.specs.Counts.{cost_of_count}
-use Rattle.core_cost.specs.Sums.{cost_of_sum3, cost_of_sum, spans_of}
+use Rattle.core_cost.specs.Sums.{cost_of_sum3, cost_of_sum}
 use Rattle.core_cost.specs.Relations.{FitsInMemory, AllFitInMemory, PairsFitInMemory}
 use Rattle.core_forms.specs.declared.form.Core.{Core}
 use Rattle.core_forms.specs.declared.form.Core.TheVariants.{Ladder, Clause, Parity, Conj, Comp, LeqR, EqR, Sum3, Count, Sum, Max, AllDiff, Amo, Prod, DivMod, Lex}
@@ -29,24 +29,23 @@ cost_of (Prod a b c) = cost_of_prod (steps_of a) (steps_of b) (steps_of c)
 cost_of (DivMod a b q r) = cost_of_div_mod (steps_of a) (steps_of b) (steps_of q) (steps_of r)
 cost_of (Lex r strict front back) = cost_of_lex (pairs_of_steps front back)
 
--- the lists of a core, of which the cost is made, fit in memory; and of a sum, the number of members times the spans is
--- small, as where there are fewer than 8,191 members, or where the spans are below 2 ^ 55
-abbrev pub IsMeasured : Core → Type 0
-IsMeasured (Ladder a) = FitsInMemory (steps_of a)
-IsMeasured (Clause ls) = FitsInMemory (length ls)
-IsMeasured (Parity ls odd) = FitsInMemory (length ls)
-IsMeasured (Conj r ls) = FitsInMemory (length ls)
-IsMeasured (Comp a b hi lo) = Unit {0}
-IsMeasured (LeqR r a b) = FitsInMemory (steps_of a) × FitsInMemory (steps_of b)
-IsMeasured (EqR r a b) = FitsInMemory (steps_of a) × FitsInMemory (steps_of b)
-IsMeasured (Sum3 a b c) = FitsInMemory (steps_of a) × FitsInMemory (steps_of b) × FitsInMemory (steps_of c)
-IsMeasured (Count ls c) = FitsInMemory (length ls) × FitsInMemory (steps_of c)
-IsMeasured (Sum ints k) = (length ints + 1) * (spans_of (shapes_of ints) + 1) < 2 ^ 114
-IsMeasured (Max ints c) =
+-- the lists of a core, of which its cost is made, fit in memory
+abbrev pub HasListsInMemory : Core → Type 0
+HasListsInMemory (Ladder a) = FitsInMemory (steps_of a)
+HasListsInMemory (Clause ls) = FitsInMemory (length ls)
+HasListsInMemory (Parity ls odd) = FitsInMemory (length ls)
+HasListsInMemory (Conj r ls) = FitsInMemory (length ls)
+HasListsInMemory (Comp a b hi lo) = Unit {0}
+HasListsInMemory (LeqR r a b) = FitsInMemory (steps_of a) × FitsInMemory (steps_of b)
+HasListsInMemory (EqR r a b) = FitsInMemory (steps_of a) × FitsInMemory (steps_of b)
+HasListsInMemory (Sum3 a b c) = FitsInMemory (steps_of a) × FitsInMemory (steps_of b) × FitsInMemory (steps_of c)
+HasListsInMemory (Count ls c) = FitsInMemory (length ls) × FitsInMemory (steps_of c)
+HasListsInMemory (Sum ints k) = FitsInMemory (length ints)
+HasListsInMemory (Max ints c) =
     AllFitInMemory (numbers_of_steps ints) × FitsInMemory (length ints) × FitsInMemory (steps_of c)
-IsMeasured (AllDiff ints cs) = AllFitInMemory (numbers_of_steps ints) × FitsInMemory (length ints)
-IsMeasured (Amo ls) = FitsInMemory (length ls)
-IsMeasured (Prod a b c) = FitsInMemory (steps_of a) × FitsInMemory (steps_of b) × FitsInMemory (steps_of c)
-IsMeasured (DivMod a b q r) =
+HasListsInMemory (AllDiff ints cs) = AllFitInMemory (numbers_of_steps ints) × FitsInMemory (length ints)
+HasListsInMemory (Amo ls) = FitsInMemory (length ls)
+HasListsInMemory (Prod a b c) = FitsInMemory (steps_of a) × FitsInMemory (steps_of b) × FitsInMemory (steps_of c)
+HasListsInMemory (DivMod a b q r) =
     FitsInMemory (steps_of a) × FitsInMemory (steps_of b) × FitsInMemory (steps_of q) × FitsInMemory (steps_of r)
-IsMeasured (Lex r strict front back) = PairsFitInMemory (pairs_of_steps front back) × FitsInMemory (length front)
+HasListsInMemory (Lex r strict front back) = PairsFitInMemory (pairs_of_steps front back) × FitsInMemory (length front)

@@ -8,6 +8,7 @@ pub mod Resolved
 pub mod Trimmed
 pub mod Each
 pub mod Variables
+pub mod OwnVars
 pub mod Shapes
 pub mod Cost
 pub mod Cores

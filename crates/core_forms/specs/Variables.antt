@@ -32,6 +32,10 @@ ints_vars (a ∷ ints) = int_vars a ++ ints_vars ints
 abbrev pub core_vars : Core → List ℕ
 core_vars core = atoms_vars (atoms_of core) ++ ints_vars (ints_of core)
 
+-- each of these variables is one of those
+abbrev pub AreAmong : List ℕ → List ℕ → Type 0
+AreAmong vars others = (v : ℕ) → Contains vars v → Contains others v
+
 -- two valuations give the listed variables the same truth values
 abbrev pub SameOn : List ℕ → Valuation → Valuation → Type 0
 SameOn vars σ τ = (v : ℕ) → Contains vars v → σ v ≡ τ v

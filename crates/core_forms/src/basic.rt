@@ -11,19 +11,13 @@ use crate::shapes::{shape, steps};
 use core_cost::is_network_cheaper;
 use order_ints::OrdInt;
 
-/// Whether a sum of two integers has a network that costs less than its table. A table whose cost
-/// does not fit 128 bits costs more than any network.
+/// Whether a sum of two integers has a network that costs less than its table.
 fn has_cheap_network(a: &OrdInt, b: &OrdInt, c: &OrdInt) -> bool
     requires a { IsSound a.now }
     requires b { IsSound b.now }
     ensures { result ≡ network_is_cheaper (shape_of a.now) (shape_of b.now) (steps_of c.now) }
 {
-    let (first, second, sum_steps) = (steps(a), steps(b), steps(c));
-    let pairs = (first + 1).saturating_mul(second + 1);
-    if pairs > u128::MAX / 6 {
-        return true;
-    }
-    is_network_cheaper(shape(a), shape(b), sum_steps)
+    is_network_cheaper(shape(a), shape(b), steps(c))
 }
 
 /// Whether a core is basic: clauses say it at once. A compound core is split into parts first. It

@@ -119,7 +119,9 @@ impl Core {
             Core::AllDiff(ints, _) => Members::of(ints.as_slice()),
             Core::Prod(a, b, c) => three_ints(a.get(), b.get(), c.get()),
             Core::DivMod(a, b, q, r) => four_ints(a.get(), b.get(), q.get(), r.get()),
-            Core::Lex(_, _, front, back) => Members::of_two(front.get().as_slice(), back.get().as_slice()),
+            Core::Lex(_, _, front, back) => {
+                Members::of_two(front.get().as_slice(), back.get().as_slice())
+            }
             Core::Clause(_) | Core::Parity(_, _) | Core::Conj(_, _) => Members::of(&[]),
             Core::Comp(_, _, _, _) | Core::Amo(_) => Members::of(&[]),
         }

@@ -8,14 +8,14 @@ ghost use Rattle.order_ints.specs.OrderRange.{low_of, high_of, weights, AreRisin
 ghost use Rattle.order_ints.specs.OrderLevels.{values_of};
 ghost use Rattle.order_ints.specs.OrderMade.{AreAscending, AreSmall, integer_of_values};
 ghost use Rattle.order_ints.specs.View.{resolve};
-ghost use Rattle.core_cost.specs.Sums.{fresh_sum_of, spans_of};
+ghost use Rattle.core_cost.specs.Sums.{fresh_sum_of};
 ghost use Rattle.core_cost.specs.Relations.{IsShape, IsWithin};
 ghost use Rattle.core_forms.specs.declared.form.Core.{Core};
-ghost use Rattle.core_forms.specs.WellFormed.{AreSound, abs_total, greatest_abs, IsWellFormed};
+ghost use Rattle.core_forms.specs.WellFormed.{greatest_abs, IsWellFormed};
 ghost use Rattle.core_forms.specs.Resolved.{map_int};
 ghost use Rattle.core_forms.specs.Trimmed.{tidied_int, trimmed_core};
-ghost use Rattle.core_forms.specs.Shapes.{shape_of, shapes_of};
-ghost use Rattle.core_forms.specs.Cost.{cost_of, IsMeasured};
+ghost use Rattle.core_forms.specs.Shapes.{shape_of};
+ghost use Rattle.core_forms.specs.Cost.{cost_of, HasListsInMemory};
 ghost use Rattle.core_forms.specs.Sums.{sums_of};
 
 /// Trimming never raises a cost.
@@ -24,11 +24,9 @@ pub fn cost_law()
         → IsWellFormed core → cost_of (trimmed_core view core) ≤ cost_of core }
 {}
 
-/// Where the lists of a core fit in memory, its cost fits 128 bits; and a sum of few members fits.
-pub fn measure_law()
-    ensures fits { (core : Core) → IsWellFormed core → IsMeasured core → cost_of core < 2 ^ 128 }
-    ensures few { (ints : List OrdInt) → AreSound ints → abs_total ints < 2 ^ 100 → length ints < 2 ^ 13
-        → (length ints + 1) * (spans_of (shapes_of ints) + 1) < 2 ^ 114 }
+/// Where the lists of a core fit in memory, its cost fits 128 bits.
+pub fn memory_law()
+    ensures { (core : Core) → IsWellFormed core → HasListsInMemory core → cost_of core < 2 ^ 128 }
 {}
 
 /// An integer of which each step raises the value has a shape, and trimming never widens it.
@@ -40,7 +38,8 @@ pub fn shape_law()
 
 /// The values of a fresh sum ascend, each sum of two values is among them, and they lie between the
 /// least and the greatest sum. An integer of these values has at most the steps that costs count, the
-/// span that they count, and weights that are multiples of the divisor that they count.
+/// span that they count, and weights that are multiples of the divisor that they count. Its least value
+/// is the least sum, so that it is no greater in absolute value than the two integers together.
 pub fn sums_law()
     ensures some { (a b : OrdInt) → 0 < length (sums_of a b) }
     ensures ascending { (a b : OrdInt) → AreAscending (sums_of a b) }
@@ -54,4 +53,8 @@ pub fn sums_law()
         → weights (integer_of_values (sums_of a b) first).steps ≡ weights a.steps + weights b.steps }
     ensures within { (a b : OrdInt) (first : ℕ)
         → IsWithin (shape_of (integer_of_values (sums_of a b) first)) (fresh_sum_of (shape_of a) (shape_of b)) }
+    ensures base { (a b : OrdInt) (first : ℕ)
+        → low_of (integer_of_values (sums_of a b) first) ≡ low_of a +ℤ low_of b }
+    ensures abs { (a b : OrdInt) (first : ℕ)
+        → greatest_abs (integer_of_values (sums_of a b) first) ≤ greatest_abs a + greatest_abs b }
 {}

@@ -15,7 +15,7 @@ use order_ints::OrdInt;
 use std::alloc::{AllocError, Global};
 
 /// Two values, added up.
-fn sum(value: i128, other: i128) -> i128
+fn added(value: i128, other: i128) -> i128
     requires value { unsigned_abs value < 2 ^ 100 }
     requires other { unsigned_abs other < 2 ^ 100 }
     ensures { result ≡ value +ℤ other }
@@ -39,7 +39,7 @@ fn put_sums(sums: &mut Vec<i128>, value: i128, b: &OrdInt) -> Result<(), AllocEr
     ensures { OnOk result (sums.new.items ≡ sums.old.items ++ map (λ w. value +ℤ w) (values_of b.now)) }
 {
     for (other, _) in b.levels() {
-        sums.push(sum(value, other))?;
+        sums.push(added(value, other))?;
     }
     Ok(())
 }
@@ -86,7 +86,7 @@ fn listed_sums(alloc: Global, a: &OrdInt, b: &OrdInt) -> Result<Vec<i128>, Alloc
     if fresh.steps == first * second + first + second {
         different_sums(alloc, a, b)
     } else {
-        spaced_sums(alloc, sum(a.low(), b.low()), fresh.divisor, fresh.steps)
+        spaced_sums(alloc, added(a.low(), b.low()), fresh.divisor, fresh.steps)
     }
 }
 

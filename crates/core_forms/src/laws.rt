@@ -1,8 +1,9 @@
 //! Laws of the forms, for proofs of crates above. Each function does nothing; its contract is the law.
 
-ghost use Rattle.std.specs.Prelude.{◌≡◌, ◌↔◌, ℕ, ◌+◌, ◌≤◌, ◌<◌, ◌*◌, ◌^◌, ℤ, unsigned_abs, List, length, Contains};
+ghost use Rattle.std.specs.Prelude.{◌≡◌, ◌↔◌, ℕ, ◌+◌, ◌≤◌, ◌<◌, ◌*◌, ◌^◌, ℤ, unsigned_abs, List, length, map, Contains};
+ghost use Rattle.std.specs.List.Sorted.{IsStrictlyIncreasing};
 ghost use Rattle.order_ints.specs.declared.atom.Atom.{Atom};
-ghost use Rattle.order_ints.specs.Truth.{Valuation, Agree};
+ghost use Rattle.order_ints.specs.Truth.{Valuation, valuation_at, Agree};
 ghost use Rattle.order_ints.specs.Place.{AtomsBelow};
 ghost use Rattle.order_ints.specs.declared.order_int.OrdInt.{OrdInt};
 ghost use Rattle.order_ints.specs.OrderLevels.{values_of};
@@ -10,7 +11,8 @@ ghost use Rattle.order_ints.specs.View.{MeetsView};
 ghost use Rattle.order_ints.specs.Label.{IsLabelled};
 ghost use Rattle.core_forms.specs.declared.form.Core.{Core};
 ghost use Rattle.core_forms.specs.Place.{CoreBelow};
-ghost use Rattle.core_forms.specs.Variables.{core_vars, SameOn, IsLabelVar};
+ghost use Rattle.core_forms.specs.Variables.{core_vars, AreAmong, SameOn, IsLabelVar};
+ghost use Rattle.core_forms.specs.OwnVars.{own_vars};
 ghost use Rattle.core_forms.specs.WellFormed.{greatest_abs, HasSmallProducts, HasSmallDivisions, IsWellFormed};
 ghost use Rattle.core_forms.specs.Meaning.{core_truth};
 ghost use Rattle.core_forms.specs.Trimmed.{trimmed_core, composed_view, IsTrimmed};
@@ -27,6 +29,20 @@ pub fn dependence_law()
         → SameOn (core_vars core) σ τ → core_truth σ core ≡ core_truth τ core }
     ensures below { (n : ℕ) (σ τ : Valuation) (core : Core)
         → CoreBelow n core → Agree n σ τ → core_truth σ core ≡ core_truth τ core }
+{}
+
+/// A core is as true in a row of truth values as under each valuation with the values of the row, where
+/// its variables are among the row's.
+pub fn row_law()
+    ensures { (σ : Valuation) (core : Core) (vars : List ℕ)
+        → AreAmong (core_vars core) vars
+        → core_truth σ core ≡ core_truth (valuation_at vars (map σ vars)) core }
+{}
+
+/// The own variables of a core are those that occur in it, ascending, each once.
+pub fn own_vars_law()
+    ensures ascending { (core : Core) → IsStrictlyIncreasing (own_vars core) }
+    ensures exact { (core : Core) (v : ℕ) → Contains (own_vars core) v ↔ Contains (core_vars core) v }
 {}
 
 /// Trimming twice is trimming once by the composed view, where each variable of the core has a label in

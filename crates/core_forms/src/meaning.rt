@@ -1,28 +1,28 @@
-//! The meaning of a core under a list of truth values.
+//! The meaning of a core under truth values of its variables.
 
 mod atoms;
 mod lists;
 mod numbers;
 mod sums;
 
-ghost use Rattle.std.specs.Prelude.{◌≡◌, ◌+◌, length};
-ghost use Rattle.order_ints.specs.Truth.{valuation_of};
-ghost use Rattle.core_forms.specs.Place.{CoreBelow};
+ghost use Rattle.std.specs.Prelude.{◌≡◌, map};
+ghost use Rattle.order_ints.specs.Truth.{Valuation, valuation_at};
 ghost use Rattle.core_forms.specs.WellFormed.{IsWellFormed};
+ghost use Rattle.core_forms.specs.Variables.{core_vars, AreAmong};
 ghost use Rattle.core_forms.specs.Meaning.{core_truth};
 
 use crate::form::Core;
 use atoms::{are_all, are_compared, are_few, has_parity, is_some_true};
 use lists::{are_apart, are_in_order, is_top};
 use numbers::{is_equal, is_less, is_quotient};
+use order_ints::{TruthRow, TruthValues};
 use sums::{is_count, is_product, is_sum, is_total};
 
-/// Whether a valuation meets a core, where the truth value of variable 1 stands first. It takes no
-/// memory, and one pass over the core; of an `AllDiff` one over what stands behind each true condition.
-pub fn holds(core: &Core, sigma: &[bool]) -> bool
+/// Whether truth values meet a core. It takes no memory, and one pass over the core; of an `AllDiff` one
+/// over what stands behind each true condition.
+pub fn holds<T: TruthValues>(core: &Core, sigma: T) -> bool
     requires well_formed { IsWellFormed core.now }
-    requires place { CoreBelow (length sigma.now + 1) core.now }
-    ensures { result ≡ core_truth (valuation_of sigma.now) core.now }
+    ensures { result ≡ core_truth (T.valuation sigma) core.now }
 {
     match core {
         Core::Ladder(a) => a.get().is_ordered(sigma),
@@ -52,4 +52,17 @@ pub fn holds(core: &Core, sigma: &[bool]) -> bool
             )
         }
     }
+}
+
+/// Whether truth values of listed variables meet a core, each at the place of its variable. It takes no
+/// memory, and the time of `holds` with a scan of the list for each literal.
+pub fn holds_in_row(core: &Core, vars: &[u32], values: &[bool]) -> bool
+    requires { IsWellFormed core.now }
+    ensures shape { result ≡ core_truth (valuation_at vars.now values.now) core.now }
+
+    // Where the core has no other variables, that is what each valuation with these values says.
+    ensures meaning { (σ : Valuation)
+        → AreAmong (core_vars core.now) vars.now → map σ vars.now ≡ values.now → result ≡ core_truth σ core.now }
+{
+    holds(core, TruthRow { vars, values })
 }

@@ -23,6 +23,10 @@ mod meanings;
 #[cfg(test)]
 mod occurring;
 #[cfg(test)]
+mod rings;
+#[cfg(test)]
+mod shape_costs;
+#[cfg(test)]
 mod shown;
 #[cfg(test)]
 mod sums;

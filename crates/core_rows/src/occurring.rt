@@ -1,6 +1,7 @@
-//! Which variables a core has.
+//! Which atoms, integers and variables a core has.
 
 use crate::form_words::core_of;
+use crate::shown::walked;
 use core_forms::{Core, variables};
 use std::alloc::{AllocError, Global};
 use std::process::Abort;
@@ -34,6 +35,31 @@ fn variables_are_told_once_and_ascending(rt: HostRuntime) -> Result<(), AllocErr
         ("Clause F,T", ""),
     ] {
         let found = found_variables(&rt, rt.alloc(), text)?;
+        assert_eq!(rt; found.as_str(), want, "{text}");
+    }
+    Ok(())
+}
+
+/// The atoms of a core in words, and behind a semicolon its integers.
+fn found_members(rt: &impl Abort, alloc: Global, text: &str) -> Result<String, AllocError> {
+    let core = core_of(rt, alloc, text)?;
+    walked(alloc, &core)
+}
+
+#[test]
+fn atoms_and_integers_are_told_in_their_order(rt: HostRuntime) -> Result<(), AllocError> {
+    for (text, want) in [
+        ("Conj 3 -1,T", " 3 -1 T;"),
+        ("Comp 1 -2 3 T", " 1 -2 3 T;"),
+        ("LeqR 9 0 1..2@3", " 9; (0) (1 3:1)"),
+        ("Sum3 0 1 1..2@3", "; (0) (1) (1 3:1)"),
+        ("Count -8,2 3..5@4", " -8 2; (3 4:1 5:1)"),
+        ("Max 1,2..3@5 4", "; (1) (2 5:1) (4)"),
+        ("AllDiff 0,1 T,7", " T 7; (0) (1)"),
+        ("DivMod 5 2 3 1", "; (5) (2) (3) (1)"),
+        ("Lex 9 true 0,1 2,3", " 9; (0) (1) (2) (3)"),
+    ] {
+        let found = found_members(&rt, rt.alloc(), text)?;
         assert_eq!(rt; found.as_str(), want, "{text}");
     }
     Ok(())

@@ -178,3 +178,28 @@ pub(super) fn shown(alloc: Global, core: &Core) -> Result<String, AllocError> {
     members(&mut out, core)?;
     Ok(out)
 }
+
+/// Writes the atoms of a core by their walk.
+fn atom_walk(out: &mut String, core: &Core) -> Result<(), AllocError> {
+    for atom in core.atoms() {
+        atom_word(out, *atom)?;
+    }
+    Ok(())
+}
+
+/// Writes the integers of a core by their walk.
+fn int_walk(out: &mut String, core: &Core) -> Result<(), AllocError> {
+    for a in core.ints() {
+        int_word(out, a)?;
+    }
+    Ok(())
+}
+
+/// The atoms of a core, and behind a semicolon its integers.
+pub(super) fn walked(alloc: Global, core: &Core) -> Result<String, AllocError> {
+    let mut out = String::new(alloc);
+    atom_walk(&mut out, core)?;
+    out.push(';')?;
+    int_walk(&mut out, core)?;
+    Ok(out)
+}

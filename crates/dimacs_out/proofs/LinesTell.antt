@@ -15,9 +15,11 @@ use Rattle.order_ints.specs.declared.order_int.MapValue.TheVariants.{Bool as OfB
 use Rattle.order_ints.specs.declared.cnf.Cnf.{Cnf}
 use Rattle.order_ints.specs.Place.{ClauseBelow, ClausesBelow}
 use Rattle.dimacs_out.specs.declared.entry.MapEntry.{MapEntry}
-use Rattle.dimacs_out.specs.CompiledText.{literal_word, value_words, entry_line, clause_words, clause_line, problem_line, ValueBelow}
+use Rattle.ledger_text.specs.Words.{literal_word}
+use Rattle.ledger_text.proofs.Spelled.{atom_word_tells}
+use Rattle.dimacs_out.specs.CompiledText.{value_words, entry_line, clause_words, clause_line, problem_line, ValueBelow}
 use Rattle.dimacs_out.proofs.SpelledWords.{value_words_words, clause_words_words, problem_words, problem_words_words}
-use Rattle.dimacs_out.proofs.WordsTell.{atom_word_tells, step_words_tell, literal_words_tell}
+use Rattle.dimacs_out.proofs.WordsTell.{step_words_tell, literal_words_tell}
 
 -- joined words are a line
 words_line : (ws : List (List ℕ)) → AreWords ws → IsLine (join_words ws)

@@ -1,91 +1,24 @@
 -- What a compiled text is made of are words, and its lines are lines.
-use Rattle.std.proofs.Common.{◌≡◌, ℕ, ◌^◌, ◌<◌, ◌≤◌, Bool, true, false, not, ◌&&◌, ◌||◌, ◌==◌, List, [], ◌∷◌, ◌++◌, length, map, codes, cond, refl, ◌∙◌, ⊎_elim, arith, leb}
+use Rattle.std.proofs.Common.{◌≡◌, ℕ, ◌^◌, ◌<◌, ◌≤◌, true, not, ◌&&◌, List, [], ◌∷◌, ◌++◌, length, map, codes, refl, ◌∙◌, arith}
 use Rattle.std.specs.List.{list_all}
-use Rattle.std.specs.Char.{is_ascii_digit}
 use Rattle.std.specs.Fmt.{decimal, signed_decimal}
-use Rattle.std.proofs.lemmas.Bool.{and_parts, and_from, or_cases, or_left, or_right, leb-true, eqb-true, false≢true}
+use Rattle.std.proofs.lemmas.Bool.{and_parts, and_from, or_left, false≢true}
 use Rattle.std.proofs.lemmas.Bool.Decides.{nat_tests}
 use Rattle.std.proofs.lemmas.List.Folds.{list_all-append}
-use Rattle.bee_text.specs.Lines.{lacks}
 use Rattle.bee_text.specs.Words.{is_gap, is_word, IsWord, AreWords}
-use Rattle.bee_text.proofs.NumberLemmas.{decimal_word, decimal_digits, signed_decimal_word}
+use Rattle.bee_text.proofs.NumberLemmas.{decimal_word, signed_decimal_word}
 use Rattle.bee_text.proofs.GapLemmas.{solid}
 use Rattle.bumblebee_reader.specs.Bytes.{is_letter, is_digit, is_word as is_name_byte}
 use Rattle.bumblebee_reader.specs.Names.{IsName}
 use Rattle.order_ints.specs.declared.literal.Lit.{Lit}
 use Rattle.order_ints.specs.declared.atom.Atom.{Atom}
-use Rattle.order_ints.specs.declared.atom.Atom.TheVariants.{True, False, Of}
 use Rattle.order_ints.specs.declared.order_int.MapValue.{MapValue}
 use Rattle.order_ints.specs.declared.order_int.MapValue.TheVariants.{Bool as OfBool, Int as OfInt}
 use Rattle.order_ints.specs.declared.cnf.Cnf.{Cnf}
-use Rattle.order_ints.specs.Place.{LitBelow, AtomBelow, StepsBelow, ClauseBelow}
-use Rattle.dimacs_out.specs.CompiledText.{literal_word, atom_word, step_word, value_words, clause_words, WeightsCount, ValueBelow}
-
--- a byte of a number with its sign
-abbrev pub is_signed_digit : ℕ → Bool
-is_signed_digit b = b == 45 || is_ascii_digit b
-
--- the word of the literal that has this sign and this variable
-abbrev pub signed_word : Bool → ℕ → List ℕ
-signed_word positive v = cond positive (decimal v) (45 ∷ decimal v)
-
-signed_digit_apart : (b : ℕ) → is_signed_digit b ≡ true → (not (is_gap b) ≡ true) × (not (b == 58) ≡ true)
-signed_digit_apart b h = ⊎_elim
-    (λ (e : (b == 45) ≡ true). let is : b ≡ 45 = eqb-true b 45 e in rw is (refl, refl))
-    (λ (e : is_ascii_digit b ≡ true).
-    let range = and_parts (leb 48 b) (leb b 57) e in
-    let low : 48 ≤ b = leb-true 48 b range.0 in
-    let high : b ≤ 57 = leb-true b 57 range.1 in
-    (solid_byte b low, no_colon b high))
-    (or_cases (b == 45) (is_ascii_digit b) h)
-  where
-    solid_byte : (d : ℕ) → 48 ≤ d → not (is_gap d) ≡ true
-    solid_byte d low = grind (arith, nat_tests)
-
-    no_colon : (d : ℕ) → d ≤ 57 → not (d == 58) ≡ true
-    no_colon d high = grind (arith, nat_tests)
-
-digits_signed : (ds : List ℕ) → list_all is_ascii_digit ds ≡ true → list_all is_signed_digit ds ≡ true
-digits_signed [] h = refl
-digits_signed (d ∷ ds) h =
-    let parts = and_parts (is_ascii_digit d) (list_all is_ascii_digit ds) h in
-    and_from (is_signed_digit d) (list_all is_signed_digit ds) (or_right (d == 45) (is_ascii_digit d) parts.0) (digits_signed ds parts.1)
-
--- a literal is spelled by digits and a sign alone
-signed_word_bytes : (positive : Bool) (v : ℕ) → v < 10 ^ 64 → list_all is_signed_digit (signed_word positive v) ≡ true
-signed_word_bytes true v small = digits_signed (decimal v) (decimal_digits v small)
-signed_word_bytes false v small = digits_signed (decimal v) (decimal_digits v small)
-
-pub literal_bytes : (l : Lit) → l.var < 10 ^ 64 → list_all is_signed_digit (literal_word l) ≡ true
-literal_bytes l small = signed_word_bytes l.positive l.var small
-
-signed_no_colon : (bs : List ℕ) → list_all is_signed_digit bs ≡ true → lacks 58 bs ≡ true
-signed_no_colon [] h = refl
-signed_no_colon (b ∷ bs) h =
-    let parts = and_parts (is_signed_digit b) (list_all is_signed_digit bs) h in
-    and_from (not (b == 58)) (lacks 58 bs) (signed_digit_apart b parts.0).1 (signed_no_colon bs parts.1)
-
--- an atom is spelled without a colon
-pub atom_no_colon : (n : ℕ) (a : Atom) → n ≤ 2 ^ 32 → AtomBelow n a → lacks 58 (atom_word a) ≡ true
-atom_no_colon n True bound below = refl
-atom_no_colon n False bound below = refl
-atom_no_colon n (Of l) bound below = signed_no_colon (literal_word l) (literal_bytes l (omega (arith, below.1)))
-
-signed_word_word : (positive : Bool) (v : ℕ) → v < 10 ^ 64 → IsWord (signed_word positive v)
-signed_word_word true v small = decimal_word v small
-signed_word_word false v small = behind 45 (decimal v) refl (decimal_word v small)
-  where
-    behind : (b : ℕ) (bs : List ℕ) → not (is_gap b) ≡ true → IsWord bs → IsWord (b ∷ bs)
-    behind b [] first h = absurd (false≢true h)
-    behind b (c ∷ bs) first h = and_from (not (is_gap b)) (solid (c ∷ bs)) first h
-
-pub literal_word_word : (n : ℕ) (l : Lit) → n ≤ 2 ^ 32 → LitBelow n l → IsWord (literal_word l)
-literal_word_word n l bound below = signed_word_word l.positive l.var (omega (arith, below.1))
-
-pub atom_word_word : (n : ℕ) (a : Atom) → n ≤ 2 ^ 32 → AtomBelow n a → IsWord (atom_word a)
-atom_word_word n True bound below = refl
-atom_word_word n False bound below = refl
-atom_word_word n (Of l) bound below = literal_word_word n l bound below
+use Rattle.order_ints.specs.Place.{AtomBelow, StepsBelow, ClauseBelow}
+use Rattle.ledger_text.specs.Words.{literal_word, atom_word}
+use Rattle.ledger_text.proofs.Spelled.{literal_word_word, atom_word_word}
+use Rattle.dimacs_out.specs.CompiledText.{step_word, value_words, clause_words, WeightsCount, ValueBelow}
 
 word_append : (v bs : List ℕ) → IsWord v → solid bs ≡ true → IsWord (v ++ bs)
 word_append [] bs h k = absurd (false≢true h)

@@ -1,45 +1,15 @@
 -- A word of a compiled text tells the literal, the atom, the step that it spells.
-use Rattle.std.proofs.Common.{◌≡◌, ℕ, ◌^◌, ◌<◌, ◌≤◌, Bool, true, false, not, ◌==◌, List, [], ◌∷◌, ◌++◌, map, drop, get_or, refl, sym, ap, subst, ◌∙◌, arith}
-use Rattle.std.specs.List.{list_all}
+use Rattle.std.proofs.Common.{◌≡◌, ℕ, ◌^◌, ◌<◌, ◌≤◌, true, not, ◌==◌, List, [], ◌∷◌, ◌++◌, map, drop, get_or, refl, sym, ap, arith}
 use Rattle.std.specs.Fmt.{decimal}
-use Rattle.std.proofs.lemmas.Bool.{and_parts, not-true, eqb-false, false≢true}
+use Rattle.std.proofs.lemmas.Bool.{and_parts, not-true, eqb-false}
 use Rattle.bee_text.specs.Lines.{lacks}
-use Rattle.bee_text.proofs.NumberLemmas.{decimal_injective_wide, decimal_unsigned}
+use Rattle.bee_text.proofs.NumberLemmas.{decimal_injective_wide}
 use Rattle.order_ints.specs.declared.literal.Lit.{Lit}
 use Rattle.order_ints.specs.declared.atom.Atom.{Atom}
-use Rattle.order_ints.specs.declared.atom.Atom.TheVariants.{True, False, Of}
-use Rattle.order_ints.specs.Place.{LitBelow, AtomBelow, StepsBelow, ClauseBelow}
-use Rattle.dimacs_out.specs.CompiledText.{literal_word, atom_word, step_word, WeightsCount}
-use Rattle.dimacs_out.proofs.SpelledWords.{signed_word, is_signed_digit, literal_bytes, atom_no_colon}
-
-signed_word_tells : (p q : Bool) (v w : ℕ) → v < 10 ^ 64 → w < 10 ^ 64 → signed_word p v ≡ signed_word q w → (p ≡ q) × (v ≡ w)
-signed_word_tells true true v w sv sw e = (refl, decimal_injective_wide v w sv sw e)
-signed_word_tells true false v w sv sw e = absurd (decimal_unsigned v (decimal w) sv e)
-signed_word_tells false true v w sv sw e = absurd (decimal_unsigned w (decimal v) sw (sym e))
-signed_word_tells false false v w sv sw e = (refl, decimal_injective_wide v w sv sw (ap (drop 1) e))
-
-pub literal_word_tells : (n m : ℕ) (l k : Lit) → n ≤ 2 ^ 32 → m ≤ 2 ^ 32 → LitBelow n l → LitBelow m k → literal_word l ≡ literal_word k → l ≡ k
-literal_word_tells n m l k bn bm p q e =
-    let both = signed_word_tells l.positive k.positive l.var k.var (omega (arith, p.1)) (omega (arith, q.1)) e in
-    λ i. record { var = both.1 i; positive = both.0 i }
-
--- a literal is none of the constants, whose letters are no digits
-no_constant : (b : ℕ) (l : Lit) → l.var < 10 ^ 64 → is_signed_digit b ≡ false → b ∷ [] ≡ literal_word l → ⊥
-no_constant b l small letter e =
-    let all = subst (λ t. list_all is_signed_digit t ≡ true) (sym e) (literal_bytes l small) in
-    let first = and_parts (is_signed_digit b) true all in
-    false≢true (sym letter ∙ first.0)
-
-pub atom_word_tells : (n m : ℕ) (a b : Atom) → n ≤ 2 ^ 32 → m ≤ 2 ^ 32 → AtomBelow n a → AtomBelow m b → atom_word a ≡ atom_word b → a ≡ b
-atom_word_tells n m True True bn bm p q e = refl
-atom_word_tells n m False False bn bm p q e = refl
-atom_word_tells n m True False bn bm p q e = absurd (omega (arith, ap (λ t. get_or t 0 0) e))
-atom_word_tells n m False True bn bm p q e = absurd (omega (arith, ap (λ t. get_or t 0 0) e))
-atom_word_tells n m True (Of k) bn bm p q e = absurd (no_constant 84 k (omega (arith, q.1)) refl e)
-atom_word_tells n m False (Of k) bn bm p q e = absurd (no_constant 70 k (omega (arith, q.1)) refl e)
-atom_word_tells n m (Of l) True bn bm p q e = absurd (no_constant 84 l (omega (arith, p.1)) refl (sym e))
-atom_word_tells n m (Of l) False bn bm p q e = absurd (no_constant 70 l (omega (arith, p.1)) refl (sym e))
-atom_word_tells n m (Of l) (Of k) bn bm p q e = ap Of (literal_word_tells n m l k bn bm p q e)
+use Rattle.order_ints.specs.Place.{AtomBelow, StepsBelow, ClauseBelow}
+use Rattle.ledger_text.specs.Words.{literal_word, atom_word}
+use Rattle.ledger_text.proofs.Spelled.{atom_no_colon, literal_word_tells, atom_word_tells}
+use Rattle.dimacs_out.specs.CompiledText.{step_word, WeightsCount}
 
 -- two texts before the first byte of a kind, and behind it
 cut_tells : (b : ℕ) (xs ys r s : List ℕ) → lacks b xs ≡ true → lacks b ys ≡ true → xs ++ b ∷ r ≡ ys ++ b ∷ s → (xs ≡ ys) × (r ≡ s)

@@ -4,7 +4,8 @@ use Rattle.std.proofs.lemmas.List.{append-nil}
 use Rattle.bee_text.specs.Lines.{join_lines}
 use Rattle.bee_text.specs.Words.{join_words, words_behind}
 use Rattle.order_ints.specs.declared.literal.Lit.{Lit}
-use Rattle.dimacs_out.specs.CompiledText.{literal_word, clause_line}
+use Rattle.ledger_text.specs.Words.{literal_word}
+use Rattle.dimacs_out.specs.CompiledText.{clause_line}
 use Rattle.dimacs_out.specs.Written.{words_ended}
 
 words_behind-last : (ws : List (List ℕ)) (z : List ℕ) → words_behind (ws ++ z ∷ []) ≡ 32 ∷ (words_ended ws ++ z)

@@ -7,29 +7,20 @@
 --     LITERAL .. 0                   for each clause
 --
 -- An atom is `T`, `F`, or a variable with its sign.
-use Rattle.std.specs.Prelude.{ℕ, ◌≤◌, ◌<◌, ◌^◌, ◌+◌, List, [], ◌∷◌, ◌++◌, codes, length, map, FitsSigned, if◌then◌else◌}
+use Rattle.std.specs.Prelude.{ℕ, ◌≤◌, ◌<◌, ◌^◌, ◌+◌, List, [], ◌∷◌, ◌++◌, codes, length, map, FitsSigned}
 use Rattle.std.specs.Int.{w128}
 use Rattle.std.specs.Fmt.{decimal, signed_decimal}
 use Rattle.bee_text.specs.Lines.{join_lines}
 use Rattle.bee_text.specs.Words.{join_words}
 use Rattle.order_ints.specs.declared.literal.Lit.{Lit}
 use Rattle.order_ints.specs.declared.atom.Atom.{Atom}
-use Rattle.order_ints.specs.declared.atom.Atom.TheVariants.{True, False, Of}
 use Rattle.order_ints.specs.declared.order_int.MapValue.{MapValue}
 use Rattle.order_ints.specs.declared.order_int.MapValue.TheVariants.{Bool, Int}
 use Rattle.order_ints.specs.declared.cnf.Cnf.{Cnf}
 use Rattle.order_ints.specs.Place.{AtomBelow, StepsBelow, InRange}
+use Rattle.ledger_text.specs.Words.{literal_word, atom_word}
 use Rattle.bumblebee_reader.specs.Names.{AreDeclared}
 use Rattle.dimacs_out.specs.declared.entry.MapEntry.{MapEntry}
-
--- a variable with its sign
-abbrev pub literal_word : Lit → List ℕ
-literal_word l = if l.positive then decimal l.var else 45 ∷ decimal l.var
-
-abbrev pub atom_word : Atom → List ℕ
-atom_word True = codes "T"
-atom_word False = codes "F"
-atom_word (Of l) = literal_word l
 
 -- a step of an integer: its atom, a colon, its weight
 abbrev pub step_word : Atom × ℕ → List ℕ

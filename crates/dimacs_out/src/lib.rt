@@ -8,4 +8,3 @@ mod write;
 pub use entry::MapEntry;
 pub use laws::text_laws;
 pub use write::write_map;
-

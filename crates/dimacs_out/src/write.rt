@@ -3,37 +3,16 @@
 ghost use Rattle.std.specs.Prelude.{◌≡◌, ◌<◌, ◌^◌, ◌++◌, ◌∷◌, [], length, map, IfOk, OnOk};
 ghost use Rattle.bee_text.specs.Lines.{join_lines};
 ghost use Rattle.bee_text.specs.Words.{words_behind};
-ghost use Rattle.dimacs_out.specs.CompiledText.{literal_word, atom_word, step_word, entry_line, clause_line, problem_line, compiled_text};
+ghost use Rattle.ledger_text.specs.Words.{literal_word};
+ghost use Rattle.dimacs_out.specs.CompiledText.{step_word, entry_line, clause_line, problem_line, compiled_text};
 ghost use Rattle.dimacs_out.specs.Written.{words_ended};
 
 use crate::entry::MapEntry;
 use bee_list::Sequence;
 use bee_text::{end_line, push_blank, push_bytes, push_number, push_signed};
-use itoa::Buffer;
+use ledger_text::{push_atom, push_literal};
 use order_ints::{Atom, Cnf, Lit, MapValue};
 use std::alloc::{AllocError, Global};
-
-/// Writes a variable with its sign.
-fn push_literal(out: &mut Vec<u8>, literal: Lit) -> Result<(), AllocError>
-    ensures { OnOk result (out.new.items ≡ out.old.items ++ literal_word literal) }
-{
-    if !literal.positive() {
-        out.push(b'-')?;
-    }
-    let mut buffer = Buffer::new();
-    push_bytes(out, buffer.format(literal.var()).as_bytes())
-}
-
-/// Writes an atom.
-fn push_atom(out: &mut Vec<u8>, atom: Atom) -> Result<(), AllocError>
-    ensures { OnOk result (out.new.items ≡ out.old.items ++ atom_word atom) }
-{
-    match atom {
-        Atom::True => push_bytes(out, b"T"),
-        Atom::False => push_bytes(out, b"F"),
-        Atom::Of(literal) => push_literal(out, literal),
-    }
-}
 
 /// Writes a step of an integer.
 fn push_step(out: &mut Vec<u8>, step: (Atom, u128)) -> Result<(), AllocError>

@@ -5,6 +5,7 @@ ghost use Rattle.std.specs.Prelude.{◌≡◌, ◌++◌, OnOk};
 ghost use Rattle.core_forms.specs.WellFormed.{IsSound};
 ghost use Rattle.direct_encode.specs.Clauses.{reaching_clauses, exceeding_clauses, differing_clauses};
 
+use crate::clause::push_clause;
 use bee_list::Sequence;
 use order_ints::{Atom, OrdInt, Walk};
 use std::alloc::AllocError;
@@ -21,11 +22,10 @@ pub(crate) fn push_reaching(
     requires b { IsSound b.now }
     ensures { OnOk result (clauses.new.items ≡ clauses.old.items ++ reaching_clauses r a.now b.now) }
 {
-    let alloc = *clauses.allocator();
     let mut walk = Walk::along(b);
     for (value, atom) in a.levels() {
         let reached = walk.at(value);
-        clauses.push(Sequence::from_vec(vec![in alloc; r.not(), atom.not(), reached]?))?;
+        push_clause(clauses, &[r.not(), atom.not(), reached])?;
     }
     Ok(())
 }
@@ -42,11 +42,10 @@ pub(crate) fn push_exceeding(
     requires b { IsSound b.now }
     ensures { OnOk result (clauses.new.items ≡ clauses.old.items ++ exceeding_clauses r a.now b.now) }
 {
-    let alloc = *clauses.allocator();
     let mut walk = Walk::along(a);
     for (value, atom) in b.levels() {
         let exceeded = walk.at(value + 1);
-        clauses.push(Sequence::from_vec(vec![in alloc; r, atom.not(), exceeded]?))?;
+        push_clause(clauses, &[r, atom.not(), exceeded])?;
     }
     Ok(())
 }
@@ -63,7 +62,6 @@ pub(crate) fn push_differing(
     requires b { IsSound b.now }
     ensures { OnOk result (clauses.new.items ≡ clauses.old.items ++ differing_clauses r a.now b.now) }
 {
-    let alloc = *clauses.allocator();
     let mut walk_a = Walk::along(a);
     let mut walk_b = Walk::along(b);
     for (value, a_reached) in a.levels() {
@@ -71,13 +69,10 @@ pub(crate) fn push_differing(
             let b_reached = walk_b.at(value);
             let a_exceeded = walk_a.at(value + 1);
             let b_exceeded = walk_b.at(value + 1);
-            clauses.push(Sequence::from_vec(vec![in alloc;
-                r,
-                a_reached.not(),
-                a_exceeded,
-                b_reached.not(),
-                b_exceeded,
-            ]?))?;
+            push_clause(
+                clauses,
+                &[r, a_reached.not(), a_exceeded, b_reached.not(), b_exceeded],
+            )?;
         }
     }
     Ok(())

@@ -9,6 +9,7 @@ ghost use Rattle.core_forms.specs.WellFormed.{IsWellFormed};
 ghost use Rattle.core_forms.specs.Meaning.{core_truth};
 ghost use Rattle.direct_encode.specs.Clauses.{IsEncodable, clauses_of};
 
+use crate::clause::push_clause;
 use crate::comparison::{push_differing, push_exceeding, push_reaching};
 use crate::order::{push_order, push_orders};
 use bee_list::Sequence;
@@ -25,7 +26,7 @@ fn push_clauses(clauses: &mut Vec<Sequence<Atom>>, core: &Core) -> Result<(), Al
 {
     match core {
         Core::Ladder(a) => push_order(clauses, a.get()),
-        Core::Clause(atoms) => push_members(clauses, atoms),
+        Core::Clause(atoms) => push_clause(clauses, atoms.as_slice()),
         Core::LeqR(r, a, b) => {
             let (a, b) = (a.get(), b.get());
             push_orders(clauses, a, b)?;
@@ -41,14 +42,6 @@ fn push_clauses(clauses: &mut Vec<Sequence<Atom>>, core: &Core) -> Result<(), Al
         }
         _ => Ok(()),
     }
-}
-
-/// Puts a clause of the listed members behind others.
-fn push_members(clauses: &mut Vec<Sequence<Atom>>, atoms: &Sequence<Atom>) -> Result<(), AllocError>
-    ensures { OnOk result (clauses.new.items ≡ clauses.old.items ++ (atoms.now ∷ [])) }
-{
-    clauses.push(atoms.clone()?)?;
-    Ok(())
 }
 
 /// The clauses of a core in a basic form: first, for each of its integers, those that say that it is

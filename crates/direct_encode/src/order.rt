@@ -3,6 +3,7 @@
 ghost use Rattle.std.specs.Prelude.{◌≡◌, ◌++◌, OnOk};
 ghost use Rattle.direct_encode.specs.Clauses.{order_clauses};
 
+use crate::clause::push_clause;
 use bee_list::Sequence;
 use order_ints::{Atom, OrdInt};
 use std::alloc::AllocError;
@@ -12,13 +13,12 @@ use std::alloc::AllocError;
 pub(crate) fn push_order(clauses: &mut Vec<Sequence<Atom>>, a: &OrdInt) -> Result<(), AllocError>
     ensures { OnOk result (clauses.new.items ≡ clauses.old.items ++ order_clauses a.now) }
 {
-    let alloc = *clauses.allocator();
     let Some((first, above)) = a.steps.as_slice().split_first() else {
         return Ok(());
     };
     let mut lower = first.0;
     for step in above {
-        clauses.push(Sequence::from_vec(vec![in alloc; lower, step.0.not()]?))?;
+        push_clause(clauses, &[lower, step.0.not()])?;
         lower = step.0;
     }
     Ok(())

@@ -99,7 +99,8 @@ impl EqStore {
         ensures stays { result ≢ Merged.Changed → self.new ≡ self.old }
         ensures view { self.new.view ≡ merged self.old.view a b }
         ensures relabels { result ≡ Merged.Changed
-            → IsSomeAnd (loser_of self.old.view a b) (λ x. IsRelabelled self.old.view self.new.view x) }
+            → IsSomeAnd (loser_of self.old.view a b)
+            (λ x. IsRelabelled self.old.view self.new.view x) }
         ensures equal { result ≡ Merged.Changed
             → resolve self.new.view a ≡ resolve self.new.view b }
         ensures equation { result ≡ Merged.Changed → AddsEquation self.old.view self.new.view a b }

@@ -1,12 +1,11 @@
 -- Places that are added, each its own neighbour.
-use Rattle.std.proofs.Common.{◌≡◌, ◌≢◌, ℕ, zero, suc, ◌+◌, ◌-◌, ◌≤◌, ◌<◌, ◌^◌, List, [], ◌∷◌, ◌++◌, map, length, get_or, replicate, refl, ap, sym, ◌∙◌, subst, arith, ⊎_elim, inl, inr}
-use Rattle.std.specs.Prelude.{if◌then◌else◌, ◌==◌, ◌⊎◌, nat_lt}
+use Rattle.std.proofs.Common.{◌≡◌, ℕ, zero, suc, ◌+◌, ◌-◌, ◌≤◌, ◌<◌, ◌^◌, List, [], ◌∷◌, ◌++◌, length, get_or, replicate, refl, ap, sym, ◌∙◌, subst, arith, ⊎_elim}
 use Rattle.std.proofs.lemmas.Bool.{cases_eq, cases_lt}
-use Rattle.std.proofs.lemmas.List.{length-append, get_or_append_left, get_or-append_right, get_or_past, length-replicate, get_or-replicate, get_or_default}
+use Rattle.std.proofs.lemmas.List.{length-append, get_or_append_left, get_or-append_right, length-replicate, get_or-replicate}
 use Rattle.index_ring.specs.declared.links.Links.{Links}
-use Rattle.index_ring.specs.Lists.{RingLists, IsRings, IsFree, list_of, times, times_in_all, grown}
+use Rattle.index_ring.specs.Lists.{RingLists, IsRings, list_of, times, times_in_all, grown}
 use Rattle.index_ring.specs.Links.{sentinel, no_links, next_at, previous_at, alone, Chain, IsLinked}
-use Rattle.index_ring.proofs.Times.{times-same, times-other, times-grows, all-append, all-empty, all-get}
+use Rattle.index_ring.proofs.Times.{times-other, all-append, all-empty, all-get}
 use Rattle.index_ring.proofs.Chains.{chain-same}
 use Rattle.index_ring.proofs.Views.{next_at-node, next_at-sentinel, previous_at-node, previous_at-sentinel}
 
@@ -119,7 +118,7 @@ module _ (nodes rings : List Links) (more_rings more_nodes : ℕ) (few : length 
     };
     linked = λ r small. ⊎_elim (old r) (λ high. new r high (omega (arith, length-append view.lists (replicate more_rings []), length-replicate more_rings (let none : List ℕ = [] in none)))) (cases_lt r (length view.lists));
     free = λ v small none. ⊎_elim (λ (low : v < length nodes). next-old_node v low ∙ h.free v (omega arith) (omega (arith, all v)))
-      (λ high. next_at-node grown_nodes grown_rings v no_links (omega (arith, nodes-length)) (omega arith) ∙ ap (λ (l : Links). l.next) (at-new_node v high (omega arith))) (cases_lt v (length nodes));
+        (λ high. next_at-node grown_nodes grown_rings v no_links (omega (arith, nodes-length)) (omega arith) ∙ ap (λ (l : Links). l.next) (at-new_node v high (omega arith))) (cases_lt v (length nodes));
   }
     where
       all : (v : ℕ) → times_in_all v (view.lists ++ replicate more_rings []) ≡ times_in_all v view.lists

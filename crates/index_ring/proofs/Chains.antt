@@ -1,10 +1,10 @@
 -- Chains of places, and what joining two places makes of them.
-use Rattle.std.proofs.Common.{◌≡◌, ◌≢◌, ℕ, zero, suc, ◌+◌, ◌-◌, ◌≤◌, ◌<◌, Bool, true, false, cond, eqb, List, [], ◌∷◌, ◌++◌, length, refl, ap, sym, ◌∙◌, subst, arith, ⊎_elim, inl, inr}
-use Rattle.std.specs.Prelude.{if◌then◌else◌, ◌==◌, ◌⊎◌}
-use Rattle.std.proofs.lemmas.Bool.{cases_lt, cases_eq, eq-eqb, ne_eqb, cond-true, cond-false}
+use Rattle.std.proofs.Common.{◌≡◌, ℕ, ◌≤◌, List, [], ◌∷◌, ◌++◌, refl, ap, sym, ◌∙◌, subst, arith}
+use Rattle.std.specs.Prelude.{if◌then◌else◌, ◌==◌}
+use Rattle.std.proofs.lemmas.Bool.{eq-eqb, ne_eqb, cond-true, cond-false}
 use Rattle.index_ring.specs.Lists.{times}
 use Rattle.index_ring.specs.Links.{Chain}
-use Rattle.index_ring.proofs.Times.{times-same, times-other, times-append}
+use Rattle.index_ring.proofs.Times.{times-same, times-append}
 
 -- from a through a list to b and on through another list to c
 pub chain-append : (n p : ℕ → ℕ) (a : ℕ) (xs : List ℕ) (b : ℕ) (ys : List ℕ) (c : ℕ) → Chain n p a xs b → Chain n p b ys c → Chain n p a (xs ++ b ∷ ys) c
@@ -33,14 +33,14 @@ first-stands n p a (x ∷ xs) b h = omega (arith, times-same (n a) x xs (sym h.0
 -- a chain stays where the links of its places do
 pub chain-same : (n p n' p' : ℕ → ℕ) (a : ℕ) (xs : List ℕ) (b : ℕ) → ((q : ℕ) → 1 ≤ times q (a ∷ xs) → n' q ≡ n q) → ((q : ℕ) → 1 ≤ times q (b ∷ xs) → p' q ≡ p q) → Chain n p a xs b → Chain n' p' a xs b
 chain-same n p n' p' a [] b next previous h = (
-    next a (omega (arith, times-same a a [] refl)) ∙ h.0,
-    previous b (omega (arith, times-same b b [] refl)) ∙ h.1,
-  )
+  next a (omega (arith, times-same a a [] refl)) ∙ h.0,
+  previous b (omega (arith, times-same b b [] refl)) ∙ h.1,
+)
 chain-same n p n' p' a (x ∷ xs) b next previous h = (
-    next a (omega (arith, times-same a a (x ∷ xs) refl)) ∙ h.0,
-    previous x (omega (arith, times-same x x xs refl)) ∙ h.1,
-    chain-same n p n' p' x xs b (λ q stands. next q (omega arith)) (λ q stands. previous q (omega arith)) h.2,
-  )
+  next a (omega (arith, times-same a a (x ∷ xs) refl)) ∙ h.0,
+  previous x (omega (arith, times-same x x xs refl)) ∙ h.1,
+  chain-same n p n' p' x xs b (λ q stands. next q (omega arith)) (λ q stands. previous q (omega arith)) h.2,
+)
 
 -- two places become neighbours: c, and behind it d
 pub record Joins (n p n' p' : ℕ → ℕ) (c d : ℕ) : Type 0 where
@@ -63,14 +63,14 @@ module _ (n p n' p' : ℕ → ℕ) (c d : ℕ) (j : Joins n p n' p' c d) where
   -- a chain that c doesn't leave from and d doesn't end stays
   pub chain-kept : (a : ℕ) (xs : List ℕ) (b : ℕ) → times c (a ∷ xs) ≡ 0 → times d (b ∷ xs) ≡ 0 → Chain n p a xs b → Chain n' p' a xs b
   chain-kept a [] b no_c no_d h = (
-      next-elsewhere a (λ e. omega (arith, times-same c a [] e)) ∙ h.0,
-      previous-elsewhere b (λ e. omega (arith, times-same d b [] e)) ∙ h.1,
-    )
+    next-elsewhere a (λ e. omega (arith, times-same c a [] e)) ∙ h.0,
+    previous-elsewhere b (λ e. omega (arith, times-same d b [] e)) ∙ h.1,
+  )
   chain-kept a (x ∷ xs) b no_c no_d h = (
-      next-elsewhere a (λ e. omega (arith, times-same c a (x ∷ xs) e)) ∙ h.0,
-      previous-elsewhere x (λ e. omega (arith, times-same d x xs e)) ∙ h.1,
-      chain-kept x xs b (omega arith) (omega arith) h.2,
-    )
+    next-elsewhere a (λ e. omega (arith, times-same c a (x ∷ xs) e)) ∙ h.0,
+    previous-elsewhere x (λ e. omega (arith, times-same d x xs e)) ∙ h.1,
+    chain-kept x xs b (omega arith) (omega arith) h.2,
+  )
 
   -- a chain whose first place is d starts from c now
   pub chain-from : (a : ℕ) (xs : List ℕ) (b : ℕ) → d ≡ n a → times c xs ≡ 0 → times d (b ∷ xs) ≤ 1 → Chain n p a xs b → Chain n' p' c xs b

@@ -1,11 +1,11 @@
 -- What each move makes of links that are those of lists.
-use Rattle.std.proofs.Common.{◌≡◌, ◌≢◌, ℕ, zero, suc, ◌+◌, ◌-◌, ◌≤◌, ◌<◌, ◌^◌, Bool, true, false, cond, eqb, List, [], ◌∷◌, ◌++◌, map, length, get_or, set, replicate, refl, ap, sym, ◌∙◌, subst, arith, ⊎_elim, inl, inr}
-use Rattle.std.specs.Prelude.{if◌then◌else◌, ◌==◌, ◌⊎◌}
+use Rattle.std.proofs.Common.{◌≡◌, ℕ, ◌+◌, ◌≤◌, ◌<◌, ◌^◌, List, [], ◌∷◌, ◌++◌, map, length, set, refl, ap, sym, ◌∙◌, subst, arith, ⊎_elim}
+use Rattle.std.specs.Prelude.{◌==◌}
 use Rattle.std.proofs.lemmas.Bool.{cases_lt, cases_eq, eq-eqb, ne_eqb, cond-true, cond-false}
-use Rattle.std.proofs.lemmas.List.{length-set, length-map, get_or-map, get_or_past}
-use Rattle.index_ring.specs.Lists.{RingLists, IsRings, IsFree, list_of, times, times_in_all, without, with_list, pushed_back, pushed_front, unlinked, spliced}
+use Rattle.std.proofs.lemmas.List.{length-set, length-map, get_or-map}
+use Rattle.index_ring.specs.Lists.{RingLists, IsRings, IsFree, list_of, times, times_in_all, without, with_list, pushed_back, pushed_front, unlinked}
 use Rattle.index_ring.specs.Links.{sentinel, Chain, IsLinked}
-use Rattle.index_ring.proofs.Times.{times-same, times-other, times-append, cut, all-set, all-get, all-two, all-find, all-without, without-none, without-cut, get-set}
+use Rattle.index_ring.proofs.Times.{times-same, times-other, times-append, all-set, all-get, all-two, all-without, without-none, without-cut, get-set}
 use Rattle.index_ring.proofs.Chains.{Joins, chain-append, chain-front, chain-back, last-stands, first-stands, next-there, previous-there, next-elsewhere, chain-kept, chain-from, chain-to, chain-past}
 
 -- the places of a ring: its sentinel, then its nodes
@@ -101,8 +101,8 @@ module _ (n p n1 p1 n2 p2 : ℕ → ℕ) (rings : RingLists) (h : IsLinked n p r
     stand = IsRings-pushed rings r v list h.stand inside low free more;
     linked = with_list-linked n2 p2 rings r list inside here others;
     free = λ w small none. let was = still-free list w more none in next-elsewhere n1 p1 n2 p2 v (sentinel r) second w was.1
-      ∙ next-elsewhere n p n1 p1 (p (sentinel r)) v first w (λ e. apart w small was.0 e)
-      ∙ h.free w small was.0;
+        ∙ next-elsewhere n p n1 p1 (p (sentinel r)) v first w (λ e. apart w small was.0 e)
+        ∙ h.free w small was.0;
   }
     where
       list : List ℕ
@@ -137,8 +137,8 @@ module _ (n p n1 p1 n2 p2 : ℕ → ℕ) (rings : RingLists) (h : IsLinked n p r
     stand = IsRings-pushed rings r v list h.stand inside low free more;
     linked = with_list-linked n2 p2 rings r list inside here others;
     free = λ w small none. let was = still-free list w more none in next-elsewhere n1 p1 n2 p2 (sentinel r) v second w (λ e. omega (arith, h.stand.small))
-      ∙ next-elsewhere n p n1 p1 v (n (sentinel r)) first w was.1
-      ∙ h.free w small was.0;
+        ∙ next-elsewhere n p n1 p1 v (n (sentinel r)) first w was.1
+        ∙ h.free w small was.0;
   }
     where
       list : List ℕ

@@ -1,11 +1,11 @@
 -- What the links tell of the lists.
-use Rattle.std.proofs.Common.{◌≡◌, ◌≢◌, ℕ, zero, suc, ◌+◌, ◌-◌, ◌≤◌, ◌<◌, ◌^◌, List, [], ◌∷◌, ◌++◌, length, get_or, refl, ap, sym, ◌∙◌, subst, arith, ⊎_elim, Option, Some, None}
-use Rattle.std.specs.Prelude.{if◌then◌else◌, ◌==◌, ◌⊎◌, nat_lt, ◌↔◌, IsTrue}
-use Rattle.std.proofs.lemmas.Bool.{cases_eq, cases_lt, eq-eqb, ne_eqb, eqb-true, cond-true, cond-false, lt-ltb, le-ltb}
+use Rattle.std.proofs.Common.{◌≡◌, ℕ, ◌+◌, ◌≤◌, ◌<◌, ◌^◌, List, [], ◌∷◌, ◌++◌, length, get_or, refl, ap, sym, ◌∙◌, subst, arith, ⊎_elim, Option, Some, None}
+use Rattle.std.specs.Prelude.{if◌then◌else◌, ◌==◌, nat_lt, ◌↔◌, IsTrue}
+use Rattle.std.proofs.lemmas.Bool.{cases_lt, eq-eqb, ne_eqb, eqb-true, cond-true, cond-false, lt-ltb, le-ltb}
 use Rattle.std.proofs.lemmas.List.{get_or_past}
 use Rattle.index_ring.specs.declared.links.Links.{Links}
-use Rattle.index_ring.specs.Lists.{RingLists, IsRings, IsFree, Stands, list_of, times, times_in_all, first_in, after_in}
-use Rattle.index_ring.specs.Links.{sentinel, no_links, next_at, previous_at, Chain, view_of, IsLinked, IsSound}
+use Rattle.index_ring.specs.Lists.{RingLists, IsFree, Stands, list_of, times, times_in_all, first_in, after_in}
+use Rattle.index_ring.specs.Links.{sentinel, no_links, next_at, previous_at, Chain, view_of, IsSound}
 use Rattle.index_ring.proofs.Times.{times-same, times-other, times-append, all-get, cut}
 use Rattle.index_ring.proofs.Chains.{chain-back, first-stands}
 use Rattle.index_ring.proofs.Views.{length-view_of, next_at-sentinel, next_at-node}
@@ -71,9 +71,9 @@ module _ (nodes rings : List Links) (h : IsSound nodes rings) where
 
   pub free-read : (v : ℕ) (d : Links) → v < length nodes → ((get_or nodes v d).next ≡ v) ↔ IsFree (view_of nodes rings) v
   free-read v d low = (
-      λ e. ⊎_elim (λ (none : times_in_all v (view_of nodes rings).lists < 1). omega arith) (λ some. absurd (stands-apart v (standing-from (view_of nodes rings) v (λ none. omega arith)) low (at_v ∙ e))) (cases_lt (times_in_all v (view_of nodes rings).lists) 1),
-      λ none. sym at_v ∙ h.free v low none,
-    )
+    λ e. ⊎_elim (λ (none : times_in_all v (view_of nodes rings).lists < 1). omega arith) (λ some. absurd (stands-apart v (standing-from (view_of nodes rings) v (λ none. omega arith)) low (at_v ∙ e))) (cases_lt (times_in_all v (view_of nodes rings).lists) 1),
+    λ none. sym at_v ∙ h.free v low none,
+  )
     where
       at_v : next_at nodes rings v ≡ (get_or nodes v d).next
       at_v = next_at-node nodes rings v d low (omega (arith, few-rings nodes rings h))

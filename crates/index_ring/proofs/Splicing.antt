@@ -1,12 +1,12 @@
 -- What a splice makes of links that are those of lists.
-use Rattle.std.proofs.Common.{◌≡◌, ◌≢◌, ℕ, zero, suc, ◌+◌, ◌-◌, ◌≤◌, ◌<◌, ◌^◌, List, [], ◌∷◌, ◌++◌, length, get_or, set, refl, ap, sym, ◌∙◌, subst, arith, ⊎_elim, inl, inr}
-use Rattle.std.specs.Prelude.{if◌then◌else◌, ◌==◌, ◌⊎◌}
+use Rattle.std.proofs.Common.{◌≡◌, ℕ, ◌≤◌, ◌<◌, List, [], ◌∷◌, ◌++◌, length, get_or, set, refl, ap, sym, ◌∙◌, subst, arith, ⊎_elim}
+use Rattle.std.specs.Prelude.{if◌then◌else◌, ◌==◌}
 use Rattle.std.proofs.lemmas.Bool.{cases_eq, eq-eqb, ne_eqb, cond-true, cond-false}
 use Rattle.std.proofs.lemmas.List.{length-set, append-nil, set-get_or}
-use Rattle.index_ring.specs.Lists.{RingLists, IsRings, IsFree, list_of, times, times_in_all, with_list, spliced}
+use Rattle.index_ring.specs.Lists.{RingLists, IsFree, list_of, times, times_in_all, spliced}
 use Rattle.index_ring.specs.Links.{sentinel, Chain, IsLinked}
-use Rattle.index_ring.proofs.Times.{times-same, times-other, times-append, all-set, all-get, get-set}
-use Rattle.index_ring.proofs.Chains.{Joins, chain-append, last-stands, first-stands, next-there, previous-there, next-elsewhere, previous-elsewhere, chain-kept, chain-to}
+use Rattle.index_ring.proofs.Times.{times-same, times-append, all-set, get-set}
+use Rattle.index_ring.proofs.Chains.{Joins, chain-append, next-there, previous-there, next-elsewhere, previous-elsewhere, chain-kept, chain-to}
 use Rattle.index_ring.proofs.Moved.{places, place-once, places-apart, free-apart, last-place, first-place}
 
 -- a ring whose sentinel is its own neighbour is empty

@@ -1,12 +1,11 @@
 -- The lists that links stand for.
-use Rattle.std.proofs.Common.{◌≡◌, ◌≢◌, ℕ, zero, suc, ◌+◌, ◌-◌, ◌≤◌, ◌<◌, ◌^◌, List, [], ◌∷◌, ◌++◌, map, length, get_or, set, refl, ap, sym, ◌∙◌, subst, arith, ⊎_elim, inl, inr}
-use Rattle.std.specs.Prelude.{if◌then◌else◌, ◌==◌, ◌⊎◌, nat_lt}
-use Rattle.std.specs.List.{range_with_len}
-use Rattle.std.proofs.lemmas.Bool.{cases_eq, cases_lt, eq-eqb, ne_eqb, cond-true, cond-false, lt-ltb, le-ltb}
+use Rattle.std.proofs.Common.{◌≡◌, ℕ, zero, suc, ◌+◌, ◌≤◌, ◌<◌, ◌^◌, List, [], ◌∷◌, length, get_or, refl, ap, sym, ◌∙◌, subst, arith, ⊎_elim}
+use Rattle.std.specs.Prelude.{nat_lt}
+use Rattle.std.proofs.lemmas.Bool.{cases_eq, cases_lt, cond-true, cond-false, lt-ltb, le-ltb}
 use Rattle.std.proofs.lemmas.List.{ext_get_or, get_or_default}
 use Rattle.std.proofs.lemmas.List.FromFn.{length-map-range_with_len, get_or-map-range_with_len}
 use Rattle.index_ring.specs.declared.links.Links.{Links}
-use Rattle.index_ring.specs.Lists.{RingLists, IsRings, IsFree, list_of, times, times_in_all}
+use Rattle.index_ring.specs.Lists.{RingLists, list_of, times, times_in_all}
 use Rattle.index_ring.specs.Links.{sentinel, no_links, next_at, previous_at, IsPlace, Chain, nodes_behind, view_of, IsLinked, IsSound, Joined}
 use Rattle.index_ring.proofs.Times.{times-same, times-other, times-grows, all-get, total_length-le, length-le-total}
 use Rattle.index_ring.proofs.Chains.{Joins}

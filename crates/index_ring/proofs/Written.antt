@@ -1,12 +1,12 @@
 -- What each move makes of the links as they are written.
-use Rattle.std.proofs.Common.{◌≡◌, ◌≢◌, ℕ, ◌+◌, ◌≤◌, ◌<◌, ◌^◌, List, [], ◌∷◌, ◌++◌, length, get_or, set, replicate, refl, ap, sym, ◌∙◌, subst, arith, ⊎_elim}
+use Rattle.std.proofs.Common.{◌≡◌, ℕ, ◌+◌, ◌≤◌, ◌<◌, ◌^◌, List, [], ◌∷◌, ◌++◌, length, get_or, set, replicate, refl, ap, sym, ◌∙◌, subst, arith, ⊎_elim}
 use Rattle.std.proofs.lemmas.Bool.{cases_lt}
 use Rattle.std.proofs.lemmas.List.{length-set, length-map, length-append, length-replicate}
 use Rattle.index_ring.specs.declared.links.Links.{Links}
-use Rattle.index_ring.specs.Lists.{RingLists, IsFree, list_of, times, times_in_all, without, pushed_back, pushed_front, unlinked, spliced, grown, with_list}
+use Rattle.index_ring.specs.Lists.{RingLists, IsFree, list_of, times, times_in_all, without, pushed_back, pushed_front, unlinked, spliced, grown}
 use Rattle.index_ring.specs.Links.{sentinel, next_at, previous_at, IsPlace, Chain, alone, view_of, IsLinked, IsSound, Joined}
 use Rattle.index_ring.proofs.Times.{cut, all-find, all-get, times-append, times-same}
-use Rattle.index_ring.proofs.Moved.{places, linked-pushed_back, linked-pushed_front, linked-unlinked, last-place, first-place, before-place, behind-place}
+use Rattle.index_ring.proofs.Moved.{linked-pushed_back, linked-pushed_front, linked-unlinked, last-place, first-place, before-place, behind-place}
 use Rattle.index_ring.proofs.Splicing.{empty-from, front-from, spliced-nothing, linked-spliced}
 use Rattle.index_ring.proofs.Alone.{length-alone, linked-grown}
 use Rattle.index_ring.proofs.Views.{view-from, sound-from, length-view_of, joins-from, next_at-sentinel, previous_at-sentinel, next_at-node, previous_at-node, place-from}

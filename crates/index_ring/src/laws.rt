@@ -1,6 +1,6 @@
 //! Laws of the lists that clauses cite.
 
-ghost use Rattle.index_ring.specs.Laws.{StandsOnce, FreeExactly, LengthsFit, WalkMeets, OthersStay};
+ghost use Rattle.index_ring.specs.Laws.{StandsOnce, FreeExactly, LengthsFit, WalkMeets, WalkIsList, UnlinkCloses, OthersStay};
 
 /// Where a node stands.
 pub fn place_laws()
@@ -12,9 +12,11 @@ pub fn place_laws()
 /// What a walk by `first` and `after` meets.
 pub fn walk_laws()
     ensures meets { WalkMeets }
+    ensures list { WalkIsList }
 {}
 
-/// What a move of a node from its ring to another one changes.
+/// What a node that leaves its ring changes.
 pub fn move_laws()
+    ensures closes { UnlinkCloses }
     ensures others { OthersStay }
 {}

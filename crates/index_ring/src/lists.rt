@@ -56,6 +56,22 @@ impl Rings {
         Ok(())
     }
 
+    /// The number of rings.
+    pub fn rings(&self) -> u32
+        ensures count { result ≡ length self.now.lists }
+        ensures rings { IsRings self.now }
+    {
+        self.rings.as_slice().len() as u32
+    }
+
+    /// The number of nodes.
+    pub fn nodes(&self) -> u32
+        ensures count { result ≡ self.now.nodes }
+        ensures rings { IsRings self.now }
+    {
+        self.nodes.as_slice().len() as u32
+    }
+
     /// Makes a free node the last of a ring.
     pub fn push_back(&mut self, ring: u32, node: u32)
         requires ring { ring < length self.old.lists }

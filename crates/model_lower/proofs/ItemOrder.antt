@@ -15,17 +15,17 @@ use Rattle.typed_model.specs.declared.what.What.{What}
 use Rattle.typed_model.specs.declared.what.What.TheVariants.{L6, L8}
 use Rattle.typed_model.specs.Limits.{StmtsInLimit, DeclsInLimit}
 use Rattle.typed_model.specs.WellTyped.{IsInt, TruthFits, NumberFits, TruthsFit, WhatFits, StmtsFit, DeclsFit}
-use Rattle.model_lower.specs.Items.{Item, Declaration, stmts_before, stmts_from, statements, items_of}
+use Rattle.model_lower.specs.Items.{ModelItem, Declaration, stmts_before, stmts_from, statements, items_of}
 use Rattle.model_lower.specs.Built.{is_built}
 use Rattle.model_lower.proofs.Standing.{ItemsFit, decls_in, stmts_in}
 
 -- The declarations and the statements of the items.
 
-decls_in-statements : (ss : List Stmt) (items : List Item) → decls_in (statements ss ++ items) ≡ decls_in items
+decls_in-statements : (ss : List Stmt) (items : List ModelItem) → decls_in (statements ss ++ items) ≡ decls_in items
 decls_in-statements [] items = refl
 decls_in-statements (s ∷ ss) items = decls_in-statements ss items
 
-stmts_in-statements : (ss : List Stmt) (items : List Item) → stmts_in (statements ss ++ items) ≡ ss ++ stmts_in items
+stmts_in-statements : (ss : List Stmt) (items : List ModelItem) → stmts_in (statements ss ++ items) ≡ ss ++ stmts_in items
 stmts_in-statements [] items = refl
 stmts_in-statements (s ∷ ss) items = ap (λ ts. s ∷ ts) (stmts_in-statements ss items)
 
@@ -92,9 +92,15 @@ module _ (ds es : List Decl) (n : ℕ) (from : AllFrom n es) where
   TruthsFit-before (x ∷ xs) h = (TruthFits-before x h.0, TruthsFit-before xs h.1)
 
   WhatFits-before : (w : What) → WhatFits (ds ++ es) n w → is_built w ≡ true → WhatFits ds n w
-  unfolding WhatFits
-  WhatFits-before (L6 name xs) h built = (h.0, TruthsFit-before xs h.1)
-  WhatFits-before (L8 name i j) h built = (h.0, (NumberFits-before i h.1.0, NumberFits-before j h.1.1))
+  WhatFits-before (L6 name op xs) h built =
+      record { name = h.name; arguments = (TruthsFit-before xs h.arguments.0, tt); lengths = h.lengths; values = h.values }
+  WhatFits-before (L8 name rel i j) h built =
+      record {
+        name = h.name;
+        arguments = (NumberFits-before i h.arguments.0, (NumberFits-before j h.arguments.1.0, tt));
+        lengths = h.lengths;
+        values = h.values;
+      }
   WhatFits-before w h built = absurd (false≢true built)
 
 -- The items fit.
@@ -117,7 +123,7 @@ fits-from n ds (s ∷ ss) h k = by_test (nat_lt s.number n) (fits-from n ds ss h
     by_test false r = (h, k)
 
 -- statements before the declarations that are left fit the declarations so far
-statements-fit : (done ds : List Decl) (n : ℕ) (ss : List Stmt) (items : List Item) → ((m : ℕ) → m < n → AllFrom m ds) → EachFits (done ++ ds) ss → StmtsInLimit ss → ItemsFit done items → ItemsFit done (statements (stmts_before n ss) ++ items)
+statements-fit : (done ds : List Decl) (n : ℕ) (ss : List Stmt) (items : List ModelItem) → ((m : ℕ) → m < n → AllFrom m ds) → EachFits (done ++ ds) ss → StmtsInLimit ss → ItemsFit done items → ItemsFit done (statements (stmts_before n ss) ++ items)
 statements-fit done ds n [] items from h k rest = rest
 statements-fit done ds n (s ∷ ss) items from h k rest = by_test (nat_lt s.number n) (λ t. grind (arith, nat_tests)) (statements-fit done ds n ss items from h.1 k.1 rest)
   where

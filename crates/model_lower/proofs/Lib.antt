@@ -1,4 +1,3 @@
-pub mod TermLaws
 pub mod EntryLaws
 pub mod CoreLaws
 pub mod StatementSteps
@@ -8,3 +7,4 @@ pub mod ItemOrder
 pub mod LoweringLaw
 pub mod LoweredItems
 pub mod UnbuiltItems
+pub mod MeaningLaws

@@ -8,18 +8,18 @@ use Rattle.typed_model.specs.declared.model.Decl.{Decl}
 use Rattle.typed_model.specs.declared.model.Stmt.{Stmt}
 use Rattle.typed_model.specs.Names.{first_of}
 use Rattle.model_lower.specs.declared.state.Lowered.{Lowered}
-use Rattle.model_lower.specs.Items.{Item, Declaration, Statement, stmts_before, stmts_from, statements, items_of}
+use Rattle.model_lower.specs.Items.{ModelItem, Declaration, Statement, stmts_before, stmts_from, statements, items_of}
 use Rattle.model_lower.specs.Lowering.{lowered_item, lowered_items}
 use Rattle.model_lower.specs.Built.{vars_after, unbuilt, first_unbuilt, IsFaultOf}
 use Rattle.model_lower.specs.declared.fault.LowerFault.{LowerFault}
 use Rattle.model_lower.specs.declared.fault.LowerFault.TheVariants.{Unbuilt, Memory}
 
-pub lowered_items-append : (l : Lowered) (xs ys : List Item) → lowered_items l (xs ++ ys) ≡ lowered_items (lowered_items l xs) ys
+pub lowered_items-append : (l : Lowered) (xs ys : List ModelItem) → lowered_items l (xs ++ ys) ≡ lowered_items (lowered_items l xs) ys
 lowered_items-append l [] ys = refl
 lowered_items-append l (x ∷ xs) ys = lowered_items-append (lowered_item l x) xs ys
 
 -- the variables that are counted are those of what is lowered
-pub vars-item : (l : Lowered) (i : Item) → (lowered_item l i).vars ≡ vars_after l.vars i
+pub vars-item : (l : Lowered) (i : ModelItem) → (lowered_item l i).vars ≡ vars_after l.vars i
 vars-item l (Declaration d) = refl
 vars-item l (Statement s) = refl
 
@@ -27,13 +27,13 @@ first_of-built : {A : Type 0} (o p q : Option A) → o ≡ None → p ≡ q → 
 first_of-built o p q e f = rw e f
 
 -- behind an item that is built
-pub unbuilt-next : (l m : Lowered) (i : Item) (items : List Item) → unbuilt l.vars i ≡ None → m ≡ lowered_item l i → first_unbuilt l.vars (i ∷ items) ≡ first_unbuilt m.vars items
+pub unbuilt-next : (l m : Lowered) (i : ModelItem) (items : List ModelItem) → unbuilt l.vars i ≡ None → m ≡ lowered_item l i → first_unbuilt l.vars (i ∷ items) ≡ first_unbuilt m.vars items
 unbuilt-next l m i items none e =
     first_of-built (unbuilt l.vars i) (first_unbuilt (vars_after l.vars i) items) (first_unbuilt m.vars items) none
     (ap (λ (v : ℕ). first_unbuilt v items) (sym (vars-item l i) ∙ ap (λ (l : Lowered). l.vars) (sym e)))
 
 -- behind items that are built
-pub unbuilt-append : (l : Lowered) (xs ys : List Item) → first_unbuilt l.vars xs ≡ None → first_unbuilt l.vars (xs ++ ys) ≡ first_unbuilt (lowered_items l xs).vars ys
+pub unbuilt-append : (l : Lowered) (xs ys : List ModelItem) → first_unbuilt l.vars xs ≡ None → first_unbuilt l.vars (xs ++ ys) ≡ first_unbuilt (lowered_items l xs).vars ys
 unbuilt-append l [] ys none = refl
 unbuilt-append l (x ∷ xs) ys none = by_first (unbuilt l.vars x) (unbuilt-append (lowered_item l x) xs ys) none
   where
@@ -44,7 +44,7 @@ unbuilt-append l (x ∷ xs) ys none = by_first (unbuilt l.vars x) (unbuilt-appen
     by_first (Some n) f none = absurd (cc)
 
 -- the first item that isn't built stays the first one
-pub unbuilt-stays : (vars n : ℕ) (xs ys : List Item) → first_unbuilt vars xs ≡ Some n → first_unbuilt vars (xs ++ ys) ≡ Some n
+pub unbuilt-stays : (vars n : ℕ) (xs ys : List ModelItem) → first_unbuilt vars xs ≡ Some n → first_unbuilt vars (xs ++ ys) ≡ Some n
 unbuilt-stays vars n [] ys e = absurd (cc)
 unbuilt-stays vars n (x ∷ xs) ys e = by_first (unbuilt vars x) (unbuilt-stays (vars_after vars x) n xs ys) e
   where
@@ -91,7 +91,7 @@ items-at ds i d ss now later h is n f =
 
 -- the items are those before a declaration, the declaration, and the others; what was lowered before, behind
 -- the first ones, and behind the declaration
-module _ (items xs rest : List Item) (d : Decl) (parts : items ≡ xs ++ (Declaration d ∷ rest)) (l m k : Lowered) where
+module _ (items xs rest : List ModelItem) (d : Decl) (parts : items ≡ xs ++ (Declaration d ∷ rest)) (l m k : Lowered) where
   pub shape-step : (all : Lowered) → m ≡ lowered_items l xs → k ≡ lowered_item m (Declaration d) → lowered_items l items ≡ all → lowered_items k rest ≡ all
   shape-step all first next e =
       ap (λ (l : Lowered). lowered_items l rest) next

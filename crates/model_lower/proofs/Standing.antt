@@ -13,13 +13,13 @@ use Rattle.typed_model.specs.Limits.{KindInLimit, WhatInLimit}
 use Rattle.typed_model.specs.WellTyped.{KindFits, WhatFits}
 use Rattle.typed_model.specs.Solutions.{AllHold}
 use Rattle.typed_model.proofs.AppendLaws.{WhatFits-append}
+use Rattle.typed_model.proofs.BehindLaws.{behind}
 use Rattle.model_lower.specs.declared.state.Lowered.{Lowered}
-use Rattle.model_lower.specs.Items.{Item, Declaration, Statement}
+use Rattle.model_lower.specs.Items.{ModelItem, Declaration, Statement}
 use Rattle.model_lower.specs.Lowering.{with_declaration, with_statement, lowered_items, nothing_lowered}
 use Rattle.model_lower.specs.Built.{is_built, vars_after, unbuilt, first_unbuilt}
 use Rattle.model_lower.specs.Decoded.{IsDecoded}
 use Rattle.model_lower.specs.ItemLaws.{Encodes, TakesEachValue}
-use Rattle.model_lower.proofs.TermLaws.{Holds-append}
 use Rattle.model_lower.proofs.EntryLaws.{numbers_of-agree}
 use Rattle.model_lower.proofs.StatementSteps.{statement_law, none-built}
 use Rattle.model_lower.proofs.DeclarationSteps.{declaration_law}
@@ -80,7 +80,7 @@ in_domains-length (d ∷ ds) (v ∷ a) h = ap suc (in_domains-length ds a (and_p
 AllHold-append : (ds : List Decl) (ss : List Stmt) (a b : List ℤ) → length a ≡ length ds → ArePlaced ds ss → AllHold (a ++ b) ss ↔ AllHold a ss
 AllHold-append ds [] a b long p = (λ h. tt, λ h. tt)
 AllHold-append ds (s ∷ ss) a b long p =
-    let here = Holds-append ds s.number a b long s.what p.1 p.0 in
+    let here = (behind ds [] s.number s.what p.1).1 a b (omega (arith, long)) in
     let rest = AllHold-append ds ss a b long p.2 in
     (λ h. (here.0 h.0, rest.0 h.1), λ h. (here.1 h.0, rest.1 h.1))
 
@@ -164,23 +164,23 @@ pub nothing-stands : Stands nothing_lowered [] []
 nothing-stands = record {
   encodes = record { fits = record { vars = omega arith; entries = tt; cores = tt }; ordered = λ σ h. tt };
   placed = tt;
-  solutions = λ a. (λ h. ((λ v. false), tt, empty-alone a h.0), λ c. (subst (λ (vs : List ℤ). IsTrue (in_domains [] vs)) (sym c.2) refl, tt));
+  solutions = λ a. (λ h. ((λ v. false), refl, empty-alone a h.0), λ c. (subst (λ (vs : List ℤ). IsTrue (in_domains [] vs)) (sym c.2) refl, tt));
 }
 
 -- All items.
 
 -- what typing and limits say of items behind declarations
-abbrev pub ItemsFit : List Decl → List Item → Type 0
+abbrev pub ItemsFit : List Decl → List ModelItem → Type 0
 ItemsFit ds [] = Unit {0}
 ItemsFit ds (Declaration d ∷ items) = KindFits d.kind × KindInLimit d.kind × ItemsFit (ds ++ d ∷ []) items
 ItemsFit ds (Statement s ∷ items) = (is_built s.what ≡ true → WhatFits ds s.number s.what) × WhatInLimit s.what × ItemsFit ds items
 
-abbrev pub decls_in : List Item → List Decl
+abbrev pub decls_in : List ModelItem → List Decl
 decls_in [] = []
 decls_in (Declaration d ∷ items) = d ∷ decls_in items
 decls_in (Statement s ∷ items) = decls_in items
 
-abbrev pub stmts_in : List Item → List Stmt
+abbrev pub stmts_in : List ModelItem → List Stmt
 stmts_in [] = []
 stmts_in (Declaration d ∷ items) = stmts_in items
 stmts_in (Statement s ∷ items) = s ∷ stmts_in items
@@ -189,7 +189,7 @@ pub first_of-none : {A : Type 0} (o p : Option A) → first_of o p ≡ None → 
 first_of-none None p e = (refl, e)
 first_of-none (Some x) p e = absurd (cc)
 
-pub items-stand : (l : Lowered) (ds : List Decl) (ss : List Stmt) (items : List Item) → Stands l ds ss → ItemsFit ds items → first_unbuilt l.vars items ≡ None → Stands (lowered_items l items) (ds ++ decls_in items) (ss ++ stmts_in items)
+pub items-stand : (l : Lowered) (ds : List Decl) (ss : List Stmt) (items : List ModelItem) → Stands l ds ss → ItemsFit ds items → first_unbuilt l.vars items ≡ None → Stands (lowered_items l items) (ds ++ decls_in items) (ss ++ stmts_in items)
 items-stand l ds ss [] st fit none = rw (append-nil ds, append-nil ss) st
 items-stand l ds ss (Declaration d ∷ items) st fit none =
     let p = first_of-none (unbuilt l.vars (Declaration d)) (first_unbuilt (vars_after l.vars (Declaration d)) items) none in

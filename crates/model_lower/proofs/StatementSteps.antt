@@ -1,5 +1,5 @@
 -- The cores of a statement: their ranges, and that they are met exactly where the statement holds.
-use Rattle.std.proofs.Common.{◌≡◌, ◌↔◌, ℕ, ◌+◌, ℤ, Bool, true, false, not, ◌&&◌, List, ◌++◌, Option, Some, None, IsSomeAnd, IsTrue, refl, sym, ap, subst, ◌∙◌, arith}
+use Rattle.std.proofs.Common.{◌≡◌, ◌↔◌, ℕ, ◌+◌, ℤ, Bool, true, false, not, ◌&&◌, List, [], ◌∷◌, ◌++◌, None, Some, IsTrue, refl, sym, ap, subst, ◌∙◌, arith}
 use Rattle.std.specs.Prelude.{int_le, int_lt, if◌then◌else◌}
 use Rattle.std.specs.Bool.{beq}
 use Rattle.std.proofs.lemmas.Bool.{false≢true}
@@ -26,16 +26,15 @@ use Rattle.typed_model.specs.declared.statement.Operator.{Operator}
 use Rattle.typed_model.specs.declared.statement.Operator.TheVariants as operator
 use Rattle.typed_model.specs.declared.statement.Relation.{Relation}
 use Rattle.typed_model.specs.declared.statement.Relation.TheVariants as relation
-use Rattle.typed_model.specs.Names.{array_operator, compare_relation}
 use Rattle.typed_model.specs.Terms.{truths_of}
-use Rattle.typed_model.specs.Booleans.{combined, some_true}
+use Rattle.typed_model.specs.Booleans.{combine, some_true}
 use Rattle.typed_model.specs.Integers.{relates}
 use Rattle.typed_model.specs.Holds.{Holds}
 use Rattle.typed_model.specs.Limits.{WhatInLimit}
 use Rattle.typed_model.specs.WellTyped.{WhatFits}
 use Rattle.typed_model.proofs.DomainLaws.{Decides-int_le, Decides-int_lt}
-use Rattle.model_lower.specs.Cores.{atoms_of, integer_of, comparison_core, array_cores, comparison_cores, cores_of}
-use Rattle.model_lower.specs.Built.{is_built_operator, is_built_relation, is_built}
+use Rattle.model_lower.specs.Cores.{atoms_of, integer_of, comparison_core, array_cores, cores_of}
+use Rattle.model_lower.specs.Built.{is_built_operator, is_built}
 use Rattle.model_lower.specs.Fits.{CoreFits, CoresFit, EntriesFit}
 use Rattle.model_lower.specs.ItemLaws.{AreOrdered, StatementLaw}
 use Rattle.model_lower.proofs.EntryLaws.{IntegerLaws, atoms_of-truth, atoms_of-below, integer_of-laws, IsOrdered-integer_of, numbers_of-agree}
@@ -90,53 +89,47 @@ comparison-fits σ n relation.Neq r a b v w at h k = record { below = ((AtomBelo
 
 -- Line by line: the cores fit.
 
-array-fit : (n : ℕ) (o : Option Operator) (atoms : List Atom) → AtomsBelow n atoms → CoresFit n (array_cores o atoms)
-array-fit n None atoms h = tt
-array-fit n (Some operator.Or) atoms h = (record { below = (h, tt); well_formed = tt; form = tt }, tt)
-array-fit n (Some operator.And) atoms h = tt
-array-fit n (Some operator.Xor) atoms h = tt
-array-fit n (Some operator.Iff) atoms h = tt
-
-comparisons-fit : (σ : Valuation) (n : ℕ) (o : Option Relation) (r : Atom) (a b : OrdInt) (v w : ℤ) → AtomBelow n r → IntegerLaws σ n a v → IntegerLaws σ n b w → CoresFit n (comparison_cores o r a b)
-comparisons-fit σ n None r a b v w at h k = tt
-comparisons-fit σ n (Some rel) r a b v w at h k = (comparison-fits σ n rel r a b v w at h k, tt)
+array-fit : (n : ℕ) (op : Operator) (atoms : List Atom) → AtomsBelow n atoms → CoresFit n (array_cores op atoms)
+array-fit n operator.Or atoms h = (record { below = (h, tt); well_formed = tt; form = tt }, tt)
+array-fit n operator.And atoms h = tt
+array-fit n operator.Xor atoms h = tt
+array-fit n operator.Iff atoms h = tt
 
 pub statement-fits : (n m : ℕ) (ds : List Decl) (entries : List MapValue) (w : What) → EntriesFit n ds entries → WhatFits ds m w → WhatInLimit w → is_built w ≡ true → CoresFit n (cores_of entries w)
-unfolding WhatFits
-statement-fits n m ds entries (L6 name xs) h k small built = array-fit n (array_operator name) (atoms_of entries xs) (atoms_of-below n m ds entries xs h k.1)
-statement-fits n m ds entries (L8 name i j) h k small built =
-    let σ : Valuation = λ _. false in
-    comparisons-fit σ n (compare_relation name) True (integer_of entries i) (integer_of entries j) _ _ tt
-    (integer_of-laws σ n m ds entries i h k.1.0 small.0)
-    (integer_of-laws σ n m ds entries j h k.1.1 small.1)
+statement-fits n m ds entries (L6 name op xs) h k small built = array-fit n op (atoms_of entries xs) (atoms_of-below n m ds entries xs h k.arguments.0)
+statement-fits n m ds entries (L8 name rel i j) h k small built =
+    let σ : Valuation = λ _. false in (
+      comparison-fits σ n rel True (integer_of entries i) (integer_of entries j) _ _ tt
+          (integer_of-laws σ n m ds entries i h k.arguments.0 small.0.0)
+          (integer_of-laws σ n m ds entries j h k.arguments.1.0 small.0.1.0),
+      tt,
+    )
 statement-fits n m ds entries w h k small built = absurd (false≢true built)
 
 -- Line by line: the cores are met exactly where the statement holds.
 
-array-met : (σ : Valuation) (o : Option Operator) (atoms : List Atom) (ts : List Bool) → is_built_operator o ≡ true → atom_clause_truth σ atoms ≡ some_true ts → MeetsAll σ (array_cores o atoms) ↔ IsSomeAnd o (λ op. IsTrue (combined op ts))
-array-met σ None atoms ts built e = absurd (false≢true built)
-array-met σ (Some operator.Or) atoms ts built e = let one = MeetsAll-one σ (Clause atoms) in (λ h. sym e ∙ one.0 h, λ h. one.1 (e ∙ h))
-array-met σ (Some operator.And) atoms ts built e = absurd (false≢true built)
-array-met σ (Some operator.Xor) atoms ts built e = absurd (false≢true built)
-array-met σ (Some operator.Iff) atoms ts built e = absurd (false≢true built)
+array-met : (σ : Valuation) (op : Operator) (atoms : List Atom) (ts : List Bool) → is_built_operator op ≡ true → atom_clause_truth σ atoms ≡ some_true ts → MeetsAll σ (array_cores op atoms) ↔ IsTrue (combine op ts)
+array-met σ operator.Or atoms ts built e = let one = MeetsAll-one σ (Clause atoms) in (λ h. sym e ∙ one.0 h, λ h. one.1 (e ∙ h))
+array-met σ operator.And atoms ts built e = absurd (false≢true built)
+array-met σ operator.Xor atoms ts built e = absurd (false≢true built)
+array-met σ operator.Iff atoms ts built e = absurd (false≢true built)
 
-comparison-met : (σ : Valuation) (o : Option Relation) (a b : OrdInt) → is_built_relation o ≡ true → IsOrdered σ a → IsOrdered σ b → MeetsAll σ (comparison_cores o True a b) ↔ IsSomeAnd o (λ rel. IsTrue (relates rel (value_of σ a) (value_of σ b)))
-comparison-met σ None a b built h k = absurd (false≢true built)
-comparison-met σ (Some rel) a b built h k =
+comparison-met : (σ : Valuation) (rel : Relation) (a b : OrdInt) → IsOrdered σ a → IsOrdered σ b → MeetsAll σ (comparison_core rel True a b ∷ []) ↔ IsTrue (relates rel (value_of σ a) (value_of σ b))
+comparison-met σ rel a b h k =
     let e : core_truth σ (comparison_core rel True a b) ≡ relates rel (value_of σ a) (value_of σ b) =
     comparison-truth σ rel True a b h k ∙ beq-true (relates rel (value_of σ a) (value_of σ b)) in
     let one = MeetsAll-one σ (comparison_core rel True a b) in
     (λ m. sym e ∙ one.0 m, λ m. one.1 (e ∙ m))
 
 pub statement-met : (σ : Valuation) (n m : ℕ) (ds : List Decl) (entries : List MapValue) (w : What) → EntriesFit n ds entries → WhatFits ds m w → WhatInLimit w → is_built w ≡ true → AreOrdered σ entries → MeetsAll σ (cores_of entries w) ↔ Holds (numbers_of σ entries) w
-unfolding WhatFits Holds
-statement-met σ n m ds entries (L6 name xs) h k small built order =
-    array-met σ (array_operator name) (atoms_of entries xs) (truths_of (numbers_of σ entries) xs) built (atoms_of-truth σ n m ds entries xs h k.1)
-statement-met σ n m ds entries (L8 name i j) h k small built order =
-    let x = integer_of-laws σ n m ds entries i h k.1.0 small.0 in
-    let y = integer_of-laws σ n m ds entries j h k.1.1 small.1 in
+unfolding Holds
+statement-met σ n m ds entries (L6 name op xs) h k small built order =
+    array-met σ op (atoms_of entries xs) (truths_of (numbers_of σ entries) xs) built (atoms_of-truth σ n m ds entries xs h k.arguments.0)
+statement-met σ n m ds entries (L8 name rel i j) h k small built order =
+    let x = integer_of-laws σ n m ds entries i h k.arguments.0 small.0.0 in
+    let y = integer_of-laws σ n m ds entries j h k.arguments.1.0 small.0.1.0 in
     rw (← x.value, ← y.value)
-    (comparison-met σ (compare_relation name) (integer_of entries i) (integer_of entries j) built (IsOrdered-integer_of σ entries i order) (IsOrdered-integer_of σ entries j order))
+    (comparison-met σ rel (integer_of entries i) (integer_of entries j) (IsOrdered-integer_of σ entries i order) (IsOrdered-integer_of σ entries j order))
 statement-met σ n m ds entries w h k small built order = absurd (false≢true built)
 
 -- The law of a statement.

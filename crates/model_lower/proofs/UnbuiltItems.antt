@@ -5,13 +5,13 @@ use Rattle.std.proofs.lemmas.Bool.Decides.{nat_tests}
 use Rattle.typed_model.specs.declared.model.Decl.{Decl}
 use Rattle.typed_model.specs.declared.model.Stmt.{Stmt}
 use Rattle.typed_model.specs.Names.{first_of}
-use Rattle.model_lower.specs.Items.{Item, Declaration, Statement, statements}
+use Rattle.model_lower.specs.Items.{ModelItem, Declaration, Statement, statements}
 use Rattle.model_lower.specs.Lowering.{vars_taken}
 use Rattle.model_lower.specs.Built.{most_vars, unbuilt, first_unbuilt}
 use Rattle.model_lower.proofs.LoweredItems.{unbuilt-stays}
 
 -- behind statements that are built
-pub statements-passed : (v : ℕ) (ss : List Stmt) (items : List Item) → first_unbuilt v (statements ss) ≡ None → first_unbuilt v (statements ss ++ items) ≡ first_unbuilt v items
+pub statements-passed : (v : ℕ) (ss : List Stmt) (items : List ModelItem) → first_unbuilt v (statements ss) ≡ None → first_unbuilt v (statements ss ++ items) ≡ first_unbuilt v items
 statements-passed v [] items none = refl
 statements-passed v (s ∷ ss) items none = by_first (unbuilt v (Statement s)) (statements-passed v ss items) none
   where
@@ -19,7 +19,7 @@ statements-passed v (s ∷ ss) items none = by_first (unbuilt v (Statement s)) (
     by_first None f none = f none
     by_first (Some n) f none = absurd (cc)
 
-module _ (v : ℕ) (items rest : List Item) (ss : List Stmt) (d : Decl) (all : Option ℕ) (parts : items ≡ statements ss ++ (Declaration d ∷ rest)) (e : first_unbuilt v items ≡ all) where
+module _ (v : ℕ) (items rest : List ModelItem) (ss : List Stmt) (d : Decl) (all : Option ℕ) (parts : items ≡ statements ss ++ (Declaration d ∷ rest)) (e : first_unbuilt v items ≡ all) where
   -- a statement isn't built
   pub found-before : (o : Option ℕ) (n : ℕ) → o ≡ first_unbuilt v (statements ss) → o ≡ Some n → Some n ≡ all
   found-before o n is some = sym (unbuilt-stays v n (statements ss) (Declaration d ∷ rest) (sym is ∙ some)) ∙ (ap (first_unbuilt v) (sym parts) ∙ e)

@@ -19,7 +19,6 @@ use Rattle.typed_model.specs.declared.statement.Operator.{Operator}
 use Rattle.typed_model.specs.declared.statement.Operator.TheVariants as operator
 use Rattle.typed_model.specs.declared.statement.Relation.{Relation}
 use Rattle.typed_model.specs.declared.statement.Relation.TheVariants as relation
-use Rattle.typed_model.specs.Names.{array_operator, compare_relation}
 
 -- the atom of a Boolean, and False where there is none
 abbrev pub atom_at : Option MapValue → Atom
@@ -57,20 +56,14 @@ comparison_core relation.Gt r a b = LeqR (not_atom r) a b
 comparison_core relation.Neq r a b = EqR (not_atom r) a b
 
 -- line 6: an operator of a list is true
-abbrev pub array_cores : Option Operator → List Atom → List Core
-array_cores (Some operator.Or) atoms = Clause atoms ∷ []
-array_cores (Some operator.And) atoms = []
-array_cores (Some operator.Xor) atoms = []
-array_cores (Some operator.Iff) atoms = []
-array_cores None atoms = []
-
--- lines 8 and 9: r is the truth of a comparison
-abbrev pub comparison_cores : Option Relation → Atom → OrdInt → OrdInt → List Core
-comparison_cores (Some rel) r a b = comparison_core rel r a b ∷ []
-comparison_cores None r a b = []
+abbrev pub array_cores : Operator → List Atom → List Core
+array_cores operator.Or atoms = Clause atoms ∷ []
+array_cores operator.And atoms = []
+array_cores operator.Xor atoms = []
+array_cores operator.Iff atoms = []
 
 -- the cores of a statement, line by line; none yet for the lines that aren't built
 abbrev pub cores_of : List MapValue → What → List Core
-cores_of entries (L6 name xs) = array_cores (array_operator name) (atoms_of entries xs)
-cores_of entries (L8 name i j) = comparison_cores (compare_relation name) True (integer_of entries i) (integer_of entries j)
+cores_of entries (L6 name op xs) = array_cores op (atoms_of entries xs)
+cores_of entries (L8 name rel i j) = comparison_core rel True (integer_of entries i) (integer_of entries j) ∷ []
 cores_of entries what = []

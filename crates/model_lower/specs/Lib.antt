@@ -6,3 +6,4 @@ pub mod Decoded
 pub mod Fits
 pub mod ItemLaws
 pub mod Drafting
+pub mod SameMeanings

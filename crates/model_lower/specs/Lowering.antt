@@ -11,7 +11,7 @@ use Rattle.typed_model.specs.declared.model.Model.{Model}
 use Rattle.typed_model.specs.declared.what.What.{What}
 use Rattle.typed_model.specs.Domains.{at_least_zero}
 use Rattle.model_lower.specs.declared.state.Lowered.{Lowered}
-use Rattle.model_lower.specs.Items.{Item, Declaration, Statement, items_of_model}
+use Rattle.model_lower.specs.Items.{ModelItem, Declaration, Statement, items_of_model}
 use Rattle.model_lower.specs.Cores.{cores_of}
 
 -- how many variables a declared name takes: a Boolean one, an integer one for each value but the least
@@ -42,11 +42,11 @@ abbrev pub with_statement : Lowered → What → Lowered
 with_statement l what = record { vars = l.vars; map = l.map; cores = l.cores ++ cores_of l.map.entries what }
 
 -- after one more item
-abbrev pub lowered_item : Lowered → Item → Lowered
+abbrev pub lowered_item : Lowered → ModelItem → Lowered
 lowered_item l (Declaration d) = with_declaration l d.kind
 lowered_item l (Statement s) = with_statement l s.what
 
-abbrev pub lowered_items : Lowered → List Item → Lowered
+abbrev pub lowered_items : Lowered → List ModelItem → Lowered
 lowered_items l [] = l
 lowered_items l (i ∷ items) = lowered_items (lowered_item l i) items
 

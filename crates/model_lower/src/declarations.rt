@@ -43,11 +43,7 @@ fn entry_of(alloc: Global, vars: u32, kind: Kind, taken: u32) -> Result<MapValue
 }
 
 /// Adds that an integer is to be ordered.
-fn add_ladder(
-    alloc: Global,
-    cores: &mut Vec<Core>,
-    entry: &MapValue,
-) -> Result<(), AllocError>
+fn add_ladder(alloc: Global, cores: &mut Vec<Core>, entry: &MapValue) -> Result<(), AllocError>
     ensures { OnOk result (cores.new.items ≡ cores.old.items ++ entry_cores entry.now) }
 {
     match entry {

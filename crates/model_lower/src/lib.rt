@@ -12,14 +12,12 @@ mod lowering;
 mod state;
 mod statements;
 mod terms;
-#[cfg(test)]
-mod tests;
 mod unbuilt;
 
 pub use declarations::add_declaration;
 pub use draft::Draft;
 pub use fault::LowerFault;
-pub use laws::{item_law, lowering_law};
+pub use laws::{item_law, lowering_law, meaning_law};
 pub use lowering::lower;
 pub use state::{Lowered, NameMap};
 pub use statements::add_statement;

@@ -1,10 +1,9 @@
 //! The cores of a statement.
 
-ghost use Rattle.std.specs.Prelude.{◌≡◌, ◌++◌, IfOk, OnOk, IfErr, None, Some};
+ghost use Rattle.std.specs.Prelude.{◌≡◌, ◌++◌, ◌∷◌, [], IfOk, OnOk, IfErr, None, Some};
 ghost use Rattle.order_ints.specs.declared.atom.Atom.TheVariants.{True};
-ghost use Rattle.typed_model.specs.Names.{array_operator, compare_relation};
 ghost use Rattle.model_lower.specs.Items.{Statement, statements};
-ghost use Rattle.model_lower.specs.Cores.{atoms_of, integer_of, comparison_core, array_cores, comparison_cores, cores_of};
+ghost use Rattle.model_lower.specs.Cores.{atoms_of, integer_of, comparison_core, array_cores, cores_of};
 ghost use Rattle.model_lower.specs.Lowering.{lowered_item, lowered_items};
 ghost use Rattle.model_lower.specs.Built.{is_built_operator, is_built_relation, is_built, unbuilt, first_unbuilt, IsFaultOf};
 ghost use Rattle.model_lower.specs.Drafting.{lowered_so_far};
@@ -12,24 +11,18 @@ ghost use Rattle.model_lower.specs.Drafting.{lowered_so_far};
 use crate::draft::Draft;
 use crate::fault::LowerFault;
 use crate::terms::{atoms_of, integer_of};
-use bumblebee_reader::Name;
 use core_forms::Core;
 use order_ints::{Atom, MapValue, OrdInt};
 use std::alloc::{AllocError, Global};
-use typed_model::{
-    BoolTerm, IntTerm, Operator, Relation, Stmt, What, array_operator, compare_relation,
-};
+use typed_model::{BoolTerm, IntTerm, Operator, Relation, Stmt, What};
 
 /// Whether a statement has cores yet.
 pub fn is_built(what: &What) -> bool
     ensures { result ≡ is_built what.now }
 {
     match what {
-        What::L6 { name, .. } => matches!(array_operator(name.as_bytes()), Some(Operator::Or)),
-        What::L8 { name, .. } => matches!(
-            compare_relation(name.as_bytes()),
-            Some(Relation::Leq) | Some(Relation::Neq)
-        ),
+        What::L6 { operator, .. } => matches!(operator, Operator::Or),
+        What::L8 { relation, .. } => matches!(relation, Relation::Leq | Relation::Neq),
         _ => false,
     }
 }
@@ -59,13 +52,13 @@ fn add_array(
     alloc: Global,
     entries: &[MapValue],
     cores: &mut Vec<Core>,
-    name: &Name,
+    operator: Operator,
     members: &[BoolTerm],
 ) -> Result<(), AllocError>
-    ensures { OnOk result (cores.new.items ≡ cores.old.items ++ array_cores (array_operator name.now) (atoms_of entries.now members.now)) }
+    ensures { OnOk result (cores.new.items ≡ cores.old.items ++ array_cores operator (atoms_of entries.now members.now)) }
 {
-    match array_operator(name.as_bytes()) {
-        Some(Operator::Or) => {
+    match operator {
+        Operator::Or => {
             let atoms = atoms_of(alloc, entries, members)?;
             cores.push(Core::Clause(atoms))?;
             Ok(())
@@ -79,22 +72,17 @@ fn add_comparison(
     alloc: Global,
     entries: &[MapValue],
     cores: &mut Vec<Core>,
-    relation: Option<Relation>,
+    relation: Relation,
     truth: Atom,
     left: IntTerm,
     right: IntTerm,
 ) -> Result<(), AllocError>
-    ensures { OnOk result (cores.new.items ≡ cores.old.items ++ comparison_cores relation truth (integer_of entries.now left) (integer_of entries.now right)) }
+    ensures { OnOk result (cores.new.items ≡ cores.old.items ++ comparison_core relation truth (integer_of entries.now left) (integer_of entries.now right) ∷ []) }
 {
-    match relation {
-        Some(relation) => {
-            let left = integer_of(alloc, entries, left)?;
-            let right = integer_of(alloc, entries, right)?;
-            cores.push(comparison_core(alloc, relation, truth, left, right)?)?;
-            Ok(())
-        }
-        None => Ok(()),
-    }
+    let left = integer_of(alloc, entries, left)?;
+    let right = integer_of(alloc, entries, right)?;
+    cores.push(comparison_core(alloc, relation, truth, left, right)?)?;
+    Ok(())
 }
 
 /// Adds the cores of a statement.
@@ -107,11 +95,17 @@ fn add_cores(
     ensures { OnOk result (cores.new.items ≡ cores.old.items ++ cores_of entries.now what.now) }
 {
     match what {
-        What::L6 { name, members } => add_array(alloc, entries, cores, name, members.as_slice()),
-        What::L8 { name, left, right } => {
-            let relation = compare_relation(name.as_bytes());
-            add_comparison(alloc, entries, cores, relation, Atom::True, *left, *right)
-        }
+        What::L6 {
+            operator,
+            members,
+            ..
+        } => add_array(alloc, entries, cores, *operator, members.as_slice()),
+        What::L8 {
+            relation,
+            left,
+            right,
+            ..
+        } => add_comparison(alloc, entries, cores, *relation, Atom::True, *left, *right),
         _ => Ok(()),
     }
 }

@@ -7,6 +7,7 @@ pub mod Labels
 pub mod OrderedLaws
 pub mod FirstFalseLaws
 pub mod Truths
+pub mod TruthRows
 pub mod Comparisons
 pub mod Gains
 pub mod Reaching

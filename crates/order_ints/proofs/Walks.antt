@@ -7,8 +7,8 @@ use Rattle.std.proofs.lemmas.List.{take_all}
 use Rattle.order_ints.specs.declared.atom.Atom.{Atom}
 use Rattle.order_ints.specs.declared.atom.Atom.TheVariants.{True, False}
 use Rattle.order_ints.specs.declared.order_int.OrdInt.{OrdInt}
-use Rattle.order_ints.specs.OrderRange.{weights, high_of, IsBounded}
-use Rattle.order_ints.specs.OrderLevels.{levels, levels_of, first_reaching, at_of, is_among}
+use Rattle.order_ints.specs.OrderRange.{weights, IsBounded}
+use Rattle.order_ints.specs.OrderLevels.{levels, first_reaching, at_of, is_among}
 use Rattle.order_ints.specs.Walk.{value_at, atom_behind, atom_at, has_value, StandsAt}
 use Rattle.order_ints.proofs.Comparisons.{le_from_test, lt_from_test}
 use Rattle.order_ints.proofs.Reaching.{reaching-low, reaching-above, at_of-high}

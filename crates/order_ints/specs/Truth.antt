@@ -1,5 +1,5 @@
 -- Valuations, and the truth of a literal and of an atom.
-use Rattle.std.specs.Prelude.{◌≡◌, ℕ, ◌-◌, ◌<◌, Bool, true, false, not, List, slice_index_or, if◌then◌else◌}
+use Rattle.std.specs.Prelude.{◌≡◌, ℕ, ◌-◌, ◌<◌, nat_eq, Bool, true, false, not, List, [], ◌∷◌, slice_index_or, if◌then◌else◌}
 use Rattle.order_ints.specs.declared.literal.Lit.{Lit}
 use Rattle.order_ints.specs.declared.atom.Atom.{Atom}
 use Rattle.order_ints.specs.declared.atom.Atom.TheVariants.{True, False, Of}
@@ -11,6 +11,12 @@ Valuation = ℕ → Bool
 -- the valuation that a list of truth values stands for: that of variable 1 first
 abbrev pub valuation_of : List Bool → Valuation
 valuation_of values v = slice_index_or values (v - 1) false
+
+-- the valuation that gives listed variables listed truth values, and false to every other one
+abbrev pub valuation_at : List ℕ → List Bool → Valuation
+valuation_at [] values v = false
+valuation_at (w ∷ vars) [] v = false
+valuation_at (w ∷ vars) (b ∷ values) v = if nat_eq v w then b else valuation_at vars values v
 
 -- two valuations give the variables below n the same truth values
 abbrev pub Agree : ℕ → Valuation → Valuation → Type 0

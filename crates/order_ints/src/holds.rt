@@ -1,27 +1,25 @@
-//! The truth of a literal and of an atom under a list of truth values.
+//! The truth of a literal and of an atom.
 
-ghost use Rattle.std.specs.Prelude.{◌≡◌, ◌+◌, length};
-ghost use Rattle.order_ints.specs.Truth.{valuation_of, lit_truth, atom_truth};
-ghost use Rattle.order_ints.specs.Place.{LitBelow, AtomBelow};
+ghost use Rattle.std.specs.Prelude.{◌≡◌};
+ghost use Rattle.order_ints.specs.Truth.{lit_truth, atom_truth};
 
 use crate::atom::Atom;
 use crate::literal::Lit;
+use crate::truth_values::TruthValues;
 
 impl Lit {
-    /// Whether the literal is true, where the truth value of variable 1 stands first.
-    pub fn holds(self, sigma: &[bool]) -> bool
-        requires { LitBelow (length sigma.now + 1) self }
-        ensures { result ≡ lit_truth (valuation_of sigma.now) self }
+    /// Whether the literal is true.
+    pub fn holds<T: TruthValues>(self, sigma: T) -> bool
+        ensures { result ≡ lit_truth (T.valuation sigma) self }
     {
-        sigma[self.var as usize - 1] == self.positive
+        sigma.truth(self.var) == self.positive
     }
 }
 
 impl Atom {
-    /// Whether the atom is true, where the truth value of variable 1 stands first.
-    pub fn holds(self, sigma: &[bool]) -> bool
-        requires { AtomBelow (length sigma.now + 1) self }
-        ensures { result ≡ atom_truth (valuation_of sigma.now) self }
+    /// Whether the atom is true.
+    pub fn holds<T: TruthValues>(self, sigma: T) -> bool
+        ensures { result ≡ atom_truth (T.valuation sigma) self }
     {
         match self {
             Atom::True => true,

@@ -11,6 +11,7 @@ pub mod label_laws;
 mod literal;
 mod order_int;
 pub mod order_laws;
+mod truth_values;
 mod view;
 
 pub use atom::Atom;
@@ -20,4 +21,5 @@ pub use cnf_order::ordered_clause;
 pub use cnf_truth::{first_false, is_clause_true};
 pub use literal::Lit;
 pub use order_int::{Levels, MapValue, OrdInt, Walk};
+pub use truth_values::{TruthRow, TruthValues};
 pub use view::{label_of, resolve};

@@ -19,3 +19,9 @@ pub truth-with_fresh : (next : ℕ) (σ : Valuation) (fresh : ℕ → Bool) (i :
 truth-with_fresh next σ fresh i =
     let place : next + i - next ≡ i = omega arith in
     ap (λ t. cond t (σ (next + i)) (fresh (next + i - next))) (lt-false (next + i) next (omega arith)) ∙ ap fresh place
+
+-- the first fresh variable has the first value
+pub truth-first : (next : ℕ) (σ : Valuation) (fresh : ℕ → Bool) → atom_truth (with_fresh next σ fresh) (atom_of_var next) ≡ fresh 0
+truth-first next σ fresh =
+    let place : next ≡ next + 0 = omega arith in
+    ap (λ v. atom_truth (with_fresh next σ fresh) (atom_of_var v)) place ∙ truth-with_fresh next σ fresh 0

@@ -1,19 +1,19 @@
 -- Laws of what is found among the equations that rules state, and of instances.
 use Rattle.std.proofs.Common.{◌≡◌, Bool, true, false, not, ◌&&◌, List, refl, sym, ap, ◌∙◌, ◌↔◌}
 use Rattle.std.specs.Prelude.{Option, None, Some, IsNone, IfSome}
-use Rattle.std.specs.Option.{option_or}
+use Rattle.std.specs.Option.{option_or, is_some}
 use Rattle.order_ints.specs.declared.atom.Atom.{Atom}
+use Rattle.order_ints.specs.Same.{same_atom}
 use Rattle.order_ints.specs.Truth.{Valuation}
 use Rattle.core_forms.specs.declared.equation.Rule.{Rule}
 use Rattle.core_forms.specs.declared.equation.Rule.TheVariants.{Order, Form, Table}
 use Rattle.core_forms.specs.declared.equation.Equation.{Equation}
 use Rattle.core_forms.specs.declared.form.Core.{Core}
 use Rattle.core_forms.specs.Meaning.{Meets}
-use Rattle.order_ints.specs.Same.{same_atom}
-use Rattle.rule_base.specs.declared.sought.Sought.TheVariants.{Apart}
+use Rattle.rule_base.specs.declared.sought.Sought.TheVariants.{Apart, Pair}
 use Rattle.rule_base.specs.Pairs.{first_sought, is_listed, AreEqual, EachOfPairs}
 use Rattle.rule_base.specs.Found.{stated_by, found_by, is_instance_by, IsImplied}
-use Rattle.rule_base.proofs.PairLaws.{listed-found, sought-found, none-apart, equal-listed, each-listed}
+use Rattle.rule_base.proofs.PairLaws.{first_sought-Pair, listed-found, sought-found, none-apart, equal-listed, each-listed}
 
 -- what is the first of two options is one of them
 by_first : {X Y : Type 0} (o p : Option X) (x : X) → option_or o p ≡ Some x → (o ≡ Some x → Y) → (p ≡ Some x → Y) → Y
@@ -89,6 +89,14 @@ module _ (pairs : Rule → List (Atom × Atom)) where
   and-right : (s t : Bool) → (s && t) ≡ true → t ≡ true
   and-right true t h = h
   and-right false t h = absurd (cc)
+
+  -- an equation of one atom is no instance, and one of two is where it is found among those of its rule
+  pub instance-same : (e : Equation) → same_atom e.a e.b ≡ true → false ≡ is_instance_by pairs e
+  instance-same e same = ap (λ t. not t && is_listed e.a e.b (pairs e.rule)) (sym same)
+
+  pub instance-tested : (e : Equation) (o : Option (Atom × Atom)) → same_atom e.a e.b ≡ false → o ≡ first_sought (Pair e.a e.b) (pairs e.rule) → is_some o ≡ is_instance_by pairs e
+  instance-tested e o differ found =
+      ap is_some found ∙ first_sought-Pair e.a e.b (pairs e.rule) ∙ ap (λ t. not t && is_listed e.a e.b (pairs e.rule)) (sym differ)
 
   -- an instance is listed by its rule
   pub instance-listed : (e : Equation) → is_instance_by pairs e ≡ true → is_listed e.a e.b (pairs e.rule) ≡ true

@@ -3,9 +3,10 @@ use Rattle.std.proofs.Common.{◌≡◌, Bool, true, false, cond, not, ◌&&◌,
 use Rattle.std.specs.Prelude.{Option, None, Some}
 use Rattle.std.specs.Option.{option_or, is_some}
 use Rattle.order_ints.specs.declared.atom.Atom.{Atom}
-use Rattle.order_ints.specs.Truth.{Valuation, atom_truth}
 use Rattle.order_ints.specs.Same.{same_atom}
-use Rattle.core_forms.proofs.Tidied.{by_test, same_atom-true, same_atom-refl}
+use Rattle.order_ints.specs.Truth.{Valuation, atom_truth}
+use Rattle.order_ints.specs.Equality.{same_atom-true, same_atom-refl}
+use Rattle.core_forms.proofs.Tidied.{by_test}
 use Rattle.rule_base.specs.declared.sought.Sought.{Sought}
 use Rattle.rule_base.specs.declared.sought.Sought.TheVariants.{Apart, Pair}
 use Rattle.rule_base.specs.Pairs.{is_pair_of, is_sought, first_sought, is_listed, only_if, AreEqual, EachOfPairs}
@@ -31,6 +32,35 @@ first_sought-only_if sought false ps = refl
 pub option_or-None : {X : Type 0} (o : Option X) → option_or o None ≡ o
 option_or-None None = refl
 option_or-None (Some x) = refl
+
+-- the first of two options, by a test of it
+pub option_or-some : {X : Type 0} (o p : Option X) → is_some o ≡ true → option_or o p ≡ o
+option_or-some None p h = absurd (cc)
+option_or-some (Some x) p h = refl
+
+pub option_or-none : {X : Type 0} (o p : Option X) → is_some o ≡ false → option_or o p ≡ p
+option_or-none None p h = refl
+option_or-none (Some x) p h = absurd (cc)
+
+-- two searches, one after the other, find what one finds in both lists together
+pub both-found : (sought : Sought) (ps qs : List (Atom × Atom)) (o p : Option (Atom × Atom)) → o ≡ first_sought sought ps → p ≡ first_sought sought qs → option_or o p ≡ first_sought sought (ps ++ qs)
+both-found sought ps qs o p first second =
+    ap (λ (x : Option (Atom × Atom)). option_or x p) first ∙ ap (option_or (first_sought sought ps)) second ∙ sym (first_sought-append sought ps qs)
+
+-- what is found in the first list, and what is found in the second where there is nothing in the first
+pub front-found : (sought : Sought) (ps qs : List (Atom × Atom)) (o : Option (Atom × Atom)) → o ≡ first_sought sought ps → is_some o ≡ true → o ≡ first_sought sought (ps ++ qs)
+front-found sought ps qs o first some =
+    sym (option_or-some o (first_sought sought qs) some) ∙ both-found sought ps qs o (first_sought sought qs) first refl
+
+pub back-found : (sought : Sought) (ps qs : List (Atom × Atom)) (o p : Option (Atom × Atom)) → o ≡ first_sought sought ps → is_some o ≡ false → p ≡ first_sought sought qs → p ≡ first_sought sought (ps ++ qs)
+back-found sought ps qs o p first none second = sym (option_or-none o p none) ∙ both-found sought ps qs o p first second
+
+-- what is found under a test
+pub only_if-found : (sought : Sought) (t : Bool) (ps : List (Atom × Atom)) (o : Option (Atom × Atom)) → t ≡ true → o ≡ first_sought sought ps → o ≡ first_sought sought (only_if t ps)
+only_if-found sought t ps o holds found = found ∙ ap (λ b. first_sought sought (only_if b ps)) (sym holds)
+
+pub only_if-none : (sought : Sought) (t : Bool) (ps : List (Atom × Atom)) → t ≡ false → None ≡ first_sought sought (only_if t ps)
+only_if-none sought t ps fails = ap (λ b. first_sought sought (only_if b ps)) (sym fails)
 
 and-left : (s t : Bool) → (s && t) ≡ true → s ≡ true
 and-left true t h = refl

@@ -2,13 +2,13 @@
 use Rattle.std.specs.Prelude.{◌≡◌, Bool, not, ◌&&◌, List, Option, None, Some}
 use Rattle.std.specs.Option.{option_or}
 use Rattle.order_ints.specs.declared.atom.Atom.{Atom}
+use Rattle.order_ints.specs.Same.{same_atom}
 use Rattle.order_ints.specs.Truth.{Valuation, atom_truth}
 use Rattle.core_forms.specs.declared.equation.Rule.{Rule}
 use Rattle.core_forms.specs.declared.equation.Rule.TheVariants.{Order, Form, Table}
 use Rattle.core_forms.specs.declared.equation.Equation.{Equation}
 use Rattle.core_forms.specs.declared.form.Core.{Core}
 use Rattle.core_forms.specs.Meaning.{Meets}
-use Rattle.order_ints.specs.Same.{same_atom}
 use Rattle.rule_base.specs.declared.sought.Sought.TheVariants.{Apart}
 use Rattle.rule_base.specs.Pairs.{first_sought, is_listed}
 

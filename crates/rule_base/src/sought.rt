@@ -1,7 +1,6 @@
 //! The search along equations, for one of two different atoms or for a given one.
 
-ghost use Rattle.std.specs.Prelude.{◌≡◌, not, [], ◌∷◌};
-ghost use Rattle.order_ints.specs.Same.{same_atom};
+ghost use Rattle.std.specs.Prelude.{◌≡◌, [], ◌∷◌};
 ghost use Rattle.rule_base.specs.Pairs.{is_pair_of, is_sought, first_sought, only_if};
 ghost use Rattle.rule_base.specs.Stated.{all_equal};
 
@@ -17,26 +16,11 @@ pub enum Sought {
     Pair(Atom, Atom),
 }
 
-/// Whether atoms are one.
-fn are_one(a: Atom, b: Atom) -> bool
-    ensures { result ≡ same_atom a b }
-{
-    match a {
-        Atom::True => matches!(b, Atom::True),
-        Atom::False => matches!(b, Atom::False),
-        Atom::Of(l) => match b {
-            Atom::True => false,
-            Atom::False => false,
-            Atom::Of(m) => l.var == m.var && l.positive == m.positive,
-        },
-    }
-}
-
 /// Whether a pair is of two atoms, in either order.
 fn is_pair(a: Atom, b: Atom, x: Atom, y: Atom) -> bool
     ensures { result ≡ is_pair_of a b (x, y) }
 {
-    (are_one(x, a) && are_one(y, b)) || (are_one(x, b) && are_one(y, a))
+    (x == a && y == b) || (x == b && y == a)
 }
 
 impl Sought {
@@ -45,7 +29,7 @@ impl Sought {
         ensures { result ≡ is_sought self (x, y) }
     {
         match self {
-            Sought::Apart => !are_one(x, y),
+            Sought::Apart => x != y,
             Sought::Pair(a, b) => is_pair(a, b, x, y),
         }
     }

@@ -3,6 +3,10 @@
 #![tactic(auto)]
 
 #[cfg(test)]
-mod direct_encode;
+mod encodings;
+#[cfg(test)]
+mod equations;
+#[cfg(test)]
+mod equi_rules;
 #[cfg(test)]
 mod words;

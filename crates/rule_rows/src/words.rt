@@ -1,6 +1,7 @@
 //! Cores in words. An atom is `T`, `F`, or a variable, with a minus sign where it is negated; a list has commas
 //! between its members, and the empty one is `none`. An integer is the list of its values, the variables of which
-//! are those from 1 on, or with `@7` behind it those from 7 on. A core is its form's name and then its members.
+//! are those from 1 on, or with `@7` behind it those from 7 on; or it is its least value, `^`, and the atoms of three
+//! steps of weight 1. A core is its form's name and then its members.
 
 ghost use Rattle.std.specs.Prelude.{◌≤◌, unsigned_abs, IfOk, IsTrue};
 ghost use Rattle.order_ints.specs.OrderMade.{AscendFrom, AreSmall};
@@ -97,10 +98,28 @@ fn int_of(rt: &impl Abort, alloc: Global, values: &[i128], first: u32) -> Result
     OrdInt::from_values(alloc, values, first)
 }
 
+/// The integer of three steps of weight 1.
+fn stepped(rt: &impl Abort, alloc: Global, base: &str, steps: &str) -> Result<OrdInt, AllocError>
+    ensures { IfOk result (λ a. IsSound a) }
+{
+    let base = number(rt, base);
+    let atoms = atoms(rt, alloc, steps)?;
+    let atoms = atoms.as_slice();
+    assert!(rt; atoms.len() == 3);
+    let steps = vec![in alloc; (atoms[0], 1), (atoms[1], 1), (atoms[2], 1)]?;
+    Ok(OrdInt {
+        base,
+        steps: Sequence::from_vec(steps),
+    })
+}
+
 /// An integer.
 pub(super) fn int(rt: &impl Abort, alloc: Global, word: &str) -> Result<OrdInt, AllocError>
     ensures { IfOk result (λ a. IsSound a) }
 {
+    if let Some((base, steps)) = word.split_once('^') {
+        return stepped(rt, alloc, base, steps);
+    }
     let (list, first) = match word.split_once('@') {
         Some((list, first)) => (list, number(rt, first)),
         None => (word, 1),
@@ -129,6 +148,15 @@ pub(super) fn core_of(rt: &impl Abort, alloc: Global, text: &str) -> Result<Core
     match word(text, 0) {
         "Ladder" => Core::ladder(alloc, int(rt, alloc, word(text, 1))?),
         "Clause" => Ok(Core::Clause(atoms(rt, alloc, word(text, 1))?)),
+        "Parity" => Ok(Core::Parity(
+            atoms(rt, alloc, word(text, 1))?,
+            word(text, 2) == "odd",
+        )),
+        "Conj" => Ok(Core::Conj(
+            atom(rt, word(text, 1)),
+            atoms(rt, alloc, word(text, 2))?,
+        )),
+        "Amo" => Ok(Core::Amo(atoms(rt, alloc, word(text, 1))?)),
         "LeqR" => comparison(rt, alloc, text, false),
         "EqR" => comparison(rt, alloc, text, true),
         other => panic!(rt; "no form: {other}"),

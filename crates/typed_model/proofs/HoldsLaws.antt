@@ -1,5 +1,5 @@
 -- Each line of the table as a test is true exactly where the line holds.
-use Rattle.std.proofs.Common.{◌≡◌, ◌≢◌, ◌⊎◌, ◌↔◌, ℕ, zero, suc, ◌<◌, ℤ, pos, ◌-ℤ◌, ◌*ℤ◌, ◌<ℤ◌, Bool, true, false, List, [], ◌∷◌, length, get_or, Option, Some, None, IsTrue, IsSomeAnd, arith, inl, inr, refl, sym}
+use Rattle.std.proofs.Common.{◌≡◌, ◌≢◌, ◌⊎◌, ◌↔◌, ℕ, zero, suc, ◌<◌, ℤ, pos, ◌-ℤ◌, ◌*ℤ◌, ◌<ℤ◌, Bool, true, false, List, [], ◌∷◌, length, get_or, IsTrue, arith, inl, inr, refl, sym}
 use Rattle.std.specs.Bool.{Decides}
 use Rattle.std.proofs.lemmas.Bool.{false≢true}
 use Rattle.std.proofs.lemmas.Bool.Decides.{Decides-int_eq, Decides-or, Decides-and, Decides-not, Decides-like}
@@ -7,7 +7,7 @@ use Rattle.std.proofs.lemmas.Int.{ints}
 use Rattle.typed_model.specs.Terms.{value_at}
 use Rattle.typed_model.specs.Integers.{IsQuotient, is_quotient}
 use Rattle.typed_model.specs.Lists.{AllDiffer, DifferWhere, IsBefore, InOrder, differs_from, all_differ, differs_where, differ_where, in_order}
-use Rattle.typed_model.specs.Holds.{same, some_and, reified, Reified}
+use Rattle.typed_model.specs.Holds.{same, reify, Reify}
 use Rattle.typed_model.proofs.DomainLaws.{Decides-int_le, Decides-int_lt}
 
 pub Decides-same : (x y : Bool) → Decides (same x y) (x ≡ y)
@@ -23,13 +23,9 @@ Decides-truth true false d = (λ e. absurd (false≢true e), λ h. d.1 (h.0 refl
 Decides-truth false true d = (λ e. absurd (false≢true e), λ h. h.1 (d.0 refl))
 Decides-truth false false d = (λ e. (λ h. absurd (false≢true h), λ h. d.1 h), λ h. refl)
 
-pub Decides-reified : {P : Type 0} → (r z b : Bool) → Decides b P → Decides (reified r z b) (Reified r z P)
-Decides-reified true z b d = Decides-truth z b d
-Decides-reified false z b d = d
-
-pub Decides-some_and : {A : Type 0} (o : Option A) (p : A → Bool) (P : A → Type 0) → ((x : A) → Decides (p x) (P x)) → Decides (some_and o p) (IsSomeAnd o P)
-Decides-some_and None p P d = (λ e. absurd (false≢true e), λ h. absurd h)
-Decides-some_and (Some x) p P d = d x
+pub Decides-reify : {P : Type 0} → (r z b : Bool) → Decides b P → Decides (reify r z b) (Reify r z P)
+Decides-reify true z b d = Decides-truth z b d
+Decides-reify false z b d = d
 
 -- division
 pub Decides-is_quotient : (i j k : ℤ) → Decides (is_quotient i j k) (IsQuotient i j k)

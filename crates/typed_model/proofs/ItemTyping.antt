@@ -13,17 +13,18 @@ use Rattle.bumblebee_reader.specs.declared.syntax.Arg.TheVariants as arg
 use Rattle.typed_model.specs.declared.signature.Wanted.TheVariants as wanted
 use Rattle.typed_model.specs.declared.statement.Statement.{Statement}
 use Rattle.typed_model.specs.declared.statement.Statement.TheVariants as statement
-use Rattle.typed_model.specs.declared.what.What.TheVariants.{L3}
 use Rattle.typed_model.specs.declared.model.Kind.{Kind}
 use Rattle.typed_model.specs.declared.model.Kind.TheVariants as kind
 use Rattle.typed_model.specs.declared.model.Decl.{Decl}
 use Rattle.typed_model.specs.Signatures.{signature}
-use Rattle.typed_model.specs.Scope.{place_of, kind_of, is_bool, is_constant, place_or_zero}
-use Rattle.typed_model.specs.Items.{declared_name, declared_as, declared_by, what_of, name_in, truth_in, number_in}
-use Rattle.typed_model.specs.WellTyped.{IsInt, IsNumberAt, TruthFits, WhatFits}
-use Rattle.typed_model.proofs.TypingLaws.{AllBefore, ArgFits, fit-at, truth_in-fits, NameFits, NoFault}
-use Rattle.typed_model.proofs.AppendLaws.{TruthFits-append, truth_in-same, place_of-last}
-use Rattle.typed_model.proofs.StatementLaws.{plain-fits}
+use Rattle.typed_model.specs.Names.{statement_of}
+use Rattle.typed_model.specs.Scope.{place_of, kind_of, is_bool, is_constant, place_or_zero, truth}
+use Rattle.typed_model.specs.Items.{declare_name, declare, declare_by, what_of, name_in, truth_in, number_in}
+use Rattle.typed_model.specs.Arguments.{Truth, Number}
+use Rattle.typed_model.specs.WellTyped.{IsInt, IsNumberAt, TruthFits, ArgumentsFit, WhatFits}
+use Rattle.typed_model.proofs.TypingLaws.{AllBefore, ArgFits, fit-at, truth-fits, NoFault}
+use Rattle.typed_model.proofs.AppendLaws.{TruthFits-append, truth-same, place_of-last}
+use Rattle.typed_model.proofs.StatementLaws.{IsPlain, plain-fits}
 
 some_at : {A : Type 0} (xs : List A) (p : ℕ) (P : A → Type 0) → p < length xs → ((x : A) → slice_get xs p ≡ Some x → P x) → IsSomeAnd (slice_get xs p) P
 some_at [] p P h f = absurd (omega arith)
@@ -62,17 +63,17 @@ kind_found : (name : List ℕ) (ds : List Decl) (k : ℕ) → place_of name ds �
 kind_found name ds k e h = sym (ap (λ (o : Option ℕ). is_bool (option_and_then (λ p. option_map (λ (d : Decl). d.kind) (slice_get ds p)) o)) e) ∙ h
 
 -- `bool2int`: the integer is declared, before or here
-integer_is : (n : ℕ) (ds : List Decl) (name : List ℕ) (o : Option ℕ) → place_of name ds ≡ o → AllBefore n ds → is_bool (kind_of name ds) ≡ false → IsNumberAt (ds ++ declared_name n ds name own_kind) (n + 1) (place_or_zero name (ds ++ declared_name n ds name own_kind))
+integer_is : (n : ℕ) (ds : List Decl) (name : List ℕ) (o : Option ℕ) → place_of name ds ≡ o → AllBefore n ds → is_bool (kind_of name ds) ≡ false → IsNumberAt (ds ++ declare_name n ds name own_kind) (n + 1) (place_or_zero name (ds ++ declare_name n ds name own_kind))
 integer_is n ds name None e before h =
     let d : Decl = record { number = n; name = name; kind = own_kind } in
-    let made : declared_name n ds name own_kind ≡ d ∷ [] = ap (λ (o : Option ℕ). if is_some o then [] else d ∷ []) e in
+    let made : declare_name n ds name own_kind ≡ d ∷ [] = ap (λ (o : Option ℕ). if is_some o then [] else d ∷ []) e in
     let last : place_of name (ds ++ d ∷ []) ≡ Some (length ds) = place_of-last name ds d e ((bytes_eq-Decides name name).1 refl) in
     let there : IsNumberAt (ds ++ d ∷ []) (n + 1) (length ds) = at_end ds d _ (omega arith, tt) in
     let placed : IsNumberAt (ds ++ d ∷ []) (n + 1) (place_or_zero name (ds ++ d ∷ [])) = subst (λ (o : Option ℕ). IsNumberAt (ds ++ d ∷ []) (n + 1) (option_map_or (λ p. p) o 0)) (sym last) there in
     subst (λ (es : List Decl). IsNumberAt (ds ++ es) (n + 1) (place_or_zero name (ds ++ es))) (sym made) placed
 integer_is n ds name (Some k) e before h =
     let d : Decl = record { number = n; name = name; kind = own_kind } in
-    let made : declared_name n ds name own_kind ≡ [] = ap (λ (o : Option ℕ). if is_some o then [] else d ∷ []) e in
+    let made : declare_name n ds name own_kind ≡ [] = ap (λ (o : Option ℕ). if is_some o then [] else d ∷ []) e in
     let there : IsNumberAt ds (n + 1) k = number_before n ds k (λ d. IsInt d.kind) before (some_at ds k (λ d. IsInt d.kind) (placed_within name ds no_decl k e) (λ x g. kind_at ds k x g (kind_found name ds k e h))) in
     let placed : IsNumberAt ds (n + 1) (place_or_zero name ds) = subst (λ (o : Option ℕ). IsNumberAt ds (n + 1) (option_map_or (λ p. p) o 0)) (sym e) there in
     let same : IsNumberAt (ds ++ []) (n + 1) (place_or_zero name (ds ++ [])) = subst (λ (es : List Decl). IsNumberAt es (n + 1) (place_or_zero name es)) (sym (append-nil ds)) placed in
@@ -86,38 +87,39 @@ not_true : (b : Bool) → not b ≡ true → b ≡ false
 not_true true e = absurd (false≢true e)
 not_true false e = refl
 
-bool2int-fits : (n : ℕ) (ds : List Decl) (a b : Option Arg) → AllBefore n ds → ArgFits ds wanted.Truth a → ArgFits ds wanted.NewInteger b → WhatFits (ds ++ declared_as n ds (name_in b) own_kind) n (L3 (truth_in (ds ++ declared_as n ds (name_in b) own_kind) a) (number_in (ds ++ declared_as n ds (name_in b) own_kind) b))
-unfolding WhatFits
-bool2int-fits n ds a None before h k = absurd k
-bool2int-fits n ds a (Some (arg.One (term.Plain name))) before h k =
-    let es = declared_name n ds name own_kind in
-    let x : TruthFits (ds ++ es) n (truth_in ds a) = TruthFits-append ds es n (truth_in ds a) (truth_in-fits n ds before a h) in
-    let y : TruthFits (ds ++ es) n (truth_in (ds ++ es) a) = subst (TruthFits (ds ++ es) n) (sym (truth_in-same ds es a h)) x in
-    (y, integer_is n ds name (place_of name ds) refl before (not_true _ (and_parts (not (is_constant name)) (not (is_bool (kind_of name ds))) k).1))
-bool2int-fits n ds a (Some (arg.One (term.Minus name))) before h k = absurd (false≢true k)
-bool2int-fits n ds a (Some (arg.One (term.Number z))) before h k = absurd (false≢true k)
-bool2int-fits n ds a (Some (arg.Many ts)) before h k = absurd (false≢true k)
+-- the two arguments of a `bool2int`
+bool2int-fits : (n : ℕ) (ds : List Decl) (a b : Option Arg) → AllBefore n ds → ArgFits ds wanted.Truth a → ArgFits ds wanted.NewInteger b → ArgumentsFit (ds ++ declare n ds (name_in b) own_kind) n (wanted.Truth ∷ wanted.NewInteger ∷ []) (Truth (truth_in (ds ++ declare n ds (name_in b) own_kind) a) ∷ Number (number_in (ds ++ declare n ds (name_in b) own_kind) b) ∷ [])
+bool2int-fits n ds None b before h k = absurd h
+bool2int-fits n ds (Some (arg.Many ts)) b before h k = absurd (false≢true h)
+bool2int-fits n ds (Some (arg.One t)) None before h k = absurd k
+bool2int-fits n ds (Some (arg.One t)) (Some (arg.One (term.Plain name))) before h k =
+    let es = declare_name n ds name own_kind in
+    let x : TruthFits (ds ++ es) n (truth ds t) = TruthFits-append ds es n (truth ds t) (truth-fits n ds before t h) in
+    let y : TruthFits (ds ++ es) n (truth (ds ++ es) t) = subst (TruthFits (ds ++ es) n) (sym (truth-same ds es t h)) x in
+    (y, (integer_is n ds name (place_of name ds) refl before (not_true _ (and_parts (not (is_constant name)) (not (is_bool (kind_of name ds))) k).1), tt))
+bool2int-fits n ds (Some (arg.One t)) (Some (arg.One (term.Minus name))) before h k = absurd (false≢true k)
+bool2int-fits n ds (Some (arg.One t)) (Some (arg.One (term.Number z))) before h k = absurd (false≢true k)
+bool2int-fits n ds (Some (arg.One t)) (Some (arg.Many ts)) before h k = absurd (false≢true k)
+
+-- most statements declare nothing
+pub declare-none : (n : ℕ) (ds : List Decl) (s : Statement) (args : List Arg) → IsPlain s → declare_by n ds s args ≡ []
+unfolding declare_by
+declare-none n ds statement.NewBool args p = absurd p
+declare-none n ds statement.NewInt args p = absurd p
+declare-none n ds statement.BoolToInt args p = absurd p
+declare-none n ds s args p = refl
 
 module _ (n : ℕ) (ds : List Decl) (before : AllBefore n ds) (args : List Arg) (name : List ℕ) where
-  pub stated-fits : (s : Statement) → NameFits name s → NoFault ds s args → IfSome (what_of (ds ++ declared_by n ds s args) name s args) (WhatFits (ds ++ declared_by n ds s args) n)
-  unfolding what_of declared_by
-  stated-fits statement.NewBool m ok = tt
-  stated-fits statement.NewInt m ok = tt
-  stated-fits statement.BoolToInt m ok =
+  plain-stated : (s : Statement) → IsPlain s → statement_of name ≡ Some s → NoFault ds s args → IfSome (what_of (ds ++ declare_by n ds s args) name s args) (WhatFits (ds ++ declare_by n ds s args) n)
+  plain-stated s p m ok =
+      let same : ds ++ declare_by n ds s args ≡ ds = ap (λ xs. ds ++ xs) (declare-none n ds s args p) ∙ append-nil ds in
+      subst (λ (es : List Decl). IfSome (what_of es name s args) (WhatFits es n)) (sym same) (plain-fits n ds before args name s p m ok)
+
+  pub statements_of-fits : (s : Statement) → statement_of name ≡ Some s → NoFault ds s args → IfSome (what_of (ds ++ declare_by n ds s args) name s args) (WhatFits (ds ++ declare_by n ds s args) n)
+  unfolding what_of declare_by
+  statements_of-fits statement.NewBool m ok = tt
+  statements_of-fits statement.NewInt m ok = tt
+  statements_of-fits statement.BoolToInt m ok =
       let F = λ (k : ℕ). fit-at ds (signature statement.BoolToInt) args k ok.fits in
-      bool2int-fits n ds (slice_get args 0) (slice_get args 1) before (F 0) (F 1)
-  stated-fits statement.BoolEq m ok = subst (λ (es : List Decl). IfSome (what_of es name statement.BoolEq args) (WhatFits es n)) (sym (append-nil ds)) (plain-fits n ds before args name statement.BoolEq m ok)
-  stated-fits (statement.Pair op) m ok = subst (λ (es : List Decl). IfSome (what_of es name (statement.Pair op) args) (WhatFits es n)) (sym (append-nil ds)) (plain-fits n ds before args name (statement.Pair op) m ok)
-  stated-fits (statement.Array op) m ok = subst (λ (es : List Decl). IfSome (what_of es name (statement.Array op) args) (WhatFits es n)) (sym (append-nil ds)) (plain-fits n ds before args name (statement.Array op) m ok)
-  stated-fits (statement.ArrayTruth op) m ok = subst (λ (es : List Decl). IfSome (what_of es name (statement.ArrayTruth op) args) (WhatFits es n)) (sym (append-nil ds)) (plain-fits n ds before args name (statement.ArrayTruth op) m ok)
-  stated-fits (statement.Compare rel) m ok = subst (λ (es : List Decl). IfSome (what_of es name (statement.Compare rel) args) (WhatFits es n)) (sym (append-nil ds)) (plain-fits n ds before args name (statement.Compare rel) m ok)
-  stated-fits (statement.CompareTruth rel) m ok = subst (λ (es : List Decl). IfSome (what_of es name (statement.CompareTruth rel) args) (WhatFits es n)) (sym (append-nil ds)) (plain-fits n ds before args name (statement.CompareTruth rel) m ok)
-  stated-fits (statement.Count rel) m ok = subst (λ (es : List Decl). IfSome (what_of es name (statement.Count rel) args) (WhatFits es n)) (sym (append-nil ds)) (plain-fits n ds before args name (statement.Count rel) m ok)
-  stated-fits (statement.Weigh rel) m ok = subst (λ (es : List Decl). IfSome (what_of es name (statement.Weigh rel) args) (WhatFits es n)) (sym (append-nil ds)) (plain-fits n ds before args name (statement.Weigh rel) m ok)
-  stated-fits (statement.Sum rel) m ok = subst (λ (es : List Decl). IfSome (what_of es name (statement.Sum rel) args) (WhatFits es n)) (sym (append-nil ds)) (plain-fits n ds before args name (statement.Sum rel) m ok)
-  stated-fits (statement.Linear rel) m ok = subst (λ (es : List Decl). IfSome (what_of es name (statement.Linear rel) args) (WhatFits es n)) (sym (append-nil ds)) (plain-fits n ds before args name (statement.Linear rel) m ok)
-  stated-fits (statement.Operation o) m ok = subst (λ (es : List Decl). IfSome (what_of es name (statement.Operation o) args) (WhatFits es n)) (sym (append-nil ds)) (plain-fits n ds before args name (statement.Operation o) m ok)
-  stated-fits statement.Absolute m ok = subst (λ (es : List Decl). IfSome (what_of es name statement.Absolute args) (WhatFits es n)) (sym (append-nil ds)) (plain-fits n ds before args name statement.Absolute m ok)
-  stated-fits (statement.Aggregate e) m ok = subst (λ (es : List Decl). IfSome (what_of es name (statement.Aggregate e) args) (WhatFits es n)) (sym (append-nil ds)) (plain-fits n ds before args name (statement.Aggregate e) m ok)
-  stated-fits (statement.Differ d) m ok = subst (λ (es : List Decl). IfSome (what_of es name (statement.Differ d) args) (WhatFits es n)) (sym (append-nil ds)) (plain-fits n ds before args name (statement.Differ d) m ok)
-  stated-fits (statement.Lex o) m ok = subst (λ (es : List Decl). IfSome (what_of es name (statement.Lex o) args) (WhatFits es n)) (sym (append-nil ds)) (plain-fits n ds before args name (statement.Lex o) m ok)
+      record { name = tt; arguments = bool2int-fits n ds (slice_get args 0) (slice_get args 1) before (F 0) (F 1); lengths = tt; values = tt }
+  statements_of-fits s m ok = plain-stated s tt m ok

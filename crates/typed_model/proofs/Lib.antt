@@ -1,4 +1,6 @@
 pub mod AppendLaws
+pub mod ArgumentLaws
+pub mod BehindLaws
 pub mod BooleanLaws
 pub mod DomainLaws
 pub mod FaultLaws
@@ -17,5 +19,6 @@ pub mod StatementLaws
 pub mod Sums
 pub mod TableLaws
 pub mod TakenLaws
+pub mod TextSizes
 pub mod TypingLaws
 pub mod Wide

@@ -1,5 +1,5 @@
 -- The numbers of a model are those of its items.
-use Rattle.std.proofs.Common.{ℕ, zero, suc, ◌+◌, pos, Bool, true, false, List, [], ◌∷◌, ◌++◌, map, Option, Some, None, is_some, arith}
+use Rattle.std.proofs.Common.{◌≡◌, ◌≤◌, ℕ, zero, suc, ◌+◌, pos, refl, Bool, true, false, List, [], ◌∷◌, ◌++◌, map, Option, Some, None, is_some, arith}
 use Rattle.std.specs.Prelude.{slice_get, IfSome, if◌then◌else◌}
 use Rattle.bumblebee_reader.specs.declared.syntax.Term.{Term}
 use Rattle.bumblebee_reader.specs.declared.syntax.Term.TheVariants as term
@@ -9,9 +9,8 @@ use Rattle.bumblebee_reader.specs.declared.syntax.Item.{Item}
 use Rattle.bumblebee_reader.specs.declared.syntax.Item.TheVariants as item
 use Rattle.typed_model.specs.declared.statement.Statement.{Statement}
 use Rattle.typed_model.specs.declared.statement.Statement.TheVariants as statement
-use Rattle.typed_model.specs.declared.statement.Difference.{Difference}
-use Rattle.typed_model.specs.declared.statement.Difference.TheVariants as difference
-use Rattle.typed_model.specs.declared.statement.Order.{Order}
+use Rattle.typed_model.specs.declared.signature.Wanted.{Wanted}
+use Rattle.typed_model.specs.declared.signature.Wanted.TheVariants as wanted
 use Rattle.typed_model.specs.declared.what.What.{What}
 use Rattle.typed_model.specs.declared.model.Kind.{Kind}
 use Rattle.typed_model.specs.declared.model.Decl.{Decl}
@@ -19,8 +18,13 @@ use Rattle.typed_model.specs.declared.model.Stmt.{Stmt}
 use Rattle.typed_model.specs.Names.{statement_of}
 use Rattle.typed_model.specs.Scope.{place_of, number, numeral}
 use Rattle.typed_model.specs.Faults.{numeral_in}
-use Rattle.typed_model.specs.Items.{declared_as, declared_by, declared_if, declared, what_of, number_in, numbers_in, numerals_in, terms_in, difference_what, order_what, numbered, stated_if, stated, decls_from, stmts_from, model_of}
-use Rattle.typed_model.specs.Limits.{InLimit, AllInLimit, TermInLimit, TermsInLimit, TermsInLimitIf, WhatInLimit, StmtsInLimit, KindInLimit, DeclsInLimit, InLimits, TextTermInLimit, TextTermsInLimit, ArgInLimit, ArgsInLimit, ItemInLimit, ItemsInLimit}
+use Rattle.typed_model.specs.Signatures.{signature}
+use Rattle.typed_model.specs.Items.{declare, declare_by, declare_if, declarations_of, what_of, number_in, terms_in, state, state_if, statements_of, decls_from, stmts_from}
+use Rattle.typed_model.specs.Sizes.{args_terms, item_terms, terms_of}
+use Rattle.typed_model.specs.Limits.{InLimit, AllInLimit, TermInLimit, TermsInLimit, ArgumentInLimit, ArgumentsInLimit, WhatInLimit, StmtsInLimit, KindInLimit, DeclsInLimit, TextTermInLimit, TextTermsInLimit, ArgInLimit, ArgsInLimit, ItemInLimit, ItemsInLimit}
+use Rattle.typed_model.specs.Laws.{LimitLaw}
+use Rattle.typed_model.proofs.ArgumentLaws.{argument_in, arguments_in, Reads, reads}
+use Rattle.typed_model.proofs.ModelSizes.{read-size}
 
 abbrev ArgIf : Option Arg → Type 0
 ArgIf None = Unit {0}
@@ -69,75 +73,57 @@ map_numerals [] h k = zero_in
 map_numerals (t ∷ ts) h zero = term_numeral t h.0
 map_numerals (t ∷ ts) h (suc k) = map_numerals ts h.1 k
 
+argument-limit : (ds : List Decl) (w : Wanted) (a : Option Arg) → ArgIf a → ArgumentInLimit (argument_in ds w a)
+argument-limit ds wanted.Truth a h = tt
+argument-limit ds wanted.Number a h = number_in-limit ds a h
+argument-limit ds wanted.Numeral a h = numeral_in-limit a h
+argument-limit ds wanted.Truths a h = tt
+argument-limit ds wanted.Numbers a h = map_numbers ds (terms_in a) (terms_in-limit a h)
+argument-limit ds wanted.Numerals a h = map_numerals (terms_in a) (terms_in-limit a h)
+argument-limit ds wanted.NewName a h = tt
+argument-limit ds wanted.NewInteger a h = number_in-limit ds a h
+
+arguments-limit : (ds : List Decl) (ws : List Wanted) (at : ℕ → Option Arg) → ((k : ℕ) → ArgIf (at k)) → ArgumentsInLimit (arguments_in ds ws at)
+arguments-limit ds [] at h = tt
+arguments-limit ds (w ∷ ws) at h = (argument-limit ds w (at 0) (h 0), arguments-limit ds ws (λ k. at (suc k)) (λ k. h (suc k)))
+
 module _ (ds : List Decl) (args : List Arg) (h : ArgsInLimit args) where
-  i : (k : ℕ) → TermInLimit (number_in ds (slice_get args k))
-  i k = number_in-limit ds (slice_get args k) (arg_at args k h)
-
-  is : (k : ℕ) → TermsInLimit (numbers_in ds (slice_get args k))
-  is k = map_numbers ds (terms_in (slice_get args k)) (terms_in-limit (slice_get args k) (arg_at args k h))
-
-  cs : (k : ℕ) → AllInLimit (numerals_in (slice_get args k))
-  cs k = map_numerals (terms_in (slice_get args k)) (terms_in-limit (slice_get args k) (arg_at args k h))
-
-  difference-limit : (name : List ℕ) (d : Difference) → WhatInLimit (difference_what ds name d args)
-  difference-limit name difference.All = is 0
-  difference-limit name difference.Truth = is 0
-  difference-limit name difference.Conditional = is 0
-
-  if_numbers : (b : Bool) (k : ℕ) → TermsInLimitIf (if b then None else Some (numbers_in ds (slice_get args k)))
-  if_numbers true k = tt
-  if_numbers false k = is k
-
-  order-limit : (name : List ℕ) (o : Order) → WhatInLimit (order_what ds name o args)
-  order-limit name o = (if_numbers o.of_booleans 0, if_numbers o.of_booleans 1)
-
-  what-limit : (name : List ℕ) (s : Statement) → IfSome (what_of ds name s args) WhatInLimit
-  unfolding what_of
-  what-limit name statement.NewBool = tt
-  what-limit name statement.NewInt = tt
-  what-limit name statement.BoolToInt = i 1
-  what-limit name statement.BoolEq = tt
-  what-limit name (statement.Pair op) = tt
-  what-limit name (statement.Array op) = tt
-  what-limit name (statement.ArrayTruth op) = tt
-  what-limit name (statement.Compare rel) = (i 0, i 1)
-  what-limit name (statement.CompareTruth rel) = (i 0, i 1)
-  what-limit name (statement.Count rel) = i 1
-  what-limit name (statement.Weigh rel) = (cs 0, i 2)
-  what-limit name (statement.Sum rel) = (is 0, i 1)
-  what-limit name (statement.Linear rel) = (cs 0, (is 1, i 2))
-  what-limit name (statement.Operation o) = (i 0, (i 1, i 2))
-  what-limit name statement.Absolute = (i 0, i 1)
-  what-limit name (statement.Aggregate e) = (is 0, i 1)
-  what-limit name (statement.Differ d) = difference-limit name d
-  what-limit name (statement.Lex o) = order-limit name o
-
   name-limit : (n : ℕ) (b : Bool) (name : List ℕ) (k : Kind) → KindInLimit k → DeclsInLimit (if b then [] else record { number = n; name = name; kind = k } ∷ [])
   name-limit n true name k f = tt
   name-limit n false name k f = (f, tt)
 
-  as-limit : (n : ℕ) (o : Option (List ℕ)) (k : Kind) → KindInLimit k → DeclsInLimit (declared_as n ds o k)
+  as-limit : (n : ℕ) (o : Option (List ℕ)) (k : Kind) → KindInLimit k → DeclsInLimit (declare n ds o k)
   as-limit n None k f = tt
   as-limit n (Some name) k f = name-limit n (is_some (place_of name ds)) name k f
 
-  by-limit : (n : ℕ) (s : Statement) → DeclsInLimit (declared_by n ds s args)
-  unfolding declared_by
+  by-limit : (n : ℕ) (s : Statement) → DeclsInLimit (declare_by n ds s args)
+  unfolding declare_by
   by-limit n statement.NewBool = as-limit n _ _ tt
   by-limit n statement.NewInt = as-limit n _ _ (numeral_in-limit (slice_get args 1) (arg_at args 1 h), numeral_in-limit (slice_get args 2) (arg_at args 2 h))
   by-limit n statement.BoolToInt = as-limit n _ _ (omega arith, omega arith)
   by-limit n s = tt
 
-  if-limit : (n : ℕ) (o : Option Statement) → DeclsInLimit (declared_if n ds o args)
+  if-limit : (n : ℕ) (o : Option Statement) → DeclsInLimit (declare_if n ds o args)
   if-limit n None = tt
   if-limit n (Some s) = by-limit n s
 
-  numbered-limit : (n : ℕ) (w : Option What) → IfSome w WhatInLimit → StmtsInLimit (numbered n w)
-  numbered-limit n None f = tt
-  numbered-limit n (Some w) f = (f, tt)
+module _ (ds : List Decl) (args : List Arg) (h : ArgsInLimit args) (few : args_terms args ≤ 16777216) where
+  read-limit : (s : Statement) (w : What) → Reads ds args s w → WhatInLimit w
+  read-limit s w r =
+      let size = read-size ds args s w r in
+      (rw r.arguments (arguments-limit ds (signature s) (slice_get args) (λ k. arg_at args k h)), omega (arith, size, few))
 
-  stated-limit : (n : ℕ) (name : List ℕ) (o : Option Statement) → StmtsInLimit (stated_if n ds name o args)
-  stated-limit n name None = tt
-  stated-limit n name (Some s) = numbered-limit n (what_of ds name s args) (what-limit name s)
+  built-limit : (s : Statement) (o : Option What) → IfSome o (Reads ds args s) → IfSome o WhatInLimit
+  built-limit s None r = tt
+  built-limit s (Some w) r = read-limit s w r
+
+  state-limit : (n : ℕ) (w : Option What) → IfSome w WhatInLimit → StmtsInLimit (state n w)
+  state-limit n None f = tt
+  state-limit n (Some w) f = (f, tt)
+
+  call-limit : (n : ℕ) (name : List ℕ) (o : Option Statement) → statement_of name ≡ o → StmtsInLimit (state_if n ds name o args)
+  call-limit n name None m = tt
+  call-limit n name (Some s) m = state-limit n (what_of ds name s args) (built-limit s (what_of ds name s args) (reads ds args name s m))
 
 decls-append : (ds es : List Decl) → DeclsInLimit ds → DeclsInLimit es → DeclsInLimit (ds ++ es)
 decls-append [] es h k = k
@@ -147,23 +133,25 @@ stmts-append : (ss ts : List Stmt) → StmtsInLimit ss → StmtsInLimit ts → S
 stmts-append [] ts h k = k
 stmts-append (s ∷ ss) ts h k = (h.0, stmts-append ss ts h.1 k)
 
-declared-limit : (n : ℕ) (ds : List Decl) (x : Item) → ItemInLimit x → DeclsInLimit (declared n ds x)
-declared-limit n ds (item.Call name args) h = if-limit ds args h n (statement_of name)
-declared-limit n ds (item.Goal k objective) h = tt
+declarations_of-limit : (n : ℕ) (ds : List Decl) (x : Item) → ItemInLimit x → DeclsInLimit (declarations_of n ds x)
+declarations_of-limit n ds (item.Call name args) h = if-limit ds args h n (statement_of name)
+declarations_of-limit n ds (item.Goal k objective) h = tt
 
-item-limit : (n : ℕ) (ds : List Decl) (x : Item) → ItemInLimit x → StmtsInLimit (stated n ds x)
-item-limit n ds (item.Call name args) h = stated-limit ds args h n name (statement_of name)
-item-limit n ds (item.Goal k objective) h = tt
+item-limit : (n : ℕ) (ds : List Decl) (x : Item) → ItemInLimit x → item_terms x ≤ 16777216 → StmtsInLimit (statements_of n ds x)
+item-limit n ds (item.Call name args) h few = call-limit ds args h few n name (statement_of name) refl
+item-limit n ds (item.Goal k objective) h few = tt
 
 decls-limit : (n : ℕ) (ds : List Decl) (items : List Item) → DeclsInLimit ds → ItemsInLimit items → DeclsInLimit (decls_from n ds items)
 unfolding decls_from
 decls-limit n ds [] h k = h
-decls-limit n ds (x ∷ items) h k = decls-limit (n + 1) (ds ++ declared n ds x) items (decls-append ds (declared n ds x) h (declared-limit n ds x k.0)) k.1
+decls-limit n ds (x ∷ items) h k = decls-limit (n + 1) (ds ++ declarations_of n ds x) items (decls-append ds (declarations_of n ds x) h (declarations_of-limit n ds x k.0)) k.1
 
-stmts-limit : (n : ℕ) (ds : List Decl) (items : List Item) → ItemsInLimit items → StmtsInLimit (stmts_from n ds items)
+stmts-limit : (n : ℕ) (ds : List Decl) (items : List Item) → ItemsInLimit items → terms_of items ≤ 16777216 → StmtsInLimit (stmts_from n ds items)
 unfolding stmts_from
-stmts-limit n ds [] k = tt
-stmts-limit n ds (x ∷ items) k = stmts-append (stated n (ds ++ declared n ds x) x) _ (item-limit n (ds ++ declared n ds x) x k.0) (stmts-limit (n + 1) (ds ++ declared n ds x) items k.1)
+stmts-limit n ds [] k few = tt
+stmts-limit n ds (x ∷ items) k few =
+    let es = ds ++ declarations_of n ds x in
+    stmts-append (statements_of n es x) _ (item-limit n es x k.0 (omega (arith, few))) (stmts-limit (n + 1) es items k.1 (omega (arith, few)))
 
-pub InLimits-model_of : (items : List Item) → ItemsInLimit items → InLimits (model_of items)
-InLimits-model_of items h = (decls-limit 1 [] items tt h, stmts-limit 1 [] items h)
+pub InLimits-model_of : LimitLaw
+InLimits-model_of items h few = (decls-limit 1 [] items tt h, stmts-limit 1 [] items h few)

@@ -17,6 +17,7 @@ use Rattle.typed_model.specs.declared.statement.Statement.{Statement}
 use Rattle.typed_model.specs.declared.statement.Statement.TheVariants as statement
 use Rattle.typed_model.specs.declared.what.BoolTerm.{BoolTerm}
 use Rattle.typed_model.specs.declared.what.IntTerm.TheVariants as int_term
+use Rattle.typed_model.specs.declared.what.What.{What}
 use Rattle.typed_model.specs.declared.what.What.TheVariants.{L3}
 use Rattle.typed_model.specs.declared.model.Decl.{Decl}
 use Rattle.typed_model.specs.declared.model.Stmt.{Stmt}
@@ -27,12 +28,12 @@ use Rattle.typed_model.specs.Names.{statement_of}
 use Rattle.typed_model.specs.Signatures.{signature}
 use Rattle.typed_model.specs.Scope.{place_of, place_or_zero}
 use Rattle.typed_model.specs.Faults.{call_fault, item_fault, objective_unknown, objective_fits, goal_fault}
-use Rattle.typed_model.specs.Items.{declared_name, declared_as, declared_by, declared_if, declared, what_of, name_in, truth_in, number_in, numbered, stated_if, stated, goal_of, sought, decls_from, stmts_from, goal_from, first_fault_from, first_fault, model_of}
+use Rattle.typed_model.specs.Items.{declare_name, declare, declare_by, declare_if, declarations_of, what_of, name_in, truth_in, number_in, state, state_if, statements_of, goal_of, goal_after, decls_from, stmts_from, goal_from, first_fault_from, first_fault, model_of}
 use Rattle.typed_model.specs.WellTyped.{GoalFits, DeclaresPlace, WellTyped}
 use Rattle.typed_model.proofs.TypingLaws.{AllBefore, ArgFits, fit-at, NoFault, no_fault, int_placed}
 use Rattle.typed_model.proofs.AppendLaws.{at-append, place_of-last}
 use Rattle.typed_model.proofs.ItemTyping.{own_kind}
-use Rattle.typed_model.proofs.ModelTyping.{AllFrom, AllBefore-declared, decls-prefix, faults-none, before-goal, stmts-fit, decls-fit}
+use Rattle.typed_model.proofs.ModelTyping.{AllFrom, AllBefore-declarations_of, decls-prefix, faults-none, before-goal, stmts-fit, decls-fit}
 
 -- The goal.
 
@@ -69,17 +70,17 @@ GoalFitsIf-append : (ds es : List Decl) (g : Option Goal) → GoalFitsIf ds g �
 GoalFitsIf-append ds es None h = tt
 GoalFitsIf-append ds es (Some g) h = GoalFits-append ds es g h
 
-sought-fits : (n : ℕ) (ds : List Decl) (g : Option Goal) (x : Item) → item_fault n false ds x ≡ None → GoalFitsIf ds g → GoalFitsIf (ds ++ declared n ds x) (sought g ds x)
+goal_after-fits : (n : ℕ) (ds : List Decl) (g : Option Goal) (x : Item) → item_fault n false ds x ≡ None → GoalFitsIf ds g → GoalFitsIf (ds ++ declarations_of n ds x) (goal_after g ds x)
 unfolding item_fault
-sought-fits n ds g (item.Call name args) e h = GoalFitsIf-append ds _ g h
-sought-fits n ds g (item.Goal k objective) e h = GoalFits-append ds [] (goal_of ds k objective) (goal_of-fits ds k objective (goal_fault-none n ds k objective e))
+goal_after-fits n ds g (item.Call name args) e h = GoalFitsIf-append ds _ g h
+goal_after-fits n ds g (item.Goal k objective) e h = GoalFits-append ds [] (goal_of ds k objective) (goal_of-fits ds k objective (goal_fault-none n ds k objective e))
 
 goal-fit : (n : ℕ) (ds : List Decl) (g : Option Goal) (items : List Item) → first_fault_from n ds g items ≡ None → GoalFitsIf ds g → GoalFitsIf (decls_from n ds items) (goal_from n ds g items)
 unfolding decls_from goal_from
 goal-fit n ds g [] e h = h
 goal-fit n ds g (x ∷ items) e h =
     let f = faults-none n ds g x items e in
-    goal-fit (n + 1) (ds ++ declared n ds x) (sought g ds x) items f.1 (sought-fits n ds g x (before-goal n (is_some g) ds x f.0) h)
+    goal-fit (n + 1) (ds ++ declarations_of n ds x) (goal_after g ds x) items f.1 (goal_after-fits n ds g x (before-goal n (is_some g) ds x f.0) h)
 
 goal-or : (ds : List Decl) (g : Option Goal) → GoalFitsIf ds g → GoalFits ds (unwrap_or g goal.Satisfy)
 goal-or ds None h = tt
@@ -131,12 +132,12 @@ module _ (n : ℕ) (ds more : List Decl) (before : AllBefore n ds) (later : AllF
   nothing : (es : List Decl) → es ≡ [] → slice_get ((ds ++ es) ++ more) p ≡ Some d → d.number ≡ n → ⊥
   nothing es m g e = not_here n p ds more d (subst (λ (xs : List Decl). slice_get (xs ++ more) p ≡ Some d) (ap (λ xs. ds ++ xs) m ∙ append-nil ds) g) before later e
 
-  place_shares : (x : BoolTerm) (name : List ℕ) (o : Option ℕ) → place_of name ds ≡ o → slice_get ((ds ++ declared_name n ds name own_kind) ++ more) p ≡ Some d → d.number ≡ n → DeclaresPlace ((ds ++ declared_name n ds name own_kind) ++ more) d (L3 x (int_term.Of (place_or_zero name (ds ++ declared_name n ds name own_kind))))
+  place_shares : (x : BoolTerm) (name : List ℕ) (o : Option ℕ) → place_of name ds ≡ o → slice_get ((ds ++ declare_name n ds name own_kind) ++ more) p ≡ Some d → d.number ≡ n → DeclaresPlace ((ds ++ declare_name n ds name own_kind) ++ more) d (L3 x (int_term.Of (place_or_zero name (ds ++ declare_name n ds name own_kind))))
   place_shares x name (Some k) m g e =
-      absurd (nothing (declared_name n ds name own_kind) (ap (λ (o : Option ℕ). if is_some o then [] else record { number = n; name = name; kind = own_kind } ∷ []) m) g e)
+      absurd (nothing (declare_name n ds name own_kind) (ap (λ (o : Option ℕ). if is_some o then [] else record { number = n; name = name; kind = own_kind } ∷ []) m) g e)
   place_shares x name None m g e =
       let own : Decl = record { number = n; name = name; kind = own_kind } in
-      let made : declared_name n ds name own_kind ≡ own ∷ [] = ap (λ (o : Option ℕ). if is_some o then [] else own ∷ []) m in
+      let made : declare_name n ds name own_kind ≡ own ∷ [] = ap (λ (o : Option ℕ). if is_some o then [] else own ∷ []) m in
       let last : place_of name (ds ++ own ∷ []) ≡ Some (length ds) = place_of-last name ds own m ((bytes_eq-Decides name name).1 refl) in
       let g2 : slice_get ((ds ++ own ∷ []) ++ more) p ≡ Some d = subst (λ (es : List Decl). slice_get ((ds ++ es) ++ more) p ≡ Some d) made g in
       let r = only_here n p ds more own d g2 before later e in
@@ -144,39 +145,29 @@ module _ (n : ℕ) (ds more : List Decl) (before : AllBefore n ds) (later : AllF
       let there : slice_get ((ds ++ own ∷ []) ++ more) (place_or_zero name (ds ++ own ∷ [])) ≡ Some d = subst (λ (q : ℕ). slice_get ((ds ++ own ∷ []) ++ more) q ≡ Some d) (sym placed) g2 in
       subst (λ (es : List Decl). DeclaresPlace ((ds ++ es) ++ more) d (L3 x (int_term.Of (place_or_zero name (ds ++ es))))) (sym made) (there, own_kind_of own d r.1)
 
-  arg_shares : (x : BoolTerm) (a : Option Arg) → ArgFits ds wanted.NewInteger a → slice_get ((ds ++ declared_as n ds (name_in a) own_kind) ++ more) p ≡ Some d → d.number ≡ n → DeclaresPlace ((ds ++ declared_as n ds (name_in a) own_kind) ++ more) d (L3 x (number_in (ds ++ declared_as n ds (name_in a) own_kind) a))
+  arg_shares : (x : BoolTerm) (a : Option Arg) → ArgFits ds wanted.NewInteger a → slice_get ((ds ++ declare n ds (name_in a) own_kind) ++ more) p ≡ Some d → d.number ≡ n → DeclaresPlace ((ds ++ declare n ds (name_in a) own_kind) ++ more) d (L3 x (number_in (ds ++ declare n ds (name_in a) own_kind) a))
   arg_shares x None h g e = absurd h
   arg_shares x (Some (arg.One (term.Plain name))) h g e = place_shares x name (place_of name ds) refl g e
   arg_shares x (Some (arg.One (term.Minus name))) h g e = absurd (false≢true h)
   arg_shares x (Some (arg.One (term.Number z))) h g e = absurd (false≢true h)
   arg_shares x (Some (arg.Many ts)) h g e = absurd (false≢true h)
 
-  by_shares : (name : List ℕ) (args : List Arg) (s : Statement) → NoFault ds s args → slice_get ((ds ++ declared_by n ds s args) ++ more) p ≡ Some d → EachStmt (Shares ((ds ++ declared_by n ds s args) ++ more) d) (numbered n (what_of (ds ++ declared_by n ds s args) name s args))
-  unfolding what_of declared_by
+  none_shares : (o : Option What) → (d.number ≡ n → ⊥) → EachStmt (Shares ((ds ++ []) ++ more) d) (state n o)
+  none_shares None h = tt
+  none_shares (Some w) h = (λ e. absurd (h e), tt)
+
+  by_shares : (name : List ℕ) (args : List Arg) (s : Statement) → NoFault ds s args → slice_get ((ds ++ declare_by n ds s args) ++ more) p ≡ Some d → EachStmt (Shares ((ds ++ declare_by n ds s args) ++ more) d) (state n (what_of (ds ++ declare_by n ds s args) name s args))
+  unfolding what_of declare_by
   by_shares name args statement.NewBool ok g = tt
   by_shares name args statement.NewInt ok g = tt
-  by_shares name args statement.BoolToInt ok g = (λ e. arg_shares (truth_in (ds ++ declared_as n ds (name_in (slice_get args 1)) own_kind) (slice_get args 0)) (slice_get args 1) (fit-at ds (signature statement.BoolToInt) args 1 ok.fits) g e, tt)
-  by_shares name args statement.BoolEq ok g = (λ e. absurd (nothing [] refl g e), tt)
-  by_shares name args (statement.Pair op) ok g = (λ e. absurd (nothing [] refl g e), tt)
-  by_shares name args (statement.Array op) ok g = (λ e. absurd (nothing [] refl g e), tt)
-  by_shares name args (statement.ArrayTruth op) ok g = (λ e. absurd (nothing [] refl g e), tt)
-  by_shares name args (statement.Compare rel) ok g = (λ e. absurd (nothing [] refl g e), tt)
-  by_shares name args (statement.CompareTruth rel) ok g = (λ e. absurd (nothing [] refl g e), tt)
-  by_shares name args (statement.Count rel) ok g = (λ e. absurd (nothing [] refl g e), tt)
-  by_shares name args (statement.Weigh rel) ok g = (λ e. absurd (nothing [] refl g e), tt)
-  by_shares name args (statement.Sum rel) ok g = (λ e. absurd (nothing [] refl g e), tt)
-  by_shares name args (statement.Linear rel) ok g = (λ e. absurd (nothing [] refl g e), tt)
-  by_shares name args (statement.Operation o) ok g = (λ e. absurd (nothing [] refl g e), tt)
-  by_shares name args statement.Absolute ok g = (λ e. absurd (nothing [] refl g e), tt)
-  by_shares name args (statement.Aggregate r) ok g = (λ e. absurd (nothing [] refl g e), tt)
-  by_shares name args (statement.Differ r) ok g = (λ e. absurd (nothing [] refl g e), tt)
-  by_shares name args (statement.Lex o) ok g = (λ e. absurd (nothing [] refl g e), tt)
+  by_shares name args statement.BoolToInt ok g = (λ e. arg_shares (truth_in (ds ++ declare n ds (name_in (slice_get args 1)) own_kind) (slice_get args 0)) (slice_get args 1) (fit-at ds (signature statement.BoolToInt) args 1 ok.fits) g e, tt)
+  by_shares name args s ok g = none_shares (what_of (ds ++ []) name s args) (λ e. nothing [] refl g e)
 
-  if_shares : (name : List ℕ) (args : List Arg) (o : Option Statement) → call_fault n ds o args ≡ None → slice_get ((ds ++ declared_if n ds o args) ++ more) p ≡ Some d → EachStmt (Shares ((ds ++ declared_if n ds o args) ++ more) d) (stated_if n (ds ++ declared_if n ds o args) name o args)
+  if_shares : (name : List ℕ) (args : List Arg) (o : Option Statement) → call_fault n ds o args ≡ None → slice_get ((ds ++ declare_if n ds o args) ++ more) p ≡ Some d → EachStmt (Shares ((ds ++ declare_if n ds o args) ++ more) d) (state_if n (ds ++ declare_if n ds o args) name o args)
   if_shares name args None f g = tt
   if_shares name args (Some s) f g = by_shares name args s (no_fault n ds s args f) g
 
-  item_shares : (x : Item) → item_fault n false ds x ≡ None → slice_get ((ds ++ declared n ds x) ++ more) p ≡ Some d → EachStmt (Shares ((ds ++ declared n ds x) ++ more) d) (stated n (ds ++ declared n ds x) x)
+  item_shares : (x : Item) → item_fault n false ds x ≡ None → slice_get ((ds ++ declarations_of n ds x) ++ more) p ≡ Some d → EachStmt (Shares ((ds ++ declarations_of n ds x) ++ more) d) (statements_of n (ds ++ declarations_of n ds x) x)
   unfolding item_fault
   item_shares (item.Call name args) f g = if_shares name args (statement_of name) f g
   item_shares (item.Goal k objective) f g = tt
@@ -185,14 +176,14 @@ shares-from : (n : ℕ) (ds : List Decl) (g : Option Goal) (items : List Item) �
 unfolding decls_from stmts_from
 shares-from n ds g [] before e p d at = tt
 shares-from n ds g (x ∷ items) before e p d at =
-    let es = ds ++ declared n ds x in
+    let es = ds ++ declarations_of n ds x in
     let f = faults-none n ds g x items e in
     let r = decls-prefix (n + 1) es items in
     let at2 : slice_get (es ++ r.0) p ≡ Some d = subst (λ (D : List Decl). slice_get D p ≡ Some d) r.1 at in
     let own = item_shares n ds r.0 before r.2 p d x (before-goal n (is_some g) ds x f.0) at2 in
-    each-append (Shares (decls_from (n + 1) es items) d) (stated n es x) (stmts_from (n + 1) es items)
-    (subst (λ (D : List Decl). EachStmt (Shares D d) (stated n es x)) (sym r.1) own)
-    (shares-from (n + 1) es (sought g ds x) items (AllBefore-declared n ds x before) f.1 p d at)
+    each-append (Shares (decls_from (n + 1) es items) d) (statements_of n es x) (stmts_from (n + 1) es items)
+    (subst (λ (D : List Decl). EachStmt (Shares D d) (statements_of n es x)) (sym r.1) own)
+    (shares-from (n + 1) es (goal_after g ds x) items (AllBefore-declarations_of n ds x before) f.1 p d at)
 
 shares_at : (D : List Decl) (ss : List Stmt) (o : Option Decl) (q : ℕ) → ((d : Decl) → o ≡ Some d → EachStmt (Shares D d) ss) → IfSome o (λ d. IfSome (slice_get ss q) (Shares D d))
 shares_at D ss None q f = tt

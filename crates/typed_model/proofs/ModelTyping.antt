@@ -26,11 +26,11 @@ use Rattle.typed_model.specs.Names.{statement_of, first_of}
 use Rattle.typed_model.specs.Signatures.{signature}
 use Rattle.typed_model.specs.Scope.{place_of, kind_of, is_bool, is_constant}
 use Rattle.typed_model.specs.Faults.{call_fault, item_fault, numeral_in}
-use Rattle.typed_model.specs.Items.{declared_name, declared_as, declared_by, declared_if, declared, name_in, numbered, stated_if, stated, sought, decls_from, stmts_from, first_fault_from}
+use Rattle.typed_model.specs.Items.{declare_name, declare, declare_by, declare_if, declarations_of, name_in, state, state_if, statements_of, goal_after, decls_from, stmts_from, first_fault_from}
 use Rattle.typed_model.specs.WellTyped.{WhatFits, StmtsFit, IsFree, KindFits, DeclsFit}
-use Rattle.typed_model.proofs.TypingLaws.{not_less, AllBefore, ArgFits, fit-at, name_fits, NoFault, no_fault}
+use Rattle.typed_model.proofs.TypingLaws.{not_less, AllBefore, ArgFits, fit-at, NoFault, no_fault}
 use Rattle.typed_model.proofs.AppendLaws.{WhatFits-append}
-use Rattle.typed_model.proofs.ItemTyping.{own_kind, stated-fits}
+use Rattle.typed_model.proofs.ItemTyping.{own_kind, statements_of-fits}
 
 and_parts : (x y : Bool) → (x && y) ≡ true → (x ≡ true) × (y ≡ true)
 and_parts true y e = (refl, e)
@@ -59,31 +59,31 @@ all_of_name : (n : ℕ) (b : Bool) (name : List ℕ) (k : Kind) → AllOf n (if 
 all_of_name n true name k = tt
 all_of_name n false name k = (refl, tt)
 
-all_of_as : (n : ℕ) (ds : List Decl) (o : Option (List ℕ)) (k : Kind) → AllOf n (declared_as n ds o k)
+all_of_as : (n : ℕ) (ds : List Decl) (o : Option (List ℕ)) (k : Kind) → AllOf n (declare n ds o k)
 all_of_as n ds None k = tt
 all_of_as n ds (Some name) k = all_of_name n (is_some (place_of name ds)) name k
 
-all_of_by : (n : ℕ) (ds : List Decl) (s : Statement) (args : List Arg) → AllOf n (declared_by n ds s args)
-unfolding declared_by
+all_of_by : (n : ℕ) (ds : List Decl) (s : Statement) (args : List Arg) → AllOf n (declare_by n ds s args)
+unfolding declare_by
 all_of_by n ds statement.NewBool args = all_of_as n ds _ _
 all_of_by n ds statement.NewInt args = all_of_as n ds _ _
 all_of_by n ds statement.BoolToInt args = all_of_as n ds _ _
 all_of_by n ds s args = tt
 
-all_of_if : (n : ℕ) (ds : List Decl) (o : Option Statement) (args : List Arg) → AllOf n (declared_if n ds o args)
+all_of_if : (n : ℕ) (ds : List Decl) (o : Option Statement) (args : List Arg) → AllOf n (declare_if n ds o args)
 all_of_if n ds None args = tt
 all_of_if n ds (Some s) args = all_of_by n ds s args
 
-pub AllOf-declared : (n : ℕ) (ds : List Decl) (x : Item) → AllOf n (declared n ds x)
-AllOf-declared n ds (item.Call name args) = all_of_if n ds (statement_of name) args
-AllOf-declared n ds (item.Goal k objective) = tt
+pub AllOf-declarations_of : (n : ℕ) (ds : List Decl) (x : Item) → AllOf n (declarations_of n ds x)
+AllOf-declarations_of n ds (item.Call name args) = all_of_if n ds (statement_of name) args
+AllOf-declarations_of n ds (item.Goal k objective) = tt
 
 AllBefore-AllOf : (n : ℕ) (es : List Decl) → AllOf n es → AllBefore (n + 1) es
 AllBefore-AllOf n [] h = tt
 AllBefore-AllOf n (d ∷ es) h = (omega (arith, h.0), AllBefore-AllOf n es h.1)
 
-pub AllBefore-declared : (n : ℕ) (ds : List Decl) (x : Item) → AllBefore n ds → AllBefore (n + 1) (ds ++ declared n ds x)
-AllBefore-declared n ds x h = AllBefore-append (n + 1) ds (declared n ds x) (AllBefore-more n (n + 1) ds (omega arith) h) (AllBefore-AllOf n (declared n ds x) (AllOf-declared n ds x))
+pub AllBefore-declarations_of : (n : ℕ) (ds : List Decl) (x : Item) → AllBefore n ds → AllBefore (n + 1) (ds ++ declarations_of n ds x)
+AllBefore-declarations_of n ds x h = AllBefore-append (n + 1) ds (declarations_of n ds x) (AllBefore-more n (n + 1) ds (omega arith) h) (AllBefore-AllOf n (declarations_of n ds x) (AllOf-declarations_of n ds x))
 
 -- declarations from item n on
 abbrev pub AllFrom : ℕ → List Decl → Type 0
@@ -103,8 +103,8 @@ pub decls-prefix : (n : ℕ) (ds : List Decl) (items : List Item) → (more : Li
 unfolding decls_from
 decls-prefix n ds [] = ([], sym (append-nil ds), tt)
 decls-prefix n ds (x ∷ items) =
-    let r = decls-prefix (n + 1) (ds ++ declared n ds x) items in
-    (declared n ds x ++ r.0, r.1 ∙ append_assoc ds (declared n ds x) r.0, AllFrom-AllOf n (declared n ds x) r.0 (AllOf-declared n ds x) (AllFrom-less (n + 1) n r.0 (omega arith) r.2))
+    let r = decls-prefix (n + 1) (ds ++ declarations_of n ds x) items in
+    (declarations_of n ds x ++ r.0, r.1 ∙ append_assoc ds (declarations_of n ds x) r.0, AllFrom-AllOf n (declarations_of n ds x) r.0 (AllOf-declarations_of n ds x) (AllFrom-less (n + 1) n r.0 (omega arith) r.2))
 
 -- Items without a fault.
 
@@ -112,7 +112,7 @@ first_none : {A : Type 0} (a b : Option A) → first_of a b ≡ None → (a ≡ 
 first_none None b e = (refl, e)
 first_none (Some x) b e = cc
 
-pub faults-none : (n : ℕ) (ds : List Decl) (g : Option Goal) (x : Item) (items : List Item) → first_fault_from n ds g (x ∷ items) ≡ None → (item_fault n (is_some g) ds x ≡ None) × (first_fault_from (n + 1) (ds ++ declared n ds x) (sought g ds x) items ≡ None)
+pub faults-none : (n : ℕ) (ds : List Decl) (g : Option Goal) (x : Item) (items : List Item) → first_fault_from n ds g (x ∷ items) ≡ None → (item_fault n (is_some g) ds x ≡ None) × (first_fault_from (n + 1) (ds ++ declarations_of n ds x) (goal_after g ds x) items ≡ None)
 unfolding first_fault_from
 faults-none n ds g x items e = first_none (item_fault n (is_some g) ds x) _ e
 
@@ -128,19 +128,19 @@ OneFits ds n [] = Unit {0}
 OneFits ds n (s ∷ []) = (s.number ≡ n) × WhatFits ds n s.what
 OneFits ds n (s ∷ t ∷ ss) = ⊥
 
-numbered-fits : (ds : List Decl) (n : ℕ) (w : Option What) → IfSome w (WhatFits ds n) → OneFits ds n (numbered n w)
-numbered-fits ds n None h = tt
-numbered-fits ds n (Some w) h = (refl, h)
+state-fits : (ds : List Decl) (n : ℕ) (w : Option What) → IfSome w (WhatFits ds n) → OneFits ds n (state n w)
+state-fits ds n None h = tt
+state-fits ds n (Some w) h = (refl, h)
 
-call-fits : (n : ℕ) (ds : List Decl) (before : AllBefore n ds) (name : List ℕ) (args : List Arg) (o : Option Statement) → statement_of name ≡ o → call_fault n ds o args ≡ None → OneFits (ds ++ declared_if n ds o args) n (stated_if n (ds ++ declared_if n ds o args) name o args)
+call-fits : (n : ℕ) (ds : List Decl) (before : AllBefore n ds) (name : List ℕ) (args : List Arg) (o : Option Statement) → statement_of name ≡ o → call_fault n ds o args ≡ None → OneFits (ds ++ declare_if n ds o args) n (state_if n (ds ++ declare_if n ds o args) name o args)
 call-fits n ds before name args None m e = tt
 call-fits n ds before name args (Some s) m e =
-    numbered-fits _ n _ (stated-fits n ds before args name s (name_fits name s m) (no_fault n ds s args e))
+    state-fits _ n _ (statements_of-fits n ds before args name s m (no_fault n ds s args e))
 
-pub stated-one : (n : ℕ) (ds : List Decl) (x : Item) → AllBefore n ds → item_fault n false ds x ≡ None → OneFits (ds ++ declared n ds x) n (stated n (ds ++ declared n ds x) x)
+pub statements_of-one : (n : ℕ) (ds : List Decl) (x : Item) → AllBefore n ds → item_fault n false ds x ≡ None → OneFits (ds ++ declarations_of n ds x) n (statements_of n (ds ++ declarations_of n ds x) x)
 unfolding item_fault
-stated-one n ds (item.Call name args) before e = call-fits n ds before name args (statement_of name) refl e
-stated-one n ds (item.Goal k objective) before e = tt
+statements_of-one n ds (item.Call name args) before e = call-fits n ds before name args (statement_of name) refl e
+statements_of-one n ds (item.Goal k objective) before e = tt
 
 StmtsFit-less : (ds : List Decl) (n m : ℕ) (ss : List Stmt) → m ≤ n → StmtsFit ds n ss → StmtsFit ds m ss
 StmtsFit-less ds n m [] l h = tt
@@ -156,11 +156,11 @@ pub stmts-fit : (n : ℕ) (ds : List Decl) (g : Option Goal) (items : List Item)
 unfolding stmts_from decls_from
 stmts-fit n ds g [] before e = tt
 stmts-fit n ds g (x ∷ items) before e =
-    let es = ds ++ declared n ds x in
+    let es = ds ++ declarations_of n ds x in
     let f = faults-none n ds g x items e in
     let r = decls-prefix (n + 1) es items in
     let more : (w : What) → WhatFits es n w → WhatFits (decls_from (n + 1) es items) n w = λ w h. subst (λ (D : List Decl). WhatFits D n w) (sym r.1) (WhatFits-append es r.0 n w h) in
-    StmtsFit-join es (decls_from (n + 1) es items) n (stated n es x) (stmts_from (n + 1) es items) more (stated-one n ds x before (before-goal n (is_some g) ds x f.0)) (stmts-fit (n + 1) es (sought g ds x) items (AllBefore-declared n ds x before) f.1)
+    StmtsFit-join es (decls_from (n + 1) es items) n (statements_of n es x) (stmts_from (n + 1) es items) more (statements_of-one n ds x before (before-goal n (is_some g) ds x f.0)) (stmts-fit (n + 1) es (goal_after g ds x) items (AllBefore-declarations_of n ds x before) f.1)
 
 -- Declarations.
 
@@ -212,46 +212,46 @@ DeclsFit-last m (e ∷ ds) d h before l c f k =
     (h.0, (h.1.0, (free-last e.name ds d h.1.1.0 (bytes_other d.name e.name p.0), (h.1.1.1.0, DeclsFit-last (e.number + 1) ds d h.1.1.1.1 before.1 (omega (arith, before.0)) c p.1 k))))
 
 module _ (n : ℕ) (ds : List Decl) (fits : DeclsFit 1 ds) (before : AllBefore n ds) (one : 1 ≤ n) where
-  name-decls : (name : List ℕ) (k : Kind) (o : Option ℕ) → place_of name ds ≡ o → is_constant name ≡ false → KindFits k → DeclsFit 1 (ds ++ declared_name n ds name k)
+  name-decls : (name : List ℕ) (k : Kind) (o : Option ℕ) → place_of name ds ≡ o → is_constant name ≡ false → KindFits k → DeclsFit 1 (ds ++ declare_name n ds name k)
   name-decls name k None e c h =
       let d : Decl = record { number = n; name = name; kind = k } in
-      let made : declared_name n ds name k ≡ d ∷ [] = ap (λ (o : Option ℕ). if is_some o then [] else d ∷ []) e in
+      let made : declare_name n ds name k ≡ d ∷ [] = ap (λ (o : Option ℕ). if is_some o then [] else d ∷ []) e in
       subst (λ (es : List Decl). DeclsFit 1 (ds ++ es)) (sym made) (DeclsFit-last 1 ds d fits before one c e h)
   name-decls name k (Some p) e c h =
       let d : Decl = record { number = n; name = name; kind = k } in
-      let made : declared_name n ds name k ≡ [] = ap (λ (o : Option ℕ). if is_some o then [] else d ∷ []) e in
+      let made : declare_name n ds name k ≡ [] = ap (λ (o : Option ℕ). if is_some o then [] else d ∷ []) e in
       subst (λ (es : List Decl). DeclsFit 1 (ds ++ es)) (sym made) (subst (DeclsFit 1) (sym (append-nil ds)) fits)
 
   same-decls : DeclsFit 1 (ds ++ [])
   same-decls = subst (DeclsFit 1) (sym (append-nil ds)) fits
 
-  new_name-decls : (a : Option Arg) (k : Kind) → ArgFits ds wanted.NewName a → KindFits k → DeclsFit 1 (ds ++ declared_as n ds (name_in a) k)
+  new_name-decls : (a : Option Arg) (k : Kind) → ArgFits ds wanted.NewName a → KindFits k → DeclsFit 1 (ds ++ declare n ds (name_in a) k)
   new_name-decls None k h f = absurd h
   new_name-decls (Some (arg.One (term.Plain name))) k h f = name-decls name k (place_of name ds) refl (not_true (is_constant name) h) f
   new_name-decls (Some (arg.One (term.Minus name))) k h f = absurd (false≢true h)
   new_name-decls (Some (arg.One (term.Number z))) k h f = absurd (false≢true h)
   new_name-decls (Some (arg.Many ts)) k h f = absurd (false≢true h)
 
-  new_integer-decls : (a : Option Arg) → ArgFits ds wanted.NewInteger a → DeclsFit 1 (ds ++ declared_as n ds (name_in a) own_kind)
+  new_integer-decls : (a : Option Arg) → ArgFits ds wanted.NewInteger a → DeclsFit 1 (ds ++ declare n ds (name_in a) own_kind)
   new_integer-decls None h = absurd h
   new_integer-decls (Some (arg.One (term.Plain name))) h = name-decls name own_kind (place_of name ds) refl (not_true (is_constant name) (and_parts (not (is_constant name)) (not (is_bool (kind_of name ds))) h).0) (omega (arith, ints))
   new_integer-decls (Some (arg.One (term.Minus name))) h = absurd (false≢true h)
   new_integer-decls (Some (arg.One (term.Number z))) h = absurd (false≢true h)
   new_integer-decls (Some (arg.Many ts)) h = absurd (false≢true h)
 
-  by-decls : (s : Statement) (args : List Arg) → NoFault ds s args → DeclsFit 1 (ds ++ declared_by n ds s args)
-  unfolding declared_by
+  by-decls : (s : Statement) (args : List Arg) → NoFault ds s args → DeclsFit 1 (ds ++ declare_by n ds s args)
+  unfolding declare_by
   by-decls statement.NewBool args ok = new_name-decls (slice_get args 0) kind.Bool (fit-at ds (signature statement.NewBool) args 0 ok.fits) tt
   by-decls statement.NewInt args ok =
       new_name-decls (slice_get args 0) (kind.Int (numeral_in (slice_get args 1)) (numeral_in (slice_get args 2))) (fit-at ds (signature statement.NewInt) args 0 ok.fits) (not_less (numeral_in (slice_get args 2)) (numeral_in (slice_get args 1)) ok.domain)
   by-decls statement.BoolToInt args ok = new_integer-decls (slice_get args 1) (fit-at ds (signature statement.BoolToInt) args 1 ok.fits)
   by-decls s args ok = same-decls
 
-  if-decls : (o : Option Statement) (args : List Arg) → call_fault n ds o args ≡ None → DeclsFit 1 (ds ++ declared_if n ds o args)
+  if-decls : (o : Option Statement) (args : List Arg) → call_fault n ds o args ≡ None → DeclsFit 1 (ds ++ declare_if n ds o args)
   if-decls None args e = same-decls
   if-decls (Some s) args e = by-decls s args (no_fault n ds s args e)
 
-  pub item-decls : (x : Item) → item_fault n false ds x ≡ None → DeclsFit 1 (ds ++ declared n ds x)
+  pub item-decls : (x : Item) → item_fault n false ds x ≡ None → DeclsFit 1 (ds ++ declarations_of n ds x)
   unfolding item_fault
   item-decls (item.Call name args) e = if-decls (statement_of name) args e
   item-decls (item.Goal k objective) e = same-decls
@@ -261,4 +261,4 @@ unfolding decls_from
 decls-fit n ds g [] fits before one e = fits
 decls-fit n ds g (x ∷ items) fits before one e =
     let f = faults-none n ds g x items e in
-    decls-fit (n + 1) (ds ++ declared n ds x) (sought g ds x) items (item-decls n ds fits before one x (before-goal n (is_some g) ds x f.0)) (AllBefore-declared n ds x before) (omega arith) f.1
+    decls-fit (n + 1) (ds ++ declarations_of n ds x) (goal_after g ds x) items (item-decls n ds fits before one x (before-goal n (is_some g) ds x f.0)) (AllBefore-declarations_of n ds x before) (omega arith) f.1

@@ -64,8 +64,8 @@ goes_last name s i [] absent = refl
 goes_last name s i (e ∷ es) absent = goes_on (bytes_eq name e.0) i _ e (e.0, s) es _ _ absent (goes_last name s (i + 1) es)
 
 -- the entry of a new name goes last, as its declaration does
-pub entry-added : (d : Decl) (es added : List (List ℕ × Sort)) (ds : List Decl) → es ≡ map entry_of ds → place_of d.name ds ≡ None → added ≡ insert_entry bytes_eq es d.name (sort_of d.kind) → added ≡ map entry_of (ds ++ d ∷ [])
-entry-added d es added ds h absent a =
+pub entry-with_item : (d : Decl) (es with_item : List (List ℕ × Sort)) (ds : List Decl) → es ≡ map entry_of ds → place_of d.name ds ≡ None → with_item ≡ insert_entry bytes_eq es d.name (sort_of d.kind) → with_item ≡ map entry_of (ds ++ d ∷ [])
+entry-with_item d es with_item ds h absent a =
     let p : position (λ (e : List ℕ × Sort). bytes_eq d.name e.0) es ≡ None =
     ap (position (λ (e : List ℕ × Sort). bytes_eq d.name e.0)) h ∙ (position-map entry_of (λ (e : List ℕ × Sort). bytes_eq d.name e.0) ds ∙ absent) in
     a ∙ (goes_last d.name (sort_of d.kind) 0 es (sym (position_from-zero (λ (e : List ℕ × Sort). bytes_eq d.name e.0) es) ∙ p)

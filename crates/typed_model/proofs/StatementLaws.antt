@@ -1,142 +1,183 @@
 -- A statement without fault fits the declarations before it.
-use Rattle.std.proofs.Common.{◌≡◌, ℕ, pos, Bool, true, false, not, ◌&&◌, ◌||◌, List, [], ◌∷◌, length, Option, Some, None, IsSome, IsSomeAnd, refl, sym, ◌∙◌}
-use Rattle.std.specs.Prelude.{int_lt, slice_get, IfSome, if◌then◌else◌}
+use Rattle.std.proofs.Common.{◌≡◌, ℕ, ◌<◌, pos, Bool, true, false, not, ◌&&◌, ◌||◌, List, [], ◌∷◌, length, arith, Option, Some, None, refl, sym, ◌∙◌, map}
+use Rattle.std.specs.Prelude.{int_lt, nat_eq, slice_get, IfSome, if◌then◌else◌}
 use Rattle.std.proofs.lemmas.Bool.{false≢true}
+use Rattle.std.proofs.lemmas.Bool.Decides.{nat_tests}
 use Rattle.std.proofs.lemmas.List.{length-map}
 use Rattle.bumblebee_reader.specs.declared.syntax.Arg.{Arg}
+use Rattle.bumblebee_reader.specs.declared.syntax.Arg.TheVariants as arg
 use Rattle.bumblebee_reader.specs.declared.syntax.Term.{Term}
 use Rattle.typed_model.specs.declared.signature.Wanted.{Wanted}
 use Rattle.typed_model.specs.declared.signature.Wanted.TheVariants as wanted
 use Rattle.typed_model.specs.declared.statement.Arithmetic.{Arithmetic}
 use Rattle.typed_model.specs.declared.statement.Arithmetic.TheVariants as arithmetic
-use Rattle.typed_model.specs.declared.statement.Extreme.{Extreme}
-use Rattle.typed_model.specs.declared.statement.Extreme.TheVariants as extreme
-use Rattle.typed_model.specs.declared.statement.Difference.{Difference}
-use Rattle.typed_model.specs.declared.statement.Difference.TheVariants as difference
+use Rattle.typed_model.specs.declared.statement.Aggregate.{Aggregate}
+use Rattle.typed_model.specs.declared.statement.Aggregate.TheVariants as aggregate
+use Rattle.typed_model.specs.declared.statement.AllDifferent.{AllDifferent}
+use Rattle.typed_model.specs.declared.statement.AllDifferent.TheVariants as all_different
 use Rattle.typed_model.specs.declared.statement.Order.{Order}
 use Rattle.typed_model.specs.declared.statement.Statement.{Statement}
 use Rattle.typed_model.specs.declared.statement.Statement.TheVariants as statement
+use Rattle.typed_model.specs.declared.what.What.{What}
 use Rattle.typed_model.specs.declared.model.Decl.{Decl}
 use Rattle.typed_model.specs.Scope.{truth, number, numeral}
-use Rattle.typed_model.specs.Signatures.{signature, lex_signature, differ_signature}
-use Rattle.typed_model.specs.Faults.{one_fits, fit, lists_differ, is_empty, wants_member, least_in, division_domain}
-use Rattle.typed_model.specs.Items.{what_of, truth_in, number_in, truths_in, numbers_in, numerals_in, terms_in, difference_what, order_what}
-use Rattle.typed_model.specs.WellTyped.{TruthFits, NumberFits, TruthsFit, NumbersFit, DivisionFits, HasMember, PairFits, TruthFitsIf, WhatFits}
-use Rattle.typed_model.specs.Names.{pair_operator, array_operator, array_truth_operator, compare_relation, compare_truth_relation, count_relation, weigh_relation, sum_relation, linear_relation, operation, aggregate, differ, lex}
-use Rattle.typed_model.proofs.TypingLaws.{AllBefore, ArgFits, fit-at, truth_in-fits, number_in-fits, truths_in-fit, numbers_in-fit, lists-same, list-member, least-fits, NameFits, NoFault}
+use Rattle.typed_model.specs.Names.{statement_of}
+use Rattle.typed_model.specs.Signatures.{signature}
+use Rattle.typed_model.specs.Faults.{arg_fits, fit, lists_differ, is_empty, wants_member, least_in, division_domain}
+use Rattle.typed_model.specs.Items.{what_of, terms_in, numbers_in}
+use Rattle.typed_model.specs.Arguments.{Argument, arguments_of, statement_in}
+use Rattle.typed_model.specs.WellTyped.{ArgumentFits, ArgumentsFit, list_length, LengthsFit, IsDivision, ValuesFit, WhatFits}
+use Rattle.typed_model.proofs.TypingLaws.{AllBefore, ArgFits, fit-at, truth-fits, number-fits, truths-fit, numbers-fit, list-member, least-fits, NoFault}
+use Rattle.typed_model.proofs.ArgumentLaws.{argument_in, arguments_in, Reads, reads}
 
-is_there : {A : Type 0} (o : Option A) (x : A) → o ≡ Some x → IsSome o
-is_there o x e = rw e refl
-
-at_name : {A : Type 0} (o : Option A) (x : A) (P : A → Type 0) → o ≡ Some x → P x → IsSomeAnd o P
-at_name o x P e h = rw e h
+and_parts : (x y : Bool) → (x && y) ≡ true → (x ≡ true) × (y ≡ true)
+and_parts true y e = (refl, e)
+and_parts false y e = absurd (false≢true e)
 
 or_parts : (x y : Bool) → (x || y) ≡ false → (x ≡ false) × (y ≡ false)
 or_parts true y e = absurd (false≢true (sym e))
 or_parts false y e = (refl, e)
 
+-- what a statement wants that declares nothing
+abbrev pub IsPlainWanted : Wanted → Type 0
+IsPlainWanted wanted.Numeral = ⊥
+IsPlainWanted wanted.NewName = ⊥
+IsPlainWanted wanted.NewInteger = ⊥
+IsPlainWanted w = Unit {0}
+
+abbrev pub ArePlainWanted : List Wanted → Type 0
+ArePlainWanted [] = Unit {0}
+ArePlainWanted (w ∷ ws) = IsPlainWanted w × ArePlainWanted ws
+
+-- a statement that declares nothing
+abbrev pub IsPlain : Statement → Type 0
+IsPlain statement.NewBool = ⊥
+IsPlain statement.NewInt = ⊥
+IsPlain statement.BoolToInt = ⊥
+IsPlain s = Unit {0}
+
+all_different-plain : (d : AllDifferent) → ArePlainWanted (signature (statement.AllDifferent d))
+all_different-plain all_different.Plain = (tt, tt)
+all_different-plain all_different.Reified = (tt, (tt, tt))
+all_different-plain all_different.Conditional = (tt, (tt, tt))
+
+order-plain : (b r : Bool) → ArePlainWanted (if b then (if r then wanted.Truths ∷ wanted.Truths ∷ wanted.Truth ∷ [] else wanted.Truths ∷ wanted.Truths ∷ []) else (if r then wanted.Numbers ∷ wanted.Numbers ∷ wanted.Truth ∷ [] else wanted.Numbers ∷ wanted.Numbers ∷ []))
+order-plain true true = (tt, (tt, (tt, tt)))
+order-plain true false = (tt, (tt, tt))
+order-plain false true = (tt, (tt, (tt, tt)))
+order-plain false false = (tt, (tt, tt))
+
+signature-plain : (s : Statement) → IsPlain s → ArePlainWanted (signature s)
+signature-plain statement.NewBool p = absurd p
+signature-plain statement.NewInt p = absurd p
+signature-plain statement.BoolToInt p = absurd p
+signature-plain statement.BoolEq p = (tt, (tt, tt))
+signature-plain (statement.PairReified op) p = (tt, (tt, (tt, tt)))
+signature-plain (statement.Array op) p = (tt, tt)
+signature-plain (statement.ArrayReified op) p = (tt, (tt, tt))
+signature-plain (statement.Compare rel) p = (tt, (tt, tt))
+signature-plain (statement.CompareReified rel) p = (tt, (tt, (tt, tt)))
+signature-plain (statement.Count rel) p = (tt, (tt, tt))
+signature-plain (statement.PseudoBoolean rel) p = (tt, (tt, (tt, tt)))
+signature-plain (statement.Sum rel) p = (tt, (tt, tt))
+signature-plain (statement.Linear rel) p = (tt, (tt, (tt, tt)))
+signature-plain (statement.Operation o) p = (tt, (tt, (tt, tt)))
+signature-plain statement.Absolute p = (tt, (tt, tt))
+signature-plain (statement.Aggregate o) p = (tt, (tt, tt))
+signature-plain (statement.AllDifferent d) p = all_different-plain d
+signature-plain (statement.Lex o) p = order-plain o.of_booleans o.reified
+
+-- Each argument that is what the signature wants fits.
+
+module _ (n : ℕ) (ds : List Decl) (before : AllBefore n ds) where
+  argument-fits : (w : Wanted) (a : Arg) → IsPlainWanted w → arg_fits ds w a ≡ true → ArgumentFits ds n w (argument_in ds w (Some a))
+  argument-fits wanted.Truth (arg.One t) p e = truth-fits n ds before t e
+  argument-fits wanted.Number (arg.One t) p e = number-fits n ds before t e
+  argument-fits wanted.Truths (arg.Many ts) p e = truths-fit n ds before ts e
+  argument-fits wanted.Numbers (arg.Many ts) p e = numbers-fit n ds before ts e
+  argument-fits wanted.Numerals a p e = tt
+  argument-fits wanted.Numeral a p e = absurd p
+  argument-fits wanted.NewName a p e = absurd p
+  argument-fits wanted.NewInteger a p e = absurd p
+  argument-fits w a p e = absurd (false≢true e)
+
+  arguments-fit : (ws : List Wanted) (args : List Arg) → ArePlainWanted ws → fit ds ws args ≡ true → ArgumentsFit ds n ws (arguments_in ds ws (slice_get args))
+  arguments-fit [] args p e = tt
+  arguments-fit (w ∷ ws) [] p e = absurd (false≢true e)
+  arguments-fit (w ∷ ws) (a ∷ rest) p e =
+      let h = and_parts (arg_fits ds w a) (fit ds ws rest) e in
+      (argument-fits w a p.0 h.0, arguments-fit ws rest p.1 h.1)
+
+-- Two lists have one length.
+
+-- an argument with a length is a list of so many terms
+abbrev IsListOf : Arg → ℕ → Type 0
+IsListOf (arg.One t) m = ⊥
+IsListOf (arg.Many ts) m = m ≡ length ts
+
+module _ (ds : List Decl) where
+  length-in : (w : Wanted) (a : Arg) → arg_fits ds w a ≡ true → IfSome (list_length (argument_in ds w (Some a))) (IsListOf a)
+  length-in wanted.Truths (arg.Many ts) e = length-map ts (truth ds)
+  length-in wanted.Numbers (arg.Many ts) e = length-map ts (number ds)
+  length-in wanted.Numerals (arg.Many ts) e = length-map ts numeral
+  length-in wanted.Truths (arg.One t) e = absurd (false≢true e)
+  length-in wanted.Numbers (arg.One t) e = absurd (false≢true e)
+  length-in wanted.Numerals (arg.One t) e = absurd (false≢true e)
+  length-in w a e = tt
+
+  same_length : (x y m n : ℕ) → m ≡ x → n ≡ y → not (nat_eq x y) ≡ false → m ≡ n
+  same_length x y m n d e f = grind (arith, nat_tests)
+
+  lengths-same : (a b : Arg) (o p : Option ℕ) → IfSome o (IsListOf a) → IfSome p (IsListOf b) → lists_differ (Some a) (Some b) ≡ false → IfSome o (λ m. IfSome p (λ n. m ≡ n))
+  lengths-same a b None p h k e = tt
+  lengths-same a b (Some m) None h k e = tt
+  lengths-same (arg.One t) b (Some m) (Some n) h k e = absurd h
+  lengths-same (arg.Many ts) (arg.One t) (Some m) (Some n) h k e = absurd k
+  lengths-same (arg.Many ts) (arg.Many us) (Some m) (Some n) h k e = same_length (length ts) (length us) m n h k e
+
+  lengths-fit : (ws : List Wanted) (args : List Arg) → fit ds ws args ≡ true → lists_differ (slice_get args 0) (slice_get args 1) ≡ false → LengthsFit (arguments_in ds ws (slice_get args))
+  lengths-fit [] args e d = tt
+  lengths-fit (v ∷ []) args e d = tt
+  lengths-fit (v ∷ w ∷ ws) [] e d = absurd (false≢true e)
+  lengths-fit (v ∷ w ∷ ws) (a ∷ []) e d = absurd (false≢true (and_parts (arg_fits ds v a) false e).1)
+  lengths-fit (v ∷ w ∷ ws) (a ∷ b ∷ rest) e d =
+      let h = and_parts (arg_fits ds v a) _ e in
+      let k = and_parts (arg_fits ds w b) (fit ds ws rest) h.1 in
+      lengths-same a b (list_length (argument_in ds v (Some a))) (list_length (argument_in ds w (Some b))) (length-in v a h.0) (length-in w b k.0) d
+
 module _ (n : ℕ) (ds : List Decl) (before : AllBefore n ds) (args : List Arg) where
-  t : (k : ℕ) → ArgFits ds wanted.Truth (slice_get args k) → TruthFits ds n (truth_in ds (slice_get args k))
-  t k h = truth_in-fits n ds before (slice_get args k) h
-
-  i : (k : ℕ) → ArgFits ds wanted.Number (slice_get args k) → NumberFits ds n (number_in ds (slice_get args k))
-  i k h = number_in-fits n ds before (slice_get args k) h
-
-  ts : (k : ℕ) → ArgFits ds wanted.Truths (slice_get args k) → TruthsFit ds n (truths_in ds (slice_get args k))
-  ts k h = truths_in-fit n ds before (slice_get args k) h
-
-  is : (k : ℕ) → ArgFits ds wanted.Numbers (slice_get args k) → NumbersFit ds n (numbers_in ds (slice_get args k))
-  is k h = numbers_in-fit n ds before (slice_get args k) h
-
-  -- the first two arguments are lists of one length
-  two : (v w : Wanted) → ((ds : List Decl) (t : Term) → one_fits ds v t ≡ false) → ((ds : List Decl) (t : Term) → one_fits ds w t ≡ false) → ArgFits ds v (slice_get args 0) → ArgFits ds w (slice_get args 1) → lists_differ (slice_get args 0) (slice_get args 1) ≡ false → length (terms_in (slice_get args 0)) ≡ length (terms_in (slice_get args 1))
-  two v w p q h k e = lists-same ds v w (slice_get args 0) (slice_get args 1) p q h k e
-
-  division : (o : Arithmetic) → ArgFits ds wanted.Number (slice_get args 0) → ArgFits ds wanted.Number (slice_get args 1) → division_domain ds (statement.Operation o) args ≡ false → DivisionFits ds o (number_in ds (slice_get args 0)) (number_in ds (slice_get args 1))
-  division arithmetic.Plus h k e = tt
-  division arithmetic.Times h k e = tt
-  division arithmetic.Div h k e =
+  division : ArgFits ds wanted.Number (slice_get args 0) → ArgFits ds wanted.Number (slice_get args 1) → (int_lt (least_in ds (slice_get args 0)) (pos 0) || int_lt (least_in ds (slice_get args 1)) (pos 1)) ≡ false → IsDivision ds (arguments_in ds (wanted.Number ∷ wanted.Number ∷ wanted.Number ∷ []) (slice_get args))
+  division h k e =
       let p = or_parts (int_lt (least_in ds (slice_get args 0)) (pos 0)) (int_lt (least_in ds (slice_get args 1)) (pos 1)) e in
       (least-fits (pos 0) ds (slice_get args 0) h p.0, least-fits (pos 1) ds (slice_get args 1) k p.1)
-  division arithmetic.Mod h k e =
-      let p = or_parts (int_lt (least_in ds (slice_get args 0)) (pos 0)) (int_lt (least_in ds (slice_get args 1)) (pos 1)) e in
-      (least-fits (pos 0) ds (slice_get args 0) h p.0, least-fits (pos 1) ds (slice_get args 1) k p.1)
-  division arithmetic.Max h k e = tt
-  division arithmetic.Min h k e = tt
 
-  member : (e : Extreme) → ArgFits ds wanted.Numbers (slice_get args 0) → (wants_member (statement.Aggregate e) && is_empty (slice_get args 0)) ≡ false → HasMember e (numbers_in ds (slice_get args 0))
-  member extreme.Plus h m = tt
-  member extreme.Max h m = rw (length-map (terms_in (slice_get args 0)) (number ds)) (list-member ds wanted.Numbers (slice_get args 0) (λ _ _. refl) h m)
-  member extreme.Min h m = rw (length-map (terms_in (slice_get args 0)) (number ds)) (list-member ds wanted.Numbers (slice_get args 0) (λ _ _. refl) h m)
+  member : ArgFits ds wanted.Numbers (slice_get args 0) → is_empty (slice_get args 0) ≡ false → 0 < length (numbers_in ds (slice_get args 0))
+  member h m = rw (length-map (terms_in (slice_get args 0)) (number ds)) (list-member ds (slice_get args 0) h m)
 
-  weigh_length : ArgFits ds wanted.Numerals (slice_get args 0) → ArgFits ds wanted.Truths (slice_get args 1) → lists_differ (slice_get args 0) (slice_get args 1) ≡ false → length (numerals_in (slice_get args 0)) ≡ length (truths_in ds (slice_get args 1))
-  weigh_length h k e = length-map (terms_in (slice_get args 0)) numeral ∙ (two wanted.Numerals wanted.Truths (λ _ _. refl) (λ _ _. refl) h k e ∙ sym (length-map (terms_in (slice_get args 1)) (truth ds)))
+  values-fit : (s : Statement) → NoFault ds s args → ValuesFit ds s (arguments_in ds (signature s) (slice_get args))
+  values-fit (statement.Aggregate aggregate.Plus) ok = tt
+  values-fit (statement.Aggregate aggregate.Max) ok = member (fit-at ds (wanted.Numbers ∷ wanted.Number ∷ []) args 0 ok.fits) ok.member
+  values-fit (statement.Aggregate aggregate.Min) ok = member (fit-at ds (wanted.Numbers ∷ wanted.Number ∷ []) args 0 ok.fits) ok.member
+  values-fit (statement.Operation arithmetic.Div) ok =
+      let F = λ (k : ℕ). fit-at ds (wanted.Number ∷ wanted.Number ∷ wanted.Number ∷ []) args k ok.fits in
+      division (F 0) (F 1) ok.division
+  values-fit (statement.Operation arithmetic.Mod) ok =
+      let F = λ (k : ℕ). fit-at ds (wanted.Number ∷ wanted.Number ∷ wanted.Number ∷ []) args k ok.fits in
+      division (F 0) (F 1) ok.division
+  values-fit s ok = tt
 
-  linear_length : ArgFits ds wanted.Numerals (slice_get args 0) → ArgFits ds wanted.Numbers (slice_get args 1) → lists_differ (slice_get args 0) (slice_get args 1) ≡ false → length (numerals_in (slice_get args 0)) ≡ length (numbers_in ds (slice_get args 1))
-  linear_length h k e = length-map (terms_in (slice_get args 0)) numeral ∙ (two wanted.Numerals wanted.Numbers (λ _ _. refl) (λ _ _. refl) h k e ∙ sym (length-map (terms_in (slice_get args 1)) (number ds)))
+  read-fits : (s : Statement) → IsPlain s → NoFault ds s args → (w : What) → Reads ds args s w → WhatFits ds n w
+  read-fits s p ok w r =
+      record {
+        name = r.name;
+        arguments = rw (r.statement, r.arguments) (arguments-fit n ds before (signature s) args (signature-plain s p) ok.fits);
+        lengths = rw r.arguments (lengths-fit ds (signature s) args ok.fits ok.lengths);
+        values = rw (r.statement, r.arguments) (values-fit s ok);
+      }
 
-  same_truths : ArgFits ds wanted.Truths (slice_get args 0) → ArgFits ds wanted.Truths (slice_get args 1) → lists_differ (slice_get args 0) (slice_get args 1) ≡ false → length (truths_in ds (slice_get args 0)) ≡ length (truths_in ds (slice_get args 1))
-  same_truths h k e = length-map (terms_in (slice_get args 0)) (truth ds) ∙ (two wanted.Truths wanted.Truths (λ _ _. refl) (λ _ _. refl) h k e ∙ sym (length-map (terms_in (slice_get args 1)) (truth ds)))
+  built-fits : (o : Option What) (s : Statement) → IsPlain s → NoFault ds s args → IfSome o (Reads ds args s) → IfSome o (WhatFits ds n)
+  built-fits None s p ok h = tt
+  built-fits (Some w) s p ok h = read-fits s p ok w h
 
-  same_numbers : ArgFits ds wanted.Numbers (slice_get args 0) → ArgFits ds wanted.Numbers (slice_get args 1) → lists_differ (slice_get args 0) (slice_get args 1) ≡ false → length (numbers_in ds (slice_get args 0)) ≡ length (numbers_in ds (slice_get args 1))
-  same_numbers h k e = length-map (terms_in (slice_get args 0)) (number ds) ∙ (two wanted.Numbers wanted.Numbers (λ _ _. refl) (λ _ _. refl) h k e ∙ sym (length-map (terms_in (slice_get args 1)) (number ds)))
-
-  pub difference-fits : (name : List ℕ) (d : Difference) → differ name ≡ Some d → fit ds (differ_signature d) args ≡ true → lists_differ (slice_get args 0) (slice_get args 1) ≡ false → WhatFits ds n (difference_what ds name d args)
-  unfolding WhatFits
-  difference-fits name difference.All m f e = at_name (differ name) difference.All _ m (is 0 (fit-at ds (differ_signature difference.All) args 0 f), (refl, refl))
-  difference-fits name difference.Truth m f e = at_name (differ name) difference.Truth _ m (is 0 (fit-at ds (differ_signature difference.Truth) args 0 f), (t 1 (fit-at ds (differ_signature difference.Truth) args 1 f), refl))
-  difference-fits name difference.Conditional m f e =
-      let l = two wanted.Numbers wanted.Truths (λ _ _. refl) (λ _ _. refl) (fit-at ds (differ_signature difference.Conditional) args 0 f) (fit-at ds (differ_signature difference.Conditional) args 1 f) e in
-      at_name (differ name) difference.Conditional _ m (is 0 (fit-at ds (differ_signature difference.Conditional) args 0 f), (refl, (ts 1 (fit-at ds (differ_signature difference.Conditional) args 1 f), length-map (terms_in (slice_get args 1)) (truth ds) ∙ (sym l ∙ sym (length-map (terms_in (slice_get args 0)) (number ds))))))
-
-  order_parts : (name : List ℕ) (b r : Bool) → fit ds (if b then (if r then wanted.Truths ∷ wanted.Truths ∷ wanted.Truth ∷ [] else wanted.Truths ∷ wanted.Truths ∷ []) else (if r then wanted.Numbers ∷ wanted.Numbers ∷ wanted.Truth ∷ [] else wanted.Numbers ∷ wanted.Numbers ∷ [])) args ≡ true → lists_differ (slice_get args 0) (slice_get args 1) ≡ false → PairFits (TruthsFit ds n) b (if b then Some (truths_in ds (slice_get args 0)) else None) (if b then Some (truths_in ds (slice_get args 1)) else None) × (PairFits (NumbersFit ds n) (not b) (if b then None else Some (numbers_in ds (slice_get args 0))) (if b then None else Some (numbers_in ds (slice_get args 1))) × TruthFitsIf ds n r (if r then Some (truth_in ds (slice_get args 2)) else None))
-  order_parts name true true f e =
-      let F = fit-at ds (wanted.Truths ∷ wanted.Truths ∷ wanted.Truth ∷ []) args in
-      ((ts 0 (F 0 f), (ts 1 (F 1 f), same_truths (F 0 f) (F 1 f) e)), ((refl, refl), t 2 (F 2 f)))
-  order_parts name true false f e =
-      let F = fit-at ds (wanted.Truths ∷ wanted.Truths ∷ []) args in
-      ((ts 0 (F 0 f), (ts 1 (F 1 f), same_truths (F 0 f) (F 1 f) e)), ((refl, refl), refl))
-  order_parts name false true f e =
-      let F = fit-at ds (wanted.Numbers ∷ wanted.Numbers ∷ wanted.Truth ∷ []) args in
-      ((refl, refl), ((is 0 (F 0 f), (is 1 (F 1 f), same_numbers (F 0 f) (F 1 f) e)), t 2 (F 2 f)))
-  order_parts name false false f e =
-      let F = fit-at ds (wanted.Numbers ∷ wanted.Numbers ∷ []) args in
-      ((refl, refl), ((is 0 (F 0 f), (is 1 (F 1 f), same_numbers (F 0 f) (F 1 f) e)), refl))
-
-  order-fits : (name : List ℕ) (o : Order) → lex name ≡ Some o → fit ds (lex_signature o) args ≡ true → lists_differ (slice_get args 0) (slice_get args 1) ≡ false → WhatFits ds n (order_what ds name o args)
-  unfolding WhatFits
-  order-fits name o m f e = at_name (lex name) o _ m (order_parts name o.of_booleans o.reified f e)
-
-  -- a statement that declares nothing
-  abbrev pub PlainFits : List ℕ → Statement → Type 0
-  PlainFits name statement.BoolToInt = Unit {0}
-  PlainFits name s = IfSome (what_of ds name s args) (WhatFits ds n)
-
-  pub plain-fits : (name : List ℕ) (s : Statement) → NameFits name s → NoFault ds s args → PlainFits name s
-  unfolding WhatFits what_of
-  plain-fits name statement.NewBool m ok = tt
-  plain-fits name statement.NewInt m ok = tt
-  plain-fits name statement.BoolToInt m ok = tt
-  plain-fits name statement.BoolEq m ok = (t 0 (fit-at ds (signature statement.BoolEq) args 0 ok.fits), t 1 (fit-at ds (signature statement.BoolEq) args 1 ok.fits))
-  plain-fits name (statement.Pair op) m ok = (is_there (pair_operator name) op m, (t 0 (fit-at ds (signature (statement.Pair op)) args 0 ok.fits), (t 1 (fit-at ds (signature (statement.Pair op)) args 1 ok.fits), t 2 (fit-at ds (signature (statement.Pair op)) args 2 ok.fits))))
-  plain-fits name (statement.Array op) m ok = (is_there (array_operator name) op m, ts 0 (fit-at ds (signature (statement.Array op)) args 0 ok.fits))
-  plain-fits name (statement.ArrayTruth op) m ok = (is_there (array_truth_operator name) op m, (ts 0 (fit-at ds (signature (statement.ArrayTruth op)) args 0 ok.fits), t 1 (fit-at ds (signature (statement.ArrayTruth op)) args 1 ok.fits)))
-  plain-fits name (statement.Compare rel) m ok = (is_there (compare_relation name) rel m, (i 0 (fit-at ds (signature (statement.Compare rel)) args 0 ok.fits), i 1 (fit-at ds (signature (statement.Compare rel)) args 1 ok.fits)))
-  plain-fits name (statement.CompareTruth rel) m ok = (is_there (compare_truth_relation name) rel m, (i 0 (fit-at ds (signature (statement.CompareTruth rel)) args 0 ok.fits), (i 1 (fit-at ds (signature (statement.CompareTruth rel)) args 1 ok.fits), t 2 (fit-at ds (signature (statement.CompareTruth rel)) args 2 ok.fits))))
-  plain-fits name (statement.Count rel) m ok = (is_there (count_relation name) rel m, (ts 0 (fit-at ds (signature (statement.Count rel)) args 0 ok.fits), i 1 (fit-at ds (signature (statement.Count rel)) args 1 ok.fits)))
-  plain-fits name (statement.Sum rel) m ok = (is_there (sum_relation name) rel m, (is 0 (fit-at ds (signature (statement.Sum rel)) args 0 ok.fits), i 1 (fit-at ds (signature (statement.Sum rel)) args 1 ok.fits)))
-  plain-fits name statement.Absolute m ok = (i 0 (fit-at ds (signature statement.Absolute) args 0 ok.fits), i 1 (fit-at ds (signature statement.Absolute) args 1 ok.fits))
-  plain-fits name (statement.Weigh rel) m ok =
-      let F = λ (k : ℕ). fit-at ds (signature (statement.Weigh rel)) args k ok.fits in
-      (is_there (weigh_relation name) rel m, (ts 1 (F 1), (i 2 (F 2), weigh_length (F 0) (F 1) ok.lengths)))
-  plain-fits name (statement.Linear rel) m ok =
-      let F = λ (k : ℕ). fit-at ds (signature (statement.Linear rel)) args k ok.fits in
-      (is_there (linear_relation name) rel m, (is 1 (F 1), (i 2 (F 2), linear_length (F 0) (F 1) ok.lengths)))
-  plain-fits name (statement.Operation o) m ok =
-      let F = λ (k : ℕ). fit-at ds (signature (statement.Operation o)) args k ok.fits in
-      at_name (operation name) o _ m (i 0 (F 0), (i 1 (F 1), (i 2 (F 2), division o (F 0) (F 1) ok.division)))
-  plain-fits name (statement.Aggregate e) m ok =
-      let F = λ (k : ℕ). fit-at ds (signature (statement.Aggregate e)) args k ok.fits in
-      at_name (aggregate name) e _ m (is 0 (F 0), (i 1 (F 1), member e (F 0) ok.member))
-  plain-fits name (statement.Differ d) m ok = difference-fits name d m ok.fits ok.lengths
-  plain-fits name (statement.Lex o) m ok = order-fits name o m ok.fits ok.lengths
+  pub plain-fits : (name : List ℕ) (s : Statement) → IsPlain s → statement_of name ≡ Some s → NoFault ds s args → IfSome (what_of ds name s args) (WhatFits ds n)
+  plain-fits name s p m ok = built-fits (what_of ds name s args) s p ok (reads ds args name s m)

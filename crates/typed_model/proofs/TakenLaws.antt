@@ -13,8 +13,8 @@ use Rattle.typed_model.specs.declared.fault.TypeFault.{TypeFault}
 use Rattle.typed_model.specs.declared.fault.TypeFault.TheVariants.{NoGoal}
 use Rattle.typed_model.specs.Names.{first_of}
 use Rattle.typed_model.specs.Faults.{item_fault}
-use Rattle.typed_model.specs.Items.{declared, stated, sought, first_fault_from, first_fault, decls_from, stmts_from, goal_from, model_of}
-use Rattle.typed_model.specs.Taken.{Taken, fault_from, fault_of, all_of, HasTaken, added}
+use Rattle.typed_model.specs.Items.{declarations_of, statements_of, goal_after, first_fault_from, first_fault, decls_from, stmts_from, goal_from, model_of}
+use Rattle.typed_model.specs.Taken.{Taken, fault_from, fault_of, all_of, HasTaken, with_item}
 use Rattle.typed_model.specs.WellTyped.{WellTyped}
 use Rattle.typed_model.proofs.ModelShares.{WellTyped-model_of}
 
@@ -27,22 +27,22 @@ after-length : (n : ℕ) (items : List Item) → after n items ≡ n + length it
 after-length n [] = omega arith
 after-length n (i ∷ items) = omega (arith, after-length (n + 1) items)
 
-decls-one : (n : ℕ) (ds : List Decl) (items : List Item) (x : Item) → decls_from n ds (items ++ x ∷ []) ≡ decls_from n ds items ++ declared (after n items) (decls_from n ds items) x
+decls-one : (n : ℕ) (ds : List Decl) (items : List Item) (x : Item) → decls_from n ds (items ++ x ∷ []) ≡ decls_from n ds items ++ declarations_of (after n items) (decls_from n ds items) x
 unfolding decls_from
 decls-one n ds [] x = refl
-decls-one n ds (i ∷ items) x = decls-one (n + 1) (ds ++ declared n ds i) items x
+decls-one n ds (i ∷ items) x = decls-one (n + 1) (ds ++ declarations_of n ds i) items x
 
-stmts-one : (n : ℕ) (ds : List Decl) (items : List Item) (x : Item) → stmts_from n ds (items ++ x ∷ []) ≡ stmts_from n ds items ++ stated (after n items) (decls_from n ds items ++ declared (after n items) (decls_from n ds items) x) x
+stmts-one : (n : ℕ) (ds : List Decl) (items : List Item) (x : Item) → stmts_from n ds (items ++ x ∷ []) ≡ stmts_from n ds items ++ statements_of (after n items) (decls_from n ds items ++ declarations_of (after n items) (decls_from n ds items) x) x
 unfolding stmts_from decls_from
 stmts-one n ds [] x = append-nil _
 stmts-one n ds (i ∷ items) x =
-    let es = ds ++ declared n ds i in
-    ap (λ ss. stated n es i ++ ss) (stmts-one (n + 1) es items x) ∙ sym (append_assoc (stated n es i) _ _)
+    let es = ds ++ declarations_of n ds i in
+    ap (λ ss. statements_of n es i ++ ss) (stmts-one (n + 1) es items x) ∙ sym (append_assoc (statements_of n es i) _ _)
 
-goal-one : (n : ℕ) (ds : List Decl) (g : Option Goal) (items : List Item) (x : Item) → goal_from n ds g (items ++ x ∷ []) ≡ sought (goal_from n ds g items) (decls_from n ds items) x
+goal-one : (n : ℕ) (ds : List Decl) (g : Option Goal) (items : List Item) (x : Item) → goal_from n ds g (items ++ x ∷ []) ≡ goal_after (goal_from n ds g items) (decls_from n ds items) x
 unfolding goal_from decls_from
 goal-one n ds g [] x = refl
-goal-one n ds g (i ∷ items) x = goal-one (n + 1) (ds ++ declared n ds i) (sought g ds i) items x
+goal-one n ds g (i ∷ items) x = goal-one (n + 1) (ds ++ declarations_of n ds i) (goal_after g ds i) items x
 
 first_of-assoc : {A : Type 0} (a b c : Option A) → first_of (first_of a b) c ≡ first_of a (first_of b c)
 first_of-assoc None b c = refl
@@ -56,13 +56,13 @@ fault-one : (n : ℕ) (ds : List Decl) (g : Option Goal) (items : List Item) (x 
 unfolding fault_from goal_from decls_from
 fault-one n ds g [] x = first_of-none _
 fault-one n ds g (i ∷ items) x =
-    ap (first_of (item_fault n (is_some g) ds i)) (fault-one (n + 1) (ds ++ declared n ds i) (sought g ds i) items x) ∙ sym (first_of-assoc (item_fault n (is_some g) ds i) _ _)
+    ap (first_of (item_fault n (is_some g) ds i)) (fault-one (n + 1) (ds ++ declarations_of n ds i) (goal_after g ds i) items x) ∙ sym (first_of-assoc (item_fault n (is_some g) ds i) _ _)
 
 fault-end : (n : ℕ) (ds : List Decl) (g : Option Goal) (items : List Item) → first_fault_from n ds g items ≡ first_of (fault_from n ds g items) (if is_some (goal_from n ds g items) then None else Some (NoGoal (after n items)))
 unfolding first_fault_from fault_from goal_from
 fault-end n ds g [] = refl
 fault-end n ds g (i ∷ items) =
-    ap (first_of (item_fault n (is_some g) ds i)) (fault-end (n + 1) (ds ++ declared n ds i) (sought g ds i) items) ∙ sym (first_of-assoc (item_fault n (is_some g) ds i) _ _)
+    ap (first_of (item_fault n (is_some g) ds i)) (fault-end (n + 1) (ds ++ declarations_of n ds i) (goal_after g ds i) items) ∙ sym (first_of-assoc (item_fault n (is_some g) ds i) _ _)
 
 place : (items : List Item) → after 1 items ≡ length items + 1
 place items = omega (arith, after-length 1 items)
@@ -70,8 +70,8 @@ place items = omega (arith, after-length 1 items)
 kept : (n m : ℕ) (ds es : List Decl) (ss ts : List Stmt) (g k : Option Goal) → n ≡ m → ds ≡ es → ss ≡ ts → g ≡ k → ◌≡◌ {A = Taken} (record { next = n; decls = ds; stmts = ss; goal = g; fault = None }) (record { next = m; decls = es; stmts = ts; goal = k; fault = None })
 kept n m ds es ss ts g k a b c d = rw (a, b, c, d) refl
 
-added-all : (items : List Item) (x : Item) → ◌≡◌ {A = Taken} (added (all_of items) x) (all_of (items ++ x ∷ []))
-added-all items x =
+with_item-all : (items : List Item) (x : Item) → ◌≡◌ {A = Taken} (with_item (all_of items) x) (all_of (items ++ x ∷ []))
+with_item-all items x =
     kept _ _ _ _ _ _ _ _ (omega (arith, length-append items (x ∷ [])))
     (sym (rw (place items) at (decls-one 1 [] items x))) (sym (rw (place items) at (stmts-one 1 [] items x))) (sym (goal-one 1 [] None items x))
 
@@ -98,10 +98,10 @@ module _ (t : Taken) (items : List Item) (x : Item) (h : HasTaken t items) where
   HasTaken-stopped u f e d k = HasTaken-found u f k (found-next e ∙ d)
 
   -- one item more, which has no fault
-  pub HasTaken-added : (u : Taken) → t.fault ≡ None → item_fault t.next (is_some t.goal) t.decls x ≡ None → u ≡ added t x → HasTaken u (items ++ x ∷ [])
-  HasTaken-added u e d k =
+  pub HasTaken-with_item : (u : Taken) → t.fault ≡ None → item_fault t.next (is_some t.goal) t.decls x ≡ None → u ≡ with_item t x → HasTaken u (items ++ x ∷ [])
+  HasTaken-with_item u e d k =
       let none : fault_of items ≡ None = sym h.fault ∙ e in
-      let whole : u ≡ all_of (items ++ x ∷ []) = k ∙ (ap (λ s. added s x) (h.all none) ∙ added-all items x) in
+      let whole : u ≡ all_of (items ++ x ∷ []) = k ∙ (ap (λ s. with_item s x) (h.all none) ∙ with_item-all items x) in
       record { fault = ap (λ (s : Taken). s.fault) whole ∙ sym (found-next e ∙ d); all = λ _. whole }
 
 -- no item

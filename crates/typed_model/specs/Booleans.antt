@@ -25,8 +25,8 @@ count_true (x ∷ xs) = (if x then 1 else 0) + count_true xs
 
 -- `or` is true where a member is, `and` where all are, `xor` where an odd number is, and `iff` where all
 -- are equal, which is: all are true, or none is
-abbrev pub combined : Operator → List Bool → Bool
-combined Or xs = some_true xs
-combined And xs = all_true xs
-combined Xor xs = count_true xs % 2 == 1
-combined Iff xs = all_true xs || none_true xs
+abbrev pub combine : Operator → List Bool → Bool
+combine Or xs = some_true xs
+combine And xs = all_true xs
+combine Xor xs = count_true xs % 2 == 1
+combine Iff xs = all_true xs || none_true xs

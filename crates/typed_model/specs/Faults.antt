@@ -11,7 +11,7 @@ use Rattle.bumblebee_reader.specs.declared.syntax.GoalKind.TheVariants as goal_k
 use Rattle.typed_model.specs.declared.signature.Wanted.{Wanted}
 use Rattle.typed_model.specs.declared.signature.Wanted.TheVariants as wanted
 use Rattle.typed_model.specs.declared.statement.Arithmetic.TheVariants as arithmetic
-use Rattle.typed_model.specs.declared.statement.Extreme.TheVariants as extreme
+use Rattle.typed_model.specs.declared.statement.Aggregate.TheVariants as aggregate
 use Rattle.typed_model.specs.declared.statement.Statement.{Statement}
 use Rattle.typed_model.specs.declared.statement.Statement.TheVariants as statement
 use Rattle.typed_model.specs.declared.model.Decl.{Decl}
@@ -34,10 +34,10 @@ arg_unknown ds (arg.One t) = term_unknown ds t
 arg_unknown ds (arg.Many ts) = terms_unknown ds ts
 
 -- an argument past those of the signature is in no declaring place
-abbrev pub undeclared : List Decl → List Wanted → List Arg → Bool
-undeclared ds ws [] = false
-undeclared ds [] (a ∷ rest) = arg_unknown ds a || undeclared ds [] rest
-undeclared ds (w ∷ ws) (a ∷ rest) = (not (declares w a) && arg_unknown ds a) || undeclared ds ws rest
+abbrev pub has_undeclared : List Decl → List Wanted → List Arg → Bool
+has_undeclared ds ws [] = false
+has_undeclared ds [] (a ∷ rest) = arg_unknown ds a || has_undeclared ds [] rest
+has_undeclared ds (w ∷ ws) (a ∷ rest) = (not (declares w a) && arg_unknown ds a) || has_undeclared ds ws rest
 
 -- Kind: the number of arguments, or the kind of one, is another than the signature's.
 
@@ -76,8 +76,8 @@ abbrev pub names_declared : List Decl → Option Arg → Bool
 names_declared ds (Some (arg.One (term.Plain name))) = is_some (place_of name ds)
 names_declared ds a = false
 
-abbrev pub twice : List Decl → Statement → List Arg → Bool
-twice ds s args = is_declaration s && names_declared ds (slice_get args 0)
+abbrev pub declares_twice : List Decl → Statement → List Arg → Bool
+declares_twice ds s args = is_declaration s && names_declared ds (slice_get args 0)
 
 -- Lengths: two lists differ in length, or a list has no greatest or least member since it is empty.
 
@@ -86,16 +86,16 @@ lists_differ (Some (arg.Many xs)) (Some (arg.Many ys)) = not (length xs == lengt
 lists_differ a b = false
 
 abbrev pub wants_member : Statement → Bool
-wants_member (statement.Aggregate extreme.Max) = true
-wants_member (statement.Aggregate extreme.Min) = true
+wants_member (statement.Aggregate aggregate.Max) = true
+wants_member (statement.Aggregate aggregate.Min) = true
 wants_member s = false
 
 abbrev pub is_empty : Option Arg → Bool
 is_empty (Some (arg.Many xs)) = length xs == 0
 is_empty a = false
 
-abbrev pub misfit : Statement → List Arg → Bool
-misfit s args = lists_differ (slice_get args 0) (slice_get args 1) || (wants_member s && is_empty (slice_get args 0))
+abbrev pub has_wrong_lengths : Statement → List Arg → Bool
+has_wrong_lengths s args = lists_differ (slice_get args 0) (slice_get args 1) || (wants_member s && is_empty (slice_get args 0))
 
 -- EmptyDomain: the least value of a new integer is above its greatest.
 
@@ -129,10 +129,10 @@ division_domain ds s args = divides s && (int_lt (least_in ds (slice_get args 0)
 -- a declaration or statement, item n, among the names declared so far
 unfoldable pub statement_fault : ℕ → List Decl → Statement → List Arg → Option TypeFault
 statement_fault n ds s args =
-    if undeclared ds (signature s) args then Some (Undeclared n) else
+    if has_undeclared ds (signature s) args then Some (Undeclared n) else
     (if not (fit ds (signature s) args) then Some (Kind n) else
-    (if twice ds s args then Some (Twice n) else
-    (if misfit s args then Some (Lengths n) else
+    (if declares_twice ds s args then Some (Twice n) else
+    (if has_wrong_lengths s args then Some (Lengths n) else
     (if empty_domain s args then Some (EmptyDomain n) else
     (if division_domain ds s args then Some (DivDomain n) else None)))))
 

@@ -6,8 +6,8 @@ use Rattle.typed_model.specs.declared.statement.Relation.{Relation}
 use Rattle.typed_model.specs.declared.statement.Relation.TheVariants.{Leq, Geq, Eq, Lt, Gt, Neq}
 use Rattle.typed_model.specs.declared.statement.Arithmetic.{Arithmetic}
 use Rattle.typed_model.specs.declared.statement.Arithmetic.TheVariants.{Plus, Times, Div, Mod, Max, Min}
-use Rattle.typed_model.specs.declared.statement.Extreme.{Extreme}
-use Rattle.typed_model.specs.declared.statement.Extreme.TheVariants as extreme
+use Rattle.typed_model.specs.declared.statement.Aggregate.{Aggregate}
+use Rattle.typed_model.specs.declared.statement.Aggregate.TheVariants as aggregate
 
 -- whether one number stands in a relation to another
 abbrev pub relates : Relation → ℤ → ℤ → Bool
@@ -77,10 +77,10 @@ Gives Max i j k = IsTrue (is_greatest k (i ∷ j ∷ []))
 Gives Min i j k = IsTrue (is_least k (i ∷ j ∷ []))
 
 -- i is the sum, the greatest or the least member of a list
-abbrev pub Sums : Extreme → List ℤ → ℤ → Type 0
-Sums extreme.Plus xs i = i ≡ total xs
-Sums extreme.Max xs i = IsTrue (is_greatest i xs)
-Sums extreme.Min xs i = IsTrue (is_least i xs)
+abbrev pub IsAggregate : Aggregate → List ℤ → ℤ → Type 0
+IsAggregate aggregate.Plus xs i = i ≡ total xs
+IsAggregate aggregate.Max xs i = IsTrue (is_greatest i xs)
+IsAggregate aggregate.Min xs i = IsTrue (is_least i xs)
 
 -- The same as tests.
 
@@ -102,7 +102,7 @@ gives Max i j k = is_greatest k (i ∷ j ∷ [])
 gives Min i j k = is_least k (i ∷ j ∷ [])
 
 -- whether i is the sum, the greatest or the least member
-abbrev pub sums : Extreme → List ℤ → ℤ → Bool
-sums extreme.Plus xs i = int_eq i (total xs)
-sums extreme.Max xs i = is_greatest i xs
-sums extreme.Min xs i = is_least i xs
+abbrev pub is_aggregate : Aggregate → List ℤ → ℤ → Bool
+is_aggregate aggregate.Plus xs i = int_eq i (total xs)
+is_aggregate aggregate.Max xs i = is_greatest i xs
+is_aggregate aggregate.Min xs i = is_least i xs

@@ -15,8 +15,8 @@ use Rattle.typed_model.specs.declared.what.IntTerm.{IntTerm}
 use Rattle.typed_model.specs.declared.what.IntTerm.TheVariants as int_term
 use Rattle.typed_model.specs.declared.what.What.{What}
 use Rattle.typed_model.specs.declared.what.What.TheVariants.{L3, L4, L5, L6, L7, L8, L9, L10, L11, L12, L13, L14, L15, L16, L17, L18}
-use Rattle.typed_model.specs.declared.statement.Difference.{Difference}
-use Rattle.typed_model.specs.declared.statement.Difference.TheVariants as difference
+use Rattle.typed_model.specs.declared.statement.AllDifferent.{AllDifferent}
+use Rattle.typed_model.specs.declared.statement.AllDifferent.TheVariants as all_different
 use Rattle.typed_model.specs.declared.statement.Order.{Order}
 use Rattle.typed_model.specs.declared.statement.Statement.{Statement}
 use Rattle.typed_model.specs.declared.statement.Statement.TheVariants as statement
@@ -64,37 +64,37 @@ name_in a = None
 -- What an item declares, among the declarations before it.
 
 -- the declaration of a name that isn't declared yet
-abbrev pub declared_name : ℕ → List Decl → List ℕ → Kind → List Decl
-declared_name n ds name k = if is_some (place_of name ds) then [] else record { number = n; name = name; kind = k } ∷ []
+abbrev pub declare_name : ℕ → List Decl → List ℕ → Kind → List Decl
+declare_name n ds name k = if is_some (place_of name ds) then [] else record { number = n; name = name; kind = k } ∷ []
 
-abbrev pub declared_as : ℕ → List Decl → Option (List ℕ) → Kind → List Decl
-declared_as n ds None k = []
-declared_as n ds (Some name) k = declared_name n ds name k
+abbrev pub declare : ℕ → List Decl → Option (List ℕ) → Kind → List Decl
+declare n ds None k = []
+declare n ds (Some name) k = declare_name n ds name k
 
-unfoldable pub declared_by : ℕ → List Decl → Statement → List Arg → List Decl
-declared_by n ds statement.NewBool args = declared_as n ds (name_in (slice_get args 0)) kind.Bool
-declared_by n ds statement.NewInt args = declared_as n ds (name_in (slice_get args 0)) (kind.Int (numeral_in (slice_get args 1)) (numeral_in (slice_get args 2)))
-declared_by n ds statement.BoolToInt args = declared_as n ds (name_in (slice_get args 1)) (kind.Int (pos 0) (pos 1))
-declared_by n ds s args = []
+unfoldable pub declare_by : ℕ → List Decl → Statement → List Arg → List Decl
+declare_by n ds statement.NewBool args = declare n ds (name_in (slice_get args 0)) kind.Bool
+declare_by n ds statement.NewInt args = declare n ds (name_in (slice_get args 0)) (kind.Int (numeral_in (slice_get args 1)) (numeral_in (slice_get args 2)))
+declare_by n ds statement.BoolToInt args = declare n ds (name_in (slice_get args 1)) (kind.Int (pos 0) (pos 1))
+declare_by n ds s args = []
 
-abbrev pub declared_if : ℕ → List Decl → Option Statement → List Arg → List Decl
-declared_if n ds None args = []
-declared_if n ds (Some s) args = declared_by n ds s args
+abbrev pub declare_if : ℕ → List Decl → Option Statement → List Arg → List Decl
+declare_if n ds None args = []
+declare_if n ds (Some s) args = declare_by n ds s args
 
-abbrev pub declared : ℕ → List Decl → Item → List Decl
-declared n ds (item.Call name args) = declared_if n ds (statement_of name) args
-declared n ds (item.Goal k objective) = []
+abbrev pub declarations_of : ℕ → List Decl → Item → List Decl
+declarations_of n ds (item.Call name args) = declare_if n ds (statement_of name) args
+declarations_of n ds (item.Goal k objective) = []
 
 -- What an item states, among the declarations that there are after it.
 
-abbrev pub difference_what : List Decl → List ℕ → Difference → List Arg → What
-difference_what ds name difference.All args = L17 name (numbers_in ds (slice_get args 0)) None None
-difference_what ds name difference.Truth args = L17 name (numbers_in ds (slice_get args 0)) (Some (truth_in ds (slice_get args 1))) None
-difference_what ds name difference.Conditional args = L17 name (numbers_in ds (slice_get args 0)) None (Some (truths_in ds (slice_get args 1)))
+abbrev pub all_different_what : List Decl → List ℕ → AllDifferent → List Arg → What
+all_different_what ds name all_different.Plain args = L17 name all_different.Plain (numbers_in ds (slice_get args 0)) None None
+all_different_what ds name all_different.Reified args = L17 name all_different.Reified (numbers_in ds (slice_get args 0)) (Some (truth_in ds (slice_get args 1))) None
+all_different_what ds name all_different.Conditional args = L17 name all_different.Conditional (numbers_in ds (slice_get args 0)) None (Some (truths_in ds (slice_get args 1)))
 
 abbrev pub order_what : List Decl → List ℕ → Order → List Arg → What
 order_what ds name o args =
-    L18 name
+    L18 name o
     (if o.of_booleans then Some (truths_in ds (slice_get args 0)) else None)
     (if o.of_booleans then Some (truths_in ds (slice_get args 1)) else None)
     (if o.of_booleans then None else Some (numbers_in ds (slice_get args 0)))
@@ -106,33 +106,33 @@ what_of ds name statement.NewBool args = None
 what_of ds name statement.NewInt args = None
 what_of ds name statement.BoolToInt args = Some (L3 (truth_in ds (slice_get args 0)) (number_in ds (slice_get args 1)))
 what_of ds name statement.BoolEq args = Some (L4 (truth_in ds (slice_get args 0)) (truth_in ds (slice_get args 1)))
-what_of ds name (statement.Pair op) args = Some (L5 name (truth_in ds (slice_get args 0)) (truth_in ds (slice_get args 1)) (truth_in ds (slice_get args 2)))
-what_of ds name (statement.Array op) args = Some (L6 name (truths_in ds (slice_get args 0)))
-what_of ds name (statement.ArrayTruth op) args = Some (L7 name (truths_in ds (slice_get args 0)) (truth_in ds (slice_get args 1)))
-what_of ds name (statement.Compare rel) args = Some (L8 name (number_in ds (slice_get args 0)) (number_in ds (slice_get args 1)))
-what_of ds name (statement.CompareTruth rel) args = Some (L9 name (number_in ds (slice_get args 0)) (number_in ds (slice_get args 1)) (truth_in ds (slice_get args 2)))
-what_of ds name (statement.Count rel) args = Some (L10 name (truths_in ds (slice_get args 0)) (number_in ds (slice_get args 1)))
-what_of ds name (statement.Weigh rel) args = Some (L11 name (numerals_in (slice_get args 0)) (truths_in ds (slice_get args 1)) (number_in ds (slice_get args 2)))
-what_of ds name (statement.Sum rel) args = Some (L12 name (numbers_in ds (slice_get args 0)) (number_in ds (slice_get args 1)))
-what_of ds name (statement.Linear rel) args = Some (L13 name (numerals_in (slice_get args 0)) (numbers_in ds (slice_get args 1)) (number_in ds (slice_get args 2)))
-what_of ds name (statement.Operation o) args = Some (L14 name (number_in ds (slice_get args 0)) (number_in ds (slice_get args 1)) (number_in ds (slice_get args 2)))
+what_of ds name (statement.PairReified op) args = Some (L5 name op (truth_in ds (slice_get args 0)) (truth_in ds (slice_get args 1)) (truth_in ds (slice_get args 2)))
+what_of ds name (statement.Array op) args = Some (L6 name op (truths_in ds (slice_get args 0)))
+what_of ds name (statement.ArrayReified op) args = Some (L7 name op (truths_in ds (slice_get args 0)) (truth_in ds (slice_get args 1)))
+what_of ds name (statement.Compare rel) args = Some (L8 name rel (number_in ds (slice_get args 0)) (number_in ds (slice_get args 1)))
+what_of ds name (statement.CompareReified rel) args = Some (L9 name rel (number_in ds (slice_get args 0)) (number_in ds (slice_get args 1)) (truth_in ds (slice_get args 2)))
+what_of ds name (statement.Count rel) args = Some (L10 name rel (truths_in ds (slice_get args 0)) (number_in ds (slice_get args 1)))
+what_of ds name (statement.PseudoBoolean rel) args = Some (L11 name rel (numerals_in (slice_get args 0)) (truths_in ds (slice_get args 1)) (number_in ds (slice_get args 2)))
+what_of ds name (statement.Sum rel) args = Some (L12 name rel (numbers_in ds (slice_get args 0)) (number_in ds (slice_get args 1)))
+what_of ds name (statement.Linear rel) args = Some (L13 name rel (numerals_in (slice_get args 0)) (numbers_in ds (slice_get args 1)) (number_in ds (slice_get args 2)))
+what_of ds name (statement.Operation o) args = Some (L14 name o (number_in ds (slice_get args 0)) (number_in ds (slice_get args 1)) (number_in ds (slice_get args 2)))
 what_of ds name statement.Absolute args = Some (L15 (number_in ds (slice_get args 0)) (number_in ds (slice_get args 1)))
-what_of ds name (statement.Aggregate e) args = Some (L16 name (numbers_in ds (slice_get args 0)) (number_in ds (slice_get args 1)))
-what_of ds name (statement.Differ d) args = Some (difference_what ds name d args)
+what_of ds name (statement.Aggregate o) args = Some (L16 name o (numbers_in ds (slice_get args 0)) (number_in ds (slice_get args 1)))
+what_of ds name (statement.AllDifferent d) args = Some (all_different_what ds name d args)
 what_of ds name (statement.Lex o) args = Some (order_what ds name o args)
 
 -- the statement of item n
-abbrev pub numbered : ℕ → Option What → List Stmt
-numbered n None = []
-numbered n (Some w) = record { number = n; what = w } ∷ []
+abbrev pub state : ℕ → Option What → List Stmt
+state n None = []
+state n (Some w) = record { number = n; what = w } ∷ []
 
-abbrev pub stated_if : ℕ → List Decl → List ℕ → Option Statement → List Arg → List Stmt
-stated_if n ds name None args = []
-stated_if n ds name (Some s) args = numbered n (what_of ds name s args)
+abbrev pub state_if : ℕ → List Decl → List ℕ → Option Statement → List Arg → List Stmt
+state_if n ds name None args = []
+state_if n ds name (Some s) args = state n (what_of ds name s args)
 
-abbrev pub stated : ℕ → List Decl → Item → List Stmt
-stated n ds (item.Call name args) = stated_if n ds name (statement_of name) args
-stated n ds (item.Goal k objective) = []
+abbrev pub statements_of : ℕ → List Decl → Item → List Stmt
+statements_of n ds (item.Call name args) = state_if n ds name (statement_of name) args
+statements_of n ds (item.Goal k objective) = []
 
 -- What a goal seeks.
 
@@ -145,29 +145,29 @@ goal_of ds goal_kind.Satisfy objective = goal.Satisfy
 goal_of ds goal_kind.Minimize objective = goal.Minimize (objective_place ds objective)
 goal_of ds goal_kind.Maximize objective = goal.Maximize (objective_place ds objective)
 
-abbrev pub sought : Option Goal → List Decl → Item → Option Goal
-sought g ds (item.Call name args) = g
-sought g ds (item.Goal k objective) = Some (goal_of ds k objective)
+abbrev pub goal_after : Option Goal → List Decl → Item → Option Goal
+goal_after g ds (item.Call name args) = g
+goal_after g ds (item.Goal k objective) = Some (goal_of ds k objective)
 
 -- From item n on, where ds are the declarations before it and g is the goal so far.
 
 unfoldable pub decls_from : ℕ → List Decl → List Item → List Decl
 decls_from n ds [] = ds
-decls_from n ds (i ∷ items) = decls_from (n + 1) (ds ++ declared n ds i) items
+decls_from n ds (i ∷ items) = decls_from (n + 1) (ds ++ declarations_of n ds i) items
 
 unfoldable pub stmts_from : ℕ → List Decl → List Item → List Stmt
 stmts_from n ds [] = []
-stmts_from n ds (i ∷ items) = stated n (ds ++ declared n ds i) i ++ stmts_from (n + 1) (ds ++ declared n ds i) items
+stmts_from n ds (i ∷ items) = statements_of n (ds ++ declarations_of n ds i) i ++ stmts_from (n + 1) (ds ++ declarations_of n ds i) items
 
 unfoldable pub goal_from : ℕ → List Decl → Option Goal → List Item → Option Goal
 goal_from n ds g [] = g
-goal_from n ds g (i ∷ items) = goal_from (n + 1) (ds ++ declared n ds i) (sought g ds i) items
+goal_from n ds g (i ∷ items) = goal_from (n + 1) (ds ++ declarations_of n ds i) (goal_after g ds i) items
 
 -- the first fault of the items: that of the first item that has one, by the order of the faults; and where
 -- no item has one, that there is no goal
 unfoldable pub first_fault_from : ℕ → List Decl → Option Goal → List Item → Option TypeFault
 first_fault_from n ds g [] = if is_some g then None else Some (NoGoal n)
-first_fault_from n ds g (i ∷ items) = first_of (item_fault n (is_some g) ds i) (first_fault_from (n + 1) (ds ++ declared n ds i) (sought g ds i) items)
+first_fault_from n ds g (i ∷ items) = first_of (item_fault n (is_some g) ds i) (first_fault_from (n + 1) (ds ++ declarations_of n ds i) (goal_after g ds i) items)
 
 -- the first fault of a list of items; they are numbered from 1
 abbrev pub first_fault : List Item → Option TypeFault

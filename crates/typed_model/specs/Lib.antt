@@ -3,6 +3,8 @@ pub mod Terms
 pub mod Booleans
 pub mod Integers
 pub mod Lists
+pub mod Arguments
+pub mod Sizes
 pub mod Holds
 pub mod Limits
 pub mod Domains
@@ -13,5 +15,4 @@ pub mod Faults
 pub mod Items
 pub mod Taken
 pub mod WellTyped
-pub mod Sizes
 pub mod Laws

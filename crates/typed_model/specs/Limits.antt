@@ -1,4 +1,5 @@
--- Numbers in the limit of numerals. A text's numerals are in it, and so a model's numbers and domains.
+-- Numbers in the limit of numerals, and lists in that of a text. A text's numerals are in the first, and its terms are
+-- fewer than its bytes; so a model's numbers, domains and lists are in both.
 use Rattle.std.specs.Prelude.{ℕ, ◌≤◌, ℤ, pos, unsigned_abs, List, [], ◌∷◌, slice_index_or}
 use Rattle.bumblebee_reader.specs.declared.syntax.Term.{Term}
 use Rattle.bumblebee_reader.specs.declared.syntax.Term.TheVariants as term
@@ -9,14 +10,14 @@ use Rattle.bumblebee_reader.specs.declared.syntax.Item.TheVariants as item
 use Rattle.typed_model.specs.declared.what.IntTerm.{IntTerm}
 use Rattle.typed_model.specs.declared.what.IntTerm.TheVariants as int_term
 use Rattle.typed_model.specs.declared.what.What.{What}
-use Rattle.typed_model.specs.declared.what.What.TheVariants.{L3, L4, L5, L6, L7, L8, L9, L10, L11, L12, L13, L14, L15, L16, L17, L18}
 use Rattle.typed_model.specs.declared.model.Kind.{Kind}
 use Rattle.typed_model.specs.declared.model.Kind.TheVariants as kind
 use Rattle.typed_model.specs.declared.model.Decl.{Decl}
 use Rattle.typed_model.specs.declared.model.Stmt.{Stmt}
 use Rattle.typed_model.specs.declared.model.Model.{Model}
 use Rattle.typed_model.specs.Terms.{value_at}
-use Rattle.std.specs.Prelude.{Option, Some, None}
+use Rattle.typed_model.specs.Arguments.{Argument, Truth, Number, Truths, Numbers, Numerals, arguments_of}
+use Rattle.typed_model.specs.Sizes.{what_members}
 
 -- a number's absolute value is at most the limit
 abbrev pub InLimit : ℤ → Type 0
@@ -35,31 +36,23 @@ TermInLimit (int_term.Of place) = Unit {0}
 abbrev pub TermsInLimit : List IntTerm → Type 0
 TermsInLimit terms = (k : ℕ) → TermInLimit (slice_index_or terms k (int_term.Number (pos 0)))
 
--- each term of a list that may be left out
-abbrev pub TermsInLimitIf : Option (List IntTerm) → Type 0
-TermsInLimitIf None = Unit {0}
-TermsInLimitIf (Some terms) = TermsInLimit terms
+-- each number of an argument
+abbrev pub ArgumentInLimit : Argument → Type 0
+ArgumentInLimit (Truth x) = Unit {0}
+ArgumentInLimit (Number i) = TermInLimit i
+ArgumentInLimit (Truths xs) = Unit {0}
+ArgumentInLimit (Numbers is) = TermsInLimit is
+ArgumentInLimit (Numerals cs) = AllInLimit cs
 
--- each number of a statement
+abbrev pub ArgumentsInLimit : List Argument → Type 0
+ArgumentsInLimit [] = Unit {0}
+ArgumentsInLimit (a ∷ rest) = ArgumentInLimit a × ArgumentsInLimit rest
+
+-- each number of a statement, and how many members its lists have
 abbrev pub WhatInLimit : What → Type 0
-WhatInLimit (L3 x i) = TermInLimit i
-WhatInLimit (L4 x y) = Unit {0}
-WhatInLimit (L5 name x y z) = Unit {0}
-WhatInLimit (L6 name xs) = Unit {0}
-WhatInLimit (L7 name xs z) = Unit {0}
-WhatInLimit (L8 name i j) = TermInLimit i × TermInLimit j
-WhatInLimit (L9 name i j z) = TermInLimit i × TermInLimit j
-WhatInLimit (L10 name xs i) = TermInLimit i
-WhatInLimit (L11 name cs xs i) = AllInLimit cs × TermInLimit i
-WhatInLimit (L12 name is i) = TermsInLimit is × TermInLimit i
-WhatInLimit (L13 name cs is i) = AllInLimit cs × (TermsInLimit is × TermInLimit i)
-WhatInLimit (L14 name i j k) = TermInLimit i × (TermInLimit j × TermInLimit k)
-WhatInLimit (L15 i j) = TermInLimit i × TermInLimit j
-WhatInLimit (L16 name is i) = TermsInLimit is × TermInLimit i
-WhatInLimit (L17 name is z xs) = TermsInLimit is
-WhatInLimit (L18 name xs ys is js z) = TermsInLimitIf is × TermsInLimitIf js
+WhatInLimit w = ArgumentsInLimit (arguments_of w) × (what_members w ≤ 16777216)
 
--- each number of each statement
+-- each statement
 abbrev pub StmtsInLimit : List Stmt → Type 0
 StmtsInLimit [] = Unit {0}
 StmtsInLimit (s ∷ ss) = WhatInLimit s.what × StmtsInLimit ss
@@ -74,7 +67,7 @@ abbrev pub DeclsInLimit : List Decl → Type 0
 DeclsInLimit [] = Unit {0}
 DeclsInLimit (d ∷ ds) = KindInLimit d.kind × DeclsInLimit ds
 
--- each number of a model, and the bounds of each of its domains
+-- each number of a model, the bounds of each of its domains, and the members of each of its statements
 abbrev pub InLimits : Model → Type 0
 InLimits model = DeclsInLimit model.decls × StmtsInLimit model.stmts
 

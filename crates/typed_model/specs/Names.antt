@@ -8,10 +8,10 @@ use Rattle.typed_model.specs.declared.statement.Operator.{Operator}
 use Rattle.typed_model.specs.declared.statement.Operator.TheVariants as operator
 use Rattle.typed_model.specs.declared.statement.Arithmetic.{Arithmetic}
 use Rattle.typed_model.specs.declared.statement.Arithmetic.TheVariants as arithmetic
-use Rattle.typed_model.specs.declared.statement.Extreme.{Extreme}
-use Rattle.typed_model.specs.declared.statement.Extreme.TheVariants as extreme
-use Rattle.typed_model.specs.declared.statement.Difference.{Difference}
-use Rattle.typed_model.specs.declared.statement.Difference.TheVariants as difference
+use Rattle.typed_model.specs.declared.statement.Aggregate.{Aggregate}
+use Rattle.typed_model.specs.declared.statement.Aggregate.TheVariants as aggregate
+use Rattle.typed_model.specs.declared.statement.AllDifferent.{AllDifferent}
+use Rattle.typed_model.specs.declared.statement.AllDifferent.TheVariants as all_different
 use Rattle.typed_model.specs.declared.statement.Order.{Order}
 use Rattle.typed_model.specs.declared.statement.Statement.{Statement}
 use Rattle.typed_model.specs.declared.statement.Statement.TheVariants as statement
@@ -59,16 +59,16 @@ arithmetic_of word = if bytes_eq word (codes "plus") then Some arithmetic.Plus e
     (if bytes_eq word (codes "min") then Some arithmetic.Min else None)))))
 
 -- the last word of a name of an operation on a list of integers
-abbrev pub extreme_of : List ℕ → Option Extreme
-extreme_of word = if bytes_eq word (codes "plus") then Some extreme.Plus else
-    (if bytes_eq word (codes "max") then Some extreme.Max else
-    (if bytes_eq word (codes "min") then Some extreme.Min else None))
+abbrev pub aggregate_of : List ℕ → Option Aggregate
+aggregate_of word = if bytes_eq word (codes "plus") then Some aggregate.Plus else
+    (if bytes_eq word (codes "max") then Some aggregate.Max else
+    (if bytes_eq word (codes "min") then Some aggregate.Min else None))
 
 -- the last word of a name that says that members differ
-abbrev pub difference_of : List ℕ → Option Difference
-difference_of word = if bytes_eq word (codes "allDiff") then Some difference.All else
-    (if bytes_eq word (codes "allDiff_reif") then Some difference.Truth else
-    (if bytes_eq word (codes "allDiffCond") then Some difference.Conditional else None))
+abbrev pub all_different_of : List ℕ → Option AllDifferent
+all_different_of word = if bytes_eq word (codes "allDiff") then Some all_different.Plain else
+    (if bytes_eq word (codes "allDiff_reif") then Some all_different.Reified else
+    (if bytes_eq word (codes "allDiffCond") then Some all_different.Conditional else None))
 
 -- the last word of a name that says that two lists are in order; b says whether they are of Booleans
 abbrev pub order_of : Bool → List ℕ → Option Order
@@ -77,90 +77,43 @@ order_of b word = if bytes_eq word (codes "lex") then Some (record { of_booleans
     (if bytes_eq word (codes "lex_reif") then Some (record { of_booleans = b; strict = false; reified = true }) else
     (if bytes_eq word (codes "lexLt_reif") then Some (record { of_booleans = b; strict = true; reified = true }) else None)))
 
--- Line by line: the statements whose names have a part that is told apart.
-
--- line 5: `bool_OP_reif`
-unfoldable pub pair_operator : List ℕ → Option Operator
-pair_operator name = option_and_then operator_of (between (codes "bool_") (codes "_reif") name)
-
--- line 6: `bool_array_OP`
-unfoldable pub array_operator : List ℕ → Option Operator
-array_operator name = option_and_then operator_of (after (codes "bool_array_") name)
-
--- line 7: `bool_array_OP_reif`
-unfoldable pub array_truth_operator : List ℕ → Option Operator
-array_truth_operator name = option_and_then operator_of (between (codes "bool_array_") (codes "_reif") name)
-
--- line 8: `int_REL`
-unfoldable pub compare_relation : List ℕ → Option Relation
-compare_relation name = option_and_then relation_of (after (codes "int_") name)
-
--- line 9: `int_REL_reif`
-unfoldable pub compare_truth_relation : List ℕ → Option Relation
-compare_truth_relation name = option_and_then relation_of (between (codes "int_") (codes "_reif") name)
-
--- line 10: `bool_array_sum_REL`
-unfoldable pub count_relation : List ℕ → Option Relation
-count_relation name = option_and_then relation_of (after (codes "bool_array_sum_") name)
-
--- line 11: `bool_array_pb_REL`
-unfoldable pub weigh_relation : List ℕ → Option Relation
-weigh_relation name = option_and_then relation_of (after (codes "bool_array_pb_") name)
-
--- line 12: `int_array_sum_REL`
-unfoldable pub sum_relation : List ℕ → Option Relation
-sum_relation name = option_and_then relation_of (after (codes "int_array_sum_") name)
-
--- line 13: `int_array_lin_REL`
-unfoldable pub linear_relation : List ℕ → Option Relation
-linear_relation name = option_and_then relation_of (after (codes "int_array_lin_") name)
-
--- line 14: `int_plus`, `int_times`, `int_div`, `int_mod`, `int_max`, `int_min`
-unfoldable pub operation : List ℕ → Option Arithmetic
-operation name = option_and_then arithmetic_of (after (codes "int_") name)
-
--- line 16: `int_array_plus`, `int_array_max`, `int_array_min`
-unfoldable pub aggregate : List ℕ → Option Extreme
-aggregate name = option_and_then extreme_of (after (codes "int_array_") name)
-
--- line 17: `int_array_allDiff`, `int_array_allDiff_reif`, `int_array_allDiffCond`
-unfoldable pub differ : List ℕ → Option Difference
-differ name = option_and_then difference_of (after (codes "int_array_") name)
-
--- line 18: `bool_arrays_` or `int_arrays_`, then `lex` or `lexLt`, and `_reif` where a Boolean is the truth of it
-unfoldable pub lex : List ℕ → Option Order
-lex name = first_of (option_and_then (order_of true) (after (codes "bool_arrays_") name)) (option_and_then (order_of false) (after (codes "int_arrays_") name))
-
 -- the names that stand alone in their lines
-unfoldable pub lone : List ℕ → Option Statement
-lone name = if bytes_eq name (codes "new_bool") then Some statement.NewBool else
+unfoldable pub lone_statement : List ℕ → Option Statement
+lone_statement name = if bytes_eq name (codes "new_bool") then Some statement.NewBool else
     (if bytes_eq name (codes "new_int") then Some statement.NewInt else
     (if bytes_eq name (codes "bool2int") then Some statement.BoolToInt else
     (if bytes_eq name (codes "bool_eq") then Some statement.BoolEq else
     (if bytes_eq name (codes "int_abs") then Some statement.Absolute else None))))
 
--- lines 5 to 7
-unfoldable pub boolean : List ℕ → Option Statement
-boolean name = first_of (option_map statement.Pair (pair_operator name))
-    (first_of (option_map statement.Array (array_operator name))
-    (option_map statement.ArrayTruth (array_truth_operator name)))
+-- lines 5 to 7: `bool_OP_reif`, `bool_array_OP`, `bool_array_OP_reif`
+unfoldable pub operator_statement : List ℕ → Option Statement
+operator_statement name =
+    first_of (option_map statement.PairReified (option_and_then operator_of (between (codes "bool_") (codes "_reif") name)))
+    (first_of (option_map statement.Array (option_and_then operator_of (after (codes "bool_array_") name)))
+    (option_map statement.ArrayReified (option_and_then operator_of (between (codes "bool_array_") (codes "_reif") name))))
 
--- lines 8 to 11
-unfoldable pub comparison : List ℕ → Option Statement
-comparison name = first_of (option_map statement.Compare (compare_relation name))
-    (first_of (option_map statement.CompareTruth (compare_truth_relation name))
-    (first_of (option_map statement.Count (count_relation name))
-    (option_map statement.Weigh (weigh_relation name))))
+-- lines 8 to 13: `int_REL`, `int_REL_reif`, `bool_array_sum_REL`, `bool_array_pb_REL`, `int_array_sum_REL`,
+-- `int_array_lin_REL`
+unfoldable pub relation_statement : List ℕ → Option Statement
+relation_statement name =
+    first_of (option_map statement.Compare (option_and_then relation_of (after (codes "int_") name)))
+    (first_of (option_map statement.CompareReified (option_and_then relation_of (between (codes "int_") (codes "_reif") name)))
+    (first_of (option_map statement.Count (option_and_then relation_of (after (codes "bool_array_sum_") name)))
+    (first_of (option_map statement.PseudoBoolean (option_and_then relation_of (after (codes "bool_array_pb_") name)))
+    (first_of (option_map statement.Sum (option_and_then relation_of (after (codes "int_array_sum_") name)))
+    (option_map statement.Linear (option_and_then relation_of (after (codes "int_array_lin_") name)))))))
 
--- lines 12 to 18
-unfoldable pub integral : List ℕ → Option Statement
-integral name = first_of (option_map statement.Sum (sum_relation name))
-    (first_of (option_map statement.Linear (linear_relation name))
-    (first_of (option_map statement.Operation (operation name))
-    (first_of (option_map statement.Aggregate (aggregate name))
-    (first_of (option_map statement.Differ (differ name))
-    (option_map statement.Lex (lex name))))))
+-- line 14: `int_plus`, `int_times`, `int_div`, `int_mod`, `int_max`, `int_min`; line 16: `int_array_plus`,
+-- `int_array_max`, `int_array_min`; line 17: `int_array_allDiff`, `int_array_allDiff_reif`, `int_array_allDiffCond`;
+-- line 18: `bool_arrays_` or `int_arrays_`, then `lex` or `lexLt`, and `_reif` where a Boolean is the truth of it
+unfoldable pub operation_statement : List ℕ → Option Statement
+operation_statement name =
+    first_of (option_map statement.Operation (option_and_then arithmetic_of (after (codes "int_") name)))
+    (first_of (option_map statement.Aggregate (option_and_then aggregate_of (after (codes "int_array_") name)))
+    (first_of (option_map statement.AllDifferent (option_and_then all_different_of (after (codes "int_array_") name)))
+    (first_of (option_map statement.Lex (option_and_then (order_of true) (after (codes "bool_arrays_") name)))
+    (option_map statement.Lex (option_and_then (order_of false) (after (codes "int_arrays_") name))))))
 
 -- the declaration or statement of a name, where it is one
 unfoldable pub statement_of : List ℕ → Option Statement
-statement_of name = first_of (lone name) (first_of (boolean name) (first_of (comparison name) (integral name)))
+statement_of name = first_of (lone_statement name) (first_of (operator_statement name) (first_of (relation_statement name) (operation_statement name)))

@@ -7,7 +7,7 @@ use Rattle.typed_model.specs.declared.model.Goal.{Goal}
 use Rattle.typed_model.specs.declared.fault.TypeFault.{TypeFault}
 use Rattle.typed_model.specs.Names.{first_of}
 use Rattle.typed_model.specs.Faults.{item_fault}
-use Rattle.typed_model.specs.Items.{declared, stated, sought, decls_from, stmts_from, goal_from}
+use Rattle.typed_model.specs.Items.{declarations_of, statements_of, goal_after, decls_from, stmts_from, goal_from}
 
 -- the number of the next item, what the items before it declare, state and seek, and the fault that was found
 pub record Taken : Type 0 where
@@ -20,7 +20,7 @@ pub record Taken : Type 0 where
 -- the fault of the first item that has one; that there is no goal is no item's fault
 unfoldable pub fault_from : ℕ → List Decl → Option Goal → List Item → Option TypeFault
 fault_from n ds g [] = None
-fault_from n ds g (i ∷ items) = first_of (item_fault n (is_some g) ds i) (fault_from (n + 1) (ds ++ declared n ds i) (sought g ds i) items)
+fault_from n ds g (i ∷ items) = first_of (item_fault n (is_some g) ds i) (fault_from (n + 1) (ds ++ declarations_of n ds i) (goal_after g ds i) items)
 
 abbrev pub fault_of : List Item → Option TypeFault
 fault_of items = fault_from 1 [] None items
@@ -43,12 +43,12 @@ pub record HasTaken (t : Taken) (items : List Item) : Type 0 where
   pub all : fault_of items ≡ None → t ≡ all_of items
 
 -- one item more, which has no fault
-abbrev pub added : Taken → Item → Taken
-added t i =
+abbrev pub with_item : Taken → Item → Taken
+with_item t i =
     record {
       next = t.next + 1;
-      decls = t.decls ++ declared t.next t.decls i;
-      stmts = t.stmts ++ stated t.next (t.decls ++ declared t.next t.decls i) i;
-      goal = sought t.goal t.decls i;
+      decls = t.decls ++ declarations_of t.next t.decls i;
+      stmts = t.stmts ++ statements_of t.next (t.decls ++ declarations_of t.next t.decls i) i;
+      goal = goal_after t.goal t.decls i;
       fault = t.fault;
     }

@@ -1,17 +1,18 @@
 -- When a model is well typed, as a fact about the model alone.
-use Rattle.std.specs.Prelude.{◌≡◌, ℕ, ◌+◌, ◌<◌, ℤ, pos, ◌≤ℤ◌, Bool, true, false, not, ◌≤◌, List, [], ◌∷◌, length, slice_get, Option, Some, None, IsSome, IfSome, IsSomeAnd, IsFalse}
+use Rattle.std.specs.Prelude.{◌≡◌, ℕ, ◌+◌, ◌<◌, ℤ, pos, ◌≤ℤ◌, ◌≤◌, List, [], ◌∷◌, length, slice_get, Option, Some, None, IfSome, IsSomeAnd, IsFalse}
 use Rattle.typed_model.specs.declared.what.BoolTerm.{BoolTerm}
 use Rattle.typed_model.specs.declared.what.BoolTerm.TheVariants as bool_term
 use Rattle.typed_model.specs.declared.what.IntTerm.{IntTerm}
 use Rattle.typed_model.specs.declared.what.IntTerm.TheVariants as int_term
 use Rattle.typed_model.specs.declared.what.What.{What}
-use Rattle.typed_model.specs.declared.what.What.TheVariants.{L3, L4, L5, L6, L7, L8, L9, L10, L11, L12, L13, L14, L15, L16, L17, L18}
-use Rattle.typed_model.specs.declared.statement.Arithmetic.{Arithmetic}
+use Rattle.typed_model.specs.declared.what.What.TheVariants.{L3}
+use Rattle.typed_model.specs.declared.signature.Wanted.{Wanted}
+use Rattle.typed_model.specs.declared.signature.Wanted.TheVariants as wanted
 use Rattle.typed_model.specs.declared.statement.Arithmetic.TheVariants as arithmetic
-use Rattle.typed_model.specs.declared.statement.Extreme.{Extreme}
-use Rattle.typed_model.specs.declared.statement.Extreme.TheVariants as extreme
-use Rattle.typed_model.specs.declared.statement.Difference.{Difference}
-use Rattle.typed_model.specs.declared.statement.Difference.TheVariants as difference
+use Rattle.typed_model.specs.declared.statement.Aggregate.{Aggregate}
+use Rattle.typed_model.specs.declared.statement.Aggregate.TheVariants as aggregate
+use Rattle.typed_model.specs.declared.statement.Statement.{Statement}
+use Rattle.typed_model.specs.declared.statement.Statement.TheVariants as statement
 use Rattle.typed_model.specs.declared.model.Kind.{Kind}
 use Rattle.typed_model.specs.declared.model.Kind.TheVariants as kind
 use Rattle.typed_model.specs.declared.model.Decl.{Decl}
@@ -19,7 +20,9 @@ use Rattle.typed_model.specs.declared.model.Stmt.{Stmt}
 use Rattle.typed_model.specs.declared.model.Goal.{Goal}
 use Rattle.typed_model.specs.declared.model.Goal.TheVariants as goal
 use Rattle.typed_model.specs.declared.model.Model.{Model}
-use Rattle.typed_model.specs.Names.{pair_operator, array_operator, array_truth_operator, compare_relation, compare_truth_relation, count_relation, weigh_relation, sum_relation, linear_relation, operation, aggregate, differ, lex}
+use Rattle.typed_model.specs.Names.{statement_of}
+use Rattle.typed_model.specs.Signatures.{signature}
+use Rattle.typed_model.specs.Arguments.{Argument, Truth, Number, Truths, Numbers, Numerals, arguments_of, statement_in, own_name}
 use Rattle.typed_model.specs.Scope.{is_constant, low_of, place_of}
 
 -- an integer, whatever its domain
@@ -56,53 +59,62 @@ abbrev pub IsAtLeast : List Decl → ℤ → IntTerm → Type 0
 IsAtLeast ds m (int_term.Number z) = m ≤ℤ z
 IsAtLeast ds m (int_term.Of place) = IsSomeAnd (slice_get ds place) (λ d. m ≤ℤ low_of (Some d.kind))
 
--- a division has a dividend of at least 0 and a divisor of at least 1
-abbrev pub DivisionFits : List Decl → Arithmetic → IntTerm → IntTerm → Type 0
-DivisionFits ds arithmetic.Div i j = IsAtLeast ds (pos 0) i × IsAtLeast ds (pos 1) j
-DivisionFits ds arithmetic.Mod i j = IsAtLeast ds (pos 0) i × IsAtLeast ds (pos 1) j
-DivisionFits ds o i j = Unit {0}
+-- an argument is what the signature wants there. What a `bool2int` declares is an integer of item n itself or an
+-- earlier one
+abbrev pub ArgumentFits : List Decl → ℕ → Wanted → Argument → Type 0
+ArgumentFits ds n wanted.Truth (Truth x) = TruthFits ds n x
+ArgumentFits ds n wanted.Number (Number i) = NumberFits ds n i
+ArgumentFits ds n wanted.NewInteger (Number (int_term.Of place)) = IsNumberAt ds (n + 1) place
+ArgumentFits ds n wanted.Truths (Truths xs) = TruthsFit ds n xs
+ArgumentFits ds n wanted.Numbers (Numbers is) = NumbersFit ds n is
+ArgumentFits ds n wanted.Numerals (Numerals cs) = Unit {0}
+ArgumentFits ds n w a = ⊥
+
+abbrev pub ArgumentsFit : List Decl → ℕ → List Wanted → List Argument → Type 0
+ArgumentsFit ds n [] [] = Unit {0}
+ArgumentsFit ds n [] (a ∷ rest) = ⊥
+ArgumentsFit ds n (w ∷ ws) [] = ⊥
+ArgumentsFit ds n (w ∷ ws) (a ∷ rest) = ArgumentFits ds n w a × ArgumentsFit ds n ws rest
+
+-- the length of an argument that is a list
+abbrev pub list_length : Argument → Option ℕ
+list_length (Truth x) = None
+list_length (Number i) = None
+list_length (Truths xs) = Some (length xs)
+list_length (Numbers is) = Some (length is)
+list_length (Numerals cs) = Some (length cs)
+
+-- where the first two arguments are lists, they have one length
+abbrev pub LengthsFit : List Argument → Type 0
+LengthsFit [] = Unit {0}
+LengthsFit (a ∷ []) = Unit {0}
+LengthsFit (a ∷ b ∷ rest) = IfSome (list_length a) (λ m. IfSome (list_length b) (λ n. m ≡ n))
 
 -- a greatest or least member wants a member
-abbrev pub HasMember : Extreme → List IntTerm → Type 0
-HasMember extreme.Plus is = Unit {0}
-HasMember extreme.Max is = 0 < length is
-HasMember extreme.Min is = 0 < length is
+abbrev pub HasMember : Aggregate → List Argument → Type 0
+HasMember aggregate.Plus args = Unit {0}
+HasMember aggregate.Max (Numbers is ∷ rest) = 0 < length is
+HasMember aggregate.Min (Numbers is ∷ rest) = 0 < length is
+HasMember o args = ⊥
 
--- line 17: the truth stands where it is reified, the conditions where there are some, one for each member
-abbrev pub DifferenceFits : List Decl → ℕ → List IntTerm → Option BoolTerm → Option (List BoolTerm) → Difference → Type 0
-DifferenceFits ds n is z xs difference.All = (z ≡ None) × (xs ≡ None)
-DifferenceFits ds n is z xs difference.Truth = IsSomeAnd z (TruthFits ds n) × (xs ≡ None)
-DifferenceFits ds n is z xs difference.Conditional = (z ≡ None) × IsSomeAnd xs (λ cs. TruthsFit ds n cs × (length cs ≡ length is))
+-- a division has a dividend of at least 0 and a divisor of at least 1
+abbrev pub IsDivision : List Decl → List Argument → Type 0
+IsDivision ds (Number i ∷ Number j ∷ rest) = IsAtLeast ds (pos 0) i × IsAtLeast ds (pos 1) j
+IsDivision ds args = ⊥
 
--- line 18: two lists of one length, of Booleans or of integers, and the truth where it is reified
-abbrev pub PairFits : {A : Type 0} → (List A → Type 0) → Bool → Option (List A) → Option (List A) → Type 0
-PairFits Fits false xs ys = (xs ≡ None) × (ys ≡ None)
-PairFits Fits true xs ys = IsSomeAnd xs (λ us. IsSomeAnd ys (λ vs. Fits us × (Fits vs × (length us ≡ length vs))))
+abbrev pub ValuesFit : List Decl → Statement → List Argument → Type 0
+ValuesFit ds (statement.Aggregate o) args = HasMember o args
+ValuesFit ds (statement.Operation arithmetic.Div) args = IsDivision ds args
+ValuesFit ds (statement.Operation arithmetic.Mod) args = IsDivision ds args
+ValuesFit ds s args = Unit {0}
 
-abbrev pub TruthFitsIf : List Decl → ℕ → Bool → Option BoolTerm → Type 0
-TruthFitsIf ds n false z = z ≡ None
-TruthFitsIf ds n true z = IsSomeAnd z (TruthFits ds n)
-
--- a statement, item n: its name is one of its line's, and its arguments fit
-unfoldable pub WhatFits : List Decl → ℕ → What → Type 0
-WhatFits ds n (L3 x (int_term.Number z)) = ⊥
-WhatFits ds n (L3 x (int_term.Of place)) = TruthFits ds n x × IsNumberAt ds (n + 1) place
-WhatFits ds n (L4 x y) = TruthFits ds n x × TruthFits ds n y
-WhatFits ds n (L5 name x y z) = IsSome (pair_operator name) × (TruthFits ds n x × (TruthFits ds n y × TruthFits ds n z))
-WhatFits ds n (L6 name xs) = IsSome (array_operator name) × TruthsFit ds n xs
-WhatFits ds n (L7 name xs z) = IsSome (array_truth_operator name) × (TruthsFit ds n xs × TruthFits ds n z)
-WhatFits ds n (L8 name i j) = IsSome (compare_relation name) × (NumberFits ds n i × NumberFits ds n j)
-WhatFits ds n (L9 name i j z) = IsSome (compare_truth_relation name) × (NumberFits ds n i × (NumberFits ds n j × TruthFits ds n z))
-WhatFits ds n (L10 name xs i) = IsSome (count_relation name) × (TruthsFit ds n xs × NumberFits ds n i)
-WhatFits ds n (L11 name cs xs i) = IsSome (weigh_relation name) × (TruthsFit ds n xs × (NumberFits ds n i × (length cs ≡ length xs)))
-WhatFits ds n (L12 name is i) = IsSome (sum_relation name) × (NumbersFit ds n is × NumberFits ds n i)
-WhatFits ds n (L13 name cs is i) = IsSome (linear_relation name) × (NumbersFit ds n is × (NumberFits ds n i × (length cs ≡ length is)))
-WhatFits ds n (L14 name i j k) = IsSomeAnd (operation name) (λ o. NumberFits ds n i × (NumberFits ds n j × (NumberFits ds n k × DivisionFits ds o i j)))
-WhatFits ds n (L15 i j) = NumberFits ds n i × NumberFits ds n j
-WhatFits ds n (L16 name is i) = IsSomeAnd (aggregate name) (λ e. NumbersFit ds n is × (NumberFits ds n i × HasMember e is))
-WhatFits ds n (L17 name is z xs) = IsSomeAnd (differ name) (λ d. NumbersFit ds n is × DifferenceFits ds n is z xs d)
-WhatFits ds n (L18 name xs ys is js z) =
-    IsSomeAnd (lex name) (λ o. PairFits (TruthsFit ds n) o.of_booleans xs ys × (PairFits (NumbersFit ds n) (not o.of_booleans) is js × TruthFitsIf ds n o.reified z))
+-- a statement, item n: its name is its own, and its arguments are those of the statement's signature, with lengths and
+-- values that the statement takes
+pub record WhatFits (ds : List Decl) (n : ℕ) (w : What) : Type 0 where
+  pub name : IfSome (own_name w) (λ name. statement_of name ≡ Some (statement_in w))
+  pub arguments : ArgumentsFit ds n (signature (statement_in w)) (arguments_of w)
+  pub lengths : LengthsFit (arguments_of w)
+  pub values : ValuesFit ds (statement_in w) (arguments_of w)
 
 -- statements whose numbers ascend from at least n, each of which fits
 abbrev pub StmtsFit : List Decl → ℕ → List Stmt → Type 0

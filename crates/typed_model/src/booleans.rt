@@ -2,7 +2,7 @@
 
 ghost use Rattle.std.specs.Prelude.{◌≡◌, ◌≤◌, ◌||◌, length};
 ghost use Rattle.typed_model.specs.Terms.{truths_of};
-ghost use Rattle.typed_model.specs.Booleans.{some_true, all_true, none_true, count_true, combined};
+ghost use Rattle.typed_model.specs.Booleans.{some_true, all_true, none_true, count_true, combine};
 
 use crate::statement::Operator;
 use crate::terms::truth_of;
@@ -55,8 +55,8 @@ fn all_equal(values: &[i64], members: &[BoolTerm]) -> bool
 }
 
 /// What an operator makes of a list.
-pub fn combined(operator: Operator, values: &[i64], members: &[BoolTerm]) -> bool
-    ensures { result ≡ combined operator (truths_of values.now members.now) }
+pub fn combine(operator: Operator, values: &[i64], members: &[BoolTerm]) -> bool
+    ensures { result ≡ combine operator (truths_of values.now members.now) }
 {
     match operator {
         Operator::Or => some_true(values, members),

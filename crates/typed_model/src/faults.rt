@@ -2,7 +2,7 @@
 
 ghost use Rattle.std.specs.Prelude.{◌≡◌, slice_get};
 ghost use Rattle.typed_model.specs.Scope.{place_of};
-ghost use Rattle.typed_model.specs.Faults.{declares, arg_unknown, undeclared, one_fits, many_fit, arg_fits, fit, is_declaration, names_declared, twice, lists_differ, wants_member, is_empty, misfit, numeral_in, declares_integer, empty_domain, divides, least_in, division_domain, statement_fault, objective_unknown, objective_fits, goal_fault, item_fault};
+ghost use Rattle.typed_model.specs.Faults.{declares, arg_unknown, has_undeclared, one_fits, many_fit, arg_fits, fit, is_declaration, names_declared, declares_twice, lists_differ, wants_member, is_empty, has_wrong_lengths, numeral_in, declares_integer, empty_domain, divides, least_in, division_domain, statement_fault, objective_unknown, objective_fits, goal_fault, item_fault};
 
 use crate::fault::TypeFault;
 use crate::names::statement_of;
@@ -10,7 +10,7 @@ use crate::scope::{
     Scope, all_numerals, is_bool, is_constant, is_int, is_numeral, low_of, numeral,
 };
 use crate::signature::{Wanted, signature};
-use crate::statement::{Arithmetic, Extreme, Statement};
+use crate::statement::{Aggregate, Arithmetic, Statement};
 use bumblebee_reader::{Arg, GoalKind, Item, Name, Term};
 
 /// Whether an argument is a plain name in a declaring place.
@@ -35,8 +35,8 @@ fn arg_unknown(scope: &Scope, arg: &Arg) -> bool
 }
 
 /// Whether a name that is to be looked up isn't declared.
-fn undeclared(scope: &Scope, wanted: &[Wanted], args: &[Arg]) -> bool
-    ensures { result ≡ undeclared scope.now wanted.now args.now }
+fn has_undeclared(scope: &Scope, wanted: &[Wanted], args: &[Arg]) -> bool
+    ensures { result ≡ has_undeclared scope.now wanted.now args.now }
 {
     let mut places = wanted;
     let mut rest = args;
@@ -64,17 +64,13 @@ fn one_fits(scope: &Scope, wanted: Wanted, term: &Term) -> bool
         Wanted::Numeral => is_numeral(term),
         Wanted::NewName => match term {
             Term::Plain(name) => !is_constant(name.as_bytes()),
-            Term::Minus(_) => false,
-            Term::Number(_) => false,
+            _ => false,
         },
         Wanted::NewInteger => match term {
             Term::Plain(name) => !is_constant(name.as_bytes()) && !is_bool(scope.kind_of(name)),
-            Term::Minus(_) => false,
-            Term::Number(_) => false,
+            _ => false,
         },
-        Wanted::Truths => false,
-        Wanted::Numbers => false,
-        Wanted::Numerals => false,
+        Wanted::Truths | Wanted::Numbers | Wanted::Numerals => false,
     }
 }
 
@@ -86,11 +82,7 @@ fn many_fit(scope: &Scope, wanted: Wanted, terms: &[Term]) -> bool
         Wanted::Truths => scope.all_truths(terms),
         Wanted::Numbers => scope.all_numbers(terms),
         Wanted::Numerals => all_numerals(terms),
-        Wanted::Truth => false,
-        Wanted::Number => false,
-        Wanted::Numeral => false,
-        Wanted::NewName => false,
-        Wanted::NewInteger => false,
+        _ => false,
     }
 }
 
@@ -141,8 +133,8 @@ fn names_declared(scope: &Scope, args: &[Arg], at: usize) -> bool
 }
 
 /// Whether a name is declared anew.
-fn twice(scope: &Scope, statement: Statement, args: &[Arg]) -> bool
-    ensures { result ≡ twice scope.now statement args.now }
+fn declares_twice(scope: &Scope, statement: Statement, args: &[Arg]) -> bool
+    ensures { result ≡ declares_twice scope.now statement args.now }
 {
     is_declaration(statement) && names_declared(scope, args, 0)
 }
@@ -163,7 +155,7 @@ fn wants_member(statement: Statement) -> bool
 {
     matches!(
         statement,
-        Statement::Aggregate(Extreme::Max) | Statement::Aggregate(Extreme::Min)
+        Statement::Aggregate(Aggregate::Max) | Statement::Aggregate(Aggregate::Min)
     )
 }
 
@@ -178,8 +170,8 @@ fn is_empty(args: &[Arg]) -> bool
 }
 
 /// Whether lists differ in length, or a list lacks a member.
-fn misfit(statement: Statement, args: &[Arg]) -> bool
-    ensures { result ≡ misfit statement args.now }
+fn has_wrong_lengths(statement: Statement, args: &[Arg]) -> bool
+    ensures { result ≡ has_wrong_lengths statement args.now }
 {
     lists_differ(args) || (wants_member(statement) && is_empty(args))
 }
@@ -241,16 +233,16 @@ fn statement_fault(
 ) -> Option<TypeFault>
     ensures { result ≡ statement_fault number scope.now statement args.now }
 {
-    if undeclared(scope, signature(statement), args) {
+    if has_undeclared(scope, signature(statement), args) {
         return Some(TypeFault::Undeclared(number));
     }
     if !fit(scope, signature(statement), args) {
         return Some(TypeFault::Kind(number));
     }
-    if twice(scope, statement, args) {
+    if declares_twice(scope, statement, args) {
         return Some(TypeFault::Twice(number));
     }
-    if misfit(statement, args) {
+    if has_wrong_lengths(statement, args) {
         return Some(TypeFault::Lengths(number));
     }
     if empty_domain(statement, args) {
@@ -278,11 +270,9 @@ fn objective_fits(scope: &Scope, kind: GoalKind, objective: &Option<Name>) -> bo
 {
     match (kind, objective) {
         (GoalKind::Satisfy, None) => true,
-        (GoalKind::Satisfy, Some(_)) => false,
-        (GoalKind::Minimize, None) => false,
         (GoalKind::Minimize, Some(name)) => is_int(scope.kind_of(name)),
-        (GoalKind::Maximize, None) => false,
         (GoalKind::Maximize, Some(name)) => is_int(scope.kind_of(name)),
+        _ => false,
     }
 }
 

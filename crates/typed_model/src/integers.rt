@@ -3,10 +3,10 @@
 ghost use Rattle.std.specs.Prelude.{◌≡◌, ℕ, ◌+ℤ◌, ◌-ℤ◌, ◌*ℤ◌, ◌≤◌, ◌^◌, unsigned_abs, pos, FitsSigned, if◌then◌else◌};
 ghost use Rattle.std.specs.Int.{w64};
 ghost use Rattle.typed_model.specs.Terms.{truths_of, numbers_of};
-ghost use Rattle.typed_model.specs.Integers.{relates, total, weight_of_true, linear_sum, is_greatest, is_least, is_quotient, is_remainder, gives, sums};
+ghost use Rattle.typed_model.specs.Integers.{relates, total, weight_of_true, linear_sum, is_greatest, is_least, is_quotient, is_remainder, gives, is_aggregate};
 ghost use Rattle.typed_model.specs.Limits.{AllInLimit, TermsInLimit};
 
-use crate::statement::{Arithmetic, Extreme, Relation};
+use crate::statement::{Aggregate, Arithmetic, Relation};
 use crate::terms::{number_of, truth_of};
 use crate::what::{BoolTerm, IntTerm};
 
@@ -36,7 +36,7 @@ pub fn total(values: &[i64], members: &[IntTerm]) -> i128
 }
 
 /// A coefficient where a member is true, and else 0.
-fn chosen(truth: bool, coefficient: i64) -> i64
+fn coefficient_where(truth: bool, coefficient: i64) -> i64
     ensures value { result ≡ (if truth then coefficient else pos 0) }
     ensures range { FitsSigned w64 result }
 {
@@ -52,7 +52,7 @@ pub fn weight_of_true(values: &[i64], coefficients: &[i64], members: &[BoolTerm]
         if i >= members.len() {
             break;
         }
-        sum += i128::from(chosen(truth_of(values, members[i]), coefficients[i]));
+        sum += i128::from(coefficient_where(truth_of(values, members[i]), coefficients[i]));
     }
     sum
 }
@@ -164,12 +164,12 @@ pub fn gives(operation: Arithmetic, left: i64, right: i64, value: i64) -> bool
 }
 
 /// Whether a number is the sum, the greatest or the least member of a list.
-pub fn sums(operation: Extreme, values: &[i64], members: &[IntTerm], value: i64) -> bool
-    ensures { result ≡ sums operation (numbers_of values.now members.now) value }
+pub fn is_aggregate(operation: Aggregate, values: &[i64], members: &[IntTerm], value: i64) -> bool
+    ensures { result ≡ is_aggregate operation (numbers_of values.now members.now) value }
 {
     match operation {
-        Extreme::Plus => relates(Relation::Eq, i128::from(value), total(values, members)),
-        Extreme::Max => is_greatest(values, members, value),
-        Extreme::Min => is_least(values, members, value),
+        Aggregate::Plus => relates(Relation::Eq, i128::from(value), total(values, members)),
+        Aggregate::Max => is_greatest(values, members, value),
+        Aggregate::Min => is_least(values, members, value),
     }
 }

@@ -1,152 +1,15 @@
 //! What an item declares, states and seeks.
 
-ghost use Rattle.std.specs.Prelude.{◌≡◌, ◌++◌, ◌∷◌, [], Some, None, IfOk, OnOk, slice_get, pos, map};
+ghost use Rattle.std.specs.Prelude.{◌≡◌, ◌++◌, OnOk, slice_get};
 ghost use Rattle.std.specs.Option.{option_copied};
-ghost use Rattle.typed_model.specs.Scope.{truth, number, numeral};
-ghost use Rattle.typed_model.specs.Faults.{numeral_in};
-ghost use Rattle.typed_model.specs.Items.{truth_in, number_in, truths_in, numbers_in, numerals_in, terms_in, declared_name, declared_as, declared_by, declared_if, declared, difference_what, order_what, what_of, objective_place, goal_of, name_in};
+ghost use Rattle.typed_model.specs.Items.{declare_name, declare, declare_by, objective_place, goal_of, name_in};
 
 use crate::faults::numeral_in;
 use crate::model::{Decl, Goal, Kind};
-use crate::scope::{Scope, numeral};
+use crate::scope::Scope;
 use crate::statement::Statement;
-use crate::what::{BoolTerm, IntTerm};
-use bee_list::{Apart, Sequence};
 use bumblebee_reader::{Arg, GoalKind, Name, Term};
-use std::alloc::{AllocError, Global};
-
-/// The Boolean term that an argument is.
-pub fn truth_in(scope: &Scope, args: &[Arg], at: usize) -> BoolTerm
-    ensures { result ≡ truth_in scope.now (slice_get args.now at) }
-{
-    match args.get(at) {
-        Some(Arg::One(term)) => scope.truth(term),
-        _ => BoolTerm::Const(false),
-    }
-}
-
-/// The integer term that an argument is.
-pub fn number_in(scope: &Scope, args: &[Arg], at: usize) -> IntTerm
-    ensures { result ≡ number_in scope.now (slice_get args.now at) }
-{
-    match args.get(at) {
-        Some(Arg::One(term)) => scope.number(term),
-        _ => IntTerm::Number(0),
-    }
-}
-
-/// The terms of an argument that is a list.
-fn terms_in(args: &[Arg], at: usize) -> &[Term]
-    ensures { result.now ≡ terms_in (slice_get args.now at) }
-{
-    match args.get(at) {
-        Some(Arg::Many(terms)) => terms.as_slice(),
-        _ => &[],
-    }
-}
-
-/// The Boolean terms of a list.
-fn truths(alloc: Global, scope: &Scope, terms: &[Term]) -> Result<Sequence<BoolTerm>, AllocError>
-    ensures { IfOk result (λ xs. xs ≡ map (truth scope.now) terms.now) }
-{
-    let mut members = Vec::with_capacity(alloc, terms.len())?;
-    for term in terms {
-        members.push(scope.truth(term))?;
-    }
-    Ok(Sequence::from_vec(members))
-}
-
-/// The integer terms of a list.
-fn numbers(alloc: Global, scope: &Scope, terms: &[Term]) -> Result<Sequence<IntTerm>, AllocError>
-    ensures { IfOk result (λ xs. xs ≡ map (number scope.now) terms.now) }
-{
-    let mut members = Vec::with_capacity(alloc, terms.len())?;
-    for term in terms {
-        members.push(scope.number(term))?;
-    }
-    Ok(Sequence::from_vec(members))
-}
-
-/// The numerals of a list.
-fn numerals(alloc: Global, terms: &[Term]) -> Result<Sequence<i64>, AllocError>
-    ensures { IfOk result (λ xs. xs ≡ map numeral terms.now) }
-{
-    let mut members = Vec::with_capacity(alloc, terms.len())?;
-    for term in terms {
-        members.push(numeral(term))?;
-    }
-    Ok(Sequence::from_vec(members))
-}
-
-/// The Boolean terms of an argument.
-pub fn truths_in(
-    alloc: Global,
-    scope: &Scope,
-    args: &[Arg],
-    at: usize,
-) -> Result<Sequence<BoolTerm>, AllocError>
-    ensures { IfOk result (λ xs. xs ≡ truths_in scope.now (slice_get args.now at)) }
-{
-    truths(alloc, scope, terms_in(args, at))
-}
-
-/// The integer terms of an argument.
-pub fn numbers_in(
-    alloc: Global,
-    scope: &Scope,
-    args: &[Arg],
-    at: usize,
-) -> Result<Sequence<IntTerm>, AllocError>
-    ensures { IfOk result (λ xs. xs ≡ numbers_in scope.now (slice_get args.now at)) }
-{
-    numbers(alloc, scope, terms_in(args, at))
-}
-
-/// The Boolean term of an argument, put apart.
-pub fn truth_apart(
-    alloc: Global,
-    scope: &Scope,
-    args: &[Arg],
-    at: usize,
-) -> Result<Apart<BoolTerm>, AllocError>
-    ensures { IfOk result (λ t. t ≡ truth_in scope.now (slice_get args.now at)) }
-{
-    let truth = truth_in(scope, args, at);
-    Apart::new(alloc, truth)
-}
-
-/// The Boolean terms of an argument, put apart.
-pub fn truths_apart(
-    alloc: Global,
-    scope: &Scope,
-    args: &[Arg],
-    at: usize,
-) -> Result<Apart<Sequence<BoolTerm>>, AllocError>
-    ensures { IfOk result (λ xs. xs ≡ truths_in scope.now (slice_get args.now at)) }
-{
-    let members = truths_in(alloc, scope, args, at)?;
-    Apart::new(alloc, members)
-}
-
-/// The integer terms of an argument, put apart.
-pub fn numbers_apart(
-    alloc: Global,
-    scope: &Scope,
-    args: &[Arg],
-    at: usize,
-) -> Result<Apart<Sequence<IntTerm>>, AllocError>
-    ensures { IfOk result (λ xs. xs ≡ numbers_in scope.now (slice_get args.now at)) }
-{
-    let members = numbers_in(alloc, scope, args, at)?;
-    Apart::new(alloc, members)
-}
-
-/// The numerals of an argument.
-pub fn numerals_in(alloc: Global, args: &[Arg], at: usize) -> Result<Sequence<i64>, AllocError>
-    ensures { IfOk result (λ xs. xs ≡ numerals_in (slice_get args.now at)) }
-{
-    numerals(alloc, terms_in(args, at))
-}
+use std::alloc::AllocError;
 
 /// The name that an argument is.
 fn name_in(args: &[Arg], at: usize) -> Option<&Name>
@@ -160,7 +23,7 @@ fn name_in(args: &[Arg], at: usize) -> Option<&Name>
 
 /// Declares a name where it isn't declared.
 fn declare_name(scope: &mut Scope, number: u64, name: &Name, kind: Kind) -> Result<(), AllocError>
-    ensures { OnOk result (scope.new ≡ scope.old ++ declared_name number scope.old name.now kind) }
+    ensures { OnOk result (scope.new ≡ scope.old ++ declare_name number scope.old name.now kind) }
 {
     if scope.place_of(name).is_some() {
         return Ok(());
@@ -177,7 +40,7 @@ fn declare(
     at: usize,
     kind: Kind,
 ) -> Result<(), AllocError>
-    ensures { OnOk result (scope.new ≡ scope.old ++ declared_as number scope.old (name_in (slice_get args.now at)) kind) }
+    ensures { OnOk result (scope.new ≡ scope.old ++ declare number scope.old (name_in (slice_get args.now at)) kind) }
 {
     match name_in(args, at) {
         Some(name) => declare_name(scope, number, name, kind),
@@ -186,14 +49,14 @@ fn declare(
 }
 
 /// Declares what item `number` declares.
-#[tactic(auto, unfolding(crate::specs::Items::declared_by))]
+#[tactic(auto, unfolding(crate::specs::Items::declare_by))]
 pub fn declare_by(
     scope: &mut Scope,
     number: u64,
     statement: Statement,
     args: &[Arg],
 ) -> Result<(), AllocError>
-    ensures { OnOk result (scope.new ≡ scope.old ++ declared_by number scope.old statement args.now) }
+    ensures { OnOk result (scope.new ≡ scope.old ++ declare_by number scope.old statement args.now) }
 {
     match statement {
         Statement::NewBool => declare(scope, number, args, 0, Kind::Bool),

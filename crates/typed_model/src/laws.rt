@@ -1,7 +1,7 @@
 //! Facts about the definitions that crates above may use. Each is the contract of a function that does
 //! nothing.
 
-ghost use Rattle.typed_model.specs.Laws.{HoldsLaw, TypingLaw, LimitLaw, SizeLaw};
+ghost use Rattle.typed_model.specs.Laws.{HoldsLaw, TypingLaw, LimitLaw, SizeLaw, TextSizeLaw, BehindLaw};
 
 /// The test of a statement is true exactly where the statement holds.
 pub fn holds_law()
@@ -13,13 +13,20 @@ pub fn typing_law()
     ensures { TypingLaw }
 {}
 
-/// Where the numerals of the items are in the limit, so are the numbers and domains of their model.
+/// Where the numerals and the terms of the items are in their limits, so are the numbers, domains and lists of their
+/// model.
 pub fn limit_law()
     ensures { LimitLaw }
 {}
 
 /// The model of items is not larger than they are: no item declares or states more than once, and each member
-/// of a list is a term.
+/// of a list is a term. A text's items have no more terms than it has bytes.
 pub fn size_law()
-    ensures { SizeLaw }
+    ensures items { SizeLaw }
+    ensures text { TextSizeLaw }
+{}
+
+/// A statement fits, and holds, the same when declarations and values are added behind.
+pub fn behind_law()
+    ensures { BehindLaw }
 {}

@@ -4,7 +4,9 @@
 //! `specs/Faults.antt`.
 #![tactic(auto)]
 
+mod arguments;
 mod booleans;
+mod call;
 mod check;
 mod fault;
 mod faults;
@@ -18,26 +20,19 @@ mod names;
 mod scope;
 mod signature;
 mod solutions;
-mod stated;
 mod statement;
+mod statements;
 mod table;
 mod taking;
 mod terms;
-#[cfg(test)]
-mod tests;
 mod what;
 
 pub use check::check_types;
 pub use fault::TypeFault;
-pub use laws::{holds_law, limit_law, size_law, typing_law};
+pub use laws::{behind_law, holds_law, limit_law, size_law, typing_law};
 pub use limits::in_limits;
 pub use model::{Assignment, Decl, Goal, Kind, Model, Stmt};
-pub use names::{
-    aggregate, array_operator, array_truth_operator, compare_relation, compare_truth_relation,
-    count_relation, differ, lex, linear_relation, operation, pair_operator, statement_of,
-    sum_relation, weigh_relation,
-};
 pub use solutions::{first_broken, holds, in_domains};
-pub use statement::{Arithmetic, Difference, Extreme, Operator, Order, Relation, Statement};
+pub use statement::{Aggregate, AllDifferent, Arithmetic, Operator, Order, Relation};
 pub use taking::Typing;
 pub use what::{BoolTerm, IntTerm, What};

@@ -1,14 +1,19 @@
-//! Whether the numbers of a model are in the limit of numerals.
+//! Whether the numbers of a model are in the limit of numerals, and its lists in that of a text.
 
-ghost use Rattle.std.specs.Prelude.{◌↔◌, IsTrue};
-ghost use Rattle.typed_model.specs.Limits.{InLimit, AllInLimit, TermInLimit, TermsInLimit, TermsInLimitIf, WhatInLimit, StmtsInLimit, KindInLimit, DeclsInLimit, InLimits};
+ghost use Rattle.std.specs.Prelude.{◌≡◌, ◌≤◌, ◌↔◌, IsTrue};
+ghost use Rattle.typed_model.specs.Arguments.{argument, arguments};
+ghost use Rattle.typed_model.specs.Sizes.{argument_members, arguments_members};
+ghost use Rattle.typed_model.specs.Limits.{InLimit, AllInLimit, TermInLimit, TermsInLimit, ArgumentInLimit, ArgumentsInLimit, WhatInLimit, StmtsInLimit, KindInLimit, DeclsInLimit, InLimits};
 
+use crate::arguments::{Argument, arguments_of};
 use crate::model::{Decl, Kind, Model, Stmt};
 use crate::what::{IntTerm, What};
-use bee_list::{Apart, Sequence};
 
 /// The greatest absolute value of a numeral.
 const LIMIT: i64 = 1_073_741_824;
+
+/// The most members of a statement's lists: as many as a text has bytes.
+const MOST_MEMBERS: usize = 16_777_216;
 
 /// Whether a number is in the limit.
 fn number_in_limit(number: i64) -> bool
@@ -51,102 +56,72 @@ fn terms_in_limit(terms: &[IntTerm]) -> bool
     true
 }
 
-/// Whether the number of each term is, where there is a list.
-fn terms_in_limit_if(terms: &Option<Apart<Sequence<IntTerm>>>) -> bool
-    ensures { IsTrue result ↔ TermsInLimitIf terms.now }
+/// Whether each number of an argument is.
+fn argument_in_limit(lent: Argument<'_>) -> bool
+    ensures { IsTrue result ↔ ArgumentInLimit (argument lent.entry) }
 {
-    match terms {
-        Some(members) => terms_in_limit(members.get().as_slice()),
-        None => true,
+    match lent {
+        Argument::Truth(_) => true,
+        Argument::Number(term) => term_in_limit(term),
+        Argument::Truths(_) => true,
+        Argument::Numbers(terms) => terms_in_limit(terms),
+        Argument::Numerals(numbers) => all_in_limit(numbers),
     }
 }
 
-/// Whether each number of a statement is.
+/// Whether each number of some arguments is.
+fn arguments_in_limit(lents: &[Option<Argument<'_>>]) -> bool
+    ensures { IsTrue result ↔ ArgumentsInLimit (arguments lents.now) }
+{
+    let mut rest = lents;
+    while let [first, others @ ..] = rest {
+        if let Some(lent) = first {
+            if !argument_in_limit(*lent) {
+                return false;
+            }
+        }
+        rest = others;
+    }
+    true
+}
+
+/// How many members an argument has.
+fn members(lent: Argument<'_>) -> usize
+    ensures { result ≡ argument_members (argument lent.entry) }
+{
+    match lent {
+        Argument::Truth(_) => 0,
+        Argument::Number(_) => 0,
+        Argument::Truths(terms) => terms.len(),
+        Argument::Numbers(terms) => terms.len(),
+        Argument::Numerals(numbers) => numbers.len(),
+    }
+}
+
+/// Whether some arguments have no more members than a text may have terms.
+fn members_in_limit(lents: &[Option<Argument<'_>>]) -> bool
+    ensures { IsTrue result ↔ arguments_members (arguments lents.now) ≤ 16777216 }
+{
+    let mut left = MOST_MEMBERS;
+    let mut rest = lents;
+    while let [first, others @ ..] = rest {
+        if let Some(lent) = first {
+            let Some(fewer) = left.checked_sub(members(*lent)) else {
+                return false;
+            };
+            left = fewer;
+        }
+        rest = others;
+    }
+    true
+}
+
+/// Whether each number of a statement is, and how many members it has.
 fn what_in_limit(what: &What) -> bool
     ensures { IsTrue result ↔ WhatInLimit what.now }
 {
-    match what {
-        What::L3 { truth: _, number } => term_in_limit(*number),
-        What::L4 { left: _, right: _ } => true,
-        What::L5 {
-            name: _,
-            left: _,
-            right: _,
-            truth: _,
-        } => true,
-        What::L6 {
-            name: _,
-            members: _,
-        } => true,
-        What::L7 {
-            name: _,
-            members: _,
-            truth: _,
-        } => true,
-        What::L8 {
-            name: _,
-            left,
-            right,
-        } => term_in_limit(*left) && term_in_limit(*right),
-        What::L9 {
-            name: _,
-            left,
-            right,
-            truth: _,
-        } => term_in_limit(*left) && term_in_limit(*right),
-        What::L10 {
-            name: _,
-            members: _,
-            bound,
-        } => term_in_limit(*bound),
-        What::L11 {
-            name: _,
-            coefficients,
-            members: _,
-            bound,
-        } => { all_in_limit(coefficients.as_slice()) && term_in_limit(*bound) }
-        What::L12 {
-            name: _,
-            members,
-            bound,
-        } => { terms_in_limit(members.as_slice()) && term_in_limit(*bound) }
-        What::L13 {
-            name: _,
-            coefficients,
-            members,
-            bound,
-        } => {
-            all_in_limit(coefficients.as_slice())
-                && terms_in_limit(members.as_slice())
-                && term_in_limit(*bound)
-        }
-        What::L14 {
-            name: _,
-            left,
-            right,
-            value,
-        } => { term_in_limit(*left) && term_in_limit(*right) && term_in_limit(*value) }
-        What::L15 { operand, value } => term_in_limit(*operand) && term_in_limit(*value),
-        What::L16 {
-            name: _,
-            members,
-            value,
-        } => { terms_in_limit(members.as_slice()) && term_in_limit(*value) }
-        What::L17 {
-            name: _,
-            members,
-            truth: _,
-            conditions: _,
-        } => { terms_in_limit(members.as_slice()) }
-        What::L18 {
-            name: _,
-            left_truths: _,
-            right_truths: _,
-            left_numbers,
-            right_numbers,
-            truth: _,
-        } => terms_in_limit_if(left_numbers) && terms_in_limit_if(right_numbers),
-    }
+    let lents = arguments_of(what);
+    arguments_in_limit(&lents) && members_in_limit(&lents)
 }
 
 /// Whether each number of each statement is.
@@ -188,8 +163,8 @@ fn decls_in_limit(decls: &[Decl]) -> bool
 }
 
 /// Whether each number of a model, and the bounds of each of its domains, are at most 1,073,741,824 in
-/// absolute value. Those of a model that was read are, since a text's numerals are. It is linear in the
-/// model.
+/// absolute value, and each statement's lists have at most 16,777,216 members together. It is so of a model that was
+/// read, since a text's numerals and its length are bounded. It is linear in the model.
 pub fn in_limits(model: &Model) -> bool
     ensures { IsTrue result ↔ InLimits model.now }
 {

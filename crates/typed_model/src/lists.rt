@@ -5,7 +5,7 @@ ghost use Rattle.std.specs.Ordering.{int_eq};
 ghost use Rattle.typed_model.specs.Terms.{truth_of, number_of, truths_of, numbers_of, as_number};
 ghost use Rattle.typed_model.specs.Lists.{differs_from, all_differ, differs_where, differ_where, in_order};
 
-use crate::terms::{number_of, truth_of};
+use crate::terms::{as_number, number_of, truth_of};
 use crate::what::{BoolTerm, IntTerm};
 
 /// Whether no member of a list has a value.
@@ -96,13 +96,6 @@ pub fn numbers_in_order(strict: bool, values: &[i64], left: &[IntTerm], right: &
         }
     }
     left.len() == right.len() && !strict
-}
-
-/// A truth value as a number.
-fn as_number(truth: bool) -> i64
-    ensures { result ≡ as_number truth }
-{
-    if truth { 1 } else { 0 }
 }
 
 /// Whether two lists of Booleans are in order, false before true.

@@ -1,11 +1,11 @@
 //! Which name is which statement.
 
 ghost use Rattle.std.specs.Prelude.{◌≡◌};
-ghost use Rattle.std.specs.Option.{option_copied};
+ghost use Rattle.std.specs.Option.{option_copied, option_and_then};
 ghost use Rattle.std.specs.Str.{bytes_eq};
-ghost use Rattle.typed_model.specs.Names.{after, between, relation_of, operator_of, arithmetic_of, extreme_of, difference_of, order_of, pair_operator, array_operator, array_truth_operator, compare_relation, compare_truth_relation, count_relation, weigh_relation, sum_relation, linear_relation, operation, aggregate, differ, lex, lone, boolean, comparison, integral, statement_of};
+ghost use Rattle.typed_model.specs.Names.{after, between, relation_of, operator_of, arithmetic_of, aggregate_of, all_different_of, order_of, lone_statement, operator_statement, relation_statement, operation_statement, statement_of};
 
-use crate::statement::{Arithmetic, Difference, Extreme, Operator, Order, Relation, Statement};
+use crate::statement::{Aggregate, AllDifferent, Arithmetic, Operator, Order, Relation, Statement};
 
 /// What follows a front of a name.
 fn after<'a>(name: &'a [u8], front: &[u8]) -> Option<&'a [u8]>
@@ -32,9 +32,10 @@ pub fn is(name: &[u8], word: &[u8]) -> bool
 }
 
 /// The relation of a word.
-fn relation_of(word: &[u8]) -> Option<Relation>
-    ensures { result ≡ relation_of word.now }
+fn relation_of(word: Option<&[u8]>) -> Option<Relation>
+    ensures { result ≡ option_and_then relation_of (option_copied word.entry) }
 {
+    let word = word?;
     if is(word, b"leq") {
         return Some(Relation::Leq);
     }
@@ -57,9 +58,10 @@ fn relation_of(word: &[u8]) -> Option<Relation>
 }
 
 /// The operator of a word.
-fn operator_of(word: &[u8]) -> Option<Operator>
-    ensures { result ≡ operator_of word.now }
+fn operator_of(word: Option<&[u8]>) -> Option<Operator>
+    ensures { result ≡ option_and_then operator_of (option_copied word.entry) }
 {
+    let word = word?;
     if is(word, b"or") {
         return Some(Operator::Or);
     }
@@ -76,9 +78,10 @@ fn operator_of(word: &[u8]) -> Option<Operator>
 }
 
 /// The operation on two integers of a word.
-fn arithmetic_of(word: &[u8]) -> Option<Arithmetic>
-    ensures { result ≡ arithmetic_of word.now }
+fn arithmetic_of(word: Option<&[u8]>) -> Option<Arithmetic>
+    ensures { result ≡ option_and_then arithmetic_of (option_copied word.entry) }
 {
+    let word = word?;
     if is(word, b"plus") {
         return Some(Arithmetic::Plus);
     }
@@ -101,41 +104,44 @@ fn arithmetic_of(word: &[u8]) -> Option<Arithmetic>
 }
 
 /// The operation on a list of a word.
-fn extreme_of(word: &[u8]) -> Option<Extreme>
-    ensures { result ≡ extreme_of word.now }
+fn aggregate_of(word: Option<&[u8]>) -> Option<Aggregate>
+    ensures { result ≡ option_and_then aggregate_of (option_copied word.entry) }
 {
+    let word = word?;
     if is(word, b"plus") {
-        return Some(Extreme::Plus);
+        return Some(Aggregate::Plus);
     }
     if is(word, b"max") {
-        return Some(Extreme::Max);
+        return Some(Aggregate::Max);
     }
     if is(word, b"min") {
-        return Some(Extreme::Min);
+        return Some(Aggregate::Min);
     }
     None
 }
 
 /// Which members differ, by the last word of a name.
-fn difference_of(word: &[u8]) -> Option<Difference>
-    ensures { result ≡ difference_of word.now }
+fn all_different_of(word: Option<&[u8]>) -> Option<AllDifferent>
+    ensures { result ≡ option_and_then all_different_of (option_copied word.entry) }
 {
+    let word = word?;
     if is(word, b"allDiff") {
-        return Some(Difference::All);
+        return Some(AllDifferent::Plain);
     }
     if is(word, b"allDiff_reif") {
-        return Some(Difference::Truth);
+        return Some(AllDifferent::Reified);
     }
     if is(word, b"allDiffCond") {
-        return Some(Difference::Conditional);
+        return Some(AllDifferent::Conditional);
     }
     None
 }
 
 /// How lists are ordered, by the last word of a name.
-fn order_of(of_booleans: bool, word: &[u8]) -> Option<Order>
-    ensures { result ≡ order_of of_booleans word.now }
+fn order_of(of_booleans: bool, word: Option<&[u8]>) -> Option<Order>
+    ensures { result ≡ option_and_then (order_of of_booleans) (option_copied word.entry) }
 {
+    let word = word?;
     if is(word, b"lex") {
         return Some(Order {
             of_booleans,
@@ -167,158 +173,10 @@ fn order_of(of_booleans: bool, word: &[u8]) -> Option<Order>
     None
 }
 
-/// The operator of a name `bool_OP_reif`.
-#[tactic(auto, unfolding(crate::specs::Names::pair_operator))]
-pub fn pair_operator(name: &[u8]) -> Option<Operator>
-    ensures { result ≡ pair_operator name.now }
-{
-    match between(name, b"bool_", b"_reif") {
-        Some(word) => operator_of(word),
-        None => None,
-    }
-}
-
-/// The operator of a name `bool_array_OP`.
-#[tactic(auto, unfolding(crate::specs::Names::array_operator))]
-pub fn array_operator(name: &[u8]) -> Option<Operator>
-    ensures { result ≡ array_operator name.now }
-{
-    match after(name, b"bool_array_") {
-        Some(word) => operator_of(word),
-        None => None,
-    }
-}
-
-/// The operator of a name `bool_array_OP_reif`.
-#[tactic(auto, unfolding(crate::specs::Names::array_truth_operator))]
-pub fn array_truth_operator(name: &[u8]) -> Option<Operator>
-    ensures { result ≡ array_truth_operator name.now }
-{
-    match between(name, b"bool_array_", b"_reif") {
-        Some(word) => operator_of(word),
-        None => None,
-    }
-}
-
-/// The relation of a name `int_REL`.
-#[tactic(auto, unfolding(crate::specs::Names::compare_relation))]
-pub fn compare_relation(name: &[u8]) -> Option<Relation>
-    ensures { result ≡ compare_relation name.now }
-{
-    match after(name, b"int_") {
-        Some(word) => relation_of(word),
-        None => None,
-    }
-}
-
-/// The relation of a name `int_REL_reif`.
-#[tactic(auto, unfolding(crate::specs::Names::compare_truth_relation))]
-pub fn compare_truth_relation(name: &[u8]) -> Option<Relation>
-    ensures { result ≡ compare_truth_relation name.now }
-{
-    match between(name, b"int_", b"_reif") {
-        Some(word) => relation_of(word),
-        None => None,
-    }
-}
-
-/// The relation of a name `bool_array_sum_REL`.
-#[tactic(auto, unfolding(crate::specs::Names::count_relation))]
-pub fn count_relation(name: &[u8]) -> Option<Relation>
-    ensures { result ≡ count_relation name.now }
-{
-    match after(name, b"bool_array_sum_") {
-        Some(word) => relation_of(word),
-        None => None,
-    }
-}
-
-/// The relation of a name `bool_array_pb_REL`.
-#[tactic(auto, unfolding(crate::specs::Names::weigh_relation))]
-pub fn weigh_relation(name: &[u8]) -> Option<Relation>
-    ensures { result ≡ weigh_relation name.now }
-{
-    match after(name, b"bool_array_pb_") {
-        Some(word) => relation_of(word),
-        None => None,
-    }
-}
-
-/// The relation of a name `int_array_sum_REL`.
-#[tactic(auto, unfolding(crate::specs::Names::sum_relation))]
-pub fn sum_relation(name: &[u8]) -> Option<Relation>
-    ensures { result ≡ sum_relation name.now }
-{
-    match after(name, b"int_array_sum_") {
-        Some(word) => relation_of(word),
-        None => None,
-    }
-}
-
-/// The relation of a name `int_array_lin_REL`.
-#[tactic(auto, unfolding(crate::specs::Names::linear_relation))]
-pub fn linear_relation(name: &[u8]) -> Option<Relation>
-    ensures { result ≡ linear_relation name.now }
-{
-    match after(name, b"int_array_lin_") {
-        Some(word) => relation_of(word),
-        None => None,
-    }
-}
-
-/// The operation of a name such as `int_plus`.
-#[tactic(auto, unfolding(crate::specs::Names::operation))]
-pub fn operation(name: &[u8]) -> Option<Arithmetic>
-    ensures { result ≡ operation name.now }
-{
-    match after(name, b"int_") {
-        Some(word) => arithmetic_of(word),
-        None => None,
-    }
-}
-
-/// The operation of a name such as `int_array_max`.
-#[tactic(auto, unfolding(crate::specs::Names::aggregate))]
-pub fn aggregate(name: &[u8]) -> Option<Extreme>
-    ensures { result ≡ aggregate name.now }
-{
-    match after(name, b"int_array_") {
-        Some(word) => extreme_of(word),
-        None => None,
-    }
-}
-
-/// Which members differ, of a name such as `int_array_allDiff`.
-#[tactic(auto, unfolding(crate::specs::Names::differ))]
-pub fn differ(name: &[u8]) -> Option<Difference>
-    ensures { result ≡ differ name.now }
-{
-    match after(name, b"int_array_") {
-        Some(word) => difference_of(word),
-        None => None,
-    }
-}
-
-/// The order of a name such as `bool_arrays_lex`.
-#[tactic(auto, unfolding(crate::specs::Names::lex))]
-pub fn lex(name: &[u8]) -> Option<Order>
-    ensures { result ≡ lex name.now }
-{
-    if let Some(word) = after(name, b"bool_arrays_") {
-        if let Some(order) = order_of(true, word) {
-            return Some(order);
-        }
-    }
-    match after(name, b"int_arrays_") {
-        Some(word) => order_of(false, word),
-        None => None,
-    }
-}
-
 /// The names that stand alone in their lines.
-#[tactic(auto, unfolding(crate::specs::Names::lone))]
-fn lone(name: &[u8]) -> Option<Statement>
-    ensures { result ≡ lone name.now }
+#[tactic(auto, unfolding(crate::specs::Names::lone_statement))]
+fn lone_statement(name: &[u8]) -> Option<Statement>
+    ensures { result ≡ lone_statement name.now }
 {
     if is(name, b"new_bool") {
         return Some(Statement::NewBool);
@@ -338,67 +196,64 @@ fn lone(name: &[u8]) -> Option<Statement>
     None
 }
 
-/// The statements on Booleans alone whose names have an operator.
-#[tactic(auto, unfolding(crate::specs::Names::boolean))]
-fn boolean(name: &[u8]) -> Option<Statement>
-    ensures { result ≡ boolean name.now }
+/// The statements whose names have an operator.
+#[tactic(auto, unfolding(crate::specs::Names::operator_statement))]
+fn operator_statement(name: &[u8]) -> Option<Statement>
+    ensures { result ≡ operator_statement name.now }
 {
-    if let Some(part) = pair_operator(name) {
-        return Some(Statement::Pair(part));
+    if let Some(operator) = operator_of(between(name, b"bool_", b"_reif")) {
+        return Some(Statement::PairReified(operator));
     }
-    if let Some(part) = array_operator(name) {
-        return Some(Statement::Array(part));
+    if let Some(operator) = operator_of(after(name, b"bool_array_")) {
+        return Some(Statement::Array(operator));
     }
-    match array_truth_operator(name) {
-        Some(part) => Some(Statement::ArrayTruth(part)),
-        None => None,
-    }
+    let operator = operator_of(between(name, b"bool_array_", b"_reif"))?;
+    Some(Statement::ArrayReified(operator))
 }
 
-/// The comparisons of integers, counts and weights.
-#[tactic(auto, unfolding(crate::specs::Names::comparison))]
-fn comparison(name: &[u8]) -> Option<Statement>
-    ensures { result ≡ comparison name.now }
+/// The statements whose names have a relation.
+#[tactic(auto, unfolding(crate::specs::Names::relation_statement))]
+fn relation_statement(name: &[u8]) -> Option<Statement>
+    ensures { result ≡ relation_statement name.now }
 {
-    if let Some(part) = compare_relation(name) {
-        return Some(Statement::Compare(part));
+    if let Some(relation) = relation_of(after(name, b"int_")) {
+        return Some(Statement::Compare(relation));
     }
-    if let Some(part) = compare_truth_relation(name) {
-        return Some(Statement::CompareTruth(part));
+    if let Some(relation) = relation_of(between(name, b"int_", b"_reif")) {
+        return Some(Statement::CompareReified(relation));
     }
-    if let Some(part) = count_relation(name) {
-        return Some(Statement::Count(part));
+    if let Some(relation) = relation_of(after(name, b"bool_array_sum_")) {
+        return Some(Statement::Count(relation));
     }
-    match weigh_relation(name) {
-        Some(part) => Some(Statement::Weigh(part)),
-        None => None,
+    if let Some(relation) = relation_of(after(name, b"bool_array_pb_")) {
+        return Some(Statement::PseudoBoolean(relation));
     }
+    if let Some(relation) = relation_of(after(name, b"int_array_sum_")) {
+        return Some(Statement::Sum(relation));
+    }
+    let relation = relation_of(after(name, b"int_array_lin_"))?;
+    Some(Statement::Linear(relation))
 }
 
-/// The other statements on integers, and those on two lists.
-#[tactic(auto, unfolding(crate::specs::Names::integral))]
-fn integral(name: &[u8]) -> Option<Statement>
-    ensures { result ≡ integral name.now }
+/// The statements whose names have an operation, a kind of all-different, or an order.
+#[tactic(auto, unfolding(crate::specs::Names::operation_statement))]
+fn operation_statement(name: &[u8]) -> Option<Statement>
+    ensures { result ≡ operation_statement name.now }
 {
-    if let Some(part) = sum_relation(name) {
-        return Some(Statement::Sum(part));
+    if let Some(operation) = arithmetic_of(after(name, b"int_")) {
+        return Some(Statement::Operation(operation));
     }
-    if let Some(part) = linear_relation(name) {
-        return Some(Statement::Linear(part));
+    if let Some(operation) = aggregate_of(after(name, b"int_array_")) {
+        return Some(Statement::Aggregate(operation));
     }
-    if let Some(part) = operation(name) {
-        return Some(Statement::Operation(part));
+    if let Some(kind) = all_different_of(after(name, b"int_array_")) {
+        return Some(Statement::AllDifferent(kind));
     }
-    if let Some(part) = aggregate(name) {
-        return Some(Statement::Aggregate(part));
+    if let Some(order) = order_of(true, after(name, b"bool_arrays_")) {
+        return Some(Statement::Lex(order));
     }
-    if let Some(part) = differ(name) {
-        return Some(Statement::Differ(part));
-    }
-    match lex(name) {
-        Some(part) => Some(Statement::Lex(part)),
-        None => None,
-    }
+    let order = order_of(false, after(name, b"int_arrays_"))?;
+    Some(Statement::Lex(order))
 }
 
 /// The declaration or statement of a name; `None` where the language has none of that name. It compares
@@ -407,14 +262,14 @@ fn integral(name: &[u8]) -> Option<Statement>
 pub fn statement_of(name: &[u8]) -> Option<Statement>
     ensures { result ≡ statement_of name.now }
 {
-    if let Some(found) = lone(name) {
+    if let Some(found) = lone_statement(name) {
         return Some(found);
     }
-    if let Some(found) = boolean(name) {
+    if let Some(found) = operator_statement(name) {
         return Some(found);
     }
-    if let Some(found) = comparison(name) {
+    if let Some(found) = relation_statement(name) {
         return Some(found);
     }
-    integral(name)
+    operation_statement(name)
 }

@@ -244,7 +244,7 @@ fn sort_of(kind: Kind) -> Sort
 {
     match kind {
         Kind::Bool => Sort::Bool,
-        Kind::Int { low: _, high: _ } => Sort::Int,
+        Kind::Int { .. } => Sort::Int,
     }
 }
 
@@ -252,22 +252,14 @@ fn sort_of(kind: Kind) -> Sort
 fn sort_is_bool(sort: Option<Sort>) -> bool
     ensures { result ≡ sort_is_bool sort }
 {
-    match sort {
-        Some(Sort::Bool) => true,
-        Some(Sort::Int) => false,
-        None => false,
-    }
+    matches!(sort, Some(Sort::Bool))
 }
 
 /// Whether it is a declared integer's sort.
 fn sort_is_int(sort: Option<Sort>) -> bool
     ensures { result ≡ sort_is_int sort }
 {
-    match sort {
-        Some(Sort::Bool) => false,
-        Some(Sort::Int) => true,
-        None => false,
-    }
+    matches!(sort, Some(Sort::Int))
 }
 
 /// Whether a name is `true`.
@@ -288,22 +280,14 @@ pub fn is_constant(name: &[u8]) -> bool
 pub fn is_bool(kind: Option<Kind>) -> bool
     ensures { result ≡ is_bool kind }
 {
-    match kind {
-        Some(Kind::Bool) => true,
-        Some(Kind::Int { low: _, high: _ }) => false,
-        None => false,
-    }
+    matches!(kind, Some(Kind::Bool))
 }
 
 /// Whether it is a declared integer.
 pub fn is_int(kind: Option<Kind>) -> bool
     ensures { result ≡ is_int kind }
 {
-    match kind {
-        Some(Kind::Bool) => false,
-        Some(Kind::Int { low: _, high: _ }) => true,
-        None => false,
-    }
+    matches!(kind, Some(Kind::Int { .. }))
 }
 
 /// The least value of a declared integer.
@@ -311,9 +295,8 @@ pub fn low_of(kind: Option<Kind>) -> i64
     ensures { result ≡ low_of kind }
 {
     match kind {
-        Some(Kind::Bool) => 0,
-        Some(Kind::Int { low, high: _ }) => low,
-        None => 0,
+        Some(Kind::Int { low, .. }) => low,
+        _ => 0,
     }
 }
 
@@ -321,11 +304,7 @@ pub fn low_of(kind: Option<Kind>) -> i64
 pub fn is_numeral(term: &Term) -> bool
     ensures { result ≡ is_numeral term.now }
 {
-    match term {
-        Term::Plain(_) => false,
-        Term::Minus(_) => false,
-        Term::Number(_) => true,
-    }
+    matches!(term, Term::Number(_))
 }
 
 /// Whether each term is a numeral.
@@ -345,8 +324,7 @@ pub fn numeral(term: &Term) -> i64
     ensures { result ≡ numeral term.now }
 {
     match term {
-        Term::Plain(_) => 0,
-        Term::Minus(_) => 0,
         Term::Number(number) => *number,
+        _ => 0,
     }
 }

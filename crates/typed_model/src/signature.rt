@@ -1,9 +1,9 @@
 //! Which arguments each declaration and statement takes.
 
 ghost use Rattle.std.specs.Prelude.{◌≡◌};
-ghost use Rattle.typed_model.specs.Signatures.{signature, differ_signature, lex_signature};
+ghost use Rattle.typed_model.specs.Signatures.{signature, all_different_signature, lex_signature};
 
-use crate::statement::{Difference, Order, Statement};
+use crate::statement::{AllDifferent, Order, Statement};
 
 /// What an argument is to be.
 #[derive(Clone, Copy, Debug)]
@@ -27,13 +27,13 @@ pub enum Wanted {
 }
 
 /// The arguments of a statement that members differ.
-fn differ_signature(difference: Difference) -> &'static [Wanted]
-    ensures { result.now ≡ differ_signature difference }
+fn all_different_signature(all_different: AllDifferent) -> &'static [Wanted]
+    ensures { result.now ≡ all_different_signature all_different }
 {
-    match difference {
-        Difference::All => &[Wanted::Numbers],
-        Difference::Truth => &[Wanted::Numbers, Wanted::Truth],
-        Difference::Conditional => &[Wanted::Numbers, Wanted::Truths],
+    match all_different {
+        AllDifferent::Plain => &[Wanted::Numbers],
+        AllDifferent::Reified => &[Wanted::Numbers, Wanted::Truth],
+        AllDifferent::Conditional => &[Wanted::Numbers, Wanted::Truths],
     }
 }
 
@@ -65,19 +65,19 @@ pub fn signature(statement: Statement) -> &'static [Wanted]
         Statement::NewInt => &[Wanted::NewName, Wanted::Numeral, Wanted::Numeral],
         Statement::BoolToInt => &[Wanted::Truth, Wanted::NewInteger],
         Statement::BoolEq => &[Wanted::Truth, Wanted::Truth],
-        Statement::Pair(_) => &[Wanted::Truth, Wanted::Truth, Wanted::Truth],
+        Statement::PairReified(_) => &[Wanted::Truth, Wanted::Truth, Wanted::Truth],
         Statement::Array(_) => &[Wanted::Truths],
-        Statement::ArrayTruth(_) => &[Wanted::Truths, Wanted::Truth],
+        Statement::ArrayReified(_) => &[Wanted::Truths, Wanted::Truth],
         Statement::Compare(_) => &[Wanted::Number, Wanted::Number],
-        Statement::CompareTruth(_) => &[Wanted::Number, Wanted::Number, Wanted::Truth],
+        Statement::CompareReified(_) => &[Wanted::Number, Wanted::Number, Wanted::Truth],
         Statement::Count(_) => &[Wanted::Truths, Wanted::Number],
-        Statement::Weigh(_) => &[Wanted::Numerals, Wanted::Truths, Wanted::Number],
+        Statement::PseudoBoolean(_) => &[Wanted::Numerals, Wanted::Truths, Wanted::Number],
         Statement::Sum(_) => &[Wanted::Numbers, Wanted::Number],
         Statement::Linear(_) => &[Wanted::Numerals, Wanted::Numbers, Wanted::Number],
         Statement::Operation(_) => &[Wanted::Number, Wanted::Number, Wanted::Number],
         Statement::Absolute => &[Wanted::Number, Wanted::Number],
         Statement::Aggregate(_) => &[Wanted::Numbers, Wanted::Number],
-        Statement::Differ(difference) => differ_signature(difference),
+        Statement::AllDifferent(all_different) => all_different_signature(all_different),
         Statement::Lex(order) => lex_signature(order),
     }
 }

@@ -49,7 +49,7 @@ pub enum Arithmetic {
 
 /// An operation on a list of integers.
 #[derive(Clone, Copy, Debug)]
-pub enum Extreme {
+pub enum Aggregate {
     /// The sum.
     Plus,
     /// The greatest member.
@@ -60,11 +60,11 @@ pub enum Extreme {
 
 /// Which members of a list of integers differ.
 #[derive(Clone, Copy, Debug)]
-pub enum Difference {
+pub enum AllDifferent {
     /// Members at different places.
-    All,
+    Plain,
     /// A Boolean is the truth of that.
-    Truth,
+    Reified,
     /// Members at two places whose conditions are both true.
     Conditional,
 }
@@ -92,19 +92,19 @@ pub enum Statement {
     /// `bool_eq`
     BoolEq,
     /// `bool_OP_reif`
-    Pair(Operator),
+    PairReified(Operator),
     /// `bool_array_OP`
     Array(Operator),
     /// `bool_array_OP_reif`
-    ArrayTruth(Operator),
+    ArrayReified(Operator),
     /// `int_REL`
     Compare(Relation),
     /// `int_REL_reif`
-    CompareTruth(Relation),
+    CompareReified(Relation),
     /// `bool_array_sum_REL`
     Count(Relation),
     /// `bool_array_pb_REL`
-    Weigh(Relation),
+    PseudoBoolean(Relation),
     /// `int_array_sum_REL`
     Sum(Relation),
     /// `int_array_lin_REL`
@@ -114,9 +114,9 @@ pub enum Statement {
     /// `int_abs`
     Absolute,
     /// `int_array_plus`, `int_array_max`, `int_array_min`
-    Aggregate(Extreme),
+    Aggregate(Aggregate),
     /// `int_array_allDiff`, `int_array_allDiff_reif`, `int_array_allDiffCond`
-    Differ(Difference),
+    AllDifferent(AllDifferent),
     /// `bool_arrays_lex`, `int_arrays_lex`, with `Lt` and `_reif`
     Lex(Order),
 }

@@ -1,25 +1,19 @@
 //! Whether statements hold under an assignment.
 
-ghost use Rattle.std.specs.Prelude.{◌≡◌, ◌↔◌, ◌<◌, length, IsTrue, IsNone, IfSome, slice_index_or, slice_get, Some};
-ghost use Rattle.std.specs.Option.{option_map};
-ghost use Rattle.typed_model.specs.declared.what.What.TheVariants.{L3, L4, L5, L6, L7, L8, L9, L10, L11, L12, L13, L14, L15, L16, L17, L18};
-ghost use Rattle.typed_model.specs.Terms.{truths_of, numbers_of};
-ghost use Rattle.typed_model.specs.Holds.{Holds, holds, same, truth_or_true, terms_or_none, differs, ordered};
-ghost use Rattle.typed_model.specs.Limits.{AllInLimit, TermsInLimit, WhatInLimit};
+ghost use Rattle.std.specs.Prelude.{◌≡◌, pos, unsigned_abs};
+ghost use Rattle.std.specs.Ordering.{int_eq};
+ghost use Rattle.typed_model.specs.Terms.{truth_of, number_of, truths_of, numbers_of, as_number};
+ghost use Rattle.typed_model.specs.Integers.{relates};
+ghost use Rattle.typed_model.specs.Holds.{holds, same, truth_or_true, terms_or_none, members_differ, lists_in_order};
+ghost use Rattle.typed_model.specs.Limits.{AllInLimit, WhatInLimit};
 
-use crate::booleans::{combined, count_true};
-use crate::integers::{gives, linear_sum, relates, sums, total, weight_of_true};
+use crate::booleans::{combine, count_true};
+use crate::integers::{gives, is_aggregate, linear_sum, relates, total, weight_of_true};
 use crate::lists::{all_differ, differ_where, numbers_in_order, truths_in_order};
-use crate::names::{
-    aggregate, array_operator, array_truth_operator, compare_relation, compare_truth_relation,
-    count_relation, differ, lex, linear_relation, operation, pair_operator, sum_relation,
-    weigh_relation,
-};
-use crate::statement::{Difference, Order};
-use crate::terms::{number_of, truth_of};
+use crate::statement::{AllDifferent, Order, Relation};
+use crate::terms::{as_number, number_of, truth_of};
 use crate::what::{BoolTerm, IntTerm, What};
 use bee_list::{Apart, Sequence};
-use bumblebee_reader::Name;
 
 /// Whether two truth values are equal.
 fn same(left: bool, right: bool) -> bool
@@ -28,199 +22,25 @@ fn same(left: bool, right: bool) -> bool
     if left { right } else { !right }
 }
 
-#[tactic(auto, unfolding(crate::specs::Holds::holds))]
-fn bool_to_int(values: &[i64], truth: BoolTerm, number: IntTerm) -> bool
-    ensures { result ≡ holds values.now (L3 truth number) }
+/// Whether a number stands in a relation to the value of a term.
+fn relates_to(relation: Relation, number: i128, values: &[i64], bound: IntTerm) -> bool
+    ensures { result ≡ relates relation number (number_of values.now bound) }
 {
-    number_of(values, number) == if truth_of(values, truth) { 1 } else { 0 }
+    relates(relation, number, i128::from(number_of(values, bound)))
 }
 
-#[tactic(auto, unfolding(crate::specs::Holds::holds))]
-fn bool_eq(values: &[i64], left: BoolTerm, right: BoolTerm) -> bool
-    ensures { result ≡ holds values.now (L4 left right) }
+/// Whether the values of two terms stand in a relation.
+fn compares(relation: Relation, values: &[i64], left: IntTerm, right: IntTerm) -> bool
+    ensures { result ≡ relates relation (number_of values.now left) (number_of values.now right) }
 {
-    same(truth_of(values, left), truth_of(values, right))
+    relates_to(relation, i128::from(number_of(values, left)), values, right)
 }
 
-#[tactic(auto, unfolding(crate::specs::Holds::holds))]
-fn pair(values: &[i64], name: &Name, left: BoolTerm, right: BoolTerm, truth: BoolTerm) -> bool
-    ensures { result ≡ holds values.now (L5 name.now left right truth) }
-{
-    match pair_operator(name.as_bytes()) {
-        Some(operator) => same(
-            truth_of(values, truth),
-            combined(operator, values, &[left, right]),
-        ),
-        None => false,
-    }
-}
-
-#[tactic(auto, unfolding(crate::specs::Holds::holds))]
-fn array(values: &[i64], name: &Name, members: &Sequence<BoolTerm>) -> bool
-    ensures { result ≡ holds values.now (L6 name.now members.now) }
-{
-    match array_operator(name.as_bytes()) {
-        Some(operator) => combined(operator, values, members.as_slice()),
-        None => false,
-    }
-}
-
-#[tactic(auto, unfolding(crate::specs::Holds::holds))]
-fn array_truth(values: &[i64], name: &Name, members: &Sequence<BoolTerm>, truth: BoolTerm) -> bool
-    ensures { result ≡ holds values.now (L7 name.now members.now truth) }
-{
-    match array_truth_operator(name.as_bytes()) {
-        Some(operator) => same(
-            truth_of(values, truth),
-            combined(operator, values, members.as_slice()),
-        ),
-        None => false,
-    }
-}
-
-#[tactic(auto, unfolding(crate::specs::Holds::holds))]
-fn compare(values: &[i64], name: &Name, left: IntTerm, right: IntTerm) -> bool
-    ensures { result ≡ holds values.now (L8 name.now left right) }
-{
-    match compare_relation(name.as_bytes()) {
-        Some(relation) => relates(
-            relation,
-            i128::from(number_of(values, left)),
-            i128::from(number_of(values, right)),
-        ),
-        None => false,
-    }
-}
-
-#[tactic(auto, unfolding(crate::specs::Holds::holds))]
-fn compare_truth(
-    values: &[i64],
-    name: &Name,
-    left: IntTerm,
-    right: IntTerm,
-    truth: BoolTerm,
-) -> bool
-    ensures { result ≡ holds values.now (L9 name.now left right truth) }
-{
-    match compare_truth_relation(name.as_bytes()) {
-        Some(relation) => same(
-            truth_of(values, truth),
-            relates(
-                relation,
-                i128::from(number_of(values, left)),
-                i128::from(number_of(values, right)),
-            ),
-        ),
-        None => false,
-    }
-}
-
-#[tactic(auto, unfolding(crate::specs::Holds::holds))]
-fn count(values: &[i64], name: &Name, members: &Sequence<BoolTerm>, bound: IntTerm) -> bool
-    ensures { result ≡ holds values.now (L10 name.now members.now bound) }
-{
-    match count_relation(name.as_bytes()) {
-        Some(relation) => relates(
-            relation,
-            count_true(values, members.as_slice()) as i128,
-            i128::from(number_of(values, bound)),
-        ),
-        None => false,
-    }
-}
-
-#[tactic(auto, unfolding(crate::specs::Holds::holds))]
-fn weigh(
-    values: &[i64],
-    name: &Name,
-    coefficients: &Sequence<i64>,
-    members: &Sequence<BoolTerm>,
-    bound: IntTerm,
-) -> bool
-    ensures { result ≡ holds values.now (L11 name.now coefficients.now members.now bound) }
-{
-    match weigh_relation(name.as_bytes()) {
-        Some(relation) => relates(
-            relation,
-            weight_of_true(values, coefficients.as_slice(), members.as_slice()),
-            i128::from(number_of(values, bound)),
-        ),
-        None => false,
-    }
-}
-
-#[tactic(auto, unfolding(crate::specs::Holds::holds))]
-fn sum(values: &[i64], name: &Name, members: &Sequence<IntTerm>, bound: IntTerm) -> bool
-    ensures { result ≡ holds values.now (L12 name.now members.now bound) }
-{
-    match sum_relation(name.as_bytes()) {
-        Some(relation) => relates(
-            relation,
-            total(values, members.as_slice()),
-            i128::from(number_of(values, bound)),
-        ),
-        None => false,
-    }
-}
-
-#[tactic(auto, unfolding(crate::specs::Holds::holds))]
-fn linear(
-    values: &[i64],
-    name: &Name,
-    coefficients: &Sequence<i64>,
-    members: &Sequence<IntTerm>,
-    bound: IntTerm,
-) -> bool
-    requires coefficients { AllInLimit coefficients.now }
-    requires members { TermsInLimit members.now }
-    requires values { AllInLimit values.now }
-    ensures { result ≡ holds values.now (L13 name.now coefficients.now members.now bound) }
-{
-    match linear_relation(name.as_bytes()) {
-        Some(relation) => relates(
-            relation,
-            linear_sum(values, coefficients.as_slice(), members.as_slice()),
-            i128::from(number_of(values, bound)),
-        ),
-        None => false,
-    }
-}
-
-#[tactic(auto, unfolding(crate::specs::Holds::holds))]
-fn operate(values: &[i64], name: &Name, left: IntTerm, right: IntTerm, value: IntTerm) -> bool
-    ensures { result ≡ holds values.now (L14 name.now left right value) }
-{
-    match operation(name.as_bytes()) {
-        Some(operation) => gives(
-            operation,
-            number_of(values, left),
-            number_of(values, right),
-            number_of(values, value),
-        ),
-        None => false,
-    }
-}
-
-#[tactic(auto, unfolding(crate::specs::Holds::holds))]
-fn absolute(values: &[i64], operand: IntTerm, value: IntTerm) -> bool
-    ensures { result ≡ holds values.now (L15 operand value) }
+/// Whether the value of a term is the absolute value of another's.
+fn is_absolute(values: &[i64], operand: IntTerm, value: IntTerm) -> bool
+    ensures { result ≡ int_eq (number_of values.now value) (pos (unsigned_abs (number_of values.now operand))) }
 {
     i128::from(number_of(values, value)) == i128::from(number_of(values, operand).unsigned_abs())
-}
-
-#[tactic(auto, unfolding(crate::specs::Holds::holds))]
-fn aggregates(values: &[i64], name: &Name, members: &Sequence<IntTerm>, value: IntTerm) -> bool
-    ensures { result ≡ holds values.now (L16 name.now members.now value) }
-{
-    match aggregate(name.as_bytes()) {
-        Some(operation) => sums(
-            operation,
-            values,
-            members.as_slice(),
-            number_of(values, value),
-        ),
-        None => false,
-    }
 }
 
 /// The truth value of a term that may be left out; one that is left out is true.
@@ -244,41 +64,19 @@ fn terms<T>(list: &Option<Apart<Sequence<T>>>) -> &[T]
 }
 
 /// Which members differ.
-fn differs(
-    difference: Difference,
+fn members_differ(
+    kind: AllDifferent,
     values: &[i64],
     members: &[IntTerm],
     truth: bool,
     conditions: &[BoolTerm],
 ) -> bool
-    ensures { result ≡ differs difference (numbers_of values.now members.now) truth (truths_of values.now conditions.now) }
+    ensures { result ≡ members_differ kind (numbers_of values.now members.now) truth (truths_of values.now conditions.now) }
 {
-    match difference {
-        Difference::All => all_differ(values, members),
-        Difference::Truth => same(truth, all_differ(values, members)),
-        Difference::Conditional => differ_where(values, members, conditions),
-    }
-}
-
-#[tactic(auto, unfolding(crate::specs::Holds::holds))]
-fn difference(
-    values: &[i64],
-    name: &Name,
-    members: &Sequence<IntTerm>,
-    truth: &Option<Apart<BoolTerm>>,
-    conditions: &Option<Apart<Sequence<BoolTerm>>>,
-) -> bool
-    ensures { result ≡ holds values.now (L17 name.now members.now truth.now conditions.now) }
-{
-    match differ(name.as_bytes()) {
-        Some(difference) => differs(
-            difference,
-            values,
-            members.as_slice(),
-            truth_or_true(values, truth),
-            terms(conditions),
-        ),
-        None => false,
+    match kind {
+        AllDifferent::Plain => all_differ(values, members),
+        AllDifferent::Reified => same(truth, all_differ(values, members)),
+        AllDifferent::Conditional => differ_where(values, members, conditions),
     }
 }
 
@@ -292,8 +90,8 @@ struct Lists<'a> {
 }
 
 /// Whether the lists of an order are in it.
-fn ordered(order: Order, values: &[i64], lists: &Lists, truth: bool) -> bool
-    ensures { result ≡ ordered order (truths_of values.now lists.now.left_truths.now) (truths_of values.now lists.now.right_truths.now) (numbers_of values.now lists.now.left_numbers.now) (numbers_of values.now lists.now.right_numbers.now) truth }
+fn lists_in_order(order: Order, values: &[i64], lists: &Lists, truth: bool) -> bool
+    ensures { result ≡ lists_in_order order (truths_of values.now lists.now.left_truths.now) (truths_of values.now lists.now.right_truths.now) (numbers_of values.now lists.now.left_numbers.now) (numbers_of values.now lists.now.right_numbers.now) truth }
 {
     let in_order = if order.of_booleans {
         truths_in_order(order.strict, values, lists.left_truths, lists.right_truths)
@@ -312,113 +110,146 @@ fn ordered(order: Order, values: &[i64], lists: &Lists, truth: bool) -> bool
     }
 }
 
-#[tactic(auto, unfolding(crate::specs::Holds::holds))]
-fn lists_in_order(
-    values: &[i64],
-    name: &Name,
-    left_truths: &Option<Apart<Sequence<BoolTerm>>>,
-    right_truths: &Option<Apart<Sequence<BoolTerm>>>,
-    left_numbers: &Option<Apart<Sequence<IntTerm>>>,
-    right_numbers: &Option<Apart<Sequence<IntTerm>>>,
-    truth: &Option<Apart<BoolTerm>>,
-) -> bool
-    ensures { result ≡ holds values.now (L18 name.now left_truths.now right_truths.now left_numbers.now right_numbers.now truth.now) }
-{
-    let lists = Lists {
-        left_truths: terms(left_truths),
-        right_truths: terms(right_truths),
-        left_numbers: terms(left_numbers),
-        right_numbers: terms(right_numbers),
-    };
-    match lex(name.as_bytes()) {
-        Some(order) => ordered(order, values, &lists, truth_or_true(values, truth)),
-        None => false,
-    }
-}
-
 /// Whether a statement holds.
+#[tactic(auto, unfolding(crate::specs::Holds::holds))]
 pub fn what_holds(values: &[i64], what: &What) -> bool
     requires what { WhatInLimit what.now }
     requires values { AllInLimit values.now }
     ensures { result ≡ holds values.now what.now }
 {
     match what {
-        What::L3 { truth, number } => bool_to_int(values, *truth, *number),
-        What::L4 { left, right } => bool_eq(values, *left, *right),
+        What::L3 { truth, number } => {
+            number_of(values, *number) == as_number(truth_of(values, *truth))
+        }
+        What::L4 { left, right } => same(truth_of(values, *left), truth_of(values, *right)),
         What::L5 {
-            name,
+            operator,
             left,
             right,
             truth,
-        } => pair(values, name, *left, *right, *truth),
-        What::L6 { name, members } => array(values, name, members),
+            ..
+        } => same(
+            truth_of(values, *truth),
+            combine(*operator, values, &[*left, *right]),
+        ),
+        What::L6 {
+            operator,
+            members,
+            ..
+        } => combine(*operator, values, members.as_slice()),
         What::L7 {
-            name,
+            operator,
             members,
             truth,
-        } => array_truth(values, name, members, *truth),
-        What::L8 { name, left, right } => compare(values, name, *left, *right),
+            ..
+        } => same(
+            truth_of(values, *truth),
+            combine(*operator, values, members.as_slice()),
+        ),
+        What::L8 {
+            relation,
+            left,
+            right,
+            ..
+        } => compares(*relation, values, *left, *right),
         What::L9 {
-            name,
+            relation,
             left,
             right,
             truth,
-        } => { compare_truth(values, name, *left, *right, *truth) }
+            ..
+        } => same(
+            truth_of(values, *truth),
+            compares(*relation, values, *left, *right),
+        ),
         What::L10 {
-            name,
+            relation,
             members,
             bound,
-        } => count(values, name, members, *bound),
+            ..
+        } => {
+            let count = count_true(values, members.as_slice()) as i128;
+            relates_to(*relation, count, values, *bound)
+        }
         What::L11 {
-            name,
+            relation,
             coefficients,
             members,
             bound,
-        } => { weigh(values, name, coefficients, members, *bound) }
+            ..
+        } => {
+            let sum = weight_of_true(values, coefficients.as_slice(), members.as_slice());
+            relates_to(*relation, sum, values, *bound)
+        }
         What::L12 {
-            name,
+            relation,
             members,
             bound,
-        } => sum(values, name, members, *bound),
+            ..
+        } => relates_to(*relation, total(values, members.as_slice()), values, *bound),
         What::L13 {
-            name,
+            relation,
             coefficients,
             members,
             bound,
-        } => { linear(values, name, coefficients, members, *bound) }
+            ..
+        } => {
+            let sum = linear_sum(values, coefficients.as_slice(), members.as_slice());
+            relates_to(*relation, sum, values, *bound)
+        }
         What::L14 {
-            name,
+            operation,
             left,
             right,
             value,
-        } => operate(values, name, *left, *right, *value),
-        What::L15 { operand, value } => absolute(values, *operand, *value),
+            ..
+        } => gives(
+            *operation,
+            number_of(values, *left),
+            number_of(values, *right),
+            number_of(values, *value),
+        ),
+        What::L15 { operand, value } => is_absolute(values, *operand, *value),
         What::L16 {
-            name,
+            operation,
             members,
             value,
-        } => aggregates(values, name, members, *value),
+            ..
+        } => is_aggregate(
+            *operation,
+            values,
+            members.as_slice(),
+            number_of(values, *value),
+        ),
         What::L17 {
-            name,
+            kind,
             members,
             truth,
             conditions,
-        } => { difference(values, name, members, truth, conditions) }
-        What::L18 {
-            name,
-            left_truths,
-            right_truths,
-            left_numbers,
-            right_numbers,
-            truth,
-        } => lists_in_order(
+            ..
+        } => members_differ(
+            *kind,
             values,
-            name,
+            members.as_slice(),
+            truth_or_true(values, truth),
+            terms(conditions),
+        ),
+        What::L18 {
+            order,
             left_truths,
             right_truths,
             left_numbers,
             right_numbers,
             truth,
-        ),
+            ..
+        } => {
+            let lists = Lists {
+                left_truths: terms(left_truths),
+                right_truths: terms(right_truths),
+                left_numbers: terms(left_numbers),
+                right_numbers: terms(right_numbers),
+            };
+            lists_in_order(*order, values, &lists, truth_or_true(values, truth))
+        }
     }
 }

@@ -5,18 +5,19 @@ ghost use Rattle.bumblebee_reader.specs.declared.syntax.Item.{Item};
 ghost use Rattle.typed_model.specs.declared.fault.TypeFault.{TypeFault};
 ghost use Rattle.typed_model.specs.declared.fault.TypeFault.TheVariants.{Memory};
 ghost use Rattle.typed_model.specs.Names.{statement_of};
-ghost use Rattle.typed_model.specs.Items.{declared_if, declared, what_of, numbered, stated_if, stated, sought, first_fault, model_of, IsFaultOf};
-ghost use Rattle.typed_model.specs.Taken.{HasTaken, added};
+ghost use Rattle.typed_model.specs.Items.{declare_if, declarations_of, what_of, state, state_if, statements_of, goal_after, first_fault, model_of, IsFaultOf};
+ghost use Rattle.typed_model.specs.Taken.{HasTaken, with_item};
 ghost use Rattle.typed_model.specs.WellTyped.{WellTyped};
 
+use crate::call::Call;
 use crate::fault::TypeFault;
 use crate::faults::item_fault;
 use crate::items::{declare_by, goal_of};
 use crate::model::{Goal, Model, Stmt};
 use crate::names::statement_of;
 use crate::scope::Scope;
-use crate::stated::what_of;
 use crate::statement::Statement;
+use crate::statements::what_of;
 use bee_list::Sequence;
 use bumblebee_reader::{Arg, Item, Name};
 use std::alloc::{AllocError, Global};
@@ -31,9 +32,15 @@ fn state(
     statement: Statement,
     args: &[Arg],
 ) -> Result<(), AllocError>
-    ensures { OnOk result (stmts.new.items ≡ stmts.old.items ++ numbered number (what_of scope.now name.now statement args.now)) }
+    ensures { OnOk result (stmts.new.items ≡ stmts.old.items ++ state number (what_of scope.now name.now statement args.now)) }
 {
-    match what_of(alloc, scope, name, statement, args)? {
+    let call = Call {
+        alloc,
+        scope,
+        name,
+        args,
+    };
+    match what_of(&call, statement)? {
         Some(what) => {
             stmts.push(Stmt { number, what })?;
             Ok(())
@@ -51,8 +58,8 @@ fn take_call(
     name: &Name,
     args: &[Arg],
 ) -> Result<(), AllocError>
-    ensures decls { OnOk result (scope.new ≡ scope.old ++ declared_if number scope.old (statement_of name.now) args.now) }
-    ensures stmts { OnOk result (stmts.new.items ≡ stmts.old.items ++ stated_if number scope.new name.now (statement_of name.now) args.now) }
+    ensures decls { OnOk result (scope.new ≡ scope.old ++ declare_if number scope.old (statement_of name.now) args.now) }
+    ensures stmts { OnOk result (stmts.new.items ≡ stmts.old.items ++ state_if number scope.new name.now (statement_of name.now) args.now) }
 {
     match statement_of(name.as_bytes()) {
         Some(statement) => {
@@ -72,9 +79,9 @@ fn take_item(
     number: u64,
     item: &Item,
 ) -> Result<(), AllocError>
-    ensures decls { OnOk result (scope.new ≡ scope.old ++ declared number scope.old item.now) }
-    ensures stmts { OnOk result (stmts.new.items ≡ stmts.old.items ++ stated number scope.new item.now) }
-    ensures goal { OnOk result (goal.new ≡ sought goal.old scope.old item.now) }
+    ensures decls { OnOk result (scope.new ≡ scope.old ++ declarations_of number scope.old item.now) }
+    ensures stmts { OnOk result (stmts.new.items ≡ stmts.old.items ++ statements_of number scope.new item.now) }
+    ensures goal { OnOk result (goal.new ≡ goal_after goal.old scope.old item.now) }
 {
     match item {
         Item::Call { name, args } => take_call(alloc, scope, stmts, number, name, args.as_slice()),
@@ -121,7 +128,7 @@ impl Typing {
 
     /// Adds an item that has no fault. That no number is left for the next is want of memory too.
     fn add(&mut self, alloc: Global, item: &Item) -> Result<(), AllocError>
-        ensures { OnOk result (self.new ≡ added self.old item.now) }
+        ensures { OnOk result (self.new ≡ with_item self.old item.now) }
     {
         let Some(next) = self.next.checked_add(1) else {
             return Err(AllocError);

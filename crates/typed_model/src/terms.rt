@@ -2,7 +2,7 @@
 
 ghost use Rattle.std.specs.Prelude.{◌≡◌, FitsSigned};
 ghost use Rattle.std.specs.Int.{w64};
-ghost use Rattle.typed_model.specs.Terms.{value_at, truth_of, number_of};
+ghost use Rattle.typed_model.specs.Terms.{value_at, truth_of, number_of, as_number};
 
 use crate::what::{BoolTerm, IntTerm};
 
@@ -38,4 +38,11 @@ pub fn number_of(values: &[i64], term: IntTerm) -> i64
         IntTerm::Number(number) => number,
         IntTerm::Of(place) => value_at(values, place),
     }
+}
+
+/// A truth value as a number.
+pub fn as_number(truth: bool) -> i64
+    ensures { result ≡ as_number truth }
+{
+    if truth { 1 } else { 0 }
 }

@@ -1,5 +1,6 @@
 //! What a statement states: one variant for each line of the table of statements.
 
+use crate::statement::{Aggregate, AllDifferent, Arithmetic, Operator, Order, Relation};
 use bee_list::{Apart, Sequence};
 use bumblebee_reader::Name;
 
@@ -27,8 +28,9 @@ pub enum IntTerm {
 }
 
 /// A statement without its number. The variants are the lines of the table of statements, and where a
-/// line has several statements, its variant begins with the statement's name. Parts that a statement may
-/// leave out stand apart, so that a statement that has none of them is small.
+/// line has several statements, its variant begins with the statement's name and with what the name says, which
+/// was read once. Parts that a statement may leave out stand apart, so that a statement that has none of them is
+/// small.
 #[derive(Debug, Clone, Drop)]
 pub enum What {
     /// `bool2int`: a Boolean as an integer.
@@ -49,6 +51,8 @@ pub enum What {
     L5 {
         /// The statement's name.
         name: Name,
+        /// The operator of its name.
+        operator: Operator,
         /// The first operand.
         left: BoolTerm,
         /// The second operand.
@@ -60,6 +64,8 @@ pub enum What {
     L6 {
         /// The statement's name.
         name: Name,
+        /// The operator of its name.
+        operator: Operator,
         /// The operands.
         members: Sequence<BoolTerm>,
     },
@@ -67,6 +73,8 @@ pub enum What {
     L7 {
         /// The statement's name.
         name: Name,
+        /// The operator of its name.
+        operator: Operator,
         /// The operands.
         members: Sequence<BoolTerm>,
         /// The operator's truth.
@@ -76,6 +84,8 @@ pub enum What {
     L8 {
         /// The statement's name.
         name: Name,
+        /// The relation of its name.
+        relation: Relation,
         /// The left side.
         left: IntTerm,
         /// The right side.
@@ -85,6 +95,8 @@ pub enum What {
     L9 {
         /// The statement's name.
         name: Name,
+        /// The relation of its name.
+        relation: Relation,
         /// The left side.
         left: IntTerm,
         /// The right side.
@@ -96,6 +108,8 @@ pub enum What {
     L10 {
         /// The statement's name.
         name: Name,
+        /// The relation of its name.
+        relation: Relation,
         /// The members.
         members: Sequence<BoolTerm>,
         /// The right side.
@@ -105,6 +119,8 @@ pub enum What {
     L11 {
         /// The statement's name.
         name: Name,
+        /// The relation of its name.
+        relation: Relation,
         /// A coefficient for each member.
         coefficients: Sequence<i64>,
         /// The members.
@@ -116,6 +132,8 @@ pub enum What {
     L12 {
         /// The statement's name.
         name: Name,
+        /// The relation of its name.
+        relation: Relation,
         /// The members.
         members: Sequence<IntTerm>,
         /// The right side.
@@ -125,6 +143,8 @@ pub enum What {
     L13 {
         /// The statement's name.
         name: Name,
+        /// The relation of its name.
+        relation: Relation,
         /// A coefficient for each member.
         coefficients: Sequence<i64>,
         /// The members.
@@ -136,6 +156,8 @@ pub enum What {
     L14 {
         /// The statement's name.
         name: Name,
+        /// The operation of its name.
+        operation: Arithmetic,
         /// The first operand.
         left: IntTerm,
         /// The second operand.
@@ -154,6 +176,8 @@ pub enum What {
     L16 {
         /// The statement's name.
         name: Name,
+        /// The operation of its name.
+        operation: Aggregate,
         /// The members.
         members: Sequence<IntTerm>,
         /// What the operation gives.
@@ -163,6 +187,8 @@ pub enum What {
     L17 {
         /// The statement's name.
         name: Name,
+        /// Which members differ, by its name.
+        kind: AllDifferent,
         /// The members.
         members: Sequence<IntTerm>,
         /// The truth of it, for `_reif`.
@@ -174,6 +200,8 @@ pub enum What {
     L18 {
         /// The statement's name.
         name: Name,
+        /// The order of its name.
+        order: Order,
         /// The first list, of Booleans.
         left_truths: Option<Apart<Sequence<BoolTerm>>>,
         /// The second list, of Booleans.

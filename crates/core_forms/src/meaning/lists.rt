@@ -2,26 +2,22 @@
 
 ghost use Rattle.std.specs.Prelude.{◌≡◌, ◌+◌, length, not, ◌&&◌, ◌||◌};
 ghost use Rattle.std.specs.Ordering.{int_eq};
-ghost use Rattle.order_ints.specs.Truth.{valuation_of, atom_truth};
+ghost use Rattle.order_ints.specs.Truth.{atom_truth};
 ghost use Rattle.order_ints.specs.OrderValue.{value_of};
-ghost use Rattle.order_ints.specs.Place.{AtomBelow, AtomsBelow};
-ghost use Rattle.order_ints.specs.OrderRange.{IntBelow};
 ghost use Rattle.core_forms.specs.declared.form.Core.TheVariants.{Max, AllDiff, Lex};
 ghost use Rattle.core_forms.specs.Truths.{truths};
 ghost use Rattle.core_forms.specs.Values.{values, is_greatest, none_equal, all_differ, is_before};
-ghost use Rattle.core_forms.specs.Place.{IntsBelow};
 ghost use Rattle.core_forms.specs.WellFormed.{IsSound, AreSound};
 ghost use Rattle.core_forms.specs.Meaning.{core_truth};
 
 use super::numbers::are_same;
 use super::sums::are_ordered;
-use order_ints::{Atom, OrdInt};
+use order_ints::{Atom, OrdInt, TruthValues};
 
 /// Whether a number is the greatest of the integers' values.
-fn is_maximum(top: i128, ints: &[OrdInt], sigma: &[bool]) -> bool
+fn is_maximum<T: TruthValues>(top: i128, ints: &[OrdInt], sigma: T) -> bool
     requires sound { AreSound ints.now }
-    requires place { IntsBelow (length sigma.now + 1) ints.now }
-    ensures { result ≡ is_greatest top (values (valuation_of sigma.now) ints.now) }
+    ensures { result ≡ is_greatest top (values (T.valuation sigma) ints.now) }
 {
     let mut reached = false;
     for a in ints {
@@ -37,36 +33,30 @@ fn is_maximum(top: i128, ints: &[OrdInt], sigma: &[bool]) -> bool
 }
 
 /// Whether an integer is the greatest one.
-pub(super) fn is_top(ints: &[OrdInt], c: &OrdInt, sigma: &[bool]) -> bool
+pub(super) fn is_top<T: TruthValues>(ints: &[OrdInt], c: &OrdInt, sigma: T) -> bool
     requires sound { AreSound ints.now }
     requires sound_c { IsSound c.now }
-    requires place { IntsBelow (length sigma.now + 1) ints.now }
-    requires place_c { IntBelow (length sigma.now + 1) c.now }
-    ensures { result ≡ core_truth (valuation_of sigma.now) (Max ints.now c.now) }
+    ensures { result ≡ core_truth (T.valuation sigma) (Max ints.now c.now) }
 {
     are_ordered(ints, sigma) && c.is_ordered(sigma) && is_maximum(c.value(sigma), ints, sigma)
 }
 
 /// Whether a condition is true and an integer has this value.
-fn is_equal(condition: Atom, value: i128, a: &OrdInt, sigma: &[bool]) -> bool
+fn has_value<T: TruthValues>(condition: Atom, value: i128, a: &OrdInt, sigma: T) -> bool
     requires sound { IsSound a.now }
-    requires place { IntBelow (length sigma.now + 1) a.now }
-    requires place_condition { AtomBelow (length sigma.now + 1) condition }
-    ensures { result ≡ (atom_truth (valuation_of sigma.now) condition && int_eq value (value_of (valuation_of sigma.now) a.now)) }
+    ensures { result ≡ (atom_truth (T.valuation sigma) condition && int_eq value (value_of (T.valuation sigma) a.now)) }
 {
     condition.holds(sigma) && are_same(value, a.value(sigma))
 }
 
 /// Whether no integer with a true condition has this value.
-fn is_alone(value: i128, ints: &[OrdInt], conditions: &[Atom], sigma: &[bool]) -> bool
+fn is_alone<T: TruthValues>(value: i128, ints: &[OrdInt], conditions: &[Atom], sigma: T) -> bool
     requires sound { AreSound ints.now }
-    requires place { IntsBelow (length sigma.now + 1) ints.now }
-    requires place_conditions { AtomsBelow (length sigma.now + 1) conditions.now }
     requires lengths { length ints.now ≡ length conditions.now }
-    ensures { result ≡ none_equal value (values (valuation_of sigma.now) ints.now) (truths (valuation_of sigma.now) conditions.now) }
+    ensures { result ≡ none_equal value (values (T.valuation sigma) ints.now) (truths (T.valuation sigma) conditions.now) }
 {
     for i in 0..ints.len() {
-        if is_equal(conditions[i], value, &ints[i], sigma) {
+        if has_value(conditions[i], value, &ints[i], sigma) {
             return false;
         }
     }
@@ -74,32 +64,26 @@ fn is_alone(value: i128, ints: &[OrdInt], conditions: &[Atom], sigma: &[bool]) -
 }
 
 /// Whether a condition is false, or no further integer with a true condition has the integer's value.
-fn is_free(
+fn is_free<T: TruthValues>(
     condition: Atom,
     a: &OrdInt,
     ints: &[OrdInt],
     conditions: &[Atom],
-    sigma: &[bool],
+    sigma: T,
 ) -> bool
     requires sound_a { IsSound a.now }
     requires sound { AreSound ints.now }
-    requires place_a { IntBelow (length sigma.now + 1) a.now }
-    requires place { IntsBelow (length sigma.now + 1) ints.now }
-    requires place_condition { AtomBelow (length sigma.now + 1) condition }
-    requires place_conditions { AtomsBelow (length sigma.now + 1) conditions.now }
     requires lengths { length ints.now ≡ length conditions.now }
-    ensures { result ≡ (not (atom_truth (valuation_of sigma.now) condition) || none_equal (value_of (valuation_of sigma.now) a.now) (values (valuation_of sigma.now) ints.now) (truths (valuation_of sigma.now) conditions.now)) }
+    ensures { result ≡ (not (atom_truth (T.valuation sigma) condition) || none_equal (value_of (T.valuation sigma) a.now) (values (T.valuation sigma) ints.now) (truths (T.valuation sigma) conditions.now)) }
 {
     !condition.holds(sigma) || is_alone(a.value(sigma), ints, conditions, sigma)
 }
 
 /// Whether the integers at two places with both conditions true differ.
-fn do_differ(ints: &[OrdInt], conditions: &[Atom], sigma: &[bool]) -> bool
+fn do_differ<T: TruthValues>(ints: &[OrdInt], conditions: &[Atom], sigma: T) -> bool
     requires sound { AreSound ints.now }
-    requires place { IntsBelow (length sigma.now + 1) ints.now }
-    requires place_conditions { AtomsBelow (length sigma.now + 1) conditions.now }
     requires lengths { length ints.now ≡ length conditions.now }
-    ensures { result ≡ all_differ (values (valuation_of sigma.now) ints.now) (truths (valuation_of sigma.now) conditions.now) }
+    ensures { result ≡ all_differ (values (T.valuation sigma) ints.now) (truths (T.valuation sigma) conditions.now) }
 {
     for i in 0..ints.len() {
         let (rest, others) = (&ints[i + 1..], &conditions[i + 1..]);
@@ -111,24 +95,20 @@ fn do_differ(ints: &[OrdInt], conditions: &[Atom], sigma: &[bool]) -> bool
 }
 
 /// Whether integers are ordered and differ where their conditions are true.
-pub(super) fn are_apart(ints: &[OrdInt], conditions: &[Atom], sigma: &[bool]) -> bool
+pub(super) fn are_apart<T: TruthValues>(ints: &[OrdInt], conditions: &[Atom], sigma: T) -> bool
     requires sound { AreSound ints.now }
-    requires place { IntsBelow (length sigma.now + 1) ints.now }
-    requires place_conditions { AtomsBelow (length sigma.now + 1) conditions.now }
     requires lengths { length ints.now ≡ length conditions.now }
-    ensures { result ≡ core_truth (valuation_of sigma.now) (AllDiff ints.now conditions.now) }
+    ensures { result ≡ core_truth (T.valuation sigma) (AllDiff ints.now conditions.now) }
 {
     are_ordered(ints, sigma) && do_differ(ints, conditions, sigma)
 }
 
 /// Whether the first list of integers stands before the second, or is equal where not strict.
-fn stands_before(strict: bool, front: &[OrdInt], back: &[OrdInt], sigma: &[bool]) -> bool
+fn stands_before<T: TruthValues>(strict: bool, front: &[OrdInt], back: &[OrdInt], sigma: T) -> bool
     requires sound_front { AreSound front.now }
     requires sound_back { AreSound back.now }
-    requires place_front { IntsBelow (length sigma.now + 1) front.now }
-    requires place_back { IntsBelow (length sigma.now + 1) back.now }
     requires lengths { length front.now ≡ length back.now }
-    ensures { result ≡ is_before strict (values (valuation_of sigma.now) front.now) (values (valuation_of sigma.now) back.now) }
+    ensures { result ≡ is_before strict (values (T.valuation sigma) front.now) (values (T.valuation sigma) back.now) }
 {
     for i in 0..front.len() {
         let v = front[i].value(sigma);
@@ -141,20 +121,17 @@ fn stands_before(strict: bool, front: &[OrdInt], back: &[OrdInt], sigma: &[bool]
 }
 
 /// Whether an atom is the truth of one list of integers standing before another.
-pub(super) fn are_in_order(
+pub(super) fn are_in_order<T: TruthValues>(
     r: Atom,
     strict: bool,
     front: &[OrdInt],
     back: &[OrdInt],
-    sigma: &[bool],
+    sigma: T,
 ) -> bool
     requires sound_front { AreSound front.now }
     requires sound_back { AreSound back.now }
-    requires place_r { AtomBelow (length sigma.now + 1) r }
-    requires place_front { IntsBelow (length sigma.now + 1) front.now }
-    requires place_back { IntsBelow (length sigma.now + 1) back.now }
     requires lengths { length front.now ≡ length back.now }
-    ensures { result ≡ core_truth (valuation_of sigma.now) (Lex r strict front.now back.now) }
+    ensures { result ≡ core_truth (T.valuation sigma) (Lex r strict front.now back.now) }
 {
     are_ordered(front, sigma)
         && are_ordered(back, sigma)

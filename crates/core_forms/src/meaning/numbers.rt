@@ -1,16 +1,13 @@
 //! The forms that compare or divide integers.
 
-ghost use Rattle.std.specs.Prelude.{◌≡◌, ◌+◌, ◌^◌, ◌<◌, unsigned_abs, length, ◌+ℤ◌, ◌*ℤ◌};
+ghost use Rattle.std.specs.Prelude.{◌≡◌, ◌+◌, ◌^◌, ◌<◌, unsigned_abs, ◌+ℤ◌, ◌*ℤ◌};
 ghost use Rattle.std.specs.Ordering.{int_eq};
-ghost use Rattle.order_ints.specs.Truth.{valuation_of};
-ghost use Rattle.order_ints.specs.Place.{AtomBelow};
-ghost use Rattle.order_ints.specs.OrderRange.{IntBelow};
 ghost use Rattle.order_ints.specs.OrderValue.{value_of, IsOrdered};
 ghost use Rattle.core_forms.specs.declared.form.Core.TheVariants.{LeqR, EqR, DivMod};
 ghost use Rattle.core_forms.specs.WellFormed.{IsSound, HasSmallDivisions};
 ghost use Rattle.core_forms.specs.Meaning.{is_division, core_truth};
 
-use order_ints::{Atom, OrdInt};
+use order_ints::{Atom, OrdInt, TruthValues};
 
 /// Whether two numbers are equal.
 pub(super) fn are_same(a: i128, b: i128) -> bool
@@ -20,13 +17,10 @@ pub(super) fn are_same(a: i128, b: i128) -> bool
 }
 
 /// Whether an atom is the truth of one integer being at most another.
-pub(super) fn is_less(r: Atom, a: &OrdInt, b: &OrdInt, sigma: &[bool]) -> bool
+pub(super) fn is_less<T: TruthValues>(r: Atom, a: &OrdInt, b: &OrdInt, sigma: T) -> bool
     requires sound_a { IsSound a.now }
     requires sound_b { IsSound b.now }
-    requires place_r { AtomBelow (length sigma.now + 1) r }
-    requires place_a { IntBelow (length sigma.now + 1) a.now }
-    requires place_b { IntBelow (length sigma.now + 1) b.now }
-    ensures { result ≡ core_truth (valuation_of sigma.now) (LeqR r a.now b.now) }
+    ensures { result ≡ core_truth (T.valuation sigma) (LeqR r a.now b.now) }
 {
     a.is_ordered(sigma)
         && b.is_ordered(sigma)
@@ -34,13 +28,10 @@ pub(super) fn is_less(r: Atom, a: &OrdInt, b: &OrdInt, sigma: &[bool]) -> bool
 }
 
 /// Whether an atom is the truth of two integers being equal.
-pub(super) fn is_equal(r: Atom, a: &OrdInt, b: &OrdInt, sigma: &[bool]) -> bool
+pub(super) fn is_equal<T: TruthValues>(r: Atom, a: &OrdInt, b: &OrdInt, sigma: T) -> bool
     requires sound_a { IsSound a.now }
     requires sound_b { IsSound b.now }
-    requires place_r { AtomBelow (length sigma.now + 1) r }
-    requires place_a { IntBelow (length sigma.now + 1) a.now }
-    requires place_b { IntBelow (length sigma.now + 1) b.now }
-    ensures { result ≡ core_truth (valuation_of sigma.now) (EqR r a.now b.now) }
+    ensures { result ≡ core_truth (T.valuation sigma) (EqR r a.now b.now) }
 {
     a.is_ordered(sigma)
         && b.is_ordered(sigma)
@@ -80,37 +71,35 @@ fn divides(a: i128, b: i128, q: i128, r: i128) -> bool
 }
 
 /// Whether the values of ordered integers are so divided.
-fn is_divided(a: &OrdInt, b: &OrdInt, q: &OrdInt, r: &OrdInt, sigma: &[bool]) -> bool
+fn is_divided<T: TruthValues>(a: &OrdInt, b: &OrdInt, q: &OrdInt, r: &OrdInt, sigma: T) -> bool
     requires sound_a { IsSound a.now }
     requires sound_b { IsSound b.now }
     requires sound_q { IsSound q.now }
     requires sound_r { IsSound r.now }
     requires small { HasSmallDivisions b.now q.now r.now }
-    requires ordered_b { IsOrdered (valuation_of sigma.now) b.now }
-    requires ordered_q { IsOrdered (valuation_of sigma.now) q.now }
-    requires ordered_r { IsOrdered (valuation_of sigma.now) r.now }
-    requires place_a { IntBelow (length sigma.now + 1) a.now }
-    requires place_b { IntBelow (length sigma.now + 1) b.now }
-    requires place_q { IntBelow (length sigma.now + 1) q.now }
-    requires place_r { IntBelow (length sigma.now + 1) r.now }
-    ensures { result ≡ is_division (value_of (valuation_of sigma.now) a.now) (value_of (valuation_of sigma.now) b.now) (value_of (valuation_of sigma.now) q.now) (value_of (valuation_of sigma.now) r.now) }
+    requires ordered_b { IsOrdered (T.valuation sigma) b.now }
+    requires ordered_q { IsOrdered (T.valuation sigma) q.now }
+    requires ordered_r { IsOrdered (T.valuation sigma) r.now }
+    ensures { result ≡ is_division (value_of (T.valuation sigma) a.now) (value_of (T.valuation sigma) b.now) (value_of (T.valuation sigma) q.now) (value_of (T.valuation sigma) r.now) }
 {
     let (b, q, r) = (b.value(sigma), q.value(sigma), r.value(sigma));
     divides(a.value(sigma), b, q, r)
 }
 
 /// Whether the third and fourth integers are quotient and rest of the first by the second.
-pub(super) fn is_quotient(a: &OrdInt, b: &OrdInt, q: &OrdInt, r: &OrdInt, sigma: &[bool]) -> bool
+pub(super) fn is_quotient<T: TruthValues>(
+    a: &OrdInt,
+    b: &OrdInt,
+    q: &OrdInt,
+    r: &OrdInt,
+    sigma: T,
+) -> bool
     requires sound_a { IsSound a.now }
     requires sound_b { IsSound b.now }
     requires sound_q { IsSound q.now }
     requires sound_r { IsSound r.now }
     requires small { HasSmallDivisions b.now q.now r.now }
-    requires place_a { IntBelow (length sigma.now + 1) a.now }
-    requires place_b { IntBelow (length sigma.now + 1) b.now }
-    requires place_q { IntBelow (length sigma.now + 1) q.now }
-    requires place_r { IntBelow (length sigma.now + 1) r.now }
-    ensures { result ≡ core_truth (valuation_of sigma.now) (DivMod a.now b.now q.now r.now) }
+    ensures { result ≡ core_truth (T.valuation sigma) (DivMod a.now b.now q.now r.now) }
 {
     if !a.is_ordered(sigma) {
         return false;

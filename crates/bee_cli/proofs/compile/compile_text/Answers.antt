@@ -5,4 +5,4 @@ pub write_model-requires-clause-typed : goal.write_model-requires-clause-typed
 write_model-requires-clause-typed c = typed c.args.text.now c.in_ok-model.model c.in_ok-model.ensures.model
 
 pub write_model-requires-clause-limits : goal.write_model-requires-clause-limits
-write_model-requires-clause-limits c = limited c.args.text.now c.in_ok-model.model c.in_ok-model.ensures.model
+write_model-requires-clause-limits c = limited c.args.text.now c.in_ok-model.model c.requires c.in_ok-model.ensures.model

@@ -53,3 +53,8 @@ returns-in-Err-Model-clause-mode g c =
     mode (Model c.in-Err-Model.fault) _
     (refused_of _ text _ c.in-Err-Model.fault (record { moved = moved; whole = whole }) (within_limit text short) c.as_slice.ensures.value cause) (λ _. refl)
     (took_text _ _ text moved (omega arith)) (rw c.in-Ok-Whole.is at c.read_all.ensures.counts_faults) refl
+
+pub compile_text-requires : goal.compile_text-requires
+compile_text-requires g c =
+    let short = (rw c.in-Ok-Whole.field-0-is at c.in-Ok-Whole.ensures.whole_within) refl in
+    rw c.as_slice.ensures.value (within_limit c.in-Ok-Whole.text.items short)

@@ -1,4 +1,5 @@
 use Rattle.core_cost.proofs.Bounds.{parity-fits, amo-fits, ladder-fits, leq-fits, eq-fits, lex-fits, max-fits, all_diff-fits, prod-fits, div_mod-fits, table-fits, sum3-fits, count-fits}
+use Rattle.core_cost.proofs.SumBounds.{sum-fits}
 use Rattle.core_cost.proofs.laws.fits_law.Goals as goal
 
 pub returns : goal.returns
@@ -16,4 +17,5 @@ returns c = record {
   table = table-fits;
   sum3 = sum3-fits;
   count = count-fits;
+  sum = sum-fits;
 }

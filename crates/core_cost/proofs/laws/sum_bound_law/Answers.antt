@@ -1,4 +1,4 @@
-use Rattle.core_cost.proofs.NetworkBounds.{sum-bound}
+use Rattle.core_cost.proofs.SumBounds.{sum-bound}
 use Rattle.core_cost.proofs.laws.sum_bound_law.Goals as goal
 
 pub returns : goal.returns

@@ -16,10 +16,10 @@ returns c =
     let stands : has_network c.args.first c.args.second ≡ true = sym c.has_halves.ensures ∙ c.if-not-has_halves.false in
     let network = unit_sum_by_network c.args.first c.args.second stands in
     let odd : c.at-odd.result ≡ saturated (cost_of_unit_sum (half_up c.args.first) (half_up c.args.second)) =
-    c.at-odd.ensures c.args.low_first c.args.low_second c.requires.below
+    c.at-odd.ensures c.args.low_first c.args.low_second c.requires.deeper
     ∙ moved-above-both c.args.low_first (half_up c.args.first) c.args.low_second (half_up c.args.second) (omega arith) (omega arith) (omega arith) (omega arith) in
     let even : c.at-even.result ≡ saturated (cost_of_unit_sum (half_down c.args.first) (half_down c.args.second)) =
-    c.at-even.ensures c.args.low_first c.args.low_second c.requires.below
+    c.at-even.ensures c.args.low_first c.args.low_second c.requires.deeper
     ∙ moved-above-both c.args.low_first (half_down c.args.first) c.args.low_second (half_down c.args.second) (omega arith) (omega arith) (omega arith) (omega arith) in
     let over : c.over_halves.result ≡ saturated (cost_of_network c.args.first c.args.second (c.args.first + c.args.second)) = c.over_halves.ensures _ _ odd even in
     rw network (omega arith)

@@ -1,4 +1,4 @@
-use Rattle.core_forms.proofs.SumValues.{sums-some, sums-ascend, sums-small, sums-among, sums-between, sums-few, fresh-span, fresh-within}
+use Rattle.core_forms.proofs.SumValues.{sums-some, sums-ascend, sums-small, sums-among, sums-between, sums-few, fresh-span, fresh-within, fresh-base, fresh-abs}
 use Rattle.core_forms.proofs.cost_laws.sums_law.Goals as goal
 
 pub returns : goal.returns
@@ -11,4 +11,6 @@ returns c = record {
   steps = sums-few;
   span = fresh-span;
   within = fresh-within;
+  base = fresh-base;
+  abs = fresh-abs;
 }

@@ -1,6 +1,6 @@
 use Rattle.std.proofs.Common.{◌≡◌, ◌++◌, map, drop}
 use Rattle.dimacs_out.specs.Written.{words_ended}
-use Rattle.dimacs_out.specs.CompiledText.{literal_word}
+use Rattle.ledger_text.specs.Words.{literal_word}
 use Rattle.dimacs_out.proofs.write.push_literals.Given as goal
 
 -- what was written, and the literals that are left, are all that is to be written

@@ -12,7 +12,7 @@ loop-i-preserved c =
     let i = c.loop-i.i in
     let e = weight_of_true-drop c.args.values.now cs c.args.members.now i (omega arith) (omega arith) in
     let f : FitsSigned w64 (get_or cs i (pos 0)) = search rules in
-    let h = chosen_is c.truth_of.result _ (get_or cs i (pos 0)) c.chosen.result f c.truth_of.ensures c.chosen.ensures.value in
+    let h = chosen_is c.truth_of.result _ (get_or cs i (pos 0)) c.coefficient_where.result f c.truth_of.ensures c.coefficient_where.ensures.value in
     record { sum = omega (arith, ints, e, h); low = omega (arith, ints); high = omega (arith, ints) }
 
 pub returns-then-i-members : goal.returns-then-i-members

@@ -1,17 +1,12 @@
-use Rattle.std.proofs.Common.{◌≡◌, ◌+◌, drop, length}
-use Rattle.order_ints.specs.Truth.{valuation_of}
-use Rattle.order_ints.specs.Place.{AtomsBelow}
+use Rattle.std.proofs.Common.{◌≡◌, drop}
 use Rattle.core_forms.specs.Truths.{truths}
 use Rattle.core_forms.specs.Values.{values, all_differ}
-use Rattle.core_forms.specs.Place.{IntsBelow}
 use Rattle.core_forms.specs.WellFormed.{AreSound}
 use Rattle.core_forms.proofs.meaning.lists.do_differ.Given as goal
 
 -- what is left decides
 abbrev pub invariant-loop-i : goal.invariant-loop-i
-invariant-loop-i l = record {
-  decides : all_differ (values (valuation_of l.sigma) (drop l.i l.ints)) (truths (valuation_of l.sigma) (drop l.i l.conditions)) ≡ all_differ (values (valuation_of l.sigma) l.ints) (truths (valuation_of l.sigma) l.conditions);
+invariant-loop-i g l = record {
+  decides : all_differ (values (g.T.TruthValues.valuation l.sigma) (drop l.i l.ints)) (truths (g.T.TruthValues.valuation l.sigma) (drop l.i l.conditions)) ≡ all_differ (values (g.T.TruthValues.valuation l.sigma) l.ints) (truths (g.T.TruthValues.valuation l.sigma) l.conditions);
   sound : AreSound (drop l.i l.ints);
-  place : IntsBelow (length l.sigma + 1) (drop l.i l.ints);
-  place_conditions : AtomsBelow (length l.sigma + 1) (drop l.i l.conditions);
 }

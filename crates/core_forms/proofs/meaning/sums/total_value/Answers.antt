@@ -2,7 +2,6 @@ use Rattle.std.proofs.Common.{◌+◌, drop, ◌+ℤ◌, sym, ap, ◌∙◌, ari
 use Rattle.std.proofs.lemmas.Grind.{common_steps}
 use Rattle.std.proofs.lemmas.Int.{ints}
 use Rattle.std.proofs.lemmas.List.{at_drop_more}
-use Rattle.order_ints.specs.Truth.{valuation_of}
 use Rattle.order_ints.specs.OrderValue.{value_of}
 use Rattle.core_forms.specs.Values.{values, total}
 use Rattle.core_forms.specs.WellFormed.{abs_total, greatest_abs}
@@ -10,8 +9,8 @@ use Rattle.core_forms.proofs.Bounds.{value-abs}
 use Rattle.core_forms.proofs.meaning.sums.total_value.Goals as goal
 
 pub loop-a-preserved : goal.loop-a-preserved
-loop-a-preserved c =
-    let σ = valuation_of c.args.sigma.now in
+loop-a-preserved g c =
+    let σ = g.T.TruthValues.valuation c.args.sigma in
     let xs = c.args.ints.now in
     let i = c.loop-a.a-index in
     let a = c.a-item.result in
@@ -22,5 +21,4 @@ loop-a-preserved c =
       adds = omega (arith, ints, c.value.ensures.value);
       within = omega (arith, ints, c.value.ensures.value);
       sound = grind (arith, common_steps);
-      place = grind (arith, common_steps);
     }

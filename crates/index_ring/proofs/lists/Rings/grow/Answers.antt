@@ -1,6 +1,5 @@
-use Rattle.std.proofs.Common.{arith, ap, length, subst, sym}
-use Rattle.index_ring.specs.Lists.{IsRings, grown}
-use Rattle.index_ring.specs.Links.{view_of}
+use Rattle.std.proofs.Common.{arith, ap, length}
+use Rattle.index_ring.specs.Lists.{grown}
 use Rattle.index_ring.proofs.Written.{StandFor, few-rings, ring-count, written-grown}
 use Rattle.index_ring.proofs.lists.Rings.grow.Goals as goal
 use Rattle.index_ring.proofs.lists.Rings.grow.Goals.{After-push_alone-2}

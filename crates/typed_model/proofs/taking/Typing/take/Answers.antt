@@ -1,7 +1,7 @@
 use Rattle.std.proofs.Common.{◌≡◌, sym, ◌∙◌, ap, refl, None, Some, is_some, Option, false}
 use Rattle.typed_model.specs.declared.fault.TypeFault.{TypeFault}
 use Rattle.typed_model.specs.Taken.{Taken}
-use Rattle.typed_model.proofs.TakenLaws.{HasTaken-stays, HasTaken-stopped, HasTaken-added}
+use Rattle.typed_model.proofs.TakenLaws.{HasTaken-stays, HasTaken-stopped, HasTaken-with_item}
 use Rattle.typed_model.proofs.taking.Typing.take.Goals as goal
 
 none : (o : Option TypeFault) → is_some o ≡ false → o ≡ None
@@ -18,4 +18,4 @@ returns-in-Some-clause-taken c = λ items h.
 
 pub returns-in-Ok-clause-taken : goal.returns-in-Ok-clause-taken
 returns-in-Ok-clause-taken c = λ items h.
-    HasTaken-added _ items c.args.item.now (rw (← c.self.view_is) at h) c.add.new.self (none _ (sym c.is_some.ensures ∙ c.if-is_some.false)) (sym (rw c.is_some-2.ensures at c.in_default.ensures)) (rw (← c.self.view_is) at c.in-Ok.ensures)
+    HasTaken-with_item _ items c.args.item.now (rw (← c.self.view_is) at h) c.add.new.self (none _ (sym c.is_some.ensures ∙ c.if-is_some.false)) (sym (rw c.is_some-2.ensures at c.in_default.ensures)) (rw (← c.self.view_is) at c.in-Ok.ensures)

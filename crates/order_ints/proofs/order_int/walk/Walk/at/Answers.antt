@@ -2,7 +2,6 @@ use Rattle.std.proofs.Common.{◌≡◌, ◌<ℤ◌, ◌≤ℤ◌, to_z, of_z, s
 use mir.Syntax.{w128}
 use Rattle.std.proofs.lemmas.Int.{ints, to_z-of_z}
 use Rattle.order_ints.specs.OrderLevels.{at_of}
-use Rattle.order_ints.specs.Walk.{value_at}
 use Rattle.order_ints.proofs.Wide.{small_bits}
 use Rattle.order_ints.proofs.Walks.{stands_small, reaching-place, reaching-none}
 use Rattle.order_ints.proofs.order_int.walk.Walk.at.Goals as goal

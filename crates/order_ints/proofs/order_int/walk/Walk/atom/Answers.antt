@@ -1,4 +1,4 @@
-use Rattle.std.proofs.Common.{◌∙◌, arith}
+use Rattle.std.proofs.Common.{arith}
 use Rattle.order_ints.specs.declared.atom.Atom.TheVariants.{True}
 use Rattle.order_ints.proofs.Walks.{atom_at-step}
 use Rattle.order_ints.proofs.order_int.walk.Walk.atom.Goals as goal

@@ -1,0 +1,137 @@
+//! A core of few variables.
+
+ghost use Rattle.std.specs.Prelude.{◌≡◌, ◌<◌, ◌≤◌, ◌++◌, length, [], ◌∷◌, IfSome, IfNone};
+ghost use Rattle.core_forms.specs.Contents.{ints_of, atoms_of};
+ghost use Rattle.core_forms.specs.Variables.{atom_vars, atoms_vars, int_vars, ints_vars, core_vars};
+ghost use Rattle.core_forms.specs.OwnVars.{with_var, with_vars, own_vars, if_few};
+
+use crate::form::Core;
+use order_ints::{Atom, OrdInt};
+use std::marker::Model;
+use std::mem::swap;
+
+/// At most eight variables, ascending. They take no memory, and a clause sees them as a list.
+#[derive(Debug, Drop)]
+pub struct FewVars {
+    vars: [u32; 8],
+    count: usize,
+}
+
+impl Model for FewVars {
+    ghost use Rattle.std.specs.Prelude.{List, ℕ, ◌≤◌, take};
+
+    ghost Value = { List ℕ };
+
+    ghost view = { λ few. take few.count few.vars };
+
+    ghost invariant = { λ few. few.count ≤ 8 };
+}
+
+/// Puts a variable in its place among ascending ones, each one behind it a place further, and gives the
+/// last one, which has no place; nothing changes where the variable is there already.
+fn moved_up(vars: &mut [u32], var: u32) -> Option<u32>
+    ensures moved { IfSome result (λ last. vars.new ++ last ∷ [] ≡ with_var var vars.old) }
+    ensures there { IfNone result (vars.new ≡ with_var var vars.old) }
+{
+    let mut last = var;
+    for other in vars.iter_mut() {
+        if *other == last {
+            return None;
+        }
+        if last < *other {
+            swap(other, &mut last);
+        }
+    }
+    Some(last)
+}
+
+impl FewVars {
+    /// No variable.
+    fn none() -> FewVars
+        ensures { result ≡ [] }
+    {
+        FewVars {
+            vars: [0; 8],
+            count: 0,
+        }
+    }
+
+    /// The variables.
+    pub fn as_slice(&self) -> &[u32]
+        ensures list { result.now ≡ self.now }
+        ensures few { length self.now ≤ 8 }
+    {
+        &self.vars[..self.count]
+    }
+
+    /// Puts a variable among them; `None` where it would be the ninth.
+    fn put(&mut self, var: u32) -> Option<()>
+        ensures put { IfSome result (λ _. self.new ≡ with_var var self.old) }
+        ensures full { IfNone result (8 < length (with_var var self.old)) }
+    {
+        if let Some(last) = moved_up(&mut self.vars[..self.count], var) {
+            if self.count == 8 {
+                return None;
+            }
+            self.vars[self.count] = last;
+            self.count += 1;
+        }
+        Some(())
+    }
+
+    /// Puts the variable of an atom among them.
+    fn put_atom(&mut self, atom: Atom) -> Option<()>
+        ensures put { IfSome result (λ _. self.new ≡ with_vars (atom_vars atom) self.old) }
+        ensures full { IfNone result (8 < length (with_vars (atom_vars atom) self.old)) }
+    {
+        match atom {
+            Atom::True | Atom::False => Some(()),
+            Atom::Of(literal) => self.put(literal.var()),
+        }
+    }
+
+    /// Puts the variables of an integer among them.
+    fn put_int(&mut self, a: &OrdInt) -> Option<()>
+        ensures put { IfSome result (λ _. self.new ≡ with_vars (int_vars a.now) self.old) }
+        ensures full { IfNone result (8 < length (with_vars (int_vars a.now) self.old)) }
+    {
+        for step in a.steps.as_slice() {
+            self.put_atom(step.0)?;
+        }
+        Some(())
+    }
+}
+
+/// Puts the variables of a core's atoms among others.
+fn put_atoms(vars: &mut FewVars, core: &Core) -> Option<()>
+    ensures put { IfSome result (λ _. vars.new ≡ with_vars (atoms_vars (atoms_of core.now)) vars.old) }
+    ensures full { IfNone result (8 < length (with_vars (atoms_vars (atoms_of core.now)) vars.old)) }
+{
+    for atom in core.atoms() {
+        vars.put_atom(*atom)?;
+    }
+    Some(())
+}
+
+/// Puts the variables of a core's integers among others.
+fn put_ints(vars: &mut FewVars, core: &Core) -> Option<()>
+    ensures put { IfSome result (λ _. vars.new ≡ with_vars (ints_vars (ints_of core.now)) vars.old) }
+    ensures full { IfNone result (8 < length (with_vars (ints_vars (ints_of core.now)) vars.old)) }
+{
+    for a in core.ints() {
+        vars.put_int(a)?;
+    }
+    Some(())
+}
+
+/// The different variables of a core, ascending, where there are at most eight. It takes no memory and
+/// one pass over the core, which ends at the ninth.
+pub fn few_variables(core: &Core) -> Option<FewVars>
+    ensures { result ≡ if_few (own_vars core.now) }
+{
+    let mut vars = FewVars::none();
+    put_atoms(&mut vars, core)?;
+    put_ints(&mut vars, core)?;
+    let _known = &vars.count;
+    Some(vars)
+}

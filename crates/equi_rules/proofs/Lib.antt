@@ -1,0 +1,10 @@
+pub mod OrderSound
+pub mod AtomSound
+pub mod CompareSound
+pub mod Sound
+pub mod EachRows
+pub mod Beside
+pub mod RowFound
+pub mod OrderFound
+pub mod Places
+pub mod Found

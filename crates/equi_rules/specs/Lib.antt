@@ -1,0 +1,4 @@
+pub mod OrderRows
+pub mod AtomRows
+pub mod CompareRows
+pub mod Instances

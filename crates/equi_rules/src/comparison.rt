@@ -1,0 +1,82 @@
+//! The equations that a reified comparison of two integers states.
+
+ghost use Rattle.std.specs.Prelude.{◌≡◌};
+ghost use Rattle.core_forms.specs.WellFormed.{IsSound};
+ghost use Rattle.rule_base.specs.Pairs.{first_sought};
+ghost use Rattle.equi_rules.specs.CompareRows.{is_constant, leq_equations_true, leq_equations_false, leq_equations_known, leq_equations_decided, leq_equations_constant, leq_equations};
+
+use order_ints::{Atom, OrdInt};
+use rule_base::Sought;
+
+/// Whether an integer has one value.
+pub(crate) fn is_constant(a: &OrdInt) -> bool
+    ensures { result ≡ is_constant a.now }
+{
+    a.steps.is_empty()
+}
+
+/// The equations where `a` is at most `b`.
+fn by_leq_true(sought: Sought, a: &OrdInt, b: &OrdInt) -> Option<(Atom, Atom)>
+    requires a { IsSound a.now }
+    requires b { IsSound b.now }
+    ensures { result ≡ first_sought sought (leq_equations_true a.now b.now) }
+{
+    sought
+        .is_below(a, b.high() + 1)
+        .or(sought.at_least(b, a.low()))
+}
+
+/// The equations where `a` is above `b`.
+fn by_leq_false(sought: Sought, a: &OrdInt, b: &OrdInt) -> Option<(Atom, Atom)>
+    requires a { IsSound a.now }
+    requires b { IsSound b.now }
+    ensures { result ≡ first_sought sought (leq_equations_false a.now b.now) }
+{
+    sought
+        .at_least(a, b.low() + 1)
+        .or(sought.is_below(b, a.high()))
+}
+
+/// The equations where the integers' ends alone tell which is greater.
+fn by_leq_decided(sought: Sought, r: Atom, a: &OrdInt, b: &OrdInt) -> Option<(Atom, Atom)>
+    requires a { IsSound a.now }
+    requires b { IsSound b.now }
+    ensures { result ≡ first_sought sought (leq_equations_decided r a.now b.now) }
+{
+    let always = sought.when(a.high() <= b.low(), r, Atom::True);
+    always.or(sought.when(b.high() < a.low(), r, Atom::False))
+}
+
+/// The equations where one of the integers is constant.
+fn by_leq_constant(sought: Sought, r: Atom, a: &OrdInt, b: &OrdInt) -> Option<(Atom, Atom)>
+    requires a { IsSound a.now }
+    requires b { IsSound b.now }
+    ensures { result ≡ first_sought sought (leq_equations_constant r a.now b.now) }
+{
+    let first = sought.when(is_constant(a), r, b.at(a.low()));
+    first.or(sought.when(is_constant(b), r, a.at(b.low() + 1).not()))
+}
+
+/// The equations where `r` is a constant.
+fn by_leq_known(sought: Sought, r: Atom, a: &OrdInt, b: &OrdInt) -> Option<(Atom, Atom)>
+    requires a { IsSound a.now }
+    requires b { IsSound b.now }
+    ensures { result ≡ first_sought sought (leq_equations_known r a.now b.now) }
+{
+    match r {
+        Atom::True => by_leq_true(sought, a, b),
+        Atom::False => by_leq_false(sought, a, b),
+        Atom::Of(_) => None,
+    }
+}
+
+/// The equations of `r` being the truth of `a` being at most `b`.
+pub(crate) fn by_leq(sought: Sought, r: Atom, a: &OrdInt, b: &OrdInt) -> Option<(Atom, Atom)>
+    requires a { IsSound a.now }
+    requires b { IsSound b.now }
+    ensures { result ≡ first_sought sought (leq_equations r a.now b.now) }
+{
+    by_leq_known(sought, r, a, b)
+        .or(by_leq_decided(sought, r, a, b))
+        .or(by_leq_constant(sought, r, a, b))
+}

@@ -1,0 +1,94 @@
+//! Finding an equation that a core implies, and testing one.
+
+ghost use Rattle.std.specs.Prelude.{◌≡◌, ◌+◌, ◌↔◌, true, false, IsNone, IfSome};
+ghost use Rattle.core_forms.specs.declared.equation.Equation.{Equation};
+ghost use Rattle.core_forms.specs.WellFormed.{IsWellFormed};
+ghost use Rattle.rule_base.specs.Pairs.{first_sought};
+ghost use Rattle.rule_base.specs.Found.{IsImplied};
+ghost use Rattle.equi_rules.specs.Instances.{form_equations, equations_of, found_at, is_instance_of};
+
+use crate::atoms::{by_amo, by_clause, by_conj, by_parity};
+use crate::comparison::by_leq;
+use crate::equality::by_eq;
+use crate::order::by_order;
+use core_forms::{Core, Equation, Rule};
+use order_ints::Atom;
+use rule_base::{Sought, Steps};
+use std::sync::ledger::Ledger;
+
+/// The equations of a core's form.
+fn by_form(sought: Sought, core: &Core) -> Option<(Atom, Atom)>
+    requires { IsWellFormed core.now }
+    ensures { result ≡ first_sought sought (form_equations core.now) }
+{
+    match core {
+        Core::Clause(atoms) => by_clause(sought, atoms.as_slice()),
+        Core::Parity(atoms, odd) => by_parity(sought, atoms.as_slice(), *odd),
+        Core::Conj(r, atoms) => by_conj(sought, *r, atoms.as_slice()),
+        Core::Amo(atoms) => by_amo(sought, atoms.as_slice()),
+        Core::LeqR(r, a, b) => by_leq(sought, *r, a.get(), b.get()),
+        Core::EqR(r, a, b) => by_eq(sought, *r, a.get(), b.get()),
+        _ => None,
+    }
+}
+
+/// The equations of a core by one rule.
+fn by_rule(sought: Sought, rule: Rule, core: &Core) -> Option<(Atom, Atom)>
+    requires { IsWellFormed core.now }
+    ensures { result ≡ first_sought sought (equations_of core.now rule) }
+{
+    match rule {
+        Rule::Order => by_order(sought, core),
+        Rule::Form => by_form(sought, core),
+        Rule::Table => None,
+    }
+}
+
+/// The equation that is found: by the order of the core's integers, or else by its form.
+fn found(core: &Core) -> Option<Equation>
+    requires { IsWellFormed core.now }
+    ensures { result ≡ found_at core.now }
+{
+    if let Some((a, b)) = by_order(Sought::Apart, core) {
+        return Some(Equation {
+            rule: Rule::Order,
+            a,
+            b,
+        });
+    }
+    let (a, b) = by_form(Sought::Apart, core)?;
+    Some(Equation {
+        rule: Rule::Form,
+        a,
+        b,
+    })
+}
+
+/// An equation that a core implies, by the rules of this crate; `None` where they have none. It counts one
+/// step, goes once along the core in time linear in its steps and members, and takes no memory.
+pub fn find<L: Ledger>(core: &Core, steps: &mut Steps<L>) -> Option<Equation>
+    requires { IsWellFormed core.now }
+    ensures shape { result ≡ found_at core.now }
+
+    // What is found is an instance, and the core implies it.
+    ensures instance { IfSome result (λ e. is_instance_of core.now e ≡ true) }
+    ensures implied { IfSome result (λ e. IsImplied core.now e) }
+
+    // Nothing is found exactly where there is no instance.
+    ensures none { IsNone result ↔ ((e : Equation) → is_instance_of core.now e ≡ false) }
+    ensures steps { steps.new ≡ steps.old + 1 }
+{
+    steps.tick();
+    found(core)
+}
+
+/// Whether an equation is one that a rule of this crate states of a core. Its time is that of `find`.
+pub fn is_instance(core: &Core, e: &Equation) -> bool
+    requires { IsWellFormed core.now }
+    ensures { result ≡ is_instance_of core.now e.now }
+{
+    if e.a == e.b {
+        return false;
+    }
+    by_rule(Sought::Pair(e.a, e.b), e.rule, core).is_some()
+}

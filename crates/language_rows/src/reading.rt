@@ -1,0 +1,207 @@
+//! Short texts with their syntax or fault, worked out from the grammar by hand.
+
+use bee_list::Sequence;
+use bumblebee_reader::{
+    Arg, GoalKind, Item, Items, ReadFault, Syntax, Term, print_model, read_model,
+};
+use std::alloc::Global;
+use std::test::Fail;
+
+/// A fault in words.
+fn fault_shown(alloc: Global, fault: ReadFault) -> Result<Vec<u8>, Fail> {
+    match fault {
+        ReadFault::Syntax(line) => Ok(format!(in alloc; "syntax {line}")?.into_bytes()),
+        ReadFault::Number(line) => Ok(format!(in alloc; "number {line}")?.into_bytes()),
+        ReadFault::Memory => Ok(Vec::from_slice(alloc, b"memory")?),
+    }
+}
+
+/// The canonical text of what was read, or the fault in words.
+fn shown(alloc: Global, text: &[u8]) -> Result<Vec<u8>, Fail> {
+    match read_model(alloc, text) {
+        Ok(syntax) => Ok(print_model(alloc, &syntax)?),
+        Err(fault) => fault_shown(alloc, fault),
+    }
+}
+
+static TEXTS: [(&[u8], &[u8]); 72] = [
+    // Gaps and comments.
+    (b"", b""),
+    (b" \t\r\n", b""),
+    (b"% only a comment", b""),
+    (b"% 1 % 2 f(x)\nf(y)", b"f(y)\n"),
+    (b"%c\rf(x)\ng(y)", b"g(y)\n"),
+    (b"f(x)%c", b"f(x)\n"),
+    (b"f(x)g(y)", b"f(x)\ng(y)\n"),
+    (b"f(x)\r\ng(y)", b"f(x)\ng(y)\n"),
+    (b"\n f\n(\tx\r)\n\n", b"f(x)\n"),
+    (b"f(x,% two\ny)", b"f(x,y)\n"),
+    (b"f(x)%\xff\n", b"f(x)\n"),
+    (b"f(\xff)", b"syntax 1"),
+    (b"f(x)\x0b", b"syntax 1"),
+    (b"\n\nf(x)\n;", b"syntax 4"),
+    // Calls and their arguments.
+    (b"f(x)", b"f(x)\n"),
+    (b"f(x,y,x)", b"f(x,y,x)\n"),
+    (b"f([])", b"f([])\n"),
+    (b"f([ ] , [ ])", b"f([],[])\n"),
+    (b"f([x])", b"f([x])\n"),
+    (b"f([x,-y,3,-4],-z)", b"f([x,-y,3,-4],-z)\n"),
+    (b"x_1(_a9,A)", b"x_1(_a9,A)\n"),
+    (
+        b"sixteen_letters_(seventeen_letters)",
+        b"sixteen_letters_(seventeen_letters)\n",
+    ),
+    (
+        b"a_name_that_is_not_kept_inline(-another_name_of_more_than_sixteen_bytes)",
+        b"a_name_that_is_not_kept_inline(-another_name_of_more_than_sixteen_bytes)\n",
+    ),
+    (b"f()", b"syntax 1"),
+    (b"f", b"syntax 1"),
+    (b"f(", b"syntax 1"),
+    (b"f(x", b"syntax 1"),
+    (b"f(x\n\n", b"syntax 3"),
+    (b"f(x,\n)", b"syntax 2"),
+    (b"f([x,])", b"syntax 1"),
+    (b"f([,x])", b"syntax 1"),
+    (b"f([[x]])", b"syntax 1"),
+    (b"f([x)", b"syntax 1"),
+    (b"f(x))", b"syntax 1"),
+    (b"f(x y)", b"syntax 1"),
+    (b"f x", b"syntax 1"),
+    (b"(x)", b"syntax 1"),
+    // Terms and numerals.
+    (b"f(- x)", b"f(-x)\n"),
+    (b"f(--x)", b"syntax 1"),
+    (b"f(+1)", b"syntax 1"),
+    (b"f(-)", b"syntax 1"),
+    (b"f(- 5)", b"f(-5)\n"),
+    (b"f(-\n5)", b"f(-5)\n"),
+    (b"f(-0)", b"f(0)\n"),
+    (b"f(- 000)", b"f(0)\n"),
+    (b"f(007,00000000000001)", b"f(7,1)\n"),
+    (b"f(1x)", b"syntax 1"),
+    (b"1x(y)", b"syntax 1"),
+    (b"f(1073741824,-1073741824)", b"f(1073741824,-1073741824)\n"),
+    (b"f(1073741825)", b"number 1"),
+    (b"f(-\n1073741825)", b"number 2"),
+    (b"f([0,99999999999999999999999999])", b"number 1"),
+    (b"f(1073741825,,)", b"number 1"),
+    (b"f(,1073741825)", b"syntax 1"),
+    (b"f(x)\n1073741825", b"syntax 2"),
+    (b"f(x\n1073741825)", b"syntax 2"),
+    // Goals, and their words in other places.
+    (b"solve satisfy", b"solve satisfy\n"),
+    (b"solve minimize x", b"solve minimize x\n"),
+    (b"solve\nmaximize\n(\nx\n)", b"solve maximize x\n"),
+    (
+        b"solve satisfy solve satisfy",
+        b"solve satisfy\nsolve satisfy\n",
+    ),
+    (b"solve minimize solve", b"solve minimize solve\n"),
+    (
+        b"solved(solve,satisfy)minimize(x)",
+        b"solved(solve,satisfy)\nminimize(x)\n",
+    ),
+    (b"solve", b"syntax 1"),
+    (b"solve satis", b"syntax 1"),
+    (b"solve\nsatis\n\n", b"syntax 2"),
+    (b"solve(x)", b"syntax 1"),
+    (b"solve minimize ((x))", b"syntax 1"),
+    (b"solve minimize (x", b"syntax 1"),
+    (b"solve minimize 5", b"syntax 1"),
+    // Whole models.
+    (
+        b" new_int( x , 007 ,9 ) % c\nsolve minimize (x)",
+        b"new_int(x,7,9)\nsolve minimize x\n",
+    ),
+    (b"new_bool(x", b"syntax 1"),
+    (
+        b"new_bool(x)\nnew_int(y,0,1073741825)\nsolve satisfy",
+        b"number 2",
+    ),
+];
+
+#[test]
+fn reads_and_prints_short_texts(rt: HostRuntime) -> Result<(), Fail> {
+    for (text, want) in TEXTS {
+        let got = shown(rt.alloc(), text)?;
+        assert_eq!(rt; got.as_slice(), want, "at {text:?}");
+    }
+    Ok(())
+}
+
+/// Whether the items are the call `f(x,[-y,-3])` and the goal `solve minimize z`.
+fn has_parts(items: &[Item]) -> bool {
+    let [
+        Item::Call { name, args },
+        Item::Goal {
+            kind,
+            objective: Some(objective),
+        },
+    ] = items
+    else {
+        return false;
+    };
+    let [Arg::One(Term::Plain(x)), Arg::Many(terms)] = args.as_slice() else {
+        return false;
+    };
+    let [Term::Minus(y), Term::Number(-3)] = terms.as_slice() else {
+        return false;
+    };
+    name.as_bytes() == b"f".as_slice()
+        && x.as_bytes() == b"x".as_slice()
+        && y.as_bytes() == b"y".as_slice()
+        && *kind == GoalKind::Minimize
+        && objective.as_bytes() == b"z".as_slice()
+}
+
+#[test]
+fn reads_the_parts_of_items(rt: HostRuntime) -> Result<(), Fail> {
+    let Ok(syntax) = read_model(rt.alloc(), b"f(x,[-y,-3])\nsolve minimize (z)") else {
+        return Err(Fail::from("no syntax"));
+    };
+    assert!(rt; has_parts(syntax.items.as_slice()));
+    Ok(())
+}
+
+/// What one call gives: the item's canonical text, `end`, or the fault in words.
+fn next_shown(alloc: Global, items: &mut Items<'_>) -> Result<Vec<u8>, Fail> {
+    match items.next_item(alloc) {
+        Ok(Some(item)) => {
+            let mut alone = Vec::new(alloc);
+            alone.push(item)?;
+            let items = Sequence::from_vec(alone);
+            Ok(print_model(alloc, &Syntax { items })?)
+        }
+        Ok(None) => Ok(Vec::from_slice(alloc, b"end")?),
+        Err(fault) => fault_shown(alloc, fault),
+    }
+}
+
+/// Texts, and what three calls give of each.
+static CALLS: [(&[u8], [&[u8]; 3]); 5] = [
+    (b" % no item", [b"end", b"end", b"end"]),
+    (b"f(x)\n% c\n", [b"f(x)\n", b"end", b"end"]),
+    (
+        b"f(x)solve minimize (z)\n",
+        [b"f(x)\n", b"solve minimize z\n", b"end"],
+    ),
+    (b"f(x)\ng(\n)", [b"f(x)\n", b"syntax 3", b"syntax 3"]),
+    (
+        b"f(x)\ng(1073741825)\nh(y)",
+        [b"f(x)\n", b"number 2", b"number 2"],
+    ),
+];
+
+#[test]
+fn gives_items_one_at_a_time(rt: HostRuntime) -> Result<(), Fail> {
+    for (text, wants) in CALLS {
+        let mut items = Items::new(text);
+        for want in wants {
+            let got = next_shown(rt.alloc(), &mut items)?;
+            assert_eq!(rt; got.as_slice(), want, "at {text:?}");
+        }
+    }
+    Ok(())
+}

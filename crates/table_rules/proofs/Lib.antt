@@ -1,0 +1,5 @@
+pub mod RowLaws
+pub mod PairLaws
+pub mod Distinct
+pub mod InstanceLaws
+pub mod AtomLaws

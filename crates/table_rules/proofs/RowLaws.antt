@@ -1,0 +1,216 @@
+-- The rows of a truth table are all valuations of its variables; what they leave of equations is what they imply.
+use Rattle.std.proofs.Common.{◌≡◌, ◌↔◌, ℕ, zero, suc, ◌+◌, ◌*◌, ◌/◌, ◌%◌, ◌^◌, ◌<◌, ◌≤◌, ◌⊎◌, inl, inr, Bool, true, false, not, ◌&&◌, ◌||◌, cond, eqb, length, map, List, [], ◌∷◌, Contains, refl, sym, ap, subst, ◌∙◌, arith}
+use Rattle.std.specs.Bool.{beq}
+use Rattle.std.specs.List.{filter}
+use Rattle.std.proofs.Math.Nat.{pow-suc}
+use Rattle.std.proofs.lemmas.Bool.{eq-eqb, ne_eqb, eqb-true, eqb-false}
+use Rattle.order_ints.specs.declared.atom.Atom.{Atom}
+use Rattle.order_ints.specs.declared.atom.Atom.TheVariants.{True, False, Of}
+use Rattle.order_ints.specs.Truth.{Valuation, valuation_at, atom_truth}
+use Rattle.order_ints.proofs.TruthRows.{row-agrees}
+use Rattle.core_forms.specs.declared.form.Core.{Core}
+use Rattle.core_forms.specs.Meaning.{core_truth, Meets}
+use Rattle.core_forms.specs.Variables.{atom_vars, core_vars, AreAmong}
+use Rattle.core_forms.proofs.Rows.{core_truth-row}
+use Rattle.table_rules.specs.Rows.{row_of, valuation_in, are_equal_in, are_equal_below, left_below}
+
+-- the number of a row
+abbrev bit : Bool → ℕ
+bit true = 1
+bit false = 0
+
+abbrev number_of : List Bool → ℕ
+number_of [] = 0
+number_of (b ∷ values) = bit b + 2 * number_of values
+
+number-below : (values : List Bool) → number_of values < 2 ^ length values
+number-below [] = omega arith
+number-below (b ∷ values) = by b (number-below values)
+  where
+    by : (b : Bool) → number_of values < 2 ^ length values → bit b + 2 * number_of values < 2 ^ suc (length values)
+    by true h = omega (arith, pow-suc 2 (length values))
+    by false h = omega (arith, pow-suc 2 (length values))
+
+lowest : (b : Bool) (n : ℕ) → eqb ((bit b + 2 * n) % 2) 1 ≡ b
+lowest true n = eq-eqb ((1 + 2 * n) % 2) 1 (omega arith)
+lowest false n = ne_eqb ((0 + 2 * n) % 2) 1 (λ e. omega arith)
+
+others : (b : Bool) (n : ℕ) → (bit b + 2 * n) / 2 ≡ n
+others true n = omega arith
+others false n = omega arith
+
+row-number : (values : List Bool) → row_of (length values) (number_of values) ≡ values
+row-number [] = refl
+row-number (b ∷ values) =
+    ap (λ t. t ∷ row_of (length values) ((bit b + 2 * number_of values) / 2)) (lowest b (number_of values))
+    ∙ ap (λ n. b ∷ row_of (length values) n) (others b (number_of values))
+    ∙ ap (λ r. b ∷ r) (row-number values)
+
+length-map : (σ : Valuation) (vars : List ℕ) → length (map σ vars) ≡ length vars
+length-map σ [] = refl
+length-map σ (v ∷ vars) = ap suc (length-map σ vars)
+
+-- each valuation has a row: that of its truth values
+abbrev row_under : Valuation → List ℕ → ℕ
+row_under σ vars = number_of (map σ vars)
+
+row-exists : (σ : Valuation) (vars : List ℕ) → row_under σ vars < 2 ^ length vars
+row-exists σ vars = subst (λ (n : ℕ). row_under σ vars < 2 ^ n) (length-map σ vars) (number-below (map σ vars))
+
+row-is : (σ : Valuation) (vars : List ℕ) → row_of (length vars) (row_under σ vars) ≡ map σ vars
+row-is σ vars = subst (λ (n : ℕ). row_of n (row_under σ vars) ≡ map σ vars) (length-map σ vars) (row-number (map σ vars))
+
+core-in-row : (σ : Valuation) (core : Core) (vars : List ℕ) → AreAmong (core_vars core) vars → core_truth (valuation_in vars (row_under σ vars)) core ≡ core_truth σ core
+core-in-row σ core vars among =
+    subst (λ (values : List Bool). core_truth (valuation_at vars values) core ≡ core_truth σ core) (sym (row-is σ vars)) (sym (core_truth-row σ core vars among))
+
+atom-at-row : (σ : Valuation) (a : Atom) (vars : List ℕ) → AreAmong (atom_vars a) vars → atom_truth (valuation_at vars (map σ vars)) a ≡ atom_truth σ a
+atom-at-row σ True vars among = refl
+atom-at-row σ False vars among = refl
+atom-at-row σ (Of l) vars among =
+    ap (λ t. cond l.positive t (not t)) (sym (row-agrees σ vars (map σ vars) refl l.var (among l.var (0, omega arith, refl))))
+
+atom-in-row : (σ : Valuation) (a : Atom) (vars : List ℕ) → AreAmong (atom_vars a) vars → atom_truth (valuation_in vars (row_under σ vars)) a ≡ atom_truth σ a
+atom-in-row σ a vars among =
+    subst (λ (values : List Bool). atom_truth (valuation_at vars values) a ≡ atom_truth σ a) (sym (row-is σ vars)) (atom-at-row σ a vars among)
+
+beq-refl : (b : Bool) → beq b b ≡ true
+beq-refl true = refl
+beq-refl false = refl
+
+beq-true : (b c : Bool) → beq b c ≡ true → b ≡ c
+beq-true true true h = refl
+beq-true true false h = absurd (cc)
+beq-true false true h = absurd (cc)
+beq-true false false h = refl
+
+pub and-true : (s t : Bool) → (s && t) ≡ true → (s ≡ true) × (t ≡ true)
+and-true true t h = (refl, h)
+and-true false t h = absurd (cc)
+
+pub true-and : (s t : Bool) → s ≡ true → t ≡ true → (s && t) ≡ true
+true-and true t e h = h
+true-and false t e h = absurd (cc)
+
+module _ (core : Core) (vars : List ℕ) (p : Atom × Atom) where
+  -- the pair is equally true in one row, if the core is met there
+  abbrev IsEqualIn : ℕ → Type 0
+  IsEqualIn r = core_truth (valuation_in vars r) core ≡ true → are_equal_in (valuation_in vars r) p ≡ true
+
+  if-met : (s t : Bool) → (not s || t) ≡ true → s ≡ true → t ≡ true
+  if-met true t h e = h
+  if-met false t h e = absurd (cc)
+
+  met-if : (s t : Bool) → (s ≡ true → t ≡ true) → (not s || t) ≡ true
+  met-if true t h = h refl
+  met-if false t h = refl
+
+  -- the test over the rows is that it is so in each
+  pub below-each : (k : ℕ) → are_equal_below core vars p k ≡ true → (r : ℕ) → r < k → IsEqualIn r
+  below-each zero h r l = absurd (omega arith)
+  below-each (suc k) h r l =
+      let both = and-true (are_equal_below core vars p k) (not (core_truth (valuation_in vars k) core) || are_equal_in (valuation_in vars k) p) h in
+      by (eqb r k) refl (below-each k both.0 r) (if-met (core_truth (valuation_in vars k) core) (are_equal_in (valuation_in vars k) p) both.1)
+    where
+      by : (t : Bool) → eqb r k ≡ t → (r < k → IsEqualIn r) → IsEqualIn k → IsEqualIn r
+      by true e below here = subst IsEqualIn (sym (eqb-true r k e)) here
+      by false e below here = below (omega (arith, eqb-false r k e))
+
+  pub each-below : (k : ℕ) → ((r : ℕ) → r < k → IsEqualIn r) → are_equal_below core vars p k ≡ true
+  each-below zero h = refl
+  each-below (suc k) h =
+      true-and (are_equal_below core vars p k) (not (core_truth (valuation_in vars k) core) || are_equal_in (valuation_in vars k) p)
+      (each-below k (λ r l. h r (omega arith))) (met-if (core_truth (valuation_in vars k) core) (are_equal_in (valuation_in vars k) p) (h k (omega arith)))
+
+-- pairs that are equally true under the same valuations are so in the same rows
+pub same-below : (core : Core) (vars : List ℕ) (p q : Atom × Atom) → ((σ : Valuation) → are_equal_in σ p ≡ are_equal_in σ q) → (k : ℕ) → are_equal_below core vars p k ≡ are_equal_below core vars q k
+same-below core vars p q same zero = refl
+same-below core vars p q same (suc k) =
+    ap (λ t. t && (not (core_truth (valuation_in vars k) core) || are_equal_in (valuation_in vars k) p)) (same-below core vars p q same k)
+    ∙ ap (λ t. are_equal_below core vars q k && (not (core_truth (valuation_in vars k) core) || t)) (same (valuation_in vars k))
+
+-- over the core's variables, the rows imply what the core implies
+pub rows-imply : (core : Core) (vars : List ℕ) (a b : Atom) → AreAmong (core_vars core) vars → AreAmong (atom_vars a) vars → AreAmong (atom_vars b) vars
+    → are_equal_below core vars (a, b) (2 ^ length vars) ≡ true → (σ : Valuation) → core_truth σ core ≡ true → atom_truth σ a ≡ atom_truth σ b
+rows-imply core vars a b among over_a over_b h σ met =
+    let row = below-each core vars (a, b) (2 ^ length vars) h (row_under σ vars) (row-exists σ vars) (core-in-row σ core vars among ∙ met) in
+    sym (atom-in-row σ a vars over_a)
+    ∙ beq-true (atom_truth (valuation_in vars (row_under σ vars)) a) (atom_truth (valuation_in vars (row_under σ vars)) b) row
+    ∙ atom-in-row σ b vars over_b
+
+pub implied-rows : (core : Core) (vars : List ℕ) (a b : Atom) → ((σ : Valuation) → core_truth σ core ≡ true → atom_truth σ a ≡ atom_truth σ b)
+    → are_equal_below core vars (a, b) (2 ^ length vars) ≡ true
+implied-rows core vars a b h =
+    each-below core vars (a, b) (2 ^ length vars) (λ r l met.
+    ap (λ t. beq (atom_truth (valuation_in vars r) a) t) (sym (h (valuation_in vars r) met)) ∙ beq-refl (atom_truth (valuation_in vars r) a))
+
+-- a pair is in a list
+abbrev pub IsIn : Atom × Atom → List (Atom × Atom) → Type 0
+IsIn p [] = ⊥
+IsIn p (q ∷ pairs) = (p ≡ q) ⊎ IsIn p pairs
+
+in-filter : (test : Atom × Atom → Bool) (pairs : List (Atom × Atom)) (p : Atom × Atom) → IsIn p (filter test pairs) → IsIn p pairs × (test p ≡ true)
+in-filter test [] p h = absurd h
+in-filter test (q ∷ pairs) p h = by (test q) refl h (in-filter test pairs p)
+  where
+    by : (t : Bool) → test q ≡ t → IsIn p (cond t (q ∷ filter test pairs) (filter test pairs)) → (IsIn p (filter test pairs) → IsIn p pairs × (test p ≡ true)) → IsIn p (q ∷ pairs) × (test p ≡ true)
+    by true e (inl s) rest = (inl s, ap test s ∙ e)
+    by true e (inr i) rest = let m = rest i in (inr m.0, m.1)
+    by false e i rest = let m = rest i in (inr m.0, m.1)
+
+filter-in : (test : Atom × Atom → Bool) (pairs : List (Atom × Atom)) (p : Atom × Atom) → IsIn p pairs → test p ≡ true → IsIn p (filter test pairs)
+filter-in test [] p h e = absurd h
+filter-in test (q ∷ pairs) p h e = by (test q) refl h (λ i. filter-in test pairs p i e)
+  where
+    by : (t : Bool) → test q ≡ t → IsIn p (q ∷ pairs) → (IsIn p pairs → IsIn p (filter test pairs)) → IsIn p (cond t (q ∷ filter test pairs) (filter test pairs))
+    by true d (inl s) rest = inl s
+    by true d (inr i) rest = inr (rest i)
+    by false d (inl s) rest = absurd (let k : true ≡ false = sym e ∙ ap test s ∙ d in cc)
+    by false d (inr i) rest = rest i
+
+module _ (core : Core) (vars : List ℕ) (pairs : List (Atom × Atom)) (p : Atom × Atom) where
+  -- what the rows leave is what was there and is equally true in them
+  pub left-equal : (k : ℕ) → IsIn p (left_below core vars pairs k) → IsIn p pairs × (are_equal_below core vars p k ≡ true)
+  left-equal zero h = (h, refl)
+  left-equal (suc k) h = by (core_truth (valuation_in vars k) core) h (left-equal k)
+    where
+      by : (t : Bool) → IsIn p (cond t (filter (are_equal_in (valuation_in vars k)) (left_below core vars pairs k)) (left_below core vars pairs k))
+          → (IsIn p (left_below core vars pairs k) → IsIn p pairs × (are_equal_below core vars p k ≡ true))
+          → IsIn p pairs × ((are_equal_below core vars p k && (not t || are_equal_in (valuation_in vars k) p)) ≡ true)
+      by true i rest =
+          let f = in-filter (are_equal_in (valuation_in vars k)) (left_below core vars pairs k) p i in
+          let m = rest f.0 in (m.0, true-and (are_equal_below core vars p k) (are_equal_in (valuation_in vars k) p) m.1 f.1)
+      by false i rest = let m = rest i in (m.0, true-and (are_equal_below core vars p k) true m.1 refl)
+
+  pub equal-left : (k : ℕ) → IsIn p pairs → are_equal_below core vars p k ≡ true → IsIn p (left_below core vars pairs k)
+  equal-left zero h e = h
+  equal-left (suc k) h e = by (core_truth (valuation_in vars k) core) e (equal-left k h)
+    where
+      by : (t : Bool) → (are_equal_below core vars p k && (not t || are_equal_in (valuation_in vars k) p)) ≡ true
+          → (are_equal_below core vars p k ≡ true → IsIn p (left_below core vars pairs k))
+          → IsIn p (cond t (filter (are_equal_in (valuation_in vars k)) (left_below core vars pairs k)) (left_below core vars pairs k))
+      by true h rest =
+          let both = and-true (are_equal_below core vars p k) (are_equal_in (valuation_in vars k) p) h in
+          filter-in (are_equal_in (valuation_in vars k)) (left_below core vars pairs k) p (rest both.0) both.1
+      by false h rest = rest (and-true (are_equal_below core vars p k) true h).0
+
+-- a row in which the core is met and the atoms differ tells them apart
+pub differ-below : (core : Core) (vars : List ℕ) (p : Atom × Atom) (r k : ℕ) → r < k → core_truth (valuation_in vars r) core ≡ true → are_equal_in (valuation_in vars r) p ≡ false → are_equal_below core vars p k ≡ false
+differ-below core vars p r k l met differ = by (are_equal_below core vars p k) refl
+  where
+    by : (t : Bool) → are_equal_below core vars p k ≡ t → t ≡ false
+    by true e = absurd (let same = below-each core vars p k e r l met in cc)
+    by false e = refl
+
+-- where some rows leave nothing, more rows do
+pub none-left : (core : Core) (vars : List ℕ) (pairs : List (Atom × Atom)) (r k : ℕ) → r ≤ k → left_below core vars pairs r ≡ [] → left_below core vars pairs k ≡ []
+none-left core vars pairs r zero l e = subst (λ (n : ℕ). left_below core vars pairs n ≡ []) (let z : r ≡ 0 = omega arith in z) e
+none-left core vars pairs r (suc k) l e = at (eqb r (suc k)) refl (none-left core vars pairs r k)
+  where
+    stays : (t : Bool) → left_below core vars pairs k ≡ [] → cond t (filter (are_equal_in (valuation_in vars k)) (left_below core vars pairs k)) (left_below core vars pairs k) ≡ []
+    stays true h = ap (filter (are_equal_in (valuation_in vars k))) h
+    stays false h = h
+
+    at : (t : Bool) → eqb r (suc k) ≡ t → (r ≤ k → left_below core vars pairs r ≡ [] → left_below core vars pairs k ≡ []) → left_below core vars pairs (suc k) ≡ []
+    at true s rest = subst (λ (n : ℕ). left_below core vars pairs n ≡ []) (eqb-true r (suc k) s) e
+    at false s rest = stays (core_truth (valuation_in vars k) core) (rest (omega (arith, eqb-false r (suc k) s)) e)

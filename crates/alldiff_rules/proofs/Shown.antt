@@ -89,8 +89,8 @@ module _ (P : ℕ → Type 0) (k : ℕ) where
           (λ (a : (h.first ≡ k → ⊥) × (other_than k (Some h.first) ≡ 1)). omega (arith, a.1)) (counted k h.first)
       by (Some s) p is = ⊎_elim
           (λ (a : (h.first ≡ k) × (other_than k (Some h.first) ≡ 0)). ⊎_elim
-            (λ (b : (s ≡ k) × (other_than k (Some s) ≡ 0)). absurd (is.1 (b.0 ∙ sym a.0)))
-            (λ (b : (s ≡ k → ⊥) × (other_than k (Some s) ≡ 1)). omega (arith, b.1)) (counted k s))
+          (λ (b : (s ≡ k) × (other_than k (Some s) ≡ 0)). absurd (is.1 (b.0 ∙ sym a.0)))
+          (λ (b : (s ≡ k → ⊥) × (other_than k (Some s) ≡ 1)). omega (arith, b.1)) (counted k s))
           (λ (a : (h.first ≡ k → ⊥) × (other_than k (Some h.first) ≡ 1)). omega (arith, a.1)) (counted k h.first)
 
   -- two of them

@@ -73,7 +73,10 @@ fn clauses_over_atoms(rt: HostRuntime) -> Result<(), AllocError> {
         ("Parity 1,-2 odd", "1 -2 | -1 2 | "),
         ("Parity 1,2 even", "1 -2 | -1 2 | "),
         ("Parity 1,2,3 odd", "1 2 3 | 1 -2 -3 | -1 2 -3 | -1 -2 3 | "),
-        ("Parity 1,2,3 even", "1 2 -3 | 1 -2 3 | -1 2 3 | -1 -2 -3 | "),
+        (
+            "Parity 1,2,3 even",
+            "1 2 -3 | 1 -2 3 | -1 2 3 | -1 -2 -3 | ",
+        ),
         ("Conj 1 2,-3", "-1 2 | -1 -3 | 1 -2 3 | "),
         ("Conj -1 none", "-1 | "),
         (

@@ -157,7 +157,10 @@ fn check(rt: &impl Abort, alloc: Global, text: &str, wanted: &str) -> Result<(),
 fn parts_are_those_of_the_form(rt: HostRuntime) -> Result<(), AllocError> {
     for (text, wanted) in [
         ("Parity 1,-2,3,4 odd", "1; even 1 -2 20; odd 3 4 20"),
-        ("Parity 1,2,3,4,5,6,7 even", "1; even 1 2 20; even 3 4 5 6 7 20"),
+        (
+            "Parity 1,2,3,4,5,6,7 even",
+            "1; even 1 2 20; even 3 4 5 6 7 20",
+        ),
         ("Amo 1,2,3,4,5", "1; Amo 1 2 3 -20; Amo 4 5 20"),
         (
             "Amo 1,2,3,4,5,6,7,8,9",

@@ -166,14 +166,8 @@ pub(super) fn core_of(rt: &impl Abort, alloc: Global, text: &str) -> Result<Core
     match word(text, 0) {
         "Ladder" => Core::ladder(alloc, int(rt, alloc, word(text, 1))?),
         "Clause" => Ok(Core::Clause(atoms(rt, alloc, word(text, 1))?)),
-        "Parity" => Ok(Core::Parity(
-            atoms(rt, alloc, word(text, 1))?,
-            word(text, 2) == "odd",
-        )),
-        "Conj" => Ok(Core::Conj(
-            atom(rt, word(text, 1)),
-            atoms(rt, alloc, word(text, 2))?,
-        )),
+        "Parity" => Ok(Core::Parity(atoms(rt, alloc, word(text, 1))?, word(text, 2) == "odd")),
+        "Conj" => Ok(Core::Conj(atom(rt, word(text, 1)), atoms(rt, alloc, word(text, 2))?)),
         "Amo" => Ok(Core::Amo(atoms(rt, alloc, word(text, 1))?)),
         "LeqR" => comparison(rt, alloc, text, false),
         "EqR" => comparison(rt, alloc, text, true),

@@ -11,6 +11,8 @@ mod equi_rules;
 #[cfg(test)]
 mod form_words;
 #[cfg(test)]
+mod network_encode;
+#[cfg(test)]
 mod table_rules;
 #[cfg(test)]
 mod words;

@@ -85,32 +85,36 @@ module _ (τ : Valuation) where
   marks_tell : (var : ℕ) (a : OrdInt) (c : Atom) (vs : List ℤ) → IsOrdered τ a → MeetsAll τ (mark_cores var a c vs) → HaveMarks τ var a c vs
   marks_tell var a c [] ordered h = tt
   marks_tell var a c (v ∷ vs) ordered h =
-      let s = (MeetsAll-first τ (mark_core var a c v) (mark_cores (var + 1) a c vs)).0 h in
-      (beq_tells (τ var) (atom_truth τ (at_of a v) && (atom_truth τ (not_atom (at_of a (v +ℤ pos 1))) && (atom_truth τ c && true))) s.0 ∙ members-truth a c v ordered,
-      marks_tell (var + 1) a c vs ordered s.1)
+      let s = (MeetsAll-first τ (mark_core var a c v) (mark_cores (var + 1) a c vs)).0 h in (
+        beq_tells (τ var) (atom_truth τ (at_of a v) && (atom_truth τ (not_atom (at_of a (v +ℤ pos 1))) && (atom_truth τ c && true))) s.0 ∙ members-truth a c v ordered,
+        marks_tell (var + 1) a c vs ordered s.1,
+      )
 
   marks_made : (var : ℕ) (a : OrdInt) (c : Atom) (vs : List ℤ) → IsOrdered τ a → HaveMarks τ var a c vs → MeetsAll τ (mark_cores var a c vs)
   marks_made var a c [] ordered h = refl
   marks_made var a c (v ∷ vs) ordered h =
-      (MeetsAll-first τ (mark_core var a c v) (mark_cores (var + 1) a c vs)).1
-      (beq_made (τ var) (atom_truth τ (at_of a v) && (atom_truth τ (not_atom (at_of a (v +ℤ pos 1))) && (atom_truth τ c && true))) (h.0 ∙ sym (members-truth a c v ordered)),
-      marks_made (var + 1) a c vs ordered h.1)
+      (MeetsAll-first τ (mark_core var a c v) (mark_cores (var + 1) a c vs)).1 (
+        beq_made (τ var) (atom_truth τ (at_of a v) && (atom_truth τ (not_atom (at_of a (v +ℤ pos 1))) && (atom_truth τ c && true))) (h.0 ∙ sym (members-truth a c v ordered)),
+        marks_made (var + 1) a c vs ordered h.1,
+      )
 
   all_marks_tell : (var : ℕ) (xs : List OrdInt) (cs : List Atom) → IsTrue (all_ordered τ xs) → MeetsAll τ (all_mark_cores var xs cs) → AllHaveMarks τ var xs cs
   all_marks_tell var [] cs ordered h = tt
   all_marks_tell var (a ∷ xs) [] ordered h = tt
   all_marks_tell var (a ∷ xs) (c ∷ cs) ordered h =
-      let s = (MeetsAll-append τ (mark_cores var a c (values_of a)) (all_mark_cores (var + length (values_of a)) xs cs)).0 h in
-      (marks_tell var a c (values_of a) (and_first (in_order τ a.steps) (all_ordered τ xs) ordered) s.0,
-      all_marks_tell (var + length (values_of a)) xs cs (and_second (in_order τ a.steps) (all_ordered τ xs) ordered) s.1)
+      let s = (MeetsAll-append τ (mark_cores var a c (values_of a)) (all_mark_cores (var + length (values_of a)) xs cs)).0 h in (
+        marks_tell var a c (values_of a) (and_first (in_order τ a.steps) (all_ordered τ xs) ordered) s.0,
+        all_marks_tell (var + length (values_of a)) xs cs (and_second (in_order τ a.steps) (all_ordered τ xs) ordered) s.1,
+      )
 
   all_marks_made : (var : ℕ) (xs : List OrdInt) (cs : List Atom) → IsTrue (all_ordered τ xs) → AllHaveMarks τ var xs cs → MeetsAll τ (all_mark_cores var xs cs)
   all_marks_made var [] cs ordered h = refl
   all_marks_made var (a ∷ xs) [] ordered h = refl
   all_marks_made var (a ∷ xs) (c ∷ cs) ordered h =
-      (MeetsAll-append τ (mark_cores var a c (values_of a)) (all_mark_cores (var + length (values_of a)) xs cs)).1
-      (marks_made var a c (values_of a) (and_first (in_order τ a.steps) (all_ordered τ xs) ordered) h.0,
-      all_marks_made (var + length (values_of a)) xs cs (and_second (in_order τ a.steps) (all_ordered τ xs) ordered) h.1)
+      (MeetsAll-append τ (mark_cores var a c (values_of a)) (all_mark_cores (var + length (values_of a)) xs cs)).1 (
+        marks_made var a c (values_of a) (and_first (in_order τ a.steps) (all_ordered τ xs) ordered) h.0,
+        all_marks_made (var + length (values_of a)) xs cs (and_second (in_order τ a.steps) (all_ordered τ xs) ordered) h.1,
+      )
 
   ladders-truth : (xs : List OrdInt) → cores_truth τ (map (λ a. Ladder a) xs) ≡ all_ordered τ xs
   ladders-truth [] = refl
@@ -255,9 +259,10 @@ AreListed τ var (b ∷ bs) = (τ var ≡ b) × AreListed τ (var + 1) bs
 listed-at : (τ : Valuation) (var : ℕ) (bs : List Bool) → ((i : ℕ) → τ (var + i) ≡ truth_at bs i) → AreListed τ var bs
 listed-at τ var [] h = tt
 listed-at τ var (b ∷ bs) h =
-    let e : var + 0 ≡ var = omega arith in
-    (subst (λ (n : ℕ). τ n ≡ b) e (h 0),
-    listed-at τ (var + 1) bs (λ i. let f : var + suc i ≡ var + 1 + i = omega arith in subst (λ (n : ℕ). τ n ≡ truth_at bs i) f (h (suc i))))
+    let e : var + 0 ≡ var = omega arith in (
+      subst (λ (n : ℕ). τ n ≡ b) e (h 0),
+      listed-at τ (var + 1) bs (λ i. let f : var + suc i ≡ var + 1 + i = omega arith in subst (λ (n : ℕ). τ n ≡ truth_at bs i) f (h (suc i))),
+    )
 
 listed-marks : (σ τ : Valuation) (var : ℕ) (a : OrdInt) (c : Atom) (vs : List ℤ) (more : List Bool) → value_of σ a ≡ value_of τ a → atom_truth σ c ≡ atom_truth τ c
     → AreListed τ var (map (λ v. int_eq v (value_of σ a) && atom_truth σ c) vs ++ more) → HaveMarks τ var a c vs × AreListed τ (var + length vs) more
@@ -308,9 +313,10 @@ module _ (n : ℕ) where
 
   marks-below : (var : ℕ) (a : OrdInt) (c : Atom) (vs : List ℤ) → 1 ≤ var → var + length vs ≤ n → IntBelow n a → AtomBelow n c → CoresBelow n (mark_cores var a c vs)
   marks-below var a c [] some few ints below = tt
-  marks-below var a c (v ∷ vs) some few ints below =
-      ((((some, omega arith), (AtomBelow-at_of n a v ints, (AtomBelow-not_atom n (at_of a (v +ℤ pos 1)) (AtomBelow-at_of n a (v +ℤ pos 1) ints), (below, tt)))), tt),
-      marks-below (var + 1) a c vs (omega arith) (omega arith) ints below)
+  marks-below var a c (v ∷ vs) some few ints below = (
+    (((some, omega arith), (AtomBelow-at_of n a v ints, (AtomBelow-not_atom n (at_of a (v +ℤ pos 1)) (AtomBelow-at_of n a (v +ℤ pos 1) ints), (below, tt)))), tt),
+    marks-below (var + 1) a c vs (omega arith) (omega arith) ints below,
+  )
 
   all_marks-below : (var : ℕ) (xs : List OrdInt) (cs : List Atom) → 1 ≤ var → var + length (all_values xs) ≤ n → IntsBelow n xs → AtomsBelow n cs → CoresBelow n (all_mark_cores var xs cs)
   all_marks-below var [] cs some few ints below = tt

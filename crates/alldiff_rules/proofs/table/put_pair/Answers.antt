@@ -2,7 +2,6 @@ use Rattle.std.proofs.Common.{◌≡◌, ◌∙◌, ap, subst, Some, Option, ℤ
 use Rattle.std.specs.Int.{w128}
 use Rattle.std.proofs.lemmas.Int.{to_z-of_z}
 use Rattle.std.specs.BTreeMap.{get, Updates}
-
 use Rattle.alldiff_rules.specs.declared.table.Places.{Places}
 use Rattle.alldiff_rules.specs.Table.{pair_cmp, joined}
 use Rattle.alldiff_rules.proofs.table.put_pair.Goals as goal

@@ -14,19 +14,20 @@ use Rattle.core_forms.specs.Meaning.{core_truth}
 use Rattle.core_forms.specs.Cores.{cores_truth}
 use Rattle.core_forms.specs.Trimmed.{trimmed_core}
 use Rattle.core_forms.proofs.TidiedCores.{core_truth-trimmed}
+use Rattle.core_forms.proofs.Kept.{IsWellFormed-trimmed}
 use Rattle.core_forms.proofs.Places.{CoreBelow-trimmed}
 use Rattle.direct_encode.specs.Clauses.{IsEncodable}
-use Rattle.direct_encode.proofs.Truths.{truth-clauses_of}
+use Rattle.direct_encode.proofs.CoreTruths.{truth-clauses_of}
 use Rattle.direct_encode.proofs.Places.{below-clauses_of}
 use Rattle.model_lower.specs.Fits.{IsFirstForm, CoreFits, CoresFit}
 use Rattle.bee_compile.specs.Encoded.{encoded_core, encoded, each_ordered}
 
 -- the first forms are encoded, trimmed or not
 pub encodable : (core : Core) → IsFirstForm core → IsEncodable (trimmed_core [] core)
-encodable (Ladder a) form = tt
-encodable (Clause ls) form = tt
-encodable (LeqR r a b) form = tt
-encodable (EqR r a b) form = tt
+encodable (Ladder a) form = (refl, tt)
+encodable (Clause ls) form = (refl, tt)
+encodable (LeqR r a b) form = (refl, tt)
+encodable (EqR r a b) form = (refl, tt)
 encodable (Parity ls odd) form = elim form [ ]
 encodable (Conj r ls) form = elim form [ ]
 encodable (Comp a b hi lo) form = elim form [ ]
@@ -42,7 +43,7 @@ encodable (Lex r strict front back) form = elim form [ ]
 
 pub truth-encoded_core : (σ : Valuation) (n : ℕ) (core : Core) → CoreFits n core → atom_clauses_truth σ (encoded_core core) ≡ core_truth σ core
 truth-encoded_core σ n core fits =
-    truth-clauses_of σ (trimmed_core [] core) (encodable core fits.form)
+    truth-clauses_of σ (trimmed_core [] core) (encodable core fits.form).0 (IsWellFormed-trimmed [] core fits.well_formed)
     ∙ core_truth-trimmed σ [] n core fits.below (MeetsView-nil σ)
 
 pub below-encoded_core : (n : ℕ) (core : Core) → CoreFits n core → AtomClausesBelow n (encoded_core core)

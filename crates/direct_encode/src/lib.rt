@@ -1,10 +1,14 @@
 //! The direct encoding: the clauses of a core in a basic form.
 #![tactic(auto)]
 
+mod atom_lists;
 mod clause;
 mod comparison;
 mod forms;
 pub mod laws;
+mod maxima;
 mod order;
+mod sums;
+mod table;
 
 pub use forms::clauses;

@@ -2,24 +2,29 @@
 
 ghost use Rattle.std.specs.Prelude.{IsTrue};
 ghost use Rattle.core_forms.specs.WellFormed.{IsWellFormed};
-ghost use Rattle.direct_encode.specs.Clauses.{IsEncodable};
+ghost use Rattle.direct_encode.specs.Clauses.{IsWritten};
 
 use crate::words::core_of;
 use bee_list::Sequence;
 use bee_text::{push_blank, push_bytes, push_signed};
-use core_forms::Core;
+use core_forms::{Core, is_basic};
 use direct_encode::clauses;
 use order_ints::Atom;
 use std::alloc::{AllocError, Global};
 use std::process::Abort;
 
-/// Whether a core is of a form that has clauses.
-fn has_clauses(core: &Core) -> bool
-    ensures { IsTrue result → IsEncodable core.now }
+/// Whether clauses of the core's form are written today.
+fn is_written(core: &Core) -> bool
+    ensures { IsTrue result → IsWritten core.now }
 {
-    matches!(
+    !matches!(
         core,
-        Core::Ladder(_) | Core::Clause(_) | Core::LeqR(_, _, _) | Core::EqR(_, _, _)
+        Core::Count(_, _)
+            | Core::Sum(_, _)
+            | Core::AllDiff(_, _)
+            | Core::Prod(_, _, _)
+            | Core::DivMod(_, _, _, _)
+            | Core::Lex(_, _, _, _)
     )
 }
 
@@ -48,8 +53,8 @@ fn put(text: &mut Vec<u8>, clause: &Sequence<Atom>) -> Result<(), AllocError> {
 fn shown(rt: &impl Abort, alloc: Global, core: &Core) -> Result<Vec<u8>, AllocError>
     requires { IsWellFormed core.now }
 {
-    let encodable = has_clauses(core);
-    assert!(rt; encodable);
+    let (basic, written) = (is_basic(core), is_written(core));
+    assert!(rt; basic && written);
     let mut text = Vec::new(alloc);
     for clause in clauses(alloc, core)?.iter() {
         put(&mut text, clause)?;
@@ -59,10 +64,39 @@ fn shown(rt: &impl Abort, alloc: Global, core: &Core) -> Result<Vec<u8>, AllocEr
 }
 
 #[test]
-fn clauses_are_those_of_the_form(rt: HostRuntime) -> Result<(), AllocError> {
+fn clauses_over_atoms(rt: HostRuntime) -> Result<(), AllocError> {
+    for (text, wanted) in [
+        ("Clause 1,-2,1", "1 -2 1 | "),
+        ("Parity none odd", "| "),
+        ("Parity none even", ""),
+        ("Parity 1 even", "-1 | "),
+        ("Parity 1,-2 odd", "1 -2 | -1 2 | "),
+        ("Parity 1,2 even", "1 -2 | -1 2 | "),
+        ("Parity 1,2,3 odd", "1 2 3 | 1 -2 -3 | -1 2 -3 | -1 -2 3 | "),
+        (
+            "Parity 1,2,3 even",
+            "1 2 -3 | 1 -2 3 | -1 2 3 | -1 -2 -3 | ",
+        ),
+        ("Conj 1 2,-3", "-1 2 | -1 -3 | 1 -2 3 | "),
+        ("Conj -1 none", "-1 | "),
+        (
+            "Comp 1 2 3 4",
+            "-1 3 | -2 3 | -3 1 2 | -4 1 | -4 2 | 4 -1 -2 | ",
+        ),
+        ("Amo 1", ""),
+        ("Amo 1,-2,3", "-1 2 | -1 -3 | 2 -3 | "),
+    ] {
+        let core = core_of(&rt, rt.alloc(), text)?;
+        let found = shown(&rt, rt.alloc(), &core)?;
+        assert_eq!(rt; found.as_slice(), wanted.as_bytes(), "{text}");
+    }
+    Ok(())
+}
+
+#[test]
+fn clauses_over_integers(rt: HostRuntime) -> Result<(), AllocError> {
     for (text, wanted) in [
         ("Ladder 0,1,2,3", "1 -2 | 2 -3 | "),
-        ("Clause 1,-2,1", "1 -2 1 | "),
         ("LeqR T 0,1@1 0,1@2", "F F T | F -1 2 | T F 1 | T -2 F | "),
         (
             "LeqR 5 0,2,5 1,4@3",
@@ -80,6 +114,31 @@ fn clauses_are_those_of_the_form(rt: HostRuntime) -> Result<(), AllocError> {
         (
             "EqR 4 0,2,5 2,5@3",
             "1 -2 | -4 F T | -4 -1 T | -4 -2 3 | -4 F 1 | -4 -3 2 | 4 -1 2 F 3 | 4 -2 F -3 F | ",
+        ),
+        (
+            "Max -1,2@1;0,4@2 -1,2,4@3",
+            "3 -4 | F T | -1 3 | F 3 | -2 4 | F T T | -3 1 2 | -4 F 2 | ",
+        ),
+    ] {
+        let core = core_of(&rt, rt.alloc(), text)?;
+        let found = shown(&rt, rt.alloc(), &core)?;
+        assert_eq!(rt; found.as_slice(), wanted.as_bytes(), "{text}");
+    }
+    Ok(())
+}
+
+/// A sum has the clauses that hold from a pair of values on, and those that hold up to it; one is left out
+/// where the place beside it has the same atom.
+#[test]
+fn clauses_of_sums(rt: HostRuntime) -> Result<(), AllocError> {
+    for (text, wanted) in [
+        (
+            "Sum3 0,1@1 0,1@2 0,1,2@3",
+            "3 -4 | F F T | 1 2 -3 | F -2 3 | 1 F -4 | -1 F 3 | F 2 -4 | -1 -2 4 | F F T | ",
+        ),
+        (
+            "Sum3 0,2@1 -1,2@2 -1,4@3",
+            "F F T | F -2 3 | 1 F -3 | -1 F 3 | F 2 -3 | F F T | ",
         ),
     ] {
         let core = core_of(&rt, rt.alloc(), text)?;

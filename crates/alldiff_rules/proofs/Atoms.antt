@@ -1,9 +1,8 @@
 -- What holds of a core's atoms holds of the atoms of the equations that it states.
-use Rattle.std.proofs.Common.{◌≡◌, ℕ, zero, suc, ◌<◌, Bool, true, false, cond, ◌⊎◌, inl, inr, List, [], ◌∷◌, ◌++◌, ℤ, pos, ◌+ℤ◌, ap, sym, subst, ⊎_elim}
+use Rattle.std.proofs.Common.{◌≡◌, ℕ, zero, suc, Bool, true, false, cond, inl, inr, List, [], ◌∷◌, ◌++◌, ℤ, pos, ◌+ℤ◌, sym, subst, ⊎_elim}
 use Rattle.order_ints.specs.declared.atom.Atom.{Atom}
 use Rattle.order_ints.specs.declared.atom.Atom.TheVariants.{True, False, Of}
 use Rattle.order_ints.specs.declared.order_int.OrdInt.{OrdInt}
-use Rattle.order_ints.specs.Truth.{not_atom}
 use Rattle.order_ints.specs.Place.{AtomBelow}
 use Rattle.order_ints.specs.OrderRange.{low_of, high_of}
 use Rattle.order_ints.specs.OrderLevels.{at_of}
@@ -17,7 +16,7 @@ use Rattle.core_forms.proofs.EachLaws.{each_below}
 use Rattle.rule_base.specs.Pairs.{IsClosed}
 use Rattle.rule_base.proofs.StatedLaws.{each-at_of}
 use Rattle.alldiff_rules.specs.Members.{int_at, condition_at, choice_of}
-use Rattle.alldiff_rules.specs.Rows.{AreTwins, IsRow, too_few, needed_elsewhere, equal_constants, opposite_twins, reached_alone, passed_alone, lex_equations}
+use Rattle.alldiff_rules.specs.Rows.{IsRow, too_few, needed_elsewhere, equal_constants, opposite_twins, reached_alone, passed_alone, lex_equations}
 use Rattle.alldiff_rules.specs.Instances.{IsOneOf, IsStated, IsInstance}
 
 module _ (P : Atom → Type 0) (closed : IsClosed P) where

@@ -1,21 +1,16 @@
 -- What a valuation that meets all-different says of its members by their places.
-use Rattle.std.proofs.Common.{◌≡◌, ℕ, zero, suc, ◌+◌, ◌≤◌, ◌<◌, Bool, true, false, not, cond, ◌&&◌, ◌||◌, ◌⊎◌, inl, inr, List, [], ◌∷◌, length, get_or, ℤ, pos, ◌+ℤ◌, refl, ap, sym, ◌∙◌, subst, arith, ⊎_elim}
-use Rattle.std.specs.Prelude.{IsTrue, Contains}
+use Rattle.std.proofs.Common.{◌≡◌, ℕ, zero, suc, ◌≤◌, ◌<◌, Bool, true, false, not, ◌&&◌, ◌||◌, List, [], ◌∷◌, length, get_or, ℤ, pos, refl, ap, sym, ◌∙◌, subst, arith, ⊎_elim}
 use Rattle.std.specs.Ordering.{int_eq}
-use Rattle.std.proofs.lemmas.Bool.{true≢false, false≢true, cases_lt}
-use Rattle.std.proofs.lemmas.Int.{ints}
+use Rattle.std.proofs.lemmas.Bool.{false≢true, cases_lt}
 use Rattle.order_ints.specs.declared.atom.Atom.{Atom}
-use Rattle.order_ints.specs.declared.atom.Atom.TheVariants.{True, False}
 use Rattle.order_ints.specs.declared.order_int.OrdInt.{OrdInt}
 use Rattle.order_ints.specs.Truth.{Valuation, atom_truth}
-use Rattle.order_ints.specs.OrderValue.{value_of, in_order, IsOrdered}
+use Rattle.order_ints.specs.OrderValue.{value_of, in_order}
 use Rattle.order_ints.specs.OrderLevels.{values_of, is_among}
-use Rattle.order_ints.specs.OrderMade.{constant_of}
 use Rattle.order_ints.proofs.Reaching.{Contains-value_of}
-use Rattle.core_forms.specs.Each.{EachOf}
 use Rattle.core_forms.specs.Truths.{truths}
 use Rattle.core_forms.specs.Values.{all_ordered, values, none_equal, all_differ}
-use Rattle.alldiff_rules.specs.Members.{int_at, condition_at, IsSure, AreAllSure, choice_of, all_values}
+use Rattle.alldiff_rules.specs.Members.{int_at, condition_at, IsSure, AreAllSure, all_values}
 use Rattle.alldiff_rules.proofs.Pigeonhole.{int_eq-same, int_eq-refl, NoRepeats, LiesIn, among-first, among-later, among-cases, among-left, among-right}
 
 pub and-left : (s t : Bool) → (s && t) ≡ true → s ≡ true

@@ -1,10 +1,10 @@
 -- The first three places: one more, and how many are others than a given one.
-use Rattle.std.proofs.Common.{◌≡◌, ℕ, zero, suc, ◌+◌, ◌≤◌, ◌<◌, Bool, true, false, cond, ◌⊎◌, inl, inr, refl, ap, sym, ◌∙◌, subst, arith, ⊎_elim, Option, None, Some}
+use Rattle.std.proofs.Common.{◌≡◌, ℕ, ◌+◌, ◌≤◌, Bool, true, false, cond, ◌⊎◌, inl, inr, refl, ap, sym, ◌∙◌, subst, arith, ⊎_elim, Option, None, Some}
 use Rattle.std.specs.Prelude.{◌==◌, nat_le}
 use Rattle.std.proofs.lemmas.Bool.Decides.{nat_tests}
 use Rattle.std.proofs.lemmas.Bool.{false≢true, eqb-true, eqb-false, eq-eqb, ne_eqb, cases_eq, cond-true, cond-false}
 use Rattle.alldiff_rules.specs.declared.table.Places.{Places}
-use Rattle.alldiff_rules.specs.Table.{with_third, with_second, with_place, joined, other_than, number_other, has_others, HasOther, HasTwoOthers, ShowsThird, ShowsSecond, Shows}
+use Rattle.alldiff_rules.specs.Table.{with_third, with_second, joined, other_than, number_other, has_others, HasOther, HasTwoOthers, ShowsThird, ShowsSecond, Shows}
 
 module _ (P Q : ℕ → Type 0) (i : ℕ) (here : Q i) (more : (j : ℕ) → P j → Q j) (fewer : (j : ℕ) → Q j → P j ⊎ (j ≡ i)) where
   -- one place more

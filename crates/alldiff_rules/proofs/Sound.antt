@@ -1,19 +1,18 @@
 -- The equations that all-different and lexicographic order state hold where they are met.
-use Rattle.std.proofs.Common.{◌≡◌, ℕ, zero, suc, ◌+◌, ◌≤◌, ◌<◌, Bool, true, false, not, cond, ◌&&◌, ◌||◌, ◌⊎◌, inl, inr, List, [], ◌∷◌, length, ℤ, pos, ◌+ℤ◌, ◌≤ℤ◌, ◌<ℤ◌, refl, ap, sym, ◌∙◌, subst, arith, ⊎_elim}
-use Rattle.std.specs.Prelude.{IsTrue, int_lt, int_le}
+use Rattle.std.proofs.Common.{◌≡◌, ℕ, ◌+◌, ◌≤◌, ◌<◌, Bool, true, false, not, cond, ◌&&◌, ◌⊎◌, inl, inr, List, [], ◌∷◌, length, ℤ, pos, ◌+ℤ◌, ◌≤ℤ◌, ◌<ℤ◌, refl, ap, sym, ◌∙◌, subst, arith, ⊎_elim}
+use Rattle.std.specs.Prelude.{int_lt}
 use Rattle.std.specs.Bool.{beq}
 use Rattle.std.specs.Ordering.{int_eq}
-use Rattle.std.proofs.lemmas.Bool.{true≢false, false≢true, cases_eq, cases_Bool, false_from_ne_true}
+use Rattle.std.proofs.lemmas.Bool.{true≢false, false≢true, cases_eq, false_from_ne_true}
 use Rattle.std.proofs.lemmas.Int.{ints}
 use Rattle.order_ints.specs.declared.atom.Atom.{Atom}
 use Rattle.order_ints.specs.declared.atom.Atom.TheVariants.{True, False, Of}
 use Rattle.order_ints.specs.declared.order_int.OrdInt.{OrdInt}
-use Rattle.order_ints.specs.Truth.{Valuation, atom_truth, not_atom}
+use Rattle.order_ints.specs.Truth.{Valuation, atom_truth}
 use Rattle.order_ints.specs.OrderValue.{value_of, in_order}
 use Rattle.order_ints.specs.OrderRange.{low_of, high_of}
-use Rattle.order_ints.specs.OrderLevels.{values_of, at_of, is_among}
+use Rattle.order_ints.specs.OrderLevels.{values_of, is_among}
 use Rattle.order_ints.specs.OrderMade.{constant_of}
-use Rattle.order_ints.specs.Same.{is_true}
 use Rattle.order_ints.proofs.Truths.{atom_truth-not_atom}
 use Rattle.order_ints.proofs.Gains.{low-le, high-ge}
 use Rattle.core_forms.specs.declared.form.Core.{Core}
@@ -23,8 +22,7 @@ use Rattle.core_forms.specs.WellFormed.{IsWellFormed}
 use Rattle.core_forms.specs.Meaning.{Meets}
 use Rattle.core_forms.specs.Truths.{truths}
 use Rattle.core_forms.specs.Values.{all_ordered, values, all_differ, is_before}
-use Rattle.rule_base.specs.Pairs.{only_if}
-use Rattle.rule_base.specs.Stated.{is_not, is_below, at_least}
+use Rattle.rule_base.specs.Stated.{is_below, at_least}
 use Rattle.rule_base.specs.Found.{IsImplied}
 use Rattle.rule_base.proofs.StatedLaws.{at_of-reached, at_of-passed, is_not-equal}
 use Rattle.alldiff_rules.specs.Members.{int_at, condition_at, IsSure, AreAllSure, choice_of, all_values, number_of_values}

@@ -1,5 +1,5 @@
 -- Members by their places: their limits, and what kind they are.
-use Rattle.std.proofs.Common.{◌≡◌, ℕ, zero, suc, ◌+◌, ◌<◌, ◌^◌, Bool, true, false, cond, List, [], ◌∷◌, length, get_or, ℤ, pos, ◌+ℤ◌, to_z, of_z, refl, sym, ap, ◌∙◌, subst, arith, Option}
+use Rattle.std.proofs.Common.{◌≡◌, ℕ, zero, suc, ◌<◌, ◌^◌, Bool, cond, List, [], ◌∷◌, length, get_or, ℤ, pos, ◌+ℤ◌, to_z, of_z, refl, sym, ap, ◌∙◌, arith, Option}
 use Rattle.std.specs.Prelude.{unsigned_abs}
 use Rattle.std.specs.Option.{option_or}
 use Rattle.std.specs.Int.{w128}
@@ -8,7 +8,6 @@ use Rattle.order_ints.specs.declared.atom.Atom.{Atom}
 use Rattle.order_ints.specs.declared.order_int.OrdInt.{OrdInt}
 use Rattle.order_ints.specs.declared.atom.Atom.TheVariants.{True, False}
 use Rattle.order_ints.specs.OrderRange.{low_of, high_of}
-use Rattle.order_ints.specs.OrderMade.{constant_of}
 use Rattle.order_ints.specs.Same.{is_true}
 use Rattle.core_forms.specs.WellFormed.{IsSound, AreSound}
 use Rattle.core_forms.proofs.Bounds.{wide_bits}

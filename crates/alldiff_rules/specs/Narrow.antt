@@ -1,5 +1,5 @@
 -- The tables of sure members with one value or two.
-use Rattle.std.specs.Prelude.{ℕ, ◌<◌, true, false, List, length, ℤ}
+use Rattle.std.specs.Prelude.{◌<◌, true, false, List, length, ℤ}
 use Rattle.std.specs.BTreeMap.{get}
 use Rattle.std.specs.Ordering.{int_cmp}
 use Rattle.order_ints.specs.declared.atom.Atom.{Atom}

@@ -14,7 +14,8 @@ ghost use Rattle.alldiff_rules.specs.Instances.{IsInstance};
 
 /// An instance is implied: under each valuation that meets the core its two atoms are equally true.
 pub fn implied_law()
-    ensures { (core : Core) (e : Equation) → IsWellFormed core → IsInstance core e → IsImplied core e }
+    ensures { (core : Core) (e : Equation)
+        → IsWellFormed core → IsInstance core e → IsImplied core e }
 {}
 
 /// What holds of True and False, of the negation of each atom of which it holds, and of each atom of the

@@ -53,7 +53,8 @@ pub(crate) fn choice_at(ints: &[OrdInt], conditions: &[Atom], place: usize) -> O
     requires sound { AreSound ints.now }
     ensures value { MatchOption result
         ((v : ℤ) (d : ℕ) → IsChoiceAt ints.now conditions.now v d place → ⊥)
-        (λ c. IsSure conditions.now place × (int_at ints.now place ≡ choice_of c.low c.atom c.weight)) }
+        (λ c. IsSure conditions.now place
+        × (int_at ints.now place ≡ choice_of c.low c.atom c.weight)) }
     ensures small { IfSome result (λ c. unsigned_abs c.low < 2 ^ 100) }
 {
     let a = &ints[place];
@@ -77,7 +78,8 @@ pub(crate) fn constants(
     requires lengths { length ints.now ≡ length conditions.now }
     requires sound { AreSound ints.now }
     ensures { IfOk result (λ table. (v : ℤ)
-        → Shows (λ i. (i < length ints.now) × IsConstantAt ints.now conditions.now v i) (get int_cmp table v)) }
+        → Shows (λ i. (i < length ints.now) × IsConstantAt ints.now conditions.now v i)
+        (get int_cmp table v)) }
 {
     let mut table = BTreeMap::new(alloc);
     for place in 0..ints.len() {
@@ -97,7 +99,8 @@ pub(crate) fn choices(
     requires lengths { length ints.now ≡ length conditions.now }
     requires sound { AreSound ints.now }
     ensures { IfOk result (λ table. (key : ℤ × ℕ)
-        → Shows (λ i. (i < length ints.now) × IsChoiceAt ints.now conditions.now key.0 key.1 i) (get pair_cmp table key)) }
+        → Shows (λ i. (i < length ints.now) × IsChoiceAt ints.now conditions.now key.0 key.1 i)
+        (get pair_cmp table key)) }
 {
     let mut table = BTreeMap::new(alloc);
     for place in 0..ints.len() {
@@ -139,7 +142,8 @@ fn held_value(
     requires conditions { place < length conditions.now }
     requires sound { AreSound ints.now }
     requires choices { (key : ℤ × ℕ)
-        → Shows (λ i. (i < length ints.now) × IsChoiceAt ints.now conditions.now key.0 key.1 i) (get pair_cmp choices.now key) }
+        → Shows (λ i. (i < length ints.now) × IsChoiceAt ints.now conditions.now key.0 key.1 i)
+        (get pair_cmp choices.now key) }
     ensures value { MatchOption result
         ((v : ℤ) → IsHolderAt ints.now conditions.now upper v place → ⊥)
         (λ v. IsHolderAt ints.now conditions.now upper v place) }
@@ -168,9 +172,11 @@ fn holders(
     requires lengths { length ints.now ≡ length conditions.now }
     requires sound { AreSound ints.now }
     requires choices { (key : ℤ × ℕ)
-        → Shows (λ i. (i < length ints.now) × IsChoiceAt ints.now conditions.now key.0 key.1 i) (get pair_cmp choices.now key) }
+        → Shows (λ i. (i < length ints.now) × IsChoiceAt ints.now conditions.now key.0 key.1 i)
+        (get pair_cmp choices.now key) }
     ensures { IfOk result (λ table. (v : ℤ)
-        → Shows (λ i. (i < length ints.now) × IsHolderAt ints.now conditions.now upper v i) (get int_cmp table v)) }
+        → Shows (λ i. (i < length ints.now) × IsHolderAt ints.now conditions.now upper v i)
+        (get int_cmp table v)) }
 {
     let mut table = BTreeMap::new(alloc);
     for place in 0..ints.len() {

@@ -98,7 +98,8 @@ pub(crate) fn put(
     place: usize,
 ) -> Result<(), AllocError>
     ensures { OnOk result
-        (Updates int_cmp table.old table.new value (Some (joined (get int_cmp table.old value) place))) }
+        (Updates int_cmp table.old table.new value
+        (Some (joined (get int_cmp table.old value) place))) }
 {
     let places = joined(table.get(&value).copied(), place);
     table.insert(value, places)?;
@@ -113,7 +114,8 @@ pub(crate) fn put_pair(
     place: usize,
 ) -> Result<(), AllocError>
     ensures { OnOk result
-        (Updates pair_cmp table.old table.new (low, weight) (Some (joined (get pair_cmp table.old (low, weight)) place))) }
+        (Updates pair_cmp table.old table.new (low, weight)
+        (Some (joined (get pair_cmp table.old (low, weight)) place))) }
 {
     let pair = (low, weight);
     let places = joined(table.get(&pair).copied(), place);

@@ -1,4 +1,4 @@
-use Rattle.std.proofs.Common.{◌≡◌, sym, subst}
+use Rattle.std.proofs.Common.{sym, subst}
 use Rattle.core_forms.specs.WellFormed.{IsSound}
 use Rattle.alldiff_rules.proofs.Sounds.{sound-at}
 use Rattle.alldiff_rules.proofs.narrow.choice_at.Goals as goal

@@ -1,9 +1,7 @@
-use Rattle.std.proofs.Common.{◌≡◌, ◌<◌, ◌+◌, ℤ, ℕ, sym, ap, ◌∙◌, subst, to_z, of_z, refl}
+use Rattle.std.proofs.Common.{◌≡◌, ◌<◌, ◌+◌, ℤ, ℕ, sym, ◌∙◌, subst, to_z, of_z}
 use Rattle.std.specs.Int.{w128}
 use Rattle.std.specs.BTreeMap.{BTreeMap, get, Updates}
 use Rattle.std.specs.Prelude.{Some}
-use Rattle.std.specs.Ordering.{int_cmp, nat_cmp}
-use Rattle.std.proofs.lemmas.Cmp.{tied_itself, int_cmp_total, nat_cmp_total, then_total, on_total}
 use Rattle.core_forms.proofs.Bounds.{small_bits}
 use Rattle.alldiff_rules.specs.declared.table.Places.{Places}
 use Rattle.alldiff_rules.specs.Members.{IsChoiceAt}

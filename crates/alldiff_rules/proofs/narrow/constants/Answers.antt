@@ -1,4 +1,4 @@
-use Rattle.std.proofs.Common.{◌≡◌, ◌<◌, ◌+◌, ℤ, ℕ, sym, ap, ◌∙◌, subst, to_z, of_z}
+use Rattle.std.proofs.Common.{◌≡◌, ◌<◌, ◌+◌, ℤ, sym, ap, ◌∙◌, subst, to_z, of_z}
 use Rattle.std.specs.Int.{w128}
 use Rattle.std.specs.BTreeMap.{BTreeMap, get, Updates}
 use Rattle.std.specs.Ordering.{int_cmp}
@@ -9,7 +9,7 @@ use Rattle.order_ints.specs.declared.order_int.OrdInt.{OrdInt}
 use Rattle.order_ints.specs.OrderMade.{constant_of}
 use Rattle.core_forms.proofs.Bounds.{small_bits}
 use Rattle.alldiff_rules.specs.declared.table.Places.{Places}
-use Rattle.alldiff_rules.specs.Members.{int_at, IsConstantAt}
+use Rattle.alldiff_rules.specs.Members.{IsConstantAt}
 use Rattle.alldiff_rules.specs.Table.{joined, Shows}
 use Rattle.alldiff_rules.proofs.Tables.{next-shown, none-shown}
 use Rattle.alldiff_rules.proofs.narrow.constants.Goals as goal

@@ -1,8 +1,8 @@
-use Rattle.std.proofs.Common.{◌≡◌, ◌∙◌, sym, ap, subst, refl, true, false}
+use Rattle.std.proofs.Common.{◌≡◌, ◌∙◌, sym, subst}
 use Rattle.std.specs.BTreeMap.{get}
 use Rattle.core_forms.specs.WellFormed.{IsSound}
 use Rattle.core_forms.proofs.Bounds.{small_bits}
-use Rattle.alldiff_rules.specs.Table.{pair_cmp, has_others}
+use Rattle.alldiff_rules.specs.Table.{pair_cmp}
 use Rattle.alldiff_rules.specs.Members.{choice_of}
 use Rattle.alldiff_rules.proofs.Sounds.{sound-at}
 use Rattle.alldiff_rules.proofs.Holders.{end-of, read-choice, held-yes, held-no, held-none}

@@ -1,12 +1,10 @@
-use Rattle.std.proofs.Common.{◌≡◌, ◌<◌, ◌+◌, ℤ, ℕ, sym, ap, ◌∙◌, subst, to_z, of_z, length, arith}
+use Rattle.std.proofs.Common.{◌≡◌, ◌<◌, ◌+◌, ℤ, ℕ, sym, subst, to_z, of_z, length, arith}
 use Rattle.std.specs.Int.{w128}
 use Rattle.std.specs.BTreeMap.{BTreeMap, get, Updates}
 use Rattle.std.specs.Ordering.{int_cmp}
 use Rattle.std.specs.Prelude.{Some}
 use Rattle.std.proofs.lemmas.Cmp.{tied_itself, int_cmp_total}
 use Rattle.std.proofs.lemmas.Map.Lookups.{exact_signed}
-use Rattle.order_ints.specs.declared.order_int.OrdInt.{OrdInt}
-use Rattle.order_ints.specs.OrderMade.{constant_of}
 use Rattle.core_forms.proofs.Bounds.{small_bits}
 use Rattle.alldiff_rules.specs.declared.table.Places.{Places}
 use Rattle.alldiff_rules.specs.Members.{IsHolderAt}

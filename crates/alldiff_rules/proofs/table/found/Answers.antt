@@ -1,4 +1,4 @@
-use Rattle.std.proofs.Common.{◌≡◌, ◌∙◌, ap, ℤ}
+use Rattle.std.proofs.Common.{◌∙◌, ap, ℤ}
 use Rattle.std.specs.Int.{w128}
 use Rattle.std.specs.BTreeMap.{get}
 use Rattle.std.specs.Ordering.{int_cmp}

@@ -1,4 +1,4 @@
-use Rattle.std.proofs.Common.{◌≡◌, ◌∙◌, ◌||◌, Bool, true, ℤ, ap, sym, Option, to_z, of_z}
+use Rattle.std.proofs.Common.{◌≡◌, ◌∙◌, ◌||◌, ℤ, ap, sym, Option, to_z, of_z}
 use Rattle.std.specs.Int.{w128}
 use Rattle.std.specs.BTreeMap.{get}
 use Rattle.std.specs.Ordering.{int_cmp}

@@ -1,6 +1,6 @@
 //! Merges of classes: a table worked out by hand, a walk, and random merges compared with a plain program.
 
-ghost use Rattle.std.specs.Prelude.{◌↔◌, ◌+◌, IsTrue};
+ghost use Rattle.std.specs.Prelude.{◌↔◌, ◌+◌, ◌<◌, IsTrue};
 ghost use Rattle.order_ints.specs.Place.{AtomBelow};
 ghost use Rattle.equation_store.specs.Laws.{IsConstant};
 

@@ -21,6 +21,8 @@ mod lists;
 #[cfg(test)]
 mod meanings;
 #[cfg(test)]
+mod numbers;
+#[cfg(test)]
 mod occurring;
 #[cfg(test)]
 mod rings;

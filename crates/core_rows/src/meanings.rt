@@ -24,7 +24,7 @@ fn each(rt: &impl Abort, text: &str, core: &Core, words: &str, met: bool)
     requires place { CoreBelow 25 core.now }
 {
     for word in words.split_whitespace() {
-        let found = holds(core, &truths(word));
+        let found = holds(core, truths(word).as_slice());
         assert_eq!(rt; found, met, "{text} at {word}");
     }
 }

@@ -3,6 +3,7 @@
 ghost use Rattle.std.specs.Prelude.{◌≡◌, ◌≢◌, ◌+◌, ◌^◌, ◌<◌, ◌≤◌, length, IsTrue};
 ghost use Rattle.index_ring.specs.Lists.{IsFree};
 
+use crate::numbers::Numbers;
 use index_ring::Rings;
 use std::alloc::{AllocError, Global};
 use std::process::Abort;
@@ -24,14 +25,22 @@ fn may_push(rings: &Rings, ring: u32, node: u32) -> bool
     ensures node { IsTrue result → node < rings.now.nodes }
     ensures free { IsTrue result → IsFree rings.now node }
 {
-    if ring < rings.rings() && node < rings.nodes() { rings.is_free(node) } else { false }
+    if ring < rings.rings() && node < rings.nodes() {
+        rings.is_free(node)
+    } else {
+        false
+    }
 }
 
 /// Whether a node stands in a ring.
 fn stands(rings: &Rings, node: u32) -> bool
     ensures { IsTrue result → ¬ IsFree rings.now node }
 {
-    if node < rings.nodes() { !rings.is_free(node) } else { false }
+    if node < rings.nodes() {
+        !rings.is_free(node)
+    } else {
+        false
+    }
 }
 
 /// Whether two rings may be spliced.
@@ -160,29 +169,16 @@ fn moves_by_hand(rt: HostRuntime) -> Result<(), Fail> {
     Ok(())
 }
 
-/// A row of numbers in no order, each from the one before it.
-#[derive(Drop)]
-struct Numbers {
-    last: u64,
-}
-
-impl Numbers {
-    /// A number below a bound.
-    fn below(&mut self, bound: u32) -> u32
-        requires { 0 < bound }
-        ensures { result < bound }
-    {
-        self.last = self.last.wrapping_mul(6_364_136_223_846_793_005).wrapping_add(1);
-        ((self.last >> 33) % u64::from(bound)) as u32
-    }
-}
-
 /// A move in no order that may be made: of a free node to a ring, or of a node that stands in one.
 fn random_move(numbers: &mut Numbers, rings: &Rings) -> Move {
     let ring = numbers.below(8);
     let node = numbers.below(40);
     if !stands(rings, node) {
-        if numbers.below(2) == 0 { Move::Back(ring, node) } else { Move::Front(ring, node) }
+        if numbers.below(2) == 0 {
+            Move::Back(ring, node)
+        } else {
+            Move::Front(ring, node)
+        }
     } else if numbers.below(8) == 0 {
         Move::Splice(ring, (ring + 1) % 8)
     } else {
@@ -230,7 +226,7 @@ fn random_moves(rt: HostRuntime) -> Result<(), Fail> {
     for _ring in 0..8 {
         lists.push(Vec::new(rt.alloc()))?;
     }
-    let mut numbers = Numbers { last: 1 };
+    let mut numbers = Numbers::from(1);
     for count in 0..10_000 {
         let step = random_move(&mut numbers, &rings);
         make(&rt, &mut rings, step)?;

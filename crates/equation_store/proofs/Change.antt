@@ -9,11 +9,11 @@ use Rattle.order_ints.specs.Truth.{Valuation, atom_truth, not_atom}
 use Rattle.equation_store.specs.declared.relabel.Change.{Change}
 use Rattle.order_ints.specs.Label.{IsLabel}
 use Rattle.equation_store.specs.Class.{is_of, class_size}
-use Rattle.equation_store.specs.Merge.{signed, replaced, losing, change_to, change_of}
+use Rattle.equation_store.specs.Merge.{signed, replaced, losing, change_to, change_of, IsReplacement}
 use Rattle.equation_store.specs.Laws.{IsConstant, size_at}
 use Rattle.equation_store.proofs.Negation.{not-not, not_atom-not_atom, truth-signed}
 use Rattle.equation_store.proofs.Resolve.{IsLabel-signed}
-use Rattle.equation_store.proofs.Replaced.{IsReplacement, replaced-own, replaced-other}
+use Rattle.equation_store.proofs.Replaced.{replaced-own, replaced-other}
 
 -- a change makes the labels a and b one, which are neither equal nor opposite; its class is not the greater one
 pub record IsChange (view : List Atom) (a b : Atom) (c : Change) : Type 0 where

@@ -16,6 +16,7 @@ use Rattle.equation_store.proofs.Replaced.{relabelled, replaced-own, replaced-ot
 use Rattle.equation_store.proofs.Change.{IsChange, is_of-signed}
 use Rattle.equation_store.proofs.Merge.{ChangeOf, change_of-atoms}
 use Rattle.equation_store.proofs.Facts.{own_label, is_merge}
+use Rattle.equation_store.proofs.Previous.{was-own}
 
 -- a literal of the variable itself becomes one that is not of it
 pub is_of-replaced : (x : ℕ) (new a : Atom) → is_of x new ≡ false → is_of x a ≡ true → is_of x (replaced x new a) ≡ false
@@ -61,7 +62,7 @@ module _ (view : List Atom) (a b : Atom) (labelled : IsLabelled view) (in_a : Is
       subst (λ (n : Atom). size_at view (label_of view v) ≤ size_at (relabelled view c.loser c.label) n) (sym same)
       (size-kept view c.loser c.label (label_of view v) h.replacement.other (sym (label_of-changed c v low high) ∙ same))
 
-  changes-by : (o : Option Change) → ChangeOf view a b o → (v : ℕ) → 1 ≤ v → v ≤ length view → (label_of (changed_by o view) v ≢ label_of view v) ↔ IsSomeAnd (option_map (λ c. c.loser) o) (λ x. IsMember view x v)
+  pub changes-by : (o : Option Change) → ChangeOf view a b o → (v : ℕ) → 1 ≤ v → v ≤ length view → (label_of (changed_by o view) v ≢ label_of view v) ↔ IsSomeAnd (option_map (λ c. c.loser) o) (λ x. IsMember view x v)
   changes-by None h v low high = (λ ne. ne refl, λ none. absurd none)
   changes-by (Some c) h v low high = (member, changed)
     where
@@ -82,28 +83,7 @@ module _ (view : List Atom) (a b : Atom) (labelled : IsLabelled view) (in_a : Is
   -- a label after a change was one, of another variable than the loser
   module _ (c : Change) (h : IsChange view (resolve view a) (resolve view b) c) where
     was_own : (v : ℕ) → 1 ≤ v → v ≤ length view → IsOwnLabel (relabelled view c.loser c.label) v → IsOwnLabel view v × ((v == c.loser) ≡ false)
-    was_own v low high own = ⊎_elim of_loser of_other (cases_Bool (is_of c.loser (label_of view v)))
-      where
-        now : replaced c.loser c.label (label_of view v) ≡ variable v
-        now = sym (label_of-changed c v low high) ∙ own
-
-        of_other : is_of c.loser (label_of view v) ≡ false → IsOwnLabel view v × ((v == c.loser) ≡ false)
-        of_other e =
-            let kept : label_of view v ≡ variable v = sym (replaced-other c.loser c.label (label_of view v) e) ∙ now in
-            (kept, sym (ap (is_of c.loser) kept) ∙ e)
-
-        of_loser : is_of c.loser (label_of view v) ≡ true → IsOwnLabel view v × ((v == c.loser) ≡ false)
-        of_loser e = absurd (by (label_of view v) e now)
-          where
-            by : (d : Atom) → is_of c.loser d ≡ true → replaced c.loser c.label d ≡ variable v → ⊥
-            by True f g = cc
-            by False f g = cc
-            by (Of l) f g =
-                let new : signed l.positive c.label ≡ variable v = sym (replaced-own c.loser c.label l (eqb-true l.var c.loser f)) ∙ g in
-                let of_v : is_of v c.label ≡ true = sym (is_of-signed v l.positive c.label) ∙ ap (is_of v) new ∙ eq-eqb v v refl in
-                let kept : label_of view v ≡ variable v = own_label view v c.label h.replacement.label of_v in
-                let same : v ≡ c.loser = eqb-true v c.loser (sym (ap (is_of c.loser) kept) ∙ e) in
-                true≢false (sym of_v ∙ ap (λ (x : ℕ). is_of x c.label) same ∙ h.replacement.other)
+    was_own = was-own view c.loser c.label h.replacement
 
     labels-changed : (d : Atom) → IsLabel (relabelled view c.loser c.label) d ↔ (IsLabel view d × (is_of c.loser d ≡ false))
     labels-changed True = (λ _. (tt, refl), λ _. tt)

@@ -9,8 +9,8 @@ use Rattle.order_ints.specs.Truth.{atom_truth, not_atom}
 use Rattle.order_ints.specs.View.{label_of, resolve}
 use Rattle.equation_store.specs.declared.relabel.Change.{Change}
 use Rattle.order_ints.specs.Label.{IsOwnLabel, IsLabel, IsLabelled, own_labels}
-use Rattle.equation_store.specs.Class.{is_of, IsWalk, first_in, after_in}
-use Rattle.equation_store.specs.Store.{Store, class_walk, IsStore, members_from, store_of}
+use Rattle.equation_store.specs.Class.{is_of, IsWalk}
+use Rattle.equation_store.specs.Store.{Store, class_walk, IsStore}
 use Rattle.equation_store.specs.Merge.{replaced, change_of, changed_by, merged, IsRelabelled}
 use Rattle.equation_store.specs.Laws.{IsAtomOf, AlwaysEqual, NeverEqual, AddsEquation, Doubles}
 use Rattle.equation_store.proofs.Negation.{not-other, truth-not_atom}
@@ -18,23 +18,10 @@ use Rattle.equation_store.proofs.Apart.{resolves_exactly}
 use Rattle.equation_store.proofs.Resolve.{resolves_truly}
 use Rattle.equation_store.proofs.Replaced.{IsLabelled-relabelled, label_of-relabelled}
 use Rattle.equation_store.proofs.Merge.{ChangeOf, change_of-atoms, change-joins, change-adds, merge_doubles}
-use Rattle.order_ints.proofs.Labels.{IsLabelled-more, length-own_labels}
-use Rattle.equation_store.proofs.Walk.{IsStore-store_of, class_walk-store_of, after_in-members_from}
 
--- no variables, and more variables
+-- no variables
 pub IsLabelled-none : (view : List Atom) → view ≡ [] → IsLabelled view
 IsLabelled-none view e v low high = absurd (let h : length view ≡ 0 = ap length e in omega arith)
-
-pub IsStore-grown : (old new : List Atom) (count : ℕ) → new ≡ old ++ own_labels (length old + 1) count → length old + count ≤ 2 ^ 27 → IsLabelled old → IsStore (store_of new)
-IsStore-grown old new count e small labelled =
-    IsStore-store_of new
-    (omega (arith, ap length e, length-append old (own_labels (length old + 1) count), length-own_labels (length old + 1) count))
-    (subst IsLabelled (sym e) (IsLabelled-more old count labelled))
-
-pub IsStore-grown_or_same : {T E : Type 0} (r : Result T E) (old new : List Atom) (count : ℕ) → OnOk r (new ≡ old ++ own_labels (length old + 1) count) → OnErr r (new ≡ old) → length old + count ≤ 2 ^ 27 → IsLabelled old → IsStore (store_of new)
-IsStore-grown_or_same (Ok x) old new count ok err small labelled = IsStore-grown old new count ok small labelled
-IsStore-grown_or_same (Err x) old new count ok err small labelled =
-    IsStore-store_of new (omega (arith, ap length err)) (subst IsLabelled (sym err) labelled)
 
 -- resolving tells what every valuation makes equal
 pub exact_from : (view : List Atom) (a r : Atom) → IsLabelled view → IsAtomOf view a → r ≡ resolve view a → (b : Atom) → IsAtomOf view b → (r ≡ resolve view b) ↔ AlwaysEqual view a b
@@ -42,14 +29,8 @@ exact_from view a r labelled in_a e b in_b =
     let exact : (resolve view a ≡ resolve view b) ↔ AlwaysEqual view a b = resolves_exactly view a b labelled in_a in_b in
     (λ h. exact.0 (sym e ∙ h), λ h. e ∙ exact.1 h)
 
--- where a walk begins and how it goes on
-pub first_in-store : (store : Store) (view : List Atom) → store_of view ≡ store → (x : ℕ) → 1 ≤ x → x ≤ length store.view → first_in (members_from 1 view x) ≡ first_in (class_walk store x)
-first_in-store store view e =
-    subst (λ (s : Store). (x : ℕ) → 1 ≤ x → x ≤ length s.view → first_in (members_from 1 view x) ≡ first_in (class_walk s x)) e
-    (λ x low high. ap first_in (sym (class_walk-store_of view x low high)))
-
 -- the variable of a label is one of the view
-of_label : (view : List Atom) (x : ℕ) (a : Atom) → IsLabel view a → is_of x a ≡ true → (1 ≤ x) × (x ≤ length view)
+pub of_label : (view : List Atom) (x : ℕ) (a : Atom) → IsLabel view a → is_of x a ≡ true → (1 ≤ x) × (x ≤ length view)
 of_label view x True h e = cc
 of_label view x False h e = cc
 of_label view x (Of l) h e = let same : l.var ≡ x = eqb-true l.var x e in (omega (arith, h.0), omega (arith, h.1))
@@ -65,23 +46,6 @@ IsWalk-of_member store h v x low high of_x =
     let label : IsLabel store.view (label_of store.view v) = h.labelled v low high in
     let range : (1 ≤ x) × (x ≤ length store.view) = of_label store.view x (label_of store.view v) label of_x in
     h.walked x range.0 range.1 (own_label store.view x (label_of store.view v) label of_x)
-
-after_in-store_of : (view : List Atom) → IsLabelled view → (v x : ℕ) → 1 ≤ v → v ≤ length view → is_of x (label_of view v) ≡ true → first_in (members_from (v + 1) (drop v view) x) ≡ after_in v (class_walk (store_of view) x)
-after_in-store_of view labelled v x low high of_x =
-    let range : (1 ≤ x) × (x ≤ length view) = of_label view x (label_of view v) (labelled v low high) of_x in
-    let at : 1 + (v - 1) ≡ v = omega arith in
-    let past : v - 1 + 1 ≡ v = omega arith in
-    let behind : after_in (1 + (v - 1)) (members_from 1 view x) ≡ first_in (members_from (1 + (v - 1) + 1) (drop (v - 1 + 1) view) x) = after_in-members_from x view 1 (v - 1) _ (omega arith) of_x in
-    ap (λ (n : ℕ). first_in (members_from (n + 1) (drop v view) x)) (sym at)
-    ∙ ap (λ (n : ℕ). first_in (members_from (1 + (v - 1) + 1) (drop n view) x)) (sym past)
-    ∙ sym behind
-    ∙ ap (λ (n : ℕ). after_in n (members_from 1 view x)) at
-    ∙ ap (after_in v) (sym (class_walk-store_of view x range.0 range.1))
-
-pub after_in-store : (store : Store) (view : List Atom) → store_of view ≡ store → IsLabelled view → (v x : ℕ) → 1 ≤ v → v ≤ length store.view → is_of x (label_of store.view v) ≡ true → first_in (members_from (v + 1) (drop v view) x) ≡ after_in v (class_walk store x)
-after_in-store store view e labelled =
-    subst (λ (s : Store). (v x : ℕ) → 1 ≤ v → v ≤ length s.view → is_of x (label_of s.view v) ≡ true → first_in (members_from (v + 1) (drop v view) x) ≡ after_in v (class_walk s x)) e
-    (after_in-store_of view labelled)
 
 -- what a merge of two atoms does where their labels are neither equal nor opposite
 pub record IsChangedBy (change : Option Change) (old new : List Atom) (a b : Atom) : Type 0 where
@@ -135,6 +99,3 @@ pub is_merge_from : (labels old new : List Atom) (a b : Atom) → labels ≡ old
 is_merge_from labels old new a b e labelled is_merged in_a in_b =
     subst (λ (view : List Atom). IsMerge old view a b) (ap (λ (view : List Atom). merged view a b) (sym e) ∙ sym is_merged)
     (is_merge old a b (subst IsLabelled e labelled) in_a in_b)
-
-pub IsStore-merged : (old new : List Atom) (a b : Atom) → IsMerge old new a b → length old ≤ 2 ^ 27 → IsStore (store_of new)
-IsStore-merged old new a b h small = IsStore-store_of new (omega (arith, h.size)) h.labelled

@@ -6,7 +6,12 @@ pub mod Change
 pub mod Merge
 pub mod Own
 pub mod Walk
-pub mod Sizes
 pub mod Facts
+pub mod Previous
 pub mod Changes
 pub mod Owners
+pub mod Counts
+pub mod Kept
+pub mod Walking
+pub mod Entering
+pub mod Stored

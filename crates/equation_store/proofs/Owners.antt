@@ -9,9 +9,9 @@ use Rattle.order_ints.specs.View.{label_of, resolve}
 use Rattle.order_ints.specs.Label.{variable, own_labels}
 use Rattle.equation_store.specs.declared.relabel.Change.{Change}
 use Rattle.equation_store.specs.Class.{is_of, is_own, own_from, number_own}
-use Rattle.equation_store.specs.Merge.{replaced, change_of, changed_by}
+use Rattle.equation_store.specs.Merge.{replaced, change_of, changed_by, IsReplacement}
 use Rattle.equation_store.specs.Laws.{MergeTakesOne, OwnTest, OwnBound, OwnAdded}
-use Rattle.equation_store.proofs.Replaced.{IsReplacement, relabelled, replaced-own, replaced-other}
+use Rattle.equation_store.proofs.Replaced.{relabelled, replaced-own, replaced-other}
 use Rattle.equation_store.proofs.Change.{is_of-signed}
 use Rattle.equation_store.proofs.Merge.{ChangeOf, change_of-atoms}
 use Rattle.equation_store.proofs.Facts.{own_label}

@@ -10,7 +10,7 @@ use Rattle.order_ints.specs.Truth.{Valuation, lit_truth, atom_truth, not_atom}
 use Rattle.order_ints.specs.View.{label_of, resolve, MeetsView}
 use Rattle.order_ints.specs.Label.{variable, IsOwnLabel, IsLabel, IsLabelled}
 use Rattle.equation_store.specs.Class.{is_of, class_size}
-use Rattle.equation_store.specs.Merge.{signed, replaced}
+use Rattle.equation_store.specs.Merge.{signed, replaced, IsReplacement}
 use Rattle.equation_store.specs.Laws.{IsAtomOf}
 use Rattle.equation_store.proofs.Negation.{truth-signed, signed-not}
 use Rattle.equation_store.proofs.Resolve.{resolve-label, IsLabel-signed, IsLabel-resolve}
@@ -40,14 +40,6 @@ pub replaced-other : (x : ℕ) (new a : Atom) → is_of x a ≡ false → replac
 replaced-other x new True h = refl
 replaced-other x new False h = refl
 replaced-other x new (Of l) h = cond-false _ _ _ h
-
--- a variable that is its own label, and what its class shall have as label: a label of another variable, or a constant
-pub record IsReplacement (view : List Atom) (x : ℕ) (new : Atom) : Type 0 where
-  pub low : 1 ≤ x
-  pub high : x ≤ length view
-  pub own : IsOwnLabel view x
-  pub label : IsLabel view new
-  pub other : is_of x new ≡ false
 
 -- the view after a replacement
 abbrev pub relabelled : List Atom → ℕ → Atom → List Atom

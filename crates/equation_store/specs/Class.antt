@@ -1,8 +1,9 @@
 -- The class of a label: the variables whose labels are literals of it, and a walk through them.
-use Rattle.std.specs.Prelude.{◌≡◌, ◌==◌, ℕ, ◌+◌, ◌≤◌, Bool, true, false, List, [], ◌∷◌, length, count_by, Option, Some, None, if◌then◌else◌}
+use Rattle.std.specs.Prelude.{◌≡◌, ◌==◌, ℕ, ◌+◌, ◌≤◌, Bool, true, false, List, [], ◌∷◌, length, count_by, if◌then◌else◌}
 use Rattle.order_ints.specs.declared.atom.Atom.{Atom}
 use Rattle.order_ints.specs.declared.atom.Atom.TheVariants.{True, False, Of}
 use Rattle.order_ints.specs.View.{label_of}
+pub use Rattle.index_ring.specs.Lists.{first_in, after_in}
 
 -- whether an atom is a literal of the variable
 abbrev pub is_of : ℕ → Atom → Bool
@@ -38,13 +39,3 @@ number_own view = own_from 1 view
 pub record IsWalk (view : List Atom) (x : ℕ) (walk : List ℕ) : Type 0 where
   pub once : (v : ℕ) → IsMember view x v → count_by (λ w. w == v) walk ≡ 1
   pub others : (v : ℕ) → ¬ IsMember view x v → count_by (λ w. w == v) walk ≡ 0
-
--- where a walk begins
-abbrev pub first_in : List ℕ → Option ℕ
-first_in [] = None
-first_in (w ∷ walk) = Some w
-
--- where a walk goes on behind v
-abbrev pub after_in : ℕ → List ℕ → Option ℕ
-after_in v [] = None
-after_in v (w ∷ walk) = if w == v then first_in walk else after_in v walk

@@ -2,6 +2,7 @@
 //! has a label: a constant, or a literal of a variable that is its own label.
 #![tactic(auto)]
 
+mod classes;
 mod labels;
 mod laws;
 mod relabel;

@@ -1,12 +1,16 @@
 //! Which class gets which label where two become one, and how its members get it.
 
-ghost use Rattle.std.specs.Prelude.{◌≡◌, ◌≢◌, ◌↔◌, map};
+ghost use Rattle.std.specs.Prelude.{◌≡◌, ◌≢◌, ◌+◌, ◌≤◌, ◌↔◌, length, map, IfSome};
 ghost use Rattle.order_ints.specs.Truth.{not_atom};
+ghost use Rattle.order_ints.specs.Place.{AtomBelow};
 ghost use Rattle.order_ints.specs.View.{resolve};
-ghost use Rattle.equation_store.specs.Merge.{signed, replaced, losing, change_of, change_to, merged};
+ghost use Rattle.equation_store.specs.Merge.{signed, replaced, losing_by, size_in, change_by, change_of, change_to, merged, IsReplacement};
 ghost use Rattle.equation_store.specs.Laws.{IsAtomOf};
+ghost use Rattle.equation_store.specs.Store.{IsSized, IsKept};
 
-use crate::labels::{class_size, resolved};
+use crate::classes::{relabel, take_in};
+use crate::labels::resolved;
+use index_ring::Rings;
 use order_ints::{Atom, Lit};
 
 /// What a merge found.
@@ -37,7 +41,7 @@ fn signed(positive: bool, atom: Atom) -> Atom
 }
 
 /// An atom with a variable replaced by another atom.
-fn replaced(var: u32, by: Atom, atom: Atom) -> Atom
+pub fn replaced(var: u32, by: Atom, atom: Atom) -> Atom
     ensures { result ≡ replaced var by atom }
 {
     match atom {
@@ -55,11 +59,13 @@ fn replaced(var: u32, by: Atom, atom: Atom) -> Atom
 
 /// Of two label variables the one whose class loses: that of the smaller class, of equal ones the greater
 /// variable.
-fn losing(labels: &[Atom], x: u32, y: u32) -> u32
-    ensures { result ≡ losing labels.now x y }
+fn losing(sizes: &[u32], x: u32, y: u32) -> u32
+    requires x { (1 ≤ x) × (x ≤ length sizes.now) }
+    requires y { (1 ≤ y) × (y ≤ length sizes.now) }
+    ensures { result ≡ losing_by (size_in sizes.now) x y }
 {
-    let size_of_x = class_size(labels, x);
-    let size_of_y = class_size(labels, y);
+    let size_of_x = sizes[x as usize - 1];
+    let size_of_y = sizes[y as usize - 1];
     if size_of_x < size_of_y {
         x
     } else if size_of_y < size_of_x {
@@ -79,15 +85,17 @@ fn change_to(literal: Lit, atom: Atom) -> Change
     }
 }
 
-/// The change that makes two labels one, if one is needed and can.
-pub fn change_of(labels: &[Atom], a: Atom, b: Atom) -> Option<Change>
-    ensures { result ≡ change_of labels.now a b }
+/// The change that makes two labels one, if one is needed and can. It looks at two sizes.
+fn change_of(sizes: &[u32], a: Atom, b: Atom) -> Option<Change>
+    requires first { AtomBelow (length sizes.now + 1) a }
+    requires second { AtomBelow (length sizes.now + 1) b }
+    ensures { result ≡ change_by (size_in sizes.now) a b }
 {
     match (a, b) {
         (Atom::Of(l), Atom::Of(m)) => {
             if l.var == m.var {
                 None
-            } else if losing(labels, l.var, m.var) == l.var {
+            } else if losing(sizes, l.var, m.var) == l.var {
                 Some(change_to(l, b))
             } else {
                 Some(change_to(m, a))
@@ -99,33 +107,57 @@ pub fn change_of(labels: &[Atom], a: Atom, b: Atom) -> Option<Change>
     }
 }
 
-/// Gives each label that is a literal of `var` its new value.
-fn relabel(labels: &mut [Atom], var: u32, by: Atom)
-    ensures { labels.new ≡ map (replaced var by) labels.old }
+/// The change that makes two atoms one, if one is needed and can. It takes constant time.
+pub fn change_between(labels: &[Atom], sizes: &[u32], a: Atom, b: Atom) -> Option<Change>
+    requires first { IsAtomOf labels.now a }
+    requires second { IsAtomOf labels.now b }
+    requires sized { IsSized labels.now sizes.now }
+    ensures value { result
+        ≡ change_of labels.now (resolve labels.now a) (resolve labels.now b) }
+    ensures replaces { IfSome result (λ c. IsReplacement labels.now c.loser c.label) }
 {
-    for label in labels.iter_mut() {
-        *label = replaced(var, by, *label);
+    change_of(sizes, resolved(labels, a), resolved(labels, b))
+}
+
+/// Gives the members of the class that loses their new label, and the class that they join these members.
+fn apply(labels: &mut [Atom], sizes: &mut [u32], classes: &mut Rings, change: Change)
+    requires kept { IsKept labels.old sizes.old classes.old }
+    requires replaces { IsReplacement labels.old change.loser change.label }
+    ensures labels { labels.new ≡ map (replaced change.loser change.label) labels.old }
+    ensures kept { IsKept labels.new sizes.new classes.new }
+{
+    let size = sizes[change.loser as usize - 1];
+    relabel(labels, classes, size, change.loser, change.label);
+    if let Atom::Of(winner) = change.label {
+        take_in(sizes, classes, change.loser, winner.var);
     }
 }
 
 /// Makes two atoms one.
-pub fn merge_labels(labels: &mut [Atom], a: Atom, b: Atom) -> Merged
+pub fn merge_labels(
+    labels: &mut [Atom],
+    sizes: &mut [u32],
+    classes: &mut Rings,
+    a: Atom,
+    b: Atom,
+) -> Merged
     requires first { IsAtomOf labels.old a }
     requires second { IsAtomOf labels.old b }
+    requires kept { IsKept labels.old sizes.old classes.old }
     ensures labels { labels.new ≡ merged labels.old a b }
     ensures already { (result ≡ Merged.Already) ↔ (resolve labels.old a ≡ resolve labels.old b) }
     ensures clash { (result ≡ Merged.Clash)
         ↔ (resolve labels.old a ≡ not_atom (resolve labels.old b)) }
-    ensures stays { result ≢ Merged.Changed → labels.new ≡ labels.old }
+    ensures labels_stay { result ≢ Merged.Changed → labels.new ≡ labels.old }
+    ensures classes_stay { result ≢ Merged.Changed → classes.new ≡ classes.old }
+    ensures kept { IsKept labels.new sizes.new classes.new }
 {
-    let a = resolved(labels, a);
-    let b = resolved(labels, b);
-    match change_of(labels, a, b) {
+    match change_between(labels, sizes, a, b) {
         Some(change) => {
-            relabel(labels, change.loser, change.label);
+            apply(labels, sizes, classes, change);
             Merged::Changed
         }
-        None if a == b => Merged::Already,
+        None if resolved(labels, a) == resolved(labels, b) => Merged::Already,
         None => Merged::Clash,
     }
 }

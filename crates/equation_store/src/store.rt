@@ -5,32 +5,36 @@ ghost use Rattle.order_ints.specs.Truth.{not_atom};
 ghost use Rattle.order_ints.specs.View.{label_of, resolve};
 ghost use Rattle.order_ints.specs.Label.{IsOwnLabel, own_labels};
 ghost use Rattle.equation_store.specs.Class.{is_of, IsMember, IsWalk, first_in, after_in};
-ghost use Rattle.equation_store.specs.Store.{IsStore, class_walk};
+ghost use Rattle.equation_store.specs.Store.{IsStore, ListsChanged, class_walk};
 ghost use Rattle.equation_store.specs.Merge.{loser_of, IsRelabelled, merged};
 ghost use Rattle.equation_store.specs.Laws.{IsAtomOf, IsConstant, AlwaysEqual, NeverEqual, AddsEquation, Doubles};
 
-use crate::labels::{next_member, push_own_labels, resolved};
-use crate::relabel::{Merged, change_of, merge_labels};
+use crate::classes::enter;
+use crate::labels::{push_ones, push_own_labels, resolved};
+use crate::relabel::{Merged, change_between, merge_labels};
+use index_ring::Rings;
 use order_ints::Atom;
 use std::alloc::{AllocError, Global};
 use std::marker::Model;
 
 /// Equations between literals: each variable has a label, a constant or a literal of a variable that is
 /// its own label, and is as true as its label. The variables whose labels are literals of the same
-/// variable are a class.
+/// variable are a class, and stand in the ring of that variable.
 #[derive(Debug, Drop)]
 pub struct EqStore {
     labels: Vec<Atom>,
+    sizes: Vec<u32>,
+    classes: Rings,
 }
 
 impl Model for EqStore {
-    ghost use Rattle.equation_store.specs.Store.{Store, IsStore, store_of};
+    ghost use Rattle.equation_store.specs.Store.{Store, IsKept, store_of};
 
     ghost Value = { Store };
 
-    ghost view = { λ s. store_of s.labels.items };
+    ghost view = { λ s. store_of s.labels.items s.classes };
 
-    ghost invariant = { λ s. IsStore (store_of s.labels.items) };
+    ghost invariant = { λ s. IsKept s.labels.items s.sizes.items s.classes };
 }
 
 impl EqStore {
@@ -40,12 +44,16 @@ impl EqStore {
         ensures view { IfOk result (λ store. store.view ≡ own_labels 1 vars) }
         ensures store { IfOk result IsStore }
     {
-        let mut labels = Vec::new(alloc);
-        push_own_labels(&mut labels, vars)?;
-        Ok(EqStore { labels })
+        let mut store = EqStore {
+            labels: Vec::new(alloc),
+            sizes: Vec::new(alloc),
+            classes: Rings::with(alloc, 1, 1)?,
+        };
+        store.grow(vars)?;
+        Ok(store)
     }
 
-    /// Adds variables, each its own label.
+    /// Adds variables, each its own label. It takes all the memory first.
     pub fn grow(&mut self, more: u32) -> Result<(), AllocError>
         requires { length self.old.view + more ≤ 2 ^ 27 }
         ensures view { OnOk result
@@ -53,7 +61,14 @@ impl EqStore {
         ensures err { OnErr result (self.new ≡ self.old) }
         ensures store { IsStore self.new }
     {
-        push_own_labels(&mut self.labels, more)
+        let first = self.labels.len() as u32 + 1;
+        self.labels.reserve(more as usize)?;
+        self.sizes.reserve(more as usize)?;
+        self.classes.grow(more, more)?;
+        push_own_labels(&mut self.labels, more);
+        push_ones(&mut self.sizes, more);
+        enter(&mut self.classes, first, more);
+        Ok(())
     }
 
     /// The label of each variable, that of variable 1 first.
@@ -74,7 +89,7 @@ impl EqStore {
         resolved(self.labels.as_slice(), a)
     }
 
-    /// The variable whose class would get a new label by a merge. Its cost is that of two class sizes.
+    /// The variable whose class would get a new label by a merge. It takes constant time.
     pub fn loser(&self, a: Atom, b: Atom) -> Option<u32>
         requires first { IsAtomOf self.now.view a }
         requires second { IsAtomOf self.now.view b }
@@ -83,12 +98,12 @@ impl EqStore {
             ↔ ((resolve self.now.view a ≡ resolve self.now.view b)
             ⊎ (resolve self.now.view a ≡ not_atom (resolve self.now.view b))) }
     {
-        let labels = self.labels.as_slice();
-        change_of(labels, resolved(labels, a), resolved(labels, b)).map(|change| change.loser)
+        let change = change_between(self.labels.as_slice(), self.sizes.as_slice(), a, b);
+        change.map(|change| change.loser)
     }
 
-    /// Makes two atoms equally true. Each member of the class that loses gets a new label. It looks at
-    /// every label.
+    /// Makes two atoms equally true. Each member of the class that loses gets a new label, in the time of a
+    /// walk of that class.
     pub fn merge(&mut self, a: Atom, b: Atom) -> Merged
         requires first { IsAtomOf self.old.view a }
         requires second { IsAtomOf self.old.view b }
@@ -101,6 +116,8 @@ impl EqStore {
         ensures relabels { result ≡ Merged.Changed
             → IsSomeAnd (loser_of self.old.view a b)
             (λ x. IsRelabelled self.old.view self.new.view x) }
+        ensures walked { result ≡ Merged.Changed
+            → IsSomeAnd (loser_of self.old.view a b) (λ x. ListsChanged self.old self.new x) }
         ensures equal { result ≡ Merged.Changed
             → resolve self.new.view a ≡ resolve self.new.view b }
         ensures equation { result ≡ Merged.Changed → AddsEquation self.old.view self.new.view a b }
@@ -109,10 +126,11 @@ impl EqStore {
         ensures size { length self.new.view ≡ length self.old.view }
         ensures store { IsStore self.new }
     {
-        merge_labels(self.labels.as_mut_slice(), a, b)
+        let labels = self.labels.as_mut_slice();
+        merge_labels(labels, self.sizes.as_mut_slice(), &mut self.classes, a, b)
     }
 
-    /// The member of the class of `label` at which its walk begins. It looks at labels until it finds one.
+    /// The member of the class of `label` at which its walk begins. It takes constant time.
     pub fn first(&self, label: u32) -> Option<u32>
         requires low { 1 ≤ label }
         requires high { label ≤ length self.now.view }
@@ -121,10 +139,10 @@ impl EqStore {
         ensures walk { IsWalk self.now.view label (class_walk self.now label) }
         ensures member { IfSome result (IsMember self.now.view label) }
     {
-        next_member(self.labels.as_slice(), label, 0)
+        self.classes.first(label)
     }
 
-    /// The member behind `var` in the walk of its class. It looks at labels until it finds one.
+    /// The member behind `var` in the walk of its class. It takes constant time.
     pub fn after(&self, var: u32) -> Option<u32>
         requires low { 1 ≤ var }
         requires high { var ≤ length self.now.view }
@@ -136,10 +154,6 @@ impl EqStore {
         ensures member { (x : ℕ) → is_of x (label_of self.now.view var) ≡ true
             → IfSome result (IsMember self.now.view x) }
     {
-        match self.labels[var as usize - 1] {
-            Atom::True => unreachable!(),
-            Atom::False => unreachable!(),
-            Atom::Of(literal) => next_member(self.labels.as_slice(), literal.var, var as usize),
-        }
+        self.classes.after(var)
     }
 }

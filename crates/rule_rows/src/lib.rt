@@ -9,4 +9,10 @@ mod equations;
 #[cfg(test)]
 mod equi_rules;
 #[cfg(test)]
+mod form_words;
+#[cfg(test)]
+mod network_encode;
+#[cfg(test)]
+mod table_rules;
+#[cfg(test)]
 mod words;

@@ -3,11 +3,11 @@
 //! are those from 1 on, or with `@7` behind it those from 7 on; or it is its least value, `^`, and the atoms of three
 //! steps of weight 1. A core is its form's name and then its members.
 
-ghost use Rattle.std.specs.Prelude.{◌<◌, ◌≤◌, pos, ◌≤ℤ◌, unsigned_abs, IfOk, IsTrue};
-ghost use Rattle.order_ints.specs.OrderRange.{low_of};
+ghost use Rattle.std.specs.Prelude.{◌<◌, ◌≤◌, unsigned_abs, IfOk, IsTrue};
 ghost use Rattle.order_ints.specs.OrderMade.{AscendFrom, AreSmall};
-ghost use Rattle.core_forms.specs.WellFormed.{IsSound, AreSound, greatest_abs, IsWellFormed};
+ghost use Rattle.core_forms.specs.WellFormed.{IsSound, greatest_abs, IsWellFormed};
 
+use crate::form_words::form_of;
 use bee_list::Sequence;
 use bee_text::read_signed;
 use core_forms::Core;
@@ -24,7 +24,7 @@ pub(super) fn word(text: &str, place: usize) -> &str {
 }
 
 /// A small number.
-fn number(rt: &impl Abort, word: &str) -> i128
+pub(super) fn number(rt: &impl Abort, word: &str) -> i128
     ensures { unsigned_abs result ≤ 100 }
 {
     match read_signed(word.as_bytes(), 100) {
@@ -146,26 +146,6 @@ pub(super) fn int(rt: &impl Abort, alloc: Global, word: &str) -> Result<OrdInt, 
     int_of(rt, alloc, &values, first.unsigned_abs() as u32)
 }
 
-/// A list of integers, with semicolons between them.
-fn ints(rt: &impl Abort, alloc: Global, word: &str) -> Result<Sequence<OrdInt>, AllocError>
-    ensures { IfOk result (λ ints. AreSound ints) }
-{
-    let mut ints = Vec::new(alloc);
-    for member in word.split(';') {
-        ints.push(int(rt, alloc, member)?)?;
-    }
-    Ok(Sequence::from_vec(ints))
-}
-
-/// A comparator.
-fn comparator(rt: &impl Abort, alloc: Global, text: &str) -> Result<Core, AllocError>
-    ensures { IfOk result (λ core. IsWellFormed core) }
-{
-    let (a, b) = (atom(rt, word(text, 1)), atom(rt, word(text, 2)));
-    let (hi, lo) = (atom(rt, word(text, 3)), atom(rt, word(text, 4)));
-    Core::comp(alloc, a, b, hi, lo)
-}
-
 /// A comparison of two integers.
 fn comparison(rt: &impl Abort, alloc: Global, text: &str, equal: bool) -> Result<Core, AllocError>
     ensures { IfOk result (λ core. IsWellFormed core) }
@@ -179,100 +159,6 @@ fn comparison(rt: &impl Abort, alloc: Global, text: &str, equal: bool) -> Result
     Core::leq_r(alloc, r, a, b)
 }
 
-/// A sum of two integers.
-fn sum(rt: &impl Abort, alloc: Global, text: &str) -> Result<Core, AllocError>
-    ensures { IfOk result (λ core. IsWellFormed core) }
-{
-    let a = int(rt, alloc, word(text, 1))?;
-    let b = int(rt, alloc, word(text, 2))?;
-    let c = int(rt, alloc, word(text, 3))?;
-    Core::sum3(alloc, a, b, c)
-}
-
-/// The first two small integers, multiplied, are the third.
-fn product_of(alloc: Global, a: OrdInt, b: OrdInt, c: OrdInt) -> Result<Core, AllocError>
-    requires sound { IsSound a × IsSound b × IsSound c }
-    requires small { (greatest_abs a < 1000) × (greatest_abs b < 1000) }
-    ensures { IfOk result (λ core. IsWellFormed core) }
-{
-    Core::prod(alloc, a, b, c)
-}
-
-/// A product.
-fn product(rt: &impl Abort, alloc: Global, text: &str) -> Result<Core, AllocError>
-    ensures { IfOk result (λ core. IsWellFormed core) }
-{
-    let a = int(rt, alloc, word(text, 1))?;
-    let b = int(rt, alloc, word(text, 2))?;
-    let c = int(rt, alloc, word(text, 3))?;
-    product_of(alloc, a, b, c)
-}
-
-/// The third and fourth of small integers are quotient and rest of the first by the second.
-fn division_of(
-    alloc: Global,
-    a: OrdInt,
-    b: OrdInt,
-    q: OrdInt,
-    r: OrdInt,
-) -> Result<Core, AllocError>
-    requires sound { IsSound a × IsSound b × IsSound q × IsSound r }
-    requires small { (greatest_abs b < 1000) × (greatest_abs q < 1000) × (greatest_abs r < 1000) }
-    requires least { (pos 0 ≤ℤ low_of a) × (pos 1 ≤ℤ low_of b) }
-    ensures { IfOk result (λ core. IsWellFormed core) }
-{
-    Core::div_mod(alloc, a, b, q, r)
-}
-
-/// An integer whose least value is at least a number.
-fn int_from(rt: &impl Abort, alloc: Global, word: &str, least: i128) -> Result<OrdInt, AllocError>
-    ensures sound { IfOk result (λ a. IsSound a) }
-    ensures small { IfOk result (λ a. greatest_abs a < 1000) }
-    ensures least { IfOk result (λ a. least ≤ℤ low_of a) }
-{
-    let a = int(rt, alloc, word)?;
-    let low = a.low();
-    assert!(rt; least <= low);
-    Ok(a)
-}
-
-/// A division.
-fn division(rt: &impl Abort, alloc: Global, text: &str) -> Result<Core, AllocError>
-    ensures { IfOk result (λ core. IsWellFormed core) }
-{
-    let a = int_from(rt, alloc, word(text, 1), 0)?;
-    let b = int_from(rt, alloc, word(text, 2), 1)?;
-    let q = int(rt, alloc, word(text, 3))?;
-    let r = int(rt, alloc, word(text, 4))?;
-    division_of(alloc, a, b, q, r)
-}
-
-/// A greatest member.
-fn maximum(rt: &impl Abort, alloc: Global, text: &str) -> Result<Core, AllocError>
-    ensures { IfOk result (λ core. IsWellFormed core) }
-{
-    let members = ints(rt, alloc, word(text, 1))?;
-    assert!(rt; 0 < members.as_slice().len());
-    let c = int(rt, alloc, word(text, 2))?;
-    Core::max(alloc, members, c)
-}
-
-/// A core over a few integers, or a comparator.
-fn of_numbers(rt: &impl Abort, alloc: Global, text: &str) -> Result<Core, AllocError>
-    ensures { IfOk result (λ core. IsWellFormed core) }
-{
-    match word(text, 0) {
-        "Comp" => comparator(rt, alloc, text),
-        "LeqR" => comparison(rt, alloc, text, false),
-        "EqR" => comparison(rt, alloc, text, true),
-        "Sum3" => sum(rt, alloc, text),
-        "Max" => maximum(rt, alloc, text),
-        "Prod" => product(rt, alloc, text),
-        "DivMod" => division(rt, alloc, text),
-        other => panic!(rt; "no form: {other}"),
-    }
-}
-
 /// A core.
 pub(super) fn core_of(rt: &impl Abort, alloc: Global, text: &str) -> Result<Core, AllocError>
     ensures { IfOk result (λ core. IsWellFormed core) }
@@ -283,6 +169,8 @@ pub(super) fn core_of(rt: &impl Abort, alloc: Global, text: &str) -> Result<Core
         "Parity" => Ok(Core::Parity(atoms(rt, alloc, word(text, 1))?, word(text, 2) == "odd")),
         "Conj" => Ok(Core::Conj(atom(rt, word(text, 1)), atoms(rt, alloc, word(text, 2))?)),
         "Amo" => Ok(Core::Amo(atoms(rt, alloc, word(text, 1))?)),
-        _ => of_numbers(rt, alloc, text),
+        "LeqR" => comparison(rt, alloc, text, false),
+        "EqR" => comparison(rt, alloc, text, true),
+        _ => form_of(rt, alloc, text),
     }
 }

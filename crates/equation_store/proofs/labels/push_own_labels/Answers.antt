@@ -14,8 +14,8 @@ loop-k-preserved c =
     let longer : vec_len c.push.new.self ≡ vec_len c.loop-k.labels + 1 = c.push.ensures.len ∙ cond-true _ _ _ added in (
       items
           ∙ ap (λ (xs : List Atom). xs ++ variable (first + c.loop-k.k) ∷ []) c.loop-k.invariant.0
-          ∙ append_assoc c.reserve.new.self.items (own_labels first c.loop-k.k) (variable (first + c.loop-k.k) ∷ [])
-          ∙ sym (ap (λ (xs : List Atom). c.reserve.new.self.items ++ xs) (own_labels-more first c.loop-k.k)),
+          ∙ append_assoc c.args.labels.now.items (own_labels first c.loop-k.k) (variable (first + c.loop-k.k) ∷ [])
+          ∙ sym (ap (λ (xs : List Atom). c.args.labels.now.items ++ xs) (own_labels-more first c.loop-k.k)),
       omega arith,
       omega arith,
     )

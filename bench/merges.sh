@@ -1,0 +1,166 @@
+#!/usr/bin/env bash
+# Times merges of the crate `equation_store`: from 131,072 to 1,048,576 variables, all merged to one class, in a row, in a balanced
+# tree and in random order. Prints the processor's seconds (the least of three runs), the new labels that were given, the bytes
+# for each variable, and the growth exponent of the seconds. It builds a small program over a copy of the crates. Wants python3
+# and rt.
+set -eu
+top=$(cd "$(dirname "${BASH_SOURCE[0]}")/.." && pwd)
+folder=$(mktemp -d)
+trap 'rm -rf "$folder"' EXIT
+git init -q "$folder"
+mkdir -p "$folder/crates/merging/src"
+cp -r "$top/crates/bee_list" "$top/crates/index_ring" "$top/crates/order_ints" "$top/crates/equation_store" "$folder/crates/"
+grep -E '^(bee_list|index_ring|order_ints|equation_store):' "$top/crates.txt" >"$folder/crates.txt"
+echo 'merging: order_ints equation_store' >>"$folder/crates.txt"
+cat >"$folder/crates/merging/src/main.rt" <<'RT'
+//! Merges variables in the order that standard input names, and prints how many new labels were given, where it asks for that.
+#![tactic(auto)]
+
+ghost use Rattle.std.specs.Prelude.{◌↔◌, ◌+◌, IsTrue};
+ghost use Rattle.order_ints.specs.Place.{AtomBelow};
+ghost use Rattle.equation_store.specs.Laws.{IsConstant};
+
+use equation_store::EqStore;
+use order_ints::{Atom, Lit};
+use std::io;
+use std::io::Read;
+
+/// Whether an atom is one of a store with so many variables.
+fn is_atom_of(vars: usize, atom: Atom) -> bool
+    ensures { IsTrue result ↔ AtomBelow (vars + 1) atom }
+{
+    match atom {
+        Atom::True => true,
+        Atom::False => true,
+        Atom::Of(literal) => 1 <= literal.var && literal.var as usize <= vars,
+    }
+}
+
+fn variable(var: u32) -> Atom {
+    Atom::Of(Lit {
+        var,
+        positive: true,
+    })
+}
+
+fn is_literal(atom: Atom) -> bool
+    ensures { IsTrue result → ¬ IsConstant atom }
+{
+    matches!(atom, Atom::Of(_))
+}
+
+/// The variable at which the walk of a class begins, if `label` is its own label.
+fn first(store: &EqStore, label: u32) -> Option<u32> {
+    let own = variable(label);
+    if is_atom_of(store.view().len(), own) && store.resolve(own) == own { store.first(label) } else { None }
+}
+
+/// The variable behind another one in the walk of its class.
+fn after(store: &EqStore, var: u32) -> Option<u32> {
+    let own = variable(var);
+    if is_atom_of(store.view().len(), own) && is_literal(store.resolve(own)) { store.after(var) } else { None }
+}
+
+/// How many members the class of a label has, by a walk.
+fn members(store: &EqStore, label: u32) -> u64 {
+    let mut count = 0_u64;
+    let mut next = first(store, label);
+    for _step in 0..store.view().len() {
+        match next {
+            Some(var) => {
+                count = count.saturating_add(1);
+                next = after(store, var);
+            }
+            None => break,
+        }
+    }
+    count
+}
+
+/// Merges two variables; where `counts`, the members of the class that loses are counted first.
+fn merge(store: &mut EqStore, given: &mut u64, counts: bool, first: u32, second: u32) {
+    let (a, b) = (variable(first), variable(second));
+    let vars = store.view().len();
+    if is_atom_of(vars, a) && is_atom_of(vars, b) {
+        if counts && let Some(loser) = store.loser(a, b) {
+            *given = given.saturating_add(members(store, loser));
+        }
+        let _answer = store.merge(a, b);
+    }
+}
+
+/// Merges each variable with the next one, from the first on.
+fn in_a_row(store: &mut EqStore, given: &mut u64, counts: bool, vars: u32) {
+    for var in 1..vars {
+        merge(store, given, counts, var, var.saturating_add(1));
+    }
+}
+
+/// Merges pairs, then pairs of pairs, and so on.
+fn in_a_tree(store: &mut EqStore, given: &mut u64, counts: bool, vars: u32) {
+    for level in 0..20_u32 {
+        let step = 1_u32 << level;
+        for pair in 0..vars / 2 {
+            let first = pair.saturating_mul(step).saturating_mul(2).saturating_add(1);
+            if first.saturating_add(step) <= vars {
+                merge(store, given, counts, first, first.saturating_add(step));
+            } else {
+                break;
+            }
+        }
+    }
+}
+
+/// Merges each variable with the next one, in an order that jumps about; `vars` is a power of two.
+fn in_no_order(store: &mut EqStore, given: &mut u64, counts: bool, vars: u32) {
+    let mut var = 1_u64;
+    for _step in 0..vars {
+        var = var.wrapping_mul(1_664_525).wrapping_add(1_013_904_223) % u64::from(vars.max(1));
+        let first = (var as u32).saturating_add(1);
+        merge(store, given, counts, first, first.saturating_add(1));
+    }
+}
+
+fn main(rt: HostRuntime) -> io::Result<()> {
+    let mut text = Vec::new(rt.alloc());
+    rt.reader().read_to_end(&mut text)?;
+    let order = text.first().copied().unwrap_or(b'0');
+    let power = u32::from(text.get(1).copied().unwrap_or(b'0').saturating_sub(b'0').min(9));
+    let vars = 2_048_u32 << power;
+    let counts = text.get(2).copied() == Some(b'c');
+    let mut given = 0_u64;
+    let mut store = EqStore::with(rt.alloc(), vars)?;
+    match order {
+        b'r' => in_a_row(&mut store, &mut given, counts, vars),
+        b't' => in_a_tree(&mut store, &mut given, counts, vars),
+        b'x' => in_no_order(&mut store, &mut given, counts, vars),
+        _ => {}
+    }
+    println!(rt; "{vars} {given}")
+}
+RT
+(cd "$folder/crates/merging" && echo | rt run >"$folder/log" 2>&1) || { tail -n 20 "$folder/log" >&2; exit 1; }
+python3 - "$folder/crates/merging/out/merging" <<'PY'
+import math, os, subprocess, sys
+
+def run(order, power, counts=""):
+    p = subprocess.Popen([sys.argv[1]], stdin=subprocess.PIPE, stdout=subprocess.PIPE)
+    p.stdin.write(f"{order}{power}{counts}".encode())
+    p.stdin.close()
+    out = p.stdout.read().split()
+    _, status, usage = os.wait4(p.pid, 0)
+    assert status == 0
+    return usage.ru_utime + usage.ru_stime, usage.ru_maxrss * 1024, int(out[0]), int(out[1])
+
+_, base, _, _ = run("0", 0)
+for order, name in (("r", "row"), ("t", "tree"), ("x", "random")):
+    seconds = {}
+    for power in (6, 7, 8, 9):
+        took, memory, n, _ = min(run(order, power) for _ in range(3))
+        seconds[n] = took
+        given = run(order, power, "c")[3]
+        print(f"{name:6} {n:8} variables: {took:.3f} s, {given} new labels ({given / (n * math.log2(n)):.2f} n log n), "
+              f"{(memory - base) / n:.1f} bytes a variable")
+    low, high = min(seconds), max(seconds)
+    print(f"{name:6} growth exponent {math.log(seconds[high] / seconds[low]) / math.log(high / low):.2f}")
+PY

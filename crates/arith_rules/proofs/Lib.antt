@@ -1,0 +1,9 @@
+pub mod ConstantLaws
+pub mod LinkSound
+pub mod SumSound
+pub mod MaxSound
+pub mod ProductLaws
+pub mod ProductSound
+pub mod Sound
+pub mod EachRows
+pub mod Found

@@ -1,0 +1,6 @@
+pub mod Constant
+pub mod Links
+pub mod SumRows
+pub mod MaxRows
+pub mod ProductRows
+pub mod Instances

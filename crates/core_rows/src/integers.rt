@@ -76,8 +76,8 @@ fn values(rt: &impl Abort, a: &OrdInt, sigma: &[bool; 9], value: i128, ordered: 
     requires bounded { IsBounded a.now }
     requires place { IntBelow 10 a.now }
 {
-    assert_eq!(rt; a.value(sigma), value);
-    assert_eq!(rt; a.is_ordered(sigma), ordered);
+    assert_eq!(rt; a.value(sigma.as_slice()), value);
+    assert_eq!(rt; a.is_ordered(sigma.as_slice()), ordered);
 }
 
 #[test]

@@ -12,25 +12,13 @@ use order_ints::OrdInt;
 use std::alloc::{AllocError, Global};
 use std::process::Abort;
 
-/// A small integer.
-fn small(rt: &impl Abort, alloc: Global, word: &str) -> Result<OrdInt, AllocError>
-    ensures sound { IfOk result (λ a. IsSound a) }
-    ensures small { IfOk result (λ a. greatest_abs a < 1000) }
-{
-    let a = int(rt, alloc, word)?;
-    let (least, greatest) = (a.low(), a.high());
-    assert!(rt; -1000 < least && least < 1000);
-    assert!(rt; -1000 < greatest && greatest < 1000);
-    Ok(a)
-}
-
 /// A small integer whose least value is at least a number.
 fn small_from(rt: &impl Abort, alloc: Global, word: &str, least: i128) -> Result<OrdInt, AllocError>
     ensures sound { IfOk result (λ a. IsSound a) }
     ensures small { IfOk result (λ a. greatest_abs a < 1000) }
     ensures least { IfOk result (λ a. least ≤ℤ low_of a) }
 {
-    let a = small(rt, alloc, word)?;
+    let a = int(rt, alloc, word)?;
     let low = a.low();
     assert!(rt; least <= low);
     Ok(a)
@@ -44,7 +32,7 @@ fn ints(rt: &impl Abort, alloc: Global, word: &str) -> Result<Sequence<OrdInt>, 
     let mut ints = Vec::new(alloc);
     for member in word.split(';') {
         if member != "none" {
-            ints.push(small(rt, alloc, member)?)?;
+            ints.push(int(rt, alloc, member)?)?;
         }
     }
     assert!(rt; ints.len() < 100);
@@ -82,20 +70,20 @@ fn of_integers(rt: &impl Abort, alloc: Global, text: &str) -> Result<Core, Alloc
 {
     match word(text, 0) {
         "Sum3" => {
-            let a = small(rt, alloc, word(text, 1))?;
-            let b = small(rt, alloc, word(text, 2))?;
-            Core::sum3(alloc, a, b, small(rt, alloc, word(text, 3))?)
+            let a = int(rt, alloc, word(text, 1))?;
+            let b = int(rt, alloc, word(text, 2))?;
+            Core::sum3(alloc, a, b, int(rt, alloc, word(text, 3))?)
         }
         "Prod" => {
-            let a = small(rt, alloc, word(text, 1))?;
-            let b = small(rt, alloc, word(text, 2))?;
-            product_of(alloc, a, b, small(rt, alloc, word(text, 3))?)
+            let a = int(rt, alloc, word(text, 1))?;
+            let b = int(rt, alloc, word(text, 2))?;
+            product_of(alloc, a, b, int(rt, alloc, word(text, 3))?)
         }
         "DivMod" => {
             let a = small_from(rt, alloc, word(text, 1), 0)?;
             let b = small_from(rt, alloc, word(text, 2), 1)?;
-            let q = small(rt, alloc, word(text, 3))?;
-            division_of(alloc, a, b, q, small(rt, alloc, word(text, 4))?)
+            let q = int(rt, alloc, word(text, 3))?;
+            division_of(alloc, a, b, q, int(rt, alloc, word(text, 4))?)
         }
         other => panic!(rt; "no form: {other}"),
     }
@@ -110,7 +98,7 @@ fn of_lists(rt: &impl Abort, alloc: Global, text: &str) -> Result<Core, AllocErr
         "Sum" => Core::sum(alloc, members, number(rt, word(text, 2))),
         "Max" => {
             assert!(rt; !members.is_empty());
-            Core::max(alloc, members, small(rt, alloc, word(text, 2))?)
+            Core::max(alloc, members, int(rt, alloc, word(text, 2))?)
         }
         "AllDiff" => {
             let conditions = atoms(rt, alloc, word(text, 2))?;
@@ -148,7 +136,7 @@ fn count(rt: &impl Abort, alloc: Global, text: &str) -> Result<Core, AllocError>
     ensures { IfOk result (λ core. IsWellFormed core) }
 {
     let members = atoms(rt, alloc, word(text, 1))?;
-    Core::count(alloc, members, small(rt, alloc, word(text, 2))?)
+    Core::count(alloc, members, int(rt, alloc, word(text, 2))?)
 }
 
 /// A core of one of these forms.

@@ -7,8 +7,8 @@ use Rattle.core_forms.specs.WellFormed.{greatest_abs, IsWellFormed}
 use Rattle.core_forms.proofs.Limits.{small-divisions}
 use Rattle.core_rows.proofs.form_words.division_of.Goals as goal
 
-pub returns-clause-form : goal.returns-clause-form
-returns-clause-form c =
+pub returns : goal.returns
+returns c =
     let p : greatest_abs c.args.b ≤ 999 = omega (arith, c.requires.small.0) in
     let q : greatest_abs c.args.q ≤ 999 = omega (arith, c.requires.small.1) in
     let well : IsWellFormed (DivMod c.args.a c.args.b c.args.q c.args.r) =

@@ -7,8 +7,8 @@ use Rattle.core_forms.specs.WellFormed.{greatest_abs, IsWellFormed}
 use Rattle.core_forms.proofs.Limits.{small-products}
 use Rattle.core_rows.proofs.form_words.product_of.Goals as goal
 
-pub returns-clause-form : goal.returns-clause-form
-returns-clause-form c =
+pub returns : goal.returns
+returns c =
     let p : greatest_abs c.args.a ≤ 999 = omega (arith, c.requires.small.0) in
     let q : greatest_abs c.args.b ≤ 999 = omega (arith, c.requires.small.1) in
     let well : IsWellFormed (Prod c.args.a c.args.b c.args.c) =

@@ -130,8 +130,7 @@ module _ (P : Atom → Type 0) (closed : IsClosed P) where
   each-factor : (a b c : OrdInt) → EachStep P a.steps → EachOfPairs P (factor_equations a b c)
   each-factor a b c ea =
       EachOfPairs-only_if P (int_le (pos 0) (low_of a) && (int_le (pos 1) (low_of b) && int_le (pos 0) (low_of c)))
-      (is_below a (floor_of (high_of c) (low_of b) +ℤ pos 1) ∷ at_least a (ceiling_of (low_of c) (high_of b)) ∷ [])
-      ((each-at_of P closed a (floor_of (high_of c) (low_of b) +ℤ pos 1) ea, closed.falsehood), ((each-at_of P closed a (ceiling_of (low_of c) (high_of b)) ea, closed.truth), tt))
+      (within a (ceiling_of (low_of c) (high_of b)) (floor_of (high_of c) (low_of b))) (each-within a (ceiling_of (low_of c) (high_of b)) (floor_of (high_of c) (low_of b)) ea)
 
   each-scaled : (k : ℤ) (b c : OrdInt) → EachStep P b.steps → EachStep P c.steps → EachOfPairs P (scaled_equations k b c)
   each-scaled k b c eb ec =

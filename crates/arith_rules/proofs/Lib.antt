@@ -1,4 +1,9 @@
 pub mod ConstantLaws
+pub mod RangeBits
+pub mod LoopFound
+pub mod SumFound
+pub mod LinkFound
+pub mod Beside
 pub mod LinkSound
 pub mod SumSound
 pub mod MaxSound

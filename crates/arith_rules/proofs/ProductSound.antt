@@ -63,7 +63,7 @@ module _ (σ : Valuation) where
   factor-equal : (a b c : OrdInt) → IsOrdered σ a → (value_of σ a *ℤ value_of σ b) ≡ value_of σ c → AreEqual σ (factor_equations a b c)
   factor-equal a b c oa is =
       AreEqual-only_if σ (int_le (pos 0) (low_of a) && (int_le (pos 1) (low_of b) && int_le (pos 0) (low_of c)))
-      (is_below a (floor_of (high_of c) (low_of b) +ℤ pos 1) ∷ at_least a (ceiling_of (low_of c) (high_of b)) ∷ []) (λ e.
+      (within a (ceiling_of (low_of c) (high_of b)) (floor_of (high_of c) (low_of b))) (λ e.
       let la = le_from_test (pos 0) (low_of a) (and-left (int_le (pos 0) (low_of a)) (int_le (pos 1) (low_of b) && int_le (pos 0) (low_of c)) e) in
       let lb = le_from_test (pos 1) (low_of b) (and-left (int_le (pos 1) (low_of b)) (int_le (pos 0) (low_of c)) (and-right (int_le (pos 0) (low_of a)) (int_le (pos 1) (low_of b) && int_le (pos 0) (low_of c)) e)) in
       let va : pos 0 ≤ℤ value_of σ a = le-le (pos 0) (low_of a) (value_of σ a) la (low-le σ a) in
@@ -77,13 +77,8 @@ module _ (σ : Valuation) where
       le-le (low_of c) (value_of σ a *ℤ value_of σ b) (high_of b *ℤ value_of σ a) least
       (subst (λ z. (value_of σ a *ℤ value_of σ b) ≤ℤ z) (*ℤ_comm (value_of σ a) (high_of b)) (times-up (value_of σ a) (value_of σ b) (high_of b) va (high-ge σ b))) in
       let most = le_from_test (value_of σ a) (floor_of (high_of c) (low_of b)) (floor-test (high_of c) (value_of σ a) (low_of b) lb ∙ int_le-true (low_of b *ℤ value_of σ a) (high_of c) under) in
-      let from = le_from_test (ceiling_of (low_of c) (high_of b)) (value_of σ a) (ceiling-test (low_of c) (value_of σ a) (high_of b) hb ∙ int_le-true (low_of c) (high_of b *ℤ value_of σ a) over) in (
-        at_of-passed σ a (floor_of (high_of c) (low_of b) +ℤ pos 1) oa (next-above (value_of σ a) (floor_of (high_of c) (low_of b)) most),
-        (at_of-reached σ a (ceiling_of (low_of c) (high_of b)) oa from, tt),
-      ))
-    where
-      next-above : (v w : ℤ) → v ≤ℤ w → v <ℤ (w +ℤ pos 1)
-      next-above v w le = omega (arith, ints, le)
+      let from = le_from_test (ceiling_of (low_of c) (high_of b)) (value_of σ a) (ceiling-test (low_of c) (value_of σ a) (high_of b) hb ∙ int_le-true (low_of c) (high_of b *ℤ value_of σ a) over) in
+      within-equal σ a (ceiling_of (low_of c) (high_of b)) (floor_of (high_of c) (low_of b)) oa from most)
 
   module _ (a b c : OrdInt) (oa : IsOrdered σ a) (ob : IsOrdered σ b) (oc : IsOrdered σ c) (is : (value_of σ a *ℤ value_of σ b) ≡ value_of σ c) where
     turned : (value_of σ b *ℤ value_of σ a) ≡ value_of σ c

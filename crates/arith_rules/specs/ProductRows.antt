@@ -25,12 +25,12 @@ abbrev pub greatest_product : OrdInt → OrdInt → ℤ
 greatest_product a b =
     int_max (int_max (low_of a *ℤ low_of b) (low_of a *ℤ high_of b)) (int_max (high_of a *ℤ low_of b) (high_of a *ℤ high_of b))
 
--- a times b is c, where none is below 0, and b not below 1: a is at most the greatest value of c by the least of b,
--- and at least the least value of c by the greatest of b
+-- a times b is c, where none is below 0, and b not below 1: a is at least the least value of c by the greatest of b, and
+-- at most the greatest value of c by the least of b
 abbrev pub factor_equations : OrdInt → OrdInt → OrdInt → List (Atom × Atom)
 factor_equations a b c =
     only_if (int_le (pos 0) (low_of a) && (int_le (pos 1) (low_of b) && int_le (pos 0) (low_of c)))
-    (is_below a (floor_of (high_of c) (low_of b) +ℤ pos 1) ∷ at_least a (ceiling_of (low_of c) (high_of b)) ∷ [])
+    (within a (ceiling_of (low_of c) (high_of b)) (floor_of (high_of c) (low_of b)))
 
 -- k times b is c, for k above 0: for each value of b, and for each value of c
 abbrev pub multiple_equations : ℤ → OrdInt → OrdInt → List (Atom × Atom)

@@ -1,4 +1,4 @@
-use Rattle.rule_rows.proofs.table_rules.found.Given as goal
+use Rattle.rule_rows.proofs.form_rules.found.Given as goal
 
 -- the counter is that of the new ledger
 abbrev pub ghosts-found_with : goal.ghosts-found_with

@@ -51,14 +51,21 @@ fn is_literal(atom: Atom) -> bool
 
 /// The variable at which the walk of a class begins, if `label` is its own label.
 fn first(store: &EqStore, label: u32) -> Option<u32> {
-    let own = variable(label);
-    if is_atom_of(store.view().len(), own) && store.resolve(own) == own { store.first(label) } else { None }
+    let own = Atom::Of(Lit { var: label, positive: true });
+    if !is_atom_of(store.view().len(), own) {
+        return None;
+    }
+    let is_own = store.resolve(own) == own;
+    if is_own { store.first(label) } else { None }
 }
 
 /// The variable behind another one in the walk of its class.
 fn after(store: &EqStore, var: u32) -> Option<u32> {
-    let own = variable(var);
-    if is_atom_of(store.view().len(), own) && is_literal(store.resolve(own)) { store.after(var) } else { None }
+    let own = Atom::Of(Lit { var, positive: true });
+    if !is_atom_of(store.view().len(), own) {
+        return None;
+    }
+    if is_literal(store.resolve(own)) { store.after(var) } else { None }
 }
 
 /// How many members the class of a label has, by a walk.

@@ -1,5 +1,6 @@
 -- The clauses of cores are true where the valuation meets the cores.
 use Rattle.std.proofs.Common.{◌≡◌, ℕ, List, [], ◌∷◌, ◌++◌, refl, ap, sym, subst, append_assoc, ◌∙◌}
+use Rattle.std.specs.Prelude.{IsTrue}
 use Rattle.std.proofs.lemmas.List.Elements.{filter_map-append}
 use Rattle.order_ints.specs.declared.atom.Atom.{Atom}
 use Rattle.order_ints.specs.declared.literal.Lit.{Lit}
@@ -12,37 +13,38 @@ use Rattle.core_forms.specs.declared.form.Core.{Core}
 use Rattle.core_forms.specs.declared.form.Core.TheVariants.{Ladder, Clause, Parity, Conj, Comp, LeqR, EqR, Sum3, Count, Sum, Max, AllDiff, Amo, Prod, DivMod, Lex}
 use Rattle.core_forms.specs.Meaning.{core_truth}
 use Rattle.core_forms.specs.Cores.{cores_truth}
+use Rattle.core_forms.specs.Basic.{is_basic_of}
 use Rattle.core_forms.specs.Trimmed.{trimmed_core}
 use Rattle.core_forms.proofs.TidiedCores.{core_truth-trimmed}
+use Rattle.core_forms.proofs.Kept.{IsWellFormed-trimmed}
 use Rattle.core_forms.proofs.Places.{CoreBelow-trimmed}
-use Rattle.direct_encode.specs.Clauses.{IsEncodable}
-use Rattle.direct_encode.proofs.Truths.{truth-clauses_of}
+use Rattle.direct_encode.proofs.CoreTruths.{truth-clauses_of}
 use Rattle.direct_encode.proofs.Places.{below-clauses_of}
 use Rattle.model_lower.specs.Fits.{IsFirstForm, CoreFits, CoresFit}
 use Rattle.bee_compile.specs.Encoded.{encoded_core, encoded, each_ordered}
 
--- the first forms are encoded, trimmed or not
-pub encodable : (core : Core) → IsFirstForm core → IsEncodable (trimmed_core [] core)
-encodable (Ladder a) form = tt
-encodable (Clause ls) form = tt
-encodable (LeqR r a b) form = tt
-encodable (EqR r a b) form = tt
-encodable (Parity ls odd) form = elim form [ ]
-encodable (Conj r ls) form = elim form [ ]
-encodable (Comp a b hi lo) form = elim form [ ]
-encodable (Sum3 a b c) form = elim form [ ]
-encodable (Count ls c) form = elim form [ ]
-encodable (Sum ints k) form = elim form [ ]
-encodable (Max ints c) form = elim form [ ]
-encodable (AllDiff ints cs) form = elim form [ ]
-encodable (Amo ls) form = elim form [ ]
-encodable (Prod a b c) form = elim form [ ]
-encodable (DivMod a b q r) form = elim form [ ]
-encodable (Lex r strict front back) form = elim form [ ]
+-- cores of the first forms are basic, trimmed or not
+pub basic : (core : Core) → IsFirstForm core → IsTrue (is_basic_of (trimmed_core [] core))
+basic (Ladder a) form = refl
+basic (Clause ls) form = refl
+basic (LeqR r a b) form = refl
+basic (EqR r a b) form = refl
+basic (Parity ls odd) form = elim form [ ]
+basic (Conj r ls) form = elim form [ ]
+basic (Comp a b hi lo) form = elim form [ ]
+basic (Sum3 a b c) form = elim form [ ]
+basic (Count ls c) form = elim form [ ]
+basic (Sum ints k) form = elim form [ ]
+basic (Max ints c) form = elim form [ ]
+basic (AllDiff ints cs) form = elim form [ ]
+basic (Amo ls) form = elim form [ ]
+basic (Prod a b c) form = elim form [ ]
+basic (DivMod a b q r) form = elim form [ ]
+basic (Lex r strict front back) form = elim form [ ]
 
 pub truth-encoded_core : (σ : Valuation) (n : ℕ) (core : Core) → CoreFits n core → atom_clauses_truth σ (encoded_core core) ≡ core_truth σ core
 truth-encoded_core σ n core fits =
-    truth-clauses_of σ (trimmed_core [] core) (encodable core fits.form)
+    truth-clauses_of σ (trimmed_core [] core) (basic core fits.form) (IsWellFormed-trimmed [] core fits.well_formed)
     ∙ core_truth-trimmed σ [] n core fits.below (MeetsView-nil σ)
 
 pub below-encoded_core : (n : ℕ) (core : Core) → CoreFits n core → AtomClausesBelow n (encoded_core core)

@@ -71,8 +71,8 @@ ends_behind p q end t ts line leads small f = record {
   line_is = f.line_is;
 }
 
-number_behind : (p q : Place) (t : TokenAt) (ts : List TokenAt) (line : ℕ) → Leads p t.token q → is_too_great t.token ≡ false → NumberFrom q ts line → NumberFrom p (t ∷ ts) line
-number_behind p q t ts line leads small f = record {
+number_fault_behind : (p q : Place) (t : TokenAt) (ts : List TokenAt) (line : ℕ) → Leads p t.token q → is_too_great t.token ≡ false → NumberFrom q ts line → NumberFrom p (t ∷ ts) line
+number_fault_behind p q t ts line leads small f = record {
   before = t ∷ f.before;
   token = f.token;
   behind = f.behind;
@@ -104,7 +104,7 @@ FaultFrom p end ts fault.Memory = ⊥
 fault_behind : (p q : Place) (end : ℕ) (t : TokenAt) (ts : List TokenAt) (f : ReadFault) → Leads p t.token q → is_too_great t.token ≡ false → FaultFrom q end ts f → FaultFrom p end (t ∷ ts) f
 fault_behind p q end t ts (fault.Syntax line) leads small h =
     ⊎_elim (λ f. inl (misfit_behind p q t ts line leads small f)) (λ f. inr (ends_behind p q end t ts line leads small f)) h
-fault_behind p q end t ts (fault.Number line) leads small h = number_behind p q t ts line leads small h
+fault_behind p q end t ts (fault.Number line) leads small h = number_fault_behind p q t ts line leads small h
 fault_behind p q end t ts fault.Memory leads small h = h
 
 err_is : (f g : ReadFault) → ◌≡◌ {A = Outcome} (Err f) (Err g) → f ≡ g

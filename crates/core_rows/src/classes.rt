@@ -271,6 +271,7 @@ fn random_merges(rt: HostRuntime) -> Result<(), Fail> {
         push_own(&mut labels, 80)?;
         for count in 0..200 {
             if count == 60 {
+                assert_eq!(rt; store.view().len(), 80);
                 store.grow(20)?;
                 push_own(&mut labels, 20)?;
             }

@@ -1,9 +1,8 @@
 //! Cores in words: the form's name, then its members in the order of its fields.
 
 ghost use Rattle.std.specs.Prelude.{◌<◌, ◌≤ℤ◌, ℤ, pos, IfOk};
-ghost use Rattle.order_ints.specs.OrderRange.{low_of, IntBelow};
+ghost use Rattle.order_ints.specs.OrderRange.{low_of};
 ghost use Rattle.core_forms.specs.WellFormed.{IsSound, greatest_abs, IsWellFormed};
-ghost use Rattle.core_forms.specs.Place.{CoreBelow};
 
 use crate::int_words::{int, ints};
 use crate::words::{atom, atoms, number, word};
@@ -14,16 +13,14 @@ use std::process::Abort;
 
 /// An ordered integer.
 fn ladder(rt: &impl Abort, alloc: Global, text: &str) -> Result<Core, AllocError>
-    ensures form { IfOk result (λ core. IsWellFormed core) }
-    ensures place { IfOk result (λ core. CoreBelow 25 core) }
+    ensures { IfOk result (λ core. IsWellFormed core) }
 {
     Core::ladder(alloc, int(rt, alloc, word(text, 1))?)
 }
 
 /// The first two integers, added up, are the third.
 fn sum3(rt: &impl Abort, alloc: Global, text: &str) -> Result<Core, AllocError>
-    ensures form { IfOk result (λ core. IsWellFormed core) }
-    ensures place { IfOk result (λ core. CoreBelow 25 core) }
+    ensures { IfOk result (λ core. IsWellFormed core) }
 {
     let a = int(rt, alloc, word(text, 1))?;
     let b = int(rt, alloc, word(text, 2))?;
@@ -35,17 +32,14 @@ fn sum3(rt: &impl Abort, alloc: Global, text: &str) -> Result<Core, AllocError>
 fn product_of(alloc: Global, a: OrdInt, b: OrdInt, c: OrdInt) -> Result<Core, AllocError>
     requires sound { IsSound a × IsSound b × IsSound c }
     requires small { (greatest_abs a < 1000) × (greatest_abs b < 1000) }
-    requires place { IntBelow 25 a × IntBelow 25 b × IntBelow 25 c }
-    ensures form { IfOk result (λ core. IsWellFormed core) }
-    ensures place { IfOk result (λ core. CoreBelow 25 core) }
+    ensures { IfOk result (λ core. IsWellFormed core) }
 {
     Core::prod(alloc, a, b, c)
 }
 
 /// A product.
 fn product(rt: &impl Abort, alloc: Global, text: &str) -> Result<Core, AllocError>
-    ensures form { IfOk result (λ core. IsWellFormed core) }
-    ensures place { IfOk result (λ core. CoreBelow 25 core) }
+    ensures { IfOk result (λ core. IsWellFormed core) }
 {
     let a = int(rt, alloc, word(text, 1))?;
     let b = int(rt, alloc, word(text, 2))?;
@@ -64,9 +58,7 @@ fn division_of(
     requires sound { IsSound a × IsSound b × IsSound q × IsSound r }
     requires small { (greatest_abs b < 1000) × (greatest_abs q < 1000) × (greatest_abs r < 1000) }
     requires least { (pos 0 ≤ℤ low_of a) × (pos 1 ≤ℤ low_of b) }
-    requires place { IntBelow 25 a × IntBelow 25 b × IntBelow 25 q × IntBelow 25 r }
-    ensures form { IfOk result (λ core. IsWellFormed core) }
-    ensures place { IfOk result (λ core. CoreBelow 25 core) }
+    ensures { IfOk result (λ core. IsWellFormed core) }
 {
     Core::div_mod(alloc, a, b, q, r)
 }
@@ -75,7 +67,6 @@ fn division_of(
 fn int_from(rt: &impl Abort, alloc: Global, word: &str, least: i128) -> Result<OrdInt, AllocError>
     ensures sound { IfOk result (λ a. IsSound a) }
     ensures small { IfOk result (λ a. greatest_abs a < 1000) }
-    ensures place { IfOk result (λ a. IntBelow 25 a) }
     ensures least { IfOk result (λ a. least ≤ℤ low_of a) }
 {
     let a = int(rt, alloc, word)?;
@@ -86,8 +77,7 @@ fn int_from(rt: &impl Abort, alloc: Global, word: &str, least: i128) -> Result<O
 
 /// A division.
 fn division(rt: &impl Abort, alloc: Global, text: &str) -> Result<Core, AllocError>
-    ensures form { IfOk result (λ core. IsWellFormed core) }
-    ensures place { IfOk result (λ core. CoreBelow 25 core) }
+    ensures { IfOk result (λ core. IsWellFormed core) }
 {
     let a = int_from(rt, alloc, word(text, 1), 0)?;
     let b = int_from(rt, alloc, word(text, 2), 1)?;
@@ -98,8 +88,7 @@ fn division(rt: &impl Abort, alloc: Global, text: &str) -> Result<Core, AllocErr
 
 /// The truth of the first integer being at most the second.
 fn comparison(rt: &impl Abort, alloc: Global, text: &str) -> Result<Core, AllocError>
-    ensures form { IfOk result (λ core. IsWellFormed core) }
-    ensures place { IfOk result (λ core. CoreBelow 25 core) }
+    ensures { IfOk result (λ core. IsWellFormed core) }
 {
     let r = atom(rt, word(text, 1));
     let a = int(rt, alloc, word(text, 2))?;
@@ -109,8 +98,7 @@ fn comparison(rt: &impl Abort, alloc: Global, text: &str) -> Result<Core, AllocE
 
 /// The truth of two integers being equal.
 fn equality(rt: &impl Abort, alloc: Global, text: &str) -> Result<Core, AllocError>
-    ensures form { IfOk result (λ core. IsWellFormed core) }
-    ensures place { IfOk result (λ core. CoreBelow 25 core) }
+    ensures { IfOk result (λ core. IsWellFormed core) }
 {
     let r = atom(rt, word(text, 1));
     let a = int(rt, alloc, word(text, 2))?;
@@ -120,8 +108,7 @@ fn equality(rt: &impl Abort, alloc: Global, text: &str) -> Result<Core, AllocErr
 
 /// The number of true members.
 fn count(rt: &impl Abort, alloc: Global, text: &str) -> Result<Core, AllocError>
-    ensures form { IfOk result (λ core. IsWellFormed core) }
-    ensures place { IfOk result (λ core. CoreBelow 25 core) }
+    ensures { IfOk result (λ core. IsWellFormed core) }
 {
     let members = atoms(rt, alloc, word(text, 1))?;
     let c = int(rt, alloc, word(text, 2))?;
@@ -130,8 +117,7 @@ fn count(rt: &impl Abort, alloc: Global, text: &str) -> Result<Core, AllocError>
 
 /// The members, added up.
 fn sum(rt: &impl Abort, alloc: Global, text: &str) -> Result<Core, AllocError>
-    ensures form { IfOk result (λ core. IsWellFormed core) }
-    ensures place { IfOk result (λ core. CoreBelow 25 core) }
+    ensures { IfOk result (λ core. IsWellFormed core) }
 {
     let total = number(rt, word(text, 2));
     let members = ints(rt, alloc, word(text, 1))?;
@@ -140,8 +126,7 @@ fn sum(rt: &impl Abort, alloc: Global, text: &str) -> Result<Core, AllocError>
 
 /// The greatest member.
 fn maximum(rt: &impl Abort, alloc: Global, text: &str) -> Result<Core, AllocError>
-    ensures form { IfOk result (λ core. IsWellFormed core) }
-    ensures place { IfOk result (λ core. CoreBelow 25 core) }
+    ensures { IfOk result (λ core. IsWellFormed core) }
 {
     let members = ints(rt, alloc, word(text, 1))?;
     assert!(rt; 0 < members.as_slice().len());
@@ -151,8 +136,7 @@ fn maximum(rt: &impl Abort, alloc: Global, text: &str) -> Result<Core, AllocErro
 
 /// Different members, as far as their conditions say.
 fn differences(rt: &impl Abort, alloc: Global, text: &str) -> Result<Core, AllocError>
-    ensures form { IfOk result (λ core. IsWellFormed core) }
-    ensures place { IfOk result (λ core. CoreBelow 25 core) }
+    ensures { IfOk result (λ core. IsWellFormed core) }
 {
     let members = ints(rt, alloc, word(text, 1))?;
     let conditions = atoms(rt, alloc, word(text, 2))?;
@@ -162,8 +146,7 @@ fn differences(rt: &impl Abort, alloc: Global, text: &str) -> Result<Core, Alloc
 
 /// The order of two lists.
 fn order(rt: &impl Abort, alloc: Global, text: &str) -> Result<Core, AllocError>
-    ensures form { IfOk result (λ core. IsWellFormed core) }
-    ensures place { IfOk result (λ core. CoreBelow 25 core) }
+    ensures { IfOk result (λ core. IsWellFormed core) }
 {
     let r = atom(rt, word(text, 1));
     let strict = word(text, 2) == "true";
@@ -175,8 +158,7 @@ fn order(rt: &impl Abort, alloc: Global, text: &str) -> Result<Core, AllocError>
 
 /// The third and fourth atom are the disjunction and the conjunction of the first two.
 fn comparator(rt: &impl Abort, alloc: Global, text: &str) -> Result<Core, AllocError>
-    ensures form { IfOk result (λ core. IsWellFormed core) }
-    ensures place { IfOk result (λ core. CoreBelow 25 core) }
+    ensures { IfOk result (λ core. IsWellFormed core) }
 {
     let a = atom(rt, word(text, 1));
     let b = atom(rt, word(text, 2));
@@ -187,8 +169,7 @@ fn comparator(rt: &impl Abort, alloc: Global, text: &str) -> Result<Core, AllocE
 
 /// A form over a list of atoms.
 fn of_atoms(rt: &impl Abort, alloc: Global, text: &str) -> Result<Core, AllocError>
-    ensures form { IfOk result (λ core. IsWellFormed core) }
-    ensures place { IfOk result (λ core. CoreBelow 25 core) }
+    ensures { IfOk result (λ core. IsWellFormed core) }
 {
     match word(text, 0) {
         "Clause" => Ok(Core::Clause(atoms(rt, alloc, word(text, 1))?)),
@@ -208,8 +189,7 @@ fn of_atoms(rt: &impl Abort, alloc: Global, text: &str) -> Result<Core, AllocErr
 
 /// A form over a few integers.
 fn of_numbers(rt: &impl Abort, alloc: Global, text: &str) -> Result<Core, AllocError>
-    ensures form { IfOk result (λ core. IsWellFormed core) }
-    ensures place { IfOk result (λ core. CoreBelow 25 core) }
+    ensures { IfOk result (λ core. IsWellFormed core) }
 {
     match word(text, 0) {
         "Ladder" => ladder(rt, alloc, text),
@@ -224,8 +204,7 @@ fn of_numbers(rt: &impl Abort, alloc: Global, text: &str) -> Result<Core, AllocE
 
 /// A core.
 pub(super) fn core_of(rt: &impl Abort, alloc: Global, text: &str) -> Result<Core, AllocError>
-    ensures form { IfOk result (λ core. IsWellFormed core) }
-    ensures place { IfOk result (λ core. CoreBelow 25 core) }
+    ensures { IfOk result (λ core. IsWellFormed core) }
 {
     match word(text, 0) {
         "Count" => count(rt, alloc, text),

@@ -2,9 +2,7 @@
 //! Without `@7` they are those from 1 on, and `2` alone is the constant.
 
 ghost use Rattle.std.specs.Prelude.{◌+◌, ◌<◌, ◌≤◌, unsigned_abs, IfOk};
-ghost use Rattle.order_ints.specs.OrderRange.{IntBelow};
 ghost use Rattle.core_forms.specs.WellFormed.{IsSound, AreSound, greatest_abs, abs_total};
-ghost use Rattle.core_forms.specs.Place.{IntsBelow};
 
 use crate::words::number;
 use bee_list::Sequence;
@@ -25,7 +23,6 @@ fn unit_int(
     requires last { first + count ≤ 25 }
     ensures sound { IfOk result (λ a. IsSound a) }
     ensures small { IfOk result (λ a. greatest_abs a < 1000) }
-    ensures place { IfOk result (λ a. IntBelow 25 a) }
 {
     let a = OrdInt::unit_range(alloc, low, first, count)?;
     let (least, greatest) = (a.low(), a.high());
@@ -62,7 +59,6 @@ fn range(rt: &impl Abort, values: &str) -> (i128, i128)
 pub(super) fn int(rt: &impl Abort, alloc: Global, word: &str) -> Result<OrdInt, AllocError>
     ensures sound { IfOk result (λ a. IsSound a) }
     ensures small { IfOk result (λ a. greatest_abs a < 1000) }
-    ensures place { IfOk result (λ a. IntBelow 25 a) }
 {
     let (values, first) = first_var(rt, word);
     let (low, high) = range(rt, values);
@@ -80,7 +76,6 @@ pub(super) fn ints(
 ) -> Result<Sequence<OrdInt>, AllocError>
     ensures sound { IfOk result (λ ints. AreSound ints) }
     ensures small { IfOk result (λ ints. abs_total ints < 100000) }
-    ensures place { IfOk result (λ ints. IntsBelow 25 ints) }
 {
     let mut ints = Vec::new(alloc);
     for member in word.split(',') {

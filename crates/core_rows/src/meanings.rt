@@ -2,7 +2,6 @@
 //! first eight variables, the first one first: `1` is true.
 
 ghost use Rattle.core_forms.specs.WellFormed.{IsWellFormed};
-ghost use Rattle.core_forms.specs.Place.{CoreBelow};
 
 use crate::form_words::core_of;
 use core_forms::{Core, holds};
@@ -20,8 +19,7 @@ fn truths(word: &str) -> [bool; 24] {
 
 /// Asserts whether a core is met under each word's truth values.
 fn each(rt: &impl Abort, text: &str, core: &Core, words: &str, met: bool)
-    requires form { IsWellFormed core.now }
-    requires place { CoreBelow 25 core.now }
+    requires { IsWellFormed core.now }
 {
     for word in words.split_whitespace() {
         let found = holds(core, truths(word).as_slice());

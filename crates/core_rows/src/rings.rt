@@ -231,11 +231,10 @@ fn random_moves(rt: HostRuntime) -> Result<(), Fail> {
         let step = random_move(&mut numbers, &rings);
         make(&rt, &mut rings, step)?;
         make_plain(rt.alloc(), lists.as_mut_slice(), step)?;
-        let mut ring = 0_u32;
-        for list in &lists {
+        for (place, list) in lists.iter().enumerate() {
+            let ring = u32::try_from(place).unwrap_or(0);
             let found = walk(&rt, rt.alloc(), &rings, ring)?;
             assert_eq!(rt; found.as_slice(), list.as_slice(), "move {count}: {step:?}");
-            ring = ring.saturating_add(1);
         }
     }
     Ok(())

@@ -2,7 +2,6 @@
 //! between its members; the empty one is `none`.
 
 ghost use Rattle.std.specs.Prelude.{◌<◌, ◌≤◌, unsigned_abs, IfOk, length};
-ghost use Rattle.order_ints.specs.Place.{AtomBelow, AtomsBelow};
 
 use bee_list::Sequence;
 use bee_text::read_signed;
@@ -29,9 +28,7 @@ pub(super) fn number(rt: &impl Abort, word: &str) -> i128
 }
 
 /// A literal of one of 24 variables.
-fn literal(rt: &impl Abort, word: &str) -> Atom
-    ensures { AtomBelow 25 result }
-{
+fn literal(rt: &impl Abort, word: &str) -> Atom {
     let number = number(rt, word);
     let var = number.unsigned_abs();
     assert!(rt; 1 <= var && var < 25);
@@ -39,9 +36,7 @@ fn literal(rt: &impl Abort, word: &str) -> Atom
 }
 
 /// An atom.
-pub(super) fn atom(rt: &impl Abort, word: &str) -> Atom
-    ensures { AtomBelow 25 result }
-{
+pub(super) fn atom(rt: &impl Abort, word: &str) -> Atom {
     match word {
         "T" => Atom::True,
         "F" => Atom::False,
@@ -55,7 +50,6 @@ pub(super) fn atoms(
     alloc: Global,
     word: &str,
 ) -> Result<Sequence<Atom>, AllocError>
-    ensures place { IfOk result (λ atoms. AtomsBelow 25 atoms) }
     ensures few { IfOk result (λ atoms. length atoms < 100) }
 {
     let mut atoms = Vec::new(alloc);

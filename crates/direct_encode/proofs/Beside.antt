@@ -13,7 +13,8 @@ use Rattle.order_ints.specs.Walk.{has_value}
 use Rattle.order_ints.proofs.Wide.{small_bits}
 use Rattle.order_ints.proofs.Everywhere.{map_levels, filter_levels}
 use Rattle.core_forms.specs.WellFormed.{IsSound}
-use Rattle.direct_encode.specs.Clauses.{reaching_clauses, exceeding_clauses, differing_clauses}
+use Rattle.direct_encode.specs.Maxima.{at_most_clauses, all_at, some_reaching_clauses}
+use Rattle.direct_encode.specs.Comparisons.{reaching_clauses, exceeding_clauses, differing_clauses}
 
 -- where r is true b reaches each value that is reached
 abbrev pub reaching_beside : Atom → OrdInt → List (ℤ × Atom) → List (List Atom)
@@ -29,7 +30,21 @@ differing_beside r a b ls =
     map (λ (l : ℤ × Atom). r ∷ not_atom l.1 ∷ at_of a (l.0 +ℤ pos 1) ∷ not_atom (at_of b l.0) ∷ at_of b (l.0 +ℤ pos 1) ∷ [])
     (filter (λ (l : ℤ × Atom). has_value b l.0) ls)
 
+-- c reaches each value that is reached
+abbrev pub at_most_beside : OrdInt → List (ℤ × Atom) → List (List Atom)
+at_most_beside c ls = map (λ (l : ℤ × Atom). not_atom l.1 ∷ at_of c l.0 ∷ []) ls
+
+-- some integer reaches each value that is reached
+abbrev pub some_reaching_beside : List OrdInt → List (ℤ × Atom) → List (List Atom)
+some_reaching_beside ints ls = map (λ (l : ℤ × Atom). not_atom l.1 ∷ all_at ints l.0) ls
+
 -- along whole integers: the clauses of the definitions
+pub at_most_is : (a c : OrdInt) → IsSound a → at_most_beside c (levels_of a) ≡ at_most_clauses a c
+at_most_is a c sound = map_levels (λ v x. not_atom x ∷ at_of c v ∷ []) a sound.1
+
+pub some_reaching_is : (ints : List OrdInt) (c : OrdInt) → IsSound c → some_reaching_beside ints (levels_of c) ≡ some_reaching_clauses ints c
+some_reaching_is ints c sound = map_levels (λ v x. not_atom x ∷ all_at ints v) c sound.1
+
 pub reaching_is : (r : Atom) (a b : OrdInt) → IsSound a → reaching_beside r b (levels_of a) ≡ reaching_clauses r a b
 reaching_is r a b sound = map_levels (λ v x. not_atom r ∷ not_atom x ∷ at_of b v ∷ []) a sound.1
 
@@ -75,3 +90,15 @@ put_passing test f so_far more clause level left rest all passes pushed is next 
 pub told_value : (a b : OrdInt) (v w : ℤ) (r : Bool) → r ≡ has_value b w → b ≡ a → w ≡ v → r ≡ true → has_value a v ≡ true
 told_value a b v w r e same is there =
     ap (has_value a) (sym is) ∙ ap (λ (c : OrdInt). has_value c w) (sym same) ∙ sym e ∙ there
+
+-- the same of walks along all of some integers
+pub told_all : (ints others : List OrdInt) (v w : ℤ) (x y : Atom) (clause : List Atom) → clause ≡ x ∷ all_at others w → others ≡ ints → w ≡ v → x ≡ y → clause ≡ y ∷ all_at ints v
+told_all ints others v w x y clause e same is head =
+    e ∙ ap (λ (xs : List OrdInt). x ∷ all_at xs w) same ∙ ap (λ (u : ℤ). x ∷ all_at ints u) is ∙ ap (λ (z : Atom). z ∷ all_at ints v) head
+
+-- a value well below the limit of 128 bits comes back
+pub wide_bits : (z : ℤ) → unsigned_abs z < 2 ^ 102 → to_z w128 (of_z w128 z) ≡ z
+wide_bits z h = to_z-of_z w128 z (fits_signed_from_abs w128 z (omega (arith, h)))
+
+pub wider : (z : ℤ) → unsigned_abs z < 2 ^ 101 → unsigned_abs z < 2 ^ 102
+wider z h = omega (arith, h)

@@ -1,4 +1,17 @@
 pub mod Beside
 pub mod Truths
+pub mod AtomTruths
+pub mod MaxTruths
+pub mod CoreTruths
 pub mod Places
+pub mod WalkedLaws
+pub mod Sizes
+pub mod TableSizes
+pub mod TableLaws
+pub mod TableLoops
+pub mod TableTruths
+pub mod SumTruths
+pub mod ProductTruths
+pub mod DivisionTruths
+pub mod CoreSizes
 pub mod Outcomes

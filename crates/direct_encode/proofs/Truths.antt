@@ -12,10 +12,8 @@ use Rattle.order_ints.specs.OrderValue.{value_of, none_true, in_order, IsOrdered
 use Rattle.order_ints.specs.OrderLevels.{is_among, values_of, at_of}
 use Rattle.order_ints.proofs.Reaching.{atom_truth-at_of, Contains-value_of}
 use Rattle.order_ints.proofs.TruthLaws.{atom_truth-not_atom, atom_clauses_truth-append}
-use Rattle.core_forms.specs.declared.form.Core.{Core}
-use Rattle.core_forms.specs.declared.form.Core.TheVariants.{Ladder, Clause, Parity, Conj, Comp, LeqR, EqR, Sum3, Count, Sum, Max, AllDiff, Amo, Prod, DivMod, Lex}
-use Rattle.core_forms.specs.Meaning.{core_truth}
-use Rattle.direct_encode.specs.Clauses.{order_clauses_above, order_clauses_of_steps, order_clauses, reaching_clause, reaching_clauses, exceeding_clause, exceeding_clauses, differing_clause, common_values, differing_clauses, leq_clauses, eq_clauses, clauses_of, IsEncodable}
+use Rattle.direct_encode.specs.Orders.{order_clauses_above, order_clauses_of_steps, order_clauses}
+use Rattle.direct_encode.specs.Comparisons.{reaching_clause, reaching_clauses, exceeding_clause, exceeding_clauses, differing_clause, common_values, differing_clauses, leq_clauses, eq_clauses}
 
 -- order: the clauses above a step say that the steps above it are in order, where it is true, and that none is true, where it is not
 order-choice : (p s i n : Bool) → ((p || (not s || false)) && cond s i n) ≡ cond p (cond s i n) (not s && n)
@@ -58,7 +56,7 @@ truth-one σ f (w ∷ vs) v zero lt at fails =
 truth-one σ f (w ∷ vs) v (suc k) lt at fails =
     and-false (atom_clause_truth σ (f w)) (atom_clauses_truth σ (map f vs)) (truth-one σ f vs v k (omega (arith, lt)) at fails)
 
-truth-map : (σ : Valuation) (f : ℤ → List Atom) (vs : List ℤ) (t : Bool) → (t ≡ true → (v : ℤ) → atom_clause_truth σ (f v) ≡ true) → (t ≡ false → (v : ℤ) × Contains vs v × (atom_clause_truth σ (f v) ≡ false)) → atom_clauses_truth σ (map f vs) ≡ t
+pub truth-map : (σ : Valuation) (f : ℤ → List Atom) (vs : List ℤ) (t : Bool) → (t ≡ true → (v : ℤ) → atom_clause_truth σ (f v) ≡ true) → (t ≡ false → (v : ℤ) × Contains vs v × (atom_clause_truth σ (f v) ≡ false)) → atom_clauses_truth σ (map f vs) ≡ t
 truth-map σ f vs true each one = truth-all σ f vs (each refl)
 truth-map σ f vs false each one = let c = one refl in truth-one σ f vs c.0 c.1.0 c.1.1 c.1.2 c.2
 
@@ -180,7 +178,7 @@ eq-choice false s t u e = grind arith
 both-le : (x y : ℤ) → int_eq x y ≡ (int_le x y && int_le y x)
 both-le x y = grind (arith, ints)
 
-truth-leq_clauses : (σ : Valuation) (r : Atom) (a b : OrdInt) → IsOrdered σ a → IsOrdered σ b → atom_clauses_truth σ (leq_clauses r a b) ≡ beq (atom_truth σ r) (int_le (value_of σ a) (value_of σ b))
+pub truth-leq_clauses : (σ : Valuation) (r : Atom) (a b : OrdInt) → IsOrdered σ a → IsOrdered σ b → atom_clauses_truth σ (leq_clauses r a b) ≡ beq (atom_truth σ r) (int_le (value_of σ a) (value_of σ b))
 truth-leq_clauses σ r a b oa ob =
     let split = atom_clauses_truth-append σ (reaching_clauses r a b) (exceeding_clauses r a b) in
     let first = truth-reaching_clauses σ r a b oa ob in
@@ -188,7 +186,7 @@ truth-leq_clauses σ r a b oa ob =
     let all = leq-choice (atom_truth σ r) (int_le (value_of σ a) (value_of σ b)) in
     cc
 
-truth-eq_clauses : (σ : Valuation) (r : Atom) (a b : OrdInt) → IsOrdered σ a → IsOrdered σ b → atom_clauses_truth σ (eq_clauses r a b) ≡ beq (atom_truth σ r) (int_eq (value_of σ a) (value_of σ b))
+pub truth-eq_clauses : (σ : Valuation) (r : Atom) (a b : OrdInt) → IsOrdered σ a → IsOrdered σ b → atom_clauses_truth σ (eq_clauses r a b) ≡ beq (atom_truth σ r) (int_eq (value_of σ a) (value_of σ b))
 truth-eq_clauses σ r a b oa ob =
     let split = atom_clauses_truth-append σ (reaching_clauses r a b) (reaching_clauses r b a ++ differing_clauses r a b) in
     let more = atom_clauses_truth-append σ (reaching_clauses r b a) (differing_clauses r a b) in
@@ -204,7 +202,7 @@ guarded true true u v e = e refl refl
 guarded true false u v e = refl
 guarded false t u v e = refl
 
-truth-compared : (σ : Valuation) (a b : OrdInt) (cs : List (List Atom)) (t : Bool) → (IsOrdered σ a → IsOrdered σ b → atom_clauses_truth σ cs ≡ t) → atom_clauses_truth σ (order_clauses a ++ (order_clauses b ++ cs)) ≡ ((in_order σ a.steps && in_order σ b.steps) && t)
+pub truth-compared : (σ : Valuation) (a b : OrdInt) (cs : List (List Atom)) (t : Bool) → (IsOrdered σ a → IsOrdered σ b → atom_clauses_truth σ cs ≡ t) → atom_clauses_truth σ (order_clauses a ++ (order_clauses b ++ cs)) ≡ ((in_order σ a.steps && in_order σ b.steps) && t)
 truth-compared σ a b cs t says =
     let split = atom_clauses_truth-append σ (order_clauses a) (order_clauses b ++ cs) in
     let more = atom_clauses_truth-append σ (order_clauses b) cs in
@@ -212,28 +210,3 @@ truth-compared σ a b cs t says =
     let second = truth-order_clauses σ b in
     let all = guarded (in_order σ a.steps) (in_order σ b.steps) (atom_clauses_truth σ cs) t says in
     cc
-
-one-clause : (b : Bool) → (b && true) ≡ b
-one-clause true = refl
-one-clause false = refl
-
--- the clauses of a core are true exactly where the core is met
-pub truth-clauses_of : (σ : Valuation) (core : Core) → IsEncodable core → atom_clauses_truth σ (clauses_of core) ≡ core_truth σ core
-truth-clauses_of σ (Ladder a) form = truth-order_clauses σ a
-truth-clauses_of σ (Clause ls) form = one-clause (atom_clause_truth σ ls)
-truth-clauses_of σ (Parity ls odd) form = absurd form
-truth-clauses_of σ (Conj r ls) form = absurd form
-truth-clauses_of σ (Comp a b hi lo) form = absurd form
-truth-clauses_of σ (LeqR r a b) form =
-    truth-compared σ a b (leq_clauses r a b) (beq (atom_truth σ r) (int_le (value_of σ a) (value_of σ b))) (truth-leq_clauses σ r a b)
-truth-clauses_of σ (EqR r a b) form =
-    truth-compared σ a b (eq_clauses r a b) (beq (atom_truth σ r) (int_eq (value_of σ a) (value_of σ b))) (truth-eq_clauses σ r a b)
-truth-clauses_of σ (Sum3 a b c) form = absurd form
-truth-clauses_of σ (Count ls c) form = absurd form
-truth-clauses_of σ (Sum ints k) form = absurd form
-truth-clauses_of σ (Max ints c) form = absurd form
-truth-clauses_of σ (AllDiff ints cs) form = absurd form
-truth-clauses_of σ (Amo ls) form = absurd form
-truth-clauses_of σ (Prod a b c) form = absurd form
-truth-clauses_of σ (DivMod a b q r) form = absurd form
-truth-clauses_of σ (Lex r strict front back) form = absurd form

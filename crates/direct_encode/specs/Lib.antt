@@ -1,1 +1,10 @@
+pub mod Orders
+pub mod AtomLists
+pub mod Comparisons
+pub mod Walked
+pub mod Maxima
+pub mod Search
+pub mod Tables
+pub mod Products
+pub mod Literals
 pub mod Clauses

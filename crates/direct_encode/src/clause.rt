@@ -6,6 +6,17 @@ use bee_list::Sequence;
 use order_ints::Atom;
 use std::alloc::AllocError;
 
+/// Puts a clause behind others.
+pub(crate) fn push_owned(
+    clauses: &mut Vec<Sequence<Atom>>,
+    clause: Vec<Atom>,
+) -> Result<(), AllocError>
+    ensures { OnOk result (clauses.new.items ≡ clauses.old.items ++ (clause.items ∷ [])) }
+{
+    clauses.push(Sequence::from_vec(clause))?;
+    Ok(())
+}
+
 /// Puts the clause of some atoms behind others. Its list has room for them at once.
 pub(crate) fn push_clause(
     clauses: &mut Vec<Sequence<Atom>>,
@@ -14,6 +25,5 @@ pub(crate) fn push_clause(
     ensures { OnOk result (clauses.new.items ≡ clauses.old.items ++ (atoms.now ∷ [])) }
 {
     let alloc = *clauses.allocator();
-    clauses.push(Sequence::from_vec(Vec::from_slice(alloc, atoms)?))?;
-    Ok(())
+    push_owned(clauses, Vec::from_slice(alloc, atoms)?)
 }

@@ -3,7 +3,7 @@
 
 ghost use Rattle.std.specs.Prelude.{◌≡◌, ◌++◌, OnOk};
 ghost use Rattle.core_forms.specs.WellFormed.{IsSound};
-ghost use Rattle.direct_encode.specs.Clauses.{reaching_clauses, exceeding_clauses, differing_clauses};
+ghost use Rattle.direct_encode.specs.Comparisons.{reaching_clauses, exceeding_clauses, differing_clauses};
 
 use crate::clause::push_clause;
 use bee_list::Sequence;

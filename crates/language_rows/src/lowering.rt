@@ -169,7 +169,7 @@ fn items_that_are_not_built_are_told(rt: HostRuntime) -> Result<(), Fail> {
     for (text, want) in [
         (BUILT, None),
         ("new_bool(x) bool_eq(x,x) solve satisfy", Some(6)),
-        ("new_int(i,0,16777216) solve satisfy", Some(3)),
+        ("new_bool(x) new_int(i,0,16777216) solve satisfy", Some(6)),
     ] {
         let found = with_gaps(model(rt.alloc(), text)?);
         assert_eq!(rt; first_unbuilt(&found), want, "{text}");

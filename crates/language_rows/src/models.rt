@@ -208,6 +208,6 @@ fn a_fault_stays(rt: HostRuntime) -> Result<(), Fail> {
 
 #[test]
 fn statements_are_small(rt: HostRuntime) -> Result<(), Fail> {
-    assert!(rt; size_of::<Stmt>() <= 128);
+    assert!(rt; size_of::<Stmt>() <= 136);
     Ok(())
 }

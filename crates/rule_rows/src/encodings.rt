@@ -1,27 +1,15 @@
 //! Clauses worked out by hand, for each form.
 
-ghost use Rattle.std.specs.Prelude.{IsTrue};
 ghost use Rattle.core_forms.specs.WellFormed.{IsWellFormed};
-ghost use Rattle.direct_encode.specs.Clauses.{IsEncodable};
 
 use crate::words::core_of;
 use bee_list::Sequence;
 use bee_text::{push_blank, push_bytes, push_signed};
-use core_forms::Core;
+use core_forms::{Core, is_basic};
 use direct_encode::clauses;
 use order_ints::Atom;
 use std::alloc::{AllocError, Global};
 use std::process::Abort;
-
-/// Whether a core is of a form that has clauses.
-fn has_clauses(core: &Core) -> bool
-    ensures { IsTrue result → IsEncodable core.now }
-{
-    matches!(
-        core,
-        Core::Ladder(_) | Core::Clause(_) | Core::LeqR(_, _, _) | Core::EqR(_, _, _)
-    )
-}
 
 /// Puts an atom behind a text: `T`, `F`, or the variable's number with the sign.
 fn put_atom(text: &mut Vec<u8>, atom: Atom) -> Result<(), AllocError> {
@@ -48,8 +36,8 @@ fn put(text: &mut Vec<u8>, clause: &Sequence<Atom>) -> Result<(), AllocError> {
 fn shown(rt: &impl Abort, alloc: Global, core: &Core) -> Result<Vec<u8>, AllocError>
     requires { IsWellFormed core.now }
 {
-    let encodable = has_clauses(core);
-    assert!(rt; encodable);
+    let basic = is_basic(core);
+    assert!(rt; basic);
     let mut text = Vec::new(alloc);
     for clause in clauses(alloc, core)?.iter() {
         put(&mut text, clause)?;
@@ -59,10 +47,39 @@ fn shown(rt: &impl Abort, alloc: Global, core: &Core) -> Result<Vec<u8>, AllocEr
 }
 
 #[test]
-fn clauses_are_those_of_the_form(rt: HostRuntime) -> Result<(), AllocError> {
+fn clauses_over_atoms(rt: HostRuntime) -> Result<(), AllocError> {
+    for (text, wanted) in [
+        ("Clause 1,-2,1", "1 -2 1 | "),
+        ("Parity none odd", "| "),
+        ("Parity none even", ""),
+        ("Parity 1 even", "-1 | "),
+        ("Parity 1,-2 odd", "1 -2 | -1 2 | "),
+        ("Parity 1,2 even", "1 -2 | -1 2 | "),
+        ("Parity 1,2,3 odd", "1 2 3 | 1 -2 -3 | -1 2 -3 | -1 -2 3 | "),
+        (
+            "Parity 1,2,3 even",
+            "1 2 -3 | 1 -2 3 | -1 2 3 | -1 -2 -3 | ",
+        ),
+        ("Conj 1 2,-3", "-1 2 | -1 -3 | 1 -2 3 | "),
+        ("Conj -1 none", "-1 | "),
+        (
+            "Comp 1 2 3 4",
+            "-1 3 | -2 3 | -3 1 2 | -4 1 | -4 2 | 4 -1 -2 | ",
+        ),
+        ("Amo 1", ""),
+        ("Amo 1,-2,3", "-1 2 | -1 -3 | 2 -3 | "),
+    ] {
+        let core = core_of(&rt, rt.alloc(), text)?;
+        let found = shown(&rt, rt.alloc(), &core)?;
+        assert_eq!(rt; found.as_slice(), wanted.as_bytes(), "{text}");
+    }
+    Ok(())
+}
+
+#[test]
+fn clauses_over_integers(rt: HostRuntime) -> Result<(), AllocError> {
     for (text, wanted) in [
         ("Ladder 0,1,2,3", "1 -2 | 2 -3 | "),
-        ("Clause 1,-2,1", "1 -2 1 | "),
         ("LeqR T 0,1@1 0,1@2", "F F T | F -1 2 | T F 1 | T -2 F | "),
         (
             "LeqR 5 0,2,5 1,4@3",
@@ -80,6 +97,56 @@ fn clauses_are_those_of_the_form(rt: HostRuntime) -> Result<(), AllocError> {
         (
             "EqR 4 0,2,5 2,5@3",
             "1 -2 | -4 F T | -4 -1 T | -4 -2 3 | -4 F 1 | -4 -3 2 | 4 -1 2 F 3 | 4 -2 F -3 F | ",
+        ),
+        (
+            "Max -1,2@1;0,4@2 -1,2,4@3",
+            "3 -4 | F T | -1 3 | F 3 | -2 4 | F T T | -3 1 2 | -4 F 2 | ",
+        ),
+    ] {
+        let core = core_of(&rt, rt.alloc(), text)?;
+        let found = shown(&rt, rt.alloc(), &core)?;
+        assert_eq!(rt; found.as_slice(), wanted.as_bytes(), "{text}");
+    }
+    Ok(())
+}
+
+/// A sum has the clauses that hold from a pair of values on, and those that hold up to it; one is left out
+/// where the place beside it has the same atom.
+#[test]
+fn clauses_of_sums(rt: HostRuntime) -> Result<(), AllocError> {
+    for (text, wanted) in [
+        (
+            "Sum3 0,1@1 0,1@2 0,1,2@3",
+            "3 -4 | F F T | 1 2 -3 | F -2 3 | 1 F -4 | -1 F 3 | F 2 -4 | -1 -2 4 | F F T | ",
+        ),
+        (
+            "Sum3 0,2@1 -1,2@2 -1,4@3",
+            "F F T | F -2 3 | 1 F -3 | -1 F 3 | F 2 -3 | F F T | ",
+        ),
+    ] {
+        let core = core_of(&rt, rt.alloc(), text)?;
+        let found = shown(&rt, rt.alloc(), &core)?;
+        assert_eq!(rt; found.as_slice(), wanted.as_bytes(), "{text}");
+    }
+    Ok(())
+}
+
+/// A product has the clauses from a pair of values on and up to it, or where a value may be negative those at
+/// the pair alone; quotient and rest have the latter.
+#[test]
+fn clauses_of_products_and_divisions(rt: HostRuntime) -> Result<(), AllocError> {
+    for (text, wanted) in [
+        (
+            "Prod 0,1@1 0,2@2 0,2@3",
+            "F F T | 1 2 -3 | F -2 T | 1 F -3 | -1 F T | F 2 -3 | -1 -2 3 | F F T | ",
+        ),
+        (
+            "Prod -1,1@1 1 -1,1@2",
+            "F 1 F F T | F 1 F F -2 | -1 F F F 2 | -1 F F F T | ",
+        ),
+        (
+            "DivMod 3,5@1 1,2@2 1,2,3,5@3 0,1@6",
+            "3 -4 | 4 -5 | F 1 F 2 4 | F 1 F 2 -5 | F 1 F 2 T | F 1 F 2 -6 | F 1 -2 F T | F 1 -2 F -3 | F 1 -2 F 6 | F 1 -2 F T | -1 F F 2 5 | -1 F F 2 T | -1 F F 2 T | -1 F F 2 -6 | -1 F -2 F 3 | -1 F -2 F -4 | -1 F -2 F 6 | -1 F -2 F T | ",
         ),
     ] {
         let core = core_of(&rt, rt.alloc(), text)?;

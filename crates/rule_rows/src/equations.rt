@@ -23,7 +23,7 @@ pub(super) fn equation_of(rt: &impl Abort, text: &str) -> Equation {
 }
 
 /// Puts an atom behind a text: `T`, `F`, or the variable's number with the sign.
-fn put_atom(text: &mut Vec<u8>, atom: Atom) -> Result<(), AllocError> {
+pub(super) fn put_atom(text: &mut Vec<u8>, atom: Atom) -> Result<(), AllocError> {
     match atom {
         Atom::True => push_bytes(text, b"T"),
         Atom::False => push_bytes(text, b"F"),

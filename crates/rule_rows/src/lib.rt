@@ -7,6 +7,12 @@ mod encodings;
 #[cfg(test)]
 mod equations;
 #[cfg(test)]
-mod equi_rules;
+mod form_rules;
+#[cfg(test)]
+mod form_words;
+#[cfg(test)]
+mod networks;
+#[cfg(test)]
+mod truth_tables;
 #[cfg(test)]
 mod words;

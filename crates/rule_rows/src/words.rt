@@ -3,10 +3,11 @@
 //! are those from 1 on, or with `@7` behind it those from 7 on; or it is its least value, `^`, and the atoms of three
 //! steps of weight 1. A core is its form's name and then its members.
 
-ghost use Rattle.std.specs.Prelude.{◌≤◌, unsigned_abs, IfOk, IsTrue};
+ghost use Rattle.std.specs.Prelude.{◌<◌, ◌≤◌, unsigned_abs, IfOk, IsTrue};
 ghost use Rattle.order_ints.specs.OrderMade.{AscendFrom, AreSmall};
-ghost use Rattle.core_forms.specs.WellFormed.{IsSound, IsWellFormed};
+ghost use Rattle.core_forms.specs.WellFormed.{IsSound, greatest_abs, IsWellFormed};
 
+use crate::form_words::form_of;
 use bee_list::Sequence;
 use bee_text::read_signed;
 use core_forms::Core;
@@ -23,7 +24,7 @@ pub(super) fn word(text: &str, place: usize) -> &str {
 }
 
 /// A small number.
-fn number(rt: &impl Abort, word: &str) -> i128
+pub(super) fn number(rt: &impl Abort, word: &str) -> i128
     ensures { unsigned_abs result ≤ 100 }
 {
     match read_signed(word.as_bytes(), 100) {
@@ -83,9 +84,22 @@ fn ascend_from(value: i128, values: &[i128]) -> bool
     value < next && next < 1000 && -1000 < next && ascend_from(next, rest)
 }
 
+/// An integer that is found to be small.
+fn small(rt: &impl Abort, a: OrdInt) -> OrdInt
+    requires { IsSound a }
+    ensures sound { IsSound result }
+    ensures small { greatest_abs result < 1000 }
+{
+    let (low, high) = (a.low(), a.high());
+    assert!(rt; -1000 < low && low < 1000);
+    assert!(rt; -1000 < high && high < 1000);
+    a
+}
+
 /// The integer of some values, of which there are at most 20, over the variables from one on.
 fn int_of(rt: &impl Abort, alloc: Global, values: &[i128], first: u32) -> Result<OrdInt, AllocError>
-    ensures { IfOk result (λ a. IsSound a) }
+    ensures sound { IfOk result (λ a. IsSound a) }
+    ensures small { IfOk result (λ a. greatest_abs a < 1000) }
 {
     assert!(rt; values.len() < 20 && 1 <= first && first < 80);
     let Some((least, rest)) = values.split_first() else {
@@ -95,27 +109,31 @@ fn int_of(rt: &impl Abort, alloc: Global, values: &[i128], first: u32) -> Result
     assert!(rt; -1000 < least && least < 1000);
     let ascending = ascend_from(least, rest);
     assert!(rt; ascending);
-    OrdInt::from_values(alloc, values, first)
+    let a = OrdInt::from_values(alloc, values, first)?;
+    Ok(small(rt, a))
 }
 
 /// The integer of three steps of weight 1.
 fn stepped(rt: &impl Abort, alloc: Global, base: &str, steps: &str) -> Result<OrdInt, AllocError>
-    ensures { IfOk result (λ a. IsSound a) }
+    ensures sound { IfOk result (λ a. IsSound a) }
+    ensures small { IfOk result (λ a. greatest_abs a < 1000) }
 {
     let base = number(rt, base);
     let atoms = atoms(rt, alloc, steps)?;
     let atoms = atoms.as_slice();
     assert!(rt; atoms.len() == 3);
     let steps = vec![in alloc; (atoms[0], 1), (atoms[1], 1), (atoms[2], 1)]?;
-    Ok(OrdInt {
+    let a = OrdInt {
         base,
         steps: Sequence::from_vec(steps),
-    })
+    };
+    Ok(small(rt, a))
 }
 
 /// An integer.
 pub(super) fn int(rt: &impl Abort, alloc: Global, word: &str) -> Result<OrdInt, AllocError>
-    ensures { IfOk result (λ a. IsSound a) }
+    ensures sound { IfOk result (λ a. IsSound a) }
+    ensures small { IfOk result (λ a. greatest_abs a < 1000) }
 {
     if let Some((base, steps)) = word.split_once('^') {
         return stepped(rt, alloc, base, steps);
@@ -148,17 +166,11 @@ pub(super) fn core_of(rt: &impl Abort, alloc: Global, text: &str) -> Result<Core
     match word(text, 0) {
         "Ladder" => Core::ladder(alloc, int(rt, alloc, word(text, 1))?),
         "Clause" => Ok(Core::Clause(atoms(rt, alloc, word(text, 1))?)),
-        "Parity" => Ok(Core::Parity(
-            atoms(rt, alloc, word(text, 1))?,
-            word(text, 2) == "odd",
-        )),
-        "Conj" => Ok(Core::Conj(
-            atom(rt, word(text, 1)),
-            atoms(rt, alloc, word(text, 2))?,
-        )),
+        "Parity" => Ok(Core::Parity(atoms(rt, alloc, word(text, 1))?, word(text, 2) == "odd")),
+        "Conj" => Ok(Core::Conj(atom(rt, word(text, 1)), atoms(rt, alloc, word(text, 2))?)),
         "Amo" => Ok(Core::Amo(atoms(rt, alloc, word(text, 1))?)),
         "LeqR" => comparison(rt, alloc, text, false),
         "EqR" => comparison(rt, alloc, text, true),
-        other => panic!(rt; "no form: {other}"),
+        _ => form_of(rt, alloc, text),
     }
 }

@@ -1,7 +1,6 @@
 -- What holds of the atoms of a core holds of both atoms of an instance.
-use Rattle.std.proofs.Common.{◌≡◌, ℕ, zero, suc, ◌+◌, ◌<◌, ◌≤◌, ◌⊎◌, inl, inr, Bool, true, false, not, length, get_or, List, [], ◌∷◌, ◌++◌, Contains, refl, subst, arith}
+use Rattle.std.proofs.Common.{◌≡◌, ℕ, zero, suc, ◌<◌, ◌⊎◌, inl, inr, Bool, true, false, length, get_or, List, [], ◌∷◌, ◌++◌, Contains, refl, subst, arith}
 use Rattle.std.proofs.lemmas.List.Elements.{Contains-append_cases}
-use Rattle.order_ints.specs.declared.literal.Lit.{Lit}
 use Rattle.order_ints.specs.declared.atom.Atom.{Atom}
 use Rattle.order_ints.specs.declared.atom.Atom.TheVariants.{True, False, Of}
 use Rattle.order_ints.specs.declared.order_int.OrdInt.{OrdInt}
@@ -15,7 +14,7 @@ use Rattle.core_forms.specs.Place.{CoreBelow}
 use Rattle.core_forms.specs.Variables.{atom_vars, atoms_vars, steps_vars, ints_vars, core_vars, AreAmong}
 use Rattle.core_forms.proofs.EachLaws.{each_below}
 use Rattle.rule_base.specs.Pairs.{IsClosed}
-use Rattle.table_rules.specs.Instances.{IsInstance, is_instance_of}
+use Rattle.table_rules.specs.Instances.{is_instance_of}
 use Rattle.table_rules.proofs.PairLaws.{lit}
 use Rattle.table_rules.proofs.InstanceLaws.{instance-parts}
 

@@ -1,28 +1,24 @@
 -- What is found is an instance, and the test over the rows says what an instance is.
-use Rattle.std.proofs.Common.{◌≡◌, ◌↔◌, ℕ, zero, suc, ◌^◌, ◌<◌, ◌≤◌, ◌⊎◌, inl, inr, Bool, true, false, not, ◌&&◌, ◌||◌, cond, leb, eqb, length, get_or, List, [], ◌∷◌, Contains, refl, sym, ap, subst, ◌∙◌, arith}
+use Rattle.std.proofs.Common.{◌≡◌, ◌↔◌, ℕ, zero, suc, ◌^◌, ◌<◌, inl, Bool, true, false, not, ◌&&◌, ◌||◌, cond, leb, eqb, length, get_or, List, [], ◌∷◌, Contains, refl, sym, ap, subst, ◌∙◌, arith}
 use Rattle.std.specs.Prelude.{Option, None, Some, IsNone, IfSome}
 use Rattle.std.proofs.lemmas.Bool.{leb-true, le-leb, eqb-true, eq-eqb}
-use Rattle.std.proofs.lemmas.List.Elements.{Contains-append_cases}
-use Rattle.order_ints.specs.declared.literal.Lit.{Lit}
 use Rattle.order_ints.specs.declared.atom.Atom.{Atom}
 use Rattle.order_ints.specs.declared.atom.Atom.TheVariants.{True, False, Of}
 use Rattle.order_ints.specs.Equality.{same_atom-true, same_atom-refl}
 use Rattle.order_ints.specs.Same.{same_atom}
-use Rattle.order_ints.specs.Truth.{Valuation, atom_truth}
 use Rattle.core_forms.specs.declared.equation.Rule.{Rule}
 use Rattle.core_forms.specs.declared.equation.Rule.TheVariants.{Order, Form, Table}
 use Rattle.core_forms.specs.declared.equation.Equation.{Equation}
 use Rattle.core_forms.specs.declared.form.Core.{Core}
-use Rattle.core_forms.specs.Meaning.{core_truth, Meets}
 use Rattle.core_forms.specs.Variables.{atom_vars, core_vars, AreAmong}
 use Rattle.core_forms.specs.OwnVars.{own_vars}
 use Rattle.core_forms.proofs.OwnVars.{own_vars-exact}
 use Rattle.rule_base.specs.Found.{IsImplied}
-use Rattle.table_rules.specs.Rows.{are_equal_in, are_equal_below, left_below}
+use Rattle.table_rules.specs.Rows.{are_equal_below, left_below}
 use Rattle.table_rules.specs.Pairs.{pairs_over}
 use Rattle.table_rules.specs.Instances.{IsInstance, is_table, has_var, is_over, are_equal_over, is_instance_of, first_equation, found_over, found_at}
 use Rattle.table_rules.proofs.RowLaws.{IsIn, and-true, true-and, rows-imply, implied-rows, left-equal, equal-left, same-below}
-use Rattle.table_rules.proofs.PairLaws.{AreDistinct, over-proper, normal}
+use Rattle.table_rules.proofs.PairLaws.{over-proper, normal}
 use Rattle.table_rules.proofs.Distinct.{own_vars-distinct}
 
 -- a listed variable is one that the test finds
@@ -34,16 +30,16 @@ has_var-listed (w ∷ vars) v h = by (eqb w v) refl h (has_var-listed vars v)
     by true e k rest = (0, omega arith, eqb-true w v e)
     by false e k rest = let c = rest k in (suc c.0, omega (arith, c.1), c.2)
 
-listed-has_var : (vars : List ℕ) (v : ℕ) → Contains vars v → has_var vars v ≡ true
-listed-has_var [] v c = absurd (omega (arith, c.1))
-listed-has_var (w ∷ vars) v c = at c.0 c.1 c.2
-  where
-    later : has_var vars v ≡ true → has_var (w ∷ vars) v ≡ true
-    later h = elim (eqb w v) as (λ t. (t || has_var vars v) ≡ true) [ true ↦ refl | false ↦ h ]
+later : (w v : ℕ) (vars : List ℕ) → has_var vars v ≡ true → has_var (w ∷ vars) v ≡ true
+later w v vars h = elim (eqb w v) as (λ t. (t || has_var vars v) ≡ true) [ true ↦ refl | false ↦ h ]
 
-    at : (k : ℕ) → k < length (w ∷ vars) → get_or (w ∷ vars) k v ≡ v → has_var (w ∷ vars) v ≡ true
-    at zero l e = ap (λ t. t || has_var vars v) (eq-eqb w v e)
-    at (suc k) l e = later (listed-has_var vars v (k, omega arith, e))
+at-place : (vars : List ℕ) (v k : ℕ) → k < length vars → get_or vars k v ≡ v → has_var vars v ≡ true
+at-place [] v k l e = absurd (omega arith)
+at-place (w ∷ vars) v zero l e = ap (λ t. t || has_var vars v) (eq-eqb w v e)
+at-place (w ∷ vars) v (suc k) l e = later w v vars (at-place vars v k (omega arith) e)
+
+listed-has_var : (vars : List ℕ) (v : ℕ) → Contains vars v → has_var vars v ≡ true
+listed-has_var vars v c = at-place vars v c.0 c.1 c.2
 
 -- an atom is over listed variables where its variables are among them
 over-among : (vars : List ℕ) (a : Atom) → is_over vars a ≡ true → AreAmong (atom_vars a) vars

@@ -1,12 +1,12 @@
 -- The pairs of atoms over variables: both atoms are over them and different, and up to order and to the negation of
 -- both there is one for any two atoms over them.
-use Rattle.std.proofs.Common.{◌≡◌, ℕ, ◌<◌, ◌⊎◌, inl, inr, Bool, true, false, not, ◌&&◌, ◌||◌, cond, eqb, List, [], ◌∷◌, ◌++◌, refl, sym, ap, subst, ◌∙◌, arith}
+use Rattle.std.proofs.Common.{◌≡◌, ℕ, ◌⊎◌, inl, inr, Bool, true, false, not, ◌||◌, cond, eqb, List, [], ◌∷◌, ◌++◌, refl, sym, ap, subst, ◌∙◌}
 use Rattle.std.specs.Bool.{beq}
-use Rattle.std.proofs.lemmas.Bool.{eq-eqb, ne_eqb, eqb-true, eqb-false}
+use Rattle.std.proofs.lemmas.Bool.{eq-eqb, eqb-true, eqb-false}
 use Rattle.order_ints.specs.declared.literal.Lit.{Lit}
 use Rattle.order_ints.specs.declared.atom.Atom.{Atom}
 use Rattle.order_ints.specs.declared.atom.Atom.TheVariants.{True, False, Of}
-use Rattle.order_ints.specs.Truth.{Valuation, lit_truth, atom_truth}
+use Rattle.order_ints.specs.Truth.{Valuation, lit_truth}
 use Rattle.table_rules.specs.Rows.{are_equal_in}
 use Rattle.table_rules.specs.Pairs.{pairs_with, pairs_among, pairs_over}
 use Rattle.table_rules.specs.Instances.{has_var, is_over}
@@ -15,6 +15,12 @@ use Rattle.table_rules.proofs.RowLaws.{IsIn}
 abbrev pub lit : ℕ → Bool → Lit
 lit v positive = record { var = v; positive = positive }
 
+same-var : (l m : Lit) → Of l ≡ Of m → l.var ≡ m.var
+same-var l m e = let same : l ≡ m = cc in ap (λ (x : Lit). x.var) same
+
+same-lit : (l m : Lit) → l.var ≡ m.var → l.positive ≡ m.positive → l ≡ m
+same-lit l m e s = ap (λ v. lit v l.positive) e ∙ ap (λ b. lit m.var b) s
+
 -- listed variables differ
 abbrev pub AreDistinct : List ℕ → Type 0
 AreDistinct [] = Unit {0}
@@ -22,7 +28,7 @@ AreDistinct (v ∷ vars) = (has_var vars v ≡ false) × AreDistinct vars
 
 -- a variable of a list is its first one or one of the others
 by_place : {X : Type 0} (w v : ℕ) (vars : List ℕ) → has_var (w ∷ vars) v ≡ true → (w ≡ v → X) → (has_var vars v ≡ true → X) → X
-by_place w v vars h here there = by (eqb w v) refl h
+by_place {X} w v vars h here there = by (eqb w v) refl h
   where
     by : (t : Bool) → eqb w v ≡ t → (t || has_var vars v) ≡ true → X
     by true e k = here (eqb-true w v e)
@@ -89,7 +95,7 @@ among-proper [] d p h = absurd h
 among-proper (v ∷ vars) d p h = by (in-append p (pairs_with (Of (lit v true)) vars) (pairs_among vars) h) (among-proper vars d.1 p)
   where
     other : (w : ℕ) → has_var vars w ≡ true → (has_var (v ∷ vars) w ≡ true) × ((b : Bool) → Of (lit v true) ≡ Of (lit w b) → ⊥)
-    other w k = (is-later v w vars k, λ b e. let same : v ≡ w = cc in let clash : true ≡ false = sym k ∙ ap (has_var vars) (sym same) ∙ d.0 in cc)
+    other w k = (is-later v w vars k, λ b e. let same : v ≡ w = same-var (lit v true) (lit w b) e in let clash : true ≡ false = sym k ∙ ap (has_var vars) (sym same) ∙ d.0 in cc)
 
     by : (IsIn p (pairs_with (Of (lit v true)) vars) ⊎ IsIn p (pairs_among vars)) → (IsIn p (pairs_among vars) → IsProper vars p) → IsProper (v ∷ vars) p
     by (inl i) rest = with-proper (v ∷ vars) (Of (lit v true)) (is-first v vars) vars other p i
@@ -179,7 +185,7 @@ module _ (vars : List ℕ) where
   opposite l m e ne σ = by l.positive m.positive refl refl
     where
       at : (s t : Bool) → l.positive ≡ s → m.positive ≡ t → s ≡ t → ⊥
-      at s t p q r = ne (let signs : l.positive ≡ m.positive = p ∙ r ∙ sym q in cc)
+      at s t p q r = ne (same-lit l m e (p ∙ r ∙ sym q))
 
       clash : (s t x : Bool) → (s ≡ t → ⊥) → beq (cond s x (not x)) (cond t x (not x)) ≡ false
       clash true true x d = absurd (d refl)

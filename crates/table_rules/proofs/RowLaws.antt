@@ -1,15 +1,16 @@
 -- The rows of a truth table are all valuations of its variables; what they leave of equations is what they imply.
-use Rattle.std.proofs.Common.{◌≡◌, ◌↔◌, ℕ, zero, suc, ◌+◌, ◌*◌, ◌/◌, ◌%◌, ◌^◌, ◌<◌, ◌≤◌, ◌⊎◌, inl, inr, Bool, true, false, not, ◌&&◌, ◌||◌, cond, eqb, length, map, List, [], ◌∷◌, Contains, refl, sym, ap, subst, ◌∙◌, arith}
+use Rattle.std.proofs.Common.{◌≡◌, ℕ, zero, suc, ◌+◌, ◌*◌, ◌/◌, ◌%◌, ◌^◌, ◌<◌, ◌≤◌, ◌⊎◌, inl, inr, Bool, true, false, not, ◌&&◌, ◌||◌, cond, eqb, length, map, take, set, length-set, List, [], ◌∷◌, ◌++◌, append_assoc, refl, sym, ap, subst, ◌∙◌, arith, add-one, ◌-◌}
 use Rattle.std.specs.Bool.{beq}
 use Rattle.std.specs.List.{filter}
 use Rattle.std.proofs.Math.Nat.{pow-suc}
+use Rattle.std.proofs.Math.Seq.{take-suc-set}
 use Rattle.std.proofs.lemmas.Bool.{eq-eqb, ne_eqb, eqb-true, eqb-false}
 use Rattle.order_ints.specs.declared.atom.Atom.{Atom}
 use Rattle.order_ints.specs.declared.atom.Atom.TheVariants.{True, False, Of}
 use Rattle.order_ints.specs.Truth.{Valuation, valuation_at, atom_truth}
 use Rattle.order_ints.proofs.TruthRows.{row-agrees}
 use Rattle.core_forms.specs.declared.form.Core.{Core}
-use Rattle.core_forms.specs.Meaning.{core_truth, Meets}
+use Rattle.core_forms.specs.Meaning.{core_truth}
 use Rattle.core_forms.specs.Variables.{atom_vars, core_vars, AreAmong}
 use Rattle.core_forms.proofs.Rows.{core_truth-row}
 use Rattle.table_rules.specs.Rows.{row_of, valuation_in, are_equal_in, are_equal_below, left_below}
@@ -214,3 +215,33 @@ none-left core vars pairs r (suc k) l e = at (eqb r (suc k)) refl (none-left cor
     at : (t : Bool) → eqb r (suc k) ≡ t → (r ≤ k → left_below core vars pairs r ≡ [] → left_below core vars pairs k ≡ []) → left_below core vars pairs (suc k) ≡ []
     at true s rest = subst (λ (n : ℕ). left_below core vars pairs n ≡ []) (eqb-true r (suc k) s) e
     at false s rest = stays (core_truth (valuation_in vars k) core) (rest (omega (arith, eqb-false r (suc k) s)) e)
+
+-- a row written value by value
+row-more : (values : List Bool) (i rest : ℕ) (whole : List Bool) → i < length values
+    → take i values ++ row_of (length values - i) rest ≡ whole
+    → take (i + 1) (set values i (eqb (rest % 2) 1)) ++ row_of (length values - (i + 1)) (rest / 2) ≡ whole
+row-more values i rest whole l e =
+    let m : length values - i ≡ suc (length values - suc i) = omega arith in
+    rw (add-one, take-suc-set values i (eqb (rest % 2) 1) l)
+    (append_assoc (take i values) (eqb (rest % 2) 1 ∷ []) (row_of (length values - suc i) (rest / 2))
+    ∙ ap (λ n. take i values ++ row_of n rest) (sym m) ∙ e)
+
+pub row-step : (values : List Bool) (i rest number : ℕ) → i < length values
+    → take i values ++ row_of (length values - i) rest ≡ row_of (length values) number
+    → take (i + 1) (set values i (eqb (rest % 2) 1)) ++ row_of (length (set values i (eqb (rest % 2) 1)) - (i + 1)) (rest / 2) ≡ row_of (length (set values i (eqb (rest % 2) 1))) number
+row-step values i rest number l e =
+    subst (λ (n : ℕ). take (i + 1) (set values i (eqb (rest % 2) 1)) ++ row_of (n - (i + 1)) (rest / 2) ≡ row_of n number) (sym (length-set values i (eqb (rest % 2) 1)))
+    (row-more values i rest (row_of (length values) number) l e)
+
+-- the row that was written is the one with this number
+pub written : (core : Core) (vars : List ℕ) (old new : List Bool) (number : ℕ) (b : Bool) → new ≡ row_of (length old) number → length old ≡ length vars
+    → b ≡ core_truth (valuation_at vars new) core → core_truth (valuation_in vars number) core ≡ b
+written core vars old new number b is long e =
+    let row : new ≡ row_of (length vars) number = is ∙ ap (λ n. row_of n number) long in
+    ap (λ r. core_truth (valuation_at vars r) core) (sym row) ∙ sym e
+
+pub written-differ : (vars : List ℕ) (old new : List Bool) (number : ℕ) (p : Atom × Atom) (b : Bool) → new ≡ row_of (length old) number → length old ≡ length vars
+    → b ≡ are_equal_in (valuation_at vars new) p → b ≡ false → are_equal_in (valuation_in vars number) p ≡ false
+written-differ vars old new number p b is long e differ =
+    let row : new ≡ row_of (length vars) number = is ∙ ap (λ n. row_of n number) long in
+    ap (λ r. are_equal_in (valuation_at vars r) p) (sym row) ∙ sym e ∙ differ

@@ -28,6 +28,14 @@ fn write_row(values: &mut [bool], number: usize)
     }
 }
 
+/// Whether two atoms are equally true in a row.
+fn are_equal_in(vars: &[u32], values: &[bool], pair: (Atom, Atom)) -> bool
+    ensures { result ≡ are_equal_in (valuation_at vars.now values.now) pair }
+{
+    let row = TruthRow { vars, values };
+    pair.0.holds(row) == pair.1.holds(row)
+}
+
 /// Whether two atoms are equally true in each row in which a core is met. It takes no memory.
 pub(crate) fn are_equal(core: &Core, vars: &[u32], a: Atom, b: Atom) -> bool
     requires well_formed { IsWellFormed core.now }
@@ -38,11 +46,8 @@ pub(crate) fn are_equal(core: &Core, vars: &[u32], a: Atom, b: Atom) -> bool
     let values = &mut row[..vars.len()];
     for number in 0..row_count(vars.len()) {
         write_row(values, number);
-        if holds_in_row(core, vars, values) {
-            let row = TruthRow { vars, values };
-            if a.holds(row) != b.holds(row) {
-                return false;
-            }
+        if holds_in_row(core, vars, values) && !are_equal_in(vars, values, (a, b)) {
+            return false;
         }
     }
     true
@@ -52,8 +57,7 @@ pub(crate) fn are_equal(core: &Core, vars: &[u32], a: Atom, b: Atom) -> bool
 fn keep_equal(pairs: &mut Vec<(Atom, Atom)>, vars: &[u32], values: &[bool])
     ensures { pairs.new.items ≡ filter (are_equal_in (valuation_at vars.now values.now)) pairs.old.items }
 {
-    let row = TruthRow { vars, values };
-    pairs.retain(|pair| pair.0.holds(row) == pair.1.holds(row));
+    pairs.retain(|pair| are_equal_in(vars, values, *pair));
 }
 
 /// Keeps those of pairs of atoms which are equally true in each row in which a core is met. It ends with

@@ -1,17 +1,11 @@
 use Rattle.std.proofs.Common.{◌≡◌, ℕ, ◌+◌, ◌*◌, ◌<◌, ◌≤◌, List, [], ◌∷◌, ◌++◌, length, sym, subst, arith}
 use Rattle.order_ints.specs.declared.order_int.OrdInt.{OrdInt}
-use Rattle.order_ints.specs.OrderRange.{IntBelow}
 use Rattle.core_forms.specs.WellFormed.{IsSound, AreSound, greatest_abs, abs_total}
-use Rattle.core_forms.specs.Place.{IntsBelow}
 use Rattle.core_rows.proofs.int_words.ints.Goals as goal
 
 sound-more : (xs : List OrdInt) (a : OrdInt) → AreSound xs → IsSound a → AreSound (xs ++ a ∷ [])
 sound-more [] a h k = (k, tt)
 sound-more (x ∷ xs) a h k = (h.0, sound-more xs a h.1 k)
-
-place-more : (n : ℕ) (xs : List OrdInt) (a : OrdInt) → IntsBelow n xs → IntBelow n a → IntsBelow n (xs ++ a ∷ [])
-place-more n [] a h k = (k, tt)
-place-more n (x ∷ xs) a h k = (h.0, place-more n xs a h.1 k)
 
 total-more : (xs : List OrdInt) (a : OrdInt) → abs_total (xs ++ a ∷ []) ≡ abs_total xs + greatest_abs a
 total-more [] a = omega arith
@@ -34,9 +28,6 @@ sound-pushed xs ys a e h k = subst AreSound (sym e) (sound-more xs a h k)
 small-pushed : (xs ys : List OrdInt) (a : OrdInt) → ys ≡ xs ++ a ∷ [] → abs_total xs ≤ 1000 * length xs → greatest_abs a < 1000 → abs_total ys ≤ 1000 * length ys
 small-pushed xs ys a e h k = subst (λ zs. abs_total zs ≤ 1000 * length zs) (sym e) (small-more xs a h k)
 
-place-pushed : (n : ℕ) (xs ys : List OrdInt) (a : OrdInt) → ys ≡ xs ++ a ∷ [] → IntsBelow n xs → IntBelow n a → IntsBelow n ys
-place-pushed n xs ys a e h k = subst (IntsBelow n) (sym e) (place-more n xs a h k)
-
 pub loop-member-preserved-in_ok-push : goal.loop-member-preserved-in_ok-push
 loop-member-preserved-in_ok-push g c =
     let read = c.in_ok-int.ensures in
@@ -45,5 +36,4 @@ loop-member-preserved-in_ok-push g c =
     record {
       sound = sound-pushed _ _ _ is before.sound read.sound;
       small = small-pushed _ _ _ is before.small read.small;
-      place = place-pushed 25 _ _ _ is before.place read.place;
     }

@@ -1,7 +1,7 @@
 use Rattle.std.proofs.Common.{◌≡◌, ◌<◌, ◌^◌, ◌++◌}
 use Rattle.std.specs.Prelude.{unsigned_abs}
 use Rattle.std.specs.List.{AllByRecursion}
-use Rattle.direct_encode.specs.Clauses.{differing_clauses}
+use Rattle.direct_encode.specs.Comparisons.{differing_clauses}
 use Rattle.direct_encode.proofs.Beside.{differing_beside}
 use Rattle.direct_encode.proofs.comparison.push_differing.Given as goal
 

@@ -1,5 +1,5 @@
 use Rattle.std.proofs.Common.{◌≡◌, ◌++◌}
-use Rattle.direct_encode.specs.Clauses.{reaching_clauses}
+use Rattle.direct_encode.specs.Comparisons.{reaching_clauses}
 use Rattle.direct_encode.proofs.Beside.{reaching_beside}
 use Rattle.direct_encode.proofs.comparison.push_reaching.Given as goal
 

@@ -1,5 +1,5 @@
 use Rattle.std.proofs.Common.{◌≡◌, ◌++◌, drop}
-use Rattle.direct_encode.specs.Clauses.{order_clauses_above}
+use Rattle.direct_encode.specs.Orders.{order_clauses_above}
 use Rattle.direct_encode.proofs.order.push_order.Given as goal
 
 -- those so far and those of the steps that are left are all

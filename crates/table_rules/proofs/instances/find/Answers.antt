@@ -1,5 +1,5 @@
 use Rattle.std.proofs.Common.{◌≡◌, true, false, ◌↔◌}
-use Rattle.std.specs.Prelude.{IfSome, IsNone, Option}
+use Rattle.std.specs.Prelude.{IfSome, IsNone}
 use Rattle.std.proofs.lemmas.Result.{IfOk-weaker}
 use Rattle.core_forms.specs.declared.equation.Equation.{Equation}
 use Rattle.rule_base.specs.Found.{IsImplied}

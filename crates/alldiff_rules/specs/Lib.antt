@@ -1,0 +1,5 @@
+pub mod Table
+pub mod Members
+pub mod Narrow
+pub mod Rows
+pub mod Instances

@@ -1,0 +1,14 @@
+pub mod ConstantLaws
+pub mod RangeBits
+pub mod LoopFound
+pub mod SumFound
+pub mod LinkFound
+pub mod Beside
+pub mod LinkSound
+pub mod SumSound
+pub mod MaxSound
+pub mod ProductLaws
+pub mod ProductSound
+pub mod Sound
+pub mod EachRows
+pub mod Found

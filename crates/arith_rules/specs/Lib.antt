@@ -1,0 +1,8 @@
+pub mod Constant
+pub mod Links
+pub mod SumRows
+pub mod MaxRows
+pub mod ProductRows
+pub mod Ranges
+pub mod CodeLinks
+pub mod Instances

@@ -1,0 +1,103 @@
+//! The equations that a sum of two integers states where one of the three is constant.
+
+ghost use Rattle.std.specs.Prelude.{◌≡◌};
+ghost use Rattle.core_forms.specs.WellFormed.{IsSound};
+ghost use Rattle.order_ints.specs.OrderRange.{low_of};
+ghost use Rattle.rule_base.specs.Pairs.{first_sought, only_if};
+ghost use Rattle.arith_rules.specs.Constant.{is_constant};
+ghost use Rattle.arith_rules.specs.SumRows.{raised_equations, mirrored_equations, sum3_constants, sum3_equations};
+
+use crate::constant::is_constant;
+use crate::links::{Link, linked, opposed, opposed_above};
+use crate::sums::by_sum3_ranges;
+use order_ints::{Atom, OrdInt};
+use rule_base::Sought;
+
+/// The equations of the least value of `a` and `b`, added up, being `c`.
+fn by_raised(sought: Sought, a: &OrdInt, b: &OrdInt, c: &OrdInt) -> Option<(Atom, Atom)>
+    requires a { IsSound a.now }
+    requires b { IsSound b.now }
+    requires c { IsSound c.now }
+    ensures { result ≡ first_sought sought (raised_equations (low_of a.now) b.now c.now) }
+{
+    let k = a.low();
+    let plus = Link::Plus(k);
+    let minus = Link::Minus(k);
+    let upwards = linked(sought, &plus, b, c);
+    let back = linked(sought, &minus, c, b);
+    upwards.or(back)
+}
+
+/// The equations of `a` and `b`, added up, being the least value of `c`: down one and up the other.
+fn by_mirrored(sought: Sought, c: &OrdInt, a: &OrdInt, b: &OrdInt) -> Option<(Atom, Atom)>
+    requires c { IsSound c.now }
+    requires a { IsSound a.now }
+    requires b { IsSound b.now }
+    ensures { result ≡ first_sought sought (mirrored_equations (low_of c.now) a.now b.now) }
+{
+    let k = c.low();
+    let above = Link::Above(k);
+    let from = Link::From(k);
+    let first = opposed(sought, &above, a, b);
+    let second = opposed_above(sought, &from, b, a);
+    first.or(second)
+}
+
+/// Those where `a` is constant.
+fn raised_where(sought: Sought, a: &OrdInt, b: &OrdInt, c: &OrdInt) -> Option<(Atom, Atom)>
+    requires a { IsSound a.now }
+    requires b { IsSound b.now }
+    requires c { IsSound c.now }
+    ensures { result ≡ first_sought sought
+        (only_if (is_constant a.now) (raised_equations (low_of a.now) b.now c.now)) }
+{
+    if is_constant(a) {
+        return by_raised(sought, a, b, c);
+    }
+    None
+}
+
+/// Those where `c` is constant.
+fn mirrored_where(sought: Sought, c: &OrdInt, a: &OrdInt, b: &OrdInt) -> Option<(Atom, Atom)>
+    requires c { IsSound c.now }
+    requires a { IsSound a.now }
+    requires b { IsSound b.now }
+    ensures { result ≡ first_sought sought
+        (only_if (is_constant c.now) (mirrored_equations (low_of c.now) a.now b.now)) }
+{
+    if is_constant(c) {
+        return by_mirrored(sought, c, a, b);
+    }
+    None
+}
+
+/// The equations where one of the three is constant.
+pub(crate) fn by_sum3_constants(
+    sought: Sought,
+    a: &OrdInt,
+    b: &OrdInt,
+    c: &OrdInt,
+) -> Option<(Atom, Atom)>
+    requires a { IsSound a.now }
+    requires b { IsSound b.now }
+    requires c { IsSound c.now }
+    ensures { result ≡ first_sought sought (sum3_constants a.now b.now c.now) }
+{
+    let first = raised_where(sought, a, b, c);
+    let second = raised_where(sought, b, a, c);
+    let third = mirrored_where(sought, c, a, b);
+    first.or(second).or(third)
+}
+
+/// Of the equations of `a` and `b`, added up, being `c`, the first that is looked for: by their ranges, and
+/// where one is constant by walks along the two others side by side.
+pub fn by_sum3(sought: Sought, a: &OrdInt, b: &OrdInt, c: &OrdInt) -> Option<(Atom, Atom)>
+    requires a { IsSound a.now }
+    requires b { IsSound b.now }
+    requires c { IsSound c.now }
+    ensures { result ≡ first_sought sought (sum3_equations a.now b.now c.now) }
+{
+    let of_ranges = by_sum3_ranges(sought, a, b, c);
+    let of_constants = by_sum3_constants(sought, a, b, c);
+    of_ranges.or(of_constants)
+}

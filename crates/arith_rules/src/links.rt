@@ -1,0 +1,104 @@
+//! The equations that link the values of one integer with those of another.
+
+ghost use Rattle.std.specs.Prelude.{◌≡◌, ◌^◌, ◌<◌, unsigned_abs};
+ghost use Rattle.core_forms.specs.WellFormed.{IsSound};
+ghost use Rattle.rule_base.specs.Pairs.{first_sought};
+ghost use Rattle.arith_rules.specs.Links.{linked, opposed, opposed_above};
+ghost use Rattle.arith_rules.specs.CodeLinks.{link_of, LinkFits, LinkFitsAll};
+
+use order_ints::{Atom, OrdInt, Walk};
+use rule_base::{Sought, next};
+
+/// Which value of another integer a value is linked with.
+#[derive(Clone, Copy)]
+pub(crate) enum Link {
+    /// The value and a number, added up.
+    Plus(i128),
+    /// The value less a number.
+    Minus(i128),
+    /// A number less the value.
+    From(i128),
+    /// 1 more than a number less the value.
+    Above(i128),
+}
+
+impl Link {
+    /// What a value is linked with.
+    fn of(&self, v: i128) -> i128
+        requires value { unsigned_abs v < 2 ^ 100 }
+        requires fits { LinkFits self.now v }
+        ensures { result ≡ link_of self.now v }
+    {
+        match self {
+            Link::Plus(k) => v + *k,
+            Link::Minus(k) => v - *k,
+            Link::From(k) => *k - v,
+            Link::Above(k) => *k - v + 1,
+        }
+    }
+}
+
+/// That `a` reaches each of its values exactly where `b` reaches what it is linked with: one loop along
+/// the values of `a`, beside a walk along `b`.
+pub(crate) fn linked(sought: Sought, link: &Link, a: &OrdInt, b: &OrdInt) -> Option<(Atom, Atom)>
+    requires a { IsSound a.now }
+    requires b { IsSound b.now }
+    requires fits { LinkFitsAll link.now a.now }
+    ensures { result ≡ first_sought sought (linked (link_of link.now) a.now b.now) }
+{
+    let mut walk = Walk::along(b);
+    for (value, atom) in a.levels() {
+        let target = link.of(value);
+        let other = walk.at(target);
+        let pair = sought.one(atom, other);
+        if pair.is_some() {
+            return pair;
+        }
+    }
+    None
+}
+
+/// That `a` reaches each of its values exactly where `b` is below what it is linked with.
+pub(crate) fn opposed(sought: Sought, link: &Link, a: &OrdInt, b: &OrdInt) -> Option<(Atom, Atom)>
+    requires a { IsSound a.now }
+    requires b { IsSound b.now }
+    requires fits { LinkFitsAll link.now a.now }
+    ensures { result ≡ first_sought sought (opposed (link_of link.now) a.now b.now) }
+{
+    let mut walk = Walk::along(b);
+    for (value, atom) in a.levels() {
+        let target = link.of(value);
+        let other = walk.at(target);
+        let pair = sought.one(atom, other.not());
+        if pair.is_some() {
+            return pair;
+        }
+    }
+    None
+}
+
+/// That `a` is at most each of its values exactly where `b` reaches what it is linked with.
+pub(crate) fn opposed_above(
+    sought: Sought,
+    link: &Link,
+    a: &OrdInt,
+    b: &OrdInt,
+) -> Option<(Atom, Atom)>
+    requires a { IsSound a.now }
+    requires b { IsSound b.now }
+    requires fits { LinkFitsAll link.now a.now }
+    ensures { result ≡ first_sought sought (opposed_above (link_of link.now) a.now b.now) }
+{
+    let mut above = Walk::along(a);
+    let mut walk = Walk::along(b);
+    for (value, _) in a.levels() {
+        let target = link.of(value);
+        let other = walk.at(target);
+        let upper = above.at(next(value));
+        let pair = sought.one(other, upper.not());
+        if pair.is_some() {
+            return pair;
+        }
+    }
+    None
+}

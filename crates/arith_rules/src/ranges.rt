@@ -1,0 +1,112 @@
+//! Ranges of numbers.
+
+ghost use Rattle.std.specs.Prelude.{◌≡◌, ◌^◌, ◌<◌, pos, unsigned_abs};
+ghost use Rattle.std.specs.Ordering.{int_eq};
+ghost use Rattle.order_ints.specs.OrderRange.{IsBounded};
+ghost use Rattle.rule_base.specs.Pairs.{first_sought};
+ghost use Rattle.arith_rules.specs.Links.{within};
+ghost use Rattle.arith_rules.specs.Ranges.{range_of, sum_of, rest_of, share_of, up_to, IsSmall};
+
+use order_ints::{Atom, OrdInt};
+use rule_base::{Sought, next};
+
+/// The numbers from one to another.
+#[derive(Clone, Copy)]
+pub(crate) struct Range {
+    /// The least one.
+    pub(crate) low: i128,
+    /// The greatest one.
+    pub(crate) high: i128,
+}
+
+impl Range {
+    /// The least and the greatest value of an integer, by one pass over its steps.
+    pub(crate) fn of(a: &OrdInt) -> Range
+        requires { IsBounded a.now }
+        ensures shape { result ≡ range_of a.now }
+        ensures small { (unsigned_abs result.low < 2 ^ 100) × (unsigned_abs result.high < 2 ^ 100) }
+    {
+        Range {
+            low: a.low(),
+            high: a.high(),
+        }
+    }
+
+    /// What two values in ranges can add up to.
+    pub(crate) fn plus(&self, other: &Range) -> Range
+        requires first { (unsigned_abs self.now.low < 2 ^ 100) × (unsigned_abs self.now.high < 2 ^ 100) }
+        requires second { (unsigned_abs other.now.low < 2 ^ 100) × (unsigned_abs other.now.high < 2 ^ 100) }
+        ensures shape { result ≡ sum_of self.now other.now }
+        ensures small { IsSmall result }
+    {
+        Range {
+            low: self.low + other.low,
+            high: self.high + other.high,
+        }
+    }
+
+    /// What a value in another range leaves of one in this.
+    pub(crate) fn less(&self, other: &Range) -> Range
+        requires first { (unsigned_abs self.now.low < 2 ^ 100) × (unsigned_abs self.now.high < 2 ^ 100) }
+        requires second { (unsigned_abs other.now.low < 2 ^ 100) × (unsigned_abs other.now.high < 2 ^ 100) }
+        ensures shape { result ≡ rest_of self.now other.now }
+        ensures small { IsSmall result }
+    {
+        Range {
+            low: self.low - other.high,
+            high: self.high - other.low,
+        }
+    }
+
+    /// What a member in this range has of `k`, where all members together are in another range.
+    pub(crate) fn share(&self, all: &Range, k: &i128) -> Range
+        requires own { (unsigned_abs self.now.low < 2 ^ 100) × (unsigned_abs self.now.high < 2 ^ 100) }
+        requires all { (unsigned_abs all.now.low < 2 ^ 100) × (unsigned_abs all.now.high < 2 ^ 100) }
+        requires total { unsigned_abs k.now < 2 ^ 100 }
+        ensures shape { result ≡ share_of self.now all.now k.now }
+        ensures small { IsSmall result }
+    {
+        Range {
+            low: *k - (all.high - self.high),
+            high: *k - (all.low - self.low),
+        }
+    }
+
+    /// The numbers from 0 to another.
+    pub(crate) fn up_to(n: usize) -> Range
+        ensures shape { result ≡ up_to n }
+        ensures small { IsSmall result }
+    {
+        Range {
+            low: 0,
+            high: n as i128,
+        }
+    }
+
+    /// Whether the least number is `n`.
+    pub(crate) fn begins_at(&self, n: usize) -> bool
+        requires { unsigned_abs self.now.low < 2 ^ 100 }
+        ensures { result ≡ int_eq self.now.low (pos n) }
+    {
+        self.low == n as i128
+    }
+
+    /// Whether the greatest number is 0.
+    pub(crate) fn ends_at_zero(&self) -> bool
+        requires { unsigned_abs self.now.high < 2 ^ 100 }
+        ensures { result ≡ int_eq self.now.high (pos 0) }
+    {
+        self.high == 0
+    }
+
+    /// That an integer is in the range.
+    pub(crate) fn holds(&self, sought: Sought, a: &OrdInt) -> Option<(Atom, Atom)>
+        requires bounded { IsBounded a.now }
+        requires small { IsSmall self.now }
+        ensures { result ≡ first_sought sought (within a.now self.now.low self.now.high) }
+    {
+        let from = sought.at_least(a, self.low);
+        let to = sought.is_below(a, next(self.high));
+        from.or(to)
+    }
+}

@@ -1,0 +1,9 @@
+pub mod Tests
+pub mod LexLaws
+pub mod SumLaws
+pub mod SumSteps
+pub mod PartLaws
+pub mod FormLaws
+pub mod Marks
+pub mod Differ
+pub mod DifferingLaws

@@ -1,0 +1,4 @@
+pub mod LexParts
+pub mod SumParts
+pub mod PartsOf
+pub mod DifferingParts

@@ -1,0 +1,10 @@
+//! The parts of sums, of different members and of orders of words.
+#![tactic(auto)]
+
+mod forms;
+mod fresh;
+pub mod laws;
+mod lex;
+mod sums;
+
+pub use forms::parts;

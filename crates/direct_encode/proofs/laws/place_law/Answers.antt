@@ -1,5 +1,0 @@
-use Rattle.direct_encode.proofs.Places.{below-clauses_of}
-use Rattle.direct_encode.proofs.laws.place_law.Goals as goal
-
-pub returns : goal.returns
-returns c = below-clauses_of

@@ -1,0 +1,3 @@
+pub mod AtomParts
+pub mod CountParts
+pub mod NetworkParts

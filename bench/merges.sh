@@ -1,7 +1,7 @@
 #!/usr/bin/env bash
 # Times merges of the crate `equation_store`: from 131,072 to 1,048,576 variables, all merged to one class, in a row, in a balanced
-# tree and in random order. Prints the processor's seconds (the least of three runs), the new labels that were given, the bytes
-# for each variable, and the growth exponent of the seconds. It builds a small program over a copy of the crates. Wants python3
+# tree and in random order. Prints the processor's seconds (the least of three runs), the new labels that were given, the growth
+# exponent of the seconds, and the bytes for each further variable. It builds a small program over a copy of the crates. Wants python3
 # and rt.
 set -eu
 top=$(cd "$(dirname "${BASH_SOURCE[0]}")/.." && pwd)
@@ -159,15 +159,13 @@ def run(order, power, counts=""):
     assert status == 0
     return usage.ru_utime + usage.ru_stime, usage.ru_maxrss * 1024, int(out[0]), int(out[1])
 
-_, base, _, _ = run("0", 0)
 for order, name in (("r", "row"), ("t", "tree"), ("x", "random")):
-    seconds = {}
+    seconds, peak = {}, {}
     for power in (6, 7, 8, 9):
-        took, memory, n, _ = min(run(order, power) for _ in range(3))
-        seconds[n] = took
+        seconds[power], peak[power], n, _ = min(run(order, power) for _ in range(3))
         given = run(order, power, "c")[3]
-        print(f"{name:6} {n:8} variables: {took:.3f} s, {given} new labels ({given / (n * math.log2(n)):.2f} n log n), "
-              f"{(memory - base) / n:.1f} bytes a variable")
-    low, high = min(seconds), max(seconds)
-    print(f"{name:6} growth exponent {math.log(seconds[high] / seconds[low]) / math.log(high / low):.2f}")
+        print(f"{name:6} {n:8} variables: {seconds[power]:.3f} s, {given} new labels ({given / (n * math.log2(n)):.2f} n log n)")
+    # What the program holds from the start serves the first variables, so memory is told of those of the greatest run alone.
+    print(f"{name:6} growth exponent {math.log(seconds[9] / seconds[6]) / math.log(8):.2f}, "
+          f"{(peak[9] - peak[8]) / (n - n // 2):.1f} bytes for each further variable")
 PY

@@ -16,7 +16,7 @@ use Rattle.core_forms.specs.Each.{EachOf, EachStep, EachInt, EachAtom}
 use Rattle.core_forms.proofs.EachLaws.{EachInt-left, EachInt-right}
 use Rattle.rule_base.specs.Pairs.{only_if, EachOfPairs, IsClosed}
 use Rattle.rule_base.specs.Stated.{at_least, is_below, all_equal}
-use Rattle.arith_rules.specs.Constant.{is_constant}
+use Rattle.rule_base.specs.Constant.{is_constant}
 use Rattle.rule_base.proofs.PairLaws.{EachOfPairs-append, EachOfPairs-only_if, EachOfPairs-map}
 use Rattle.rule_base.proofs.StatedLaws.{each-at_of, each-all_equal}
 use Rattle.arith_rules.specs.Links.{within, linked, opposed, opposed_above, alike_where}

@@ -1,4 +1,3 @@
-pub mod ConstantLaws
 pub mod RangeBits
 pub mod LoopFound
 pub mod SumFound

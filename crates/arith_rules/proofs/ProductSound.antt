@@ -12,10 +12,10 @@ use Rattle.order_ints.proofs.Comparisons.{int_le-true, le_from_test}
 use Rattle.order_ints.proofs.Multiples.{pos-*ℤ-neg}
 use Rattle.rule_base.specs.Pairs.{only_if, AreEqual}
 use Rattle.rule_base.specs.Stated.{at_least, is_below}
-use Rattle.arith_rules.specs.Constant.{is_constant}
+use Rattle.rule_base.specs.Constant.{is_constant}
 use Rattle.rule_base.proofs.PairLaws.{AreEqual-append, AreEqual-only_if}
 use Rattle.rule_base.proofs.StatedLaws.{at_of-reached, at_of-passed}
-use Rattle.arith_rules.proofs.ConstantLaws.{constant-value}
+use Rattle.rule_base.proofs.ConstantLaws.{constant-value}
 use Rattle.arith_rules.specs.Links.{within, linked, opposed, opposed_above}
 use Rattle.arith_rules.specs.ProductRows.{floor_of, ceiling_of, least_product, greatest_product, factor_equations, multiple_equations, negative_equations, scaled_equations, prod_equations, quotient_equations, dividend_equations, div_mod_equations}
 use Rattle.arith_rules.proofs.LinkSound.{within-equal, linked-equal, opposed-equal, opposed_above-equal}

@@ -14,10 +14,10 @@ use Rattle.core_forms.specs.Truths.{all_true, true_count}
 use Rattle.core_forms.specs.Values.{all_ordered, values, total}
 use Rattle.rule_base.specs.Pairs.{only_if, AreEqual}
 use Rattle.rule_base.specs.Stated.{all_equal}
-use Rattle.arith_rules.specs.Constant.{is_constant}
+use Rattle.rule_base.specs.Constant.{is_constant}
 use Rattle.rule_base.proofs.PairLaws.{AreEqual-append, AreEqual-only_if}
 use Rattle.rule_base.proofs.StatedLaws.{all_equal-true, all_equal-false}
-use Rattle.arith_rules.proofs.ConstantLaws.{constant-value}
+use Rattle.rule_base.proofs.ConstantLaws.{constant-value}
 use Rattle.arith_rules.specs.Links.{within, linked, opposed, opposed_above}
 use Rattle.arith_rules.specs.SumRows.{sum3_ranges, raised_equations, mirrored_equations, sum3_constants, sum3_equations, count_equations, lows_of, highs_of, shares, sum_equations}
 use Rattle.arith_rules.proofs.LinkSound.{within-equal, linked-equal, opposed-equal, opposed_above-equal}

@@ -1,4 +1,3 @@
-pub mod Constant
 pub mod Links
 pub mod SumRows
 pub mod MaxRows

@@ -6,7 +6,7 @@ use Rattle.order_ints.specs.declared.order_int.OrdInt.{OrdInt}
 use Rattle.order_ints.specs.OrderRange.{low_of, high_of}
 use Rattle.rule_base.specs.Pairs.{only_if}
 use Rattle.rule_base.specs.Stated.{at_least, is_below}
-use Rattle.arith_rules.specs.Constant.{is_constant}
+use Rattle.rule_base.specs.Constant.{is_constant}
 use Rattle.arith_rules.specs.Links.{within, linked, opposed, opposed_above}
 
 -- the quotient by a divisor from 1, rounded down, and rounded up

@@ -7,7 +7,7 @@ use Rattle.order_ints.specs.declared.order_int.OrdInt.{OrdInt}
 use Rattle.order_ints.specs.OrderRange.{low_of, high_of}
 use Rattle.rule_base.specs.Pairs.{only_if}
 use Rattle.rule_base.specs.Stated.{all_equal}
-use Rattle.arith_rules.specs.Constant.{is_constant}
+use Rattle.rule_base.specs.Constant.{is_constant}
 use Rattle.arith_rules.specs.Links.{within, linked, opposed, opposed_above}
 
 -- a and b, added up, are c: each is from the least to the greatest value that the ranges of the two others leave it

@@ -4,14 +4,13 @@ ghost use Rattle.std.specs.Prelude.{◌≡◌};
 ghost use Rattle.core_forms.specs.WellFormed.{IsSound};
 ghost use Rattle.order_ints.specs.OrderRange.{low_of};
 ghost use Rattle.rule_base.specs.Pairs.{first_sought, only_if};
-ghost use Rattle.arith_rules.specs.Constant.{is_constant};
+ghost use Rattle.rule_base.specs.Constant.{is_constant};
 ghost use Rattle.arith_rules.specs.SumRows.{raised_equations, mirrored_equations, sum3_constants, sum3_equations};
 
-use crate::constant::is_constant;
 use crate::links::{Link, linked, opposed, opposed_above};
 use crate::sums::by_sum3_ranges;
 use order_ints::{Atom, OrdInt};
-use rule_base::Sought;
+use rule_base::{Sought, is_constant};
 
 /// The equations of the least value of `a` and `b`, added up, being `c`.
 fn by_raised(sought: Sought, a: &OrdInt, b: &OrdInt, c: &OrdInt) -> Option<(Atom, Atom)>

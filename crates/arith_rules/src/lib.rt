@@ -3,7 +3,6 @@
 //! sums and counts.
 #![tactic(auto)]
 
-mod constant;
 mod constants;
 pub mod laws;
 mod links;

@@ -14,3 +14,4 @@ pub mod Cost
 pub mod Cores
 pub mod Basic
 pub mod Sums
+pub mod Taken

@@ -1,5 +1,9 @@
 //! The forms of constraint.
 
+ghost use Rattle.std.specs.Prelude.{◌≡◌};
+ghost use Rattle.core_forms.specs.Taken.{taken_apart};
+
+use crate::taken::Taken;
 use bee_list::{Apart, Sequence};
 use order_ints::{Atom, OrdInt};
 
@@ -62,6 +66,26 @@ impl Drop for Core {
             Core::AllDiff(ints, conditions) => drop((ints, conditions)),
             Core::DivMod(a, b, q, r) => drop((a, b, q, r)),
             Core::Lex(_, _, front, back) => drop((front, back)),
+        }
+    }
+}
+
+impl Core {
+    /// What the core held. It takes constant time and no memory.
+    pub fn take_apart(self) -> Taken
+        ensures { result ≡ taken_apart self }
+    {
+        match self {
+            Core::Parity(atoms, odd) => Taken::Xor(atoms, odd),
+            Core::Sum3(a, b, c) => Taken::Added(a.into_inner(), b.into_inner(), c.into_inner()),
+            Core::Count(atoms, c) => Taken::Counted(atoms, c.into_inner()),
+            Core::Sum(ints, k) => Taken::Summed(ints, k.into_inner()),
+            Core::AllDiff(ints, conditions) => Taken::Differing(ints, conditions.into_inner()),
+            Core::Amo(atoms) => Taken::AtMostOne(atoms),
+            Core::Lex(r, strict, front, back) => {
+                Taken::Words(r, strict, front.into_inner(), back.into_inner())
+            }
+            core => Taken::Other(core),
         }
     }
 }

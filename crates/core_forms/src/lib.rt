@@ -17,6 +17,7 @@ mod made;
 mod meaning;
 mod occurrence;
 mod shapes;
+mod taken;
 mod trimming;
 pub mod view_laws;
 
@@ -30,4 +31,5 @@ pub use fresh_sums::sums;
 pub use meaning::{holds, holds_in_row};
 pub use occurrence::variables;
 pub use shapes::shape;
+pub use taken::Taken;
 pub use trimming::trim;

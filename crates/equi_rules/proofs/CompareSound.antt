@@ -20,16 +20,10 @@ use Rattle.order_ints.proofs.Reaching.{atom_truth-at_of, Contains-value_of}
 use Rattle.rule_base.specs.Pairs.{only_if, AreEqual}
 use Rattle.rule_base.specs.Stated.{at_least, is_below, is_not}
 use Rattle.rule_base.proofs.PairLaws.{AreEqual-append, AreEqual-only_if, AreEqual-map}
+use Rattle.rule_base.proofs.ConstantLaws.{constant-value}
 use Rattle.rule_base.proofs.StatedLaws.{at_least-equal, is_below-equal, is_not-equal}
-use Rattle.equi_rules.specs.CompareRows.{is_constant, leq_equations_true, leq_equations_false, leq_equations_known, leq_equations_decided, leq_equations_constant, leq_equations, equal_at, eq_equations_true, eq_equations_apart, eq_equations_value, eq_equations_constant, eq_equations}
-
--- an integer without steps has its base as its value
-constant-value : (σ : Valuation) (a : OrdInt) → is_constant a ≡ true → value_of σ a ≡ low_of a
-constant-value σ a h = by_steps a.steps h
-  where
-    by_steps : (steps : List (Atom × ℕ)) → (length steps == 0) ≡ true → a.base +ℤ pos (gains σ steps) ≡ a.base
-    by_steps [] is = omega (arith, ints)
-    by_steps (s ∷ steps) is = absurd (grind (arith, nat_tests))
+use Rattle.rule_base.specs.Constant.{is_constant}
+use Rattle.equi_rules.specs.CompareRows.{leq_equations_true, leq_equations_false, leq_equations_known, leq_equations_decided, leq_equations_constant, leq_equations, equal_at, eq_equations_true, eq_equations_apart, eq_equations_value, eq_equations_constant, eq_equations}
 
 -- what the truth of a comparison is worth
 le-true : (v w : ℤ) → int_le v w ≡ true → v ≤ℤ w

@@ -23,7 +23,8 @@ use Rattle.rule_base.proofs.PairLaws.{EachOfPairs-append, EachOfPairs-only_if, E
 use Rattle.rule_base.proofs.StatedLaws.{each-at_of, each-at_least, each-is_below, each-is_not, each-all_equal}
 use Rattle.equi_rules.specs.OrderRows.{neighbour_equations, equations_above, step_equations, int_equations}
 use Rattle.equi_rules.specs.AtomRows.{clause_equations, parity_equations, conjunction_equations, conj_equations, beside_true, amo_equations}
-use Rattle.equi_rules.specs.CompareRows.{is_constant, leq_equations_true, leq_equations_false, leq_equations_known, leq_equations_decided, leq_equations_constant, leq_equations, equal_at, eq_equations_true, eq_equations_apart, eq_equations_value, eq_equations_constant, eq_equations}
+use Rattle.rule_base.specs.Constant.{is_constant}
+use Rattle.equi_rules.specs.CompareRows.{leq_equations_true, leq_equations_false, leq_equations_known, leq_equations_decided, leq_equations_constant, leq_equations, equal_at, eq_equations_true, eq_equations_apart, eq_equations_value, eq_equations_constant, eq_equations}
 use Rattle.equi_rules.specs.Instances.{form_equations, equations_of}
 
 module _ (P : Atom → Type 0) (closed : IsClosed P) where

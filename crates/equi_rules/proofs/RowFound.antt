@@ -20,7 +20,8 @@ use Rattle.rule_base.specs.declared.sought.Sought.{Sought}
 use Rattle.rule_base.specs.Pairs.{first_sought, only_if}
 use Rattle.rule_base.specs.Stated.{at_least, is_below, is_not}
 use Rattle.rule_base.proofs.PairLaws.{both-found}
-use Rattle.equi_rules.specs.CompareRows.{is_constant, leq_equations_true, leq_equations_false, leq_equations_known, leq_equations_decided, leq_equations_constant, leq_equations, eq_equations_true, eq_equations_apart, eq_equations_value, eq_equations_constant, eq_equations}
+use Rattle.rule_base.specs.Constant.{is_constant}
+use Rattle.equi_rules.specs.CompareRows.{leq_equations_true, leq_equations_false, leq_equations_known, leq_equations_decided, leq_equations_constant, leq_equations, eq_equations_true, eq_equations_apart, eq_equations_value, eq_equations_constant, eq_equations}
 
 -- values back from their bits
 pub same_value : (v w : ℤ) → v ≡ w → unsigned_abs w < 2 ^ 100 → to_z w128 (of_z w128 v) ≡ w

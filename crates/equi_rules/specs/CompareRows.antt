@@ -1,5 +1,5 @@
 -- The equations that comparisons of two integers state.
-use Rattle.std.specs.Prelude.{Bool, not, ◌||◌, ◌==◌, List, [], ◌∷◌, ◌++◌, map, length, ℤ, pos, ◌+ℤ◌, int_le, int_lt}
+use Rattle.std.specs.Prelude.{Bool, not, ◌||◌, List, [], ◌∷◌, ◌++◌, map, ℤ, pos, ◌+ℤ◌, int_le, int_lt}
 use Rattle.std.specs.Ordering.{int_eq}
 use Rattle.order_ints.specs.declared.atom.Atom.{Atom}
 use Rattle.order_ints.specs.declared.atom.Atom.TheVariants.{True, False}
@@ -11,10 +11,7 @@ use Rattle.order_ints.specs.Walk.{has_value}
 use Rattle.order_ints.specs.Same.{is_true, is_false, same_int}
 use Rattle.rule_base.specs.Pairs.{only_if}
 use Rattle.rule_base.specs.Stated.{at_least, is_below, is_not}
-
--- the integer has no steps, and so one value
-abbrev pub is_constant : OrdInt → Bool
-is_constant a = length a.steps == 0
+use Rattle.rule_base.specs.Constant.{is_constant}
 
 -- r is the truth of a being at most b. Where r is True, a is at most the greatest value of b, and b at least the least
 -- value of a

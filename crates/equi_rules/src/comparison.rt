@@ -3,17 +3,10 @@
 ghost use Rattle.std.specs.Prelude.{◌≡◌};
 ghost use Rattle.core_forms.specs.WellFormed.{IsSound};
 ghost use Rattle.rule_base.specs.Pairs.{first_sought};
-ghost use Rattle.equi_rules.specs.CompareRows.{is_constant, leq_equations_true, leq_equations_false, leq_equations_known, leq_equations_decided, leq_equations_constant, leq_equations};
+ghost use Rattle.equi_rules.specs.CompareRows.{leq_equations_true, leq_equations_false, leq_equations_known, leq_equations_decided, leq_equations_constant, leq_equations};
 
 use order_ints::{Atom, OrdInt};
-use rule_base::Sought;
-
-/// Whether an integer has one value.
-pub(crate) fn is_constant(a: &OrdInt) -> bool
-    ensures { result ≡ is_constant a.now }
-{
-    a.steps.is_empty()
-}
+use rule_base::{Sought, is_constant};
 
 /// The equations where `a` is at most `b`.
 fn by_leq_true(sought: Sought, a: &OrdInt, b: &OrdInt) -> Option<(Atom, Atom)>

@@ -7,9 +7,8 @@ ghost use Rattle.order_ints.specs.Same.{is_true};
 ghost use Rattle.rule_base.specs.Pairs.{first_sought, only_if};
 ghost use Rattle.equi_rules.specs.CompareRows.{equal_at, eq_equations_true, eq_equations_apart, eq_equations_value, eq_equations_constant, eq_equations};
 
-use crate::comparison::is_constant;
 use order_ints::{Atom, OrdInt, Walk};
-use rule_base::Sought;
+use rule_base::{Sought, is_constant};
 
 /// The equations at the values of `a`: one loop along them, beside a walk along `b`.
 fn at_values_of_first(sought: Sought, a: &OrdInt, b: &OrdInt) -> Option<(Atom, Atom)>

@@ -1,6 +1,6 @@
 -- What is lowered so far stands for the declarations and statements so far; each item keeps this.
 use Rattle.std.proofs.Common.{◌≡◌, ◌↔◌, suc, ◌+◌, ℤ, Bool, true, false, ◌&&◌, List, [], ◌∷◌, ◌++◌, length, Option, Some, None, IsTrue, refl, sym, ap, subst, ◌∙◌, arith}
-use Rattle.std.proofs.lemmas.Bool.{false≢true}
+use Rattle.std.proofs.lemmas.Bool.{false≢true, and_parts}
 use Rattle.std.proofs.lemmas.List.{append-nil, append_assoc}
 use Rattle.order_ints.specs.Numbers.{numbers_of}
 use Rattle.typed_model.specs.declared.model.Decl.{Decl}
@@ -36,10 +36,6 @@ pub record Stands (l : Lowered) (ds : List Decl) (ss : List Stmt) : Type 0 where
   pub solutions : (a : List ℤ) → (IsTrue (in_domains ds a) × AllHold a ss) ↔ IsDecoded l a
 
 -- Assignments with one more value.
-
-pub and_parts : (x y : Bool) → (x && y) ≡ true → (x ≡ true) × (y ≡ true)
-and_parts true y e = (refl, e)
-and_parts false y e = absurd (false≢true e)
 
 pub both_true : (x y : Bool) → x ≡ true → y ≡ true → (x && y) ≡ true
 both_true x y e f = rw (e, f) refl

@@ -1,3 +1,4 @@
 pub mod PairLaws
 pub mod FoundLaws
 pub mod StatedLaws
+pub mod ConstantLaws

@@ -1,3 +1,4 @@
 pub mod Pairs
 pub mod Found
 pub mod Stated
+pub mod Constant

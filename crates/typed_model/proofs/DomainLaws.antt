@@ -3,7 +3,7 @@ use Rattle.std.proofs.Common.{◌≡◌, ℕ, zero, suc, ◌-◌, ◌<◌, ◌�
 use Rattle.std.specs.Prelude.{int_le, int_lt}
 use Rattle.std.specs.Bool.{Decides}
 use Rattle.std.specs.Ordering.{int_eq}
-use Rattle.std.proofs.lemmas.Bool.{false≢true}
+use Rattle.std.proofs.lemmas.Bool.{false≢true, and_parts}
 use Rattle.std.proofs.lemmas.Bool.Decides.{nat_tests, Decides-int_eq, Decides-or, Decides-and, Decides-like, same_from_decides}
 use Rattle.std.proofs.lemmas.Int.{ints, by_lt_z}
 use Rattle.typed_model.specs.Integers.{is_member}
@@ -72,10 +72,6 @@ InLimit-domain kind.Bool v h e =
 InLimit-domain (kind.Int low high) v h e =
     let b : (low ≤ℤ v) × (v ≤ℤ high) = (Decides-domain low high v).0 e in
     omega (arith, ints, b.0, b.1, h.0, h.1)
-
-and_parts : (x y : Bool) → (x && y) ≡ true → (x ≡ true) × (y ≡ true)
-and_parts true y e = (refl, e)
-and_parts false y e = absurd (false≢true e)
 
 pub AllInLimit-in_domains : (ds : List Decl) (vs : List ℤ) → DeclsInLimit ds → in_domains ds vs ≡ true → AllInLimit vs
 AllInLimit-in_domains [] [] h e k = omega arith

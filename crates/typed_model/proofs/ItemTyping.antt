@@ -3,7 +3,7 @@ use Rattle.std.proofs.Common.{◌≡◌, ℕ, zero, suc, ◌+◌, ◌<◌, pos, 
 use Rattle.std.specs.Prelude.{slice_get, IfSome, if◌then◌else◌}
 use Rattle.std.specs.Str.{bytes_eq}
 use Rattle.std.specs.Option.{option_and_then, option_map, option_map_or}
-use Rattle.std.proofs.lemmas.Bool.{false≢true}
+use Rattle.std.proofs.lemmas.Bool.{false≢true, and_parts}
 use Rattle.std.proofs.lemmas.List.{append-nil}
 use Rattle.std.proofs.lemmas.List.Quantifiers.{position-Some}
 use Rattle.std.proofs.lemmas.Slice.Eq.{bytes_eq-Decides}
@@ -78,10 +78,6 @@ integer_is n ds name (Some k) e before h =
     let placed : IsNumberAt ds (n + 1) (place_or_zero name ds) = subst (λ (o : Option ℕ). IsNumberAt ds (n + 1) (option_map_or (λ p. p) o 0)) (sym e) there in
     let same : IsNumberAt (ds ++ []) (n + 1) (place_or_zero name (ds ++ [])) = subst (λ (es : List Decl). IsNumberAt es (n + 1) (place_or_zero name es)) (sym (append-nil ds)) placed in
     subst (λ (es : List Decl). IsNumberAt (ds ++ es) (n + 1) (place_or_zero name (ds ++ es))) (sym made) same
-
-and_parts : (x y : Bool) → (x && y) ≡ true → (x ≡ true) × (y ≡ true)
-and_parts true y e = (refl, e)
-and_parts false y e = absurd (false≢true e)
 
 not_true : (b : Bool) → not b ≡ true → b ≡ false
 not_true true e = absurd (false≢true e)

@@ -1,7 +1,7 @@
 -- A statement without fault fits the declarations before it.
 use Rattle.std.proofs.Common.{◌≡◌, ℕ, ◌<◌, pos, Bool, true, false, not, ◌&&◌, ◌||◌, List, [], ◌∷◌, length, arith, Option, Some, None, refl, sym, ◌∙◌, map}
 use Rattle.std.specs.Prelude.{int_lt, nat_eq, slice_get, IfSome, if◌then◌else◌}
-use Rattle.std.proofs.lemmas.Bool.{false≢true}
+use Rattle.std.proofs.lemmas.Bool.{false≢true, and_parts, or_parts}
 use Rattle.std.proofs.lemmas.Bool.Decides.{nat_tests}
 use Rattle.std.proofs.lemmas.List.{length-map}
 use Rattle.bumblebee_reader.specs.declared.syntax.Arg.{Arg}
@@ -29,14 +29,6 @@ use Rattle.typed_model.specs.Arguments.{Argument, arguments_of, statement_in}
 use Rattle.typed_model.specs.WellTyped.{ArgumentFits, ArgumentsFit, list_length, LengthsFit, IsDivision, ValuesFit, WhatFits}
 use Rattle.typed_model.proofs.TypingLaws.{AllBefore, ArgFits, fit-at, truth-fits, number-fits, truths-fit, numbers-fit, list-member, least-fits, NoFault}
 use Rattle.typed_model.proofs.ArgumentLaws.{argument_in, arguments_in, Reads, reads}
-
-and_parts : (x y : Bool) → (x && y) ≡ true → (x ≡ true) × (y ≡ true)
-and_parts true y e = (refl, e)
-and_parts false y e = absurd (false≢true e)
-
-or_parts : (x y : Bool) → (x || y) ≡ false → (x ≡ false) × (y ≡ false)
-or_parts true y e = absurd (false≢true (sym e))
-or_parts false y e = (refl, e)
 
 -- what a statement wants that declares nothing
 abbrev pub IsPlainWanted : Wanted → Type 0

@@ -2,7 +2,7 @@
 use Rattle.std.proofs.Common.{◌≡◌, ℕ, zero, suc, ◌<◌, ℤ, ◌≤ℤ◌, Bool, true, false, not, ◌&&◌, ◌||◌, List, [], ◌∷◌, map, length, Option, Some, None, IsSomeAnd, arith, refl, sym, subst, ◌∙◌}
 use Rattle.std.specs.Prelude.{int_lt, slice_get, if◌then◌else◌}
 use Rattle.std.specs.Option.{option_and_then, option_map, option_map_or}
-use Rattle.std.proofs.lemmas.Bool.{false≢true}
+use Rattle.std.proofs.lemmas.Bool.{false≢true, and_parts}
 use Rattle.std.proofs.lemmas.Bool.Decides.{nat_tests}
 use Rattle.std.proofs.lemmas.Int.{ints}
 use Rattle.bumblebee_reader.specs.declared.syntax.Term.{Term}
@@ -30,10 +30,6 @@ not_less x m e = grind (arith, ints)
 abbrev pub AllBefore : ℕ → List Decl → Type 0
 AllBefore n [] = Unit {0}
 AllBefore n (d ∷ ds) = (d.number < n) × AllBefore n ds
-
-and_parts : (x y : Bool) → (x && y) ≡ true → (x ≡ true) × (y ≡ true)
-and_parts true y e = (refl, e)
-and_parts false y e = absurd (false≢true e)
 
 pub before_at : (n : ℕ) (ds : List Decl) (p : ℕ) (P : Decl → Type 0) → AllBefore n ds → IsSomeAnd (slice_get ds p) P → IsSomeAnd (slice_get ds p) (λ d. (d.number < n) × P d)
 before_at n [] p P h s = s

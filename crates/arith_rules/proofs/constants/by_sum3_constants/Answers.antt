@@ -3,7 +3,7 @@ use Rattle.std.specs.Option.{option_or}
 use Rattle.order_ints.specs.OrderRange.{low_of}
 use Rattle.rule_base.specs.Pairs.{only_if}
 use Rattle.rule_base.proofs.PairLaws.{both-found}
-use Rattle.arith_rules.specs.Constant.{is_constant}
+use Rattle.rule_base.specs.Constant.{is_constant}
 use Rattle.arith_rules.specs.SumRows.{raised_equations, mirrored_equations}
 use Rattle.arith_rules.proofs.constants.by_sum3_constants.Goals as goal
 

@@ -1,7 +1,7 @@
 use Rattle.std.proofs.Common.{sym, ◌∙◌}
 use Rattle.order_ints.specs.OrderRange.{low_of}
 use Rattle.rule_base.proofs.PairLaws.{only_if-found, only_if-none}
-use Rattle.arith_rules.specs.Constant.{is_constant}
+use Rattle.rule_base.specs.Constant.{is_constant}
 use Rattle.arith_rules.specs.SumRows.{mirrored_equations}
 use Rattle.arith_rules.proofs.constants.mirrored_where.Goals as goal
 

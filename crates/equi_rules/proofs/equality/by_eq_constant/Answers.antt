@@ -2,7 +2,8 @@ use Rattle.std.proofs.Common.{sym, ap, ◌∙◌}
 use Rattle.order_ints.specs.OrderRange.{low_of}
 use Rattle.rule_base.specs.Pairs.{first_sought}
 use Rattle.rule_base.proofs.PairLaws.{only_if-found, only_if-none}
-use Rattle.equi_rules.specs.CompareRows.{is_constant, eq_equations_value}
+use Rattle.rule_base.specs.Constant.{is_constant}
+use Rattle.equi_rules.specs.CompareRows.{eq_equations_value}
 use Rattle.equi_rules.proofs.RowFound.{same_value}
 use Rattle.equi_rules.proofs.equality.by_eq_constant.Goals as goal
 

@@ -7,7 +7,7 @@ use Rattle.order_ints.specs.declared.order_int.OrdInt.{OrdInt}
 use Rattle.order_ints.specs.Truth.{Valuation}
 use Rattle.order_ints.specs.OrderValue.{gains, value_of}
 use Rattle.order_ints.specs.OrderRange.{low_of}
-use Rattle.arith_rules.specs.Constant.{is_constant}
+use Rattle.rule_base.specs.Constant.{is_constant}
 
 -- under every valuation it is the least value
 pub constant-value : (σ : Valuation) (a : OrdInt) → is_constant a ≡ true → value_of σ a ≡ low_of a

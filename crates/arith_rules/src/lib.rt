@@ -6,6 +6,7 @@
 mod constants;
 pub mod laws;
 mod links;
+mod numbers;
 mod ranges;
 mod sums;
 

@@ -4,4 +4,5 @@ pub mod MaxRows
 pub mod ProductRows
 pub mod Ranges
 pub mod CodeLinks
+pub mod ProductRanges
 pub mod Instances

@@ -7,8 +7,10 @@ mod constants;
 pub mod laws;
 mod links;
 mod numbers;
+mod products;
 mod ranges;
 mod sums;
 
 pub use constants::by_sum3;
+pub use products::by_prod;
 pub use sums::{by_count, by_sum};

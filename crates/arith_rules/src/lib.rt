@@ -1,9 +1,10 @@
 //! The rules that find equations which a core implies by its form, where it is a sum, a count, a maximum,
 //! a product or a division: the lists of the equations and their laws, and the searches along those of
-//! sums and counts.
+//! sums, counts, products and divisions.
 #![tactic(auto)]
 
 mod constants;
+mod divisions;
 pub mod laws;
 mod links;
 mod numbers;
@@ -12,5 +13,6 @@ mod ranges;
 mod sums;
 
 pub use constants::by_sum3;
+pub use divisions::by_div_mod;
 pub use products::by_prod;
 pub use sums::{by_count, by_sum};

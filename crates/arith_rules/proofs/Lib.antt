@@ -1,5 +1,6 @@
 pub mod RangeBits
 pub mod LoopFound
+pub mod TopLaws
 pub mod SumFound
 pub mod LinkFound
 pub mod Beside

@@ -6,8 +6,10 @@
 mod constants;
 pub mod laws;
 mod links;
+mod maxima;
 mod ranges;
 mod sums;
 
 pub use constants::by_sum3;
+pub use maxima::by_max;
 pub use sums::{by_count, by_sum};

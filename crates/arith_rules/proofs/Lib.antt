@@ -1,4 +1,5 @@
 pub mod RangeBits
+pub mod FourBits
 pub mod LoopFound
 pub mod TopLaws
 pub mod SumFound
@@ -8,6 +9,7 @@ pub mod LinkSound
 pub mod SumSound
 pub mod MaxSound
 pub mod ProductLaws
+pub mod ProductFound
 pub mod ProductSound
 pub mod Sound
 pub mod EachRows

@@ -5,4 +5,5 @@ pub mod Tops
 pub mod ProductRows
 pub mod Ranges
 pub mod CodeLinks
+pub mod ProductRanges
 pub mod Instances

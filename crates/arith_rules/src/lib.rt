@@ -7,9 +7,12 @@ mod constants;
 pub mod laws;
 mod links;
 mod maxima;
+mod numbers;
+mod products;
 mod ranges;
 mod sums;
 
 pub use constants::by_sum3;
 pub use maxima::by_max;
+pub use products::by_prod;
 pub use sums::{by_count, by_sum};

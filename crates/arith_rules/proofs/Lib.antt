@@ -10,6 +10,7 @@ pub mod SumSound
 pub mod MaxSound
 pub mod ProductLaws
 pub mod ProductFound
+pub mod DivisionFound
 pub mod ProductSound
 pub mod Sound
 pub mod EachRows

@@ -6,4 +6,5 @@ pub mod ProductRows
 pub mod Ranges
 pub mod CodeLinks
 pub mod ProductRanges
+pub mod DivisionRanges
 pub mod Instances

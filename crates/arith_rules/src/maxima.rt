@@ -181,7 +181,7 @@ fn on_leaders(sought: Sought, least: &i128, c: &OrdInt, ints: &[OrdInt]) -> Opti
 
 /// Of the equations of `c` being the greatest member, the first that is looked for: by the ends of all, and
 /// at the values that one member at most reaches by walks along `c` and that member side by side.
-pub fn by_max(sought: Sought, ints: &[OrdInt], c: &OrdInt) -> Option<(Atom, Atom)>
+pub(crate) fn by_max(sought: Sought, ints: &[OrdInt], c: &OrdInt) -> Option<(Atom, Atom)>
     requires ints { AreSound ints.now }
     requires c { IsSound c.now }
     ensures { result ≡ first_sought sought (max_equations ints.now c.now) }

@@ -90,7 +90,7 @@ pub(crate) fn by_sum3_constants(
 
 /// Of the equations of `a` and `b`, added up, being `c`, the first that is looked for: by their ranges, and then,
 /// where one is constant, by walks along the two others side by side.
-pub fn by_sum3(sought: Sought, a: &OrdInt, b: &OrdInt, c: &OrdInt) -> Option<(Atom, Atom)>
+pub(crate) fn by_sum3(sought: Sought, a: &OrdInt, b: &OrdInt, c: &OrdInt) -> Option<(Atom, Atom)>
     requires a { IsSound a.now }
     requires b { IsSound b.now }
     requires c { IsSound c.now }

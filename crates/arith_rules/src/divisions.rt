@@ -98,7 +98,7 @@ fn by_dividend(sought: Sought, a: &OrdInt, z: &Range, y: &Range, t: &Range) -> O
 
 /// Of the equations of `a` by `b` being `q` with the rest `r`, the first that is looked for: by the ranges of
 /// the four, each found by one pass.
-pub fn by_div_mod(
+pub(crate) fn by_div_mod(
     sought: Sought,
     a: &OrdInt,
     b: &OrdInt,

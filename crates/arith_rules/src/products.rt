@@ -155,7 +155,7 @@ fn scaled_where(sought: Sought, a: &OrdInt, b: &OrdInt, c: &OrdInt) -> Option<(A
 
 /// Of the equations of `a` times `b` being `c`, the first that is looked for: by their ranges, and then,
 /// where a factor is constant, by walks along the two others side by side.
-pub fn by_prod(sought: Sought, a: &OrdInt, b: &OrdInt, c: &OrdInt) -> Option<(Atom, Atom)>
+pub(crate) fn by_prod(sought: Sought, a: &OrdInt, b: &OrdInt, c: &OrdInt) -> Option<(Atom, Atom)>
     requires a { IsSound a.now }
     requires b { IsSound b.now }
     requires c { IsSound c.now }

@@ -11,7 +11,13 @@ mod form_rules;
 #[cfg(test)]
 mod form_words;
 #[cfg(test)]
+mod max_rows;
+#[cfg(test)]
 mod networks;
+#[cfg(test)]
+mod sought_rows;
+#[cfg(test)]
+mod sum_rows;
 #[cfg(test)]
 mod truth_tables;
 #[cfg(test)]

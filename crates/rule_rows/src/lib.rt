@@ -13,6 +13,10 @@ mod form_words;
 #[cfg(test)]
 mod networks;
 #[cfg(test)]
+mod product_rows;
+#[cfg(test)]
+mod sought_rows;
+#[cfg(test)]
 mod truth_tables;
 #[cfg(test)]
 mod words;

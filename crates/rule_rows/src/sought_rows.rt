@@ -1,5 +1,4 @@
-//! Rows of equations that sums, counts, maxima, products and divisions state: what is found at a core, equations
-//! that are instances there, and equations that are not.
+//! What a row of the rules of sums, counts, maxima, products and divisions says, and its test.
 
 ghost use Rattle.std.specs.Prelude.{◌≡◌, ◌<◌};
 ghost use Rattle.core_forms.specs.WellFormed.{IsWellFormed};

@@ -31,7 +31,12 @@ static SUMS_OF_TWO: [Row; 17] = [
         "Form F 2",
         "Form 1 F;Form 3 F;Form 4 F",
     ),
-    ("Sum3 0,1@4 0,1,2,3 2,3@5", "Form 1 T", "Form T 1", "Form 2 T"),
+    (
+        "Sum3 0,1@4 0,1,2,3 2,3@5",
+        "Form 1 T",
+        "Form T 1",
+        "Form 2 T",
+    ),
     (
         "Sum3 0,1@4 0,1,2,3 0,1@5",
         "Form 2 F",
@@ -132,7 +137,12 @@ static COUNTS: [Row; 12] = [
     ("Count T,1 2", "Form 1 T", "Form T 1", "Form 1 F;Form T F"),
     ("Count F,1 2", "Form F T", "Form T F;Form 1 T", "Form 1 F"),
     ("Count none 0", "none", "", "Form T F"),
-    ("Count none 0,1@4", "Form 4 F", "Form F 4", "Form 4 T;Form T F"),
+    (
+        "Count none 0,1@4",
+        "Form 4 F",
+        "Form F 4",
+        "Form 4 T;Form T F",
+    ),
     ("Count none 1", "Form T F", "Form F T", "Form T T"),
 ];
 

@@ -29,8 +29,8 @@ abbrev pub tops_of : List OrdInt → Tops
 tops_of ints = tops_from no_tops ints
 
 -- both are below 2 ^ 110 in absolute value
-abbrev pub AreLow : Tops → Type 0
-AreLow tops = (unsigned_abs tops.first < 2 ^ 110) × (unsigned_abs tops.second < 2 ^ 110)
+abbrev pub AreSmall : Tops → Type 0
+AreSmall tops = (unsigned_abs tops.first < 2 ^ 110) × (unsigned_abs tops.second < 2 ^ 110)
 
 -- c is below each of its values above a number
 abbrev pub false_above : ℤ → OrdInt → List (Atom × Atom)

@@ -78,7 +78,8 @@ pub fn find<L: Ledger>(core: &Core, steps: &mut Steps<L>) -> Option<Equation>
     found(core)
 }
 
-/// Whether an equation is one that a rule of this crate states of a core.
+/// Whether an equation is one that a rule of this crate states of a core. Its time is that of `find`, but it may
+/// look up each least value of a maximum's members along the greatest one.
 pub fn is_instance(core: &Core, e: &Equation) -> bool
     requires { IsWellFormed core.now }
     ensures { result ≡ is_instance_of core.now e.now }

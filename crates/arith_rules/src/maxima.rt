@@ -7,7 +7,7 @@ ghost use Rattle.rule_base.specs.Pairs.{first_sought};
 ghost use Rattle.rule_base.specs.Stated.{is_below};
 ghost use Rattle.arith_rules.specs.Links.{alike_where};
 ghost use Rattle.arith_rules.specs.MaxRows.{member_ranges, top_equations, max_equations};
-ghost use Rattle.arith_rules.specs.Tops.{no_tops, with_top, tops_of, AreLow, false_above, leader_above, leaders_above};
+ghost use Rattle.arith_rules.specs.Tops.{no_tops, with_top, tops_of, AreSmall, false_above, leader_above, leaders_above};
 
 use order_ints::{Atom, OrdInt, Walk};
 use rule_base::{Sought, next};
@@ -29,7 +29,7 @@ impl Tops {
     /// Those of no members: below each value.
     fn none() -> Tops
         ensures shape { result ≡ no_tops }
-        ensures low { AreLow result }
+        ensures small { AreSmall result }
     {
         Tops {
             first: BELOW_ALL,
@@ -40,9 +40,9 @@ impl Tops {
     /// With one member more.
     fn with(&self, a: &OrdInt) -> Tops
         requires bounded { IsBounded a.now }
-        requires low { AreLow self.now }
+        requires small { AreSmall self.now }
         ensures shape { result ≡ with_top self.now (high_of a.now) }
-        ensures low { AreLow result }
+        ensures small { AreSmall result }
     {
         let high = a.high();
         if high <= self.second {
@@ -64,7 +64,7 @@ impl Tops {
     fn of(ints: &[OrdInt]) -> Tops
         requires { AreSound ints.now }
         ensures shape { result ≡ tops_of ints.now }
-        ensures low { AreLow result }
+        ensures small { AreSmall result }
     {
         let mut tops = Tops::none();
         for a in ints {
@@ -109,7 +109,7 @@ fn on_top(sought: Sought, tops: &Tops, ints: &[OrdInt], c: &OrdInt) -> Option<(A
     requires ints { AreSound ints.now }
     requires c { IsBounded c.now }
     requires tops { tops.now ≡ tops_of ints.now }
-    requires low { AreLow tops.now }
+    requires small { AreSmall tops.now }
     ensures { result ≡ first_sought sought (top_equations c.now ints.now) }
 {
     if ints.is_empty() {

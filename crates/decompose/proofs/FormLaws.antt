@@ -4,7 +4,7 @@ use Rattle.std.specs.Prelude.{IfOk}
 use Rattle.std.specs.declared.result.Result.{Result}
 use Rattle.std.proofs.lemmas.Result.{IfOk-weaker}
 use Rattle.core_forms.specs.declared.form.Core.{Core}
-use Rattle.core_forms.specs.declared.form.Core.TheVariants.{Sum, Lex}
+use Rattle.core_forms.specs.declared.form.Core.TheVariants.{Sum, AllDiff, Lex}
 use Rattle.core_forms.specs.Place.{CoreBelow}
 use Rattle.core_forms.specs.WellFormed.{IsWellFormed}
 use Rattle.part_base.specs.declared.parts.Parts.{Parts}
@@ -12,9 +12,11 @@ use Rattle.part_base.specs.PartsFor.{ArePartsFor}
 use Rattle.decompose.specs.PartsOf.{HasParts, parts_of}
 use Rattle.decompose.proofs.LexLaws.{lex-parts}
 use Rattle.decompose.proofs.SumLaws.{sum-parts}
+use Rattle.decompose.proofs.DifferingLaws.{differing-parts}
 
 pub form-parts : (core : Core) (next : ℕ) → HasParts core → 1 ≤ next → IsWellFormed core → CoreBelow next core → ArePartsFor core next (parts_of core next)
 form-parts (Sum ints k) next has some well below = sum-parts next ints k some well below
+form-parts (AllDiff ints cs) next has some well below = differing-parts next ints cs some well below
 form-parts (Lex r strict front back) next has some well below = lex-parts next r strict front back some well below
 form-parts core next has some well below = absurd has
 

@@ -7,3 +7,4 @@ pub mod FormLaws
 pub mod Marks
 pub mod Differ
 pub mod DifferingLaws
+pub mod GroupLaws

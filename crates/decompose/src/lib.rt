@@ -1,6 +1,8 @@
 //! The parts of sums, of different members and of orders of words.
 #![tactic(auto)]
 
+mod by_value;
+mod differing;
 mod forms;
 mod fresh;
 pub mod laws;

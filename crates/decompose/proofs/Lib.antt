@@ -8,3 +8,4 @@ pub mod Marks
 pub mod Differ
 pub mod DifferingLaws
 pub mod GroupLaws
+pub mod DifferingSteps

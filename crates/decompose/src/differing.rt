@@ -102,13 +102,20 @@ fn amos(alloc: Global, groups: Vec<Sequence<Atom>>) -> Result<Vec<Core>, AllocEr
     Ok(cores)
 }
 
+/// Some member of a group is true. The group is copied.
+fn clause(group: &Sequence<Atom>) -> Result<Core, AllocError>
+    ensures { IfOk result (λ core. core ≡ Clause group.now) }
+{
+    Ok(Core::Clause(group.clone()?))
+}
+
 /// Some member of each group is true.
 fn clauses(alloc: Global, groups: &[Sequence<Atom>]) -> Result<Vec<Core>, AllocError>
     ensures { IfOk result (λ cores. cores.items ≡ map (λ group. Clause group) groups.now) }
 {
     let mut cores = Vec::with_capacity(alloc, groups.len())?;
     for group in groups {
-        cores.push(Core::Clause(group.clone()?))?;
+        cores.push(clause(group)?)?;
     }
     Ok(cores)
 }

@@ -9,4 +9,4 @@ pub mod laws;
 mod lex;
 mod sums;
 
-pub use forms::parts;
+pub use forms::{parts, parts_from};

@@ -428,7 +428,8 @@ all_marks-cost var (a ∷ xs) (c ∷ cs) =
     let m = costs_of-append (mark_cores var a c (values_of a)) (all_mark_cores (var + length (values_of a)) xs cs) in
     omega (arith, l, m, marks-cost var a c (values_of a), all_marks-cost (var + length (values_of a)) xs cs)
 
-differing_costs : (next : ℕ) (xs : List OrdInt) (cs : List Atom) → length (all_values xs) + costs_of (differing_parts next xs cs).cores ≤ cost_of (AllDiff xs cs)
+-- the fresh variables and the costs of the parts are at most the cost of the core
+pub differing_costs : (next : ℕ) (xs : List OrdInt) (cs : List Atom) → length (all_values xs) + costs_of (differing_parts next xs cs).cores ≤ cost_of (AllDiff xs cs)
 differing_costs next xs cs =
     let n = length (all_values xs) in
     let vs = ascending (all_values xs) in

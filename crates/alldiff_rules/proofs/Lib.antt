@@ -6,3 +6,8 @@ pub mod Atoms
 pub mod Tables
 pub mod Sounds
 pub mod Holders
+pub mod FindsLaws
+pub mod TwinLaws
+pub mod TallyLaws
+pub mod WalkLaws
+pub mod InstanceLaws

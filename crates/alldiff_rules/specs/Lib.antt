@@ -3,3 +3,7 @@ pub mod Members
 pub mod Narrow
 pub mod Rows
 pub mod Instances
+pub mod Finds
+pub mod Twins
+pub mod Tally
+pub mod Walks

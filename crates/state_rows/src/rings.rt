@@ -182,10 +182,10 @@ fn compare(rt: &impl Abort, rings: &Rings, lists: &[&[u32]]) {
     }
 }
 
-// `rt try --test --fail-alloc N` refuses the Nth allocation: here one of the two of `with`, then of the two of `grow`. What
-// is refused is asked for again.
+// `rt try --test --fail-alloc N` refuses the Nth allocation: one of the two of `with`, or one of the two of `grow`. What is
+// refused is asked for again.
 #[test]
-fn refused_memory(rt: HostRuntime) -> Result<(), Fail> {
+fn growth_is_refused(rt: HostRuntime) -> Result<(), Fail> {
     let mut rings = match Rings::with(rt.alloc(), 2, 3) {
         Ok(rings) => rings,
         Err(_) => Rings::with(rt.alloc(), 2, 3)?,

@@ -1,4 +1,4 @@
-//! Merges of classes: a table worked out by hand, a walk, and random merges compared with a plain program.
+//! Merges of classes: a table worked out by hand, a walk, random merges compared with a plain program, and refused memory.
 
 ghost use Rattle.std.specs.Prelude.{◌↔◌, ◌+◌, ◌<◌, IsTrue};
 ghost use Rattle.order_ints.specs.Place.{AtomBelow};
@@ -248,6 +248,26 @@ fn compare(rt: &impl Abort, store: &EqStore, labels: &[Atom]) {
         }
         var = var.saturating_add(1);
     }
+}
+
+// `rt try --test --fail-alloc N` refuses the Nth allocation: one of the six of `with`, or one of the four of `grow`. What is
+// refused is asked for again.
+#[test]
+fn growth_is_refused(rt: HostRuntime) -> Result<(), Fail> {
+    let mut store = match EqStore::with(rt.alloc(), 3) {
+        Ok(store) => store,
+        Err(_) => EqStore::with(rt.alloc(), 3)?,
+    };
+    let labels = [atom(&rt, "1"), atom(&rt, "2"), atom(&rt, "-2")];
+    let merged = merge(&rt, &mut store, atom(&rt, "3"), atom(&rt, "-2"));
+    assert_eq!(rt; merged, (Some(3), Merged::Changed));
+    assert_eq!(rt; store.view().len(), 3);
+    if store.grow(1_000).is_err() {
+        compare(&rt, &store, labels.as_slice());
+        store.grow(1_000)?;
+    }
+    assert_eq!(rt; store.view().len(), 1_003);
+    Ok(())
 }
 
 /// Pushes labels of variables that label themselves.

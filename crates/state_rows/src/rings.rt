@@ -1,4 +1,4 @@
-//! Moves of nodes between rings: a table worked out by hand, and random moves compared with plain vectors.
+//! Moves of nodes between rings: a table worked out by hand, random moves compared with plain vectors, and refused memory.
 
 ghost use Rattle.std.specs.Prelude.{◌≡◌, ◌≢◌, ◌+◌, ◌^◌, ◌<◌, ◌≤◌, length, IsTrue};
 ghost use Rattle.index_ring.specs.Lists.{IsFree};
@@ -166,6 +166,39 @@ fn moves_by_hand(rt: HostRuntime) -> Result<(), Fail> {
         let found = show(&rt, rt.alloc(), &rings)?;
         assert_eq!(rt; found.as_slice(), lists.as_bytes(), "after {step:?}");
     }
+    Ok(())
+}
+
+/// Asserts that rings have these lists. It takes no memory.
+fn compare(rt: &impl Abort, rings: &Rings, lists: &[&[u32]]) {
+    assert_eq!(rt; rings.rings() as usize, lists.len());
+    for (ring, list) in (0..).zip(lists) {
+        let mut next = first(rt, rings, ring);
+        for node in *list {
+            assert_eq!(rt; next, Some(*node));
+            next = after(rt, rings, *node);
+        }
+        assert_eq!(rt; next, None);
+    }
+}
+
+// `rt try --test --fail-alloc N` refuses the Nth allocation: one of the two of `with`, or one of the two of `grow`. What is
+// refused is asked for again.
+#[test]
+fn growth_is_refused(rt: HostRuntime) -> Result<(), Fail> {
+    let mut rings = match Rings::with(rt.alloc(), 2, 3) {
+        Ok(rings) => rings,
+        Err(_) => Rings::with(rt.alloc(), 2, 3)?,
+    };
+    make(&rt, &mut rings, Move::Back(1, 2))?;
+    make(&rt, &mut rings, Move::Back(1, 0))?;
+    if make(&rt, &mut rings, Move::Grow(100, 1_000)).is_err() {
+        assert_eq!(rt; rings.nodes(), 3);
+        assert!(rt; !stands(&rings, 1));
+        compare(&rt, &rings, &[&[], &[2, 0]]);
+        make(&rt, &mut rings, Move::Grow(100, 1_000))?;
+    }
+    assert_eq!(rt; (rings.rings(), rings.nodes()), (102, 1_003));
     Ok(())
 }
 

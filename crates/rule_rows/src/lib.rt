@@ -13,6 +13,8 @@ mod form_words;
 #[cfg(test)]
 mod networks;
 #[cfg(test)]
+mod part_lists;
+#[cfg(test)]
 mod truth_tables;
 #[cfg(test)]
 mod words;

@@ -2,7 +2,7 @@
 //! from 20 on, and the parts, whole. An integer is its least value and its steps; a step's weight stands behind
 //! its atom where it isn't 1.
 
-ghost use Rattle.std.specs.Prelude.{◌≤◌, ◌<◌, ◌^◌, ◌+◌, IsTrue};
+ghost use Rattle.std.specs.Prelude.{◌≤◌, ◌<◌, ◌^◌, ◌+◌, ◌++◌, IsTrue};
 ghost use Rattle.core_forms.specs.Place.{IntsBelow, CoreBelow};
 ghost use Rattle.core_forms.specs.WellFormed.{IsWellFormed};
 ghost use Rattle.decompose.specs.PartsOf.{HasParts};
@@ -28,6 +28,15 @@ fn are_ints_below(ints: &[OrdInt], n: u32) -> bool
     are_steps_below(first.steps.as_slice(), n) && are_ints_below(rest, n)
 }
 
+/// Whether the variables of two lists of integers are.
+fn are_words_below(front: &[OrdInt], back: &[OrdInt], n: u32) -> bool
+    ensures { IsTrue result → IntsBelow n (front.now ++ back.now) }
+{
+    let first = are_ints_below(front, n);
+    let second = are_ints_below(back, n);
+    first && second
+}
+
 /// Whether a core is of a form that has its parts here, with its variables below a bound.
 fn is_ready(core: &Core, n: u32) -> bool
     ensures form { IsTrue result → HasParts core.now }
@@ -39,8 +48,8 @@ fn is_ready(core: &Core, n: u32) -> bool
             are_below(conditions.get().as_slice(), n) && are_ints_below(ints.as_slice(), n)
         }
         Core::Lex(r, _, front, back) => {
-            let front = are_ints_below(front.get().as_slice(), n);
-            is_below(*r, n) && front && are_ints_below(back.get().as_slice(), n)
+            let (front, back) = (front.get().as_slice(), back.get().as_slice());
+            is_below(*r, n) && are_words_below(front, back, n)
         }
         _ => false,
     }

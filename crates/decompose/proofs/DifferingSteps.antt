@@ -1,5 +1,5 @@
 -- The steps of the loops that make the parts of different members, and that the lists so made are these parts.
-use Rattle.std.proofs.Common.{◌≡◌, ℕ, ◌+◌, ◌<◌, ◌≤◌, ◌^◌, suc, Bool, ◌&&◌, cond, List, [], ◌∷◌, ◌++◌, map, length, drop, get_or, append_assoc, append-nil, ℤ, refl, sym, ap, ◌∙◌, subst, arith}
+use Rattle.std.proofs.Common.{◌≡◌, ℕ, ◌+◌, ◌<◌, ◌≤◌, ◌^◌, ◌&&◌, cond, List, [], ◌∷◌, ◌++◌, map, length, drop, get_or, append_assoc, append-nil, ℤ, refl, sym, ap, ◌∙◌, subst, arith}
 use Rattle.std.specs.Prelude.{unsigned_abs, ◌==◌}
 use Rattle.std.specs.List.{AllByRecursion}
 use Rattle.std.proofs.lemmas.List.{length-append, length-map, at_drop_more, at_drop_all}

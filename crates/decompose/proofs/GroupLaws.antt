@@ -1,5 +1,5 @@
 -- Marks sorted by their values: a stable sort keeps those of each value, and a walk along the values takes them together.
-use Rattle.std.proofs.Common.{◌≡◌, ℕ, ◌+◌, ◌<◌, ◌≤◌, zero, suc, Bool, true, false, not, ◌&&◌, cond, List, [], ◌∷◌, ◌++◌, map, length, drop, get_or, append_assoc, append-nil, ◌⊎◌, inl, inr, ℤ, ◌<ℤ◌, ◌≤ℤ◌, refl, sym, ap, ◌∙◌, subst, arith, Less, Equal, Greater, IsPermutation, IsSorted}
+use Rattle.std.proofs.Common.{◌≡◌, ℕ, ◌+◌, ◌<◌, suc, Bool, true, false, not, ◌&&◌, cond, List, [], ◌∷◌, ◌++◌, map, length, drop, get_or, append_assoc, ◌⊎◌, inl, inr, ℤ, ◌<ℤ◌, ◌≤ℤ◌, refl, sym, ap, ◌∙◌, subst, arith, Less, Equal, Greater, IsPermutation, IsSorted}
 use Rattle.std.specs.Prelude.{int_lt, filter}
 use Rattle.std.specs.List.{dedup}
 use Rattle.std.specs.List.Sorted.{ties, IsStableByKey, IsSortedByKey}
@@ -15,7 +15,7 @@ use Rattle.core_forms.specs.Sums.{ascending}
 use Rattle.core_forms.proofs.Ascending.{cases_int, Among, Among-from, Contains-among, Among-ascending, AreAscending-ascending, above, ascending-from_sort}
 use Rattle.decompose.specs.DifferingParts.{marks_from, marked}
 use Rattle.decompose.specs.MarksByValue.{marked_values, leading, grouped, groups_of}
-use Rattle.decompose.proofs.Tests.{int_eq_tells, int_eq_made, int_eq-false, int_lt-true}
+use Rattle.decompose.proofs.Tests.{int_eq-false, int_lt-true}
 use Rattle.decompose.proofs.Marks.{by_equal, ascend-rest}
 
 -- ---- a stable sort by value
@@ -85,11 +85,11 @@ DoRise-from_sorted : (vs : List ℤ) → IsSorted int_cmp vs → DoRise vs
 DoRise-from_sorted [] s = tt
 DoRise-from_sorted (v ∷ []) s = tt
 DoRise-from_sorted (v ∷ w ∷ vs) s = (
-    at_most v w (s 0 v (omega arith) (omega arith)),
-    DoRise-from_sorted (w ∷ vs) (λ k d z h.
-        let e : suc k + 1 ≡ suc (k + 1) = omega arith in
-        subst (λ (n : ℕ). is_lt (int_cmp (get_or (v ∷ w ∷ vs) n d) (get_or (w ∷ vs) k d)) ≡ false) e (s (suc k) d (omega arith) (omega (arith, h)))),
-  )
+  at_most v w (s 0 v (omega arith) (omega arith)),
+  DoRise-from_sorted (w ∷ vs) (λ k d z h.
+      let e : suc k + 1 ≡ suc (k + 1) = omega arith in
+      subst (λ (n : ℕ). is_lt (int_cmp (get_or (v ∷ w ∷ vs) n d) (get_or (w ∷ vs) k d)) ≡ false) e (s (suc k) d (omega arith) (omega (arith, h)))),
+)
 
 rises : (v : ℤ) (us : List ℤ) → RiseAbove v us → DoRise us
 rises v [] r = tt
@@ -186,10 +186,10 @@ grouped-is (v ∷ vs) ms up rise all =
     let here = begin v vs (marked_values ms) up rise all in
     let past = behind-above v ms here in
     let rest = grouped-is vs (behind v ms) (ascend-rest v vs up) (rises v (marked_values (behind v ms)) past)
-        (λ u m. others u (all-above v u (marked_values (behind v ms)) past m) (all u (Among-behind u v ms m))) in
+    (λ u m. others u (all-above v u (marked_values (behind v ms)) past m) (all u (Among-behind u v ms m))) in
     ap (λ x. x ∷ grouped vs (behind v ms)) (leading-is v ms here)
     ∙ ap (λ xs. marked v ms ∷ xs) (rest ∙ map-same (λ w. marked w (behind v ms)) (λ w. marked w ms) vs
-        (λ w m. let h = above v w vs up m in marked-behind v w ms (λ e. omega (arith, ints, e, h))))
+    (λ w m. let h = above v w vs up m in marked-behind v w ms (λ e. omega (arith, ints, e, h))))
   where
     others : (u : ℤ) → v <ℤ u → Among u (v ∷ vs) → Among u vs
     others u h (inl e) = absurd (omega (arith, ints, h, e))

@@ -40,7 +40,14 @@ fn form_parts(alloc: Global, core: Core, next_var: u32) -> Result<Parts, AllocEr
             differing_parts(alloc, ints.into_vec(), conditions.into_vec(), next_var)
         }
         Taken::Words(r, strict, front, back) => {
-            lex_parts(alloc, r, strict, front.into_vec(), back.into_vec(), next_var)
+            lex_parts(
+                alloc,
+                r,
+                strict,
+                front.into_vec(),
+                back.into_vec(),
+                next_var,
+            )
         }
         _ => Ok(no_parts(alloc)),
     }

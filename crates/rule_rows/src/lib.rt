@@ -15,6 +15,8 @@ mod max_rows;
 #[cfg(test)]
 mod networks;
 #[cfg(test)]
+mod part_lists;
+#[cfg(test)]
 mod product_rows;
 #[cfg(test)]
 mod sought_rows;

@@ -18,7 +18,7 @@ use std::alloc::{AllocError, Global};
 use std::process::Abort;
 
 /// Whether an atom's variable is from 1 and below a bound.
-fn is_below(atom: Atom, n: u32) -> bool
+pub(super) fn is_below(atom: Atom, n: u32) -> bool
     ensures { IsTrue result → AtomBelow n atom }
 {
     match atom {
@@ -28,7 +28,7 @@ fn is_below(atom: Atom, n: u32) -> bool
 }
 
 /// Whether the variables of atoms are.
-fn are_below(atoms: &[Atom], n: u32) -> bool
+pub(super) fn are_below(atoms: &[Atom], n: u32) -> bool
     ensures { IsTrue result → AtomsBelow n atoms.now }
 {
     let Some((first, rest)) = atoms.split_first() else {
@@ -39,7 +39,7 @@ fn are_below(atoms: &[Atom], n: u32) -> bool
 }
 
 /// Whether the variables of steps are.
-fn are_steps_below(steps: &[(Atom, u128)], n: u32) -> bool
+pub(super) fn are_steps_below(steps: &[(Atom, u128)], n: u32) -> bool
     ensures { IsTrue result → StepsBelow n steps.now }
 {
     let Some((first, rest)) = steps.split_first() else {
@@ -76,7 +76,7 @@ fn count_of(rt: &impl Abort, alloc: Global, text: &str) -> Result<Core, AllocErr
 }
 
 /// Puts atoms behind a text, with a blank in front of each.
-fn put_atoms(text: &mut Vec<u8>, atoms: &[Atom]) -> Result<(), AllocError> {
+pub(super) fn put_atoms(text: &mut Vec<u8>, atoms: &[Atom]) -> Result<(), AllocError> {
     for atom in atoms {
         push_blank(text)?;
         put_atom(text, *atom)?;

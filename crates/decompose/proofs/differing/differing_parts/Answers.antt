@@ -1,4 +1,4 @@
-use Rattle.std.proofs.Common.{[], ◌++◌, ◌&&◌, cond, map, length, ap, ◌∙◌, arith}
+use Rattle.std.proofs.Common.{[], ◌&&◌, cond, map, length, ap, ◌∙◌, arith}
 use Rattle.std.specs.Prelude.{◌==◌}
 use Rattle.core_forms.specs.declared.form.Core.TheVariants.{Clause}
 use Rattle.decompose.specs.DifferingParts.{all_values, marks_from, all_mark_cores, are_true}

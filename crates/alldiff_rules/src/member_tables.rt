@@ -11,7 +11,7 @@ ghost use Rattle.alldiff_rules.specs.Tally.{placed_from, IsTally};
 ghost use Rattle.alldiff_rules.specs.Walks.{are_all_sure, AreTables, is_alone, is_shared_constant};
 
 use crate::narrow::Narrow;
-use crate::table::{Places, both, found, has_others};
+use crate::table::{Places, found, has_others};
 use crate::tally::Tally;
 use order_ints::{Atom, OrdInt};
 use rule_base::is_constant;
@@ -28,6 +28,13 @@ fn are_all_sure(conditions: &[Atom]) -> bool
         }
     }
     true
+}
+
+/// Whether two things are so.
+fn both(first: bool, second: bool) -> bool
+    ensures { result ≡ (first && second) }
+{
+    first && second
 }
 
 /// The tally of the values of members, if it is wanted.

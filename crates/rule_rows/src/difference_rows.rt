@@ -85,12 +85,7 @@ static NARROW: [Row; 15] = [
         "Form 4 T;Form T F",
     ),
     ("AllDiff 3;3 4,T", "Form 4 F", "Form F 4", "Form T F"),
-    (
-        "AllDiff 3;3 4,5",
-        "none",
-        "",
-        "Form 4 F;Form 5 F;Form 4 -5",
-    ),
+    ("AllDiff 3;3 4,5", "none", "", "Form 4 F;Form 5 F;Form 4 -5"),
     ("AllDiff 3;4 T,5", "none", "", "Form 5 F;Form 5 T"),
     ("AllDiff 3;3 T,T", "Form T F", "Form F T", "Form T T"),
     (

@@ -1,5 +1,5 @@
 -- Laws of values with their places, and of the tally of them.
-use Rattle.std.proofs.Common.{◌≡◌, ℕ, zero, suc, ◌+◌, ◌≤◌, ◌<◌, ◌^◌, Bool, true, false, cond, ◌||◌, ◌⊎◌, inl, inr, List, [], ◌∷◌, ◌++◌, map, length, get_or, take, drop, ℤ, refl, ap, sym, ◌∙◌, subst, arith, ⊎_elim, append_assoc, add-one}
+use Rattle.std.proofs.Common.{◌≡◌, ℕ, zero, suc, ◌+◌, ◌≤◌, ◌<◌, ◌^◌, Bool, true, false, cond, ◌&&◌, ◌||◌, ◌⊎◌, inl, inr, List, [], ◌∷◌, ◌++◌, map, length, get_or, take, drop, ℤ, refl, ap, sym, ◌∙◌, subst, arith, ⊎_elim, append_assoc, add-one}
 use Rattle.std.specs.Prelude.{unsigned_abs, Option, None, Some}
 use Rattle.std.specs.Option.{is_some}
 use Rattle.std.specs.List.{AllByRecursion}
@@ -212,6 +212,11 @@ module _ (xs : List OrdInt) (tally : Tally) (is : IsTally (placed_from 0 xs) tal
 
   pub count-is : tally.count ≡ number_of_values xs
   count-is = is.count ∙ ap (number_new []) (listed-all 0 xs)
+
+-- a test of the count, where the tally is wanted
+pub count-where : (xs : List OrdInt) (tally : Tally) (wanted : Bool) → (wanted ≡ true → IsTally (placed_from 0 xs) tally) → (test : ℕ → Bool) → (wanted && test tally.count) ≡ (wanted && test (number_of_values xs))
+count-where xs tally true is test = ap test (count-is xs tally (is refl))
+count-where xs tally false is test = refl
 
 -- all entries were taken
 pub tally-done : (entries : List (ℤ × ℕ)) (i : ℕ) (table : BTreeMap ℤ Places) (n : ℕ) → length entries ≤ i → ((v : ℤ) → Shows (λ j. IsPlaced v j (take i entries)) (get int_cmp table v)) → n + number_new (listed_values (take i entries)) (listed_values (drop i entries)) ≡ number_new [] (listed_values entries) → IsTally entries (record { values = table; count = n })

@@ -194,16 +194,16 @@ module _ (sought : Sought) (of_two : IsOfTwo sought) (xs : List OrdInt) (cs : Li
   abbrev HasValue : ℤ → ℕ → Type 0
   HasValue v i = (i < length xs) × (is_among v (values_of (int_at xs i)) ≡ true)
 
-  told-alone : (k : ℕ) (v : ℤ) → k < length xs → is_among v (values_of (int_at xs k)) ≡ true → has_others 1 k (get int_cmp tables.tally.values v) ≡ false → IsAlone xs k v
-  told-alone k v lt here none = record {
+  told-alone : tables.as_many ≡ true → (k : ℕ) (v : ℤ) → k < length xs → is_among v (values_of (int_at xs k)) ≡ true → has_others 1 k (get int_cmp tables.tally.values v) ≡ false → IsAlone xs k v
+  told-alone many k v lt here none = record {
     inside = lt;
     here = here;
-    nowhere = λ j lt_j ne. false_from_ne_true (is_among v (values_of (int_at xs j))) (λ e. true≢false (sym (told-one (HasValue v) k (get int_cmp tables.tally.values v) (are.values v) (j, (lt_j, e), ne)) ∙ none));
+    nowhere = λ j lt_j ne. false_from_ne_true (is_among v (values_of (int_at xs j))) (λ e. true≢false (sym (told-one (HasValue v) k (get int_cmp tables.tally.values v) (are.values many v) (j, (lt_j, e), ne)) ∙ none));
   }
 
-  alone-told : (k : ℕ) (v : ℤ) → IsAlone xs k v → has_others 1 k (get int_cmp tables.tally.values v) ≡ false
-  alone-told k v alone = false_from_ne_true (has_others 1 k (get int_cmp tables.tally.values v)) (λ e.
-      let other : HasOther (HasValue v) k = one-told (HasValue v) k (get int_cmp tables.tally.values v) (are.values v) e in
+  alone-told : tables.as_many ≡ true → (k : ℕ) (v : ℤ) → IsAlone xs k v → has_others 1 k (get int_cmp tables.tally.values v) ≡ false
+  alone-told many k v alone = false_from_ne_true (has_others 1 k (get int_cmp tables.tally.values v)) (λ e.
+      let other : HasOther (HasValue v) k = one-told (HasValue v) k (get int_cmp tables.tally.values v) (are.values many v) e in
       true≢false (sym other.1.1 ∙ alone.nowhere other.0 other.1.0 other.2))
 
   abbrev Sure : ℕ → Bool
@@ -220,11 +220,11 @@ module _ (sought : Sought) (of_two : IsOfTwo sought) (xs : List OrdInt) (cs : Li
   value-row k v a b lt here (by_reaching e f g) =
       let many : tables.as_many ≡ true = and-left tables.as_many (not (has_others 1 k (get int_cmp tables.tally.values v))) e in
       let none = not-true (has_others 1 k (get int_cmp tables.tally.values v)) (and-right tables.as_many (not (has_others 1 k (get int_cmp tables.tally.values v))) e) in
-      reached_alone k v (are-sure many) (are-many many) (told-alone k v lt here none) f g
+      reached_alone k v (are-sure many) (are-many many) (told-alone many k v lt here none) f g
   value-row k v a b lt here (by_passing e f g) =
       let many : tables.as_many ≡ true = and-left tables.as_many (not (has_others 1 k (get int_cmp tables.tally.values v))) e in
       let none = not-true (has_others 1 k (get int_cmp tables.tally.values v)) (and-right tables.as_many (not (has_others 1 k (get int_cmp tables.tally.values v))) e) in
-      passed_alone k v (are-sure many) (are-many many) (told-alone k v lt here none) f g
+      passed_alone k v (are-sure many) (are-many many) (told-alone many k v lt here none) f g
 
   constant-row : (k : ℕ) (a b : Atom) → k < length xs → IsOneOf a b (constant_equations tables k (condition_at cs k) (int_at xs k)) → IsRow xs cs a b
   constant-row k a b lt h =
@@ -291,9 +291,9 @@ module _ (sought : Sought) (of_two : IsOfTwo sought) (xs : List OrdInt) (cs : Li
       let other : q ≡ not_atom b = sym (not_atom-not_atom q) ∙ ap not_atom (sym f) in
       by_twins (i, j, v, d, subst₂ (λ x y. AreTwins xs cs i j v d x y) (sym e) other twins)
   row-given a b (reached_alone i v sure many alone e f) =
-      by_member (row-value i v a b alone.inside alone.here (by_reaching (both-true tables.as_many (not (has_others 1 i (get int_cmp tables.tally.values v))) (told-many sure many) (false-not (has_others 1 i (get int_cmp tables.tally.values v)) (alone-told i v alone))) e f))
+      by_member (row-value i v a b alone.inside alone.here (by_reaching (both-true tables.as_many (not (has_others 1 i (get int_cmp tables.tally.values v))) (told-many sure many) (false-not (has_others 1 i (get int_cmp tables.tally.values v)) (alone-told (told-many sure many) i v alone))) e f))
   row-given a b (passed_alone i v sure many alone e f) =
-      by_member (row-value i v a b alone.inside alone.here (by_passing (both-true tables.as_many (not (has_others 1 i (get int_cmp tables.tally.values v))) (told-many sure many) (false-not (has_others 1 i (get int_cmp tables.tally.values v)) (alone-told i v alone))) e f))
+      by_member (row-value i v a b alone.inside alone.here (by_passing (both-true tables.as_many (not (has_others 1 i (get int_cmp tables.tally.values v))) (told-many sure many) (false-not (has_others 1 i (get int_cmp tables.tally.values v)) (alone-told (told-many sure many) i v alone))) e f))
 
   few-row : (a b : Atom) → IsFew a b → IsRow xs cs a b
   few-row a b h =

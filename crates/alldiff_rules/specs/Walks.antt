@@ -21,11 +21,11 @@ abbrev pub are_all_sure : List Atom → Bool
 are_all_sure [] = true
 are_all_sure (c ∷ cs) = is_true c && are_all_sure cs
 
--- the tables of members: those of the sure ones with one value or two, each value with the first three places at which
--- it stands, and whether there are fewer values than members, which all differ, or as many
+-- the tables of members: those of the sure ones with one value or two, whether there are fewer values than members, which
+-- all differ, or as many, and in this case each value with the first three places at which it stands
 pub record AreTables (ints : List OrdInt) (cs : List Atom) (tables : Tables) : Type 0 where
   pub narrow : IsNarrow ints cs tables.narrow
-  pub values : (v : ℤ) → Shows (λ i. (i < length ints) × (is_among v (values_of (int_at ints i)) ≡ true)) (get int_cmp tables.tally.values v)
+  pub values : tables.as_many ≡ true → (v : ℤ) → Shows (λ i. (i < length ints) × (is_among v (values_of (int_at ints i)) ≡ true)) (get int_cmp tables.tally.values v)
   pub too_few : tables.too_few ≡ (are_all_sure cs && nat_lt (number_of_values ints) (length ints))
   pub as_many : tables.as_many ≡ (are_all_sure cs && (number_of_values ints == length ints))
 
@@ -46,10 +46,13 @@ level_equations tables k sure a (l ∷ ls) =
     value_equations (sure && is_needed tables.narrow k l.0) (is_alone tables k l.0) l.1 (at_of a (l.0 +ℤ pos 1))
     ++ level_equations tables k sure a ls
 
--- a constant whose value another sure constant has
+-- by the tables: the member at place k is a constant whose value another sure constant has
+abbrev pub is_shared_constant : Tables → ℕ → OrdInt → Bool
+is_shared_constant tables k a = is_constant a && has_others 1 k (get int_cmp tables.narrow.constants (low_of a))
+
+-- at such a member, whose condition is c
 abbrev pub constant_equations : Tables → ℕ → Atom → OrdInt → List (Atom × Atom)
-constant_equations tables k c a =
-    only_if (is_constant a && has_others 1 k (get int_cmp tables.narrow.constants (low_of a))) ((c, False) ∷ [])
+constant_equations tables k c a = only_if (is_shared_constant tables k a) ((c, False) ∷ [])
 
 -- of the member at place k, whose condition is c
 abbrev pub equations_of_member : Tables → ℕ → Atom → OrdInt → List (Atom × Atom)

@@ -1,16 +1,20 @@
 //! All tables of an all-different constraint.
 
-ghost use Rattle.std.specs.Prelude.{◌≡◌, ◌<◌, ℕ, ℤ, length, IfOk};
+ghost use Rattle.std.specs.Prelude.{◌≡◌, ◌<◌, ◌&&◌, ℕ, ℤ, length, IfOk, IsTrue};
 ghost use Rattle.std.specs.BTreeMap.{get};
+ghost use Rattle.order_ints.specs.OrderRange.{IsBounded};
 ghost use Rattle.core_forms.specs.WellFormed.{AreSound};
 ghost use Rattle.alldiff_rules.specs.Members.{IsChoiceAt};
 ghost use Rattle.alldiff_rules.specs.Table.{pair_cmp, Shows};
-ghost use Rattle.alldiff_rules.specs.Walks.{are_all_sure, AreTables, is_alone};
+ghost use Rattle.alldiff_rules.specs.Narrow.{is_needed};
+ghost use Rattle.alldiff_rules.specs.Tally.{placed_from, IsTally};
+ghost use Rattle.alldiff_rules.specs.Walks.{are_all_sure, AreTables, is_alone, is_shared_constant};
 
 use crate::narrow::Narrow;
-use crate::table::{Places, both, found, has_others};
+use crate::table::{Places, found, has_others};
 use crate::tally::Tally;
 use order_ints::{Atom, OrdInt};
+use rule_base::is_constant;
 use std::alloc::{AllocError, Global};
 use std::collections::BTreeMap;
 
@@ -26,12 +30,33 @@ fn are_all_sure(conditions: &[Atom]) -> bool
     true
 }
 
+/// Whether two things are so.
+fn both(first: bool, second: bool) -> bool
+    ensures { result ≡ (first && second) }
+{
+    first && second
+}
+
+/// The tally of the values of members, if it is wanted.
+fn tally_where(alloc: Global, wanted: bool, ints: &[OrdInt]) -> Result<Tally, AllocError>
+    requires { AreSound ints.now }
+    ensures { IfOk result (λ tally. IsTrue wanted → IsTally (placed_from 0 ints.now) tally) }
+{
+    if wanted {
+        return Tally::of(alloc, ints);
+    }
+    Ok(Tally {
+        values: BTreeMap::new(alloc),
+        count: 0,
+    })
+}
+
 /// The tables of an all-different constraint, and how many values its members have.
 #[derive(Drop)]
 pub(crate) struct Tables {
     /// The sure members that have one value or two.
     pub narrow: Narrow,
-    /// The values of all members.
+    /// The values of all members, where all are sure.
     pub tally: Tally,
     /// Whether all are sure, and there are fewer values than members.
     pub too_few: bool,
@@ -56,8 +81,8 @@ impl Tables {
         ensures { IfOk result (AreTables ints.now conditions.now) }
     {
         let narrow = Narrow::of(alloc, choices, ints, conditions)?;
-        let tally = Tally::of(alloc, ints)?;
         let sure = are_all_sure(conditions);
+        let tally = tally_where(alloc, sure, ints)?;
         let too_few = both(sure, tally.count < ints.len());
         let as_many = both(sure, tally.count == ints.len());
         Ok(Tables {
@@ -68,12 +93,26 @@ impl Tables {
         })
     }
 
+    /// Whether a member at another place than `place` is the same sure constant as this one.
+    pub fn is_shared_constant(&self, a: &OrdInt, place: usize) -> bool
+        requires { IsBounded a.now }
+        ensures { result ≡ is_shared_constant self.now place a.now }
+    {
+        is_constant(a) && self.narrow.is_constant(a.low(), place)
+    }
+
+    /// Whether the member at a place is sure, and members at other places need a value.
+    pub fn is_excluded(&self, sure: bool, value: i128, place: usize) -> bool
+        ensures { result ≡ (sure && is_needed self.now.narrow place value) }
+    {
+        sure && self.narrow.is_needed(value, place)
+    }
+
     /// Whether there are as many values as members, which all differ, and no member at another place than
     /// `place` has a value. It takes one look into a table.
     pub fn is_alone(&self, value: i128, place: usize) -> bool
         ensures { result ≡ is_alone self.now place value }
     {
-        let elsewhere = has_others(1, place, found(&self.tally.values, value));
-        both(self.as_many, !elsewhere)
+        self.as_many && !has_others(1, place, found(&self.tally.values, value))
     }
 }

@@ -10,10 +10,9 @@ ghost use Rattle.alldiff_rules.specs.Walks.{value_equations, level_equations, co
 
 use crate::member_tables::Tables;
 use crate::narrow::choices;
-use crate::table::both;
 use crate::twins::by_twins;
 use order_ints::{Atom, OrdInt, Walk};
-use rule_base::{Sought, is_constant, next};
+use rule_base::{Sought, next};
 use std::alloc::{AllocError, Global};
 
 /// The equations at a value of a member, which is reached where one atom is true and passed where another one
@@ -47,7 +46,7 @@ fn at_values(
 {
     let mut ahead = Walk::along(a);
     for (value, here) in a.levels() {
-        let needed = both(sure, tables.narrow.is_needed(value, place));
+        let needed = tables.is_excluded(sure, value, place);
         let alone = tables.is_alone(value, place);
         let above = ahead.at(next(value));
         let pair = at_value(sought, needed, alone, here, above);
@@ -69,8 +68,7 @@ fn by_constant(
     requires { IsSound a.now }
     ensures { result ≡ first_sought sought (constant_equations tables.now place condition a.now) }
 {
-    let shared = both(is_constant(a), tables.narrow.is_constant(a.low(), place));
-    sought.when(shared, condition, Atom::False)
+    sought.when(tables.is_shared_constant(a, place), condition, Atom::False)
 }
 
 /// The equations of the member at a place.

@@ -11,7 +11,7 @@ ghost use Rattle.alldiff_rules.specs.Members.{int_at, IsSure, choice_of, IsConst
 ghost use Rattle.alldiff_rules.specs.Table.{pair_cmp, has_others, Shows};
 ghost use Rattle.alldiff_rules.specs.Narrow.{IsNarrow, is_needed};
 
-use crate::table::{Places, either, found, has_others, put, put_pair};
+use crate::table::{Places, found, has_others, put, put_pair};
 use order_ints::{Atom, OrdInt};
 use std::alloc::{AllocError, Global};
 use std::collections::BTreeMap;
@@ -209,6 +209,13 @@ pub(crate) struct Narrow {
     lows: BTreeMap<i128, Places>,
     /// The same by the greater one.
     highs: BTreeMap<i128, Places>,
+}
+
+/// Whether one of two things is so.
+fn either(first: bool, second: bool) -> bool
+    ensures { result ≡ (first || second) }
+{
+    first || second
 }
 
 impl Narrow {

@@ -1,6 +1,6 @@
 //! Tables of values, each with the first three places at which something stands.
 
-ghost use Rattle.std.specs.Prelude.{◌≡◌, ◌&&◌, ◌||◌, Some, OnOk};
+ghost use Rattle.std.specs.Prelude.{◌≡◌, Some, OnOk};
 ghost use Rattle.std.specs.BTreeMap.{get, Updates};
 ghost use Rattle.std.specs.Ordering.{int_cmp};
 ghost use Rattle.alldiff_rules.specs.Table.{pair_cmp, with_place, joined, number_other, other_than, has_others};
@@ -68,20 +68,6 @@ pub(crate) fn has_others(count: usize, place: usize, found: Option<Places>) -> b
         Some(places) => count <= places.others(place),
         None => false,
     }
-}
-
-/// Whether two things are so.
-pub(crate) fn both(first: bool, second: bool) -> bool
-    ensures { result ≡ (first && second) }
-{
-    first && second
-}
-
-/// Whether one of two things is so.
-pub(crate) fn either(first: bool, second: bool) -> bool
-    ensures { result ≡ (first || second) }
-{
-    first || second
 }
 
 /// A place more than those that were there.

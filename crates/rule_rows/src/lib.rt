@@ -3,6 +3,8 @@
 #![tactic(auto)]
 
 #[cfg(test)]
+mod difference_rows;
+#[cfg(test)]
 mod encodings;
 #[cfg(test)]
 mod equations;

@@ -1,4 +1,4 @@
-use Rattle.std.proofs.Common.{◌≡◌, ◌<◌, ◌^◌, ◌&&◌, Bool, List, ◌∷◌, ℤ, pos, ◌+ℤ◌, to_z, of_z, refl, sym, ap, subst, ◌∙◌, arith}
+use Rattle.std.proofs.Common.{◌≡◌, ◌<◌, ◌^◌, ◌&&◌, List, ◌∷◌, ℤ, pos, ◌+ℤ◌, to_z, of_z, refl, sym, ap, subst, ◌∙◌, arith}
 use Rattle.std.specs.Prelude.{unsigned_abs}
 use Rattle.std.specs.List.{AllByRecursion}
 use Rattle.std.specs.Int.{w128}
@@ -41,8 +41,8 @@ returns-then-is_some c =
     let v = c.in-Some.value in
     let small = (first-small c.loop-value.value-iterator c.next.new.self (c.in-Some.value, c.in-Some.here) c.in-Some.ensures.steps c.loop-value.invariant.small).0 in
     let key : to_z w128 (of_z w128 v) ≡ v = small_bits v small in
-    let needed : c.both-needed.result ≡ (c.args.sure && is_needed tables.narrow c.args.place v) =
-    c.both-needed.ensures ∙ ap (λ (t : Bool). c.args.sure && t) (c.is_needed.ensures ∙ ap (λ (u : ℤ). is_needed tables.narrow c.args.place u) key) in
+    let needed : c.is_excluded-needed.result ≡ (c.args.sure && is_needed tables.narrow c.args.place v) =
+    c.is_excluded-needed.ensures ∙ ap (λ (u : ℤ). c.args.sure && is_needed tables.narrow c.args.place u) key in
     let alone : c.is_alone-alone.result ≡ is_alone tables c.args.place v = c.is_alone-alone.ensures ∙ ap (λ (u : ℤ). is_alone tables c.args.place u) key in
     let above : c.at-above.result ≡ at_of a (v +ℤ pos 1) =
     c.at-above.ensures.atom ∙ ap (λ (w : OrdInt). at_of w (to_z w128 (of_z w128 c.next-in-loop-value.result))) c.loop-value.invariant.same
@@ -58,8 +58,8 @@ loop-value-preserved c =
     let v = c.in-Some.value in
     let all = first-small c.loop-value.value-iterator c.next.new.self (c.in-Some.value, c.in-Some.here) c.in-Some.ensures.steps c.loop-value.invariant.small in
     let key : to_z w128 (of_z w128 v) ≡ v = small_bits v all.0 in
-    let needed : c.both-needed.result ≡ (c.args.sure && is_needed tables.narrow c.args.place v) =
-    c.both-needed.ensures ∙ ap (λ (t : Bool). c.args.sure && t) (c.is_needed.ensures ∙ ap (λ (u : ℤ). is_needed tables.narrow c.args.place u) key) in
+    let needed : c.is_excluded-needed.result ≡ (c.args.sure && is_needed tables.narrow c.args.place v) =
+    c.is_excluded-needed.ensures ∙ ap (λ (u : ℤ). c.args.sure && is_needed tables.narrow c.args.place u) key in
     let alone : c.is_alone-alone.result ≡ is_alone tables c.args.place v = c.is_alone-alone.ensures ∙ ap (λ (u : ℤ). is_alone tables c.args.place u) key in
     let above : c.at-above.result ≡ at_of a (v +ℤ pos 1) =
     c.at-above.ensures.atom ∙ ap (λ (w : OrdInt). at_of w (to_z w128 (of_z w128 c.next-in-loop-value.result))) c.loop-value.invariant.same

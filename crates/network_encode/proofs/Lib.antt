@@ -3,4 +3,9 @@ pub mod ParityLaws
 pub mod AmoLaws
 pub mod Halves
 pub mod CountLaws
+pub mod Sorted
+pub mod Rows
+pub mod Units
+pub mod MergeLaws
+pub mod MergePlaces
 pub mod NetworkLaws

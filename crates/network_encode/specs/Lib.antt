@@ -1,3 +1,4 @@
 pub mod AtomParts
 pub mod CountParts
+pub mod MergeParts
 pub mod NetworkParts

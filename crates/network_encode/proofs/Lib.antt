@@ -5,7 +5,10 @@ pub mod Halves
 pub mod CountLaws
 pub mod Sorted
 pub mod Rows
-pub mod Units
+pub mod UnitLaws
 pub mod MergeLaws
 pub mod MergePlaces
+pub mod MergeStands
 pub mod NetworkLaws
+pub mod Turns
+pub mod TakenLaws

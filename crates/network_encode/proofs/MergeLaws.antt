@@ -30,7 +30,7 @@ use Rattle.network_encode.specs.MergeParts.{units_of, odd_places, even_places, w
 use Rattle.network_encode.proofs.Halves.{and-left, and-right, int-same, same-int, count-le}
 use Rattle.network_encode.proofs.Sorted.{Sorted, sorted-count, sorted-same, sorted-agree, sorted-ordered, sorted-odd, sorted-even, units-sorted, gains-weighted}
 use Rattle.network_encode.proofs.Rows.{sorted-row, row-extends, vars-below}
-use Rattle.network_encode.proofs.Units.{AreMultiples, gains-units, units-below, odd-below, even-below, length-odd, length-even, sum-sorted, sorted-sum, fresh-sorted}
+use Rattle.network_encode.proofs.UnitLaws.{AreMultiples, gains-units, units-below, odd-below, even-below, length-odd, length-even, sum-sorted, sorted-sum, fresh-sorted}
 
 -- ---- the wires
 

@@ -22,7 +22,7 @@ use Rattle.part_base.specs.PartsFor.{DoFit}
 use Rattle.network_encode.specs.MergeParts.{odd_places, even_places, weighted, unit_sum, odd_steps, even_steps, further_odd, all_even, row_wires, comparators, wires, merged_int, half_sums, network_parts}
 use Rattle.network_encode.proofs.Sorted.{weights-weighted}
 use Rattle.network_encode.proofs.Rows.{vars-below, length-vars, row_cores-below, row_wires-below, row_cores-formed, row_cores-cost, length-row_wires}
-use Rattle.network_encode.proofs.Units.{odd-below, even-below, length-odd, length-even, weighted-below, length-weighted, weighted-rising, unit_sum-cost, unit_sum-formed, unit_sum-below}
+use Rattle.network_encode.proofs.UnitLaws.{odd-below, even-below, length-odd, length-even, weighted-below, length-weighted, weighted-rising, unit_sum-cost, unit_sum-formed, unit_sum-below}
 
 -- as many wires as steps of the two sums
 length-wires : (next n k : ℕ) → 1 ≤ n → length (wires next n k) ≡ n + k

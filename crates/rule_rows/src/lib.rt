@@ -11,6 +11,8 @@ mod form_rules;
 #[cfg(test)]
 mod form_words;
 #[cfg(test)]
+mod network_words;
+#[cfg(test)]
 mod networks;
 #[cfg(test)]
 mod truth_tables;

@@ -2,35 +2,33 @@
 --
 -- Of the two sums' true atoms the odd places have at most two more than the even ones, so that one row of comparators puts all
 -- in order.
-use Rattle.std.proofs.Common.{◌≡◌, ℕ, zero, suc, ◌+◌, ◌*◌, ◌-◌, ◌/◌, ◌<◌, ◌≤◌, ◌^◌, min, max, Bool, true, false, ◌&&◌, List, [], ◌∷◌, ◌++◌, length, ℤ, pos, ◌+ℤ◌, refl, sym, ap, subst, ◌∙◌, arith}
+use Rattle.std.proofs.Common.{◌≡◌, ℕ, zero, suc, ◌+◌, ◌*◌, ◌-◌, ◌≤◌, Bool, true, false, ◌&&◌, List, [], ◌∷◌, ◌++◌, length, ◌+ℤ◌, refl, sym, ap, subst, ◌∙◌, arith}
 use Rattle.std.specs.Bool.{beq}
 use Rattle.std.specs.Ordering.{int_eq}
 use Rattle.std.proofs.lemmas.Int.{ints}
 use Rattle.order_ints.specs.declared.atom.Atom.{Atom}
 use Rattle.order_ints.specs.declared.atom.Atom.TheVariants.{True}
 use Rattle.order_ints.specs.declared.order_int.OrdInt.{OrdInt}
-use Rattle.order_ints.specs.Truth.{Valuation, Agree, atom_truth}
+use Rattle.order_ints.specs.Truth.{Valuation, Agree}
 use Rattle.order_ints.specs.Place.{AtomsBelow}
-use Rattle.order_ints.specs.OrderValue.{gains, in_order, value_of}
-use Rattle.order_ints.specs.OrderRange.{weights, IntBelow}
+use Rattle.order_ints.specs.OrderValue.{gains, value_of}
 use Rattle.order_ints.specs.OrderMade.{atom_of_var, vars_from}
 use Rattle.order_ints.proofs.Gains.{gains-agree}
 use Rattle.order_ints.proofs.PlaceLaws.{AtomsBelow-up}
 use Rattle.order_ints.proofs.Standing.{Agree-fewer, Agree-trans}
 use Rattle.core_cost.specs.Network.{half_up, half_down}
-use Rattle.core_forms.specs.declared.form.Core.{Core}
 use Rattle.core_forms.specs.declared.form.Core.TheVariants.{Ladder, EqR, Sum3}
 use Rattle.core_forms.specs.Truths.{true_count}
 use Rattle.core_forms.specs.Place.{CoreBelow}
 use Rattle.core_forms.specs.Meaning.{ordered, core_truth, Meets}
-use Rattle.core_forms.specs.Cores.{cores_truth, MeetsAll}
+use Rattle.core_forms.specs.Cores.{MeetsAll}
 use Rattle.core_forms.proofs.Mapped.{core_truth-agree}
-use Rattle.core_forms.proofs.CoreLists.{MeetsAll-one, MeetsAll-append, MeetsAll-first, MeetsAll-agree}
-use Rattle.network_encode.specs.MergeParts.{units_of, odd_places, even_places, weighted, unit_sum, odd_steps, even_steps, further_odd, all_even, row_cores, row_wires, comparators, wires, merged_int, half_sums, network_parts}
+use Rattle.core_forms.proofs.CoreLists.{MeetsAll-one, MeetsAll-append, MeetsAll-first}
+use Rattle.network_encode.specs.MergeParts.{units_of, odd_places, even_places, unit_sum, odd_steps, even_steps, further_odd, all_even, row_cores, row_wires, comparators, wires, merged_int, half_sums, network_parts}
 use Rattle.network_encode.proofs.Halves.{and-left, and-right, int-same, same-int, count-le}
 use Rattle.network_encode.proofs.Sorted.{Sorted, sorted-count, sorted-same, sorted-agree, sorted-ordered, sorted-odd, sorted-even, units-sorted, gains-weighted}
 use Rattle.network_encode.proofs.Rows.{sorted-row, row-extends, vars-below}
-use Rattle.network_encode.proofs.UnitLaws.{AreMultiples, gains-units, units-below, odd-below, even-below, length-odd, length-even, sum-sorted, sorted-sum, fresh-sorted}
+use Rattle.network_encode.proofs.UnitLaws.{AreMultiples, gains-units, length-odd, length-even, sum-sorted, sorted-sum, fresh-sorted}
 
 -- ---- the wires
 
@@ -155,8 +153,7 @@ module _ (next : ℕ) (a b c : OrdInt) (g : ℕ) (ls ms : List Atom) (some : 1 �
       (sorted-ordered τ g (j + k) (wires next (odd_steps ls ms) (even_steps ls ms)) whole) oc (same-int (value_of τ f) (value_of τ c) (value ∙ is)) in
       let sums = (MeetsAll-first τ (unit_sum next (odd_places ls) (odd_places ms)) (unit_sum (next + odd_steps ls ms) (even_places ls) (even_places ms) ∷ [])).1 (first, (MeetsAll-one τ (unit_sum (next + odd_steps ls ms) (even_places ls) (even_places ms))).1 second) in
       let ladders = (MeetsAll-first τ (Ladder a) (Ladder b ∷ half_sums next ls ms)).1 (oa, (MeetsAll-first τ (Ladder b) (half_sums next ls ms)).1 (ob, sums)) in
-      (MeetsAll-append τ (Ladder a ∷ Ladder b ∷ half_sums next ls ms) (comparators next (odd_steps ls ms) (even_steps ls ms) ++ EqR True (merged_int next a b g ls ms) c ∷ [])).1
-      (
+      (MeetsAll-append τ (Ladder a ∷ Ladder b ∷ half_sums next ls ms) (comparators next (odd_steps ls ms) (even_steps ls ms) ++ EqR True (merged_int next a b g ls ms) c ∷ [])).1 (
         ladders,
         (MeetsAll-append τ (comparators next (odd_steps ls ms) (even_steps ls ms)) (EqR True (merged_int next a b g ls ms) c ∷ [])).1
             (row, (MeetsAll-one τ (EqR True (merged_int next a b g ls ms) c)).1 equal),

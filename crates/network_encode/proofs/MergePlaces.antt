@@ -1,13 +1,12 @@
 -- The parts of a sum by a merge network are well formed and over the variables that they may have, and what they cost.
-use Rattle.std.proofs.Common.{◌≡◌, ℕ, zero, suc, ◌+◌, ◌*◌, ◌-◌, ◌/◌, ◌<◌, ◌≤◌, ◌^◌, min, max, List, [], ◌∷◌, ◌++◌, length, ℤ, pos, ◌+ℤ◌, refl, sym, ap, ◌∙◌, arith}
+use Rattle.std.proofs.Common.{◌≡◌, ℕ, ◌+◌, ◌*◌, ◌-◌, ◌/◌, ◌<◌, ◌≤◌, ◌^◌, min, max, List, [], ◌∷◌, ◌++◌, length, ℤ, pos, ◌+ℤ◌, ap, ◌∙◌, arith}
 use Rattle.std.specs.Prelude.{unsigned_abs}
 use Rattle.std.proofs.lemmas.Int.{ints}
 use Rattle.order_ints.specs.declared.atom.Atom.{Atom}
 use Rattle.order_ints.specs.declared.atom.Atom.TheVariants.{True}
 use Rattle.order_ints.specs.declared.order_int.OrdInt.{OrdInt}
 use Rattle.order_ints.specs.Place.{AtomsBelow}
-use Rattle.order_ints.specs.OrderRange.{weights, IntBelow}
-use Rattle.order_ints.specs.OrderMade.{atom_of_var, vars_from}
+use Rattle.order_ints.specs.OrderRange.{weights}
 use Rattle.order_ints.proofs.Gains.{StepsBelow-more}
 use Rattle.order_ints.proofs.PlaceLaws.{AtomsBelow-up}
 use Rattle.core_cost.specs.Comparisons.{cost_of_ladder, cost_of_eq}
@@ -19,7 +18,7 @@ use Rattle.core_forms.specs.Shapes.{steps_of}
 use Rattle.core_forms.specs.Cores.{CoresBelow, AreWellFormed, costs_of}
 use Rattle.core_forms.proofs.CoreLists.{CoresBelow-append, AreWellFormed-append, costs_of-append}
 use Rattle.part_base.specs.PartsFor.{DoFit}
-use Rattle.network_encode.specs.MergeParts.{odd_places, even_places, weighted, unit_sum, odd_steps, even_steps, further_odd, all_even, row_wires, comparators, wires, merged_int, half_sums, network_parts}
+use Rattle.network_encode.specs.MergeParts.{odd_places, even_places, weighted, odd_steps, even_steps, further_odd, all_even, comparators, wires, merged_int, half_sums, network_parts}
 use Rattle.network_encode.proofs.Sorted.{weights-weighted}
 use Rattle.network_encode.proofs.Rows.{vars-below, length-vars, row_cores-below, row_wires-below, row_cores-formed, row_cores-cost, length-row_wires}
 use Rattle.network_encode.proofs.UnitLaws.{odd-below, even-below, length-odd, length-even, weighted-below, length-weighted, weighted-rising, unit_sum-cost, unit_sum-formed, unit_sum-below}
@@ -65,9 +64,9 @@ module _ (next : ℕ) (a b c : OrdInt) (g : ℕ) (ls ms : List Atom) (some : 1 �
       AreWellFormed-append (Ladder a ∷ Ladder b ∷ half_sums next ls ms) (row ++ EqR True (merged_int next a b g ls ms) c ∷ [])
       (well.0, (well.1, (odd, (even, tt))))
       (
-        AreWellFormed-append row (EqR True (merged_int next a b g ls ms) c ∷ [])
-            (row_cores-formed (next + odd_steps ls ms + even_steps ls ms) (further_odd next (odd_steps ls ms)) (all_even next (odd_steps ls ms) (even_steps ls ms)))
-            ((merged-sound unit first second well.3, well.2), tt)
+      AreWellFormed-append row (EqR True (merged_int next a b g ls ms) c ∷ [])
+      (row_cores-formed (next + odd_steps ls ms + even_steps ls ms) (further_odd next (odd_steps ls ms)) (all_even next (odd_steps ls ms) (even_steps ls ms)))
+      ((merged-sound unit first second well.3, well.2), tt)
       )
 
   -- below any bound that is past the fresh variables
@@ -82,17 +81,15 @@ module _ (next : ℕ) (a b c : OrdInt) (g : ℕ) (ls ms : List Atom) (some : 1 �
     even-vars = vars-below n (next + odd_steps ls ms) (even_steps ls ms) (omega (arith, least)) (omega (arith, past))
 
     wires-below : AtomsBelow n (wires next (odd_steps ls ms) (even_steps ls ms))
-    wires-below =
-        (
-          (least, omega (arith, some, past)),
-          row_wires-below n (next + odd_steps ls ms + even_steps ls ms) (further_odd next (odd_steps ls ms)) (all_even next (odd_steps ls ms) (even_steps ls ms)) (omega (arith, least)) row-room odd-vars even-vars,
-        )
+    wires-below = (
+      (least, omega (arith, some, past)),
+      row_wires-below n (next + odd_steps ls ms + even_steps ls ms) (further_odd next (odd_steps ls ms)) (all_even next (odd_steps ls ms) (even_steps ls ms)) (omega (arith, least)) row-room odd-vars even-vars,
+    )
 
     sums-below : AtomsBelow next ls → AtomsBelow next ms → CoresBelow n (half_sums next ls ms)
     sums-below bl bm =
         let bl_up = AtomsBelow-up next n (omega (arith, past)) ls bl in
-        let bm_up = AtomsBelow-up next n (omega (arith, past)) ms bm in
-        (
+        let bm_up = AtomsBelow-up next n (omega (arith, past)) ms bm in (
           unit_sum-below n next (odd_places ls) (odd_places ms) least (omega (arith, past)) (odd-below n ls bl_up) (odd-below n ms bm_up),
           (
             unit_sum-below n (next + odd_steps ls ms) (even_places ls) (even_places ms) (omega (arith, least)) (omega (arith, past)) (even-below n ls bl_up) (even-below n ms bm_up),
@@ -107,9 +104,9 @@ module _ (next : ℕ) (a b c : OrdInt) (g : ℕ) (ls ms : List Atom) (some : 1 �
         CoresBelow-append n (Ladder a ∷ Ladder b ∷ half_sums next ls ms) (row ++ EqR True (merged_int next a b g ls ms) c ∷ [])
         ((tt, (StepsBelow-more next n a.steps up below.1.0, tt)), ((tt, (StepsBelow-more next n b.steps up below.1.1.0, tt)), sums-below bl bm))
         (
-          CoresBelow-append n row (EqR True (merged_int next a b g ls ms) c ∷ [])
-              (row_cores-below n (next + odd_steps ls ms + even_steps ls ms) (further_odd next (odd_steps ls ms)) (all_even next (odd_steps ls ms) (even_steps ls ms)) (omega (arith, least)) row-room odd-vars even-vars)
-              (((tt, tt), (weighted-below n g (wires next (odd_steps ls ms) (even_steps ls ms)) wires-below, (StepsBelow-more next n c.steps up below.1.1.1.0, tt))), tt)
+        CoresBelow-append n row (EqR True (merged_int next a b g ls ms) c ∷ [])
+        (row_cores-below n (next + odd_steps ls ms + even_steps ls ms) (further_odd next (odd_steps ls ms)) (all_even next (odd_steps ls ms) (even_steps ls ms)) (omega (arith, least)) row-room odd-vars even-vars)
+        (((tt, tt), (weighted-below n g (wires next (odd_steps ls ms) (even_steps ls ms)) wires-below, (StepsBelow-more next n c.steps up below.1.1.1.0, tt))), tt)
         )
 
   pub fit : 1 ≤ next → 1 ≤ g → weights a.steps ≡ g * length ls → weights b.steps ≡ g * length ms → IsWellFormed (Sum3 a b c) → length ls + length ms < 2 ^ 99 → CoreBelow next (Sum3 a b c) → AtomsBelow next ls → AtomsBelow next ms → DoFit next (network_parts next a b c g ls ms)

@@ -1,13 +1,10 @@
 -- The parts of a sum stand for it, wherever it has a network.
-use Rattle.std.proofs.Common.{◌≡◌, ℕ, zero, suc, ◌+◌, ◌*◌, ◌-◌, ◌/◌, ◌<◌, ◌≤◌, ◌^◌, true, List, length, refl, sym, ap, ◌∙◌, arith}
-use Rattle.std.proofs.Math.Nat.{div-zero, div-mul_cancel}
-use Prim.Native.Nat.{◌∣◌}
-use Rattle.order_ints.specs.declared.atom.Atom.{Atom}
+use Rattle.std.proofs.Common.{◌≡◌, ℕ, zero, suc, ◌+◌, ◌*◌, ◌/◌, ◌<◌, ◌≤◌, ◌^◌, true, length, ap, arith}
+use Rattle.std.proofs.Math.Nat.{div-zero}
 use Rattle.order_ints.specs.declared.order_int.OrdInt.{OrdInt}
 use Rattle.order_ints.specs.Truth.{Valuation, Agree}
-use Rattle.order_ints.specs.Represents.{Represents}
 use Rattle.order_ints.specs.OrderRange.{weights}
-use Rattle.core_cost.specs.Network.{half_up, has_network, cost_of_network}
+use Rattle.core_cost.specs.Network.{has_network, cost_of_network}
 use Rattle.core_cost.specs.Comparisons.{cost_of_ladder}
 use Rattle.core_cost.specs.Sums.{first_units, second_units}
 use Rattle.core_cost.proofs.NetworkLaws.{sides}
@@ -22,8 +19,8 @@ use Rattle.core_forms.specs.Cores.{MeetsAll, costs_of}
 use Rattle.core_forms.proofs.Mapped.{core_truth-agree}
 use Rattle.core_forms.proofs.CoreLists.{MeetsAll-depends}
 use Rattle.part_base.specs.declared.parts.Parts.{Parts}
-use Rattle.part_base.specs.PartsFor.{DoFit, ArePartsFor}
-use Rattle.network_encode.specs.MergeParts.{units_of, odd_places, odd_steps, unit_of, network_parts, merge_parts}
+use Rattle.part_base.specs.PartsFor.{DoFit}
+use Rattle.network_encode.specs.MergeParts.{units_of, odd_steps, unit_of, network_parts, merge_parts}
 use Rattle.network_encode.specs.NetworkParts.{cost_by_parts, StandFor}
 use Rattle.network_encode.proofs.UnitLaws.{AreMultiples, multiples-of_divisor, weights-units, length-units, units-below, length-odd}
 use Rattle.network_encode.proofs.MergeLaws.{implies, extends, sides-of}

@@ -1,6 +1,6 @@
 -- A row of comparators puts two lists in order whose numbers of true atoms differ by at most one, and each valuation can be
 -- changed in the row's fresh variables so that it is met.
-use Rattle.std.proofs.Common.{◌≡◌, ℕ, zero, suc, ◌+◌, ◌*◌, ◌-◌, ◌<◌, ◌≤◌, min, Bool, true, false, ◌&&◌, ◌||◌, cond, List, [], ◌∷◌, ◌++◌, length, refl, sym, ap, subst, ◌∙◌, arith}
+use Rattle.std.proofs.Common.{◌≡◌, ℕ, zero, suc, ◌+◌, ◌*◌, ◌≤◌, min, Bool, true, false, ◌&&◌, ◌||◌, List, [], ◌∷◌, length, refl, sym, ap, ◌∙◌, arith}
 use Rattle.std.specs.Bool.{beq}
 use Rattle.order_ints.specs.declared.atom.Atom.{Atom}
 use Rattle.order_ints.specs.Truth.{Valuation, Agree, atom_truth}
@@ -111,8 +111,7 @@ row-extends σ fresh (d ∷ ds) (e ∷ es) bd be =
     let truths = two_truths (atom_truth σ d || atom_truth σ e) (atom_truth σ d && atom_truth σ e) in
     let next = row-extends (raised σ fresh d e) (fresh + 2) ds es (AtomsBelow-up fresh (fresh + 2) (omega arith) ds bd.1) (AtomsBelow-up fresh (fresh + 2) (omega arith) es be.1) in
     let same : Agree fresh σ next.0 =
-    Agree-trans fresh σ (raised σ fresh d e) next.0 (with_fresh-Agree fresh σ truths) (Agree-fewer fresh (fresh + 2) (raised σ fresh d e) next.0 (omega arith) next.1) in
-    (
+    Agree-trans fresh σ (raised σ fresh d e) next.0 (with_fresh-Agree fresh σ truths) (Agree-fewer fresh (fresh + 2) (raised σ fresh d e) next.0 (omega arith) next.1) in (
       next.0,
       same,
       both-true (core_truth next.0 (Comp d e (atom_of_var fresh) (atom_of_var (fresh + 1)))) (cores_truth next.0 (row_cores (fresh + 2) ds es))
@@ -135,20 +134,18 @@ length-vars first (suc count) = ap suc (length-vars (first + 1) count)
 pub row_cores-below : (n fresh : ℕ) (ds es : List Atom) → 1 ≤ fresh → fresh + 2 * min (length ds) (length es) ≤ n → AtomsBelow n ds → AtomsBelow n es → CoresBelow n (row_cores fresh ds es)
 row_cores-below n fresh [] es least room bd be = tt
 row_cores-below n fresh (d ∷ ds) [] least room bd be = tt
-row_cores-below n fresh (d ∷ ds) (e ∷ es) least room bd be =
-    (
-      ((bd.0, (be.0, ((least, omega (arith, room)), ((omega arith, omega (arith, room)), tt)))), tt),
-      row_cores-below n (fresh + 2) ds es (omega arith) (omega (arith, room)) bd.1 be.1,
-    )
+row_cores-below n fresh (d ∷ ds) (e ∷ es) least room bd be = (
+  ((bd.0, (be.0, ((least, omega (arith, room)), ((omega arith, omega (arith, room)), tt)))), tt),
+  row_cores-below n (fresh + 2) ds es (omega arith) (omega (arith, room)) bd.1 be.1,
+)
 
 pub row_wires-below : (n fresh : ℕ) (ds es : List Atom) → 1 ≤ fresh → fresh + 2 * min (length ds) (length es) ≤ n → AtomsBelow n ds → AtomsBelow n es → AtomsBelow n (row_wires fresh ds es)
 row_wires-below n fresh [] es least room bd be = be
 row_wires-below n fresh (d ∷ ds) [] least room bd be = bd
-row_wires-below n fresh (d ∷ ds) (e ∷ es) least room bd be =
-    (
-      (least, omega (arith, room)),
-      ((omega arith, omega (arith, room)), row_wires-below n (fresh + 2) ds es (omega arith) (omega (arith, room)) bd.1 be.1),
-    )
+row_wires-below n fresh (d ∷ ds) (e ∷ es) least room bd be = (
+  (least, omega (arith, room)),
+  ((omega arith, omega (arith, room)), row_wires-below n (fresh + 2) ds es (omega arith) (omega (arith, room)) bd.1 be.1),
+)
 
 pub row_cores-formed : (fresh : ℕ) (ds es : List Atom) → AreWellFormed (row_cores fresh ds es)
 row_cores-formed fresh [] es = tt

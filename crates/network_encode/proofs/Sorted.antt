@@ -1,6 +1,6 @@
 -- Lists of atoms that are in order under a valuation, the true ones first: how many are true, and what follows for steps of
 -- them, for their odd and even places, and for units of steps.
-use Rattle.std.proofs.Common.{◌≡◌, ℕ, zero, suc, ◌+◌, ◌*◌, ◌/◌, ◌≤◌, Bool, true, false, not, ◌&&◌, cond, List, [], ◌∷◌, ◌++◌, length, refl, sym, ap, subst, ◌∙◌, arith}
+use Rattle.std.proofs.Common.{◌≡◌, ℕ, zero, suc, ◌+◌, ◌*◌, ◌/◌, Bool, true, false, not, ◌&&◌, cond, List, [], ◌∷◌, ◌++◌, length, refl, sym, ap, subst, ◌∙◌, arith}
 use Rattle.order_ints.specs.declared.atom.Atom.{Atom}
 use Rattle.order_ints.specs.Truth.{Valuation, Agree, atom_truth}
 use Rattle.order_ints.specs.Place.{AtomsBelow}
@@ -46,11 +46,10 @@ untrue false h = refl
 
 pub none-sorted : (σ : Valuation) (w : ℕ) (ls : List Atom) → none_true σ (weighted w ls) ≡ true → Sorted σ 0 ls
 none-sorted σ w [] h = refl
-none-sorted σ w (l ∷ ls) h =
-    (
-      untrue (atom_truth σ l) (and-left (not (atom_truth σ l)) (none_true σ (weighted w ls)) h),
-      none-sorted σ w ls (and-right (not (atom_truth σ l)) (none_true σ (weighted w ls)) h),
-    )
+none-sorted σ w (l ∷ ls) h = (
+  untrue (atom_truth σ l) (and-left (not (atom_truth σ l)) (none_true σ (weighted w ls)) h),
+  none-sorted σ w ls (and-right (not (atom_truth σ l)) (none_true σ (weighted w ls)) h),
+)
 
 ordered-first : (σ : Valuation) (w : ℕ) (l : Atom) (ls : List Atom) (t : Bool) → atom_truth σ l ≡ t → (in_order σ (weighted w ls) ≡ true → Sorted σ (true_count σ ls) ls) → cond t (in_order σ (weighted w ls)) (none_true σ (weighted w ls)) ≡ true → Sorted σ (cond t (suc (true_count σ ls)) (true_count σ ls)) (l ∷ ls)
 ordered-first σ w l ls true e rest h = (e, rest h)

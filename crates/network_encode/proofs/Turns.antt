@@ -1,15 +1,15 @@
 -- Steps of the loops that make the parts of a sum, and what they make together.
-use Rattle.std.proofs.Common.{◌≡◌, ℕ, zero, suc, ◌+◌, ◌*◌, ◌-◌, ◌/◌, ◌<◌, ◌≤◌, ◌^◌, min, List, [], ◌∷◌, ◌++◌, drop, length, get_or, ℤ, ◌+ℤ◌, refl, sym, ap, subst, ◌∙◌, append_assoc, arith}
-use Rattle.std.proofs.lemmas.List.{drop_more, at_drop_more}
+use Rattle.std.proofs.Common.{◌≡◌, ℕ, zero, suc, ◌+◌, ◌*◌, ◌-◌, ◌<◌, ◌≤◌, min, List, [], ◌∷◌, ◌++◌, drop, length, get_or, ◌+ℤ◌, refl, sym, ap, ◌∙◌, append_assoc, arith}
+use Rattle.std.proofs.lemmas.List.{drop_more}
 use Rattle.order_ints.specs.declared.atom.Atom.{Atom}
 use Rattle.order_ints.specs.declared.atom.Atom.TheVariants.{True}
 use Rattle.order_ints.specs.declared.order_int.OrdInt.{OrdInt}
 use Rattle.order_ints.specs.OrderMade.{atom_of_var, vars_from}
-use Rattle.core_cost.specs.Network.{half_up, half_down, cost_of_network}
+use Rattle.core_cost.specs.Network.{half_up, half_down}
 use Rattle.core_forms.specs.declared.form.Core.{Core}
 use Rattle.core_forms.specs.declared.form.Core.TheVariants.{Ladder, Comp, EqR}
 use Rattle.part_base.specs.declared.parts.Parts.{Parts}
-use Rattle.network_encode.specs.MergeParts.{copies, units_of, odd_places, even_places, weighted, odd_steps, even_steps, unit_sum, row_cores, row_wires, comparators, wires, half_sums, merged_int, network_parts}
+use Rattle.network_encode.specs.MergeParts.{copies, odd_places, even_places, weighted, odd_steps, even_steps, unit_sum, row_cores, row_wires, comparators, wires, half_sums, network_parts}
 use Rattle.network_encode.proofs.MergeLaws.{first-var}
 use Rattle.network_encode.proofs.UnitLaws.{length-odd, length-even}
 

@@ -9,10 +9,10 @@ use Rattle.order_ints.specs.declared.atom.Atom.{Atom}
 use Rattle.order_ints.specs.Truth.{Valuation, Agree, atom_truth}
 use Rattle.order_ints.specs.Place.{AtomBelow, AtomsBelow, StepsBelow}
 use Rattle.order_ints.specs.OrderValue.{gains, in_order, value_of}
-use Rattle.order_ints.specs.OrderRange.{weights, IntBelow, IsBounded, AreRising}
+use Rattle.order_ints.specs.OrderRange.{weights, AreRising}
 use Rattle.order_ints.specs.OrderLevels.{values_of}
 use Rattle.order_ints.specs.OrderMade.{vars_from, unit_range_of, unit_steps}
-use Rattle.order_ints.proofs.Fresh.{weights-unit_steps, atoms-unit_steps, values_of-unit_range_of, AreRising-unit_steps, StepsBelow-vars, takes_each_value, IsBounded-unit_range_of}
+use Rattle.order_ints.proofs.Fresh.{atoms-unit_steps, values_of-unit_range_of, AreRising-unit_steps, StepsBelow-vars, takes_each_value, IsBounded-unit_range_of}
 use Rattle.core_cost.specs.Network.{half_up, half_down, cost_of_unit_sum}
 use Rattle.core_cost.specs.Sums as sums
 use Rattle.core_cost.proofs.ShapeLaws.{sum3-units}
@@ -21,7 +21,7 @@ use Rattle.core_forms.specs.Truths.{true_count}
 use Rattle.core_forms.specs.Place.{CoreBelow}
 use Rattle.core_forms.specs.Meaning.{ordered, core_truth}
 use Rattle.core_forms.specs.WellFormed.{IsSound, IsWellFormed, greatest_abs}
-use Rattle.core_forms.specs.Shapes.{divisor_of, steps_of, shape_of}
+use Rattle.core_forms.specs.Shapes.{divisor_of, shape_of}
 use Rattle.core_forms.specs.Cost.{cost_of}
 use Rattle.core_forms.proofs.ShapeLaws.{divides-first, divides-second}
 use Rattle.network_encode.specs.MergeParts.{copies, units_of, odd_places, even_places, weighted, unit_int, unit_sum}
@@ -151,29 +151,27 @@ units-greatest : (ls : List Atom) → greatest_abs (unit_int ls) ≤ length ls
 units-greatest ls = omega (arith, ints, weights-ones ls)
 
 pub unit_sum-formed : (next : ℕ) (ls ms : List Atom) → length ls + length ms < 2 ^ 99 → IsWellFormed (unit_sum next ls ms)
-unit_sum-formed next ls ms few =
-    (
-      units-sound ls (omega (arith, few)),
-      units-sound ms (omega (arith, few)),
-      (IsBounded-unit_range_of (pos 0) next (length ls + length ms) (omega (arith, ints)) (omega (arith, ints, few)), AreRising-unit_steps next (length ls + length ms)),
-      omega (arith, few, units-greatest ls, units-greatest ms),
-    )
+unit_sum-formed next ls ms few = (
+  units-sound ls (omega (arith, few)),
+  units-sound ms (omega (arith, few)),
+  (IsBounded-unit_range_of (pos 0) next (length ls + length ms) (omega (arith, ints)) (omega (arith, ints, few)), AreRising-unit_steps next (length ls + length ms)),
+  omega (arith, few, units-greatest ls, units-greatest ms),
+)
 
 pub unit_sum-below : (n next : ℕ) (ls ms : List Atom) → 1 ≤ next → next + (length ls + length ms) ≤ n → AtomsBelow n ls → AtomsBelow n ms → CoreBelow n (unit_sum next ls ms)
-unit_sum-below n next ls ms least room bl bm =
+unit_sum-below n next ls ms least room bl bm = (
+  tt,
+  (
+    weighted-below n 1 ls bl,
     (
-      tt,
+      weighted-below n 1 ms bm,
       (
-        weighted-below n 1 ls bl,
-        (
-          weighted-below n 1 ms bm,
-          (
-            StepsBelow-vars n next (length ls + length ms) (unit_steps next (length ls + length ms)) (atoms-unit_steps next (length ls + length ms)) (λ _. least) room,
-            tt,
-          ),
-        ),
+        StepsBelow-vars n next (length ls + length ms) (unit_steps next (length ls + length ms)) (atoms-unit_steps next (length ls + length ms)) (λ _. least) room,
+        tt,
       ),
-    )
+    ),
+  ),
+)
 
 -- ---- sums of units in order
 

@@ -1,6 +1,6 @@
 -- The parts of a sum of two integers by a merge network: the units of both sides are merged, the odd places with the odd
 -- places and the even places with the even places, and one row of comparators puts what comes of both in order.
-use Rattle.std.specs.Prelude.{ℕ, zero, suc, ◌+◌, ◌*◌, ◌-◌, ◌/◌, min, true, List, [], ◌∷◌, ◌++◌, map, length, pos, ◌+ℤ◌}
+use Rattle.std.specs.Prelude.{ℕ, zero, suc, ◌+◌, ◌*◌, ◌-◌, ◌/◌, min, List, [], ◌∷◌, ◌++◌, map, length, pos, ◌+ℤ◌}
 use Rattle.order_ints.specs.declared.atom.Atom.{Atom}
 use Rattle.order_ints.specs.declared.atom.Atom.TheVariants.{True}
 use Rattle.order_ints.specs.declared.order_int.OrdInt.{OrdInt}

@@ -1,4 +1,4 @@
-use Rattle.std.proofs.Common.{◌+◌, ◌*◌, ◌-◌, ◌∙◌, arith}
+use Rattle.std.proofs.Common.{◌+◌, ◌-◌, ◌∙◌, arith}
 use Rattle.core_forms.specs.declared.form.Core.TheVariants.{Comp}
 use Rattle.network_encode.proofs.Turns.{row-turn, row-done}
 use Rattle.network_encode.proofs.wires.push_comparators.Goals as goal

@@ -28,7 +28,7 @@ use Rattle.network_encode.specs.MergeParts.{units_of, odd_places, even_places, u
 use Rattle.network_encode.proofs.Halves.{and-left, and-right, int-same, same-int, count-le}
 use Rattle.network_encode.proofs.Sorted.{Sorted, sorted-count, sorted-same, sorted-agree, sorted-ordered, sorted-odd, sorted-even, units-sorted, gains-weighted}
 use Rattle.network_encode.proofs.Rows.{sorted-row, row-extends, vars-below}
-use Rattle.network_encode.proofs.UnitLaws.{AreMultiples, gains-units, length-odd, length-even, sum-sorted, sorted-sum, fresh-sorted}
+use Rattle.network_encode.proofs.UnitLaws.{AreMultiples, gains-units, length-odd, length-even, all-orders, sum-sorted, sorted-sum, fresh-sorted}
 
 -- ---- the wires
 
@@ -54,12 +54,6 @@ wires-sorted σ next n k x y some more few odd even met =
     (subst (λ (ls : List Atom). Sorted σ x ls) (first-var next n some) odd) even met
 
 -- ---- meanings of the parts
-
-all-orders : (s t u v : Bool) → s ≡ true → t ≡ true → u ≡ true → v ≡ true → ((s && (t && u)) && v) ≡ true
-all-orders true true true v a b c d = d
-all-orders true true false v a b c d = absurd (cc)
-all-orders true false u v a b c d = absurd (cc)
-all-orders false t u v a b c d = absurd (cc)
 
 equal-true : (s t : Bool) (v : Bool) → s ≡ true → t ≡ true → v ≡ true → ((s && t) && beq true v) ≡ true
 equal-true true true true a b c = refl

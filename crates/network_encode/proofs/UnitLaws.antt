@@ -190,6 +190,13 @@ sorted-value : (σ : Valuation) (next n j : ℕ) → Sorted σ j (vars_from next
 sorted-value σ next n j h =
     omega (arith, ints, ap (gains σ) (weighted-vars next n), gains-weighted σ 1 (vars_from next n), sorted-count σ j (vars_from next n) h)
 
+-- three integers in order, and what their values say besides
+pub all-orders : (s t u v : Bool) → s ≡ true → t ≡ true → u ≡ true → v ≡ true → ((s && (t && u)) && v) ≡ true
+all-orders true true true v a b c d = d
+all-orders true true false v a b c d = absurd (cc)
+all-orders true false u v a b c d = absurd (cc)
+all-orders false t u v a b c d = absurd (cc)
+
 module _ (σ : Valuation) (next j k : ℕ) (ls ms : List Atom) (first : Sorted σ j ls) (second : Sorted σ k ms) where
   values-sum : value_of σ (unit_int ls) +ℤ value_of σ (unit_int ms) ≡ pos (j + k)
   values-sum =
@@ -212,17 +219,11 @@ module _ (σ : Valuation) (next j k : ℕ) (ls ms : List Atom) (first : Sorted �
   sorted-sum h =
       let n = length ls + length ms in
       let c = unit_range_of (pos 0) next (length ls + length ms) in
-      all-true (ordered σ (unit_int ls)) (ordered σ (unit_int ms)) (ordered σ c) (int_eq (value_of σ (unit_int ls) +ℤ value_of σ (unit_int ms)) (value_of σ c))
+      all-orders (ordered σ (unit_int ls)) (ordered σ (unit_int ms)) (ordered σ c) (int_eq (value_of σ (unit_int ls) +ℤ value_of σ (unit_int ms)) (value_of σ c))
       (sorted-ordered σ 1 j ls first)
       (sorted-ordered σ 1 k ms second)
       (sorted-range σ next n (j + k) h)
       (same-int (value_of σ (unit_int ls) +ℤ value_of σ (unit_int ms)) (value_of σ c) (values-sum ∙ sym (sorted-value σ next n (j + k) h)))
-    where
-      all-true : (s t u v : Bool) → s ≡ true → t ≡ true → u ≡ true → v ≡ true → ((s && (t && u)) && v) ≡ true
-      all-true true true true v a b c d = d
-      all-true true true false v a b c d = absurd (cc)
-      all-true true false u v a b c d = absurd (cc)
-      all-true false t u v a b c d = absurd (cc)
 
 -- fresh variables can be put in order with any number of true ones
 pub fresh-sorted : (σ : Valuation) (next n j : ℕ) → j ≤ n → (τ : Valuation) × Agree next σ τ × Sorted τ j (vars_from next n)

@@ -55,7 +55,9 @@ row_cores fresh (d ∷ ds) [] = []
 row_cores fresh (d ∷ ds) (e ∷ es) =
     Comp d e (atom_of_var fresh) (atom_of_var (fresh + 1)) ∷ row_cores (fresh + 2) ds es
 
--- what the row gives: of each comparator the disjunction and then the conjunction, and the atoms that have no partner
+-- what the row gives: of each comparator the disjunction and then the conjunction, and the atoms that have no partner. In a
+-- network there is one such atom at most: where both sides have an even number of units it is the last even one, and where
+-- both have an odd number the last odd one.
 abbrev pub row_wires : ℕ → List Atom → List Atom → List Atom
 row_wires fresh [] es = es
 row_wires fresh (d ∷ ds) [] = d ∷ ds

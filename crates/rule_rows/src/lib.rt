@@ -15,6 +15,8 @@ mod form_words;
 #[cfg(test)]
 mod max_rows;
 #[cfg(test)]
+mod network_words;
+#[cfg(test)]
 mod networks;
 #[cfg(test)]
 mod part_lists;

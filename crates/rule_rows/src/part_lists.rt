@@ -8,7 +8,8 @@ ghost use Rattle.core_forms.specs.WellFormed.{IsWellFormed};
 ghost use Rattle.decompose.specs.PartsOf.{HasParts};
 
 use crate::equations::put_atom;
-use crate::networks::{are_below, are_steps_below, is_below, put_atoms};
+use crate::network_words::put_atoms;
+use crate::networks::{are_below, are_steps_below, is_below};
 use crate::words::core_of;
 use bee_text::{push_blank, push_bytes, push_signed};
 use core_forms::{Core, cost};

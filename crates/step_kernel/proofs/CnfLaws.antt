@@ -1,9 +1,8 @@
 -- What the CNF of a state says.
-use Rattle.std.proofs.Common.{◌≡◌, ◌↔◌, ℕ, ◌+◌, Bool, true, false, List, [], ◌∷◌, length, refl, sym, ap, ◌∙◌, subst, arith, Option, Result, Ok, Err}
+use Rattle.std.proofs.Common.{◌≡◌, ◌↔◌, ◌+◌, Bool, true, false, [], ◌∷◌, length, refl, sym, ◌∙◌, subst, Result, Ok, Err}
 use Rattle.std.specs.Prelude.{IsTrue, IfOk, if◌then◌else◌}
 use Rattle.std.proofs.lemmas.Bool.{false≢true, true≢false}
 use Rattle.order_ints.specs.declared.cnf.Cnf.{Cnf}
-use Rattle.order_ints.specs.declared.literal.Lit.{Lit}
 use Rattle.order_ints.specs.Truth.{Valuation}
 use Rattle.order_ints.specs.View.{MeetsView}
 use Rattle.order_ints.specs.Place.{ClausesBelow, InRange}
@@ -12,11 +11,10 @@ use Rattle.order_ints.specs.AtomClauses.{atom_clauses_truth}
 use Rattle.order_ints.specs.OrderedClauses.{ordered_clauses}
 use Rattle.order_ints.proofs.Labels.{labels_below}
 use Rattle.order_ints.proofs.OrderedLaws.{clauses_truth-ordered_clauses, ClausesBelow-ordered_clauses}
-use Rattle.core_forms.specs.declared.form.Core.{Core}
 use Rattle.core_forms.specs.Cores.{MeetsAll}
 use Rattle.step_kernel.specs.Kernel.{Kernel, pending, IsKernel}
 use Rattle.step_kernel.specs.Models.{IsModel}
-use Rattle.step_kernel.specs.CnfOf.{cnf_clauses, cnf_of}
+use Rattle.step_kernel.specs.CnfOf.{cnf_of}
 
 module _ (k : Kernel) (is : IsKernel k) where
   clauses-below : (b : Bool) → ClausesBelow (length k.view + 1) (if b then [] ∷ [] else ordered_clauses k.view k.clauses)
@@ -36,7 +34,8 @@ module _ (k : Kernel) (is : IsKernel k) where
       by true bottom = (λ h. absurd (false≢true h), λ m. absurd (true≢false (sym bottom ∙ m.running)))
       by false running = (
         λ h. record { running = running; view = meets; cores = subst (MeetsAll σ) (sym none) refl; clauses = sym same ∙ h },
-        λ m. same ∙ m.clauses)
+        λ m. same ∙ m.clauses,
+      )
 
 pub in_range-of : {E : Type 0} (k : Kernel) (r : Result Cnf E) → IsKernel k → IfOk r (λ cnf. cnf ≡ cnf_of k) → IfOk r InRange
 in_range-of k (Ok cnf) is h = subst InRange (sym h) (cnf-in_range k is)

@@ -1,5 +1,5 @@
 -- Where the first pending core stands.
-use Rattle.std.proofs.Common.{◌≡◌, ℕ, zero, suc, ◌+◌, ◌-◌, ◌≤◌, ◌<◌, Bool, true, false, List, [], ◌∷◌, ◌++◌, map, length, get_or, set, drop, refl, sym, ap, ◌∙◌, arith, Option, Some, None}
+use Rattle.std.proofs.Common.{◌≡◌, ℕ, zero, suc, ◌+◌, ◌≤◌, ◌<◌, Bool, true, false, List, [], ◌∷◌, ◌++◌, map, length, get_or, set, drop, refl, sym, ap, ◌∙◌, arith, Option, Some, None}
 use Rattle.std.specs.Prelude.{is_some, nat_lt, if◌then◌else◌}
 use Rattle.std.proofs.lemmas.Bool.{false≢true, true≢false, ltb-true, ltb-false, lt-ltb, le-ltb}
 use Rattle.core_forms.specs.declared.form.Core.{Core}
@@ -46,7 +46,7 @@ least-first test id [] = refl
 least-first test id (None ∷ cores) =
     least-first test (id + 1) cores
     ∙ (let e : id + 1 + gone_first cores ≡ id + (gone_first cores + 1) = omega arith in
-      ap (λ (n : ℕ). least_from test n (drop (gone_first cores) cores)) e)
+    ap (λ (n : ℕ). least_from test n (drop (gone_first cores) cores)) e)
     ∙ ap (λ (ds : List (Option Core)). least_from test (id + (gone_first cores + 1)) ds) (dropped (gone_first cores) cores)
   where
     dropped : (n : ℕ) (cs : List (Option Core)) → drop n cs ≡ drop (n + 1) (None ∷ cs)

@@ -1,30 +1,25 @@
 -- What the splitting of a core makes of a state.
-use Rattle.std.proofs.Common.{◌≡◌, ◌↔◌, ℕ, ◌+◌, ◌≤◌, ◌^◌, Bool, true, false, List, ◌++◌, map, length, refl, sym, ap, ◌∙◌, subst, arith, length-append, Option, Some, None}
-use Rattle.std.specs.Prelude.{IsTrue}
+use Rattle.std.proofs.Common.{◌≡◌, ℕ, ◌+◌, ◌≤◌, List, ◌++◌, map, length, sym, ap, ◌∙◌, subst, arith, length-append, Some}
 use Rattle.order_ints.specs.declared.atom.Atom.{Atom}
-use Rattle.order_ints.specs.Truth.{Valuation, Agree, atom_truth}
+use Rattle.order_ints.specs.Truth.{Valuation, Agree}
 use Rattle.order_ints.specs.View.{label_of, MeetsView}
 use Rattle.order_ints.specs.Label.{IsLabelled, own_labels, with_own_labels}
 use Rattle.order_ints.specs.Place.{AtomClausesBelow}
-use Rattle.order_ints.specs.AtomClauses.{atom_clauses_truth}
-use Rattle.order_ints.specs.CnfLaws.{AtomClausesAgreement}
 use Rattle.order_ints.proofs.Labels.{AtomBelow-label, MeetsView-more, IsLabelled-more, length-own_labels, IsLater-more}
 use Rattle.order_ints.proofs.PlaceLaws.{AtomClausesBelow-up}
-use Rattle.order_ints.proofs.Standing.{Agree-sym}
 use Rattle.order_ints.proofs.TruthLaws.{atom_agrees, atom_clauses_agree}
 use Rattle.core_forms.specs.declared.form.Core.{Core}
 use Rattle.core_forms.specs.Meaning.{core_truth, Meets}
 use Rattle.core_forms.specs.Place.{CoreBelow}
 use Rattle.core_forms.specs.WellFormed.{IsWellFormed}
 use Rattle.core_forms.specs.Trimmed.{trimmed_core}
-use Rattle.core_forms.specs.Cost.{cost_of}
-use Rattle.core_forms.specs.Cores.{MeetsAll, CoresBelow, AreWellFormed, costs_of}
+use Rattle.core_forms.specs.Cores.{MeetsAll, CoresBelow, AreWellFormed}
 use Rattle.core_forms.proofs.TidiedCores.{core_truth-trimmed}
 use Rattle.core_forms.proofs.CoreLists.{MeetsAll-append, MeetsAll-agree, CoresBelow-append, CoresBelow-more, AreWellFormed-append}
 use Rattle.part_base.specs.declared.parts.Parts.{Parts}
 use Rattle.part_base.specs.PartsFor.{ArePartsFor}
 use Rattle.step_kernel.specs.Kernel.{Kernel, core_at, pending, trimmed_costs, potential, IsKernel}
-use Rattle.step_kernel.specs.Models.{IsModel, Keeps}
+use Rattle.step_kernel.specs.Models.{IsModel}
 use Rattle.step_kernel.specs.Steps.{without, divided}
 use Rattle.step_kernel.proofs.Kept.{Kept}
 use Rattle.step_kernel.proofs.Holes.{pending-append, pending-parts, below-there, formed-there, met-there, costs-there}
@@ -64,12 +59,15 @@ module _ (k : Kernel) (is : IsKernel k) (id : ℕ) (core : Core) (at : core_at k
 
   costs-divided : length (with_own_labels k.view parts.fresh) + trimmed_costs (with_own_labels k.view parts.fresh) (left ++ parts.cores) ≤ length k.view + trimmed_costs k.view (pending k.cores)
   costs-divided =
-      omega (arith, length-divided,
-      trimmed_costs-append (with_own_labels k.view parts.fresh) left parts.cores,
-      trimmed_costs-more (length k.view + 1) k.view parts.fresh left left-below.1,
-      trimmed_costs-bound (with_own_labels k.view parts.fresh) parts.cores for.fit.formed,
-      costs-there k.cores id core at k.view,
-      for.cost)
+      omega (
+        arith,
+        length-divided,
+        trimmed_costs-append (with_own_labels k.view parts.fresh) left parts.cores,
+        trimmed_costs-more (length k.view + 1) k.view parts.fresh left left-below.1,
+        trimmed_costs-bound (with_own_labels k.view parts.fresh) parts.cores for.fit.formed,
+        costs-there k.cores id core at k.view,
+        for.cost,
+      )
 
   divided-potential : potential (divided k id parts) ≤ potential k
   divided-potential = omega (arith, costs-divided, ap (trimmed_costs (with_own_labels k.view parts.fresh)) pending-divided)
@@ -98,13 +96,16 @@ module _ (k : Kernel) (is : IsKernel k) (id : ℕ) (core : Core) (at : core_at k
       let met = (met-there k.cores id core at σ).0 m.cores in
       let other = for.meaning.extends σ (same-truth σ m.view ∙ met.0) in
       let view : MeetsView other.0 k.view = MeetsView-agree k.view σ other.0 is.labelled other.1 m.view in
-      let old : MeetsAll other.0 left = MeetsAll-agree (length k.view + 1) σ other.0 left other.1 left-below.1 met.1 in
-      (other.0, other.1, record {
-        running = m.running;
-        view = (MeetsView-more k.view parts.fresh other.0).1 view;
-        cores = subst (MeetsAll other.0) (sym pending-divided) ((MeetsAll-append other.0 left parts.cores).1 (old, other.2));
-        clauses = sym (atom_clauses_agree (length k.view + 1) σ other.0 other.1 k.clauses is.clauses) ∙ m.clauses;
-      })
+      let old : MeetsAll other.0 left = MeetsAll-agree (length k.view + 1) σ other.0 left other.1 left-below.1 met.1 in (
+        other.0,
+        other.1,
+        record {
+          running = m.running;
+          view = (MeetsView-more k.view parts.fresh other.0).1 view;
+          cores = subst (MeetsAll other.0) (sym pending-divided) ((MeetsAll-append other.0 left parts.cores).1 (old, other.2));
+          clauses = sym (atom_clauses_agree (length k.view + 1) σ other.0 other.1 k.clauses is.clauses) ∙ m.clauses;
+        },
+      )
 
   pub divided-kept : Kept k (divided k id parts)
   divided-kept = record {

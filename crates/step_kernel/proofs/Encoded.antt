@@ -1,6 +1,5 @@
 -- What the encoding of a core makes of a state.
-use Rattle.std.proofs.Common.{◌≡◌, ◌↔◌, ℕ, ◌+◌, ◌≤◌, Bool, true, false, ◌&&◌, List, ◌++◌, length, refl, sym, ap, ◌∙◌, arith, Option, Some, None}
-use Rattle.std.specs.Prelude.{IsTrue}
+use Rattle.std.proofs.Common.{◌≡◌, ℕ, ◌+◌, ◌≤◌, true, ◌&&◌, ◌++◌, length, refl, sym, ◌∙◌, arith, Some}
 use Rattle.std.proofs.lemmas.Bool.{and_parts, and_from}
 use Rattle.order_ints.specs.Truth.{Valuation, Agree}
 use Rattle.order_ints.specs.View.{MeetsView}
@@ -19,13 +18,12 @@ use Rattle.core_forms.proofs.Kept.{IsWellFormed-trimmed}
 use Rattle.core_forms.proofs.Places.{CoreBelow-trimmed}
 use Rattle.core_forms.proofs.TidiedCores.{core_truth-trimmed}
 use Rattle.direct_encode.specs.Clauses.{clauses_of}
-use Rattle.direct_encode.specs.Literals.{literals}
 use Rattle.direct_encode.proofs.Sizes.{literals-append}
 use Rattle.direct_encode.proofs.CoreSizes.{literals-clauses_of}
 use Rattle.direct_encode.proofs.CoreTruths.{truth-clauses_of}
 use Rattle.direct_encode.proofs.Places.{below-clauses_of}
 use Rattle.step_kernel.specs.Kernel.{Kernel, core_at, pending, potential, IsKernel}
-use Rattle.step_kernel.specs.Models.{IsModel, Keeps}
+use Rattle.step_kernel.specs.Models.{IsModel}
 use Rattle.step_kernel.specs.Steps.{without, encoded}
 use Rattle.step_kernel.proofs.Kept.{Kept}
 use Rattle.step_kernel.proofs.Holes.{below-there, formed-there, met-there, costs-there}
@@ -42,9 +40,12 @@ module _ (k : Kernel) (is : IsKernel k) (id : ℕ) (core : Core) (at : core_at k
 
   encoded-potential : potential (encoded k id (trimmed_core k.view core)) ≤ potential k
   encoded-potential =
-      omega (arith, literals-clauses_of (trimmed_core k.view core) basic formed,
-      literals-append k.clauses (clauses_of (trimmed_core k.view core)),
-      costs-there k.cores id core at k.view)
+      omega (
+        arith,
+        literals-clauses_of (trimmed_core k.view core) basic formed,
+        literals-append k.clauses (clauses_of (trimmed_core k.view core)),
+        costs-there k.cores id core at k.view,
+      )
 
   pub encoded-kernel : IsKernel (encoded k id (trimmed_core k.view core))
   encoded-kernel = record {
@@ -52,8 +53,8 @@ module _ (k : Kernel) (is : IsKernel k) (id : ℕ) (core : Core) (at : core_at k
     formed = there-formed.1;
     below = there-below.1;
     clauses = AtomClausesBelow-append (length k.view + 1) k.clauses (clauses_of (trimmed_core k.view core)) is.clauses
-      (below-clauses_of (length k.view + 1) (trimmed_core k.view core)
-      (CoreBelow-trimmed (length k.view + 1) k.view core there-below.0 (labels_below k.view is.labelled)));
+        (below-clauses_of (length k.view + 1) (trimmed_core k.view core)
+        (CoreBelow-trimmed (length k.view + 1) k.view core there-below.0 (labels_below k.view is.labelled)));
     small = omega (arith, encoded-potential, is.small);
   }
 
@@ -74,13 +75,16 @@ module _ (k : Kernel) (is : IsKernel k) (id : ℕ) (core : Core) (at : core_at k
 
   forth : (σ : Valuation) → IsModel k σ → (τ : Valuation) × Agree (length k.view + 1) σ τ × IsModel (encoded k id (trimmed_core k.view core)) τ
   forth σ m =
-      let p = (met-there k.cores id core at σ).0 m.cores in
-      (σ, (λ v low. refl), record {
-        running = m.running;
-        view = m.view;
-        cores = p.1;
-        clauses = both-truth σ ∙ and_from (atom_clauses_truth σ k.clauses) (atom_clauses_truth σ (clauses_of (trimmed_core k.view core))) m.clauses (same-truth σ m.view ∙ p.0);
-      })
+      let p = (met-there k.cores id core at σ).0 m.cores in (
+        σ,
+        (λ v low. refl),
+        record {
+          running = m.running;
+          view = m.view;
+          cores = p.1;
+          clauses = both-truth σ ∙ and_from (atom_clauses_truth σ k.clauses) (atom_clauses_truth σ (clauses_of (trimmed_core k.view core))) m.clauses (same-truth σ m.view ∙ p.0);
+        },
+      )
 
   pub encoded-kept : Kept k (encoded k id (trimmed_core k.view core))
   encoded-kept = record {

@@ -1,11 +1,10 @@
 -- What an equation makes of a state.
-use Rattle.std.proofs.Common.{◌≡◌, ◌↔◌, ℕ, ◌+◌, ◌≤◌, Bool, true, false, not, length, refl, sym, ap, ◌∙◌, subst, arith, Option, Some, None}
+use Rattle.std.proofs.Common.{◌≡◌, ℕ, ◌+◌, ◌≤◌, Bool, true, false, length, refl, sym, ap, ◌∙◌, subst, arith, Some}
 use Rattle.std.specs.Prelude.{if◌then◌else◌}
 use Rattle.std.proofs.lemmas.Bool.{false≢true}
-use Rattle.order_ints.specs.declared.atom.Atom.{Atom}
-use Rattle.order_ints.specs.Truth.{Valuation, Agree, atom_truth, not_atom}
-use Rattle.order_ints.specs.View.{resolve, MeetsView}
-use Rattle.order_ints.specs.Label.{IsLabel, IsLabelled, IsLater}
+use Rattle.order_ints.specs.Truth.{Valuation, atom_truth, not_atom}
+use Rattle.order_ints.specs.View.{resolve}
+use Rattle.order_ints.specs.Label.{IsLabel, IsLater}
 use Rattle.order_ints.specs.Same.{same_atom}
 use Rattle.order_ints.specs.Equality.{same_atom-true, same_atom-refl}
 use Rattle.order_ints.specs.Place.{AtomClausesBelow}
@@ -19,7 +18,6 @@ use Rattle.core_forms.specs.Trimmed.{trimmed_core}
 use Rattle.core_forms.specs.Cores.{CoresBelow}
 use Rattle.core_forms.proofs.Kept.{IsWellFormed-trimmed}
 use Rattle.core_forms.proofs.TidiedCores.{core_truth-trimmed}
-use Rattle.rule_base.specs.Found.{IsImplied}
 use Rattle.equation_store.specs.Merge.{merged}
 use Rattle.equation_store.proofs.Facts.{IsMerge, is_merge}
 use Rattle.equation_store.proofs.Changes.{merge_is_later}
@@ -48,8 +46,11 @@ module _ (k : Kernel) (is : IsKernel k) (id : ℕ) (e : Equation) (core : Core) 
 
   joined-potential : potential (record k { view = merged k.view e.a e.b }) ≤ potential k
   joined-potential =
-      omega (arith, merge.size,
-      trimmed_costs-later (length k.view + 1) k.view (merged k.view e.a e.b) (pending k.cores) later is.below is.formed)
+      omega (
+        arith,
+        merge.size,
+        trimmed_costs-later (length k.view + 1) k.view (merged k.view e.a e.b) (pending k.cores) later is.below is.formed,
+      )
 
   joined-kernel : IsKernel (record k { view = merged k.view e.a e.b })
   joined-kernel =
@@ -83,8 +84,8 @@ module _ (k : Kernel) (is : IsKernel k) (id : ℕ) (e : Equation) (core : Core) 
   opposite-keeps h = record {
     back = λ σ m. absurd (false≢true (sym m.running));
     forth = λ σ m.
-      let q : e.a ≡ not_atom e.b = same_atom-true e.a (not_atom e.b) h in
-      absurd (not-other (atom_truth σ e.b) (sym (equal σ m) ∙ ap (atom_truth σ) q ∙ atom_truth-not_atom σ e.b));
+        let q : e.a ≡ not_atom e.b = same_atom-true e.a (not_atom e.b) h in
+        absurd (not-other (atom_truth σ e.b) (sym (equal σ m) ∙ ap (atom_truth σ) q ∙ atom_truth-not_atom σ e.b));
   }
 
   joined-keeps : k.bottom ≡ false → same_atom e.a (not_atom e.b) ≡ false → Keeps k (record k { view = merged k.view e.a e.b })
@@ -93,7 +94,7 @@ module _ (k : Kernel) (is : IsKernel k) (id : ℕ) (e : Equation) (core : Core) 
       let rb : resolve k.view e.b ≡ e.b = resolve-label k.view e.b labels.1 in
       let apart : resolve k.view e.a ≡ resolve k.view e.b → ⊥ = λ q. instance-different (trimmed_core k.view core) e instance (sym ra ∙ q ∙ rb) in
       let unlike : resolve k.view e.a ≡ not_atom (resolve k.view e.b) → ⊥ =
-        λ q. absurd (false≢true (sym h ∙ ap (same_atom e.a) (sym (sym ra ∙ q ∙ ap not_atom rb)) ∙ same_atom-refl e.a)) in
+      λ q. absurd (false≢true (sym h ∙ ap (same_atom e.a) (sym (sym ra ∙ q ∙ ap not_atom rb)) ∙ same_atom-refl e.a)) in
       let adds = (merge.changes apart unlike).equation in
       record {
         back = λ σ m. record { running = m.running; view = ((adds σ).0 m.view).0; cores = m.cores; clauses = m.clauses };

@@ -1,5 +1,5 @@
 -- What the pending cores are where one is taken out, or cores come behind.
-use Rattle.std.proofs.Common.{◌≡◌, ◌↔◌, ℕ, zero, suc, ◌+◌, ◌-◌, ◌≤◌, ◌==◌, Bool, true, false, List, [], ◌∷◌, ◌++◌, map, length, refl, sym, ap, ◌∙◌, subst, arith}
+use Rattle.std.proofs.Common.{◌≡◌, ◌↔◌, ℕ, zero, suc, ◌+◌, ◌-◌, ◌==◌, Bool, true, false, List, [], ◌∷◌, ◌++◌, map, refl, sym, ap, ◌∙◌, subst, arith}
 use Rattle.std.specs.Prelude.{Option, None, Some, slice_index_or, slice_set, if◌then◌else◌}
 use Rattle.std.proofs.lemmas.Option.{none-some}
 use Rattle.order_ints.specs.declared.atom.Atom.{Atom}
@@ -61,14 +61,15 @@ between cores id core e = by_id (id == 0) refl e
 
 -- all are met exactly where it and the others are
 pub met-between : (σ : Valuation) (front back : List Core) (core : Core) → MeetsAll σ (front ++ core ∷ back) ↔ (Meets σ core × MeetsAll σ (front ++ back))
-met-between σ front back core =
-    (λ h.
+met-between σ front back core = (
+  λ h.
       let p = (MeetsAll-append σ front (core ∷ back)).0 h in
       let q = (MeetsAll-first σ core back).0 p.1 in
       (q.0, (MeetsAll-append σ front back).1 (p.0, q.1)),
-    λ h.
+  λ h.
       let p = (MeetsAll-append σ front back).0 h.1 in
-      (MeetsAll-append σ front (core ∷ back)).1 (p.0, (MeetsAll-first σ core back).1 (h.0, p.1)))
+      (MeetsAll-append σ front (core ∷ back)).1 (p.0, (MeetsAll-first σ core back).1 (h.0, p.1)),
+)
 
 below-between : (n : ℕ) (front back : List Core) (core : Core) → CoresBelow n (front ++ core ∷ back) → CoreBelow n core × CoresBelow n (front ++ back)
 below-between n front back core h =
@@ -89,9 +90,10 @@ module _ (cores : List (Option Core)) (id : ℕ) (core : Core) (at : core_at cor
   pub met-there : (σ : Valuation) → MeetsAll σ (pending cores) ↔ (Meets σ core × MeetsAll σ (pending (without cores id)))
   met-there σ =
       let b = between cores id core at in
-      let r = met-between σ b.front b.back core in
-      (λ h. let p = r.0 (subst (MeetsAll σ) b.is h) in (p.0, subst (MeetsAll σ) (sym b.gone) p.1),
-      λ h. subst (MeetsAll σ) (sym b.is) (r.1 (h.0, subst (MeetsAll σ) b.gone h.1)))
+      let r = met-between σ b.front b.back core in (
+        λ h. let p = r.0 (subst (MeetsAll σ) b.is h) in (p.0, subst (MeetsAll σ) (sym b.gone) p.1),
+        λ h. subst (MeetsAll σ) (sym b.is) (r.1 (h.0, subst (MeetsAll σ) b.gone h.1)),
+      )
 
   pub below-there : (n : ℕ) → CoresBelow n (pending cores) → CoreBelow n core × CoresBelow n (pending (without cores id))
   below-there n h =

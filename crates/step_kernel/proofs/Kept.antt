@@ -1,12 +1,11 @@
 -- What a step keeps, and what several do one after another.
-use Rattle.std.proofs.Common.{◌≡◌, ℕ, ◌+◌, ◌≤◌, length, refl, arith, List}
-use Rattle.order_ints.specs.declared.atom.Atom.{Atom}
-use Rattle.order_ints.specs.Truth.{Valuation, Agree}
+use Rattle.std.proofs.Common.{◌+◌, ◌≤◌, length, refl, arith}
+use Rattle.order_ints.specs.Truth.{Agree}
 use Rattle.order_ints.specs.Label.{IsLater}
 use Rattle.order_ints.proofs.Labels.{labels_below, IsLater-itself, IsLater-later}
 use Rattle.order_ints.proofs.Standing.{Agree-trans, Agree-fewer}
 use Rattle.step_kernel.specs.Kernel.{Kernel, potential, IsKernel}
-use Rattle.step_kernel.specs.Models.{IsModel, Keeps}
+use Rattle.step_kernel.specs.Models.{Keeps}
 
 -- the new state is one, it has the models of the old one, its store is later and has all variables, and nothing grows
 pub record Kept (old new : Kernel) : Type 0 where
@@ -23,10 +22,10 @@ Keeps-trans : (old mid new : Kernel) → length old.view ≤ length mid.view →
 Keeps-trans old mid new longer first next = record {
   back = λ σ m. first.back σ (next.back σ m);
   forth = λ σ m.
-    let one = first.forth σ m in
-    let two = next.forth one.0 one.2 in
-    let agree : Agree (length old.view + 1) one.0 two.0 = Agree-fewer (length old.view + 1) (length mid.view + 1) one.0 two.0 (omega arith) two.1 in
-    (two.0, Agree-trans (length old.view + 1) σ one.0 two.0 one.1 agree, two.2);
+      let one = first.forth σ m in
+      let two = next.forth one.0 one.2 in
+      let agree : Agree (length old.view + 1) one.0 two.0 = Agree-fewer (length old.view + 1) (length mid.view + 1) one.0 two.0 (omega arith) two.1 in
+      (two.0, Agree-trans (length old.view + 1) σ one.0 two.0 one.1 agree, two.2);
 }
 
 pub Kept-itself : (k : Kernel) → IsKernel k → Kept k k

@@ -5,7 +5,6 @@ use Rattle.ledger_text.specs.declared.line.Line.{Line}
 use Rattle.step_kernel.specs.Kernel.{Kernel, IsKernel}
 use Rattle.step_kernel.specs.Models.{Keeps}
 use Rattle.step_kernel.specs.Steps.{step}
-use Rattle.step_kernel.proofs.Kept.{Kept}
 use Rattle.step_kernel.proofs.StepLaws.{step-kept}
 
 module _ {T E : Type 0} (old new : Kernel) (line : Line) (is : IsKernel old) where

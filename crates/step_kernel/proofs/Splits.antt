@@ -1,5 +1,5 @@
 -- The state after a split, from what was done to its parts.
-use Rattle.std.proofs.Common.{◌≡◌, ℕ, zero, suc, ◌+◌, ◌-◌, ◌≤◌, ◌<◌, ◌^◌, ◌==◌, Bool, true, false, List, [], ◌∷◌, ◌++◌, map, length, refl, sym, ap, ◌∙◌, subst, arith, Option, Some, None}
+use Rattle.std.proofs.Common.{◌≡◌, ℕ, zero, suc, ◌+◌, ◌-◌, ◌≤◌, ◌<◌, ◌^◌, ◌==◌, Bool, true, false, List, [], ◌∷◌, ◌++◌, map, length, refl, ap, ◌∙◌, arith, Option, Some, None}
 use Rattle.std.specs.Prelude.{slice_index_or, option_map, if◌then◌else◌}
 use Rattle.std.proofs.lemmas.Option.{none-some}
 use Rattle.std.proofs.lemmas.Bool.Decides.{nat_tests}
@@ -21,7 +21,7 @@ pub divided-from : (k : Kernel) (id : ℕ) (parts : Parts) (old new : Store) (cs
     made ≡ without (cs ++ ds) id → ds ≡ map Some parts.cores → 1 ≤ id → id ≤ length cs → kernel_of new made ls b ≡ divided k id parts
 divided-from k id parts old new cs ds made ls b is view cores pending low high =
     let without-parts : made ≡ without cs id ++ map Some parts.cores =
-      cores ∙ set-append_left cs ds (id - 1) None (omega (arith, low, high)) ∙ ap (λ (t : List (Option Core)). without cs id ++ t) pending in
+    cores ∙ set-append_left cs ds (id - 1) None (omega (arith, low, high)) ∙ ap (λ (t : List (Option Core)). without cs id ++ t) pending in
     same-kernel new.view (with_own_labels old.view parts.fresh) made (without cs id ++ map Some parts.cores) ls ls b view without-parts refl
     ∙ ap (λ (t : Kernel). divided t id parts) is
 

@@ -1,23 +1,16 @@
 -- What each step, and each replay of a ledger, keeps.
-use Rattle.std.proofs.Common.{◌≡◌, ℕ, ◌+◌, ◌≤◌, ◌^◌, Bool, true, false, length, refl, sym, ap, ◌∙◌, subst, arith, List, [], ◌∷◌, Option, Some, None, Result, Ok, Err}
-use Rattle.order_ints.specs.Truth.{Valuation, Agree}
-use Rattle.order_ints.proofs.Standing.{Agree-trans, Agree-fewer}
-use Rattle.core_forms.specs.declared.equation.Equation.{Equation}
+use Rattle.std.proofs.Common.{◌≡◌, ℕ, ◌+◌, true, length, refl, sym, ◌∙◌, subst, arith, List, [], ◌∷◌, Some, Result, Ok, Err}
 use Rattle.core_forms.specs.declared.form.Core.{Core}
-use Rattle.core_forms.specs.Basic.{is_basic_of}
 use Rattle.core_forms.specs.Trimmed.{trimmed_core}
-use Rattle.core_forms.specs.Cost.{cost_of}
 use Rattle.core_forms.proofs.Kept.{IsWellFormed-trimmed}
 use Rattle.core_forms.proofs.Places.{CoreBelow-trimmed}
 use Rattle.order_ints.proofs.Labels.{labels_below}
 use Rattle.part_base.specs.PartsFor.{ArePartsFor}
 use Rattle.ledger_text.specs.declared.line.Line.{Line}
 use Rattle.step_kernel.specs.declared.fault.StepFault.{StepFault}
-use Rattle.step_kernel.specs.Kernel.{Kernel, core_at, potential, IsKernel}
-use Rattle.step_kernel.specs.Models.{IsModel, Keeps}
-use Rattle.step_kernel.specs.Instances.{is_instance_at}
+use Rattle.step_kernel.specs.Kernel.{Kernel, core_at, IsKernel}
 use Rattle.step_kernel.specs.Parts.{parts_at, is_compound_of}
-use Rattle.step_kernel.specs.Steps.{equated, divided, encoded, step, replayed, replay}
+use Rattle.step_kernel.specs.Steps.{step, replayed, replay}
 use Rattle.step_kernel.proofs.Holes.{below-there, formed-there, costs-there}
 use Rattle.step_kernel.proofs.PartLaws.{parts-of_compound}
 use Rattle.step_kernel.proofs.Kept.{Kept, Kept-itself, Kept-trans}
@@ -55,7 +48,7 @@ replay-kept k new [] is e = subst (Kept k) (ok_of k new e) (Kept-itself k is)
 replay-kept k new (line ∷ lines) is e = by (step k line) refl e (λ mid. replay-kept mid new lines)
   where
     by : (r : Result Kernel StepFault) → step k line ≡ r → replayed r lines ≡ Ok new
-      → ((mid : Kernel) → IsKernel mid → replay mid lines ≡ Ok new → Kept mid new) → Kept k new
+        → ((mid : Kernel) → IsKernel mid → replay mid lines ≡ Ok new → Kept mid new) → Kept k new
     by (Err fault) stepped e rest = absurd (err_ok fault new (sym (replayed-err fault lines) ∙ e))
     by (Ok mid) stepped e rest =
         let first : Kept k mid = step-kept k mid line is stepped in

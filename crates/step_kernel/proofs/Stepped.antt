@@ -1,7 +1,6 @@
 -- What holds of the state after a step, by the three kinds of line.
-use Rattle.std.proofs.Common.{◌≡◌, ℕ, ◌+◌, Bool, true, false, not, length, refl, sym, ap, ◌∙◌, subst, Option, Some, None, Result, Ok, Err}
+use Rattle.std.proofs.Common.{◌≡◌, ℕ, ◌+◌, Bool, true, false, length, refl, subst, Option, Some, None, Result, Ok, Err}
 use Rattle.std.specs.Prelude.{option_map, if◌then◌else◌}
-use Rattle.std.proofs.lemmas.Bool.{false≢true}
 use Rattle.core_forms.specs.declared.equation.Equation.{Equation}
 use Rattle.core_forms.specs.declared.form.Core.{Core}
 use Rattle.core_forms.specs.Trimmed.{trimmed_core}
@@ -27,26 +26,26 @@ module _ (k : Kernel) (P : Kernel → Type 0)
     (split : k.bottom ≡ false → (id : ℕ) (core : Core) → core_at k.cores id ≡ Some core → is_compound_of (trimmed_core k.view core) ≡ true → P (divided k id (parts_at (length k.view + 1) (trimmed_core k.view core))))
     (encode : k.bottom ≡ false → (id : ℕ) (core : Core) → core_at k.cores id ≡ Some core → is_basic_of (trimmed_core k.view core) ≡ true → P (encoded k id (trimmed_core k.view core)))
   where
-  allowed : (t : Bool) (fault : StepFault) (next new : Kernel) → (t ≡ true → P next) → unless_fault (if t then None else Some fault) next ≡ Ok new → P new
-  allowed true fault next new shown e = subst P (ok_of next new e) (shown refl)
-  allowed false fault next new shown e = absurd (err_ok fault new e)
+    allowed : (t : Bool) (fault : StepFault) (next new : Kernel) → (t ≡ true → P next) → unless_fault (if t then None else Some fault) next ≡ Ok new → P new
+    allowed true fault next new shown e = subst P (ok_of next new e) (shown refl)
+    allowed false fault next new shown e = absurd (err_ok fault new e)
 
-  at_core : k.bottom ≡ false → (line : Line) (core : Core) (new : Kernel) → core_at k.cores (id_of line) ≡ Some core →
-      unless_fault (fault_at line (trimmed_core k.view core)) (after k line (trimmed_core k.view core)) ≡ Ok new → P new
-  at_core running (Equate id e) core new at is =
-      allowed (is_instance_at (trimmed_core k.view core) e) NotInstance (equated k e) new (equate running id e core at) is
-  at_core running (Split id) core new at is =
-      allowed (is_compound_of (trimmed_core k.view core)) NotCompound (divided k id (parts_at (length k.view + 1) (trimmed_core k.view core))) new (split running id core at) is
-  at_core running (Encode id) core new at is =
-      allowed (is_basic_of (trimmed_core k.view core)) NotBasic (encoded k id (trimmed_core k.view core)) new (encode running id core at) is
+    at_core : k.bottom ≡ false → (line : Line) (core : Core) (new : Kernel) → core_at k.cores (id_of line) ≡ Some core →
+        unless_fault (fault_at line (trimmed_core k.view core)) (after k line (trimmed_core k.view core)) ≡ Ok new → P new
+    at_core running (Equate id e) core new at is =
+        allowed (is_instance_at (trimmed_core k.view core) e) NotInstance (equated k e) new (equate running id e core at) is
+    at_core running (Split id) core new at is =
+        allowed (is_compound_of (trimmed_core k.view core)) NotCompound (divided k id (parts_at (length k.view + 1) (trimmed_core k.view core))) new (split running id core at) is
+    at_core running (Encode id) core new at is =
+        allowed (is_basic_of (trimmed_core k.view core)) NotBasic (encoded k id (trimmed_core k.view core)) new (encode running id core at) is
 
-  at_place : k.bottom ≡ false → (line : Line) (new : Kernel) (o : Option Core) → core_at k.cores (id_of line) ≡ o → step_at k line (option_map (trimmed_core k.view) o) ≡ Ok new → P new
-  at_place running line new None at is = absurd (err_ok (NoSuch (id_of line)) new is)
-  at_place running line new (Some core) at is = at_core running line core new at is
+    at_place : k.bottom ≡ false → (line : Line) (new : Kernel) (o : Option Core) → core_at k.cores (id_of line) ≡ o → step_at k line (option_map (trimmed_core k.view) o) ≡ Ok new → P new
+    at_place running line new None at is = absurd (err_ok (NoSuch (id_of line)) new is)
+    at_place running line new (Some core) at is = at_core running line core new at is
 
-  at_state : (b : Bool) (line : Line) (new : Kernel) → k.bottom ≡ b → (if b then Err AfterBottom else step_at k line (trimmed_at k (id_of line))) ≡ Ok new → P new
-  at_state true line new bottom is = absurd (err_ok AfterBottom new is)
-  at_state false line new bottom is = at_place bottom line new (core_at k.cores (id_of line)) refl is
+    at_state : (b : Bool) (line : Line) (new : Kernel) → k.bottom ≡ b → (if b then Err AfterBottom else step_at k line (trimmed_at k (id_of line))) ≡ Ok new → P new
+    at_state true line new bottom is = absurd (err_ok AfterBottom new is)
+    at_state false line new bottom is = at_place bottom line new (core_at k.cores (id_of line)) refl is
 
-  pub after_step : (line : Line) (new : Kernel) → step k line ≡ Ok new → P new
-  after_step line new is = at_state k.bottom line new refl is
+    pub after_step : (line : Line) (new : Kernel) → step k line ≡ Ok new → P new
+    after_step line new is = at_state k.bottom line new refl is

@@ -1,5 +1,5 @@
 -- What contracts see of the state of a compilation.
-use Rattle.std.specs.Prelude.{◌≡◌, ℕ, ◌+◌, ◌-◌, ◌^◌, ◌≤◌, ◌==◌, Bool, false, List, [], ◌∷◌, map, length, slice_index_or, Option, None, Some, option_map, if◌then◌else◌}
+use Rattle.std.specs.Prelude.{ℕ, ◌+◌, ◌-◌, ◌^◌, ◌≤◌, ◌==◌, Bool, false, List, [], ◌∷◌, map, length, slice_index_or, Option, None, Some, option_map, if◌then◌else◌}
 use Rattle.order_ints.specs.declared.atom.Atom.{Atom}
 use Rattle.order_ints.specs.Place.{AtomClausesBelow}
 use Rattle.order_ints.specs.Label.{IsLabelled, own_labels}

@@ -1,7 +1,7 @@
 -- The parts that a core is split into.
 use Rattle.std.specs.Prelude.{ℕ, Bool, not}
 use Rattle.core_forms.specs.declared.form.Core.{Core}
-use Rattle.core_forms.specs.declared.form.Core.TheVariants.{Ladder, Clause, Parity, Conj, Comp, LeqR, EqR, Sum3, Count, Sum, Max, AllDiff, Amo, Prod, DivMod, Lex}
+use Rattle.core_forms.specs.declared.form.Core.TheVariants.{Sum, AllDiff, Lex}
 use Rattle.core_forms.specs.Basic.{is_basic_of}
 use Rattle.part_base.specs.declared.parts.Parts.{Parts}
 use Rattle.decompose.specs.PartsOf.{parts_of as decomposed}

@@ -1,5 +1,5 @@
 -- A list of lists that stands in one flat list, with the length of each.
-use Rattle.std.specs.Prelude.{ℕ, ◌+◌, List, [], ◌∷◌, length, take, drop}
+use Rattle.std.specs.Prelude.{ℕ, ◌+◌, List, [], ◌∷◌, take, drop}
 
 -- the pieces of these lengths, one behind another
 abbrev pub pieces : {X : Type 0} → List ℕ → List X → List (List X)

@@ -37,7 +37,8 @@ impl State {
             return contradiction(alloc, self.vars());
         }
         let mut ordered = OrderedClauses::new(alloc);
-        self.clauses.put_in_order(alloc, self.store.view(), &mut ordered)?;
+        self.clauses
+            .put_in_order(alloc, self.store.view(), &mut ordered)?;
         ordered.into_cnf(alloc, self.vars())
     }
 

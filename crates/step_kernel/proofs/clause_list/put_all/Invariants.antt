@@ -10,5 +10,5 @@ invariant-loop-clause l = record {
   kept : all_lengths l.lengths.items ≡ length l.atoms.items;
   added : pieces l.lengths.items l.atoms.items ++ drop l.clause-index l.clauses ≡ pieces l.initial.lengths.items l.initial.atoms.items ++ l.fn.clauses;
   atoms : vec_len l.atoms + literals (drop l.clause-index l.clauses) ≤ vec_capacity l.atoms;
-  lengths : vec_len l.lengths + length (drop l.clause-index l.clauses) ≤ vec_capacity l.lengths
+  lengths : vec_len l.lengths + length (drop l.clause-index l.clauses) ≤ vec_capacity l.lengths;
 }

@@ -1,4 +1,4 @@
-use Rattle.std.proofs.Common.{◌≡◌, not, ap, ◌∙◌, arith}
+use Rattle.std.proofs.Common.{not, ap, ◌∙◌, arith}
 use Rattle.step_kernel.proofs.Cursors.{gone-next, gone-here, gone-bound}
 use Rattle.step_kernel.proofs.cursor.advanced.Goals as goal
 

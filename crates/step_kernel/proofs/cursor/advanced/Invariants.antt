@@ -1,4 +1,4 @@
-use Rattle.std.proofs.Common.{ℕ, ◌-◌, ◌≤◌, length}
+use Rattle.std.proofs.Common.{◌-◌, ◌≤◌, length}
 use Rattle.step_kernel.specs.Cursor.{gone_first}
 use Rattle.step_kernel.proofs.cursor.advanced.Given as goal
 

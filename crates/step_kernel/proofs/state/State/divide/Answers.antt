@@ -1,15 +1,12 @@
-use Rattle.std.proofs.Common.{◌≡◌, ℕ, ◌+◌, ◌≤◌, true, List, ◌++◌, map, length, sym, ap, ◌∙◌, subst, arith, rules, Option, Some}
+use Rattle.std.proofs.Common.{◌≡◌, ◌≤◌, true, List, ◌++◌, map, length, sym, ap, ◌∙◌, subst, arith, Option, Some}
 use Rattle.std.specs.Prelude.{is_ok}
 use Rattle.std.proofs.lemmas.Bool.{cond-true}
-use Rattle.order_ints.specs.Label.{own_labels}
 use Rattle.core_forms.specs.declared.form.Core.{Core}
-use Rattle.part_base.specs.declared.parts.Parts.{Parts}
 use Rattle.step_kernel.specs.Kernel.{Kernel, IsKernel}
-use Rattle.step_kernel.specs.Parts.{parts_at}
 use Rattle.step_kernel.specs.Steps.{divided, without}
 use Rattle.step_kernel.specs.Cursor.{kernel_of, gone_first}
 use Rattle.step_kernel.proofs.Cursors.{gone-append}
-use Rattle.step_kernel.proofs.Splits.{divided-from, divided-room, at-bounds}
+use Rattle.step_kernel.proofs.Splits.{divided-from, divided-room}
 use Rattle.step_kernel.proofs.state.State.divide.Goals as goal
 use Rattle.step_kernel.proofs.state.State.divide.Goals.{After-grow-arg-1, After-take_out-arg-1, After-drop-cores-2}
 
@@ -35,7 +32,7 @@ made c =
     let pending : c.in_ok-cores.cores.items ≡ map Some c.args.parts.cores = c.in_ok-cores.ensures ∙ ap (map Some) c.into_vec.ensures in
     let room : is_ok c.append.result ≡ true = c.append.ensures.succeeds (omega (arith, c.in_ok-reserve.ensures.ok, c.len.ensures)) in
     let behind : c.append.new.self.items ≡ c.self.inside.cores.items ++ c.in_ok-cores.cores.items =
-      c.append.ensures.items ∙ cond-true _ _ _ room ∙ ap (λ (cs : List (Option Core)). cs ++ c.in_ok-cores.cores.items) c.reserve.ensures.items in
+    c.append.ensures.items ∙ cond-true _ _ _ room ∙ ap (λ (cs : List (Option Core)). cs ++ c.in_ok-cores.cores.items) c.reserve.ensures.items in
     divided-from c.args.self.now c.args.id c.args.parts c.self.inside.store c.grow.new.self c.self.inside.cores.items c.in_ok-cores.cores.items c.take_out-self-inside.new.cores.items c.self.inside.clauses c.self.inside.bottom
     c.self.view_is c.in_ok-grow.ensures.view (c.take_out-self-inside.ensures.cores ∙ ap (λ (cs : List (Option Core)). without cs c.args.id) behind) pending c.requires.low high
 

@@ -1,4 +1,4 @@
-use Rattle.std.proofs.Common.{ℕ, ◌+◌, ap, sym, subst, arith}
+use Rattle.std.proofs.Common.{ℕ, ◌+◌, sym, subst, arith}
 use Rattle.core_forms.specs.Place.{CoreBelow}
 use Rattle.step_kernel.proofs.There.{there-formed, there-below, there-room}
 use Rattle.step_kernel.proofs.state.State.parts_of.Goals as goal

@@ -33,7 +33,8 @@ use Rattle.alldiff_rules.specs.Rows.{IsAlone, IsRow, too_few, needed_elsewhere, 
 use Rattle.alldiff_rules.specs.Instances.{IsOneOf}
 use Rattle.alldiff_rules.specs.Finds.{Finds, IsOfTwo}
 use Rattle.alldiff_rules.specs.Twins.{IsTwinRow}
-use Rattle.alldiff_rules.specs.Walks.{are_all_sure, AreTables, is_alone, value_equations, level_equations, constant_equations, equations_of_member, member_equations, IsOfSomeMember}
+use Rattle.alldiff_rules.specs.RowLists.{are_all_sure, value_equations}
+use Rattle.alldiff_rules.specs.Walks.{AreTables, is_alone, level_equations, constant_equations, equations_of_member, member_equations, IsOfSomeMember}
 use Rattle.alldiff_rules.proofs.Pigeonhole.{among-cases, among-first, among-later}
 use Rattle.alldiff_rules.proofs.Shown.{one-told, told-one}
 use Rattle.alldiff_rules.proofs.Holders.{told-taken, taken-told}

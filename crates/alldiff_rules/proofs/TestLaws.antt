@@ -50,4 +50,3 @@ not-true false e = refl
 
 pub false-not : (t : Bool) → t ≡ false → not t ≡ true
 false-not t e = ap not e
-

@@ -1,5 +1,5 @@
 -- The equations at a value.
-use Rattle.std.proofs.Common.{◌≡◌, Bool, true, false, cond, ◌⊎◌, inl, inr, List, [], ◌∷◌, ◌++◌, map, ℤ, pos, ◌+ℤ◌, sym, ◌∙◌, refl, subst, arith, ⊎_elim}
+use Rattle.std.proofs.Common.{◌≡◌, Bool, true, false, cond, inl, inr, List, [], ◌∷◌, ◌++◌, map, ℤ, pos, ◌+ℤ◌, sym, ◌∙◌, refl, subst, arith, ⊎_elim}
 use Rattle.std.specs.Prelude.{int_le}
 use Rattle.std.proofs.lemmas.Bool.{true≢false, false_from_ne_true}
 use Rattle.std.proofs.lemmas.Int.{ints}
@@ -60,4 +60,3 @@ cases-value needed alone here above a b (by_reaching e f g) =
     (one-right a b (only_if needed ((here, above) ∷ [])) (only_if alone ((here, True) ∷ [])) (one-if a b here True alone e f g))
 cases-value needed alone here above a b (by_passing e f g) =
     one-right a b (only_if needed ((here, above) ∷ []) ++ only_if alone ((here, True) ∷ [])) (only_if alone ((above, False) ∷ [])) (one-if a b above False alone e f g)
-

@@ -1,14 +1,12 @@
 -- The equations that tables give are those that all-different states.
-use Rattle.std.proofs.Common.{◌≡◌, ℕ, ◌<◌, Bool, true, false, cond, not, ◌&&◌, ◌⊎◌, inl, inr, List, [], ◌∷◌, ◌++◌, map, length, get_or, ℤ, pos, ◌+ℤ◌, refl, ap, sym, ◌∙◌, subst, subst₂, arith, ⊎_elim}
-use Rattle.std.specs.Prelude.{◌==◌, nat_lt, int_le, Option}
+use Rattle.std.proofs.Common.{◌≡◌, ℕ, ◌<◌, Bool, true, false, not, ◌&&◌, ◌⊎◌, inl, inr, List, [], ◌∷◌, ◌++◌, map, length, get_or, ℤ, pos, ◌+ℤ◌, refl, ap, sym, ◌∙◌, subst, subst₂, arith, ⊎_elim}
+use Rattle.std.specs.Prelude.{◌==◌, nat_lt, Option}
 use Rattle.std.specs.Option.{option_or, is_some}
 use Rattle.std.specs.List.{AllByRecursion}
 use Rattle.std.specs.BTreeMap.{get}
 use Rattle.std.specs.Ordering.{int_cmp}
-use Rattle.std.proofs.lemmas.Bool.Decides.{nat_tests}
 use Rattle.std.proofs.lemmas.Bool.{true≢false, false≢true, cases_Bool, false_from_ne_true, eqb-true, eq-eqb}
-use Rattle.std.proofs.lemmas.Int.{ints}
-use Rattle.std.proofs.lemmas.List.{get_or_read, nil_from_length}
+use Rattle.std.proofs.lemmas.List.{get_or_read}
 use Rattle.order_ints.specs.declared.atom.Atom.{Atom}
 use Rattle.order_ints.specs.declared.atom.Atom.TheVariants.{True, False}
 use Rattle.order_ints.specs.declared.order_int.OrdInt.{OrdInt}
@@ -16,7 +14,7 @@ use Rattle.order_ints.specs.Truth.{not_atom}
 use Rattle.order_ints.specs.Same.{is_true}
 use Rattle.order_ints.specs.Equality.{is_true-True}
 use Rattle.order_ints.specs.OrderRange.{low_of}
-use Rattle.order_ints.specs.OrderLevels.{levels_of, values_of, first_reaching, at_of, is_among}
+use Rattle.order_ints.specs.OrderLevels.{levels_of, values_of, at_of, is_among}
 use Rattle.order_ints.specs.OrderMade.{constant_of}
 use Rattle.order_ints.proofs.Truths.{not_atom-not_atom}
 use Rattle.order_ints.proofs.Everywhere.{levels_at}

@@ -62,7 +62,7 @@ are_twins ints cs i j = not (i == j) && ((is_sure cs i && is_sure cs j) && share
 abbrev pub is_of_twins_elsewhere : List OrdInt → List Atom → ℕ → ℤ → Bool
 is_of_twins_elsewhere ints cs k v =
     any_place (length cs) (λ i. not (i == k) && any_place (length cs) (λ j.
-        not (j == k) && (are_twins ints cs i j && is_among v (values_of (int_at ints i)))))
+    not (j == k) && (are_twins ints cs i j && is_among v (values_of (int_at ints i)))))
 
 -- members at other places than k need the value
 abbrev pub is_taken : List OrdInt → List Atom → ℕ → ℤ → Bool
@@ -82,7 +82,7 @@ value_equations needed alone here above =
 abbrev pub equations_at_value : List OrdInt → List Atom → ℕ → ℤ → List (Atom × Atom)
 equations_at_value ints cs k v =
     value_equations (is_sure cs k && is_taken ints cs k v) (are_as_many ints cs && is_nowhere_else ints k v)
-        (at_of (int_at ints k) v) (at_of (int_at ints k) (v +ℤ pos 1))
+    (at_of (int_at ints k) v) (at_of (int_at ints k) (v +ℤ pos 1))
 
 -- of the member at the place: that its condition is false, if it is a constant that another one is; and at its values
 abbrev pub equations_at_place : List OrdInt → List Atom → ℕ → List (Atom × Atom)

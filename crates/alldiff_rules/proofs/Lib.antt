@@ -7,6 +7,11 @@ pub mod Tables
 pub mod Sounds
 pub mod Holders
 pub mod FindsLaws
+pub mod TestLaws
+pub mod ValueCases
+pub mod Decided
+pub mod RowListLaws
+pub mod ExactLaws
 pub mod TwinLaws
 pub mod TallyLaws
 pub mod WalkLaws

@@ -1,14 +1,12 @@
 -- The equations that tables give are those that all-different states.
-use Rattle.std.proofs.Common.{◌≡◌, ℕ, ◌<◌, Bool, true, false, cond, not, ◌&&◌, ◌⊎◌, inl, inr, List, [], ◌∷◌, ◌++◌, map, length, get_or, ℤ, pos, ◌+ℤ◌, refl, ap, sym, ◌∙◌, subst, subst₂, arith, ⊎_elim}
-use Rattle.std.specs.Prelude.{◌==◌, nat_lt, int_le, Option}
+use Rattle.std.proofs.Common.{◌≡◌, ℕ, ◌<◌, Bool, true, false, not, ◌&&◌, ◌⊎◌, inl, inr, List, [], ◌∷◌, ◌++◌, map, length, get_or, ℤ, pos, ◌+ℤ◌, refl, ap, sym, ◌∙◌, subst, subst₂, arith, ⊎_elim}
+use Rattle.std.specs.Prelude.{◌==◌, nat_lt, Option}
 use Rattle.std.specs.Option.{option_or, is_some}
 use Rattle.std.specs.List.{AllByRecursion}
 use Rattle.std.specs.BTreeMap.{get}
 use Rattle.std.specs.Ordering.{int_cmp}
-use Rattle.std.proofs.lemmas.Bool.Decides.{nat_tests}
 use Rattle.std.proofs.lemmas.Bool.{true≢false, false≢true, cases_Bool, false_from_ne_true, eqb-true, eq-eqb}
-use Rattle.std.proofs.lemmas.Int.{ints}
-use Rattle.std.proofs.lemmas.List.{get_or_read, nil_from_length}
+use Rattle.std.proofs.lemmas.List.{get_or_read}
 use Rattle.order_ints.specs.declared.atom.Atom.{Atom}
 use Rattle.order_ints.specs.declared.atom.Atom.TheVariants.{True, False}
 use Rattle.order_ints.specs.declared.order_int.OrdInt.{OrdInt}
@@ -16,7 +14,7 @@ use Rattle.order_ints.specs.Truth.{not_atom}
 use Rattle.order_ints.specs.Same.{is_true}
 use Rattle.order_ints.specs.Equality.{is_true-True}
 use Rattle.order_ints.specs.OrderRange.{low_of}
-use Rattle.order_ints.specs.OrderLevels.{levels_of, values_of, first_reaching, at_of, is_among}
+use Rattle.order_ints.specs.OrderLevels.{levels_of, values_of, at_of, is_among}
 use Rattle.order_ints.specs.OrderMade.{constant_of}
 use Rattle.order_ints.proofs.Truths.{not_atom-not_atom}
 use Rattle.order_ints.proofs.Everywhere.{levels_at}
@@ -33,13 +31,16 @@ use Rattle.alldiff_rules.specs.Rows.{IsAlone, IsRow, too_few, needed_elsewhere, 
 use Rattle.alldiff_rules.specs.Instances.{IsOneOf}
 use Rattle.alldiff_rules.specs.Finds.{Finds, IsOfTwo}
 use Rattle.alldiff_rules.specs.Twins.{IsTwinRow}
-use Rattle.alldiff_rules.specs.Walks.{are_all_sure, AreTables, is_alone, value_equations, level_equations, constant_equations, equations_of_member, member_equations, IsOfSomeMember}
+use Rattle.alldiff_rules.specs.RowLists.{are_all_sure, value_equations}
+use Rattle.alldiff_rules.specs.Walks.{AreTables, is_alone, level_equations, constant_equations, equations_of_member, member_equations, IsOfSomeMember}
 use Rattle.alldiff_rules.proofs.Pigeonhole.{among-cases, among-first, among-later}
 use Rattle.alldiff_rules.proofs.Shown.{one-told, told-one}
 use Rattle.alldiff_rules.proofs.Holders.{told-taken, taken-told}
 use Rattle.alldiff_rules.proofs.Places.{and-left, and-right, sure-inside}
 use Rattle.alldiff_rules.proofs.Sounds.{sound-at}
 use Rattle.alldiff_rules.proofs.FindsLaws.{list-finds, or-finds, one-left, one-right, one-cases}
+use Rattle.alldiff_rules.proofs.TestLaws.{all-sure, sure-all, both-true, true-is, ltb-true, true-ltb, constant-is, is-constant, not-true, false-not}
+use Rattle.alldiff_rules.proofs.ValueCases.{at_of-skipped, one-if, if-one, AtValue, by_need, by_reaching, by_passing, value-cases, cases-value}
 
 -- the three searches at a value, one after another
 pub value-found : (sought : Sought) (needed alone : Bool) (here above : Atom) (o p q : Option (Atom × Atom)) → o ≡ first_sought sought (only_if needed ((here, above) ∷ [])) → p ≡ first_sought sought (only_if alone ((here, True) ∷ [])) → q ≡ first_sought sought (only_if alone ((above, False) ∷ [])) → option_or (option_or o p) q ≡ first_sought sought (value_equations needed alone here above)
@@ -59,54 +60,6 @@ module _ (sought : Sought) (tables : Tables) (k : ℕ) (sure : Bool) (a : OrdInt
   level-next none =
       back-found sought (value_equations (sure && is_needed tables.narrow k v) (is_alone tables k v) x (at_of a (v +ℤ pos 1))) (level_equations tables k sure a rest) o (first_sought sought (level_equations tables k sure a rest)) found none refl
       ∙ ap (λ (ys : List (ℤ × Atom)). first_sought sought (level_equations tables k sure a ys)) (sym is)
-
--- where an integer does not have a value, it is above it where it has reached it
-not-between : (v w : ℤ) → (w ≡ v → ⊥) → int_le v w ≡ int_le (v +ℤ pos 1) w
-not-between v w differ = grind (arith, ints)
-
-same-reaching : (v : ℤ) (ls : List (ℤ × Atom)) → is_among v (map (λ (l : ℤ × Atom). l.0) ls) ≡ false → first_reaching v ls ≡ first_reaching (v +ℤ pos 1) ls
-same-reaching v [] none = refl
-same-reaching v (l ∷ ls) none =
-    let first : l.0 ≡ v → ⊥ = λ e. true≢false (sym (subst (λ (u : ℤ). is_among v (u ∷ map (λ (m : ℤ × Atom). m.0) ls) ≡ true) (sym e) (among-first v (map (λ (m : ℤ × Atom). m.0) ls))) ∙ none) in
-    let others : is_among v (map (λ (m : ℤ × Atom). m.0) ls) ≡ false = false_from_ne_true (is_among v (map (λ (m : ℤ × Atom). m.0) ls)) (λ e. true≢false (sym (among-later v l.0 (map (λ (m : ℤ × Atom). m.0) ls) e) ∙ none)) in
-    λ i. cond (not-between v l.0 first i) l.1 (same-reaching v ls others i)
-
-pub at_of-skipped : (a : OrdInt) (v : ℤ) → is_among v (values_of a) ≡ false → at_of a v ≡ at_of a (v +ℤ pos 1)
-at_of-skipped a v none = same-reaching v (levels_of a) none
-
--- an equation under a test
-one-if : (a b x y : Atom) (t : Bool) → t ≡ true → a ≡ x → b ≡ y → IsOneOf a b (only_if t ((x, y) ∷ []))
-one-if a b x y t e f g = subst (λ (s : Bool). IsOneOf a b (only_if s ((x, y) ∷ []))) (sym e) (inl (f, g))
-
-if-one : (a b x y : Atom) (t : Bool) → IsOneOf a b (only_if t ((x, y) ∷ [])) → (t ≡ true) × (a ≡ x) × (b ≡ y)
-if-one a b x y true (inl h) = (refl, h.0, h.1)
-if-one a b x y true (inr h) = absurd h
-if-one a b x y false h = absurd h
-
--- at a value one of three things is so
-data AtValue (needed alone : Bool) (here above a b : Atom) : Type 0 where
-  by_need : needed ≡ true → a ≡ here → b ≡ above → AtValue needed alone here above a b
-  by_reaching : alone ≡ true → a ≡ here → b ≡ True → AtValue needed alone here above a b
-  by_passing : alone ≡ true → a ≡ above → b ≡ False → AtValue needed alone here above a b
-
-value-cases : (needed alone : Bool) (here above a b : Atom) → IsOneOf a b (value_equations needed alone here above) → AtValue needed alone here above a b
-value-cases needed alone here above a b h = ⊎_elim
-    (λ (f : IsOneOf a b (only_if needed ((here, above) ∷ []) ++ only_if alone ((here, True) ∷ []))). ⊎_elim
-    (λ (g : IsOneOf a b (only_if needed ((here, above) ∷ []))). let e = if-one a b here above needed g in by_need e.0 e.1 e.2)
-    (λ (g : IsOneOf a b (only_if alone ((here, True) ∷ []))). let e = if-one a b here True alone g in by_reaching e.0 e.1 e.2)
-    (one-cases a b (only_if needed ((here, above) ∷ [])) (only_if alone ((here, True) ∷ [])) f))
-    (λ (f : IsOneOf a b (only_if alone ((above, False) ∷ []))). let e = if-one a b above False alone f in by_passing e.0 e.1 e.2)
-    (one-cases a b (only_if needed ((here, above) ∷ []) ++ only_if alone ((here, True) ∷ [])) (only_if alone ((above, False) ∷ [])) h)
-
-cases-value : (needed alone : Bool) (here above a b : Atom) → AtValue needed alone here above a b → IsOneOf a b (value_equations needed alone here above)
-cases-value needed alone here above a b (by_need e f g) =
-    one-left a b (only_if needed ((here, above) ∷ []) ++ only_if alone ((here, True) ∷ [])) (only_if alone ((above, False) ∷ []))
-    (one-left a b (only_if needed ((here, above) ∷ [])) (only_if alone ((here, True) ∷ [])) (one-if a b here above needed e f g))
-cases-value needed alone here above a b (by_reaching e f g) =
-    one-left a b (only_if needed ((here, above) ∷ []) ++ only_if alone ((here, True) ∷ [])) (only_if alone ((above, False) ∷ []))
-    (one-right a b (only_if needed ((here, above) ∷ [])) (only_if alone ((here, True) ∷ [])) (one-if a b here True alone e f g))
-cases-value needed alone here above a b (by_passing e f g) =
-    one-right a b (only_if needed ((here, above) ∷ []) ++ only_if alone ((here, True) ∷ [])) (only_if alone ((above, False) ∷ [])) (one-if a b above False alone e f g)
 
 -- at the levels of an integer these are the equations at its values
 module _ (tables : Tables) (k : ℕ) (sure : Bool) (a : OrdInt) (p q : Atom) where
@@ -139,41 +92,6 @@ module _ (tables : Tables) (k : ℕ) (sure : Bool) (a : OrdInt) (p q : Atom) whe
       (λ (s : is_among v (map (λ (m : ℤ × Atom). m.0) ls) ≡ true).
       one-right p q (value_equations (sure && is_needed tables.narrow k l.0) (is_alone tables k l.0) l.1 (at_of a (l.0 +ℤ pos 1))) (level_equations tables k sure a ls) (value-level v here ls at.1 s))
       (among-cases v l.0 (map (λ (m : ℤ × Atom). m.0) ls) e)
-
--- tests of conditions
-pub all-sure : (cs : List Atom) → are_all_sure cs ≡ true → AreAllSure cs
-all-sure [] e = tt
-all-sure (c ∷ cs) e = (is_true-True c (and-left (is_true c) (are_all_sure cs) e), all-sure cs (and-right (is_true c) (are_all_sure cs) e))
-
-both-true : (s t : Bool) → s ≡ true → t ≡ true → (s && t) ≡ true
-both-true s t e f = λ i. e i && f i
-
-true-is : (c : Atom) → c ≡ True → is_true c ≡ true
-true-is c e = ap is_true e
-
-pub sure-all : (cs : List Atom) → AreAllSure cs → are_all_sure cs ≡ true
-sure-all [] h = refl
-sure-all (c ∷ cs) h = both-true (is_true c) (are_all_sure cs) (true-is c h.0) (sure-all cs h.1)
-
-ltb-true : (m n : ℕ) → nat_lt m n ≡ true → m < n
-ltb-true m n e = grind (arith, nat_tests)
-
-true-ltb : (m n : ℕ) → m < n → nat_lt m n ≡ true
-true-ltb m n h = grind (arith, nat_tests)
-
--- a constant has no steps
-constant-is : (a : OrdInt) → is_constant a ≡ true → a ≡ constant_of (low_of a)
-constant-is a e = let none = nil_from_length a.steps (eqb-true (length a.steps) 0 e) in λ i. record { base = a.base; steps = none i }
-
-is-constant : (a : OrdInt) (v : ℤ) → a ≡ constant_of v → is_constant a ≡ true
-is-constant a v e = ap is_constant e
-
-not-true : (t : Bool) → not t ≡ true → t ≡ false
-not-true true e = absurd (false≢true e)
-not-true false e = refl
-
-false-not : (t : Bool) → t ≡ false → not t ≡ true
-false-not t e = ap not e
 
 module _ (sought : Sought) (of_two : IsOfTwo sought) (xs : List OrdInt) (cs : List Atom) (same : length xs ≡ length cs) (sound : AreSound xs) (tables : Tables) (are : AreTables xs cs tables) where
   -- as many values as members, which all differ

@@ -1,9 +1,9 @@
 -- The equations that tables of an all-different constraint give, member by member and value by value.
-use Rattle.std.specs.Prelude.{◌≡◌, ◌<◌, ◌==◌, ℕ, nat_lt, Bool, true, not, ◌&&◌, List, [], ◌∷◌, ◌++◌, length, ℤ, pos, ◌+ℤ◌}
+use Rattle.std.specs.Prelude.{◌≡◌, ◌<◌, ℕ, Bool, true, not, ◌&&◌, List, [], ◌∷◌, ◌++◌, length, ℤ, pos, ◌+ℤ◌}
 use Rattle.std.specs.BTreeMap.{get}
 use Rattle.std.specs.Ordering.{int_cmp}
 use Rattle.order_ints.specs.declared.atom.Atom.{Atom}
-use Rattle.order_ints.specs.declared.atom.Atom.TheVariants.{True, False}
+use Rattle.order_ints.specs.declared.atom.Atom.TheVariants.{False}
 use Rattle.order_ints.specs.declared.order_int.OrdInt.{OrdInt}
 use Rattle.order_ints.specs.OrderRange.{low_of}
 use Rattle.order_ints.specs.OrderLevels.{levels_of, values_of, at_of, is_among}
@@ -12,32 +12,22 @@ use Rattle.rule_base.specs.Pairs.{only_if}
 use Rattle.rule_base.specs.Constant.{is_constant}
 use Rattle.alldiff_rules.specs.declared.member_tables.Tables.{Tables}
 use Rattle.alldiff_rules.specs.Table.{has_others, Shows}
-use Rattle.alldiff_rules.specs.Members.{int_at, condition_at, number_of_values}
+use Rattle.alldiff_rules.specs.Members.{int_at, condition_at}
 use Rattle.alldiff_rules.specs.Narrow.{IsNarrow, is_needed}
+use Rattle.alldiff_rules.specs.RowLists.{are_too_few, are_as_many, value_equations}
 use Rattle.alldiff_rules.specs.Instances.{IsOneOf}
-
--- each condition is True
-abbrev pub are_all_sure : List Atom → Bool
-are_all_sure [] = true
-are_all_sure (c ∷ cs) = is_true c && are_all_sure cs
 
 -- the tables of members: those of the sure ones with one value or two, whether there are fewer values than members, which
 -- all differ, or as many, and in this case each value with the first three places at which it stands
 pub record AreTables (ints : List OrdInt) (cs : List Atom) (tables : Tables) : Type 0 where
   pub narrow : IsNarrow ints cs tables.narrow
   pub values : tables.as_many ≡ true → (v : ℤ) → Shows (λ i. (i < length ints) × (is_among v (values_of (int_at ints i)) ≡ true)) (get int_cmp tables.tally.values v)
-  pub too_few : tables.too_few ≡ (are_all_sure cs && nat_lt (number_of_values ints) (length ints))
-  pub as_many : tables.as_many ≡ (are_all_sure cs && (number_of_values ints == length ints))
+  pub too_few : tables.too_few ≡ are_too_few ints cs
+  pub as_many : tables.as_many ≡ are_as_many ints cs
 
 -- by the tables: there are as many values as members, which all differ, and no member at another place has the value
 abbrev pub is_alone : Tables → ℕ → ℤ → Bool
 is_alone tables k v = tables.as_many && not (has_others 1 k (get int_cmp tables.tally.values v))
-
--- at a value that others need, and at one that this member has alone; here and above are the atoms that it is reached
--- and passed
-abbrev pub value_equations : Bool → Bool → Atom → Atom → List (Atom × Atom)
-value_equations needed alone here above =
-    only_if needed ((here, above) ∷ []) ++ only_if alone ((here, True) ∷ []) ++ only_if alone ((above, False) ∷ [])
 
 -- at each of some levels of the member at place k
 abbrev pub level_equations : Tables → ℕ → Bool → OrdInt → List (ℤ × Atom) → List (Atom × Atom)

@@ -6,7 +6,7 @@ ghost use Rattle.core_forms.specs.declared.equation.Rule.TheVariants.{Form};
 ghost use Rattle.core_forms.specs.WellFormed.{IsWellFormed};
 ghost use Rattle.rule_base.specs.Found.{IsImplied, stated_by};
 ghost use Rattle.alldiff_rules.specs.Finds.{Finds, IsOfTwo};
-ghost use Rattle.alldiff_rules.specs.Instances.{IsStated, IsInstance};
+ghost use Rattle.alldiff_rules.specs.Instances.{IsStated, IsInstance, is_instance_of};
 
 use crate::members::by_difference;
 use crate::order::by_lex;
@@ -90,7 +90,8 @@ fn is_stated(alloc: Global, core: &Core, a: Atom, b: Atom) -> Result<bool, Alloc
 /// are those of `find`.
 pub fn is_instance(alloc: Global, core: &Core, e: &Equation) -> Result<bool, AllocError>
     requires { IsWellFormed core.now }
-    ensures { IfOk result (λ told. IsTrue told ↔ IsInstance core.now e.now) }
+    ensures instance { IfOk result (λ told. IsTrue told ↔ IsInstance core.now e.now) }
+    ensures test { IfOk result (λ told. told ≡ is_instance_of core.now e.now) }
 {
     match e.rule {
         Rule::Form => is_stated(alloc, core, e.a, e.b),

@@ -8,7 +8,8 @@ ghost use Rattle.alldiff_rules.specs.Members.{IsChoiceAt};
 ghost use Rattle.alldiff_rules.specs.Table.{pair_cmp, Shows};
 ghost use Rattle.alldiff_rules.specs.Narrow.{is_needed};
 ghost use Rattle.alldiff_rules.specs.Tally.{placed_from, IsTally};
-ghost use Rattle.alldiff_rules.specs.Walks.{are_all_sure, AreTables, is_alone, is_shared_constant};
+ghost use Rattle.alldiff_rules.specs.RowLists.{are_all_sure};
+ghost use Rattle.alldiff_rules.specs.Walks.{AreTables, is_alone, is_shared_constant};
 
 use crate::narrow::Narrow;
 use crate::table::{Places, found, has_others};

@@ -6,7 +6,8 @@ ghost use Rattle.order_ints.specs.OrderLevels.{levels_of};
 ghost use Rattle.rule_base.specs.Pairs.{first_sought};
 ghost use Rattle.alldiff_rules.specs.Finds.{Finds, IsOfTwo};
 ghost use Rattle.alldiff_rules.specs.Rows.{IsRow};
-ghost use Rattle.alldiff_rules.specs.Walks.{value_equations, level_equations, constant_equations, equations_of_member, IsOfSomeMember};
+ghost use Rattle.alldiff_rules.specs.RowLists.{value_equations};
+ghost use Rattle.alldiff_rules.specs.Walks.{level_equations, constant_equations, equations_of_member, IsOfSomeMember};
 
 use crate::member_tables::Tables;
 use crate::narrow::choices;

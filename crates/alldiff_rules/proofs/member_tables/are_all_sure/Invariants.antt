@@ -1,5 +1,5 @@
 use Rattle.std.proofs.Common.{◌≡◌, drop}
-use Rattle.alldiff_rules.specs.Walks.{are_all_sure}
+use Rattle.alldiff_rules.specs.RowLists.{are_all_sure}
 use Rattle.alldiff_rules.proofs.member_tables.are_all_sure.Given as goal
 
 -- what is left decides

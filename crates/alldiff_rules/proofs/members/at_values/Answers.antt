@@ -10,7 +10,8 @@ use Rattle.order_ints.proofs.Everywhere.{levels_small}
 use Rattle.core_forms.proofs.Bounds.{small_bits}
 use Rattle.rule_base.specs.Pairs.{first_sought}
 use Rattle.alldiff_rules.specs.Narrow.{is_needed}
-use Rattle.alldiff_rules.specs.Walks.{is_alone, value_equations, level_equations}
+use Rattle.alldiff_rules.specs.RowLists.{value_equations}
+use Rattle.alldiff_rules.specs.Walks.{is_alone, level_equations}
 use Rattle.alldiff_rules.proofs.Sounds.{next_value}
 use Rattle.alldiff_rules.proofs.WalkLaws.{level-stop, level-next}
 use Rattle.alldiff_rules.proofs.members.at_values.Goals as goal

@@ -1,6 +1,4 @@
-//! The parts of a sum of two integers, by a merge network.
-//!
-//! Odd-even merging: Batcher 1968.
+//! The parts of a sum of two integers, by a network of odd-even merging.
 
 ghost use Rattle.std.specs.Prelude.{◌≡◌, ◌+◌, ◌-◌, ◌*◌, ◌^◌, ◌++◌, ◌∷◌, [], ◌≤◌, ◌<◌, ◌+ℤ◌, drop, min, length, IsTrue, IfOk, OnOk};
 ghost use Rattle.core_cost.specs.Network.{has_network, half_up, half_down};

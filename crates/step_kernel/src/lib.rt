@@ -16,4 +16,5 @@ mod steps;
 pub use fault::{ApplyFault, StepFault};
 pub use ledger_text::{Line, read_step, write_step};
 pub use order_ints::{Cnf, first_false};
+pub use parts::is_compound;
 pub use state::State;

@@ -101,18 +101,27 @@ impl State {
     }
 
     /// An equation at a core, which stands here as the store has it.
-    fn try_equate(&mut self, id: u64, e: &Equation, core: &Core) -> Result<(), ApplyFault>
+    fn try_equate(
+        &mut self,
+        alloc: Global,
+        id: u64,
+        e: &Equation,
+        core: &Core,
+    ) -> Result<(), ApplyFault>
         requires kernel { IsKernel self.old }
         requires there { trimmed_at self.old id ≡ Some core.now }
         ensures step { OnOk result (step_at self.old (Equate id e.now) (Some core.now) ≡ Ok self.new) }
         ensures fault { IfErr result (IsFaultOf (step_at self.old (Equate id e.now) (Some core.now))) }
         ensures stays { OnErr result (self.new ≡ self.old) }
     {
-        if !is_instance(core, e) {
-            return Err(ApplyFault::Step(StepFault::NotInstance));
+        match is_instance(alloc, core, e) {
+            Ok(true) => {
+                self.equate(e);
+                Ok(())
+            }
+            Ok(false) => Err(ApplyFault::Step(StepFault::NotInstance)),
+            Err(_) => Err(ApplyFault::Memory),
         }
-        self.equate(e);
-        Ok(())
     }
 
     /// The splitting of a core, which stands here as the store has it.
@@ -158,7 +167,7 @@ impl State {
         ensures stays { OnErr result (self.new ≡ self.old) }
     {
         match line {
-            Line::Equate { id, e } => self.try_equate(*id, e, &core),
+            Line::Equate { id, e } => self.try_equate(alloc, *id, e, &core),
             Line::Split { id } => self.try_split(alloc, *id, core),
             Line::Encode { id } => self.try_encode(alloc, *id, &core),
         }

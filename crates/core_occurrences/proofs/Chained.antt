@@ -230,9 +230,6 @@ module _ (nodes : List Node) (heads : List ℕ) (from to : ℕ) (h : AreChains n
       head-is : (i : ℕ) → i < length heads → get_or heads1 i 0 ≡ (if i == to then get_or heads from 0 else (if i == from then link_of nodes handed else get_or heads i 0))
       head-is i low = ap (λ (l : List ℕ). get_or l i 0) d ∙ ⊎_elim at_to (λ not_to. ⊎_elim (at_from not_to) (other not_to) (cases_eq i from)) (cases_eq i to)
         where
-          link : ℕ
-          link = link_of nodes handed
-
           at_to : i ≡ to → get_or (set (set heads from (link_of nodes handed)) to (get_or heads from 0)) i 0 ≡ (if i == to then get_or heads from 0 else (if i == from then link_of nodes handed else get_or heads i 0))
           at_to e =
               ap (λ (k : ℕ). get_or (set (set heads from (link_of nodes handed)) to (get_or heads from 0)) k 0) e

@@ -2,19 +2,20 @@
 use Rattle.std.proofs.Common.{◌≡◌, ℕ, zero, suc, ◌+◌, ◌-◌, ◌≤◌, ◌<◌, ◌^◌, List, [], ◌∷◌, ◌++◌, length, map, get_or, replicate, refl, ap, sym, ◌∙◌, subst, arith, ⊎_elim}
 use Rattle.std.specs.List.{All}
 use Rattle.std.specs.List.Sorted.{IsStrictlyIncreasing}
-use Rattle.std.proofs.lemmas.Bool.{cases_lt}
-use Rattle.std.proofs.lemmas.List.{length-map, map-append}
+use Rattle.std.proofs.lemmas.Bool.{cases_lt, cases_eq}
+use Rattle.std.proofs.lemmas.List.{length-map, map-append, get_or-map}
 use Rattle.index_ring.specs.Lists.{RingLists, IsRings, times, times_in_all, without}
 use Rattle.index_ring.specs.Lists as shapes
 use Rattle.index_ring.specs.Laws.{total_length}
-use Rattle.index_ring.proofs.Times.{all-append, all-empty}
+use Rattle.index_ring.proofs.Times.{times-same, times-other, all-append, all-empty, all-get, all-find}
 use Rattle.core_occurrences.specs.declared.chains.Node.{Node}
-use Rattle.core_occurrences.specs.Lists.{OccurrenceLists, IsOccurrences, Occurs, with_id, grown, added, removed}
-use Rattle.core_occurrences.specs.Chains.{owner_of, owners, AreChains, IsFreed}
+use Rattle.core_occurrences.specs.Lists.{OccurrenceLists, IsOccurrences, Occurs, cores_at, with_id, grown, added, removed}
+use Rattle.core_occurrences.specs.Chains.{owner_of, link_of, owners, Chain, AreChains, IsFreed}
 use Rattle.core_occurrences.specs.Held.{ids_in, IsHeld}
 use Rattle.core_occurrences.specs.Kept.{lists_of, IsKept}
-use Rattle.core_occurrences.proofs.Linked.{one_unless, unless_free}
-use Rattle.core_occurrences.proofs.Occurring.{total-with_id, total-without, total-empties, occurrences-grown, occurrences-added, occurrences-removed}
+use Rattle.core_occurrences.proofs.Chained.{one_same, chain-none, owners-none, first-in, first-owner}
+use Rattle.core_occurrences.proofs.Linked.{one_unless, unless_free, unless_held, none-from}
+use Rattle.core_occurrences.proofs.Occurring.{times-from_contains, contains-from_times, total-with_id, total-without, total-empties, occurrences-grown, occurrences-added, occurrences-removed}
 
 -- occurrences are kept for these lists
 pub record KeepsLists (rings : RingLists) (nodes : List Node) (heads : List ℕ) (room : ℕ) (lists : OccurrenceLists) : Type 0 where
@@ -81,6 +82,31 @@ module _ (rings : RingLists) (nodes : List Node) (heads : List ℕ) (room : ℕ)
   -- the room of a sum fits
   pub room-fits : (id : ℕ) → room + times_in_all id (ids_in nodes rings) < 2 ^ 31
   room-fits id = omega (arith, k.total, total-without id (ids_in nodes rings), k.chains.small)
+
+  -- a core without a head has no occurrence
+  pub absent-from : (id : ℕ) → id ≤ lists.ids → get_or heads id 0 ≡ 0 → (v : ℕ) → ¬ Occurs lists v id
+  absent-from id high e v occurs =
+      let low : id < length heads = omega (arith, ap (λ (l : OccurrenceLists). l.ids) shown, k.some_head) in
+      let empty : k.chains.own id ≡ [] = chain-none (link_of nodes) (k.chains.own id) (subst (λ (l : ℕ). Chain (link_of nodes) l (k.chains.own id)) e (k.chains.linked id low)) in
+      let none : times id (owners nodes) ≡ 0 = owners-none nodes id (λ w w_in f. omega (arith, k.chains.once id w low w_in, one_same (owner_of nodes w) id f, ap (times w) empty)) in
+      let nowhere : times_in_all id (ids_in nodes rings) ≡ 0 = (none-from nodes nodes rings id k.held (record { none = none; same = refl })).none in
+      omega (arith, times-from_contains (cores_at lists v) id occurs, ap (λ (l : List (List ℕ)). times id (get_or l (v - 1) [])) lists-are, all-get id (ids_in nodes rings) (v - 1), nowhere)
+
+  -- and one with a head has one
+  pub present-from : (id : ℕ) → 1 ≤ id → id ≤ lists.ids → (get_or heads id 0 ≡ 0 → ⊥) → ((v : ℕ) → ¬ Occurs lists v id) → ⊥
+  present-from id first high some absent =
+      let low : id < length heads = omega (arith, ap (λ (l : OccurrenceLists). l.ids) shown, k.some_head) in
+      let w_in : get_or heads id 0 - 1 < length nodes = first-in (owner_of nodes) (link_of nodes) (λ i. get_or heads i 0) (length nodes) (length heads) k.chains id 0 low k.some_head (λ f. omega arith) some in
+      let is : owner_of nodes (get_or heads id 0 - 1) ≡ id = first-owner (owner_of nodes) (link_of nodes) (λ i. get_or heads i 0) (length nodes) (length heads) k.chains id 0 low k.some_head (λ f. omega arith) some in
+      let found = all-find (get_or heads id 0 - 1) rings.lists (omega (arith, k.held.owned (get_or heads id 0 - 1) w_in, unless_held (owner_of nodes (get_or heads id 0 - 1)) (λ f. omega arith))) in
+      let here : 1 ≤ times id (map (owner_of nodes) (get_or rings.lists found.0 [])) = times-map (owner_of nodes) (get_or heads id 0 - 1) id (get_or rings.lists found.0 []) is found.2 in
+      let same : map (owner_of nodes) (get_or rings.lists found.0 []) ≡ get_or lists.lists found.0 [] = sym (get_or-map (map (owner_of nodes)) rings.lists found.0 [] [] found.1) ∙ ap (λ (l : List (List ℕ)). get_or l found.0 []) lists-are in
+      let place : found.0 + 1 - 1 ≡ found.0 = omega arith in
+      absent (found.0 + 1) (contains-from_times (cores_at lists (found.0 + 1)) id (omega (arith, here, ap (times id) same, ap (λ (j : ℕ). times id (get_or lists.lists j [])) place)))
+    where
+      times-map : (f : ℕ → ℕ) (v i : ℕ) (list : List ℕ) → f v ≡ i → 1 ≤ times v list → 1 ≤ times i (map f list)
+      times-map f v i [] e some = some
+      times-map f v i (u ∷ list) e some = ⊎_elim (λ (g : u ≡ v). omega (arith, times-same i (f u) (map f list) (ap f g ∙ e))) (λ ne. omega (arith, times-map f v i list e (omega (arith, some, times-other v u list ne)))) (cases_eq u v)
 
   pub kept-grown : (vars ids more : ℕ) (rings1 : RingLists) (nodes1 : List Node) (heads1 : List ℕ) → (length rings.lists + vars) + (rings.nodes + more) < 2 ^ 31 → length heads + ids ≤ 2 ^ 32 → rings1 ≡ shapes.grown rings vars more → IsRings rings1 → IsFreed nodes nodes1 more → AreChains nodes1 heads1 → length heads1 ≡ length heads + ids → KeepsLists rings1 nodes1 heads1 (room + more) (grown lists vars ids more)
   kept-grown vars ids more rings1 nodes1 heads1 fits few grows stand freed chains head_count = record {

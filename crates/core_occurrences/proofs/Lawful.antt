@@ -44,9 +44,6 @@ added_elsewhere old id vars v low none = ⊎_elim inside past (cases_lt (v - 1) 
 pub added_occurs : AddedOccurs
 added_occurs old id vars v w low high = (forth, back)
   where
-    new : List ℕ
-    new = cores_at (added old id vars) v
-
     forth : Occurs (added old id vars) v w → Occurs old v w ⊎ ((w ≡ id) × Contains vars v)
     forth occurs = ⊎_elim listed unlisted (cases_Bool (is_listed v vars))
       where

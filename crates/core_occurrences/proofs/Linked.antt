@@ -124,9 +124,6 @@ module _ (nodes nodes1 : List Node) (rings : RingLists) (id v : ℕ) (h : IsHeld
       r : ℕ
       r = x - 1
 
-      list : List ℕ
-      list = list_of rings (x - 1)
-
       longer : List ℕ
       longer = list_of rings (x - 1) ++ v ∷ []
 

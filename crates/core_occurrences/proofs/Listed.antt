@@ -57,9 +57,6 @@ with_id-more id vars v lists low high new =
         ∙ ⊎_elim here there (cases_eq k (v - 1))
         ∙ sym (get-set (with_id id vars 1 lists) (v - 1) k longer (omega (arith, length-with_id id vars 1 lists)))
       where
-        list : List ℕ
-        list = get_or lists k []
-
         here : k ≡ v - 1 → (if is_listed (1 + k) (vars ++ v ∷ []) then get_or lists k [] ++ id ∷ [] else get_or lists k []) ≡ (if k == v - 1 then get_or (with_id id vars 1 lists) (v - 1) [] ++ id ∷ [] else get_or (with_id id vars 1 lists) k [])
         here e =
             let same : 1 + k ≡ v = omega arith in

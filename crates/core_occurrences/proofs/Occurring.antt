@@ -99,9 +99,7 @@ total-with_id id vars lists increasing range =
     upto : (k : ℕ) → k ≤ length vars → total_length (with_id id (take k vars) 1 lists) ≡ total_length lists + k
     upto zero fits = ap total_length (with_id-none id 1 lists) ∙ (omega arith)
     upto (suc k) fits =
-        let v : ℕ = get_or vars k 0 in
         let next : suc k ≡ k + 1 = omega arith in
-        let before : List (List ℕ) = with_id id (take k vars) 1 lists in
         let step : with_id id (take (suc k) vars) 1 lists ≡ set (with_id id (take k vars) 1 lists) (get_or vars k 0 - 1) (get_or (with_id id (take k vars) 1 lists) (get_or vars k 0 - 1) [] ++ id ∷ []) =
         ap (λ (n : ℕ). with_id id (take n vars) 1 lists) next
         ∙ ap (λ (vs : List ℕ). with_id id vs 1 lists) (take_more vars k 0 (omega arith))

@@ -3,6 +3,8 @@
 ghost use Rattle.std.specs.Prelude.{◌≡◌, ◌≢◌, ◌+◌, ◌^◌, ◌<◌, ◌≤◌, ◌++◌, length, replicate, vec_len, vec_capacity, MatchOption};
 ghost use Rattle.core_occurrences.specs.Chains.{AreChains, IsPassed, OwnsNone, IsFreed};
 
+use std::mem::size_of;
+
 /// A node beside its links in a ring.
 #[derive(Clone, Copy, Debug)]
 pub struct Node {
@@ -11,6 +13,8 @@ pub struct Node {
     /// One more than the next node of the same owner, 0 at the end.
     pub next: u32,
 }
+
+const _: () = prove!(size_of::<Node>() == 8);
 
 /// Hands the first node of one owner to another, if there is one. It takes constant time.
 pub fn pass(nodes: &mut [Node], heads: &mut [u32], from: u32, to: u32) -> Option<u32>

@@ -3,7 +3,7 @@
 ghost use Rattle.std.specs.Prelude.{◌≡◌, ◌+◌, ◌^◌, ◌<◌, ◌≤◌, ◌↔◌, ℕ, length, IfOk, OnOk, OnErr, IsTrue};
 ghost use Rattle.std.specs.List.{All};
 ghost use Rattle.std.specs.List.Sorted.{IsStrictlyIncreasing};
-ghost use Rattle.core_occurrences.specs.Lists.{OccurrenceLists, IsOccurrences, Occurs, cores_at, no_occurrences, grown, added, removed};
+ghost use Rattle.core_occurrences.specs.Lists.{IsOccurrences, Occurs, cores_at, no_occurrences, grown, added, removed};
 
 use crate::chains::{Node, push_free, push_heads};
 use crate::linking::{link_all, unlink_all};
@@ -117,6 +117,15 @@ impl Occurrences {
         ensures occurrences { IsOccurrences self.now }
     {
         CoreWalk::of(&self.rings, self.nodes.as_slice(), var - 1)
+    }
+
+    /// Whether no variable occurs in a core. It takes constant time.
+    pub fn is_absent(&self, id: u32) -> bool
+        requires { (1 ≤ id) × (id ≤ self.now.ids) }
+        ensures absent { IsTrue result ↔ ((v : ℕ) → ¬ Occurs self.now v id) }
+        ensures occurrences { IsOccurrences self.now }
+    {
+        self.heads.as_slice()[id as usize] == 0
     }
 
     /// The number of variables.

@@ -1,0 +1,4 @@
+pub mod Spans
+pub mod MemberSteps
+pub mod StepLists
+pub mod Queues

@@ -43,6 +43,11 @@ with_steps (a ∷ rest) = if a.steps == 0 then with_steps rest else a ∷ with_s
 abbrev pub weight_of_fresh_sum : Shape → Shape → ℕ
 weight_of_fresh_sum a b = (fresh_sum_of a b).steps + cost_of_sum3 a b (fresh_sum_of a b).steps
 
+-- the number of steps of the first member, where there is one
+abbrev pub steps_of_first : List Shape → ℕ
+steps_of_first [] = 0
+steps_of_first (a ∷ rest) = a.steps
+
 -- So many times the first two members make way for a fresh sum behind the others; then the first one is compared to the
 -- second one negated. One that is missing is the constant 0.
 abbrev pub weight_of_queue : ℕ → Relation → List Shape → ℕ

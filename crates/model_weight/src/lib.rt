@@ -8,6 +8,7 @@ mod items;
 mod lines;
 mod linear;
 mod lists;
+mod members;
 mod operations;
 mod orders;
 mod pairs;

@@ -8,10 +8,10 @@ ghost use Rattle.model_weight.specs.Statements.{weight_of_what};
 
 use crate::arrays::{array_weight, reified_array_weight};
 use crate::comparisons::{comparison_weight, count_weight};
-use crate::linear::{linear_weight, numbers, scaled_numbers, scaled_truths};
+use crate::linear::{numbers_weight, total_weight, truths_weight};
 use crate::operations::{aggregate_weight, all_different_weight, operation_weight};
 use crate::orders::{Lists, order_weight};
-use crate::shapes::{domain_of, shape_in, steps_in};
+use crate::shapes::{domain_of, steps_in};
 use bee_list::{Apart, Sequence};
 use core_cost::{eq_cost, max_cost, parity_cost};
 use std::alloc::{AllocError, Global};
@@ -87,30 +87,34 @@ pub fn statement_weight(
             members,
             bound,
             ..
-        } => {
-            let shapes = scaled_truths(alloc, coefficients.as_slice(), members.as_slice())?;
-            linear_weight(*relation, shapes, shape_in(decls, *bound))
-        }
+        } => truths_weight(
+            alloc,
+            decls,
+            *relation,
+            coefficients.as_slice(),
+            members.as_slice(),
+            *bound,
+        ),
         What::L12 {
             relation,
             members,
             bound,
             ..
-        } => {
-            let shapes = numbers(alloc, decls, members.as_slice())?;
-            linear_weight(*relation, shapes, shape_in(decls, *bound))
-        }
+        } => total_weight(alloc, decls, *relation, members.as_slice(), *bound),
         What::L13 {
             relation,
             coefficients,
             members,
             bound,
             ..
-        } => {
-            let shapes =
-                scaled_numbers(alloc, decls, coefficients.as_slice(), members.as_slice())?;
-            linear_weight(*relation, shapes, shape_in(decls, *bound))
-        }
+        } => numbers_weight(
+            alloc,
+            decls,
+            *relation,
+            coefficients.as_slice(),
+            members.as_slice(),
+            *bound,
+        ),
         What::L14 {
             operation,
             left,

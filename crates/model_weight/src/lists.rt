@@ -34,10 +34,8 @@ pub fn pairs_of_steps(
     ensures { IfOk result (λ pairs. pairs.items ≡ zip (all_steps decls.now left.now) (all_steps decls.now right.now)) }
 {
     let mut pairs = Vec::with_capacity(alloc, left.len())?;
-    for i in 0..left.len() {
-        if i >= right.len() {
-            break;
-        }
+    let both = left.len().min(right.len());
+    for i in 0..both {
         pairs.push((steps_in(decls, left[i]), steps_in(decls, right[i])))?;
     }
     Ok(pairs)
@@ -52,10 +50,8 @@ pub fn pairs_of_truths(
     ensures { IfOk result (λ pairs. pairs.items ≡ zip (truth_steps left.now) (truth_steps right.now)) }
 {
     let mut pairs = Vec::with_capacity(alloc, left.len())?;
-    for i in 0..left.len() {
-        if i >= right.len() {
-            break;
-        }
+    let both = left.len().min(right.len());
+    for i in 0..both {
         pairs.push((1, 1))?;
     }
     Ok(pairs)

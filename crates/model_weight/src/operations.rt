@@ -7,10 +7,10 @@ ghost use Rattle.model_weight.specs.Statements.{steps_of_remainder, steps_of_quo
 ghost use Rattle.model_weight.specs.Shapes.{all_steps, steps_in};
 ghost use Rattle.core_cost.specs.Arithmetic.{cost_of_max};
 
-use crate::linear::{linear_weight, numbers};
+use crate::linear::total_weight;
 use crate::lists::all_steps;
 use crate::pairs::reified_all_different_weight;
-use crate::shapes::{greatest_of, least_of, shape_in, shape_of, steps_in, steps_of};
+use crate::shapes::{greatest_of, least_of, shape_of, steps_in, steps_of};
 use core_cost::{all_diff_cost, div_mod_cost, max_cost, prod_cost, sum3_cost};
 use std::alloc::{AllocError, Global};
 use typed_model::{Aggregate, AllDifferent, Arithmetic, Decl, IntTerm, Kind, Relation};
@@ -80,10 +80,7 @@ pub fn aggregate_weight(
     ensures { IfOk result (λ weight. weight ≡ saturated (weight_of_aggregate operation decls.now members.now value)) }
 {
     match operation {
-        Aggregate::Plus => {
-            let shapes = numbers(alloc, decls, members)?;
-            linear_weight(Relation::Eq, shapes, shape_in(decls, value))
-        }
+        Aggregate::Plus => total_weight(alloc, decls, Relation::Eq, members, value),
         Aggregate::Max | Aggregate::Min => extreme_weight(alloc, decls, members, value),
     }
 }

@@ -9,7 +9,8 @@ use typed_model::{Decl, IntTerm, Kind};
 
 /// How many steps an integer has with this domain: one for each value but the least. A Boolean has one.
 pub fn steps_of(kind: Kind) -> u128
-    ensures { result ≡ steps_of kind }
+    ensures steps { result ≡ steps_of kind }
+    ensures range { result < 2 ^ 64 }
 {
     match kind {
         Kind::Bool => 1,
@@ -25,7 +26,9 @@ pub fn steps_of(kind: Kind) -> u128
 
 /// The shape of an integer with this domain.
 pub fn shape_of(kind: Kind) -> Shape
-    ensures { result ≡ shape_of kind }
+    ensures shape { result ≡ shape_of kind }
+    ensures span { result.span < 2 ^ 64 }
+    ensures divisor { result.divisor ≤ 1 }
 {
     Shape::units(steps_of(kind))
 }
@@ -86,7 +89,9 @@ pub fn steps_in(decls: &[Decl], term: IntTerm) -> u128
 
 /// The shape of the integer of a term.
 pub fn shape_in(decls: &[Decl], term: IntTerm) -> Shape
-    ensures { result ≡ shape_in decls.now term }
+    ensures shape { result ≡ shape_in decls.now term }
+    ensures span { result.span < 2 ^ 64 }
+    ensures divisor { result.divisor ≤ 1 }
 {
     shape_of(domain_of(decls, term))
 }

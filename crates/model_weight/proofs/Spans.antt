@@ -1,8 +1,10 @@
 -- How far the values of integers are apart, within the limits of a model.
-use Rattle.std.proofs.Common.{◌≡◌, ℕ, zero, suc, ◌+◌, ◌*◌, ◌^◌, ◌≤◌, ◌<◌, ℤ, pos, negsuc, ◌-ℤ◌, Bool, true, false, List, [], ◌∷◌, length, Option, Some, None, unsigned_abs, refl, arith}
+use Rattle.std.proofs.Common.{◌≡◌, ℕ, zero, suc, ◌+◌, ◌*◌, ◌^◌, ◌≤◌, ◌<◌, ℤ, pos, negsuc, ◌-ℤ◌, Bool, true, false, List, [], ◌∷◌, ◌++◌, length, Option, Some, None, unsigned_abs, refl, arith}
 use Rattle.std.specs.Prelude.{slice_get, ◌==◌, if◌then◌else◌}
 use Rattle.std.specs.Ordering.{int_eq}
 use Rattle.std.proofs.lemmas.Int.{ints}
+use Rattle.std.proofs.lemmas.List.{append-nil}
+use Rattle.core_cost.proofs.SumLaws.{spans-append}
 use Rattle.std.proofs.Math.Nat.{mul-le-mul}
 use Rattle.core_cost.specs.declared.shape.Shape.{Shape}
 use Rattle.core_cost.specs.Sums.{constant, unit_steps, spans_of}
@@ -84,3 +86,11 @@ scaled_truths-spans (c ∷ cs) [] k = omega arith
 scaled_truths-spans (c ∷ cs) (x ∷ xs) k =
     next-total _ 0 (length xs) (more-spans (scaled c (unit_steps 1)) (scaled_truths cs xs) (2 ^ 61 * length xs)
     (scaled-bound c (unit_steps 1) (k 0) (omega arith)) (scaled_truths-spans cs xs (coefficients-next c cs k)))
+
+-- one member more
+pub pushed-spans : (members pushed : List Shape) (a : Shape) → pushed ≡ members ++ with_steps (a ∷ []) → spans_of pushed ≤ spans_of members + a.span
+pushed-spans members pushed a e = rw e (by_test (a.steps == 0))
+  where
+    by_test : (b : Bool) → spans_of (members ++ (if b then [] else a ∷ [])) ≤ spans_of members + a.span
+    by_test true = rw (append-nil members) (omega arith)
+    by_test false = omega (arith, spans-append members a)

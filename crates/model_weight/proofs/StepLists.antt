@@ -15,7 +15,7 @@ pub zip-moved : {A B : Type 0} (f : A → ℕ) (g : B → ℕ) (xs : List A) (ys
     → pushed ++ zip (map f (drop (i + 1) xs)) (map g (drop (i + 1) ys)) ≡ all
 zip-moved f g xs ys i a b done all pushed h k e l =
     let next = zip (map f (drop (i + 1) xs)) (map g (drop (i + 1) ys)) in
-    let pair = (f (get_or xs i a), g (get_or ys i b)) in
+    let pair : ℕ × ℕ = (f (get_or xs i a), g (get_or ys i b)) in
     let left : zip (map f (drop i xs)) (map g (drop i ys)) ≡ pair ∷ next = rw (drop_more xs i a h, drop_more ys i b k) refl in
     rw (e, append_assoc done (pair ∷ []) next) (ap (λ ps. done ++ ps) (sym left) ∙ l)
 

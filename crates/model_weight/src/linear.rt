@@ -1,7 +1,8 @@
 //! Linear sums that are compared.
 
-ghost use Rattle.std.specs.Prelude.{◌≡◌, ◌+◌, ◌^◌, ◌≤◌, ◌<◌, ◌++◌, ◌∷◌, [], length, drop, IfOk};
+ghost use Rattle.std.specs.Prelude.{◌≡◌, ◌+◌, ◌^◌, ◌≤◌, ◌<◌, ◌++◌, ◌∷◌, [], List, length, drop, IfOk};
 ghost use Rattle.std.specs.VecDeque.{deque_len};
+ghost use Rattle.core_cost.specs.declared.shape.Shape.{Shape};
 ghost use Rattle.core_cost.specs.Saturated.{saturated};
 ghost use Rattle.core_cost.specs.Sums.{spans_of, fresh_sum_of};
 ghost use Rattle.typed_model.specs.Limits.{AllInLimit, DeclsInLimit};
@@ -78,6 +79,20 @@ fn sum_weight(relation: Relation, members: Vec<Shape>) -> Result<u128, AllocErro
     }
 }
 
+/// Members that have steps are added, and their sum stands in a relation to the right side.
+fn linear_weight(
+    relation: Relation,
+    mut members: Vec<Shape>,
+    right: Shape,
+) -> Result<u128, AllocError>
+    requires { spans_of members.items + right.span < 2 ^ 128 }
+    ensures { (given : List Shape) → members.items ≡ with_steps given
+        → IfOk result (λ weight. weight ≡ saturated (weight_of_linear relation given right)) }
+{
+    add_member(&mut members, right)?;
+    sum_weight(relation, members)
+}
+
 /// The number of true members, each times its coefficient, stands in a relation to an integer.
 pub fn truths_weight(
     alloc: Global,
@@ -92,9 +107,8 @@ pub fn truths_weight(
     requires members { length members.now ≤ 16777216 }
     ensures { IfOk result (λ weight. weight ≡ saturated (weight_of_linear relation (scaled_truths coefficients.now members.now) (shape_in decls.now right))) }
 {
-    let mut shapes = scaled_truths(alloc, coefficients, members)?;
-    add_member(&mut shapes, shape_in(decls, right))?;
-    sum_weight(relation, shapes)
+    let shapes = scaled_truths(alloc, coefficients, members)?;
+    linear_weight(relation, shapes, shape_in(decls, right))
 }
 
 /// The sum of the members, each times its coefficient, stands in a relation to an integer.
@@ -111,9 +125,8 @@ pub fn numbers_weight(
     requires members { length members.now ≤ 16777216 }
     ensures { IfOk result (λ weight. weight ≡ saturated (weight_of_linear relation (scaled_numbers decls.now coefficients.now members.now) (shape_in decls.now right))) }
 {
-    let mut shapes = scaled_numbers(alloc, decls, coefficients, members)?;
-    add_member(&mut shapes, shape_in(decls, right))?;
-    sum_weight(relation, shapes)
+    let shapes = scaled_numbers(alloc, decls, coefficients, members)?;
+    linear_weight(relation, shapes, shape_in(decls, right))
 }
 
 /// The sum of the members stands in a relation to an integer.
@@ -128,7 +141,6 @@ pub fn total_weight(
     requires members { length members.now ≤ 16777216 }
     ensures { IfOk result (λ weight. weight ≡ saturated (weight_of_linear relation (numbers decls.now members.now) (shape_in decls.now right))) }
 {
-    let mut shapes = numbers(alloc, decls, members)?;
-    add_member(&mut shapes, shape_in(decls, right))?;
-    sum_weight(relation, shapes)
+    let shapes = numbers(alloc, decls, members)?;
+    linear_weight(relation, shapes, shape_in(decls, right))
 }

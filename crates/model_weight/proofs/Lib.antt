@@ -2,3 +2,4 @@ pub mod Spans
 pub mod MemberSteps
 pub mod StepLists
 pub mod Queues
+pub mod PairSums

@@ -3,3 +3,4 @@ pub mod MemberSteps
 pub mod StepLists
 pub mod Queues
 pub mod PairSums
+pub mod ItemSums

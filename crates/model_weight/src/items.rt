@@ -1,9 +1,9 @@
 //! The weights of a model's items, in the order of their numbers.
 
-ghost use Rattle.std.specs.Prelude.{◌≡◌, ◌≤◌, ◌+◌, map, length, take, drop, IfOk};
+ghost use Rattle.std.specs.Prelude.{◌≡◌, ◌≤◌, ◌+◌, List, map, length, take, drop, IfOk};
 ghost use Rattle.core_cost.specs.Saturated.{saturated};
+ghost use Rattle.typed_model.specs.declared.model.Decl.{Decl};
 ghost use Rattle.typed_model.specs.Limits.{DeclsInLimit, StmtsInLimit, InLimits};
-ghost use Rattle.typed_model.specs.WellTyped.{WellTyped};
 ghost use Rattle.model_weight.specs.Items.{Statement, stmts_before, stmts_from, items_of, declared_item, behind_declared};
 ghost use Rattle.model_weight.specs.Weight.{weight_of_declaration, weight_of_item, weight_of_items, weight_of};
 
@@ -55,12 +55,28 @@ fn statements_weight(
     Ok(weight)
 }
 
-/// Whether the first of the statements has the number of a declaration, and so declares its integer.
-fn declares(stmts: &[Stmt], number: u64) -> bool {
-    match stmts.first() {
-        Some(stmt) => stmt.number == number,
-        None => false,
+/// A declaration, with the first of the statements where that has its number and so declares its integer.
+fn declared_weight(decl: &Decl, stmts: &[Stmt]) -> u128
+    ensures { (decls : List Decl) → result ≡ saturated (weight_of_item decls (declared_item decl.now stmts.now)) }
+{
+    if let [first, ..] = stmts {
+        if first.number == decl.number {
+            return 0;
+        }
     }
+    declaration_weight(decl.kind)
+}
+
+/// The statements behind a declaration.
+fn behind_declared<'a>(decl: &Decl, stmts: &'a [Stmt]) -> &'a [Stmt]
+    ensures { result.now ≡ behind_declared decl.now stmts.now }
+{
+    if let [first, others @ ..] = stmts {
+        if first.number == decl.number {
+            return others;
+        }
+    }
+    stmts
 }
 
 /// The weights of declarations and statements together.
@@ -73,13 +89,10 @@ fn items_weight(alloc: Global, decls: &[Decl], stmts: &[Stmt]) -> Result<u128, A
     let mut rest = stmts;
     for decl in decls {
         let (before, others) = rest.split_at(count_before(rest, decl.number));
-        weight = weight.saturating_add(statements_weight(alloc, decls, before)?);
-        if declares(others, decl.number) {
-            rest = &others[1..];
-        } else {
-            weight = weight.saturating_add(declaration_weight(decl.kind));
-            rest = others;
-        }
+        weight = weight
+            .saturating_add(statements_weight(alloc, decls, before)?)
+            .saturating_add(declared_weight(decl, others));
+        rest = behind_declared(decl, others);
     }
     Ok(weight.saturating_add(statements_weight(alloc, decls, rest)?))
 }
@@ -88,8 +101,7 @@ fn items_weight(alloc: Global, decls: &[Decl], stmts: &[Stmt]) -> Result<u128, A
 /// many variables as its shape says. A weight that does not fit 128 bits is given as 2^128 - 1. No core is made; it takes time
 /// linear in the model, but for a sort of the members of reified all-different.
 pub fn weight(alloc: Global, model: &Model) -> Result<u128, AllocError>
-    requires typed { WellTyped model.now }
-    requires limits { InLimits model.now }
+    requires { InLimits model.now }
     ensures { IfOk result (λ weight. weight ≡ saturated (weight_of model.now)) }
 {
     items_weight(alloc, model.decls.as_slice(), model.stmts.as_slice())

@@ -4,3 +4,4 @@ pub mod StepLists
 pub mod Queues
 pub mod PairSums
 pub mod ItemSums
+pub mod QueueBounds

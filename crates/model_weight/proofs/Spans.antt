@@ -1,5 +1,5 @@
 -- How far the values of integers are apart, within the limits of a model.
-use Rattle.std.proofs.Common.{◌≡◌, ℕ, zero, suc, ◌+◌, ◌*◌, ◌^◌, ◌≤◌, ◌<◌, ℤ, pos, negsuc, ◌-ℤ◌, Bool, true, false, List, [], ◌∷◌, ◌++◌, length, Option, Some, None, unsigned_abs, refl, arith}
+use Rattle.std.proofs.Common.{◌≡◌, ℕ, zero, suc, ◌+◌, ◌*◌, ◌^◌, ◌≤◌, ℤ, pos, negsuc, ◌-ℤ◌, Bool, true, false, List, [], ◌∷◌, ◌++◌, length, unsigned_abs, refl, arith}
 use Rattle.std.specs.Prelude.{slice_get, ◌==◌, if◌then◌else◌}
 use Rattle.std.specs.Ordering.{int_eq}
 use Rattle.std.proofs.lemmas.Int.{ints}
@@ -16,7 +16,7 @@ use Rattle.typed_model.specs.declared.model.Kind.TheVariants as kind
 use Rattle.typed_model.specs.declared.model.Decl.{Decl}
 use Rattle.typed_model.specs.Domains.{at_least_zero}
 use Rattle.typed_model.specs.Limits.{InLimit, AllInLimit, KindInLimit, DeclsInLimit}
-use Rattle.model_weight.specs.Shapes.{steps_of, shape_of, domain_at, domain_of, shape_in}
+use Rattle.model_weight.specs.Shapes.{steps_of, domain_at, shape_in}
 use Rattle.model_weight.specs.Linear.{scaled, scaled_truths, scaled_numbers, numbers, with_steps}
 
 pub units-span : (n : ℕ) → (unit_steps n).span ≡ n

@@ -1,6 +1,6 @@
 -- The shapes of integers, by what is declared: an integer has a step of weight 1 for each value of its domain but the
 -- least.
-use Rattle.std.specs.Prelude.{ℕ, ℤ, pos, ◌-ℤ◌, List, map, slice_get, Option, Some, None}
+use Rattle.std.specs.Prelude.{ℕ, pos, ◌-ℤ◌, List, map, slice_get, Option, Some, None}
 use Rattle.core_cost.specs.declared.shape.Shape.{Shape}
 use Rattle.core_cost.specs.Sums.{unit_steps}
 use Rattle.typed_model.specs.declared.what.IntTerm.{IntTerm}

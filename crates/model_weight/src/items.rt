@@ -39,11 +39,7 @@ fn count_before(stmts: &[Stmt], number: u64) -> usize
 }
 
 /// The weights of some statements together.
-fn statements_weight(
-    alloc: Global,
-    decls: &[Decl],
-    stmts: &[Stmt],
-) -> Result<u128, AllocError>
+fn statements_weight(alloc: Global, decls: &[Decl], stmts: &[Stmt]) -> Result<u128, AllocError>
     requires decls { DeclsInLimit decls.now }
     requires stmts { StmtsInLimit stmts.now }
     ensures { IfOk result (λ weight. weight ≡ saturated (weight_of_items decls.now (map Statement stmts.now))) }

@@ -5,8 +5,9 @@
 mod arrays;
 mod comparisons;
 mod items;
-mod lines;
+mod laws;
 mod linear;
+mod lines;
 mod lists;
 mod members;
 mod operations;
@@ -15,3 +16,4 @@ mod pairs;
 mod shapes;
 
 pub use items::weight;
+pub use laws::queue_law;

@@ -28,11 +28,7 @@ fn terms<T>(list: &Option<Apart<Sequence<T>>>) -> &[T]
 }
 
 /// The weight of a statement.
-pub fn statement_weight(
-    alloc: Global,
-    decls: &[Decl],
-    what: &What,
-) -> Result<u128, AllocError>
+pub fn statement_weight(alloc: Global, decls: &[Decl], what: &What) -> Result<u128, AllocError>
     requires decls { DeclsInLimit decls.now }
     requires what { WhatInLimit what.now }
     ensures { IfOk result (λ weight. weight ≡ saturated (weight_of_what decls.now what.now)) }
@@ -56,31 +52,19 @@ pub fn statement_weight(
             left,
             right,
             ..
-        } => Ok(comparison_weight(
-            *relation,
-            steps_in(decls, *left),
-            steps_in(decls, *right),
-        )),
+        } => Ok(comparison_weight(*relation, steps_in(decls, *left), steps_in(decls, *right))),
         What::L9 {
             relation,
             left,
             right,
             ..
-        } => Ok(comparison_weight(
-            *relation,
-            steps_in(decls, *left),
-            steps_in(decls, *right),
-        )),
+        } => Ok(comparison_weight(*relation, steps_in(decls, *left), steps_in(decls, *right))),
         What::L10 {
             relation,
             members,
             bound,
             ..
-        } => Ok(count_weight(
-            *relation,
-            members.len(),
-            steps_in(decls, *bound),
-        )),
+        } => Ok(count_weight(*relation, members.len(), steps_in(decls, *bound))),
         What::L11 {
             relation,
             coefficients,

@@ -10,11 +10,7 @@ use std::alloc::{AllocError, Global};
 use typed_model::{BoolTerm, Decl, IntTerm};
 
 /// The numbers of steps of integer terms.
-pub fn all_steps(
-    alloc: Global,
-    decls: &[Decl],
-    terms: &[IntTerm],
-) -> Result<Vec<u128>, AllocError>
+pub fn all_steps(alloc: Global, decls: &[Decl], terms: &[IntTerm]) -> Result<Vec<u128>, AllocError>
     ensures { IfOk result (λ steps. steps.items ≡ all_steps decls.now terms.now) }
 {
     let mut steps = Vec::with_capacity(alloc, terms.len())?;

@@ -79,11 +79,7 @@ pub fn scaled_numbers(
 }
 
 /// The integers that have steps.
-pub fn numbers(
-    alloc: Global,
-    decls: &[Decl],
-    members: &[IntTerm],
-) -> Result<Vec<Shape>, AllocError>
+pub fn numbers(alloc: Global, decls: &[Decl], members: &[IntTerm]) -> Result<Vec<Shape>, AllocError>
     requires { DeclsInLimit decls.now }
     ensures shapes { IfOk result (λ shapes. shapes.items ≡ with_steps (numbers decls.now members.now)) }
     ensures spans { IfOk result (λ shapes. spans_of shapes.items ≤ 2 ^ 61 * length members.now) }

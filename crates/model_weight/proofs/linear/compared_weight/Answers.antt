@@ -1,5 +1,5 @@
 use Rattle.std.proofs.Common.{arith}
-use Rattle.model_weight.proofs.Queues.{queue-step, queue-end}
+use Rattle.model_weight.proofs.Queues.{queue-step}
 use Rattle.model_weight.proofs.linear.compared_weight.Goals as goal
 
 pub loop-queue-preserved : goal.loop-queue-preserved

@@ -1,4 +1,4 @@
-use Rattle.std.proofs.Common.{arith, drop}
+use Rattle.std.proofs.Common.{arith}
 use Rattle.model_weight.proofs.Spans.{numbers-spans}
 use Rattle.model_weight.proofs.MemberSteps.{numbers-finished}
 use Rattle.model_weight.proofs.members.numbers.Goals as goal

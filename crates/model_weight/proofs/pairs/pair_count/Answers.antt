@@ -1,4 +1,4 @@
-use Rattle.std.proofs.Common.{sym, ap, ◌∙◌, ◌*◌, ◌-◌, ◌/◌}
+use Rattle.std.proofs.Common.{sym}
 use Rattle.model_weight.proofs.PairSums.{count-is}
 use Rattle.model_weight.proofs.pairs.pair_count.Goals as goal
 

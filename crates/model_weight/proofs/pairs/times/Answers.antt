@@ -1,4 +1,4 @@
-use Rattle.std.proofs.Common.{arith, ◌*◌, ◌-◌, ◌^◌}
+use Rattle.std.proofs.Common.{arith, ◌-◌, ◌^◌}
 use Rattle.model_weight.proofs.PairSums.{times-saturated}
 use Rattle.model_weight.proofs.pairs.times.Goals as goal
 

@@ -2,9 +2,9 @@
 //! costs' recursions as they are written.
 
 use crate::verdicts::model;
+use model_weight::weight;
 use std::alloc::Global;
 use std::test::Fail;
-use model_weight::weight;
 use typed_model::in_limits;
 
 const DECLARED: &str =
@@ -65,7 +65,10 @@ static LINES: [(&str, u128); 80] = [
     ("int_array_lin_leq([6,10,-15],[i,j,k],h)", 350),
     ("int_array_lin_geq([6,4,-8],[i,j,k],i)", 472),
     ("int_array_lin_lt([2,0],[i,j],4)", 19),
-    ("int_array_lin_neq([1000000000,999999999,-1000000000],[i,j,k],0)", 365),
+    (
+        "int_array_lin_neq([1000000000,999999999,-1000000000],[i,j,k],0)",
+        365,
+    ),
     ("int_array_lin_gt([7,7,7,7],[i,j,k,i],j)", 1064),
     ("int_plus(i,j,k)", 158),
     ("int_plus(i,h,k)", 30),
@@ -97,12 +100,24 @@ static LINES: [(&str, u128); 80] = [
 ];
 
 static MODELS: [(&str, u128); 8] = [
-    ("new_int(x,0,3) new_int(y,0,3) int_plus(x,y,3) solve satisfy", 118),
-    ("new_int(x,-1000000000,1000000000) solve satisfy", 5999999998),
+    (
+        "new_int(x,0,3) new_int(y,0,3) int_plus(x,y,3) solve satisfy",
+        118,
+    ),
+    (
+        "new_int(x,-1000000000,1000000000) solve satisfy",
+        5999999998,
+    ),
     ("solve satisfy", 0),
     ("new_int(x,5,5) new_bool(y) solve maximize x", 1),
-    ("new_int(i,-1000000000,1000000000) new_int(j,-1000000000,1000000000) int_times(i,j,0) solve satisfy", 40000000060000000002),
-    ("new_int(i,-1000000000,1000000000) new_int(j,-1000000000,1000000000) int_array_lin_leq([1000000000,999999999,7],[i,j,i],0) solve satisfy", 56000000037999999998),
+    (
+        "new_int(i,-1000000000,1000000000) new_int(j,-1000000000,1000000000) int_times(i,j,0) solve satisfy",
+        40000000060000000002,
+    ),
+    (
+        "new_int(i,-1000000000,1000000000) new_int(j,-1000000000,1000000000) int_array_lin_leq([1000000000,999999999,7],[i,j,i],0) solve satisfy",
+        56000000037999999998,
+    ),
     (SEND_MORE_MONEY, 159059),
     (EIGHT_QUEENS, 5544),
 ];
@@ -155,7 +170,9 @@ fn models_weigh_their_variables_and_costs(rt: HostRuntime) -> Result<(), Fail> {
 
 /// A list of three members, 333 times.
 fn long_text(alloc: Global, front: &str, members: &str, back: &str) -> Result<String, Fail> {
-    let mut text = format!(in alloc; "new_bool(x) new_int(i,0,3) new_int(j,-1,4) {front}{members}")?;
+    let mut text = format!(in alloc;
+        "new_bool(x) new_int(i,0,3) new_int(j,-1,4) {front}{members}"
+    )?;
     for _ in 0..332 {
         write!(text, ",{members}")?;
     }

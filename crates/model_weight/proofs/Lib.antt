@@ -5,3 +5,6 @@ pub mod Queues
 pub mod PairSums
 pub mod ItemSums
 pub mod QueueBounds
+pub mod LinearBounds
+pub mod LineBounds
+pub mod WeightBounds

@@ -92,7 +92,7 @@ reified-is ns = refl
 one_more : (k c : ℕ) → 2 * c + k ≡ k * k → 2 * (k + c) + suc k ≡ suc k * suc k
 one_more k c h = omega (arith, h)
 
-count-twice : (ns : List ℕ) → 2 * count_of_pairs ns + length ns ≡ length ns * length ns
+pub count-twice : (ns : List ℕ) → 2 * count_of_pairs ns + length ns ≡ length ns * length ns
 count-twice [] = refl
 count-twice (n ∷ ns) = one_more (length ns) (count_of_pairs ns) (count-twice ns)
 

@@ -8,7 +8,7 @@ use Rattle.model_weight.specs.Comparisons.{weight_of_comparison}
 use Rattle.model_weight.specs.Linear.{weight_of_fresh_sum, steps_of_first, weight_of_queue, weight_of_compared}
 
 -- three members and more
-compared_of_more : (rel : Relation) (a b : Shape) (rest : List Shape) → 1 ≤ length rest
+pub compared_of_more : (rel : Relation) (a b : Shape) (rest : List Shape) → 1 ≤ length rest
     → weight_of_compared rel (a ∷ b ∷ rest) ≡ weight_of_fresh_sum a b + weight_of_compared rel (rest ++ fresh_sum_of a b ∷ [])
 compared_of_more rel a b [] h = absurd (omega arith)
 compared_of_more rel a b (c ∷ rest) h =

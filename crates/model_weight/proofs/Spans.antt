@@ -27,14 +27,14 @@ pub units-divisor : (n : ℕ) → (unit_steps n).divisor ≤ 1
 units-divisor zero = omega arith
 units-divisor (suc n) = omega arith
 
-at_least_zero-bound : (z : ℤ) (m : ℕ) → unsigned_abs z ≤ m → at_least_zero z ≤ m
+pub at_least_zero-bound : (z : ℤ) (m : ℕ) → unsigned_abs z ≤ m → at_least_zero z ≤ m
 at_least_zero-bound (pos n) m h = h
 at_least_zero-bound (negsuc n) m h = omega arith
 
 same-bounds : (z : ℤ) → at_least_zero (z -ℤ z) ≡ 0
 same-bounds z = let e : z -ℤ z ≡ pos 0 = omega (arith, ints) in rw e refl
 
-steps-bound : (k : Kind) → KindInLimit k → steps_of k ≤ 2 ^ 31
+pub steps-bound : (k : Kind) → KindInLimit k → steps_of k ≤ 2 ^ 31
 steps-bound kind.Bool h = omega arith
 steps-bound (kind.Int low high) h = at_least_zero-bound (high -ℤ low) (2 ^ 31) (omega (arith, ints, h.0, h.1))
 

@@ -1,8 +1,9 @@
 //! The weights of a model's items, in the order of their numbers.
 
-ghost use Rattle.std.specs.Prelude.{◌≡◌, ◌≤◌, ◌+◌, List, map, length, take, drop, IfOk};
+ghost use Rattle.std.specs.Prelude.{◌≡◌, ◌≤◌, ◌<◌, ◌+◌, ◌^◌, List, map, length, take, drop, IfOk};
 ghost use Rattle.core_cost.specs.Saturated.{saturated};
 ghost use Rattle.typed_model.specs.declared.model.Decl.{Decl};
+ghost use Rattle.typed_model.specs.Sizes.{members_of};
 ghost use Rattle.typed_model.specs.Limits.{DeclsInLimit, StmtsInLimit, InLimits};
 ghost use Rattle.model_weight.specs.Items.{Statement, stmts_before, stmts_from, items_of, declared_item, behind_declared};
 ghost use Rattle.model_weight.specs.Weight.{weight_of_declaration, weight_of_item, weight_of_items, weight_of};
@@ -94,11 +95,14 @@ fn items_weight(alloc: Global, decls: &[Decl], stmts: &[Stmt]) -> Result<u128, A
 }
 
 /// The weight of a model: its variables, and the costs of the cores that it is lowered to, a fresh sum of a linear sum with as
-/// many variables as its shape says. A weight that does not fit 128 bits is given as 2^128 - 1. No core is made; it takes time
-/// linear in the model, but for a sort of the members of reified all-different.
+/// many variables as its shape says. It is exact for the model of each text; a weight that does not fit 128 bits would be
+/// given as 2^128 - 1. No core is made; it takes time linear in the model, but for a sort of the members of reified
+/// all-different.
 pub fn weight(alloc: Global, model: &Model) -> Result<u128, AllocError>
     requires { InLimits model.now }
-    ensures { IfOk result (λ weight. weight ≡ saturated (weight_of model.now)) }
+    ensures weight { IfOk result (λ weight. weight ≡ saturated (weight_of model.now)) }
+    ensures exact { length model.now.decls + length model.now.stmts + members_of model.now.stmts < 2 ^ 45
+        → IfOk result (λ weight. weight ≡ weight_of model.now) }
 {
     items_weight(alloc, model.decls.as_slice(), model.stmts.as_slice())
 }

@@ -16,4 +16,4 @@ mod pairs;
 mod shapes;
 
 pub use items::weight;
-pub use laws::queue_law;
+pub use laws::{fits_law, queue_law};

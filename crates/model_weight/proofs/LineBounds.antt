@@ -1,32 +1,26 @@
 -- What a statement within the limits weighs at most, by the members of its lists.
-use Rattle.std.proofs.Common.{◌≡◌, ℕ, zero, suc, ◌+◌, ◌-◌, ◌*◌, ◌/◌, ◌^◌, ◌<◌, ◌≤◌, ℤ, pos, negsuc, unsigned_abs, Bool, true, false, List, [], ◌∷◌, ◌++◌, map, length, min, Option, Some, None, inl, inr, refl, sym, ap, ◌∙◌, arith}
-use Rattle.std.specs.Prelude.{slice_get, nat_le, if◌then◌else◌}
+use Rattle.std.proofs.Common.{◌≡◌, ℕ, zero, suc, ◌+◌, ◌*◌, ◌^◌, ◌<◌, ◌≤◌, List, [], ◌∷◌, length, inl, inr, refl, ap, arith}
 use Rattle.std.specs.List.{zip}
-use Rattle.std.specs.Option.{option_map}
-use Rattle.std.proofs.Math.Nat.{mul-le-mul, div-le_self}
+use Rattle.std.proofs.Math.Nat.{mul-le-mul}
 use Rattle.std.proofs.lemmas.Bool.{cases_lt, lt-leb, le-leb}
-use Rattle.core_cost.specs.ListForms.{cost_of_parity, cost_of_conj}
-use Rattle.core_cost.specs.Comparisons.{cost_of_ladder, cost_of_leq, cost_of_eq, cost_of_lex}
-use Rattle.core_cost.specs.Arithmetic.{cost_of_members, cost_of_max, cost_of_all_diff, pairs_of_values, cost_of_prod, cost_of_div_mod}
-use Rattle.core_cost.specs.Network.{half_up, half_down, cost_of_sum3_over}
+use Rattle.core_cost.specs.ListForms.{cost_of_parity}
+use Rattle.core_cost.specs.Comparisons.{cost_of_lex}
+use Rattle.core_cost.specs.Arithmetic.{cost_of_members, cost_of_max, cost_of_all_diff}
+use Rattle.core_cost.specs.Network.{half_up, half_down}
 use Rattle.core_cost.specs.Counts.{cost_of_half, cost_of_count}
 use Rattle.core_cost.proofs.Monotone.{ladder_lem}
 use Rattle.core_cost.proofs.NetworkBounds.{sum3_over-bound}
 use Rattle.core_cost.proofs.CountLaws.{count_of_few, count_of_halves}
 use Rattle.typed_model.specs.declared.what.BoolTerm.{BoolTerm}
 use Rattle.typed_model.specs.declared.what.IntTerm.{IntTerm}
-use Rattle.typed_model.specs.declared.what.IntTerm.TheVariants as int_term
 use Rattle.typed_model.specs.declared.statement.Operator.{Operator}
 use Rattle.typed_model.specs.declared.statement.Operator.TheVariants as operator
 use Rattle.typed_model.specs.declared.statement.Relation.{Relation}
 use Rattle.typed_model.specs.declared.statement.Relation.TheVariants as relation
-use Rattle.typed_model.specs.declared.model.Kind.{Kind}
-use Rattle.typed_model.specs.declared.model.Kind.TheVariants as kind
 use Rattle.typed_model.specs.declared.model.Decl.{Decl}
-use Rattle.typed_model.specs.Domains.{at_least_zero}
 use Rattle.typed_model.specs.Limits.{DeclsInLimit}
-use Rattle.model_weight.specs.Shapes.{steps_of, shape_of, domain_of, steps_in, shape_in, all_steps}
-use Rattle.model_weight.specs.Comparisons.{weight_of_comparison, weight_of_fresh_count, weight_of_count}
+use Rattle.model_weight.specs.Shapes.{steps_in, all_steps}
+use Rattle.model_weight.specs.Comparisons.{weight_of_fresh_count, weight_of_count}
 use Rattle.model_weight.specs.Pairs.{weight_of_pairs_with, weight_of_pairs, count_of_pairs, weight_of_reified_all_different}
 use Rattle.model_weight.specs.Statements.{weight_of_array, weight_of_reified_array, truth_steps}
 use Rattle.model_weight.proofs.Spans.{units-span, span-bound}

@@ -1,5 +1,5 @@
 -- A linear sum weighs at most a multiple of its spans.
-use Rattle.std.proofs.Common.{◌≡◌, ℕ, zero, suc, ◌+◌, ◌-◌, ◌*◌, ◌/◌, ◌^◌, ◌<◌, ◌≤◌, ℤ, pos, negsuc, unsigned_abs, Bool, true, false, List, [], ◌∷◌, ◌++◌, length, inl, inr, refl, sym, ap, ◌∙◌, arith, length-append}
+use Rattle.std.proofs.Common.{◌≡◌, ℕ, zero, suc, ◌+◌, ◌*◌, ◌^◌, ◌<◌, ◌≤◌, ℤ, pos, negsuc, unsigned_abs, Bool, true, false, List, [], ◌∷◌, ◌++◌, length, inl, inr, refl, sym, ap, ◌∙◌, arith, length-append}
 use Rattle.std.specs.Prelude.{◌==◌, if◌then◌else◌}
 use Rattle.std.specs.Ordering.{int_eq}
 use Rattle.std.proofs.Math.Nat.{mul-le-mul, mul_left_comm, div-le_self}
@@ -21,7 +21,7 @@ use Rattle.typed_model.specs.declared.statement.Relation.{Relation}
 use Rattle.typed_model.specs.declared.statement.Relation.TheVariants as relation
 use Rattle.model_weight.specs.Shapes.{shape_in}
 use Rattle.model_weight.specs.Comparisons.{weight_of_comparison}
-use Rattle.model_weight.specs.Linear.{scaled, scaled_truths, scaled_numbers, numbers, with_steps, weight_of_fresh_sum, weight_of_queue, weight_of_compared, weight_of_sum}
+use Rattle.model_weight.specs.Linear.{scaled, scaled_truths, scaled_numbers, numbers, with_steps, weight_of_fresh_sum, weight_of_compared, weight_of_sum}
 use Rattle.model_weight.proofs.Queues.{compared_of_more}
 
 -- The members are shapes of integers.

@@ -1,14 +1,13 @@
 -- What a model within the limits weighs at most.
-use Rattle.std.proofs.Common.{◌≡◌, ℕ, zero, suc, ◌+◌, ◌-◌, ◌*◌, ◌/◌, ◌^◌, ◌<◌, ◌≤◌, ℤ, pos, Bool, true, false, List, [], ◌∷◌, ◌++◌, map, length, min, Option, Some, None, refl, sym, ap, ◌∙◌, arith, length-append}
+use Rattle.std.proofs.Common.{◌≡◌, ℕ, zero, suc, ◌+◌, ◌*◌, ◌^◌, ◌<◌, ◌≤◌, ℤ, Bool, true, false, List, [], ◌∷◌, ◌++◌, map, length, Option, Some, None, refl, ◌∙◌, arith, length-append}
 use Rattle.std.specs.Prelude.{slice_get, nat_lt, ◌==◌, if◌then◌else◌}
 use Rattle.std.specs.Option.{option_map}
 use Rattle.std.proofs.Math.Nat.{div-le_self}
 use Rattle.std.proofs.lemmas.Nat.{mul-le}
 use Rattle.core_cost.specs.declared.shape.Shape.{Shape}
-use Rattle.core_cost.specs.Comparisons.{cost_of_ladder}
 use Rattle.core_cost.specs.Arithmetic.{pairs_of_values}
-use Rattle.core_cost.specs.Sums.{unit_steps, spans_of}
-use Rattle.core_cost.specs.Relations.{IsShape, AreShapes}
+use Rattle.core_cost.specs.Sums.{spans_of}
+use Rattle.core_cost.specs.Relations.{AreShapes}
 use Rattle.core_cost.proofs.Monotone.{ladder_lem}
 use Rattle.core_cost.proofs.ShapeLaws.{IsShape-units}
 use Rattle.typed_model.specs.declared.what.BoolTerm.{BoolTerm}
@@ -30,15 +29,14 @@ use Rattle.typed_model.specs.declared.model.Kind.TheVariants as kind
 use Rattle.typed_model.specs.declared.model.Decl.{Decl}
 use Rattle.typed_model.specs.declared.model.Stmt.{Stmt}
 use Rattle.typed_model.specs.declared.model.Model.{Model}
-use Rattle.typed_model.specs.Domains.{at_least_zero}
 use Rattle.typed_model.specs.Holds.{terms_or_none}
-use Rattle.typed_model.specs.Arguments.{Argument, Truth, Number, Truths, Numbers, given}
+use Rattle.typed_model.specs.Arguments.{Argument, Truth, Truths, Numbers, given}
 use Rattle.typed_model.specs.Sizes.{arguments_members, what_members, members_of}
 use Rattle.typed_model.specs.Limits.{TermInLimit, WhatInLimit, KindInLimit, DeclsInLimit, StmtsInLimit, InLimits}
 use Rattle.model_weight.specs.Shapes.{steps_of, shape_of, least_of, greatest_of, domain_at, domain_of, steps_in, shape_in, all_steps}
 use Rattle.model_weight.specs.Linear.{scaled_truths, scaled_numbers, numbers, with_steps, weight_of_linear}
 use Rattle.model_weight.specs.Statements.{steps_of_remainder, steps_of_quotient, weight_of_operation, weight_of_aggregate, weight_of_all_different, weight_of_order, weight_of_what}
-use Rattle.model_weight.specs.Items.{ModelItem, Declaration, Statement, Definition, stmts_before, stmts_from, declared_item, behind_declared, items_of}
+use Rattle.model_weight.specs.Items.{Declaration, Statement, Definition, stmts_before, stmts_from, declared_item, behind_declared, items_of}
 use Rattle.model_weight.specs.Weight.{weight_of_declaration, weight_of_item, weight_of_items, weight_of}
 use Rattle.model_weight.proofs.Spans.{units-span, at_least_zero-bound, steps-bound, span-bound, numbers-spans, scaled_numbers-spans, scaled_truths-spans, pushed-spans}
 use Rattle.model_weight.proofs.MemberSteps.{with_steps-append}

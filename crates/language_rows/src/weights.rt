@@ -154,7 +154,7 @@ fn statements_weigh_what_their_line_says(rt: HostRuntime) -> Result<(), Fail> {
     for (statement, want) in &LINES {
         let text = format!(in alloc; "{DECLARED} {statement} solve satisfy")?;
         let found = weighed(alloc, text.as_str())?;
-        assert_eq!(rt; found, *want + DECLARED_WEIGHT, "{statement}");
+        assert_eq!(rt; found, want.saturating_add(DECLARED_WEIGHT), "{statement}");
     }
     Ok(())
 }
@@ -186,7 +186,7 @@ fn long_lists_weigh_as_if_each_pair_were_counted(rt: HostRuntime) -> Result<(), 
     for (front, members, back, want) in &LONG {
         let text = long_text(alloc, front, members, back)?;
         let found = weighed(alloc, text.as_str())?;
-        assert_eq!(rt; found, *want + LONG_DECLARED, "{front}");
+        assert_eq!(rt; found, want.saturating_add(LONG_DECLARED), "{front}");
     }
     Ok(())
 }

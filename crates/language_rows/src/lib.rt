@@ -25,3 +25,5 @@ mod reading;
 mod sum_lines;
 #[cfg(test)]
 mod verdicts;
+#[cfg(test)]
+mod weights;

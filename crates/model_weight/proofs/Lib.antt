@@ -1,0 +1,10 @@
+pub mod Spans
+pub mod MemberSteps
+pub mod StepLists
+pub mod Queues
+pub mod PairSums
+pub mod ItemSums
+pub mod QueueBounds
+pub mod LinearBounds
+pub mod LineBounds
+pub mod WeightBounds

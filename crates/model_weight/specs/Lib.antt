@@ -1,0 +1,7 @@
+pub mod Shapes
+pub mod Comparisons
+pub mod Linear
+pub mod Pairs
+pub mod Statements
+pub mod Items
+pub mod Weight

@@ -1,0 +1,144 @@
+//! The weights of statements, line by line.
+
+ghost use Rattle.std.specs.Prelude.{◌≡◌, IfOk};
+ghost use Rattle.core_cost.specs.Saturated.{saturated};
+ghost use Rattle.typed_model.specs.Limits.{DeclsInLimit, WhatInLimit};
+ghost use Rattle.typed_model.specs.Holds.{terms_or_none};
+ghost use Rattle.model_weight.specs.Statements.{weight_of_what};
+
+use crate::arrays::{array_weight, reified_array_weight};
+use crate::comparisons::{comparison_weight, count_weight};
+use crate::linear::{numbers_weight, total_weight, truths_weight};
+use crate::operations::{aggregate_weight, all_different_weight, operation_weight};
+use crate::orders::{Lists, order_weight};
+use crate::shapes::{domain_of, steps_in};
+use bee_list::{Apart, Sequence};
+use core_cost::{eq_cost, max_cost, parity_cost};
+use std::alloc::{AllocError, Global};
+use typed_model::{Decl, What};
+
+/// The members of a list that may be left out.
+fn terms<T>(list: &Option<Apart<Sequence<T>>>) -> &[T]
+    ensures { result.now ≡ terms_or_none list.now }
+{
+    match list {
+        Some(members) => members.get().as_slice(),
+        None => &[],
+    }
+}
+
+/// The weight of a statement.
+pub fn statement_weight(alloc: Global, decls: &[Decl], what: &What) -> Result<u128, AllocError>
+    requires decls { DeclsInLimit decls.now }
+    requires what { WhatInLimit what.now }
+    ensures { IfOk result (λ weight. weight ≡ saturated (weight_of_what decls.now what.now)) }
+{
+    match what {
+        What::L3 { number, .. } => Ok(eq_cost(steps_in(decls, *number), 1)),
+        What::L4 { .. } => Ok(parity_cost(2)),
+        What::L5 { operator, .. } => Ok(reified_array_weight(*operator, 2)),
+        What::L6 {
+            operator,
+            members,
+            ..
+        } => Ok(array_weight(*operator, members.len())),
+        What::L7 {
+            operator,
+            members,
+            ..
+        } => Ok(reified_array_weight(*operator, members.len())),
+        What::L8 {
+            relation,
+            left,
+            right,
+            ..
+        } => Ok(comparison_weight(*relation, steps_in(decls, *left), steps_in(decls, *right))),
+        What::L9 {
+            relation,
+            left,
+            right,
+            ..
+        } => Ok(comparison_weight(*relation, steps_in(decls, *left), steps_in(decls, *right))),
+        What::L10 {
+            relation,
+            members,
+            bound,
+            ..
+        } => Ok(count_weight(*relation, members.len(), steps_in(decls, *bound))),
+        What::L11 {
+            relation,
+            coefficients,
+            members,
+            bound,
+            ..
+        } => truths_weight(
+            alloc,
+            decls,
+            *relation,
+            coefficients.as_slice(),
+            members.as_slice(),
+            *bound,
+        ),
+        What::L12 {
+            relation,
+            members,
+            bound,
+            ..
+        } => total_weight(alloc, decls, *relation, members.as_slice(), *bound),
+        What::L13 {
+            relation,
+            coefficients,
+            members,
+            bound,
+            ..
+        } => numbers_weight(
+            alloc,
+            decls,
+            *relation,
+            coefficients.as_slice(),
+            members.as_slice(),
+            *bound,
+        ),
+        What::L14 {
+            operation,
+            left,
+            right,
+            value,
+            ..
+        } => Ok(operation_weight(
+            *operation,
+            domain_of(decls, *left),
+            domain_of(decls, *right),
+            domain_of(decls, *value),
+        )),
+        What::L15 { operand, value } => {
+            let steps = steps_in(decls, *operand);
+            Ok(max_cost(&[steps, steps], steps_in(decls, *value)))
+        }
+        What::L16 {
+            operation,
+            members,
+            value,
+            ..
+        } => aggregate_weight(alloc, decls, *operation, members.as_slice(), *value),
+        What::L17 { kind, members, .. } => {
+            all_different_weight(alloc, decls, *kind, members.as_slice())
+        }
+        What::L18 {
+            order,
+            left_truths,
+            right_truths,
+            left_numbers,
+            right_numbers,
+            ..
+        } => {
+            let lists = Lists {
+                left_truths: terms(left_truths),
+                right_truths: terms(right_truths),
+                left_numbers: terms(left_numbers),
+                right_numbers: terms(right_numbers),
+            };
+            order_weight(alloc, decls, *order, &lists)
+        }
+    }
+}

@@ -1,7 +1,7 @@
 //! The atoms and the integers of terms.
 
 ghost use Rattle.std.specs.Prelude.{◌≡◌, IfOk};
-ghost use Rattle.model_lower.specs.Cores.{atom_of, atoms_of, integer_of};
+ghost use Rattle.statement_lower.specs.Terms.{atom_of, atoms_of, integer_of};
 
 use bee_list::Sequence;
 use order_ints::{Atom, MapValue, OrdInt};
@@ -9,7 +9,7 @@ use std::alloc::{AllocError, Global};
 use typed_model::{BoolTerm, IntTerm};
 
 /// The atom of a Boolean term.
-fn atom_of(entries: &[MapValue], term: BoolTerm) -> Atom
+pub fn atom_of(entries: &[MapValue], term: BoolTerm) -> Atom
     ensures { result ≡ atom_of entries.now term }
 {
     match term {

@@ -1,0 +1,6 @@
+pub mod Terms
+pub mod Entries
+pub mod Lines
+pub mod IsLowered
+pub mod Lowers
+pub mod SameMeanings

@@ -210,7 +210,7 @@ ordered-integers_of σ entries (i ∷ is) h = rw (IsOrdered-integer_of σ entrie
 
 -- The integers of entries, and of terms, are bounded.
 
-AreInLimit-at : (entries : List MapValue) (p : ℕ) → AreInLimit entries → IsBounded (integer_at (slice_get entries p))
+pub AreInLimit-at : (entries : List MapValue) (p : ℕ) → AreInLimit entries → IsBounded (integer_at (slice_get entries p))
 AreInLimit-at [] p h = (lit< tt, lit< tt)
 AreInLimit-at (entry.Bool a ∷ entries) zero h = (lit< tt, lit< tt)
 AreInLimit-at (entry.Bool a ∷ entries) (suc p) h = AreInLimit-at entries p h

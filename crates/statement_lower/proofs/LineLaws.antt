@@ -46,7 +46,7 @@ use Rattle.typed_model.specs.WellTyped.{TruthFits, NumberFits, TruthsFit, Number
 use Rattle.typed_model.proofs.TableLaws.{Decides-holds}
 use Rattle.statement_lower.specs.Terms.{atom_of, atoms_of, integer_of, integers_of}
 use Rattle.statement_lower.specs.Entries.{EntryFits, EntriesFit, AreOrdered}
-use Rattle.statement_lower.specs.Lines.{Made, equal_core, equal_cores, array_cores, operator_made, comparison_core, count_made, operation_made, aggregate_made, absolute_core, least_core, made_of}
+use Rattle.statement_lower.specs.Lines.{equal_core, equal_cores, array_cores, operator_made, comparison_core, count_made, operation_made, aggregate_made, absolute_core, least_core, made_of}
 use Rattle.statement_lower.specs.IsLowered.{is_equality, is_lowered_operation, is_lowered_aggregate, is_lowered}
 use Rattle.statement_lower.specs.Lowers.{Lowers, LineLaw}
 use Rattle.statement_lower.proofs.EntryLaws.{SmallInteger, AreSmallIntegers, atom_of-laws, atoms_of-truths, atoms_of-below, integer_of-small, integer_of-value, integers_of-values, integers_of-small, IsOrdered-integer_of, ordered-integers_of}

@@ -20,12 +20,8 @@ use Rattle.typed_model.specs.declared.statement.Arithmetic.{Arithmetic}
 use Rattle.typed_model.specs.declared.statement.Arithmetic.TheVariants as arithmetic
 use Rattle.typed_model.specs.declared.statement.Aggregate.{Aggregate}
 use Rattle.typed_model.specs.declared.statement.Aggregate.TheVariants as aggregate
+use Rattle.statement_lower.specs.declared.made.Made.{Made}
 use Rattle.statement_lower.specs.Terms.{atom_of, atoms_of, integer_of, integers_of}
-
--- what a statement makes: how many variables there are behind it, and its cores
-pub record Made : Type 0 where
-  pub vars : ℕ
-  pub cores : List Core
 
 -- cores without a fresh variable
 abbrev pub made_here : ℕ → List Core → Made

@@ -4,8 +4,13 @@
 //! fresh variables, stand for its being true.
 #![tactic(auto)]
 
+mod boolean_lines;
+mod integer_lines;
 mod laws;
+mod made;
+mod statements;
 mod terms;
 
 pub use laws::meaning_law;
-pub use terms::{atom_of, atoms_of, integer_of};
+pub use made::Made;
+pub use statements::{is_lowered, made_of};

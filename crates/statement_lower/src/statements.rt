@@ -1,0 +1,98 @@
+//! The cores of a statement.
+
+ghost use Rattle.std.specs.Prelude.{◌≡◌, ◌<◌, ◌^◌, IfOk};
+ghost use Rattle.statement_lower.specs.Entries.{AreInLimit};
+ghost use Rattle.statement_lower.specs.Lines.{made_of};
+ghost use Rattle.statement_lower.specs.IsLowered.{is_lowered};
+
+use crate::boolean_lines::{array_made, equal_made, pair_made, truth_made};
+use crate::integer_lines::{absolute_made, aggregate_made, comparison_made, count_made, operation_made, reified_made};
+use crate::made::Made;
+use order_ints::{Atom, MapValue};
+use std::alloc::{AllocError, Global};
+use typed_model::{Aggregate, Arithmetic, Relation, What};
+
+/// Whether a statement is lowered.
+pub fn is_lowered(what: &What) -> bool
+    ensures { result ≡ is_lowered what.now }
+{
+    match what {
+        What::L4 { .. }
+        | What::L5 { .. }
+        | What::L6 { .. }
+        | What::L7 { .. }
+        | What::L8 { .. }
+        | What::L9 { .. }
+        | What::L15 { .. } => true,
+        What::L10 { relation, .. } => matches!(relation, Relation::Eq),
+        What::L14 { operation, .. } => !matches!(operation, Arithmetic::Div | Arithmetic::Mod),
+        What::L16 { operation, .. } => !matches!(operation, Aggregate::Plus),
+        _ => false,
+    }
+}
+
+/// What a statement is lowered to behind so many variables, and no core for one that isn't lowered.
+pub fn made_of(
+    alloc: Global,
+    entries: &[MapValue],
+    vars: u32,
+    what: &What,
+) -> Result<Made, AllocError>
+    requires entries { AreInLimit entries.now }
+    requires room { (made_of vars entries.now what.now).vars < 2 ^ 27 }
+    ensures { IfOk result (λ m. m ≡ made_of vars entries.now what.now) }
+{
+    match what {
+        What::L4 { left, right } => equal_made(alloc, entries, vars, *left, *right),
+        What::L5 {
+            operator,
+            left,
+            right,
+            truth,
+            ..
+        } => pair_made(alloc, entries, vars, *operator, *left, *right, *truth),
+        What::L6 {
+            operator, members, ..
+        } => array_made(alloc, entries, vars, *operator, members.as_slice()),
+        What::L7 {
+            operator,
+            members,
+            truth,
+            ..
+        } => truth_made(alloc, entries, vars, *operator, members.as_slice(), *truth),
+        What::L8 {
+            relation,
+            left,
+            right,
+            ..
+        } => comparison_made(alloc, entries, vars, *relation, Atom::True, *left, *right),
+        What::L9 {
+            relation,
+            left,
+            right,
+            truth,
+            ..
+        } => reified_made(alloc, entries, vars, *relation, *left, *right, *truth),
+        What::L10 {
+            relation,
+            members,
+            bound,
+            ..
+        } => count_made(alloc, entries, vars, *relation, members.as_slice(), *bound),
+        What::L14 {
+            operation,
+            left,
+            right,
+            value,
+            ..
+        } => operation_made(alloc, entries, vars, *operation, *left, *right, *value),
+        What::L15 { operand, value } => absolute_made(alloc, entries, vars, *operand, *value),
+        What::L16 {
+            operation,
+            members,
+            value,
+            ..
+        } => aggregate_made(alloc, entries, vars, *operation, members.as_slice(), *value),
+        _ => Ok(Made::nothing(alloc, vars)),
+    }
+}

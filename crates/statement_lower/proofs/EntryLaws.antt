@@ -1,5 +1,5 @@
 -- What the entries of a map are worth, and where their variables are.
-use Rattle.std.proofs.Common.{◌≡◌, ℕ, zero, suc, ◌+◌, ◌≤◌, ℤ, pos, lit<, Bool, true, false, not, List, [], ◌∷◌, ◌++◌, length, Some, refl, sym, ap, subst, ◌∙◌, arith}
+use Rattle.std.proofs.Common.{◌≡◌, ℕ, zero, suc, ◌+◌, ◌≤◌, ℤ, pos, ◌≤ℤ◌, lit<, Bool, true, false, not, List, [], ◌∷◌, ◌++◌, length, Some, refl, sym, ap, subst, ◌∙◌, arith}
 use Rattle.std.specs.Prelude.{slice_get, unsigned_abs, if◌then◌else◌}
 use Rattle.std.specs.Ordering.{int_eq}
 use Rattle.std.proofs.lemmas.Int.{ints}
@@ -12,7 +12,7 @@ use Rattle.order_ints.specs.Truth.{Valuation, Agree, atom_truth, not_atom}
 use Rattle.order_ints.specs.Place.{AtomBelow, AtomsBelow}
 use Rattle.order_ints.specs.OrderValue.{value_of, IsOrdered}
 use Rattle.order_ints.specs.OrderMade.{constant_of}
-use Rattle.order_ints.specs.OrderRange.{IntBelow, IsBounded}
+use Rattle.order_ints.specs.OrderRange.{IntBelow, IsBounded, low_of}
 use Rattle.order_ints.specs.Numbers as numbers
 use Rattle.order_ints.proofs.Truths.{atom_truth-not_atom, atom_truth-agree, AtomBelow-not_atom}
 use Rattle.order_ints.proofs.Gains.{value_of-agree, AtomBelow-more, StepsBelow-more}
@@ -29,7 +29,8 @@ use Rattle.typed_model.specs.declared.what.IntTerm.{IntTerm}
 use Rattle.typed_model.specs.declared.what.IntTerm.TheVariants as int_term
 use Rattle.typed_model.specs.Terms.{value_at, is_one, truth_of, number_of, truths_of, numbers_of}
 use Rattle.typed_model.specs.Limits.{TermInLimit, TermsInLimit}
-use Rattle.typed_model.specs.WellTyped.{IsInt, IsTruthAt, IsNumberAt, TruthFits, NumberFits, TruthsFit, NumbersFit}
+use Rattle.typed_model.specs.WellTyped.{IsInt, IsTruthAt, IsNumberAt, TruthFits, NumberFits, TruthsFit, NumbersFit, IsAtLeast}
+use Rattle.typed_model.specs.Scope as scope
 use Rattle.statement_lower.specs.Terms.{atom_at, atom_of, atoms_of, integer_at, integer_of, integers_of}
 use Rattle.statement_lower.specs.Entries.{IntegerFits, EntryFits, EntriesFit, AreOrdered, AreInLimit}
 
@@ -174,6 +175,26 @@ module _ (n m : ℕ) (ds : List Decl) (entries : List MapValue) (h : EntriesFit 
   pub integers_of-values : (σ : Valuation) (is : List IntTerm) → NumbersFit ds m is → values σ (integers_of entries is) ≡ numbers_of (numbers.numbers_of σ entries) is
   integers_of-values σ [] k = refl
   integers_of-values σ (i ∷ is) k = rw (integer_of-value σ i k.0, integers_of-values σ is k.1) refl
+
+pub small-more : (n m : ℕ) (a : OrdInt) → n ≤ m → SmallInteger n a → SmallInteger m a
+small-more n m a le h = record { below = StepsBelow-more n m a.steps le h.below; sound = h.sound; small = h.small }
+
+-- The least value of a term.
+
+least-entry : (n : ℕ) (m : ℤ) (k : Kind) (e : MapValue) → IsInt k → EntryFits n k e → m ≤ℤ scope.low_of (Some k) → m ≤ℤ low_of (integer_at (Some e))
+least-entry n m kind.Bool e i h l = absurd i
+least-entry n m (kind.Int low high) (entry.Bool a) i h l = absurd h
+least-entry n m (kind.Int low high) (entry.Int a) i h l = omega (arith, ints, h.least, l)
+
+least-at : (n k : ℕ) (m : ℤ) (ds : List Decl) (entries : List MapValue) (p : ℕ) → EntriesFit n ds entries → IsNumberAt ds k p → IsAtLeast ds m (int_term.Of p) → m ≤ℤ low_of (integer_at (slice_get entries p))
+least-at n k m [] entries p h i l = absurd i
+least-at n k m (d ∷ ds) [] p h i l = absurd h
+least-at n k m (d ∷ ds) (e ∷ entries) zero h i l = least-entry n m d.kind e i.1 h.0 l
+least-at n k m (d ∷ ds) (e ∷ entries) (suc p) h i l = least-at n k m ds entries p h.1 i l
+
+pub integer_of-least : (n k : ℕ) (ds : List Decl) (entries : List MapValue) → EntriesFit n ds entries → (m : ℤ) (i : IntTerm) → NumberFits ds k i → IsAtLeast ds m i → m ≤ℤ low_of (integer_of entries i)
+integer_of-least n k ds entries h m (int_term.Number z) f l = l
+integer_of-least n k ds entries h m (int_term.Of p) f l = least-at n k m ds entries p h f l
 
 -- each integer of a list
 abbrev pub AreSmallIntegers : ℕ → List OrdInt → Type 0

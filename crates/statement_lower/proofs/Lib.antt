@@ -5,4 +5,6 @@ pub mod Comparisons
 pub mod LowersLaws
 pub mod IntegerLines
 pub mod FreshAtoms
+pub mod FreshIntegers
+pub mod DivisionLines
 pub mod LineLaws

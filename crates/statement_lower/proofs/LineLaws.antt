@@ -1,6 +1,6 @@
 -- Line by line, the cores of a statement stand for its being true.
-use Rattle.std.proofs.Common.{◌≡◌, ◌↔◌, ℕ, ◌+◌, ◌<◌, ◌≤◌, ℤ, pos, Bool, true, false, List, [], ◌∷◌, ◌++◌, length, map, IsTrue, refl, sym, ap, subst, ◌∙◌, arith}
-use Rattle.std.specs.Prelude.{unsigned_abs}
+use Rattle.std.proofs.Common.{◌≡◌, ◌↔◌, ℕ, suc, ◌+◌, ◌<◌, ◌≤◌, ℤ, pos, ◌≤ℤ◌, Bool, true, false, List, [], ◌∷◌, ◌++◌, length, map, IsTrue, refl, sym, ap, subst, ◌∙◌, arith}
+use Rattle.std.specs.Prelude.{unsigned_abs, if◌then◌else◌}
 use Rattle.std.specs.Ordering.{int_eq}
 use Rattle.std.proofs.lemmas.Bool.{false≢true}
 use Rattle.std.proofs.lemmas.List.{length-map}
@@ -13,6 +13,7 @@ use Rattle.order_ints.specs.Truth.{Valuation, Agree, atom_truth, not_atom}
 use Rattle.order_ints.specs.Place.{AtomBelow, AtomsBelow}
 use Rattle.order_ints.specs.OrderValue.{value_of, IsOrdered}
 use Rattle.order_ints.specs.OrderChange.{negated_of}
+use Rattle.order_ints.specs.OrderRange.{low_of}
 use Rattle.order_ints.specs.Numbers as numbers
 use Rattle.order_ints.specs.Represents.{DependsBelow}
 use Rattle.order_ints.proofs.Truths.{AtomBelow-not_atom, atom_truth-agree}
@@ -36,25 +37,29 @@ use Rattle.typed_model.specs.declared.statement.Arithmetic.{Arithmetic}
 use Rattle.typed_model.specs.declared.statement.Arithmetic.TheVariants as arithmetic
 use Rattle.typed_model.specs.declared.statement.Aggregate.{Aggregate}
 use Rattle.typed_model.specs.declared.statement.Aggregate.TheVariants as aggregate
+use Rattle.typed_model.specs.declared.statement.Statement.TheVariants as statement
 use Rattle.typed_model.specs.Arguments.{Number, Numbers}
 use Rattle.typed_model.specs.Terms.{truth_of, number_of, truths_of, numbers_of}
 use Rattle.typed_model.specs.Booleans.{combine, count_true}
-use Rattle.typed_model.specs.Integers.{relates, gives, is_aggregate}
+use Rattle.typed_model.specs.Integers.{relates, gives, is_quotient, is_remainder, is_aggregate}
 use Rattle.typed_model.specs.Holds.{Holds, holds, same}
 use Rattle.typed_model.specs.Limits.{TermInLimit, TermsInLimit, WhatInLimit}
-use Rattle.typed_model.specs.WellTyped.{TruthFits, NumberFits, TruthsFit, NumbersFit, HasMember, WhatFits}
+use Rattle.typed_model.specs.WellTyped.{TruthFits, NumberFits, TruthsFit, NumbersFit, HasMember, IsAtLeast, ValuesFit, WhatFits}
 use Rattle.typed_model.proofs.TableLaws.{Decides-holds}
 use Rattle.statement_lower.specs.Terms.{atom_of, atoms_of, integer_of, integers_of}
 use Rattle.statement_lower.specs.Entries.{EntryFits, EntriesFit, AreOrdered}
-use Rattle.statement_lower.specs.Lines.{equal_core, equal_cores, array_cores, operator_made, comparison_core, count_made, operation_made, aggregate_made, absolute_core, least_core, made_of}
-use Rattle.statement_lower.specs.IsLowered.{is_equality, is_lowered_operation, is_lowered_aggregate, is_lowered}
+use Rattle.statement_lower.specs.Lines.{equal_core, equal_cores, array_cores, operator_made, comparison_core, fresh_range, compared_count, count_made, operation_made, aggregate_made, absolute_core, least_core, made_of}
+use Rattle.statement_lower.specs.IsLowered.{is_lowered_aggregate, is_lowered}
 use Rattle.statement_lower.specs.Lowers.{Lowers, LineLaw}
-use Rattle.statement_lower.proofs.EntryLaws.{SmallInteger, AreSmallIntegers, atom_of-laws, atoms_of-truths, atoms_of-below, integer_of-small, integer_of-value, integers_of-values, integers_of-small, IsOrdered-integer_of, ordered-integers_of}
+use Rattle.statement_lower.proofs.EntryLaws.{SmallInteger, AreSmallIntegers, atom_of-laws, atoms_of-truths, atoms_of-below, integer_of-small, integer_of-value, integer_of-least, small-more, integers_of-values, integers_of-small, IsOrdered-integer_of, ordered-integers_of, numbers_of-agree}
 use Rattle.statement_lower.proofs.BooleanLines.{and-true, equal-truth, array-truth, or-truth, and-truth, xor-truth}
 use Rattle.statement_lower.proofs.Comparisons.{comparison-truth, comparison-below, comparison-well_formed}
 use Rattle.statement_lower.proofs.IntegerLines.{small-negated, small-negated_each, count-truth, sum-truth, product-truth, greatest-truth, least-truth, absolute-truth, greatest-below, greatest-well_formed, product-well_formed, sum-well_formed, count-well_formed}
-use Rattle.statement_lower.proofs.FreshAtoms.{AtomsBelow-negated, truths-agree, lowers-all_equal}
-use Rattle.statement_lower.proofs.LowersLaws.{lowers-here, lowers-one, lowers-same}
+use Rattle.statement_lower.proofs.FreshAtoms.{AtomsBelow-negated, AtomsBelow-more, truths-agree, lowers-all_equal}
+use Rattle.statement_lower.proofs.FreshIntegers.{small-fresh, Counts, extends-number}
+use Rattle.statement_lower.proofs.DivisionLines.{quotient-lowers, remainder-lowers}
+use Rattle.statement_lower.proofs.MeaningLaws.{same_meanings}
+use Rattle.statement_lower.proofs.LowersLaws.{lowers-here, lowers-one, lowers-same, lowers-behind}
 
 ordered-agree : (n : ℕ) (k : Kind) (a : OrdInt) (σ τ : Valuation) → EntryFits n k (entry.Int a) → Agree n σ τ → IsOrdered σ a → IsOrdered τ a
 ordered-agree n kind.Bool a σ τ fit agree h = absurd fit
@@ -103,6 +108,20 @@ AtomsBelow-last : (n : ℕ) (atoms : List Atom) (z : Atom) → AtomsBelow n atom
 AtomsBelow-last n [] z h k = (k, tt)
 AtomsBelow-last n (a ∷ atoms) z h k = (h.0, AtomsBelow-last n atoms z h.1 k)
 
+-- Line 10: the number of true members.
+
+count-most : (σ : Valuation) (atoms : List Atom) → forms.true_count σ atoms ≤ length atoms
+count-most σ [] = omega arith
+count-most σ (a ∷ atoms) = by_truth (atom_truth σ a) (forms.true_count σ atoms) (length atoms) (count-most σ atoms)
+  where
+    by_truth : (t : Bool) (m n : ℕ) → m ≤ n → (if t then suc m else m) ≤ suc n
+    by_truth true m n h = omega (arith, h)
+    by_truth false m n h = omega (arith, h)
+
+count-agree : (n : ℕ) (σ τ : Valuation) (atoms : List Atom) → Agree n σ τ → AtomsBelow n atoms → forms.true_count σ atoms ≡ forms.true_count τ atoms
+count-agree n σ τ atoms agree below =
+    same_meanings.count σ atoms ∙ (ap count_true (truths-agree n σ τ atoms agree below) ∙ sym (same_meanings.count τ atoms))
+
 -- Over atoms and integers.
 
 module _ (vars : ℕ) (C : Valuation → Type 0) (keeps : DependsBelow (vars + 1) C) where
@@ -147,6 +166,9 @@ module _ (vars n : ℕ) (ds : List Decl) (entries : List MapValue) (h : EntriesF
   value : (i : IntTerm) → NumberFits ds n i → (σ : Valuation) → value_of σ (integer_of entries i) ≡ number_of (env σ) i
   value i k σ = integer_of-value (vars + 1) n ds entries h σ i k
 
+  least : (m : ℤ) (i : IntTerm) → NumberFits ds n i → IsAtLeast ds m i → m ≤ℤ low_of (integer_of entries i)
+  least m i k l = integer_of-least (vars + 1) n ds entries h m i k l
+
   ordered : (i : IntTerm) (σ : Valuation) → C σ → IsOrdered σ (integer_of entries i)
   ordered i σ c = IsOrdered-integer_of σ entries i c
 
@@ -162,7 +184,7 @@ module _ (vars n : ℕ) (ds : List Decl) (entries : List MapValue) (h : EntriesF
       (operator-lowers vars C (AreOrdered-depends (vars + 1) ds entries h) op atoms z all at)
 
   operation-stands : (o : Arithmetic) (i j k : IntTerm) → NumberFits ds n i → NumberFits ds n j → NumberFits ds n k
-      → TermInLimit i → TermInLimit j → TermInLimit k → is_lowered_operation o ≡ true
+      → TermInLimit i → TermInLimit j → TermInLimit k → ValuesFit ds (statement.Operation o) (Number i ∷ Number j ∷ Number k ∷ [])
       → Lowers vars (operation_made vars o (integer_of entries i) (integer_of entries j) (integer_of entries k)).vars C
         (operation_made vars o (integer_of entries i) (integer_of entries j) (integer_of entries k)).cores
         (λ σ. IsTrue (gives o (number_of (env σ) i) (number_of (env σ) j) (number_of (env σ) k)))
@@ -196,8 +218,22 @@ module _ (vars n : ℕ) (ds : List Decl) (entries : List MapValue) (h : EntriesF
       (greatest-below (vars + 1) (map negated_of members) (negated_of (integer_of entries k)) each c)
       (greatest-well_formed (vars + 1) (map negated_of members) (negated_of (integer_of entries k)) each c (omega arith))
       (λ σ o. rw (← value i fi σ, ← value j fj σ, ← value k fk σ) (least-truth σ members (integer_of entries k) (ordered-integers_of σ entries (i ∷ j ∷ []) o) (ordered k σ o)))
-  operation-stands arithmetic.Div i j k fi fj fk li lj lk low = absurd (false≢true low)
-  operation-stands arithmetic.Mod i j k fi fj fk li lj lk low = absurd (false≢true low)
+  operation-stands arithmetic.Div i j k fi fj fk li lj lk fits =
+      lowers-same vars (operation_made vars arithmetic.Div (integer_of entries i) (integer_of entries j) (integer_of entries k)).vars C
+      (operation_made vars arithmetic.Div (integer_of entries i) (integer_of entries j) (integer_of entries k)).cores
+      (λ σ. IsTrue (is_quotient (value_of σ (integer_of entries i)) (value_of σ (integer_of entries j)) (value_of σ (integer_of entries k)))) (λ σ. IsTrue (gives arithmetic.Div (number_of (env σ) i) (number_of (env σ) j) (number_of (env σ) k)))
+      (λ σ c. (λ m. rw (value i fi σ, value j fj σ, value k fk σ) at m, λ m. rw (value i fi σ, value j fj σ, value k fk σ) m))
+      (quotient-lowers vars C (AreOrdered-depends (vars + 1) ds entries h) (integer_of entries i) (integer_of entries j) (integer_of entries k)
+      (small i fi li) (small j fj lj) (small k fk lk) (least (pos 0) i fi fits.0) (least (pos 1) j fj fits.1)
+      (λ σ o. (ordered i σ o, ordered j σ o, ordered k σ o)))
+  operation-stands arithmetic.Mod i j k fi fj fk li lj lk fits =
+      lowers-same vars (operation_made vars arithmetic.Mod (integer_of entries i) (integer_of entries j) (integer_of entries k)).vars C
+      (operation_made vars arithmetic.Mod (integer_of entries i) (integer_of entries j) (integer_of entries k)).cores
+      (λ σ. IsTrue (is_remainder (value_of σ (integer_of entries i)) (value_of σ (integer_of entries j)) (value_of σ (integer_of entries k)))) (λ σ. IsTrue (gives arithmetic.Mod (number_of (env σ) i) (number_of (env σ) j) (number_of (env σ) k)))
+      (λ σ c. (λ m. rw (value i fi σ, value j fj σ, value k fk σ) at m, λ m. rw (value i fi σ, value j fj σ, value k fk σ) m))
+      (remainder-lowers vars C (AreOrdered-depends (vars + 1) ds entries h) (integer_of entries i) (integer_of entries j) (integer_of entries k)
+      (small i fi li) (small j fj lj) (small k fk lk) (least (pos 0) i fi fits.0) (least (pos 1) j fj fits.1)
+      (λ σ o. (ordered i σ o, ordered j σ o, ordered k σ o)))
 
   aggregate-stands : (o : Aggregate) (is : List IntTerm) (i : IntTerm) → NumbersFit ds n is → NumberFits ds n i
       → TermsInLimit is → TermInLimit i → 0 < length is → is_lowered_aggregate o ≡ true
@@ -232,19 +268,53 @@ module _ (vars n : ℕ) (ds : List Decl) (entries : List MapValue) (h : EntriesF
       (comparison-below (vars + 1) rel r (integer_of entries i) (integer_of entries j) at a b) (comparison-well_formed rel r (integer_of entries i) (integer_of entries j) a.sound b.sound)
       (λ σ o. rw (← e σ, ← value i fi σ, ← value j fj σ) (comparison-truth σ rel r (integer_of entries i) (integer_of entries j) (ordered i σ o) (ordered j σ o)))
 
-  count-stands : (rel : Relation) (xs : List BoolTerm) (i : IntTerm) → TruthsFit ds n xs → NumberFits ds n i → TermInLimit i → length xs ≤ 16777216 → is_equality rel ≡ true
+  -- a fresh integer counts, and is compared
+  compared-stands : (rel : Relation) (xs : List BoolTerm) (i : IntTerm) → TruthsFit ds n xs → NumberFits ds n i → TermInLimit i → length xs ≤ 16777216
+      → Lowers vars (compared_count vars rel (atoms_of entries xs) (integer_of entries i)).vars C (compared_count vars rel (atoms_of entries xs) (integer_of entries i)).cores
+        (λ σ. IsTrue (relates rel (pos (count_true (truths_of (env σ) xs))) (number_of (env σ) i)))
+  compared-stands rel xs i fs fi li few =
+      let atoms : List Atom = atoms_of entries xs in
+      let a : OrdInt = integer_of entries i in
+      let most : ℕ = length atoms in
+      let short : most ≤ 16777216 = omega (arith, length-map xs (atom_of entries), few) in
+      let z : OrdInt = fresh_range vars most in
+      let fresh : SmallInteger (vars + most + 1) z = small-fresh vars most (omega (arith, short)) in
+      let fits : SmallInteger (vars + most + 1) a = small-more (vars + 1) (vars + most + 1) a (omega arith) (small i fi li) in
+      let below-atoms : AtomsBelow (vars + most + 1) atoms = AtomsBelow-more (vars + 1) (vars + most + 1) atoms (omega arith) (all-below xs fs) in
+      let keeps = AreOrdered-depends (vars + 1) ds entries h in
+      let D : Valuation → Type 0 = Counts vars most C (λ σ. forms.true_count σ atoms) in
+      lowers-behind vars (vars + most) (vars + most) C D (core.Count atoms z ∷ []) (comparison_core rel True z a ∷ [])
+      (extends-number vars most C (core.Count atoms z) (λ σ. forms.true_count σ atoms)
+      (below-atoms, (fresh.below, tt)) (count-well_formed (vars + most + 1) atoms z fresh short)
+      (λ σ c. refl) (λ σ. count-most σ atoms) (λ σ τ agree. count-agree (vars + 1) σ τ atoms agree (all-below xs fs)) keeps)
+      keeps
+      (λ σ. IsTrue (relates rel (pos (count_true (truths_of (env σ) xs))) (number_of (env σ) i)))
+      (λ σ. IsTrue (same true (relates rel (value_of σ z) (value_of σ a))))
+      (λ σ τ agree p.
+          let e : relates rel (pos (count_true (truths_of (env σ) xs))) (number_of (env σ) i) ≡ relates rel (pos (count_true (truths_of (env τ) xs))) (number_of (env τ) i) =
+          ap (λ e. relates rel (pos (count_true (truths_of e xs))) (number_of e i)) (numbers_of-agree (vars + 1) σ τ ds entries agree h) in
+          sym e ∙ p)
+      (λ σ d.
+          let e : relates rel (value_of σ z) (value_of σ a) ≡ relates rel (pos (count_true (truths_of (env σ) xs))) (number_of (env σ) i) =
+          rw (d.2, value i fi σ, ← truths xs fs σ) (ap (λ n. relates rel (pos n) (number_of (env σ) i)) (same_meanings.count σ atoms)) in
+          (λ p. e ∙ p, λ p. sym e ∙ p))
+      (lowers-one (vars + most) D (comparison_core rel True z a) (λ σ. same true (relates rel (value_of σ z) (value_of σ a)))
+      (comparison-below (vars + most + 1) rel True z a tt fresh fits) (comparison-well_formed rel True z a fresh.sound fits.sound)
+      (λ σ d. comparison-truth σ rel True z a d.1 (ordered i σ d.0)))
+
+  count-stands : (rel : Relation) (xs : List BoolTerm) (i : IntTerm) → TruthsFit ds n xs → NumberFits ds n i → TermInLimit i → length xs ≤ 16777216
       → Lowers vars (count_made vars rel (atoms_of entries xs) (integer_of entries i)).vars C (count_made vars rel (atoms_of entries xs) (integer_of entries i)).cores
         (λ σ. IsTrue (relates rel (pos (count_true (truths_of (env σ) xs))) (number_of (env σ) i)))
-  count-stands relation.Eq xs i fs fi li few low =
+  count-stands relation.Eq xs i fs fi li few =
       let a = small i fi li in
       lowers-one vars C (core.Count (atoms_of entries xs) (integer_of entries i)) (λ σ. relates relation.Eq (pos (count_true (truths_of (env σ) xs))) (number_of (env σ) i))
       (all-below xs fs, (a.below, tt)) (count-well_formed (vars + 1) (atoms_of entries xs) (integer_of entries i) a (omega (arith, length-map xs (atom_of entries), few)))
       (λ σ o. rw (← value i fi σ, ← truths xs fs σ) (count-truth σ (atoms_of entries xs) (integer_of entries i) (ordered i σ o)))
-  count-stands relation.Leq xs i fs fi li few low = absurd (false≢true low)
-  count-stands relation.Geq xs i fs fi li few low = absurd (false≢true low)
-  count-stands relation.Lt xs i fs fi li few low = absurd (false≢true low)
-  count-stands relation.Gt xs i fs fi li few low = absurd (false≢true low)
-  count-stands relation.Neq xs i fs fi li few low = absurd (false≢true low)
+  count-stands relation.Leq xs i fs fi li few = compared-stands relation.Leq xs i fs fi li few
+  count-stands relation.Geq xs i fs fi li few = compared-stands relation.Geq xs i fs fi li few
+  count-stands relation.Lt xs i fs fi li few = compared-stands relation.Lt xs i fs fi li few
+  count-stands relation.Gt xs i fs fi li few = compared-stands relation.Gt xs i fs fi li few
+  count-stands relation.Neq xs i fs fi li few = compared-stands relation.Neq xs i fs fi li few
 
   aggregate-some : (o : Aggregate) (is : List IntTerm) (i : IntTerm) → is_lowered_aggregate o ≡ true → HasMember o (Numbers is ∷ Number i ∷ []) → 0 < length is
   aggregate-some aggregate.Max is i low some = some
@@ -279,10 +349,10 @@ module _ (vars n : ℕ) (ds : List Decl) (entries : List MapValue) (h : EntriesF
       let args = fit.arguments in
       comparison-stands rel (atom_of entries z) (λ σ. truth_of (env σ) z) i j (below z args.1.1.0) (truth z args.1.1.0) args.0 args.1.0 limit.0.0 limit.0.1.0
   stands (L10 name rel xs i) fit limit low =
-      count-stands rel xs i fit.arguments.0 fit.arguments.1.0 limit.0.1.0 (omega (arith, limit.1)) low
+      count-stands rel xs i fit.arguments.0 fit.arguments.1.0 limit.0.1.0 (omega (arith, limit.1))
   stands (L14 name o i j k) fit limit low =
       let args = fit.arguments in
-      operation-stands o i j k args.0 args.1.0 args.1.1.0 limit.0.0 limit.0.1.0 limit.0.1.1.0 low
+      operation-stands o i j k args.0 args.1.0 args.1.1.0 limit.0.0 limit.0.1.0 limit.0.1.1.0 fit.values
   stands (L15 i j) fit limit low =
       let args = fit.arguments in
       let a = small i args.0 limit.0.0 in

@@ -1,12 +1,13 @@
 -- What a statement is lowered to, line by line of the table of statements: the number of variables behind its fresh
 -- ones, and its cores.
-use Rattle.std.specs.Prelude.{ℕ, ◌+◌, Bool, true, false, List, [], ◌∷◌, ◌++◌, map}
+use Rattle.std.specs.Prelude.{ℕ, ◌+◌, ◌/◌, min, ℤ, pos, ◌-ℤ◌, Bool, true, false, List, [], ◌∷◌, ◌++◌, length, map}
 use Rattle.order_ints.specs.declared.atom.Atom.{Atom}
 use Rattle.order_ints.specs.declared.atom.Atom.TheVariants.{True}
 use Rattle.order_ints.specs.declared.order_int.OrdInt.{OrdInt}
 use Rattle.order_ints.specs.declared.order_int.MapValue.{MapValue}
 use Rattle.order_ints.specs.Truth.{not_atom}
-use Rattle.order_ints.specs.OrderMade.{atom_of_var}
+use Rattle.order_ints.specs.OrderMade.{atom_of_var, unit_range_of}
+use Rattle.order_ints.specs.OrderRange.{low_of, high_of}
 use Rattle.order_ints.specs.OrderChange.{negated_of}
 use Rattle.core_forms.specs.declared.form.Core.{Core}
 use Rattle.core_forms.specs.declared.form.Core.TheVariants as core
@@ -20,6 +21,7 @@ use Rattle.typed_model.specs.declared.statement.Arithmetic.{Arithmetic}
 use Rattle.typed_model.specs.declared.statement.Arithmetic.TheVariants as arithmetic
 use Rattle.typed_model.specs.declared.statement.Aggregate.{Aggregate}
 use Rattle.typed_model.specs.declared.statement.Aggregate.TheVariants as aggregate
+use Rattle.typed_model.specs.Domains.{at_least_zero}
 use Rattle.statement_lower.specs.declared.made.Made.{Made}
 use Rattle.statement_lower.specs.Terms.{atom_of, atoms_of, integer_of, integers_of}
 
@@ -74,21 +76,51 @@ comparison_core relation.Lt r a b = core.LeqR (not_atom r) b a
 comparison_core relation.Gt r a b = core.LeqR (not_atom r) a b
 comparison_core relation.Neq r a b = core.EqR (not_atom r) a b
 
+-- a fresh integer from 0 to `most`, with a variable for each value but 0
+abbrev pub fresh_range : ℕ → ℕ → OrdInt
+fresh_range vars most = unit_range_of (pos 0) (vars + 1) most
+
+-- a fresh integer is the number of true members, and it is compared
+abbrev pub compared_count : ℕ → Relation → List Atom → OrdInt → Made
+compared_count vars rel atoms a = record {
+  vars = vars + length atoms;
+  cores =
+      core.Count atoms (fresh_range vars (length atoms)) ∷ comparison_core rel True (fresh_range vars (length atoms)) a ∷ [];
+}
+
 -- line 10: the number of true members is compared
 abbrev pub count_made : ℕ → Relation → List Atom → OrdInt → Made
+count_made vars relation.Leq atoms a = compared_count vars relation.Leq atoms a
+count_made vars relation.Geq atoms a = compared_count vars relation.Geq atoms a
 count_made vars relation.Eq atoms a = made_here vars (core.Count atoms a ∷ [])
-count_made vars rel atoms a = made_here vars []
+count_made vars relation.Lt atoms a = compared_count vars relation.Lt atoms a
+count_made vars relation.Gt atoms a = compared_count vars relation.Gt atoms a
+count_made vars relation.Neq atoms a = compared_count vars relation.Neq atoms a
 
 -- an integer is the least member: minus the integer is the greatest one of the negated members
 abbrev pub least_core : List OrdInt → OrdInt → Core
 least_core ints a = core.Max (map negated_of ints) (negated_of a)
 
+-- the greatest remainder, where the least dividend is not negative and the least divisor is positive
+abbrev pub most_remainder : OrdInt → OrdInt → ℕ
+most_remainder a b = min (at_least_zero (high_of a)) (at_least_zero (high_of b -ℤ pos 1))
+
+-- and the greatest quotient
+abbrev pub most_quotient : OrdInt → OrdInt → ℕ
+most_quotient a b = at_least_zero (high_of a) / at_least_zero (low_of b)
+
 -- line 14: an operation on two integers gives the third
 abbrev pub operation_made : ℕ → Arithmetic → OrdInt → OrdInt → OrdInt → Made
 operation_made vars arithmetic.Plus a b c = made_here vars (core.Sum3 a b c ∷ [])
 operation_made vars arithmetic.Times a b c = made_here vars (core.Prod a b c ∷ [])
-operation_made vars arithmetic.Div a b c = made_here vars []
-operation_made vars arithmetic.Mod a b c = made_here vars []
+operation_made vars arithmetic.Div a b c = record {
+  vars = vars + most_remainder a b;
+  cores = core.DivMod a b c (fresh_range vars (most_remainder a b)) ∷ [];
+}
+operation_made vars arithmetic.Mod a b c = record {
+  vars = vars + most_quotient a b;
+  cores = core.DivMod a b (fresh_range vars (most_quotient a b)) c ∷ [];
+}
 operation_made vars arithmetic.Max a b c = made_here vars (core.Max (a ∷ b ∷ []) c ∷ [])
 operation_made vars arithmetic.Min a b c = made_here vars (least_core (a ∷ b ∷ []) c ∷ [])
 

@@ -11,6 +11,6 @@ mod made;
 mod statements;
 mod terms;
 
-pub use laws::meaning_law;
+pub use laws::{line_law, meaning_law};
 pub use made::Made;
 pub use statements::{is_lowered, made_of};

@@ -7,4 +7,5 @@ pub mod IntegerLines
 pub mod FreshAtoms
 pub mod FreshIntegers
 pub mod DivisionLines
+pub mod WordLines
 pub mod LineLaws

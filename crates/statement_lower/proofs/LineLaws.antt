@@ -28,7 +28,7 @@ use Rattle.typed_model.specs.declared.model.Kind.TheVariants as kind
 use Rattle.typed_model.specs.declared.what.BoolTerm.{BoolTerm}
 use Rattle.typed_model.specs.declared.what.IntTerm.{IntTerm}
 use Rattle.typed_model.specs.declared.what.What.{What}
-use Rattle.typed_model.specs.declared.what.What.TheVariants.{L4, L5, L6, L7, L8, L9, L10, L14, L15, L16}
+use Rattle.typed_model.specs.declared.what.What.TheVariants.{L4, L5, L6, L7, L8, L9, L10, L14, L15, L16, L17, L18}
 use Rattle.typed_model.specs.declared.statement.Operator.{Operator}
 use Rattle.typed_model.specs.declared.statement.Operator.TheVariants as operator
 use Rattle.typed_model.specs.declared.statement.Relation.{Relation}
@@ -57,6 +57,7 @@ use Rattle.statement_lower.proofs.Comparisons.{comparison-truth, comparison-belo
 use Rattle.statement_lower.proofs.IntegerLines.{small-negated, small-negated_each, count-truth, sum-truth, product-truth, greatest-truth, least-truth, absolute-truth, greatest-below, greatest-well_formed, product-well_formed, sum-well_formed, count-well_formed}
 use Rattle.statement_lower.proofs.FreshAtoms.{AtomsBelow-negated, AtomsBelow-more, truths-agree, lowers-all_equal}
 use Rattle.statement_lower.proofs.FreshIntegers.{small-fresh, Counts, extends-number}
+use Rattle.statement_lower.proofs.WordLines.{difference-stands, words-stand}
 use Rattle.statement_lower.proofs.DivisionLines.{quotient-lowers, remainder-lowers}
 use Rattle.statement_lower.proofs.MeaningLaws.{same_meanings}
 use Rattle.statement_lower.proofs.LowersLaws.{lowers-here, lowers-one, lowers-same, lowers-behind}
@@ -364,6 +365,10 @@ module _ (vars n : ℕ) (ds : List Decl) (entries : List MapValue) (h : EntriesF
       (λ σ o. rw (← value i args.0 σ, ← value j args.1.0 σ) (absolute-truth σ (integer_of entries i) (integer_of entries j) (ordered i σ o) (ordered j σ o)))
   stands (L16 name o is i) fit limit low =
       aggregate-stands o is i fit.arguments.0 fit.arguments.1.0 limit.0.0 limit.0.1.0 (aggregate-some o is i low fit.values) low
+  stands (L17 name d is z xs) fit limit low =
+      difference-stands vars n ds entries h d is z xs low fit.arguments fit.lengths limit.0.0
+  stands (L18 name o xs ys is js z) fit limit low =
+      words-stand vars n ds entries h o.strict xs ys is js z o.of_booleans o.reified fit.arguments fit.lengths limit.0
   stands w fit limit low = absurd (false≢true low)
 
 pub line_law : LineLaw

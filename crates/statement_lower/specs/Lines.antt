@@ -1,6 +1,6 @@
 -- What a statement is lowered to, line by line of the table of statements: the number of variables behind its fresh
 -- ones, and its cores.
-use Rattle.std.specs.Prelude.{ℕ, ◌+◌, ◌/◌, min, ℤ, pos, ◌-ℤ◌, Bool, true, false, List, [], ◌∷◌, ◌++◌, length, map}
+use Rattle.std.specs.Prelude.{ℕ, ◌+◌, ◌/◌, min, ℤ, pos, ◌-ℤ◌, Bool, true, false, List, [], ◌∷◌, ◌++◌, length, map, Option, if◌then◌else◌}
 use Rattle.order_ints.specs.declared.atom.Atom.{Atom}
 use Rattle.order_ints.specs.declared.atom.Atom.TheVariants.{True}
 use Rattle.order_ints.specs.declared.order_int.OrdInt.{OrdInt}
@@ -12,7 +12,7 @@ use Rattle.order_ints.specs.OrderChange.{negated_of}
 use Rattle.core_forms.specs.declared.form.Core.{Core}
 use Rattle.core_forms.specs.declared.form.Core.TheVariants as core
 use Rattle.typed_model.specs.declared.what.What.{What}
-use Rattle.typed_model.specs.declared.what.What.TheVariants.{L4, L5, L6, L7, L8, L9, L10, L14, L15, L16}
+use Rattle.typed_model.specs.declared.what.What.TheVariants.{L4, L5, L6, L7, L8, L9, L10, L14, L15, L16, L17, L18}
 use Rattle.typed_model.specs.declared.statement.Operator.{Operator}
 use Rattle.typed_model.specs.declared.statement.Operator.TheVariants as operator
 use Rattle.typed_model.specs.declared.statement.Relation.{Relation}
@@ -21,9 +21,15 @@ use Rattle.typed_model.specs.declared.statement.Arithmetic.{Arithmetic}
 use Rattle.typed_model.specs.declared.statement.Arithmetic.TheVariants as arithmetic
 use Rattle.typed_model.specs.declared.statement.Aggregate.{Aggregate}
 use Rattle.typed_model.specs.declared.statement.Aggregate.TheVariants as aggregate
+use Rattle.typed_model.specs.declared.what.BoolTerm.{BoolTerm}
+use Rattle.typed_model.specs.declared.what.IntTerm.{IntTerm}
+use Rattle.typed_model.specs.declared.statement.AllDifferent.{AllDifferent}
+use Rattle.typed_model.specs.declared.statement.AllDifferent.TheVariants as all_different
+use Rattle.typed_model.specs.declared.statement.Order.{Order}
 use Rattle.typed_model.specs.Domains.{at_least_zero}
+use Rattle.typed_model.specs.Holds.{terms_or_none}
 use Rattle.statement_lower.specs.declared.made.Made.{Made}
-use Rattle.statement_lower.specs.Terms.{atom_of, atoms_of, integer_of, integers_of}
+use Rattle.statement_lower.specs.Terms.{atom_of, atoms_of, integer_of, integers_of, atom_or_true, word_of}
 
 -- cores without a fresh variable
 abbrev pub made_here : ℕ → List Core → Made
@@ -134,6 +140,17 @@ aggregate_made vars aggregate.Plus ints a = made_here vars []
 aggregate_made vars aggregate.Max ints a = made_here vars (core.Max ints a ∷ [])
 aggregate_made vars aggregate.Min ints a = made_here vars (least_core ints a ∷ [])
 
+-- line 17: members differ, all of them, or those with true conditions
+abbrev pub different_made : ℕ → AllDifferent → List OrdInt → List Atom → Made
+different_made vars all_different.Plain ints cs = made_here vars (core.AllDiff ints (map (λ _. True) ints) ∷ [])
+different_made vars all_different.Reified ints cs = made_here vars []
+different_made vars all_different.Conditional ints cs = made_here vars (core.AllDiff ints cs ∷ [])
+
+-- line 18: r is the truth of the order of two lists, or it is True
+abbrev pub order_core : List MapValue → Order → List BoolTerm → List BoolTerm → List IntTerm → List IntTerm → Option BoolTerm → Core
+order_core entries o xs ys is js z =
+    core.Lex (if o.reified then atom_or_true entries z else True) o.strict (word_of entries o.of_booleans xs is) (word_of entries o.of_booleans ys js)
+
 -- a statement, behind so many variables; nothing yet for what isn't lowered
 abbrev pub made_of : ℕ → List MapValue → What → Made
 made_of vars entries (L4 x y) = made_here vars (equal_core (atom_of entries x) (atom_of entries y) ∷ [])
@@ -149,4 +166,7 @@ made_of vars entries (L14 name o i j k) =
     operation_made vars o (integer_of entries i) (integer_of entries j) (integer_of entries k)
 made_of vars entries (L15 i j) = made_here vars (absolute_core (integer_of entries i) (integer_of entries j) ∷ [])
 made_of vars entries (L16 name o is i) = aggregate_made vars o (integers_of entries is) (integer_of entries i)
+made_of vars entries (L17 name d is z xs) = different_made vars d (integers_of entries is) (atoms_of entries (terms_or_none xs))
+made_of vars entries (L18 name o xs ys is js z) =
+    made_here vars (order_core entries o (terms_or_none xs) (terms_or_none ys) (terms_or_none is) (terms_or_none js) z ∷ [])
 made_of vars entries what = made_here vars []

@@ -1,12 +1,12 @@
 -- The atoms and the integers of terms, by what the declared names stand for.
-use Rattle.std.specs.Prelude.{pos, List, map, slice_get, Option, Some, None, if◌then◌else◌}
+use Rattle.std.specs.Prelude.{pos, Bool, true, false, List, map, slice_get, Option, Some, None, if◌then◌else◌}
 use Rattle.order_ints.specs.declared.atom.Atom.{Atom}
 use Rattle.order_ints.specs.declared.atom.Atom.TheVariants.{True, False}
 use Rattle.order_ints.specs.declared.order_int.OrdInt.{OrdInt}
 use Rattle.order_ints.specs.declared.order_int.MapValue.{MapValue}
 use Rattle.order_ints.specs.declared.order_int.MapValue.TheVariants as values
 use Rattle.order_ints.specs.Truth.{not_atom}
-use Rattle.order_ints.specs.OrderMade.{constant_of}
+use Rattle.order_ints.specs.OrderMade.{constant_of, integer_of_atom}
 use Rattle.typed_model.specs.declared.what.BoolTerm.{BoolTerm}
 use Rattle.typed_model.specs.declared.what.BoolTerm.TheVariants as bool_term
 use Rattle.typed_model.specs.declared.what.IntTerm.{IntTerm}
@@ -40,3 +40,13 @@ integer_of entries (int_term.Of place) = integer_at (slice_get entries place)
 
 abbrev pub integers_of : List MapValue → List IntTerm → List OrdInt
 integers_of entries terms = map (integer_of entries) terms
+
+-- the atom of a Boolean term that may be left out; that of one that is left out is True
+abbrev pub atom_or_true : List MapValue → Option BoolTerm → Atom
+atom_or_true entries None = True
+atom_or_true entries (Some x) = atom_of entries x
+
+-- a list as integers: Booleans, each 1 where it is true and else 0, or integers
+abbrev pub word_of : List MapValue → Bool → List BoolTerm → List IntTerm → List OrdInt
+word_of entries true xs is = map integer_of_atom (atoms_of entries xs)
+word_of entries false xs is = integers_of entries is

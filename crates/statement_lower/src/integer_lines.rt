@@ -1,13 +1,15 @@
 //! The cores of the lines over integers.
 
-ghost use Rattle.std.specs.Prelude.{◌≡◌, ◌∷◌, [], IfOk};
+ghost use Rattle.std.specs.Prelude.{◌≡◌, ◌+◌, ◌<◌, ◌^◌, ◌∷◌, [], IfOk};
+ghost use Rattle.typed_model.specs.declared.statement.Arithmetic.TheVariants.{Div, Mod};
 ghost use Rattle.core_forms.specs.declared.form.Core.TheVariants.{Max};
 ghost use Rattle.statement_lower.specs.Terms.{atom_of, atoms_of, integer_of, integers_of};
 ghost use Rattle.statement_lower.specs.Entries.{AreInLimit};
-ghost use Rattle.statement_lower.specs.Lines.{made_here, comparison_core, count_made, least_core, operation_made, absolute_core, aggregate_made};
+ghost use Rattle.statement_lower.specs.Lines.{made_here, comparison_core, compared_count, count_made, most_remainder, most_quotient, least_core, operation_made, absolute_core, aggregate_made};
 
+use crate::fresh::{fresh_range, most_quotient, most_remainder};
 use crate::made::Made;
-use crate::terms::{atom_of, atoms_of, integer_of, integers_of, negated_integer_of, negated_integers_of};
+use crate::terms::{atom_of, atoms_of, bounded_integer_of, integer_of, integers_of, negated_integer_of, negated_integers_of};
 use bee_list::Sequence;
 use core_forms::Core;
 use order_ints::{Atom, MapValue, OrdInt};
@@ -68,6 +70,28 @@ pub fn reified_made(
     comparison_made(alloc, entries, vars, relation, truth, left, right)
 }
 
+/// A fresh integer is the number of true members, and it is compared.
+fn compared_count(
+    alloc: Global,
+    vars: u32,
+    relation: Relation,
+    atoms: Sequence<Atom>,
+    bound: OrdInt,
+) -> Result<Made, AllocError>
+    requires { (compared_count vars relation atoms bound).vars < 2 ^ 27 }
+    ensures { IfOk result (λ m. m ≡ compared_count vars relation atoms bound) }
+{
+    let most = atoms.len() as u32;
+    let counted = fresh_range(alloc, vars, most)?;
+    let compared = fresh_range(alloc, vars, most)?;
+    let first = Core::count(alloc, atoms, counted)?;
+    let second = comparison_core(alloc, relation, Atom::True, compared, bound)?;
+    Ok(Made {
+        vars: vars + most,
+        cores: Sequence::from_vec(vec![in alloc; first, second]?),
+    })
+}
+
 /// The number of true members is compared.
 pub fn count_made(
     alloc: Global,
@@ -77,15 +101,14 @@ pub fn count_made(
     members: &[BoolTerm],
     bound: IntTerm,
 ) -> Result<Made, AllocError>
+    requires { (count_made vars relation (atoms_of entries.now members.now) (integer_of entries.now bound)).vars < 2 ^ 27 }
     ensures { IfOk result (λ m. m ≡ count_made vars relation (atoms_of entries.now members.now) (integer_of entries.now bound)) }
 {
+    let atoms = atoms_of(alloc, entries, members)?;
+    let bound = integer_of(alloc, entries, bound)?;
     match relation {
-        Relation::Eq => {
-            let atoms = atoms_of(alloc, entries, members)?;
-            let bound = integer_of(alloc, entries, bound)?;
-            Made::of_core(alloc, vars, Core::count(alloc, atoms, bound)?)
-        }
-        _ => Ok(Made::nothing(alloc, vars)),
+        Relation::Eq => Made::of_core(alloc, vars, Core::count(alloc, atoms, bound)?),
+        _ => compared_count(alloc, vars, relation, atoms, bound),
     }
 }
 
@@ -132,6 +155,50 @@ fn three_integers(
     Ok((a, b, c))
 }
 
+/// The third integer is the quotient of the first two, beside a fresh remainder.
+fn quotient_made(
+    alloc: Global,
+    entries: &[MapValue],
+    vars: u32,
+    left: IntTerm,
+    right: IntTerm,
+    value: IntTerm,
+) -> Result<Made, AllocError>
+    requires entries { AreInLimit entries.now }
+    requires room { vars + most_remainder (integer_of entries.now left) (integer_of entries.now right) < 2 ^ 27 }
+    ensures { IfOk result (λ m. m ≡ operation_made vars Div (integer_of entries.now left) (integer_of entries.now right) (integer_of entries.now value)) }
+{
+    let a = bounded_integer_of(alloc, entries, left)?;
+    let b = bounded_integer_of(alloc, entries, right)?;
+    let quotient = integer_of(alloc, entries, value)?;
+    let most = most_remainder(&a, &b) as u32;
+    let remainder = fresh_range(alloc, vars, most)?;
+    let core = Core::div_mod(alloc, a, b, quotient, remainder)?;
+    Made::of_core(alloc, vars + most, core)
+}
+
+/// The third integer is the remainder of the first two, beside a fresh quotient.
+fn remainder_made(
+    alloc: Global,
+    entries: &[MapValue],
+    vars: u32,
+    left: IntTerm,
+    right: IntTerm,
+    value: IntTerm,
+) -> Result<Made, AllocError>
+    requires entries { AreInLimit entries.now }
+    requires room { vars + most_quotient (integer_of entries.now left) (integer_of entries.now right) < 2 ^ 27 }
+    ensures { IfOk result (λ m. m ≡ operation_made vars Mod (integer_of entries.now left) (integer_of entries.now right) (integer_of entries.now value)) }
+{
+    let a = bounded_integer_of(alloc, entries, left)?;
+    let b = bounded_integer_of(alloc, entries, right)?;
+    let remainder = integer_of(alloc, entries, value)?;
+    let most = most_quotient(&a, &b) as u32;
+    let quotient = fresh_range(alloc, vars, most)?;
+    let core = Core::div_mod(alloc, a, b, quotient, remainder)?;
+    Made::of_core(alloc, vars + most, core)
+}
+
 /// An operation on two integers gives the third.
 pub fn operation_made(
     alloc: Global,
@@ -142,7 +209,8 @@ pub fn operation_made(
     right: IntTerm,
     value: IntTerm,
 ) -> Result<Made, AllocError>
-    requires { AreInLimit entries.now }
+    requires entries { AreInLimit entries.now }
+    requires room { (operation_made vars operation (integer_of entries.now left) (integer_of entries.now right) (integer_of entries.now value)).vars < 2 ^ 27 }
     ensures { IfOk result (λ m. m ≡ operation_made vars operation (integer_of entries.now left) (integer_of entries.now right) (integer_of entries.now value)) }
 {
     let core = match operation {
@@ -159,7 +227,8 @@ pub fn operation_made(
             greater_core(alloc, a, b, c)?
         }
         Arithmetic::Min => lesser_core(alloc, entries, left, right, value)?,
-        Arithmetic::Div | Arithmetic::Mod => return Ok(Made::nothing(alloc, vars)),
+        Arithmetic::Div => return quotient_made(alloc, entries, vars, left, right, value),
+        Arithmetic::Mod => return remainder_made(alloc, entries, vars, left, right, value),
     };
     Made::of_core(alloc, vars, core)
 }

@@ -5,6 +5,7 @@
 #![tactic(auto)]
 
 mod boolean_lines;
+mod fresh;
 mod integer_lines;
 mod laws;
 mod made;

@@ -10,7 +10,7 @@ use crate::integer_lines::{absolute_made, aggregate_made, comparison_made, count
 use crate::made::Made;
 use order_ints::{Atom, MapValue};
 use std::alloc::{AllocError, Global};
-use typed_model::{Aggregate, Arithmetic, Relation, What};
+use typed_model::{Aggregate, What};
 
 /// Whether a statement is lowered.
 pub fn is_lowered(what: &What) -> bool
@@ -23,9 +23,9 @@ pub fn is_lowered(what: &What) -> bool
         | What::L7 { .. }
         | What::L8 { .. }
         | What::L9 { .. }
+        | What::L10 { .. }
+        | What::L14 { .. }
         | What::L15 { .. } => true,
-        What::L10 { relation, .. } => matches!(relation, Relation::Eq),
-        What::L14 { operation, .. } => !matches!(operation, Arithmetic::Div | Arithmetic::Mod),
         What::L16 { operation, .. } => !matches!(operation, Aggregate::Plus),
         _ => false,
     }

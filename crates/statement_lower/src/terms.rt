@@ -2,6 +2,7 @@
 
 ghost use Rattle.std.specs.Prelude.{◌≡◌, IfOk, map};
 ghost use Rattle.order_ints.specs.Truth.{not_atom};
+ghost use Rattle.order_ints.specs.OrderRange.{IsBounded};
 ghost use Rattle.order_ints.specs.OrderChange.{negated_of};
 ghost use Rattle.statement_lower.specs.Terms.{atom_of, atoms_of, integer_of, integers_of};
 ghost use Rattle.statement_lower.specs.Entries.{AreInLimit};
@@ -67,6 +68,25 @@ pub fn integer_of(alloc: Global, entries: &[MapValue], term: IntTerm) -> Result<
     }
 }
 
+/// The integer of an integer term, where those of the declared names are in the limit of numerals.
+pub fn bounded_integer_of(
+    alloc: Global,
+    entries: &[MapValue],
+    term: IntTerm,
+) -> Result<OrdInt, AllocError>
+    requires { AreInLimit entries.now }
+    ensures shape { IfOk result (λ a. a ≡ integer_of entries.now term) }
+    ensures bounded { IfOk result IsBounded }
+{
+    match term {
+        IntTerm::Number(number) => OrdInt::constant(alloc, i128::from(number)),
+        IntTerm::Of(_) => {
+            let integer = integer_of(alloc, entries, term)?;
+            Ok(integer)
+        }
+    }
+}
+
 /// Minus the integer of an integer term.
 pub fn negated_integer_of(
     alloc: Global,
@@ -76,10 +96,7 @@ pub fn negated_integer_of(
     requires { AreInLimit entries.now }
     ensures { IfOk result (λ a. a ≡ negated_of (integer_of entries.now term)) }
 {
-    match term {
-        IntTerm::Number(number) => OrdInt::constant(alloc, i128::from(number))?.negated(),
-        IntTerm::Of(_) => integer_of(alloc, entries, term)?.negated(),
-    }
+    bounded_integer_of(alloc, entries, term)?.negated()
 }
 
 /// The integers of integer terms.

@@ -8,6 +8,7 @@ mod boolean_lines;
 mod fresh;
 mod integer_lines;
 mod laws;
+mod list_lines;
 mod made;
 mod statements;
 mod terms;

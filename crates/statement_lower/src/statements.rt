@@ -7,10 +7,11 @@ ghost use Rattle.statement_lower.specs.IsLowered.{is_lowered};
 
 use crate::boolean_lines::{array_made, equal_made, pair_made, truth_made};
 use crate::integer_lines::{absolute_made, aggregate_made, comparison_made, count_made, operation_made, reified_made};
+use crate::list_lines::{Lists, different_made, order_made, terms};
 use crate::made::Made;
 use order_ints::{Atom, MapValue};
 use std::alloc::{AllocError, Global};
-use typed_model::{Aggregate, What};
+use typed_model::{Aggregate, AllDifferent, What};
 
 /// Whether a statement is lowered.
 pub fn is_lowered(what: &What) -> bool
@@ -25,8 +26,10 @@ pub fn is_lowered(what: &What) -> bool
         | What::L9 { .. }
         | What::L10 { .. }
         | What::L14 { .. }
-        | What::L15 { .. } => true,
+        | What::L15 { .. }
+        | What::L18 { .. } => true,
         What::L16 { operation, .. } => !matches!(operation, Aggregate::Plus),
+        What::L17 { kind, .. } => !matches!(kind, AllDifferent::Reified),
         _ => false,
     }
 }
@@ -93,6 +96,32 @@ pub fn made_of(
             value,
             ..
         } => aggregate_made(alloc, entries, vars, *operation, members.as_slice(), *value),
+        What::L17 {
+            kind,
+            members,
+            conditions,
+            ..
+        } => {
+            let members = members.as_slice();
+            different_made(alloc, entries, vars, *kind, members, terms(conditions))
+        }
+        What::L18 {
+            order,
+            left_truths,
+            right_truths,
+            left_numbers,
+            right_numbers,
+            truth,
+            ..
+        } => {
+            let lists = Lists {
+                left_truths: terms(left_truths),
+                right_truths: terms(right_truths),
+                left_numbers: terms(left_numbers),
+                right_numbers: terms(right_numbers),
+            };
+            order_made(alloc, entries, vars, *order, &lists, truth)
+        }
         _ => Ok(Made::nothing(alloc, vars)),
     }
 }

@@ -9,3 +9,5 @@ pub mod FreshIntegers
 pub mod DivisionLines
 pub mod WordLines
 pub mod LineLaws
+pub mod LinearLaws
+pub mod EqualSums

@@ -84,15 +84,15 @@ bit-ordered false = refl
 small-bit : (n : ℕ) (a : Atom) → AtomBelow n a → SmallInteger n (integer_of_atom a)
 small-bit n a h = record { below = (h, tt); sound = ((lit< tt, lit< tt), (omega arith, tt)); small = omega (arith, ints) }
 
-small-bits : (n : ℕ) (atoms : List Atom) → AtomsBelow n atoms → AreSmallIntegers n (map integer_of_atom atoms)
+pub small-bits : (n : ℕ) (atoms : List Atom) → AtomsBelow n atoms → AreSmallIntegers n (map integer_of_atom atoms)
 small-bits n [] h = tt
 small-bits n (a ∷ atoms) h = (small-bit n a h.0, small-bits n atoms h.1)
 
-ordered-bits : (σ : Valuation) (atoms : List Atom) → all_ordered σ (map integer_of_atom atoms) ≡ true
+pub ordered-bits : (σ : Valuation) (atoms : List Atom) → all_ordered σ (map integer_of_atom atoms) ≡ true
 ordered-bits σ [] = refl
 ordered-bits σ (a ∷ atoms) = rw (bit-ordered (atom_truth σ a), ordered-bits σ atoms) refl
 
-values-bits : (σ : Valuation) (atoms : List Atom) → values σ (map integer_of_atom atoms) ≡ map as_number (forms.truths σ atoms)
+pub values-bits : (σ : Valuation) (atoms : List Atom) → values σ (map integer_of_atom atoms) ≡ map as_number (forms.truths σ atoms)
 values-bits σ [] = refl
 values-bits σ (a ∷ atoms) = rw (bit-value (atom_truth σ a), values-bits σ atoms) refl
 

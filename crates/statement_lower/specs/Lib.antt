@@ -3,4 +3,5 @@ pub mod Entries
 pub mod Lines
 pub mod IsLowered
 pub mod Lowers
+pub mod Linear
 pub mod SameMeanings

@@ -196,7 +196,7 @@ fn statements_that_are_not_built_are_refused(rt: HostRuntime) -> Result<(), Fail
     let alloc = rt.alloc();
     for (text, item) in [
         ("new_bool(x)\nnew_bool(y)\nbool_array_xor([x,y])\nsolve satisfy\n", 3),
-        ("new_int(x,0,3)int_lt(x,2)int_eq(x,1)solve satisfy", 2),
+        ("new_int(x,0,3)int_lt(x,2)int_plus(x,x,2)int_eq(x,1)solve satisfy", 3),
         ("new_bool(x)bool2int(x,i)solve maximize i", 2),
         ("new_int(x,-1000000000,1000000000)solve satisfy", 1),
         (

@@ -6,3 +6,13 @@ pub mod Atoms
 pub mod Tables
 pub mod Sounds
 pub mod Holders
+pub mod FindsLaws
+pub mod TestLaws
+pub mod ValueCases
+pub mod Decided
+pub mod RowListLaws
+pub mod ExactLaws
+pub mod TwinLaws
+pub mod TallyLaws
+pub mod WalkLaws
+pub mod InstanceLaws

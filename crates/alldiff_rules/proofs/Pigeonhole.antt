@@ -16,14 +16,14 @@ int_eq-refl v = grind (arith, ints)
 pub int_eq-other : (v w : ℤ) → (v ≡ w → ⊥) → int_eq v w ≡ false
 int_eq-other v w ne = false_from_ne_true _ (λ e. ne (int_eq-same v w e))
 
-or-left : (s t : Bool) → s ≡ true → (s || t) ≡ true
+pub or-left : (s t : Bool) → s ≡ true → (s || t) ≡ true
 or-left s t e = ap (λ b. b || t) e
 
-or-right : (s t : Bool) → t ≡ true → (s || t) ≡ true
+pub or-right : (s t : Bool) → t ≡ true → (s || t) ≡ true
 or-right true t e = refl
 or-right false t e = e
 
-or-cases : (s t : Bool) → (s || t) ≡ true → (s ≡ true) ⊎ (t ≡ true)
+pub or-cases : (s t : Bool) → (s || t) ≡ true → (s ≡ true) ⊎ (t ≡ true)
 or-cases true t e = inl refl
 or-cases false t e = inr e
 

@@ -2,4 +2,9 @@ pub mod Table
 pub mod Members
 pub mod Narrow
 pub mod Rows
+pub mod Twins
+pub mod RowLists
 pub mod Instances
+pub mod Finds
+pub mod Tally
+pub mod Walks

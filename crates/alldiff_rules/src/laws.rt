@@ -1,6 +1,6 @@
 //! Laws of instances, for proofs of crates above. Each function does nothing; its contract is the law.
 
-ghost use Rattle.std.specs.Prelude.{ℕ, Bool, IsTrue};
+ghost use Rattle.std.specs.Prelude.{◌≡◌, ◌↔◌, ℕ, Bool, true, IsTrue};
 ghost use Rattle.order_ints.specs.declared.atom.Atom.{Atom};
 ghost use Rattle.order_ints.specs.Place.{AtomBelow};
 ghost use Rattle.core_forms.specs.declared.equation.Equation.{Equation};
@@ -10,7 +10,12 @@ ghost use Rattle.core_forms.specs.Each.{EachAtom};
 ghost use Rattle.core_forms.specs.WellFormed.{IsWellFormed};
 ghost use Rattle.rule_base.specs.Pairs.{IsClosed};
 ghost use Rattle.rule_base.specs.Found.{IsImplied};
-ghost use Rattle.alldiff_rules.specs.Instances.{IsInstance};
+ghost use Rattle.alldiff_rules.specs.Instances.{IsInstance, is_instance_of};
+
+/// The test over the list of equations says what an instance is, whatever the lengths of members and conditions.
+pub fn exact_law()
+    ensures { (core : Core) (e : Equation) → is_instance_of core e ≡ true ↔ IsInstance core e }
+{}
 
 /// An instance is implied: under each valuation that meets the core its two atoms are equally true.
 pub fn implied_law()

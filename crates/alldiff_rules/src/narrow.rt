@@ -9,8 +9,7 @@ ghost use Rattle.order_ints.specs.declared.order_int.OrdInt.{OrdInt};
 ghost use Rattle.core_forms.specs.WellFormed.{AreSound};
 ghost use Rattle.alldiff_rules.specs.Members.{int_at, IsSure, choice_of, IsConstantAt, IsChoiceAt, IsHolderAt};
 ghost use Rattle.alldiff_rules.specs.Table.{pair_cmp, has_others, Shows};
-ghost use Rattle.alldiff_rules.specs.Narrow.{IsNarrow};
-ghost use Rattle.alldiff_rules.specs.Rows.{IsTaken};
+ghost use Rattle.alldiff_rules.specs.Narrow.{IsNarrow, is_needed};
 
 use crate::table::{Places, found, has_others, put, put_pair};
 use order_ints::{Atom, OrdInt};
@@ -111,13 +110,27 @@ pub(crate) fn choices(
     Ok(table)
 }
 
-/// Whether another member has the same two values as the one at a place.
-fn is_shared(choices: &BTreeMap<(i128, u128), Places>, choice: Choice, place: usize) -> bool
+/// The first three members with the same two values.
+pub(crate) fn found_choice(
+    choices: &BTreeMap<(i128, u128), Places>,
+    choice: Choice,
+) -> Option<Places>
+    requires { unsigned_abs choice.low < 2 ^ 100 }
+    ensures { result ≡ get pair_cmp choices.now (choice.low, choice.weight) }
+{
+    choices.get(&(choice.low, choice.weight)).copied()
+}
+
+/// Whether the table has two values at another place than that of a member.
+pub(crate) fn is_shared(
+    choices: &BTreeMap<(i128, u128), Places>,
+    choice: Choice,
+    place: usize,
+) -> bool
     requires { unsigned_abs choice.low < 2 ^ 100 }
     ensures { result ≡ has_others 1 place (get pair_cmp choices.now (choice.low, choice.weight)) }
 {
-    let key = (choice.low, choice.weight);
-    has_others(1, place, choices.get(&key).copied())
+    has_others(1, place, found_choice(choices, choice))
 }
 
 /// The least value of an integer, or the greatest.
@@ -198,24 +211,31 @@ pub(crate) struct Narrow {
     highs: BTreeMap<i128, Places>,
 }
 
-/// Whether one of three things is so.
-fn is_any(first: bool, second: bool, third: bool) -> bool
-    ensures { result ≡ (first || (second || third)) }
+/// Whether one of two things is so.
+fn either(first: bool, second: bool) -> bool
+    ensures { result ≡ (first || second) }
 {
-    first || second || third
+    first || second
 }
 
 impl Narrow {
-    /// The tables of members. It takes time near-linear in the members.
-    pub fn of(alloc: Global, ints: &[OrdInt], conditions: &[Atom]) -> Result<Narrow, AllocError>
+    /// The tables of members, by the one of those with two values. It takes time near-linear in the members.
+    pub fn of(
+        alloc: Global,
+        choices: &BTreeMap<(i128, u128), Places>,
+        ints: &[OrdInt],
+        conditions: &[Atom],
+    ) -> Result<Narrow, AllocError>
         requires lengths { length ints.now ≡ length conditions.now }
         requires sound { AreSound ints.now }
+        requires choices { (key : ℤ × ℕ)
+            → Shows (λ i. (i < length ints.now) × IsChoiceAt ints.now conditions.now key.0 key.1 i)
+            (get pair_cmp choices.now key) }
         ensures { IfOk result (IsNarrow ints.now conditions.now) }
     {
         let constants = constants(alloc, ints, conditions)?;
-        let choices = choices(alloc, ints, conditions)?;
-        let lows = holders(alloc, &choices, ints, conditions, false)?;
-        let highs = holders(alloc, &choices, ints, conditions, true)?;
+        let lows = holders(alloc, choices, ints, conditions, false)?;
+        let highs = holders(alloc, choices, ints, conditions, true)?;
         Ok(Narrow {
             constants,
             lows,
@@ -223,18 +243,31 @@ impl Narrow {
         })
     }
 
-    /// Whether members at other places than `place` need a value. It takes three looks into tables.
-    pub fn is_taken(&self, value: i128, place: usize) -> bool
-        ensures { (ints : List OrdInt) (cs : List Atom) → length ints ≡ length cs
-            → IsNarrow ints cs self.now → IsTrue result ↔ IsTaken ints cs place value }
+    /// Whether a member at another place than `place` is the constant of a value. It takes one look into a
+    /// table.
+    pub fn is_constant(&self, value: i128, place: usize) -> bool
+        ensures { result ≡ has_others 1 place (get int_cmp self.now.constants value) }
     {
-        let constants = found(&self.constants, value);
-        let lows = found(&self.lows, value);
-        let highs = found(&self.highs, value);
-        is_any(
-            has_others(1, place, constants),
-            has_others(2, place, lows),
-            has_others(2, place, highs),
-        )
+        has_others(1, place, found(&self.constants, value))
+    }
+
+    /// Whether members at two other places than `place` share their two values with others, and the lower one
+    /// of them is a value, or the greater one is.
+    fn is_held(&self, value: i128, place: usize) -> bool
+        ensures { result ≡ (has_others 2 place (get int_cmp self.now.lows value)
+            || has_others 2 place (get int_cmp self.now.highs value)) }
+    {
+        let low = has_others(2, place, found(&self.lows, value));
+        let high = has_others(2, place, found(&self.highs, value));
+        either(low, high)
+    }
+
+    /// Whether members at other places than `place` need a value. It takes three looks into tables.
+    pub fn is_needed(&self, value: i128, place: usize) -> bool
+        ensures { result ≡ is_needed self.now place value }
+    {
+        let constant = self.is_constant(value, place);
+        let held = self.is_held(value, place);
+        either(constant, held)
     }
 }

@@ -1,5 +1,7 @@
 pub mod RangeBits
+pub mod FourBits
 pub mod LoopFound
+pub mod TopLaws
 pub mod SumFound
 pub mod LinkFound
 pub mod Beside
@@ -7,6 +9,8 @@ pub mod LinkSound
 pub mod SumSound
 pub mod MaxSound
 pub mod ProductLaws
+pub mod ProductFound
+pub mod DivisionFound
 pub mod ProductSound
 pub mod Sound
 pub mod EachRows

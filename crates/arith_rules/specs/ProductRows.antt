@@ -45,12 +45,15 @@ abbrev pub scaled_equations : ℤ → OrdInt → OrdInt → List (Atom × Atom)
 scaled_equations k b c =
     only_if (int_lt (pos 0) k) (multiple_equations k b c) ++ only_if (int_lt k (pos 0)) (negative_equations k b c)
 
--- a times b is c
+-- a times b is c: what each is at least and at most
+abbrev pub prod_ranges : OrdInt → OrdInt → OrdInt → List (Atom × Atom)
+prod_ranges a b c =
+    within c (least_product a b) (greatest_product a b) ++ factor_equations a b c ++ factor_equations b a c
+
+-- and where a factor is constant, the other and c move together or against each other
 abbrev pub prod_equations : OrdInt → OrdInt → OrdInt → List (Atom × Atom)
 prod_equations a b c =
-    within c (least_product a b) (greatest_product a b)
-    ++ factor_equations a b c
-    ++ factor_equations b a c
+    prod_ranges a b c
     ++ only_if (is_constant a) (scaled_equations (low_of a) b c)
     ++ only_if (is_constant b) (scaled_equations (low_of b) a c)
 

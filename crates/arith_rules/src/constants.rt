@@ -88,15 +88,17 @@ pub(crate) fn by_sum3_constants(
     first.or(second).or(third)
 }
 
-/// Of the equations of `a` and `b`, added up, being `c`, the first that is looked for: by their ranges, and
-/// where one is constant by walks along the two others side by side.
-pub fn by_sum3(sought: Sought, a: &OrdInt, b: &OrdInt, c: &OrdInt) -> Option<(Atom, Atom)>
+/// Of the equations of `a` and `b`, added up, being `c`, the first that is looked for: by their ranges, and then,
+/// where one is constant, by walks along the two others side by side.
+pub(crate) fn by_sum3(sought: Sought, a: &OrdInt, b: &OrdInt, c: &OrdInt) -> Option<(Atom, Atom)>
     requires a { IsSound a.now }
     requires b { IsSound b.now }
     requires c { IsSound c.now }
     ensures { result ≡ first_sought sought (sum3_equations a.now b.now c.now) }
 {
     let of_ranges = by_sum3_ranges(sought, a, b, c);
-    let of_constants = by_sum3_constants(sought, a, b, c);
-    of_ranges.or(of_constants)
+    if of_ranges.is_some() {
+        return of_ranges;
+    }
+    by_sum3_constants(sought, a, b, c)
 }

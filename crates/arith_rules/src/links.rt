@@ -6,6 +6,7 @@ ghost use Rattle.rule_base.specs.Pairs.{first_sought};
 ghost use Rattle.arith_rules.specs.Links.{linked, opposed, opposed_above};
 ghost use Rattle.arith_rules.specs.CodeLinks.{link_of, LinkFits, LinkFitsAll};
 
+use crate::numbers::{ceiling_of, over_floor_of, product};
 use order_ints::{Atom, OrdInt, Walk};
 use rule_base::{Sought, next};
 
@@ -20,6 +21,12 @@ pub(crate) enum Link {
     From(i128),
     /// 1 more than a number less the value.
     Above(i128),
+    /// A number times the value.
+    Times(i128),
+    /// The value by a number from 1, rounded up.
+    Ceiling(i128),
+    /// 1 more than the value by a number below 0, rounded down.
+    Over(i128),
 }
 
 impl Link {
@@ -34,6 +41,9 @@ impl Link {
             Link::Minus(k) => v - *k,
             Link::From(k) => *k - v,
             Link::Above(k) => *k - v + 1,
+            Link::Times(k) => product(k, &v),
+            Link::Ceiling(k) => ceiling_of(&v, k),
+            Link::Over(k) => over_floor_of(&v, k),
         }
     }
 }

@@ -48,7 +48,7 @@ fn each_where(sought: Sought, test: bool, atoms: &[Atom], b: Atom) -> Option<(At
 
 /// Of the equations of an integer being the number of true members, the first that is looked for: one pass
 /// over the members, and one over the steps.
-pub fn by_count(sought: Sought, atoms: &[Atom], c: &OrdInt) -> Option<(Atom, Atom)>
+pub(crate) fn by_count(sought: Sought, atoms: &[Atom], c: &OrdInt) -> Option<(Atom, Atom)>
     requires { IsBounded c.now }
     ensures { result ≡ first_sought sought (count_equations atoms.now c.now) }
 {
@@ -81,7 +81,7 @@ fn totals(ints: &[OrdInt]) -> Range
 
 /// Of the equations of each member being what the others leave of `k`, the first that is looked for: one
 /// pass for the ends of all, and one for each member's share.
-pub fn by_sum(sought: Sought, ints: &[OrdInt], k: &i128) -> Option<(Atom, Atom)>
+pub(crate) fn by_sum(sought: Sought, ints: &[OrdInt], k: &i128) -> Option<(Atom, Atom)>
     requires sound { AreSound ints.now }
     requires limit { abs_total ints.now + unsigned_abs k.now < 2 ^ 100 }
     ensures { result ≡ first_sought sought (sum_equations ints.now k.now) }

@@ -127,6 +127,33 @@ fn reads_standard_input_and_files_that_stay_open(rt: HostRuntime) -> Result<(), 
     Ok(())
 }
 
+/// A name of as many letters as `stdin` is a file's.
+#[test]
+fn reads_a_file_whose_name_has_five_letters(rt: HostRuntime) -> Result<(), Fail> {
+    let alloc = rt.alloc();
+    let outer = env::current_dir(&rt)?;
+    let folder = format!(in alloc;
+        "{}/bee_outside_folder_{}",
+        env::temp_dir(&rt)?.display(),
+        process::id(rt.process())
+    )?;
+    fs::create_dir(&rt, folder.as_str())?;
+    env::set_current_dir(&rt, folder.as_str())?;
+    fs::write(&rt, "model", b"a model")?;
+    let mut shelf = HostShelf::new(alloc, &rt, b"typed in".as_slice());
+    let read = read_all(alloc, &mut shelf, "model", None);
+    fs::remove_file(&rt, "model")?;
+    let missing = read_all(alloc, &mut shelf, "lines", None);
+    env::set_current_dir(&rt, &outer)?;
+    fs::remove_dir(&rt, folder.as_str())?;
+    assert!(rt; described(&read) == ("whole", b"a model".as_slice()));
+    assert!(rt; described(&missing) == ("failed", b"".as_slice()));
+    let typed = read_all(alloc, &mut shelf, "stdin", None);
+    assert!(rt; described(&typed) == ("whole", b"typed in".as_slice()));
+    assert_eq!(rt; shelf.faults(), 1);
+    Ok(())
+}
+
 /// A writer that takes nothing.
 #[derive(Drop)]
 struct Stuck;

@@ -1,11 +1,9 @@
-//! Rows worked out by hand, over the public calls of the crates of lists, texts, integers, clauses, classes and
-//! forms: numbers, lines and words, integers made and changed, clauses put in order, classes merged and walked, and
-//! of each form its meaning, how it is trimmed, its variables and its cost. They stand apart from those crates, so
-//! that proving them proves none of those crates anew.
+//! Rows worked out by hand, over the public calls of the crates of lists, texts, integers, clauses and forms:
+//! numbers, lines and words, integers made and changed, clauses put in order, and of each form its meaning, how it
+//! is trimmed, its variables and its cost. They stand apart from those crates, so that proving them proves none of
+//! those crates anew.
 #![tactic(auto)]
 
-#[cfg(test)]
-mod classes;
 #[cfg(test)]
 mod clauses;
 #[cfg(test)]
@@ -21,11 +19,7 @@ mod lists;
 #[cfg(test)]
 mod meanings;
 #[cfg(test)]
-mod numbers;
-#[cfg(test)]
 mod occurring;
-#[cfg(test)]
-mod rings;
 #[cfg(test)]
 mod shape_costs;
 #[cfg(test)]

@@ -1,11 +1,10 @@
 -- Lists of values that differ where their conditions are true; and that as many different ones as there are values take each of them.
-use Rattle.std.proofs.Common.{◌≡◌, ℕ, ◌+◌, ◌<◌, ◌≤◌, zero, suc, Bool, true, false, not, ◌&&◌, ◌||◌, cond, List, [], ◌∷◌, length, ◌⊎◌, inl, inr, ℤ, refl, sym, ap, ◌∙◌, subst, arith}
-use Rattle.std.specs.Prelude.{IsTrue}
+use Rattle.std.proofs.Common.{◌≡◌, ℕ, ◌+◌, ◌≤◌, suc, Bool, true, false, not, ◌&&◌, ◌||◌, cond, List, [], ◌∷◌, length, inl, inr, ℤ, refl, sym, ap, ◌∙◌, subst, arith}
 use Rattle.std.specs.Ordering.{int_eq}
 use Rattle.std.proofs.lemmas.Bool.{cases_lt}
 use Rattle.core_forms.specs.Values.{none_equal, all_differ}
 use Rattle.core_forms.proofs.Ascending.{Among}
-use Rattle.decompose.proofs.Tests.{and_first, and_second, and_made, int_eq_tells, int_eq_made, int_eq-false}
+use Rattle.decompose.proofs.Tests.{and_first, and_second, and_made, int_eq_made}
 use Rattle.decompose.proofs.Marks.{by_equal, count_at}
 
 -- ---- none is equal where none counts

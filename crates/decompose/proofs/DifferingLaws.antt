@@ -1,37 +1,32 @@
 -- The parts of different members stand for them: their meaning, their limits and their costs.
-use Rattle.std.proofs.Common.{◌≡◌, ℕ, ◌+◌, ◌-◌, ◌*◌, ◌<◌, ◌≤◌, zero, suc, Bool, true, false, not, ◌&&◌, ◌||◌, cond, List, [], ◌∷◌, ◌++◌, map, length, ◌⊎◌, inl, inr, ℤ, pos, ◌+ℤ◌, ◌≤ℤ◌, ◌<ℤ◌, refl, sym, ap, ◌∙◌, subst, arith}
+use Rattle.std.proofs.Common.{◌≡◌, ℕ, ◌+◌, ◌*◌, ◌≤◌, zero, suc, Bool, true, false, not, ◌&&◌, ◌||◌, cond, List, [], ◌∷◌, ◌++◌, map, length, ◌⊎◌, inl, inr, ℤ, pos, ◌+ℤ◌, ◌≤ℤ◌, ◌<ℤ◌, refl, sym, ap, ◌∙◌, subst, arith}
 use Rattle.std.specs.Prelude.{IsTrue, int_le, nat_le, ◌==◌}
-use Rattle.std.specs.Bool.{beq}
 use Rattle.std.specs.Ordering.{int_eq}
 use Rattle.std.proofs.lemmas.Int.{ints}
 use Rattle.std.proofs.lemmas.Bool.{eqb-true}
 use Rattle.std.proofs.lemmas.Bool.Decides.{nat_tests}
 use Rattle.std.proofs.lemmas.List.{length-append}
-use mathlib.Core.Bool.{and_comm}
 use Rattle.order_ints.specs.declared.atom.Atom.{Atom}
 use Rattle.order_ints.specs.declared.atom.Atom.TheVariants.{True, False, Of}
 use Rattle.order_ints.specs.declared.order_int.OrdInt.{OrdInt}
 use Rattle.order_ints.specs.Truth.{Valuation, Agree, atom_truth, not_atom}
 use Rattle.order_ints.specs.Place.{AtomBelow, AtomsBelow}
 use Rattle.order_ints.specs.AtomClauses.{atom_clause_truth}
-use Rattle.order_ints.specs.Same.{is_true}
 use Rattle.order_ints.specs.OrderRange.{IntBelow}
 use Rattle.order_ints.specs.OrderValue.{value_of, in_order, IsOrdered}
 use Rattle.order_ints.specs.OrderLevels.{values_of, at_of}
-use Rattle.order_ints.specs.OrderMade.{atom_of_var, AscendFrom, AreAscending}
+use Rattle.order_ints.specs.OrderMade.{AscendFrom, AreAscending}
 use Rattle.order_ints.proofs.Comparisons.{int_le-true, int_le-false}
 use Rattle.order_ints.proofs.Truths.{atom_truth-not_atom, atom_truth-agree, AtomBelow-not_atom}
 use Rattle.order_ints.proofs.Gains.{value_of-agree}
 use Rattle.order_ints.proofs.Reaching.{atom_truth-at_of, AtomBelow-at_of, Contains-value_of}
-use Rattle.core_cost.specs.Comparisons.{cost_of_ladder}
 use Rattle.core_cost.specs.Arithmetic.{cost_of_all_diff}
-use Rattle.core_cost.specs.ListForms.{cost_of_amo}
 use Rattle.core_cost.proofs.Bounds.{amo-bound}
 use Rattle.core_forms.specs.declared.form.Core.{Core}
-use Rattle.core_forms.specs.declared.form.Core.TheVariants.{Ladder, Clause, Conj, AllDiff, Amo}
+use Rattle.core_forms.specs.declared.form.Core.TheVariants.{Ladder, Clause, AllDiff, Amo}
 use Rattle.core_forms.specs.Truths.{true_count, truths}
 use Rattle.core_forms.specs.Values.{all_ordered, values, all_differ}
-use Rattle.core_forms.specs.Meaning.{core_truth, Meets}
+use Rattle.core_forms.specs.Meaning.{Meets}
 use Rattle.core_forms.specs.Place.{IntsBelow, CoreBelow}
 use Rattle.core_forms.specs.WellFormed.{AreSound, IsWellFormed}
 use Rattle.core_forms.specs.Shapes.{numbers_of_steps}
@@ -41,14 +36,14 @@ use Rattle.core_forms.specs.Cores.{cores_truth, MeetsAll, CoresBelow, AreWellFor
 use Rattle.core_forms.proofs.Mapped.{core_truth-agree}
 use Rattle.core_forms.proofs.Places.{CoreBelow-more}
 use Rattle.core_forms.proofs.CoreLists.{MeetsAll-first, MeetsAll-append, CoresBelow-append, AreWellFormed-append, costs_of-append}
-use Rattle.core_forms.proofs.Ascending.{cases_int, Among, Among-from, Among-ascending, Among-from_ascending, AreAscending-ascending}
+use Rattle.core_forms.proofs.Ascending.{cases_int, Among, Among-from, Among-ascending, AreAscending-ascending}
 use Rattle.part_base.specs.PartsFor.{DoFit, ArePartsFor}
 use Rattle.part_base.specs.FreshTruths.{with_fresh}
 use Rattle.part_base.proofs.FreshLaws.{with_fresh-Agree, truth-with_fresh}
 use Rattle.part_base.proofs.PartLaws.{parts-made}
 use Rattle.decompose.specs.DifferingParts.{all_values, marks_from, marked, mark_core, mark_cores, all_mark_cores, are_true, reached_cores, differing_cores, differing_parts}
-use Rattle.decompose.proofs.Tests.{and_first, and_second, and_made, beq_tells, beq_made, int_eq_tells, int_eq_made, int_eq-false}
-use Rattle.decompose.proofs.Marks.{by_equal, ascend-rest, count_at, HaveMarks, AllHaveMarks, count-marks, marked-below, values-ascend, length-values_of, length-marks}
+use Rattle.decompose.proofs.Tests.{and_first, and_second, and_made, beq_tells, beq_made, int_eq_made, int_eq-false}
+use Rattle.decompose.proofs.Marks.{by_equal, ascend-rest, count_at, HaveMarks, AllHaveMarks, count-marks, marked-below, length-values_of, length-marks}
 use Rattle.decompose.proofs.Differ.{differ-tells, differ-made, AllTrue, each-counts}
 
 -- ---- one mark
@@ -428,7 +423,8 @@ all_marks-cost var (a ∷ xs) (c ∷ cs) =
     let m = costs_of-append (mark_cores var a c (values_of a)) (all_mark_cores (var + length (values_of a)) xs cs) in
     omega (arith, l, m, marks-cost var a c (values_of a), all_marks-cost (var + length (values_of a)) xs cs)
 
-differing_costs : (next : ℕ) (xs : List OrdInt) (cs : List Atom) → length (all_values xs) + costs_of (differing_parts next xs cs).cores ≤ cost_of (AllDiff xs cs)
+-- the fresh variables and the costs of the parts are at most the cost of the core
+pub differing_costs : (next : ℕ) (xs : List OrdInt) (cs : List Atom) → length (all_values xs) + costs_of (differing_parts next xs cs).cores ≤ cost_of (AllDiff xs cs)
 differing_costs next xs cs =
     let n = length (all_values xs) in
     let vs = ascending (all_values xs) in

@@ -7,3 +7,5 @@ pub mod FormLaws
 pub mod Marks
 pub mod Differ
 pub mod DifferingLaws
+pub mod GroupLaws
+pub mod DifferingSteps

@@ -45,7 +45,7 @@ int_eq_made v w e = (Decides-int_eq v w).1 e
 pub int_eq-false : (v w : ℤ) → (v ≡ w → ⊥) → int_eq v w ≡ false
 int_eq-false v w n = elim (int_eq v w) as (λ b. int_eq v w ≡ b → b ≡ false) [ true ↦ λ e. absurd (n (int_eq_tells v w e)) | false ↦ λ _. refl ] refl
 
-int_lt-true : (v w : ℤ) → v <ℤ w → int_lt v w ≡ true
+pub int_lt-true : (v w : ℤ) → v <ℤ w → int_lt v w ≡ true
 int_lt-true v w h = grind (arith, ints)
 
 int_lt-false : (v w : ℤ) → w <ℤ v → int_lt v w ≡ false

@@ -2,3 +2,4 @@ pub mod LexParts
 pub mod SumParts
 pub mod PartsOf
 pub mod DifferingParts
+pub mod MarksByValue

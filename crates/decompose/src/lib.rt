@@ -1,10 +1,12 @@
 //! The parts of sums, of different members and of orders of words.
 #![tactic(auto)]
 
+mod by_value;
+mod differing;
 mod forms;
 mod fresh;
 pub mod laws;
 mod lex;
 mod sums;
 
-pub use forms::parts;
+pub use forms::{parts, parts_from};

@@ -6,16 +6,16 @@ use Rattle.std.proofs.lemmas.List.{length-map}
 use Rattle.order_ints.specs.declared.atom.Atom.{Atom}
 use Rattle.order_ints.specs.declared.atom.Atom.TheVariants.{True, False, Of}
 use Rattle.order_ints.specs.View.{label_of, resolve}
-use Rattle.order_ints.specs.Label.{variable, IsOwnLabel, IsLabel, IsLabelled, IsLater}
+use Rattle.order_ints.specs.Label.{IsOwnLabel, IsLabel, IsLabelled, IsLater}
 use Rattle.equation_store.specs.declared.relabel.Change.{Change}
 use Rattle.equation_store.specs.Class.{is_of, IsMember, class_size}
-use Rattle.equation_store.specs.Merge.{signed, replaced, change_of, changed_by}
+use Rattle.equation_store.specs.Merge.{replaced, change_of, changed_by}
 use Rattle.equation_store.specs.Laws.{IsAtomOf, size_at, NeverShrinks, MergeNeverShrinks, MergeLabelled, MergeLabels, MergeChanges, MergeIsLater}
 use Rattle.equation_store.proofs.Resolve.{resolve-label}
 use Rattle.equation_store.proofs.Replaced.{relabelled, replaced-own, replaced-other, label_of-map, resolve-relabelled, IsLabel-relabelled, IsAtomOf-label}
 use Rattle.equation_store.proofs.Change.{IsChange, is_of-signed}
 use Rattle.equation_store.proofs.Merge.{ChangeOf, change_of-atoms}
-use Rattle.equation_store.proofs.Facts.{own_label, is_merge}
+use Rattle.equation_store.proofs.Facts.{is_merge}
 use Rattle.equation_store.proofs.Previous.{was-own}
 
 -- a literal of the variable itself becomes one that is not of it

@@ -1,18 +1,17 @@
 -- Variables that are put into the rings of their own numbers, and added ones.
-use Rattle.std.proofs.Common.{◌≡◌, ℕ, zero, suc, ◌+◌, ◌-◌, ◌≤◌, ◌<◌, ◌^◌, Bool, true, false, List, [], ◌∷◌, ◌++◌, map, length, get_or, set, replicate, refl, ap, sym, ◌∙◌, subst, arith, ⊎_elim}
+use Rattle.std.proofs.Common.{◌≡◌, ℕ, zero, suc, ◌+◌, ◌-◌, ◌≤◌, ◌<◌, ◌^◌, false, List, [], ◌∷◌, ◌++◌, length, get_or, replicate, refl, ap, sym, ◌∙◌, subst, arith, ⊎_elim}
 use Rattle.std.specs.Prelude.{if◌then◌else◌, ◌==◌}
-use Rattle.std.proofs.lemmas.Bool.{cases_lt, cases_eq, cases_Bool, eqb-true, eq-eqb, ne_eqb, cond-true, cond-false}
+use Rattle.std.proofs.lemmas.Bool.{cases_lt, cases_eq, eq-eqb, ne_eqb, cond-true, cond-false}
 use Rattle.std.proofs.lemmas.List.{length-append, length-set, length-replicate, get_or_append_left, get_or-append_right, get_or-replicate, get_or_past, get_or_default}
 use Rattle.order_ints.specs.declared.atom.Atom.{Atom}
 use Rattle.order_ints.specs.declared.atom.Atom.TheVariants.{True, False, Of}
 use Rattle.order_ints.specs.View.{label_of}
-use Rattle.order_ints.specs.Label.{variable, IsOwnLabel, IsLabel, IsLabelled, own_labels}
+use Rattle.order_ints.specs.Label.{variable, IsOwnLabel, IsLabel, own_labels}
 use Rattle.order_ints.proofs.Labels.{IsLabelled-more, length-own_labels, label_of-old, label_of-added}
 use Rattle.index_ring.specs.Lists.{RingLists, IsRings, list_of, times, times_in_all, no_lists, grown, pushed_back}
 use Rattle.index_ring.proofs.Times.{times-same, times-other, all-set, all-append, all-empty, get-set}
 use Rattle.equation_store.specs.Class.{is_of, IsWalk, class_size}
-use Rattle.equation_store.specs.Merge.{size_in}
-use Rattle.equation_store.specs.Store.{Store, IsStore, IsSized, IsKept, Entered, store_of, class_walk}
+use Rattle.equation_store.specs.Store.{IsKept, Entered}
 use Rattle.equation_store.proofs.Counts.{one_if, IsCounted, counted-from, walk-from}
 
 -- no variable yet

@@ -1,14 +1,14 @@
 -- The clauses of the store, from what its methods do to the labels.
-use Rattle.std.proofs.Common.{◌≡◌, ℕ, ◌+◌, ◌-◌, ◌≤◌, ◌^◌, true, List, [], ◌++◌, map, drop, length, refl, ap, sym, ◌∙◌, subst, arith, ⊎_elim, Option, Some, None, Result, Ok, Err}
-use Rattle.std.specs.Prelude.{◌↔◌, OnOk, OnErr, IsSomeAnd, option_map}
+use Rattle.std.proofs.Common.{◌≡◌, ℕ, ◌≤◌, true, List, [], map, length, refl, ap, sym, ◌∙◌, subst, arith, ⊎_elim, Option, Some, None}
+use Rattle.std.specs.Prelude.{◌↔◌, IsSomeAnd, option_map}
 use Rattle.std.proofs.lemmas.Bool.{eqb-true}
-use Rattle.std.proofs.lemmas.List.{length-append, length-map}
+use Rattle.std.proofs.lemmas.List.{length-map}
 use Rattle.order_ints.specs.declared.atom.Atom.{Atom}
 use Rattle.order_ints.specs.declared.atom.Atom.TheVariants.{True, False, Of}
 use Rattle.order_ints.specs.Truth.{atom_truth, not_atom}
 use Rattle.order_ints.specs.View.{label_of, resolve}
 use Rattle.equation_store.specs.declared.relabel.Change.{Change}
-use Rattle.order_ints.specs.Label.{IsOwnLabel, IsLabel, IsLabelled, own_labels}
+use Rattle.order_ints.specs.Label.{IsOwnLabel, IsLabel, IsLabelled}
 use Rattle.equation_store.specs.Class.{is_of, IsWalk}
 use Rattle.equation_store.specs.Store.{Store, class_walk, IsStore}
 use Rattle.equation_store.specs.Merge.{replaced, change_of, changed_by, merged, IsRelabelled}

@@ -1,19 +1,17 @@
 -- What a change of labels makes of sizes and rings.
-use Rattle.std.proofs.Common.{◌≡◌, ℕ, zero, suc, ◌+◌, ◌-◌, ◌≤◌, ◌<◌, ◌^◌, Bool, true, false, List, [], ◌∷◌, ◌++◌, map, length, get_or, set, refl, ap, sym, ◌∙◌, subst, arith, ⊎_elim}
+use Rattle.std.proofs.Common.{◌≡◌, ℕ, ◌+◌, ◌-◌, ◌≤◌, ◌<◌, ◌^◌, Bool, true, false, List, [], ◌∷◌, ◌++◌, length, get_or, set, refl, ap, sym, ◌∙◌, subst, arith, ⊎_elim}
 use Rattle.std.specs.Prelude.{if◌then◌else◌, ◌==◌}
-use Rattle.std.proofs.lemmas.Bool.{cases_eq, eqb-true, eqb-false, eq-eqb, ne_eqb, cond-true, cond-false}
+use Rattle.std.proofs.lemmas.Bool.{cases_eq, eqb-false, eq-eqb, ne_eqb, cond-true, cond-false}
 use Rattle.std.proofs.lemmas.List.{length-map, length-set, get_or-set_same, get_or-set_other}
 use Rattle.order_ints.specs.declared.literal.Lit.{Lit}
 use Rattle.order_ints.specs.declared.atom.Atom.{Atom}
 use Rattle.order_ints.specs.declared.atom.Atom.TheVariants.{True, False, Of}
-use Rattle.order_ints.specs.View.{label_of}
-use Rattle.order_ints.specs.Label.{IsOwnLabel, IsLabelled}
+use Rattle.order_ints.specs.Label.{IsOwnLabel}
 use Rattle.index_ring.specs.Lists.{RingLists, IsRings, list_of, spliced}
 use Rattle.index_ring.proofs.Times.{get-set}
 use Rattle.equation_store.specs.Class.{is_of, IsWalk, class_size}
 use Rattle.equation_store.specs.Merge.{replaced, size_in, IsReplacement}
-use Rattle.equation_store.specs.Laws.{IsConstant}
-use Rattle.equation_store.specs.Store.{IsSized, IsKept}
+use Rattle.equation_store.specs.Store.{IsKept}
 use Rattle.equation_store.proofs.Replaced.{relabelled, IsLabelled-relabelled}
 use Rattle.equation_store.proofs.Previous.{was-own}
 use Rattle.equation_store.proofs.Counts.{counted-from, walk-from, counted-changed, class_size-changed, taken_in, length-taken_in}

@@ -8,7 +8,7 @@ use Rattle.order_ints.specs.declared.atom.Atom.{Atom}
 use Rattle.order_ints.specs.declared.atom.Atom.TheVariants.{True, False, Of}
 use Rattle.order_ints.specs.Truth.{Valuation, lit_truth, atom_truth, not_atom}
 use Rattle.order_ints.specs.View.{label_of, resolve, MeetsView}
-use Rattle.order_ints.specs.Label.{variable, IsOwnLabel, IsLabel, IsLabelled}
+use Rattle.order_ints.specs.Label.{variable, IsLabel, IsLabelled}
 use Rattle.equation_store.specs.Class.{is_of, class_size}
 use Rattle.equation_store.specs.Merge.{signed, replaced, IsReplacement}
 use Rattle.equation_store.specs.Laws.{IsAtomOf}

@@ -1,13 +1,13 @@
 -- What contracts see of a store, from what it keeps.
-use Rattle.std.proofs.Common.{◌≡◌, ℕ, ◌+◌, ◌-◌, ◌≤◌, ◌<◌, Bool, true, false, List, [], length, get_or, drop, refl, ap, sym, ◌∙◌, subst, arith, ⊎_elim, Option, Some, None}
-use Rattle.std.specs.Prelude.{◌⊎◌, ◌↔◌, ◌≢◌, if◌then◌else◌, ◌==◌, count_by, IfSome, IsNone, IsSomeAnd, option_map}
+use Rattle.std.proofs.Common.{◌≡◌, ℕ, ◌+◌, ◌-◌, ◌≤◌, true, List, [], length, get_or, refl, ap, sym, ◌∙◌, subst, arith, ⊎_elim, Option, Some, None}
+use Rattle.std.specs.Prelude.{◌⊎◌, ◌↔◌, ◌≢◌, IfSome, IsNone, IsSomeAnd, option_map}
 use Rattle.std.proofs.lemmas.Bool.{true≢false, eq-eqb}
 use Rattle.std.proofs.lemmas.Grind.{get_or_after_one}
 use Rattle.order_ints.specs.declared.atom.Atom.{Atom}
 use Rattle.order_ints.specs.declared.atom.Atom.TheVariants.{True, False, Of}
 use Rattle.order_ints.specs.Truth.{not_atom}
 use Rattle.order_ints.specs.View.{label_of, resolve}
-use Rattle.order_ints.specs.Label.{IsOwnLabel, IsLabel, IsLabelled}
+use Rattle.order_ints.specs.Label.{IsLabel, IsLabelled}
 use Rattle.index_ring.specs.Lists.{RingLists, list_of, times, times_in_all}
 use Rattle.index_ring.proofs.Times.{all-get}
 use Rattle.equation_store.specs.declared.relabel.Change.{Change}
@@ -19,7 +19,7 @@ use Rattle.equation_store.proofs.Merge.{ChangeOf, change_of-atoms}
 use Rattle.equation_store.proofs.Changes.{changes-by}
 use Rattle.equation_store.proofs.Facts.{of_label, own_label}
 use Rattle.equation_store.proofs.Walk.{member_from_times}
-use Rattle.equation_store.proofs.Counts.{one_if, counted-from, times-count}
+use Rattle.equation_store.proofs.Counts.{one_if, counted-from}
 
 -- the walk of a class is the list of its ring
 pub class_walk-ring : (labels : List Atom) (classes : RingLists) (x : ℕ) → 1 ≤ x → class_walk (store_of labels classes) x ≡ list_of classes x

@@ -1,8 +1,8 @@
 -- A walk along a class that gives each member's label its new value.
-use Rattle.std.proofs.Common.{◌≡◌, ℕ, zero, suc, ◌+◌, ◌-◌, ◌≤◌, ◌<◌, Bool, true, false, List, [], ◌∷◌, ◌++◌, map, length, get_or, set, take, drop, refl, ap, sym, ◌∙◌, subst, arith, ⊎_elim, Option, Some, None}
-use Rattle.std.specs.Prelude.{if◌then◌else◌, ◌==◌, nat_lt}
+use Rattle.std.proofs.Common.{◌≡◌, ℕ, ◌+◌, ◌-◌, ◌≤◌, ◌<◌, false, List, [], ◌∷◌, ◌++◌, map, length, get_or, set, take, drop, refl, ap, sym, ◌∙◌, subst, arith, ⊎_elim, Option, Some}
+use Rattle.std.specs.Prelude.{if◌then◌else◌, nat_lt}
 use Rattle.std.proofs.lemmas.Bool.{cases_eq, cond-true, cond-false, lt-ltb, le-ltb, false_from_ne_true}
-use Rattle.std.proofs.lemmas.List.{length-map, length-set, take-append-drop, drop_more, take_more, take_all, drop_all, get_or_default, get_or-set_same, get_or-set_other, get_or-map, ext_get_or}
+use Rattle.std.proofs.lemmas.List.{length-map, length-set, take-append-drop, drop_more, take_more, take_all, get_or_default, get_or-set_same, get_or-set_other, get_or-map, ext_get_or}
 use Rattle.order_ints.specs.declared.atom.Atom.{Atom}
 use Rattle.order_ints.specs.declared.atom.Atom.TheVariants.{True}
 use Rattle.order_ints.specs.View.{label_of}

@@ -93,7 +93,7 @@ length-from : (low : ℤ) (count : ℕ) → length (values_from low count) ≡ c
 length-from low zero = refl
 length-from low (suc count) = ap suc (length-from (low +ℤ pos 1) count)
 
-contains-from : (count i : ℕ) → i < count → Contains (values_from (pos 0) count) (pos i)
+pub contains-from : (count i : ℕ) → i < count → Contains (values_from (pos 0) count) (pos i)
 contains-from count i h =
     (i, omega (arith, h, length-from (pos 0) count), get-from (pos 0) count i (pos i) h ∙ omega (arith, ints))
 
@@ -126,7 +126,7 @@ steps-unit_steps first zero = refl
 steps-unit_steps first (suc count) = ap suc (steps-unit_steps (first + 1) count)
 
 -- the greatest common divisor of 1 and any number is 1
-one-divisor : (n : ℕ) → common_divisor_of 1 n ≡ 1
+pub one-divisor : (n : ℕ) → common_divisor_of 1 n ≡ 1
 one-divisor n = dvd_antisymm (common-divides_first 1 n) (dvd_of_mod-eq-zero 1 (omega arith))
 
 divisor-unit_steps : (first count : ℕ) → divisor_of (unit_steps first (suc count)) ≡ 1

@@ -3,4 +3,12 @@ pub mod ParityLaws
 pub mod AmoLaws
 pub mod Halves
 pub mod CountLaws
+pub mod Sorted
+pub mod Rows
+pub mod UnitLaws
+pub mod MergeLaws
+pub mod MergePlaces
+pub mod MergeStands
 pub mod NetworkLaws
+pub mod Turns
+pub mod TakenLaws

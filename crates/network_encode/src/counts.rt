@@ -57,12 +57,12 @@ fn of_halves(
     alloc: Global,
     front: &[Atom],
     back: &[Atom],
-    c: &OrdInt,
+    c: OrdInt,
     next: u32,
 ) -> Result<Parts, AllocError>
     requires least { 1 ≤ next }
     requires room { next + length front.now + length back.now ≤ 2 ^ 27 }
-    ensures { IfOk result (λ p. p ≡ halves_parts next front.now back.now c.now) }
+    ensures { IfOk result (λ p. p ≡ halves_parts next front.now back.now c) }
 {
     let middle = next + half_fresh(front);
     let mut cores = Vec::with_capacity(alloc, 3)?;
@@ -70,15 +70,30 @@ fn of_halves(
     push_half(&mut cores, back, middle)?;
     let first = half_int(alloc, front, next)?;
     let second = half_int(alloc, back, middle)?;
-    cores.push(Core::sum3(alloc, first, second, c.clone()?)?)?;
+    cores.push(Core::sum3(alloc, first, second, c)?)?;
     Ok(Parts {
         cores: Sequence::from_vec(cores),
         fresh: half_fresh(front) + half_fresh(back),
     })
 }
 
-/// The parts of a count.
+/// The parts of a count. They take over its integer.
 pub(crate) fn of_count(
+    alloc: Global,
+    atoms: &[Atom],
+    c: OrdInt,
+    next: u32,
+) -> Result<Parts, AllocError>
+    requires least { 1 ≤ next }
+    requires room { next + length atoms.now ≤ 2 ^ 27 }
+    ensures { IfOk result (λ p. p ≡ count_parts next atoms.now c) }
+{
+    let (front, back) = atoms.split_at((atoms.len() + 1) / 2);
+    of_halves(alloc, front, back, c, next)
+}
+
+/// The parts of a count whose integer is lent.
+pub(crate) fn of_lent_count(
     alloc: Global,
     atoms: &[Atom],
     c: &OrdInt,
@@ -88,6 +103,5 @@ pub(crate) fn of_count(
     requires room { next + length atoms.now ≤ 2 ^ 27 }
     ensures { IfOk result (λ p. p ≡ count_parts next atoms.now c.now) }
 {
-    let (front, back) = atoms.split_at((atoms.len() + 1) / 2);
-    of_halves(alloc, front, back, c, next)
+    of_count(alloc, atoms, c.clone()?, next)
 }

@@ -1,10 +1,13 @@
-//! The parts of the cores that networks stand for: parities, at-most-one and counts, by halves and by fresh
-//! variables.
+//! The parts of the cores that networks stand for: parities, at-most-one, counts and sums of two integers, by
+//! halves and by fresh variables.
 #![tactic(auto)]
 
 mod counts;
 pub mod laws;
 mod members;
+mod merges;
 mod split;
+mod units;
+mod wires;
 
-pub use split::parts;
+pub use split::{parts, parts_from};

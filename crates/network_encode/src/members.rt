@@ -11,7 +11,7 @@ use part_base::Parts;
 use std::alloc::{AllocError, Global};
 
 /// The atom of a fresh variable.
-fn fresh_atom(var: u32) -> Atom
+pub(crate) fn fresh_atom(var: u32) -> Atom
     ensures { result ≡ atom_of_var var }
 {
     Atom::Of(Lit {

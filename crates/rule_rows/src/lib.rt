@@ -3,6 +3,8 @@
 #![tactic(auto)]
 
 #[cfg(test)]
+mod difference_rows;
+#[cfg(test)]
 mod encodings;
 #[cfg(test)]
 mod equations;
@@ -11,7 +13,19 @@ mod form_rules;
 #[cfg(test)]
 mod form_words;
 #[cfg(test)]
+mod max_rows;
+#[cfg(test)]
+mod network_words;
+#[cfg(test)]
 mod networks;
+#[cfg(test)]
+mod part_lists;
+#[cfg(test)]
+mod product_rows;
+#[cfg(test)]
+mod sought_rows;
+#[cfg(test)]
+mod sum_rows;
 #[cfg(test)]
 mod truth_tables;
 #[cfg(test)]

@@ -85,7 +85,7 @@ fn ascend_from(value: i128, values: &[i128]) -> bool
 }
 
 /// An integer that is found to be small.
-fn small(rt: &impl Abort, a: OrdInt) -> OrdInt
+pub(super) fn small(rt: &impl Abort, a: OrdInt) -> OrdInt
     requires { IsSound a }
     ensures sound { IsSound result }
     ensures small { greatest_abs result < 1000 }

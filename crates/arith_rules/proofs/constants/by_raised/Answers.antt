@@ -1,6 +1,5 @@
 use Rattle.std.proofs.Common.{rules, ◌∙◌}
 use Rattle.order_ints.specs.OrderRange.{low_of}
-use Rattle.core_forms.proofs.Bounds.{small_bits}
 use Rattle.arith_rules.proofs.LinkFound.{raised-found}
 use Rattle.arith_rules.proofs.constants.by_raised.Goals as goal
 
@@ -8,4 +7,4 @@ pub returns : goal.returns
 returns c =
     c.or.ensures
     ∙ raised-found c.args.sought c.args.b.now c.args.c.now (low_of c.args.a.now) _ c.linked-upwards.result c.linked-back.result c.linked-upwards.ensures c.linked-back.ensures
-    (search (rules, c.low-k.ensures.value, small_bits c.low-k.result c.low-k.ensures.range))
+    (search (rules, c.low-k.ensures.value))

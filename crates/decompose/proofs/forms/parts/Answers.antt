@@ -3,4 +3,4 @@ use Rattle.decompose.proofs.forms.parts.Goals as goal
 
 pub returns-clause-parts : goal.returns-clause-parts
 returns-clause-parts c =
-    parts_ok c.form_parts.result c.args.core.now c.args.next_var c.requires.form c.requires.first c.requires.well_formed c.requires.below c.form_parts.ensures
+    parts_ok c.kept_parts.result c.args.core.now c.args.next_var c.requires.form c.requires.first c.requires.well_formed c.requires.below c.kept_parts.ensures

@@ -1,4 +1,4 @@
-use Rattle.std.proofs.Common.{◌≡◌, ◌∙◌, ◌-◌, ap, set, get_or, arith, Some}
+use Rattle.std.proofs.Common.{◌∙◌, ◌-◌, ap, set, arith}
 use Rattle.index_ring.specs.Lists.{list_of}
 use Rattle.index_ring.proofs.Times.{all-get}
 use Rattle.equation_store.specs.Class.{IsMember}

@@ -1,4 +1,4 @@
-use Rattle.std.proofs.Common.{◌≡◌, ◌∙◌, ap, map, sym, subst, List}
+use Rattle.std.proofs.Common.{◌∙◌, ap, map, sym, subst, List}
 use Rattle.order_ints.specs.declared.atom.Atom.{Atom}
 use Rattle.order_ints.specs.declared.atom.Atom.TheVariants.{Of}
 use Rattle.equation_store.specs.Merge.{replaced, IsReplacement}

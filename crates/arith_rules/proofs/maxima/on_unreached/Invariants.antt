@@ -1,0 +1,13 @@
+use Rattle.std.proofs.Common.{◌≡◌, map, ℤ}
+use Rattle.std.specs.Prelude.{filter, int_lt}
+use Rattle.order_ints.specs.declared.atom.Atom.{Atom}
+use Rattle.rule_base.specs.Pairs.{first_sought}
+use Rattle.arith_rules.specs.Tops.{false_above}
+use Rattle.arith_rules.proofs.Beside.{false_pair}
+use Rattle.arith_rules.proofs.maxima.on_unreached.Given as goal
+
+-- what is found at the levels that are left is found at all values
+abbrev pub invariant-loop-value : goal.invariant-loop-value
+invariant-loop-value l = record {
+  found : first_sought l.sought (map false_pair (filter (λ (level : ℤ × Atom). int_lt l.least level.0) l.value-iterator)) ≡ first_sought l.sought (false_above l.least l.c);
+}

@@ -1,0 +1,5 @@
+pub mod Lists
+pub mod Chains
+pub mod Held
+pub mod Kept
+pub mod Laws

@@ -1,0 +1,10 @@
+pub mod Kernel
+pub mod Models
+pub mod Instances
+pub mod Parts
+pub mod Steps
+pub mod CnfOf
+pub mod Least
+pub mod Pieces
+pub mod Cursor
+pub mod SplitAt

@@ -1,0 +1,20 @@
+//! The state of a compilation and its three kinds of step: an equation that a rule finds, the splitting of a
+//! core, and its encoding. Each step keeps the models.
+#![tactic(auto)]
+
+mod clause_list;
+mod cnf;
+mod cursor;
+mod fault;
+mod instances;
+pub mod laws;
+mod lists;
+mod parts;
+mod state;
+mod steps;
+
+pub use fault::{ApplyFault, StepFault};
+pub use ledger_text::{Line, read_step, write_step};
+pub use order_ints::{Cnf, first_false};
+pub use parts::is_compound;
+pub use state::State;

@@ -17,21 +17,13 @@ use Rattle.typed_model.specs.declared.statement.Arithmetic.TheVariants as arithm
 use Rattle.typed_model.specs.declared.statement.Aggregate.{Aggregate}
 use Rattle.typed_model.specs.declared.statement.Aggregate.TheVariants as aggregate
 use Rattle.statement_lower.specs.Lines.{equal_core, equal_cores, array_cores, operator_made, comparison_core, operation_made, aggregate_made, made_of}
-use Rattle.statement_lower.specs.IsLowered.{is_lowered_operation, is_lowered_aggregate, is_lowered}
+use Rattle.statement_lower.specs.IsLowered.{is_lowered_aggregate, is_lowered}
 use Rattle.statement_lower.specs.Terms.{atom_of, atoms_of, integer_of, integers_of}
 use Rattle.model_lower.specs.Items.{ModelItem}
 use Rattle.model_lower.specs.Built.{most_vars, is_built_operator, is_built_operation, is_built_aggregate, is_built, fresh_of_operator, fresh_of, may_build, number_of, vars_after, unbuilt}
 use Rattle.model_lower.specs.Fits.{IsFirstForm, AreFirstForms}
 
 -- Lowered.
-
-lowered-operation : (o : Arithmetic) → is_built_operation o ≡ true → is_lowered_operation o ≡ true
-lowered-operation arithmetic.Plus e = absurd (false≢true e)
-lowered-operation arithmetic.Times e = refl
-lowered-operation arithmetic.Div e = absurd (false≢true e)
-lowered-operation arithmetic.Mod e = absurd (false≢true e)
-lowered-operation arithmetic.Max e = refl
-lowered-operation arithmetic.Min e = refl
 
 lowered-aggregate : (o : Aggregate) → is_built_aggregate o ≡ true → is_lowered_aggregate o ≡ true
 lowered-aggregate aggregate.Plus e = absurd (false≢true e)
@@ -45,7 +37,7 @@ built-lowered (L6 name op xs) e = refl
 built-lowered (L7 name op xs z) e = refl
 built-lowered (L8 name rel i j) e = refl
 built-lowered (L9 name rel i j z) e = refl
-built-lowered (L14 name o i j k) e = lowered-operation o e
+built-lowered (L14 name o i j k) e = refl
 built-lowered (L15 i j) e = refl
 built-lowered (L16 name o is i) e = lowered-aggregate o e
 built-lowered w e = absurd (false≢true e)

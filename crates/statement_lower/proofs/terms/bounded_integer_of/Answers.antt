@@ -7,5 +7,5 @@ use Rattle.statement_lower.proofs.terms.bounded_integer_of.Goals as goal
 pub returns-in_ok-integer-in-Of-clause-bounded : goal.returns-in_ok-integer-in-Of-clause-bounded
 returns-in_ok-integer-in-Of-clause-bounded c =
     let entries = c.args.entries.now in
-    let e = c.in_ok-integer.ensures ∙ ap (integer_of entries) c.in-Of.is in
+    let e = c.in_ok-integer-in-Of.ensures ∙ ap (integer_of entries) c.in-Of.is in
     subst IsBounded (sym e) (AreInLimit-at entries c.in-Of.field-0 c.requires)

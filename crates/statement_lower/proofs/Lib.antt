@@ -11,3 +11,4 @@ pub mod WordLines
 pub mod LineLaws
 pub mod LinearLaws
 pub mod EqualSums
+pub mod Pairs

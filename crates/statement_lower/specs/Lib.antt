@@ -4,4 +4,5 @@ pub mod Lines
 pub mod IsLowered
 pub mod Lowers
 pub mod Linear
+pub mod Pairs
 pub mod SameMeanings

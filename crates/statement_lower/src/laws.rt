@@ -2,6 +2,7 @@
 
 ghost use Rattle.statement_lower.specs.Lowers.{LineLaw};
 ghost use Rattle.statement_lower.specs.Linear.{EqualSumLaw};
+ghost use Rattle.statement_lower.specs.Pairs.{ReifiedDifferenceLaw};
 ghost use Rattle.statement_lower.specs.SameMeanings.{SameMeanings};
 
 /// What statements and cores say alike of lists of numbers and of truths.
@@ -17,4 +18,9 @@ pub fn line_law()
 /// A core stands for a sum or a linear statement with `eq`.
 pub fn equal_sum_law()
     ensures { EqualSumLaw }
+{}
+
+/// Cores over a fresh atom for each two members stand for the reified statement that all members differ.
+pub fn reified_difference_law()
+    ensures { ReifiedDifferenceLaw }
 {}

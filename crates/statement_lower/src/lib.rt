@@ -13,6 +13,6 @@ mod made;
 mod statements;
 mod terms;
 
-pub use laws::{equal_sum_law, line_law, meaning_law};
+pub use laws::{equal_sum_law, line_law, meaning_law, reified_difference_law};
 pub use made::Made;
 pub use statements::{is_lowered, made_of};

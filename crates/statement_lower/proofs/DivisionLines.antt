@@ -1,7 +1,6 @@
 -- A division: its quotient and its remainder, of which the one that the statement doesn't name is a fresh integer.
-use Rattle.std.proofs.Common.{◌≡◌, ℕ, zero, suc, ◌+◌, ◌*◌, ◌/◌, ◌^◌, ◌<◌, ◌≤◌, min, ℤ, pos, negsuc, ◌+ℤ◌, ◌-ℤ◌, ◌*ℤ◌, ◌≤ℤ◌, ◌<ℤ◌, Bool, true, ◌&&◌, List, [], ◌∷◌, IsTrue, refl, sym, ap, ◌∙◌, arith}
-use Rattle.std.specs.Prelude.{unsigned_abs, int_le, int_lt}
-use Rattle.std.specs.Ordering.{int_eq}
+use Rattle.std.proofs.Common.{◌≡◌, ℕ, suc, ◌+◌, ◌*◌, ◌/◌, ◌<◌, ◌≤◌, ℤ, pos, negsuc, ◌+ℤ◌, ◌-ℤ◌, ◌*ℤ◌, ◌≤ℤ◌, ◌<ℤ◌, Bool, true, ◌&&◌, [], ◌∷◌, IsTrue, refl, sym, ◌∙◌, arith}
+use Rattle.std.specs.Prelude.{unsigned_abs}
 use Rattle.std.specs.Bool.{Decides}
 use Rattle.std.proofs.lemmas.Bool.{and_parts}
 use Rattle.std.proofs.lemmas.Bool.Decides.{Decides-int_eq, Decides-and}
@@ -12,14 +11,13 @@ use Rattle.order_ints.specs.Truth.{Valuation, Agree}
 use Rattle.order_ints.specs.OrderRange.{low_of, high_of}
 use Rattle.order_ints.specs.OrderValue.{value_of, in_order, IsOrdered}
 use Rattle.order_ints.specs.Represents.{DependsBelow}
-use Rattle.order_ints.proofs.Gains.{low-le, high-ge, value_of-agree, StepsBelow-more}
-use Rattle.core_forms.specs.declared.form.Core.{Core}
+use Rattle.order_ints.proofs.Gains.{low-le, high-ge, value_of-agree}
 use Rattle.core_forms.specs.declared.form.Core.TheVariants as core
-use Rattle.core_forms.specs.Meaning.{core_truth, is_division}
+use Rattle.core_forms.specs.Meaning.{is_division}
 use Rattle.core_forms.specs.WellFormed.{IsWellFormed, greatest_abs}
 use Rattle.core_forms.proofs.CoreLists.{MeetsAll-one}
 use Rattle.core_forms.proofs.Limits.{times-le, small-divisions}
-use Rattle.typed_model.specs.Integers.{is_quotient, is_remainder, IsQuotient, IsRemainder}
+use Rattle.typed_model.specs.Integers.{is_quotient, is_remainder}
 use Rattle.typed_model.specs.Domains.{at_least_zero}
 use Rattle.typed_model.proofs.DomainLaws.{Decides-int_le, Decides-int_lt}
 use Rattle.typed_model.proofs.HoldsLaws.{Decides-is_quotient}

@@ -1,5 +1,5 @@
 -- A statement that a sum equals the right side: one core stands for it.
-use Rattle.std.proofs.Common.{◌≡◌, ℕ, ◌+◌, ◌≤◌, ℤ, Bool, true, false, List, [], ◌∷◌, length, map, IsTrue, refl, sym, ap, subst, ◌∙◌, arith}
+use Rattle.std.proofs.Common.{◌≡◌, ℕ, ◌+◌, ◌≤◌, ℤ, true, List, [], ◌∷◌, length, map, IsTrue, refl, sym, ap, subst, ◌∙◌, arith}
 use Rattle.std.specs.Ordering.{int_eq}
 use Rattle.std.proofs.lemmas.Bool.{false≢true}
 use Rattle.std.proofs.lemmas.List.{length-map}
@@ -7,7 +7,6 @@ use Rattle.order_ints.specs.declared.order_int.OrdInt.{OrdInt}
 use Rattle.order_ints.specs.declared.order_int.MapValue.{MapValue}
 use Rattle.order_ints.specs.Truth.{Valuation}
 use Rattle.order_ints.specs.OrderMade.{integer_of_atom}
-use Rattle.order_ints.specs.OrderValue.{value_of, IsOrdered}
 use Rattle.order_ints.specs.Numbers as numbers
 use Rattle.core_forms.specs.declared.form.Core.{Core}
 use Rattle.core_forms.specs.Values as forms
@@ -30,7 +29,7 @@ use Rattle.statement_lower.specs.Entries.{EntriesFit, AreOrdered}
 use Rattle.statement_lower.specs.Linear.{scaled_each, equal_sum, is_sum, is_equality, is_equal_sum, summands_of, right_side_of, EqualSumLaw}
 use Rattle.statement_lower.specs.Lowers.{Lowers}
 use Rattle.statement_lower.proofs.MeaningLaws.{same_meanings}
-use Rattle.statement_lower.proofs.EntryLaws.{AreSmallIntegers, atoms_of-truths, atoms_of-below, integer_of-small, integer_of-value, integers_of-values, integers_of-small, IsOrdered-integer_of, ordered-integers_of}
+use Rattle.statement_lower.proofs.EntryLaws.{atoms_of-truths, atoms_of-below, integer_of-small, integer_of-value, integers_of-values, integers_of-small, IsOrdered-integer_of, ordered-integers_of}
 use Rattle.statement_lower.proofs.Comparisons.{equal-turned}
 use Rattle.statement_lower.proofs.WordLines.{small-bits, ordered-bits, values-bits}
 use Rattle.statement_lower.proofs.LinearLaws.{AreWide, wide-small, wide-scaled, length-scaled, scaled-total, scaled-ordered, bits-linear, equal-sum-truth, equal-sum-below, equal-sum-well_formed}
@@ -52,8 +51,8 @@ module _ (vars n : ℕ) (ds : List Decl) (entries : List MapValue) (h : EntriesF
       lowers-one vars C (equal_sum members (integer_of entries i)) (λ σ. int_eq (sum σ) (number_of (env σ) i))
       (equal-sum-below (vars + 1) members (integer_of entries i) wide a) (equal-sum-well_formed (vars + 1) members (integer_of entries i) wide a few)
       (λ σ c.
-          equal-sum-truth σ members (integer_of entries i) (order σ c) (IsOrdered-integer_of σ entries i c)
-          ∙ rw (e σ, integer_of-value (vars + 1) n ds entries h σ i fi) refl)
+      equal-sum-truth σ members (integer_of entries i) (order σ c) (IsOrdered-integer_of σ entries i c)
+      ∙ rw (e σ, integer_of-value (vars + 1) n ds entries h σ i fi) refl)
 
   to-relation : (rel : Relation) → is_equality rel ≡ true → rel ≡ relation.Eq
   to-relation relation.Leq e = absurd (false≢true e)
@@ -108,9 +107,9 @@ module _ (vars n : ℕ) (ds : List Decl) (entries : List MapValue) (h : EntriesF
       lowers-same vars vars C (equal_sum (integers_of entries is) (integer_of entries i) ∷ [])
       (λ σ. IsTrue (int_eq (total (numbers_of (env σ) is)) (number_of (env σ) i))) (λ σ. IsTrue (is_aggregate o (numbers_of (env σ) is) (number_of (env σ) i)))
       (λ σ c.
-          let e : int_eq (total (numbers_of (env σ) is)) (number_of (env σ) i) ≡ is_aggregate o (numbers_of (env σ) is) (number_of (env σ) i) =
-          rw (to-sum o eq) (equal-turned (total (numbers_of (env σ) is)) (number_of (env σ) i)) in
-          (λ p. sym e ∙ p, λ p. e ∙ p))
+      let e : int_eq (total (numbers_of (env σ) is)) (number_of (env σ) i) ≡ is_aggregate o (numbers_of (env σ) is) (number_of (env σ) i) =
+      rw (to-sum o eq) (equal-turned (total (numbers_of (env σ) is)) (number_of (env σ) i)) in
+      (λ p. sym e ∙ p, λ p. e ∙ p))
       (sum-stands (integers_of entries is) i (λ σ. total (numbers_of (env σ) is))
       (wide-small (vars + 1) (integers_of entries is) (integers_of-small (vars + 1) n ds entries is h fit.arguments.0 limit.0.0))
       (omega (arith, length-map is (integer_of entries), limit.1))

@@ -1,5 +1,5 @@
 -- Fresh atoms that are the truth of something.
-use Rattle.std.proofs.Common.{◌≡◌, ◌↔◌, ℕ, ◌+◌, ◌<◌, ◌≤◌, Bool, true, false, not, ◌&&◌, ◌||◌, cond, ltb, List, [], ◌∷◌, map, IsTrue, refl, sym, ap, subst, ◌∙◌, arith}
+use Rattle.std.proofs.Common.{◌≡◌, ℕ, ◌+◌, ◌≤◌, Bool, true, false, not, ◌&&◌, ◌||◌, cond, ltb, List, [], ◌∷◌, map, IsTrue, refl, sym, ap, ◌∙◌, arith}
 use Rattle.std.specs.Bool.{beq}
 use Rattle.std.proofs.lemmas.Bool.{lt-ltb, le-ltb, false≢true}
 use Rattle.order_ints.specs.declared.atom.Atom.{Atom}
@@ -14,7 +14,6 @@ use Rattle.core_forms.specs.Truths as forms
 use Rattle.core_forms.specs.Meaning.{core_truth}
 use Rattle.core_forms.specs.Place.{CoreBelow}
 use Rattle.core_forms.specs.WellFormed.{IsWellFormed}
-use Rattle.core_forms.specs.Cores.{MeetsAll}
 use Rattle.core_forms.proofs.CoreLists.{MeetsAll-one}
 use Rattle.typed_model.specs.Booleans.{all_true, none_true}
 use Rattle.typed_model.specs.Holds.{same}
@@ -147,11 +146,11 @@ module _ (vars : ℕ) (C : Valuation → Type 0) (atoms : List Atom) (z : Atom) 
       (λ σ. IsTrue (same (atom_truth σ z) (all σ || none σ)))
       (λ σ. IsTrue (same (atom_truth σ z) (σ (vars + 1) || σ (vars + 1 + 1))))
       (λ σ τ agree h.
-          let e : same (atom_truth σ z) (all σ || none σ) ≡ same (atom_truth τ z) (all τ || none τ) =
-          rw (atom_truth-agree (vars + 1) σ τ z agree at, truths-agree (vars + 1) σ τ atoms agree below) refl in
-          sym e ∙ h)
+      let e : same (atom_truth σ z) (all σ || none σ) ≡ same (atom_truth τ z) (all τ || none τ) =
+      rw (atom_truth-agree (vars + 1) σ τ z agree at, truths-agree (vars + 1) σ τ atoms agree below) refl in
+      sym e ∙ h)
       (λ σ d.
-          let e : same (atom_truth σ z) (σ (vars + 1) || σ (vars + 1 + 1)) ≡ same (atom_truth σ z) (all σ || none σ) =
-          rw (d.0.1, d.1) refl in
-          (λ h. e ∙ h, λ h. sym e ∙ h))
+      let e : same (atom_truth σ z) (σ (vars + 1) || σ (vars + 1 + 1)) ≡ same (atom_truth σ z) (all σ || none σ) =
+      rw (d.0.1, d.1) refl in
+      (λ h. e ∙ h, λ h. sym e ∙ h))
       third

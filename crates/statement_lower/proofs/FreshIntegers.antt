@@ -1,23 +1,19 @@
 -- Fresh integers from 0 upwards: their ranges, and that they take each of their values.
-use Rattle.std.proofs.Common.{◌≡◌, ℕ, zero, suc, ◌+◌, ◌^◌, ◌<◌, ◌≤◌, ℤ, pos, ◌+ℤ◌, ◌≤ℤ◌, ◌<ℤ◌, Bool, true, ◌&&◌, List, [], ◌∷◌, length, Contains, IsTrue, refl, sym, ap, subst, ◌∙◌, arith}
-use Rattle.std.specs.Prelude.{unsigned_abs}
+use Rattle.std.proofs.Common.{◌≡◌, ℕ, zero, suc, ◌+◌, ◌<◌, ◌≤◌, ℤ, pos, ◌+ℤ◌, ◌≤ℤ◌, ◌<ℤ◌, Bool, true, ◌&&◌, [], ◌∷◌, length, Contains, refl, sym, ap, subst, ◌∙◌, arith}
 use Rattle.std.specs.Ordering.{int_eq}
 use Rattle.std.proofs.lemmas.Bool.{and_parts}
 use Rattle.std.proofs.lemmas.Bool.Decides.{Decides-int_eq}
 use Rattle.std.proofs.lemmas.Int.{ints, by_lt_z}
-use Rattle.order_ints.specs.declared.order_int.OrdInt.{OrdInt}
 use Rattle.order_ints.specs.Truth.{Valuation, Agree}
-use Rattle.order_ints.specs.OrderMade.{unit_steps, unit_range_of, values_from}
-use Rattle.order_ints.specs.OrderRange.{high_of, IntBelow, IsBounded}
+use Rattle.order_ints.specs.OrderMade.{values_from}
+use Rattle.order_ints.specs.OrderRange.{high_of, IsBounded}
 use Rattle.order_ints.specs.OrderValue.{value_of, in_order, IsOrdered}
-use Rattle.order_ints.specs.OrderLevels.{values_of}
 use Rattle.order_ints.specs.Represents.{DependsBelow}
-use Rattle.order_ints.proofs.Gains.{IsOrdered-agree, value_of-agree}
 use Rattle.order_ints.proofs.Fresh.{weights-unit_steps, atoms-unit_steps, values_of-unit_range_of, AreRising-unit_steps, StepsBelow-vars, IsBounded-unit_range_of, takes_each_value}
 use Rattle.core_forms.specs.declared.form.Core.{Core}
 use Rattle.core_forms.specs.Meaning.{core_truth}
 use Rattle.core_forms.specs.Place.{CoreBelow}
-use Rattle.core_forms.specs.WellFormed.{IsSound, IsWellFormed, greatest_abs}
+use Rattle.core_forms.specs.WellFormed.{IsWellFormed}
 use Rattle.core_forms.proofs.CoreLists.{MeetsAll-one}
 use Rattle.statement_lower.specs.Lines.{fresh_range}
 use Rattle.statement_lower.proofs.EntryLaws.{SmallInteger}

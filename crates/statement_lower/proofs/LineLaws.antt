@@ -1,5 +1,5 @@
 -- Line by line, the cores of a statement stand for its being true.
-use Rattle.std.proofs.Common.{◌≡◌, ◌↔◌, ℕ, suc, ◌+◌, ◌<◌, ◌≤◌, ℤ, pos, ◌≤ℤ◌, Bool, true, false, List, [], ◌∷◌, ◌++◌, length, map, IsTrue, refl, sym, ap, subst, ◌∙◌, arith}
+use Rattle.std.proofs.Common.{◌≡◌, ℕ, suc, ◌+◌, ◌<◌, ◌≤◌, ℤ, pos, ◌≤ℤ◌, Bool, true, false, List, [], ◌∷◌, ◌++◌, length, map, IsTrue, refl, sym, ap, ◌∙◌, arith}
 use Rattle.std.specs.Prelude.{unsigned_abs, if◌then◌else◌}
 use Rattle.std.specs.Ordering.{int_eq}
 use Rattle.std.proofs.lemmas.Bool.{false≢true}
@@ -16,9 +16,8 @@ use Rattle.order_ints.specs.OrderChange.{negated_of}
 use Rattle.order_ints.specs.OrderRange.{low_of}
 use Rattle.order_ints.specs.Numbers as numbers
 use Rattle.order_ints.specs.Represents.{DependsBelow}
-use Rattle.order_ints.proofs.Truths.{AtomBelow-not_atom, atom_truth-agree}
+use Rattle.order_ints.proofs.Truths.{AtomBelow-not_atom}
 use Rattle.order_ints.proofs.Gains.{IsOrdered-agree}
-use Rattle.core_forms.specs.declared.form.Core.{Core}
 use Rattle.core_forms.specs.declared.form.Core.TheVariants as core
 use Rattle.core_forms.specs.Truths as forms
 use Rattle.core_forms.specs.Cores.{CoresBelow, AreWellFormed}
@@ -52,7 +51,7 @@ use Rattle.statement_lower.specs.Lines.{equal_core, equal_cores, array_cores, op
 use Rattle.statement_lower.specs.IsLowered.{is_lowered_aggregate, is_lowered}
 use Rattle.statement_lower.specs.Lowers.{Lowers, LineLaw}
 use Rattle.statement_lower.proofs.EntryLaws.{SmallInteger, AreSmallIntegers, atom_of-laws, atoms_of-truths, atoms_of-below, integer_of-small, integer_of-value, integer_of-least, small-more, integers_of-values, integers_of-small, IsOrdered-integer_of, ordered-integers_of, numbers_of-agree}
-use Rattle.statement_lower.proofs.BooleanLines.{and-true, equal-truth, array-truth, or-truth, and-truth, xor-truth}
+use Rattle.statement_lower.proofs.BooleanLines.{equal-truth, array-truth, or-truth, and-truth, xor-truth}
 use Rattle.statement_lower.proofs.Comparisons.{comparison-truth, comparison-below, comparison-well_formed}
 use Rattle.statement_lower.proofs.IntegerLines.{small-negated, small-negated_each, count-truth, sum-truth, product-truth, greatest-truth, least-truth, absolute-truth, greatest-below, greatest-well_formed, product-well_formed, sum-well_formed, count-well_formed}
 use Rattle.statement_lower.proofs.FreshAtoms.{AtomsBelow-negated, AtomsBelow-more, truths-agree, lowers-all_equal}
@@ -187,8 +186,8 @@ module _ (vars n : ℕ) (ds : List Decl) (entries : List MapValue) (h : EntriesF
   operation-stands : (o : Arithmetic) (i j k : IntTerm) → NumberFits ds n i → NumberFits ds n j → NumberFits ds n k
       → TermInLimit i → TermInLimit j → TermInLimit k → ValuesFit ds (statement.Operation o) (Number i ∷ Number j ∷ Number k ∷ [])
       → Lowers vars (operation_made vars o (integer_of entries i) (integer_of entries j) (integer_of entries k)).vars C
-        (operation_made vars o (integer_of entries i) (integer_of entries j) (integer_of entries k)).cores
-        (λ σ. IsTrue (gives o (number_of (env σ) i) (number_of (env σ) j) (number_of (env σ) k)))
+      (operation_made vars o (integer_of entries i) (integer_of entries j) (integer_of entries k)).cores
+      (λ σ. IsTrue (gives o (number_of (env σ) i) (number_of (env σ) j) (number_of (env σ) k)))
   operation-stands arithmetic.Plus i j k fi fj fk li lj lk low =
       let a = small i fi li in
       let b = small j fj lj in
@@ -239,8 +238,8 @@ module _ (vars n : ℕ) (ds : List Decl) (entries : List MapValue) (h : EntriesF
   aggregate-stands : (o : Aggregate) (is : List IntTerm) (i : IntTerm) → NumbersFit ds n is → NumberFits ds n i
       → TermsInLimit is → TermInLimit i → 0 < length is → is_lowered_aggregate o ≡ true
       → Lowers vars (aggregate_made vars o (integers_of entries is) (integer_of entries i)).vars C
-        (aggregate_made vars o (integers_of entries is) (integer_of entries i)).cores
-        (λ σ. IsTrue (is_aggregate o (numbers_of (env σ) is) (number_of (env σ) i)))
+      (aggregate_made vars o (integers_of entries is) (integer_of entries i)).cores
+      (λ σ. IsTrue (is_aggregate o (numbers_of (env σ) is) (number_of (env σ) i)))
   aggregate-stands aggregate.Max is i fs fi ls li some low =
       let members : List OrdInt = integers_of entries is in
       let each : AreSmallIntegers (vars + 1) members = integers_of-small (vars + 1) n ds entries is h fs ls in
@@ -272,7 +271,7 @@ module _ (vars n : ℕ) (ds : List Decl) (entries : List MapValue) (h : EntriesF
   -- a fresh integer counts, and is compared
   compared-stands : (rel : Relation) (xs : List BoolTerm) (i : IntTerm) → TruthsFit ds n xs → NumberFits ds n i → TermInLimit i → length xs ≤ 16777216
       → Lowers vars (compared_count vars rel (atoms_of entries xs) (integer_of entries i)).vars C (compared_count vars rel (atoms_of entries xs) (integer_of entries i)).cores
-        (λ σ. IsTrue (relates rel (pos (count_true (truths_of (env σ) xs))) (number_of (env σ) i)))
+      (λ σ. IsTrue (relates rel (pos (count_true (truths_of (env σ) xs))) (number_of (env σ) i)))
   compared-stands rel xs i fs fi li few =
       let atoms : List Atom = atoms_of entries xs in
       let a : OrdInt = integer_of entries i in
@@ -292,20 +291,20 @@ module _ (vars n : ℕ) (ds : List Decl) (entries : List MapValue) (h : EntriesF
       (λ σ. IsTrue (relates rel (pos (count_true (truths_of (env σ) xs))) (number_of (env σ) i)))
       (λ σ. IsTrue (same true (relates rel (value_of σ z) (value_of σ a))))
       (λ σ τ agree p.
-          let e : relates rel (pos (count_true (truths_of (env σ) xs))) (number_of (env σ) i) ≡ relates rel (pos (count_true (truths_of (env τ) xs))) (number_of (env τ) i) =
-          ap (λ e. relates rel (pos (count_true (truths_of e xs))) (number_of e i)) (numbers_of-agree (vars + 1) σ τ ds entries agree h) in
-          sym e ∙ p)
+      let e : relates rel (pos (count_true (truths_of (env σ) xs))) (number_of (env σ) i) ≡ relates rel (pos (count_true (truths_of (env τ) xs))) (number_of (env τ) i) =
+      ap (λ e. relates rel (pos (count_true (truths_of e xs))) (number_of e i)) (numbers_of-agree (vars + 1) σ τ ds entries agree h) in
+      sym e ∙ p)
       (λ σ d.
-          let e : relates rel (value_of σ z) (value_of σ a) ≡ relates rel (pos (count_true (truths_of (env σ) xs))) (number_of (env σ) i) =
-          rw (d.2, value i fi σ, ← truths xs fs σ) (ap (λ n. relates rel (pos n) (number_of (env σ) i)) (same_meanings.count σ atoms)) in
-          (λ p. e ∙ p, λ p. sym e ∙ p))
+      let e : relates rel (value_of σ z) (value_of σ a) ≡ relates rel (pos (count_true (truths_of (env σ) xs))) (number_of (env σ) i) =
+      rw (d.2, value i fi σ, ← truths xs fs σ) (ap (λ n. relates rel (pos n) (number_of (env σ) i)) (same_meanings.count σ atoms)) in
+      (λ p. e ∙ p, λ p. sym e ∙ p))
       (lowers-one (vars + most) D (comparison_core rel True z a) (λ σ. same true (relates rel (value_of σ z) (value_of σ a)))
       (comparison-below (vars + most + 1) rel True z a tt fresh fits) (comparison-well_formed rel True z a fresh.sound fits.sound)
       (λ σ d. comparison-truth σ rel True z a d.1 (ordered i σ d.0)))
 
   count-stands : (rel : Relation) (xs : List BoolTerm) (i : IntTerm) → TruthsFit ds n xs → NumberFits ds n i → TermInLimit i → length xs ≤ 16777216
       → Lowers vars (count_made vars rel (atoms_of entries xs) (integer_of entries i)).vars C (count_made vars rel (atoms_of entries xs) (integer_of entries i)).cores
-        (λ σ. IsTrue (relates rel (pos (count_true (truths_of (env σ) xs))) (number_of (env σ) i)))
+      (λ σ. IsTrue (relates rel (pos (count_true (truths_of (env σ) xs))) (number_of (env σ) i)))
   count-stands relation.Eq xs i fs fi li few =
       let a = small i fi li in
       lowers-one vars C (core.Count (atoms_of entries xs) (integer_of entries i)) (λ σ. relates relation.Eq (pos (count_true (truths_of (env σ) xs))) (number_of (env σ) i))

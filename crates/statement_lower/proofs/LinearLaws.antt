@@ -1,5 +1,5 @@
 -- The members of a linear statement: their values, added up, and their limits.
-use Rattle.std.proofs.Common.{◌≡◌, ℕ, zero, suc, ◌+◌, ◌*◌, ◌^◌, ◌<◌, ◌≤◌, max, ℤ, pos, negsuc, ◌+ℤ◌, ◌*ℤ◌, Bool, true, false, ◌&&◌, List, [], ◌∷◌, ◌++◌, length, map, refl, sym, ap, ◌∙◌, arith}
+use Rattle.std.proofs.Common.{◌≡◌, ℕ, zero, suc, ◌+◌, ◌*◌, ◌≤◌, ℤ, pos, negsuc, ◌+ℤ◌, ◌*ℤ◌, Bool, true, false, ◌&&◌, List, [], ◌∷◌, length, map, refl, ap, ◌∙◌, arith}
 use Rattle.std.specs.Prelude.{neg_ℤ, unsigned_abs, if◌then◌else◌}
 use Rattle.std.specs.Ordering.{int_eq}
 use Rattle.std.proofs.lemmas.Bool.{and_parts}
@@ -11,9 +11,8 @@ use Rattle.order_ints.specs.Truth.{Valuation}
 use Rattle.order_ints.specs.OrderRange.{low_of, high_of, IntBelow}
 use Rattle.order_ints.specs.OrderValue.{gains, value_of, in_order, IsOrdered}
 use Rattle.order_ints.specs.OrderChange.{negated_of, multiplied_of, scaled_of}
-use Rattle.order_ints.proofs.Negation.{value_of-negated_of, in_order-negated, high_of-negated_of}
+use Rattle.order_ints.proofs.Negation.{value_of-negated_of, high_of-negated_of}
 use Rattle.order_ints.proofs.Multiples.{value_of-scaled_of, IsOrdered-scaled_of, AreRising-scaled_of, IntBelow-scaled_of, high_of-multiplied_of, IsBounded-scaled_of}
-use Rattle.core_forms.specs.declared.form.Core.TheVariants as core
 use Rattle.core_forms.specs.Values as forms
 use Rattle.core_forms.specs.Meaning.{core_truth}
 use Rattle.core_forms.specs.Place.{CoreBelow, IntsBelow}
@@ -21,7 +20,7 @@ use Rattle.core_forms.specs.WellFormed.{IsSound, AreSound, IsWellFormed, greates
 use Rattle.core_forms.proofs.IntLists.{all_ordered-append, values-append, total-append}
 use Rattle.core_forms.proofs.Limits.{times-le}
 use Rattle.typed_model.specs.Integers.{weight_of_true, linear_sum}
-use Rattle.typed_model.specs.Terms.{value_at, as_number}
+use Rattle.typed_model.specs.Terms.{as_number}
 use Rattle.typed_model.specs.Limits.{InLimit, AllInLimit}
 use Rattle.statement_lower.specs.Linear.{scaled_each, has_steps, with_steps, constant_of_members, linear_members, zero_sum, equal_sum}
 use Rattle.statement_lower.proofs.EntryLaws.{SmallInteger, AreSmallIntegers}
@@ -59,9 +58,9 @@ zero-sum-truth : (σ : Valuation) (members : List OrdInt) → forms.all_ordered 
 zero-sum-truth σ members h =
     only-test (forms.all_ordered σ (with_steps members)) _ (ordered-parts σ members h)
     ∙ same_from_decides _ _
-      (Decides-like _ (λ e. omega (arith, ints, e, total-parts σ members)) (λ e. omega (arith, ints, e, total-parts σ members))
-      (Decides-int_eq (forms.total (forms.values σ (with_steps members))) (neg_ℤ (constant_of_members members))))
-      (Decides-int_eq (forms.total (forms.values σ members)) (pos 0))
+    (Decides-like _ (λ e. omega (arith, ints, e, total-parts σ members)) (λ e. omega (arith, ints, e, total-parts σ members))
+    (Decides-int_eq (forms.total (forms.values σ (with_steps members))) (neg_ℤ (constant_of_members members))))
+    (Decides-int_eq (forms.total (forms.values σ members)) (pos 0))
   where
     only-test : (o t : Bool) → o ≡ true → (o && t) ≡ t
     only-test o t e = rw e refl
@@ -77,8 +76,8 @@ equal-sum-truth σ members a h k =
     ∙ (total-append (forms.values σ members) (value_of σ (negated_of a) ∷ []) ∙ ap (λ v. forms.total (forms.values σ members) +ℤ (v +ℤ pos 0)) (value_of-negated_of σ a)) in
     zero-sum-truth σ (linear_members members a) (ordered-last σ members a h k)
     ∙ same_from_decides _ _
-      (Decides-like _ (λ e. omega (arith, ints, e, split)) (λ e. omega (arith, ints, e, split)) (Decides-int_eq (forms.total (forms.values σ (linear_members members a))) (pos 0)))
-      (Decides-int_eq (forms.total (forms.values σ members)) (value_of σ a))
+    (Decides-like _ (λ e. omega (arith, ints, e, split)) (λ e. omega (arith, ints, e, split)) (Decides-int_eq (forms.total (forms.values σ (linear_members members a))) (pos 0)))
+    (Decides-int_eq (forms.total (forms.values σ members)) (value_of σ a))
 
 -- Multiples.
 

@@ -1,5 +1,5 @@
 -- How it is shown that cores stand for a property.
-use Rattle.std.proofs.Common.{◌≡◌, ◌↔◌, ℕ, ◌+◌, ◌≤◌, Bool, true, List, [], ◌∷◌, ◌++◌, IsTrue, refl, sym, ◌∙◌, arith}
+use Rattle.std.proofs.Common.{◌≡◌, ◌↔◌, ℕ, ◌+◌, ◌≤◌, Bool, List, [], ◌∷◌, ◌++◌, IsTrue, refl, sym, ◌∙◌, arith}
 use Rattle.order_ints.specs.Truth.{Valuation, Agree}
 use Rattle.order_ints.specs.Represents.{DependsBelow}
 use Rattle.core_forms.specs.declared.form.Core.{Core}

@@ -1,11 +1,9 @@
 -- Fresh atoms for each two members, and whether all members differ.
-use Rattle.std.proofs.Common.{◌≡◌, ◌↔◌, ℕ, ◌+◌, ◌<◌, ◌≤◌, ℤ, Bool, true, false, not, ◌&&◌, List, [], ◌∷◌, ◌++◌, map, Option, Some, None, IsTrue, refl, sym, ap, ◌∙◌, arith}
-use Rattle.std.specs.Bool.{beq}
+use Rattle.std.proofs.Common.{◌≡◌, ℕ, ◌+◌, ◌≤◌, Bool, true, false, ◌&&◌, List, [], ◌∷◌, ◌++◌, map, Option, Some, None, IsTrue, refl, sym, ap, ◌∙◌, arith}
 use Rattle.std.specs.Ordering.{int_eq}
 use Rattle.std.proofs.lemmas.Bool.{and_parts}
 use Rattle.order_ints.specs.declared.atom.Atom.{Atom}
 use Rattle.order_ints.specs.declared.order_int.OrdInt.{OrdInt}
-use Rattle.order_ints.specs.declared.order_int.MapValue.{MapValue}
 use Rattle.order_ints.specs.Truth.{Valuation, Agree, atom_truth, not_atom}
 use Rattle.order_ints.specs.Place.{AtomBelow, AtomsBelow}
 use Rattle.order_ints.specs.OrderValue.{value_of, in_order, IsOrdered}
@@ -20,7 +18,6 @@ use Rattle.core_forms.specs.Values.{values, all_ordered}
 use Rattle.typed_model.specs.declared.model.Decl.{Decl}
 use Rattle.typed_model.specs.declared.what.BoolTerm.{BoolTerm}
 use Rattle.typed_model.specs.declared.what.IntTerm.{IntTerm}
-use Rattle.typed_model.specs.declared.what.What.{What}
 use Rattle.typed_model.specs.declared.what.What.TheVariants.{L17}
 use Rattle.typed_model.specs.declared.statement.AllDifferent.TheVariants as all_different
 use Rattle.typed_model.specs.Terms.{numbers_of}
@@ -28,14 +25,14 @@ use Rattle.typed_model.specs.Lists.{differs_from, all_differ}
 use Rattle.typed_model.specs.Holds.{Holds, holds, same, truth_or_true}
 use Rattle.typed_model.specs.WellTyped.{TruthFits, WhatFits}
 use Rattle.typed_model.proofs.TableLaws.{Decides-holds}
-use Rattle.statement_lower.specs.Terms.{integers_of, atom_of, atom_or_true}
-use Rattle.statement_lower.specs.Entries.{EntriesFit, AreOrdered}
+use Rattle.statement_lower.specs.Terms.{integers_of, atom_or_true}
+use Rattle.statement_lower.specs.Entries.{AreOrdered}
 use Rattle.statement_lower.specs.Lines.{fresh_atom}
 use Rattle.statement_lower.specs.Pairs.{each_vars, each_atoms, each_equal, pairs_vars, pairs_atoms, pairs_equal, difference_made, ReifiedDifferenceLaw}
 use Rattle.statement_lower.specs.Lowers.{Lowers}
-use Rattle.statement_lower.proofs.EntryLaws.{SmallInteger, AreSmallIntegers, small-more, atom_of-laws, integers_of-values, integers_of-small, ordered-integers_of, numbers_of-agree}
+use Rattle.statement_lower.proofs.EntryLaws.{SmallInteger, AreSmallIntegers, small-more, atom_of-laws, integers_of-values, integers_of-small, ordered-integers_of}
 use Rattle.statement_lower.proofs.BooleanLines.{beq-same}
-use Rattle.statement_lower.proofs.FreshAtoms.{AtomsBelow-more, AtomsBelow-negated, truths-agree, Names, Names-depends, extends-atom}
+use Rattle.statement_lower.proofs.FreshAtoms.{AtomsBelow-more, AtomsBelow-negated, Names, Names-depends, extends-atom}
 use Rattle.statement_lower.proofs.LineLaws.{AreOrdered-depends}
 use Rattle.statement_lower.proofs.LowersLaws.{Extends, extends-then, lowers-behind, lowers-one, lowers-same}
 
@@ -129,9 +126,9 @@ each-extends vars C a (b ∷ ints) keeps small smalls order =
     (((omega arith, omega arith), tt), ((small-more (vars + 1) (vars + 1 + 1) a (omega arith) small).below, ((small-more (vars + 1) (vars + 1 + 1) b (omega arith) smalls.0).below, tt)))
     (small.sound, smalls.0.sound)
     (λ σ c.
-        let o = order σ c in
-        let p = and_parts (in_order σ b.steps) (all_ordered σ ints) o.1 in
-        both-ordered (in_order σ a.steps) (in_order σ b.steps) _ o.0 p.0)
+    let o = order σ c in
+    let p = and_parts (in_order σ b.steps) (all_ordered σ ints) o.1 in
+    both-ordered (in_order σ a.steps) (in_order σ b.steps) _ o.0 p.0)
     depends keeps in
     let rest : Extends (vars + 1) (each_vars (vars + 1) ints) D (Differs (vars + 1) a ints D) (each_equal (vars + 1) a ints) =
     each-extends (vars + 1) D a ints (Names-depends vars C test depends keeps) (small-more (vars + 1) (vars + 1 + 1) a (omega arith) small)
@@ -183,12 +180,12 @@ difference-lowers vars C ints z keeps smalls at order =
     (pairs-extends vars C ints keeps smalls order) keeps
     (λ σ. IsTrue (same (atom_truth σ z) (all_differ (values σ ints)))) (λ σ. IsTrue (same (atom_truth σ z) (forms.all_true σ members)))
     (λ σ τ agree h.
-        let e : same (atom_truth σ z) (all_differ (values σ ints)) ≡ same (atom_truth τ z) (all_differ (values τ ints)) =
-        rw (atom_truth-agree (vars + 1) σ τ z agree at, values-agree (vars + 1) σ τ ints agree smalls) refl in
-        sym e ∙ h)
+    let e : same (atom_truth σ z) (all_differ (values σ ints)) ≡ same (atom_truth τ z) (all_differ (values τ ints)) =
+    rw (atom_truth-agree (vars + 1) σ τ z agree at, values-agree (vars + 1) σ τ ints agree smalls) refl in
+    sym e ∙ h)
     (λ σ d.
-        let e : same (atom_truth σ z) (forms.all_true σ members) ≡ same (atom_truth σ z) (all_differ (values σ ints)) = ap (same (atom_truth σ z)) d.1 in
-        (λ h. e ∙ h, λ h. sym e ∙ h))
+    let e : same (atom_truth σ z) (forms.all_true σ members) ≡ same (atom_truth σ z) (all_differ (values σ ints)) = ap (same (atom_truth σ z)) d.1 in
+    (λ h. e ∙ h, λ h. sym e ∙ h))
     (lowers-one k (AllDiffer vars ints C) (core.Conj z members) (λ σ. same (atom_truth σ z) (forms.all_true σ members))
     ((AtomBelow-more (vars + 1) (k + 1) z (omega (arith, le)) at, AtomsBelow-negated (k + 1) (pairs_atoms vars ints) (pairs-below vars ints)), tt) tt
     (λ σ d. beq-same (atom_truth σ z) (forms.all_true σ members)))
@@ -210,9 +207,9 @@ reified_difference_law vars n ds entries name is z xs h fit limit =
     lowers-same vars (difference_made vars members (atom_or_true entries z)).vars (λ σ. AreOrdered σ entries) (difference_made vars members (atom_or_true entries z)).cores
     (λ σ. IsTrue (same (atom_truth σ (atom_or_true entries z)) (all_differ (values σ members)))) (λ σ. Holds (numbers.numbers_of σ entries) (L17 name all_different.Reified is z xs))
     (λ σ c.
-        let d = Decides-holds (numbers.numbers_of σ entries) (L17 name all_different.Reified is z xs) in
-        let e : same (atom_truth σ (atom_or_true entries z)) (all_differ (values σ members)) ≡ same (truth_or_true (numbers.numbers_of σ entries) z) (all_differ (numbers_of (numbers.numbers_of σ entries) is)) =
-        rw (x.1, (truth σ).0, integers_of-values (vars + 1) n ds entries h σ is fit.arguments.0) refl in
-        (λ t. d.0 (sym e ∙ t), λ t. e ∙ d.1 t))
+    let d = Decides-holds (numbers.numbers_of σ entries) (L17 name all_different.Reified is z xs) in
+    let e : same (atom_truth σ (atom_or_true entries z)) (all_differ (values σ members)) ≡ same (truth_or_true (numbers.numbers_of σ entries) z) (all_differ (numbers_of (numbers.numbers_of σ entries) is)) =
+    rw (x.1, (truth σ).0, integers_of-values (vars + 1) n ds entries h σ is fit.arguments.0) refl in
+    (λ t. d.0 (sym e ∙ t), λ t. e ∙ d.1 t))
     (difference-lowers vars (λ σ. AreOrdered σ entries) members (atom_or_true entries z) (AreOrdered-depends (vars + 1) ds entries h)
     (integers_of-small (vars + 1) n ds entries is h fit.arguments.0 limit.0.0) at (λ σ c. ordered-integers_of σ entries is c))

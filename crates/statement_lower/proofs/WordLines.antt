@@ -1,6 +1,6 @@
 -- Members that differ, and lists in order: the cores stand for the statements.
-use Rattle.std.proofs.Common.{◌≡◌, ℕ, ◌+◌, ◌<◌, ◌≤◌, ℤ, pos, ◌+ℤ◌, Bool, true, false, ◌&&◌, List, [], ◌∷◌, length, map, Option, Some, None, IsTrue, refl, sym, ap, ◌∙◌, lit<, arith}
-use Rattle.std.specs.Prelude.{unsigned_abs, if◌then◌else◌}
+use Rattle.std.proofs.Common.{◌≡◌, ℕ, ◌+◌, ℤ, pos, ◌+ℤ◌, Bool, true, false, ◌&&◌, List, [], ◌∷◌, length, map, Option, Some, None, IsTrue, refl, sym, ap, ◌∙◌, lit<, arith}
+use Rattle.std.specs.Prelude.{if◌then◌else◌}
 use Rattle.std.specs.Bool.{beq}
 use Rattle.std.specs.Option.{option_map}
 use Rattle.std.proofs.lemmas.List.{length-map}
@@ -12,14 +12,11 @@ use Rattle.order_ints.specs.declared.order_int.MapValue.{MapValue}
 use Rattle.order_ints.specs.Truth.{Valuation, atom_truth}
 use Rattle.order_ints.specs.Place.{AtomBelow, AtomsBelow}
 use Rattle.order_ints.specs.OrderMade.{integer_of_atom}
-use Rattle.order_ints.specs.OrderValue.{value_of, in_order}
 use Rattle.order_ints.specs.Numbers as numbers
 use Rattle.core_forms.specs.declared.form.Core.TheVariants as core
 use Rattle.core_forms.specs.Truths as forms
-use Rattle.core_forms.specs.Values.{values, all_ordered, is_before}
+use Rattle.core_forms.specs.Values.{values, all_ordered}
 use Rattle.core_forms.specs.Meaning.{core_truth}
-use Rattle.core_forms.specs.Place.{IntsBelow, CoreBelow}
-use Rattle.core_forms.specs.WellFormed.{IsWellFormed}
 use Rattle.core_forms.proofs.IntLists.{IntsBelow-append}
 use Rattle.typed_model.specs.declared.model.Decl.{Decl}
 use Rattle.typed_model.specs.declared.what.BoolTerm.{BoolTerm}
@@ -32,7 +29,7 @@ use Rattle.typed_model.specs.Arguments.{Argument, Truth, Truths, Numbers, given}
 use Rattle.typed_model.specs.Signatures.{all_different_signature, lex_signature}
 use Rattle.typed_model.specs.Terms.{truth_of, number_of, truths_of, numbers_of, as_number}
 use Rattle.typed_model.specs.Lists as typed
-use Rattle.typed_model.specs.Holds.{same, reify, members_differ, truth_or_true, terms_or_none}
+use Rattle.typed_model.specs.Holds.{reify, members_differ, truth_or_true, terms_or_none}
 use Rattle.typed_model.specs.Limits.{TermsInLimit, ArgumentsInLimit}
 use Rattle.typed_model.specs.WellTyped.{TruthFits, TruthsFit, NumbersFit, ArgumentsFit, LengthsFit}
 use Rattle.statement_lower.specs.Terms.{atom_of, atoms_of, integer_of, integers_of, atom_or_true, word_of}
@@ -128,7 +125,7 @@ module _ (vars n : ℕ) (ds : List Decl) (entries : List MapValue) (h : EntriesF
       → ArgumentsFit ds n (all_different_signature d) (given (Some (Numbers is) ∷ option_map Truth z ∷ option_map Truths xs ∷ []))
       → LengthsFit (given (Some (Numbers is) ∷ option_map Truth z ∷ option_map Truths xs ∷ [])) → TermsInLimit is
       → Lowers vars (different_made vars d (integers_of entries is) (atoms_of entries (terms_or_none xs))).vars C (different_made vars d (integers_of entries is) (atoms_of entries (terms_or_none xs))).cores
-        (λ σ. IsTrue (members_differ d (numbers_of (env σ) is) (truth_or_true (env σ) z) (truths_of (env σ) (terms_or_none xs))))
+      (λ σ. IsTrue (members_differ d (numbers_of (env σ) is) (truth_or_true (env σ) z) (truths_of (env σ) (terms_or_none xs))))
   difference-stands all_different.Plain is z xs low f k l =
       let w = numbers-word is f.0 l in
       let members : List OrdInt = integers_of entries is in
@@ -158,8 +155,8 @@ module _ (vars n : ℕ) (ds : List Decl) (entries : List MapValue) (h : EntriesF
       ((at, tt), IntsBelow-append (vars + 1) front back (below-small (vars + 1) front f.small) (below-small (vars + 1) back g.small))
       (sound-small (vars + 1) front f.small, sound-small (vars + 1) back g.small, long)
       (λ σ c.
-          both-ordered (all_ordered σ front) (all_ordered σ back) _ (f.ordered σ c) (g.ordered σ c)
-          ∙ (rw (f.values σ, g.values σ, e σ, ← same_meanings.in_order strict (v σ) (w σ) (even σ)) refl ∙ says σ))
+      both-ordered (all_ordered σ front) (all_ordered σ back) _ (f.ordered σ c) (g.ordered σ c)
+      ∙ (rw (f.values σ, g.values σ, e σ, ← same_meanings.in_order strict (v σ) (w σ) (even σ)) refl ∙ says σ))
 
   -- What typing says of the lists that a statement has.
 
@@ -251,7 +248,7 @@ module _ (vars n : ℕ) (ds : List Decl) (entries : List MapValue) (h : EntriesF
         → AtomBelow (vars + 1) r → ((σ : Valuation) → atom_truth σ r ≡ t σ)
         → (q : Valuation → Bool) → ((σ : Valuation) → beq (t σ) (typed.in_order strict (map as_number (truths_of (env σ) (terms_or_none xs))) (map as_number (truths_of (env σ) (terms_or_none ys)))) ≡ q σ)
         → Lowers vars vars C (core.Lex r strict (word_of entries true (terms_or_none xs) (terms_or_none is)) (word_of entries true (terms_or_none ys) (terms_or_none js)) ∷ [])
-          (λ σ. IsTrue (q σ))
+        (λ σ. IsTrue (q σ))
     truths-order r t f at e q says =
         order-stands strict r t (word_of entries true (terms_or_none xs) (terms_or_none is)) (word_of entries true (terms_or_none ys) (terms_or_none js))
         (λ σ. map as_number (truths_of (env σ) (terms_or_none xs))) (λ σ. map as_number (truths_of (env σ) (terms_or_none ys)))
@@ -265,7 +262,7 @@ module _ (vars n : ℕ) (ds : List Decl) (entries : List MapValue) (h : EntriesF
         → AtomBelow (vars + 1) r → ((σ : Valuation) → atom_truth σ r ≡ t σ)
         → (q : Valuation → Bool) → ((σ : Valuation) → beq (t σ) (typed.in_order strict (numbers_of (env σ) (terms_or_none is)) (numbers_of (env σ) (terms_or_none js))) ≡ q σ)
         → Lowers vars vars C (core.Lex r strict (word_of entries false (terms_or_none xs) (terms_or_none is)) (word_of entries false (terms_or_none ys) (terms_or_none js)) ∷ [])
-          (λ σ. IsTrue (q σ))
+        (λ σ. IsTrue (q σ))
     numbers-order r t f at e q says =
         order-stands strict r t (word_of entries false (terms_or_none xs) (terms_or_none is)) (word_of entries false (terms_or_none ys) (terms_or_none js))
         (λ σ. numbers_of (env σ) (terms_or_none is)) (λ σ. numbers_of (env σ) (terms_or_none js))

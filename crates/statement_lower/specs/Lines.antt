@@ -1,6 +1,6 @@
 -- What a statement is lowered to, line by line of the table of statements: the number of variables behind its fresh
 -- ones, and its cores.
-use Rattle.std.specs.Prelude.{ℕ, ◌+◌, ◌/◌, min, ℤ, pos, ◌-ℤ◌, Bool, true, false, List, [], ◌∷◌, ◌++◌, length, map, Option, if◌then◌else◌}
+use Rattle.std.specs.Prelude.{ℕ, ◌+◌, ◌/◌, min, pos, ◌-ℤ◌, true, false, List, [], ◌∷◌, ◌++◌, length, map, Option, if◌then◌else◌}
 use Rattle.order_ints.specs.declared.atom.Atom.{Atom}
 use Rattle.order_ints.specs.declared.atom.Atom.TheVariants.{True}
 use Rattle.order_ints.specs.declared.order_int.OrdInt.{OrdInt}

@@ -1,6 +1,6 @@
 -- Whether all members differ: a fresh atom for each two members says that they are equal, and all members differ where
 -- none of the atoms is true.
-use Rattle.std.specs.Prelude.{◌≡◌, ℕ, ◌+◌, List, [], ◌∷◌, ◌++◌, map, Option}
+use Rattle.std.specs.Prelude.{ℕ, ◌+◌, List, [], ◌∷◌, ◌++◌, map, Option}
 use Rattle.order_ints.specs.declared.atom.Atom.{Atom}
 use Rattle.order_ints.specs.declared.order_int.OrdInt.{OrdInt}
 use Rattle.order_ints.specs.declared.order_int.MapValue.{MapValue}
@@ -61,4 +61,4 @@ ReifiedDifferenceLaw =
     (vars n : ℕ) (ds : List Decl) (entries : List MapValue) (name : List ℕ) (is : List IntTerm) (z : Option BoolTerm) (xs : Option (List BoolTerm))
     → EntriesFit (vars + 1) ds entries → WhatFits ds n (L17 name Reified is z xs) → WhatInLimit (L17 name Reified is z xs)
     → Lowers vars (difference_made vars (integers_of entries is) (atom_or_true entries z)).vars (λ σ. AreOrdered σ entries)
-      (difference_made vars (integers_of entries is) (atom_or_true entries z)).cores (λ σ. Holds (numbers_of σ entries) (L17 name Reified is z xs))
+    (difference_made vars (integers_of entries is) (atom_or_true entries z)).cores (λ σ. Holds (numbers_of σ entries) (L17 name Reified is z xs))

@@ -9,7 +9,10 @@ ghost use Rattle.statement_lower.specs.Lines.{made_here, comparison_core, compar
 
 use crate::fresh::{fresh_range, most_quotient, most_remainder};
 use crate::made::Made;
-use crate::terms::{atom_of, atoms_of, bounded_integer_of, integer_of, integers_of, negated_integer_of, negated_integers_of};
+use crate::terms::{
+    atom_of, atoms_of, bounded_integer_of, integer_of, integers_of, negated_integer_of,
+    negated_integers_of,
+};
 use bee_list::Sequence;
 use core_forms::Core;
 use order_ints::{Atom, MapValue, OrdInt};

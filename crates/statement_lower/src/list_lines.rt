@@ -128,9 +128,25 @@ pub fn order_made(
     ensures { IfOk result (λ m. m ≡ made_here vars (order_core entries.now order lists.now.left_truths.now lists.now.right_truths.now lists.now.left_numbers.now lists.now.right_numbers.now truth.now ∷ [])) }
 {
     let booleans = order.of_booleans;
-    let front = word_of(alloc, entries, booleans, lists.left_truths, lists.left_numbers)?;
-    let back = word_of(alloc, entries, booleans, lists.right_truths, lists.right_numbers)?;
-    let atom = if order.reified { atom_or_true(entries, truth) } else { Atom::True };
+    let front = word_of(
+        alloc,
+        entries,
+        booleans,
+        lists.left_truths,
+        lists.left_numbers,
+    )?;
+    let back = word_of(
+        alloc,
+        entries,
+        booleans,
+        lists.right_truths,
+        lists.right_numbers,
+    )?;
+    let atom = if order.reified {
+        atom_or_true(entries, truth)
+    } else {
+        Atom::True
+    };
     let core = Core::lex(alloc, atom, order.strict, front, back)?;
     Made::of_core(alloc, vars, core)
 }

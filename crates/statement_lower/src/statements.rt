@@ -6,7 +6,9 @@ ghost use Rattle.statement_lower.specs.Lines.{made_of};
 ghost use Rattle.statement_lower.specs.IsLowered.{is_lowered};
 
 use crate::boolean_lines::{array_made, equal_made, pair_made, truth_made};
-use crate::integer_lines::{absolute_made, aggregate_made, comparison_made, count_made, operation_made, reified_made};
+use crate::integer_lines::{
+    absolute_made, aggregate_made, comparison_made, count_made, operation_made, reified_made,
+};
 use crate::list_lines::{Lists, different_made, order_made, terms};
 use crate::made::Made;
 use order_ints::{Atom, MapValue};
@@ -55,7 +57,9 @@ pub fn made_of(
             ..
         } => pair_made(alloc, entries, vars, *operator, *left, *right, *truth),
         What::L6 {
-            operator, members, ..
+            operator,
+            members,
+            ..
         } => array_made(alloc, entries, vars, *operator, members.as_slice()),
         What::L7 {
             operator,

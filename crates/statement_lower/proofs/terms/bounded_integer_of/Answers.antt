@@ -1,4 +1,4 @@
-use Rattle.std.proofs.Common.{◌≡◌, ap, subst, sym, ◌∙◌}
+use Rattle.std.proofs.Common.{ap, subst, sym, ◌∙◌}
 use Rattle.order_ints.specs.OrderRange.{IsBounded}
 use Rattle.statement_lower.specs.Terms.{integer_of}
 use Rattle.statement_lower.proofs.EntryLaws.{AreInLimit-at}

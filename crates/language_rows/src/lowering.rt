@@ -110,9 +110,7 @@ fn show_core(alloc: Global, core: &Core) -> Result<String, AllocError> {
             show_atoms(alloc, if *odd { "odd" } else { "even" }, atoms.as_slice())
         }
         Core::Conj(truth, atoms) => show_conjunction(alloc, *truth, atoms.as_slice()),
-        Core::Max(members, greatest) => {
-            show_greatest(alloc, greatest.get(), members.as_slice())
-        }
+        Core::Max(members, greatest) => { show_greatest(alloc, greatest.get(), members.as_slice()) }
         Core::Prod(left, right, value) => {
             show_product(alloc, left.get(), right.get(), value.get())
         }
@@ -214,7 +212,9 @@ fn boolean_statements_have_these_cores(rt: HostRuntime) -> Result<(), Fail> {
             "6: 1 2 3 6; conj 4 1; conj 5 -1; conj -3 -4 -5; even 6 1",
         ),
     ] {
-        let text = format!(in rt.alloc(); "new_bool(x) new_bool(y) new_bool(z) {statement} solve satisfy")?;
+        let text = format!(in rt.alloc();
+            "new_bool(x) new_bool(y) new_bool(z) {statement} solve satisfy"
+        )?;
         let found = lowered(rt.alloc(), text.as_str())?;
         assert_eq!(rt; found.as_str(), want, "{statement}");
     }
@@ -239,7 +239,9 @@ fn integer_statements_have_these_cores(rt: HostRuntime) -> Result<(), Fail> {
         ("int_array_max([i],j)", "max 2+1*2 of 0+1*1"),
         ("int_array_min([j,1],i)", "max -1+1*-1 of -3+1*-2 -1"),
     ] {
-        let text = format!(in rt.alloc(); "new_int(i,0,1) new_int(j,2,3) new_bool(x) {statement} solve satisfy")?;
+        let text = format!(in rt.alloc();
+            "new_int(i,0,1) new_int(j,2,3) new_bool(x) {statement} solve satisfy"
+        )?;
         let found = lowered(rt.alloc(), text.as_str())?;
         let want = format!(in rt.alloc(); "3: 0+1*1 2+1*2 3; ladder 0+1*1; ladder 2+1*2; {want}")?;
         assert_eq!(rt; found.as_str(), want.as_str(), "{statement}");

@@ -19,11 +19,8 @@ pub fn is_built(what: &What) -> bool
     ensures { result ≡ is_built what.now }
 {
     match what {
-        What::L4 { .. }
-        | What::L5 { .. }
-        | What::L8 { .. }
-        | What::L9 { .. }
-        | What::L15 { .. } => true,
+        What::L4 { .. } | What::L5 { .. } | What::L8 { .. } | What::L9 { .. } | What::L15 { .. } =>
+            true,
         What::L6 { operator, .. } | What::L7 { operator, .. } => {
             !matches!(operator, Operator::Xor)
         }

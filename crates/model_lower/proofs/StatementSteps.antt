@@ -1,15 +1,13 @@
 -- The law of a statement that is built.
-use Rattle.std.proofs.Common.{◌≡◌, ℕ, ◌+◌, ◌≤◌, true, List, ◌++◌, refl, subst, arith}
-use Rattle.order_ints.specs.Truth.{Valuation}
+use Rattle.std.proofs.Common.{◌≡◌, ℕ, ◌+◌, ◌≤◌, true, List, ◌++◌, subst, arith}
 use Rattle.core_forms.specs.declared.form.Core.{Core}
-use Rattle.core_forms.specs.Cores.{MeetsAll}
 use Rattle.core_forms.proofs.CoreLists.{MeetsAll-append, MeetsAll-agree, MeetsAll-depends}
 use Rattle.typed_model.specs.Holds.{Holds}
 use Rattle.statement_lower.specs.Lines.{made_of}
 use Rattle.statement_lower.proofs.EntryLaws.{EntriesFit-more, numbers_of-agree}
 use Rattle.statement_lower.proofs.LineLaws.{line_law}
 use Rattle.model_lower.specs.Items.{Statement}
-use Rattle.model_lower.specs.Built.{most_vars, is_built, fresh_of}
+use Rattle.model_lower.specs.Built.{most_vars, is_built}
 use Rattle.model_lower.specs.Fits.{CoresFit}
 use Rattle.model_lower.specs.ItemLaws.{StatementLaw}
 use Rattle.model_lower.proofs.CoreLaws.{CoresFit-below, CoresFit-append, CoresFit-more, CoresFit-from}

@@ -1,4 +1,4 @@
-use Rattle.std.proofs.Common.{◌≡◌, ◌+◌, ◌<◌, ◌≤◌, drop, sym, ◌∙◌, arith}
+use Rattle.std.proofs.Common.{◌≡◌, ◌+◌, ◌<◌, ◌≤◌, drop, ◌∙◌, arith}
 use Rattle.model_lower.specs.Items.{items_of}
 use Rattle.model_lower.specs.Lowering.{vars_taken}
 use Rattle.model_lower.specs.Built.{most_vars}

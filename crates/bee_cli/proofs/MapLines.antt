@@ -13,7 +13,7 @@ use Rattle.order_ints.specs.OrderRange.{weights, AreRising}
 use Rattle.typed_model.specs.declared.model.Kind.{Kind}
 use Rattle.typed_model.specs.declared.model.Kind.TheVariants as kind
 use Rattle.typed_model.specs.declared.model.Decl.{Decl}
-use Rattle.model_lower.specs.Fits.{EntryFits, EntriesFit}
+use Rattle.statement_lower.specs.Entries.{EntryFits, EntriesFit}
 use Rattle.dimacs_out.specs.declared.entry.MapEntry.{MapEntry}
 use Rattle.dimacs_out.specs.CompiledText.{WeightsCount, ValueBelow, EntriesBelow}
 use Rattle.dimacs_out.specs.TextSolutions.{assignment_of}
@@ -58,7 +58,7 @@ value_below n kind.Bool (Bool a) h = h
 value_below n kind.Bool (Int a) h = elim h [ ]
 value_below n (kind.Int low high) (Bool a) h = elim h [ ]
 value_below n (kind.Int low high) (Int a) h =
-    (small_base a.base h.1.0.0, h.0, weights_count a.steps h.1.1 (small_weights a.base (weights a.steps) h.1.0.0 h.1.0.1))
+    (small_base a.base h.sound.0.0, h.below, weights_count a.steps h.sound.1 (small_weights a.base (weights a.steps) h.sound.0.0 h.sound.0.1))
 
 -- what each name stands for can be written
 pub entries_below : (n : ℕ) (decls : List Decl) (values : List MapValue) → EntriesFit n decls values → EntriesBelow n (entries_of decls values)

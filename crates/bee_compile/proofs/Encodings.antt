@@ -1,8 +1,12 @@
 -- The clauses of cores are true where the valuation meets the cores.
-use Rattle.std.proofs.Common.{◌≡◌, ℕ, List, [], ◌∷◌, ◌++◌, refl, ap, sym, subst, append_assoc, ◌∙◌}
-use Rattle.std.specs.Prelude.{IsTrue}
+use Rattle.std.proofs.Common.{◌≡◌, ℕ, ◌≤◌, List, [], ◌∷◌, ◌++◌, length, map, arith, refl, ap, sym, subst, append_assoc, ◌∙◌}
+use Rattle.std.specs.Prelude.{IsTrue, nat_le}
+use Rattle.std.proofs.lemmas.Bool.Decides.{nat_tests}
+use Rattle.std.proofs.lemmas.List.{length-map}
 use Rattle.std.proofs.lemmas.List.Elements.{filter_map-append}
 use Rattle.order_ints.specs.declared.atom.Atom.{Atom}
+use Rattle.order_ints.specs.declared.atom.Atom.TheVariants as atom
+use Rattle.order_ints.specs.View.{resolve}
 use Rattle.order_ints.specs.declared.literal.Lit.{Lit}
 use Rattle.order_ints.specs.OrderedClauses.{ordered_clause}
 use Rattle.order_ints.specs.Truth.{Valuation}
@@ -14,7 +18,7 @@ use Rattle.core_forms.specs.declared.form.Core.TheVariants.{Ladder, Clause, Pari
 use Rattle.core_forms.specs.Meaning.{core_truth}
 use Rattle.core_forms.specs.Cores.{cores_truth}
 use Rattle.core_forms.specs.Basic.{is_basic_of}
-use Rattle.core_forms.specs.Trimmed.{trimmed_core}
+use Rattle.core_forms.specs.Trimmed.{without_constants, trimmed_core}
 use Rattle.core_forms.proofs.TidiedCores.{core_truth-trimmed}
 use Rattle.core_forms.proofs.Kept.{IsWellFormed-trimmed}
 use Rattle.core_forms.proofs.Places.{CoreBelow-trimmed}
@@ -23,23 +27,34 @@ use Rattle.direct_encode.proofs.Places.{below-clauses_of}
 use Rattle.model_lower.specs.Fits.{IsFirstForm, CoreFits, CoresFit}
 use Rattle.bee_compile.specs.Encoded.{encoded_core, encoded, each_ordered}
 
+few-constants : (atoms : List Atom) → length (without_constants atoms) ≤ length atoms
+few-constants [] = omega arith
+few-constants (atom.True ∷ atoms) = omega (arith, few-constants atoms)
+few-constants (atom.False ∷ atoms) = omega (arith, few-constants atoms)
+few-constants (atom.Of l ∷ atoms) = omega (arith, few-constants atoms)
+
+few-test : (n : ℕ) → n ≤ 3 → IsTrue (nat_le n 3)
+few-test n h = grind (arith, nat_tests)
+
 -- cores of the first forms are basic, trimmed or not
 pub basic : (core : Core) → IsFirstForm core → IsTrue (is_basic_of (trimmed_core [] core))
 basic (Ladder a) form = refl
 basic (Clause ls) form = refl
+basic (Parity ls odd) form =
+    let members : List Atom = map (resolve []) ls in
+    few-test (length (without_constants members)) (omega (arith, few-constants members, length-map ls (resolve []), form))
+basic (Conj r ls) form = refl
 basic (LeqR r a b) form = refl
 basic (EqR r a b) form = refl
-basic (Parity ls odd) form = elim form [ ]
-basic (Conj r ls) form = elim form [ ]
+basic (Max ints c) form = refl
+basic (Prod a b c) form = refl
+basic (DivMod a b q r) form = refl
 basic (Comp a b hi lo) form = elim form [ ]
 basic (Sum3 a b c) form = elim form [ ]
 basic (Count ls c) form = elim form [ ]
 basic (Sum ints k) form = elim form [ ]
-basic (Max ints c) form = elim form [ ]
 basic (AllDiff ints cs) form = elim form [ ]
 basic (Amo ls) form = elim form [ ]
-basic (Prod a b c) form = elim form [ ]
-basic (DivMod a b q r) form = elim form [ ]
 basic (Lex r strict front back) form = elim form [ ]
 
 pub truth-encoded_core : (σ : Valuation) (n : ℕ) (core : Core) → CoreFits n core → atom_clauses_truth σ (encoded_core core) ≡ core_truth σ core

@@ -4,6 +4,8 @@ use Rattle.std.proofs.lemmas.List.Elements.{filter_map-append}
 use Rattle.order_ints.specs.declared.literal.Lit.{Lit}
 use Rattle.order_ints.specs.OrderedClauses.{ordered_clause}
 use Rattle.core_forms.specs.declared.form.Core.{Core}
+use Rattle.typed_model.specs.Limits.{KindInLimit}
+use Rattle.statement_lower.specs.Entries.{AreInLimit}
 use Rattle.model_lower.specs.declared.state.Lowered.{Lowered}
 use Rattle.model_lower.specs.declared.fault.LowerFault.{LowerFault}
 use Rattle.model_lower.specs.declared.fault.LowerFault.TheVariants.{Unbuilt, Memory}
@@ -13,6 +15,7 @@ use Rattle.model_lower.specs.Built.{vars_after, unbuilt, first_unbuilt, IsFaultO
 use Rattle.model_lower.specs.Drafting.{emptied}
 use Rattle.model_lower.specs.Fits.{CoresFit}
 use Rattle.model_lower.proofs.LoweredItems.{vars-item}
+use Rattle.model_lower.proofs.LimitLaws.{declared-limit}
 use Rattle.model_lower.proofs.Standing.{first_of-none}
 use Rattle.bee_compile.specs.declared.progress.Progress.{Progress}
 use Rattle.bee_compile.specs.Encoded.{encoded_core, encoded, each_ordered}
@@ -65,12 +68,22 @@ module _ (l : Lowered) (i : ModelItem) (old drafted : Lowered) (before : old ≡
       ∙ (sym (filter_map-append (ordered_clause []) (encoded l.cores) (encoded (lowered_item (emptied l) i).cores))
       ∙ ap each_ordered (sym (encoded-append l.cores (lowered_item (emptied l) i).cores) ∙ ap encoded (sym (cores-apart l i))))))
 
+-- the domain of a declaration is in the limit of numerals
+abbrev pub ItemInLimit : ModelItem → Type 0
+ItemInLimit (Declaration d) = KindInLimit d.kind
+ItemInLimit (Statement s) = Unit {0}
+
+item-limit : (l : Lowered) (i : ModelItem) → ItemInLimit i → AreInLimit l.map.entries → AreInLimit (lowered_item l i).map.entries
+item-limit l (Declaration d) small h = declared-limit l (lowered_item l (Declaration d)) d refl small h
+item-limit l (Statement s) small h = h
+
 -- what is compiled so far, and what the items that are left make of it
 pub record Compiling (p : Progress) (items : List ModelItem) (all : Lowered) : Type 0 where
   pub l : Lowered
   pub here : HasCompiled p l
   pub rest : lowered_items l items ≡ all
   pub built : first_unbuilt l.vars items ≡ None
+  pub in_limit : AreInLimit l.map.entries
 
 module _ (p : Progress) (i : ModelItem) (items : List ModelItem) (all : Lowered) (c : Compiling p (i ∷ items) all) where
   parts-built : (unbuilt c.l.vars i ≡ None) × (first_unbuilt (vars_after c.l.vars i) items ≡ None)
@@ -79,12 +92,17 @@ module _ (p : Progress) (i : ModelItem) (items : List ModelItem) (all : Lowered)
   pub may-add : (n : ℕ) → CoresFit n all.cores → (l : Lowered) × (n : ℕ) × HasCompiled p l × CoresFit n (lowered_item l i).cores
   may-add n h = (c.l, n, c.here, fits-so-far n (lowered_item c.l i) items (subst (λ (k : Lowered). CoresFit n k.cores) (sym c.rest) h))
 
-  pub added : (q : Progress) → HasCompiled q (lowered_item c.l i) → Compiling q items all
-  added q h = record {
+  -- the integers so far are in the limit of numerals
+  pub in-limit : AreInLimit p.draft.entries.items
+  in-limit = subst (λ (k : Lowered). AreInLimit k.map.entries) (sym c.here.draft) c.in_limit
+
+  pub added : (q : Progress) → ItemInLimit i → HasCompiled q (lowered_item c.l i) → Compiling q items all
+  added q small h = record {
     l = lowered_item c.l i;
     here = h;
     rest = c.rest;
-    built = ap (λ (v : ℕ). first_unbuilt v items) (vars-item c.l i) ∙ parts-built.1;
+    built = ap (λ (v : ℕ). first_unbuilt v items) (vars-item c.l i parts-built.0) ∙ parts-built.1;
+    in_limit = item-limit c.l i small c.in_limit;
   }
 
   -- the only fault is want of memory

@@ -13,7 +13,7 @@ use Rattle.typed_model.specs.Solutions.{IsSolution}
 use Rattle.model_lower.specs.declared.state.Lowered.{Lowered}
 use Rattle.model_lower.specs.Lowering.{lowered_of}
 use Rattle.model_lower.specs.Built.{most_vars, first_unbuilt_of}
-use Rattle.model_lower.specs.Fits.{EntriesFit}
+use Rattle.statement_lower.specs.Entries.{EntriesFit}
 use Rattle.bee_compile.specs.declared.compiled.Compiled.{Compiled}
 use Rattle.bee_compile.specs.Encoded.{encoded}
 

@@ -195,15 +195,24 @@ fn other_texts_are_refused(rt: HostRuntime) -> Result<(), Fail> {
 fn statements_that_are_not_built_are_refused(rt: HostRuntime) -> Result<(), Fail> {
     let alloc = rt.alloc();
     for (text, item) in [
-        ("new_bool(x)\nnew_bool(y)\nbool_eq(x,y)\nsolve satisfy\n", 3),
-        ("new_int(x,0,3)int_lt(x,2)int_eq(x,1)solve satisfy", 2),
+        (
+            "new_bool(x)\nnew_bool(y)\nbool_array_xor([x,y])\nsolve satisfy\n",
+            3,
+        ),
+        (
+            "new_int(x,0,3)int_lt(x,2)int_plus(x,x,2)int_eq(x,1)solve satisfy",
+            3,
+        ),
         ("new_bool(x)bool2int(x,i)solve maximize i", 2),
         ("new_int(x,-1000000000,1000000000)solve satisfy", 1),
         (
             "new_bool(x)new_int(y,0,16777216)bool_eq(x,x)solve satisfy",
             2,
         ),
-        ("bool_eq(true,true)new_int(y,0,16777217)solve satisfy", 1),
+        (
+            "bool_array_xor([true])new_int(y,0,16777217)solve satisfy",
+            1,
+        ),
     ] {
         let run = run_over(alloc, COMPILE.as_slice(), bytes(alloc, text)?, AMPLE)?;
         assert_eq!(rt; run.status, ("not built", item), "{text}");

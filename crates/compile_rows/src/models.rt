@@ -67,7 +67,7 @@ fn models_are_compiled(rt: HostRuntime) -> Result<(), AllocError> {
             "2 3: 1 -2 0 -2 0 -3 0 ",
         ),
         (
-            "new_bool(x) bool_array_or([x]) bool_eq(x,x) new_bool(y) solve satisfy",
+            "new_bool(x) bool_array_or([x]) bool_array_xor([x]) new_bool(y) solve satisfy",
             "statement 3: not built",
         ),
     ] {

@@ -54,13 +54,49 @@ fn show_comparison(
     format!(in alloc; "{form} {truth} {left} {right}")
 }
 
-fn show_clause(alloc: Global, atoms: &[Atom]) -> Result<String, AllocError> {
-    let mut text = String::from_str(alloc, "clause")?;
+/// A form, and its atoms.
+fn show_atoms(alloc: Global, form: &str, atoms: &[Atom]) -> Result<String, AllocError> {
+    let mut text = String::from_str(alloc, form)?;
     for atom in atoms {
         let atom = show_atom(alloc, *atom)?;
         text = format!(in alloc; "{text} {atom}")?;
     }
     Ok(text)
+}
+
+/// An atom that is the truth of a conjunction, and the members.
+fn show_conjunction(alloc: Global, truth: Atom, atoms: &[Atom]) -> Result<String, AllocError> {
+    let truth = show_atom(alloc, truth)?;
+    let form = format!(in alloc; "conj {truth}")?;
+    show_atoms(alloc, form.as_str(), atoms)
+}
+
+/// The greatest of some integers, and the integers.
+fn show_greatest(
+    alloc: Global,
+    greatest: &OrdInt,
+    members: &[OrdInt],
+) -> Result<String, AllocError> {
+    let greatest = show_int(alloc, greatest)?;
+    let mut text = format!(in alloc; "max {greatest} of")?;
+    for member in members {
+        let member = show_int(alloc, member)?;
+        text = format!(in alloc; "{text} {member}")?;
+    }
+    Ok(text)
+}
+
+/// Two integers and their product.
+fn show_product(
+    alloc: Global,
+    left: &OrdInt,
+    right: &OrdInt,
+    value: &OrdInt,
+) -> Result<String, AllocError> {
+    let left = show_int(alloc, left)?;
+    let right = show_int(alloc, right)?;
+    let value = show_int(alloc, value)?;
+    format!(in alloc; "prod {left} {right} {value}")
 }
 
 fn show_core(alloc: Global, core: &Core) -> Result<String, AllocError> {
@@ -69,7 +105,15 @@ fn show_core(alloc: Global, core: &Core) -> Result<String, AllocError> {
             let integer = show_int(alloc, integer.get())?;
             format!(in alloc; "ladder {integer}")
         }
-        Core::Clause(atoms) => show_clause(alloc, atoms.as_slice()),
+        Core::Clause(atoms) => show_atoms(alloc, "clause", atoms.as_slice()),
+        Core::Parity(atoms, odd) => {
+            show_atoms(alloc, if *odd { "odd" } else { "even" }, atoms.as_slice())
+        }
+        Core::Conj(truth, atoms) => show_conjunction(alloc, *truth, atoms.as_slice()),
+        Core::Max(members, greatest) => { show_greatest(alloc, greatest.get(), members.as_slice()) }
+        Core::Prod(left, right, value) => {
+            show_product(alloc, left.get(), right.get(), value.get())
+        }
         Core::LeqR(truth, left, right) => {
             show_comparison(alloc, "leq", *truth, left.get(), right.get())
         }
@@ -124,11 +168,11 @@ fn models_are_lowered(rt: HostRuntime) -> Result<(), Fail> {
         (BUILT, CORES),
         ("bool_array_or([]) solve satisfy", "0:; clause"),
         (
-            "new_bool(x) bool_array_and([x]) bool_eq(x,x) solve satisfy",
+            "new_bool(x) bool_array_xor([x]) bool_eq(x,x) solve satisfy",
             "statement 2: not built",
         ),
         (
-            "new_int(i,0,9) int_neq(i,3) int_geq(i,3) solve satisfy",
+            "new_int(i,0,9) int_neq(i,3) int_plus(i,i,3) solve satisfy",
             "statement 3: not built",
         ),
         (
@@ -142,6 +186,65 @@ fn models_are_lowered(rt: HostRuntime) -> Result<(), Fail> {
     ] {
         let found = lowered(rt.alloc(), text)?;
         assert_eq!(rt; found.as_str(), want, "{text}");
+    }
+    Ok(())
+}
+
+/// Lines over Booleans: x, y and z are variables 1, 2 and 3.
+#[test]
+fn boolean_statements_have_these_cores(rt: HostRuntime) -> Result<(), Fail> {
+    for (statement, want) in [
+        ("bool_eq(x,-y)", "3: 1 2 3; even 1 -2"),
+        ("bool_array_and([x,-y])", "3: 1 2 3; conj T 1 -2"),
+        ("bool_array_iff([-x,y,z])", "3: 1 2 3; even -1 2; even -1 3"),
+        ("bool_array_iff([])", "3: 1 2 3"),
+        ("bool_or_reif(x,-y,-z)", "3: 1 2 3; conj 3 -1 2"),
+        ("bool_and_reif(x,-y,-z)", "3: 1 2 3; conj -3 1 -2"),
+        ("bool_xor_reif(x,-y,-z)", "3: 1 2 3; even 1 -2 -3"),
+        (
+            "bool_iff_reif(x,-y,-z)",
+            "5: 1 2 3; conj 4 1 -2; conj 5 -1 2; conj 3 -4 -5",
+        ),
+        ("bool_array_or_reif([x,true],z)", "3: 1 2 3; conj -3 -1 F"),
+        ("bool_array_and_reif([],z)", "3: 1 2 3; conj 3"),
+        (
+            "bool_array_iff_reif([x],z) new_bool(u) bool_eq(u,x)",
+            "6: 1 2 3 6; conj 4 1; conj 5 -1; conj -3 -4 -5; even 6 1",
+        ),
+    ] {
+        let text = format!(in rt.alloc();
+            "new_bool(x) new_bool(y) new_bool(z) {statement} solve satisfy"
+        )?;
+        let found = lowered(rt.alloc(), text.as_str())?;
+        assert_eq!(rt; found.as_str(), want, "{statement}");
+    }
+    Ok(())
+}
+
+/// Lines over integers: i is 0 or 1 by variable 1, j is 2 or 3 by variable 2, x is variable 3.
+#[test]
+fn integer_statements_have_these_cores(rt: HostRuntime) -> Result<(), Fail> {
+    for (statement, want) in [
+        ("int_geq(i,j)", "leq T 2+1*2 0+1*1"),
+        ("int_eq(i,j)", "eq T 0+1*1 2+1*2"),
+        ("int_lt(i,j)", "leq F 2+1*2 0+1*1"),
+        ("int_gt(i,j)", "leq F 0+1*1 2+1*2"),
+        ("int_leq_reif(i,1,-x)", "leq -3 0+1*1 1"),
+        ("int_neq_reif(i,j,x)", "eq -3 0+1*1 2+1*2"),
+        ("int_gt_reif(i,j,-x)", "leq 3 0+1*1 2+1*2"),
+        ("int_times(i,-2,j)", "prod 0+1*1 -2 2+1*2"),
+        ("int_max(i,j,3)", "max 3 of 0+1*1 2+1*2"),
+        ("int_min(i,j,3)", "max -3 of -1+1*-1 -3+1*-2"),
+        ("int_abs(i,j)", "max 2+1*2 of 0+1*1 -1+1*-1"),
+        ("int_array_max([i],j)", "max 2+1*2 of 0+1*1"),
+        ("int_array_min([j,1],i)", "max -1+1*-1 of -3+1*-2 -1"),
+    ] {
+        let text = format!(in rt.alloc();
+            "new_int(i,0,1) new_int(j,2,3) new_bool(x) {statement} solve satisfy"
+        )?;
+        let found = lowered(rt.alloc(), text.as_str())?;
+        let want = format!(in rt.alloc(); "3: 0+1*1 2+1*2 3; ladder 0+1*1; ladder 2+1*2; {want}")?;
+        assert_eq!(rt; found.as_str(), want.as_str(), "{statement}");
     }
     Ok(())
 }
@@ -168,8 +271,16 @@ fn with_gaps(model: Model) -> Model {
 fn items_that_are_not_built_are_told(rt: HostRuntime) -> Result<(), Fail> {
     for (text, want) in [
         (BUILT, None),
-        ("new_bool(x) bool_eq(x,x) solve satisfy", Some(6)),
+        ("new_bool(x) bool_array_xor([x]) solve satisfy", Some(6)),
         ("new_bool(x) new_int(i,0,16777216) solve satisfy", Some(6)),
+        (
+            "new_bool(x) new_int(i,0,16777213) bool_iff_reif(x,x,x) solve satisfy",
+            None,
+        ),
+        (
+            "new_bool(x) bool_iff_reif(x,x,x) new_int(i,0,16777213) bool_iff_reif(x,x,x) solve satisfy",
+            Some(12),
+        ),
     ] {
         let found = with_gaps(model(rt.alloc(), text)?);
         assert_eq!(rt; first_unbuilt(&found), want, "{text}");

@@ -1,9 +1,9 @@
 -- Lists of cores that fit.
 use Rattle.std.proofs.Common.{ℕ, ◌≤◌, List, [], ◌∷◌, ◌++◌}
 use Rattle.core_forms.specs.declared.form.Core.{Core}
-use Rattle.core_forms.specs.Cores.{CoresBelow}
+use Rattle.core_forms.specs.Cores.{CoresBelow, AreWellFormed}
 use Rattle.core_forms.proofs.Places.{CoreBelow-more}
-use Rattle.model_lower.specs.Fits.{CoresFit}
+use Rattle.model_lower.specs.Fits.{AreFirstForms, CoresFit}
 
 -- the variables of cores that fit are below n
 pub CoresFit-below : (n : ℕ) (cs : List Core) → CoresFit n cs → CoresBelow n cs
@@ -18,3 +18,8 @@ CoresFit-more n m (c ∷ cs) le h =
 pub CoresFit-append : (n : ℕ) (cs ds : List Core) → CoresFit n cs → CoresFit n ds → CoresFit n (cs ++ ds)
 CoresFit-append n [] ds h k = k
 CoresFit-append n (c ∷ cs) ds h k = (h.0, CoresFit-append n cs ds h.1 k)
+
+pub CoresFit-from : (n : ℕ) (cs : List Core) → CoresBelow n cs → AreWellFormed cs → AreFirstForms cs → CoresFit n cs
+CoresFit-from n [] h k f = tt
+CoresFit-from n (c ∷ cs) h k f =
+    (record { below = h.0; well_formed = k.0; form = f.0 }, CoresFit-from n cs h.1 k.1 f.1)

@@ -1,10 +1,10 @@
 -- What a declared name stands for: its ranges, and that it takes each value of its domain.
-use Rattle.std.proofs.Common.{◌≡◌, ℕ, zero, suc, ◌+◌, ◌<◌, ◌≤◌, ◌⊎◌, inl, inr, ℤ, pos, negsuc, ◌+ℤ◌, ◌-ℤ◌, ◌≤ℤ◌, ◌<ℤ◌, Bool, true, false, cond, ltb, ◌||◌, List, [], ◌∷◌, ◌++◌, length, Contains, Some, None, IsTrue, refl, sym, ap, subst, ◌∙◌, arith}
-use Rattle.std.specs.Prelude.{nat_le, if◌then◌else◌}
+use Rattle.std.proofs.Common.{◌≡◌, ℕ, zero, suc, ◌+◌, ◌<◌, ◌≤◌, ◌⊎◌, inl, inr, ℤ, pos, negsuc, ◌+ℤ◌, ◌-ℤ◌, ◌≤ℤ◌, ◌<ℤ◌, Bool, true, false, ◌||◌, List, [], ◌∷◌, ◌++◌, length, Contains, IsTrue, refl, sym, ap, subst, ◌∙◌, arith}
+use Rattle.std.specs.Prelude.{if◌then◌else◌}
 use Rattle.std.specs.Bool.{Decides}
 use Rattle.std.specs.Ordering.{int_eq}
-use Rattle.std.proofs.lemmas.Bool.{false≢true, lt-ltb, le-ltb}
-use Rattle.std.proofs.lemmas.Bool.Decides.{Decides-int_eq, nat_tests}
+use Rattle.std.proofs.lemmas.Bool.{false≢true}
+use Rattle.std.proofs.lemmas.Bool.Decides.{Decides-int_eq}
 use Rattle.std.proofs.lemmas.Int.{ints, by_lt_z}
 use Rattle.order_ints.specs.declared.order_int.OrdInt.{OrdInt}
 use Rattle.order_ints.specs.Truth.{Valuation, Agree, atom_truth}
@@ -26,10 +26,13 @@ use Rattle.typed_model.specs.Limits.{KindInLimit}
 use Rattle.typed_model.specs.WellTyped.{KindFits}
 use Rattle.typed_model.proofs.DomainLaws.{Decides-domain}
 use Rattle.model_lower.specs.Lowering.{vars_taken, entry_of, entry_cores}
-use Rattle.model_lower.specs.Built.{most_vars}
-use Rattle.model_lower.specs.Fits.{EntryFits, CoresFit}
-use Rattle.model_lower.specs.ItemLaws.{AreOrdered, DeclarationLaw}
-use Rattle.model_lower.proofs.EntryLaws.{EntriesFit-more, EntriesFit-append, numbers_of-append, numbers_of-agree, AreOrdered-append}
+use Rattle.model_lower.specs.Items.{Declaration}
+use Rattle.model_lower.specs.Fits.{CoresFit}
+use Rattle.model_lower.specs.ItemLaws.{DeclarationLaw}
+use Rattle.statement_lower.specs.Entries.{EntryFits, AreOrdered}
+use Rattle.statement_lower.proofs.FreshAtoms.{set_from, set_from-same, set_from-here}
+use Rattle.model_lower.proofs.BuiltLaws.{built-room}
+use Rattle.statement_lower.proofs.EntryLaws.{EntriesFit-more, EntriesFit-append, numbers_of-append, numbers_of-agree, AreOrdered-append}
 use Rattle.model_lower.proofs.CoreLaws.{CoresFit-below, CoresFit-more, CoresFit-append}
 
 -- what is known of the entry of a declaration
@@ -59,16 +62,6 @@ is_bit v h = one_of_two (int_eq (pos 0) v) (int_eq (pos 1) v) (Decides-int_eq (p
 bit_of : (v : ℤ) → (pos 0 ≡ v) ⊎ (pos 1 ≡ v) → (if int_eq v (pos 1) then pos 1 else pos 0) ≡ v
 bit_of v (inl e) = rw (← e) refl
 bit_of v (inr e) = rw (← e) refl
-
--- the valuation that is as another below a variable, and has a value from it on
-abbrev set_from : Valuation → ℕ → Bool → Valuation
-set_from σ n t v = cond (ltb v n) (σ v) t
-
-set_from-same : (σ : Valuation) (n : ℕ) (t : Bool) → Agree n σ (set_from σ n t)
-set_from-same σ n t v below = sym (ap (λ b. cond b (σ v) t) (lt-ltb v n below))
-
-set_from-here : (σ : Valuation) (n : ℕ) (t : Bool) → set_from σ n t n ≡ t
-set_from-here σ n t = let le : n ≤ n = omega arith in ap (λ b. cond b (σ n) t) (le-ltb n n le)
 
 bool-laws : (vars : ℕ) → EntryLaws vars kind.Bool
 bool-laws vars = record {
@@ -114,7 +107,14 @@ int-laws vars low high fit small =
     let sound : IsSound a =
     (IsBounded-unit_range_of low first count (omega (arith, small.0)) (rw reach (omega (arith, small.1))), AreRising-unit_steps first count) in
     record {
-      fits = (below, sound);
+      fits = record {
+        below = below;
+        sound = sound;
+        least = refl;
+        greatest = ap (λ (n : ℕ). low +ℤ pos n) (weights-unit_steps first count) ∙ reach;
+        low_in_limit = small.0;
+        high_in_limit = small.1;
+      };
       cores = (record { below = (tt, (below, tt)); well_formed = sound; form = tt }, tt);
       ordered = λ σ h. ((MeetsAll-one σ (Ladder a)).0 h, tt);
       some = λ σ h.
@@ -133,13 +133,6 @@ entry-laws vars (kind.Int low high) fit small = int-laws vars low high fit small
 
 -- The law of a declaration.
 
-pub none-within : (m n : ℕ) (number : ℕ) → (if nat_le m n then None else Some number) ≡ None → m ≤ n
-none-within m n number e = by_test (nat_le m n) (λ t. grind (arith, nat_tests)) e
-  where
-    by_test : (b : Bool) → (b ≡ true → m ≤ n) → (if b then None else Some number) ≡ None → m ≤ n
-    by_test true f e = f refl
-    by_test false f e = absurd (cc)
-
 pub declaration_law : DeclarationLaw
 declaration_law l decls d enc fit small none =
     let k = d.kind in
@@ -151,7 +144,7 @@ declaration_law l decls d enc fit small none =
     let laws = entry-laws l.vars k fit small in (
       record {
         fits = record {
-          vars = none-within (l.vars + vars_taken k) most_vars d.number none;
+          vars = (built-room l.vars (Declaration d) none).1;
           entries = EntriesFit-append m decls entries d e (EntriesFit-more n m decls entries le enc.fits.entries) laws.fits;
           cores = CoresFit-append m l.cores (entry_cores e) (CoresFit-more n m l.cores le enc.fits.cores) laws.cores;
         };

@@ -1,7 +1,6 @@
 -- The items of a model: they are all of its declarations and statements, and they fit.
-use Rattle.std.proofs.Common.{◌≡◌, ℕ, zero, suc, ◌+◌, ◌<◌, ◌≤◌, Bool, true, false, List, [], ◌∷◌, ◌++◌, IsSomeAnd, refl, sym, ap, subst, ◌∙◌, arith}
+use Rattle.std.proofs.Common.{◌≡◌, ℕ, zero, suc, ◌+◌, ◌<◌, ◌≤◌, ℤ, ◌≤ℤ◌, Some, Bool, true, false, List, [], ◌∷◌, ◌++◌, IsSomeAnd, refl, sym, ap, subst, ◌∙◌, arith}
 use Rattle.std.specs.Prelude.{slice_get, nat_lt, if◌then◌else◌}
-use Rattle.std.proofs.lemmas.Bool.{false≢true}
 use Rattle.std.proofs.lemmas.Bool.Decides.{nat_tests}
 use Rattle.std.proofs.lemmas.List.{append_assoc}
 use Rattle.typed_model.specs.declared.model.Decl.{Decl}
@@ -12,11 +11,17 @@ use Rattle.typed_model.specs.declared.what.BoolTerm.TheVariants as bool_term
 use Rattle.typed_model.specs.declared.what.IntTerm.{IntTerm}
 use Rattle.typed_model.specs.declared.what.IntTerm.TheVariants as int_term
 use Rattle.typed_model.specs.declared.what.What.{What}
-use Rattle.typed_model.specs.declared.what.What.TheVariants.{L6, L8}
 use Rattle.typed_model.specs.Limits.{StmtsInLimit, DeclsInLimit}
-use Rattle.typed_model.specs.WellTyped.{IsInt, TruthFits, NumberFits, TruthsFit, WhatFits, StmtsFit, DeclsFit}
+use Rattle.typed_model.specs.declared.signature.Wanted.{Wanted}
+use Rattle.typed_model.specs.declared.signature.Wanted.TheVariants as wanted
+use Rattle.typed_model.specs.declared.statement.Arithmetic.TheVariants as arithmetic
+use Rattle.typed_model.specs.declared.statement.Statement as statement
+use Rattle.typed_model.specs.declared.statement.Statement.TheVariants as variant
+use Rattle.typed_model.specs.Signatures.{signature}
+use Rattle.typed_model.specs.Scope.{low_of}
+use Rattle.typed_model.specs.Arguments.{Argument, Truth, Number, Truths, Numbers, Numerals, arguments_of, statement_in}
+use Rattle.typed_model.specs.WellTyped.{IsInt, TruthFits, NumberFits, TruthsFit, NumbersFit, IsAtLeast, ArgumentFits, ArgumentsFit, IsDivision, ValuesFit, WhatFits, StmtsFit, DeclsFit}
 use Rattle.model_lower.specs.Items.{ModelItem, Declaration, stmts_before, stmts_from, statements, items_of}
-use Rattle.model_lower.specs.Built.{is_built}
 use Rattle.model_lower.proofs.Standing.{ItemsFit, decls_in, stmts_in}
 
 -- The declarations and the statements of the items.
@@ -78,30 +83,71 @@ at-before [] es n p Q from h = absurd (none-from es n p Q from h)
 at-before (d ∷ ds) es n zero Q from h = h
 at-before (d ∷ ds) es n (suc p) Q from h = at-before ds es n p Q from h
 
-module _ (ds es : List Decl) (n : ℕ) (from : AllFrom n es) where
+AllFrom-less : (n : ℕ) (ds : List Decl) → AllFrom (n + 1) ds → AllFrom n ds
+AllFrom-less n [] h = tt
+AllFrom-less n (d ∷ ds) h = (omega (arith, h.0), AllFrom-less n ds h.1)
+
+-- what is at a place before stays so, whatever else is known of it
+both-before : (ds es : List Decl) (n p : ℕ) (Q R : Decl → Type 0) → AllFrom n es → IsSomeAnd (slice_get (ds ++ es) p) (λ d. (d.number < n) × Q d) → IsSomeAnd (slice_get (ds ++ es) p) R → IsSomeAnd (slice_get ds p) R
+both-before [] es n p Q R from h r = absurd (none-from es n p Q from h)
+both-before (d ∷ ds) es n zero Q R from h r = r
+both-before (d ∷ ds) es n (suc p) Q R from h r = both-before ds es n p Q R from h r
+
+module _ (ds es : List Decl) (n : ℕ) (from : AllFrom (n + 1) es) where
   TruthFits-before : (x : BoolTerm) → TruthFits (ds ++ es) n x → TruthFits ds n x
   TruthFits-before (bool_term.Const t) h = tt
-  TruthFits-before (bool_term.Of p s) h = at-before ds es n p (λ d. d.kind ≡ kind.Bool) from h
+  TruthFits-before (bool_term.Of p s) h = at-before ds es n p (λ d. d.kind ≡ kind.Bool) (AllFrom-less n es from) h
 
   NumberFits-before : (i : IntTerm) → NumberFits (ds ++ es) n i → NumberFits ds n i
   NumberFits-before (int_term.Number z) h = tt
-  NumberFits-before (int_term.Of p) h = at-before ds es n p (λ d. IsInt d.kind) from h
+  NumberFits-before (int_term.Of p) h = at-before ds es n p (λ d. IsInt d.kind) (AllFrom-less n es from) h
 
   TruthsFit-before : (xs : List BoolTerm) → TruthsFit (ds ++ es) n xs → TruthsFit ds n xs
   TruthsFit-before [] h = tt
   TruthsFit-before (x ∷ xs) h = (TruthFits-before x h.0, TruthsFit-before xs h.1)
 
-  WhatFits-before : (w : What) → WhatFits (ds ++ es) n w → is_built w ≡ true → WhatFits ds n w
-  WhatFits-before (L6 name op xs) h built =
-      record { name = h.name; arguments = (TruthsFit-before xs h.arguments.0, tt); lengths = h.lengths; values = h.values }
-  WhatFits-before (L8 name rel i j) h built =
+  NumbersFit-before : (is : List IntTerm) → NumbersFit (ds ++ es) n is → NumbersFit ds n is
+  NumbersFit-before [] h = tt
+  NumbersFit-before (i ∷ is) h = (NumberFits-before i h.0, NumbersFit-before is h.1)
+
+  ArgumentFits-before : (w : Wanted) (x : Argument) → ArgumentFits (ds ++ es) n w x → ArgumentFits ds n w x
+  ArgumentFits-before wanted.Truth (Truth x) h = TruthFits-before x h
+  ArgumentFits-before wanted.Number (Number i) h = NumberFits-before i h
+  ArgumentFits-before wanted.NewInteger (Number (int_term.Of p)) h = at-before ds es (n + 1) p (λ d. IsInt d.kind) from h
+  ArgumentFits-before wanted.Truths (Truths xs) h = TruthsFit-before xs h
+  ArgumentFits-before wanted.Numbers (Numbers is) h = NumbersFit-before is h
+  ArgumentFits-before wanted.Numerals (Numerals cs) h = tt
+  ArgumentFits-before w x h = absurd h
+
+  ArgumentsFit-before : (ws : List Wanted) (xs : List Argument) → ArgumentsFit (ds ++ es) n ws xs → ArgumentsFit ds n ws xs
+  ArgumentsFit-before [] [] h = tt
+  ArgumentsFit-before [] (x ∷ xs) h = absurd h
+  ArgumentsFit-before (w ∷ ws) [] h = absurd h
+  ArgumentsFit-before (w ∷ ws) (x ∷ xs) h = (ArgumentFits-before w x h.0, ArgumentsFit-before ws xs h.1)
+
+  IsAtLeast-before : (m : ℤ) (i : IntTerm) → NumberFits (ds ++ es) n i → IsAtLeast (ds ++ es) m i → IsAtLeast ds m i
+  IsAtLeast-before m (int_term.Number z) k h = h
+  IsAtLeast-before m (int_term.Of p) k h =
+      both-before ds es n p (λ d. IsInt d.kind) (λ d. m ≤ℤ low_of (Some d.kind)) (AllFrom-less n es from) k h
+
+  IsDivision-before : (xs : List Argument) → ArgumentsFit (ds ++ es) n (wanted.Number ∷ wanted.Number ∷ wanted.Number ∷ []) xs → IsDivision (ds ++ es) xs → IsDivision ds xs
+  IsDivision-before (Number i ∷ Number j ∷ xs) k h = (IsAtLeast-before _ i k.0 h.0, IsAtLeast-before _ j k.1.0 h.1)
+  IsDivision-before xs k h = absurd h
+
+  ValuesFit-before : (s : statement.Statement) (xs : List Argument) → ArgumentsFit (ds ++ es) n (signature s) xs → ValuesFit (ds ++ es) s xs → ValuesFit ds s xs
+  ValuesFit-before (variant.Aggregate o) xs k h = h
+  ValuesFit-before (variant.Operation arithmetic.Div) xs k h = IsDivision-before xs k h
+  ValuesFit-before (variant.Operation arithmetic.Mod) xs k h = IsDivision-before xs k h
+  ValuesFit-before s xs k h = tt
+
+  pub WhatFits-before : (w : What) → WhatFits (ds ++ es) n w → WhatFits ds n w
+  WhatFits-before w h =
       record {
         name = h.name;
-        arguments = (NumberFits-before i h.arguments.0, (NumberFits-before j h.arguments.1.0, tt));
+        arguments = ArgumentsFit-before (signature (statement_in w)) (arguments_of w) h.arguments;
         lengths = h.lengths;
-        values = h.values;
+        values = ValuesFit-before (statement_in w) (arguments_of w) h.arguments h.values;
       }
-  WhatFits-before w h built = absurd (false≢true built)
 
 -- The items fit.
 
@@ -123,17 +169,17 @@ fits-from n ds (s ∷ ss) h k = by_test (nat_lt s.number n) (fits-from n ds ss h
     by_test false r = (h, k)
 
 -- statements before the declarations that are left fit the declarations so far
-statements-fit : (done ds : List Decl) (n : ℕ) (ss : List Stmt) (items : List ModelItem) → ((m : ℕ) → m < n → AllFrom m ds) → EachFits (done ++ ds) ss → StmtsInLimit ss → ItemsFit done items → ItemsFit done (statements (stmts_before n ss) ++ items)
+statements-fit : (done ds : List Decl) (n : ℕ) (ss : List Stmt) (items : List ModelItem) → ((m : ℕ) → m ≤ n → AllFrom m ds) → EachFits (done ++ ds) ss → StmtsInLimit ss → ItemsFit done items → ItemsFit done (statements (stmts_before n ss) ++ items)
 statements-fit done ds n [] items from h k rest = rest
 statements-fit done ds n (s ∷ ss) items from h k rest = by_test (nat_lt s.number n) (λ t. grind (arith, nat_tests)) (statements-fit done ds n ss items from h.1 k.1 rest)
   where
     by_test : (b : Bool) → (b ≡ true → s.number < n) → ItemsFit done (statements (stmts_before n ss) ++ items) → ItemsFit done (statements (if b then s ∷ stmts_before n ss else []) ++ items)
-    by_test true lt r = (WhatFits-before done ds s.number (from s.number (lt refl)) s.what h.0, k.0, r)
+    by_test true lt r = (WhatFits-before done ds s.number (from (s.number + 1) (omega (arith, lt refl))) s.what h.0, k.0, r)
     by_test false lt r = rest
 
 last-fit : (done : List Decl) (ss : List Stmt) → EachFits (done ++ []) ss → StmtsInLimit ss → ItemsFit done (statements ss)
 last-fit done [] h k = tt
-last-fit done (s ∷ ss) h k = (λ built. WhatFits-before done [] s.number tt s.what h.0 built, k.0, last-fit done ss h.1 k.1)
+last-fit done (s ∷ ss) h k = (WhatFits-before done [] s.number tt s.what h.0, k.0, last-fit done ss h.1 k.1)
 
 pub items-fit : (done ds : List Decl) (ss : List Stmt) (m : ℕ) → DeclsFit m ds → DeclsInLimit ds → EachFits (done ++ ds) ss → StmtsInLimit ss → ItemsFit done (items_of ds ss)
 items-fit done [] ss m fit small h k = last-fit done ss h k

@@ -1,5 +1,5 @@
-pub mod EntryLaws
 pub mod CoreLaws
+pub mod BuiltLaws
 pub mod StatementSteps
 pub mod DeclarationSteps
 pub mod Standing
@@ -7,4 +7,4 @@ pub mod ItemOrder
 pub mod LoweringLaw
 pub mod LoweredItems
 pub mod UnbuiltItems
-pub mod MeaningLaws
+pub mod LimitLaws

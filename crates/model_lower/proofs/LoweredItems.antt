@@ -11,6 +11,7 @@ use Rattle.model_lower.specs.declared.state.Lowered.{Lowered}
 use Rattle.model_lower.specs.Items.{ModelItem, Declaration, Statement, stmts_before, stmts_from, statements, items_of}
 use Rattle.model_lower.specs.Lowering.{lowered_item, lowered_items}
 use Rattle.model_lower.specs.Built.{vars_after, unbuilt, first_unbuilt, IsFaultOf}
+use Rattle.model_lower.proofs.BuiltLaws.{built-vars, built-room}
 use Rattle.model_lower.specs.declared.fault.LowerFault.{LowerFault}
 use Rattle.model_lower.specs.declared.fault.LowerFault.TheVariants.{Unbuilt, Memory}
 
@@ -18,10 +19,10 @@ pub lowered_items-append : (l : Lowered) (xs ys : List ModelItem) → lowered_it
 lowered_items-append l [] ys = refl
 lowered_items-append l (x ∷ xs) ys = lowered_items-append (lowered_item l x) xs ys
 
--- the variables that are counted are those of what is lowered
-pub vars-item : (l : Lowered) (i : ModelItem) → (lowered_item l i).vars ≡ vars_after l.vars i
-vars-item l (Declaration d) = refl
-vars-item l (Statement s) = refl
+-- the variables that are counted for an item that is built are those of what it is lowered to
+pub vars-item : (l : Lowered) (i : ModelItem) → unbuilt l.vars i ≡ None → (lowered_item l i).vars ≡ vars_after l.vars i
+vars-item l (Declaration d) none = refl
+vars-item l (Statement s) none = built-vars l.vars l.map.entries s.what (built-room l.vars (Statement s) none).0
 
 first_of-built : {A : Type 0} (o p q : Option A) → o ≡ None → p ≡ q → first_of o p ≡ q
 first_of-built o p q e f = rw e f
@@ -30,18 +31,18 @@ first_of-built o p q e f = rw e f
 pub unbuilt-next : (l m : Lowered) (i : ModelItem) (items : List ModelItem) → unbuilt l.vars i ≡ None → m ≡ lowered_item l i → first_unbuilt l.vars (i ∷ items) ≡ first_unbuilt m.vars items
 unbuilt-next l m i items none e =
     first_of-built (unbuilt l.vars i) (first_unbuilt (vars_after l.vars i) items) (first_unbuilt m.vars items) none
-    (ap (λ (v : ℕ). first_unbuilt v items) (sym (vars-item l i) ∙ ap (λ (l : Lowered). l.vars) (sym e)))
+    (ap (λ (v : ℕ). first_unbuilt v items) (sym (vars-item l i none) ∙ ap (λ (l : Lowered). l.vars) (sym e)))
 
 -- behind items that are built
 pub unbuilt-append : (l : Lowered) (xs ys : List ModelItem) → first_unbuilt l.vars xs ≡ None → first_unbuilt l.vars (xs ++ ys) ≡ first_unbuilt (lowered_items l xs).vars ys
 unbuilt-append l [] ys none = refl
-unbuilt-append l (x ∷ xs) ys none = by_first (unbuilt l.vars x) (unbuilt-append (lowered_item l x) xs ys) none
+unbuilt-append l (x ∷ xs) ys none = by_first (unbuilt l.vars x) refl (unbuilt-append (lowered_item l x) xs ys) none
   where
-    by_first : (o : Option ℕ) → (first_unbuilt (lowered_item l x).vars xs ≡ None → first_unbuilt (lowered_item l x).vars (xs ++ ys) ≡ first_unbuilt (lowered_items (lowered_item l x) xs).vars ys) → first_of o (first_unbuilt (vars_after l.vars x) xs) ≡ None → first_of o (first_unbuilt (vars_after l.vars x) (xs ++ ys)) ≡ first_unbuilt (lowered_items (lowered_item l x) xs).vars ys
-    by_first None f none =
-        ap (λ (v : ℕ). first_unbuilt v (xs ++ ys)) (sym (vars-item l x))
-        ∙ f (ap (λ (v : ℕ). first_unbuilt v xs) (vars-item l x) ∙ none)
-    by_first (Some n) f none = absurd (cc)
+    by_first : (o : Option ℕ) → unbuilt l.vars x ≡ o → (first_unbuilt (lowered_item l x).vars xs ≡ None → first_unbuilt (lowered_item l x).vars (xs ++ ys) ≡ first_unbuilt (lowered_items (lowered_item l x) xs).vars ys) → first_of o (first_unbuilt (vars_after l.vars x) xs) ≡ None → first_of o (first_unbuilt (vars_after l.vars x) (xs ++ ys)) ≡ first_unbuilt (lowered_items (lowered_item l x) xs).vars ys
+    by_first None is f none =
+        ap (λ (v : ℕ). first_unbuilt v (xs ++ ys)) (sym (vars-item l x is))
+        ∙ f (ap (λ (v : ℕ). first_unbuilt v xs) (vars-item l x is) ∙ none)
+    by_first (Some n) is f none = absurd (cc)
 
 -- the first item that isn't built stays the first one
 pub unbuilt-stays : (vars n : ℕ) (xs ys : List ModelItem) → first_unbuilt vars xs ≡ Some n → first_unbuilt vars (xs ++ ys) ≡ Some n
@@ -121,3 +122,16 @@ module _ (items xs rest : List ModelItem) (d : Decl) (parts : items ≡ xs ++ (D
 pub handed_on : {A E : Type 0} (r : Result A E) (P : E → Type 0) (e : E) → IsErrAnd r (λ x. x ≡ e) → P e → IfErr r P
 handed_on (Ok x) P e h p = absurd h
 handed_on (Err x) P e h p = subst P (sym h) p
+
+-- One of some statements is lowered, and the others are left.
+module _ (ss : List Stmt) (i : ℕ) (s : Stmt) (h : i < length ss) (is : s ≡ get_or ss i s) (l m : Lowered) (next : m ≡ lowered_item l (Statement s)) where
+  left-parts : statements (drop i ss) ≡ Statement s ∷ statements (drop (i + 1) ss)
+  left-parts = ap statements (drop_more ss i s h ∙ ap (λ x. x ∷ drop (i + 1) ss) (sym is))
+
+  pub statement-shape : (all : Lowered) → lowered_items l (statements (drop i ss)) ≡ all → lowered_items m (statements (drop (i + 1) ss)) ≡ all
+  statement-shape all e =
+      ap (λ (l : Lowered). lowered_items l (statements (drop (i + 1) ss))) next ∙ (ap (lowered_items l) (sym left-parts) ∙ e)
+
+  pub statement-unbuilt : (all : Option ℕ) → unbuilt l.vars (Statement s) ≡ None → first_unbuilt l.vars (statements (drop i ss)) ≡ all → first_unbuilt m.vars (statements (drop (i + 1) ss)) ≡ all
+  statement-unbuilt all none e =
+      sym (unbuilt-next l m (Statement s) (statements (drop (i + 1) ss)) none next) ∙ (ap (first_unbuilt l.vars) (sym left-parts) ∙ e)

@@ -1,5 +1,5 @@
 -- What is lowered so far stands for the declarations and statements so far; each item keeps this.
-use Rattle.std.proofs.Common.{◌≡◌, ◌↔◌, suc, ◌+◌, ℤ, Bool, true, false, ◌&&◌, List, [], ◌∷◌, ◌++◌, length, Option, Some, None, IsTrue, refl, sym, ap, subst, ◌∙◌, arith}
+use Rattle.std.proofs.Common.{◌≡◌, ◌↔◌, ℕ, suc, ◌+◌, ℤ, Bool, true, false, ◌&&◌, List, [], ◌∷◌, ◌++◌, length, Option, Some, None, IsTrue, refl, sym, ap, subst, ◌∙◌, arith}
 use Rattle.std.proofs.lemmas.Bool.{false≢true, and_parts}
 use Rattle.std.proofs.lemmas.List.{append-nil, append_assoc}
 use Rattle.order_ints.specs.Numbers.{numbers_of}
@@ -16,18 +16,19 @@ use Rattle.typed_model.proofs.AppendLaws.{WhatFits-append}
 use Rattle.typed_model.proofs.BehindLaws.{behind}
 use Rattle.model_lower.specs.declared.state.Lowered.{Lowered}
 use Rattle.model_lower.specs.Items.{ModelItem, Declaration, Statement}
-use Rattle.model_lower.specs.Lowering.{with_declaration, with_statement, lowered_items, nothing_lowered}
-use Rattle.model_lower.specs.Built.{is_built, vars_after, unbuilt, first_unbuilt}
+use Rattle.model_lower.specs.Lowering.{with_declaration, with_statement, lowered_item, lowered_items, nothing_lowered}
+use Rattle.model_lower.specs.Built.{vars_after, unbuilt, first_unbuilt}
 use Rattle.model_lower.specs.Decoded.{IsDecoded}
 use Rattle.model_lower.specs.ItemLaws.{Encodes, TakesEachValue}
-use Rattle.model_lower.proofs.EntryLaws.{numbers_of-agree}
-use Rattle.model_lower.proofs.StatementSteps.{statement_law, none-built}
+use Rattle.statement_lower.proofs.EntryLaws.{numbers_of-agree}
+use Rattle.model_lower.proofs.StatementSteps.{statement_law}
+use Rattle.model_lower.proofs.LoweredItems.{vars-item}
 use Rattle.model_lower.proofs.DeclarationSteps.{declaration_law}
 
--- the statements so far are built, and fit the declarations so far
+-- the statements so far fit the declarations so far
 abbrev pub ArePlaced : List Decl → List Stmt → Type 0
 ArePlaced ds [] = Unit {0}
-ArePlaced ds (s ∷ ss) = (is_built s.what ≡ true) × WhatFits ds s.number s.what × ArePlaced ds ss
+ArePlaced ds (s ∷ ss) = WhatFits ds s.number s.what × ArePlaced ds ss
 
 -- what is lowered so far stands for the assignments of the declarations so far under which the statements so far hold
 pub record Stands (l : Lowered) (ds : List Decl) (ss : List Stmt) : Type 0 where
@@ -76,8 +77,8 @@ in_domains-length (d ∷ ds) (v ∷ a) h = ap suc (in_domains-length ds a (and_p
 AllHold-append : (ds : List Decl) (ss : List Stmt) (a b : List ℤ) → length a ≡ length ds → ArePlaced ds ss → AllHold (a ++ b) ss ↔ AllHold a ss
 AllHold-append ds [] a b long p = (λ h. tt, λ h. tt)
 AllHold-append ds (s ∷ ss) a b long p =
-    let here = (behind ds [] s.number s.what p.1).1 a b (omega (arith, long)) in
-    let rest = AllHold-append ds ss a b long p.2 in
+    let here = (behind ds [] s.number s.what p.0).1 a b (omega (arith, long)) in
+    let rest = AllHold-append ds ss a b long p.1 in
     (λ h. (here.0 h.0, rest.0 h.1), λ h. (here.1 h.0, rest.1 h.1))
 
 AllHold-split : (ss : List Stmt) (s : Stmt) (a : List ℤ) → AllHold a (ss ++ s ∷ []) ↔ (AllHold a ss × Holds a s.what)
@@ -88,11 +89,11 @@ AllHold-split (t ∷ ss) s a =
 
 ArePlaced-more : (ds es : List Decl) (ss : List Stmt) → ArePlaced ds ss → ArePlaced (ds ++ es) ss
 ArePlaced-more ds es [] h = tt
-ArePlaced-more ds es (s ∷ ss) h = (h.0, WhatFits-append ds es s.number s.what h.1, ArePlaced-more ds es ss h.2)
+ArePlaced-more ds es (s ∷ ss) h = (WhatFits-append ds es s.number s.what h.0, ArePlaced-more ds es ss h.1)
 
-ArePlaced-append : (ds : List Decl) (ss : List Stmt) (s : Stmt) → ArePlaced ds ss → is_built s.what ≡ true → WhatFits ds s.number s.what → ArePlaced ds (ss ++ s ∷ [])
-ArePlaced-append ds [] s h built fit = (built, fit, tt)
-ArePlaced-append ds (t ∷ ss) s h built fit = (h.0, h.1, ArePlaced-append ds ss s h.2 built fit)
+ArePlaced-append : (ds : List Decl) (ss : List Stmt) (s : Stmt) → ArePlaced ds ss → WhatFits ds s.number s.what → ArePlaced ds (ss ++ s ∷ [])
+ArePlaced-append ds [] s h fit = (fit, tt)
+ArePlaced-append ds (t ∷ ss) s h fit = (h.0, ArePlaced-append ds ss s h.1 fit)
 
 -- One more declaration.
 
@@ -128,15 +129,13 @@ declaration-stands l ds ss d st fit small none =
 
 -- One more statement.
 
-pub statement-stands : (l : Lowered) (ds : List Decl) (ss : List Stmt) (s : Stmt) → Stands l ds ss → (is_built s.what ≡ true → WhatFits ds s.number s.what) → WhatInLimit s.what → unbuilt l.vars (Statement s) ≡ None → Stands (with_statement l s.what) ds (ss ++ s ∷ [])
-statement-stands l ds ss s st fits small none =
-    let built : is_built s.what ≡ true = none-built (is_built s.what) s.number none in
-    let fit = fits built in
+pub statement-stands : (l : Lowered) (ds : List Decl) (ss : List Stmt) (s : Stmt) → Stands l ds ss → WhatFits ds s.number s.what → WhatInLimit s.what → unbuilt l.vars (Statement s) ≡ None → Stands (with_statement l s.what) ds (ss ++ s ∷ [])
+statement-stands l ds ss s st fit small none =
     let law = statement_law l ds s st.encodes fit small none in
     let entries = l.map.entries in
     record {
       encodes = law.0;
-      placed = ArePlaced-append ds ss s st.placed built fit;
+      placed = ArePlaced-append ds ss s st.placed fit;
       solutions = λ a. (
         λ h.
             let p = (AllHold-split ss s a).0 h.1 in
@@ -169,7 +168,7 @@ nothing-stands = record {
 abbrev pub ItemsFit : List Decl → List ModelItem → Type 0
 ItemsFit ds [] = Unit {0}
 ItemsFit ds (Declaration d ∷ items) = KindFits d.kind × KindInLimit d.kind × ItemsFit (ds ++ d ∷ []) items
-ItemsFit ds (Statement s ∷ items) = (is_built s.what ≡ true → WhatFits ds s.number s.what) × WhatInLimit s.what × ItemsFit ds items
+ItemsFit ds (Statement s ∷ items) = WhatFits ds s.number s.what × WhatInLimit s.what × ItemsFit ds items
 
 abbrev pub decls_in : List ModelItem → List Decl
 decls_in [] = []
@@ -185,13 +184,19 @@ pub first_of-none : {A : Type 0} (o p : Option A) → first_of o p ≡ None → 
 first_of-none None p e = (refl, e)
 first_of-none (Some x) p e = absurd (cc)
 
+-- the first item is built, and so are the others behind it
+built-first : (l : Lowered) (i : ModelItem) (items : List ModelItem) → first_unbuilt l.vars (i ∷ items) ≡ None → (unbuilt l.vars i ≡ None) × (first_unbuilt (lowered_item l i).vars items ≡ None)
+built-first l i items none =
+    let p = first_of-none (unbuilt l.vars i) (first_unbuilt (vars_after l.vars i) items) none in
+    (p.0, ap (λ (v : ℕ). first_unbuilt v items) (vars-item l i p.0) ∙ p.1)
+
 pub items-stand : (l : Lowered) (ds : List Decl) (ss : List Stmt) (items : List ModelItem) → Stands l ds ss → ItemsFit ds items → first_unbuilt l.vars items ≡ None → Stands (lowered_items l items) (ds ++ decls_in items) (ss ++ stmts_in items)
 items-stand l ds ss [] st fit none = rw (append-nil ds, append-nil ss) st
 items-stand l ds ss (Declaration d ∷ items) st fit none =
-    let p = first_of-none (unbuilt l.vars (Declaration d)) (first_unbuilt (vars_after l.vars (Declaration d)) items) none in
+    let p = built-first l (Declaration d) items none in
     subst (λ (cs : List Decl). Stands (lowered_items (with_declaration l d.kind) items) cs (ss ++ stmts_in items)) (append_assoc ds (d ∷ []) (decls_in items))
     (items-stand (with_declaration l d.kind) (ds ++ d ∷ []) ss items (declaration-stands l ds ss d st fit.0 fit.1 p.0) fit.2 p.1)
 items-stand l ds ss (Statement s ∷ items) st fit none =
-    let p = first_of-none (unbuilt l.vars (Statement s)) (first_unbuilt (vars_after l.vars (Statement s)) items) none in
+    let p = built-first l (Statement s) items none in
     subst (λ (ts : List Stmt). Stands (lowered_items (with_statement l s.what) items) (ds ++ decls_in items) ts) (append_assoc ss (s ∷ []) (stmts_in items))
     (items-stand (with_statement l s.what) ds (ss ++ s ∷ []) items (statement-stands l ds ss s st fit.0 fit.1 p.0) fit.2 p.1)

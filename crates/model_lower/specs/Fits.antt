@@ -1,40 +1,30 @@
 -- The ranges of cores and of a map of names.
-use Rattle.std.specs.Prelude.{ℕ, ◌+◌, ◌≤◌, List, [], ◌∷◌}
-use Rattle.order_ints.specs.declared.order_int.MapValue.{MapValue}
-use Rattle.order_ints.specs.declared.order_int.MapValue.TheVariants as values
-use Rattle.order_ints.specs.Place.{AtomBelow}
-use Rattle.order_ints.specs.OrderRange.{IntBelow}
+use Rattle.std.specs.Prelude.{ℕ, ◌+◌, ◌≤◌, List, [], ◌∷◌, length}
 use Rattle.core_forms.specs.declared.form.Core.{Core}
-use Rattle.core_forms.specs.declared.form.Core.TheVariants.{Ladder, Clause, LeqR, EqR}
+use Rattle.core_forms.specs.declared.form.Core.TheVariants.{Ladder, Clause, Parity, Conj, LeqR, EqR, Max, Prod, DivMod}
 use Rattle.core_forms.specs.Place.{CoreBelow}
-use Rattle.core_forms.specs.WellFormed.{IsSound, IsWellFormed}
-use Rattle.typed_model.specs.declared.model.Kind.{Kind}
-use Rattle.typed_model.specs.declared.model.Kind.TheVariants as kind
+use Rattle.core_forms.specs.WellFormed.{IsWellFormed}
 use Rattle.typed_model.specs.declared.model.Decl.{Decl}
+use Rattle.statement_lower.specs.Entries.{EntriesFit}
 use Rattle.model_lower.specs.declared.state.Lowered.{Lowered}
 use Rattle.model_lower.specs.Built.{most_vars}
 
--- a Boolean stands for an atom, an integer for a sound integer; variables are below n
-abbrev pub EntryFits : ℕ → Kind → MapValue → Type 0
-EntryFits n kind.Bool (values.Bool a) = AtomBelow n a
-EntryFits n kind.Bool (values.Int a) = ⊥
-EntryFits n (kind.Int low high) (values.Bool a) = ⊥
-EntryFits n (kind.Int low high) (values.Int a) = IntBelow n a × IsSound a
-
--- one entry for each declaration
-abbrev pub EntriesFit : ℕ → List Decl → List MapValue → Type 0
-EntriesFit n [] [] = Unit {0}
-EntriesFit n [] (e ∷ entries) = ⊥
-EntriesFit n (d ∷ ds) [] = ⊥
-EntriesFit n (d ∷ ds) (e ∷ entries) = EntryFits n d.kind e × EntriesFit n ds entries
-
--- a core has one of the forms that statements are lowered to so far
+-- a core has one of the forms that items are lowered to so far, each of which clauses say at once
 abbrev pub IsFirstForm : Core → Type 0
 IsFirstForm (Ladder a) = Unit {0}
 IsFirstForm (Clause atoms) = Unit {0}
+IsFirstForm (Parity atoms odd) = length atoms ≤ 3
+IsFirstForm (Conj r atoms) = Unit {0}
 IsFirstForm (LeqR r a b) = Unit {0}
 IsFirstForm (EqR r a b) = Unit {0}
+IsFirstForm (Max ints c) = Unit {0}
+IsFirstForm (Prod a b c) = Unit {0}
+IsFirstForm (DivMod a b q r) = Unit {0}
 IsFirstForm core = ⊥
+
+abbrev pub AreFirstForms : List Core → Type 0
+AreFirstForms [] = Unit {0}
+AreFirstForms (c ∷ cs) = IsFirstForm c × AreFirstForms cs
 
 -- the variables of a core are below n, it is well formed, and it has one of the first forms
 pub record CoreFits (n : ℕ) (core : Core) : Type 0 where

@@ -1,9 +1,6 @@
 -- What one more item makes of the assignments that cores and a map of names stand for.
 use Rattle.std.specs.Prelude.{◌≡◌, ◌↔◌, ◌+◌, ℤ, List, [], ◌∷◌, ◌++◌, None, IsTrue}
-use Rattle.order_ints.specs.declared.order_int.MapValue.{MapValue}
-use Rattle.order_ints.specs.declared.order_int.MapValue.TheVariants as values
 use Rattle.order_ints.specs.Truth.{Valuation, Agree}
-use Rattle.order_ints.specs.OrderValue.{IsOrdered}
 use Rattle.order_ints.specs.Numbers.{numbers_of}
 use Rattle.order_ints.specs.Represents.{Represents}
 use Rattle.core_forms.specs.Cores.{MeetsAll}
@@ -17,18 +14,13 @@ use Rattle.typed_model.specs.Holds.{Holds}
 use Rattle.typed_model.specs.Limits.{KindInLimit, WhatInLimit, InLimits}
 use Rattle.typed_model.specs.WellTyped.{KindFits, WhatFits, WellTyped}
 use Rattle.typed_model.specs.Solutions.{IsSolution}
+use Rattle.statement_lower.specs.Entries.{AreOrdered}
 use Rattle.model_lower.specs.declared.state.Lowered.{Lowered}
 use Rattle.model_lower.specs.Items.{Declaration, Statement}
 use Rattle.model_lower.specs.Lowering.{with_declaration, with_statement, lowered_of}
 use Rattle.model_lower.specs.Built.{unbuilt, first_unbuilt_of}
 use Rattle.model_lower.specs.Decoded.{IsDecoded}
 use Rattle.model_lower.specs.Fits.{Fits}
-
--- each integer of a map is ordered
-abbrev pub AreOrdered : Valuation → List MapValue → Type 0
-AreOrdered σ [] = Unit {0}
-AreOrdered σ (values.Bool a ∷ entries) = AreOrdered σ entries
-AreOrdered σ (values.Int a ∷ entries) = IsOrdered σ a × AreOrdered σ entries
 
 -- what is lowered so far fits the declarations so far, and its cores keep the integers of its map ordered
 pub record Encodes (l : Lowered) (decls : List Decl) : Type 0 where

@@ -1,9 +1,7 @@
 pub mod Items
-pub mod Cores
 pub mod Lowering
 pub mod Built
 pub mod Decoded
 pub mod Fits
 pub mod ItemLaws
 pub mod Drafting
-pub mod SameMeanings

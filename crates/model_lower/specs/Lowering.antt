@@ -10,9 +10,9 @@ use Rattle.typed_model.specs.declared.model.Kind.TheVariants as kind
 use Rattle.typed_model.specs.declared.model.Model.{Model}
 use Rattle.typed_model.specs.declared.what.What.{What}
 use Rattle.typed_model.specs.Domains.{at_least_zero}
+use Rattle.statement_lower.specs.Lines.{made_of}
 use Rattle.model_lower.specs.declared.state.Lowered.{Lowered}
 use Rattle.model_lower.specs.Items.{ModelItem, Declaration, Statement, items_of_model}
-use Rattle.model_lower.specs.Cores.{cores_of}
 
 -- how many variables a declared name takes: a Boolean one, an integer one for each value but the least
 abbrev pub vars_taken : Kind → ℕ
@@ -37,9 +37,13 @@ with_declaration l k = record {
   cores = l.cores ++ entry_cores (entry_of l.vars k);
 }
 
--- after one more statement
+-- after one more statement, whose fresh variables and cores stand behind those so far
 abbrev pub with_statement : Lowered → What → Lowered
-with_statement l what = record { vars = l.vars; map = l.map; cores = l.cores ++ cores_of l.map.entries what }
+with_statement l what = record {
+  vars = (made_of l.vars l.map.entries what).vars;
+  map = l.map;
+  cores = l.cores ++ (made_of l.vars l.map.entries what).cores;
+}
 
 -- after one more item
 abbrev pub lowered_item : Lowered → ModelItem → Lowered

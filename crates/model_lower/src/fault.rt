@@ -9,8 +9,8 @@ use thiserror::Error;
 /// Why a model has no cores.
 #[derive(Debug, Drop, Error)]
 pub enum LowerFault {
-    /// The item with this number is the first one that isn't built: a statement that has no cores yet, or
-    /// a declaration with which there are too many variables.
+    /// The item with this number is the first one that isn't built: a statement for which there are no clauses
+    /// yet, or an item with which there are too many variables.
     #[error("statement {0}: not built")]
     Unbuilt(u64),
     /// Memory was wanting.

@@ -1,7 +1,6 @@
 //! Laws of lowering, for proofs of crates above. Each function does nothing; its contract is the law.
 
 ghost use Rattle.model_lower.specs.ItemLaws.{DeclarationLaw, StatementLaw, LoweringLaws};
-ghost use Rattle.model_lower.specs.SameMeanings.{SameMeanings};
 
 /// What one more item makes of the assignments that are decoded.
 pub fn item_law()
@@ -12,9 +11,4 @@ pub fn item_law()
 /// The solutions of a model are the assignments that are decoded from its cores and its map of names.
 pub fn lowering_law()
     ensures { LoweringLaws }
-{}
-
-/// What statements and cores say alike of lists of numbers and of truths.
-pub fn meaning_law()
-    ensures { SameMeanings }
 {}

@@ -1,7 +1,7 @@
 //! From a typed model to cores and a map of names.
 //!
 //! Items are taken in the order of their numbers. A declaration takes variables, and makes an entry of the
-//! map; a statement makes cores. A statement without cores yet is refused by its number.
+//! map; a statement makes cores, by `statement_lower`. A statement that isn't built is refused by its number.
 #![tactic(auto)]
 
 mod declarations;
@@ -11,13 +11,12 @@ mod laws;
 mod lowering;
 mod state;
 mod statements;
-mod terms;
 mod unbuilt;
 
 pub use declarations::add_declaration;
 pub use draft::Draft;
 pub use fault::LowerFault;
-pub use laws::{item_law, lowering_law, meaning_law};
+pub use laws::{item_law, lowering_law};
 pub use lowering::lower;
 pub use state::{Lowered, NameMap};
 pub use statements::add_statement;

@@ -1,135 +1,80 @@
-//! The cores of a statement.
+//! The cores of statements, added to those so far.
 
-ghost use Rattle.std.specs.Prelude.{◌≡◌, ◌++◌, ◌∷◌, [], IfOk, OnOk, IfErr, None, Some};
-ghost use Rattle.order_ints.specs.declared.atom.Atom.TheVariants.{True};
+ghost use Rattle.std.specs.Prelude.{◌≡◌, ◌≤◌, OnOk, IfErr, None};
+ghost use Rattle.statement_lower.specs.Entries.{AreInLimit};
 ghost use Rattle.model_lower.specs.Items.{Statement, statements};
-ghost use Rattle.model_lower.specs.Cores.{atoms_of, integer_of, comparison_core, array_cores, cores_of};
 ghost use Rattle.model_lower.specs.Lowering.{lowered_item, lowered_items};
-ghost use Rattle.model_lower.specs.Built.{is_built_operator, is_built_relation, is_built, unbuilt, first_unbuilt, IsFaultOf};
+ghost use Rattle.model_lower.specs.Built.{is_built, fresh_of_operator, fresh_of, unbuilt, first_unbuilt, IsFaultOf};
 ghost use Rattle.model_lower.specs.Drafting.{lowered_so_far};
 
+use crate::declarations::MOST_VARS;
 use crate::draft::Draft;
 use crate::fault::LowerFault;
-use crate::terms::{atoms_of, integer_of};
-use core_forms::Core;
-use order_ints::{Atom, MapValue, OrdInt};
-use std::alloc::{AllocError, Global};
-use typed_model::{BoolTerm, IntTerm, Operator, Relation, Stmt, What};
+use statement_lower::made_of;
+use std::alloc::Global;
+use typed_model::{Aggregate, Arithmetic, Operator, Stmt, What};
 
-/// Whether a statement has cores yet.
+/// Whether a statement is built, where there is room for its fresh variables.
 pub fn is_built(what: &What) -> bool
     ensures { result ≡ is_built what.now }
 {
     match what {
-        What::L6 { operator, .. } => matches!(operator, Operator::Or),
-        What::L8 { relation, .. } => matches!(relation, Relation::Leq | Relation::Neq),
+        What::L4 { .. } | What::L5 { .. } | What::L8 { .. } | What::L9 { .. } | What::L15 { .. } =>
+            true,
+        What::L6 { operator, .. } | What::L7 { operator, .. } => {
+            !matches!(operator, Operator::Xor)
+        }
+        What::L14 { operation, .. } => matches!(
+            operation,
+            Arithmetic::Times | Arithmetic::Max | Arithmetic::Min
+        ),
+        What::L16 { operation, .. } => !matches!(operation, Aggregate::Plus),
         _ => false,
     }
 }
 
-/// The core that says that an atom is the truth of a comparison.
-fn comparison_core(
-    alloc: Global,
-    relation: Relation,
-    truth: Atom,
-    left: OrdInt,
-    right: OrdInt,
-) -> Result<Core, AllocError>
-    ensures { IfOk result (λ core. core ≡ comparison_core relation truth left right) }
-{
-    match relation {
-        Relation::Leq => Core::leq_r(alloc, truth, left, right),
-        Relation::Geq => Core::leq_r(alloc, truth, right, left),
-        Relation::Eq => Core::eq_r(alloc, truth, left, right),
-        Relation::Lt => Core::leq_r(alloc, truth.not(), right, left),
-        Relation::Gt => Core::leq_r(alloc, truth.not(), left, right),
-        Relation::Neq => Core::eq_r(alloc, truth.not(), left, right),
-    }
-}
-
-/// Adds that an operator of a list is true.
-fn add_array(
-    alloc: Global,
-    entries: &[MapValue],
-    cores: &mut Vec<Core>,
-    operator: Operator,
-    members: &[BoolTerm],
-) -> Result<(), AllocError>
-    ensures { OnOk result (cores.new.items ≡ cores.old.items ++ array_cores operator (atoms_of entries.now members.now)) }
+/// How many fresh variables the truth of an operator takes.
+fn fresh_of_operator(operator: Operator) -> u32
+    ensures { result ≡ fresh_of_operator operator }
 {
     match operator {
-        Operator::Or => {
-            let atoms = atoms_of(alloc, entries, members)?;
-            cores.push(Core::Clause(atoms))?;
-            Ok(())
-        }
-        _ => Ok(()),
+        Operator::Iff => 2,
+        _ => 0,
     }
 }
 
-/// Adds that an atom is the truth of a comparison.
-fn add_comparison(
-    alloc: Global,
-    entries: &[MapValue],
-    cores: &mut Vec<Core>,
-    relation: Relation,
-    truth: Atom,
-    left: IntTerm,
-    right: IntTerm,
-) -> Result<(), AllocError>
-    ensures { OnOk result (cores.new.items ≡ cores.old.items ++ comparison_core relation truth (integer_of entries.now left) (integer_of entries.now right) ∷ []) }
-{
-    let left = integer_of(alloc, entries, left)?;
-    let right = integer_of(alloc, entries, right)?;
-    cores.push(comparison_core(alloc, relation, truth, left, right)?)?;
-    Ok(())
-}
-
-/// Adds the cores of a statement.
-fn add_cores(
-    alloc: Global,
-    entries: &[MapValue],
-    cores: &mut Vec<Core>,
-    what: &What,
-) -> Result<(), AllocError>
-    ensures { OnOk result (cores.new.items ≡ cores.old.items ++ cores_of entries.now what.now) }
+/// How many fresh variables a statement that is built takes.
+pub fn fresh_of(what: &What) -> u32
+    ensures { result ≡ fresh_of what.now }
 {
     match what {
-        What::L6 {
-            operator,
-            members,
-            ..
-        } => add_array(alloc, entries, cores, *operator, members.as_slice()),
-        What::L8 {
-            relation,
-            left,
-            right,
-            ..
-        } => add_comparison(alloc, entries, cores, *relation, Atom::True, *left, *right),
-        _ => Ok(()),
+        What::L5 { operator, .. } | What::L7 { operator, .. } => fresh_of_operator(*operator),
+        _ => 0,
     }
 }
 
 /// Adds a statement.
 pub fn add_statement(alloc: Global, draft: &mut Draft, stmt: &Stmt) -> Result<(), LowerFault>
+    requires { AreInLimit draft.old.entries.items }
     ensures built { OnOk result (unbuilt draft.old.vars (Statement stmt.now) ≡ None) }
     ensures shape { OnOk result (lowered_so_far draft.new ≡ lowered_item (lowered_so_far draft.old) (Statement stmt.now)) }
     ensures fault { IfErr result (λ e. IsFaultOf e (unbuilt draft.old.vars (Statement stmt.now))) }
 {
-    if !is_built(&stmt.what) {
+    let built = is_built(&stmt.what);
+    let vars = u128::from(draft.vars) + u128::from(fresh_of(&stmt.what));
+    if !built || vars > MOST_VARS {
         return Err(LowerFault::Unbuilt(stmt.number));
     }
-    add_cores(
-        alloc,
-        draft.entries.as_slice(),
-        &mut draft.cores,
-        &stmt.what,
-    )?;
+    let made = made_of(alloc, draft.entries.as_slice(), draft.vars, &stmt.what)?;
+    let mut cores = made.cores.into_vec();
+    draft.cores.append(&mut cores)?;
+    draft.vars = made.vars;
     Ok(())
 }
 
 /// Adds statements, up to the first one that isn't built.
 pub fn add_statements(alloc: Global, draft: &mut Draft, stmts: &[Stmt]) -> Result<(), LowerFault>
+    requires { AreInLimit draft.old.entries.items }
     ensures built { OnOk result (first_unbuilt draft.old.vars (statements stmts.now) ≡ None) }
     ensures shape { OnOk result (lowered_so_far draft.new ≡ lowered_items (lowered_so_far draft.old) (statements stmts.now)) }
     ensures fault { IfErr result (λ e. IsFaultOf e (first_unbuilt draft.old.vars (statements stmts.now))) }

@@ -1,24 +1,43 @@
 //! The first item of a model that isn't built.
 
-ghost use Rattle.std.specs.Prelude.{◌≡◌, ℕ};
-ghost use Rattle.model_lower.specs.Items.{statements, items_of};
-ghost use Rattle.model_lower.specs.Built.{first_unbuilt, first_unbuilt_of};
+ghost use Rattle.std.specs.Prelude.{◌≡◌, ◌≤◌, IfOk, IfErr, None, Some};
+ghost use Rattle.model_lower.specs.Items.{Statement, statements, items_of};
+ghost use Rattle.model_lower.specs.Built.{most_vars, vars_after, vars_behind, unbuilt, first_unbuilt, first_unbuilt_of};
 
 use crate::declarations::{MOST_VARS, vars_taken};
 use crate::lowering::count_before;
-use crate::statements::is_built;
+use crate::statements::{fresh_of, is_built};
 use typed_model::{Decl, Model, Stmt};
 
-/// The number of the first of some statements that isn't built.
-fn unbuilt_statement(stmts: &[Stmt]) -> Option<u64>
-    ensures { (vars : ℕ) → result ≡ first_unbuilt vars (statements stmts.now) }
+/// How many variables there are behind a statement, or its number where it isn't built.
+fn vars_after(vars: u128, stmt: &Stmt) -> Result<u128, u64>
+    requires { vars ≤ most_vars }
+    ensures built { IfOk result (λ v. unbuilt vars (Statement stmt.now) ≡ None) }
+    ensures vars { IfOk result (λ v. v ≡ vars_after vars (Statement stmt.now)) }
+    ensures room { IfOk result (λ v. v ≤ most_vars) }
+    ensures fault { IfErr result (λ n. unbuilt vars (Statement stmt.now) ≡ Some n) }
 {
-    for stmt in stmts {
-        if !is_built(&stmt.what) {
-            return Some(stmt.number);
-        }
+    let after = vars + u128::from(fresh_of(&stmt.what));
+    if is_built(&stmt.what) && after <= MOST_VARS {
+        Ok(after)
+    } else {
+        Err(stmt.number)
     }
-    None
+}
+
+/// How many variables there are behind some statements, or the number of the first one that isn't built.
+fn vars_behind(vars: u128, stmts: &[Stmt]) -> Result<u128, u64>
+    requires { vars ≤ most_vars }
+    ensures built { IfOk result (λ v. first_unbuilt vars (statements stmts.now) ≡ None) }
+    ensures vars { IfOk result (λ v. v ≡ vars_behind vars (statements stmts.now)) }
+    ensures room { IfOk result (λ v. v ≤ most_vars) }
+    ensures fault { IfErr result (λ n. first_unbuilt vars (statements stmts.now) ≡ Some n) }
+{
+    let mut behind = vars;
+    for stmt in stmts {
+        behind = vars_after(behind, stmt)?;
+    }
+    Ok(behind)
 }
 
 /// The number of the first declaration or statement, in the order of their numbers, that isn't built.
@@ -29,20 +48,22 @@ fn unbuilt_item(decls: &[Decl], stmts: &[Stmt]) -> Option<u64>
     let mut rest = stmts;
     for decl in decls {
         let (before, others) = rest.split_at(count_before(rest, decl.number));
-        if let Some(number) = unbuilt_statement(before) {
-            return Some(number);
-        }
-        vars += u128::from(vars_taken(decl.kind));
-        if vars > MOST_VARS {
+        let behind = match vars_behind(vars, before) {
+            Ok(behind) => behind,
+            Err(number) => return Some(number),
+        };
+        let after = behind + u128::from(vars_taken(decl.kind));
+        if after > MOST_VARS {
             return Some(decl.number);
         }
+        vars = after;
         rest = others;
     }
-    unbuilt_statement(rest)
+    vars_behind(vars, rest).err()
 }
 
-/// The number of the first item of a model that isn't built: a statement that has no cores yet, or a
-/// declaration with which there are too many variables. It takes no memory, and time linear in the items.
+/// The number of the first item of a model that isn't built: a statement for which there are no clauses yet, or
+/// an item with which there are too many variables. It takes no memory, and time linear in the items.
 pub fn first_unbuilt(model: &Model) -> Option<u64>
     ensures { result ≡ first_unbuilt_of model.now }
 {

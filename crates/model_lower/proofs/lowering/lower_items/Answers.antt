@@ -2,6 +2,7 @@ use Rattle.std.proofs.Common.{◌+◌, drop, ◌∙◌}
 use Rattle.model_lower.specs.Items.{statements, items_of}
 use Rattle.model_lower.specs.Built.{first_unbuilt, IsFaultOf}
 use Rattle.model_lower.specs.Drafting.{lowered_so_far}
+use Rattle.model_lower.proofs.LimitLaws.{declared-limit, all-stated-limit, decls-left}
 use Rattle.model_lower.proofs.LoweredItems.{items-at, shape-step, unbuilt-step, fault-before, fault-here, handed_on}
 use Rattle.model_lower.proofs.lowering.lower_items.Goals as goal
 
@@ -51,7 +52,16 @@ loop-decl-preserved c =
     let l = lowered_so_far c.loop-decl.draft in
     let m = lowered_so_far c.add_statements.new.draft in
     let k = lowered_so_far c.add_declaration.new.draft in
+    let left = decls-left ds i d c.loop-decl-test.true c.decl-item.is c.loop-decl.invariant.limits in
     record {
       shape = shape-step items xs rest d parts l m k _ c.in_ok-add_statements.ensures.shape c.in_ok-add_declaration.ensures.shape c.loop-decl.invariant.shape;
       unbuilt = unbuilt-step items xs rest d parts l m k _ c.in_ok-add_statements.ensures.shape c.in_ok-add_declaration.ensures.shape c.in_ok-add_statements.ensures.built c.in_ok-add_declaration.ensures.built c.loop-decl.invariant.unbuilt;
+      in_limit = declared-limit m k d c.in_ok-add_declaration.ensures.shape left.0 (all-stated-limit l m c.split_at.result.0.now c.in_ok-add_statements.ensures.shape c.loop-decl.invariant.in_limit);
+      limits = left.1;
     }
+
+pub add_statements-requires : goal.add_statements-requires
+add_statements-requires c = c.loop-decl.invariant.in_limit
+
+pub add_statements-requires-2 : goal.add_statements-requires-2
+add_statements-requires-2 c = c.loop-decl.invariant.in_limit

@@ -1,4 +1,5 @@
 use Rattle.std.proofs.Common.{◌≡◌, drop}
+use Rattle.statement_lower.specs.Entries.{AreInLimit}
 use Rattle.model_lower.specs.Items.{statements}
 use Rattle.model_lower.specs.Lowering.{lowered_items}
 use Rattle.model_lower.specs.Built.{first_unbuilt}
@@ -10,4 +11,5 @@ invariant-loop-stmt l =
     record {
       shape : lowered_items (lowered_so_far l.draft) (statements (drop l.stmt-index l.stmts)) ≡ lowered_items (lowered_so_far l.initial.draft) (statements l.stmts);
       unbuilt : first_unbuilt l.draft.vars (statements (drop l.stmt-index l.stmts)) ≡ first_unbuilt l.initial.draft.vars (statements l.stmts);
+      in_limit : AreInLimit l.draft.entries.items;
     }

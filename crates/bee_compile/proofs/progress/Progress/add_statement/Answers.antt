@@ -5,7 +5,7 @@ use Rattle.bee_compile.proofs.progress.Progress.add_statement.Goals as goal
 
 pub encode-requires : goal.encode-requires
 encode-requires c =
-    let r = c.requires in
+    let r = c.requires.fits in
     new-fit r.0 (Statement c.args.stmt) (lowered_so_far c.args.self.now.draft) (lowered_so_far c.add_statement.new.draft) r.2.draft c.in_ok-add_statement.ensures.shape r.1 r.3
 
 pub returns-clause-compiled : goal.returns-clause-compiled

@@ -12,8 +12,8 @@ use Rattle.order_ints.specs.OrderLevels.{is_among}
 use Rattle.typed_model.specs.Booleans.{count_true}
 use Rattle.typed_model.specs.Integers.{total, is_member, not_exceeded, not_undercut}
 use Rattle.typed_model.specs.Lists.{differs_from, all_differ, differs_where, differ_where, in_order}
-use Rattle.typed_model.proofs.DomainLaws.{Decides-int_le, Decides-int_lt}
-use Rattle.model_lower.specs.SameMeanings.{SameMeanings}
+use Rattle.typed_model.proofs.DomainLaws.{Decides-int_le}
+use Rattle.statement_lower.specs.SameMeanings.{SameMeanings}
 
 total-same : (xs : List ℤ) → total xs ≡ cores.total xs
 total-same [] = refl

@@ -1,5 +1,0 @@
-use Rattle.model_lower.proofs.MeaningLaws.{same_meanings}
-use Rattle.model_lower.proofs.laws.meaning_law.Goals as goal
-
-pub returns : goal.returns
-returns c = same_meanings

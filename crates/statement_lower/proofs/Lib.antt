@@ -1,0 +1,14 @@
+pub mod EntryLaws
+pub mod MeaningLaws
+pub mod BooleanLines
+pub mod Comparisons
+pub mod LowersLaws
+pub mod IntegerLines
+pub mod FreshAtoms
+pub mod FreshIntegers
+pub mod DivisionLines
+pub mod WordLines
+pub mod LineLaws
+pub mod LinearLaws
+pub mod EqualSums
+pub mod Pairs

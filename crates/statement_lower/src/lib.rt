@@ -1,0 +1,18 @@
+//! The cores of a statement, line by line of the table of statements.
+//!
+//! A statement speaks of declared names, each of which stands for an atom or an integer. Its cores, over these and over
+//! fresh variables, stand for its being true.
+#![tactic(auto)]
+
+mod boolean_lines;
+mod fresh;
+mod integer_lines;
+mod laws;
+mod list_lines;
+mod made;
+mod statements;
+mod terms;
+
+pub use laws::{equal_sum_law, line_law, meaning_law, reified_difference_law};
+pub use made::Made;
+pub use statements::{is_lowered, made_of};

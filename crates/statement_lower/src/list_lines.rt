@@ -1,0 +1,152 @@
+//! The cores of the lines over members that differ and lists in order.
+
+ghost use Rattle.std.specs.Prelude.{◌≡◌, ◌∷◌, [], IfOk, map, Option};
+ghost use Rattle.order_ints.specs.declared.atom.Atom.TheVariants.{True};
+ghost use Rattle.order_ints.specs.OrderMade.{integer_of_atom};
+ghost use Rattle.typed_model.specs.Holds.{terms_or_none};
+ghost use Rattle.statement_lower.specs.Terms.{atoms_of, integers_of, atom_or_true, word_of};
+ghost use Rattle.statement_lower.specs.Lines.{made_here, different_made, order_core};
+
+use crate::made::Made;
+use crate::terms::{atom_of, atoms_of, integers_of};
+use bee_list::{Apart, Sequence};
+use core_forms::Core;
+use order_ints::{Atom, MapValue, OrdInt};
+use std::alloc::{AllocError, Global};
+use typed_model::{AllDifferent, BoolTerm, IntTerm, Order};
+
+/// The members of a list that may be left out; one that is left out has none.
+pub fn terms<T>(list: &Option<Apart<Sequence<T>>>) -> &[T]
+    ensures { result.now ≡ terms_or_none list.now }
+{
+    match list {
+        Some(list) => list.get().as_slice(),
+        None => &[],
+    }
+}
+
+/// As many conditions as there are integers, all of them True.
+fn true_conditions(alloc: Global, ints: &[OrdInt]) -> Result<Sequence<Atom>, AllocError>
+    ensures { IfOk result (λ cs. cs ≡ map (λ _. True) ints.now) }
+{
+    let mut conditions = Vec::with_capacity(alloc, ints.len())?;
+    for _int in ints {
+        conditions.push(Atom::True)?;
+    }
+    Ok(Sequence::from_vec(conditions))
+}
+
+/// Members differ, all of them, or those with true conditions.
+pub fn different_made(
+    alloc: Global,
+    entries: &[MapValue],
+    vars: u32,
+    kind: AllDifferent,
+    members: &[IntTerm],
+    conditions: &[BoolTerm],
+) -> Result<Made, AllocError>
+    ensures { IfOk result (λ m. m ≡ different_made vars kind (integers_of entries.now members.now) (atoms_of entries.now conditions.now)) }
+{
+    let ints = integers_of(alloc, entries, members)?;
+    match kind {
+        AllDifferent::Plain => {
+            let conditions = true_conditions(alloc, ints.as_slice())?;
+            Made::of_core(alloc, vars, Core::all_diff(alloc, ints, conditions)?)
+        }
+        AllDifferent::Reified => Ok(Made::nothing(alloc, vars)),
+        AllDifferent::Conditional => {
+            let conditions = atoms_of(alloc, entries, conditions)?;
+            Made::of_core(alloc, vars, Core::all_diff(alloc, ints, conditions)?)
+        }
+    }
+}
+
+/// Booleans as integers, each 1 where it is true and else 0.
+fn bits_of(
+    alloc: Global,
+    entries: &[MapValue],
+    terms: &[BoolTerm],
+) -> Result<Sequence<OrdInt>, AllocError>
+    ensures { IfOk result (λ ints. ints ≡ map integer_of_atom (atoms_of entries.now terms.now)) }
+{
+    let mut ints = Vec::with_capacity(alloc, terms.len())?;
+    for term in terms {
+        ints.push(OrdInt::of_atom(alloc, atom_of(entries, *term))?)?;
+    }
+    Ok(Sequence::from_vec(ints))
+}
+
+/// A list as integers.
+fn word_of(
+    alloc: Global,
+    entries: &[MapValue],
+    of_booleans: bool,
+    truths: &[BoolTerm],
+    numbers: &[IntTerm],
+) -> Result<Sequence<OrdInt>, AllocError>
+    ensures { IfOk result (λ ints. ints ≡ word_of entries.now of_booleans truths.now numbers.now) }
+{
+    if of_booleans {
+        bits_of(alloc, entries, truths)
+    } else {
+        integers_of(alloc, entries, numbers)
+    }
+}
+
+/// The atom of a Boolean term that may be left out.
+fn atom_or_true(entries: &[MapValue], term: &Option<Apart<BoolTerm>>) -> Atom
+    ensures { result ≡ atom_or_true entries.now term.now }
+{
+    match term {
+        Some(term) => atom_of(entries, *term.get()),
+        None => Atom::True,
+    }
+}
+
+/// The lists of a statement on their order, of which either the Booleans or the integers are left out.
+#[derive(Drop)]
+pub struct Lists<'a> {
+    /// The first list, of Booleans.
+    pub left_truths: &'a [BoolTerm],
+    /// The second list, of Booleans.
+    pub right_truths: &'a [BoolTerm],
+    /// The first list, of integers.
+    pub left_numbers: &'a [IntTerm],
+    /// The second list, of integers.
+    pub right_numbers: &'a [IntTerm],
+}
+
+/// An atom is the truth of the order of two lists, or they are in order.
+pub fn order_made(
+    alloc: Global,
+    entries: &[MapValue],
+    vars: u32,
+    order: Order,
+    lists: &Lists<'_>,
+    truth: &Option<Apart<BoolTerm>>,
+) -> Result<Made, AllocError>
+    ensures { IfOk result (λ m. m ≡ made_here vars (order_core entries.now order lists.now.left_truths.now lists.now.right_truths.now lists.now.left_numbers.now lists.now.right_numbers.now truth.now ∷ [])) }
+{
+    let booleans = order.of_booleans;
+    let front = word_of(
+        alloc,
+        entries,
+        booleans,
+        lists.left_truths,
+        lists.left_numbers,
+    )?;
+    let back = word_of(
+        alloc,
+        entries,
+        booleans,
+        lists.right_truths,
+        lists.right_numbers,
+    )?;
+    let atom = if order.reified {
+        atom_or_true(entries, truth)
+    } else {
+        Atom::True
+    };
+    let core = Core::lex(alloc, atom, order.strict, front, back)?;
+    Made::of_core(alloc, vars, core)
+}

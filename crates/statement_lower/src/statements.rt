@@ -1,0 +1,131 @@
+//! The cores of a statement.
+
+ghost use Rattle.std.specs.Prelude.{◌≡◌, ◌<◌, ◌^◌, IfOk};
+ghost use Rattle.statement_lower.specs.Entries.{AreInLimit};
+ghost use Rattle.statement_lower.specs.Lines.{made_of};
+ghost use Rattle.statement_lower.specs.IsLowered.{is_lowered};
+
+use crate::boolean_lines::{array_made, equal_made, pair_made, truth_made};
+use crate::integer_lines::{
+    absolute_made, aggregate_made, comparison_made, count_made, operation_made, reified_made,
+};
+use crate::list_lines::{Lists, different_made, order_made, terms};
+use crate::made::Made;
+use order_ints::{Atom, MapValue};
+use std::alloc::{AllocError, Global};
+use typed_model::{Aggregate, AllDifferent, What};
+
+/// Whether a statement is lowered.
+pub fn is_lowered(what: &What) -> bool
+    ensures { result ≡ is_lowered what.now }
+{
+    match what {
+        What::L4 { .. }
+        | What::L5 { .. }
+        | What::L6 { .. }
+        | What::L7 { .. }
+        | What::L8 { .. }
+        | What::L9 { .. }
+        | What::L10 { .. }
+        | What::L14 { .. }
+        | What::L15 { .. }
+        | What::L18 { .. } => true,
+        What::L16 { operation, .. } => !matches!(operation, Aggregate::Plus),
+        What::L17 { kind, .. } => !matches!(kind, AllDifferent::Reified),
+        _ => false,
+    }
+}
+
+/// What a statement is lowered to behind so many variables, and no core for one that isn't lowered.
+pub fn made_of(
+    alloc: Global,
+    entries: &[MapValue],
+    vars: u32,
+    what: &What,
+) -> Result<Made, AllocError>
+    requires entries { AreInLimit entries.now }
+    requires room { (made_of vars entries.now what.now).vars < 2 ^ 27 }
+    ensures { IfOk result (λ m. m ≡ made_of vars entries.now what.now) }
+{
+    match what {
+        What::L4 { left, right } => equal_made(alloc, entries, vars, *left, *right),
+        What::L5 {
+            operator,
+            left,
+            right,
+            truth,
+            ..
+        } => pair_made(alloc, entries, vars, *operator, *left, *right, *truth),
+        What::L6 {
+            operator,
+            members,
+            ..
+        } => array_made(alloc, entries, vars, *operator, members.as_slice()),
+        What::L7 {
+            operator,
+            members,
+            truth,
+            ..
+        } => truth_made(alloc, entries, vars, *operator, members.as_slice(), *truth),
+        What::L8 {
+            relation,
+            left,
+            right,
+            ..
+        } => comparison_made(alloc, entries, vars, *relation, Atom::True, *left, *right),
+        What::L9 {
+            relation,
+            left,
+            right,
+            truth,
+            ..
+        } => reified_made(alloc, entries, vars, *relation, *left, *right, *truth),
+        What::L10 {
+            relation,
+            members,
+            bound,
+            ..
+        } => count_made(alloc, entries, vars, *relation, members.as_slice(), *bound),
+        What::L14 {
+            operation,
+            left,
+            right,
+            value,
+            ..
+        } => operation_made(alloc, entries, vars, *operation, *left, *right, *value),
+        What::L15 { operand, value } => absolute_made(alloc, entries, vars, *operand, *value),
+        What::L16 {
+            operation,
+            members,
+            value,
+            ..
+        } => aggregate_made(alloc, entries, vars, *operation, members.as_slice(), *value),
+        What::L17 {
+            kind,
+            members,
+            conditions,
+            ..
+        } => {
+            let members = members.as_slice();
+            different_made(alloc, entries, vars, *kind, members, terms(conditions))
+        }
+        What::L18 {
+            order,
+            left_truths,
+            right_truths,
+            left_numbers,
+            right_numbers,
+            truth,
+            ..
+        } => {
+            let lists = Lists {
+                left_truths: terms(left_truths),
+                right_truths: terms(right_truths),
+                left_numbers: terms(left_numbers),
+                right_numbers: terms(right_numbers),
+            };
+            order_made(alloc, entries, vars, *order, &lists, truth)
+        }
+        _ => Ok(Made::nothing(alloc, vars)),
+    }
+}

@@ -1,0 +1,121 @@
+-- One core after another comes to its variables and into the queue.
+use Rattle.std.proofs.Common.{◌≡◌, ◌↔◌, ◌⊎◌, inl, inr, ℕ, zero, suc, ◌+◌, ◌-◌, ◌≤◌, ◌<◌, Bool, true, false, List, [], ◌∷◌, ◌++◌, length, get_or, take, drop, refl, sym, ap, ◌∙◌, subst, arith, ⊎_elim, Option, Some, None}
+use Rattle.std.specs.Prelude.{Contains}
+use Rattle.std.specs.List.{All}
+use Rattle.std.proofs.lemmas.Option.{none-some}
+use Rattle.std.proofs.lemmas.Bool.{cases_eq, cases_lt}
+use Rattle.std.proofs.lemmas.List.{get_or_default, get_or_past, take_more, length-take-le, at_drop_more}
+use Rattle.core_forms.specs.declared.form.Core.{Core}
+use Rattle.core_forms.specs.Variables.{core_vars}
+use Rattle.core_forms.proofs.VariableLaws.{vars_below}
+use Rattle.index_ring.specs.Lists.{times}
+use Rattle.core_occurrences.specs.Lists.{OccurrenceLists, Occurs, IsOccurrences, added}
+use Rattle.core_occurrences.proofs.Listed.{length-with_id}
+use Rattle.step_kernel.specs.Kernel.{Kernel, core_at, pending, IsKernel}
+use Rattle.step_kernel.proofs.Holes.{below-there}
+use Rattle.step_kernel.proofs.LeastCompound.{core_at-next}
+use Rattle.step_kernel.proofs.Splits.{there-bounds}
+use Rattle.fixpoint_queue.specs.IdQueue.{Ids, IsIds, with_id}
+use Rattle.fixpoint_queue.specs.Standing.{HasVarAt, Stand, AreVars, AreAllVars, AreVarsFrom, AreEntered, all_counted}
+use Rattle.fixpoint_queue.proofs.Stood.{stand-added}
+use Rattle.fixpoint_queue.proofs.Waking.{put-has, put-stays, put-only, put-places}
+
+pub all-vars-put : (lists : List (List ℕ)) (cores : List Core) (vars : List ℕ) (core : Core) → AreAllVars lists cores → AreVars vars core → AreAllVars (lists ++ vars ∷ []) (cores ++ core ∷ [])
+all-vars-put [] [] vars core h is = (is, tt)
+all-vars-put [] (c ∷ cores) vars core h is = absurd h
+all-vars-put (l ∷ lists) [] vars core h is = absurd h
+all-vars-put (l ∷ lists) (c ∷ cores) vars core h is = (h.0, all-vars-put lists cores vars core h.1 is)
+
+pub all-of : (P : ℕ → Type 0) (xs : List ℕ) → ((v : ℕ) → Contains xs v → P v) → All P xs
+all-of P xs h k d lt = h (get_or xs k d) (k, lt, get_or_default xs k (get_or xs k d) d lt)
+
+-- the variables of a pending core are those of the state
+pub core-bounds : (k : Kernel) → IsKernel k → (id : ℕ) (core : Core) → core_at k.cores id ≡ Some core → (v : ℕ) → Contains (core_vars core) v → (1 ≤ v) × (v ≤ length k.view)
+core-bounds k is id core at v there =
+    let b = vars_below (length k.view + 1) core (below-there k.cores id core at (length k.view + 1) is.below).0 v there in
+    (b.0, omega (arith, b.1))
+
+-- an id behind all that stand stands nowhere
+none-there : (cores : List (Option Core)) (occurs : OccurrenceLists) (id : ℕ) → length cores < id → Stand cores occurs → (v : ℕ) → 1 ≤ v → ¬ Occurs occurs v id
+none-there cores occurs id past stand v low o =
+    let has = (stand v id low).0 o in
+    absurd (omega (arith, past, (there-bounds cores id has.0 has.1).1))
+
+pub none-behind : (cores : List (Option Core)) (occurs : OccurrenceLists) (id : ℕ) → length cores < id → Stand cores occurs → (v : ℕ) → ¬ Occurs occurs v id
+none-behind cores occurs id past stand zero o = none-there cores occurs id past stand 1 (omega arith) o
+none-behind cores occurs id past stand (suc v) o = none-there cores occurs id past stand (suc v) (omega arith) o
+
+pub some-inside : (cores : List (Option Core)) (i : ℕ) (core : Core) → get_or cores i None ≡ Some core → i < length cores
+some-inside cores i core e = ⊎_elim (λ (h : i < length cores). h) (λ (h : length cores ≤ i). absurd (none-some core (sym (get_or_past cores i None h) ∙ e))) (cases_lt i (length cores))
+
+pub length-taken : (cores : List (Option Core)) (n : ℕ) → n ≤ length cores → length (take n cores) ≡ n
+length-taken cores n le = length-take-le n cores le
+
+pub entered-none : (cores : List (Option Core)) (before : ℕ) (occurs : OccurrenceLists) (queue : Ids) → Stand (take before cores) occurs → IsOccurrences occurs → IsIds queue → AreEntered cores before 0 occurs occurs queue queue
+entered-none cores before occurs queue stand is ids =
+    let e : before + 0 ≡ before = omega arith in
+    record {
+      stand = subst (λ (n : ℕ). Stand (take n cores) occurs) (sym e) stand;
+      occurrences = is;
+      lists = refl;
+      ids = refl;
+      places = refl;
+      queued = ids;
+      stays = λ id h. h;
+      come = λ id low high. absurd (omega (arith, low, high));
+      only = λ id h. inl h;
+    }
+
+module _ (cores : List (Option Core)) (before i : ℕ) (first o new_occurs : OccurrenceLists) (start q new_queue : Ids) (vars : List ℕ) (core : Core)
+    (at : get_or cores (before + i) None ≡ Some core) (are : AreVars vars core) (bound : (v : ℕ) → Contains vars v → v ≤ length o.lists)
+    (h : AreEntered cores before i first o start q) (occurs-is : new_occurs ≡ added o (before + i + 1) vars) (occurrences : IsOccurrences new_occurs)
+    (queue-is : new_queue ≡ with_id q (before + i + 1)) (ids : IsIds new_queue)
+  where
+  inside : before + i < length cores
+  inside = some-inside cores (before + i) core at
+
+  taken : take (before + (i + 1)) cores ≡ take (before + i) cores ++ Some core ∷ []
+  taken =
+      let e : before + (i + 1) ≡ before + i + 1 = omega arith in
+      ap (λ (n : ℕ). take n cores) e ∙ take_more cores (before + i) None inside ∙ ap (λ (c : Option Core). take (before + i) cores ++ c ∷ []) at
+
+  stand-one : Stand (take (before + (i + 1)) cores) new_occurs
+  stand-one =
+      subst (λ (cs : List (Option Core)). Stand cs new_occurs) (sym taken)
+      (subst (Stand (take (before + i) cores ++ Some core ∷ [])) (sym occurs-is)
+      (stand-added (take (before + i) cores) o core vars (before + i + 1) (omega (arith, length-taken cores (before + i) (omega (arith, inside)))) are bound h.stand))
+
+  pub entered-one : AreEntered cores before (i + 1) first new_occurs start new_queue
+  entered-one = record {
+    stand = stand-one;
+    occurrences = occurrences;
+    lists = ap (λ (l : OccurrenceLists). length l.lists) occurs-is ∙ length-with_id (before + i + 1) vars 1 o.lists ∙ h.lists;
+    ids = ap (λ (l : OccurrenceLists). l.ids) occurs-is ∙ h.ids;
+    places = ap (λ (l : Ids). l.places) queue-is ∙ put-places q (before + i + 1) ∙ h.places;
+    queued = ids;
+    stays = λ id there. subst (λ (l : Ids). 1 ≤ times id l.queued) (sym queue-is) (put-stays q (before + i + 1) id (h.stays id there));
+    come = λ id low high.
+      subst (λ (l : Ids). 1 ≤ times id l.queued) (sym queue-is)
+      (⊎_elim (λ (e : id ≡ before + i + 1). subst (λ (j : ℕ). 1 ≤ times j (with_id q (before + i + 1)).queued) (sym e) (put-has q (before + i + 1)))
+      (λ (n : id ≡ before + i + 1 → ⊥).
+        put-stays q (before + i + 1) id
+        (h.come id low (⊎_elim (λ (lt : id < before + i + 1). omega (arith, lt)) (λ (le : before + i + 1 ≤ id). absurd (n (omega (arith, le, high)))) (cases_lt id (before + i + 1)))))
+      (cases_eq id (before + i + 1)));
+    only = λ id there.
+      ⊎_elim
+      (λ (was : 1 ≤ times id q.queued).
+        ⊎_elim (λ (old : 1 ≤ times id start.queued). inl old) (λ (b : (before < id) × (id ≤ before + i)). inr (b.0, omega (arith, b.1))) (h.only id was))
+      (λ (e : id ≡ before + i + 1). inr (omega (arith, e), omega (arith, e)))
+      (put-only q (before + i + 1) id (subst (λ (l : Ids). 1 ≤ times id l.queued) queue-is there));
+  }
+
+-- the listed variables at a place, and the core whose they are
+pub listed-at : (cores : List (Option Core)) (before : ℕ) (lists : List (List ℕ)) → AreVarsFrom cores before lists → (i : ℕ) → i < length lists → (item vars : List ℕ) → item ≡ get_or lists i item → vars ≡ item →
+    (core : Core) × (get_or cores (before + i) None ≡ Some core) × AreVars vars core
+listed-at cores before lists are i lt item vars is same =
+    let at = are i lt in
+    (at.0, at.1, subst (λ (l : List ℕ). AreVars l at.0) (get_or_default lists i [] item lt ∙ sym is ∙ sym same) at.2)
+
+pub counted-at : (lists : List (List ℕ)) (i : ℕ) (item vars : List ℕ) → i < length lists → item ≡ get_or lists i item → vars ≡ item → all_counted (drop i lists) ≡ length vars + all_counted (drop (i + 1) lists)
+counted-at lists i item vars lt is same =
+    ap all_counted (at_drop_more (λ ys. ys) lists i item lt ∙ ap (λ (x : List ℕ). x ∷ drop (i + 1) lists) (sym is ∙ sym same))

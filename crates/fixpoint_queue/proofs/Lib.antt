@@ -1,0 +1,15 @@
+pub mod Ids
+pub mod NextRun
+pub mod NotDifferent
+pub mod Started
+pub mod StartedRun
+pub mod Told
+pub mod Quieter
+pub mod Waking
+pub mod AskedCores
+pub mod LedgerLaws
+pub mod MarkLaws
+pub mod LeastMarks
+pub mod Stood
+pub mod Encodings
+pub mod Entries

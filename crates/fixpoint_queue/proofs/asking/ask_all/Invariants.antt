@@ -1,0 +1,12 @@
+use Rattle.fixpoint_queue.specs.Ledgers.{AddsEquations}
+use Rattle.fixpoint_queue.specs.Waits.{IsRun, left_to_do}
+use Rattle.fixpoint_queue.proofs.asking.ask_all.Given as goal
+
+abbrev pub invariant-loop-alloc : goal.invariant-loop-alloc
+invariant-loop-alloc g l = record {
+  run : IsRun g.F.Oracle.told l.state l.occurs l.queue l.marks;
+  adds : AddsEquations g.F.Oracle.told l.fn.ledger.items l.fn.state l.ledger.items l.state
+}
+
+abbrev pub decreases-loop-alloc : goal.decreases-loop-alloc
+decreases-loop-alloc g l = left_to_do l.state l.queue

@@ -1,0 +1,68 @@
+use Rattle.std.proofs.Common.{◌≡◌, ◌⊎◌, ℕ, ◌+◌, ◌≤◌, ◌<◌, List, [], ◌∷◌, length, get_or, take, drop, refl, sym, ap, ◌∙◌, subst, arith, Option, Some, None}
+use Rattle.std.specs.Prelude.{Contains}
+use Rattle.std.specs.List.Sorted.{IsStrictlyIncreasing}
+use Rattle.std.proofs.lemmas.List.{at_drop_more, get_or_default}
+use Rattle.core_forms.specs.declared.form.Core.{Core}
+use Rattle.core_occurrences.specs.Lists.{OccurrenceLists, added}
+use Rattle.fixpoint_queue.specs.IdQueue.{with_id}
+use Rattle.step_kernel.proofs.LeastCompound.{core_at-next}
+use Rattle.fixpoint_queue.specs.Standing.{AreVars, all_counted}
+use Rattle.fixpoint_queue.proofs.Entries.{all-of, core-bounds, none-behind, some-inside, length-taken, entered-none, entered-one, listed-at, counted-at}
+use Rattle.fixpoint_queue.proofs.entering.enter_all.Goals as goal
+use Rattle.fixpoint_queue.proofs.entering.enter_all.Goals.{After-as_slice}
+
+pub loop-vars-init : goal.loop-vars-init
+loop-vars-init c = record {
+  id = omega arith;
+  entered = entered-none c.args.state.now.cores c.args.before c.args.occurs.now c.args.queue.now c.requires.stand c.requires.occurrences c.requires.queued;
+  room = c.requires.room;
+}
+
+pub overflow_add-id : goal.overflow_add-id
+overflow_add-id c = omega (arith, c.loop-vars.invariant.id, c.loop-vars-test.true, c.requires.places, c.requires.queued.small)
+
+-- the listed variables, and the core whose they are
+listed : (c : After-as_slice) → (core : Core) × (get_or c.args.state.now.cores (c.args.before + c.loop-vars.vars-index) None ≡ Some core) × AreVars c.as_slice.result.now core
+listed c = listed-at c.args.state.now.cores c.args.before c.args.lists.now c.requires.lists c.loop-vars.vars-index c.loop-vars-test.true c.vars-item.result c.as_slice.result.now c.vars-item.is c.as_slice.ensures
+
+range : (c : After-as_slice) → (v : ℕ) → Contains c.as_slice.result.now v → (1 ≤ v) × (v ≤ length c.loop-vars.occurs.lists)
+range c v there =
+    let l = listed c in
+    let bounds = core-bounds c.args.state.now c.requires.kernel (c.args.before + c.loop-vars.vars-index + 1) l.0
+      (core_at-next c.args.state.now.cores (c.args.before + c.loop-vars.vars-index) ∙ l.1) v ((l.2.exact v).0 there) in
+    (bounds.0, omega (arith, bounds.1, c.requires.vars, c.loop-vars.invariant.entered.lists))
+
+pub enter-requires-clause-increasing : goal.enter-requires-clause-increasing
+enter-requires-clause-increasing c = (listed c).2.ascending
+
+pub enter-requires-clause-vars : goal.enter-requires-clause-vars
+enter-requires-clause-vars c = all-of (λ (v : ℕ). (1 ≤ v) × (v ≤ length c.loop-vars.occurs.lists)) c.as_slice.result.now (range c)
+
+pub enter-requires-clause-fresh : goal.enter-requires-clause-fresh
+enter-requires-clause-fresh c =
+    let l = listed c in
+    let cores = c.args.state.now.cores in
+    let n = c.args.before + c.loop-vars.vars-index in
+    let inside = some-inside cores n l.0 l.1 in
+    none-behind (take n cores) c.loop-vars.occurs (c.loop-vars.id + 1)
+    (omega (arith, length-taken cores n (omega (arith, inside)), c.loop-vars.invariant.id)) c.loop-vars.invariant.entered.stand
+
+pub loop-vars-preserved : goal.loop-vars-preserved
+loop-vars-preserved c =
+    let cores = c.args.state.now.cores in
+    let n = c.args.before + c.loop-vars.vars-index in
+    let l = listed-at cores c.args.before c.args.lists.now c.requires.lists c.loop-vars.vars-index c.loop-vars-test.true c.vars-item.result c.as_slice.result.now c.vars-item.is c.as_slice.ensures in
+    let bound : (v : ℕ) → Contains c.as_slice.result.now v → v ≤ length c.loop-vars.occurs.lists =
+      λ v there.
+        let bounds = core-bounds c.args.state.now c.requires.kernel (n + 1) l.0 (core_at-next cores n ∙ l.1) v ((l.2.exact v).0 there) in
+        omega (arith, bounds.1, c.requires.vars, c.loop-vars.invariant.entered.lists) in
+    let id : c.loop-vars.id + 1 ≡ n + 1 = omega (arith, c.loop-vars.invariant.id) in
+    let counted = counted-at c.args.lists.now c.loop-vars.vars-index c.vars-item.result c.as_slice.result.now c.loop-vars-test.true c.vars-item.is c.as_slice.ensures in
+    record {
+      id = omega (arith, c.loop-vars.invariant.id);
+      entered = entered-one cores c.args.before c.loop-vars.vars-index c.args.occurs.now c.loop-vars.occurs c.enter.new.occurs c.args.queue.now c.loop-vars.queue c.enter.new.queue c.as_slice.result.now l.0
+        l.1 l.2 bound c.loop-vars.invariant.entered
+        (c.enter.ensures.occurs ∙ ap (λ (j : ℕ). added c.loop-vars.occurs j c.as_slice.result.now) id) c.enter.ensures.occurrences
+        (c.enter.ensures.queue ∙ ap (with_id c.loop-vars.queue) id) c.enter.ensures.ids;
+      room = omega (arith, counted, c.loop-vars.invariant.room, ap (λ (o : OccurrenceLists). o.room) c.enter.ensures.occurs);
+    }

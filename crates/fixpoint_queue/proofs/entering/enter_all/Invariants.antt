@@ -1,0 +1,13 @@
+use Rattle.std.proofs.Common.{◌≡◌, ℕ, ◌+◌, ◌≤◌, ◌<◌, ◌⊎◌, length, take, drop}
+use Rattle.index_ring.specs.Lists.{times}
+use Rattle.core_occurrences.specs.Lists.{IsOccurrences}
+use Rattle.fixpoint_queue.specs.IdQueue.{IsIds}
+use Rattle.fixpoint_queue.specs.Standing.{Stand, all_counted, AreEntered}
+use Rattle.fixpoint_queue.proofs.entering.enter_all.Given as goal
+
+abbrev pub invariant-loop-vars : goal.invariant-loop-vars
+invariant-loop-vars l = record {
+  id : l.id ≡ l.before + l.vars-index;
+  entered : AreEntered l.state.cores l.before l.vars-index l.fn.occurs l.occurs l.fn.queue l.queue;
+  room : all_counted (drop l.vars-index l.lists) ≤ l.occurs.room
+}

@@ -1,0 +1,7 @@
+use Rattle.std.proofs.Common.{◌≡◌, ◌+◌, ◌≤◌, ◌++◌, false, replicate}
+use Rattle.std.specs.Prelude.{vec_len, vec_capacity}
+use Rattle.fixpoint_queue.proofs.marks.push_false.Given as goal
+
+abbrev pub invariant-loop-k : goal.invariant-loop-k
+invariant-loop-k l =
+    (l.marks.items ≡ l.initial.marks.items ++ replicate l.k false) × (vec_len l.marks ≡ vec_len l.initial.marks + l.k) × (vec_len l.initial.marks + l.more ≤ vec_capacity l.marks)

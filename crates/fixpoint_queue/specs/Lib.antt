@@ -1,0 +1,10 @@
+pub mod IdQueue
+pub mod Quiet
+pub mod Ledgers
+pub mod Listed
+pub mod Waits
+pub mod Walks
+pub mod Marks
+pub mod Run
+pub mod Standing
+pub mod FormInstances

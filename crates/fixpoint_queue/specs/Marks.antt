@@ -1,0 +1,16 @@
+-- Marks of ids.
+use Rattle.std.specs.Prelude.{ℕ, ◌+◌, ◌-◌, ◌==◌, Bool, true, false, List, [], ◌∷◌, slice_index_or, Option, None, Some, if◌then◌else◌}
+
+-- the mark of an id; those of 0 and of ids without a place are false
+abbrev pub mark_of : List Bool → ℕ → Bool
+mark_of marks id = if id == 0 then false else slice_index_or marks (id - 1) false
+
+-- the least marked id, where the first mark is that of the id given
+abbrev pub least_marked : ℕ → List Bool → Option ℕ
+least_marked id [] = None
+least_marked id (m ∷ marks) = if m then Some id else least_marked (id + 1) marks
+
+-- how many marks at the beginning are false
+abbrev pub false_first : List Bool → ℕ
+false_first [] = 0
+false_first (m ∷ marks) = if m then 0 else false_first marks + 1

@@ -1,0 +1,59 @@
+-- Cores that stand at their variables, whatever else a state has.
+use Rattle.std.specs.Prelude.{◌≡◌, ◌↔◌, ◌⊎◌, ℕ, ◌+◌, ◌<◌, ◌≤◌, List, [], ◌∷◌, length, take, slice_index_or, Contains, Option, None, Some}
+use Rattle.std.specs.List.Sorted.{IsStrictlyIncreasing}
+use Rattle.core_forms.specs.declared.form.Core.{Core}
+use Rattle.core_forms.specs.Variables.{core_vars}
+use Rattle.core_occurrences.specs.Lists.{OccurrenceLists, Occurs, IsOccurrences}
+use Rattle.index_ring.specs.Lists.{times}
+use Rattle.fixpoint_queue.specs.IdQueue.{Ids, IsIds}
+use Rattle.step_kernel.specs.Kernel.{core_at}
+
+-- a listed core has the variable
+abbrev pub HasVarAt : List (Option Core) → ℕ → ℕ → Type 0
+HasVarAt cores id v = (core : Core) × (core_at cores id ≡ Some core) × Contains (core_vars core) v
+
+-- the ids at each variable are those of the listed cores that have it
+abbrev pub Stand : List (Option Core) → OccurrenceLists → Type 0
+Stand cores occurs = (v id : ℕ) → 1 ≤ v → Occurs occurs v id ↔ HasVarAt cores id v
+
+-- the variables of a core, ascending, each once
+pub record AreVars (vars : List ℕ) (core : Core) : Type 0 where
+  pub ascending : IsStrictlyIncreasing vars
+  pub exact : (v : ℕ) → Contains vars v ↔ Contains (core_vars core) v
+
+-- those of each core
+abbrev pub AreAllVars : List (List ℕ) → List Core → Type 0
+AreAllVars [] [] = Unit {0}
+AreAllVars [] (core ∷ cores) = ⊥
+AreAllVars (vars ∷ lists) [] = ⊥
+AreAllVars (vars ∷ lists) (core ∷ cores) = AreVars vars core × AreAllVars lists cores
+
+-- how many there are
+abbrev pub all_counted : List (List ℕ) → ℕ
+all_counted [] = 0
+all_counted (vars ∷ lists) = length vars + all_counted lists
+
+-- listed variables are those of the cores behind so many others
+abbrev pub AreVarsFrom : List (Option Core) → ℕ → List (List ℕ) → Type 0
+AreVarsFrom cores before lists = (i : ℕ) → i < length lists →
+    (core : Core) × (slice_index_or cores (before + i) None ≡ Some core) × AreVars (slice_index_or lists i []) core
+
+-- so many cores more than before stand at their variables, and are in the queue
+pub record AreEntered (cores : List (Option Core)) (before count : ℕ) (old_occurs new_occurs : OccurrenceLists) (old_queue new_queue : Ids) : Type 0 where
+  pub stand : Stand (take (before + count) cores) new_occurs
+  pub occurrences : IsOccurrences new_occurs
+  pub lists : length new_occurs.lists ≡ length old_occurs.lists
+  pub ids : new_occurs.ids ≡ old_occurs.ids
+  pub places : new_queue.places ≡ old_queue.places
+  pub queued : IsIds new_queue
+  pub stays : (id : ℕ) → 1 ≤ times id old_queue.queued → 1 ≤ times id new_queue.queued
+  pub come : (id : ℕ) → before < id → id ≤ before + count → 1 ≤ times id new_queue.queued
+  pub only : (id : ℕ) → 1 ≤ times id new_queue.queued → (1 ≤ times id old_queue.queued) ⊎ ((before < id) × (id ≤ before + count))
+
+-- the pending ones among so many cores stand at their variables and are in the queue, and no others
+pub record ArePending (cores : List (Option Core)) (count : ℕ) (occurs : OccurrenceLists) (queue : Ids) : Type 0 where
+  pub stand : Stand (take count cores) occurs
+  pub occurrences : IsOccurrences occurs
+  pub queued : IsIds queue
+  pub come : (id : ℕ) (core : Core) → core_at (take count cores) id ≡ Some core → 1 ≤ times id queue.queued
+  pub only : (id : ℕ) → 1 ≤ times id queue.queued → (core : Core) × (core_at (take count cores) id ≡ Some core)

@@ -1,0 +1,160 @@
+//! One question after another, until the queue is empty.
+
+ghost use Rattle.std.specs.Prelude.{ℕ, ◌≡◌, ◌⊎◌, ◌+◌, ◌<◌, ◌≤◌, ◌++◌, ◌∷◌, [], true, false, length, vec_len, vec_capacity, Some, Ok, OnOk, OnErr};
+ghost use Rattle.order_ints.specs.Label.{IsLabel};
+ghost use Rattle.index_ring.specs.Lists.{times, without};
+ghost use Rattle.core_forms.specs.declared.equation.Equation.{Equation};
+ghost use Rattle.step_kernel.specs.Kernel.{Kernel, trimmed_at, IsKernel};
+ghost use Rattle.ledger_text.specs.declared.line.Line.TheVariants.{Equate};
+ghost use Rattle.step_kernel.specs.Instances.{is_instance_at};
+ghost use Rattle.step_kernel.specs.Steps.{step, equated};
+ghost use Rattle.fixpoint_queue.specs.IdQueue.{IsIds};
+ghost use Rattle.core_occurrences.specs.Lists.{Occurs};
+ghost use Rattle.fixpoint_queue.specs.Ledgers.{AddsEquations};
+ghost use Rattle.fixpoint_queue.specs.Quiet.{IsClosed};
+ghost use Rattle.fixpoint_queue.specs.Waits.{IsRun, IsWokenFor, left_to_do};
+
+use crate::id_queue::IdQueue;
+use crate::marks::Marks;
+use core_occurrences::Occurrences;
+use crate::oracle::Oracle;
+use crate::wake::wake;
+use core_forms::{Core, Equation};
+use ledger_text::Line;
+use rule_base::Steps;
+use std::alloc::{AllocError, Global};
+use std::sync::ledger::Ledger;
+use step_kernel::{State, is_compound};
+
+/// Queues the cores that may tell something new once an equation is made.
+fn wake_for(state: &State, occurs: &Occurrences, queue: &mut IdQueue, e: &Equation)
+    requires kernel { IsKernel state.now }
+    requires first { IsLabel state.now.view e.now.a }
+    requires second { IsLabel state.now.view e.now.b }
+    requires lists { length state.now.view ≤ length occurs.now.lists }
+    requires places { (v id : ℕ) → 1 ≤ v → Occurs occurs.now v id → id < queue.old.places }
+    requires queued { IsIds queue.old }
+    ensures { IsWokenFor state.now.view occurs.now e.now queue.old queue.new }
+{
+    if let Some(loser) = state.store().loser(e.a, e.b) {
+        wake(state.store(), occurs, queue, loser);
+    }
+}
+
+/// Takes an equation that was told: queues what it wakes, makes its step, and writes its line.
+fn take_equation(
+    state: &mut State,
+    occurs: &Occurrences,
+    queue: &mut IdQueue,
+    ledger: &mut Vec<Line>,
+    id: u64,
+    e: Equation,
+    core: &Core,
+)
+    requires kernel { IsKernel state.old }
+    requires running { state.old.bottom ≡ false }
+    requires there { trimmed_at state.old id ≡ Some core.now }
+    requires instance { is_instance_at core.now e ≡ true }
+    requires lists { length state.old.view ≤ length occurs.now.lists }
+    requires places { (v id : ℕ) → 1 ≤ v → Occurs occurs.now v id → id < queue.old.places }
+    requires queued { IsIds queue.old }
+    requires room { vec_len ledger.old < vec_capacity ledger.old }
+    ensures step { step state.old (Equate id e) ≡ Ok state.new }
+    ensures equated { state.new ≡ equated state.old e }
+    ensures woken { IsWokenFor state.old.view occurs.now e queue.old queue.new }
+    ensures ledger { ledger.new.items ≡ ledger.old.items ++ Equate id e ∷ [] }
+{
+    wake_for(state, occurs, queue, &e);
+    state.equate_told(id, &e, core);
+    ledger.push(Line::Equate { id, e }).unwrap();
+}
+
+/// Asks one core, which stands here as the store has it: where it tells an equation, that is taken, and else
+/// the core leaves the queue.
+fn ask_core<F: Oracle, L: Ledger>(
+    alloc: Global,
+    oracle: F,
+    state: &mut State,
+    occurs: &Occurrences,
+    queue: &mut IdQueue,
+    marks: &mut Marks,
+    ledger: &mut Vec<Line>,
+    steps: &mut Steps<L>,
+    id: u32,
+    core: &Core,
+) -> Result<(), AllocError>
+    requires run { IsRun F.told state.old occurs.now queue.old marks.old }
+    requires running { state.old.bottom ≡ false }
+    requires first { 1 ≤ times id queue.old.queued }
+    requires there { trimmed_at state.old id ≡ Some core.now }
+    ensures run { IsRun F.told state.new occurs.now queue.new marks.new }
+    ensures adds { AddsEquations F.told ledger.old.items state.old ledger.new.items state.new }
+    ensures less { OnOk result (left_to_do state.new queue.new < left_to_do state.old queue.old) }
+{
+    match oracle.ask(alloc, core, steps)? {
+        Some(e) => {
+            ledger.reserve(1)?;
+            take_equation(state, occurs, queue, ledger, u64::from(id), e, core);
+            Ok(())
+        }
+        None => {
+            queue.take(id);
+            marks.set(id, is_compound(core));
+            Ok(())
+        }
+    }
+}
+
+/// Asks the first core of the queue.
+fn ask_first<F: Oracle, L: Ledger>(
+    alloc: Global,
+    oracle: F,
+    state: &mut State,
+    occurs: &Occurrences,
+    queue: &mut IdQueue,
+    marks: &mut Marks,
+    ledger: &mut Vec<Line>,
+    steps: &mut Steps<L>,
+    id: u32,
+) -> Result<(), AllocError>
+    requires run { IsRun F.told state.old occurs.now queue.old marks.old }
+    requires running { state.old.bottom ≡ false }
+    requires first { 1 ≤ times id queue.old.queued }
+    ensures run { IsRun F.told state.new occurs.now queue.new marks.new }
+    ensures adds { AddsEquations F.told ledger.old.items state.old ledger.new.items state.new }
+    ensures less { OnOk result (left_to_do state.new queue.new < left_to_do state.old queue.old) }
+{
+    match state.trimmed(alloc, u64::from(id))? {
+        Some(core) => ask_core(
+            alloc, oracle, state, occurs, queue, marks, ledger, steps, id, &core,
+        ),
+        None => Ok(()),
+    }
+}
+
+/// Asks the cores of the queue, one after another, until the queue is empty or a contradiction was found. Each
+/// is asked until it tells nothing.
+pub fn ask_all<F: Oracle, L: Ledger>(
+    alloc: Global,
+    oracle: F,
+    state: &mut State,
+    occurs: &Occurrences,
+    queue: &mut IdQueue,
+    marks: &mut Marks,
+    ledger: &mut Vec<Line>,
+    steps: &mut Steps<L>,
+) -> Result<(), AllocError>
+    requires run { IsRun F.told state.old occurs.now queue.old marks.old }
+    ensures run { IsRun F.told state.new occurs.now queue.new marks.new }
+    ensures adds { AddsEquations F.told ledger.old.items state.old ledger.new.items state.new }
+    ensures empty { OnOk result (state.new.bottom ≡ true ⊎ queue.new.queued ≡ []) }
+    ensures closed { OnOk result (state.new.bottom ≡ true ⊎ IsClosed F.told state.new) }
+{
+    while !state.bottom() {
+        match queue.first() {
+            Some(id) => ask_first(alloc, oracle, state, occurs, queue, marks, ledger, steps, id)?,
+            None => return Ok(()),
+        }
+    }
+    Ok(())
+}

@@ -1,0 +1,84 @@
+//! Cores that come and go.
+
+ghost use Rattle.std.specs.Prelude.{◌≡◌, ◌+◌, ◌<◌, ◌≤◌, ◌^◌, ℕ, length, take, IfOk};
+ghost use Rattle.std.specs.List.{All};
+ghost use Rattle.std.specs.List.Sorted.{IsStrictlyIncreasing};
+ghost use Rattle.core_occurrences.specs.Lists.{Occurs, IsOccurrences, added};
+ghost use Rattle.step_kernel.specs.Kernel.{IsKernel};
+ghost use Rattle.fixpoint_queue.specs.IdQueue.{IsIds, with_id};
+ghost use Rattle.fixpoint_queue.specs.Standing.{Stand, AreAllVars, AreVarsFrom, AreEntered, all_counted};
+
+use crate::id_queue::IdQueue;
+use crate::marks::Marks;
+use bee_list::Sequence;
+use core_forms::{Core, variables};
+use core_occurrences::Occurrences;
+use std::alloc::{AllocError, Global};
+use step_kernel::State;
+
+/// The variables of each core, ascending.
+pub fn all_variables(alloc: Global, cores: &[Core]) -> Result<Vec<Sequence<u32>>, AllocError>
+    ensures { IfOk result (λ lists. AreAllVars lists.items cores.now) }
+{
+    let mut lists = Vec::with_capacity(alloc, cores.len())?;
+    for core in cores {
+        lists.push(Sequence::from_vec(variables(alloc, core)?))?;
+    }
+    Ok(lists)
+}
+
+/// How many variables there are in all.
+pub fn number_of(lists: &[Sequence<u32>]) -> usize
+    requires { all_counted lists.now < 2 ^ 32 }
+    ensures { result ≡ all_counted lists.now }
+{
+    let mut number = 0;
+    for vars in lists {
+        number += vars.len();
+    }
+    number
+}
+
+/// Puts a core at its variables, and into the queue.
+pub fn enter(occurs: &mut Occurrences, queue: &mut IdQueue, id: u32, vars: &[u32])
+    requires id { (1 ≤ id) × (id ≤ occurs.old.ids) }
+    requires increasing { IsStrictlyIncreasing vars.now }
+    requires vars { All (λ v. (1 ≤ v) × (v ≤ length occurs.old.lists)) vars.now }
+    requires fresh { (v : ℕ) → ¬ Occurs occurs.old v id }
+    requires room { length vars.now ≤ occurs.old.room }
+    requires place { id < queue.old.places }
+    ensures occurs { occurs.new ≡ added occurs.old id vars.now }
+    ensures occurrences { IsOccurrences occurs.new }
+    ensures queue { queue.new ≡ with_id queue.old id }
+    ensures ids { IsIds queue.new }
+{
+    occurs.add(id, vars);
+    queue.put(id);
+}
+
+/// Puts the cores of a state that come behind so many others at their variables, and into the queue.
+pub fn enter_all(
+    state: &State,
+    occurs: &mut Occurrences,
+    queue: &mut IdQueue,
+    before: u32,
+    lists: &[Sequence<u32>],
+)
+    requires kernel { IsKernel state.now }
+    requires lists { AreVarsFrom state.now.cores before lists.now }
+    requires stand { Stand (take before state.now.cores) occurs.old }
+    requires occurrences { IsOccurrences occurs.old }
+    requires before { before ≤ length state.now.cores }
+    requires vars { length state.now.view ≤ length occurs.old.lists }
+    requires ids { before + length lists.now ≤ occurs.old.ids }
+    requires room { all_counted lists.now ≤ occurs.old.room }
+    requires places { before + length lists.now < queue.old.places }
+    requires queued { IsIds queue.old }
+    ensures entered { AreEntered state.now.cores before (length lists.now) occurs.old occurs.new queue.old queue.new }
+{
+    let mut id = before;
+    for vars in lists {
+        id += 1;
+        enter(occurs, queue, id, vars.as_slice());
+    }
+}

@@ -1,0 +1,15 @@
+//! Equations to a fixpoint: a worklist of the cores that may still tell one.
+#![tactic(auto)]
+
+mod asking;
+mod entering;
+mod id_queue;
+mod lines;
+mod marks;
+mod oracle;
+mod runner;
+mod starting;
+mod wake;
+
+pub use oracle::{Oracle, Silent, TableP};
+pub use runner::Runner;

@@ -1,0 +1,63 @@
+//! Cores that are encoded.
+
+ghost use Rattle.std.specs.Prelude.{◌≡◌, ◌+◌, ◌-◌, ◌++◌, ◌∷◌, ◌<◌, ◌≤◌, [], true, false, length, slice_set, Ok, Some, OnOk, OnErr};
+ghost use Rattle.index_ring.specs.Lists.{without};
+ghost use Rattle.core_forms.specs.declared.form.Core.{Core};
+ghost use Rattle.core_forms.specs.Basic.{is_basic_of};
+ghost use Rattle.ledger_text.specs.declared.line.Line.TheVariants.{Split, Encode};
+ghost use Rattle.core_occurrences.specs.Lists.{IsOccurrences, removed};
+ghost use Rattle.step_kernel.specs.Kernel.{trimmed_at};
+ghost use Rattle.step_kernel.specs.Steps.{step};
+ghost use Rattle.fixpoint_queue.specs.IdQueue.{IsIds};
+
+use crate::id_queue::IdQueue;
+use crate::marks::Marks;
+use crate::oracle::Oracle;
+use crate::runner::Runner;
+use core_occurrences::Occurrences;
+use ledger_text::Line;
+use std::alloc::AllocError;
+
+/// Takes a core from its variables, from the queue and from the marks.
+fn leave(occurs: &mut Occurrences, queue: &mut IdQueue, marks: &mut Marks, id: u32)
+    requires id { (1 ≤ id) × (id ≤ occurs.old.ids) }
+    requires place { id < queue.old.places }
+    requires mark { id ≤ length marks.old }
+    ensures occurs { occurs.new ≡ removed occurs.old id }
+    ensures occurrences { IsOccurrences occurs.new }
+    ensures queued { queue.new.queued ≡ without id queue.old.queued }
+    ensures places { queue.new.places ≡ queue.old.places }
+    ensures ids { IsIds queue.new }
+    ensures marks { marks.new ≡ slice_set marks.old (id - 1) false }
+{
+    occurs.remove(id);
+    queue.take(id);
+    marks.set(id, false);
+}
+
+impl<F: Oracle> Runner<F> {
+    /// Encodes a core that is basic as the store has it: its clauses come behind those that are there, and one
+    /// line behind the ledger's. No core is queued. It fails for want of memory alone, and then nothing has changed.
+    pub fn encode(&mut self, id: u64) -> Result<(), AllocError>
+        requires running { self.old.kernel.bottom ≡ false }
+        requires basic { (core : Core) × (trimmed_at self.old.kernel id ≡ Some core) × (is_basic_of core ≡ true) }
+        ensures step { OnOk result (step self.old.kernel (Encode id) ≡ Ok self.new.kernel) }
+        ensures ledger { OnOk result (self.new.ledger ≡ self.old.ledger ++ Encode id ∷ []) }
+        ensures queued { OnOk result (self.new.queued ≡ without id self.old.queued) }
+        ensures stays { OnErr result (self.new ≡ self.old) }
+    {
+        self.ledger.reserve(1)?;
+        let line = Line::Encode { id };
+        if self.state.apply(&line).is_err() {
+            return Err(AllocError);
+        }
+        leave(
+            &mut self.occurs,
+            &mut self.queue,
+            &mut self.marks,
+            id as u32,
+        );
+        self.ledger.push(line).unwrap();
+        Ok(())
+    }
+}

@@ -1,0 +1,124 @@
+//! A compilation whose cores are asked for equations.
+
+ghost use Rattle.std.specs.Prelude.{◌≡◌, ◌⊎◌, ◌+◌, ◌++◌, ◌∷◌, ◌≤◌, ℕ, [], true, false, length, Ok, Some, IfOk, OnOk, OnErr};
+ghost use Rattle.index_ring.specs.Lists.{times};
+ghost use Rattle.core_forms.specs.declared.form.Core.{Core};
+ghost use Rattle.ledger_text.specs.declared.line.Line.TheVariants.{Split, Encode};
+ghost use Rattle.step_kernel.specs.Kernel.{core_at, trimmed_at, IsKernel};
+ghost use Rattle.step_kernel.specs.Least.{is_compound_if, least_compound_of};
+ghost use Rattle.step_kernel.specs.Steps.{step};
+ghost use Rattle.fixpoint_queue.specs.Ledgers.{AddsEquations};
+ghost use Rattle.fixpoint_queue.specs.Quiet.{IsClosed};
+
+use crate::asking::ask_all;
+use crate::id_queue::IdQueue;
+use crate::marks::Marks;
+use crate::oracle::Oracle;
+use crate::starting::enter_state;
+use core_occurrences::Occurrences;
+use ledger_text::Line;
+use rule_base::Steps;
+use std::alloc::{AllocError, Global};
+use std::marker::Model;
+use std::sync::ledger::Ledger;
+use step_kernel::State;
+
+/// A state with the ledger of its lines, and a queue of the cores that may tell an equation which the store
+/// lacks. For each variable it keeps which pending cores have it, so that an equation queues those at the
+/// class that gets a new label, and no others.
+#[derive(Drop)]
+pub struct Runner<F: Oracle> {
+    pub(crate) state: State,
+    pub(crate) oracle: F,
+    pub(crate) ledger: Vec<Line>,
+    pub(crate) occurs: Occurrences,
+    pub(crate) queue: IdQueue,
+    pub(crate) marks: Marks,
+}
+
+impl<F: Oracle> Model for Runner<F> {
+    ghost use Rattle.fixpoint_queue.specs.Run.{Run};
+    ghost use Rattle.fixpoint_queue.specs.Waits.{IsRun};
+
+    ghost Value = { Run };
+
+    ghost view = { λ s. record { kernel = s.state; ledger = s.ledger.items; queued = s.queue.queued } };
+
+    ghost invariant = { λ s. IsRun F.told s.state s.occurs s.queue s.marks };
+}
+
+impl<F: Oracle> Runner<F> {
+    /// A state whose pending cores are all queued, with no line. Where there are 2^31 - 2 ids or more, it is as
+    /// if memory were wanting.
+    pub fn with(alloc: Global, state: State, oracle: F) -> Result<Runner<F>, AllocError>
+        ensures kernel { IfOk result (λ made. made.kernel ≡ state) }
+        ensures ledger { IfOk result (λ made. made.ledger ≡ []) }
+        ensures queued { IfOk result (λ made. (id : ℕ) (core : Core) → core_at state.cores id ≡ Some core
+            → 1 ≤ times id made.queued) }
+    {
+        let ids = state.ids();
+        if ids >= (1 << 31) - 2 {
+            return Err(AllocError);
+        }
+        let mut occurs = Occurrences::with(alloc, state.vars())?;
+        occurs.grow(0, ids as u32, 0)?;
+        let mut queue = IdQueue::with(alloc, ids as u32 + 1)?;
+        let mut marks = Marks::new(alloc);
+        marks.grow(ids as usize)?;
+        enter_state(alloc, &state, &mut occurs, &mut queue)?;
+        Ok(Runner {
+            state,
+            oracle,
+            ledger: Vec::new(alloc),
+            occurs,
+            queue,
+            marks,
+        })
+    }
+
+    /// The state.
+    pub fn state(&self) -> &State
+        ensures { result.now ≡ self.now.kernel }
+    {
+        &self.state
+    }
+
+    /// The state and the ledger, whose lines lead to it.
+    pub fn finish(self) -> (State, Vec<Line>)
+        ensures state { result.0 ≡ self.kernel }
+        ensures ledger { result.1.items ≡ self.ledger }
+    {
+        let Runner { state, ledger, .. } = self;
+        (state, ledger)
+    }
+
+    /// Asks the cores of the queue until none is left, or a contradiction was found, and adds an equation to
+    /// the ledger for each that is told. Where memory is wanting, the state stands for the ledger so far.
+    pub fn saturate<L: Ledger>(&mut self, steps: &mut Steps<L>) -> Result<(), AllocError>
+        ensures lines { AddsEquations F.told self.old.ledger self.old.kernel self.new.ledger self.new.kernel }
+        ensures empty { OnOk result (self.new.kernel.bottom ≡ true ⊎ self.new.queued ≡ []) }
+        ensures closed { OnOk result (self.new.kernel.bottom ≡ true ⊎ IsClosed F.told self.new.kernel) }
+        ensures kernel { IsKernel self.new.kernel }
+    {
+        let alloc = *self.ledger.allocator();
+        ask_all(
+            alloc,
+            self.oracle,
+            &mut self.state,
+            &self.occurs,
+            &mut self.queue,
+            &mut self.marks,
+            &mut self.ledger,
+            steps,
+        )
+    }
+
+    /// The least pending id whose core, as the store has it, is compound, where no core is queued. It takes no
+    /// memory, and goes along the ids only where it did not before.
+    pub fn least_compound(&self) -> Option<u64>
+        requires { self.now.queued ≡ [] }
+        ensures { result ≡ least_compound_of self.now.kernel }
+    {
+        self.marks.least()
+    }
+}

@@ -87,88 +87,91 @@ module _ (told : Core → Equation → Type 0) (k : Kernel) (occurs : Occurrence
     (id : ℕ) (core : Core) (there : trimmed_at k id ≡ Some core) (e : Equation) (instance : is_instance_at core e ≡ true)
     (woken : IsWokenFor k.view occurs e old new)
   where
-  labels : IsLabel k.view e.a × IsLabel k.view e.b
-  labels = there-labels k id core run.kernel there e instance
+    labels : IsLabel k.view e.a × IsLabel k.view e.b
+    labels = there-labels k id core run.kernel there e instance
 
-  same-length : length (merged k.view e.a e.b) ≡ length k.view
-  same-length = (merge_labelled k.view e.a e.b run.kernel.labelled (AtomBelow-label k.view e.a labels.0) (AtomBelow-label k.view e.b labels.1)).0
+    same-length : length (merged k.view e.a e.b) ≡ length k.view
+    same-length = (merge_labelled k.view e.a e.b run.kernel.labelled (AtomBelow-label k.view e.a labels.0) (AtomBelow-label k.view e.b labels.1)).0
 
-  -- a core that isn't woken waited for nothing before
-  not-woken : (i : ℕ) → times i new.queued ≡ 0 → times i old.queued ≡ 0
-  not-woken i none =
-      ⊎_elim (λ (h : times i old.queued < 1). omega (arith, h)) (λ (h : 1 ≤ times i old.queued). absurd (omega (arith, none, woken-stays k.view occurs e old new run.queued (loser_of k.view e.a e.b) woken i h))) (cases_lt (times i old.queued) 1)
+    -- a core that isn't woken waited for nothing before
+    not-woken : (i : ℕ) → times i new.queued ≡ 0 → times i old.queued ≡ 0
+    not-woken i none =
+        ⊎_elim (λ (h : times i old.queued < 1). omega (arith, h)) (λ (h : 1 ≤ times i old.queued). absurd (omega (arith, none, woken-stays k.view occurs e old new run.queued (loser_of k.view e.a e.b) woken i h))) (cases_lt (times i old.queued) 1)
 
-  unwoken : (i : ℕ) → times i new.queued ≡ 0 → (x v : ℕ) → loser_of k.view e.a e.b ≡ Some x → IsMember k.view x v → Occurs occurs v i → ⊥
-  unwoken i none x v loser member stands = absurd (omega (arith, none, woken-has k.view occurs e old new run.queued (loser_of k.view e.a e.b) woken x v i loser member stands))
+    unwoken : (i : ℕ) → times i new.queued ≡ 0 → (x v : ℕ) → loser_of k.view e.a e.b ≡ Some x → IsMember k.view x v → Occurs occurs v i → ⊥
+    unwoken i none x v loser member stands = absurd (omega (arith, none, woken-has k.view occurs e old new run.queued (loser_of k.view e.a e.b) woken x v i loser member stands))
 
-  pending-new : (i : ℕ) → 1 ≤ times i new.queued → (c : Core) × (core_at (equated k e).cores i ≡ Some c)
-  pending-new i h =
-      let there : (c : Core) × (core_at k.cores i ≡ Some c) =
+    pending-new : (i : ℕ) → 1 ≤ times i new.queued → (c : Core) × (core_at (equated k e).cores i ≡ Some c)
+    pending-new i h =
+        let there : (c : Core) × (core_at k.cores i ≡ Some c) =
         ⊎_elim (λ (was : 1 ≤ times i old.queued). run.pending i was)
         (λ (at : (v : ℕ) × Occurs occurs v i × (1 ≤ v)). let has = (run.listed.there at.0 i at.2).0 at.1 in (has.0, has.1))
         (woken-only k.view occurs e old new run.queued (loser_of k.view e.a e.b) woken i h) in
-      (there.0, ap (λ (cs : List (Option Core)). core_at cs i) (same-cores k e) ∙ there.1)
+        (there.0, ap (λ (cs : List (Option Core)). core_at cs i) (same-cores k e) ∙ there.1)
 
-  pub run-equated : IsRun told (equated k e) occurs new marks
-  run-equated = record {
-    kernel = there-equated k id core run.kernel there e instance;
-    listed = listed-equated k e occurs same-length run.listed;
-    places = omega (arith, run.places, ap length (same-cores k e), woken-places k.view occurs e old new run.queued (loser_of k.view e.a e.b) woken);
-    queued = woken-ids k.view occurs e old new run.queued (loser_of k.view e.a e.b) woken;
-    pending = pending-new;
-    waits = λ i none. quiet-kept told k run.kernel e labels.0 labels.1 occurs run.listed i (unwoken i none) (run.waits i (not-woken i none));
-    mark_places = omega (arith, run.mark_places, ap length (same-cores k e));
-    marked = λ i none. run.marked i (not-woken i none) ∙ sym (ap is_compound_if (trimmed-kept told k run.kernel e labels.0 labels.1 occurs run.listed i (unwoken i none)));
-  }
+    pub run-equated : IsRun told (equated k e) occurs new marks
+    run-equated = record {
+      kernel = there-equated k id core run.kernel there e instance;
+      listed = listed-equated k e occurs same-length run.listed;
+      places = omega (arith, run.places, ap length (same-cores k e), woken-places k.view occurs e old new run.queued (loser_of k.view e.a e.b) woken);
+      queued = woken-ids k.view occurs e old new run.queued (loser_of k.view e.a e.b) woken;
+      pending = pending-new;
+      waits = λ i none. quiet-kept told k run.kernel e labels.0 labels.1 occurs run.listed i (unwoken i none) (run.waits i (not-woken i none));
+      mark_places = omega (arith, run.mark_places, ap length (same-cores k e));
+      marked = λ i none. run.marked i (not-woken i none) ∙ sym (ap is_compound_if (trimmed-kept told k run.kernel e labels.0 labels.1 occurs run.listed i (unwoken i none)));
+    }
 
-  -- a class loses, unless the two atoms are opposite
-  loses : same_atom e.a (not_atom e.b) ≡ false → is_some (loser_of k.view e.a e.b) ≡ true
-  loses h = by (change_of k.view (resolve k.view e.a) (resolve k.view e.b)) changes
-    where
-      ra : resolve k.view e.a ≡ e.a
-      ra = resolve-label k.view e.a labels.0
+    -- a class loses, unless the two atoms are opposite
+    loses : same_atom e.a (not_atom e.b) ≡ false → is_some (loser_of k.view e.a e.b) ≡ true
+    loses h = by (change_of k.view (resolve k.view e.a) (resolve k.view e.b)) changes
+      where
+        ra : resolve k.view e.a ≡ e.a
+        ra = resolve-label k.view e.a labels.0
 
-      rb : resolve k.view e.b ≡ e.b
-      rb = resolve-label k.view e.b labels.1
+        rb : resolve k.view e.b ≡ e.b
+        rb = resolve-label k.view e.b labels.1
 
-      changes : MatchOption (change_of k.view (resolve k.view e.a) (resolve k.view e.b)) ((e.a ≡ e.b) ⊎ (e.a ≡ not_atom e.b)) (IsChange k.view e.a e.b)
-      changes =
-          subst (λ (a : Atom). MatchOption (change_of k.view a (resolve k.view e.b)) ((e.a ≡ e.b) ⊎ (e.a ≡ not_atom e.b)) (IsChange k.view e.a e.b)) (sym ra)
-          (subst (λ (b : Atom). MatchOption (change_of k.view e.a b) ((e.a ≡ e.b) ⊎ (e.a ≡ not_atom e.b)) (IsChange k.view e.a e.b)) (sym rb)
-          (change_of-is k.view e.a e.b labels.0 labels.1))
+        changes : MatchOption (change_of k.view (resolve k.view e.a) (resolve k.view e.b)) ((e.a ≡ e.b) ⊎ (e.a ≡ not_atom e.b)) (IsChange k.view e.a e.b)
+        changes =
+            subst (λ (a : Atom). MatchOption (change_of k.view a (resolve k.view e.b)) ((e.a ≡ e.b) ⊎ (e.a ≡ not_atom e.b)) (IsChange k.view e.a e.b)) (sym ra)
+            (subst (λ (b : Atom). MatchOption (change_of k.view e.a b) ((e.a ≡ e.b) ⊎ (e.a ≡ not_atom e.b)) (IsChange k.view e.a e.b)) (sym rb)
+            (change_of-is k.view e.a e.b labels.0 labels.1))
 
-      by : (o : Option Change) → MatchOption o ((e.a ≡ e.b) ⊎ (e.a ≡ not_atom e.b)) (IsChange k.view e.a e.b) → is_some (option_map (λ c. c.loser) o) ≡ true
-      by None m = absurd (⊎_elim (instance-different core e instance) (λ q. absurd (false≢true (sym h ∙ ap (same_atom e.a) (sym q) ∙ same_atom-refl e.a))) m)
-      by (Some c) m = refl
+        by : (o : Option Change) → MatchOption o ((e.a ≡ e.b) ⊎ (e.a ≡ not_atom e.b)) (IsChange k.view e.a e.b) → is_some (option_map (λ c. c.loser) o) ≡ true
+        by None m = absurd (⊎_elim (instance-different core e instance) (λ q. absurd (false≢true (sym h ∙ ap (same_atom e.a) (sym q) ∙ same_atom-refl e.a))) m)
+        by (Some c) m = refl
 
-  fewer : same_atom e.a (not_atom e.b) ≡ false → number_own (merged k.view e.a e.b) + 1 ≡ number_own k.view
-  fewer h =
-      omega (arith, merge_takes_one k.view e.a e.b run.kernel.labelled (AtomBelow-label k.view e.a labels.0) (AtomBelow-label k.view e.b labels.1),
-      ap {B = ℕ} (λ (t : Bool). if t then 1 else 0) (loses h))
+    fewer : same_atom e.a (not_atom e.b) ≡ false → number_own (merged k.view e.a e.b) + 1 ≡ number_own k.view
+    fewer h =
+        omega (
+          arith,
+          merge_takes_one k.view e.a e.b run.kernel.labelled (AtomBelow-label k.view e.a labels.0) (AtomBelow-label k.view e.b labels.1),
+          ap {B = ℕ} (λ (t : Bool). if t then 1 else 0) (loses h),
+        )
 
-  pub less-equated : k.bottom ≡ false → left_to_do (equated k e) new < left_to_do k old
-  less-equated running = by (same_atom e.a (not_atom e.b)) refl
-    where
-      places : new.places ≡ old.places
-      places = woken-places k.view occurs e old new run.queued (loser_of k.view e.a e.b) woken
+    pub less-equated : k.bottom ≡ false → left_to_do (equated k e) new < left_to_do k old
+    less-equated running = by (same_atom e.a (not_atom e.b)) refl
+      where
+        places : new.places ≡ old.places
+        places = woken-places k.view occurs e old new run.queued (loser_of k.view e.a e.b) woken
 
-      few : length new.queued ≤ new.places
-      few = ids-few new (woken-ids k.view occurs e old new run.queued (loser_of k.view e.a e.b) woken)
+        few : length new.queued ≤ new.places
+        few = ids-few new (woken-ids k.view occurs e old new run.queued (loser_of k.view e.a e.b) woken)
 
-      whole : left_to_do k old ≡ number_own k.view * (old.places + 1) + length old.queued + 1
-      whole = ap (λ (t : Bool). if t then 0 else number_own k.view * (old.places + 1) + length old.queued + 1) running
+        whole : left_to_do k old ≡ number_own k.view * (old.places + 1) + length old.queued + 1
+        whole = ap (λ (t : Bool). if t then 0 else number_own k.view * (old.places + 1) + length old.queued + 1) running
 
-      by : (b : Bool) → same_atom e.a (not_atom e.b) ≡ b → left_to_do (if b then record k { bottom = true } else record k { view = merged k.view e.a e.b }) new < left_to_do k old
-      by true h = omega (arith, whole)
-      by false h =
-          let now : left_to_do (record k { view = merged k.view e.a e.b }) new ≡ number_own (merged k.view e.a e.b) * (new.places + 1) + length new.queued + 1 =
+        by : (b : Bool) → same_atom e.a (not_atom e.b) ≡ b → left_to_do (if b then record k { bottom = true } else record k { view = merged k.view e.a e.b }) new < left_to_do k old
+        by true h = omega (arith, whole)
+        by false h =
+            let now : left_to_do (record k { view = merged k.view e.a e.b }) new ≡ number_own (merged k.view e.a e.b) * (new.places + 1) + length new.queued + 1 =
             ap (λ (t : Bool). if t then 0 else number_own (merged k.view e.a e.b) * (new.places + 1) + length new.queued + 1) running in
-          let product : number_own k.view * (old.places + 1) ≡ number_own (merged k.view e.a e.b) * (new.places + 1) + (new.places + 1) =
+            let product : number_own k.view * (old.places + 1) ≡ number_own (merged k.view e.a e.b) * (new.places + 1) + (new.places + 1) =
             ap (λ (n : ℕ). n * (old.places + 1)) (sym (fewer h)) ∙ ap (λ (n : ℕ). (number_own (merged k.view e.a e.b) + 1) * (n + 1)) (sym places) ∙ one-more (number_own (merged k.view e.a e.b)) (new.places + 1) in
-          omega (arith, whole, now, product, few)
-        where
-          one-more : (m n : ℕ) → (m + 1) * n ≡ m * n + n
-          one-more m n = omega (arith, suc-mul m n, ap (λ (t : ℕ). t * n) (add-one m))
+            omega (arith, whole, now, product, few)
+          where
+            one-more : (m n : ℕ) → (m + 1) * n ≡ m * n + n
+            one-more m n = omega (arith, suc-mul m n, ap (λ (t : ℕ). t * n) (add-one m))
 
 -- ---- nothing is told
 
@@ -182,49 +185,49 @@ module _ (told : Core → Equation → Type 0) (k : Kernel) (occurs : Occurrence
     (id : ℕ) (core : Core) (there : trimmed_at k id ≡ Some core) (none : (e : Equation) → told core e → ⊥)
     (queued : new.queued ≡ without id old.queued) (places : new.places ≡ old.places) (ids : IsIds new)
   where
-  bounds : (1 ≤ id) × (id ≤ length k.cores)
-  bounds = at-bounds k id core there
+    bounds : (1 ≤ id) × (id ≤ length k.cores)
+    bounds = at-bounds k id core there
 
-  gone : (i : ℕ) → (i ≡ id → ⊥) → times i new.queued ≡ times i old.queued
-  gone i n = ap (times i) queued ∙ times-without id i old.queued ∙ cond-false (i == id) 0 (times i old.queued) (ne_eqb i id n)
+    gone : (i : ℕ) → (i ≡ id → ⊥) → times i new.queued ≡ times i old.queued
+    gone i n = ap (times i) queued ∙ times-without id i old.queued ∙ cond-false (i == id) 0 (times i old.queued) (ne_eqb i id n)
 
-  other-mark : (i : ℕ) → (i ≡ id → ⊥) → mark_of (set marks (id - 1) (is_compound_of core)) i ≡ mark_of marks i
-  other-mark i n = by (i == 0) refl
-    where
-      by : (b : Bool) → (i == 0) ≡ b → (if b then false else get_or (set marks (id - 1) (is_compound_of core)) (i - 1) false) ≡ (if b then false else get_or marks (i - 1) false)
-      by true z = refl
-      by false z =
-          let low : 1 ≤ i = grind (arith, nat_tests, z) in
-          get_or-set_other marks (id - 1) (i - 1) (is_compound_of core) false (λ q. n (omega (arith, q, low, bounds.0)))
+    other-mark : (i : ℕ) → (i ≡ id → ⊥) → mark_of (set marks (id - 1) (is_compound_of core)) i ≡ mark_of marks i
+    other-mark i n = by (i == 0) refl
+      where
+        by : (b : Bool) → (i == 0) ≡ b → (if b then false else get_or (set marks (id - 1) (is_compound_of core)) (i - 1) false) ≡ (if b then false else get_or marks (i - 1) false)
+        by true z = refl
+        by false z =
+            let low : 1 ≤ i = grind (arith, nat_tests, z) in
+            get_or-set_other marks (id - 1) (i - 1) (is_compound_of core) false (λ q. n (omega (arith, q, low, bounds.0)))
 
-  own-mark : mark_of (set marks (id - 1) (is_compound_of core)) id ≡ is_compound_of core
-  own-mark =
-      let no : (id == 0) ≡ false = grind (arith, nat_tests, bounds.0) in
-      ap (λ (t : Bool). if t then false else get_or (set marks (id - 1) (is_compound_of core)) (id - 1) false) no
-      ∙ get_or-set_same marks (id - 1) (is_compound_of core) false (omega (arith, bounds, run.mark_places))
+    own-mark : mark_of (set marks (id - 1) (is_compound_of core)) id ≡ is_compound_of core
+    own-mark =
+        let no : (id == 0) ≡ false = grind (arith, nat_tests, bounds.0) in
+        ap (λ (t : Bool). if t then false else get_or (set marks (id - 1) (is_compound_of core)) (id - 1) false) no
+        ∙ get_or-set_same marks (id - 1) (is_compound_of core) false (omega (arith, bounds, run.mark_places))
 
-  pub run-quiet : IsRun told k occurs new (set marks (id - 1) (is_compound_of core))
-  run-quiet = record {
-    kernel = run.kernel;
-    listed = run.listed;
-    places = omega (arith, run.places, places);
-    queued = ids;
-    pending = λ i h.
-      ⊎_elim (λ (e : i ≡ id). let r = is-there k id core there in (r.core, subst (λ (j : ℕ). core_at k.cores j ≡ Some r.core) (sym e) r.at))
-      (λ (n : i ≡ id → ⊥). run.pending i (omega (arith, h, gone i n))) (cases_eq i id);
-    waits = λ i left.
-      ⊎_elim (λ (e : i ≡ id). subst (IsQuiet told k) (sym e) (quiet-core told k id core there none))
-      (λ (n : i ≡ id → ⊥). run.waits i (sym (gone i n) ∙ left)) (cases_eq i id);
-    mark_places = omega (arith, run.mark_places, length-set marks (id - 1) (is_compound_of core));
-    marked = λ i left.
-      ⊎_elim (λ (e : i ≡ id). subst (λ (j : ℕ). mark_of (set marks (id - 1) (is_compound_of core)) j ≡ is_compound_if (trimmed_at k j)) (sym e) (own-mark ∙ sym (ap is_compound_if there)))
-      (λ (n : i ≡ id → ⊥). other-mark i n ∙ run.marked i (sym (gone i n) ∙ left)) (cases_eq i id);
-  }
+    pub run-quiet : IsRun told k occurs new (set marks (id - 1) (is_compound_of core))
+    run-quiet = record {
+      kernel = run.kernel;
+      listed = run.listed;
+      places = omega (arith, run.places, places);
+      queued = ids;
+      pending = λ i h.
+          ⊎_elim (λ (e : i ≡ id). let r = is-there k id core there in (r.core, subst (λ (j : ℕ). core_at k.cores j ≡ Some r.core) (sym e) r.at))
+          (λ (n : i ≡ id → ⊥). run.pending i (omega (arith, h, gone i n))) (cases_eq i id);
+      waits = λ i left.
+          ⊎_elim (λ (e : i ≡ id). subst (IsQuiet told k) (sym e) (quiet-core told k id core there none))
+          (λ (n : i ≡ id → ⊥). run.waits i (sym (gone i n) ∙ left)) (cases_eq i id);
+      mark_places = omega (arith, run.mark_places, length-set marks (id - 1) (is_compound_of core));
+      marked = λ i left.
+          ⊎_elim (λ (e : i ≡ id). subst (λ (j : ℕ). mark_of (set marks (id - 1) (is_compound_of core)) j ≡ is_compound_if (trimmed_at k j)) (sym e) (own-mark ∙ sym (ap is_compound_if there)))
+          (λ (n : i ≡ id → ⊥). other-mark i n ∙ run.marked i (sym (gone i n) ∙ left)) (cases_eq i id);
+    }
 
-  pub less-quiet : k.bottom ≡ false → 1 ≤ times id old.queued → left_to_do k new < left_to_do k old
-  less-quiet running first =
-      let was : left_to_do k old ≡ number_own k.view * (old.places + 1) + length old.queued + 1 =
+    pub less-quiet : k.bottom ≡ false → 1 ≤ times id old.queued → left_to_do k new < left_to_do k old
+    less-quiet running first =
+        let was : left_to_do k old ≡ number_own k.view * (old.places + 1) + length old.queued + 1 =
         ap (λ (t : Bool). if t then 0 else number_own k.view * (old.places + 1) + length old.queued + 1) running in
-      let now : left_to_do k new ≡ number_own k.view * (new.places + 1) + length new.queued + 1 =
+        let now : left_to_do k new ≡ number_own k.view * (new.places + 1) + length new.queued + 1 =
         ap (λ (t : Bool). if t then 0 else number_own k.view * (new.places + 1) + length new.queued + 1) running in
-      omega (arith, was, now, first, length-without id old.queued, ap length queued, ap (λ (n : ℕ). number_own k.view * (n + 1)) places)
+        omega (arith, was, now, first, length-without id old.queued, ap length queued, ap (λ (n : ℕ). number_own k.view * (n + 1)) places)

@@ -32,16 +32,16 @@ module _ (told : Core → Equation → Type 0) (k new : Kernel) (id : ℕ) (occu
     (core : Core) (there : trimmed_at k id ≡ Some core) (is : new ≡ encoded k id core) (kernel : IsKernel new) (occurs-is : next ≡ removed occurs id) (occurrences : IsOccurrences next)
     (queued : queue.queued ≡ without id old.queued) (places : queue.places ≡ old.places) (ids : IsIds queue) (marks-are : marks ≡ set was (id - 1) false)
   where
-  low : 1 ≤ id
-  low = (at-bounds k id core there).0
+    low : 1 ≤ id
+    low = (at-bounds k id core there).0
 
-  same : length k.cores ≡ length new.cores
-  same = sym (ap (λ (kk : Kernel). length kk.cores) is ∙ length-set k.cores (id - 1) None)
+    same : length k.cores ≡ length new.cores
+    same = sym (ap (λ (kk : Kernel). length kk.cores) is ∙ length-set k.cores (id - 1) None)
 
-  pub run-encoded : IsRun told new next queue marks
-  run-encoded =
-      run-next told k new id occurs next old queue was marks run
-      (goes-encoded k new id low kernel (ap (λ (kk : Kernel). kk.view) is) (ap (λ (kk : Kernel). kk.cores) is))
-      (listed-encoded k new id occurs next low (ap (λ (kk : Kernel). kk.view) is) (ap (λ (kk : Kernel). kk.cores) is) occurs-is occurrences run.listed)
-      (queues-gone k new id old queue queued places ids same (omega (arith, same, run.places)))
-      (marked-gone k new id was was marks low (λ j. refl) marks-are (omega (arith, same, run.mark_places)))
+    pub run-encoded : IsRun told new next queue marks
+    run-encoded =
+        run-next told k new id occurs next old queue was marks run
+        (goes-encoded k new id low kernel (ap (λ (kk : Kernel). kk.view) is) (ap (λ (kk : Kernel). kk.cores) is))
+        (listed-encoded k new id occurs next low (ap (λ (kk : Kernel). kk.view) is) (ap (λ (kk : Kernel). kk.cores) is) occurs-is occurrences run.listed)
+        (queues-gone k new id old queue queued places ids same (omega (arith, same, run.places)))
+        (marked-gone k new id was was marks low (λ j. refl) marks-are (omega (arith, same, run.mark_places)))

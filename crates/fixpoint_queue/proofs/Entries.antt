@@ -71,43 +71,43 @@ module _ (cores : List (Option Core)) (before i : ℕ) (first o new_occurs : Occ
     (h : AreEntered cores before i first o start q) (occurs-is : new_occurs ≡ added o (before + i + 1) vars) (occurrences : IsOccurrences new_occurs)
     (queue-is : new_queue ≡ with_id q (before + i + 1)) (ids : IsIds new_queue)
   where
-  inside : before + i < length cores
-  inside = some-inside cores (before + i) core at
+    inside : before + i < length cores
+    inside = some-inside cores (before + i) core at
 
-  taken : take (before + (i + 1)) cores ≡ take (before + i) cores ++ Some core ∷ []
-  taken =
-      let e : before + (i + 1) ≡ before + i + 1 = omega arith in
-      ap (λ (n : ℕ). take n cores) e ∙ take_more cores (before + i) None inside ∙ ap (λ (c : Option Core). take (before + i) cores ++ c ∷ []) at
+    taken : take (before + (i + 1)) cores ≡ take (before + i) cores ++ Some core ∷ []
+    taken =
+        let e : before + (i + 1) ≡ before + i + 1 = omega arith in
+        ap (λ (n : ℕ). take n cores) e ∙ take_more cores (before + i) None inside ∙ ap (λ (c : Option Core). take (before + i) cores ++ c ∷ []) at
 
-  stand-one : Stand (take (before + (i + 1)) cores) new_occurs
-  stand-one =
-      subst (λ (cs : List (Option Core)). Stand cs new_occurs) (sym taken)
-      (subst (Stand (take (before + i) cores ++ Some core ∷ [])) (sym occurs-is)
-      (stand-added (take (before + i) cores) o core vars (before + i + 1) (omega (arith, length-taken cores (before + i) (omega (arith, inside)))) are bound h.stand))
+    stand-one : Stand (take (before + (i + 1)) cores) new_occurs
+    stand-one =
+        subst (λ (cs : List (Option Core)). Stand cs new_occurs) (sym taken)
+        (subst (Stand (take (before + i) cores ++ Some core ∷ [])) (sym occurs-is)
+        (stand-added (take (before + i) cores) o core vars (before + i + 1) (omega (arith, length-taken cores (before + i) (omega (arith, inside)))) are bound h.stand))
 
-  pub entered-one : AreEntered cores before (i + 1) first new_occurs start new_queue
-  entered-one = record {
-    stand = stand-one;
-    occurrences = occurrences;
-    lists = ap (λ (l : OccurrenceLists). length l.lists) occurs-is ∙ length-with_id (before + i + 1) vars 1 o.lists ∙ h.lists;
-    ids = ap (λ (l : OccurrenceLists). l.ids) occurs-is ∙ h.ids;
-    places = ap (λ (l : Ids). l.places) queue-is ∙ put-places q (before + i + 1) ∙ h.places;
-    queued = ids;
-    stays = λ id there. subst (λ (l : Ids). 1 ≤ times id l.queued) (sym queue-is) (put-stays q (before + i + 1) id (h.stays id there));
-    come = λ id low high.
-      subst (λ (l : Ids). 1 ≤ times id l.queued) (sym queue-is)
-      (⊎_elim (λ (e : id ≡ before + i + 1). subst (λ (j : ℕ). 1 ≤ times j (with_id q (before + i + 1)).queued) (sym e) (put-has q (before + i + 1)))
-      (λ (n : id ≡ before + i + 1 → ⊥).
-        put-stays q (before + i + 1) id
-        (h.come id low (⊎_elim (λ (lt : id < before + i + 1). omega (arith, lt)) (λ (le : before + i + 1 ≤ id). absurd (n (omega (arith, le, high)))) (cases_lt id (before + i + 1)))))
-      (cases_eq id (before + i + 1)));
-    only = λ id there.
-      ⊎_elim
-      (λ (was : 1 ≤ times id q.queued).
-        ⊎_elim (λ (old : 1 ≤ times id start.queued). inl old) (λ (b : (before < id) × (id ≤ before + i)). inr (b.0, omega (arith, b.1))) (h.only id was))
-      (λ (e : id ≡ before + i + 1). inr (omega (arith, e), omega (arith, e)))
-      (put-only q (before + i + 1) id (subst (λ (l : Ids). 1 ≤ times id l.queued) queue-is there));
-  }
+    pub entered-one : AreEntered cores before (i + 1) first new_occurs start new_queue
+    entered-one = record {
+      stand = stand-one;
+      occurrences = occurrences;
+      lists = ap (λ (l : OccurrenceLists). length l.lists) occurs-is ∙ length-with_id (before + i + 1) vars 1 o.lists ∙ h.lists;
+      ids = ap (λ (l : OccurrenceLists). l.ids) occurs-is ∙ h.ids;
+      places = ap (λ (l : Ids). l.places) queue-is ∙ put-places q (before + i + 1) ∙ h.places;
+      queued = ids;
+      stays = λ id there. subst (λ (l : Ids). 1 ≤ times id l.queued) (sym queue-is) (put-stays q (before + i + 1) id (h.stays id there));
+      come = λ id low high.
+          subst (λ (l : Ids). 1 ≤ times id l.queued) (sym queue-is)
+          (⊎_elim (λ (e : id ≡ before + i + 1). subst (λ (j : ℕ). 1 ≤ times j (with_id q (before + i + 1)).queued) (sym e) (put-has q (before + i + 1)))
+          (λ (n : id ≡ before + i + 1 → ⊥).
+          put-stays q (before + i + 1) id
+          (h.come id low (⊎_elim (λ (lt : id < before + i + 1). omega (arith, lt)) (λ (le : before + i + 1 ≤ id). absurd (n (omega (arith, le, high)))) (cases_lt id (before + i + 1)))))
+          (cases_eq id (before + i + 1)));
+      only = λ id there.
+          ⊎_elim
+          (λ (was : 1 ≤ times id q.queued).
+          ⊎_elim (λ (old : 1 ≤ times id start.queued). inl old) (λ (b : (before < id) × (id ≤ before + i)). inr (b.0, omega (arith, b.1))) (h.only id was))
+          (λ (e : id ≡ before + i + 1). inr (omega (arith, e), omega (arith, e)))
+          (put-only q (before + i + 1) id (subst (λ (l : Ids). 1 ≤ times id l.queued) queue-is there));
+    }
 
 -- the listed variables at a place, and the core whose they are
 pub listed-at : (cores : List (Option Core)) (before : ℕ) (lists : List (List ℕ)) → AreVarsFrom cores before lists → (i : ℕ) → i < length lists → (item vars : List ℕ) → item ≡ get_or lists i item → vars ≡ item →

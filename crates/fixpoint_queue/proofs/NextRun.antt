@@ -49,72 +49,72 @@ pub record Marked (k new : Kernel) (gone : ℕ) (old marks : List Bool) : Type 0
 module _ (told : Core → Equation → Type 0) (k new : Kernel) (gone : ℕ) (occurs next : OccurrenceLists) (old queue : Ids) (was marks : List Bool)
     (run : IsRun told k occurs old was) (goes : Goes k new gone) (listed : IsListed new next) (queues : Queues k new gone old queue) (marked : Marked k new gone was marks)
   where
-  inside : (id : ℕ) → 1 ≤ times id old.queued → id ≤ length k.cores
-  inside id there = let p = run.pending id there in (there-bounds k.cores id p.0 p.1).1
+    inside : (id : ℕ) → 1 ≤ times id old.queued → id ≤ length k.cores
+    inside id there = let p = run.pending id there in (there-bounds k.cores id p.0 p.1).1
 
-  not-old : (id : ℕ) → (id ≡ gone → ⊥) → times id queue.queued ≡ 0 → times id old.queued ≡ 0
-  not-old id other none =
-      ⊎_elim (λ (h : times id old.queued < 1). omega (arith, h)) (λ (h : 1 ≤ times id old.queued). absurd (omega (arith, none, queues.stays id other h))) (cases_lt (times id old.queued) 1)
+    not-old : (id : ℕ) → (id ≡ gone → ⊥) → times id queue.queued ≡ 0 → times id old.queued ≡ 0
+    not-old id other none =
+        ⊎_elim (λ (h : times id old.queued < 1). omega (arith, h)) (λ (h : 1 ≤ times id old.queued). absurd (omega (arith, none, queues.stays id other h))) (cases_lt (times id old.queued) 1)
 
-  -- an id behind the cores that were there and not in the queue is no core's
-  none-there : (id : ℕ) → length k.cores < id → times id queue.queued ≡ 0 → core_at new.cores id ≡ None
-  none-there id past none = by (core_at new.cores id) refl
-    where
-      by : (o : Option Core) → core_at new.cores id ≡ o → core_at new.cores id ≡ None
-      by None is = is
-      by (Some core) is = absurd (omega (arith, none, queues.come id core past is))
+    -- an id behind the cores that were there and not in the queue is no core's
+    none-there : (id : ℕ) → length k.cores < id → times id queue.queued ≡ 0 → core_at new.cores id ≡ None
+    none-there id past none = by (core_at new.cores id) refl
+      where
+        by : (o : Option Core) → core_at new.cores id ≡ o → core_at new.cores id ≡ None
+        by None is = is
+        by (Some core) is = absurd (omega (arith, none, queues.come id core past is))
 
-  not-queued : (id : ℕ) → length k.cores < id → times id old.queued ≡ 0
-  not-queued id past =
-      ⊎_elim (λ (h : times id old.queued < 1). omega (arith, h)) (λ (h : 1 ≤ times id old.queued). absurd (omega (arith, past, inside id h))) (cases_lt (times id old.queued) 1)
+    not-queued : (id : ℕ) → length k.cores < id → times id old.queued ≡ 0
+    not-queued id past =
+        ⊎_elim (λ (h : times id old.queued < 1). omega (arith, h)) (λ (h : 1 ≤ times id old.queued). absurd (omega (arith, past, inside id h))) (cases_lt (times id old.queued) 1)
 
-  no-trimmed : (kk : Kernel) (id : ℕ) → core_at kk.cores id ≡ None → trimmed_at kk id ≡ None
-  no-trimmed kk id none = ap (option_map (trimmed_core kk.view)) none
+    no-trimmed : (kk : Kernel) (id : ℕ) → core_at kk.cores id ≡ None → trimmed_at kk id ≡ None
+    no-trimmed kk id none = ap (option_map (trimmed_core kk.view)) none
 
-  waits-new : Waits told new queue.queued
-  waits-new id none core is =
-      ⊎_elim
-      (λ (e : id ≡ gone). absurd (none-some core (sym (no-trimmed new id (ap (core_at new.cores) e ∙ goes.empty)) ∙ is)))
-      (λ (other : id ≡ gone → ⊥).
+    waits-new : Waits told new queue.queued
+    waits-new id none core is =
+        ⊎_elim
+        (λ (e : id ≡ gone). absurd (none-some core (sym (no-trimmed new id (ap (core_at new.cores) e ∙ goes.empty)) ∙ is)))
+        (λ (other : id ≡ gone → ⊥).
         ⊎_elim
         (λ (past : length k.cores < id). absurd (none-some core (sym (no-trimmed new id (none-there id past none)) ∙ is)))
         (λ (within : id ≤ length k.cores). run.waits id (not-old id other none) core (sym (goes.trimmed id within other) ∙ is))
         (cases_lt (length k.cores) id))
-      (cases_eq id gone)
+        (cases_eq id gone)
 
-  marks-past : (id : ℕ) → length k.cores < id → mark_of was id ≡ false
-  marks-past id past = run.marked id (not-queued id past) ∙ ap is_compound_if (no-trimmed k id (core_at-past k.cores id past))
+    marks-past : (id : ℕ) → length k.cores < id → mark_of was id ≡ false
+    marks-past id past = run.marked id (not-queued id past) ∙ ap is_compound_if (no-trimmed k id (core_at-past k.cores id past))
 
-  marked-new : AreMarked new queue.queued marks
-  marked-new id none =
-      ⊎_elim
-      (λ (e : id ≡ gone). ap (mark_of marks) e ∙ marked.empty ∙ sym (ap is_compound_if (no-trimmed new id (ap (core_at new.cores) e ∙ goes.empty))))
-      (λ (other : id ≡ gone → ⊥).
+    marked-new : AreMarked new queue.queued marks
+    marked-new id none =
+        ⊎_elim
+        (λ (e : id ≡ gone). ap (mark_of marks) e ∙ marked.empty ∙ sym (ap is_compound_if (no-trimmed new id (ap (core_at new.cores) e ∙ goes.empty))))
+        (λ (other : id ≡ gone → ⊥).
         marked.at id other
         ∙ ⊎_elim
-          (λ (past : length k.cores < id). marks-past id past ∙ sym (ap is_compound_if (no-trimmed new id (none-there id past none))))
-          (λ (within : id ≤ length k.cores). run.marked id (not-old id other none) ∙ ap is_compound_if (sym (goes.trimmed id within other)))
-          (cases_lt (length k.cores) id))
-      (cases_eq id gone)
+        (λ (past : length k.cores < id). marks-past id past ∙ sym (ap is_compound_if (no-trimmed new id (none-there id past none))))
+        (λ (within : id ≤ length k.cores). run.marked id (not-old id other none) ∙ ap is_compound_if (sym (goes.trimmed id within other)))
+        (cases_lt (length k.cores) id))
+        (cases_eq id gone)
 
-  pending-new : (id : ℕ) → 1 ≤ times id queue.queued → (core : Core) × (core_at new.cores id ≡ Some core)
-  pending-new id there =
-      ⊎_elim
-      (λ (h : (id ≡ gone → ⊥) × (1 ≤ times id old.queued)). let p = run.pending id h.1 in (p.0, goes.at id (inside id h.1) h.0 ∙ p.1))
-      (λ (h : (core : Core) × (core_at new.cores id ≡ Some core)). h)
-      (queues.only id there)
+    pending-new : (id : ℕ) → 1 ≤ times id queue.queued → (core : Core) × (core_at new.cores id ≡ Some core)
+    pending-new id there =
+        ⊎_elim
+        (λ (h : (id ≡ gone → ⊥) × (1 ≤ times id old.queued)). let p = run.pending id h.1 in (p.0, goes.at id (inside id h.1) h.0 ∙ p.1))
+        (λ (h : (core : Core) × (core_at new.cores id ≡ Some core)). h)
+        (queues.only id there)
 
-  pub run-next : IsRun told new next queue marks
-  run-next = record {
-    kernel = goes.kernel;
-    listed = listed;
-    places = queues.places;
-    queued = queues.ids;
-    pending = pending-new;
-    waits = waits-new;
-    mark_places = marked.places;
-    marked = marked-new;
-  }
+    pub run-next : IsRun told new next queue marks
+    run-next = record {
+      kernel = goes.kernel;
+      listed = listed;
+      places = queues.places;
+      queued = queues.ids;
+      pending = pending-new;
+      waits = waits-new;
+      mark_places = marked.places;
+      marked = marked-new;
+    }
 
 -- the mark of an id that is set, and of others
 mark-other : (marks : List Bool) (gone id : ℕ) (m : Bool) → 1 ≤ gone → (id ≡ gone → ⊥) → mark_of (set marks (gone - 1) m) id ≡ mark_of marks id
@@ -155,8 +155,8 @@ queues-gone k new gone old queue queued places ids same wide = record {
   stays = λ id other there. omega (arith, there, left id other);
   come = λ id core past at. absurd (omega (arith, past, same, (there-bounds new.cores id core at).1));
   only = λ id there.
-    inl
-    (⊎_elim (λ (e : id ≡ gone). absurd (omega (arith, there, own id e))) (λ (other : id ≡ gone → ⊥). (other, omega (arith, there, left id other))) (cases_eq id gone));
+      inl
+      (⊎_elim (λ (e : id ≡ gone). absurd (omega (arith, there, own id e))) (λ (other : id ≡ gone → ⊥). (other, omega (arith, there, left id other))) (cases_eq id gone));
 }
   where
     left : (id : ℕ) → (id ≡ gone → ⊥) → times id queue.queued ≡ times id old.queued
@@ -190,5 +190,5 @@ listed-encoded k new gone occurs next low view cores is occurrences h = record {
   vars = omega (arith, h.vars, ap length view, ap (λ (o : OccurrenceLists). length o.lists) is, mapped gone occurs.lists);
   ids = omega (arith, h.ids, ap length cores, length-set k.cores (gone - 1) None, ap (λ (o : OccurrenceLists). o.ids) is);
   there = subst (λ (o : OccurrenceLists). Stand new.cores o) (sym is)
-    (subst (λ (cs : List (Option Core)). Stand cs (removed occurs gone)) (sym cores) (stand-removed k.cores occurs gone low h.there));
+      (subst (λ (cs : List (Option Core)). Stand cs (removed occurs gone)) (sym cores) (stand-removed k.cores occurs gone low h.there));
 }

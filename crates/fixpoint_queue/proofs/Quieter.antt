@@ -29,39 +29,39 @@ module _ (told : Core → Equation → Type 0) (k : Kernel) (is : IsKernel k) (e
     (occurs : OccurrenceLists) (listed : IsListed k occurs) (id : ℕ)
     (apart : (x v : ℕ) → loser_of k.view e.a e.b ≡ Some x → IsMember k.view x v → Occurs occurs v id → ⊥)
   where
-  -- no variable of the core has a new label
-  same-labels : (core : Core) → core_at k.cores id ≡ Some core → HaveSameLabels (core_vars core) k.view (merged k.view e.a e.b)
-  same-labels core at v there = by (same_atom (label_of k.view v) (label_of (merged k.view e.a e.b) v)) refl
-    where
-      bounds : (1 ≤ v) × (v < length k.view + 1)
-      bounds = vars_below (length k.view + 1) core (below-there k.cores id core at (length k.view + 1) is.below).0 v there
+    -- no variable of the core has a new label
+    same-labels : (core : Core) → core_at k.cores id ≡ Some core → HaveSameLabels (core_vars core) k.view (merged k.view e.a e.b)
+    same-labels core at v there = by (same_atom (label_of k.view v) (label_of (merged k.view e.a e.b) v)) refl
+      where
+        bounds : (1 ≤ v) × (v < length k.view + 1)
+        bounds = vars_below (length k.view + 1) core (below-there k.cores id core at (length k.view + 1) is.below).0 v there
 
-      stands : Occurs occurs v id
-      stands = (listed.there v id bounds.0).1 (core, at, there)
+        stands : Occurs occurs v id
+        stands = (listed.there v id bounds.0).1 (core, at, there)
 
-      unlike : (o : Option ℕ) → loser_of k.view e.a e.b ≡ o → IsSomeAnd o (λ x. IsMember k.view x v) → ⊥
-      unlike None loser member = absurd member
-      unlike (Some x) loser member = apart x v loser member stands
+        unlike : (o : Option ℕ) → loser_of k.view e.a e.b ≡ o → IsSomeAnd o (λ x. IsMember k.view x v) → ⊥
+        unlike None loser member = absurd member
+        unlike (Some x) loser member = apart x v loser member stands
 
-      by : (t : Bool) → same_atom (label_of k.view v) (label_of (merged k.view e.a e.b) v) ≡ t → label_of k.view v ≡ label_of (merged k.view e.a e.b) v
-      by true h = same_atom-true (label_of k.view v) (label_of (merged k.view e.a e.b) v) h
-      by false h =
-          let differs : label_of (merged k.view e.a e.b) v ≡ label_of k.view v → ⊥ =
+        by : (t : Bool) → same_atom (label_of k.view v) (label_of (merged k.view e.a e.b) v) ≡ t → label_of k.view v ≡ label_of (merged k.view e.a e.b) v
+        by true h = same_atom-true (label_of k.view v) (label_of (merged k.view e.a e.b) v) h
+        by false h =
+            let differs : label_of (merged k.view e.a e.b) v ≡ label_of k.view v → ⊥ =
             λ q. absurd (false≢true (sym h ∙ ap (same_atom (label_of k.view v)) q ∙ same_atom-refl (label_of k.view v))) in
-          let changed = merge_changes k.view e.a e.b v is.labelled (AtomBelow-label k.view e.a la) (AtomBelow-label k.view e.b lb) bounds.0 (omega (arith, bounds.1)) in
-          absurd (unlike (loser_of k.view e.a e.b) refl (changed.0 differs))
+            let changed = merge_changes k.view e.a e.b v is.labelled (AtomBelow-label k.view e.a la) (AtomBelow-label k.view e.b lb) bounds.0 (omega (arith, bounds.1)) in
+            absurd (unlike (loser_of k.view e.a e.b) refl (changed.0 differs))
 
-  same-trimmed : (o : Option Core) → core_at k.cores id ≡ o → option_map (trimmed_core (merged k.view e.a e.b)) o ≡ option_map (trimmed_core k.view) o
-  same-trimmed None at = refl
-  same-trimmed (Some core) at = ap Some (sym (trimmed_by_labels k.view (merged k.view e.a e.b) core (same-labels core at)))
+    same-trimmed : (o : Option Core) → core_at k.cores id ≡ o → option_map (trimmed_core (merged k.view e.a e.b)) o ≡ option_map (trimmed_core k.view) o
+    same-trimmed None at = refl
+    same-trimmed (Some core) at = ap Some (sym (trimmed_by_labels k.view (merged k.view e.a e.b) core (same-labels core at)))
 
-  -- it is trimmed as before
-  pub trimmed-kept : trimmed_at (equated k e) id ≡ trimmed_at k id
-  trimmed-kept = by (same_atom e.a (not_atom e.b))
-    where
-      by : (b : Bool) → trimmed_at (if b then record k { bottom = true } else record k { view = merged k.view e.a e.b }) id ≡ trimmed_at k id
-      by true = refl
-      by false = same-trimmed (core_at k.cores id) refl
+    -- it is trimmed as before
+    pub trimmed-kept : trimmed_at (equated k e) id ≡ trimmed_at k id
+    trimmed-kept = by (same_atom e.a (not_atom e.b))
+      where
+        by : (b : Bool) → trimmed_at (if b then record k { bottom = true } else record k { view = merged k.view e.a e.b }) id ≡ trimmed_at k id
+        by true = refl
+        by false = same-trimmed (core_at k.cores id) refl
 
-  pub quiet-kept : IsQuiet told k id → IsQuiet told (equated k e) id
-  quiet-kept quiet core at f tells = quiet core (sym trimmed-kept ∙ at) f tells
+    pub quiet-kept : IsQuiet told k id → IsQuiet told (equated k e) id
+    quiet-kept quiet core at f tells = quiet core (sym trimmed-kept ∙ at) f tells

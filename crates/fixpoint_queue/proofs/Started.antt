@@ -40,9 +40,9 @@ module _ (cores : List (Option Core)) (k : ℕ) (o : OccurrenceLists) (q : Ids) 
       same id =
           ap (λ (cs : List (Option Core)). core_at cs id) (taken None at)
           ∙ ⊎_elim
-            (λ (e : id ≡ length front + 1). by e)
-            (λ (n : id ≡ length front + 1 → ⊥). core_at-elsewhere front None id n)
-            (cases_eq id (length front + 1))
+          (λ (e : id ≡ length front + 1). by e)
+          (λ (n : id ≡ length front + 1 → ⊥). core_at-elsewhere front None id n)
+          (cases_eq id (length front + 1))
         where
           past : (cs : List (Option Core)) → core_at cs (length cs + 1) ≡ None
           past cs = core_at-past cs (length cs + 1) (omega arith)
@@ -55,24 +55,24 @@ module _ (cores : List (Option Core)) (k : ℕ) (o : OccurrenceLists) (q : Ids) 
       → o' ≡ added o (k + 1) vars → IsOccurrences o' → q' ≡ with_id q (k + 1) → IsIds q' → ArePending cores (k + 1) o' q'
   pending-one core vars o' q' at are bound o-is occurrences q-is ids = record {
     stand = subst (λ (cs : List (Option Core)). Stand cs o') (sym (taken (Some core) at))
-      (subst (Stand (front ++ Some core ∷ [])) (sym o-is) (stand-added front o core vars (k + 1) (omega (arith, long)) are bound h.stand));
+        (subst (Stand (front ++ Some core ∷ [])) (sym o-is) (stand-added front o core vars (k + 1) (omega (arith, long)) are bound h.stand));
     occurrences = occurrences;
     queued = ids;
     come = λ id c is.
-      subst (λ (l : Ids). 1 ≤ times id l.queued) (sym q-is)
-      (⊎_elim
+        subst (λ (l : Ids). 1 ≤ times id l.queued) (sym q-is)
+        (⊎_elim
         (λ (e : id ≡ length front + 1). subst (λ (j : ℕ). 1 ≤ times j (with_id q (k + 1)).queued) (omega (arith, e, long)) (put-has q (k + 1)))
         (λ (n : id ≡ length front + 1 → ⊥). put-stays q (k + 1) id (h.come id c (sym (core_at-elsewhere front (Some core) id n) ∙ sym (at-taken id) ∙ is)))
         (cases_eq id (length front + 1)));
     only = λ id there.
-      ⊎_elim
-      (λ (e : id ≡ length front + 1). (core, at-taken id ∙ ap (core_at (front ++ Some core ∷ [])) e ∙ core_at-last front (Some core)))
-      (λ (n : id ≡ length front + 1 → ⊥).
+        ⊎_elim
+        (λ (e : id ≡ length front + 1). (core, at-taken id ∙ ap (core_at (front ++ Some core ∷ [])) e ∙ core_at-last front (Some core)))
+        (λ (n : id ≡ length front + 1 → ⊥).
         ⊎_elim
         (λ (was : 1 ≤ times id q.queued). let p = h.only id was in (p.0, at-taken id ∙ core_at-elsewhere front (Some core) id n ∙ p.1))
         (λ (e : id ≡ k + 1). absurd (n (omega (arith, e, long))))
         (put-only q (k + 1) id (subst (λ (l : Ids). 1 ≤ times id l.queued) q-is there)))
-      (cases_eq id (length front + 1));
+        (cases_eq id (length front + 1));
   }
     where
       at-taken : (id : ℕ) → core_at (take (k + 1) cores) id ≡ core_at (front ++ Some core ∷ []) id

@@ -40,8 +40,8 @@ pub core_at-elsewhere : (cores : List (Option Core)) (x : Option Core) (id : ℕ
 core_at-elsewhere cores x id other =
     ⊎_elim
     (λ (past : length cores < id).
-      core_at-past (cores ++ x ∷ []) id (⊎_elim (λ (h : id < length cores + 2). absurd (other (omega (arith, past, h)))) (λ (h : length cores + 2 ≤ id). omega (arith, h, length-append cores (x ∷ []))) (cases_lt id (length cores + 2)))
-      ∙ sym (core_at-past cores id past))
+    core_at-past (cores ++ x ∷ []) id (⊎_elim (λ (h : id < length cores + 2). absurd (other (omega (arith, past, h)))) (λ (h : length cores + 2 ≤ id). omega (arith, h, length-append cores (x ∷ []))) (cases_lt id (length cores + 2)))
+    ∙ sym (core_at-past cores id past))
     (λ (within : id ≤ length cores). core_at-before cores x id within)
     (cases_lt (length cores) id)
 
@@ -66,11 +66,12 @@ stand-added cores occurs core vars new is are bound stand v id low = (to, from)
     occurs-new =
         ⊎_elim
         (λ (past : length occurs.lists < v).
-          let none : Contains vars v → ⊥ = λ there. absurd (omega (arith, past, bound v there)) in
-          let same : cores_at (added occurs new vars) v ≡ cores_at occurs v = added_elsewhere occurs new vars v low none in
-          (λ (o : Occurs (added occurs new vars) v id). inl (subst (λ (l : List ℕ). Contains l id) same o),
+        let none : Contains vars v → ⊥ = λ there. absurd (omega (arith, past, bound v there)) in
+        let same : cores_at (added occurs new vars) v ≡ cores_at occurs v = added_elsewhere occurs new vars v low none in (
+          λ (o : Occurs (added occurs new vars) v id). inl (subst (λ (l : List ℕ). Contains l id) same o),
           λ (h : Occurs occurs v id ⊎ ((id ≡ new) × Contains vars v)).
-            ⊎_elim (λ (o : Occurs occurs v id). subst (λ (l : List ℕ). Contains l id) (sym same) o) (λ (n : (id ≡ new) × Contains vars v). absurd (none n.1)) h))
+              ⊎_elim (λ (o : Occurs occurs v id). subst (λ (l : List ℕ). Contains l id) (sym same) o) (λ (n : (id ≡ new) × Contains vars v). absurd (none n.1)) h,
+        ))
         (λ (within : v ≤ length occurs.lists). added_occurs occurs new vars v id low within)
         (cases_lt (length occurs.lists) v)
 
@@ -78,9 +79,9 @@ stand-added cores occurs core vars new is are bound stand v id low = (to, from)
     to o =
         ⊎_elim
         (λ (old : Occurs occurs v id).
-          let has = (stand v id low).0 old in
-          let other : id ≡ length cores + 1 → ⊥ = λ e. none-some has.0 (sym (core_at-past cores id (omega (arith, e))) ∙ has.1) in
-          (has.0, core_at-elsewhere cores (Some core) id other ∙ has.1, has.2))
+        let has = (stand v id low).0 old in
+        let other : id ≡ length cores + 1 → ⊥ = λ e. none-some has.0 (sym (core_at-past cores id (omega (arith, e))) ∙ has.1) in
+        (has.0, core_at-elsewhere cores (Some core) id other ∙ has.1, has.2))
         (λ (n : (id ≡ new) × Contains vars v). (core, ap (core_at (cores ++ Some core ∷ [])) (n.0 ∙ is) ∙ core_at-last cores (Some core), (are.exact v).0 n.1))
         (occurs-new.0 o)
 
@@ -91,10 +92,10 @@ stand-added cores occurs core vars new is are bound stand v id low = (to, from)
     from has =
         ⊎_elim
         (λ (e : id ≡ length cores + 1).
-          let own : core ≡ has.0 = some-of core has.0 (sym (core_at-last cores (Some core)) ∙ ap (core_at (cores ++ Some core ∷ [])) (sym e) ∙ has.1) in
-          occurs-new.1 (inr (e ∙ sym is, (are.exact v).1 (subst (λ (c : Core). Contains (core_vars c) v) (sym own) has.2))))
+        let own : core ≡ has.0 = some-of core has.0 (sym (core_at-last cores (Some core)) ∙ ap (core_at (cores ++ Some core ∷ [])) (sym e) ∙ has.1) in
+        occurs-new.1 (inr (e ∙ sym is, (are.exact v).1 (subst (λ (c : Core). Contains (core_vars c) v) (sym own) has.2))))
         (λ (other : id ≡ length cores + 1 → ⊥).
-          occurs-new.1 (inl ((stand v id low).1 (has.0, sym (core_at-elsewhere cores (Some core) id other) ∙ has.1, has.2))))
+        occurs-new.1 (inl ((stand v id low).1 (has.0, sym (core_at-elsewhere cores (Some core) id other) ∙ has.1, has.2))))
         (cases_eq id (length cores + 1))
 
 -- ---- a core goes
@@ -130,6 +131,7 @@ stand-removed cores occurs gone low stand v id first = (to, from)
 
 pub stand-grown : (cores : List (Option Core)) (occurs : OccurrenceLists) (vars ids nodes : ℕ) → Stand cores occurs → Stand cores (grown occurs vars ids nodes)
 stand-grown cores occurs vars ids nodes stand v id low =
-    let same : cores_at (grown occurs vars ids nodes) v ≡ cores_at occurs v = grown_stays occurs vars ids nodes v in
-    (λ o. (stand v id low).0 (subst (λ (l : List ℕ). Contains l id) same o),
-    λ has. subst (λ (l : List ℕ). Contains l id) (sym same) ((stand v id low).1 has))
+    let same : cores_at (grown occurs vars ids nodes) v ≡ cores_at occurs v = grown_stays occurs vars ids nodes v in (
+      λ o. (stand v id low).0 (subst (λ (l : List ℕ). Contains l id) same o),
+      λ has. subst (λ (l : List ℕ). Contains l id) (sym same) ((stand v id low).1 has),
+    )

@@ -16,10 +16,10 @@ ghost use Rattle.fixpoint_queue.specs.Waits.{IsRun, IsWokenFor, left_to_do};
 
 use crate::id_queue::IdQueue;
 use crate::marks::Marks;
-use core_occurrences::Occurrences;
 use crate::oracle::Oracle;
 use crate::wake::wake;
 use core_forms::{Core, Equation};
+use core_occurrences::Occurrences;
 use ledger_text::Line;
 use rule_base::Steps;
 use std::alloc::{AllocError, Global};
@@ -152,7 +152,9 @@ pub fn ask_all<F: Oracle, L: Ledger>(
 {
     while !state.bottom() {
         match queue.first() {
-            Some(id) => ask_first(alloc, oracle, state, occurs, queue, marks, ledger, steps, id)?,
+            Some(id) => ask_first(
+                alloc, oracle, state, occurs, queue, marks, ledger, steps, id,
+            )?,
             None => return Ok(()),
         }
     }

@@ -6,7 +6,7 @@ pub loop-alloc-preserved : goal.loop-alloc-preserved
 loop-alloc-preserved g c = record {
   run = c.ask_first.ensures.run;
   adds = adds-trans g.F.Oracle.told c.args.ledger.now.items c.loop-alloc.ledger.items c.ask_first.new.ledger.items c.args.state.now c.loop-alloc.state c.ask_first.new.state
-    c.loop-alloc.invariant.adds c.ask_first.ensures.adds;
+      c.loop-alloc.invariant.adds c.ask_first.ensures.adds;
 }
 
 pub returns-in_err-ask_first-in-Some-clause-adds : goal.returns-in_err-ask_first-in-Some-clause-adds

@@ -5,7 +5,7 @@ use Rattle.fixpoint_queue.proofs.asking.ask_all.Given as goal
 abbrev pub invariant-loop-alloc : goal.invariant-loop-alloc
 invariant-loop-alloc g l = record {
   run : IsRun g.F.Oracle.told l.state l.occurs l.queue l.marks;
-  adds : AddsEquations g.F.Oracle.told l.fn.ledger.items l.fn.state l.ledger.items l.state
+  adds : AddsEquations g.F.Oracle.told l.fn.ledger.items l.fn.state l.ledger.items l.state;
 }
 
 abbrev pub decreases-loop-alloc : goal.decreases-loop-alloc

@@ -21,8 +21,8 @@ take_equation-requires-clause-instance g c =
 pub returns-in_ok-reserve-in-Some-clause-run : goal.returns-in_ok-reserve-in-Some-clause-run
 returns-in_ok-reserve-in-Some-clause-run g c =
     let instance : is_instance_at c.args.core.now c.in-Some.e ≡ true =
-      g.F.Oracle.told_is_instance c.args.core.now c.in-Some.e
-      (subst (λ (o : Option Equation). IfSome o (g.F.Oracle.told c.args.core.now)) c.in-Some.is c.in_ok-e.ensures.some) in
+    g.F.Oracle.told_is_instance c.args.core.now c.in-Some.e
+    (subst (λ (o : Option Equation). IfSome o (g.F.Oracle.told c.args.core.now)) c.in-Some.is c.in_ok-e.ensures.some) in
     subst (λ (k : Kernel). IsRun g.F.Oracle.told k c.args.occurs.now c.take_equation.new.queue c.args.marks.now) (sym c.take_equation.ensures.equated)
     (run-equated g.F.Oracle.told c.args.state.now c.args.occurs.now c.args.queue.now c.take_equation.new.queue c.args.marks.now c.requires.run
     c.args.id c.args.core.now c.requires.there c.in-Some.e instance c.take_equation.ensures.woken)
@@ -30,8 +30,8 @@ returns-in_ok-reserve-in-Some-clause-run g c =
 pub returns-in_ok-reserve-in-Some-clause-less : goal.returns-in_ok-reserve-in-Some-clause-less
 returns-in_ok-reserve-in-Some-clause-less g c =
     let instance : is_instance_at c.args.core.now c.in-Some.e ≡ true =
-      g.F.Oracle.told_is_instance c.args.core.now c.in-Some.e
-      (subst (λ (o : Option Equation). IfSome o (g.F.Oracle.told c.args.core.now)) c.in-Some.is c.in_ok-e.ensures.some) in
+    g.F.Oracle.told_is_instance c.args.core.now c.in-Some.e
+    (subst (λ (o : Option Equation). IfSome o (g.F.Oracle.told c.args.core.now)) c.in-Some.is c.in_ok-e.ensures.some) in
     subst (λ (k : Kernel). left_to_do k c.take_equation.new.queue < left_to_do c.args.state.now c.args.queue.now) (sym c.take_equation.ensures.equated)
     (less-equated g.F.Oracle.told c.args.state.now c.args.occurs.now c.args.queue.now c.take_equation.new.queue c.args.marks.now c.requires.run
     c.args.id c.args.core.now c.requires.there c.in-Some.e instance c.take_equation.ensures.woken c.requires.running)
@@ -39,7 +39,7 @@ returns-in_ok-reserve-in-Some-clause-less g c =
 pub returns-in-None-clause-run : goal.returns-in-None-clause-run
 returns-in-None-clause-run g c =
     let marks : c.set.new.self ≡ slice_set c.args.marks.now (c.args.id - 1) (is_compound_of c.args.core.now) =
-      c.set.ensures ∙ ap (slice_set c.args.marks.now (c.args.id - 1)) c.is_compound.ensures in
+    c.set.ensures ∙ ap (slice_set c.args.marks.now (c.args.id - 1)) c.is_compound.ensures in
     subst (IsRun g.F.Oracle.told c.args.state.now c.args.occurs.now c.take.new.self) (sym marks)
     (run-quiet g.F.Oracle.told c.args.state.now c.args.occurs.now c.args.queue.now c.take.new.self c.args.marks.now c.requires.run c.args.id c.args.core.now c.requires.there
     (subst (λ (o : Option Equation). IfNone o ((e : Equation) → g.F.Oracle.told c.args.core.now e → ⊥)) c.in-None.is c.in_ok-e.ensures.none)

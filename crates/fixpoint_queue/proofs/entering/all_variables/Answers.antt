@@ -11,10 +11,10 @@ loop-core-preserved c =
     let cores = c.args.cores.now in
     let i = c.loop-core.core-index in
     let taken : take (i + 1) cores ≡ take i cores ++ c.core-item.result ∷ [] =
-      take_more cores i c.core-item.result c.loop-core-test.true ∙ ap (λ (x : Core). take i cores ++ x ∷ []) (sym c.core-item.is) in
+    take_more cores i c.core-item.result c.loop-core-test.true ∙ ap (λ (x : Core). take i cores ++ x ∷ []) (sym c.core-item.is) in
     let are : AreVars c.from_vec.result c.core-item.result =
-      subst (λ (l : List ℕ). AreVars l c.core-item.result) (sym c.from_vec.ensures)
-      (record { ascending = c.in_ok-variables.ensures.ascending; exact = c.in_ok-variables.ensures.exact }) in
+    subst (λ (l : List ℕ). AreVars l c.core-item.result) (sym c.from_vec.ensures)
+    (record { ascending = c.in_ok-variables.ensures.ascending; exact = c.in_ok-variables.ensures.exact }) in
     let lists : c.push.new.self.items ≡ c.loop-core.lists.items ++ c.from_vec.result ∷ [] = c.in_ok-push.ensures.items in
     subst (λ (ls : List (List ℕ)). AreAllVars ls (take (i + 1) cores)) (sym lists)
     (subst (AreAllVars (c.loop-core.lists.items ++ c.from_vec.result ∷ [])) (sym taken)

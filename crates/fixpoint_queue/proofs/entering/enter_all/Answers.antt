@@ -29,7 +29,7 @@ range : (c : After-as_slice) → (v : ℕ) → Contains c.as_slice.result.now v 
 range c v there =
     let l = listed c in
     let bounds = core-bounds c.args.state.now c.requires.kernel (c.args.before + c.loop-vars.vars-index + 1) l.0
-      (core_at-next c.args.state.now.cores (c.args.before + c.loop-vars.vars-index) ∙ l.1) v ((l.2.exact v).0 there) in
+    (core_at-next c.args.state.now.cores (c.args.before + c.loop-vars.vars-index) ∙ l.1) v ((l.2.exact v).0 there) in
     (bounds.0, omega (arith, bounds.1, c.requires.vars, c.loop-vars.invariant.entered.lists))
 
 pub enter-requires-clause-increasing : goal.enter-requires-clause-increasing
@@ -53,16 +53,16 @@ loop-vars-preserved c =
     let n = c.args.before + c.loop-vars.vars-index in
     let l = listed-at cores c.args.before c.args.lists.now c.requires.lists c.loop-vars.vars-index c.loop-vars-test.true c.vars-item.result c.as_slice.result.now c.vars-item.is c.as_slice.ensures in
     let bound : (v : ℕ) → Contains c.as_slice.result.now v → v ≤ length c.loop-vars.occurs.lists =
-      λ v there.
-        let bounds = core-bounds c.args.state.now c.requires.kernel (n + 1) l.0 (core_at-next cores n ∙ l.1) v ((l.2.exact v).0 there) in
-        omega (arith, bounds.1, c.requires.vars, c.loop-vars.invariant.entered.lists) in
+    λ v there.
+    let bounds = core-bounds c.args.state.now c.requires.kernel (n + 1) l.0 (core_at-next cores n ∙ l.1) v ((l.2.exact v).0 there) in
+    omega (arith, bounds.1, c.requires.vars, c.loop-vars.invariant.entered.lists) in
     let id : c.loop-vars.id + 1 ≡ n + 1 = omega (arith, c.loop-vars.invariant.id) in
     let counted = counted-at c.args.lists.now c.loop-vars.vars-index c.vars-item.result c.as_slice.result.now c.loop-vars-test.true c.vars-item.is c.as_slice.ensures in
     record {
       id = omega (arith, c.loop-vars.invariant.id);
       entered = entered-one cores c.args.before c.loop-vars.vars-index c.args.occurs.now c.loop-vars.occurs c.enter.new.occurs c.args.queue.now c.loop-vars.queue c.enter.new.queue c.as_slice.result.now l.0
-        l.1 l.2 bound c.loop-vars.invariant.entered
-        (c.enter.ensures.occurs ∙ ap (λ (j : ℕ). added c.loop-vars.occurs j c.as_slice.result.now) id) c.enter.ensures.occurrences
-        (c.enter.ensures.queue ∙ ap (with_id c.loop-vars.queue) id) c.enter.ensures.ids;
+          l.1 l.2 bound c.loop-vars.invariant.entered
+          (c.enter.ensures.occurs ∙ ap (λ (j : ℕ). added c.loop-vars.occurs j c.as_slice.result.now) id) c.enter.ensures.occurrences
+          (c.enter.ensures.queue ∙ ap (with_id c.loop-vars.queue) id) c.enter.ensures.ids;
       room = omega (arith, counted, c.loop-vars.invariant.room, ap (λ (o : OccurrenceLists). o.room) c.enter.ensures.occurs);
     }

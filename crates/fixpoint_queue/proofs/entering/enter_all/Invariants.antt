@@ -9,5 +9,5 @@ abbrev pub invariant-loop-vars : goal.invariant-loop-vars
 invariant-loop-vars l = record {
   id : l.id ≡ l.before + l.vars-index;
   entered : AreEntered l.state.cores l.before l.vars-index l.fn.occurs l.occurs l.fn.queue l.queue;
-  room : all_counted (drop l.vars-index l.lists) ≤ l.occurs.room
+  room : all_counted (drop l.vars-index l.lists) ≤ l.occurs.room;
 }

@@ -7,5 +7,5 @@ invariant-loop-before l = record {
   pending : ArePending l.state.cores l.before l.occurs l.queue;
   lists : length l.occurs.lists ≡ length l.fn.occurs.lists;
   ids : l.occurs.ids ≡ l.fn.occurs.ids;
-  places : l.queue.places ≡ l.fn.queue.places
+  places : l.queue.places ≡ l.fn.queue.places;
 }

@@ -42,7 +42,7 @@ left c =
 pub wake_at-requires-clause-places : goal.wake_at-requires-clause-places
 wake_at-requires-clause-places c = λ id o.
     let member : IsMember c.args.store.now.view c.args.label c.in-Some.var =
-      subst (λ (o : Option ℕ). IfSome o (IsMember c.args.store.now.view c.args.label)) c.in-Some.is c.loop-next.invariant.member in
+    subst (λ (o : Option ℕ). IfSome o (IsMember c.args.store.now.view c.args.label)) c.in-Some.is c.loop-next.invariant.member in
     omega (arith, c.loop-next.invariant.places, c.requires.places c.in-Some.var id member.0 o)
 
 pub loop-next-smaller : goal.loop-next-smaller
@@ -57,18 +57,18 @@ loop-next-preserved c =
       queued = c.wake_at.ensures.queued;
       stays = λ id h. c.wake_at.ensures.stays id (c.loop-next.invariant.stays id h);
       only = λ id h.
-        ⊎_elim (λ (there : 1 ≤ times id c.loop-next.queue.queued). c.loop-next.invariant.only id there) (λ (o : Occurs c.args.occurs.now c.in-Some.var id). inr (c.in-Some.var, at-hand c, o))
-        (c.wake_at.ensures.only id h);
+          ⊎_elim (λ (there : 1 ≤ times id c.loop-next.queue.queued). c.loop-next.invariant.only id there) (λ (o : Occurs c.args.occurs.now c.in-Some.var id). inr (c.in-Some.var, at-hand c, o))
+          (c.wake_at.ensures.only id h);
       member = c.after-next.ensures.member c.args.label (at-hand c).2;
       woken = λ v id m o.
-        ⊎_elim
-        (λ (ahead : 1 ≤ times v (rest_from c.loop-next.next walk)).
+          ⊎_elim
+          (λ (ahead : 1 ≤ times v (rest_from c.loop-next.next walk)).
           ⊎_elim
           (λ (e : c.in-Some.var ≡ v). inr (c.wake_at.ensures.woken id (subst (λ (w : ℕ). Occurs c.args.occurs.now w id) (sym e) o)))
           (λ (n : c.in-Some.var ≡ v → ⊥). inl (omega (arith, ahead, ap (times v) (left c), times-other v c.in-Some.var rest n)))
           (cases_eq c.in-Some.var v))
-        (λ (there : 1 ≤ times id c.loop-next.queue.queued). inr (c.wake_at.ensures.stays id there))
-        (c.loop-next.invariant.woken v id m o);
+          (λ (there : 1 ≤ times id c.loop-next.queue.queued). inr (c.wake_at.ensures.stays id there))
+          (c.loop-next.invariant.woken v id m o);
     }
 
 pub returns : goal.returns
@@ -80,6 +80,6 @@ returns c =
       stays = c.loop-next.invariant.stays;
       only = c.loop-next.invariant.only;
       woken = λ v id m o.
-        ⊎_elim (λ (ahead : 1 ≤ times v (rest_from c.loop-next.next (class_walk c.args.store.now c.args.label))). absurd (omega (arith, ahead, ap (times v) none))) (λ (there : 1 ≤ times id c.loop-next.queue.queued). there)
-        (c.loop-next.invariant.woken v id m o);
+          ⊎_elim (λ (ahead : 1 ≤ times v (rest_from c.loop-next.next (class_walk c.args.store.now c.args.label))). absurd (omega (arith, ahead, ap (times v) none))) (λ (there : 1 ≤ times id c.loop-next.queue.queued). there)
+          (c.loop-next.invariant.woken v id m o);
     }

@@ -15,7 +15,7 @@ invariant-loop-next l = record {
   stays : (id : ℕ) → 1 ≤ times id l.fn.queue.queued → 1 ≤ times id l.queue.queued;
   only : (id : ℕ) → 1 ≤ times id l.queue.queued → (1 ≤ times id l.fn.queue.queued) ⊎ ((v : ℕ) × IsMember l.store.view l.label v × Occurs l.occurs v id);
   member : IfSome l.next (IsMember l.store.view l.label);
-  woken : (v id : ℕ) → IsMember l.store.view l.label v → Occurs l.occurs v id → (1 ≤ times v (rest_from l.next (class_walk l.store l.label))) ⊎ (1 ≤ times id l.queue.queued)
+  woken : (v id : ℕ) → IsMember l.store.view l.label v → Occurs l.occurs v id → (1 ≤ times v (rest_from l.next (class_walk l.store l.label))) ⊎ (1 ≤ times id l.queue.queued);
 }
 
 abbrev pub decreases-loop-next : goal.decreases-loop-next

@@ -12,5 +12,5 @@ invariant-loop-id l = record {
   stays : (id : ℕ) → 1 ≤ times id l.fn.queue.queued → 1 ≤ times id l.queue.queued;
   inside : (id : ℕ) → Contains l.id-iterator id → Occurs l.occurs l.var id;
   only : (id : ℕ) → 1 ≤ times id l.queue.queued → (1 ≤ times id l.fn.queue.queued) ⊎ Occurs l.occurs l.var id;
-  woken : (id : ℕ) → Occurs l.occurs l.var id → Contains l.id-iterator id ⊎ (1 ≤ times id l.queue.queued)
+  woken : (id : ℕ) → Occurs l.occurs l.var id → Contains l.id-iterator id ⊎ (1 ≤ times id l.queue.queued);
 }

@@ -7,8 +7,8 @@ use Rattle.bumblebee_reader.specs.declared.syntax.Arg.{Arg}
 use Rattle.bumblebee_reader.specs.declared.syntax.Arg.TheVariants.{One, Many}
 use Rattle.bumblebee_reader.specs.declared.syntax.Term.{Term}
 use Rattle.bumblebee_reader.specs.declared.syntax.Term.TheVariants.{Plain, Minus, Number}
-use Rattle.bumblebee_reader.specs.Names.{IsName, IsDeclarable, IsNew, AreDeclared}
-use Rattle.bumblebee_reader.specs.Spellable.{is_name, IsSpellableTerm, AreSpellableTerms, IsSpellableArg, AreSpellableArgs, IsSpellableItem, AreSpellableItems}
+use Rattle.bumblebee_reader.specs.Names.{is_name, IsDeclarable, IsNew, AreDeclared}
+use Rattle.bumblebee_reader.specs.Spellable.{IsSpellableTerm, AreSpellableTerms, IsSpellableArg, AreSpellableArgs, IsSpellableItem, AreSpellableItems}
 use Rattle.typed_model.specs.declared.model.Kind.{Kind}
 use Rattle.typed_model.specs.declared.model.Kind.TheVariants as kind
 use Rattle.typed_model.specs.declared.model.Decl.{Decl}
@@ -100,13 +100,9 @@ names_from n ds (i ∷ items) h s =
 
 -- a name that is none of the constants and is declared once may be written
 
-name_is : (name : List ℕ) → is_name name ≡ true → IsName name
-name_is [] h = absurd (search (rules, h))
-name_is (b ∷ bs) h = h
-
 declarable : (name : List ℕ) → is_name name ≡ true → IsFalse (is_constant name) → IsDeclarable name
 declarable name h constant = record {
-  spelled = name_is name h;
+  spelled = h;
   not_true = λ e. absurd (search (rules, e, constant));
   not_false = λ e. absurd (search (rules, e, constant));
 }

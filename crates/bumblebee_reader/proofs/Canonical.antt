@@ -21,7 +21,8 @@ use Rattle.bumblebee_reader.specs.Tokens.{Token, TokenAt, Word, Digits, Mark, to
 use Rattle.bumblebee_reader.specs.Numeral.{number_of, number_behind, is_too_great}
 use Rattle.bumblebee_reader.specs.Grammar.{SpellsTerm, SpellsTerms, SpellsMembers, SpellsArg, SpellsArgs, SpellsItem, Spells, AllWithin, kinds, IsText}
 use Rattle.bumblebee_reader.specs.Canonical.{term_text, next_term_text, terms_text, arg_text, next_arg_text, args_text, item_line, canonical}
-use Rattle.bumblebee_reader.specs.Spellable.{is_name, IsSpellableTerm, AreSpellableTerms, IsSpellableArg, AreSpellableArgs, IsSpellableItem, AreSpellableItems}
+use Rattle.bumblebee_reader.specs.Names.{is_name}
+use Rattle.bumblebee_reader.specs.Spellable.{IsSpellableTerm, AreSpellableTerms, IsSpellableArg, AreSpellableArgs, IsSpellableItem, AreSpellableItems}
 use Rattle.bumblebee_reader.specs.Laws.{CanonicalIsText, RoundTrip}
 use Rattle.bumblebee_reader.proofs.Scan.{tokens_at-cons}
 use Rattle.bumblebee_reader.proofs.Shapes.{text_is_spellable_lem}

@@ -15,7 +15,8 @@ use Rattle.bumblebee_reader.specs.Bytes.{is_letter, is_digit, is_word}
 use Rattle.bumblebee_reader.specs.Tokens.{Token, TokenAt, Word, Digits, Mark, Stray, token_from, length_from, next_line, with_token, tokens_behind, tokens, begins_gap, lone_token}
 use Rattle.bumblebee_reader.specs.Numeral.{number_of, is_too_great}
 use Rattle.bumblebee_reader.specs.Grammar.{SpellsTerm, SpellsTerms, SpellsMembers, SpellsArg, SpellsArgs, SpellsObjective, SpellsItem, Spells, AllWithin, kinds}
-use Rattle.bumblebee_reader.specs.Spellable.{is_name, IsSpellableTerm, AreSpellableTerms, IsSpellableArg, AreSpellableArgs, IsSpellableItem, AreSpellableItems}
+use Rattle.bumblebee_reader.specs.Names.{is_name}
+use Rattle.bumblebee_reader.specs.Spellable.{IsSpellableTerm, AreSpellableTerms, IsSpellableArg, AreSpellableArgs, IsSpellableItem, AreSpellableItems}
 use Rattle.bumblebee_reader.specs.Laws.{TextIsSpellable}
 
 -- a name is a name, and a numeral is within the bound

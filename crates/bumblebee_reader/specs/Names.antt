@@ -1,12 +1,16 @@
--- Names: a letter or `_`, then letters, digits and `_`. A declared name is none of the two constants.
-use Rattle.std.specs.Prelude.{◌≢◌, ℕ, ◌&&◌, List, [], ◌∷◌, codes, IsTrue}
+-- Names. A declared name is none of the two constants.
+use Rattle.std.specs.Prelude.{◌≢◌, ℕ, Bool, false, ◌&&◌, List, [], ◌∷◌, codes, IsTrue}
 use Rattle.std.specs.List.{list_all}
 use Rattle.bumblebee_reader.specs.Bytes.{is_letter, is_word}
 
--- whether the bytes are a name
+-- whether the bytes are a name: a letter or `_`, then letters, digits and `_`
+abbrev pub is_name : List ℕ → Bool
+is_name [] = false
+is_name (b ∷ bs) = is_letter b && list_all is_word bs
+
+-- the bytes are a name
 abbrev pub IsName : List ℕ → Type 0
-IsName [] = ⊥
-IsName (b ∷ bs) = IsTrue (is_letter b && list_all is_word bs)
+IsName name = IsTrue (is_name name)
 
 -- a name that may be declared: a name other than `true` and `false`
 pub record IsDeclarable (name : List ℕ) : Type 0 where

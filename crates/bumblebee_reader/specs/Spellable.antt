@@ -1,6 +1,5 @@
 -- Which syntaxes some text has.
-use Rattle.std.specs.Prelude.{◌≡◌, ◌≢◌, ℕ, ◌≤◌, Bool, true, false, ◌&&◌, Some, None, List, [], ◌∷◌, unsigned_abs, codes}
-use Rattle.std.specs.List.{list_all}
+use Rattle.std.specs.Prelude.{◌≡◌, ◌≢◌, ℕ, ◌≤◌, true, Some, None, List, [], ◌∷◌, unsigned_abs, codes}
 use Rattle.bumblebee_reader.specs.declared.syntax.Syntax.{Syntax}
 use Rattle.bumblebee_reader.specs.declared.syntax.Item.{Item}
 use Rattle.bumblebee_reader.specs.declared.syntax.Item.TheVariants.{Call, Goal}
@@ -9,12 +8,7 @@ use Rattle.bumblebee_reader.specs.declared.syntax.Arg.TheVariants.{One, Many}
 use Rattle.bumblebee_reader.specs.declared.syntax.Term.{Term}
 use Rattle.bumblebee_reader.specs.declared.syntax.Term.TheVariants.{Plain, Minus, Number}
 use Rattle.bumblebee_reader.specs.declared.syntax.GoalKind.TheVariants.{Satisfy, Minimize, Maximize}
-use Rattle.bumblebee_reader.specs.Bytes.{is_letter, is_word}
-
--- a letter or `_`, then letters, digits and `_`
-abbrev pub is_name : List ℕ → Bool
-is_name [] = false
-is_name (b ∷ bs) = is_letter b && list_all is_word bs
+use Rattle.bumblebee_reader.specs.Names.{is_name}
 
 abbrev pub IsSpellableTerm : Term → Type 0
 IsSpellableTerm (Plain name) = is_name name ≡ true

@@ -1,18 +1,11 @@
 -- A network costs at most a multiple of its atoms and its depths.
-use Rattle.std.proofs.Common.{◌≡◌, ℕ, ◌+◌, ◌*◌, ◌^◌, ◌<◌, ◌≤◌, false, min, List, [], ◌∷◌, ◌++◌, length, zero, suc, refl, ap, arith, inl, inr}
-use Rattle.std.proofs.Math.Nat.{mul-le-mul, pow-suc, div-le_self}
-use Rattle.std.proofs.lemmas.Bool.{cases_Bool, cases_lt}
-use Rattle.std.proofs.lemmas.List.{length_push}
-use Rattle.core_cost.specs.declared.shape.Shape.{Shape}
+use Rattle.std.proofs.Common.{◌≡◌, ℕ, ◌+◌, ◌*◌, ◌^◌, ◌<◌, ◌≤◌, false, min, [], zero, suc, ap, arith, inl, inr}
+use Rattle.std.proofs.Math.Nat.{mul-le-mul, pow-suc}
+use Rattle.std.proofs.lemmas.Bool.{cases_Bool}
 use Rattle.core_cost.specs.Comparisons.{cost_of_ladder}
 use Rattle.core_cost.specs.Network.{half_up, half_down, has_network, cost_of_table, cost_over_halves, cost_of_unit_sum, cost_of_network, cost_of_sum3_over}
-use Rattle.core_cost.specs.Divisor.{common_divisor_of}
-use Rattle.core_cost.specs.Sums.{first_units, second_units, cost_of_sum3, constant, fresh_sum_of, sum_within, cost_of_sum, spans_of}
-use Rattle.core_cost.specs.Relations.{IsShape, AreShapes}
 use Rattle.core_cost.proofs.NetworkLaws.{sides, unit_sum_by_table, unit_sum_by_network}
 use Rattle.core_cost.proofs.Monotone.{ladder_lem, no_sides}
-use Rattle.core_cost.proofs.ShapeLaws.{steps-le_units, common-divides_first, common-divides_second, zero_common_first, zero_common_second, IsShape-constant, IsShape-fresh}
-use Rattle.core_cost.proofs.SumLaws.{spans-append}
 
 -- a sum without a network, of sides that are not both empty
 table-bound : (n m N M : ℕ) → n ≤ N → m ≤ M → has_network N M ≡ false → cost_of_table n m ≤ 6 * (N + M) + 12

@@ -40,7 +40,7 @@ steps_words n (s ∷ steps) bound below weights =
 
 -- a name is a word
 name_word : (name : List ℕ) → IsName name → IsWord name
-name_word [] h = absurd h
+name_word [] h = absurd (search (rules, h))
 name_word (b ∷ bs) h =
     let parts = and_parts (is_letter b) (list_all is_name_byte bs) h in
     and_from (not (is_gap b)) (solid bs) (byte b (or_left (is_letter b) (is_digit b) parts.0)) (bytes bs parts.1)

@@ -1,9 +1,8 @@
 -- When the clauses of a product, and of quotient and rest, are true.
 use Rattle.std.proofs.Common.{◌≡◌, ℕ, zero, suc, ◌+◌, ◌*◌, ◌<◌, ◌≤◌, Bool, true, false, not, ◌||◌, ◌&&◌, cond, List, [], ◌∷◌, ℤ, pos, negsuc, neg_ℤ, ◌+ℤ◌, ◌*ℤ◌, ◌≤ℤ◌, ◌<ℤ◌, refl, sym, ap, subst, ◌∙◌, arith}
-use Rattle.std.specs.Prelude.{int_le, int_lt, unsigned_abs, ◌/◌, ◌%◌}
+use Rattle.std.specs.Prelude.{int_le, unsigned_abs}
 use Rattle.std.specs.Ordering.{int_eq}
-use Rattle.std.proofs.Math.Nat.{div-add-mod, mod-lt, mul-le-mul_left}
-use Rattle.std.proofs.Math.IntN.{pos-*ℤ-pos, pos-*ℤ-negsuc}
+use Rattle.std.proofs.Math.IntN.{pos-*ℤ-pos}
 use Rattle.std.proofs.lemmas.Nat.{mul-le}
 use Rattle.std.proofs.lemmas.Bool.Decides.{Decides-int_eq}
 use Rattle.std.proofs.lemmas.Int.{ints}
@@ -12,16 +11,14 @@ use Rattle.order_ints.specs.declared.order_int.OrdInt.{OrdInt}
 use Rattle.order_ints.specs.Truth.{Valuation, atom_truth, not_atom}
 use Rattle.order_ints.specs.AtomClauses.{atom_clause_truth, atom_clauses_truth}
 use Rattle.order_ints.specs.OrderValue.{value_of, IsOrdered}
-use Rattle.order_ints.specs.OrderRange.{weights, low_of}
+use Rattle.order_ints.specs.OrderRange.{low_of}
 use Rattle.order_ints.specs.OrderLevels.{at_of}
 use Rattle.order_ints.specs.Walk.{value_at}
 use Rattle.order_ints.proofs.Comparisons.{int_le-true, int_le-false, le_from_test, lt_from_test}
 use Rattle.order_ints.proofs.Gains.{low-le}
 use Rattle.order_ints.proofs.Reaching.{atom_truth-at_of}
 use Rattle.order_ints.proofs.TruthLaws.{atom_truth-not_atom}
-use Rattle.core_forms.specs.Shapes.{steps_of}
-use Rattle.core_forms.specs.Meaning.{is_division}
-use Rattle.direct_encode.specs.Tables.{from_pair, up_to_pair, at_pair, product_at, are_natural, product_pair, prod_clauses, quotient_at, rest_at, division_pair, div_mod_clauses}
+use Rattle.direct_encode.specs.Tables.{from_pair, up_to_pair, at_pair, product_at, are_natural, product_pair, prod_clauses}
 use Rattle.direct_encode.proofs.TableTruths.{HasFalse, truth-table, truth-from_pair, truth-up_to_pair, truth-at_pair, place_of_value}
 
 -- a clause is true where what it says follows

@@ -1,6 +1,6 @@
 -- The clauses of a core have at most as many literals as it costs.
-use Rattle.std.proofs.Common.{◌≡◌, ℕ, zero, suc, ◌+◌, ◌*◌, ◌≤◌, min, Bool, true, false, ◌||◌, cond, List, [], ◌∷◌, ◌++◌, length, map, ℤ, pos, ◌+ℤ◌, ◌≤ℤ◌, ◌<ℤ◌, refl, sym, ap, subst, ◌∙◌, arith}
-use Rattle.std.specs.Prelude.{filter, nat_le, IsTrue}
+use Rattle.std.proofs.Common.{◌≡◌, ℕ, zero, suc, ◌+◌, ◌*◌, ◌≤◌, min, Bool, true, false, ◌||◌, cond, List, [], ◌∷◌, ◌++◌, length, map, ℤ, pos, ◌+ℤ◌, ◌≤ℤ◌, ◌<ℤ◌, refl, sym, ap, ◌∙◌, arith}
+use Rattle.std.specs.Prelude.{filter, nat_le}
 use Rattle.std.specs.Ordering.{int_eq}
 use Rattle.std.proofs.Math.Nat.{zero-mul, suc-mul}
 use Rattle.std.proofs.lemmas.Bool.{false≢true}
@@ -16,19 +16,15 @@ use Rattle.order_ints.specs.OrderLevels.{is_among, levels, levels_of, values_of,
 use Rattle.order_ints.specs.Walk.{has_value}
 use Rattle.core_cost.specs.ListForms.{cost_of_parity, cost_of_conj, cost_of_amo}
 use Rattle.core_cost.specs.Comparisons.{cost_of_ladder}
-use Rattle.core_cost.specs.Arithmetic.{cost_of_member, cost_of_members}
-use Rattle.core_forms.specs.declared.form.Core.{Core}
-use Rattle.core_forms.specs.declared.form.Core.TheVariants.{Ladder, Clause, Parity, Conj, Comp, LeqR, EqR, Sum3, Count, Sum, Max, AllDiff, Amo, Prod, DivMod, Lex}
+use Rattle.core_cost.specs.Arithmetic.{cost_of_members}
+use Rattle.core_forms.specs.declared.form.Core.TheVariants.{Max}
 use Rattle.core_forms.specs.Shapes.{steps_of, numbers_of_steps}
-use Rattle.core_forms.specs.WellFormed.{IsSound, IsWellFormed}
-use Rattle.core_forms.specs.Basic.{is_basic_of}
 use Rattle.core_forms.specs.Cost.{cost_of}
 use Rattle.direct_encode.specs.Literals.{literals}
 use Rattle.direct_encode.specs.Orders.{order_clauses_above, order_clauses_of_steps, order_clauses, orders_of}
 use Rattle.direct_encode.specs.Comparisons.{reaching_clause, reaching_clauses, exceeding_clause, exceeding_clauses, differing_clause, common_values, differing_clauses, leq_clauses, eq_clauses}
-use Rattle.direct_encode.specs.AtomLists.{parity_clauses, member_clauses, conj_clauses, apart_clauses, amo_clauses}
-use Rattle.direct_encode.specs.Maxima.{at_most_clause, at_most_clauses, all_at_most_clauses, all_at, some_reaching_clause, some_reaching_clauses, max_clauses}
-use Rattle.direct_encode.specs.Clauses.{clauses_of}
+use Rattle.direct_encode.specs.AtomLists.{parity_clauses, member_clauses, conj_clauses, amo_clauses}
+use Rattle.direct_encode.specs.Maxima.{at_most_clause, at_most_clauses, all_at_most_clauses, some_reaching_clause, some_reaching_clauses, max_clauses}
 
 pub literals-append : (cs ds : List (List Atom)) → literals (cs ++ ds) ≡ literals cs + literals ds
 literals-append [] ds = omega arith

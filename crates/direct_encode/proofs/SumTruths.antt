@@ -1,5 +1,5 @@
 -- When the clauses of a sum of two integers are true: those that are left out say nothing more than those that are kept.
-use Rattle.std.proofs.Common.{◌≡◌, ℕ, zero, suc, ◌+◌, ◌-◌, ◌<◌, ◌≤◌, Bool, true, false, not, ◌||◌, ◌&&◌, cond, List, [], ◌∷◌, ◌++◌, ℤ, pos, ◌+ℤ◌, ◌≤ℤ◌, ◌<ℤ◌, ◌⊎◌, inl, inr, refl, sym, ap, subst, ◌∙◌, arith}
+use Rattle.std.proofs.Common.{◌≡◌, ℕ, zero, suc, ◌+◌, ◌-◌, ◌<◌, ◌≤◌, Bool, true, false, not, ◌||◌, ◌&&◌, List, [], ℤ, pos, ◌+ℤ◌, ◌≤ℤ◌, ◌<ℤ◌, ◌⊎◌, inl, inr, refl, sym, ap, subst, ◌∙◌, arith}
 use Rattle.std.specs.Prelude.{int_le, nat_lt}
 use Rattle.std.specs.Ordering.{int_eq}
 use Rattle.std.proofs.lemmas.Bool.Decides.{nat_tests}
@@ -12,9 +12,8 @@ use Rattle.order_ints.specs.Equality.{same_atom-true}
 use Rattle.order_ints.specs.AtomClauses.{atom_clause_truth, atom_clauses_truth}
 use Rattle.order_ints.specs.OrderValue.{value_of, IsOrdered}
 use Rattle.order_ints.specs.OrderRange.{AreRising}
-use Rattle.order_ints.specs.OrderLevels.{at_of}
 use Rattle.order_ints.specs.Walk.{value_at}
-use Rattle.order_ints.proofs.Comparisons.{int_le-true, int_le-false, le_from_test, lt_from_test}
+use Rattle.order_ints.proofs.Comparisons.{int_le-true, int_le-false}
 use Rattle.order_ints.proofs.Reaching.{atom_truth-at_of}
 use Rattle.order_ints.proofs.TruthLaws.{atom_truth-not_atom, atom_clauses_truth-append}
 use Rattle.core_forms.specs.Shapes.{steps_of}

@@ -1,14 +1,13 @@
 -- What a table of levels tells of its integer.
 use Rattle.std.proofs.Common.{◌≡◌, ℕ, zero, suc, ◌+◌, ◌-◌, ◌<◌, ◌≤◌, List, [], ◌∷◌, length, get_or, take, map, Contains, ℤ, pos, ◌+ℤ◌, ◌≤ℤ◌, ◌<ℤ◌, refl, sym, ap, subst, ◌∙◌, arith}
 use Rattle.std.proofs.lemmas.Int.{ints}
-use Rattle.std.proofs.lemmas.List.{take_all}
 use Rattle.order_ints.specs.declared.atom.Atom.{Atom}
 use Rattle.order_ints.specs.declared.atom.Atom.TheVariants.{True, False}
 use Rattle.order_ints.specs.declared.order_int.OrdInt.{OrdInt}
-use Rattle.order_ints.specs.OrderRange.{weights, low_of, high_of, AreRising}
+use Rattle.order_ints.specs.OrderRange.{weights, AreRising}
 use Rattle.order_ints.specs.OrderLevels.{levels, levels_of, values_of, at_of}
 use Rattle.order_ints.specs.Walk.{value_at, atom_behind, atom_at}
-use Rattle.order_ints.proofs.Walks.{weights-more, weights-take, value_at-more, reaching-place, reaching-none}
+use Rattle.order_ints.proofs.Walks.{value_at-more, reaching-place, reaching-none}
 use Rattle.core_forms.specs.Shapes.{steps_of}
 use Rattle.direct_encode.specs.Search.{IsReachedAt, value_of_level}
 use Rattle.direct_encode.proofs.Sizes.{length-values}

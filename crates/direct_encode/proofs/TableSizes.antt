@@ -1,7 +1,7 @@
 -- How many literals the clauses over pairs of places have, and below which bound their variables are.
-use Rattle.std.proofs.Common.{◌≡◌, ℕ, zero, suc, ◌+◌, ◌-◌, ◌*◌, ◌≤◌, min, Bool, true, false, not, ◌&&◌, cond, List, [], ◌∷◌, ◌++◌, length, ℤ, pos, ◌+ℤ◌, refl, sym, ap, ◌∙◌, arith}
+use Rattle.std.proofs.Common.{◌≡◌, ℕ, zero, suc, ◌+◌, ◌-◌, ◌*◌, ◌≤◌, min, Bool, true, false, not, ◌&&◌, cond, List, [], ◌∷◌, length, ℤ, pos, ◌+ℤ◌, refl, sym, ◌∙◌, arith}
 use Rattle.std.specs.Prelude.{nat_lt}
-use Rattle.std.proofs.Math.Nat.{zero-mul, suc-mul, mul_comm, mul_assoc, mul-le-mul_left}
+use Rattle.std.proofs.Math.Nat.{zero-mul, suc-mul, mul_comm, mul_assoc}
 use Rattle.std.proofs.lemmas.Bool.Decides.{nat_tests}
 use Rattle.order_ints.specs.declared.atom.Atom.{Atom}
 use Rattle.order_ints.specs.declared.order_int.OrdInt.{OrdInt}
@@ -16,7 +16,7 @@ use Rattle.core_cost.specs.Arithmetic.{pairs_of_values}
 use Rattle.core_cost.specs.Network.{cheaper}
 use Rattle.core_forms.specs.Shapes.{steps_of}
 use Rattle.direct_encode.specs.Literals.{literals}
-use Rattle.direct_encode.specs.Tables.{over_places, row_clauses, table_clauses, below_place, above_place, from_pair, up_to_pair, at_pair, sum_reached, sum_exceeded, has_lower_neighbour, has_upper_neighbour, unless, sum_pair, sum3_clauses, product_at, are_natural, product_pair, prod_clauses, quotient_at, rest_at, division_pair, div_mod_clauses}
+use Rattle.direct_encode.specs.Tables.{over_places, row_clauses, table_clauses, from_pair, up_to_pair, at_pair, sum_reached, sum_exceeded, has_lower_neighbour, has_upper_neighbour, unless, sum_pair, sum3_clauses, product_at, are_natural, product_pair, prod_clauses, quotient_at, rest_at, division_pair, div_mod_clauses}
 use Rattle.direct_encode.proofs.Sizes.{literals-append}
 
 literals-over : (f : ℕ → List (List Atom)) (k first count : ℕ) → ((i : ℕ) → literals (f i) ≤ k) → literals (over_places f first count) ≤ count * k

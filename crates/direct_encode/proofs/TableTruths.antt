@@ -1,21 +1,15 @@
 -- When the clauses over pairs of places are true.
-use Rattle.std.proofs.Common.{◌≡◌, ℕ, zero, suc, ◌+◌, ◌-◌, ◌<◌, ◌≤◌, Bool, true, false, not, ◌||◌, ◌&&◌, ◌==◌, List, [], ◌∷◌, ◌++◌, ℤ, pos, ◌+ℤ◌, ◌≤ℤ◌, ◌<ℤ◌, refl, sym, ap, subst, ◌∙◌, arith}
-use Rattle.std.specs.Prelude.{int_le, nat_lt}
-use Rattle.std.specs.Ordering.{int_eq}
+use Rattle.std.proofs.Common.{◌≡◌, ℕ, zero, suc, ◌+◌, ◌-◌, ◌<◌, ◌≤◌, Bool, true, false, not, ◌||◌, ◌&&◌, ◌==◌, List, [], pos, ◌+ℤ◌, refl, ap, ◌∙◌, arith}
+use Rattle.std.specs.Prelude.{int_le}
 use Rattle.std.proofs.lemmas.Bool.{eqb-true}
 use Rattle.std.proofs.lemmas.Bool.Decides.{nat_tests}
-use Rattle.std.proofs.lemmas.Int.{ints}
 use Rattle.order_ints.specs.declared.atom.Atom.{Atom}
 use Rattle.order_ints.specs.declared.order_int.OrdInt.{OrdInt}
-use Rattle.order_ints.specs.Truth.{Valuation, atom_truth, not_atom}
-use Rattle.order_ints.specs.Same.{same_atom}
-use Rattle.order_ints.specs.Equality.{same_atom-true}
+use Rattle.order_ints.specs.Truth.{Valuation, atom_truth}
 use Rattle.order_ints.specs.AtomClauses.{atom_clause_truth, atom_clauses_truth}
 use Rattle.order_ints.specs.OrderValue.{value_of, IsOrdered}
-use Rattle.order_ints.specs.OrderRange.{AreRising}
 use Rattle.order_ints.specs.OrderLevels.{at_of}
 use Rattle.order_ints.specs.Walk.{value_at}
-use Rattle.order_ints.proofs.Comparisons.{int_le-true, int_le-false, le_from_test, lt_from_test}
 use Rattle.order_ints.proofs.Reaching.{atom_truth-at_of, Contains-value_of}
 use Rattle.order_ints.proofs.TruthLaws.{atom_truth-not_atom, atom_clauses_truth-append}
 use Rattle.core_forms.specs.Shapes.{steps_of}

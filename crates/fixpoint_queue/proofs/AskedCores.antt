@@ -1,7 +1,7 @@
 -- What one question makes of the queue: it is as it must be, and there is less to do.
-use Rattle.std.proofs.Common.{◌≡◌, ◌↔◌, ℕ, ◌+◌, ◌*◌, ◌≤◌, ◌<◌, zero, suc, ◌-◌, Bool, true, false, List, length, get_or, set, inl, inr, refl, sym, ap, ◌∙◌, subst, arith, ◌⊎◌, ⊎_elim, Option, Some, None}
+use Rattle.std.proofs.Common.{◌≡◌, ℕ, ◌+◌, ◌*◌, ◌≤◌, ◌<◌, zero, suc, ◌-◌, Bool, true, false, List, length, get_or, set, inl, inr, refl, sym, ap, ◌∙◌, subst, arith, ◌⊎◌, ⊎_elim, Option, Some, None}
 use Rattle.std.specs.Prelude.{◌==◌, option_map, is_some, MatchOption, if◌then◌else◌}
-use Rattle.std.proofs.lemmas.Bool.{false≢true, cases_lt, cases_eq, cond-true, cond-false, ne_eqb, eq-eqb}
+use Rattle.std.proofs.lemmas.Bool.{false≢true, cases_lt, cases_eq, cond-false, ne_eqb}
 use Rattle.std.proofs.lemmas.Option.{none-some}
 use Rattle.std.proofs.lemmas.Bool.Decides.{nat_tests}
 use Rattle.std.proofs.lemmas.List.{get_or-set_same, get_or-set_other, length-set}
@@ -24,7 +24,7 @@ use Rattle.equation_store.proofs.Changes.{merge_labelled}
 use Rattle.equation_store.proofs.Owners.{merge_takes_one}
 use Rattle.index_ring.specs.Lists.{times, without}
 use Rattle.index_ring.proofs.Times.{length-without, times-without}
-use Rattle.step_kernel.specs.Kernel.{Kernel, core_at, trimmed_at, IsKernel}
+use Rattle.step_kernel.specs.Kernel.{Kernel, core_at, trimmed_at}
 use Rattle.step_kernel.specs.Parts.{is_compound_of}
 use Rattle.step_kernel.specs.Least.{is_compound_if}
 use Rattle.step_kernel.specs.Instances.{is_instance_at}
@@ -34,7 +34,7 @@ use Rattle.step_kernel.proofs.There.{is-there, there-labels, there-equated}
 use Rattle.step_kernel.proofs.Splits.{at-bounds}
 use Rattle.fixpoint_queue.specs.IdQueue.{Ids, IsIds}
 use Rattle.core_occurrences.specs.Lists.{OccurrenceLists, Occurs}
-use Rattle.fixpoint_queue.specs.Listed.{HasVar, IsListed}
+use Rattle.fixpoint_queue.specs.Listed.{IsListed}
 use Rattle.fixpoint_queue.specs.Marks.{mark_of}
 use Rattle.fixpoint_queue.specs.Quiet.{IsQuiet}
 use Rattle.fixpoint_queue.specs.Waits.{IsRun, IsWoken, IsWokenFor, left_to_do}

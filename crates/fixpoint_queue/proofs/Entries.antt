@@ -1,5 +1,5 @@
 -- One core after another comes to its variables and into the queue.
-use Rattle.std.proofs.Common.{◌≡◌, ◌↔◌, ◌⊎◌, inl, inr, ℕ, zero, suc, ◌+◌, ◌-◌, ◌≤◌, ◌<◌, Bool, true, false, List, [], ◌∷◌, ◌++◌, length, get_or, take, drop, refl, sym, ap, ◌∙◌, subst, arith, ⊎_elim, Option, Some, None}
+use Rattle.std.proofs.Common.{◌≡◌, ◌⊎◌, inl, inr, ℕ, zero, suc, ◌+◌, ◌-◌, ◌≤◌, ◌<◌, List, [], ◌∷◌, ◌++◌, length, get_or, take, drop, refl, sym, ap, ◌∙◌, subst, arith, ⊎_elim, Option, Some, None}
 use Rattle.std.specs.Prelude.{Contains}
 use Rattle.std.specs.List.{All}
 use Rattle.std.proofs.lemmas.Option.{none-some}
@@ -13,10 +13,9 @@ use Rattle.core_occurrences.specs.Lists.{OccurrenceLists, Occurs, IsOccurrences,
 use Rattle.core_occurrences.proofs.Listed.{length-with_id}
 use Rattle.step_kernel.specs.Kernel.{Kernel, core_at, pending, IsKernel}
 use Rattle.step_kernel.proofs.Holes.{below-there}
-use Rattle.step_kernel.proofs.LeastCompound.{core_at-next}
 use Rattle.step_kernel.proofs.Splits.{there-bounds}
 use Rattle.fixpoint_queue.specs.IdQueue.{Ids, IsIds, with_id}
-use Rattle.fixpoint_queue.specs.Standing.{HasVarAt, Stand, AreVars, AreAllVars, AreVarsFrom, AreEntered, all_counted}
+use Rattle.fixpoint_queue.specs.Standing.{Stand, AreVars, AreAllVars, AreVarsFrom, AreEntered, all_counted}
 use Rattle.fixpoint_queue.proofs.Stood.{stand-added}
 use Rattle.fixpoint_queue.proofs.Waking.{put-has, put-stays, put-only, put-places}
 

@@ -1,7 +1,7 @@
 -- A queue of ids as the one list of a ring.
-use Rattle.std.proofs.Common.{◌≡◌, ℕ, ◌+◌, ◌≤◌, ◌<◌, List, [], ◌∷◌, length, get_or, arith, ⊎_elim}
+use Rattle.std.proofs.Common.{◌≡◌, ℕ, ◌≤◌, ◌<◌, List, [], ◌∷◌, length, get_or, arith, ⊎_elim}
 use Rattle.std.proofs.lemmas.Bool.{cases_lt}
-use Rattle.index_ring.specs.Lists.{RingLists, IsRings, list_of, times, times_in_all}
+use Rattle.index_ring.specs.Lists.{RingLists, times, times_in_all}
 use Rattle.index_ring.proofs.Times.{total_length-le}
 use Rattle.fixpoint_queue.specs.IdQueue.{Ids, IsIds, IsQueueRing, ids_of}
 

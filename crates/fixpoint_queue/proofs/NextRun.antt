@@ -1,5 +1,5 @@
 -- A pending core goes, and others may come behind all.
-use Rattle.std.proofs.Common.{◌≡◌, ◌⊎◌, inl, inr, ℕ, zero, suc, ◌+◌, ◌-◌, ◌≤◌, ◌<◌, ◌==◌, Bool, true, false, List, [], ◌∷◌, ◌++◌, length, map, get_or, set, replicate, refl, sym, ap, ◌∙◌, subst, arith, ⊎_elim, Option, Some, None}
+use Rattle.std.proofs.Common.{◌≡◌, ◌⊎◌, inl, ℕ, zero, suc, ◌-◌, ◌≤◌, ◌<◌, ◌==◌, Bool, true, false, List, [], ◌∷◌, length, map, get_or, set, refl, sym, ap, ◌∙◌, subst, arith, ⊎_elim, Option, Some, None}
 use Rattle.std.specs.Prelude.{option_map, if◌then◌else◌}
 use Rattle.std.proofs.lemmas.Option.{none-some}
 use Rattle.std.proofs.lemmas.Bool.{cases_eq, cases_lt, cond-false, ne_eqb}
@@ -18,7 +18,6 @@ use Rattle.step_kernel.proofs.Splits.{there-bounds}
 use Rattle.fixpoint_queue.specs.IdQueue.{Ids, IsIds}
 use Rattle.fixpoint_queue.specs.Listed.{IsListed}
 use Rattle.fixpoint_queue.specs.Marks.{mark_of}
-use Rattle.fixpoint_queue.specs.Quiet.{IsQuiet}
 use Rattle.fixpoint_queue.specs.Waits.{IsRun, Waits, AreMarked}
 use Rattle.step_kernel.specs.Steps.{without as cleared}
 use Rattle.fixpoint_queue.specs.Standing.{Stand}

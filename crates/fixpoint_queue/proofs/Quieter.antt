@@ -1,8 +1,7 @@
 -- A core at which nothing is told stays so where an equation changes the labels of none of its variables.
-use Rattle.std.proofs.Common.{◌≡◌, ◌↔◌, ℕ, ◌+◌, ◌≤◌, ◌<◌, Bool, true, false, List, length, refl, sym, ap, ◌∙◌, subst, arith, Option, Some, None, ⊎_elim}
-use Rattle.std.specs.Prelude.{option_map, IsSomeAnd, Contains, if◌then◌else◌}
+use Rattle.std.proofs.Common.{◌≡◌, ℕ, ◌+◌, ◌≤◌, ◌<◌, Bool, true, false, length, refl, sym, ap, ◌∙◌, arith, Option, Some, None}
+use Rattle.std.specs.Prelude.{option_map, IsSomeAnd, if◌then◌else◌}
 use Rattle.std.proofs.lemmas.Bool.{false≢true}
-use Rattle.order_ints.specs.declared.atom.Atom.{Atom}
 use Rattle.order_ints.specs.Truth.{not_atom}
 use Rattle.order_ints.specs.View.{label_of}
 use Rattle.order_ints.specs.Label.{IsLabel}
@@ -18,11 +17,11 @@ use Rattle.core_forms.proofs.VariableLaws.{vars_below}
 use Rattle.equation_store.specs.Class.{IsMember}
 use Rattle.equation_store.specs.Merge.{loser_of, merged}
 use Rattle.equation_store.proofs.Changes.{merge_changes}
-use Rattle.step_kernel.specs.Kernel.{Kernel, core_at, trimmed_at, pending, IsKernel}
+use Rattle.step_kernel.specs.Kernel.{Kernel, core_at, trimmed_at, IsKernel}
 use Rattle.step_kernel.specs.Steps.{equated}
 use Rattle.step_kernel.proofs.Holes.{below-there}
 use Rattle.fixpoint_queue.specs.Quiet.{IsQuiet}
-use Rattle.fixpoint_queue.specs.Listed.{HasVar, IsListed}
+use Rattle.fixpoint_queue.specs.Listed.{IsListed}
 use Rattle.core_occurrences.specs.Lists.{OccurrenceLists, Occurs}
 
 module _ (told : Core → Equation → Type 0) (k : Kernel) (is : IsKernel k) (e : Equation) (la : IsLabel k.view e.a) (lb : IsLabel k.view e.b)

@@ -1,5 +1,5 @@
 -- The run of a state whose pending cores are all queued.
-use Rattle.std.proofs.Common.{◌≡◌, ◌⊎◌, ℕ, zero, suc, ◌+◌, ◌-◌, ◌≤◌, ◌<◌, ◌==◌, Bool, true, false, List, [], ◌∷◌, ◌++◌, length, get_or, take, replicate, refl, sym, ap, ◌∙◌, subst, arith, ⊎_elim, Option, Some, None}
+use Rattle.std.proofs.Common.{◌≡◌, ◌⊎◌, ℕ, zero, suc, ◌-◌, ◌≤◌, ◌<◌, ◌==◌, Bool, true, false, List, [], length, get_or, take, replicate, refl, sym, ap, ◌∙◌, subst, arith, ⊎_elim, Option, Some, None}
 use Rattle.std.specs.Prelude.{Contains, option_map, if◌then◌else◌}
 use Rattle.std.proofs.lemmas.Option.{none-some}
 use Rattle.std.proofs.lemmas.Bool.{cases_lt}
@@ -8,14 +8,13 @@ use Rattle.core_forms.specs.declared.equation.Equation.{Equation}
 use Rattle.core_forms.specs.declared.form.Core.{Core}
 use Rattle.core_forms.specs.Trimmed.{trimmed_core}
 use Rattle.index_ring.specs.Lists.{times}
-use Rattle.core_occurrences.specs.Lists.{OccurrenceLists, IsOccurrences, Occurs, cores_at, no_occurrences, grown}
+use Rattle.core_occurrences.specs.Lists.{OccurrenceLists, Occurs, cores_at, no_occurrences, grown}
 use Rattle.step_kernel.specs.Kernel.{Kernel, core_at, trimmed_at, IsKernel}
 use Rattle.step_kernel.specs.Least.{is_compound_if}
-use Rattle.fixpoint_queue.specs.IdQueue.{Ids, IsIds}
+use Rattle.fixpoint_queue.specs.IdQueue.{Ids}
 use Rattle.fixpoint_queue.specs.Marks.{mark_of}
-use Rattle.fixpoint_queue.specs.Quiet.{IsQuiet}
 use Rattle.fixpoint_queue.specs.Standing.{Stand, ArePending}
-use Rattle.fixpoint_queue.specs.Waits.{IsRun, Waits, AreMarked}
+use Rattle.fixpoint_queue.specs.Waits.{IsRun, Waits}
 
 -- no core stands at variables that have just come
 all-past : (n i : ℕ) → ◌≡◌ {A = List ℕ} (get_or (replicate n []) i []) []

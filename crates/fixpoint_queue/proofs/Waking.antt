@@ -1,7 +1,7 @@
 -- Cores that are put into the queue, along a walk of a class.
 use Rattle.std.proofs.Common.{◌≡◌, ℕ, zero, suc, ◌+◌, ◌≤◌, ◌<◌, ◌⊎◌, inl, inr, Bool, true, false, List, [], ◌∷◌, ◌++◌, length, get_or, refl, sym, ap, ◌∙◌, subst, arith, append_assoc, ⊎_elim, Option, Some, None}
 use Rattle.std.specs.Prelude.{◌==◌, nat_le, Contains, if◌then◌else◌}
-use Rattle.std.proofs.lemmas.Bool.{false≢true, cond-true, cond-false, eq-eqb, ne_eqb, leb-true, leb-false, cases_eq}
+use Rattle.std.proofs.lemmas.Bool.{false≢true, cond-true, cond-false, eq-eqb, ne_eqb, leb-true, cases_eq}
 use Rattle.order_ints.specs.declared.atom.Atom.{Atom}
 use Rattle.order_ints.specs.declared.atom.Atom.TheVariants.{True, False, Of}
 use Rattle.index_ring.specs.Lists.{times, first_in, after_in}

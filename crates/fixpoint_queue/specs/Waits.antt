@@ -1,5 +1,5 @@
 -- What a queue of cores keeps.
-use Rattle.std.specs.Prelude.{◌≡◌, ◌⊎◌, ℕ, ◌+◌, ◌*◌, ◌<◌, ◌≤◌, Bool, true, List, length, Some, MatchOption, if◌then◌else◌}
+use Rattle.std.specs.Prelude.{◌≡◌, ◌⊎◌, ℕ, ◌+◌, ◌*◌, ◌<◌, ◌≤◌, Bool, List, length, Some, MatchOption, if◌then◌else◌}
 use Rattle.order_ints.specs.declared.atom.Atom.{Atom}
 use Rattle.index_ring.specs.Lists.{times}
 use Rattle.core_forms.specs.declared.equation.Equation.{Equation}

@@ -11,14 +11,13 @@ use Rattle.typed_model.specs.declared.signature.Wanted.{Wanted}
 use Rattle.typed_model.specs.declared.signature.Wanted.TheVariants as wanted
 use Rattle.typed_model.specs.declared.statement.AllDifferent.{AllDifferent}
 use Rattle.typed_model.specs.declared.statement.AllDifferent.TheVariants as all_different
-use Rattle.typed_model.specs.declared.statement.Order.{Order}
 use Rattle.typed_model.specs.declared.statement.Statement.{Statement}
 use Rattle.typed_model.specs.declared.statement.Statement.TheVariants as statement
 use Rattle.typed_model.specs.declared.model.Decl.{Decl}
 use Rattle.typed_model.specs.Names.{statement_of}
 use Rattle.typed_model.specs.Signatures.{signature}
 use Rattle.typed_model.specs.Faults.{numeral_in}
-use Rattle.typed_model.specs.Items.{truth_in, number_in, truths_in, numbers_in, numerals_in, what_of, all_different_what, order_what}
+use Rattle.typed_model.specs.Items.{truth_in, number_in, truths_in, numbers_in, numerals_in, what_of, all_different_what}
 use Rattle.typed_model.specs.Arguments.{Argument, Truth, Number, Truths, Numbers, Numerals, given, arguments_of, statement_in, own_name}
 
 -- the argument that is wanted; no statement keeps a new name or a single numeral

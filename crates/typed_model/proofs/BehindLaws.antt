@@ -1,6 +1,6 @@
 -- A statement holds, and fits, the same when declarations and values are added behind.
 use Rattle.std.proofs.Common.{◌≡◌, ◌↔◌, ◌≤◌, ◌<◌, ℕ, zero, suc, ℤ, pos, Bool, List, [], ◌∷◌, ◌++◌, length, Option, Some, None, IsSomeAnd, arith, refl, sym, ◌∙◌}
-use Rattle.std.specs.Prelude.{slice_get, if◌then◌else◌}
+use Rattle.std.specs.Prelude.{slice_get}
 use Rattle.std.specs.Option.{option_map}
 use Rattle.std.specs.Bool.{Decides}
 use Rattle.typed_model.specs.declared.what.BoolTerm.{BoolTerm}
@@ -15,7 +15,7 @@ use Rattle.typed_model.specs.declared.model.Decl.{Decl}
 use Rattle.typed_model.specs.Terms.{value_at, truth_of, number_of, truths_of, numbers_of}
 use Rattle.typed_model.specs.Signatures.{signature}
 use Rattle.typed_model.specs.Arguments.{Argument, Truth, Number, Truths, Numbers, Numerals, given, arguments_of, statement_in}
-use Rattle.typed_model.specs.Holds.{Holds, holds, truth_or_true, terms_or_none}
+use Rattle.typed_model.specs.Holds.{holds, truth_or_true, terms_or_none}
 use Rattle.typed_model.specs.WellTyped.{TruthFits, NumberFits, TruthsFit, NumbersFit, ArgumentFits, ArgumentsFit, WhatFits}
 use Rattle.typed_model.specs.Laws.{BehindLaw}
 use Rattle.typed_model.proofs.AppendLaws.{WhatFits-append}

@@ -1,21 +1,18 @@
 -- A statement without fault fits the declarations before it.
-use Rattle.std.proofs.Common.{◌≡◌, ℕ, ◌<◌, pos, Bool, true, false, not, ◌&&◌, ◌||◌, List, [], ◌∷◌, length, arith, Option, Some, None, refl, sym, ◌∙◌, map}
+use Rattle.std.proofs.Common.{◌≡◌, ℕ, ◌<◌, pos, Bool, true, false, not, ◌||◌, List, [], ◌∷◌, length, arith, Option, Some, None}
 use Rattle.std.specs.Prelude.{int_lt, nat_eq, slice_get, IfSome, if◌then◌else◌}
 use Rattle.std.proofs.lemmas.Bool.{false≢true, and_parts, or_parts}
 use Rattle.std.proofs.lemmas.Bool.Decides.{nat_tests}
 use Rattle.std.proofs.lemmas.List.{length-map}
 use Rattle.bumblebee_reader.specs.declared.syntax.Arg.{Arg}
 use Rattle.bumblebee_reader.specs.declared.syntax.Arg.TheVariants as arg
-use Rattle.bumblebee_reader.specs.declared.syntax.Term.{Term}
 use Rattle.typed_model.specs.declared.signature.Wanted.{Wanted}
 use Rattle.typed_model.specs.declared.signature.Wanted.TheVariants as wanted
-use Rattle.typed_model.specs.declared.statement.Arithmetic.{Arithmetic}
 use Rattle.typed_model.specs.declared.statement.Arithmetic.TheVariants as arithmetic
 use Rattle.typed_model.specs.declared.statement.Aggregate.{Aggregate}
 use Rattle.typed_model.specs.declared.statement.Aggregate.TheVariants as aggregate
 use Rattle.typed_model.specs.declared.statement.AllDifferent.{AllDifferent}
 use Rattle.typed_model.specs.declared.statement.AllDifferent.TheVariants as all_different
-use Rattle.typed_model.specs.declared.statement.Order.{Order}
 use Rattle.typed_model.specs.declared.statement.Statement.{Statement}
 use Rattle.typed_model.specs.declared.statement.Statement.TheVariants as statement
 use Rattle.typed_model.specs.declared.what.What.{What}
@@ -23,9 +20,8 @@ use Rattle.typed_model.specs.declared.model.Decl.{Decl}
 use Rattle.typed_model.specs.Scope.{truth, number, numeral}
 use Rattle.typed_model.specs.Names.{statement_of}
 use Rattle.typed_model.specs.Signatures.{signature}
-use Rattle.typed_model.specs.Faults.{arg_fits, fit, lists_differ, is_empty, wants_member, least_in, division_domain}
+use Rattle.typed_model.specs.Faults.{arg_fits, fit, lists_differ, is_empty, least_in}
 use Rattle.typed_model.specs.Items.{what_of, terms_in, numbers_in}
-use Rattle.typed_model.specs.Arguments.{Argument, arguments_of, statement_in}
 use Rattle.typed_model.specs.WellTyped.{ArgumentFits, ArgumentsFit, list_length, LengthsFit, IsDivision, ValuesFit, WhatFits}
 use Rattle.typed_model.proofs.TypingLaws.{AllBefore, ArgFits, fit-at, truth-fits, number-fits, truths-fit, numbers-fit, list-member, least-fits, NoFault}
 use Rattle.typed_model.proofs.ArgumentLaws.{argument_in, arguments_in, Reads, reads}

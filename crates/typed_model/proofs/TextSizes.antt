@@ -1,7 +1,7 @@
 -- A text has no more terms than bytes.
-use Rattle.std.proofs.Common.{◌≡◌, ◌≤◌, ◌⊎◌, inl, inr, ℕ, zero, suc, ◌+◌, List, [], ◌∷◌, ◌++◌, length, Option, Some, None, arith}
+use Rattle.std.proofs.Common.{◌≡◌, ◌≤◌, ◌⊎◌, inl, inr, ℕ, zero, suc, ◌+◌, List, [], ◌∷◌, length, Option, Some, None, arith}
 use Rattle.std.proofs.lemmas.List.{length-append}
-use Rattle.bumblebee_reader.specs.Tokens.{Token, TokenAt, Word, Digits, Mark, token_from, length_from, with_token, next_line, tokens_behind, tokens}
+use Rattle.bumblebee_reader.specs.Tokens.{Token, TokenAt, Mark, token_from, length_from, with_token, next_line, tokens_behind, tokens}
 use Rattle.bumblebee_reader.specs.Grammar.{SpellsTerm, SpellsTerms, SpellsMembers, SpellsArg, SpellsArgs, SpellsItem, Spells, kinds, IsText}
 use Rattle.bumblebee_reader.specs.declared.lexeme.Sign.TheVariants.{Comma, CloseList, CloseCall}
 use Rattle.bumblebee_reader.specs.declared.syntax.Syntax.{Syntax}

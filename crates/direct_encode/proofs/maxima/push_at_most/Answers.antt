@@ -1,4 +1,4 @@
-use Rattle.std.proofs.Common.{rules, ◌≡◌, ◌∷◌, [], FitsSigned, ◌∙◌}
+use Rattle.std.proofs.Common.{rules, ◌∷◌, [], FitsSigned, ◌∙◌}
 use mir.Syntax.{w128}
 use Rattle.std.proofs.lemmas.Int.{to_z-of_z}
 use Rattle.order_ints.specs.Truth.{not_atom}

@@ -1,4 +1,4 @@
-use Rattle.std.proofs.Common.{◌≡◌, ◌*ℤ◌, refl, ap, ◌∙◌}
+use Rattle.std.proofs.Common.{◌≡◌, refl}
 use Rattle.order_ints.specs.Walk.{value_at}
 use Rattle.order_ints.proofs.Wide.{small_bits}
 use Rattle.direct_encode.specs.Tables.{product_at}

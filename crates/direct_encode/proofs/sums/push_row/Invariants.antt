@@ -1,6 +1,6 @@
 use Rattle.std.proofs.Common.{◌≡◌, ◌+◌, ◌-◌, ◌++◌}
 use Rattle.core_forms.specs.Shapes.{steps_of}
-use Rattle.direct_encode.specs.Tables.{over_places, row_clauses, sum_pair, sum3_clauses}
+use Rattle.direct_encode.specs.Tables.{over_places, row_clauses, sum_pair}
 use Rattle.direct_encode.proofs.sums.push_row.Given as goal
 
 -- those so far and those of the places that are left are all

@@ -1,4 +1,4 @@
-use Rattle.std.proofs.Common.{◌≡◌, inr, refl, sym, ◌∙◌}
+use Rattle.std.proofs.Common.{inr}
 use Rattle.fixpoint_queue.proofs.LedgerLaws.{adds-trans, closed-none, empty-queue}
 use Rattle.fixpoint_queue.proofs.asking.ask_all.Goals as goal
 

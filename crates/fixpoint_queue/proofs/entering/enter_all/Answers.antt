@@ -1,12 +1,10 @@
-use Rattle.std.proofs.Common.{◌≡◌, ◌⊎◌, ℕ, ◌+◌, ◌≤◌, ◌<◌, List, [], ◌∷◌, length, get_or, take, drop, refl, sym, ap, ◌∙◌, subst, arith, Option, Some, None}
+use Rattle.std.proofs.Common.{◌≡◌, ℕ, ◌+◌, ◌≤◌, [], length, get_or, take, ap, ◌∙◌, arith, Some, None}
 use Rattle.std.specs.Prelude.{Contains}
-use Rattle.std.specs.List.Sorted.{IsStrictlyIncreasing}
-use Rattle.std.proofs.lemmas.List.{at_drop_more, get_or_default}
 use Rattle.core_forms.specs.declared.form.Core.{Core}
 use Rattle.core_occurrences.specs.Lists.{OccurrenceLists, added}
 use Rattle.fixpoint_queue.specs.IdQueue.{with_id}
 use Rattle.step_kernel.proofs.LeastCompound.{core_at-next}
-use Rattle.fixpoint_queue.specs.Standing.{AreVars, all_counted}
+use Rattle.fixpoint_queue.specs.Standing.{AreVars}
 use Rattle.fixpoint_queue.proofs.Entries.{all-of, core-bounds, none-behind, some-inside, length-taken, entered-none, entered-one, listed-at, counted-at}
 use Rattle.fixpoint_queue.proofs.entering.enter_all.Goals as goal
 use Rattle.fixpoint_queue.proofs.entering.enter_all.Goals.{After-as_slice}

@@ -1,8 +1,5 @@
-use Rattle.std.proofs.Common.{◌≡◌, ℕ, ◌+◌, ◌≤◌, ◌<◌, ◌⊎◌, length, take, drop}
-use Rattle.index_ring.specs.Lists.{times}
-use Rattle.core_occurrences.specs.Lists.{IsOccurrences}
-use Rattle.fixpoint_queue.specs.IdQueue.{IsIds}
-use Rattle.fixpoint_queue.specs.Standing.{Stand, all_counted, AreEntered}
+use Rattle.std.proofs.Common.{◌≡◌, ◌+◌, ◌≤◌, drop}
+use Rattle.fixpoint_queue.specs.Standing.{all_counted, AreEntered}
 use Rattle.fixpoint_queue.proofs.entering.enter_all.Given as goal
 
 abbrev pub invariant-loop-vars : goal.invariant-loop-vars

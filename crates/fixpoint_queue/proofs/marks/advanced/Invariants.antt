@@ -1,4 +1,4 @@
-use Rattle.std.proofs.Common.{ℕ, ◌-◌, ◌≤◌, length}
+use Rattle.std.proofs.Common.{◌-◌, ◌≤◌, length}
 use Rattle.fixpoint_queue.specs.Marks.{false_first}
 use Rattle.fixpoint_queue.proofs.marks.advanced.Given as goal
 

@@ -1,7 +1,3 @@
-use Rattle.std.proofs.Common.{Option, Result, Ok}
-use Rattle.std.specs.Prelude.{IfOk, IfNone, ◌≡◌, true}
-use Rattle.core_forms.specs.declared.equation.Equation.{Equation}
-use Rattle.fixpoint_queue.specs.FormInstances.{is_form_instance}
 use Rattle.fixpoint_queue.proofs.Told.{none-told, none-of}
 use Rattle.fixpoint_queue.proofs.oracle.further.Goals as goal
 

@@ -1,4 +1,4 @@
-use Rattle.std.proofs.Common.{◌≡◌, ℕ, ◌≤◌, ◌<◌, ◌⊎◌, inl, inr, List, [], ◌∷◌, length, refl, sym, ap, ◌∙◌, subst, arith, ⊎_elim, Option, Some}
+use Rattle.std.proofs.Common.{◌≡◌, ℕ, ◌≤◌, ◌⊎◌, inl, inr, List, [], ◌∷◌, length, refl, sym, ap, ◌∙◌, subst, arith, ⊎_elim, Option}
 use Rattle.std.specs.Prelude.{IfSome}
 use Rattle.std.proofs.lemmas.Bool.{cases_eq}
 use Rattle.index_ring.specs.Lists.{times, after_in}
@@ -7,7 +7,7 @@ use Rattle.equation_store.specs.Class.{IsMember, IsWalk}
 use Rattle.equation_store.specs.Store.{class_walk}
 use Rattle.core_occurrences.specs.Lists.{Occurs}
 use Rattle.fixpoint_queue.specs.Walks.{rest_from}
-use Rattle.fixpoint_queue.proofs.Waking.{no-constant, rest-first, rest-after, rest-none, walk-has, walk-once}
+use Rattle.fixpoint_queue.proofs.Waking.{rest-first, rest-after, rest-none, walk-has, walk-once}
 use Rattle.fixpoint_queue.proofs.wake.wake.Goals as goal
 use Rattle.fixpoint_queue.proofs.wake.wake.Goals.{After-after-next}
 

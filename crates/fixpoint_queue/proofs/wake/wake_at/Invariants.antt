@@ -1,4 +1,4 @@
-use Rattle.std.proofs.Common.{◌≡◌, ℕ, ◌≤◌, ◌<◌, ◌⊎◌}
+use Rattle.std.proofs.Common.{◌≡◌, ℕ, ◌≤◌, ◌⊎◌}
 use Rattle.std.specs.Prelude.{Contains}
 use Rattle.index_ring.specs.Lists.{times}
 use Rattle.fixpoint_queue.specs.IdQueue.{IsIds}

@@ -1,4 +1,4 @@
-use Rattle.std.proofs.Common.{◌<◌, ◌≤◌, length, to_z, of_z, sym, subst, arith}
+use Rattle.std.proofs.Common.{to_z, of_z, subst, arith}
 use mir.Syntax.{w128}
 use Rattle.std.proofs.lemmas.Int.{to_z-of_z}
 use Rattle.direct_encode.specs.Search.{IsReachedAt}

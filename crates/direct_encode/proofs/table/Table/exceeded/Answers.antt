@@ -1,4 +1,4 @@
-use Rattle.std.proofs.Common.{◌≡◌, ◌+◌, ◌<◌, ◌≤◌, sym, ap, ◌∙◌, arith}
+use Rattle.std.proofs.Common.{◌≡◌, ◌+◌, ◌<◌, sym, ap, ◌∙◌, arith}
 use Rattle.core_forms.specs.Shapes.{steps_of}
 use Rattle.direct_encode.proofs.TableLaws.{table_length, read, at_of-above, at_of-top}
 use Rattle.direct_encode.proofs.table.Table.exceeded.Goals as goal

@@ -1,4 +1,4 @@
-use Rattle.std.proofs.Common.{◌≡◌, List, Bool, length, ap, ◌∙◌, arith, rules}
+use Rattle.std.proofs.Common.{◌≡◌, length, ap, ◌∙◌, arith, rules}
 use Rattle.fixpoint_queue.specs.Marks.{least_marked, false_first}
 use Rattle.fixpoint_queue.proofs.MarkLaws.{marked-found, marked-none}
 use Rattle.fixpoint_queue.proofs.marks.Marks.least.Goals as goal

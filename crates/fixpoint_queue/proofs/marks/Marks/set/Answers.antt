@@ -1,4 +1,4 @@
-use Rattle.std.proofs.Common.{◌-◌, ◌≤◌, arith}
+use Rattle.std.proofs.Common.{◌-◌, arith}
 use Rattle.fixpoint_queue.proofs.MarkLaws.{false-set}
 use Rattle.fixpoint_queue.proofs.marks.Marks.set.Goals as goal
 

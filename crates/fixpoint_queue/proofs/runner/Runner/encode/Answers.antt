@@ -1,4 +1,4 @@
-use Rattle.std.proofs.Common.{◌≡◌, false, Some, Ok, ap, sym, ◌∙◌, rules}
+use Rattle.std.proofs.Common.{◌≡◌, false, Some, Ok, ap, ◌∙◌, rules}
 use Rattle.ledger_text.specs.declared.line.Line.TheVariants.{Encode}
 use Rattle.step_kernel.specs.Kernel.{trimmed_at}
 use Rattle.step_kernel.specs.Steps.{step}

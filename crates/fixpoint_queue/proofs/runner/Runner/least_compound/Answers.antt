@@ -1,6 +1,5 @@
-use Rattle.std.proofs.Common.{◌≡◌, ℕ, [], ap, ◌∙◌}
+use Rattle.std.proofs.Common.{◌≡◌, [], ap, ◌∙◌}
 use Rattle.index_ring.specs.Lists.{times}
-use Rattle.step_kernel.specs.Kernel.{Kernel}
 use Rattle.step_kernel.specs.Least.{least_compound_of}
 use Rattle.fixpoint_queue.specs.Run.{Run}
 use Rattle.fixpoint_queue.proofs.LeastMarks.{least-marked}

@@ -8,7 +8,7 @@ use Rattle.step_kernel.specs.Cursor.{kernel_of, gone_first}
 use Rattle.step_kernel.proofs.Cursors.{gone-append}
 use Rattle.step_kernel.proofs.Splits.{divided-from, divided-room}
 use Rattle.step_kernel.proofs.state.State.divide.Goals as goal
-use Rattle.step_kernel.proofs.state.State.divide.Goals.{After-grow-arg-1, After-take_out-arg-1, After-drop-cores-2}
+use Rattle.step_kernel.proofs.state.State.divide.Goals.{After-take_out-arg-1, After-drop-cores-2}
 
 pub grow-requires : goal.grow-requires
 grow-requires c =

@@ -1,8 +1,8 @@
 -- Variables that are added, each its own label and alone in its ring.
 use Rattle.std.proofs.Common.{◌≡◌, ℕ, zero, suc, ◌+◌, ◌-◌, ◌≤◌, ◌<◌, ◌^◌, false, List, [], ◌∷◌, ◌++◌, length, get_or, replicate, refl, ap, sym, ◌∙◌, subst, arith, ⊎_elim}
-use Rattle.std.specs.Prelude.{if◌then◌else◌, ◌==◌}
+use Rattle.std.specs.Prelude.{◌==◌}
 use Rattle.std.specs.List.{range_with_len}
-use Rattle.std.proofs.lemmas.Bool.{cases_lt, cases_eq, eq-eqb, ne_eqb, cond-true, cond-false}
+use Rattle.std.proofs.lemmas.Bool.{cases_lt, cases_eq, eq-eqb, ne_eqb}
 use Rattle.std.proofs.lemmas.List.{length-append, length-replicate, get_or_append_left, get_or-append_right, get_or-replicate, get_or_default}
 use Rattle.std.proofs.lemmas.List.FromFn.{length-range_with_len, get_or-range_with_len}
 use Rattle.order_ints.specs.declared.atom.Atom.{Atom}
@@ -19,19 +19,6 @@ use Rattle.equation_store.specs.Store.{IsKept}
 use Rattle.equation_store.proofs.Counts.{one_if, IsCounted, walk-from}
 use Rattle.equation_store.proofs.Steps.{walk_of-same, place_after-same}
 use Rattle.equation_store.proofs.Rings.{ring-counted, ring-low}
-
--- a store without variables
-pub kept-none : (labels : List Atom) (sizes next : List ℕ) → labels ≡ [] → sizes ≡ [] → next ≡ [] → IsKept labels sizes next
-kept-none labels sizes next e f g =
-    let no_labels : length labels ≡ 0 = ap length e in
-    let no_sizes : length sizes ≡ 0 = ap length f in
-    let no_next : length next ≡ 0 = ap length g in record {
-      small = omega arith;
-      sizes_are = record { labelled = λ v low high. absurd (omega arith); count = omega arith; sized = λ x low high own. absurd (omega arith) };
-      count = omega arith;
-      walked = λ x low high own. absurd (omega arith);
-      closed = λ x low high own. absurd (omega arith);
-    }
 
 -- sizes of classes in a view that is longer
 class_size-append : (xs ys : List Atom) (x : ℕ) → class_size (xs ++ ys) x ≡ class_size xs x + class_size ys x

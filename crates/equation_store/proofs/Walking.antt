@@ -32,9 +32,6 @@ pub record IsWalking (old labels : List Atom) (x : ℕ) (new : Atom) (walk : Lis
   pub size : length labels ≡ length old
   pub label : (p : ℕ) → p < length old → get_or labels p True ≡ picked (times (p + 1) (take k walk)) (replaced x new (get_or old p True)) (get_or old p True)
 
-pub walking-none : (old : List Atom) (x : ℕ) (new : Atom) (walk : List ℕ) → IsWalking old old x new walk 0
-walking-none old x new walk = record { size = refl; label = λ p h. refl }
-
 -- the member of the walk that is at hand
 module _ (old labels : List Atom) (x : ℕ) (new : Atom) (walk : List ℕ) (h : IsWalk old x walk) (k member : ℕ) (w : IsWalking old labels x new walk k) (more : k < length walk) (at_hand : member ≡ get_or walk k 0) where
   split : walk ≡ take k walk ++ member ∷ drop (k + 1) walk

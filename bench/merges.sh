@@ -105,7 +105,7 @@ fn in_a_row(store: &mut EqStore, given: &mut u64, counts: bool, vars: u32) {
 
 /// Merges pairs, then pairs of pairs, and so on.
 fn in_a_tree(store: &mut EqStore, given: &mut u64, counts: bool, vars: u32) {
-    for level in 0..20_u32 {
+    for level in 0..21_u32 {
         let step = 1_u32 << level;
         for pair in 0..vars / 2 {
             let first = pair.saturating_mul(step).saturating_mul(2).saturating_add(1);
@@ -132,7 +132,7 @@ fn main(rt: HostRuntime) -> io::Result<()> {
     let mut text = Vec::new(rt.alloc());
     rt.reader().read_to_end(&mut text)?;
     let order = text.first().copied().unwrap_or(b'0');
-    let power = u32::from(text.get(1).copied().unwrap_or(b'0').saturating_sub(b'0').min(9));
+    let power = u32::from(text.get(1).copied().unwrap_or(b'a').saturating_sub(b'a').min(10));
     let vars = 2_048_u32 << power;
     let counts = text.get(2).copied() == Some(b'c');
     let mut given = 0_u64;
@@ -152,7 +152,7 @@ import math, os, subprocess, sys
 
 def run(order, power, counts=""):
     p = subprocess.Popen([sys.argv[1]], stdin=subprocess.PIPE, stdout=subprocess.PIPE)
-    p.stdin.write(f"{order}{power}{counts}".encode())
+    p.stdin.write((order + chr(ord("a") + power) + counts).encode())
     p.stdin.close()
     out = p.stdout.read().split()
     _, status, usage = os.wait4(p.pid, 0)
@@ -165,7 +165,7 @@ for order, name in (("r", "row"), ("t", "tree"), ("x", "random")):
         seconds[power], peak[power], n, _ = min(run(order, power) for _ in range(3))
         given = run(order, power, "c")[3]
         print(f"{name:6} {n:8} variables: {seconds[power]:.3f} s, {given} new labels ({given / (n * math.log2(n)):.2f} n log n)")
-    # What the program holds from the start serves the first variables, so memory is told of those of the greatest run alone.
+    # A peak counts what python held when it began the program, so memory is told of variables past those that take as much.
     print(f"{name:6} growth exponent {math.log(seconds[9] / seconds[6]) / math.log(8):.2f}, "
-          f"{(peak[9] - peak[8]) / (n - n // 2):.1f} bytes for each further variable")
+          f"{(run(order, 10)[1] - peak[9]) / n:.1f} bytes for each further variable")
 PY

@@ -15,6 +15,7 @@ use crate::relabel::{Merged, change_between, merge_labels};
 use order_ints::Atom;
 use std::alloc::{AllocError, Global};
 use std::marker::Model;
+use std::mem::size_of;
 
 /// Equations between literals: each variable has a label, a constant or a literal of a variable that is
 /// its own label, and is as true as its label. The variables whose labels are literals of the same
@@ -28,6 +29,8 @@ pub struct EqStore {
     /// The variable behind each one in the ring of its class.
     next: Vec<u32>,
 }
+
+const _: () = prove!(size_of::<Atom>() + 2 * size_of::<u32>() <= 20);
 
 impl Model for EqStore {
     ghost use Rattle.equation_store.specs.Store.{Store, IsKept, store_of};
@@ -141,7 +144,7 @@ impl EqStore {
         ensures walk { IsWalk self.now.view label (class_walk self.now label) }
         ensures member { IfSome result (IsMember self.now.view label) }
     {
-        let _ = &self.next;
+        let _ = &self.next; // its use brings in what the store keeps
         Some(label)
     }
 

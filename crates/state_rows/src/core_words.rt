@@ -2,7 +2,8 @@
 //! to 2 whose steps are the variables 6 and 7.
 
 ghost use Rattle.std.specs.Prelude.{◌≡◌, ◌<◌, ◌≤◌, length, IfOk};
-ghost use Rattle.core_forms.specs.WellFormed.{IsSound, AreSound, greatest_abs, IsWellFormed, AreWellFormed};
+ghost use Rattle.core_forms.specs.WellFormed.{IsSound, AreSound, greatest_abs, IsWellFormed};
+ghost use Rattle.core_forms.specs.Cores.{AreWellFormed};
 
 use crate::words::{atom, word};
 use bee_list::Sequence;
@@ -99,12 +100,23 @@ fn count(rt: &impl Abort, alloc: Global, text: &str) -> Result<Core, AllocError>
     Core::count(alloc, atoms(rt, alloc, text, 2)?, c)
 }
 
+/// The truth of an integer being at most another.
+fn leq_r(rt: &impl Abort, alloc: Global, text: &str) -> Result<Core, AllocError>
+    ensures { IfOk result (λ core. IsWellFormed core) }
+{
+    let r = atom(rt, word(text, 1));
+    let a = int(rt, alloc, word(text, 2))?;
+    let b = int(rt, alloc, word(text, 3))?;
+    Core::leq_r(alloc, r, a, b)
+}
+
 /// A form over integers.
 fn of_ints(rt: &impl Abort, alloc: Global, text: &str) -> Result<Core, AllocError>
     ensures { IfOk result (λ core. IsWellFormed core) }
 {
     match word(text, 0) {
         "Ladder" => Core::ladder(alloc, int(rt, alloc, word(text, 1))?),
+        "LeqR" => leq_r(rt, alloc, text),
         "Sum3" => sum3(rt, alloc, text),
         "Count" => count(rt, alloc, text),
         "Lex" => lex(rt, alloc, text),
@@ -113,7 +125,7 @@ fn of_ints(rt: &impl Abort, alloc: Global, text: &str) -> Result<Core, AllocErro
 }
 
 /// A core.
-fn core(rt: &impl Abort, alloc: Global, text: &str) -> Result<Core, AllocError>
+fn core_of(rt: &impl Abort, alloc: Global, text: &str) -> Result<Core, AllocError>
     ensures { IfOk result (λ core. IsWellFormed core) }
 {
     match word(text, 0) {
@@ -126,16 +138,12 @@ fn core(rt: &impl Abort, alloc: Global, text: &str) -> Result<Core, AllocError>
 }
 
 /// Cores.
-pub(super) fn cores(
-    rt: &impl Abort,
-    alloc: Global,
-    texts: &[&str],
-) -> Result<Vec<Core>, AllocError>
+pub(super) fn cores(rt: &impl Abort, alloc: Global, texts: &[&str]) -> Result<Vec<Core>, AllocError>
     ensures { IfOk result (λ cores. AreWellFormed cores.items) }
 {
     let mut cores = Vec::new(alloc);
     for text in texts {
-        cores.push(core(rt, alloc, text)?)?;
+        cores.push(core_of(rt, alloc, text)?)?;
     }
     Ok(cores)
 }

@@ -8,16 +8,20 @@ use step_kernel::{ApplyFault, State, StepFault};
 
 /// Lines, and what stands against each; a step is made where nothing does. The cores are `Clause 1 2`,
 /// `Parity odd 1 2 3 4`, `Parity even 5 6` and `Parity odd 5 6`.
-static FAULTS: [(&str, Option<StepFault>); 31] = [
+static FAULTS: [(&str, Option<StepFault>); 32] = [
     ("enc 1", None),
     // Ids that are gone, or not there: an instance of another core, no compound core, no basic one.
     ("eq 1 form 5 6", Some(StepFault::NoSuch(1))),
     ("split 1", Some(StepFault::NoSuch(1))),
     ("enc 1", Some(StepFault::NoSuch(1))),
+    ("enc 0", Some(StepFault::NoSuch(0))),
     ("eq 5 form 5 6", Some(StepFault::NoSuch(5))),
     ("split 5", Some(StepFault::NoSuch(5))),
     ("enc 5", Some(StepFault::NoSuch(5))),
-    ("eq 18446744073709551615 form 5 6", Some(StepFault::NoSuch(u64::MAX))),
+    (
+        "eq 18446744073709551615 form 5 6",
+        Some(StepFault::NoSuch(u64::MAX)),
+    ),
     // An instance of another core, another rule, another sign, one atom twice, a variable that isn't there.
     ("eq 2 form 5 6", Some(StepFault::NotInstance)),
     ("eq 3 order 5 6", Some(StepFault::NotInstance)),
@@ -92,7 +96,12 @@ fn meet_all(
 
 #[test]
 fn faults(rt: HostRuntime) -> Result<(), AllocError> {
-    let cores = ["Clause 1 2", "Parity odd 1 2 3 4", "Parity even 5 6", "Parity odd 5 6"];
+    let cores = [
+        "Clause 1 2",
+        "Parity odd 1 2 3 4",
+        "Parity even 5 6",
+        "Parity odd 5 6",
+    ];
     meet_all(&rt, rt.alloc(), &cores, &FAULTS)
 }
 
@@ -128,7 +137,12 @@ static CLASH_OF_CONSTANTS: [(&str, &str); 2] = [
 #[test]
 fn clashes(rt: HostRuntime) -> Result<(), AllocError> {
     let alloc = rt.alloc();
-    let cores = ["Parity odd 1 2", "Parity even 1 2", "Amo 1 2 3 4 5", "Clause 3 -1"];
+    let cores = [
+        "Parity odd 1 2",
+        "Parity even 1 2",
+        "Amo 1 2 3 4 5",
+        "Clause 3 -1",
+    ];
     walk_both(&rt, alloc, 5, &cores, &CLASH)?;
     walk_both(&rt, alloc, 1, &["Clause"], &CLASH_OF_CONSTANTS)
 }

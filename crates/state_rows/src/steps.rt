@@ -184,6 +184,25 @@ static ENCODING_AS_THE_STORE_HAS_IT: [(&str, &str); 3] = [
     ),
 ];
 
+/// An integer whose two steps have become one gives the clauses of that one.
+static ENCODING_OF_A_MERGED_INTEGER: [(&str, &str); 3] = [
+    (
+        "start",
+        "5: 1 2 3 4 5; #1 LeqR 1 (0 2 3) (0 4 5); #2 Parity even 2 3; next 3; least 1 none; cnf 5",
+    ),
+    (
+        "eq 2 form 2 3",
+        "5: 1 2 2 4 5; #1 LeqR 1 (0 2 3) (0 4 5) is LeqR 1 (0 2:2) (0 4 5); #2 Parity even 2 3 is Parity even 2 2; next 3; least 1 none; cnf 5",
+    ),
+    (
+        "enc 1",
+        "5: 1 2 2 4 5; #2 Parity even 2 3 is Parity even 2 2; next 3; least 2 none; cnf 5 (4 -5) (-1 -2 5) (1 2) (1 2 -4) (1 -5)",
+    ),
+];
+
+/// No variable and no core.
+static NOTHING: [(&str, &str); 1] = [("start", "0:; next 1; least none none; cnf 0")];
+
 /// A sum is basic, and compound once it is constant.
 static SUM_BECOMES_COMPOUND: [(&str, &str); 2] = [
     (
@@ -224,11 +243,15 @@ fn encodings(rt: HostRuntime) -> Result<(), AllocError> {
     let before = ["Conj 3 1 2", "Clause 1 2 4", "Parity even 1 2", "Clause -3"];
     walk_both(&rt, alloc, 4, &before, &ENCODINGS_BEFORE_EQUATIONS)?;
     let stored = ["Parity odd 1 2 3 4", "Clause -4"];
-    walk_both(&rt, alloc, 4, &stored, &ENCODING_AS_THE_STORE_HAS_IT)
+    walk_both(&rt, alloc, 4, &stored, &ENCODING_AS_THE_STORE_HAS_IT)?;
+    let merged = ["LeqR 1 2+2 4+2", "Parity even 2 3"];
+    walk_both(&rt, alloc, 5, &merged, &ENCODING_OF_A_MERGED_INTEGER)
 }
 
 #[test]
-fn sum_becomes_compound(rt: HostRuntime) -> Result<(), AllocError> {
+fn least_ids(rt: HostRuntime) -> Result<(), AllocError> {
+    let alloc = rt.alloc();
+    walk_both(&rt, alloc, 0, &[], &NOTHING)?;
     let cores = ["Clause 25", "Sum3 1+10 11+14 25+1"];
-    walk_both(&rt, rt.alloc(), 25, &cores, &SUM_BECOMES_COMPOUND)
+    walk_both(&rt, alloc, 25, &cores, &SUM_BECOMES_COMPOUND)
 }

@@ -8,6 +8,7 @@ ghost use Rattle.step_kernel.specs.Kernel.{core_at, trimmed_at, IsKernel};
 ghost use Rattle.step_kernel.specs.Least.{is_compound_if, least_compound_of};
 ghost use Rattle.step_kernel.specs.Steps.{step};
 ghost use Rattle.fixpoint_queue.specs.Ledgers.{AddsEquations};
+ghost use Rattle.fixpoint_queue.specs.Pairs.{IsCounted};
 ghost use Rattle.fixpoint_queue.specs.Quiet.{IsClosed};
 
 use crate::asking::ask_all;
@@ -99,6 +100,11 @@ impl<F: Oracle> Runner<F> {
         ensures empty { OnOk result (self.new.kernel.bottom ≡ true ⊎ self.new.queued ≡ []) }
         ensures closed { OnOk result (self.new.kernel.bottom ≡ true ⊎ IsClosed F.told self.new.kernel) }
         ensures kernel { IsKernel self.new.kernel }
+
+        // Three counts at most for each core that was queued, and for each pair of a pending core and one of its
+        // variables that got a new label.
+        ensures counted { IsCounted self.old.kernel self.old.ledger self.new.ledger
+            (length self.old.queued) steps.old steps.new 0 }
     {
         let alloc = *self.ledger.allocator();
         ask_all(

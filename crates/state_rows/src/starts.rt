@@ -1,6 +1,6 @@
 //! States that begin with cores in words.
 
-ghost use Rattle.std.specs.Prelude.{◌+◌, ◌≤◌, IfOk, IsTrue};
+ghost use Rattle.std.specs.Prelude.{◌≤◌, IfOk, IsTrue};
 ghost use Rattle.order_ints.specs.Place.{AtomBelow, AtomsBelow, StepsBelow};
 ghost use Rattle.core_forms.specs.Contents.{ints_of, atoms_of};
 ghost use Rattle.core_forms.specs.Place.{IntsBelow, CoreBelow};

@@ -1,10 +1,10 @@
 -- The queue and the counter after a question.
-use Rattle.std.proofs.Common.{◌≡◌, ◌⊎◌, inl, inr, ℕ, zero, suc, ◌+◌, ◌*◌, ◌≤◌, ◌<◌, ◌==◌, Bool, true, false, not, List, [], ◌∷◌, ◌++◌, length, get_or, Contains, refl, sym, ap, ◌∙◌, subst, arith, append_assoc, ⊎_elim, Option, Some, None, Result, Ok, Err}
+use Rattle.std.proofs.Common.{◌≡◌, ◌⊎◌, inl, inr, ℕ, zero, suc, ◌+◌, ◌≤◌, ◌<◌, ◌==◌, Bool, true, false, not, List, [], ◌∷◌, ◌++◌, length, get_or, Contains, refl, sym, ap, ◌∙◌, subst, arith, append_assoc, ⊎_elim, Option, Some, None, Result, Ok}
 use Rattle.std.specs.Prelude.{◌≢◌, option_map, is_some, IsSomeAnd, MatchOption, if◌then◌else◌}
 use Rattle.std.proofs.lemmas.Option.{none-some}
 use Rattle.std.proofs.lemmas.Bool.{false≢true, cases_eq, cases_lt}
 use Rattle.std.proofs.lemmas.Bool.Decides.{nat_tests}
-use Rattle.std.proofs.lemmas.List.{append_cancel_left, append-nil}
+use Rattle.std.proofs.lemmas.List.{append_cancel_left}
 use Rattle.order_ints.specs.declared.atom.Atom.{Atom}
 use Rattle.order_ints.specs.declared.atom.Atom.TheVariants.{True, False, Of}
 use Rattle.order_ints.specs.declared.literal.Lit.{Lit}
@@ -21,7 +21,7 @@ use Rattle.core_forms.proofs.VariableLaws.{none_there, own_var, OfVars, each_var
 use Rattle.rule_base.specs.Pairs.{IsClosed}
 use Rattle.equation_store.specs.declared.relabel.Change.{Change}
 use Rattle.equation_store.specs.Class.{IsMember, is_of}
-use Rattle.equation_store.specs.Merge.{change_of, change_by, change_to, losing_by, loser_of, replaced, merged, changed_by}
+use Rattle.equation_store.specs.Merge.{change_of, change_by, change_to, losing_by, loser_of, merged}
 use Rattle.equation_store.specs.Class.{class_size}
 use Rattle.equation_store.proofs.Changes.{merge_changes}
 use Rattle.index_ring.specs.Lists.{times, without}
@@ -36,7 +36,7 @@ use Rattle.step_kernel.specs.Steps.{step, equated}
 use Rattle.step_kernel.proofs.InstanceLaws.{instance-each}
 use Rattle.step_kernel.proofs.Splits.{there-bounds}
 use Rattle.step_kernel.proofs.There.{is-there, there-labels}
-use Rattle.fixpoint_queue.specs.IdQueue.{Ids, IsIds}
+use Rattle.fixpoint_queue.specs.IdQueue.{Ids}
 use Rattle.fixpoint_queue.specs.Ledgers.{Leads, AddsEquations}
 use Rattle.fixpoint_queue.specs.Pairs.{is_relabelled, relabelled_pairs, pairs_between, pairs_to, pairs_along, IsCounted}
 use Rattle.fixpoint_queue.specs.Waits.{IsRun, IsWoken, IsWokenFor, left_to_ask}

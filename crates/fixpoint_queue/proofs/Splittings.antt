@@ -1,7 +1,6 @@
 -- The state after a split.
 use Rattle.std.proofs.Common.{◌≡◌, ◌⊎◌, inl, inr, ℕ, zero, suc, ◌+◌, ◌-◌, ◌≤◌, ◌<◌, ◌^◌, ◌==◌, Bool, true, false, List, [], ◌∷◌, ◌++◌, map, length, get_or, set, take, refl, sym, ap, ◌∙◌, subst, arith, ⊎_elim, Option, Some, None, Result, Ok, Err}
 use Rattle.std.specs.Prelude.{option_map, if◌then◌else◌}
-use Rattle.std.proofs.lemmas.Option.{none-some}
 use Rattle.std.proofs.lemmas.Bool.{cases_eq, cond-false, ne_eqb}
 use Rattle.std.proofs.lemmas.Bool.Decides.{nat_tests}
 use Rattle.std.proofs.lemmas.List.{length-set, length-append, length-map, get_or_append_left, get_or-append-add, take_all}
@@ -20,7 +19,7 @@ use Rattle.index_ring.proofs.Times.{times-without}
 use Rattle.step_kernel.specs.declared.fault.StepFault.{StepFault}
 use Rattle.step_kernel.specs.declared.fault.StepFault.TheVariants.{AfterBottom, NotCompound}
 use Rattle.step_kernel.specs.Kernel.{Kernel, core_at, trimmed_at, IsKernel}
-use Rattle.step_kernel.specs.Parts.{parts_at, is_compound_of}
+use Rattle.step_kernel.specs.Parts.{parts_at}
 use Rattle.step_kernel.specs.SplitAt.{ArePartsAt}
 use Rattle.step_kernel.specs.Steps.{step, step_at, unless_fault, divided, without}
 use Rattle.step_kernel.proofs.Costs.{trimmed-more}
@@ -34,7 +33,7 @@ use Rattle.fixpoint_queue.specs.Listed.{IsListed}
 use Rattle.fixpoint_queue.specs.Standing.{Stand, AreVars, AreAllVars, AreVarsFrom, AreEntered, all_counted}
 use Rattle.fixpoint_queue.specs.Waits.{IsRun}
 use Rattle.fixpoint_queue.specs.Wider.{IsWider, HasRoom}
-use Rattle.fixpoint_queue.proofs.NextRun.{Goes, Queues, Marked, run-next, marked-gone, mapped}
+use Rattle.fixpoint_queue.proofs.NextRun.{Goes, Queues, run-next, marked-gone, mapped}
 use Rattle.fixpoint_queue.proofs.Stood.{core_at-without, core_at-gone, stand-removed}
 use Rattle.fixpoint_queue.proofs.Widened.{run-wider}
 

@@ -1,5 +1,5 @@
 -- More places leave what stands in them.
-use Rattle.std.proofs.Common.{◌≡◌, ℕ, ◌≤◌, Bool, List, [], ◌++◌, length, replicate, refl, sym, ap, ◌∙◌, subst, arith, Contains}
+use Rattle.std.proofs.Common.{◌≡◌, ℕ, Bool, List, [], length, replicate, refl, sym, ap, ◌∙◌, subst, arith, Contains}
 use Rattle.std.proofs.lemmas.List.{length-append}
 use Rattle.core_forms.specs.declared.equation.Equation.{Equation}
 use Rattle.core_forms.specs.declared.form.Core.{Core}
@@ -9,7 +9,7 @@ use Rattle.index_ring.specs.Lists.{times}
 use Rattle.step_kernel.specs.Kernel.{Kernel}
 use Rattle.fixpoint_queue.specs.IdQueue.{Ids}
 use Rattle.fixpoint_queue.specs.Listed.{IsListed}
-use Rattle.fixpoint_queue.specs.Waits.{IsRun, Waits, AreMarked}
+use Rattle.fixpoint_queue.specs.Waits.{IsRun, Waits}
 use Rattle.fixpoint_queue.specs.Wider.{AreWider, IsWider}
 
 pub wider-same : (occurs : OccurrenceLists) → IsOccurrences occurs → AreWider occurs occurs

@@ -1,5 +1,4 @@
-use Rattle.std.proofs.Common.{◌≡◌, ◌⊎◌, ℕ, ◌≤◌, ◌<◌, List, length, sym, ap, ◌∙◌, subst, arith, take, Ok}
-use Rattle.ledger_text.specs.declared.line.Line.TheVariants.{Split}
+use Rattle.std.proofs.Common.{◌≡◌, ◌⊎◌, ℕ, ◌≤◌, ◌<◌, List, length, sym, ap, ◌∙◌, subst, arith, take}
 use Rattle.index_ring.specs.Lists.{times}
 use Rattle.step_kernel.specs.Kernel.{Kernel}
 use Rattle.step_kernel.specs.Steps.{step, divided}

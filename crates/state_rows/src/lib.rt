@@ -14,6 +14,8 @@ mod occurrence_lists;
 #[cfg(test)]
 mod rings;
 #[cfg(test)]
+mod saturations;
+#[cfg(test)]
 mod starts;
 #[cfg(test)]
 mod state_text;

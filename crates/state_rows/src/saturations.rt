@@ -40,7 +40,7 @@ static TOLD: [Row; 5] = [
     (
         5,
         &["Ladder 2+2", "LeqR 1 2+2 4+2", "Clause 1", "Clause 3"],
-        "eq 3 form 1 T; eq 4 form 3 T; eq 2 form 4 T; eq 1 order 2 T; eq 2 form 5 T",
+        "eq 3 form 1 T; eq 4 form 3 T; eq 2 order 2 T; eq 2 form 5 T; eq 2 order 4 T",
         "5: T T T T T; #1 Ladder (0 2 3) is Ladder (2); #2 LeqR 1 (0 2 3) (0 4 5) is LeqR T (2) (2); #3 Clause 1 is Clause T; #4 Clause 3 is Clause T; next 5; least 1 none; cnf 5",
     ),
     (0, &[], "", "0:; next 1; least none none; cnf 0"),

@@ -17,7 +17,7 @@ use Rattle.order_ints.proofs.Multiples.{value_of-scaled_of, IsOrdered-scaled_of,
 use Rattle.core_forms.specs.Values as forms
 use Rattle.core_forms.specs.Meaning.{core_truth}
 use Rattle.core_forms.specs.Place.{CoreBelow, IntsBelow}
-use Rattle.core_forms.specs.WellFormed.{IsSound, AreSound, IsWellFormed, greatest_abs, abs_total}
+use Rattle.core_forms.specs.WellFormed.{AreSound, IsWellFormed, greatest_abs, abs_total}
 use Rattle.core_forms.proofs.IntLists.{all_ordered-append, values-append, total-append}
 use Rattle.core_forms.proofs.Limits.{times-le}
 use Rattle.typed_model.specs.Integers.{weight_of_true, linear_sum}

@@ -1,5 +1,5 @@
 -- The members of a linear statement, as they are made one by one.
-use Rattle.std.proofs.Common.{◌≡◌, ℕ, suc, ◌+◌, ◌*◌, ◌<◌, ◌≤◌, ◌^◌, ℤ, pos, ◌+ℤ◌, Bool, true, false, cond, not, List, [], ◌∷◌, ◌++◌, length, get_or, map, drop, min, inl, inr, refl, sym, ap, subst, ◌∙◌, arith}
+use Rattle.std.proofs.Common.{◌≡◌, ℕ, suc, ◌+◌, ◌*◌, ◌<◌, ◌≤◌, ℤ, pos, ◌+ℤ◌, Bool, true, false, cond, not, List, [], ◌∷◌, ◌++◌, length, get_or, drop, min, inl, inr, refl, sym, ap, subst, ◌∙◌, arith}
 use Rattle.std.specs.Prelude.{◌==◌, unsigned_abs, filter, if◌then◌else◌}
 use Rattle.std.proofs.lemmas.Bool.{cases_lt}
 use Rattle.std.proofs.lemmas.Bool.Decides.{nat_tests}
@@ -10,10 +10,9 @@ use Rattle.order_ints.specs.declared.order_int.OrdInt.{OrdInt}
 use Rattle.order_ints.specs.declared.order_int.MapValue.{MapValue}
 use Rattle.order_ints.specs.OrderMade.{integer_of_atom}
 use Rattle.order_ints.specs.OrderChange.{scaled_of}
-use Rattle.core_forms.specs.WellFormed.{greatest_abs}
 use Rattle.typed_model.specs.declared.what.BoolTerm.{BoolTerm}
 use Rattle.typed_model.specs.declared.what.IntTerm.{IntTerm}
-use Rattle.statement_lower.specs.Terms.{atom_of, atoms_of, integer_of, integers_of}
+use Rattle.statement_lower.specs.Terms.{atom_of, integer_of}
 use Rattle.statement_lower.specs.Linear.{scaled_each, has_steps, with_steps, constant_of_members, AreSummands}
 use Rattle.statement_lower.specs.Lines.{scaled_truths, scaled_integers}
 

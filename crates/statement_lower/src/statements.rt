@@ -101,7 +101,15 @@ pub fn made_of(
         } => {
             let coefficients = coefficients.as_slice();
             let members = members.as_slice();
-            truths_made(alloc, entries, vars, *relation, coefficients, members, *bound)
+            truths_made(
+                alloc,
+                entries,
+                vars,
+                *relation,
+                coefficients,
+                members,
+                *bound,
+            )
         }
         What::L12 {
             relation,
@@ -118,7 +126,15 @@ pub fn made_of(
         } => {
             let coefficients = coefficients.as_slice();
             let members = members.as_slice();
-            multiples_made(alloc, entries, vars, *relation, coefficients, members, *bound)
+            multiples_made(
+                alloc,
+                entries,
+                vars,
+                *relation,
+                coefficients,
+                members,
+                *bound,
+            )
         }
         What::L14 {
             operation,

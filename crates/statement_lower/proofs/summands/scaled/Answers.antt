@@ -1,4 +1,5 @@
-use Rattle.std.proofs.Common.{◌≡◌, w128, FitsSigned, rules}
+use Rattle.std.proofs.Common.{◌≡◌, FitsSigned, rules}
+use Rattle.std.specs.Int.{w128}
 use Rattle.std.proofs.lemmas.Int.{to_z-of_z}
 use Rattle.statement_lower.proofs.LinearLaws.{scaled-bounded}
 use Rattle.statement_lower.proofs.summands.scaled.Goals as goal

@@ -1,10 +1,21 @@
-use Rattle.std.proofs.Common.{rules, ◌≡◌, ◌∷◌, sym, subst}
+use Rattle.std.proofs.Common.{rules, ◌≡◌, ◌∷◌, refl, sym, ap, subst, ◌∙◌}
 use Rattle.std.specs.Prelude.{reverse}
+use Rattle.std.proofs.lemmas.List.{reverse-reverse}
 use Rattle.model_lower.specs.Items.{Declaration, Statement, items_of}
 use Rattle.model_lower.specs.Lowering.{lowered_items, nothing_lowered}
 use Rattle.bee_compile.proofs.Merging.{declaration-next}
-use Rattle.bee_compile.proofs.Steps.{Compiling, may-add, added}
+use Rattle.bee_compile.proofs.Steps.{Compiling, items-in_limit, may-add, added}
 use Rattle.bee_compile.proofs.compiling.compile_items.Goals as goal
+
+pub loop-stmt-init : goal.loop-stmt-init
+loop-stmt-init c =
+    let ds = c.args.decls.now in
+    let ss = c.args.stmts.items in
+    let all = lowered_items nothing_lowered (items_of ds ss) in
+    let same : reverse c.reverse.new.self.items ≡ ss = ap reverse c.reverse.ensures.items ∙ reverse-reverse ss in
+    let start : Compiling c.new-progress.result (items_of ds ss) all =
+    record { l = nothing_lowered; here = c.new-progress.ensures; rest = refl; built = c.requires.built; in_limit = tt; limits = items-in_limit ds ss c.requires.decls c.requires.stmts } in
+    subst (λ ss. Compiling c.new-progress.result (items_of ds ss) all) (sym same) start
 
 pub add_statement-requires-clause-fits : goal.add_statement-requires-clause-fits
 add_statement-requires-clause-fits c =

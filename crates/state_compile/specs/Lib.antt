@@ -1,0 +1,3 @@
+pub mod Compilation
+pub mod Answers
+pub mod Size

@@ -1,5 +1,5 @@
 -- What the least ids tell.
-use Rattle.std.proofs.Common.{◌≡◌, ℕ, zero, suc, ◌+◌, Bool, true, false, List, [], ◌∷◌, refl, sym, ap, ◌∙◌, subst, arith, Option, Some, None}
+use Rattle.std.proofs.Common.{◌≡◌, ℕ, zero, suc, ◌+◌, Bool, true, false, not, List, [], ◌∷◌, refl, sym, ap, ◌∙◌, arith, Option, Some, None}
 use Rattle.std.specs.Prelude.{option_map, slice_index_or, if◌then◌else◌}
 use Rattle.std.proofs.lemmas.Bool.{true≢false}
 use Rattle.std.proofs.lemmas.Option.{none-some}
@@ -81,7 +81,7 @@ pub compound-if : (k : Kernel) (id : ℕ) → least_compound_of k ≡ Some id �
 compound-if k id least = let c = compound-there k id least in ap is_compound_if c.there ∙ c.compound
 
 -- the least core, where none is compound
-is-basic : (b : Bool) → (if b then false else true) ≡ false → b ≡ true
+is-basic : (b : Bool) → not b ≡ false → b ≡ true
 is-basic true h = refl
 is-basic false h = absurd (true≢false h)
 

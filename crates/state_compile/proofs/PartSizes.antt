@@ -54,7 +54,7 @@ none-map f h (x ∷ xs) = omega (arith, h x, none-map f h xs)
 
 marks-none : (var : ℕ) (a : OrdInt) (c : Atom) (vs : List ℤ) → total_members (mark_cores var a c vs) ≡ 0
 marks-none var a c [] = refl
-marks-none var a c (v ∷ vs) = marks-none (var + 1) a c vs
+marks-none var a c (v ∷ vs) = omega (arith, marks-none (var + 1) a c vs)
 
 all-marks-none : (var : ℕ) (ints : List OrdInt) (cs : List Atom) → total_members (all_mark_cores var ints cs) ≡ 0
 all-marks-none var [] cs = refl
@@ -67,19 +67,19 @@ reached-none : (ints : List OrdInt) (cs : List Atom) (vs : List ℤ) (marks : Li
 reached-none ints cs vs marks = by (are_true cs && (length vs == length ints))
   where
     by : (b : Bool) → total_members (if b then map (λ v. Clause (marked v marks)) vs else []) ≡ 0
-    by true = none-map (λ v. Clause (marked v marks)) (λ v. refl) vs
+    by true = none-map (λ (v : ℤ). Clause (marked v marks)) (λ v. refl) vs
     by false = refl
 
 differing-none : (next : ℕ) (ints : List OrdInt) (cs : List Atom) → total_members (differing_parts next ints cs).cores ≡ 0
 differing-none next ints cs =
     let vs = ascending (all_values ints) in
     let marks = marks_from next (all_values ints) in
-    let amos = map (λ v. Amo (marked v marks)) vs in
+    let amos = map (λ (v : ℤ). Amo (marked v marks)) vs in
     let reached = reached_cores ints cs vs marks in
-    none-append (map (λ a. Ladder a) ints) (all_mark_cores next ints cs ++ (amos ++ reached))
-    (none-map (λ a. Ladder a) (λ a. refl) ints)
+    none-append (map (λ (a : OrdInt). Ladder a) ints) (all_mark_cores next ints cs ++ (amos ++ reached))
+    (none-map (λ (a : OrdInt). Ladder a) (λ a. refl) ints)
     (none-append (all_mark_cores next ints cs) (amos ++ reached) (all-marks-none next ints cs)
-    (none-append amos reached (none-map (λ v. Amo (marked v marks)) (λ v. refl) vs) (reached-none ints cs vs marks)))
+    (none-append amos reached (none-map (λ (v : ℤ). Amo (marked v marks)) (λ v. refl) vs) (reached-none ints cs vs marks)))
 
 -- ---- counts
 
@@ -90,11 +90,10 @@ half-members next (l ∷ m ∷ ls) = omega arith
 
 halves-members : (next : ℕ) (front back : List Atom) (c : OrdInt) → total_members (halves_parts next front back c).cores ≤ (halves_parts next front back c).fresh + (length front + length back)
 halves-members next front back c =
-    let sum = Sum3 (half_int next front) (half_int (next + half_fresh front) back) c in
     omega (
       arith,
-      members-append (half_cores next front) (half_cores (next + half_fresh front) back ++ sum ∷ []),
-      members-append (half_cores (next + half_fresh front) back) (sum ∷ []),
+      members-append (half_cores next front) (half_cores (next + half_fresh front) back ++ Sum3 (half_int next front) (half_int (next + half_fresh front) back) c ∷ []),
+      members-append (half_cores (next + half_fresh front) back) (Sum3 (half_int next front) (half_int (next + half_fresh front) back) c ∷ []),
       half-members next front,
       half-members (next + half_fresh front) back,
     )
@@ -109,7 +108,7 @@ count-members next ls c =
 row-none : (fresh : ℕ) (ds es : List Atom) → total_members (row_cores fresh ds es) ≡ 0
 row-none fresh [] es = refl
 row-none fresh (d ∷ ds) [] = refl
-row-none fresh (d ∷ ds) (e ∷ es) = row-none (fresh + 2) ds es
+row-none fresh (d ∷ ds) (e ∷ es) = omega (arith, row-none (fresh + 2) ds es)
 
 network-none : (next : ℕ) (a b c : OrdInt) (g : ℕ) (ls ms : List Atom) → total_members (network_parts next a b c g ls ms).cores ≡ 0
 network-none next a b c g ls ms =

@@ -33,7 +33,7 @@ module _ (told : Core → Equation → Type 0) where
       omega (arith, split-size old mid id c.core is c.there c.compound made, equations-size told mid new equations.added kept.kernel equations.leads equations.equations)
 
 -- what holds unless at bottom holds of a state that goes on
-pub unless-bottom : {ℓ} {P : Type ℓ} (b : Bool) → (b ≡ true) ⊎ P → b ≡ false → P
+pub unless-bottom : {P : Type 0} (b : Bool) → (b ≡ true) ⊎ P → b ≡ false → P
 unless-bottom b h running = ⊎_elim (λ t. absurd (true≢false (sym t ∙ running))) (λ p. p) h
 
 -- a compilation, from the ledger without a line

@@ -3,13 +3,13 @@ use Rattle.state_compile.proofs.InOrder.{order-leads}
 use Rattle.state_compile.proofs.laws.compilation_law.Goals as goal
 
 pub returns-clause-leads : goal.returns-clause-leads
-returns-clause-leads c told start last ledger h = order-leads told start last ledger h.lines
+returns-clause-leads g c start last ledger h = order-leads g.F.Oracle.told start last ledger h.lines
 
 pub returns-clause-kernel : goal.returns-clause-kernel
-returns-clause-kernel c told start last ledger is h = (compilation-kept told start last ledger is h).kernel
+returns-clause-kernel g c start last ledger is h = (compilation-kept g.F.Oracle.told start last ledger is h).kernel
 
 pub returns-clause-later : goal.returns-clause-later
-returns-clause-later c told start last ledger is h = let kept = compilation-kept told start last ledger is h in (kept.longer, kept.later)
+returns-clause-later g c start last ledger is h = let kept = compilation-kept g.F.Oracle.told start last ledger is h in (kept.longer, kept.later)
 
 pub returns-clause-answers : goal.returns-clause-answers
-returns-clause-answers c = compilation-answers
+returns-clause-answers g c = compilation-answers g.F.Oracle.told

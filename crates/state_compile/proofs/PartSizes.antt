@@ -92,8 +92,8 @@ halves-members : (next : ℕ) (front back : List Atom) (c : OrdInt) → total_me
 halves-members next front back c =
     omega (
       arith,
-      members-append (half_cores next front) (half_cores (next + half_fresh front) back ++ Sum3 (half_int next front) (half_int (next + half_fresh front) back) c ∷ []),
-      members-append (half_cores (next + half_fresh front) back) (Sum3 (half_int next front) (half_int (next + half_fresh front) back) c ∷ []),
+      members-append (half_cores next front ++ half_cores (next + half_fresh front) back) (Sum3 (half_int next front) (half_int (next + half_fresh front) back) c ∷ []),
+      members-append (half_cores next front) (half_cores (next + half_fresh front) back),
       half-members next front,
       half-members (next + half_fresh front) back,
     )

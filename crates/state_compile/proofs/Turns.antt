@@ -36,10 +36,13 @@ module _ (told : Core → Equation → Type 0) where
 pub unless-bottom : {P : Type 0} (b : Bool) → (b ≡ true) ⊎ P → b ≡ false → P
 unless-bottom b h running = ⊎_elim (λ t. absurd (true≢false (sym t ∙ running))) (λ p. p) h
 
--- a compilation, from the ledger without a line
-pub compilation-made : (told : Core → Equation → Type 0) (start old last : Kernel) (before behind : List Line) → old ≡ start → before ≡ [] → AddsInOrder told before old behind last → IsAtEnd last → IsCompilation told start behind last
-compilation-made told start old last before behind from none adds end = record {
-  lines = subst (λ (l : List Line). LeadsInOrder told start l last) (sym (adds.is ∙ ap (λ (l : List Line). l ++ adds.added) none))
-      (subst (λ (k : Kernel). LeadsInOrder told k adds.added last) from adds.leads);
-  end = end;
-}
+-- a compilation, from the ledger without a line: what is given has the last state and the last ledger
+pub compilation-given : (told : Core → Equation → Type 0) (start first mid last given : Kernel) (none before behind ledger : List Line) → first ≡ start → none ≡ [] → given ≡ last → ledger ≡ behind
+    → AddsInOrder told none first before mid → AddsInOrder told before mid behind last → IsAtEnd last → IsCompilation told start ledger given
+compilation-given told start first mid last given none before behind ledger from empty to is one two end =
+    let adds = adds-more told none before behind first mid last one two in
+    record {
+      lines = subst (λ (l : List Line). LeadsInOrder told start l given) (sym (is ∙ adds.is ∙ ap (λ (l : List Line). l ++ adds.added) empty))
+          (subst (λ (k : Kernel). LeadsInOrder told k adds.added given) from (subst (λ (k : Kernel). LeadsInOrder told first adds.added k) (sym to) adds.leads));
+      end = subst IsAtEnd (sym to) end;
+    }

@@ -10,10 +10,12 @@ loop-runner-init g c = record {
 }
 
 pub loop-runner-preserved : goal.loop-runner-preserved
-loop-runner-preserved g c = record {
-  kernel = c.in_ok-split_least.ensures.kernel;
-  adds = adds-more g.F.Oracle.told c.args.runner.now.ledger c.loop-runner.runner.ledger c.split_least.new.runner.ledger c.args.runner.now.kernel c.loop-runner.runner.kernel c.split_least.new.runner.kernel
-      c.loop-runner.invariant.adds c.in_ok-split_least.ensures.adds;
-  empty = c.in_ok-split_least.ensures.empty;
-  closed = c.in_ok-split_least.ensures.closed;
-}
+loop-runner-preserved g c =
+    let h = c.in_ok-split_least-in-Some.ensures in
+    record {
+      kernel = h.kernel;
+      adds = adds-more g.F.Oracle.told c.args.runner.now.ledger c.loop-runner.runner.ledger c.split_least.new.runner.ledger c.args.runner.now.kernel c.loop-runner.runner.kernel c.split_least.new.runner.kernel
+          c.loop-runner.invariant.adds h.adds;
+      empty = h.empty;
+      closed = h.closed;
+    }

@@ -6,7 +6,7 @@ use Rattle.std.proofs.lemmas.Option.{none-some}
 use Rattle.core_forms.specs.declared.form.Core.{Core}
 use Rattle.core_forms.specs.Basic.{is_basic_of}
 use Rattle.core_forms.specs.Trimmed.{trimmed_core}
-use Rattle.step_kernel.specs.Kernel.{Kernel, core_at, trimmed_at, pending}
+use Rattle.step_kernel.specs.Kernel.{Kernel, trimmed_at, pending}
 use Rattle.step_kernel.specs.Least.{least_from, least_of, least_compound_of, is_compound_if}
 use Rattle.step_kernel.specs.Parts.{is_compound_of}
 use Rattle.step_kernel.proofs.LeastCompound.{core_at-next}

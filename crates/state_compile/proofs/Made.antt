@@ -1,5 +1,5 @@
 -- The state that a step makes.
-use Rattle.std.proofs.Common.{◌≡◌, Bool, true, false, refl, sym, ap, ◌∙◌, Option, Some, None, Result, Ok, Err}
+use Rattle.std.proofs.Common.{◌≡◌, Bool, true, false, refl, sym, ap, ◌∙◌, Option, Some, None, Ok, Err}
 use Rattle.std.specs.Prelude.{if◌then◌else◌}
 use Rattle.core_forms.specs.declared.form.Core.{Core}
 use Rattle.ledger_text.specs.declared.line.Line.{Line}

@@ -1,5 +1,5 @@
 -- The parts of a compound core are together smaller than the core, form by form.
-use Rattle.std.proofs.Common.{◌≡◌, ℕ, ◌+◌, ◌-◌, ◌<◌, ◌≤◌, Bool, true, false, ◌&&◌, List, [], ◌∷◌, ◌++◌, map, length, take, drop, refl, ap, ◌∙◌, sym, subst, arith}
+use Rattle.std.proofs.Common.{◌≡◌, ℕ, ◌+◌, ◌-◌, ◌<◌, ◌≤◌, Bool, true, false, ◌&&◌, List, [], ◌∷◌, ◌++◌, map, length, take, drop, refl, arith}
 use Rattle.std.specs.Prelude.{if◌then◌else◌, ◌==◌, ℤ}
 use Rattle.std.proofs.lemmas.Bool.{false≢true, not-true}
 use Rattle.std.proofs.lemmas.List.{length-append, length-take, length-drop}
@@ -7,7 +7,6 @@ use Rattle.order_ints.specs.declared.atom.Atom.{Atom}
 use Rattle.order_ints.specs.declared.atom.Atom.TheVariants.{True}
 use Rattle.order_ints.specs.declared.order_int.OrdInt.{OrdInt}
 use Rattle.order_ints.specs.OrderLevels.{values_of}
-use Rattle.order_ints.specs.OrderMade.{atom_of_var}
 use Rattle.core_cost.specs.Network.{half_up}
 use Rattle.core_forms.specs.declared.form.Core.{Core}
 use Rattle.core_forms.specs.declared.form.Core.TheVariants.{Ladder, Clause, Parity, Conj, Comp, LeqR, EqR, Sum3, Count, Sum, Max, AllDiff, Amo, Prod, DivMod, Lex}
@@ -16,9 +15,7 @@ use Rattle.core_forms.specs.Cores.{costs_of}
 use Rattle.core_forms.specs.Cost.{cost_of}
 use Rattle.core_forms.specs.Shapes.{pairs_of_steps}
 use Rattle.core_forms.specs.Sums.{ascending}
-use Rattle.part_base.specs.declared.parts.Parts.{Parts}
-use Rattle.part_base.specs.PartsFor.{ArePartsFor}
-use Rattle.decompose.specs.DifferingParts.{all_values, marks_from, marked, mark_core, mark_cores, all_mark_cores, are_true, reached_cores, differing_parts}
+use Rattle.decompose.specs.DifferingParts.{all_values, marks_from, marked, mark_cores, all_mark_cores, are_true, reached_cores, differing_parts}
 use Rattle.decompose.specs.LexParts.{last_order, lex_parts}
 use Rattle.decompose.specs.SumParts.{fresh_of, sum_parts}
 use Rattle.network_encode.specs.CountParts.{half_int, half_fresh, half_cores, halves_parts, count_parts}

@@ -5,13 +5,12 @@ use Rattle.std.specs.Option.{option_and_then}
 use Rattle.std.specs.Prelude.{IsTrue, if◌then◌else◌}
 use Rattle.order_ints.specs.declared.atom.Atom.{Atom}
 use Rattle.order_ints.specs.declared.atom.Atom.TheVariants.{True, False, Of}
-use Rattle.order_ints.specs.declared.literal.Lit.{Lit}
 use Rattle.order_ints.specs.AtomClauses.{atom_clause_truth, atom_clauses_truth}
 use Rattle.order_ints.specs.Label.{IsLabelled}
 use Rattle.order_ints.specs.OrderedClauses.{with_atom, resolved_lits, by_variable, unless_opposites, ordered_clause, ordered_clauses, distinct}
 use Rattle.order_ints.specs.Place.{AtomsBelow, AtomClausesBelow}
 use Rattle.order_ints.specs.Satisfies.{clauses_truth, Satisfies}
-use Rattle.order_ints.specs.Truth.{Valuation, lit_truth, atom_truth, not_atom}
+use Rattle.order_ints.specs.Truth.{Valuation, atom_truth, not_atom}
 use Rattle.order_ints.specs.View.{label_of, resolve, MeetsView}
 use Rattle.order_ints.proofs.Labels.{resolve-label, labels_below}
 use Rattle.order_ints.proofs.OrderedLaws.{clauses_truth-ordered_clauses}

@@ -7,7 +7,7 @@ use Rattle.order_ints.specs.Label.{IsLater, with_own_labels}
 use Rattle.order_ints.specs.View.{resolve}
 use Rattle.core_forms.specs.declared.form.Core.{Core}
 use Rattle.core_forms.specs.declared.form.Core.TheVariants.{Ladder, Clause, Parity, Conj, Comp, LeqR, EqR, Sum3, Count, Sum, Max, AllDiff, Amo, Prod, DivMod, Lex}
-use Rattle.core_forms.specs.Cores.{CoresBelow, AreWellFormed, costs_of}
+use Rattle.core_forms.specs.Cores.{CoresBelow, AreWellFormed}
 use Rattle.core_forms.specs.Place.{CoreBelow}
 use Rattle.core_forms.specs.Resolved.{map_ints}
 use Rattle.core_forms.specs.Shapes.{pairs_of_steps}
@@ -16,7 +16,7 @@ use Rattle.core_forms.specs.WellFormed.{IsWellFormed}
 use Rattle.core_forms.proofs.CostLaws.{cost-trimmed}
 use Rattle.core_forms.proofs.Kept.{IsWellFormed-trimmed}
 use Rattle.core_forms.proofs.Labelled.{trimmed_later}
-use Rattle.step_kernel.specs.Kernel.{Kernel, core_at, pending}
+use Rattle.step_kernel.specs.Kernel.{core_at, pending}
 use Rattle.step_kernel.specs.Steps.{without}
 use Rattle.step_kernel.proofs.Costs.{trimmed-more}
 use Rattle.step_kernel.proofs.Holes.{between}

@@ -1,14 +1,11 @@
 -- What is left to split: equations do not raise it, and a split makes it smaller.
 use Rattle.std.proofs.Common.{◌≡◌, ℕ, ◌+◌, ◌<◌, ◌≤◌, Bool, true, false, List, [], ◌∷◌, ◌++◌, map, length, refl, sym, ap, ◌∙◌, subst, arith, Some, Ok}
 use Rattle.std.specs.Prelude.{if◌then◌else◌}
-use Rattle.order_ints.specs.declared.atom.Atom.{Atom}
 use Rattle.order_ints.specs.Label.{with_own_labels}
 use Rattle.order_ints.specs.Same.{same_atom}
 use Rattle.order_ints.specs.Truth.{not_atom}
 use Rattle.core_forms.specs.declared.equation.Equation.{Equation}
 use Rattle.core_forms.specs.declared.form.Core.{Core}
-use Rattle.core_forms.specs.Cores.{costs_of}
-use Rattle.core_forms.specs.Cost.{cost_of}
 use Rattle.core_forms.specs.Trimmed.{trimmed_core}
 use Rattle.equation_store.specs.Merge.{merged}
 use Rattle.ledger_text.specs.declared.line.Line.{Line}
@@ -18,11 +15,11 @@ use Rattle.part_base.specs.PartsFor.{ArePartsFor}
 use Rattle.step_kernel.specs.Kernel.{Kernel, core_at, trimmed_at, pending, IsKernel}
 use Rattle.step_kernel.specs.Parts.{parts_at, is_compound_of}
 use Rattle.step_kernel.specs.Steps.{step, without, equated, divided}
-use Rattle.step_kernel.proofs.Holes.{pending-append, pending-parts, below-there, formed-there}
+use Rattle.step_kernel.proofs.Holes.{pending-append, pending-parts, below-there}
 use Rattle.step_kernel.proofs.Kept.{Kept}
 use Rattle.step_kernel.proofs.StepLaws.{step-kept, parts-there}
 use Rattle.step_kernel.proofs.There.{is-there}
-use Rattle.fixpoint_queue.specs.Ledgers.{Leads, AreEquations, AddsEquations}
+use Rattle.fixpoint_queue.specs.Ledgers.{Leads, AreEquations}
 use Rattle.state_compile.specs.Size.{size_of, sizes_of, left_to_split}
 use Rattle.state_compile.proofs.Made.{made-by}
 use Rattle.state_compile.proofs.PartSizes.{parts-smaller}

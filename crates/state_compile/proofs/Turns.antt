@@ -4,7 +4,7 @@ use Rattle.std.proofs.lemmas.Bool.{true≢false}
 use Rattle.core_forms.specs.declared.equation.Equation.{Equation}
 use Rattle.core_forms.specs.declared.form.Core.{Core}
 use Rattle.ledger_text.specs.declared.line.Line.{Line}
-use Rattle.ledger_text.specs.declared.line.Line.TheVariants.{Split, Encode}
+use Rattle.ledger_text.specs.declared.line.Line.TheVariants.{Split}
 use Rattle.step_kernel.specs.Kernel.{Kernel, IsKernel}
 use Rattle.step_kernel.specs.Least.{least_compound_of}
 use Rattle.step_kernel.specs.Steps.{step}

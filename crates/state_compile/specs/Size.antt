@@ -1,6 +1,5 @@
 -- What a split makes smaller.
 use Rattle.std.specs.Prelude.{ℕ, ◌+◌, List, [], ◌∷◌, length, map}
-use Rattle.order_ints.specs.declared.atom.Atom.{Atom}
 use Rattle.core_forms.specs.declared.form.Core.{Core}
 use Rattle.core_forms.specs.declared.form.Core.TheVariants.{Count, Sum, AllDiff, Lex}
 use Rattle.core_forms.specs.Shapes.{pairs_of_steps}

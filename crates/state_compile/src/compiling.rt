@@ -29,7 +29,7 @@ pub fn compile_state<F: Oracle, L: Ledger>(
     ensures compilation { IfOk result (λ made. IsCompilation F.told state made.ledger made.state) }
     ensures leads { IfOk result (λ made. Leads F.told state made.ledger made.state) }
 
-        // The valuations that satisfy the last CNF and meet the last store give exactly the first state's models.
+    // The valuations that satisfy the last CNF and meet the last store give exactly the first state's models.
     ensures answers { IfOk result (λ made. AnswersFor state made.state) }
     ensures kernel { IfOk result (λ made. IsKernel made.state) }
 {

@@ -1,4 +1,4 @@
-use Rattle.std.proofs.Common.{◌≡◌, ◌∙◌}
+use Rattle.std.proofs.Common.{◌∙◌}
 use Rattle.state_compile.specs.Compilation.{IsCompilation}
 use Rattle.state_compile.proofs.Answered.{compilation-answers}
 use Rattle.state_compile.proofs.InOrder.{order-leads}

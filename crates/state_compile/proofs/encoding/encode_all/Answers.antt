@@ -1,4 +1,4 @@
-use Rattle.std.proofs.Common.{◌≡◌, inr, Some, None, Ok, rules}
+use Rattle.std.proofs.Common.{◌≡◌, inr, Some, None, rules}
 use Rattle.ledger_text.specs.declared.line.Line.TheVariants.{Encode}
 use Rattle.step_kernel.specs.Least.{least_of}
 use Rattle.step_kernel.specs.Steps.{step}

@@ -12,7 +12,7 @@ use Rattle.step_kernel.specs.CnfOf.{cnf_of}
 use Rattle.step_kernel.specs.Kernel.{Kernel, pending, IsKernel}
 use Rattle.step_kernel.proofs.CnfLaws.{cnf-models}
 use Rattle.step_kernel.proofs.Kept.{Kept}
-use Rattle.state_compile.specs.Answers.{AnswersFor}
+use Rattle.state_compile.specs.StandsFor.{CnfStandsFor}
 use Rattle.state_compile.specs.Compilation.{IsAtEnd, IsCompilation}
 use Rattle.state_compile.proofs.InOrder.{order-leads, leads-kept}
 
@@ -21,8 +21,8 @@ unsatisfied : (k : Kernel) (σ : Valuation) → k.bottom ≡ true → Satisfies 
 unsatisfied k σ bottom h =
     false≢true (subst (λ (b : Bool). IsTrue (clauses_truth σ (if b then [] ∷ [] else ordered_clauses k.view k.clauses))) bottom h)
 
-pub answers-at_end : (start last : Kernel) → Kept start last → IsAtEnd last → AnswersFor start last
-answers-at_end start last kept =
+pub models-at_end : (start last : Kernel) → Kept start last → IsAtEnd last → CnfStandsFor start last
+models-at_end start last kept =
     ⊎_elim
     (λ (bottom : last.bottom ≡ true). record {
       back = λ σ meets h. absurd (unsatisfied last σ bottom h);
@@ -39,5 +39,5 @@ answers-at_end start last kept =
 pub compilation-kept : (told : Core → Equation → Type 0) (start last : Kernel) (ledger : List Line) → IsKernel start → IsCompilation told start ledger last → Kept start last
 compilation-kept told start last ledger is c = leads-kept told start last ledger is (order-leads told start last ledger c.lines)
 
-pub compilation-answers : (told : Core → Equation → Type 0) (start last : Kernel) (ledger : List Line) → IsKernel start → IsCompilation told start ledger last → AnswersFor start last
-compilation-answers told start last ledger is c = answers-at_end start last (compilation-kept told start last ledger is c) c.end
+pub compilation-models : (told : Core → Equation → Type 0) (start last : Kernel) (ledger : List Line) → IsKernel start → IsCompilation told start ledger last → CnfStandsFor start last
+compilation-models told start last ledger is c = models-at_end start last (compilation-kept told start last ledger is c) c.end

@@ -19,7 +19,7 @@ use Rattle.order_ints.proofs.TruthLaws.{atom_truth-not_atom, resolve-nil, MeetsV
 use Rattle.step_kernel.specs.CnfOf.{cnf_of}
 use Rattle.step_kernel.specs.Kernel.{Kernel, IsKernel}
 use Rattle.step_kernel.specs.Models.{IsModel}
-use Rattle.state_compile.specs.Answers.{AnswersFor, read_by}
+use Rattle.state_compile.specs.StandsFor.{CnfStandsFor, read_by}
 
 -- an atom, so read, is as true as what it resolves to
 pub read-atom : (view : List Atom) (σ : Valuation) (a : Atom) → atom_truth (read_by view σ) a ≡ atom_truth σ (resolve view a)
@@ -90,6 +90,6 @@ read-satisfies k σ is = by k.bottom
     by true h = h
     by false h = sym same ∙ h
 
-pub read-model : (start last : Kernel) (σ : Valuation) → IsKernel last → AnswersFor start last → Satisfies σ (cnf_of last) → IsModel start (read_by last.view σ)
-read-model start last σ is answers h =
-    answers.back (read_by last.view σ) (read-meets last.view σ is.labelled) (read-satisfies last σ is h)
+pub read-model : (start last : Kernel) (σ : Valuation) → IsKernel last → CnfStandsFor start last → Satisfies σ (cnf_of last) → IsModel start (read_by last.view σ)
+read-model start last σ is stands h =
+    stands.back (read_by last.view σ) (read-meets last.view σ is.labelled) (read-satisfies last σ is h)

@@ -1,3 +1,3 @@
 pub mod Compilation
-pub mod Answers
+pub mod StandsFor
 pub mod Size

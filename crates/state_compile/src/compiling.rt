@@ -3,7 +3,7 @@
 ghost use Rattle.std.specs.Prelude.{IfOk};
 ghost use Rattle.step_kernel.specs.Kernel.{IsKernel};
 ghost use Rattle.fixpoint_queue.specs.Ledgers.{Leads};
-ghost use Rattle.state_compile.specs.Answers.{AnswersFor};
+ghost use Rattle.state_compile.specs.StandsFor.{CnfStandsFor};
 ghost use Rattle.state_compile.specs.Compilation.{IsCompilation};
 
 use crate::compiled::Compiled;
@@ -30,7 +30,7 @@ pub fn compile_state<F: Oracle, L: Ledger>(
     ensures leads { IfOk result (λ made. Leads F.told state made.ledger made.state) }
 
     // The valuations that satisfy the last CNF and meet the last store give exactly the first state's models.
-    ensures answers { IfOk result (λ made. AnswersFor state made.state) }
+    ensures models { IfOk result (λ made. CnfStandsFor state made.state) }
     ensures kernel { IfOk result (λ made. IsKernel made.state) }
 {
     if state.bottom() {

@@ -11,7 +11,7 @@ ghost use Rattle.step_kernel.specs.CnfOf.{cnf_of};
 ghost use Rattle.step_kernel.specs.Kernel.{Kernel, IsKernel};
 ghost use Rattle.step_kernel.specs.Models.{IsModel};
 ghost use Rattle.fixpoint_queue.specs.Ledgers.{Leads};
-ghost use Rattle.state_compile.specs.Answers.{AnswersFor, read_by};
+ghost use Rattle.state_compile.specs.StandsFor.{CnfStandsFor, read_by};
 ghost use Rattle.state_compile.specs.Compilation.{IsCompilation};
 
 use fixpoint_queue::Oracle;
@@ -26,14 +26,14 @@ pub fn compilation_law<F: Oracle>()
     ensures later { (start last : Kernel) (ledger : List Line)
         → IsKernel start → IsCompilation F.told start ledger last
         → (length start.view ≤ length last.view) × IsLater start.view last.view }
-    ensures answers { (start last : Kernel) (ledger : List Line)
-        → IsKernel start → IsCompilation F.told start ledger last → AnswersFor start last }
+    ensures models { (start last : Kernel) (ledger : List Line)
+        → IsKernel start → IsCompilation F.told start ledger last → CnfStandsFor start last }
 {}
 
 /// What a valuation that satisfies the CNF of the last state gives, also where it does not meet the store: read
 /// by the last view it is a model of the first state. So read, an atom is as true as what it resolves to.
 pub fn reading_law()
-    ensures model { (start last : Kernel) (σ : Valuation) → IsKernel last → AnswersFor start last
+    ensures model { (start last : Kernel) (σ : Valuation) → IsKernel last → CnfStandsFor start last
         → Satisfies σ (cnf_of last) → IsModel start (read_by last.view σ) }
     ensures atom { (view : List Atom) (σ : Valuation) (a : Atom)
         → atom_truth (read_by view σ) a ≡ atom_truth σ (resolve view a) }

@@ -1,6 +1,6 @@
 use Rattle.std.proofs.Common.{◌∙◌}
 use Rattle.state_compile.specs.Compilation.{IsCompilation}
-use Rattle.state_compile.proofs.Answered.{compilation-answers}
+use Rattle.state_compile.proofs.Answered.{compilation-models}
 use Rattle.state_compile.proofs.InOrder.{order-leads}
 use Rattle.state_compile.proofs.Turns.{compilation-given}
 use Rattle.state_compile.proofs.compiling.compile_state.Given
@@ -19,5 +19,5 @@ returns-clause-compilation g c = whole g c
 pub returns-clause-leads : goal.returns-clause-leads
 returns-clause-leads g c = order-leads g.F.Oracle.told c.args.state c.finish-state.result.0 c.from_vec-ledger-2.result (whole g c).lines
 
-pub returns-clause-answers : goal.returns-clause-answers
-returns-clause-answers g c = compilation-answers g.F.Oracle.told c.args.state c.finish-state.result.0 c.from_vec-ledger-2.result c.bottom.ensures.kernel (whole g c)
+pub returns-clause-models : goal.returns-clause-models
+returns-clause-models g c = compilation-models g.F.Oracle.told c.args.state c.finish-state.result.0 c.from_vec-ledger-2.result c.bottom.ensures.kernel (whole g c)

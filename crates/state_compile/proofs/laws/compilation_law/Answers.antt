@@ -1,4 +1,4 @@
-use Rattle.state_compile.proofs.Answered.{compilation-kept, compilation-answers}
+use Rattle.state_compile.proofs.Answered.{compilation-kept, compilation-models}
 use Rattle.state_compile.proofs.InOrder.{order-leads}
 use Rattle.state_compile.proofs.laws.compilation_law.Goals as goal
 
@@ -11,5 +11,5 @@ returns-clause-kernel g c start last ledger is h = (compilation-kept g.F.Oracle.
 pub returns-clause-later : goal.returns-clause-later
 returns-clause-later g c start last ledger is h = let kept = compilation-kept g.F.Oracle.told start last ledger is h in (kept.longer, kept.later)
 
-pub returns-clause-answers : goal.returns-clause-answers
-returns-clause-answers g c = compilation-answers g.F.Oracle.told
+pub returns-clause-models : goal.returns-clause-models
+returns-clause-models g c = compilation-models g.F.Oracle.told

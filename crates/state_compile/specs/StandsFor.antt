@@ -11,7 +11,7 @@ use Rattle.step_kernel.specs.CnfOf.{cnf_of}
 -- The satisfying valuations of the last state's CNF that meet its store, cut to the variables of the first state, are
 -- exactly the models of that: each of them is one, and each model can be changed beyond the variables so that it is one of
 -- them.
-pub record AnswersFor (start last : Kernel) : Type 0 where
+pub record CnfStandsFor (start last : Kernel) : Type 0 where
   pub back : (σ : Valuation) → MeetsView σ last.view → Satisfies σ (cnf_of last) → IsModel start σ
   pub forth : (σ : Valuation) → IsModel start σ → (τ : Valuation) × Agree (length start.view + 1) σ τ × MeetsView τ last.view × Satisfies τ (cnf_of last)
 

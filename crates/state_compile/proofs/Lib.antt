@@ -1,0 +1,10 @@
+pub mod Made
+pub mod InOrder
+pub mod Found
+pub mod Encodings
+pub mod Sizes
+pub mod PartSizes
+pub mod StepSizes
+pub mod Answered
+pub mod Reading
+pub mod Turns

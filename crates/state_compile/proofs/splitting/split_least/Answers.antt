@@ -1,0 +1,16 @@
+use Rattle.state_compile.proofs.Found.{compound-if}
+use Rattle.state_compile.proofs.Turns.{split-adds, split-smaller}
+use Rattle.state_compile.proofs.splitting.split_least.Goals as goal
+
+pub split-requires-clause-compound : goal.split-requires-clause-compound
+split-requires-clause-compound g c = compound-if c.args.runner.now.kernel c.args.id c.requires.least
+
+pub returns-clause-adds : goal.returns-clause-adds
+returns-clause-adds g c =
+    split-adds g.F.Oracle.told c.args.runner.now.ledger c.split.new.self.ledger c.saturate.new.self.ledger c.args.runner.now.kernel c.split.new.self.kernel c.saturate.new.self.kernel c.args.id
+    c.requires.closed c.requires.least c.in_ok-split.ensures.step c.in_ok-split.ensures.ledger c.in_ok-saturate.ensures.lines
+
+pub returns-clause-smaller : goal.returns-clause-smaller
+returns-clause-smaller g c =
+    split-smaller g.F.Oracle.told c.split.new.self.ledger c.saturate.new.self.ledger c.args.runner.now.kernel c.split.new.self.kernel c.saturate.new.self.kernel c.args.id
+    c.requires.kernel c.requires.least c.in_ok-split.ensures.step c.in_ok-saturate.ensures.lines

@@ -1,0 +1,3 @@
+pub mod Compilation
+pub mod StandsFor
+pub mod Size

@@ -13,9 +13,9 @@ use Rattle.bee_cli.proofs.FirstFaults.{one_fault, no_fault}
 use Rattle.bee_cli.proofs.Headline.{headline}
 use Rattle.bee_cli.proofs.Answering.{told_whole, told_front, Met, met, failed, wanting, nothing_in_front}
 use Rattle.bee_cli.specs.declared.status.Status.{Status}
-use Rattle.bee_cli.specs.declared.status.Status.TheVariants.{Done, Usage, Model, Read, Write, Memory}
+use Rattle.bee_cli.specs.declared.status.Status.TheVariants.{Done, Model, Read, Write, Memory}
 use Rattle.bee_cli.specs.declared.status.ModelFault.{ModelFault}
-use Rattle.bee_cli.specs.declared.status.ModelFault.TheVariants.{TooLong, Syntax, Number, Typed, Unbuilt}
+use Rattle.bee_cli.specs.declared.status.ModelFault.TheVariants.{TooLong}
 
 -- a text that is compiled is not too long, and has no fault
 compiled_or_fault : (text : List ℕ) (f : ModelFault) → HasAnswer text Done → HasFault text f → ⊥
@@ -32,21 +32,12 @@ one_text_fault text f g (inr h) (inr k) = one_fault text f g h.1 k.1
 -- a text has one answer
 one_answer : (text : List ℕ) (a b : Status) → HasAnswer text a → HasAnswer text b → a ≡ b
 one_answer text Done Done h k = refl
-one_answer text Done Usage h k = absurd k
 one_answer text Done (Model g) h k = absurd (compiled_or_fault text g h k)
-one_answer text Done Read h k = absurd k
-one_answer text Done Write h k = absurd k
-one_answer text Done Memory h k = absurd k
+one_answer text Done b h k = absurd k
 one_answer text (Model f) Done h k = absurd (compiled_or_fault text f k h)
-one_answer text (Model f) Usage h k = absurd k
 one_answer text (Model f) (Model g) h k = ap Model (one_text_fault text f g h k)
-one_answer text (Model f) Read h k = absurd k
-one_answer text (Model f) Write h k = absurd k
-one_answer text (Model f) Memory h k = absurd k
-one_answer text Usage b h k = absurd h
-one_answer text Read b h k = absurd h
-one_answer text Write b h k = absurd h
-one_answer text Memory b h k = absurd h
+one_answer text (Model f) b h k = absurd k
+one_answer text a b h k = absurd h
 
 -- a text that was read and told has the answer that the one read has
 told_answer : (input : List ℕ) (seen : Seen) (answer : Status) (text t : List ℕ) → ToldUnder input seen text → ReadUnder input seen t → HasAnswer t answer → HasAnswer text answer
@@ -72,25 +63,16 @@ done_answer text written h =
 -- where a text is told, the answer is the one that it has
 answers : (input : List ℕ) (status : Status) (seen : Seen) → Says input status seen → Promised input status seen
 answers input Done seen s = came input seen Done s.texts s.read (done_answer s.texts s.written s.gives)
-answers input Usage seen s = absurd s
 answers input (Model TooLong) seen s =
-    met _ _ _ (Model TooLong) seen one_answer (
-      λ text told. (Model TooLong, inl (let q = told_front text s.text _ _ told s.moved in let w = s.long in omega arith, refl), inl refl),
-    )
-answers input (Model (Syntax line)) seen s = refused_came input seen (Syntax line) s
-answers input (Model (Number line)) seen s = refused_came input seen (Number line) s
-answers input (Model (Typed g)) seen s = refused_came input seen (Typed g) s
-answers input (Model (Unbuilt n)) seen s = refused_came input seen (Unbuilt n) s
+    met _ _ _ (Model TooLong) seen one_answer
+    (λ text told. (Model TooLong, inl (let q = told_front text s.text _ _ told s.moved in let w = s.long in omega arith, refl), inl refl))
+answers input (Model fault) seen s = refused_came input seen fault s
 answers input Read seen s = failed _ _ _ Read seen s
 answers input Write seen s =
-    met _ _ _ Write seen one_answer (
-      λ text told. (
-        Done,
-        told_answer input seen Done text s.0.texts told s.0.read (done_answer s.0.texts s.0.written s.0.gives),
-        inr (λ quiet. quiet, s.1),
-      ),
-    )
+    met _ _ _ Write seen one_answer
+    (λ text told. (Done, told_answer input seen Done text s.0.texts told s.0.read (done_answer s.0.texts s.0.written s.0.gives), inr (λ quiet. quiet, s.1)))
 answers input Memory seen s = wanting _ _ _ seen
+answers input status seen s = absurd s
 
 pub mode : (input : List ℕ) (status : Status) (seen : Seen) → Says input status seen → (IsSilent status → seen.out_after.taken ≡ seen.out_before.taken)
     → TookPiece (seen.shelf_before.left input) (seen.shelf_after.left input) (Some (longest_text + 1))
@@ -121,10 +103,7 @@ headline_of text lent written w e c = let P : List ℕ → Type 0 = λ t. Compil
 -- a text that was read whole, is within the limit and has a fault
 pub refused_of : (input : List ℕ) (seen : Seen) (text lent : List ℕ) (f : ModelFault) → ReadUnder input seen text → length text ≤ longest_text → lent ≡ text → IsFirstFault lent f → Says input (Model f) seen
 refused_of input seen text lent TooLong r w e h = elim h [ ]
-refused_of input seen text lent (Syntax line) r w e h = record { text = text; read = r; within = w; first = subst (λ (t : List ℕ). IsFirstFault t (Syntax line)) e h }
-refused_of input seen text lent (Number line) r w e h = record { text = text; read = r; within = w; first = subst (λ (t : List ℕ). IsFirstFault t (Number line)) e h }
-refused_of input seen text lent (Typed g) r w e h = record { text = text; read = r; within = w; first = subst (λ (t : List ℕ). IsFirstFault t (Typed g)) e h }
-refused_of input seen text lent (Unbuilt n) r w e h = record { text = text; read = r; within = w; first = subst (λ (t : List ℕ). IsFirstFault t (Unbuilt n)) e h }
+refused_of input seen text lent f r w e h = record { text = text; read = r; within = w; first = subst (λ (t : List ℕ). IsFirstFault t f) e h }
 
 -- where memory is wanting before the mode begins, nothing was read and nothing written
 pub idle : (input : List ℕ) (seen : Seen) → Untouched seen → CompileMode input Memory seen

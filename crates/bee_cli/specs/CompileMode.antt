@@ -9,9 +9,9 @@ use Rattle.bee_cli.specs.Seen.{Seen}
 use Rattle.bee_cli.specs.Ends.{IsSilent, count_read, count_written}
 use Rattle.bee_cli.specs.Promises.{ReadUnder, ToldUnder, ReadFailed, WriteFailed, WroteWhole, WroteFront, Answers}
 use Rattle.bee_cli.specs.declared.status.Status.{Status}
-use Rattle.bee_cli.specs.declared.status.Status.TheVariants.{Done, Usage, Model, Read, Write, Memory}
+use Rattle.bee_cli.specs.declared.status.Status.TheVariants.{Done, Model, Read, Write, Memory}
 use Rattle.bee_cli.specs.declared.status.ModelFault.{ModelFault}
-use Rattle.bee_cli.specs.declared.status.ModelFault.TheVariants.{TooLong, Syntax, Number, Typed, Unbuilt}
+use Rattle.bee_cli.specs.declared.status.ModelFault.TheVariants.{TooLong}
 
 -- the greatest number of bytes of a model's text
 abbrev pub longest_text : ℕ
@@ -37,18 +37,15 @@ pub record IsTooLong (input : List ℕ) (seen : Seen) : Type 0 where
   pub moved : seen.shelf_before.left input ≡ in_front text (seen.shelf_after.left input)
   pub long : length text ≡ longest_text + 1
 
--- what each answer says
+-- what each answer says; no other answer comes
 abbrev pub Says : List ℕ → Status → Seen → Type 0
 Says input Done seen = WroteWhole (ReadUnder input seen) IsHeadline seen
-Says input Usage seen = ⊥
 Says input (Model TooLong) seen = IsTooLong input seen
-Says input (Model (Syntax line)) seen = IsRefused input seen (Syntax line)
-Says input (Model (Number line)) seen = IsRefused input seen (Number line)
-Says input (Model (Typed fault)) seen = IsRefused input seen (Typed fault)
-Says input (Model (Unbuilt number)) seen = IsRefused input seen (Unbuilt number)
+Says input (Model fault) seen = IsRefused input seen fault
 Says input Read seen = ReadFailed input seen
 Says input Write seen = WroteFront (ReadUnder input seen) IsHeadline seen × WriteFailed seen
 Says input Memory seen = Unit {0}
+Says input status seen = ⊥
 
 -- a text is too long, or within the limit and has this fault first
 abbrev pub HasFault : List ℕ → ModelFault → Type 0
@@ -57,11 +54,8 @@ HasFault text fault = ((longest_text < length text) × (fault ≡ TooLong)) ⊎ 
 -- the answer that a text has
 abbrev pub HasAnswer : List ℕ → Status → Type 0
 HasAnswer text Done = (length text ≤ longest_text) × IsCompilable text
-HasAnswer text Usage = ⊥
 HasAnswer text (Model fault) = HasFault text fault
-HasAnswer text Read = ⊥
-HasAnswer text Write = ⊥
-HasAnswer text Memory = ⊥
+HasAnswer text status = ⊥
 
 -- a run in compile mode, with the name of the model
 pub record CompileMode (input : List ℕ) (status : Status) (seen : Seen) : Type 0 where

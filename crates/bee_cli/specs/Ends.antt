@@ -15,18 +15,10 @@ IsSilent Memory = Unit {0}
 
 -- the shelf's count of faults after a run that ended so: a fault of reading ends the run, and no call follows it
 abbrev pub count_read : Status → ℕ → ℕ
-count_read Done n = n
-count_read Usage n = n
-count_read (Model fault) n = n
 count_read Read n = next_count n
-count_read Write n = n
-count_read Memory n = n
+count_read status n = n
 
 -- the sink's count of faults after a run that ended so: a fault of writing ends the run, and no call follows it
 abbrev pub count_written : Status → ℕ → ℕ
-count_written Done n = n
-count_written Usage n = n
-count_written (Model fault) n = n
-count_written Read n = n
 count_written Write n = next_count n
-count_written Memory n = n
+count_written status n = n

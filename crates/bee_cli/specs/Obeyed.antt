@@ -1,5 +1,5 @@
 -- What a run promises, by what the words ask for.
-use Rattle.std.specs.Prelude.{◌≡◌, Bool, true, false, Option, Some, None}
+use Rattle.std.specs.Prelude.{◌≡◌, Bool, true, false, Option, Some}
 use Rattle.command_words.specs.Request.{Request, Compile}
 use Rattle.bee_cli.specs.Seen.{Seen}
 use Rattle.bee_cli.specs.CompileMode.{CompileMode}

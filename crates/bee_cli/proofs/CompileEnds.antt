@@ -2,16 +2,16 @@
 use Rattle.std.proofs.Common.{◌≡◌, ℕ, ◌+◌, ◌<◌, ◌≤◌, List, [], length, Option, refl, ap, sym, ◌∙◌, subst, arith, inl, inr}
 use Rattle.std.specs.Prelude.{◌≢◌, Some}
 use Rattle.bee_outside.specs.Bytes.{in_front, TookPiece}
-use Rattle.bee_cli.specs.Compiled.{Compiles, IsCompilable}
+use Rattle.bee_cli.specs.Compiled.{Compiles}
 use Rattle.bee_cli.specs.ModelTexts.{IsFirstFault}
 use Rattle.bee_cli.specs.Seen.{Seen}
 use Rattle.bee_cli.specs.Ends.{IsSilent, count_read, count_written}
-use Rattle.bee_cli.specs.Promises.{ReadWhole, ReadUnder, ToldUnder, ReadFailed, Answers}
+use Rattle.bee_cli.specs.Promises.{ReadUnder, ToldUnder, ReadFailed, Answers}
 use Rattle.bee_cli.specs.CompileMode.{longest_text, IsHeadline, IsRefused, Says, HasFault, HasAnswer, CompileMode}
 use Rattle.bee_cli.specs.Obeyed.{Untouched}
 use Rattle.bee_cli.proofs.FirstFaults.{one_fault, no_fault}
 use Rattle.bee_cli.proofs.Headline.{headline}
-use Rattle.bee_cli.proofs.Answering.{told_whole, told_front, Met, met, failed, wanting, nothing_in_front}
+use Rattle.bee_cli.proofs.Answering.{told_whole, told_front, met, failed, wanting, nothing_in_front}
 use Rattle.bee_cli.specs.declared.status.Status.{Status}
 use Rattle.bee_cli.specs.declared.status.Status.TheVariants.{Done, Model, Read, Write, Memory}
 use Rattle.bee_cli.specs.declared.status.ModelFault.{ModelFault}

@@ -1,5 +1,5 @@
 -- What the words of the command line ask for, by the values of words and options.
-use Rattle.std.specs.Prelude.{ℕ, Bool, true, false, not, codes, bytes_eq, Option, Some, None, is_some, option_map, option_and_then, if◌then◌else◌}
+use Rattle.std.specs.Prelude.{ℕ, Bool, false, not, codes, bytes_eq, Option, Some, None, is_some, option_map, option_and_then, if◌then◌else◌}
 use Rattle.std.specs.Option.{option_map_or}
 use Rattle.clap.specs.Words.{Text}
 use Rattle.command_words.specs.declared.command.Options.{Options}

@@ -12,7 +12,10 @@ use std::alloc::{AllocError, Global};
 
 /// The command that the words give; the program's name is the first word. `None` where they give none, or
 /// ask for help.
-pub fn read_command<'a>(alloc: Global, words: &'a [String]) -> Result<Option<Command<'a>>, AllocError>
+pub fn read_command<'a>(
+    alloc: Global,
+    words: &'a [String],
+) -> Result<Option<Command<'a>>, AllocError>
     ensures { IfOk result (λ command. option_map request_of command ≡ request (map string_bytes words.entry.now)) }
 {
     match bee(alloc)?.try_get_matches_from(words) {

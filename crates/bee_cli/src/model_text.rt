@@ -1,6 +1,6 @@
 //! From a text to the model that it says.
 
-ghost use Rattle.std.specs.Prelude.{◌≡◌, ◌≢◌, ◌≤◌, ◌++◌, ◌∷◌, [], List, IfOk, IfErr, OnOk, MatchResult, Ok, Err};
+ghost use Rattle.std.specs.Prelude.{◌≡◌, ◌≢◌, ◌++◌, ◌∷◌, [], List, IfOk, IfErr, OnOk, MatchResult, Ok, Err};
 ghost use Rattle.bumblebee_reader.specs.declared.syntax.Item.{Item};
 ghost use Rattle.bumblebee_reader.specs.Unread.{unread, whole_text};
 ghost use Rattle.typed_model.specs.Taken.{HasTaken};

@@ -1,6 +1,6 @@
 use Rattle.std.proofs.Common.{◌++◌, ◌∷◌, []}
 use Rattle.bumblebee_reader.proofs.Pulled.{one_more_taken}
-use Rattle.bee_cli.proofs.compile.take_items.Goals as goal
+use Rattle.bee_cli.proofs.model_text.take_items.Goals as goal
 
 pub loop-typing-preserved : goal.loop-typing-preserved
 loop-typing-preserved c =

@@ -2,7 +2,7 @@ use Rattle.std.proofs.Common.{List, length}
 use Rattle.bumblebee_reader.specs.declared.syntax.Item.{Item}
 use Rattle.bumblebee_reader.specs.Unread.{IsTaken}
 use Rattle.typed_model.specs.Taken.{HasTaken}
-use Rattle.bee_cli.proofs.compile.take_items.Given as goal
+use Rattle.bee_cli.proofs.model_text.take_items.Given as goal
 
 -- the items that were taken from the text are those that were typed
 abbrev pub invariant-loop-typing : goal.invariant-loop-typing

@@ -1,8 +1,8 @@
 use Rattle.std.proofs.Common.{ap, subst, ◌≡◌, ◌≢◌, ◌∙◌, [], map, string_bytes, sym, Global}
 use Rattle.clap.specs.Words.{App, HasKind, app_of, is_simple, is_simple_and_free, fault_of, matches_of, found_of, rows_of, kind_of}
-use Rattle.command_words.specs.Command.{bee}
+use Rattle.command_words.specs.Line.{bee}
 use Rattle.command_words.proofs.Taken.{simple, free, found, refused, some_fault}
-use Rattle.command_words.proofs.read.compile_input.Goals as goal
+use Rattle.command_words.proofs.read.read_command.Goals as goal
 
 pub returns-in-Ok : goal.returns-in-Ok
 returns-in-Ok c =
@@ -12,7 +12,7 @@ returns-in-Ok c =
     (c.in-Ok.ensures.matches (ap is_simple same ∙ simple)).0 ∙ ap (λ a. matches_of a words) same in
     let none : fault_of bee words ≡ [] =
     ap (λ a. fault_of a words) (sym same) ∙ c.in-Ok.ensures.kinds (ap is_simple_and_free same ∙ free) in
-    c.found_input.ensures ∙ found (found_of c.in-Ok.matches) words rows none
+    c.found_command.ensures ∙ found (found_of c.in-Ok.matches) words rows none
 
 pub returns : goal.returns
 returns c =

@@ -2,7 +2,7 @@ use Rattle.std.proofs.Common.{rules, ap₂, codes, ◌≡◌, ◌∙◌}
 use Rattle.std.proofs.lemmas.Result.{IfOk-weaker}
 use Rattle.clap.specs.Words.{rule_of, new_rule, with_rule}
 use Rattle.command_words.proofs.Rules.{required_is, optional_is, option_is, flag_is, local_twice, local_once, local_option, local_flag}
-use Rattle.command_words.proofs.command.bee.Goals as goal
+use Rattle.command_words.proofs.line.bee.Goals as goal
 
 pub returns : goal.returns
 returns c =

@@ -1,10 +1,9 @@
 -- The command line `bee MODE INPUT [SECOND] [--budget N] [--no-restart]`, as clap reads it.
-use Rattle.std.specs.Prelude.{Bool, true, false, ◌&&◌, not, List, codes, bytes_eq, Option, Some, None, is_some, if◌then◌else◌}
-use Rattle.std.specs.Option.{option_map_or}
+use Rattle.std.specs.Prelude.{Bool, true, List, codes, Option, Some, None, if◌then◌else◌}
 use Rattle.clap.specs.Words.{App, Rule, Text, new_app, new_rule, with_rule, matches_of, fault_of, first_of}
 use Rattle.clap.specs.declared.builder.ArgAction.TheVariants.{Set, SetTrue}
 use Rattle.clap.specs.Walk.{is_empty}
-use Rattle.command_words.specs.Budget.{budget_of}
+use Rattle.command_words.specs.Request.{Request, requested}
 
 -- a word that must stand, in its place
 abbrev pub required_word : Text → Rule
@@ -37,27 +36,11 @@ bee =
 abbrev pub is_taken : List Text → Bool
 is_taken words = is_empty (fault_of bee words)
 
--- a mode is this one
-abbrev pub is_mode : Text → Option Text → Bool
-is_mode mode word = option_map_or (λ text. bytes_eq text mode) word false
-
--- no budget is given, or it is one
-abbrev pub fits_if : Option Text → Bool
-fits_if word = option_map_or (λ text. is_some (budget_of text)) word true
-
--- the input to compile, by the values of the words and options: the mode is `compile`, no second input is
--- given, and a budget is one
-abbrev pub given : (Text → Option Text) → Option Text
-given value =
-    if is_mode (codes "compile") (value (codes "mode")) && (not (is_some (value (codes "second"))) && fits_if (value (codes "budget")))
-    then value (codes "input")
-    else None
-
 -- the value that the words give to a word or an option
 abbrev pub value_of : List Text → Text → Option Text
 value_of words id = first_of id (matches_of bee words)
 
--- The input of the command `bee compile INPUT`, with options or without; the program's name is the first word.
--- There is none where the words aren't that command.
-abbrev pub compile_input : List Text → Option Text
-compile_input words = if is_taken words then given (value_of words) else None
+-- What the words of the command line ask for; the program's name is the first word. There is nothing where clap
+-- doesn't take the words, or they are no command.
+abbrev pub request : List Text → Option Request
+request words = if is_taken words then requested (value_of words) else None

@@ -1,0 +1,7 @@
+pub mod LineByLine
+pub mod Values
+pub mod TextLines
+pub mod TextSteps
+pub mod Steps
+pub mod Entries
+pub mod Faults

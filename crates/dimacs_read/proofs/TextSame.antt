@@ -105,7 +105,7 @@ ledger_no_numbers l v c same = omega (arith, ap (λ t. get_or t 0 0) same)
 
 -- each kind of line tells one thing
 
-entry_of : (e : MapEntry) → IsReadableEntry e → IsEntry (2 ^ 27 + 1) e
+pub entry_of : (e : MapEntry) → IsReadableEntry e → IsEntry (2 ^ 27 + 1) e
 entry_of e h = record { bound = omega arith; spelled = h.name.spelled; below = h.value }
 
 named_same : (s : Draft) (line : List ℕ) (t u : Draft) → IsNamed s line t → IsNamed s line u → t ≡ u

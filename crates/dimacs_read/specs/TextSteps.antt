@@ -102,7 +102,7 @@ MayHaveNumbers (Clauses vars count) = ⊥
 
 -- the line tells the number of variables, and the line of this number is the first that has a greater one
 pub record IsAbove (s : Draft) (line : List ℕ) (number : ℕ) : Type 0 where
-  pub open : MayHaveNumbers s.stage
+  pub may : MayHaveNumbers s.stage
   pub vars : ℕ
   pub count : ℕ
   pub numbers : IsNumbers line vars count

@@ -3,7 +3,7 @@
 ghost use Rattle.std.specs.Prelude.{◌≡◌, ◌⊎◌, ◌∷◌, ◌++◌, [], map, IfOk, MatchBool, MatchOption};
 ghost use Rattle.bumblebee_reader.specs.Names.{IsNew};
 ghost use Rattle.dimacs_read.specs.declared.draft.TextStage.TheVariants.{Start, Names, Steps, Clauses};
-ghost use Rattle.dimacs_read.specs.TextSteps.{Draft, nothing_read, IsNamed, IsLedgered, IsProblem, IsClause, NextAt, NextLine, IsComplete, FaultAt, held};
+ghost use Rattle.dimacs_read.specs.TextSteps.{Draft, nothing_read, IsNamed, IsLedgered, IsProblem, IsClause, NextAt, NextLine, IsComplete, MayHaveNumbers, FaultAt, held};
 ghost use Rattle.dimacs_read.specs.TextLines.{first_above};
 
 use crate::above::first_above;
@@ -99,7 +99,10 @@ impl DraftText {
             (((t : Draft) → IsNamed self.old line.now t → ⊥) × (self.new ≡ self.old))) }
     {
         match read_entry(alloc, line)? {
-            Some(entry) => self.add_entry(entry),
+            Some(entry) => {
+                let added = self.add_entry(entry)?;
+                Ok(added)
+            }
             None => Ok(false),
         }
     }
@@ -203,7 +206,8 @@ impl DraftText {
         if self.take_name(alloc, line)? {
             return Ok(true);
         }
-        self.take_behind_names(line)
+        let taken = self.take_behind_names(line)?;
+        Ok(taken)
     }
 
     /// Takes a line, if it is the next. A line that isn't leaves all as it was.
@@ -214,11 +218,33 @@ impl DraftText {
     {
         match self.stage {
             TextStage::Start => Ok(self.take_heading(line)),
-            TextStage::Names => self.take_among_names(alloc, line),
-            TextStage::Steps => self.take_behind_names(line),
-            TextStage::Clauses { vars, count } => {
-                self.take_clause(alloc, Numbers { vars, count }, line)
+            TextStage::Names => {
+                let taken = self.take_among_names(alloc, line)?;
+                Ok(taken)
             }
+            TextStage::Steps => {
+                let taken = self.take_behind_names(line)?;
+                Ok(taken)
+            }
+            TextStage::Clauses { vars, count } => {
+                let taken = self.take_clause(alloc, Numbers { vars, count }, line)?;
+                Ok(taken)
+            }
+        }
+    }
+
+    /// The number of the line that fails, where the line with the number `here` may tell the numbers, but isn't
+    /// the next.
+    fn numbers_fault(&self, line: &[u8], here: u64) -> u64
+        requires { MayHaveNumbers self.now.stage }
+        ensures { FaultAt self.now line.now here result }
+    {
+        match read_numbers(line) {
+            Some(numbers) => match self.first_above(numbers.vars) {
+                Some(above) => above,
+                None => here,
+            },
+            None => here,
         }
     }
 
@@ -227,11 +253,10 @@ impl DraftText {
         ensures { FaultAt self.now line.now here result }
     {
         match self.stage {
-            TextStage::Names | TextStage::Steps => match read_numbers(line) {
-                Some(Numbers { vars, .. }) => self.first_above(vars).unwrap_or(here),
-                None => here,
-            },
-            TextStage::Start | TextStage::Clauses { .. } => here,
+            TextStage::Names => self.numbers_fault(line, here),
+            TextStage::Steps => self.numbers_fault(line, here),
+            TextStage::Start => here,
+            TextStage::Clauses { vars: _, count: _ } => here,
         }
     }
 

@@ -81,19 +81,17 @@ fn read_bool(words: &mut Words<'_>) -> Option<Atom>
     }
 }
 
-/// The integer of a least value and of steps, if its greatest value is in the limit.
-fn integer_of(base: i128, steps: Steps) -> Option<OrdInt>
-    requires base { unsigned_abs base ≤ 2 ^ 30 }
-    requires total { steps.total ≤ 2 ^ 31 }
-    ensures { MatchOption result (2 ^ 30 + 1 ≤ unsigned_abs (base +ℤ pos steps.total))
-        (λ a. (unsigned_abs (base +ℤ pos steps.total) ≤ 2 ^ 30) × (a.base ≡ base) × (a.steps ≡ steps.steps.items)) }
+/// The integer, if its greatest value is in the limit.
+fn limited(integer: OrdInt, total: u128) -> Option<OrdInt>
+    requires base { unsigned_abs integer.base ≤ 2 ^ 30 }
+    requires total { total ≤ 2 ^ 31 }
+    ensures { MatchOption result (2 ^ 30 + 1 ≤ unsigned_abs (integer.base +ℤ pos total))
+        (λ a. (unsigned_abs (integer.base +ℤ pos total) ≤ 2 ^ 30) × (a ≡ integer)) }
 {
-    let Steps { steps, total } = steps;
-    if (base + total as i128).unsigned_abs() > LIMIT {
+    if (integer.base + total as i128).unsigned_abs() > LIMIT {
         return None;
     }
-    let steps = Sequence::from_vec(steps);
-    Some(OrdInt { base, steps })
+    Some(integer)
 }
 
 /// The integer that the words spell that are left.
@@ -108,10 +106,12 @@ fn read_int(alloc: Global, words: &mut Words<'_>) -> Result<Option<OrdInt>, Allo
     let Some(base) = read_signed(word, LIMIT) else {
         return Ok(None);
     };
-    match read_steps(alloc, words)? {
-        Some(steps) => Ok(integer_of(base, steps)),
-        None => Ok(None),
-    }
+    let Some(found) = read_steps(alloc, words)? else {
+        return Ok(None);
+    };
+    let Steps { steps, total } = found;
+    let steps = Sequence::from_vec(steps);
+    Ok(limited(OrdInt { base, steps }, total))
 }
 
 /// What the words spell that are left, as what a name of this kind stands for.
@@ -146,9 +146,12 @@ pub(crate) fn read_entry(alloc: Global, line: &[u8]) -> Result<Option<MapEntry>,
     let Some((kind, name)) = read_head(&mut words) else {
         return Ok(None);
     };
-    let Some(value) = read_value(alloc, kind, &mut words)? else {
-        return Ok(None);
-    };
-    let name = Name::from_slice(alloc, name)?;
-    Ok(Some(MapEntry { name, value }))
+    let found = read_value(alloc, kind, &mut words)?;
+    match found {
+        Some(value) => {
+            let name = Name::from_slice(alloc, name)?;
+            Ok(Some(MapEntry { name, value }))
+        }
+        None => Ok(None),
+    }
 }

@@ -51,7 +51,7 @@ pub(crate) struct Numbers {
 fn read_pair(words: &mut Words<'_>) -> Option<Numbers>
     ensures { MatchOption result
         ((vars count : ℕ) → vars < 2 ^ 32 → count < 2 ^ 64 → words.old ≡ decimal vars ∷ decimal count ∷ [] → ⊥)
-        (λ n. words.old ≡ decimal n.vars ∷ decimal n.count ∷ []) }
+        (λ n. (words.old ≡ decimal n.vars ∷ decimal n.count ∷ []) × (n.vars < 2 ^ 32) × (n.count < 2 ^ 64)) }
 {
     let vars = read_number(words.next_word()?, u128::from(u32::MAX))?;
     let count = read_number(words.next_word()?, u128::from(u64::MAX))?;
@@ -71,7 +71,10 @@ pub(crate) fn read_numbers(line: &[u8]) -> Option<Numbers>
 {
     let mut words = split_words(line);
     if is(words.next_word()?, b"p") && is(words.next_word()?, b"cnf") {
-        read_pair(&mut words)
+        match read_pair(&mut words) {
+            Some(numbers) => Some(numbers),
+            None => None,
+        }
     } else {
         None
     }

@@ -1,10 +1,10 @@
 //! Reads the values that a SAT solver answers.
 
-ghost use Rattle.std.specs.Prelude.{◌≡◌, ◌↔◌, ◌∷◌, [], Bool, codes, IsTrue, MatchOption, IfSome, IfOk, IfErr};
+ghost use Rattle.std.specs.Prelude.{◌≡◌, ◌↔◌, ◌∷◌, [], ℕ, List, Bool, codes, IsTrue, MatchOption, IfSome, IfOk, IfErr};
 ghost use Rattle.bee_text.specs.Gaps.{words_of};
 ghost use Rattle.dimacs_read.specs.declared.values.Stage.TheVariants.{Ended};
-ghost use Rattle.dimacs_read.specs.Values.{Known, Told, told, Tell, IsTold, Says, NextValues, IsValues};
-ghost use Rattle.dimacs_read.specs.Faults.{ValuesFault};
+ghost use Rattle.dimacs_read.specs.Values.{Known, Told, told, Tell, IsTold, Says, NextValues, IsValues, ValuesFail};
+ghost use Rattle.dimacs_read.specs.Faults.{ValuesFault, IsReadAs, FailsAt};
 
 use crate::fault::TextFault;
 use crate::known::KnownValues;
@@ -130,9 +130,8 @@ fn is_ended(stage: Stage) -> bool
     matches!(stage, Stage::Ended)
 }
 
-/// The truth values that a text tells, that of variable 1 first, or the first line that fails. The text is looked
-/// at once, and takes two bytes of memory for each variable; the clauses are tested once, at the end of the values.
-pub fn read_values(alloc: Global, text: &[u8], cnf: &Cnf) -> Result<Vec<bool>, TextFault>
+/// The truth values that a text tells, or the first line that fails.
+fn read_told(alloc: Global, text: &[u8], cnf: &Cnf) -> Result<Vec<bool>, TextFault>
     ensures read { IfOk result (λ values. IsValues cnf.now text.now values.items) }
     ensures fault { IfErr result (ValuesFault cnf.now text.now) }
 {
@@ -151,4 +150,16 @@ pub fn read_values(alloc: Global, text: &[u8], cnf: &Cnf) -> Result<Vec<bool>, T
         return Ok(known.into_values());
     }
     Err(TextFault::Form(read as u64 + 1))
+}
+
+/// The truth values that a text tells, that of variable 1 first, or the first line that fails. The text is looked
+/// at once, and takes two bytes of memory for each variable; the clauses are tested once, at the end of the values.
+pub fn read_values(alloc: Global, text: &[u8], cnf: &Cnf) -> Result<Vec<bool>, TextFault>
+    ensures read { IfOk result (λ values. IsValues cnf.now text.now values.items) }
+    ensures fault { IfErr result (ValuesFault cnf.now text.now) }
+    ensures complete { (values : List Bool) → IsValues cnf.now text.now values → IsReadAs (λ v. v.items) result values }
+    ensures exact { (line : ℕ) → ValuesFail cnf.now text.now line → FailsAt result line }
+{
+    let _vars = cnf.vars;
+    read_told(alloc, text, cnf)
 }

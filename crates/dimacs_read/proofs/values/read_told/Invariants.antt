@@ -2,7 +2,7 @@ use Rattle.std.proofs.Common.{◌≡◌, length}
 use Rattle.bee_text.specs.Lines.{lines_of}
 use Rattle.dimacs_read.specs.Values.{NextValues, nothing_told, told}
 use Rattle.dimacs_read.proofs.ReadTo.{ReadTo}
-use Rattle.dimacs_read.proofs.values.read_values.Given as goal
+use Rattle.dimacs_read.proofs.values.read_told.Given as goal
 
 -- the lines that are read lead to what is told
 abbrev pub invariant-loop-line : goal.invariant-loop-line

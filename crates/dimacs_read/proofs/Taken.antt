@@ -1,10 +1,10 @@
 -- What taking a line in parts comes to, and which line fails.
-use Rattle.std.proofs.Common.{◌≡◌, ℕ, ◌+◌, ◌^◌, ◌<◌, ◌≤◌, ◌⊎◌, inl, inr, Bool, true, false, not, List, [], ◌∷◌, ◌++◌, map, Option, Some, None, MatchBool, MatchOption, refl, sym, ap, subst, ◌∙◌, arith, ℤ, pos, negsuc, get_or, drop}
+use Rattle.std.proofs.Common.{◌≡◌, ℕ, ◌+◌, ◌^◌, ◌<◌, ◌≤◌, ◌⊎◌, inl, inr, Bool, true, false, not, List, [], ◌∷◌, ◌++◌, map, Option, Some, None, MatchBool, MatchOption, refl, sym, ap, subst, ◌∙◌, arith, ℤ, pos, negsuc, get_or, drop, length, ◌==◌}
 use Rattle.std.specs.Prelude.{is_some, unsigned_abs, FitsSigned, ◌+ℤ◌}
 use Rattle.std.specs.Int.{w128}
 use Rattle.std.specs.Int.Signed.{mag}
 use Rattle.std.specs.Fmt.{decimal, signed_decimal}
-use Rattle.std.proofs.lemmas.Bool.{true≢false, false≢true}
+use Rattle.std.proofs.lemmas.Bool.{true≢false, false≢true, eqb-true}
 use Rattle.bee_text.specs.Words.{join_words, split_blanks}
 use Rattle.bee_text.proofs.NumberLemmas.{signed_decimal_injective_wide}
 use Rattle.order_ints.specs.declared.atom.Atom.{Atom}
@@ -13,16 +13,19 @@ use Rattle.order_ints.specs.declared.order_int.MapValue.{MapValue}
 use Rattle.order_ints.specs.OrderRange.{weights}
 use Rattle.bumblebee_reader.specs.Names.{IsNew}
 use Rattle.dimacs_out.specs.declared.entry.MapEntry.{MapEntry}
-use Rattle.dimacs_out.specs.CompiledText.{step_word, entry_line}
+use Rattle.dimacs_out.specs.CompiledText.{step_word, entry_line, clause_words}
+use Rattle.order_ints.specs.declared.literal.Lit.{Lit}
+use Rattle.order_ints.specs.Place.{ClauseBelow}
 use Rattle.dimacs_out.proofs.LinesTell.{entry_line_tells}
 use Rattle.dimacs_out.proofs.WordsTell.{step_words_tell}
+use Rattle.dimacs_read.specs.declared.draft.TextStage.{TextStage}
 use Rattle.dimacs_read.specs.declared.draft.TextStage.TheVariants.{Names}
 use Rattle.dimacs_read.specs.Steps.{AreReadableWeights}
 use Rattle.dimacs_read.specs.declared.entry.Kind.{Kind}
 use Rattle.dimacs_read.specs.declared.entry.Kind.TheVariants as kind
 use Rattle.dimacs_read.specs.Entries.{kind_word, kind_of, tail_words, IsReadableInt, IsReadableValue}
 use Rattle.dimacs_read.specs.TextLines.{IsReadableEntry, first_above}
-use Rattle.dimacs_read.specs.TextSteps.{Draft, IsNamed, IsLedgered, IsNumbers, IsProblem, NextAt, MayHaveNumbers, FaultAt}
+use Rattle.dimacs_read.specs.TextSteps.{Draft, IsNamed, IsLedgered, IsNumbers, IsProblem, NextAt, NextLine, MayHaveNumbers, FaultAt}
 use Rattle.dimacs_read.proofs.TextSame.{numbers_tell, entry_of}
 use Rattle.dimacs_read.proofs.ValuesRead.{none_some, some_same}
 
@@ -108,7 +111,7 @@ mag_small : (z : ℤ) → unsigned_abs z ≤ 2 ^ 30 → mag z + 1 < 10 ^ 64
 mag_small (pos n) h = omega arith
 mag_small (negsuc n) h = omega arith
 
-fits_small : (z : ℤ) → unsigned_abs z ≤ 2 ^ 30 → FitsSigned w128 z
+pub fits_small : (z : ℤ) → unsigned_abs z ≤ 2 ^ 30 → FitsSigned w128 z
 fits_small (pos n) h = record { sfits = omega arith }
 fits_small (negsuc n) h = record { sfits = omega arith }
 
@@ -154,3 +157,42 @@ kind_tells kind.Bool kind.Bool e = refl
 kind_tells kind.Int kind.Int e = refl
 kind_tells kind.Bool kind.Int e = absurd (omega (arith, ap (λ w. get_or w 0 0) e))
 kind_tells kind.Int kind.Bool e = absurd (omega (arith, ap (λ w. get_or w 0 0) e))
+
+-- parts of what a call ensures
+
+pub true_part : {A : Type 0} (B : Type 0) (b : Bool) → MatchBool b A B → b ≡ true → A
+true_part B true h e = h
+true_part B false h e = absurd (false≢true e)
+
+pub false_part : {B : Type 0} (A : Type 0) (b : Bool) → MatchBool b A B → b ≡ false → B
+false_part A true h e = absurd (true≢false e)
+false_part A false h e = h
+
+pub empty_nil : (xs : List ℕ) → (length xs == 0) ≡ true → xs ≡ []
+empty_nil [] e = refl
+empty_nil (x ∷ xs) e = absurd (omega (arith, eqb-true (length (x ∷ xs)) 0 e))
+
+pub no_clause : {X : Type 0} (view : X → List Lit) (n : ℕ) (words : List (List ℕ)) (o : Option X)
+    → MatchOption o ((c : List Lit) → ClauseBelow n c → words ≡ clause_words c → ⊥) (λ x. ClauseBelow n (view x) × (words ≡ clause_words (view x))) → o ≡ None
+    → (c : List Lit) → ClauseBelow n c → words ≡ clause_words c → ⊥
+no_clause view n words None h is = h
+no_clause view n words (Some x) h is = absurd (cc)
+
+pub record FoundSteps (words : List (List ℕ)) (steps : List (Atom × ℕ)) (total : ℕ) : Type 0 where
+  pub readable : AreReadableWeights steps
+  pub spelled : words ≡ map step_word steps
+  pub total_is : total ≡ weights steps
+
+pub some_steps : {X : Type 0} (view : X → List (Atom × ℕ)) (total : X → ℕ) (words : List (List ℕ)) (o : Option X) (x : X)
+    → MatchOption o ((ss : List (Atom × ℕ)) → AreReadableWeights ss → words ≡ map step_word ss → ⊥) (λ s. AreReadableWeights (view s) × (words ≡ map step_word (view s)) × (total s ≡ weights (view s)))
+    → o ≡ Some x → FoundSteps words (view x) (total x)
+some_steps view total words None x h is = absurd (cc)
+some_steps {X} view total words (Some y) x h is =
+    let P : X → Type 0 = λ s. FoundSteps words (view s) (total s) in
+    subst P (some_same y x is) (record { readable = h.0; spelled = h.1; total_is = h.2 })
+
+pub stage_taken : (b : Bool) (g : TextStage) (s t : Draft) (line : List ℕ) → s.stage ≡ g → MatchBool b (NextAt g s line t) (((u : Draft) → NextAt g s line u → ⊥) × (t ≡ s))
+    → MatchBool b (NextLine s line t) (((u : Draft) → NextLine s line u → ⊥) × (t ≡ s))
+stage_taken b g s t line is h =
+    let P : TextStage → Type 0 = λ f. MatchBool b (NextAt f s line t) (((u : Draft) → NextAt f s line u → ⊥) × (t ≡ s)) in
+    subst P (sym is) h

@@ -48,8 +48,10 @@ fn texts_without_a_ledger(rt: HostRuntime) -> Result<(), Fail> {
 
 #[test]
 fn text_with_a_ledger(rt: HostRuntime) -> Result<(), Fail> {
-    let text = "c bee 1\nc bool a 1\nc led eq 1 order 1 T\nc led split 2\nc led enc 18446744073709551615\np cnf 1 1\n1 0\n";
-    let want = "c bee 1\nc bool a 1\np cnf 1 1\n1 0\neq 1 order 1 T\nsplit 2\nenc 18446744073709551615\n";
+    let text =
+        "c bee 1\nc bool a 1\nc led eq 1 order 1 T\nc led split 2\nc led enc 18446744073709551615\np cnf 1 1\n1 0\n";
+    let want =
+        "c bee 1\nc bool a 1\np cnf 1 1\n1 0\neq 1 order 1 T\nsplit 2\nenc 18446744073709551615\n";
     let shown = read(rt.alloc(), text)?;
     assert_eq!(rt; shown.as_slice(), want.as_bytes());
     Ok(())
@@ -79,7 +81,10 @@ fn texts_that_fail(rt: HostRuntime) -> Result<(), Fail> {
         ("c bee 1\nc bool true 1\np cnf 1 0\n", "line 2"),
         ("c bee 1\nc bool 1a 1\np cnf 1 0\n", "line 2"),
         ("c bee 1\nc bool  1\np cnf 1 0\n", "line 2"),
-        ("c bee 1\nc bool a 1\nc int b 0\nc int a 0\np cnf 1 0\n", "line 4"),
+        (
+            "c bee 1\nc bool a 1\nc int b 0\nc int a 0\np cnf 1 0\n",
+            "line 4",
+        ),
         ("c bee 1\nc bool a 0\np cnf 1 0\n", "line 2"),
         ("c bee 1\nc bool a 1 2\np cnf 2 0\n", "line 2"),
         ("c bee 1\nc bool a\np cnf 2 0\n", "line 2"),
@@ -95,11 +100,17 @@ fn texts_that_fail(rt: HostRuntime) -> Result<(), Fail> {
         ("c bee 1\nc int a 1073741825\np cnf 1 0\n", "line 2"),
         ("c bee 1\nc int a -1073741825\np cnf 1 0\n", "line 2"),
         ("c bee 1\nc int a 0 1:1073741825\np cnf 1 0\n", "line 2"),
-        ("c bee 1\nc int a -1 1:1073741825 1:1\np cnf 1 0\n", "line 2"),
+        (
+            "c bee 1\nc int a -1 1:1073741825 1:1\np cnf 1 0\n",
+            "line 2",
+        ),
         // The ledger.
         ("c bee 1\nc led split\np cnf 1 0\n", "line 2"),
         ("c bee 1\nc led  split 1\np cnf 1 0\n", "line 2"),
-        ("c bee 1\nc led eq 18446744073709551616 form T F\np cnf 1 0\n", "line 2"),
+        (
+            "c bee 1\nc led eq 18446744073709551616 form T F\np cnf 1 0\n",
+            "line 2",
+        ),
         // The numbers of variables and clauses.
         ("c bee 1\np cnf 67108865 0\n", "line 2"),
         ("c bee 1\np cnf 1 18446744073709551616\n", "line 2"),
@@ -107,10 +118,19 @@ fn texts_that_fail(rt: HostRuntime) -> Result<(), Fail> {
         ("c bee 1\np cnf 01 0\n", "line 2"),
         ("c bee 1\np cnf 1 0 0\n", "line 2"),
         // A variable above the number that is told, and what is told in a line that fails.
-        ("c bee 1\nc bool b 1\nc bool a 5\nc bool c 6\np cnf 4 0\n", "line 3"),
+        (
+            "c bee 1\nc bool b 1\nc bool a 5\nc bool c 6\np cnf 4 0\n",
+            "line 3",
+        ),
         ("c bee 1\nc int a 0 1:1 5:1\np cnf 4 0\n", "line 2"),
-        ("c bee 1\nc bool a 1\nc led eq 1 form 7 T\np cnf 4 0\n", "line 3"),
-        ("c bee 1\nc bool a 5\nc led eq 1 form T -7\np cnf 5 0\n", "line 3"),
+        (
+            "c bee 1\nc bool a 1\nc led eq 1 form 7 T\np cnf 4 0\n",
+            "line 3",
+        ),
+        (
+            "c bee 1\nc bool a 5\nc led eq 1 form T -7\np cnf 5 0\n",
+            "line 3",
+        ),
         ("c bee 1\nc bool a 5\nx\np cnf 4 0\n", "line 3"),
         ("c bee 1\nc bool a 5\np cnf 4 x\n", "line 3"),
         ("c bee 1\nc bool a 67108866\np cnf 67108865 0\n", "line 2"),
@@ -142,7 +162,8 @@ fn line_of(text: &[u8], length: usize) -> u64 {
 #[test]
 fn text_cut_at_every_byte(rt: HostRuntime) -> Result<(), Fail> {
     let alloc = rt.alloc();
-    let text = b"c bee 1\nc bool a 1\nc int i -3 2:1 T:2\nc led eq 1 form 1 T\np cnf 2 2\n1 -2 0\n0\n";
+    let text =
+        b"c bee 1\nc bool a 1\nc int i -3 2:1 T:2\nc led eq 1 form 1 T\np cnf 2 2\n1 -2 0\n0\n";
     for length in 0..text.len() {
         let fault = match read_compiled(alloc, &text[..length]) {
             Ok(_) => None,

@@ -39,7 +39,10 @@ fn values_are_read(rt: HostRuntime) -> Result<(), Fail> {
         ("s SATISFIABLE\nv 1 2 0\n", "11"),
         ("s SATISFIABLE\nv 2 1 0\n", "11"),
         ("s SATISFIABLE\nv -1 -2 0\n", "00"),
-        ("c made by hand\n\n \t\ns SATISFIABLE\nc\nv 1\nv\nc 0\nv -2\nv 0\n\nc end\n", "10"),
+        (
+            "c made by hand\n\n \t\ns SATISFIABLE\nc\nv 1\nv\nc 0\nv -2\nv 0\n\nc end\n",
+            "10",
+        ),
         ("s  SATISFIABLE\r\nv\t1  -2 0 \r\n", "10"),
         (" s SATISFIABLE\n v 1 2 0\n", "11"),
     ] {

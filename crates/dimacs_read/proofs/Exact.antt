@@ -1,12 +1,12 @@
 -- A text is in form, or has one line that fails first.
-use Rattle.std.proofs.Common.{◌≡◌, ℕ, ◌+◌, ◌^◌, ◌<◌, ◌⊎◌, inl, inr, Bool, false, List, [], ◌∷◌, length, Result, Ok, Err, Some, IfOk, IfErr, replicate, refl, sym, ap, subst, ◌∙◌, arith}
+use Rattle.std.proofs.Common.{◌≡◌, ℕ, ◌+◌, ◌^◌, ◌<◌, inl, inr, Bool, false, List, [], ◌∷◌, length, Result, Ok, Err, IfOk, IfErr, refl, sym, ap, subst, ◌∙◌, arith}
 use Rattle.std.proofs.lemmas.List.{length-replicate}
 use Rattle.bee_text.specs.Lines.{unfinished}
 use Rattle.order_ints.specs.declared.cnf.Cnf.{Cnf}
 use Rattle.dimacs_read.specs.declared.fault.TextFault.{TextFault}
 use Rattle.dimacs_read.specs.declared.fault.TextFault.TheVariants.{Form, Memory}
 use Rattle.dimacs_read.specs.declared.text.CnfText.{CnfText}
-use Rattle.dimacs_read.specs.Values.{Told, NextValues, AreTold, nothing_told, IsValues, ValuesFail}
+use Rattle.dimacs_read.specs.Values.{NextValues, AreTold, nothing_told, IsValues, ValuesFail}
 use Rattle.dimacs_read.specs.TextLines.{first_above, IsTextOf}
 use Rattle.dimacs_read.specs.TextSteps.{Draft, nothing_read, held, NextLine, IsComplete, IsAbove, FaultAt, FaultLine, TextFails}
 use Rattle.dimacs_read.specs.Faults.{ValuesFault, TextFaultOf, IsReadAs, FailsAt}

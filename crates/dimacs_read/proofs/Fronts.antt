@@ -1,6 +1,6 @@
 -- The first line that fails is one line.
 use Rattle.std.proofs.Common.{◌≡◌, ℕ, ◌+◌, ◌⊎◌, inl, inr, List, [], ◌∷◌, ◌++◌, length, drop, get_or, refl, sym, ap, subst, ◌∙◌}
-use Rattle.bee_text.specs.Lines.{lines_of, unfinished}
+use Rattle.bee_text.specs.Lines.{unfinished}
 use Rattle.dimacs_read.specs.LineByLine.{Lead, IsMisfit, FirstMisfit}
 use Rattle.dimacs_read.proofs.Leads.{lead_front, lead_same}
 

@@ -1,9 +1,9 @@
 -- Lines that lead from one standing to another.
-use Rattle.std.proofs.Common.{◌≡◌, ℕ, ◌+◌, ◌<◌, ◌≤◌, ◌⊎◌, inl, inr, List, [], ◌∷◌, ◌++◌, length, drop, get_or, refl, sym, ap, subst, ◌∙◌, arith, length-append}
+use Rattle.std.proofs.Common.{◌≡◌, ℕ, ◌+◌, List, [], ◌∷◌, ◌++◌, refl, sym, ap, subst, ◌∙◌}
 use Rattle.std.proofs.lemmas.List.{append-nil}
-use Rattle.bee_text.specs.Lines.{AreLines, join_lines, lines_of, unfinished}
+use Rattle.bee_text.specs.Lines.{join_lines, lines_of, unfinished}
 use Rattle.bee_text.proofs.LineLemmas.{lines_of-join_lines, unfinished-join_lines}
-use Rattle.dimacs_read.specs.LineByLine.{Lead, IsWhole, IsMisfit, FirstMisfit}
+use Rattle.dimacs_read.specs.LineByLine.{Lead, IsWhole, IsMisfit}
 
 module _ {S : Type 0} (Next : S → List ℕ → S → Type 0) where
   -- one line more

@@ -1,7 +1,7 @@
 -- The pieces between the blanks of a line that words make.
-use Rattle.std.proofs.Common.{◌≡◌, ℕ, ◌+◌, ◌^◌, ◌<◌, ◌≤◌, true, false, not, ◌||◌, ◌==◌, List, [], ◌∷◌, ◌++◌, length, map, codes, drop, get_or, refl, sym, ap, subst, ◌∙◌, arith, length-append}
+use Rattle.std.proofs.Common.{◌≡◌, ℕ, ◌+◌, ◌^◌, ◌<◌, ◌≤◌, true, false, not, ◌||◌, ◌==◌, List, [], ◌∷◌, length, map, codes, drop, get_or, refl, sym, ap, ◌∙◌, arith, length-append}
 use Rattle.std.specs.List.{list_all}
-use Rattle.std.proofs.lemmas.Bool.{and_parts, and_from, or_parts, not-true, not_from_false, true≢false}
+use Rattle.std.proofs.lemmas.Bool.{and_parts, and_from, or_parts, not-true, not_from_false}
 use Rattle.bee_text.specs.Lines.{lacks}
 use Rattle.bee_text.specs.Words.{is_gap, is_word, IsWord, AreWords, ArePieces, join_words, split_blanks}
 use Rattle.bee_text.proofs.WordLemmas.{split_blanks-join_words}
@@ -10,15 +10,12 @@ use Rattle.order_ints.specs.declared.order_int.MapValue.{MapValue}
 use Rattle.order_ints.specs.declared.order_int.MapValue.TheVariants.{Bool as OfBool, Int as OfInt}
 use Rattle.order_ints.specs.Place.{ClauseBelow}
 use Rattle.ledger_text.specs.Words.{literal_word}
-use Rattle.ledger_text.specs.declared.line.Line.{Line}
-use Rattle.ledger_text.specs.Steps.{step_text, IsReadableStep}
-use Rattle.bumblebee_reader.specs.Names.{IsDeclarable}
 use Rattle.dimacs_out.specs.declared.entry.MapEntry.{MapEntry}
 use Rattle.dimacs_out.specs.CompiledText.{value_words, entry_line, clause_words, clause_line}
 use Rattle.dimacs_out.proofs.SpelledWords.{value_words_words, clause_words_words}
 use Rattle.dimacs_read.specs.declared.entry.Kind.{Kind}
-use Rattle.dimacs_read.specs.Entries.{kind_word, kind_of, tail_words, IsReadableValue}
-use Rattle.dimacs_read.specs.TextLines.{ledger_line, IsReadableEntry}
+use Rattle.dimacs_read.specs.Entries.{kind_word, kind_of, tail_words}
+use Rattle.dimacs_read.specs.TextLines.{IsReadableEntry}
 use Rattle.dimacs_read.specs.TextSteps.{IsNumbers}
 use Rattle.dimacs_read.proofs.TextSame.{numbers_words, numbers_words_words}
 

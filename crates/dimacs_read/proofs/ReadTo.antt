@@ -1,12 +1,12 @@
 -- A text that is read up to a line, and what stands then.
-use Rattle.std.proofs.Common.{◌≡◌, ℕ, ◌+◌, ◌<◌, ◌≤◌, true, not, ◌==◌, List, [], ◌∷◌, ◌++◌, length, refl, sym, ap, subst, ◌∙◌, arith, append_assoc, ⊎_elim, length-append}
+use Rattle.std.proofs.Common.{◌≡◌, ℕ, ◌+◌, ◌≤◌, true, List, [], ◌∷◌, ◌++◌, length, refl, sym, ap, ◌∙◌, arith, append_assoc, ⊎_elim, length-append}
 use Rattle.std.specs.List.{list_all}
 use Rattle.std.proofs.lemmas.Bool.{and_from, cases_Bool}
 use Rattle.std.proofs.lemmas.List.{append-nil}
 use Rattle.std.proofs.lemmas.List.Folds.{list_all-append}
 use Rattle.bee_text.specs.Lines.{lacks, IsLine, AreLines, join_lines, lines_of, unfinished}
 use Rattle.bee_text.proofs.LineLemmas.{lines_of-join_lines_rest, unfinished-join_lines, join_lines-lines_of, lines_of_lines, lines_of-rest, join_lines-append}
-use Rattle.dimacs_read.specs.LineByLine.{Lead, IsWhole, IsMisfit, FirstMisfit}
+use Rattle.dimacs_read.specs.LineByLine.{Lead, IsWhole, FirstMisfit}
 use Rattle.dimacs_read.proofs.Leads.{lead_push}
 
 -- what stands behind the last line feed is a line

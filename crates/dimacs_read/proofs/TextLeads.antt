@@ -1,25 +1,25 @@
 -- The lines of what can be read lead to it.
-use Rattle.std.proofs.Common.{◌≡◌, ◌≢◌, ℕ, ◌+◌, ◌^◌, ◌<◌, ◌≤◌, ◌&&◌, ◌⊎◌, inl, inr, true, List, [], ◌∷◌, ◌++◌, codes, length, map, refl, sym, ap, subst, ◌∙◌, arith, length-append}
+use Rattle.std.proofs.Common.{◌≡◌, ◌≢◌, ℕ, ◌+◌, ◌^◌, ◌≤◌, inl, inr, true, List, [], ◌∷◌, ◌++◌, length, map, refl, sym, ap, subst, ◌∙◌, arith, length-append}
 use Rattle.std.specs.List.{list_all}
 use Rattle.std.specs.Fmt.{decimal}
 use Rattle.std.proofs.lemmas.Bool.{and_from}
 use Rattle.std.proofs.lemmas.List.{append-nil, append_assoc}
 use Rattle.std.proofs.lemmas.List.Folds.{list_all-append}
-use Rattle.bee_text.specs.Lines.{lacks, IsLine, AreLines, join_lines}
+use Rattle.bee_text.specs.Lines.{lacks, IsLine, AreLines}
 use Rattle.bee_text.specs.Words.{is_word, AreWords, join_words}
 use Rattle.bee_text.proofs.NumberLemmas.{decimal_word}
 use Rattle.bee_text.proofs.WordLemmas.{join_words_line}
 use Rattle.bee_text.proofs.GapLemmas.{words_lines}
 use Rattle.order_ints.specs.declared.literal.Lit.{Lit}
-use Rattle.order_ints.specs.Place.{ClauseBelow, ClausesBelow}
+use Rattle.order_ints.specs.Place.{ClausesBelow}
 use Rattle.core_forms.specs.declared.equation.Rule.{Rule}
 use Rattle.core_forms.specs.declared.equation.Rule.TheVariants.{Order, Form, Table}
 use Rattle.ledger_text.specs.declared.line.Line.{Line}
 use Rattle.ledger_text.specs.declared.line.Line.TheVariants.{Equate, Split, Encode}
 use Rattle.ledger_text.specs.Words.{atom_word}
-use Rattle.ledger_text.specs.Steps.{rule_word, step_words, step_text, IsReadableStep}
+use Rattle.ledger_text.specs.Steps.{rule_word, step_words, IsReadableStep}
 use Rattle.ledger_text.proofs.Spelled.{atom_word_word}
-use Rattle.bumblebee_reader.specs.Names.{IsDeclarable, IsNew, AreDeclared}
+use Rattle.bumblebee_reader.specs.Names.{IsNew, AreDeclared}
 use Rattle.dimacs_out.specs.declared.entry.MapEntry.{MapEntry}
 use Rattle.dimacs_out.specs.CompiledText.{entry_line, clause_line}
 use Rattle.dimacs_out.proofs.LinesTell.{entry_line_line, clause_lines_lines}
@@ -27,8 +27,8 @@ use Rattle.dimacs_read.specs.declared.text.CnfText.{CnfText}
 use Rattle.dimacs_read.specs.declared.draft.TextStage.{TextStage}
 use Rattle.dimacs_read.specs.declared.draft.TextStage.TheVariants.{Start, Names, Steps, Clauses}
 use Rattle.dimacs_read.specs.LineByLine.{Lead, IsWhole}
-use Rattle.dimacs_read.specs.TextLines.{heading, ledger_line, numbers_line, text_lines, text_of, AreReadableEntries, AreReadableSteps, IsReadable, IsTextOf}
-use Rattle.dimacs_read.specs.TextSteps.{Draft, nothing_read, IsNamed, IsLedgered, IsProblem, IsClause, NextAt, NextLine, IsComplete, MayHaveNumbers}
+use Rattle.dimacs_read.specs.TextLines.{ledger_line, numbers_line, text_lines, AreReadableEntries, AreReadableSteps, IsReadable, IsTextOf}
+use Rattle.dimacs_read.specs.TextSteps.{Draft, nothing_read, IsNamed, IsLedgered, IsProblem, IsClause, NextLine, IsComplete, MayHaveNumbers}
 use Rattle.dimacs_read.proofs.TextSame.{entry_of, numbers_words, numbers_words_words}
 
 lead_join : (s : Draft) (xs ys : List (List ℕ)) (m t : Draft) → Lead NextLine s xs m → Lead NextLine m ys t → Lead NextLine s (xs ++ ys) t
@@ -44,7 +44,6 @@ new_of n x (z ∷ xs) ys h = new_of n x xs ys h.1
 declared_new : (xs : List (List ℕ)) (n : List ℕ) (ys : List (List ℕ)) → AreDeclared (xs ++ n ∷ ys) → IsNew n xs
 declared_new [] n ys h = tt
 declared_new (x ∷ xs) n ys h = (new_of n x xs ys h.1, declared_new xs n ys h.2)
-
 
 abbrev among_names : List MapEntry → Draft
 among_names es = record { stage = Names; entries = es; ledger = []; clauses = [] }

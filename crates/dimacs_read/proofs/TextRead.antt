@@ -1,7 +1,7 @@
 -- What lines that lead somewhere spell, and which line fails.
 use Rattle.std.proofs.Common.{◌≡◌, ◌≢◌, ℕ, ◌+◌, ◌^◌, ◌<◌, ◌≤◌, ◌⊎◌, inl, inr, List, [], ◌∷◌, ◌++◌, length, map, None, refl, sym, ap, subst, ◌∙◌, arith}
 use Rattle.std.proofs.lemmas.List.{map-append, append-nil, append_assoc}
-use Rattle.bee_text.specs.Lines.{IsLine, AreLines, join_lines, lines_of, unfinished}
+use Rattle.bee_text.specs.Lines.{IsLine, join_lines, lines_of, unfinished}
 use Rattle.bee_text.proofs.LineLemmas.{unfinished-join_lines, lines_of-rest}
 use Rattle.order_ints.specs.declared.literal.Lit.{Lit}
 use Rattle.order_ints.specs.Place.{ClauseBelow, ClausesBelow}
@@ -10,13 +10,12 @@ use Rattle.ledger_text.specs.Steps.{IsReadableStep}
 use Rattle.bumblebee_reader.specs.Names.{IsDeclarable, IsNew, AreDeclared}
 use Rattle.dimacs_out.specs.declared.entry.MapEntry.{MapEntry}
 use Rattle.dimacs_out.specs.CompiledText.{entry_line, clause_line}
-use Rattle.dimacs_read.specs.declared.text.CnfText.{CnfText}
 use Rattle.dimacs_read.specs.declared.draft.TextStage.{TextStage}
 use Rattle.dimacs_read.specs.declared.draft.TextStage.TheVariants.{Start, Names, Steps, Clauses}
-use Rattle.dimacs_read.specs.LineByLine.{Lead, IsWhole, IsMisfit}
-use Rattle.dimacs_read.specs.TextLines.{heading, ledger_line, numbers_line, text_lines, text_of, IsReadableEntry, AreReadableEntries, AreReadableSteps, first_above, IsReadable, IsTextOf}
+use Rattle.dimacs_read.specs.LineByLine.{Lead, IsWhole}
+use Rattle.dimacs_read.specs.TextLines.{heading, ledger_line, numbers_line, text_lines, IsReadableEntry, AreReadableEntries, AreReadableSteps, first_above, IsReadable, IsTextOf}
 use Rattle.dimacs_read.specs.TextSteps.{Draft, nothing_read, IsNamed, IsLedgered, IsProblem, IsClause, NextAt, NextLine, vars_of, held, HasAll, IsComplete, FaultAt, TextFails}
-use Rattle.dimacs_read.proofs.ReadTo.{ReadTo, Behind, lines_behind}
+use Rattle.dimacs_read.proofs.ReadTo.{ReadTo, lines_behind}
 
 -- the lines that were read
 abbrev pub lines_at : TextStage → Draft → List (List ℕ)
@@ -122,7 +121,7 @@ module _ (lines : List (List ℕ)) (s : Draft) (line : List ℕ) (t : Draft) whe
       let B : List (List Lit) → Type 0 = ClausesBelow (n.vars + 1) in
       subst G (sym n.after) (record {
         lines_are = (λ i. are i ++ n.numbers.spelled i ∷ []) ∙ pushed (map entry_line s.entries) (map ledger_line s.ledger) (numbers_line n.vars n.count)
-        ∙ ap (λ (cs : List (List Lit)). heading ∷ (map entry_line s.entries ++ (map ledger_line s.ledger ++ numbers_line n.vars n.count ∷ map clause_line cs))) (sym none);
+            ∙ ap (λ (cs : List (List Lit)). heading ∷ (map entry_line s.entries ++ (map ledger_line s.ledger ++ numbers_line n.vars n.count ∷ map clause_line cs))) (sym none);
         names = h.names;
         entries = h.entries;
         ledger = h.ledger;
@@ -190,15 +189,18 @@ held_of Names s lines is all are fits h = absurd all
 held_of Steps s lines is all are fits h = absurd all
 held_of (Clauses vars count) s lines is all are fits h =
     let P : TextStage → Type 0 = λ g. IsReadable (record { entries = s.entries; ledger = s.ledger; cnf = record { vars = vars_of g; clauses = s.clauses } }) × (lines ≡ text_lines (record { entries = s.entries; ledger = s.ledger; cnf = record { vars = vars_of g; clauses = s.clauses } })) in
-    subst P (sym is) (record {
-      names = h.names;
-      entries = h.entries;
-      ledger = h.ledger;
-      vars = fits.0;
-      within = fits.2;
-      clauses = fits.3;
-      count = omega (arith, all, fits.1);
-    }, are ∙ ap (λ n. heading ∷ (map entry_line s.entries ++ (map ledger_line s.ledger ++ numbers_line vars n ∷ map clause_line s.clauses))) (sym all))
+    subst P (sym is) (
+      record {
+        names = h.names;
+        entries = h.entries;
+        ledger = h.ledger;
+        vars = fits.0;
+        within = fits.2;
+        clauses = fits.3;
+        count = omega (arith, all, fits.1);
+      },
+      are ∙ ap (λ n. heading ∷ (map entry_line s.entries ++ (map ledger_line s.ledger ++ numbers_line vars n ∷ map clause_line s.clauses))) (sym all),
+    )
 
 pub whole_text : (text : List ℕ) (s : Draft) → IsWhole NextLine IsComplete nothing_read text s → IsTextOf (held s) text
 whole_text text s h =

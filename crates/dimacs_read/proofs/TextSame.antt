@@ -1,9 +1,8 @@
 -- Each line of a compiled text leads to one standing alone.
-use Rattle.std.proofs.Common.{◌≡◌, ℕ, ◌+◌, ◌-◌, ◌^◌, ◌<◌, ◌≤◌, ◌&&◌, ◌⊎◌, inl, inr, Bool, true, false, not, List, [], ◌∷◌, ◌++◌, codes, length, get_or, drop, refl, sym, ap, subst, ◌∙◌, arith}
+use Rattle.std.proofs.Common.{◌≡◌, ℕ, ◌+◌, ◌-◌, ◌^◌, ◌<◌, ◌≤◌, ◌&&◌, ◌⊎◌, inl, inr, true, List, [], ◌∷◌, ◌++◌, codes, get_or, drop, refl, sym, ap, subst, ◌∙◌, arith}
 use Rattle.std.specs.Fmt.{decimal}
-use Rattle.std.specs.List.{list_all}
 use Rattle.std.proofs.lemmas.Bool.{and_from}
-use Rattle.bee_text.specs.Words.{is_word, AreWords, join_words, split_blanks}
+use Rattle.bee_text.specs.Words.{is_word, AreWords, join_words}
 use Rattle.bee_text.proofs.NumberLemmas.{decimal_injective_wide, decimal_word}
 use Rattle.bee_text.proofs.GapLemmas.{join_words_injective}
 use Rattle.order_ints.specs.declared.literal.Lit.{Lit}
@@ -11,18 +10,17 @@ use Rattle.order_ints.specs.declared.order_int.MapValue.{MapValue}
 use Rattle.order_ints.specs.declared.order_int.MapValue.TheVariants.{Bool as OfBool, Int as OfInt}
 use Rattle.core_forms.specs.declared.equation.Rule.{Rule}
 use Rattle.core_forms.specs.declared.equation.Rule.TheVariants.{Order, Form, Table}
-use Rattle.core_forms.specs.declared.equation.Equation.{Equation}
 use Rattle.ledger_text.specs.declared.line.Line.{Line}
 use Rattle.ledger_text.specs.declared.line.Line.TheVariants.{Equate, Split, Encode}
 use Rattle.ledger_text.specs.Steps.{rule_word, step_words, step_text, IsReadableStep}
 use Rattle.ledger_text.proofs.Spelled.{atom_word_tells}
 use Rattle.ledger_text.proofs.StepWords.{pieces_of_step}
 use Rattle.dimacs_out.specs.declared.entry.MapEntry.{MapEntry}
-use Rattle.dimacs_out.specs.CompiledText.{value_words, entry_line, clause_line}
+use Rattle.dimacs_out.specs.CompiledText.{value_words, entry_line}
 use Rattle.dimacs_out.proofs.LinesTell.{IsEntry, entry_line_tells, entry_line_begins, clause_line_tells}
 use Rattle.dimacs_read.specs.declared.draft.TextStage.{TextStage}
 use Rattle.dimacs_read.specs.declared.draft.TextStage.TheVariants.{Start, Names, Steps, Clauses}
-use Rattle.dimacs_read.specs.TextLines.{heading, ledger_line, numbers_line, IsReadableEntry}
+use Rattle.dimacs_read.specs.TextLines.{ledger_line, numbers_line, IsReadableEntry}
 use Rattle.dimacs_read.specs.TextSteps.{Draft, IsNamed, IsLedgered, IsNumbers, IsProblem, IsClause, NextAt, NextLine}
 
 -- the words of a ledger line tell it

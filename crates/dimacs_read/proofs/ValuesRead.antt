@@ -1,5 +1,5 @@
 -- Words and lines of values that are read.
-use Rattle.std.proofs.Common.{◌≡◌, ℕ, ◌⊎◌, inl, inr, Bool, true, false, not, List, [], ◌∷◌, codes, drop, refl, sym, ap, subst, ◌∙◌, Option, Some, None, MatchOption}
+use Rattle.std.proofs.Common.{◌≡◌, ℕ, inl, inr, Bool, true, false, not, List, [], ◌∷◌, codes, drop, refl, sym, ap, subst, Option, Some, None, MatchOption}
 use Rattle.std.specs.Prelude.{is_some}
 use Rattle.std.proofs.lemmas.Bool.{true≢false, false≢true}
 use Rattle.order_ints.specs.declared.cnf.Cnf.{Cnf}

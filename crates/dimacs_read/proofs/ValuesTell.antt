@@ -1,8 +1,6 @@
 -- Each line of values leads to one standing alone.
-use Rattle.std.proofs.Common.{◌≡◌, ℕ, ◌+◌, ◌-◌, ◌^◌, ◌<◌, ◌≤◌, ◌⊎◌, inl, inr, Bool, true, false, not, List, [], ◌∷◌, codes, length, get_or, drop, refl, sym, ap, subst, ◌∙◌, arith, length-set, IsTrue, Some}
-use Rattle.std.specs.Prelude.{slice_get}
-use Rattle.std.specs.Fmt.{decimal}
-use Rattle.std.proofs.lemmas.Bool.{true≢false, false≢true}
+use Rattle.std.proofs.Common.{◌≡◌, ℕ, ◌+◌, ◌-◌, ◌^◌, ◌<◌, ◌≤◌, inl, inr, Bool, true, false, List, [], ◌∷◌, codes, length, get_or, drop, sym, ap, subst, ◌∙◌, arith, length-set}
+use Rattle.std.proofs.lemmas.Bool.{true≢false}
 use Rattle.std.proofs.lemmas.Option.{slice_get_within}
 use Rattle.bee_text.specs.Gaps.{words_of}
 use Rattle.bee_text.proofs.NumberLemmas.{decimal_leads_by_zero}
@@ -13,7 +11,7 @@ use Rattle.ledger_text.specs.Words.{literal_word}
 use Rattle.ledger_text.proofs.Spelled.{signed_word, literal_word_tells}
 use Rattle.dimacs_read.specs.declared.values.Stage.{Stage}
 use Rattle.dimacs_read.specs.declared.values.Stage.TheVariants.{Before, Listing, Ended}
-use Rattle.dimacs_read.specs.Values.{Known, Told, told, IsNew, with_literal, Tell, IsAnswer, Stands, IsTold, IsList, Says, is_skipped, NextValues}
+use Rattle.dimacs_read.specs.Values.{Known, Told, IsNew, with_literal, Tell, Stands, IsTold, Says, NextValues}
 
 -- a literal that is new is over the variables
 pub new_below : (k : Known) (l : Lit) → IsNew k l → LitBelow (length k.listed + 1) l

@@ -1,10 +1,9 @@
 -- The words of a name's line, behind those that tell its kind.
-use Rattle.std.specs.Prelude.{ℕ, ◌≤◌, ◌^◌, ◌+◌, List, [], ◌∷◌, codes, map, unsigned_abs}
+use Rattle.std.specs.Prelude.{ℕ, ◌^◌, ◌+◌, List, [], ◌∷◌, codes, map}
 use Rattle.std.specs.Fmt.{signed_decimal}
 use Rattle.order_ints.specs.declared.order_int.OrdInt.{OrdInt}
 use Rattle.order_ints.specs.declared.order_int.MapValue.{MapValue}
 use Rattle.order_ints.specs.declared.order_int.MapValue.TheVariants as values
-use Rattle.order_ints.specs.OrderRange.{low_of, high_of}
 use Rattle.ledger_text.specs.Words.{atom_word}
 use Rattle.dimacs_out.specs.CompiledText.{step_word, ValueBelow}
 use Rattle.dimacs_read.specs.declared.entry.Kind.{Kind}

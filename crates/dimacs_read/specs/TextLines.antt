@@ -6,23 +6,21 @@
 --     c led LINE                      for each line of the ledger
 --     p cnf VARS CLAUSES
 --     LITERAL .. 0                    for each clause
-use Rattle.std.specs.Prelude.{◌≡◌, ◌⊎◌, ℕ, ◌+◌, ◌^◌, ◌<◌, ◌≤◌, Bool, true, false, not, ◌&&◌, nat_le, nat_eq, List, [], ◌∷◌, ◌++◌, codes, length, map, position, Option, Some, None, option_map, IsTrue, unsigned_abs}
+use Rattle.std.specs.Prelude.{◌≡◌, ℕ, ◌+◌, ◌^◌, ◌<◌, ◌≤◌, Bool, true, not, ◌&&◌, nat_le, List, [], ◌∷◌, ◌++◌, codes, length, map, position, Option, Some, None, option_map, unsigned_abs}
 use Rattle.std.specs.Fmt.{decimal}
 use Rattle.std.specs.List.{list_all}
 use Rattle.bee_text.specs.Lines.{join_lines}
 use Rattle.bee_text.specs.Words.{join_words}
-use Rattle.order_ints.specs.declared.literal.Lit.{Lit}
 use Rattle.order_ints.specs.declared.atom.Atom.{Atom}
 use Rattle.order_ints.specs.declared.atom.Atom.TheVariants.{True, False, Of}
 use Rattle.order_ints.specs.declared.order_int.MapValue.{MapValue}
 use Rattle.order_ints.specs.declared.order_int.MapValue.TheVariants as values
-use Rattle.order_ints.specs.declared.cnf.Cnf.{Cnf}
 use Rattle.order_ints.specs.OrderRange.{low_of, high_of}
-use Rattle.order_ints.specs.Place.{ClauseBelow, InRange}
+use Rattle.order_ints.specs.Place.{InRange}
 use Rattle.ledger_text.specs.declared.line.Line.{Line}
 use Rattle.ledger_text.specs.declared.line.Line.TheVariants.{Equate, Split, Encode}
 use Rattle.ledger_text.specs.Steps.{step_text, IsReadableStep}
-use Rattle.bumblebee_reader.specs.Names.{IsDeclarable, IsNew, AreDeclared}
+use Rattle.bumblebee_reader.specs.Names.{IsDeclarable, AreDeclared}
 use Rattle.dimacs_out.specs.declared.entry.MapEntry.{MapEntry}
 use Rattle.dimacs_out.specs.CompiledText.{entry_line, clause_line, ValueBelow}
 use Rattle.dimacs_read.specs.declared.text.CnfText.{CnfText}

@@ -36,7 +36,11 @@ fn take_words(known: &mut KnownValues, text: &[u8]) -> Option<bool>
     while let Some((word, behind)) = next_word(rest) {
         let vars = known.vars();
         if is(word, b"0") {
-            return if next_word(behind).is_none() { Some(true) } else { None };
+            return if next_word(behind).is_none() {
+                Some(true)
+            } else {
+                None
+            };
         }
         let literal = read_literal(word, vars)?;
         if !known.take(literal) {

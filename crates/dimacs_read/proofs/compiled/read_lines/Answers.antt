@@ -1,4 +1,4 @@
-use Rattle.std.proofs.Common.{◌≡◌, ℕ, ◌+◌, ◌==◌, List, [], length, refl, sym, ap, subst, ◌∙◌, arith}
+use Rattle.std.proofs.Common.{ℕ, ◌+◌, ◌==◌, List, [], length, refl, sym, ap, subst, ◌∙◌}
 use Rattle.std.proofs.lemmas.Bool.{true≢false}
 use Rattle.dimacs_read.specs.declared.text.CnfText.{CnfText}
 use Rattle.dimacs_read.specs.TextLines.{IsTextOf}
@@ -23,7 +23,7 @@ loop-line-preserved c =
     record {
       count = c.in-Some.ensures.read ∙ sym c.in-Some.ensures.number;
       read = line_read NextLine nothing_read c.args.text.now c.loop-line.lines.rest c.in-Some.line.bytes.now c.next_line.new.self.rest c.loop-line.read c.in-Some.line.number c.loop-line.draft c.take_line.new.self
-      inv.read c.in-Some.ensures.line c.in-Some.ensures.rest (c.in-Some.ensures.number ∙ ap (λ n. n + 1) inv.count) (true_part _ c.in_ok-take_line.field-0 c.in_ok-take_line.ensures c.if-not-branch.false);
+          inv.read c.in-Some.ensures.line c.in-Some.ensures.rest (c.in-Some.ensures.number ∙ ap (λ n. n + 1) inv.count) (true_part _ c.in_ok-take_line.field-0 c.in_ok-take_line.ensures c.if-not-branch.false);
     }
 
 pub returns-clause-fault : goal.returns-clause-fault
@@ -32,8 +32,9 @@ returns-clause-fault c =
     let ended = c.in_default.ensures.none in
     text_end_fails c.args.text.now c.loop-line.lines.rest c.loop-line.read (c.loop-line.read + 1) c.loop-line.draft inv.read ended.0 refl
     (λ none complete. elim c.if-is_empty.branch [
-      then-is_empty+in_default-finish w ↦ w.in_default-finish.ensures complete
-    | else-is_empty w ↦ true≢false (sym (c.is_empty.ensures ∙ ap (λ (xs : List ℕ). length xs == 0) (c.rest.ensures ∙ ap (λ p. p.rest) ended.1 ∙ none)) ∙ w.if-is_empty.false) ])
+      | then-is_empty+in_default-finish w ↦ w.in_default-finish.ensures complete
+      | else-is_empty w ↦ true≢false (sym (c.is_empty.ensures ∙ ap (λ (xs : List ℕ). length xs == 0) (c.rest.ensures ∙ ap (λ p. p.rest) ended.1 ∙ none)) ∙ w.if-is_empty.false)
+    ])
 
 pub returns-in-Some-finish-clause-read : goal.returns-in-Some-finish-clause-read
 returns-in-Some-finish-clause-read c =

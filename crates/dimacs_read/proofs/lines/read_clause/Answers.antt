@@ -1,4 +1,4 @@
-use Rattle.std.proofs.Common.{◌+◌, ◌^◌, ◌≤◌, ◌∙◌, arith}
+use Rattle.std.proofs.Common.{◌+◌, ◌∙◌, arith}
 use Rattle.dimacs_read.proofs.Pieces.{clause_pieces}
 use Rattle.dimacs_read.proofs.Taken.{no_clause}
 use Rattle.dimacs_read.proofs.lines.read_clause.Goals as goal

@@ -1,4 +1,4 @@
-use Rattle.std.proofs.Common.{◌≡◌, ℕ, ◌+◌, ◌^◌, ◌≤◌, ◌∷◌, ◌++◌, ◌-◌, Some, take, drop, length, refl, sym, ap, ◌∙◌, arith}
+use Rattle.std.proofs.Common.{◌≡◌, ◌+◌, ◌∷◌, ◌++◌, ◌-◌, Some, take, drop, length, sym, ap, ◌∙◌, arith}
 use Rattle.bee_text.proofs.SearchLemmas.{separator_cut}
 use Rattle.ledger_text.specs.Words.{atom_word}
 use Rattle.dimacs_read.proofs.ValuesRead.{some_same, none_some}
@@ -28,9 +28,10 @@ pub returns-clause-read : goal.returns-clause-read
 returns-clause-read c =
     let cut = separator_cut 58 c.args.word.now c.in_ok-colon.colon (sym c.find_colon.ensures ∙ c.in_ok-colon.was) in
     let atom = c.in_ok-atom.ensures.read in
-    let weight = c.in_ok-weight.ensures.read in
-    ((atom.0, omega (arith, c.if-weight-eq0.false), omega (arith, weight.0)),
-    cut.1 ∙ ap (λ xs. xs ++ 58 ∷ take (length c.args.word.now - (c.in_ok-colon.colon + 1)) (drop (c.in_ok-colon.colon + 1) c.args.word.now)) atom.1 ∙ ap (λ xs. atom_word c.in_ok-atom.atom ++ 58 ∷ xs) weight.1)
+    let weight = c.in_ok-weight.ensures.read in (
+      (atom.0, omega (arith, c.if-weight-eq0.false), omega (arith, weight.0)),
+      cut.1 ∙ ap (λ xs. xs ++ 58 ∷ take (length c.args.word.now - (c.in_ok-colon.colon + 1)) (drop (c.in_ok-colon.colon + 1) c.args.word.now)) atom.1 ∙ ap (λ xs. atom_word c.in_ok-atom.atom ++ 58 ∷ xs) weight.1,
+    )
 
 pub returns-clause-complete : goal.returns-clause-complete
 returns-clause-complete c = λ s h e.

@@ -1,4 +1,4 @@
-use Rattle.std.proofs.Common.{◌≡◌, ℕ, ◌+◌, ◌^◌, ◌≤◌, refl, sym, ap, ◌∙◌, arith}
+use Rattle.std.proofs.Common.{◌≡◌, ◌+◌, refl, sym, ap, ◌∙◌, arith}
 use Rattle.dimacs_read.proofs.ValuesRead.{some_same, none_some}
 use Rattle.dimacs_read.proofs.StepsRead.{step_read, steps_misfit}
 use Rattle.dimacs_read.proofs.steps.read_steps.Goals as goal

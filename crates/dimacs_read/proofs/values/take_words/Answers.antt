@@ -1,4 +1,4 @@
-use Rattle.std.proofs.Common.{◌≡◌, ◌+◌, true, false, Some, None, List, ℕ, sym, ap, subst, ◌∙◌, arith, codes}
+use Rattle.std.proofs.Common.{◌+◌, true, false, sym, subst, ◌∙◌, arith}
 use Rattle.std.proofs.lemmas.Bool.{true≢false}
 use Rattle.bee_text.specs.Gaps.{words_of}
 use Rattle.order_ints.specs.declared.literal.Lit.{Lit}

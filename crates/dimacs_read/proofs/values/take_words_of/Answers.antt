@@ -1,6 +1,4 @@
-use Rattle.std.proofs.Common.{◌≡◌, ℕ, List, sym, ap, subst, ◌∙◌, drop}
 use Rattle.bee_text.specs.Gaps.{words_of}
-use Rattle.dimacs_read.specs.Values.{IsTold}
 use Rattle.dimacs_read.proofs.ValuesRead.{no_list}
 use Rattle.dimacs_read.proofs.values.take_words_of.Goals as goal
 

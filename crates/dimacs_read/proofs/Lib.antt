@@ -12,3 +12,4 @@ pub mod TextLeads
 pub mod Taken
 pub mod Fronts
 pub mod Exact
+pub mod Lawful

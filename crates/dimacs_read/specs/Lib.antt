@@ -5,3 +5,4 @@ pub mod TextSteps
 pub mod Steps
 pub mod Entries
 pub mod Faults
+pub mod ReadLaws

@@ -7,6 +7,7 @@ mod draft;
 mod entry;
 mod fault;
 mod known;
+mod laws;
 mod lines;
 mod literal;
 mod name;
@@ -16,5 +17,6 @@ mod values;
 
 pub use compiled::read_compiled;
 pub use fault::TextFault;
+pub use laws::read_laws;
 pub use text::CnfText;
 pub use values::read_values;

@@ -164,6 +164,7 @@ pub fn read_values(alloc: Global, text: &[u8], cnf: &Cnf) -> Result<Vec<bool>, T
     ensures complete { (values : List Bool) → IsValues cnf.now text.now values → IsReadAs (λ v. v.items) result values }
     ensures exact { (line : ℕ) → ValuesFail cnf.now text.now line → FailsAt result line }
 {
+    // A field that is read tells the proof its range.
     let _vars = cnf.vars;
     read_told(alloc, text, cnf)
 }

@@ -1,22 +1,20 @@
 -- One more item is compiled.
-use Rattle.std.proofs.Common.{◌≡◌, ℕ, List, [], ◌∷◌, ◌++◌, Option, Some, None, refl, sym, ap, subst, append_assoc, ◌∙◌}
+use Rattle.std.proofs.Common.{◌≡◌, ℕ, List, [], ◌∷◌, ◌++◌, Option, Some, None, refl, sym, ap, subst, append_assoc, ◌∙◌, arith}
+use Rattle.std.specs.Prelude.{◌<◌, ◌^◌}
+use Rattle.std.proofs.lemmas.List.{append-nil}
 use Rattle.std.proofs.lemmas.List.Elements.{filter_map-append}
 use Rattle.order_ints.specs.declared.literal.Lit.{Lit}
 use Rattle.order_ints.specs.OrderedClauses.{ordered_clause}
 use Rattle.core_forms.specs.declared.form.Core.{Core}
-use Rattle.typed_model.specs.Limits.{KindInLimit}
 use Rattle.statement_lower.specs.Entries.{AreInLimit}
 use Rattle.model_lower.specs.declared.state.Lowered.{Lowered}
-use Rattle.model_lower.specs.declared.fault.LowerFault.{LowerFault}
-use Rattle.model_lower.specs.declared.fault.LowerFault.TheVariants.{Unbuilt, Memory}
-use Rattle.model_lower.specs.Items.{ModelItem, Declaration, Statement}
+use Rattle.model_items.specs.Items.{ModelItem, Declaration, Statement, Definition}
+use Rattle.model_items.specs.ItemLimits.{ItemsInLimit}
 use Rattle.model_lower.specs.Lowering.{lowered_item, lowered_items}
-use Rattle.model_lower.specs.Built.{vars_after, unbuilt, first_unbuilt, IsFaultOf}
-use Rattle.model_lower.specs.Drafting.{emptied}
+use Rattle.model_lower.specs.Drafting.{lowered_so_far, emptied}
 use Rattle.model_lower.specs.Fits.{CoresFit}
-use Rattle.model_lower.proofs.LoweredItems.{vars-item}
-use Rattle.model_lower.proofs.LimitLaws.{declared-limit}
-use Rattle.model_lower.proofs.Standing.{first_of-none}
+use Rattle.model_lower.proofs.LoweredItems.{room-here, items-step}
+use Rattle.model_lower.proofs.LimitLaws.{limit-step}
 use Rattle.bee_compile.specs.declared.progress.Progress.{Progress}
 use Rattle.bee_compile.specs.Encoded.{encoded_core, encoded, each_ordered}
 use Rattle.bee_compile.specs.Progressed.{HasCompiled}
@@ -25,10 +23,12 @@ use Rattle.bee_compile.specs.Progressed.{HasCompiled}
 cores-apart : (l : Lowered) (i : ModelItem) → (lowered_item l i).cores ≡ l.cores ++ (lowered_item (emptied l) i).cores
 cores-apart l (Declaration d) = refl
 cores-apart l (Statement s) = refl
+cores-apart l (Definition d s) = sym (append-nil l.cores)
 
 others-apart : (l : Lowered) (i : ModelItem) → emptied (lowered_item (emptied l) i) ≡ emptied (lowered_item l i)
 others-apart l (Declaration d) = refl
 others-apart l (Statement s) = refl
+others-apart l (Definition d s) = refl
 
 fits-parts : (n : ℕ) (cs ds : List Core) → CoresFit n (cs ++ ds) → CoresFit n cs × CoresFit n ds
 fits-parts n [] ds h = (tt, h)
@@ -68,49 +68,44 @@ module _ (l : Lowered) (i : ModelItem) (old drafted : Lowered) (before : old ≡
       ∙ (sym (filter_map-append (ordered_clause []) (encoded l.cores) (encoded (lowered_item (emptied l) i).cores))
       ∙ ap each_ordered (sym (encoded-append l.cores (lowered_item (emptied l) i).cores) ∙ ap encoded (sym (cores-apart l i))))))
 
--- the domain of a declaration is in the limit of numerals
-abbrev pub ItemInLimit : ModelItem → Type 0
-ItemInLimit (Declaration d) = KindInLimit d.kind
-ItemInLimit (Statement s) = Unit {0}
-
-item-limit : (l : Lowered) (i : ModelItem) → ItemInLimit i → AreInLimit l.map.entries → AreInLimit (lowered_item l i).map.entries
-item-limit l (Declaration d) small h = declared-limit l (lowered_item l (Declaration d)) d refl small h
-item-limit l (Statement s) small h = h
-
 -- what is compiled so far, and what the items that are left make of it
 pub record Compiling (p : Progress) (items : List ModelItem) (all : Lowered) : Type 0 where
   pub l : Lowered
   pub here : HasCompiled p l
   pub rest : lowered_items l items ≡ all
-  pub built : first_unbuilt l.vars items ≡ None
-  pub in_limit : AreInLimit l.map.entries
+  pub entries : AreInLimit l.map.entries
+  pub limits : ItemsInLimit items
 
-module _ (p : Progress) (i : ModelItem) (items : List ModelItem) (all : Lowered) (c : Compiling p (i ∷ items) all) where
-  parts-built : (unbuilt c.l.vars i ≡ None) × (first_unbuilt (vars_after c.l.vars i) items ≡ None)
-  parts-built = first_of-none (unbuilt c.l.vars i) (first_unbuilt (vars_after c.l.vars i) items) c.built
+vars-apart : (l : Lowered) (i : ModelItem) → (lowered_item (emptied l) i).vars ≡ (lowered_item l i).vars
+vars-apart l (Declaration d) = refl
+vars-apart l (Statement s) = refl
+vars-apart l (Definition d s) = refl
 
+module _ (p : Progress) (i : ModelItem) (items left : List ModelItem) (all : Lowered) (parts : left ≡ i ∷ items) (c : Compiling p left all) where
   pub may-add : (n : ℕ) → CoresFit n all.cores → (l : Lowered) × (n : ℕ) × HasCompiled p l × CoresFit n (lowered_item l i).cores
-  may-add n h = (c.l, n, c.here, fits-so-far n (lowered_item c.l i) items (subst (λ (k : Lowered). CoresFit n k.cores) (sym c.rest) h))
+  may-add n h =
+      let e : lowered_items (lowered_item c.l i) items ≡ all = sym (ap (lowered_items c.l) parts) ∙ c.rest in
+      (c.l, n, c.here, fits-so-far n (lowered_item c.l i) items (subst (λ (k : Lowered). CoresFit n k.cores) (sym e) h))
 
   -- the integers so far are in the limit of numerals
   pub in-limit : AreInLimit p.draft.entries.items
-  in-limit = subst (λ (k : Lowered). AreInLimit k.map.entries) (sym c.here.draft) c.in_limit
+  in-limit = subst (λ (k : Lowered). AreInLimit k.map.entries) (sym c.here.draft) c.entries
 
-  pub added : (q : Progress) → ItemInLimit i → HasCompiled q (lowered_item c.l i) → Compiling q items all
-  added q small h = record {
-    l = lowered_item c.l i;
-    here = h;
-    rest = c.rest;
-    built = ap (λ (v : ℕ). first_unbuilt v items) (vars-item c.l i parts-built.0) ∙ parts-built.1;
-    in_limit = item-limit c.l i small c.in_limit;
-  }
+  -- there is room for the item
+  pub has-room : all.vars < 2 ^ 27 → (lowered_item (lowered_so_far p.draft) i).vars < 2 ^ 27
+  has-room room =
+      let e : (lowered_item (lowered_so_far p.draft) i).vars ≡ (lowered_item c.l i).vars =
+      ap (λ (k : Lowered). (lowered_item k i).vars) c.here.draft ∙ vars-apart c.l i in
+      let lt = room-here c.l all i items left parts c.rest room in
+      omega (arith, e, lt)
 
-  -- the only fault is want of memory
-  pub only-memory : (e : LowerFault) → IsFaultOf e (unbuilt p.draft.vars i) → e ≡ Memory
-  only-memory Memory h = refl
-  only-memory (Unbuilt n) h =
-      absurd (none-some (unbuilt c.l.vars i) n parts-built.0 (subst (λ (v : ℕ). unbuilt v i ≡ Some n) (ap (λ (k : Lowered). k.vars) c.here.draft) h))
-    where
-      none-some : (o : Option ℕ) (n : ℕ) → o ≡ None → o ≡ Some n → ⊥
-      none-some None n e f = absurd (cc)
-      none-some (Some m) n e f = absurd (cc)
+  pub added : (q : Progress) → HasCompiled q (lowered_item c.l i) → Compiling q items all
+  added q h =
+      let limits = limit-step c.l (lowered_item c.l i) i items left parts refl c.limits c.entries in
+      record {
+        l = lowered_item c.l i;
+        here = h;
+        rest = items-step c.l (lowered_item c.l i) all i items left parts refl c.rest;
+        entries = limits.0;
+        limits = limits.1;
+      }

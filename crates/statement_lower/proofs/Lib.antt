@@ -5,10 +5,12 @@ pub mod Comparisons
 pub mod LowersLaws
 pub mod IntegerLines
 pub mod FreshAtoms
+pub mod OrderedEntries
+pub mod Pairs
 pub mod FreshIntegers
 pub mod DivisionLines
 pub mod WordLines
 pub mod LineLaws
 pub mod LinearLaws
 pub mod EqualSums
-pub mod Pairs
+pub mod MoreVariables

@@ -10,9 +10,11 @@ mod integer_lines;
 mod laws;
 mod list_lines;
 mod made;
+mod pair_lines;
 mod statements;
 mod terms;
 
-pub use laws::{equal_sum_law, line_law, meaning_law, reified_difference_law};
+pub use laws::{equal_sum_law, line_law, meaning_law, variables_law};
 pub use made::Made;
 pub use statements::{is_lowered, made_of};
+pub use terms::atom_of;

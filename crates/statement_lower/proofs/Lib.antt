@@ -7,6 +7,7 @@ pub mod IntegerLines
 pub mod FreshAtoms
 pub mod OrderedEntries
 pub mod Pairs
+pub mod PairRoom
 pub mod FreshIntegers
 pub mod DivisionLines
 pub mod WordLines

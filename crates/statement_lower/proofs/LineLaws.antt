@@ -18,12 +18,10 @@ use Rattle.order_ints.specs.OrderRange.{low_of}
 use Rattle.order_ints.specs.Numbers as numbers
 use Rattle.order_ints.specs.Represents.{DependsBelow}
 use Rattle.order_ints.proofs.Truths.{AtomBelow-not_atom}
-use Rattle.order_ints.proofs.Gains.{IsOrdered-agree}
 use Rattle.core_forms.specs.declared.form.Core.TheVariants as core
 use Rattle.core_forms.specs.Truths as forms
 use Rattle.core_forms.specs.Cores.{CoresBelow, AreWellFormed}
 use Rattle.typed_model.specs.declared.model.Decl.{Decl}
-use Rattle.typed_model.specs.declared.model.Kind.{Kind}
 use Rattle.typed_model.specs.declared.model.Kind.TheVariants as kind
 use Rattle.typed_model.specs.declared.what.BoolTerm.{BoolTerm}
 use Rattle.typed_model.specs.declared.what.IntTerm.{IntTerm}
@@ -49,7 +47,7 @@ use Rattle.typed_model.specs.Limits.{TermInLimit, TermsInLimit, WhatInLimit}
 use Rattle.typed_model.specs.WellTyped.{TruthFits, NumberFits, TruthsFit, NumbersFit, HasMember, IsAtLeast, ArgumentFits, ValuesFit, WhatFits}
 use Rattle.typed_model.proofs.TableLaws.{Decides-holds}
 use Rattle.statement_lower.specs.Terms.{atom_of, atoms_of, integer_of, integers_of}
-use Rattle.statement_lower.specs.Entries.{EntryFits, EntriesFit, AreOrdered}
+use Rattle.statement_lower.specs.Entries.{EntriesFit, AreOrdered}
 use Rattle.statement_lower.specs.Lines.{bit_core, equal_core, equal_cores, array_cores, operator_made, comparison_core, fresh_range, compared_count, count_made, operation_made, aggregate_made, absolute_core, least_core, made_of}
 use Rattle.statement_lower.specs.IsLowered.{is_lowered_aggregate, is_lowered}
 use Rattle.statement_lower.specs.Lowers.{Lowers, LineLaw}

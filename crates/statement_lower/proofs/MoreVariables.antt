@@ -1,9 +1,7 @@
 -- A statement keeps the variables so far.
-use Rattle.std.proofs.Common.{ℕ, ◌+◌, ◌≤◌, List, [], ◌∷◌, arith}
+use Rattle.std.proofs.Common.{ℕ, ◌≤◌, List, [], ◌∷◌, arith}
 use Rattle.order_ints.specs.declared.atom.Atom.{Atom}
 use Rattle.order_ints.specs.declared.order_int.OrdInt.{OrdInt}
-use Rattle.order_ints.specs.declared.order_int.MapValue.{MapValue}
-use Rattle.typed_model.specs.declared.what.What.{What}
 use Rattle.typed_model.specs.declared.what.What.TheVariants.{L3, L4, L5, L6, L7, L8, L9, L10, L14, L15, L16, L17, L18}
 use Rattle.typed_model.specs.declared.statement.Operator.{Operator}
 use Rattle.typed_model.specs.declared.statement.Operator.TheVariants as operator
@@ -17,7 +15,7 @@ use Rattle.typed_model.specs.declared.statement.AllDifferent.{AllDifferent}
 use Rattle.typed_model.specs.declared.statement.AllDifferent.TheVariants as all_different
 use Rattle.typed_model.specs.Holds.{terms_or_none}
 use Rattle.statement_lower.specs.Terms.{atom_of, atoms_of, integer_of, integers_of, atom_or_true}
-use Rattle.statement_lower.specs.Lines.{operator_made, count_made, operation_made, aggregate_made, different_made, made_of}
+use Rattle.statement_lower.specs.Lines.{operator_made, count_made, operation_made, aggregate_made, different_made}
 use Rattle.statement_lower.specs.Lowers.{VariablesLaw}
 use Rattle.statement_lower.proofs.Pairs.{pairs-more}
 

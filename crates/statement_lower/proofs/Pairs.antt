@@ -1,5 +1,5 @@
 -- Fresh atoms for each two members, and whether all members differ.
-use Rattle.std.proofs.Common.{◌≡◌, ℕ, ◌+◌, ◌≤◌, Bool, true, false, ◌&&◌, List, [], ◌∷◌, ◌++◌, map, Option, Some, None, IsTrue, refl, sym, ap, ◌∙◌, arith}
+use Rattle.std.proofs.Common.{◌≡◌, ℕ, ◌+◌, ◌≤◌, Bool, true, false, ◌&&◌, List, [], ◌∷◌, ◌++◌, map, IsTrue, refl, sym, ap, ◌∙◌, arith}
 use Rattle.std.specs.Ordering.{int_eq}
 use Rattle.std.proofs.lemmas.Bool.{and_parts}
 use Rattle.order_ints.specs.declared.atom.Atom.{Atom}
@@ -15,25 +15,16 @@ use Rattle.core_forms.specs.declared.form.Core.{Core}
 use Rattle.core_forms.specs.declared.form.Core.TheVariants as core
 use Rattle.core_forms.specs.Truths as forms
 use Rattle.core_forms.specs.Values.{values, all_ordered}
-use Rattle.typed_model.specs.declared.model.Decl.{Decl}
-use Rattle.typed_model.specs.declared.what.BoolTerm.{BoolTerm}
-use Rattle.typed_model.specs.declared.what.IntTerm.{IntTerm}
-use Rattle.typed_model.specs.declared.what.What.TheVariants.{L17}
 use Rattle.typed_model.specs.declared.statement.AllDifferent.TheVariants as all_different
-use Rattle.typed_model.specs.Terms.{numbers_of}
 use Rattle.typed_model.specs.Lists.{differs_from, all_differ}
-use Rattle.typed_model.specs.Holds.{Holds, holds, same, truth_or_true}
-use Rattle.typed_model.specs.WellTyped.{TruthFits, WhatFits}
-use Rattle.typed_model.proofs.TableLaws.{Decides-holds}
-use Rattle.statement_lower.specs.Terms.{integers_of, atom_or_true}
-use Rattle.statement_lower.specs.Entries.{AreOrdered}
+use Rattle.typed_model.specs.Holds.{same}
 use Rattle.statement_lower.specs.Fresh.{fresh_atom}
 use Rattle.statement_lower.specs.Pairs.{each_vars, each_atoms, each_equal, pairs_vars, pairs_atoms, pairs_equal, difference_made}
 use Rattle.statement_lower.specs.Lowers.{Lowers}
-use Rattle.statement_lower.proofs.EntryLaws.{SmallInteger, AreSmallIntegers, small-more, atom_of-laws, integers_of-values, integers_of-small, ordered-integers_of}
+use Rattle.statement_lower.proofs.EntryLaws.{SmallInteger, AreSmallIntegers, small-more}
 use Rattle.statement_lower.proofs.BooleanLines.{beq-same}
 use Rattle.statement_lower.proofs.FreshAtoms.{AtomsBelow-more, AtomsBelow-negated, Names, Names-depends, extends-atom}
-use Rattle.statement_lower.proofs.LowersLaws.{Extends, extends-then, lowers-behind, lowers-one, lowers-same}
+use Rattle.statement_lower.proofs.LowersLaws.{Extends, extends-then, lowers-behind, lowers-one}
 
 -- no core, and what is known says something in other words
 extends-nothing : (vars : ℕ) (C D : Valuation → Type 0) → ((σ : Valuation) → C σ → D σ) → Extends vars vars C D []

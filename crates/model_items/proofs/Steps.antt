@@ -23,4 +23,4 @@ definition-first d ds s ss e =
     let u : (s.number == d.number) ≡ true = grind (arith, nat_tests, e) in
     rw (t, u) refl
 
-ruleset pub steps = (statement-first, declaration-first, definition-first)
+pub ruleset steps = (statement-first, declaration-first, definition-first)

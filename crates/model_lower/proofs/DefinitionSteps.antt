@@ -6,9 +6,7 @@ use Rattle.order_ints.specs.declared.atom.Atom.{Atom}
 use Rattle.order_ints.specs.declared.order_int.MapValue.{MapValue}
 use Rattle.order_ints.specs.declared.order_int.MapValue.TheVariants as entry
 use Rattle.order_ints.specs.Truth.{Valuation, atom_truth}
-use Rattle.order_ints.specs.OrderMade.{integer_of_atom}
-use Rattle.order_ints.specs.Numbers.{number_of, numbers_of}
-use Rattle.core_forms.specs.Cores.{MeetsAll}
+use Rattle.order_ints.specs.Numbers.{numbers_of}
 use Rattle.typed_model.specs.declared.model.Kind.{Kind}
 use Rattle.typed_model.specs.declared.model.Kind.TheVariants as kind
 use Rattle.typed_model.specs.declared.model.Decl.{Decl}
@@ -24,7 +22,7 @@ use Rattle.typed_model.specs.Holds.{Holds}
 use Rattle.typed_model.specs.WellTyped.{TruthFits}
 use Rattle.typed_model.proofs.DomainLaws.{Decides-domain}
 use Rattle.statement_lower.specs.Terms.{atom_of}
-use Rattle.statement_lower.specs.Entries.{EntryFits, AreOrdered}
+use Rattle.statement_lower.specs.Entries.{EntryFits}
 use Rattle.statement_lower.proofs.EntryLaws.{EntriesFit-append, AreOrdered-append, numbers_of-append, length-numbers_of, atom_of-laws}
 use Rattle.statement_lower.proofs.WordLines.{bit-value, bit-ordered, small-bit}
 use Rattle.model_lower.specs.declared.state.Lowered.{Lowered}

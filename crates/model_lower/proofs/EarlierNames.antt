@@ -1,18 +1,13 @@
 -- A statement speaks of declarations with lesser numbers alone.
-use Rattle.std.proofs.Common.{◌≡◌, ℕ, zero, suc, ◌+◌, ◌<◌, ◌≤◌, ℤ, ◌≤ℤ◌, Some, Bool, true, false, List, [], ◌∷◌, ◌++◌, length, map, IsSomeAnd, refl, sym, ap, subst, ◌∙◌, arith}
-use Rattle.std.specs.Prelude.{slice_get, ◌==◌, nat_lt, IfSome, if◌then◌else◌}
-use Rattle.std.proofs.lemmas.Bool.Decides.{nat_tests}
-use Rattle.std.proofs.lemmas.List.{append_assoc}
+use Rattle.std.proofs.Common.{◌≡◌, ℕ, zero, suc, ◌+◌, ◌<◌, ◌≤◌, ℤ, ◌≤ℤ◌, Some, Bool, List, [], ◌∷◌, ◌++◌, IsSomeAnd, arith}
+use Rattle.std.specs.Prelude.{slice_get}
 use Rattle.typed_model.specs.declared.model.Decl.{Decl}
 use Rattle.typed_model.specs.declared.model.Kind.TheVariants as kind
-use Rattle.typed_model.specs.declared.model.Stmt.{Stmt}
 use Rattle.typed_model.specs.declared.what.BoolTerm.{BoolTerm}
 use Rattle.typed_model.specs.declared.what.BoolTerm.TheVariants as bool_term
 use Rattle.typed_model.specs.declared.what.IntTerm.{IntTerm}
 use Rattle.typed_model.specs.declared.what.IntTerm.TheVariants as int_term
 use Rattle.typed_model.specs.declared.what.What.{What}
-use Rattle.typed_model.specs.declared.what.What.TheVariants.{L3}
-use Rattle.typed_model.specs.Limits.{KindInLimit, StmtsInLimit, DeclsInLimit}
 use Rattle.typed_model.specs.declared.signature.Wanted.{Wanted}
 use Rattle.typed_model.specs.declared.signature.Wanted.TheVariants as wanted
 use Rattle.typed_model.specs.declared.statement.Arithmetic.TheVariants as arithmetic
@@ -21,9 +16,8 @@ use Rattle.typed_model.specs.declared.statement.Statement.TheVariants as variant
 use Rattle.typed_model.specs.Signatures.{signature}
 use Rattle.typed_model.specs.Scope.{low_of}
 use Rattle.typed_model.specs.Arguments.{Argument, Truth, Number, Truths, Numbers, Numerals, arguments_of, statement_in}
-use Rattle.typed_model.specs.WellTyped.{IsInt, TruthFits, NumberFits, TruthsFit, NumbersFit, IsAtLeast, ArgumentFits, ArgumentsFit, IsDivision, ValuesFit, WhatFits, KindFits, StmtsFit, DeclsFit, DeclaresPlace, SharesFit}
-use Rattle.model_items.specs.Items.{ModelItem, Declaration, Statement, Definition, stmts_before, stmts_from, declared_item, behind_declared, items_of}
-use Rattle.model_lower.specs.ItemLaws.{IsDefinition}
+use Rattle.typed_model.specs.WellTyped.{IsInt, TruthFits, NumberFits, TruthsFit, NumbersFit, IsAtLeast, ArgumentFits, ArgumentsFit, IsDivision, ValuesFit, WhatFits, DeclsFit}
+use Rattle.model_items.specs.Items.{Statement}
 
 -- the numbers of declarations are n or more
 abbrev pub AllFrom : ℕ → List Decl → Type 0
@@ -54,10 +48,13 @@ both-before [] es n p Q R from h r = absurd (none-from es n p Q from h)
 both-before (d ∷ ds) es n zero Q R from h r = r
 both-before (d ∷ ds) es n (suc p) Q R from h r = both-before ds es n p Q R from h r
 
+pub truth-before : (ds es : List Decl) (n : ℕ) → AllFrom n es → (x : BoolTerm) → TruthFits (ds ++ es) n x → TruthFits ds n x
+truth-before ds es n from (bool_term.Const t) h = tt
+truth-before ds es n from (bool_term.Of p s) h = at-before ds es n p (λ d. d.kind ≡ kind.Bool) from h
+
 module _ (ds es : List Decl) (n : ℕ) (from : AllFrom (n + 1) es) where
-  pub TruthFits-before : (x : BoolTerm) → TruthFits (ds ++ es) n x → TruthFits ds n x
-  TruthFits-before (bool_term.Const t) h = tt
-  TruthFits-before (bool_term.Of p s) h = at-before ds es n p (λ d. d.kind ≡ kind.Bool) (AllFrom-less n es from) h
+  TruthFits-before : (x : BoolTerm) → TruthFits (ds ++ es) n x → TruthFits ds n x
+  TruthFits-before = truth-before ds es n (AllFrom-less n es from)
 
   NumberFits-before : (i : IntTerm) → NumberFits (ds ++ es) n i → NumberFits ds n i
   NumberFits-before (int_term.Number z) h = tt

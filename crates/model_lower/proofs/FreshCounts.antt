@@ -1,5 +1,5 @@
 -- The fresh variables that are counted for a statement by the declared domains are those that it takes.
-use Rattle.std.proofs.Common.{◌≡◌, ℕ, zero, suc, ◌+◌, ◌-◌, ◌*◌, ◌/◌, ◌<◌, ℤ, pos, true, List, [], ◌∷◌, ◌++◌, length, refl, ap, sym, ◌∙◌, lit<, arith}
+use Rattle.std.proofs.Common.{◌≡◌, ℕ, zero, suc, ◌+◌, ◌-◌, ◌*◌, ◌/◌, ◌<◌, pos, true, List, [], ◌∷◌, ◌++◌, length, refl, ap, ◌∙◌, lit<, arith}
 use Rattle.std.specs.Prelude.{slice_get, Some}
 use Rattle.std.proofs.lemmas.Bool.{false≢true}
 use Rattle.std.proofs.lemmas.Int.{ints}
@@ -44,7 +44,9 @@ each-count vars (b ∷ ints) = let e = each-count (vars + 1) ints in omega (arit
 pairs-next : (n : ℕ) → pairs_of (suc n) ≡ pairs_of n + n
 pairs-next zero = refl
 pairs-next (suc n) =
-    let e : suc (suc n) * (suc (suc n) - 1) ≡ suc n * (suc n - 1) + suc n * 2 = next n in
+    let a : suc (suc n) - 1 ≡ suc n = omega arith in
+    let b : suc n - 1 ≡ n = omega arith in
+    let e : suc (suc n) * (suc (suc n) - 1) ≡ suc n * (suc n - 1) + suc n * 2 = rw (a, b) (next n) in
     ap (λ (m : ℕ). m / 2) e ∙ add-mul-div_right (suc n * (suc n - 1)) (suc n) {z = 2} (lit< tt)
   where
     next : (n : ℕ) → suc (suc n) * suc n ≡ suc n * n + suc n * 2

@@ -1,36 +1,30 @@
 -- The items of a model fit.
-use Rattle.std.proofs.Common.{◌≡◌, ℕ, zero, suc, ◌+◌, ◌<◌, ◌≤◌, ℤ, ◌≤ℤ◌, Some, Bool, true, false, List, [], ◌∷◌, ◌++◌, length, map, IsSomeAnd, refl, sym, ap, subst, ◌∙◌, arith}
+use Rattle.std.proofs.Common.{◌≡◌, ℕ, zero, suc, ◌+◌, ◌<◌, ◌≤◌, Some, Bool, true, false, List, [], ◌∷◌, ◌++◌, length, map, refl, sym, ap, subst, ◌∙◌, arith}
 use Rattle.std.specs.Prelude.{slice_get, ◌==◌, nat_lt, IfSome, if◌then◌else◌}
 use Rattle.std.proofs.lemmas.Bool.Decides.{nat_tests}
 use Rattle.std.proofs.lemmas.List.{append_assoc}
 use Rattle.typed_model.specs.declared.model.Decl.{Decl}
 use Rattle.typed_model.specs.declared.model.Kind.TheVariants as kind
 use Rattle.typed_model.specs.declared.model.Stmt.{Stmt}
-use Rattle.typed_model.specs.declared.what.BoolTerm.{BoolTerm}
 use Rattle.typed_model.specs.declared.what.BoolTerm.TheVariants as bool_term
-use Rattle.typed_model.specs.declared.what.IntTerm.{IntTerm}
 use Rattle.typed_model.specs.declared.what.IntTerm.TheVariants as int_term
 use Rattle.typed_model.specs.declared.what.What.{What}
 use Rattle.typed_model.specs.declared.what.What.TheVariants.{L3}
 use Rattle.typed_model.specs.Limits.{KindInLimit, StmtsInLimit, DeclsInLimit}
-use Rattle.typed_model.specs.declared.signature.Wanted.{Wanted}
 use Rattle.typed_model.specs.declared.signature.Wanted.TheVariants as wanted
 use Rattle.typed_model.specs.declared.statement.Arithmetic.TheVariants as arithmetic
 use Rattle.typed_model.specs.declared.statement.Statement as statement
 use Rattle.typed_model.specs.declared.statement.Statement.TheVariants as variant
-use Rattle.typed_model.specs.Signatures.{signature}
-use Rattle.typed_model.specs.Scope.{low_of}
-use Rattle.typed_model.specs.Arguments.{Argument, Truth, Number, Truths, Numbers, Numerals, arguments_of, statement_in}
-use Rattle.typed_model.specs.WellTyped.{IsInt, TruthFits, NumberFits, TruthsFit, NumbersFit, IsAtLeast, ArgumentFits, ArgumentsFit, IsDivision, ValuesFit, WhatFits, KindFits, StmtsFit, DeclsFit, DeclaresPlace, SharesFit}
+use Rattle.typed_model.specs.WellTyped.{TruthFits, WhatFits, KindFits, StmtsFit, DeclsFit, DeclaresPlace, SharesFit}
 use Rattle.model_items.specs.Items.{ModelItem, Declaration, Statement, Definition, stmts_before, stmts_from, declared_item, behind_declared, items_of}
 use Rattle.model_lower.specs.ItemLaws.{IsDefinition}
-use Rattle.model_lower.proofs.Standing.{ItemsFit, decls_in, stmts_in}
-use Rattle.model_lower.proofs.EarlierNames.{AllFrom, from-fit, AllFrom-less, TruthFits-before, WhatFits-before}
+use Rattle.model_lower.proofs.Standing.{ItemsFit}
+use Rattle.model_lower.proofs.EarlierNames.{AllFrom, from-fit, AllFrom-less, truth-before, WhatFits-before}
 
 -- What is known of the statements that are left.
 
 -- each statement fits, by its number
-abbrev EachFits : List Decl → List Stmt → Type 0
+abbrev pub EachFits : List Decl → List Stmt → Type 0
 EachFits ds [] = Unit {0}
 EachFits ds (s ∷ ss) = WhatFits ds s.number s.what × EachFits ds ss
 
@@ -39,14 +33,14 @@ each-fits n ds [] h = tt
 each-fits n ds (s ∷ ss) h = (h.1.0, each-fits (s.number + 1) ds ss h.1.1)
 
 -- a statement that has the number of one of some declarations declares that one, among all
-abbrev Shares : List Decl → List Decl → List Stmt → Type 0
+abbrev pub Shares : List Decl → List Decl → List Stmt → Type 0
 Shares all ds ss = (p q : ℕ) → IfSome (slice_get ds p) (λ d. IfSome (slice_get ss q) (λ s. d.number ≡ s.number → DeclaresPlace all d s.what))
 
 -- they fit, are in the limits, and declare what they share a number with
-record Left (all ds : List Decl) (ss : List Stmt) : Type 0 where
-  fit : EachFits all ss
-  limit : StmtsInLimit ss
-  shares : Shares all ds ss
+pub record Left (all ds : List Decl) (ss : List Stmt) : Type 0 where
+  pub fit : EachFits all ss
+  pub limit : StmtsInLimit ss
+  pub shares : Shares all ds ss
 
 left-next : (all ds : List Decl) (s : Stmt) (ss : List Stmt) → Left all ds (s ∷ ss) → Left all ds ss
 left-next all ds s ss h = record { fit = h.fit.1; limit = h.limit.1; shares = λ p q. h.shares p (suc q) }
@@ -86,7 +80,7 @@ last-fit done (s ∷ ss) h k = (WhatFits-before done [] s.number tt s.what h.0, 
 -- A statement that declares its integer.
 
 -- the numbers of declarations are below n
-abbrev AllBelow : ℕ → List Decl → Type 0
+abbrev pub AllBelow : ℕ → List Decl → Type 0
 AllBelow n [] = Unit {0}
 AllBelow n (d ∷ ds) = (d.number < n) × AllBelow n ds
 
@@ -126,7 +120,7 @@ defines n done ds d s below le from same (L3 x (int_term.Of p)) is fit place =
     let f : TruthFits (done ++ d ∷ ds) d.number x = subst (λ (m : ℕ). TruthFits (done ++ d ∷ ds) m x) same fit.arguments.0 in
     record {
       truth = x;
-      truth_fits = TruthFits-before done (d ∷ ds) d.number (omega arith, AllFrom-less d.number ds from) x f;
+      truth_fits = truth-before done (d ∷ ds) d.number (omega arith, AllFrom-less d.number ds from) x f;
       what = is ∙ ap (λ (p : ℕ). L3 x (int_term.Of p)) at;
       kind = place.1;
     }

@@ -1,30 +1,17 @@
 -- The items of a model are all of its declarations and statements.
-use Rattle.std.proofs.Common.{◌≡◌, ℕ, zero, suc, ◌+◌, ◌<◌, ◌≤◌, ℤ, ◌≤ℤ◌, Some, Bool, true, false, List, [], ◌∷◌, ◌++◌, length, map, IsSomeAnd, refl, sym, ap, subst, ◌∙◌, arith}
-use Rattle.std.specs.Prelude.{slice_get, ◌==◌, nat_lt, IfSome, if◌then◌else◌}
-use Rattle.std.proofs.lemmas.Bool.Decides.{nat_tests}
-use Rattle.std.proofs.lemmas.List.{append_assoc}
+use Rattle.std.proofs.Common.{◌≡◌, ℕ, zero, suc, ◌+◌, Bool, true, false, List, [], ◌∷◌, ◌++◌, map, refl, ap, ◌∙◌}
+use Rattle.std.specs.Prelude.{◌==◌, nat_lt, if◌then◌else◌}
 use Rattle.typed_model.specs.declared.model.Decl.{Decl}
 use Rattle.typed_model.specs.declared.model.Kind.TheVariants as kind
 use Rattle.typed_model.specs.declared.model.Stmt.{Stmt}
-use Rattle.typed_model.specs.declared.what.BoolTerm.{BoolTerm}
 use Rattle.typed_model.specs.declared.what.BoolTerm.TheVariants as bool_term
-use Rattle.typed_model.specs.declared.what.IntTerm.{IntTerm}
 use Rattle.typed_model.specs.declared.what.IntTerm.TheVariants as int_term
-use Rattle.typed_model.specs.declared.what.What.{What}
-use Rattle.typed_model.specs.declared.what.What.TheVariants.{L3}
-use Rattle.typed_model.specs.Limits.{KindInLimit, StmtsInLimit, DeclsInLimit}
-use Rattle.typed_model.specs.declared.signature.Wanted.{Wanted}
 use Rattle.typed_model.specs.declared.signature.Wanted.TheVariants as wanted
 use Rattle.typed_model.specs.declared.statement.Arithmetic.TheVariants as arithmetic
 use Rattle.typed_model.specs.declared.statement.Statement as statement
 use Rattle.typed_model.specs.declared.statement.Statement.TheVariants as variant
-use Rattle.typed_model.specs.Signatures.{signature}
-use Rattle.typed_model.specs.Scope.{low_of}
-use Rattle.typed_model.specs.Arguments.{Argument, Truth, Number, Truths, Numbers, Numerals, arguments_of, statement_in}
-use Rattle.typed_model.specs.WellTyped.{IsInt, TruthFits, NumberFits, TruthsFit, NumbersFit, IsAtLeast, ArgumentFits, ArgumentsFit, IsDivision, ValuesFit, WhatFits, KindFits, StmtsFit, DeclsFit, DeclaresPlace, SharesFit}
 use Rattle.model_items.specs.Items.{ModelItem, Declaration, Statement, Definition, stmts_before, stmts_from, declared_item, behind_declared, items_of}
-use Rattle.model_lower.specs.ItemLaws.{IsDefinition}
-use Rattle.model_lower.proofs.Standing.{ItemsFit, decls_in, stmts_in}
+use Rattle.model_lower.proofs.Standing.{decls_in, stmts_in}
 
 decls_in-statements : (ss : List Stmt) (items : List ModelItem) → decls_in (map Statement ss ++ items) ≡ decls_in items
 decls_in-statements [] items = refl

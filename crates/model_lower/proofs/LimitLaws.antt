@@ -6,7 +6,6 @@ use Rattle.order_ints.specs.declared.order_int.MapValue.TheVariants as entry
 use Rattle.order_ints.proofs.Fresh.{weights-unit_steps}
 use Rattle.typed_model.specs.declared.model.Kind.{Kind}
 use Rattle.typed_model.specs.declared.model.Kind.TheVariants as kind
-use Rattle.typed_model.specs.declared.model.Decl.{Decl}
 use Rattle.typed_model.specs.declared.what.What.{What}
 use Rattle.typed_model.specs.declared.what.What.TheVariants.{L3}
 use Rattle.typed_model.specs.Domains.{at_least_zero}

@@ -1,8 +1,7 @@
 -- Lowering goes on behind the items so far.
-use Rattle.std.proofs.Common.{◌≡◌, ℕ, ◌+◌, ◌<◌, ◌≤◌, List, [], ◌∷◌, Option, Some, None, refl, sym, ap, subst, ◌∙◌, arith}
+use Rattle.std.proofs.Common.{◌≡◌, ℕ, ◌<◌, ◌≤◌, List, [], ◌∷◌, Option, Some, None, sym, ap, ◌∙◌, arith}
 use Rattle.std.specs.Prelude.{◌^◌}
 use Rattle.typed_model.specs.declared.model.Decl.{Decl}
-use Rattle.typed_model.specs.declared.model.Stmt.{Stmt}
 use Rattle.typed_model.specs.Names.{first_of}
 use Rattle.model_items.specs.Items.{ModelItem, Declaration, Statement, Definition}
 use Rattle.statement_lower.proofs.MoreVariables.{variables_law}

@@ -1,5 +1,5 @@
 -- The law of a statement that is built.
-use Rattle.std.proofs.Common.{◌≡◌, ℕ, ◌+◌, ◌≤◌, List, ◌++◌, subst, arith}
+use Rattle.std.proofs.Common.{ℕ, ◌+◌, ◌≤◌, List, ◌++◌, subst, arith}
 use Rattle.core_forms.specs.declared.form.Core.{Core}
 use Rattle.core_forms.proofs.CoreLists.{MeetsAll-append, MeetsAll-agree, MeetsAll-depends}
 use Rattle.typed_model.specs.Holds.{Holds}

@@ -23,10 +23,10 @@ use std::alloc::{AllocError, Global};
 use typed_model::Model;
 
 /// Adds an item.
-fn add_item(alloc: Global, draft: &mut Draft, item: Item<'_>) -> Result<(), AllocError>
+fn add_item(alloc: Global, draft: &mut Draft, item: &Item<'_>) -> Result<(), AllocError>
     requires entries { AreInLimit draft.old.entries.items }
-    requires room { (lowered_item (lowered_so_far draft.old) (lent_item item)).vars < 2 ^ 27 }
-    ensures { OnOk result (lowered_so_far draft.new ≡ lowered_item (lowered_so_far draft.old) (lent_item item)) }
+    requires room { (lowered_item (lowered_so_far draft.old) (lent_item item.now)).vars < 2 ^ 27 }
+    ensures { OnOk result (lowered_so_far draft.new ≡ lowered_item (lowered_so_far draft.old) (lent_item item.now)) }
 {
     match item {
         Item::Declaration(decl) => add_declaration(alloc, draft, decl),
@@ -44,7 +44,7 @@ fn lower_items(alloc: Global, model: &Model) -> Result<Lowered, AllocError>
     let mut draft = Draft::new(alloc);
     let mut left = Items::of(model.decls.as_slice(), model.stmts.as_slice());
     while let Some(item) = left.next_item() {
-        add_item(alloc, &mut draft, item)?;
+        add_item(alloc, &mut draft, &item)?;
     }
     Ok(draft.finish())
 }

@@ -1,18 +1,22 @@
 -- One more item is compiled.
-use Rattle.std.proofs.Common.{◌≡◌, ℕ, List, [], ◌∷◌, ◌++◌, Option, Some, None, refl, sym, ap, subst, append_assoc, ◌∙◌, arith}
+use Rattle.std.proofs.Common.{◌≡◌, ℕ, List, [], ◌∷◌, ◌++◌, refl, sym, ap, subst, append_assoc, ◌∙◌, arith}
 use Rattle.std.specs.Prelude.{◌<◌, ◌^◌}
 use Rattle.std.proofs.lemmas.List.{append-nil}
 use Rattle.std.proofs.lemmas.List.Elements.{filter_map-append}
 use Rattle.order_ints.specs.declared.literal.Lit.{Lit}
 use Rattle.order_ints.specs.OrderedClauses.{ordered_clause}
 use Rattle.core_forms.specs.declared.form.Core.{Core}
+use Rattle.typed_model.specs.declared.model.Decl.{Decl}
+use Rattle.typed_model.specs.declared.model.Stmt.{Stmt}
+use Rattle.typed_model.specs.Limits.{DeclsInLimit, StmtsInLimit}
 use Rattle.statement_lower.specs.Entries.{AreInLimit}
 use Rattle.model_lower.specs.declared.state.Lowered.{Lowered}
-use Rattle.model_items.specs.Items.{ModelItem, Declaration, Statement, Definition}
+use Rattle.model_items.specs.Items.{ModelItem, Declaration, Statement, Definition, items_of}
 use Rattle.model_items.specs.ItemLimits.{ItemsInLimit}
-use Rattle.model_lower.specs.Lowering.{lowered_item, lowered_items}
+use Rattle.model_lower.specs.Lowering.{with_definition, lowered_item, lowered_items, nothing_lowered}
 use Rattle.model_lower.specs.Drafting.{lowered_so_far, emptied}
 use Rattle.model_lower.specs.Fits.{CoresFit}
+use Rattle.model_items.proofs.LimitLaws.{items-in_limit}
 use Rattle.model_lower.proofs.LoweredItems.{room-here, items-step}
 use Rattle.model_lower.proofs.LimitLaws.{limit-step}
 use Rattle.bee_compile.specs.declared.progress.Progress.{Progress}
@@ -68,6 +72,10 @@ module _ (l : Lowered) (i : ModelItem) (old drafted : Lowered) (before : old ≡
       ∙ (sym (filter_map-append (ordered_clause []) (encoded l.cores) (encoded (lowered_item (emptied l) i).cores))
       ∙ ap each_ordered (sym (encoded-append l.cores (lowered_item (emptied l) i).cores) ∙ ap encoded (sym (cores-apart l i))))))
 
+-- a statement that declares its integer, which has no core
+pub defined-draft : (l : Lowered) (d : Decl) (s : Stmt) (old drafted : Lowered) → old ≡ emptied l → drafted ≡ with_definition old s.what → drafted ≡ emptied (lowered_item l (Definition d s))
+defined-draft l d s old drafted before next = next ∙ ap (λ (k : Lowered). with_definition k s.what) before
+
 -- what is compiled so far, and what the items that are left make of it
 pub record Compiling (p : Progress) (items : List ModelItem) (all : Lowered) : Type 0 where
   pub l : Lowered
@@ -75,6 +83,10 @@ pub record Compiling (p : Progress) (items : List ModelItem) (all : Lowered) : T
   pub rest : lowered_items l items ≡ all
   pub entries : AreInLimit l.map.entries
   pub limits : ItemsInLimit items
+
+-- nothing is compiled yet
+pub starting : (p : Progress) (ds : List Decl) (ss : List Stmt) → HasCompiled p nothing_lowered → DeclsInLimit ds → StmtsInLimit ss → Compiling p (items_of ds ss) (lowered_items nothing_lowered (items_of ds ss))
+starting p ds ss h small limits = record { l = nothing_lowered; here = h; rest = refl; entries = tt; limits = items-in_limit ds ss small limits }
 
 vars-apart : (l : Lowered) (i : ModelItem) → (lowered_item (emptied l) i).vars ≡ (lowered_item l i).vars
 vars-apart l (Declaration d) = refl

@@ -80,7 +80,7 @@ fn compile_declaration(
     ensures shorter { OnOk result (length left.new.items ≤ length left.old.items) }
 {
     match defining_statement(decl, left) {
-        Some(stmt) => progress.add_definition(alloc, &stmt),
+        Some(stmt) => progress.add_definition(alloc, stmt),
         None => progress.add_declaration(alloc, decl),
     }
 }

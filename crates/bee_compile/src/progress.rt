@@ -51,7 +51,7 @@ impl Progress {
     pub fn add_declaration(&mut self, alloc: Global, decl: &Decl) -> Result<(), AllocError>
         requires fits { (l : Lowered) × (n : ℕ) × HasCompiled self.old l × CoresFit n (lowered_item l (Declaration decl.now)).cores }
         requires room { (lowered_item (lowered_so_far self.old.draft) (Declaration decl.now)).vars < 2 ^ 27 }
-        ensures compiled { (l : Lowered) → HasCompiled self.old l → OnOk result (HasCompiled self.new (lowered_item l (Declaration decl.now))) }
+        ensures { (l : Lowered) → HasCompiled self.old l → OnOk result (HasCompiled self.new (lowered_item l (Declaration decl.now))) }
     {
         add_declaration(alloc, &mut self.draft, decl)?;
         self.encode(alloc)?;
@@ -63,17 +63,18 @@ impl Progress {
         requires fits { (l : Lowered) × (n : ℕ) × HasCompiled self.old l × CoresFit n (lowered_item l (Statement stmt)).cores }
         requires entries { AreInLimit self.old.draft.entries.items }
         requires room { (lowered_item (lowered_so_far self.old.draft) (Statement stmt)).vars < 2 ^ 27 }
-        ensures compiled { (l : Lowered) → HasCompiled self.old l → OnOk result (HasCompiled self.new (lowered_item l (Statement stmt))) }
+        ensures { (l : Lowered) → HasCompiled self.old l → OnOk result (HasCompiled self.new (lowered_item l (Statement stmt))) }
     {
         add_statement(alloc, &mut self.draft, &stmt)?;
         self.encode(alloc)?;
         Ok(())
     }
 
-    /// Compiles one more statement that declares its integer.
-    pub fn add_definition(&mut self, alloc: Global, stmt: &Stmt) -> Result<(), AllocError>
-        ensures { (l : Lowered) (decl : Decl) → HasCompiled self.old l → OnOk result (HasCompiled self.new (lowered_item l (Definition decl stmt.now))) }
+    /// Compiles one more statement that declares its integer, and which is let go.
+    pub fn add_definition(&mut self, alloc: Global, stmt: Stmt) -> Result<(), AllocError>
+        ensures { (l : Lowered) (decl : Decl) → HasCompiled self.old l → OnOk result (HasCompiled self.new (lowered_item l (Definition decl stmt))) }
     {
-        add_definition(alloc, &mut self.draft, stmt)
+        add_definition(alloc, &mut self.draft, &stmt)?;
+        Ok(())
     }
 }

@@ -8,8 +8,8 @@ encode-requires c =
     let r = c.requires.fits in
     new-fit r.0 (Statement c.args.stmt) (lowered_so_far c.args.self.now.draft) (lowered_so_far c.add_statement.new.draft) r.2.draft c.in_ok-add_statement.ensures r.1 r.3
 
-pub returns-clause-compiled : goal.returns-clause-compiled
-returns-clause-compiled c l h =
+pub returns : goal.returns
+returns c l h =
     let i = Statement c.args.stmt in
     let old = lowered_so_far c.args.self.now.draft in
     let drafted = lowered_so_far c.add_statement.new.draft in

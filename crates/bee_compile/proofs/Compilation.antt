@@ -1,6 +1,6 @@
 -- The compilation keeps the solutions.
-use Rattle.std.proofs.Common.{◌≡◌, ℕ, ◌+◌, List, [], sym, ◌∙◌, None, ℤ}
-use Rattle.std.specs.Prelude.{◌↔◌}
+use Rattle.std.proofs.Common.{◌≡◌, ℕ, ◌+◌, List, [], sym, ◌∙◌, None, ℤ, arith}
+use Rattle.std.specs.Prelude.{◌↔◌, ◌<◌, ◌^◌}
 use Rattle.order_ints.specs.declared.cnf.Cnf.{Cnf}
 use Rattle.order_ints.specs.Truth.{Valuation}
 use Rattle.order_ints.specs.Satisfies.{Satisfies}
@@ -60,3 +60,7 @@ compilation model typed limits built =
 -- the cores of a model fit
 pub cores-fit : (model : Model) → WellTyped model → InLimits model → first_unbuilt_of model ≡ None → (n : ℕ) × CoresFit n (lowered_of model).cores
 cores-fit model typed limits built = ((lowered_of model).vars + 1, (lowering_law model typed limits built).fits.cores)
+
+-- there is room for them
+pub has-room : (model : Model) → WellTyped model → InLimits model → first_unbuilt_of model ≡ None → (lowered_of model).vars < 2 ^ 27
+has-room model typed limits built = omega (arith, (lowering_law model typed limits built).fits.vars)

@@ -3,7 +3,7 @@ use Rattle.std.specs.Prelude.{◌≡◌, List, [], ◌∷◌}
 use Rattle.typed_model.specs.declared.model.Decl.{Decl}
 use Rattle.typed_model.specs.declared.model.Stmt.{Stmt}
 use Rattle.model_lower.specs.declared.state.Lowered.{Lowered}
-use Rattle.model_lower.specs.Items.{Declaration, items_of}
+use Rattle.model_items.specs.Items.{Declaration, Definition, declared_item, behind_declared, items_of}
 use Rattle.model_lower.specs.Drafting.{lowered_so_far, emptied}
 use Rattle.bee_compile.specs.declared.progress.Progress.{Progress}
 use Rattle.bee_compile.specs.Encoded.{encoded, each_ordered}
@@ -16,4 +16,12 @@ pub record HasCompiled (p : Progress) (l : Lowered) : Type 0 where
 -- no statement stands before the first declaration, and there is none where there is no declaration
 abbrev pub DeclarationFirst : List Decl → List Stmt → Type 0
 DeclarationFirst [] ss = ss ≡ []
-DeclarationFirst (d ∷ ds) ss = items_of (d ∷ ds) ss ≡ Declaration d ∷ items_of ds ss
+DeclarationFirst (d ∷ ds) ss = items_of (d ∷ ds) ss ≡ declared_item d ss ∷ items_of ds (behind_declared d ss)
+
+-- no statement declares the integer of a declaration
+abbrev pub IsApart : Decl → List Stmt → Type 0
+IsApart d ss = (declared_item d ss ≡ Declaration d) × (behind_declared d ss ≡ ss)
+
+-- a statement, which is the first one, does, and the others are left
+abbrev pub Defines : Decl → Stmt → List Stmt → List Stmt → Type 0
+Defines d s ss left = (declared_item d ss ≡ Definition d s) × (behind_declared d ss ≡ left)

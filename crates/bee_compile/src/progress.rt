@@ -1,12 +1,12 @@
 //! A model while it is compiled.
 
-ghost use Rattle.std.specs.Prelude.{◌≡◌, ◌++◌, ℕ, OnOk, IfErr};
-ghost use Rattle.typed_model.specs.Limits.{WhatInLimit};
+ghost use Rattle.std.specs.Prelude.{◌≡◌, ◌<◌, ◌^◌, ◌++◌, ℕ, OnOk};
 ghost use Rattle.statement_lower.specs.Entries.{AreInLimit};
 ghost use Rattle.model_lower.specs.declared.state.Lowered.{Lowered};
-ghost use Rattle.model_lower.specs.Items.{Declaration, Statement};
+ghost use Rattle.typed_model.specs.declared.model.Decl.{Decl};
+ghost use Rattle.typed_model.specs.Limits.{WhatInLimit};
+ghost use Rattle.model_items.specs.Items.{Declaration, Statement, Definition};
 ghost use Rattle.model_lower.specs.Lowering.{lowered_item, nothing_lowered};
-ghost use Rattle.model_lower.specs.Built.{unbuilt, IsFaultOf};
 ghost use Rattle.model_lower.specs.Drafting.{lowered_so_far, emptied};
 ghost use Rattle.model_lower.specs.Fits.{CoresFit};
 ghost use Rattle.bee_compile.specs.Encoded.{encoded, each_ordered};
@@ -14,7 +14,7 @@ ghost use Rattle.bee_compile.specs.Progressed.{HasCompiled};
 
 use crate::encoding::add_cores;
 use clause_order::OrderedClauses;
-use model_lower::{Draft, LowerFault, add_declaration, add_statement};
+use model_lower::{Draft, add_declaration, add_definition, add_statement};
 use std::alloc::{AllocError, Global};
 use typed_model::{Decl, Stmt};
 
@@ -49,10 +49,10 @@ impl Progress {
     }
 
     /// Compiles one more declaration.
-    pub fn add_declaration(&mut self, alloc: Global, decl: &Decl) -> Result<(), LowerFault>
-        requires { (l : Lowered) × (n : ℕ) × HasCompiled self.old l × CoresFit n (lowered_item l (Declaration decl.now)).cores }
-        ensures compiled { (l : Lowered) → HasCompiled self.old l → OnOk result (HasCompiled self.new (lowered_item l (Declaration decl.now))) }
-        ensures fault { IfErr result (λ e. IsFaultOf e (unbuilt self.old.draft.vars (Declaration decl.now))) }
+    pub fn add_declaration(&mut self, alloc: Global, decl: &Decl) -> Result<(), AllocError>
+        requires fits { (l : Lowered) × (n : ℕ) × HasCompiled self.old l × CoresFit n (lowered_item l (Declaration decl.now)).cores }
+        requires room { (lowered_item (lowered_so_far self.old.draft) (Declaration decl.now)).vars < 2 ^ 27 }
+        ensures { (l : Lowered) → HasCompiled self.old l → OnOk result (HasCompiled self.new (lowered_item l (Declaration decl.now))) }
     {
         add_declaration(alloc, &mut self.draft, decl)?;
         self.encode(alloc)?;
@@ -60,15 +60,23 @@ impl Progress {
     }
 
     /// Compiles one more statement, which is let go.
-    pub fn add_statement(&mut self, alloc: Global, stmt: Stmt) -> Result<(), LowerFault>
+    pub fn add_statement(&mut self, alloc: Global, stmt: Stmt) -> Result<(), AllocError>
         requires fits { (l : Lowered) × (n : ℕ) × HasCompiled self.old l × CoresFit n (lowered_item l (Statement stmt)).cores }
-        requires in_limit { AreInLimit self.old.draft.entries.items }
+        requires entries { AreInLimit self.old.draft.entries.items }
         requires limit { WhatInLimit stmt.what }
-        ensures compiled { (l : Lowered) → HasCompiled self.old l → OnOk result (HasCompiled self.new (lowered_item l (Statement stmt))) }
-        ensures fault { IfErr result (λ e. IsFaultOf e (unbuilt self.old.draft.vars (Statement stmt))) }
+        requires room { (lowered_item (lowered_so_far self.old.draft) (Statement stmt)).vars < 2 ^ 27 }
+        ensures { (l : Lowered) → HasCompiled self.old l → OnOk result (HasCompiled self.new (lowered_item l (Statement stmt))) }
     {
         add_statement(alloc, &mut self.draft, &stmt)?;
         self.encode(alloc)?;
+        Ok(())
+    }
+
+    /// Compiles one more statement that declares its integer, and which is let go.
+    pub fn add_definition(&mut self, alloc: Global, stmt: Stmt) -> Result<(), AllocError>
+        ensures { (l : Lowered) (decl : Decl) → HasCompiled self.old l → OnOk result (HasCompiled self.new (lowered_item l (Definition decl stmt))) }
+    {
+        add_definition(alloc, &mut self.draft, &stmt)?;
         Ok(())
     }
 }

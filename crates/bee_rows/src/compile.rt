@@ -203,7 +203,7 @@ fn statements_that_are_not_built_are_refused(rt: HostRuntime) -> Result<(), Fail
             "new_int(x,0,3)int_lt(x,2)int_plus(x,x,2)int_eq(x,1)solve satisfy",
             3,
         ),
-        ("new_bool(x)bool2int(x,i)solve maximize i", 2),
+        ("new_bool(x)bool2int(x,i)int_plus(i,i,0)solve maximize i", 3),
         ("new_int(x,-1000000000,1000000000)solve satisfy", 1),
         (
             "new_bool(x)new_int(y,0,16777216)bool_eq(x,x)solve satisfy",

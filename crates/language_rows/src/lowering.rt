@@ -99,6 +99,21 @@ fn show_product(
     format!(in alloc; "prod {left} {right} {value}")
 }
 
+/// A dividend, a divisor, their quotient and their remainder.
+fn show_division(
+    alloc: Global,
+    dividend: &OrdInt,
+    divisor: &OrdInt,
+    quotient: &OrdInt,
+    remainder: &OrdInt,
+) -> Result<String, AllocError> {
+    let dividend = show_int(alloc, dividend)?;
+    let divisor = show_int(alloc, divisor)?;
+    let quotient = show_int(alloc, quotient)?;
+    let remainder = show_int(alloc, remainder)?;
+    format!(in alloc; "div {dividend} {divisor} {quotient} {remainder}")
+}
+
 fn show_core(alloc: Global, core: &Core) -> Result<String, AllocError> {
     match core {
         Core::Ladder(integer) => {
@@ -114,6 +129,13 @@ fn show_core(alloc: Global, core: &Core) -> Result<String, AllocError> {
         Core::Prod(left, right, value) => {
             show_product(alloc, left.get(), right.get(), value.get())
         }
+        Core::DivMod(dividend, divisor, quotient, remainder) => show_division(
+            alloc,
+            dividend.get(),
+            divisor.get(),
+            quotient.get(),
+            remainder.get(),
+        ),
         Core::LeqR(truth, left, right) => {
             show_comparison(alloc, "leq", *truth, left.get(), right.get())
         }
@@ -180,8 +202,8 @@ fn models_are_lowered(rt: HostRuntime) -> Result<(), Fail> {
             "statement 2: not built",
         ),
         (
-            "new_bool(x) bool2int(x,i) solve satisfy",
-            "statement 2: not built",
+            "new_bool(x) bool2int(-x,i) int_leq(1,i) new_bool(y) bool2int(y,i) solve satisfy",
+            "2: 1 0+1*-1 2; leq T 1 0+1*-1; eq T 0+1*-1 0+1*2",
         ),
     ] {
         let found = lowered(rt.alloc(), text)?;
@@ -225,6 +247,7 @@ fn boolean_statements_have_these_cores(rt: HostRuntime) -> Result<(), Fail> {
 #[test]
 fn integer_statements_have_these_cores(rt: HostRuntime) -> Result<(), Fail> {
     for (statement, want) in [
+        ("bool2int(-x,i)", "eq T 0+1*1 0+1*-3"),
         ("int_geq(i,j)", "leq T 2+1*2 0+1*1"),
         ("int_eq(i,j)", "eq T 0+1*1 2+1*2"),
         ("int_lt(i,j)", "leq F 2+1*2 0+1*1"),
@@ -244,6 +267,37 @@ fn integer_statements_have_these_cores(rt: HostRuntime) -> Result<(), Fail> {
         )?;
         let found = lowered(rt.alloc(), text.as_str())?;
         let want = format!(in rt.alloc(); "3: 0+1*1 2+1*2 3; ladder 0+1*1; ladder 2+1*2; {want}")?;
+        assert_eq!(rt; found.as_str(), want.as_str(), "{statement}");
+    }
+    Ok(())
+}
+
+/// Lines with fresh integers or a fresh atom for each two members, over the same i, j and x.
+#[test]
+fn statements_take_fresh_variables(rt: HostRuntime) -> Result<(), Fail> {
+    for (statement, vars, want) in [
+        ("int_div(i,j,3)", 4, "div 0+1*1 2+1*2 3 0+1*4"),
+        ("int_div(7,j,j)", 5, "div 7 2+1*2 2+1*2 0+1*4+1*5"),
+        ("int_mod(i,j,i)", 3, "div 0+1*1 2+1*2 0 0+1*1"),
+        ("int_mod(5,j,i)", 5, "div 5 2+1*2 0+1*4+1*5 0+1*1"),
+        ("int_array_allDiff_reif([],x)", 3, "conj 3"),
+        (
+            "int_array_allDiff_reif([i,j],-x)",
+            4,
+            "eq 4 0+1*1 2+1*2; conj -3 -4",
+        ),
+        (
+            "int_array_allDiff_reif([i,j,1],x)",
+            6,
+            "eq 4 0+1*1 2+1*2; eq 5 0+1*1 1; eq 6 2+1*2 1; conj 3 -4 -5 -6",
+        ),
+    ] {
+        let text = format!(in rt.alloc();
+            "new_int(i,0,1) new_int(j,2,3) new_bool(x) {statement} solve satisfy"
+        )?;
+        let found = lowered(rt.alloc(), text.as_str())?;
+        let want =
+            format!(in rt.alloc(); "{vars}: 0+1*1 2+1*2 3; ladder 0+1*1; ladder 2+1*2; {want}")?;
         assert_eq!(rt; found.as_str(), want.as_str(), "{statement}");
     }
     Ok(())
@@ -279,6 +333,14 @@ fn items_that_are_not_built_are_told(rt: HostRuntime) -> Result<(), Fail> {
         ),
         (
             "new_bool(x) bool_iff_reif(x,x,x) new_int(i,0,16777213) bool_iff_reif(x,x,x) solve satisfy",
+            Some(12),
+        ),
+        (
+            "new_bool(x) bool2int(x,i) new_int(j,0,16777214) int_div(j,2,1) int_neq(i,j) bool_array_xor([x]) solve satisfy",
+            Some(18),
+        ),
+        (
+            "new_bool(x) bool2int(x,i) new_int(j,0,16777215) int_mod(j,2,1) int_div(j,2,1) solve satisfy",
             Some(12),
         ),
     ] {

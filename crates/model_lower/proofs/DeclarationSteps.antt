@@ -26,12 +26,10 @@ use Rattle.typed_model.specs.Limits.{KindInLimit}
 use Rattle.typed_model.specs.WellTyped.{KindFits}
 use Rattle.typed_model.proofs.DomainLaws.{Decides-domain}
 use Rattle.model_lower.specs.Lowering.{vars_taken, entry_of, entry_cores}
-use Rattle.model_lower.specs.Items.{Declaration}
 use Rattle.model_lower.specs.Fits.{CoresFit}
 use Rattle.model_lower.specs.ItemLaws.{DeclarationLaw}
 use Rattle.statement_lower.specs.Entries.{EntryFits, AreOrdered}
 use Rattle.statement_lower.proofs.FreshAtoms.{set_from, set_from-same, set_from-here}
-use Rattle.model_lower.proofs.BuiltLaws.{built-room}
 use Rattle.statement_lower.proofs.EntryLaws.{EntriesFit-more, EntriesFit-append, numbers_of-append, numbers_of-agree, AreOrdered-append}
 use Rattle.model_lower.proofs.CoreLaws.{CoresFit-below, CoresFit-more, CoresFit-append}
 
@@ -134,7 +132,7 @@ entry-laws vars (kind.Int low high) fit small = int-laws vars low high fit small
 -- The law of a declaration.
 
 pub declaration_law : DeclarationLaw
-declaration_law l decls d enc fit small none =
+declaration_law l decls d enc fit small within =
     let k = d.kind in
     let n : ℕ = l.vars + 1 in
     let m : ℕ = l.vars + vars_taken k + 1 in
@@ -144,7 +142,7 @@ declaration_law l decls d enc fit small none =
     let laws = entry-laws l.vars k fit small in (
       record {
         fits = record {
-          vars = (built-room l.vars (Declaration d) none).1;
+          vars = within;
           entries = EntriesFit-append m decls entries d e (EntriesFit-more n m decls entries le enc.fits.entries) laws.fits;
           cores = CoresFit-append m l.cores (entry_cores e) (CoresFit-more n m l.cores le enc.fits.cores) laws.cores;
         };

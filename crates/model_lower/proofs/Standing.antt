@@ -1,8 +1,10 @@
 -- What is lowered so far stands for the declarations and statements so far; each item keeps this.
-use Rattle.std.proofs.Common.{◌≡◌, ◌↔◌, ℕ, suc, ◌+◌, ℤ, Bool, true, false, ◌&&◌, List, [], ◌∷◌, ◌++◌, length, Option, Some, None, IsTrue, refl, sym, ap, subst, ◌∙◌, arith}
+use Rattle.std.proofs.Common.{◌≡◌, ◌↔◌, ℕ, suc, ◌+◌, ◌≤◌, ℤ, Bool, true, false, ◌&&◌, List, [], ◌∷◌, ◌++◌, length, Option, Some, None, IsTrue, refl, sym, ap, subst, ◌∙◌, arith}
 use Rattle.std.proofs.lemmas.Bool.{false≢true, and_parts}
 use Rattle.std.proofs.lemmas.List.{append-nil, append_assoc}
 use Rattle.order_ints.specs.Numbers.{numbers_of}
+use Rattle.core_forms.specs.declared.form.Core.{Core}
+use Rattle.core_forms.specs.Cores.{MeetsAll}
 use Rattle.typed_model.specs.declared.model.Decl.{Decl}
 use Rattle.typed_model.specs.declared.model.Stmt.{Stmt}
 use Rattle.typed_model.specs.Integers.{is_member}
@@ -15,15 +17,17 @@ use Rattle.typed_model.specs.Solutions.{AllHold}
 use Rattle.typed_model.proofs.AppendLaws.{WhatFits-append}
 use Rattle.typed_model.proofs.BehindLaws.{behind}
 use Rattle.model_lower.specs.declared.state.Lowered.{Lowered}
-use Rattle.model_lower.specs.Items.{ModelItem, Declaration, Statement}
-use Rattle.model_lower.specs.Lowering.{with_declaration, with_statement, lowered_item, lowered_items, nothing_lowered}
-use Rattle.model_lower.specs.Built.{vars_after, unbuilt, first_unbuilt}
+use Rattle.model_items.specs.Items.{ModelItem, Declaration, Statement, Definition}
+use Rattle.model_lower.specs.Lowering.{with_declaration, with_statement, with_definition, lowered_item, lowered_items, nothing_lowered}
+use Rattle.model_lower.specs.Built.{most_vars, is_built, may_build, vars_after, unbuilt, first_unbuilt}
 use Rattle.model_lower.specs.Decoded.{IsDecoded}
-use Rattle.model_lower.specs.ItemLaws.{Encodes, TakesEachValue}
+use Rattle.model_lower.specs.ItemLaws.{Encodes, TakesEachValue, TakesItsValue, IsDefinition}
 use Rattle.statement_lower.proofs.EntryLaws.{numbers_of-agree}
 use Rattle.model_lower.proofs.StatementSteps.{statement_law}
-use Rattle.model_lower.proofs.LoweredItems.{vars-item}
+use Rattle.model_lower.proofs.BuiltLaws.{built-room}
+use Rattle.model_lower.proofs.FreshCounts.{built-vars}
 use Rattle.model_lower.proofs.DeclarationSteps.{declaration_law}
+use Rattle.model_lower.proofs.DefinitionSteps.{definition_law}
 
 -- the statements so far fit the declarations so far
 abbrev pub ArePlaced : List Decl → List Stmt → Type 0
@@ -117,9 +121,9 @@ module _ (l m : Lowered) (ds : List Decl) (ss : List Stmt) (d : Decl) (st : Stan
         subst (λ (vs : List ℤ). AllHold vs ss) (sym e) ((AllHold-append ds ss front (v ∷ []) (in_domains-length ds front r.0) st.placed).1 r.1),
       )
 
-pub declaration-stands : (l : Lowered) (ds : List Decl) (ss : List Stmt) (d : Decl) → Stands l ds ss → KindFits d.kind → KindInLimit d.kind → unbuilt l.vars (Declaration d) ≡ None → Stands (with_declaration l d.kind) (ds ++ d ∷ []) ss
-declaration-stands l ds ss d st fit small none =
-    let law = declaration_law l ds d st.encodes fit small none in
+pub declaration-stands : (l : Lowered) (ds : List Decl) (ss : List Stmt) (d : Decl) → Stands l ds ss → KindFits d.kind → KindInLimit d.kind → (with_declaration l d.kind).vars ≤ most_vars → Stands (with_declaration l d.kind) (ds ++ d ∷ []) ss
+declaration-stands l ds ss d st fit small room =
+    let law = declaration_law l ds d st.encodes fit small room in
     let m = with_declaration l d.kind in
     record {
       encodes = law.0;
@@ -129,9 +133,9 @@ declaration-stands l ds ss d st fit small none =
 
 -- One more statement.
 
-pub statement-stands : (l : Lowered) (ds : List Decl) (ss : List Stmt) (s : Stmt) → Stands l ds ss → WhatFits ds s.number s.what → WhatInLimit s.what → unbuilt l.vars (Statement s) ≡ None → Stands (with_statement l s.what) ds (ss ++ s ∷ [])
-statement-stands l ds ss s st fit small none =
-    let law = statement_law l ds s st.encodes fit small none in
+pub statement-stands : (l : Lowered) (ds : List Decl) (ss : List Stmt) (s : Stmt) → Stands l ds ss → WhatFits ds s.number s.what → WhatInLimit s.what → is_built s.what ≡ true → (with_statement l s.what).vars ≤ most_vars → Stands (with_statement l s.what) ds (ss ++ s ∷ [])
+statement-stands l ds ss s st fit small built room =
+    let law = statement_law l ds s st.encodes fit small built room in
     let entries = l.map.entries in
     record {
       encodes = law.0;
@@ -147,6 +151,48 @@ statement-stands l ds ss s st fit small none =
             let r = (st.solutions a).1 (c.0, p.0, c.2) in
             (r.0, (AllHold-split ss s a).1 (r.1, subst (λ (vs : List ℤ). Holds vs s.what) (sym c.2) p.1)),
       );
+    }
+
+-- One more `bool2int` that declares its integer.
+
+module _ (l m : Lowered) (ds : List Decl) (ss : List Stmt) (d : Decl) (s : Stmt) (st : Stands l ds ss) (law : TakesItsValue l m d.kind s.what) where
+  defined-decoded : (a : List ℤ) → IsTrue (in_domains (ds ++ d ∷ []) a) × AllHold a (ss ++ s ∷ []) → IsDecoded m a
+  defined-decoded a h =
+      let p = in_domains-split ds d a h.0 in
+      let held = subst (λ (vs : List ℤ). AllHold vs (ss ++ s ∷ [])) p.is h.1 in
+      let parts = (AllHold-split ss s (p.front ++ p.value ∷ [])).0 held in
+      let c = (st.solutions p.front).0 (p.in_domains, (AllHold-append ds ss p.front (p.value ∷ []) (in_domains-length ds p.front p.in_domains) st.placed).0 parts.0) in
+      let v = law.value c.0 in
+      let here : Holds (numbers_of c.0 l.map.entries ++ p.value ∷ []) s.what = subst (λ (vs : List ℤ). Holds (vs ++ p.value ∷ []) s.what) c.2 parts.1 in
+      let same : p.value ≡ v.0 = (v.3 p.value).0 here in (
+        c.0,
+        subst (λ (cores : List Core). MeetsAll c.0 cores) (sym law.cores) c.1,
+        p.is
+            ∙ (ap (λ (vs : List ℤ). vs ++ p.value ∷ []) c.2
+            ∙ (ap (λ (z : ℤ). numbers_of c.0 l.map.entries ++ z ∷ []) same ∙ sym v.2)),
+      )
+
+  decoded-defined : (a : List ℤ) → IsDecoded m a → IsTrue (in_domains (ds ++ d ∷ []) a) × AllHold a (ss ++ s ∷ [])
+  decoded-defined a c =
+      let front : List ℤ = numbers_of c.0 l.map.entries in
+      let v = law.value c.0 in
+      let e : a ≡ front ++ v.0 ∷ [] = c.2 ∙ v.2 in
+      let r = (st.solutions front).1 (c.0, subst (λ (cores : List Core). MeetsAll c.0 cores) law.cores c.1, refl) in
+      let all : AllHold (front ++ v.0 ∷ []) (ss ++ s ∷ []) =
+      (AllHold-split ss s (front ++ v.0 ∷ [])).1
+      ((AllHold-append ds ss front (v.0 ∷ []) (in_domains-length ds front r.0) st.placed).1 r.1, (v.3 v.0).1 refl) in (
+        subst (λ (vs : List ℤ). IsTrue (in_domains (ds ++ d ∷ []) vs)) (sym e) (in_domains-join ds d front v.0 r.0 v.1),
+        subst (λ (vs : List ℤ). AllHold vs (ss ++ s ∷ [])) (sym e) all,
+      )
+
+pub definition-stands : (l : Lowered) (ds : List Decl) (ss : List Stmt) (d : Decl) (s : Stmt) → Stands l ds ss → IsDefinition ds d s → WhatFits (ds ++ d ∷ []) s.number s.what → Stands (with_definition l s.what) (ds ++ d ∷ []) (ss ++ s ∷ [])
+definition-stands l ds ss d s st def fit =
+    let law = definition_law l ds d s st.encodes def in
+    let m = with_definition l s.what in
+    record {
+      encodes = law.0;
+      placed = ArePlaced-append (ds ++ d ∷ []) ss s (ArePlaced-more ds (d ∷ []) ss st.placed) fit;
+      solutions = λ a. (defined-decoded l m ds ss d s st law.1 a, decoded-defined l m ds ss d s st law.1 a);
     }
 
 -- No item.
@@ -169,34 +215,56 @@ abbrev pub ItemsFit : List Decl → List ModelItem → Type 0
 ItemsFit ds [] = Unit {0}
 ItemsFit ds (Declaration d ∷ items) = KindFits d.kind × KindInLimit d.kind × ItemsFit (ds ++ d ∷ []) items
 ItemsFit ds (Statement s ∷ items) = WhatFits ds s.number s.what × WhatInLimit s.what × ItemsFit ds items
+ItemsFit ds (Definition d s ∷ items) = IsDefinition ds d s × WhatFits (ds ++ d ∷ []) s.number s.what × ItemsFit (ds ++ d ∷ []) items
 
 abbrev pub decls_in : List ModelItem → List Decl
 decls_in [] = []
 decls_in (Declaration d ∷ items) = d ∷ decls_in items
 decls_in (Statement s ∷ items) = decls_in items
+decls_in (Definition d s ∷ items) = d ∷ decls_in items
 
 abbrev pub stmts_in : List ModelItem → List Stmt
 stmts_in [] = []
 stmts_in (Declaration d ∷ items) = stmts_in items
 stmts_in (Statement s ∷ items) = s ∷ stmts_in items
+stmts_in (Definition d s ∷ items) = s ∷ stmts_in items
 
-pub first_of-none : {A : Type 0} (o p : Option A) → first_of o p ≡ None → (o ≡ None) × (p ≡ None)
+first_of-none : {A : Type 0} (o p : Option A) → first_of o p ≡ None → (o ≡ None) × (p ≡ None)
 first_of-none None p e = (refl, e)
 first_of-none (Some x) p e = absurd (cc)
 
--- the first item is built, and so are the others behind it
-built-first : (l : Lowered) (i : ModelItem) (items : List ModelItem) → first_unbuilt l.vars (i ∷ items) ≡ None → (unbuilt l.vars i ≡ None) × (first_unbuilt (lowered_item l i).vars items ≡ None)
-built-first l i items none =
-    let p = first_of-none (unbuilt l.vars i) (first_unbuilt (vars_after l.vars i) items) none in
-    (p.0, ap (λ (v : ℕ). first_unbuilt v items) (vars-item l i p.0) ∙ p.1)
+-- the variables that are counted for an item that may be built are those that it takes
+counted : (l : Lowered) (ds es : List Decl) (ss : List Stmt) (i : ModelItem) (items : List ModelItem) → Stands l ds ss → ItemsFit ds (i ∷ items) → may_build i ≡ true → (lowered_item l i).vars ≡ vars_after (ds ++ es) l.vars i
+counted l ds es ss (Declaration d) items st fit may = refl
+counted l ds es ss (Statement s) items st fit may = built-vars l.vars s.number ds es l.map.entries s.what st.encodes.fits.entries fit.0 may
+counted l ds es ss (Definition d s) items st fit may = omega arith
 
-pub items-stand : (l : Lowered) (ds : List Decl) (ss : List Stmt) (items : List ModelItem) → Stands l ds ss → ItemsFit ds items → first_unbuilt l.vars items ≡ None → Stands (lowered_items l items) (ds ++ decls_in items) (ss ++ stmts_in items)
-items-stand l ds ss [] st fit none = rw (append-nil ds, append-nil ss) st
-items-stand l ds ss (Declaration d ∷ items) st fit none =
-    let p = built-first l (Declaration d) items none in
+-- the first item is built, and so are the others behind it
+record IsBuiltFirst (all : List Decl) (l : Lowered) (i : ModelItem) (items : List ModelItem) : Type 0 where
+  may : may_build i ≡ true
+  room : (lowered_item l i).vars ≤ most_vars
+  rest : first_unbuilt all (lowered_item l i).vars items ≡ None
+
+built-first : (all : List Decl) (l : Lowered) (ds es : List Decl) (ss : List Stmt) (i : ModelItem) (items : List ModelItem) → ds ++ es ≡ all → Stands l ds ss → ItemsFit ds (i ∷ items) → first_unbuilt all l.vars (i ∷ items) ≡ None → IsBuiltFirst all l i items
+built-first all l ds es ss i items e st fit none =
+    let p = first_of-none (unbuilt all l.vars i) (first_unbuilt all (vars_after all l.vars i) items) none in
+    let r = built-room all l.vars i p.0 in
+    let same : (lowered_item l i).vars ≡ vars_after all l.vars i =
+    counted l ds es ss i items st fit r.0 ∙ ap (λ (ds : List Decl). vars_after ds l.vars i) e in
+    record { may = r.0; room = omega (arith, same, r.1); rest = ap (λ (v : ℕ). first_unbuilt all v items) same ∙ p.1 }
+
+pub items-stand : (all : List Decl) (l : Lowered) (ds : List Decl) (ss : List Stmt) (items : List ModelItem) → ds ++ decls_in items ≡ all → Stands l ds ss → ItemsFit ds items → first_unbuilt all l.vars items ≡ None → Stands (lowered_items l items) (ds ++ decls_in items) (ss ++ stmts_in items)
+items-stand all l ds ss [] e st fit none = rw (append-nil ds, append-nil ss) st
+items-stand all l ds ss (Declaration d ∷ items) e st fit none =
+    let p = built-first all l ds (d ∷ decls_in items) ss (Declaration d) items e st fit none in
     subst (λ (cs : List Decl). Stands (lowered_items (with_declaration l d.kind) items) cs (ss ++ stmts_in items)) (append_assoc ds (d ∷ []) (decls_in items))
-    (items-stand (with_declaration l d.kind) (ds ++ d ∷ []) ss items (declaration-stands l ds ss d st fit.0 fit.1 p.0) fit.2 p.1)
-items-stand l ds ss (Statement s ∷ items) st fit none =
-    let p = built-first l (Statement s) items none in
+    (items-stand all (with_declaration l d.kind) (ds ++ d ∷ []) ss items (append_assoc ds (d ∷ []) (decls_in items) ∙ e) (declaration-stands l ds ss d st fit.0 fit.1 p.room) fit.2 p.rest)
+items-stand all l ds ss (Statement s ∷ items) e st fit none =
+    let p = built-first all l ds (decls_in items) ss (Statement s) items e st fit none in
     subst (λ (ts : List Stmt). Stands (lowered_items (with_statement l s.what) items) (ds ++ decls_in items) ts) (append_assoc ss (s ∷ []) (stmts_in items))
-    (items-stand (with_statement l s.what) ds (ss ++ s ∷ []) items (statement-stands l ds ss s st fit.0 fit.1 p.0) fit.2 p.1)
+    (items-stand all (with_statement l s.what) ds (ss ++ s ∷ []) items e (statement-stands l ds ss s st fit.0 fit.1 p.may p.room) fit.2 p.rest)
+items-stand all l ds ss (Definition d s ∷ items) e st fit none =
+    let p = built-first all l ds (d ∷ decls_in items) ss (Definition d s) items e st fit none in
+    subst (λ (ts : List Stmt). Stands (lowered_items (with_definition l s.what) items) (ds ++ d ∷ decls_in items) ts) (append_assoc ss (s ∷ []) (stmts_in items))
+    (subst (λ (cs : List Decl). Stands (lowered_items (with_definition l s.what) items) cs ((ss ++ s ∷ []) ++ stmts_in items)) (append_assoc ds (d ∷ []) (decls_in items))
+    (items-stand all (with_definition l s.what) (ds ++ d ∷ []) (ss ++ s ∷ []) items (append_assoc ds (d ∷ []) (decls_in items) ∙ e) (definition-stands l ds ss d s st fit.0 fit.1) fit.2 p.rest))

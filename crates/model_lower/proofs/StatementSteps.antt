@@ -1,28 +1,23 @@
 -- The law of a statement that is built.
-use Rattle.std.proofs.Common.{◌≡◌, ℕ, ◌+◌, ◌≤◌, true, List, ◌++◌, subst, arith}
+use Rattle.std.proofs.Common.{ℕ, ◌+◌, ◌≤◌, List, ◌++◌, subst, arith}
 use Rattle.core_forms.specs.declared.form.Core.{Core}
 use Rattle.core_forms.proofs.CoreLists.{MeetsAll-append, MeetsAll-agree, MeetsAll-depends}
 use Rattle.typed_model.specs.Holds.{Holds}
 use Rattle.statement_lower.specs.Lines.{made_of}
 use Rattle.statement_lower.proofs.EntryLaws.{EntriesFit-more, numbers_of-agree}
 use Rattle.statement_lower.proofs.LineLaws.{line_law}
-use Rattle.model_lower.specs.Items.{Statement}
-use Rattle.model_lower.specs.Built.{most_vars, is_built}
 use Rattle.model_lower.specs.Fits.{CoresFit}
 use Rattle.model_lower.specs.ItemLaws.{StatementLaw}
 use Rattle.model_lower.proofs.CoreLaws.{CoresFit-below, CoresFit-append, CoresFit-more, CoresFit-from}
-use Rattle.model_lower.proofs.BuiltLaws.{built-lowered, built-vars, built-forms, built-room}
+use Rattle.model_lower.proofs.BuiltLaws.{built-lowered, built-forms}
 
 pub statement_law : StatementLaw
-statement_law l decls s enc fit small none =
+statement_law l decls s enc fit small built within =
     let n : ℕ = l.vars + 1 in
-    let room = built-room l.vars (Statement s) none in
-    let built : is_built s.what ≡ true = room.0 in
     let entries = l.map.entries in
     let made = made_of l.vars entries s.what in
     let line = line_law l.vars s.number decls entries s.what enc.fits.entries fit small (built-lowered s.what built) in
     let le : n ≤ made.vars + 1 = omega (arith, line.more) in
-    let within : made.vars ≤ most_vars = omega (arith, built-vars l.vars entries s.what built, room.1) in
     let more : List Core = made.cores in
     let fits : CoresFit (made.vars + 1) (l.cores ++ more) =
     CoresFit-append (made.vars + 1) l.cores more (CoresFit-more n (made.vars + 1) l.cores le enc.fits.cores)

@@ -1,10 +1,15 @@
 -- What one more item makes of the assignments that cores and a map of names stand for.
-use Rattle.std.specs.Prelude.{◌≡◌, ◌↔◌, ◌+◌, ℤ, List, [], ◌∷◌, ◌++◌, None, IsTrue}
+use Rattle.std.specs.Prelude.{◌≡◌, ◌↔◌, ◌+◌, ◌≤◌, ℤ, pos, true, List, [], ◌∷◌, ◌++◌, length, None, IsTrue}
 use Rattle.order_ints.specs.Truth.{Valuation, Agree}
 use Rattle.order_ints.specs.Numbers.{numbers_of}
 use Rattle.order_ints.specs.Represents.{Represents}
 use Rattle.core_forms.specs.Cores.{MeetsAll}
+use Rattle.typed_model.specs.declared.what.BoolTerm.{BoolTerm}
+use Rattle.typed_model.specs.declared.what.IntTerm.TheVariants.{Of}
+use Rattle.typed_model.specs.declared.what.What.{What}
+use Rattle.typed_model.specs.declared.what.What.TheVariants.{L3}
 use Rattle.typed_model.specs.declared.model.Kind.{Kind}
+use Rattle.typed_model.specs.declared.model.Kind.TheVariants.{Int}
 use Rattle.typed_model.specs.declared.model.Decl.{Decl}
 use Rattle.typed_model.specs.declared.model.Stmt.{Stmt}
 use Rattle.typed_model.specs.declared.model.Model.{Model}
@@ -12,13 +17,12 @@ use Rattle.typed_model.specs.Integers.{is_member}
 use Rattle.typed_model.specs.Domains.{domain}
 use Rattle.typed_model.specs.Holds.{Holds}
 use Rattle.typed_model.specs.Limits.{KindInLimit, WhatInLimit, InLimits}
-use Rattle.typed_model.specs.WellTyped.{KindFits, WhatFits, WellTyped}
+use Rattle.typed_model.specs.WellTyped.{TruthFits, KindFits, WhatFits, WellTyped}
 use Rattle.typed_model.specs.Solutions.{IsSolution}
 use Rattle.statement_lower.specs.Entries.{AreOrdered}
 use Rattle.model_lower.specs.declared.state.Lowered.{Lowered}
-use Rattle.model_lower.specs.Items.{Declaration, Statement}
-use Rattle.model_lower.specs.Lowering.{with_declaration, with_statement, lowered_of}
-use Rattle.model_lower.specs.Built.{unbuilt, first_unbuilt_of}
+use Rattle.model_lower.specs.Lowering.{with_declaration, with_statement, with_definition, lowered_of}
+use Rattle.model_lower.specs.Built.{most_vars, is_built, first_unbuilt_of}
 use Rattle.model_lower.specs.Decoded.{IsDecoded}
 use Rattle.model_lower.specs.Fits.{Fits}
 
@@ -34,19 +38,39 @@ pub record TakesEachValue (l m : Lowered) (k : Kind) : Type 0 where
   pub each : (σ : Valuation) (v : ℤ) → MeetsAll σ l.cores → IsTrue (is_member v (domain k))
       → (τ : Valuation) × Agree (l.vars + 1) σ τ × MeetsAll τ m.cores × (numbers_of τ m.map.entries ≡ numbers_of σ l.map.entries ++ v ∷ [])
 
--- a declaration that is built
+-- a definition adds the one value for which its statement holds, and changes nothing else
+pub record TakesItsValue (l m : Lowered) (k : Kind) (w : What) : Type 0 where
+  pub cores : m.cores ≡ l.cores
+  pub value : (σ : Valuation) → (v : ℤ) × IsTrue (is_member v (domain k)) × (numbers_of σ m.map.entries ≡ numbers_of σ l.map.entries ++ v ∷ [])
+      × ((z : ℤ) → Holds (numbers_of σ l.map.entries ++ z ∷ []) w ↔ (z ≡ v))
+
+-- a statement is a `bool2int` of a Boolean that is declared before it, and of the name that it declares itself behind these
+-- declarations, with the domain 0 to 1
+pub record IsDefinition (decls : List Decl) (d : Decl) (s : Stmt) : Type 0 where
+  pub truth : BoolTerm
+  pub truth_fits : TruthFits decls d.number truth
+  pub what : s.what ≡ L3 truth (Of (length decls))
+  pub kind : d.kind ≡ Int (pos 0) (pos 1)
+
+-- a declaration for which there is room
 abbrev pub DeclarationLaw : Type 0
 DeclarationLaw = (l : Lowered) (decls : List Decl) (d : Decl)
-    → Encodes l decls → KindFits d.kind → KindInLimit d.kind → unbuilt l.vars (Declaration d) ≡ None
+    → Encodes l decls → KindFits d.kind → KindInLimit d.kind → (with_declaration l d.kind).vars ≤ most_vars
     → Encodes (with_declaration l d.kind) (decls ++ d ∷ []) × TakesEachValue l (with_declaration l d.kind) d.kind
 
--- A statement that is built: together with the cores so far its cores stand for its being true of the numbers that
--- the names have.
+-- A statement that is built and for which there is room: together with the cores so far its cores stand for its being true
+-- of the numbers that the names have.
 abbrev pub StatementLaw : Type 0
 StatementLaw = (l : Lowered) (decls : List Decl) (s : Stmt)
-    → Encodes l decls → WhatFits decls s.number s.what → WhatInLimit s.what → unbuilt l.vars (Statement s) ≡ None
+    → Encodes l decls → WhatFits decls s.number s.what → WhatInLimit s.what → is_built s.what ≡ true → (with_statement l s.what).vars ≤ most_vars
     → Encodes (with_statement l s.what) decls
     × Represents (l.vars + 1) ((with_statement l s.what).vars + 1) (λ σ. MeetsAll σ (with_statement l s.what).cores) (λ σ. MeetsAll σ l.cores × Holds (numbers_of σ l.map.entries) s.what)
+
+-- a `bool2int` that declares its integer
+abbrev pub DefinitionLaw : Type 0
+DefinitionLaw = (l : Lowered) (decls : List Decl) (d : Decl) (s : Stmt)
+    → Encodes l decls → IsDefinition decls d s
+    → Encodes (with_definition l s.what) (decls ++ d ∷ []) × TakesItsValue l (with_definition l s.what) d.kind s.what
 
 -- a model that is well typed, in the limits, and built throughout: the solutions are the assignments that are
 -- decoded

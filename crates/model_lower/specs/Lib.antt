@@ -1,5 +1,5 @@
-pub mod Items
 pub mod Lowering
+pub mod FreshVars
 pub mod Built
 pub mod Decoded
 pub mod Fits

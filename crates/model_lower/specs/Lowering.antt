@@ -1,18 +1,20 @@
 -- From a model to cores and to what each declared name stands for, item by item.
-use Rattle.std.specs.Prelude.{ℕ, ◌+◌, ◌-ℤ◌, List, [], ◌∷◌, ◌++◌}
+use Rattle.std.specs.Prelude.{ℕ, ◌+◌, pos, ◌-ℤ◌, List, [], ◌∷◌, ◌++◌}
 use Rattle.order_ints.specs.declared.order_int.MapValue.{MapValue}
 use Rattle.order_ints.specs.declared.order_int.MapValue.TheVariants as values
-use Rattle.order_ints.specs.OrderMade.{atom_of_var, unit_range_of}
+use Rattle.order_ints.specs.OrderMade.{atom_of_var, constant_of, integer_of_atom, unit_range_of}
 use Rattle.core_forms.specs.declared.form.Core.{Core}
 use Rattle.core_forms.specs.declared.form.Core.TheVariants.{Ladder}
 use Rattle.typed_model.specs.declared.model.Kind.{Kind}
 use Rattle.typed_model.specs.declared.model.Kind.TheVariants as kind
 use Rattle.typed_model.specs.declared.model.Model.{Model}
 use Rattle.typed_model.specs.declared.what.What.{What}
+use Rattle.typed_model.specs.declared.what.What.TheVariants.{L3}
 use Rattle.typed_model.specs.Domains.{at_least_zero}
+use Rattle.model_items.specs.Items.{ModelItem, Declaration, Statement, Definition, items_of_model}
+use Rattle.statement_lower.specs.Terms.{atom_of}
 use Rattle.statement_lower.specs.Lines.{made_of}
 use Rattle.model_lower.specs.declared.state.Lowered.{Lowered}
-use Rattle.model_lower.specs.Items.{ModelItem, Declaration, Statement, items_of_model}
 
 -- how many variables a declared name takes: a Boolean one, an integer one for each value but the least
 abbrev pub vars_taken : Kind → ℕ
@@ -45,10 +47,24 @@ with_statement l what = record {
   cores = l.cores ++ (made_of l.vars l.map.entries what).cores;
 }
 
+-- what the name stands for that a `bool2int` declares: its Boolean, as an integer
+abbrev pub defined_entry : List MapValue → What → MapValue
+defined_entry entries (L3 x i) = values.Int (integer_of_atom (atom_of entries x))
+defined_entry entries what = values.Int (constant_of (pos 0))
+
+-- after one more `bool2int` that declares its integer, which takes no variable and makes no core
+abbrev pub with_definition : Lowered → What → Lowered
+with_definition l what = record {
+  vars = l.vars;
+  map = record { entries = l.map.entries ++ defined_entry l.map.entries what ∷ [] };
+  cores = l.cores;
+}
+
 -- after one more item
 abbrev pub lowered_item : Lowered → ModelItem → Lowered
 lowered_item l (Declaration d) = with_declaration l d.kind
 lowered_item l (Statement s) = with_statement l s.what
+lowered_item l (Definition d s) = with_definition l s.what
 
 abbrev pub lowered_items : Lowered → List ModelItem → Lowered
 lowered_items l [] = l

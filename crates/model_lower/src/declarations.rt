@@ -1,20 +1,15 @@
 //! What a declared name stands for.
 
-ghost use Rattle.std.specs.Prelude.{◌≡◌, ◌+◌, ◌++◌, ◌∷◌, [], ◌≤◌, OnOk, IfOk, IfErr, None};
-ghost use Rattle.model_lower.specs.Items.{Declaration};
-ghost use Rattle.model_lower.specs.Lowering.{vars_taken, entry_of, entry_cores, lowered_item};
-ghost use Rattle.model_lower.specs.Built.{most_vars, unbuilt, IsFaultOf};
+ghost use Rattle.std.specs.Prelude.{◌≡◌, ◌+◌, ◌<◌, ◌^◌, ◌++◌, ◌∷◌, [], OnOk, IfOk};
+ghost use Rattle.model_lower.specs.Lowering.{vars_taken, entry_of, entry_cores, defined_entry, with_declaration, with_definition};
 ghost use Rattle.model_lower.specs.Drafting.{lowered_so_far};
 
 use crate::draft::Draft;
-use crate::fault::LowerFault;
 use core_forms::Core;
 use order_ints::{Atom, Lit, MapValue, OrdInt};
+use statement_lower::atom_of;
 use std::alloc::{AllocError, Global};
-use typed_model::{Decl, Kind};
-
-/// How many variables there may be.
-pub const MOST_VARS: u128 = 16_777_216;
+use typed_model::{Decl, Kind, Stmt, What};
 
 /// How many variables a declared name takes.
 pub fn vars_taken(kind: Kind) -> u64
@@ -29,7 +24,7 @@ pub fn vars_taken(kind: Kind) -> u64
 /// What a name stands for that is declared where there are so many variables.
 fn entry_of(alloc: Global, vars: u32, kind: Kind, taken: u32) -> Result<MapValue, AllocError>
     requires taken { taken ≡ vars_taken kind }
-    requires room { vars + taken ≤ most_vars }
+    requires room { vars + taken < 2 ^ 27 }
     ensures { IfOk result (λ e. e ≡ entry_of vars kind) }
 {
     match kind {
@@ -56,19 +51,34 @@ fn add_ladder(alloc: Global, cores: &mut Vec<Core>, entry: &MapValue) -> Result<
 }
 
 /// Adds a declaration, which takes variables and makes an entry of the map.
-pub fn add_declaration(alloc: Global, draft: &mut Draft, decl: &Decl) -> Result<(), LowerFault>
-    ensures built { OnOk result (unbuilt draft.old.vars (Declaration decl.now) ≡ None) }
-    ensures shape { OnOk result (lowered_so_far draft.new ≡ lowered_item (lowered_so_far draft.old) (Declaration decl.now)) }
-    ensures fault { IfErr result (λ e. IsFaultOf e (unbuilt draft.old.vars (Declaration decl.now))) }
+pub fn add_declaration(alloc: Global, draft: &mut Draft, decl: &Decl) -> Result<(), AllocError>
+    requires room { draft.old.vars + vars_taken decl.now.kind < 2 ^ 27 }
+    ensures { OnOk result (lowered_so_far draft.new ≡ with_declaration (lowered_so_far draft.old) decl.now.kind) }
 {
-    let taken = vars_taken(decl.kind);
-    let vars = u128::from(draft.vars) + u128::from(taken);
-    if vars > MOST_VARS {
-        return Err(LowerFault::Unbuilt(decl.number));
-    }
-    let entry = entry_of(alloc, draft.vars, decl.kind, taken as u32)?;
+    let taken = vars_taken(decl.kind) as u32;
+    let entry = entry_of(alloc, draft.vars, decl.kind, taken)?;
     add_ladder(alloc, &mut draft.cores, &entry)?;
     draft.entries.push(entry)?;
-    draft.vars = vars as u32;
+    draft.vars += taken;
+    Ok(())
+}
+
+/// What the name stands for that a statement declares.
+fn defined_entry(alloc: Global, entries: &[MapValue], what: &What) -> Result<MapValue, AllocError>
+    ensures { IfOk result (λ e. e ≡ defined_entry entries.now what.now) }
+{
+    let integer = match what {
+        What::L3 { truth, .. } => OrdInt::of_atom(alloc, atom_of(entries, *truth))?,
+        _ => OrdInt::constant(alloc, 0)?,
+    };
+    Ok(MapValue::Int(integer))
+}
+
+/// Adds a `bool2int` that declares its integer, which makes an entry of the map: its Boolean, as an integer.
+pub fn add_definition(alloc: Global, draft: &mut Draft, stmt: &Stmt) -> Result<(), AllocError>
+    ensures { OnOk result (lowered_so_far draft.new ≡ with_definition (lowered_so_far draft.old) stmt.now.what) }
+{
+    let entry = defined_entry(alloc, draft.entries.as_slice(), &stmt.what)?;
+    draft.entries.push(entry)?;
     Ok(())
 }

@@ -1,59 +1,58 @@
 //! From a typed model to cores and a map of names.
 
-ghost use Rattle.std.specs.Prelude.{◌≡◌, ◌↔◌, ◌≤◌, ℤ, List, length, take, drop, IfOk, IfErr, None};
+ghost use Rattle.std.specs.Prelude.{◌≡◌, ◌↔◌, ◌<◌, ◌^◌, ℤ, List, IfOk, IfErr, OnOk, None};
 ghost use Rattle.typed_model.specs.WellTyped.{WellTyped};
-ghost use Rattle.typed_model.specs.Limits.{DeclsInLimit, StmtsInLimit, InLimits};
+ghost use Rattle.typed_model.specs.Limits.{InLimits};
 ghost use Rattle.typed_model.specs.Solutions.{IsSolution};
-ghost use Rattle.model_lower.specs.Items.{stmts_before, stmts_from, items_of};
-ghost use Rattle.model_lower.specs.Built.{first_unbuilt, first_unbuilt_of, IsFaultOf};
-ghost use Rattle.model_lower.specs.Lowering.{lowered_items, nothing_lowered, lowered_of};
+ghost use Rattle.statement_lower.specs.Entries.{AreInLimit};
+ghost use Rattle.model_items.specs.ItemLimits.{ItemInLimit};
+ghost use Rattle.model_items.specs.Lent.{lent_item};
+ghost use Rattle.model_lower.specs.Built.{first_unbuilt_of, IsFaultOf};
+ghost use Rattle.model_lower.specs.Lowering.{lowered_item, lowered_of};
+ghost use Rattle.model_lower.specs.Drafting.{lowered_so_far};
 ghost use Rattle.model_lower.specs.Decoded.{IsDecoded};
 ghost use Rattle.model_lower.specs.Fits.{Fits};
 
-use crate::declarations::add_declaration;
+use crate::declarations::{add_declaration, add_definition};
 use crate::draft::Draft;
 use crate::fault::LowerFault;
 use crate::state::Lowered;
-use crate::statements::add_statements;
-use std::alloc::Global;
-use typed_model::{Decl, Model, Stmt};
+use crate::statements::add_statement;
+use crate::unbuilt::first_unbuilt;
+use model_items::{Item, Items};
+use std::alloc::{AllocError, Global};
+use typed_model::Model;
 
-/// How many statements stand before the first one whose number is `number` or more.
-pub fn count_before(stmts: &[Stmt], number: u64) -> usize
-    ensures within { result ≤ length stmts.now }
-    ensures before { take result stmts.now ≡ stmts_before number stmts.now }
-    ensures from { drop result stmts.now ≡ stmts_from number stmts.now }
+/// Adds an item.
+fn add_item(alloc: Global, draft: &mut Draft, item: &Item<'_>) -> Result<(), AllocError>
+    requires entries { AreInLimit draft.old.entries.items }
+    requires limit { ItemInLimit (lent_item item.now) }
+    requires room { (lowered_item (lowered_so_far draft.old) (lent_item item.now)).vars < 2 ^ 27 }
+    ensures { OnOk result (lowered_so_far draft.new ≡ lowered_item (lowered_so_far draft.old) (lent_item item.now)) }
 {
-    for (i, stmt) in stmts.iter().enumerate() {
-        if stmt.number >= number {
-            return i;
-        }
+    match item {
+        Item::Declaration(decl) => add_declaration(alloc, draft, decl),
+        Item::Statement(stmt) => add_statement(alloc, draft, stmt),
+        Item::Definition(_, stmt) => add_definition(alloc, draft, stmt),
     }
-    stmts.len()
 }
 
-/// Lowers declarations and statements in the order of their numbers.
-pub fn lower_items(alloc: Global, decls: &[Decl], stmts: &[Stmt]) -> Result<Lowered, LowerFault>
-    requires decls { DeclsInLimit decls.now }
-    requires stmts { StmtsInLimit stmts.now }
-    ensures built { IfOk result (λ l. first_unbuilt 0 (items_of decls.now stmts.now) ≡ None) }
-    ensures shape { IfOk result (λ l. l ≡ lowered_items nothing_lowered (items_of decls.now stmts.now)) }
-    ensures fault { IfErr result (λ e. IsFaultOf e (first_unbuilt 0 (items_of decls.now stmts.now))) }
+/// Lowers a model's items in the order of their numbers.
+fn lower_items(alloc: Global, model: &Model) -> Result<Lowered, AllocError>
+    requires limits { InLimits model.now }
+    requires room { (lowered_of model.now).vars < 2 ^ 27 }
+    ensures { IfOk result (λ l. l ≡ lowered_of model.now) }
 {
     let mut draft = Draft::new(alloc);
-    let mut rest = stmts;
-    for decl in decls {
-        let (before, others) = rest.split_at(count_before(rest, decl.number));
-        add_statements(alloc, &mut draft, before)?;
-        add_declaration(alloc, &mut draft, decl)?;
-        rest = others;
+    let mut left = Items::of(model.decls.as_slice(), model.stmts.as_slice());
+    while let Some(item) = left.next_item() {
+        add_item(alloc, &mut draft, &item)?;
     }
-    add_statements(alloc, &mut draft, rest)?;
     Ok(draft.finish())
 }
 
 /// The cores and the map of names of a model, or the first item that isn't built. It is linear in the
-/// model and in the number of variables.
+/// model, the number of variables and the cores.
 pub fn lower(alloc: Global, model: &Model) -> Result<Lowered, LowerFault>
     requires typed { WellTyped model.now }
     requires limits { InLimits model.now }
@@ -63,5 +62,8 @@ pub fn lower(alloc: Global, model: &Model) -> Result<Lowered, LowerFault>
     ensures solutions { IfOk result (λ l. (a : List ℤ) → IsSolution model.now a ↔ IsDecoded l a) }
     ensures fits { IfOk result (λ l. Fits l model.now.decls) }
 {
-    lower_items(alloc, model.decls.as_slice(), model.stmts.as_slice())
+    if let Some(number) = first_unbuilt(model) {
+        return Err(LowerFault::Unbuilt(number));
+    }
+    Ok(lower_items(alloc, model)?)
 }

@@ -1,65 +1,85 @@
 //! The first item of a model that isn't built.
 
-ghost use Rattle.std.specs.Prelude.{◌≡◌, ◌≤◌, IfOk, IfErr, None, Some};
-ghost use Rattle.model_lower.specs.Items.{Statement, statements, items_of};
-ghost use Rattle.model_lower.specs.Built.{most_vars, vars_after, vars_behind, unbuilt, first_unbuilt, first_unbuilt_of};
+ghost use Rattle.std.specs.Prelude.{◌≡◌, ◌<◌, ◌^◌, ◌≤◌, IfOk, IfErr, None, Some};
+ghost use Rattle.model_items.specs.Lent.{lent_item};
+ghost use Rattle.model_lower.specs.Built.{most_vars, is_built, item_vars, may_build, number_of, vars_after, unbuilt, first_unbuilt_of};
 
-use crate::declarations::{MOST_VARS, vars_taken};
-use crate::lowering::count_before;
-use crate::statements::{fresh_of, is_built};
-use typed_model::{Decl, Model, Stmt};
+use crate::declarations::vars_taken;
+use crate::fresh_vars::fresh_of;
+use model_items::{Item, Items};
+use typed_model::{Aggregate, AllDifferent, Arithmetic, Decl, Model, Operator, What};
 
-/// How many variables there are behind a statement, or its number where it isn't built.
-fn vars_after(vars: u128, stmt: &Stmt) -> Result<u128, u64>
-    requires { vars ≤ most_vars }
-    ensures built { IfOk result (λ v. unbuilt vars (Statement stmt.now) ≡ None) }
-    ensures vars { IfOk result (λ v. v ≡ vars_after vars (Statement stmt.now)) }
-    ensures room { IfOk result (λ v. v ≤ most_vars) }
-    ensures fault { IfErr result (λ n. unbuilt vars (Statement stmt.now) ≡ Some n) }
+/// How many variables there may be.
+const MOST_VARS: u128 = 16_777_216;
+
+/// Whether a statement is built, where there is room for its fresh variables.
+fn is_built(what: &What) -> bool
+    ensures { result ≡ is_built what.now }
 {
-    let after = vars + u128::from(fresh_of(&stmt.what));
-    if is_built(&stmt.what) && after <= MOST_VARS {
+    match what {
+        What::L3 { .. }
+        | What::L4 { .. }
+        | What::L5 { .. }
+        | What::L8 { .. }
+        | What::L9 { .. }
+        | What::L15 { .. } => true,
+        What::L6 { operator, .. } | What::L7 { operator, .. } => {
+            !matches!(operator, Operator::Xor)
+        }
+        What::L14 { operation, .. } => !matches!(operation, Arithmetic::Plus),
+        What::L16 { operation, .. } => !matches!(operation, Aggregate::Plus),
+        What::L17 { kind, .. } => matches!(kind, AllDifferent::Reified),
+        _ => false,
+    }
+}
+
+/// How many variables an item takes that is built.
+fn item_vars(decls: &[Decl], item: &Item<'_>) -> u128
+    ensures number { result ≡ item_vars decls.now (lent_item item.now) }
+    ensures range { result < 2 ^ 127 }
+{
+    match item {
+        Item::Declaration(decl) => u128::from(vars_taken(decl.kind)),
+        Item::Statement(stmt) => fresh_of(decls, &stmt.what),
+        Item::Definition(_, _) => 0,
+    }
+}
+
+/// Whether an item can be built where there is room.
+fn may_build(item: &Item<'_>) -> bool
+    ensures { result ≡ may_build (lent_item item.now) }
+{
+    match item {
+        Item::Statement(stmt) => is_built(&stmt.what),
+        _ => true,
+    }
+}
+
+/// The number of an item.
+fn number_of(item: &Item<'_>) -> u64
+    ensures { result ≡ number_of (lent_item item.now) }
+{
+    match item {
+        Item::Declaration(decl) => decl.number,
+        Item::Statement(stmt) => stmt.number,
+        Item::Definition(decl, _) => decl.number,
+    }
+}
+
+/// How many variables there are behind an item, or its number where it isn't built.
+fn vars_after(decls: &[Decl], vars: u128, item: &Item<'_>) -> Result<u128, u64>
+    requires { vars ≤ most_vars }
+    ensures built { IfOk result (λ v. unbuilt decls.now vars (lent_item item.now) ≡ None) }
+    ensures vars { IfOk result (λ v. v ≡ vars_after decls.now vars (lent_item item.now)) }
+    ensures room { IfOk result (λ v. v ≤ most_vars) }
+    ensures fault { IfErr result (λ n. unbuilt decls.now vars (lent_item item.now) ≡ Some n) }
+{
+    let after = vars + item_vars(decls, item);
+    if may_build(item) && after <= MOST_VARS {
         Ok(after)
     } else {
-        Err(stmt.number)
+        Err(number_of(item))
     }
-}
-
-/// How many variables there are behind some statements, or the number of the first one that isn't built.
-fn vars_behind(vars: u128, stmts: &[Stmt]) -> Result<u128, u64>
-    requires { vars ≤ most_vars }
-    ensures built { IfOk result (λ v. first_unbuilt vars (statements stmts.now) ≡ None) }
-    ensures vars { IfOk result (λ v. v ≡ vars_behind vars (statements stmts.now)) }
-    ensures room { IfOk result (λ v. v ≤ most_vars) }
-    ensures fault { IfErr result (λ n. first_unbuilt vars (statements stmts.now) ≡ Some n) }
-{
-    let mut behind = vars;
-    for stmt in stmts {
-        behind = vars_after(behind, stmt)?;
-    }
-    Ok(behind)
-}
-
-/// The number of the first declaration or statement, in the order of their numbers, that isn't built.
-fn unbuilt_item(decls: &[Decl], stmts: &[Stmt]) -> Option<u64>
-    ensures { result ≡ first_unbuilt 0 (items_of decls.now stmts.now) }
-{
-    let mut vars: u128 = 0;
-    let mut rest = stmts;
-    for decl in decls {
-        let (before, others) = rest.split_at(count_before(rest, decl.number));
-        let behind = match vars_behind(vars, before) {
-            Ok(behind) => behind,
-            Err(number) => return Some(number),
-        };
-        let after = behind + u128::from(vars_taken(decl.kind));
-        if after > MOST_VARS {
-            return Some(decl.number);
-        }
-        vars = after;
-        rest = others;
-    }
-    vars_behind(vars, rest).err()
 }
 
 /// The number of the first item of a model that isn't built: a statement for which there are no clauses yet, or
@@ -67,5 +87,14 @@ fn unbuilt_item(decls: &[Decl], stmts: &[Stmt]) -> Option<u64>
 pub fn first_unbuilt(model: &Model) -> Option<u64>
     ensures { result ≡ first_unbuilt_of model.now }
 {
-    unbuilt_item(model.decls.as_slice(), model.stmts.as_slice())
+    let decls = model.decls.as_slice();
+    let mut vars: u128 = 0;
+    let mut left = Items::of(decls, model.stmts.as_slice());
+    while let Some(item) = left.next_item() {
+        match vars_after(decls, vars, &item) {
+            Ok(after) => vars = after,
+            Err(number) => return Some(number),
+        }
+    }
+    None
 }

@@ -36,7 +36,7 @@ use Rattle.typed_model.specs.Limits.{TermInLimit, WhatInLimit, KindInLimit, Decl
 use Rattle.model_weight.specs.Shapes.{steps_of, shape_of, least_of, greatest_of, domain_at, domain_of, steps_in, shape_in, all_steps}
 use Rattle.model_weight.specs.Linear.{scaled_truths, scaled_numbers, numbers, with_steps, weight_of_linear}
 use Rattle.model_weight.specs.Statements.{steps_of_remainder, steps_of_quotient, weight_of_operation, weight_of_aggregate, weight_of_all_different, weight_of_order, weight_of_what}
-use Rattle.model_weight.specs.Items.{Declaration, Statement, Definition, stmts_before, stmts_from, declared_item, behind_declared, items_of}
+use Rattle.model_items.specs.Items.{Declaration, Statement, Definition, stmts_before, stmts_from, declared_item, behind_declared, items_of}
 use Rattle.model_weight.specs.Weight.{weight_of_declaration, weight_of_item, weight_of_items, weight_of}
 use Rattle.model_weight.proofs.Spans.{units-span, at_least_zero-bound, steps-bound, span-bound, numbers-spans, scaled_numbers-spans, scaled_truths-spans, pushed-spans}
 use Rattle.model_weight.proofs.MemberSteps.{with_steps-append}

@@ -3,5 +3,4 @@ pub mod Comparisons
 pub mod Linear
 pub mod Pairs
 pub mod Statements
-pub mod Items
 pub mod Weight

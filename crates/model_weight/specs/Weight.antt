@@ -5,9 +5,9 @@ use Rattle.typed_model.specs.declared.model.Kind.{Kind}
 use Rattle.typed_model.specs.declared.model.Kind.TheVariants as kind
 use Rattle.typed_model.specs.declared.model.Decl.{Decl}
 use Rattle.typed_model.specs.declared.model.Model.{Model}
+use Rattle.model_items.specs.Items.{ModelItem, Declaration, Statement, Definition, items_of_model}
 use Rattle.model_weight.specs.Shapes.{steps_of}
 use Rattle.model_weight.specs.Statements.{weight_of_what}
-use Rattle.model_weight.specs.Items.{ModelItem, Declaration, Statement, Definition, items_of}
 
 -- a declared name: its variables, and that an integer is ordered
 abbrev pub weight_of_declaration : Kind → ℕ
@@ -25,4 +25,4 @@ weight_of_items ds [] = 0
 weight_of_items ds (i ∷ items) = weight_of_item ds i + weight_of_items ds items
 
 abbrev pub weight_of : Model → ℕ
-weight_of model = weight_of_items model.decls (items_of model.decls model.stmts)
+weight_of model = weight_of_items model.decls (items_of_model model)

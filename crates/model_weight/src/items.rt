@@ -1,18 +1,19 @@
 //! The weights of a model's items, in the order of their numbers.
 
-ghost use Rattle.std.specs.Prelude.{◌≡◌, ◌≤◌, ◌<◌, ◌+◌, ◌^◌, List, map, length, take, drop, IfOk};
+ghost use Rattle.std.specs.Prelude.{◌≡◌, ◌<◌, ◌+◌, ◌^◌, length, IfOk};
 ghost use Rattle.core_cost.specs.Saturated.{saturated};
-ghost use Rattle.typed_model.specs.declared.model.Decl.{Decl};
 ghost use Rattle.typed_model.specs.Sizes.{members_of};
-ghost use Rattle.typed_model.specs.Limits.{DeclsInLimit, StmtsInLimit, InLimits};
-ghost use Rattle.model_weight.specs.Items.{Statement, stmts_before, stmts_from, items_of, declared_item, behind_declared};
-ghost use Rattle.model_weight.specs.Weight.{weight_of_declaration, weight_of_item, weight_of_items, weight_of};
+ghost use Rattle.typed_model.specs.Limits.{DeclsInLimit, InLimits};
+ghost use Rattle.model_items.specs.Lent.{lent_item};
+ghost use Rattle.model_items.specs.ItemLimits.{ItemInLimit};
+ghost use Rattle.model_weight.specs.Weight.{weight_of_declaration, weight_of_item, weight_of};
 
 use crate::lines::statement_weight;
 use crate::shapes::steps_of;
 use core_cost::ladder_cost;
+use model_items::{Item, Items};
 use std::alloc::{AllocError, Global};
-use typed_model::{Decl, Kind, Model, Stmt};
+use typed_model::{Decl, Kind, Model};
 
 /// A declared name: its variables, and that an integer is ordered.
 fn declaration_weight(kind: Kind) -> u128
@@ -25,73 +26,31 @@ fn declaration_weight(kind: Kind) -> u128
     }
 }
 
-/// How many statements stand before the first one whose number is `number` or more.
-fn count_before(stmts: &[Stmt], number: u64) -> usize
-    ensures within { result ≤ length stmts.now }
-    ensures before { take result stmts.now ≡ stmts_before number stmts.now }
-    ensures from { drop result stmts.now ≡ stmts_from number stmts.now }
+/// An item, which weighs nothing where its integer is its Boolean.
+fn item_weight(alloc: Global, decls: &[Decl], item: &Item<'_>) -> Result<u128, AllocError>
+    requires decls { DeclsInLimit decls.now }
+    requires item { ItemInLimit (lent_item item.now) }
+    ensures { IfOk result (λ weight. weight ≡ saturated (weight_of_item decls.now (lent_item item.now))) }
 {
-    for (i, stmt) in stmts.iter().enumerate() {
-        if stmt.number >= number {
-            return i;
-        }
+    match item {
+        Item::Declaration(decl) => Ok(declaration_weight(decl.kind)),
+        Item::Statement(stmt) => statement_weight(alloc, decls, &stmt.what),
+        Item::Definition(_, _) => Ok(0),
     }
-    stmts.len()
 }
 
-/// The weights of some statements together.
-fn statements_weight(alloc: Global, decls: &[Decl], stmts: &[Stmt]) -> Result<u128, AllocError>
-    requires decls { DeclsInLimit decls.now }
-    requires stmts { StmtsInLimit stmts.now }
-    ensures { IfOk result (λ weight. weight ≡ saturated (weight_of_items decls.now (map Statement stmts.now))) }
+/// The weights of all items together.
+fn items_weight(alloc: Global, model: &Model) -> Result<u128, AllocError>
+    requires { InLimits model.now }
+    ensures { IfOk result (λ weight. weight ≡ saturated (weight_of model.now)) }
 {
+    let decls = model.decls.as_slice();
     let mut weight = 0u128;
-    for stmt in stmts {
-        weight = weight.saturating_add(statement_weight(alloc, decls, &stmt.what)?);
+    let mut left = Items::of(decls, model.stmts.as_slice());
+    while let Some(item) = left.next_item() {
+        weight = weight.saturating_add(item_weight(alloc, decls, &item)?);
     }
     Ok(weight)
-}
-
-/// A declaration, with the first of the statements where that has its number and so declares its integer.
-fn declared_weight(decl: &Decl, stmts: &[Stmt]) -> u128
-    ensures { (decls : List Decl) → result ≡ saturated (weight_of_item decls (declared_item decl.now stmts.now)) }
-{
-    if let [first, ..] = stmts {
-        if first.number == decl.number {
-            return 0;
-        }
-    }
-    declaration_weight(decl.kind)
-}
-
-/// The statements behind a declaration.
-fn behind_declared<'a>(decl: &Decl, stmts: &'a [Stmt]) -> &'a [Stmt]
-    ensures { result.now ≡ behind_declared decl.now stmts.now }
-{
-    if let [first, others @ ..] = stmts {
-        if first.number == decl.number {
-            return others;
-        }
-    }
-    stmts
-}
-
-/// The weights of declarations and statements together.
-fn items_weight(alloc: Global, decls: &[Decl], stmts: &[Stmt]) -> Result<u128, AllocError>
-    requires decls { DeclsInLimit decls.now }
-    requires stmts { StmtsInLimit stmts.now }
-    ensures { IfOk result (λ weight. weight ≡ saturated (weight_of_items decls.now (items_of decls.now stmts.now))) }
-{
-    let mut weight = 0u128;
-    let mut rest = stmts;
-    for decl in decls {
-        let (before, others) = rest.split_at(count_before(rest, decl.number));
-        weight = weight
-            .saturating_add(statements_weight(alloc, decls, before)?)
-            .saturating_add(declared_weight(decl, others));
-        rest = behind_declared(decl, others);
-    }
-    Ok(weight.saturating_add(statements_weight(alloc, decls, rest)?))
 }
 
 /// The weight of a model: its variables, and the costs of the cores that it is lowered to, a fresh sum of a linear sum with as
@@ -104,5 +63,5 @@ pub fn weight(alloc: Global, model: &Model) -> Result<u128, AllocError>
     ensures exact { length model.now.decls + length model.now.stmts + members_of model.now.stmts < 2 ^ 45
         → IfOk result (λ weight. weight ≡ weight_of model.now) }
 {
-    items_weight(alloc, model.decls.as_slice(), model.stmts.as_slice())
+    items_weight(alloc, model)
 }

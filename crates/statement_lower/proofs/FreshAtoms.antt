@@ -17,7 +17,8 @@ use Rattle.core_forms.specs.WellFormed.{IsWellFormed}
 use Rattle.core_forms.proofs.CoreLists.{MeetsAll-one}
 use Rattle.typed_model.specs.Booleans.{all_true, none_true}
 use Rattle.typed_model.specs.Holds.{same}
-use Rattle.statement_lower.specs.Lines.{fresh_atom, second_fresh_atom, all_equal_cores}
+use Rattle.statement_lower.specs.Fresh.{fresh_atom, second_fresh_atom}
+use Rattle.statement_lower.specs.Lines.{all_equal_cores}
 use Rattle.statement_lower.specs.Lowers.{Lowers}
 use Rattle.statement_lower.proofs.BooleanLines.{all-truths, none-truths}
 use Rattle.statement_lower.proofs.LowersLaws.{Extends, extends-then, lowers-behind, lowers-one}

@@ -5,6 +5,9 @@ pub mod Comparisons
 pub mod LowersLaws
 pub mod IntegerLines
 pub mod FreshAtoms
+pub mod OrderedEntries
+pub mod Pairs
+pub mod PairRoom
 pub mod FreshIntegers
 pub mod DivisionLines
 pub mod WordLines
@@ -12,4 +15,4 @@ pub mod LineLaws
 pub mod LinearLaws
 pub mod SummandSteps
 pub mod EqualSums
-pub mod Pairs
+pub mod MoreVariables

@@ -13,21 +13,22 @@ use Rattle.order_ints.specs.Truth.{Valuation, Agree, atom_truth, not_atom}
 use Rattle.order_ints.specs.Place.{AtomBelow, AtomsBelow}
 use Rattle.order_ints.specs.OrderValue.{value_of, IsOrdered}
 use Rattle.order_ints.specs.OrderChange.{negated_of}
+use Rattle.order_ints.specs.OrderMade.{integer_of_atom}
 use Rattle.order_ints.specs.OrderRange.{low_of}
 use Rattle.order_ints.specs.Numbers as numbers
 use Rattle.order_ints.specs.Represents.{DependsBelow}
 use Rattle.order_ints.proofs.Truths.{AtomBelow-not_atom}
-use Rattle.order_ints.proofs.Gains.{IsOrdered-agree}
 use Rattle.core_forms.specs.declared.form.Core.TheVariants as core
 use Rattle.core_forms.specs.Truths as forms
 use Rattle.core_forms.specs.Cores.{CoresBelow, AreWellFormed}
 use Rattle.typed_model.specs.declared.model.Decl.{Decl}
-use Rattle.typed_model.specs.declared.model.Kind.{Kind}
 use Rattle.typed_model.specs.declared.model.Kind.TheVariants as kind
 use Rattle.typed_model.specs.declared.what.BoolTerm.{BoolTerm}
 use Rattle.typed_model.specs.declared.what.IntTerm.{IntTerm}
+use Rattle.typed_model.specs.declared.what.IntTerm.TheVariants as int_term
 use Rattle.typed_model.specs.declared.what.What.{What}
-use Rattle.typed_model.specs.declared.what.What.TheVariants.{L4, L5, L6, L7, L8, L9, L10, L11, L12, L13, L14, L15, L16, L17, L18}
+use Rattle.typed_model.specs.declared.what.What.TheVariants.{L3, L4, L5, L6, L7, L8, L9, L10, L11, L12, L13, L14, L15, L16, L17, L18}
+use Rattle.typed_model.specs.declared.signature.Wanted.TheVariants as wanted
 use Rattle.typed_model.specs.declared.statement.Operator.{Operator}
 use Rattle.typed_model.specs.declared.statement.Operator.TheVariants as operator
 use Rattle.typed_model.specs.declared.statement.Relation.{Relation}
@@ -38,42 +39,30 @@ use Rattle.typed_model.specs.declared.statement.Aggregate.{Aggregate}
 use Rattle.typed_model.specs.declared.statement.Aggregate.TheVariants as aggregate
 use Rattle.typed_model.specs.declared.statement.Statement.TheVariants as statement
 use Rattle.typed_model.specs.Arguments.{Number, Numbers}
-use Rattle.typed_model.specs.Terms.{truth_of, number_of, truths_of, numbers_of}
+use Rattle.typed_model.specs.Terms.{truth_of, number_of, truths_of, numbers_of, as_number}
 use Rattle.typed_model.specs.Booleans.{combine, count_true}
 use Rattle.typed_model.specs.Integers.{relates, gives, is_quotient, is_remainder, is_aggregate}
 use Rattle.typed_model.specs.Holds.{Holds, holds, same}
 use Rattle.typed_model.specs.Limits.{TermInLimit, TermsInLimit, WhatInLimit}
-use Rattle.typed_model.specs.WellTyped.{TruthFits, NumberFits, TruthsFit, NumbersFit, HasMember, IsAtLeast, ValuesFit, WhatFits}
+use Rattle.typed_model.specs.WellTyped.{TruthFits, NumberFits, TruthsFit, NumbersFit, HasMember, IsAtLeast, ArgumentFits, ValuesFit, WhatFits}
 use Rattle.typed_model.proofs.TableLaws.{Decides-holds}
 use Rattle.statement_lower.specs.Terms.{atom_of, atoms_of, integer_of, integers_of}
 use Rattle.statement_lower.specs.Entries.{EntryFits, EntriesFit, AreOrdered}
-use Rattle.statement_lower.specs.Lines.{equal_core, equal_cores, array_cores, operator_made, comparison_core, fresh_range, compared_count, count_made, operation_made, aggregate_made, absolute_core, least_core, made_of}
+use Rattle.statement_lower.specs.Lines.{bit_core, equal_core, equal_cores, array_cores, operator_made, comparison_core, fresh_range, compared_count, count_made, operation_made, aggregate_made, absolute_core, least_core, made_of}
 use Rattle.statement_lower.specs.IsLowered.{is_lowered}
 use Rattle.statement_lower.specs.Lowers.{Lowers, LineLaw}
 use Rattle.statement_lower.proofs.EntryLaws.{SmallInteger, AreSmallIntegers, atom_of-laws, atoms_of-truths, atoms_of-below, integer_of-small, integer_of-value, integer_of-least, small-more, integers_of-values, integers_of-small, IsOrdered-integer_of, ordered-integers_of, numbers_of-agree}
+use Rattle.statement_lower.proofs.OrderedEntries.{AreOrdered-depends}
 use Rattle.statement_lower.proofs.BooleanLines.{equal-truth, array-truth, or-truth, and-truth, xor-truth}
 use Rattle.statement_lower.proofs.Comparisons.{comparison-truth, comparison-below, comparison-well_formed}
 use Rattle.statement_lower.proofs.IntegerLines.{small-negated, small-negated_each, count-truth, sum-truth, product-truth, greatest-truth, least-truth, absolute-truth, greatest-below, greatest-well_formed, product-well_formed, sum-well_formed, count-well_formed}
 use Rattle.statement_lower.proofs.FreshAtoms.{AtomsBelow-negated, AtomsBelow-more, truths-agree, lowers-all_equal}
 use Rattle.statement_lower.proofs.FreshIntegers.{small-fresh, Counts, extends-number}
-use Rattle.statement_lower.proofs.WordLines.{difference-stands, words-stand}
+use Rattle.statement_lower.proofs.WordLines.{bit-value, bit-ordered, small-bit, difference-stands, words-stand}
 use Rattle.statement_lower.proofs.DivisionLines.{quotient-lowers, remainder-lowers}
 use Rattle.statement_lower.proofs.EqualSums.{truths-stand, sums-stand, multiples-stand, aggregate-sum-stands}
 use Rattle.statement_lower.proofs.MeaningLaws.{same_meanings}
 use Rattle.statement_lower.proofs.LowersLaws.{lowers-here, lowers-one, lowers-same, lowers-behind}
-
-ordered-agree : (n : ℕ) (k : Kind) (a : OrdInt) (σ τ : Valuation) → EntryFits n k (entry.Int a) → Agree n σ τ → IsOrdered σ a → IsOrdered τ a
-ordered-agree n kind.Bool a σ τ fit agree h = absurd fit
-ordered-agree n (kind.Int low high) a σ τ fit agree h = IsOrdered-agree n σ τ a agree fit.below h
-
--- the integers of the map stay ordered under a valuation that agrees on their variables
-pub AreOrdered-depends : (n : ℕ) (ds : List Decl) (entries : List MapValue) → EntriesFit n ds entries → DependsBelow n (λ σ. AreOrdered σ entries)
-AreOrdered-depends n [] [] fit σ τ agree h = tt
-AreOrdered-depends n [] (e ∷ entries) fit σ τ agree h = absurd fit
-AreOrdered-depends n (d ∷ ds) [] fit σ τ agree h = absurd fit
-AreOrdered-depends n (d ∷ ds) (entry.Bool a ∷ entries) fit σ τ agree h = AreOrdered-depends n ds entries fit.1 σ τ agree h
-AreOrdered-depends n (d ∷ ds) (entry.Int a ∷ entries) fit σ τ agree h =
-    (ordered-agree n d.kind a σ τ fit.0 agree h.0, AreOrdered-depends n ds entries fit.1 σ τ agree h.1)
 
 -- Line 6: ranges.
 
@@ -317,10 +306,27 @@ module _ (vars n : ℕ) (ds : List Decl) (entries : List MapValue) (h : EntriesF
   count-stands relation.Gt xs i fs fi li few = compared-stands relation.Gt xs i fs fi li few
   count-stands relation.Neq xs i fs fi li few = compared-stands relation.Neq xs i fs fi li few
 
+  -- an integer is a Boolean's
+  bit-stands : (x : BoolTerm) (i : IntTerm) → TruthFits ds n x → ArgumentFits ds n wanted.NewInteger (Number i) → TermInLimit i
+      → Lowers vars vars C (bit_core (atom_of entries x) (integer_of entries i) ∷ []) (λ σ. IsTrue (int_eq (number_of (env σ) i) (as_number (truth_of (env σ) x))))
+  bit-stands x (int_term.Number z) f g l = absurd g
+  bit-stands x (int_term.Of p) f g l =
+      let i : IntTerm = int_term.Of p in
+      let a : OrdInt = integer_of entries i in
+      let fa : SmallInteger (vars + 1) a = integer_of-small (vars + 1) (n + 1) ds entries h i g l in
+      let b : OrdInt = integer_of_atom (atom_of entries x) in
+      let fb : SmallInteger (vars + 1) b = small-bit (vars + 1) (atom_of entries x) (below x f) in
+      lowers-one vars C (bit_core (atom_of entries x) a) (λ σ. int_eq (number_of (env σ) i) (as_number (truth_of (env σ) x)))
+      (comparison-below (vars + 1) relation.Eq True a b tt fa fb) (comparison-well_formed relation.Eq True a b fa.sound fb.sound)
+      (λ σ o.
+      rw (← integer_of-value (vars + 1) (n + 1) ds entries h σ i g, ← truth x f σ, ← bit-value (atom_truth σ (atom_of entries x)))
+      (comparison-truth σ relation.Eq True a b (ordered i σ o) (bit-ordered (atom_truth σ (atom_of entries x)))))
+
   -- the test of a statement
   stands : (w : What) → WhatFits ds n w → WhatInLimit w → is_lowered w ≡ true
       → Lowers vars (made_of vars entries w).vars C (made_of vars entries w).cores (λ σ. IsTrue (holds (env σ) w))
   unfolding holds
+  stands (L3 x i) fit limit low = bit-stands x i fit.arguments.0 fit.arguments.1.0 limit.0.1.0
   stands (L4 x y) fit limit low =
       lowers-one vars C (equal_core (atom_of entries x) (atom_of entries y)) (λ σ. same (truth_of (env σ) x) (truth_of (env σ) y))
       ((below x fit.arguments.0, (below y fit.arguments.1.0, tt)), tt) tt
@@ -370,7 +376,7 @@ module _ (vars n : ℕ) (ds : List Decl) (entries : List MapValue) (h : EntriesF
   stands (L16 name o is i) fit limit low =
       aggregate-stands o is i fit.arguments.0 fit.arguments.1.0 limit.0.0 limit.0.1.0 (omega (arith, limit.1)) fit.values
   stands (L17 name d is z xs) fit limit low =
-      difference-stands vars n ds entries h d is z xs low fit.arguments fit.lengths limit.0.0
+      difference-stands vars n ds entries h d is z xs fit.arguments fit.lengths limit.0.0
   stands (L18 name o xs ys is js z) fit limit low =
       words-stand vars n ds entries h o.strict xs ys is js z o.of_booleans o.reified fit.arguments fit.lengths limit.0
   stands w fit limit low = absurd (false≢true low)

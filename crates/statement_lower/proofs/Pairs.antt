@@ -1,5 +1,5 @@
 -- Fresh atoms for each two members, and whether all members differ.
-use Rattle.std.proofs.Common.{◌≡◌, ℕ, ◌+◌, ◌≤◌, Bool, true, false, ◌&&◌, List, [], ◌∷◌, ◌++◌, map, Option, Some, None, IsTrue, refl, sym, ap, ◌∙◌, arith}
+use Rattle.std.proofs.Common.{◌≡◌, ℕ, ◌+◌, ◌≤◌, Bool, true, false, ◌&&◌, List, [], ◌∷◌, ◌++◌, map, IsTrue, refl, sym, ap, ◌∙◌, arith}
 use Rattle.std.specs.Ordering.{int_eq}
 use Rattle.std.proofs.lemmas.Bool.{and_parts}
 use Rattle.order_ints.specs.declared.atom.Atom.{Atom}
@@ -15,26 +15,16 @@ use Rattle.core_forms.specs.declared.form.Core.{Core}
 use Rattle.core_forms.specs.declared.form.Core.TheVariants as core
 use Rattle.core_forms.specs.Truths as forms
 use Rattle.core_forms.specs.Values.{values, all_ordered}
-use Rattle.typed_model.specs.declared.model.Decl.{Decl}
-use Rattle.typed_model.specs.declared.what.BoolTerm.{BoolTerm}
-use Rattle.typed_model.specs.declared.what.IntTerm.{IntTerm}
-use Rattle.typed_model.specs.declared.what.What.TheVariants.{L17}
 use Rattle.typed_model.specs.declared.statement.AllDifferent.TheVariants as all_different
-use Rattle.typed_model.specs.Terms.{numbers_of}
 use Rattle.typed_model.specs.Lists.{differs_from, all_differ}
-use Rattle.typed_model.specs.Holds.{Holds, holds, same, truth_or_true}
-use Rattle.typed_model.specs.WellTyped.{TruthFits, WhatFits}
-use Rattle.typed_model.proofs.TableLaws.{Decides-holds}
-use Rattle.statement_lower.specs.Terms.{integers_of, atom_or_true}
-use Rattle.statement_lower.specs.Entries.{AreOrdered}
-use Rattle.statement_lower.specs.Lines.{fresh_atom}
-use Rattle.statement_lower.specs.Pairs.{each_vars, each_atoms, each_equal, pairs_vars, pairs_atoms, pairs_equal, difference_made, ReifiedDifferenceLaw}
+use Rattle.typed_model.specs.Holds.{same}
+use Rattle.statement_lower.specs.Fresh.{fresh_atom}
+use Rattle.statement_lower.specs.Pairs.{each_vars, each_atoms, each_equal, pairs_vars, pairs_atoms, pairs_equal, difference_made}
 use Rattle.statement_lower.specs.Lowers.{Lowers}
-use Rattle.statement_lower.proofs.EntryLaws.{SmallInteger, AreSmallIntegers, small-more, atom_of-laws, integers_of-values, integers_of-small, ordered-integers_of}
+use Rattle.statement_lower.proofs.EntryLaws.{SmallInteger, AreSmallIntegers, small-more}
 use Rattle.statement_lower.proofs.BooleanLines.{beq-same}
 use Rattle.statement_lower.proofs.FreshAtoms.{AtomsBelow-more, AtomsBelow-negated, Names, Names-depends, extends-atom}
-use Rattle.statement_lower.proofs.LineLaws.{AreOrdered-depends}
-use Rattle.statement_lower.proofs.LowersLaws.{Extends, extends-then, lowers-behind, lowers-one, lowers-same}
+use Rattle.statement_lower.proofs.LowersLaws.{Extends, extends-then, lowers-behind, lowers-one}
 
 -- no core, and what is known says something in other words
 extends-nothing : (vars : ℕ) (C D : Valuation → Type 0) → ((σ : Valuation) → C σ → D σ) → Extends vars vars C D []
@@ -57,7 +47,7 @@ extends-same vars m C D E cores says l = record {
 
 -- Variables.
 
-each-more : (vars : ℕ) (ints : List OrdInt) → vars ≤ each_vars vars ints
+pub each-more : (vars : ℕ) (ints : List OrdInt) → vars ≤ each_vars vars ints
 each-more vars [] = omega arith
 each-more vars (b ∷ ints) = let le = each-more (vars + 1) ints in omega (arith, le)
 
@@ -65,7 +55,7 @@ each-below : (vars : ℕ) (ints : List OrdInt) → AtomsBelow (each_vars vars in
 each-below vars [] = tt
 each-below vars (b ∷ ints) = let le = each-more (vars + 1) ints in ((omega arith, omega (arith, le)), each-below (vars + 1) ints)
 
-pairs-more : (vars : ℕ) (ints : List OrdInt) → vars ≤ pairs_vars vars ints
+pub pairs-more : (vars : ℕ) (ints : List OrdInt) → vars ≤ pairs_vars vars ints
 pairs-more vars [] = omega arith
 pairs-more vars (a ∷ ints) = let x = each-more vars ints in let y = pairs-more (each_vars vars ints) ints in omega (arith, x, y)
 
@@ -189,27 +179,3 @@ difference-lowers vars C ints z keeps smalls at order =
     (lowers-one k (AllDiffer vars ints C) (core.Conj z members) (λ σ. same (atom_truth σ z) (forms.all_true σ members))
     ((AtomBelow-more (vars + 1) (k + 1) z (omega (arith, le)) at, AtomsBelow-negated (k + 1) (pairs_atoms vars ints) (pairs-below vars ints)), tt) tt
     (λ σ d. beq-same (atom_truth σ z) (forms.all_true σ members)))
-
--- The statement.
-
-truth-fits : (ds : List Decl) (n : ℕ) (name : List ℕ) (is : List IntTerm) (z : Option BoolTerm) (xs : Option (List BoolTerm)) → WhatFits ds n (L17 name all_different.Reified is z xs) → (x : BoolTerm) × (z ≡ Some x) × TruthFits ds n x
-truth-fits ds n name is (Some x) xs fit = (x, refl, fit.arguments.1.0)
-truth-fits ds n name is None (Some xs) fit = absurd fit.arguments.1.0
-truth-fits ds n name is None None fit = absurd fit.arguments.1
-
-pub reified_difference_law : ReifiedDifferenceLaw
-unfolding holds
-reified_difference_law vars n ds entries name is z xs h fit limit =
-    let x = truth-fits ds n name is z xs fit in
-    let members : List OrdInt = integers_of entries is in
-    let at : AtomBelow (vars + 1) (atom_or_true entries z) = rw x.1 (atom_of-laws (λ _. false) (vars + 1) n ds entries x.0 h x.2).1 in
-    let truth = λ (σ : Valuation). atom_of-laws σ (vars + 1) n ds entries x.0 h x.2 in
-    lowers-same vars (difference_made vars members (atom_or_true entries z)).vars (λ σ. AreOrdered σ entries) (difference_made vars members (atom_or_true entries z)).cores
-    (λ σ. IsTrue (same (atom_truth σ (atom_or_true entries z)) (all_differ (values σ members)))) (λ σ. Holds (numbers.numbers_of σ entries) (L17 name all_different.Reified is z xs))
-    (λ σ c.
-    let d = Decides-holds (numbers.numbers_of σ entries) (L17 name all_different.Reified is z xs) in
-    let e : same (atom_truth σ (atom_or_true entries z)) (all_differ (values σ members)) ≡ same (truth_or_true (numbers.numbers_of σ entries) z) (all_differ (numbers_of (numbers.numbers_of σ entries) is)) =
-    rw (x.1, (truth σ).0, integers_of-values (vars + 1) n ds entries h σ is fit.arguments.0) refl in
-    (λ t. d.0 (sym e ∙ t), λ t. e ∙ d.1 t))
-    (difference-lowers vars (λ σ. AreOrdered σ entries) members (atom_or_true entries z) (AreOrdered-depends (vars + 1) ds entries h)
-    (integers_of-small (vars + 1) n ds entries is h fit.arguments.0 limit.0.0) at (λ σ c. ordered-integers_of σ entries is c))

@@ -29,18 +29,20 @@ use Rattle.typed_model.specs.Arguments.{Argument, Truth, Truths, Numbers, given}
 use Rattle.typed_model.specs.Signatures.{all_different_signature, lex_signature}
 use Rattle.typed_model.specs.Terms.{truth_of, number_of, truths_of, numbers_of, as_number}
 use Rattle.typed_model.specs.Lists as typed
-use Rattle.typed_model.specs.Holds.{reify, members_differ, truth_or_true, terms_or_none}
+use Rattle.typed_model.specs.Holds.{same, reify, members_differ, truth_or_true, terms_or_none}
 use Rattle.typed_model.specs.Limits.{TermsInLimit, ArgumentsInLimit}
 use Rattle.typed_model.specs.WellTyped.{TruthFits, TruthsFit, NumbersFit, ArgumentsFit, LengthsFit}
 use Rattle.statement_lower.specs.Terms.{atom_of, atoms_of, integer_of, integers_of, atom_or_true, word_of}
 use Rattle.statement_lower.specs.Entries.{EntriesFit, AreOrdered}
+use Rattle.statement_lower.specs.Pairs.{difference_made}
 use Rattle.statement_lower.specs.Lines.{different_made}
-use Rattle.statement_lower.specs.IsLowered.{is_lowered_difference}
 use Rattle.statement_lower.specs.Lowers.{Lowers}
 use Rattle.statement_lower.proofs.MeaningLaws.{same_meanings}
 use Rattle.statement_lower.proofs.EntryLaws.{SmallInteger, AreSmallIntegers, below-small, sound-small, atom_of-laws, atoms_of-truths, atoms_of-below, integers_of-values, integers_of-small, ordered-integers_of}
 use Rattle.statement_lower.proofs.BooleanLines.{beq-same, true-beq}
-use Rattle.statement_lower.proofs.LowersLaws.{lowers-one}
+use Rattle.statement_lower.proofs.LowersLaws.{lowers-one, lowers-same}
+use Rattle.statement_lower.proofs.OrderedEntries.{AreOrdered-depends}
+use Rattle.statement_lower.proofs.Pairs.{difference-lowers}
 
 -- Members that differ.
 
@@ -70,15 +72,15 @@ both-ordered : (o p t : Bool) → o ≡ true → p ≡ true → ((o && p) && t) 
 both-ordered o p t e f = rw (e, f) refl
 
 -- a Boolean as an integer
-bit-value : (t : Bool) → (pos 0 +ℤ pos ((if t then 1 else 0) + 0)) ≡ as_number t
+pub bit-value : (t : Bool) → (pos 0 +ℤ pos ((if t then 1 else 0) + 0)) ≡ as_number t
 bit-value true = omega (arith, ints)
 bit-value false = omega (arith, ints)
 
-bit-ordered : (t : Bool) → (if t then true else true) ≡ true
+pub bit-ordered : (t : Bool) → (if t then true else true) ≡ true
 bit-ordered true = refl
 bit-ordered false = refl
 
-small-bit : (n : ℕ) (a : Atom) → AtomBelow n a → SmallInteger n (integer_of_atom a)
+pub small-bit : (n : ℕ) (a : Atom) → AtomBelow n a → SmallInteger n (integer_of_atom a)
 small-bit n a h = record { below = (h, tt); sound = ((lit< tt, lit< tt), (omega arith, tt)); small = omega (arith, ints) }
 
 pub small-bits : (n : ℕ) (atoms : List Atom) → AtomsBelow n atoms → AreSmallIntegers n (map integer_of_atom atoms)
@@ -120,19 +122,19 @@ module _ (vars n : ℕ) (ds : List Decl) (entries : List MapValue) (h : EntriesF
     values = λ σ. values-bits σ (atoms_of entries xs) ∙ ap (map as_number) (atoms_of-truths σ (vars + 1) n ds entries xs h f);
   }
 
-  -- line 17, but for the reified statement
-  pub difference-stands : (d : AllDifferent) (is : List IntTerm) (z : Option BoolTerm) (xs : Option (List BoolTerm)) → is_lowered_difference d ≡ true
+  -- line 17
+  pub difference-stands : (d : AllDifferent) (is : List IntTerm) (z : Option BoolTerm) (xs : Option (List BoolTerm))
       → ArgumentsFit ds n (all_different_signature d) (given (Some (Numbers is) ∷ option_map Truth z ∷ option_map Truths xs ∷ []))
       → LengthsFit (given (Some (Numbers is) ∷ option_map Truth z ∷ option_map Truths xs ∷ [])) → TermsInLimit is
-      → Lowers vars (different_made vars d (integers_of entries is) (atoms_of entries (terms_or_none xs))).vars C (different_made vars d (integers_of entries is) (atoms_of entries (terms_or_none xs))).cores
+      → Lowers vars (different_made vars d (integers_of entries is) (atom_or_true entries z) (atoms_of entries (terms_or_none xs))).vars C (different_made vars d (integers_of entries is) (atom_or_true entries z) (atoms_of entries (terms_or_none xs))).cores
       (λ σ. IsTrue (members_differ d (numbers_of (env σ) is) (truth_or_true (env σ) z) (truths_of (env σ) (terms_or_none xs))))
-  difference-stands all_different.Plain is z xs low f k l =
+  difference-stands all_different.Plain is z xs f k l =
       let w = numbers-word is f.0 l in
       let members : List OrdInt = integers_of entries is in
       lowers-one vars C (core.AllDiff members (map (λ _. True) members)) (λ σ. typed.all_differ (numbers_of (env σ) is))
       (true-below (vars + 1) members, below-small (vars + 1) members w.small) (sound-small (vars + 1) members w.small, sym (length-map members (λ _. True)))
       (λ σ c. different-truth σ members (w.ordered σ c) ∙ ap typed.all_differ (w.values σ))
-  difference-stands all_different.Conditional is None (Some xs) low f k l =
+  difference-stands all_different.Conditional is None (Some xs) f k l =
       let w = numbers-word is f.0 l in
       let members : List OrdInt = integers_of entries is in
       let conditions : List Atom = atoms_of entries xs in
@@ -140,10 +142,23 @@ module _ (vars n : ℕ) (ds : List Decl) (entries : List MapValue) (h : EntriesF
       (atoms_of-below (vars + 1) n ds entries xs h f.1.0, below-small (vars + 1) members w.small)
       (sound-small (vars + 1) members w.small, length-map is _ ∙ (k ∙ sym (length-map xs (atom_of entries))))
       (λ σ c. where-truth σ members conditions (w.ordered σ c) ∙ rw (w.values σ, atoms_of-truths σ (vars + 1) n ds entries xs h f.1.0) refl)
-  difference-stands all_different.Conditional is None None low f k l = absurd f.1
-  difference-stands all_different.Conditional is (Some z) None low f k l = absurd f.1.0
-  difference-stands all_different.Conditional is (Some z) (Some xs) low f k l = absurd f.1.0
-  difference-stands all_different.Reified is z xs low f k l = absurd (cc)
+  difference-stands all_different.Conditional is None None f k l = absurd f.1
+  difference-stands all_different.Conditional is (Some z) None f k l = absurd f.1.0
+  difference-stands all_different.Conditional is (Some z) (Some xs) f k l = absurd f.1.0
+  difference-stands all_different.Reified is (Some x) xs f k l =
+      let w = numbers-word is f.0 l in
+      let members : List OrdInt = integers_of entries is in
+      let truth = λ (σ : Valuation). atom_of-laws σ (vars + 1) n ds entries x h f.1.0 in
+      let z : Atom = atom_of entries x in
+      lowers-same vars (difference_made vars members z).vars C (difference_made vars members z).cores
+      (λ σ. IsTrue (same (atom_truth σ z) (typed.all_differ (values σ members)))) (λ σ. IsTrue (same (truth_of (env σ) x) (typed.all_differ (numbers_of (env σ) is))))
+      (λ σ c.
+      let e : same (atom_truth σ z) (typed.all_differ (values σ members)) ≡ same (truth_of (env σ) x) (typed.all_differ (numbers_of (env σ) is)) =
+      rw ((truth σ).0, w.values σ) refl in
+      (λ t. sym e ∙ t, λ t. e ∙ t))
+      (difference-lowers vars C members z (AreOrdered-depends (vars + 1) ds entries h) w.small (truth (λ _. false)).1 w.ordered)
+  difference-stands all_different.Reified is None (Some xs) f k l = absurd f.1.0
+  difference-stands all_different.Reified is None None f k l = absurd f.1
 
   -- line 18: words, and an atom that is the truth of their order
   order-stands : (strict : Bool) (r : Atom) (t : Valuation → Bool) (front back : List OrdInt) (v w : Valuation → List ℤ)

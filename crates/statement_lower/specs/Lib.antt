@@ -1,8 +1,9 @@
 pub mod Terms
 pub mod Entries
+pub mod Fresh
+pub mod Pairs
 pub mod Linear
 pub mod Lines
 pub mod IsLowered
 pub mod Lowers
-pub mod Pairs
 pub mod SameMeanings

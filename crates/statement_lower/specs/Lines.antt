@@ -6,13 +6,13 @@ use Rattle.order_ints.specs.declared.atom.Atom.TheVariants.{True}
 use Rattle.order_ints.specs.declared.order_int.OrdInt.{OrdInt}
 use Rattle.order_ints.specs.declared.order_int.MapValue.{MapValue}
 use Rattle.order_ints.specs.Truth.{not_atom}
-use Rattle.order_ints.specs.OrderMade.{atom_of_var, integer_of_atom, unit_range_of}
+use Rattle.order_ints.specs.OrderMade.{integer_of_atom, unit_range_of}
 use Rattle.order_ints.specs.OrderRange.{low_of, high_of}
 use Rattle.order_ints.specs.OrderChange.{negated_of}
 use Rattle.core_forms.specs.declared.form.Core.{Core}
 use Rattle.core_forms.specs.declared.form.Core.TheVariants as core
 use Rattle.typed_model.specs.declared.what.What.{What}
-use Rattle.typed_model.specs.declared.what.What.TheVariants.{L4, L5, L6, L7, L8, L9, L10, L11, L12, L13, L14, L15, L16, L17, L18}
+use Rattle.typed_model.specs.declared.what.What.TheVariants.{L3, L4, L5, L6, L7, L8, L9, L10, L11, L12, L13, L14, L15, L16, L17, L18}
 use Rattle.typed_model.specs.declared.statement.Operator.{Operator}
 use Rattle.typed_model.specs.declared.statement.Operator.TheVariants as operator
 use Rattle.typed_model.specs.declared.statement.Relation.{Relation}
@@ -30,18 +30,17 @@ use Rattle.typed_model.specs.Domains.{at_least_zero}
 use Rattle.typed_model.specs.Holds.{terms_or_none}
 use Rattle.statement_lower.specs.declared.made.Made.{Made}
 use Rattle.statement_lower.specs.Terms.{atom_of, atoms_of, integer_of, integers_of, atom_or_true, word_of}
+use Rattle.statement_lower.specs.Fresh.{fresh_atom, second_fresh_atom}
+use Rattle.statement_lower.specs.Pairs.{difference_made}
 use Rattle.statement_lower.specs.Linear.{scaled_each, linear_made}
 
 -- cores without a fresh variable
 abbrev pub made_here : ℕ → List Core → Made
 made_here vars cores = record { vars = vars; cores = cores }
 
--- the first and the second fresh variable behind so many
-abbrev pub fresh_atom : ℕ → Atom
-fresh_atom vars = atom_of_var (vars + 1)
-
-abbrev pub second_fresh_atom : ℕ → Atom
-second_fresh_atom vars = atom_of_var (vars + 1 + 1)
+-- line 3: an integer is 1 where an atom is true, and else 0
+abbrev pub bit_core : Atom → OrdInt → Core
+bit_core x a = core.EqR True a (integer_of_atom x)
 
 -- two atoms are equal: an even number of them is true
 abbrev pub equal_core : Atom → Atom → Core
@@ -148,11 +147,11 @@ aggregate_made vars aggregate.Plus ints a = linear_made vars relation.Eq ints a
 aggregate_made vars aggregate.Max ints a = made_here vars (core.Max ints a ∷ [])
 aggregate_made vars aggregate.Min ints a = made_here vars (least_core ints a ∷ [])
 
--- line 17: members differ, all of them, or those with true conditions
-abbrev pub different_made : ℕ → AllDifferent → List OrdInt → List Atom → Made
-different_made vars all_different.Plain ints cs = made_here vars (core.AllDiff ints (map (λ _. True) ints) ∷ [])
-different_made vars all_different.Reified ints cs = made_here vars []
-different_made vars all_different.Conditional ints cs = made_here vars (core.AllDiff ints cs ∷ [])
+-- line 17: members differ, all of them, or z is the truth of that, or those with true conditions differ
+abbrev pub different_made : ℕ → AllDifferent → List OrdInt → Atom → List Atom → Made
+different_made vars all_different.Plain ints z cs = made_here vars (core.AllDiff ints (map (λ _. True) ints) ∷ [])
+different_made vars all_different.Reified ints z cs = difference_made vars ints z
+different_made vars all_different.Conditional ints z cs = made_here vars (core.AllDiff ints cs ∷ [])
 
 -- line 18: r is the truth of the order of two lists, or it is True
 abbrev pub order_core : List MapValue → Order → List BoolTerm → List BoolTerm → List IntTerm → List IntTerm → Option BoolTerm → Core
@@ -161,6 +160,7 @@ order_core entries o xs ys is js z =
 
 -- a statement, behind so many variables; nothing yet for what isn't lowered
 abbrev pub made_of : ℕ → List MapValue → What → Made
+made_of vars entries (L3 x i) = made_here vars (bit_core (atom_of entries x) (integer_of entries i) ∷ [])
 made_of vars entries (L4 x y) = made_here vars (equal_core (atom_of entries x) (atom_of entries y) ∷ [])
 made_of vars entries (L5 name op x y z) = operator_made vars op (atom_of entries x ∷ atom_of entries y ∷ []) (atom_of entries z)
 made_of vars entries (L6 name op xs) = made_here vars (array_cores op (atoms_of entries xs))
@@ -177,7 +177,7 @@ made_of vars entries (L14 name o i j k) =
     operation_made vars o (integer_of entries i) (integer_of entries j) (integer_of entries k)
 made_of vars entries (L15 i j) = made_here vars (absolute_core (integer_of entries i) (integer_of entries j) ∷ [])
 made_of vars entries (L16 name o is i) = aggregate_made vars o (integers_of entries is) (integer_of entries i)
-made_of vars entries (L17 name d is z xs) = different_made vars d (integers_of entries is) (atoms_of entries (terms_or_none xs))
+made_of vars entries (L17 name d is z xs) = different_made vars d (integers_of entries is) (atom_or_true entries z) (atoms_of entries (terms_or_none xs))
 made_of vars entries (L18 name o xs ys is js z) =
     made_here vars (order_core entries o (terms_or_none xs) (terms_or_none ys) (terms_or_none is) (terms_or_none js) z ∷ [])
 made_of vars entries what = made_here vars []

@@ -31,3 +31,7 @@ LineLaw =
     (vars n : ℕ) (ds : List Decl) (entries : List MapValue) (w : What)
     → EntriesFit (vars + 1) ds entries → WhatFits ds n w → WhatInLimit w → is_lowered w ≡ true
     → Lowers vars (made_of vars entries w).vars (λ σ. AreOrdered σ entries) (made_of vars entries w).cores (λ σ. Holds (numbers_of σ entries) w)
+
+-- a statement keeps the variables so far
+abbrev pub VariablesLaw : Type 0
+VariablesLaw = (vars : ℕ) (entries : List MapValue) (w : What) → vars ≤ (made_of vars entries w).vars

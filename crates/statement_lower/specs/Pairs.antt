@@ -1,26 +1,13 @@
 -- Whether all members differ: a fresh atom for each two members says that they are equal, and all members differ where
 -- none of the atoms is true.
-use Rattle.std.specs.Prelude.{ℕ, ◌+◌, List, [], ◌∷◌, ◌++◌, map, Option}
+use Rattle.std.specs.Prelude.{ℕ, ◌+◌, List, [], ◌∷◌, ◌++◌, map}
 use Rattle.order_ints.specs.declared.atom.Atom.{Atom}
 use Rattle.order_ints.specs.declared.order_int.OrdInt.{OrdInt}
-use Rattle.order_ints.specs.declared.order_int.MapValue.{MapValue}
 use Rattle.order_ints.specs.Truth.{not_atom}
-use Rattle.order_ints.specs.Numbers.{numbers_of}
 use Rattle.core_forms.specs.declared.form.Core.{Core}
 use Rattle.core_forms.specs.declared.form.Core.TheVariants as core
-use Rattle.typed_model.specs.declared.model.Decl.{Decl}
-use Rattle.typed_model.specs.declared.what.BoolTerm.{BoolTerm}
-use Rattle.typed_model.specs.declared.what.IntTerm.{IntTerm}
-use Rattle.typed_model.specs.declared.what.What.TheVariants.{L17}
-use Rattle.typed_model.specs.declared.statement.AllDifferent.TheVariants.{Reified}
-use Rattle.typed_model.specs.Holds.{Holds}
-use Rattle.typed_model.specs.Limits.{WhatInLimit}
-use Rattle.typed_model.specs.WellTyped.{WhatFits}
 use Rattle.statement_lower.specs.declared.made.Made.{Made}
-use Rattle.statement_lower.specs.Terms.{integers_of, atom_or_true}
-use Rattle.statement_lower.specs.Entries.{EntriesFit, AreOrdered}
-use Rattle.statement_lower.specs.Lines.{fresh_atom}
-use Rattle.statement_lower.specs.Lowers.{Lowers}
+use Rattle.statement_lower.specs.Fresh.{fresh_atom}
 
 -- one member beside each later one: the variables behind the fresh atoms, the atoms, and the cores
 abbrev pub each_vars : ℕ → List OrdInt → ℕ
@@ -54,11 +41,3 @@ difference_made vars ints z = record {
   vars = pairs_vars vars ints;
   cores = pairs_equal vars ints ++ core.Conj z (map not_atom (pairs_atoms vars ints)) ∷ [];
 }
-
--- where the integers of the declared names are ordered, these cores stand for the reified statement
-abbrev pub ReifiedDifferenceLaw : Type 0
-ReifiedDifferenceLaw =
-    (vars n : ℕ) (ds : List Decl) (entries : List MapValue) (name : List ℕ) (is : List IntTerm) (z : Option BoolTerm) (xs : Option (List BoolTerm))
-    → EntriesFit (vars + 1) ds entries → WhatFits ds n (L17 name Reified is z xs) → WhatInLimit (L17 name Reified is z xs)
-    → Lowers vars (difference_made vars (integers_of entries is) (atom_or_true entries z)).vars (λ σ. AreOrdered σ entries)
-    (difference_made vars (integers_of entries is) (atom_or_true entries z)).cores (λ σ. Holds (numbers_of σ entries) (L17 name Reified is z xs))

@@ -2,7 +2,8 @@
 
 ghost use Rattle.std.specs.Prelude.{◌≡◌, ◌+◌, ◌<◌, ◌^◌, ◌∷◌, ◌++◌, [], IfOk};
 ghost use Rattle.statement_lower.specs.Terms.{atom_of, atoms_of};
-ghost use Rattle.statement_lower.specs.Lines.{equal_core, equal_cores, array_cores, all_equal_cores, fresh_atom, second_fresh_atom, made_here, operator_made};
+ghost use Rattle.statement_lower.specs.Fresh.{fresh_atom, second_fresh_atom};
+ghost use Rattle.statement_lower.specs.Lines.{equal_core, equal_cores, array_cores, all_equal_cores, made_here, operator_made};
 
 use crate::made::Made;
 use crate::terms::{atom_of, atoms_of, negated_atoms};

@@ -6,7 +6,7 @@ ghost use Rattle.core_forms.specs.declared.form.Core.TheVariants.{Max};
 ghost use Rattle.typed_model.specs.Limits.{TermInLimit, TermsInLimit};
 ghost use Rattle.statement_lower.specs.Terms.{atom_of, atoms_of, integer_of, integers_of};
 ghost use Rattle.statement_lower.specs.Entries.{AreInLimit};
-ghost use Rattle.statement_lower.specs.Lines.{made_here, comparison_core, compared_count, count_made, most_remainder, most_quotient, least_core, operation_made, absolute_core, aggregate_made};
+ghost use Rattle.statement_lower.specs.Lines.{made_here, bit_core, comparison_core, compared_count, count_made, most_remainder, most_quotient, least_core, operation_made, absolute_core, aggregate_made};
 
 use crate::fresh::{fresh_range, most_quotient, most_remainder};
 use crate::linear_lines::sum_made;
@@ -20,6 +20,21 @@ use core_forms::Core;
 use order_ints::{Atom, MapValue, OrdInt};
 use std::alloc::{AllocError, Global};
 use typed_model::{Aggregate, Arithmetic, BoolTerm, IntTerm, Relation};
+
+/// An integer is 1 where a Boolean is true, and else 0.
+pub fn bit_made(
+    alloc: Global,
+    entries: &[MapValue],
+    vars: u32,
+    truth: BoolTerm,
+    number: IntTerm,
+) -> Result<Made, AllocError>
+    ensures { IfOk result (λ m. m ≡ made_here vars (bit_core (atom_of entries.now truth) (integer_of entries.now number) ∷ [])) }
+{
+    let integer = integer_of(alloc, entries, number)?;
+    let bit = OrdInt::of_atom(alloc, atom_of(entries, truth))?;
+    Made::of_core(alloc, vars, Core::eq_r(alloc, Atom::True, integer, bit)?)
+}
 
 /// The core that says that an atom is the truth of a comparison.
 fn comparison_core(

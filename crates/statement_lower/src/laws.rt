@@ -1,7 +1,6 @@
 //! Laws of lowering, for proofs of crates above. Each function does nothing; its contract is the law.
 
-ghost use Rattle.statement_lower.specs.Lowers.{LineLaw};
-ghost use Rattle.statement_lower.specs.Pairs.{ReifiedDifferenceLaw};
+ghost use Rattle.statement_lower.specs.Lowers.{LineLaw, VariablesLaw};
 ghost use Rattle.statement_lower.specs.SameMeanings.{SameMeanings};
 
 /// What statements and cores say alike of lists of numbers and of truths.
@@ -14,7 +13,7 @@ pub fn line_law()
     ensures { LineLaw }
 {}
 
-/// Cores over a fresh atom for each two members stand for the reified statement that all members differ.
-pub fn reified_difference_law()
-    ensures { ReifiedDifferenceLaw }
+/// A statement keeps the variables so far.
+pub fn variables_law()
+    ensures { VariablesLaw }
 {}

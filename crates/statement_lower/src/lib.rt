@@ -11,10 +11,12 @@ mod laws;
 mod linear_lines;
 mod list_lines;
 mod made;
+mod pair_lines;
 mod statements;
 mod summands;
 mod terms;
 
-pub use laws::{line_law, meaning_law, reified_difference_law};
+pub use laws::{line_law, meaning_law, variables_law};
 pub use made::Made;
 pub use statements::{is_lowered, made_of};
+pub use terms::atom_of;

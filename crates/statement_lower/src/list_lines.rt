@@ -1,6 +1,6 @@
 //! The cores of the lines over members that differ and lists in order.
 
-ghost use Rattle.std.specs.Prelude.{◌≡◌, ◌∷◌, [], IfOk, map, Option};
+ghost use Rattle.std.specs.Prelude.{◌≡◌, ◌<◌, ◌^◌, ◌∷◌, [], IfOk, map, Option};
 ghost use Rattle.order_ints.specs.declared.atom.Atom.TheVariants.{True};
 ghost use Rattle.order_ints.specs.OrderMade.{integer_of_atom};
 ghost use Rattle.typed_model.specs.Holds.{terms_or_none};
@@ -8,6 +8,7 @@ ghost use Rattle.statement_lower.specs.Terms.{atoms_of, integers_of, atom_or_tru
 ghost use Rattle.statement_lower.specs.Lines.{made_here, different_made, order_core};
 
 use crate::made::Made;
+use crate::pair_lines::difference_made;
 use crate::terms::{atom_of, atoms_of, integers_of};
 use bee_list::{Apart, Sequence};
 use core_forms::Core;
@@ -36,16 +37,18 @@ fn true_conditions(alloc: Global, ints: &[OrdInt]) -> Result<Sequence<Atom>, All
     Ok(Sequence::from_vec(conditions))
 }
 
-/// Members differ, all of them, or those with true conditions.
+/// Members differ, all of them, or an atom is the truth of that, or those with true conditions differ.
 pub fn different_made(
     alloc: Global,
     entries: &[MapValue],
     vars: u32,
     kind: AllDifferent,
     members: &[IntTerm],
+    truth: Atom,
     conditions: &[BoolTerm],
 ) -> Result<Made, AllocError>
-    ensures { IfOk result (λ m. m ≡ different_made vars kind (integers_of entries.now members.now) (atoms_of entries.now conditions.now)) }
+    requires room { (different_made vars kind (integers_of entries.now members.now) truth (atoms_of entries.now conditions.now)).vars < 2 ^ 27 }
+    ensures { IfOk result (λ m. m ≡ different_made vars kind (integers_of entries.now members.now) truth (atoms_of entries.now conditions.now)) }
 {
     let ints = integers_of(alloc, entries, members)?;
     match kind {
@@ -53,7 +56,7 @@ pub fn different_made(
             let conditions = true_conditions(alloc, ints.as_slice())?;
             Made::of_core(alloc, vars, Core::all_diff(alloc, ints, conditions)?)
         }
-        AllDifferent::Reified => Ok(Made::nothing(alloc, vars)),
+        AllDifferent::Reified => difference_made(alloc, vars, ints.as_slice(), truth),
         AllDifferent::Conditional => {
             let conditions = atoms_of(alloc, entries, conditions)?;
             Made::of_core(alloc, vars, Core::all_diff(alloc, ints, conditions)?)
@@ -94,7 +97,7 @@ fn word_of(
 }
 
 /// The atom of a Boolean term that may be left out.
-fn atom_or_true(entries: &[MapValue], term: &Option<Apart<BoolTerm>>) -> Atom
+pub fn atom_or_true(entries: &[MapValue], term: &Option<Apart<BoolTerm>>) -> Atom
     ensures { result ≡ atom_or_true entries.now term.now }
 {
     match term {

@@ -8,21 +8,23 @@ ghost use Rattle.statement_lower.specs.IsLowered.{is_lowered};
 
 use crate::boolean_lines::{array_made, equal_made, pair_made, truth_made};
 use crate::integer_lines::{
-    absolute_made, aggregate_made, comparison_made, count_made, operation_made, reified_made,
+    absolute_made, aggregate_made, bit_made, comparison_made, count_made, operation_made,
+    reified_made,
 };
 use crate::linear_lines::{multiples_made, sum_made, truths_made};
-use crate::list_lines::{Lists, different_made, order_made, terms};
+use crate::list_lines::{Lists, atom_or_true, different_made, order_made, terms};
 use crate::made::Made;
 use order_ints::{Atom, MapValue};
 use std::alloc::{AllocError, Global};
-use typed_model::{AllDifferent, Relation, What};
+use typed_model::{Relation, What};
 
 /// Whether a statement is lowered.
 pub fn is_lowered(what: &What) -> bool
     ensures { result ≡ is_lowered what.now }
 {
     match what {
-        What::L4 { .. }
+        What::L3 { .. }
+        | What::L4 { .. }
         | What::L5 { .. }
         | What::L6 { .. }
         | What::L7 { .. }
@@ -32,11 +34,11 @@ pub fn is_lowered(what: &What) -> bool
         | What::L14 { .. }
         | What::L15 { .. }
         | What::L16 { .. }
+        | What::L17 { .. }
         | What::L18 { .. } => true,
         What::L11 { relation, .. } | What::L12 { relation, .. } | What::L13 { relation, .. } => {
             matches!(relation, Relation::Eq)
         }
-        What::L17 { kind, .. } => !matches!(kind, AllDifferent::Reified),
         _ => false,
     }
 }
@@ -54,6 +56,7 @@ pub fn made_of(
     ensures { IfOk result (λ m. m ≡ made_of vars entries.now what.now) }
 {
     match what {
+        What::L3 { truth, number } => bit_made(alloc, entries, vars, *truth, *number),
         What::L4 { left, right } => equal_made(alloc, entries, vars, *left, *right),
         What::L5 {
             operator,
@@ -153,11 +156,21 @@ pub fn made_of(
         What::L17 {
             kind,
             members,
+            truth,
             conditions,
             ..
         } => {
             let members = members.as_slice();
-            different_made(alloc, entries, vars, *kind, members, terms(conditions))
+            let truth = atom_or_true(entries, truth);
+            different_made(
+                alloc,
+                entries,
+                vars,
+                *kind,
+                members,
+                truth,
+                terms(conditions),
+            )
         }
         What::L18 {
             order,

@@ -1,6 +1,6 @@
 use Rattle.std.proofs.Common.{◌+◌, length}
 use Rattle.std.specs.Prelude.{reverse}
-use Rattle.model_lower.specs.Items.{items_of}
+use Rattle.model_items.specs.Items.{items_of}
 use Rattle.model_lower.specs.Lowering.{lowered_items, nothing_lowered}
 use Rattle.bee_compile.proofs.Steps.{Compiling}
 use Rattle.bee_compile.proofs.compiling.compile_items.Given as goal

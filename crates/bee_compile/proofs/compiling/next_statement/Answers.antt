@@ -10,7 +10,7 @@ returns-then-first-clause-next c =
       | in-Some w ↦
           let s = w.in-Some.stmt.now in
           let last : c.pop.result ≡ Some s = search (rules, c.pop.ensures.value, c.last.ensures.value, c.deref.ensures.value, w.in-Some.is) in
-          taken-first _ c.args.decls.now c.args.left.now.items c.pop.new.self.items c.pop.result s c.pop.ensures.items last
+          taken-first c.args.left.now.items c.pop.new.self.items c.pop.result s c.pop.ensures.items last _ c.args.decls.now
           (w.stands_first-first.ensures.first (sym w.first-is ∙ c.if-first.true))
       | in-None w ↦ absurd (false≢true (sym w.first-is ∙ c.if-first.true))
     ]

@@ -1,14 +1,16 @@
-use Rattle.std.proofs.Common.{◌≡◌, ◌+◌, ◌<◌, ◌^◌, drop}
+use Rattle.std.proofs.Common.{◌≡◌, ◌+◌, ◌<◌, ◌^◌, length}
 use Rattle.core_cost.specs.Saturated.{saturated}
-use Rattle.typed_model.specs.Limits.{StmtsInLimit}
-use Rattle.model_weight.specs.Items.{items_of}
-use Rattle.model_weight.specs.Weight.{weight_of_items}
+use Rattle.model_items.specs.ItemLimits.{ItemsInLimit}
+use Rattle.model_weight.specs.Weight.{weight_of_items, weight_of}
 use Rattle.model_weight.proofs.items.items_weight.Given as goal
 
-abbrev pub invariant-loop-decl : goal.invariant-loop-decl
-invariant-loop-decl l =
+abbrev pub invariant-loop-item : goal.invariant-loop-item
+invariant-loop-item l =
     record {
       fits : l.weight < 2 ^ 128;
-      limits : StmtsInLimit l.rest;
-      weight : saturated (l.weight + weight_of_items l.decls (items_of (drop l.decl-index l.decls) l.rest)) ≡ saturated (weight_of_items l.decls (items_of l.decls l.fn.stmts));
+      limits : ItemsInLimit l.left;
+      weight : saturated (l.weight + weight_of_items l.decls l.left) ≡ saturated (weight_of l.fn.model);
     }
+
+abbrev pub decreases-loop-item : goal.decreases-loop-item
+decreases-loop-item l = length l.left

@@ -1,19 +1,19 @@
-use Rattle.model_lower.specs.Items.{Declaration}
+use Rattle.model_items.specs.Items.{Declaration}
 use Rattle.model_lower.specs.Drafting.{lowered_so_far}
 use Rattle.bee_compile.proofs.Steps.{new-fit, compiled-draft, compiled-clauses}
 use Rattle.bee_compile.proofs.progress.Progress.add_declaration.Goals as goal
 
 pub encode-requires : goal.encode-requires
 encode-requires c =
-    let r = c.requires in
-    new-fit r.0 (Declaration c.args.decl.now) (lowered_so_far c.args.self.now.draft) (lowered_so_far c.add_declaration.new.draft) r.2.draft c.in_ok-add_declaration.ensures.shape r.1 r.3
+    let r = c.requires.fits in
+    new-fit r.0 (Declaration c.args.decl.now) (lowered_so_far c.args.self.now.draft) (lowered_so_far c.add_declaration.new.draft) r.2.draft c.in_ok-add_declaration.ensures r.1 r.3
 
-pub returns-clause-compiled : goal.returns-clause-compiled
-returns-clause-compiled c l h =
+pub returns : goal.returns
+returns c l h =
     let i = Declaration c.args.decl.now in
     let old = lowered_so_far c.args.self.now.draft in
     let drafted = lowered_so_far c.add_declaration.new.draft in
-    let next = c.in_ok-add_declaration.ensures.shape in
+    let next = c.in_ok-add_declaration.ensures in
     record {
       draft = compiled-draft l i old drafted h.draft next (lowered_so_far c.encode.new.self.draft) c.in_ok-encode.ensures.draft;
       clauses = compiled-clauses l i old drafted h.draft next c.args.self.now.clauses c.encode.new.self.clauses h.clauses c.in_ok-encode.ensures.clauses;

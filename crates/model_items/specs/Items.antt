@@ -2,6 +2,7 @@
 use Rattle.std.specs.Prelude.{ℕ, ◌==◌, nat_lt, List, [], ◌∷◌, ◌++◌, map, if◌then◌else◌}
 use Rattle.typed_model.specs.declared.model.Decl.{Decl}
 use Rattle.typed_model.specs.declared.model.Stmt.{Stmt}
+use Rattle.typed_model.specs.declared.model.Model.{Model}
 
 -- a declaration, a statement, or a `bool2int` that declares its integer
 pub data ModelItem : Type 0 where
@@ -34,3 +35,6 @@ items_of [] ss = map Statement ss
 items_of (d ∷ ds) ss =
     map Statement (stmts_before d.number ss)
     ++ (declared_item d (stmts_from d.number ss) ∷ items_of ds (behind_declared d (stmts_from d.number ss)))
+
+abbrev pub items_of_model : Model → List ModelItem
+items_of_model model = items_of model.decls model.stmts

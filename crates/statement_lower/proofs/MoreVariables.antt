@@ -1,0 +1,76 @@
+-- A statement keeps the variables so far.
+use Rattle.std.proofs.Common.{ℕ, ◌≤◌, List, [], ◌∷◌, arith}
+use Rattle.order_ints.specs.declared.atom.Atom.{Atom}
+use Rattle.order_ints.specs.declared.order_int.OrdInt.{OrdInt}
+use Rattle.typed_model.specs.declared.what.What.TheVariants.{L3, L4, L5, L6, L7, L8, L9, L10, L11, L12, L13, L14, L15, L16, L17, L18}
+use Rattle.typed_model.specs.declared.statement.Operator.{Operator}
+use Rattle.typed_model.specs.declared.statement.Operator.TheVariants as operator
+use Rattle.typed_model.specs.declared.statement.Relation.{Relation}
+use Rattle.typed_model.specs.declared.statement.Relation.TheVariants as relation
+use Rattle.typed_model.specs.declared.statement.Arithmetic.{Arithmetic}
+use Rattle.typed_model.specs.declared.statement.Arithmetic.TheVariants as arithmetic
+use Rattle.typed_model.specs.declared.statement.Aggregate.{Aggregate}
+use Rattle.typed_model.specs.declared.statement.Aggregate.TheVariants as aggregate
+use Rattle.typed_model.specs.declared.statement.AllDifferent.{AllDifferent}
+use Rattle.typed_model.specs.declared.statement.AllDifferent.TheVariants as all_different
+use Rattle.typed_model.specs.Holds.{terms_or_none}
+use Rattle.statement_lower.specs.Terms.{atom_of, atoms_of, integer_of, integers_of, atom_or_true}
+use Rattle.statement_lower.specs.Lines.{operator_made, count_made, operation_made, aggregate_made, different_made}
+use Rattle.statement_lower.specs.Lowers.{VariablesLaw}
+use Rattle.statement_lower.proofs.Pairs.{pairs-more}
+
+operator-more : (vars : ℕ) (op : Operator) (atoms : List Atom) (z : Atom) → vars ≤ (operator_made vars op atoms z).vars
+operator-more vars operator.Or atoms z = omega arith
+operator-more vars operator.And atoms z = omega arith
+operator-more vars operator.Xor atoms z = omega arith
+operator-more vars operator.Iff atoms z = omega arith
+
+count-more : (vars : ℕ) (rel : Relation) (atoms : List Atom) (a : OrdInt) → vars ≤ (count_made vars rel atoms a).vars
+count-more vars relation.Leq atoms a = omega arith
+count-more vars relation.Geq atoms a = omega arith
+count-more vars relation.Eq atoms a = omega arith
+count-more vars relation.Lt atoms a = omega arith
+count-more vars relation.Gt atoms a = omega arith
+count-more vars relation.Neq atoms a = omega arith
+
+operation-more : (vars : ℕ) (o : Arithmetic) (a b c : OrdInt) → vars ≤ (operation_made vars o a b c).vars
+operation-more vars arithmetic.Plus a b c = omega arith
+operation-more vars arithmetic.Times a b c = omega arith
+operation-more vars arithmetic.Div a b c = omega arith
+operation-more vars arithmetic.Mod a b c = omega arith
+operation-more vars arithmetic.Max a b c = omega arith
+operation-more vars arithmetic.Min a b c = omega arith
+
+aggregate-more : (vars : ℕ) (o : Aggregate) (ints : List OrdInt) (a : OrdInt) → vars ≤ (aggregate_made vars o ints a).vars
+aggregate-more vars aggregate.Plus ints a = omega arith
+aggregate-more vars aggregate.Max ints a = omega arith
+aggregate-more vars aggregate.Min ints a = omega arith
+
+difference-more : (vars : ℕ) (d : AllDifferent) (ints : List OrdInt) (z : Atom) (cs : List Atom) → vars ≤ (different_made vars d ints z cs).vars
+difference-more vars all_different.Plain ints z cs = omega arith
+difference-more vars all_different.Reified ints z cs = pairs-more vars ints
+difference-more vars all_different.Conditional ints z cs = omega arith
+
+linear-more : (vars : ℕ) (rel : Relation) (ints : List OrdInt) (a : OrdInt) → vars ≤ (linear_made vars rel ints a).vars
+linear-more vars relation.Leq ints a = omega arith
+linear-more vars relation.Geq ints a = omega arith
+linear-more vars relation.Eq ints a = omega arith
+linear-more vars relation.Lt ints a = omega arith
+linear-more vars relation.Gt ints a = omega arith
+linear-more vars relation.Neq ints a = omega arith
+
+pub variables_law : VariablesLaw
+variables_law vars entries (L3 x i) = omega arith
+variables_law vars entries (L4 x y) = omega arith
+variables_law vars entries (L5 name op x y z) = operator-more vars op (atom_of entries x ∷ atom_of entries y ∷ []) (atom_of entries z)
+variables_law vars entries (L6 name op xs) = omega arith
+variables_law vars entries (L7 name op xs z) = operator-more vars op (atoms_of entries xs) (atom_of entries z)
+variables_law vars entries (L8 name rel i j) = omega arith
+variables_law vars entries (L9 name rel i j z) = omega arith
+variables_law vars entries (L10 name rel xs i) = count-more vars rel (atoms_of entries xs) (integer_of entries i)
+variables_law vars entries (L14 name o i j k) = operation-more vars o (integer_of entries i) (integer_of entries j) (integer_of entries k)
+variables_law vars entries (L15 i j) = omega arith
+variables_law vars entries (L16 name o is i) = aggregate-more vars o (integers_of entries is) (integer_of entries i)
+variables_law vars entries (L17 name d is z xs) = difference-more vars d (integers_of entries is) (atom_or_true entries z) (atoms_of entries (terms_or_none xs))
+variables_law vars entries (L18 name o xs ys is js z) = omega arith
+variables_law vars entries w = omega arith

@@ -11,5 +11,4 @@ small n h = omega arith
 pub returns-clause-exact : goal.returns-clause-exact
 returns-clause-exact c few =
     let fits = weight-fits c.args.model.now c.requires few in
-    IfOk-weaker c.items_weight.result (λ w. w ≡ saturated (weight_of c.args.model.now)) (λ w. w ≡ weight_of c.args.model.now) (λ w e. e ∙ small (weight_of c.args.model.now) fits)
-    (rw (c.as_slice.ensures, c.as_slice-2.ensures) at c.items_weight.ensures)
+    IfOk-weaker c.items_weight.result (λ w. w ≡ saturated (weight_of c.args.model.now)) (λ w. w ≡ weight_of c.args.model.now) (λ w e. e ∙ small (weight_of c.args.model.now) fits) c.items_weight.ensures

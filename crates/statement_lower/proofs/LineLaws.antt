@@ -2,7 +2,6 @@
 use Rattle.std.proofs.Common.{◌≡◌, ℕ, suc, ◌+◌, ◌≤◌, ℤ, pos, ◌≤ℤ◌, Bool, true, false, List, [], ◌∷◌, ◌++◌, length, map, IsTrue, refl, sym, ap, ◌∙◌, arith}
 use Rattle.std.specs.Prelude.{unsigned_abs, if◌then◌else◌}
 use Rattle.std.specs.Ordering.{int_eq}
-use Rattle.std.proofs.lemmas.Bool.{false≢true}
 use Rattle.std.proofs.lemmas.List.{length-map}
 use Rattle.order_ints.specs.declared.atom.Atom.{Atom}
 use Rattle.order_ints.specs.declared.atom.Atom.TheVariants.{True}
@@ -47,7 +46,7 @@ use Rattle.typed_model.specs.Limits.{TermInLimit, TermsInLimit, WhatInLimit}
 use Rattle.typed_model.specs.WellTyped.{TruthFits, NumberFits, TruthsFit, NumbersFit, HasMember, IsAtLeast, ArgumentFits, ValuesFit, WhatFits}
 use Rattle.typed_model.proofs.TableLaws.{Decides-holds}
 use Rattle.statement_lower.specs.Terms.{atom_of, atoms_of, integer_of, integers_of}
-use Rattle.statement_lower.specs.Entries.{EntryFits, EntriesFit, AreOrdered}
+use Rattle.statement_lower.specs.Entries.{EntriesFit, AreOrdered}
 use Rattle.statement_lower.specs.Lines.{bit_core, equal_core, equal_cores, array_cores, operator_made, comparison_core, fresh_range, compared_count, count_made, operation_made, aggregate_made, absolute_core, least_core, made_of}
 use Rattle.statement_lower.specs.IsLowered.{is_lowered}
 use Rattle.statement_lower.specs.Lowers.{Lowers, LineLaw}
@@ -379,7 +378,6 @@ module _ (vars n : ℕ) (ds : List Decl) (entries : List MapValue) (h : EntriesF
       difference-stands vars n ds entries h d is z xs fit.arguments fit.lengths limit.0.0
   stands (L18 name o xs ys is js z) fit limit low =
       words-stand vars n ds entries h o.strict xs ys is js z o.of_booleans o.reified fit.arguments fit.lengths limit.0
-  stands w fit limit low = absurd (false≢true low)
 
 pub line_law : LineLaw
 line_law vars n ds entries w h fit limit low =

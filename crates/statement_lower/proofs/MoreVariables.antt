@@ -16,6 +16,8 @@ use Rattle.typed_model.specs.declared.statement.AllDifferent.TheVariants as all_
 use Rattle.typed_model.specs.Holds.{terms_or_none}
 use Rattle.statement_lower.specs.Terms.{atom_of, atoms_of, integer_of, integers_of, atom_or_true}
 use Rattle.statement_lower.specs.Lines.{operator_made, count_made, operation_made, aggregate_made, different_made}
+use Rattle.statement_lower.specs.Linear.{linear_made}
+use Rattle.statement_lower.specs.Lines.{scaled_truths, scaled_integers}
 use Rattle.statement_lower.specs.Lowers.{VariablesLaw}
 use Rattle.statement_lower.proofs.Pairs.{pairs-more}
 
@@ -68,9 +70,11 @@ variables_law vars entries (L7 name op xs z) = operator-more vars op (atoms_of e
 variables_law vars entries (L8 name rel i j) = omega arith
 variables_law vars entries (L9 name rel i j z) = omega arith
 variables_law vars entries (L10 name rel xs i) = count-more vars rel (atoms_of entries xs) (integer_of entries i)
+variables_law vars entries (L11 name rel cs xs i) = linear-more vars rel (scaled_truths entries cs xs) (integer_of entries i)
+variables_law vars entries (L12 name rel is i) = linear-more vars rel (integers_of entries is) (integer_of entries i)
+variables_law vars entries (L13 name rel cs is i) = linear-more vars rel (scaled_integers entries cs is) (integer_of entries i)
 variables_law vars entries (L14 name o i j k) = operation-more vars o (integer_of entries i) (integer_of entries j) (integer_of entries k)
 variables_law vars entries (L15 i j) = omega arith
 variables_law vars entries (L16 name o is i) = aggregate-more vars o (integers_of entries is) (integer_of entries i)
 variables_law vars entries (L17 name d is z xs) = difference-more vars d (integers_of entries is) (atom_or_true entries z) (atoms_of entries (terms_or_none xs))
 variables_law vars entries (L18 name o xs ys is js z) = omega arith
-variables_law vars entries w = omega arith

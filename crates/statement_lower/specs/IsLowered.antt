@@ -32,4 +32,3 @@ is_lowered (L15 i j) = true
 is_lowered (L16 name o is i) = true
 is_lowered (L17 name d is z xs) = true
 is_lowered (L18 name o xs ys is js z) = true
-is_lowered what = false

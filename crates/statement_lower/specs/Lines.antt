@@ -180,4 +180,3 @@ made_of vars entries (L16 name o is i) = aggregate_made vars o (integers_of entr
 made_of vars entries (L17 name d is z xs) = different_made vars d (integers_of entries is) (atom_or_true entries z) (atoms_of entries (terms_or_none xs))
 made_of vars entries (L18 name o xs ys is js z) =
     made_here vars (order_core entries o (terms_or_none xs) (terms_or_none ys) (terms_or_none is) (terms_or_none js) z ∷ [])
-made_of vars entries what = made_here vars []

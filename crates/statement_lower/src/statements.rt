@@ -39,7 +39,6 @@ pub fn is_lowered(what: &What) -> bool
         What::L11 { relation, .. } | What::L12 { relation, .. } | What::L13 { relation, .. } => {
             matches!(relation, Relation::Eq)
         }
-        _ => false,
     }
 }
 
@@ -189,6 +188,5 @@ pub fn made_of(
             };
             order_made(alloc, entries, vars, *order, &lists, truth)
         }
-        _ => Ok(Made::nothing(alloc, vars)),
     }
 }

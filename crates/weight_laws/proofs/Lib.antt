@@ -1,0 +1,15 @@
+pub mod Divisors
+pub mod Integers
+pub mod Lists
+pub mod OperatorCosts
+pub mod ComparisonCosts
+pub mod OperationCosts
+pub mod DifferenceCosts
+pub mod SumCosts
+pub mod FreshSums
+pub mod QueueSteps
+pub mod LinearCosts
+pub mod Statements
+pub mod StatementLaws
+pub mod Items
+pub mod ModelLaws

@@ -1,0 +1,7 @@
+-- The law of a statement's size, by the entries of declarations.
+use Rattle.weight_laws.specs.StatementLaws.{StatementSizeLaw}
+use Rattle.weight_laws.proofs.Integers.{entries-fit}
+use Rattle.weight_laws.proofs.Statements.{statement-size}
+
+pub statement-sizes : StatementSizeLaw
+statement-sizes vars m n ds more entries w h fit = statement-size vars ds more entries (entries-fit m ds entries h) n w fit

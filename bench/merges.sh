@@ -1,7 +1,8 @@
 #!/usr/bin/env bash
 # Times merges of the crate `equation_store`: from 131,072 to 1,048,576 variables, all merged to one class, in a row, in a balanced
 # tree and in random order. Prints the processor's seconds (the least of three runs), the new labels that were given, the growth
-# exponent of the seconds, and the bytes for each further variable. It builds a small program over a copy of the crates. Wants python3
+# exponent of the seconds, and the bytes for each further variable. Beside that it times what memory alone costs: one place of 20 bytes
+# for each merge of the random order, read and written in an array. It builds a small program over a copy of the crates. Wants python3
 # and rt.
 set -eu
 top=$(cd "$(dirname "${BASH_SOURCE[0]}")/.." && pwd)
@@ -105,7 +106,7 @@ fn in_a_row(store: &mut EqStore, given: &mut u64, counts: bool, vars: u32) {
 
 /// Merges pairs, then pairs of pairs, and so on.
 fn in_a_tree(store: &mut EqStore, given: &mut u64, counts: bool, vars: u32) {
-    for level in 0..20_u32 {
+    for level in 0..21_u32 {
         let step = 1_u32 << level;
         for pair in 0..vars / 2 {
             let first = pair.saturating_mul(step).saturating_mul(2).saturating_add(1);
@@ -118,13 +119,32 @@ fn in_a_tree(store: &mut EqStore, given: &mut u64, counts: bool, vars: u32) {
     }
 }
 
-/// Merges each variable with the next one, in an order that jumps about; `vars` is a power of two.
+/// What follows a number below `vars` in an order that jumps about; `vars` is a power of two.
+fn jump(var: u32, vars: u32) -> u32 {
+    let next = u64::from(var).wrapping_mul(1_664_525).wrapping_add(1_013_904_223);
+    (next % u64::from(vars.max(1))) as u32
+}
+
+/// Merges each variable with the next one, in that order.
 fn in_no_order(store: &mut EqStore, given: &mut u64, counts: bool, vars: u32) {
-    let mut var = 1_u64;
+    let mut var = 1_u32;
     for _step in 0..vars {
-        var = var.wrapping_mul(1_664_525).wrapping_add(1_013_904_223) % u64::from(vars.max(1));
-        let first = (var as u32).saturating_add(1);
+        var = jump(var, vars);
+        let first = var.saturating_add(1);
         merge(store, given, counts, first, first.saturating_add(1));
+    }
+}
+
+/// Writes to each place, in that order, as often as there are rounds.
+fn write_places(places: &mut [[u32; 5]], rounds: u32, vars: u32) {
+    for _round in 0..rounds {
+        let mut var = 1_u32;
+        for _step in 0..vars {
+            var = jump(var, vars);
+            if let Some(place) = places.get_mut(var as usize) {
+                place[0] = place[0].wrapping_add(1);
+            }
+        }
     }
 }
 
@@ -132,11 +152,15 @@ fn main(rt: HostRuntime) -> io::Result<()> {
     let mut text = Vec::new(rt.alloc());
     rt.reader().read_to_end(&mut text)?;
     let order = text.first().copied().unwrap_or(b'0');
-    let power = u32::from(text.get(1).copied().unwrap_or(b'0').saturating_sub(b'0').min(9));
+    let power = u32::from(text.get(1).copied().unwrap_or(b'a').saturating_sub(b'a').min(10));
     let vars = 2_048_u32 << power;
     let counts = text.get(2).copied() == Some(b'c');
+    if order == b'p' {
+        let mut places = vec![in rt.alloc(); [1_u32; 5]; vars as usize]?;
+        write_places(places.as_mut_slice(), if counts { 8 } else { 0 }, vars);
+    }
     let mut given = 0_u64;
-    let mut store = EqStore::with(rt.alloc(), vars)?;
+    let mut store = EqStore::with(rt.alloc(), if order == b'p' { 0 } else { vars })?;
     match order {
         b'r' => in_a_row(&mut store, &mut given, counts, vars),
         b't' => in_a_tree(&mut store, &mut given, counts, vars),
@@ -152,7 +176,7 @@ import math, os, subprocess, sys
 
 def run(order, power, counts=""):
     p = subprocess.Popen([sys.argv[1]], stdin=subprocess.PIPE, stdout=subprocess.PIPE)
-    p.stdin.write(f"{order}{power}{counts}".encode())
+    p.stdin.write((order + chr(ord("a") + power) + counts).encode())
     p.stdin.close()
     out = p.stdout.read().split()
     _, status, usage = os.wait4(p.pid, 0)
@@ -165,7 +189,14 @@ for order, name in (("r", "row"), ("t", "tree"), ("x", "random")):
         seconds[power], peak[power], n, _ = min(run(order, power) for _ in range(3))
         given = run(order, power, "c")[3]
         print(f"{name:6} {n:8} variables: {seconds[power]:.3f} s, {given} new labels ({given / (n * math.log2(n)):.2f} n log n)")
-    # What the program holds from the start serves the first variables, so memory is told of those of the greatest run alone.
+    # A peak counts what python held when it began the program, so memory is told of variables past those that take as much.
     print(f"{name:6} growth exponent {math.log(seconds[9] / seconds[6]) / math.log(8):.2f}, "
-          f"{(peak[9] - peak[8]) / (n - n // 2):.1f} bytes for each further variable")
+          f"{(run(order, 10)[1] - peak[9]) / n:.1f} bytes for each further variable")
+
+seconds = {}
+for power in (6, 7, 8, 9):
+    made, written = (min(run("p", power, counts)[0] for _ in range(7)) for counts in ("", "c"))
+    seconds[power] = (written - made) / 8
+print("places " + ", ".join(f"{s:.4f} s" for s in seconds.values())
+      + f", growth exponent {math.log(seconds[9] / seconds[6]) / math.log(8):.2f}")
 PY

@@ -9,7 +9,7 @@ use Rattle.bumblebee_reader.proofs.Pulled.{unread_tells_lem}
 use Rattle.typed_model.specs.declared.fault.TypeFault.{TypeFault}
 use Rattle.typed_model.specs.declared.fault.TypeFault.TheVariants.{NoGoal, Unknown, Undeclared, Kind, Twice, Lengths, EmptyDomain, DivDomain, Memory}
 use Rattle.typed_model.specs.Items.{first_fault, IsFaultOf}
-use Rattle.bee_cli.specs.Compiled.{IsCauseOf, text_fault_of, read_fault_of}
+use Rattle.bee_cli.specs.ModelTexts.{IsCauseOf, text_fault_of, read_fault_of}
 
 first_is : (s : Syntax) (f : TypeFault) → f ≢ Memory → IsFaultOf f s.items → first_fault s.items ≡ Some f
 first_is s f other h = elim h [

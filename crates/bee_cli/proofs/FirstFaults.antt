@@ -10,7 +10,7 @@ use Rattle.typed_model.specs.Items.{first_fault, model_of}
 use Rattle.model_lower.specs.Built.{first_unbuilt_of}
 use Rattle.bee_cli.specs.declared.status.ModelFault.{ModelFault}
 use Rattle.bee_cli.specs.declared.status.ModelFault.TheVariants as fault
-use Rattle.bee_cli.specs.Compiled.{IsModelOf, IsFirstFault}
+use Rattle.bee_cli.specs.ModelTexts.{IsModelOf, IsFirstFault}
 
 unbuilt_fault : Option ℕ → Option ModelFault
 unbuilt_fault None = None

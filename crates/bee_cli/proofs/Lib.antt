@@ -1,6 +1,9 @@
 pub mod MapLines
 pub mod Names
+pub mod ModelShapes
 pub mod FirstFaults
 pub mod Causes
 pub mod Headline
-pub mod Modes
+pub mod Answering
+pub mod CompileEnds
+pub mod Obeyings

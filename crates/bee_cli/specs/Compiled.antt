@@ -1,25 +1,14 @@
--- The compiled text of the model that a text says, and why a text has none.
-use Rattle.std.specs.Prelude.{◌≡◌, ℕ, ◌<◌, ◌^◌, List, [], ◌∷◌, length, Some, None}
+-- The compiled text of the model that a text says.
+use Rattle.std.specs.Prelude.{◌≡◌, ℕ, ◌<◌, ◌^◌, List, [], ◌∷◌, length, None}
 use Rattle.order_ints.specs.declared.cnf.Cnf.{Cnf}
 use Rattle.order_ints.specs.declared.order_int.MapValue.{MapValue}
-use Rattle.bumblebee_reader.specs.declared.syntax.Syntax.{Syntax}
-use Rattle.bumblebee_reader.specs.declared.fault.ReadFault.{ReadFault}
-use Rattle.bumblebee_reader.specs.declared.fault.ReadFault.TheVariants as read_fault
-use Rattle.bumblebee_reader.specs.Grammar.{IsText}
-use Rattle.bumblebee_reader.specs.Faults.{IsSyntaxFault, IsNumberFault}
 use Rattle.typed_model.specs.declared.model.Decl.{Decl}
 use Rattle.typed_model.specs.declared.model.Model.{Model}
-use Rattle.typed_model.specs.declared.fault.TypeFault.{TypeFault}
-use Rattle.typed_model.specs.declared.fault.TypeFault.TheVariants as type_fault
-use Rattle.typed_model.specs.Items.{first_fault, model_of}
 use Rattle.model_lower.specs.Built.{first_unbuilt_of}
 use Rattle.bee_compile.specs.Compiled.{compiled_of}
 use Rattle.dimacs_out.specs.declared.entry.MapEntry.{MapEntry}
 use Rattle.dimacs_out.specs.CompiledText.{compiled_text}
-use Rattle.bee_cli.specs.declared.compile.TextFault.{TextFault}
-use Rattle.bee_cli.specs.declared.compile.TextFault.TheVariants as text_fault
-use Rattle.bee_cli.specs.declared.status.ModelFault.{ModelFault}
-use Rattle.bee_cli.specs.declared.status.ModelFault.TheVariants as fault
+use Rattle.bee_cli.specs.ModelTexts.{IsModelOf}
 
 -- each declared name with what it stands for
 abbrev pub entries_of : List Decl → List MapValue → List MapEntry
@@ -34,13 +23,6 @@ cnf_of_model model = (compiled_of model).cnf
 abbrev pub text_of : Model → List ℕ
 text_of model = compiled_text (entries_of model.decls (compiled_of model).map.entries) (cnf_of_model model)
 
--- a text of the language whose items have no fault says this model
-pub record IsModelOf (text : List ℕ) (model : Model) : Type 0 where
-  pub syntax : Syntax
-  pub spelled : IsText text syntax
-  pub no_fault : first_fault syntax.items ≡ None
-  pub model_is : model ≡ model_of syntax.items
-
 -- a text says a model of which every item is built
 pub record IsCompilable (text : List ℕ) : Type 0 where
   pub model : Model
@@ -54,28 +36,3 @@ pub record Compiles (text written : List ℕ) : Type 0 where
   pub built : first_unbuilt_of model ≡ None
   pub fits : length (cnf_of_model model).clauses < 2 ^ 64
   pub writes : written ≡ text_of model
-
--- a text within the limit has this fault first: a token that fits nowhere or a numeral that is too great, whichever
--- stands first; a fault of its items; or an item that isn't built
-abbrev pub IsFirstFault : List ℕ → ModelFault → Type 0
-IsFirstFault text fault.TooLong = ⊥
-IsFirstFault text (fault.Syntax line) = IsSyntaxFault text line
-IsFirstFault text (fault.Number line) = IsNumberFault text line
-IsFirstFault text (fault.Typed f) = (s : Syntax) × IsText text s × (first_fault s.items ≡ Some f)
-IsFirstFault text (fault.Unbuilt number) = (m : Model) × IsModelOf text m × (first_unbuilt_of m ≡ Some number)
-
--- what a fault of the items makes of a text: want of memory is no fault of it
-abbrev pub text_fault_of : TypeFault → TextFault
-text_fault_of type_fault.Memory = text_fault.Memory
-text_fault_of f = text_fault.Model (fault.Typed f)
-
--- what a fault of the reading makes of a text
-abbrev pub read_fault_of : ReadFault → TextFault
-read_fault_of (read_fault.Syntax line) = text_fault.Model (fault.Syntax line)
-read_fault_of (read_fault.Number line) = text_fault.Model (fault.Number line)
-read_fault_of read_fault.Memory = text_fault.Memory
-
--- why nothing comes of a text
-abbrev pub IsCauseOf : TextFault → List ℕ → Type 0
-IsCauseOf (text_fault.Model f) text = IsFirstFault text f
-IsCauseOf text_fault.Memory text = Unit {0}

@@ -1,3 +1,8 @@
-pub mod Compiled
+pub mod Seen
+pub mod Ends
 pub mod Codes
+pub mod Promises
+pub mod ModelTexts
+pub mod Compiled
 pub mod CompileMode
+pub mod Obeyed

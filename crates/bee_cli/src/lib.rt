@@ -2,8 +2,10 @@
 #![tactic(auto)]
 
 mod compile;
+mod compile_mode;
 mod entries;
 mod exit_code;
+mod model_text;
 mod reporting;
 mod running;
 mod status;

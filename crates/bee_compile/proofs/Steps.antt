@@ -1,15 +1,18 @@
 -- One more item is compiled.
-use Rattle.std.proofs.Common.{◌≡◌, ℕ, List, [], ◌∷◌, ◌++◌, Option, Some, None, refl, sym, ap, subst, append_assoc, ◌∙◌}
+use Rattle.std.proofs.Common.{◌≡◌, ℕ, nat_lt, Bool, true, false, List, [], ◌∷◌, ◌++◌, Option, Some, None, refl, sym, ap, subst, append_assoc, ◌∙◌}
+use Rattle.std.specs.Prelude.{if◌then◌else◌}
 use Rattle.std.proofs.lemmas.List.Elements.{filter_map-append}
 use Rattle.order_ints.specs.declared.literal.Lit.{Lit}
 use Rattle.order_ints.specs.OrderedClauses.{ordered_clause}
 use Rattle.core_forms.specs.declared.form.Core.{Core}
-use Rattle.typed_model.specs.Limits.{KindInLimit}
+use Rattle.typed_model.specs.declared.model.Decl.{Decl}
+use Rattle.typed_model.specs.declared.model.Stmt.{Stmt}
+use Rattle.typed_model.specs.Limits.{KindInLimit, DeclsInLimit, WhatInLimit, StmtsInLimit}
 use Rattle.statement_lower.specs.Entries.{AreInLimit}
 use Rattle.model_lower.specs.declared.state.Lowered.{Lowered}
 use Rattle.model_lower.specs.declared.fault.LowerFault.{LowerFault}
 use Rattle.model_lower.specs.declared.fault.LowerFault.TheVariants.{Unbuilt, Memory}
-use Rattle.model_lower.specs.Items.{ModelItem, Declaration, Statement}
+use Rattle.model_lower.specs.Items.{ModelItem, Declaration, Statement, stmts_before, stmts_from, statements, items_of}
 use Rattle.model_lower.specs.Lowering.{lowered_item, lowered_items}
 use Rattle.model_lower.specs.Built.{vars_after, unbuilt, first_unbuilt, IsFaultOf}
 use Rattle.model_lower.specs.Drafting.{emptied}
@@ -68,10 +71,45 @@ module _ (l : Lowered) (i : ModelItem) (old drafted : Lowered) (before : old ≡
       ∙ (sym (filter_map-append (ordered_clause []) (encoded l.cores) (encoded (lowered_item (emptied l) i).cores))
       ∙ ap each_ordered (sym (encoded-append l.cores (lowered_item (emptied l) i).cores) ∙ ap encoded (sym (cores-apart l i))))))
 
--- the domain of a declaration is in the limit of numerals
+-- the domain of a declaration is in the limit of numerals, and a statement in the limits
 abbrev pub ItemInLimit : ModelItem → Type 0
 ItemInLimit (Declaration d) = KindInLimit d.kind
-ItemInLimit (Statement s) = Unit {0}
+ItemInLimit (Statement s) = WhatInLimit s.what
+
+abbrev pub AreItemsInLimit : List ModelItem → Type 0
+AreItemsInLimit [] = Unit {0}
+AreItemsInLimit (i ∷ items) = ItemInLimit i × AreItemsInLimit items
+
+limits-append : (xs ys : List ModelItem) → AreItemsInLimit xs → AreItemsInLimit ys → AreItemsInLimit (xs ++ ys)
+limits-append [] ys h k = k
+limits-append (x ∷ xs) ys h k = (h.0, limits-append xs ys h.1 k)
+
+statements-in_limit : (ss : List Stmt) → StmtsInLimit ss → AreItemsInLimit (statements ss)
+statements-in_limit [] h = tt
+statements-in_limit (s ∷ ss) h = (h.0, statements-in_limit ss h.1)
+
+before-in_limit : (n : ℕ) (ss : List Stmt) → StmtsInLimit ss → StmtsInLimit (stmts_before n ss)
+before-in_limit n [] h = tt
+before-in_limit n (s ∷ ss) h = by_test (nat_lt s.number n) (before-in_limit n ss h.1)
+  where
+    by_test : (b : Bool) → StmtsInLimit (stmts_before n ss) → StmtsInLimit (if b then s ∷ stmts_before n ss else [])
+    by_test true r = (h.0, r)
+    by_test false r = tt
+
+from-in_limit : (n : ℕ) (ss : List Stmt) → StmtsInLimit ss → StmtsInLimit (stmts_from n ss)
+from-in_limit n [] h = tt
+from-in_limit n (s ∷ ss) h = by_test (nat_lt s.number n) (from-in_limit n ss h.1)
+  where
+    by_test : (b : Bool) → StmtsInLimit (stmts_from n ss) → StmtsInLimit (if b then stmts_from n ss else s ∷ ss)
+    by_test true r = r
+    by_test false r = h
+
+-- so are the items of declarations and statements in the limits
+pub items-in_limit : (ds : List Decl) (ss : List Stmt) → DeclsInLimit ds → StmtsInLimit ss → AreItemsInLimit (items_of ds ss)
+items-in_limit [] ss h k = statements-in_limit ss k
+items-in_limit (d ∷ ds) ss h k =
+    limits-append (statements (stmts_before d.number ss)) (Declaration d ∷ items_of ds (stmts_from d.number ss))
+    (statements-in_limit (stmts_before d.number ss) (before-in_limit d.number ss k)) (h.0, items-in_limit ds (stmts_from d.number ss) h.1 (from-in_limit d.number ss k))
 
 item-limit : (l : Lowered) (i : ModelItem) → ItemInLimit i → AreInLimit l.map.entries → AreInLimit (lowered_item l i).map.entries
 item-limit l (Declaration d) small h = declared-limit l (lowered_item l (Declaration d)) d refl small h
@@ -84,6 +122,7 @@ pub record Compiling (p : Progress) (items : List ModelItem) (all : Lowered) : T
   pub rest : lowered_items l items ≡ all
   pub built : first_unbuilt l.vars items ≡ None
   pub in_limit : AreInLimit l.map.entries
+  pub limits : AreItemsInLimit items
 
 module _ (p : Progress) (i : ModelItem) (items : List ModelItem) (all : Lowered) (c : Compiling p (i ∷ items) all) where
   parts-built : (unbuilt c.l.vars i ≡ None) × (first_unbuilt (vars_after c.l.vars i) items ≡ None)
@@ -96,13 +135,14 @@ module _ (p : Progress) (i : ModelItem) (items : List ModelItem) (all : Lowered)
   pub in-limit : AreInLimit p.draft.entries.items
   in-limit = subst (λ (k : Lowered). AreInLimit k.map.entries) (sym c.here.draft) c.in_limit
 
-  pub added : (q : Progress) → ItemInLimit i → HasCompiled q (lowered_item c.l i) → Compiling q items all
-  added q small h = record {
+  pub added : (q : Progress) → HasCompiled q (lowered_item c.l i) → Compiling q items all
+  added q h = record {
     l = lowered_item c.l i;
     here = h;
     rest = c.rest;
     built = ap (λ (v : ℕ). first_unbuilt v items) (vars-item c.l i parts-built.0) ∙ parts-built.1;
-    in_limit = item-limit c.l i small c.in_limit;
+    in_limit = item-limit c.l i c.limits.0 c.in_limit;
+    limits = c.limits.1;
   }
 
   -- the only fault is want of memory

@@ -3,7 +3,7 @@
 ghost use Rattle.std.specs.Prelude.{◌≡◌, ◌<◌, ◌↔◌, ◌∷◌, ℤ, ℕ, List, true, false, length, reverse, MatchOption, OnSome, IfOk, IfErr, None};
 ghost use Rattle.typed_model.specs.declared.model.Stmt.{Stmt};
 ghost use Rattle.typed_model.specs.WellTyped.{WellTyped};
-ghost use Rattle.typed_model.specs.Limits.{DeclsInLimit, InLimits};
+ghost use Rattle.typed_model.specs.Limits.{DeclsInLimit, StmtsInLimit, InLimits};
 ghost use Rattle.typed_model.specs.Solutions.{IsSolution};
 ghost use Rattle.model_lower.specs.declared.fault.LowerFault.TheVariants.{Memory};
 ghost use Rattle.model_lower.specs.Items.{Statement, items_of};
@@ -46,7 +46,8 @@ fn next_statement(decls: &[Decl], left: &mut Vec<Stmt>) -> Option<Stmt>
 /// Compiles declarations and statements in the order of their numbers. Each statement is let go when it is
 /// compiled.
 fn compile_items(alloc: Global, decls: &[Decl], stmts: Vec<Stmt>) -> Result<Progress, LowerFault>
-    requires limits { DeclsInLimit decls.now }
+    requires decls { DeclsInLimit decls.now }
+    requires stmts { StmtsInLimit stmts.items }
     requires built { first_unbuilt 0 (items_of decls.now stmts.items) ≡ None }
     requires fits { (n : ℕ) × CoresFit n (lowered_items nothing_lowered (items_of decls.now stmts.items)).cores }
     ensures compiled { IfOk result (λ p. HasCompiled p (lowered_items nothing_lowered (items_of decls.now stmts.items))) }

@@ -1,6 +1,7 @@
 //! A model while it is compiled.
 
 ghost use Rattle.std.specs.Prelude.{◌≡◌, ◌++◌, ℕ, OnOk, IfErr};
+ghost use Rattle.typed_model.specs.Limits.{WhatInLimit};
 ghost use Rattle.statement_lower.specs.Entries.{AreInLimit};
 ghost use Rattle.model_lower.specs.declared.state.Lowered.{Lowered};
 ghost use Rattle.model_lower.specs.Items.{Declaration, Statement};
@@ -62,6 +63,7 @@ impl Progress {
     pub fn add_statement(&mut self, alloc: Global, stmt: Stmt) -> Result<(), LowerFault>
         requires fits { (l : Lowered) × (n : ℕ) × HasCompiled self.old l × CoresFit n (lowered_item l (Statement stmt)).cores }
         requires in_limit { AreInLimit self.old.draft.entries.items }
+        requires limit { WhatInLimit stmt.what }
         ensures compiled { (l : Lowered) → HasCompiled self.old l → OnOk result (HasCompiled self.new (lowered_item l (Statement stmt))) }
         ensures fault { IfErr result (λ e. IsFaultOf e (unbuilt self.old.draft.vars (Statement stmt))) }
     {

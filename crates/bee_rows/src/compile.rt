@@ -230,6 +230,9 @@ fn other_words_are_refused(rt: HostRuntime) -> Result<(), Fail> {
     let mode = ["bee", "solve", "m.bee"];
     let check = ["bee", "check", "m.bee"];
     let queens = ["bee", "queens", "3"];
+    let checked = ["bee", "check", "m.bee", "m.bee"];
+    let decoded = ["bee", "decode", "m.bee", "m.bee"];
+    let board = ["bee", "queens", "8"];
     let budget = ["bee", "solve", "m.bee", "--budget", "0"];
     let nothing = ["bee", "compile", "m.bee", "--budget", "0"];
     let help = ["bee", "compile", "m.bee", "--help"];
@@ -239,6 +242,9 @@ fn other_words_are_refused(rt: HostRuntime) -> Result<(), Fail> {
         mode.as_slice(),
         check.as_slice(),
         queens.as_slice(),
+        checked.as_slice(),
+        decoded.as_slice(),
+        board.as_slice(),
         budget.as_slice(),
         nothing.as_slice(),
         help.as_slice(),

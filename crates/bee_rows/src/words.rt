@@ -1,52 +1,147 @@
 //! Words of the command line.
 
-use command_words::compile_input;
+use command_words::{Command, read_command};
 use std::alloc::{AllocError, Global};
 
-/// The input to compile, of words that are written apart by blanks.
-fn input_of(alloc: Global, line: &str) -> Result<Option<String>, AllocError> {
+/// The words of a line, which are written apart by blanks.
+fn words_of(alloc: Global, line: &str) -> Result<Vec<String>, AllocError> {
     let mut words = Vec::new(alloc);
     for word in line.split(' ') {
         words.push(String::from_str(alloc, word)?)?;
     }
-    match compile_input(alloc, words.as_slice())? {
-        Some(input) => Ok(Some(String::from_str(alloc, input)?)),
-        None => Ok(None),
+    Ok(words)
+}
+
+/// The mode of a command, and its first name.
+fn mode_of<'a>(command: &Command<'a>) -> (&'static str, &'a str) {
+    match *command {
+        Command::Compile { input } => ("compile", input),
+        Command::Solve { input, .. } => ("solve", input),
+        Command::Check { input, .. } => ("check", input),
+        Command::Decode { input, .. } => ("decode", input),
+        Command::Queens { .. } => ("queens", ""),
+    }
+}
+
+/// The second name of a command.
+fn second_of<'a>(command: &Command<'a>) -> Option<&'a str> {
+    match *command {
+        Command::Check { second, .. } | Command::Decode { second, .. } => Some(second),
+        _ => None,
+    }
+}
+
+/// The size of a board.
+fn size_of(command: &Command<'_>) -> Option<u64> {
+    match *command {
+        Command::Queens { size, .. } => Some(size),
+        _ => None,
+    }
+}
+
+/// The budget of a command that solves, and whether the search may begin again.
+fn options_of(command: &Command<'_>) -> Option<(u64, bool)> {
+    match *command {
+        Command::Solve { options, .. } | Command::Queens { options, .. } => {
+            Some((options.budget, options.restart))
+        }
+        _ => None,
+    }
+}
+
+/// The usual budget.
+const USUAL: u64 = 1_000_000;
+
+#[test]
+fn commands_of_words(rt: HostRuntime) {
+    // the line, the mode, the names
+    for (line, mode, input, second) in [
+        ("bee compile m.bee", "compile", "m.bee", None),
+        ("bee compile stdin --budget 5", "compile", "stdin", None),
+        (
+            "bee --no-restart compile m.bee --budget=007",
+            "compile",
+            "m.bee",
+            None,
+        ),
+        (
+            "bee compile m.bee --budget 9223372036854775807",
+            "compile",
+            "m.bee",
+            None,
+        ),
+        ("bee solve m.bee", "solve", "m.bee", None),
+        ("bee check m.bee a.txt", "check", "m.bee", Some("a.txt")),
+        ("bee check m.bee m.bee", "check", "m.bee", Some("m.bee")),
+        (
+            "bee decode --budget 1 m.cnf --no-restart values",
+            "decode",
+            "m.cnf",
+            Some("values"),
+        ),
+    ] {
+        let words = words_of(rt.alloc(), line).expect(&rt, "memory");
+        let command = read_command(rt.alloc(), words.as_slice()).expect(&rt, "memory");
+        let command = command.expect(&rt, "a command");
+        assert!(rt; mode_of(&command) == (mode, input), "{line}");
+        assert!(rt; second_of(&command) == second, "{line}");
     }
 }
 
 #[test]
-fn words_of_the_command(rt: HostRuntime) {
-    let cases = [
-        ("bee compile m.bee", Some("m.bee")),
-        ("bee compile stdin --budget 5", Some("stdin")),
-        ("bee --no-restart compile m.bee --budget=007", Some("m.bee")),
-        ("bee", None),
-        ("bee compile", None),
-        ("bee solve m.bee", None),
-        ("bee check m.bee", None),
-        ("bee queens 3", None),
-        ("bee compile m.bee n.bee", None),
-        ("bee compile m.bee n.bee o.bee", None),
-        ("bee compile m.bee --budget 0", None),
-        ("bee compile m.bee --budget +1", None),
-        ("bee compile m.bee --budget=-1", None),
-        ("bee compile m.bee --budget=", None),
-        ("bee compile m.bee --budget 1x", None),
-        (
-            "bee compile m.bee --budget 9223372036854775807",
-            Some("m.bee"),
-        ),
-        ("bee compile m.bee --budget 99999999999999999999999", None),
-        ("bee compile m.bee --budget 9223372036854775808", None),
-        ("bee compile m.bee --budget 1 --budget 1", None),
-        ("bee compile m.bee --no-restart --no-restart", None),
-        ("bee compile m.bee --fast", None),
-        ("bee --help", None),
-        ("bee compile m.bee -h", None),
-    ];
-    for (line, wanted) in cases {
-        let input = input_of(rt.alloc(), line).expect(&rt, "memory");
-        assert!(rt; input.as_deref() == wanted);
+fn options_of_words(rt: HostRuntime) {
+    // the line, the budget, whether the search may begin again, the size of the board
+    for (line, budget, restart, size) in [
+        ("bee solve m.bee", USUAL, true, None),
+        ("bee solve m.bee --budget 007", 7, true, None),
+        ("bee solve --no-restart m.bee", USUAL, false, None),
+        ("bee queens 4", USUAL, true, Some(4)),
+        ("bee queens 024 --budget=2 --no-restart", 2, false, Some(24)),
+    ] {
+        let words = words_of(rt.alloc(), line).expect(&rt, "memory");
+        let command = read_command(rt.alloc(), words.as_slice()).expect(&rt, "memory");
+        let command = command.expect(&rt, "a command");
+        assert!(rt; options_of(&command) == Some((budget, restart)), "{line}");
+        assert!(rt; size_of(&command) == size, "{line}");
+    }
+}
+
+#[test]
+fn words_that_give_no_command(rt: HostRuntime) {
+    for line in [
+        "bee",
+        "bee compile",
+        "bee solve",
+        "bee print m.bee",
+        "bee Compile m.bee",
+        "bee check m.bee",
+        "bee decode m.cnf",
+        "bee check m.bee a.txt b.txt",
+        "bee solve m.bee n.bee",
+        "bee compile m.bee n.bee",
+        "bee compile m.bee n.bee o.bee",
+        "bee queens 3",
+        "bee queens 25",
+        "bee queens +8",
+        "bee queens 8x",
+        "bee queens eight",
+        "bee queens 8 8",
+        "bee compile m.bee --budget 0",
+        "bee compile m.bee --budget +1",
+        "bee compile m.bee --budget=-1",
+        "bee compile m.bee --budget=",
+        "bee compile m.bee --budget 1x",
+        "bee decode m.cnf values --budget 0",
+        "bee compile m.bee --budget 99999999999999999999999",
+        "bee compile m.bee --budget 9223372036854775808",
+        "bee compile m.bee --budget 1 --budget 1",
+        "bee compile m.bee --no-restart --no-restart",
+        "bee compile m.bee --fast",
+        "bee --help",
+        "bee compile m.bee -h",
+    ] {
+        let words = words_of(rt.alloc(), line).expect(&rt, "memory");
+        let command = read_command(rt.alloc(), words.as_slice()).expect(&rt, "memory");
+        assert!(rt; command.is_none(), "{line}");
     }
 }

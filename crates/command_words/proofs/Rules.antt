@@ -5,7 +5,7 @@ use Rattle.std.specs.Prelude.{List, ℕ}
 use Rattle.clap.specs.Words.{Text, Rule, new_rule, rule_of}
 use Rattle.clap.specs.declared.builder.arg.Arg.{Arg}
 use Rattle.clap.specs.declared.builder.ArgAction.TheVariants.{Set, SetTrue}
-use Rattle.command_words.specs.Command.{required_word, optional_word, option_with_value, flag}
+use Rattle.command_words.specs.Line.{required_word, optional_word, option_with_value, flag}
 
 pub required_is : (id : Text) (a b d : Arg) → rule_of a ≡ new_rule id → b ≡ record a { required = true } → d ≡ record b { action = Some Set }
     → rule_of d ≡ required_word id

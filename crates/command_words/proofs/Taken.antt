@@ -5,7 +5,8 @@ use Rattle.clap.specs.declared.parser.matches.Found.{Found}
 use Rattle.clap.specs.declared.error.Error.{Error}
 use Rattle.clap.specs.declared.error.kind.ErrorKind.TheVariants as kind
 use Rattle.clap.proofs.WalkLemmas.{first_value-rows}
-use Rattle.command_words.specs.Command.{bee, is_taken, given, value_of, compile_input}
+use Rattle.command_words.specs.Line.{bee, is_taken, value_of, request}
+use Rattle.command_words.specs.Request.{requested}
 
 pub simple : is_simple bee ≡ true
 simple = refl
@@ -15,17 +16,17 @@ free = refl
 
 -- what was found is what the words give, where clap takes them
 pub found : (f : Found) (words : List Text) → rows_of f ≡ matches_of bee words → fault_of bee words ≡ []
-    → given (first_value f) ≡ compile_input words
+    → requested (first_value f) ≡ request words
 found f words rows none =
     let value : (id : Text) → first_value f id ≡ value_of words id = λ id. first_value-rows f id ∙ ap (first_of id) rows in
     let taken : is_taken words ≡ true = search (rules, none) in
     search (rules, taken, value (codes "mode"), value (codes "input"), value (codes "second"), value (codes "budget"))
 
 -- clap doesn't take the words where it has a fault
-pub refused : (words : List Text) → fault_of bee words ≢ [] → compile_input words ≡ None
+pub refused : (words : List Text) → fault_of bee words ≢ [] → request words ≡ None
 refused words some = go (fault_of bee words) refl
   where
-    go : (kinds : Kinds) → fault_of bee words ≡ kinds → compile_input words ≡ None
+    go : (kinds : Kinds) → fault_of bee words ≡ kinds → request words ≡ None
     go [] e = absurd (some e)
     go (k ∷ ks) e =
         let taken : is_taken words ≡ false = search (rules, e) in

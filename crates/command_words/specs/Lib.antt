@@ -1,2 +1,3 @@
-pub mod Budget
-pub mod Command
+pub mod Numeral
+pub mod Request
+pub mod Line

@@ -1,33 +1,49 @@
-//! The command, as clap has it.
+//! What the words ask for.
 
-ghost use Rattle.std.specs.Prelude.{◌≡◌, IfOk};
-ghost use Rattle.clap.specs.Words.{app_of};
-ghost use Rattle.command_words.specs.Command.{bee};
+/// How a model is solved.
+#[derive(Clone, Copy, Debug, PartialEq, Eq)]
+pub struct Options {
+    /// How many clauses may be learned; from 1 to 9,223,372,036,854,775,807.
+    pub budget: u64,
+    /// Whether the search may begin again with what it learned.
+    pub restart: bool,
+}
 
-use clap::{Arg, ArgAction, Command};
-use std::alloc::{AllocError, Global};
-
-/// The command `bee MODE INPUT [SECOND] [--budget N] [--no-restart]`.
-pub fn bee<'a>(alloc: Global) -> Result<Command<'a>, AllocError>
-    ensures { IfOk result (λ c. app_of c ≡ bee) }
-{
-    let mode = Arg::new(alloc, "mode")
-        .required(true)
-        .action(ArgAction::Set);
-    let input = Arg::new(alloc, "input")
-        .required(true)
-        .action(ArgAction::Set);
-    let second = Arg::new(alloc, "second").action(ArgAction::Set);
-    let budget = Arg::new(alloc, "budget")
-        .long("budget")
-        .action(ArgAction::Set);
-    let no_restart = Arg::new(alloc, "no-restart")
-        .long("no-restart")
-        .action(ArgAction::SetTrue);
-    Command::new(alloc, "bee")
-        .arg(mode)?
-        .arg(input)?
-        .arg(second)?
-        .arg(budget)?
-        .arg(no_restart)
+/// A command of the program. Both options may stand with each mode; a mode that doesn't solve has no use
+/// for them.
+#[derive(Clone, Copy, Debug, PartialEq, Eq)]
+pub enum Command<'a> {
+    /// The model is compiled to clauses.
+    Compile {
+        /// The name of the model's text.
+        input: &'a str,
+    },
+    /// The model is solved.
+    Solve {
+        /// The name of the model's text.
+        input: &'a str,
+        /// How.
+        options: Options,
+    },
+    /// An answer to the model is checked.
+    Check {
+        /// The name of the model's text.
+        input: &'a str,
+        /// The name of the answer's text.
+        second: &'a str,
+    },
+    /// The values of a SAT solver are told in the names of a compiled text.
+    Decode {
+        /// The name of the compiled text.
+        input: &'a str,
+        /// The name of the values' text.
+        second: &'a str,
+    },
+    /// The queens of a board are placed.
+    Queens {
+        /// How many rows and columns the board has; from 4 to 24.
+        size: u64,
+        /// How.
+        options: Options,
+    },
 }

@@ -1,8 +1,11 @@
 //! The words of the command line, read by `clap`: `bee MODE INPUT [SECOND] [--budget N] [--no-restart]`.
 #![tactic(auto)]
 
-mod budgets;
 mod command;
+mod found;
+mod line;
+mod numbers;
 mod read;
 
-pub use read::compile_input;
+pub use command::{Command, Options};
+pub use read::read_command;

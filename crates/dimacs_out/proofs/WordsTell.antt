@@ -12,7 +12,7 @@ use Rattle.ledger_text.proofs.Spelled.{atom_no_colon, literal_word_tells, atom_w
 use Rattle.dimacs_out.specs.CompiledText.{step_word, WeightsCount}
 
 -- two texts before the first byte of a kind, and behind it
-cut_tells : (b : ℕ) (xs ys r s : List ℕ) → lacks b xs ≡ true → lacks b ys ≡ true → xs ++ b ∷ r ≡ ys ++ b ∷ s → (xs ≡ ys) × (r ≡ s)
+pub cut_tells : (b : ℕ) (xs ys r s : List ℕ) → lacks b xs ≡ true → lacks b ys ≡ true → xs ++ b ∷ r ≡ ys ++ b ∷ s → (xs ≡ ys) × (r ≡ s)
 cut_tells b [] [] r s p q e = (refl, ap (drop 1) e)
 cut_tells b [] (y ∷ ys) r s p q e =
     let parts = and_parts (not (y == b)) (lacks b ys) q in

@@ -1,14 +1,13 @@
 -- Walks of classes, and sizes, by how often a variable stands in a list.
-use Rattle.std.proofs.Common.{◌≡◌, ℕ, zero, ◌+◌, ◌≤◌, ◌<◌, Bool, true, false, cond, List, [], ◌∷◌, ◌++◌, map, length, refl, ap, sym, ◌∙◌, arith, ⊎_elim}
+use Rattle.std.proofs.Common.{◌≡◌, ℕ, zero, ◌+◌, ◌≤◌, ◌<◌, Bool, true, false, cond, List, [], ◌∷◌, map, length, refl, ap, sym, ◌∙◌, arith, ⊎_elim}
 use Rattle.std.specs.Prelude.{if◌then◌else◌, ◌==◌, count_by}
 use Rattle.std.proofs.lemmas.Bool.{false≢true, cases_lt, cases_Bool, eqb-true, ne_eqb, false_from_ne_true}
-use Rattle.std.proofs.lemmas.List.{length-map, length-append}
+use Rattle.std.proofs.lemmas.List.{length-map}
 use Rattle.std.proofs.lemmas.List.Sums.{sum_by-cons}
 use Rattle.order_ints.specs.declared.atom.Atom.{Atom}
 use Rattle.order_ints.specs.declared.atom.Atom.TheVariants.{True, False, Of}
 use Rattle.order_ints.specs.View.{label_of}
 use Rattle.index_ring.specs.Lists.{times}
-use Rattle.index_ring.proofs.Times.{times-append}
 use Rattle.equation_store.specs.Class.{is_of, IsMember, IsWalk, class_size}
 use Rattle.equation_store.specs.Merge.{replaced}
 use Rattle.equation_store.proofs.Replaced.{replaced-own, replaced-other, label_of-map}
@@ -55,7 +54,7 @@ of-own x new y False e = absurd (false≢true e)
 of-own x new y (Of l) e = ap (is_of y) (replaced-own x new l (eqb-true l.var x e)) ∙ is_of-signed y l.positive new
 
 -- an atom is of one variable
-of-one : (x y : ℕ) (a : Atom) → (y ≡ x → ⊥) → is_of x a ≡ true → is_of y a ≡ false
+pub of-one : (x y : ℕ) (a : Atom) → (y ≡ x → ⊥) → is_of x a ≡ true → is_of y a ≡ false
 of-one x y True ne e = refl
 of-one x y False ne e = refl
 of-one x y (Of l) ne e = ne_eqb l.var y (λ f. ne (sym f ∙ eqb-true l.var x e))
@@ -92,20 +91,9 @@ class_size-changed [] x new y ne = omega (arith, nothing (is_of y new))
 class_size-changed (a ∷ view) x new y ne =
     both (is_of y new) (one_if (is_of y (replaced x new a))) (one_if (is_of y a)) (one_if (is_of x a)) (class_size (map (replaced x new) view) y) (class_size view y) (class_size view x) (sum-replaced x new y a ne) (class_size-changed view x new y ne)
 
--- the list of a class that may take another one in
-abbrev pub taken_in : Bool → List ℕ → List ℕ → List ℕ
-taken_in u list more = if u then list ++ more else list
-
-pub times-taken_in : (u : Bool) (v : ℕ) (list more : List ℕ) → times v (taken_in u list more) ≡ times v list + (if u then times v more else 0)
-times-taken_in true v list more = times-append v list more
-times-taken_in false v list more = omega arith
-
-pub length-taken_in : (u : Bool) (list more : List ℕ) → length (taken_in u list more) ≡ length list + (if u then length more else 0)
-length-taken_in true list more = length-append list more
-length-taken_in false list more = omega arith
-
-pub counted-changed : (view : List Atom) (x : ℕ) (new : Atom) (y : ℕ) (members more : List ℕ) → (y ≡ x → ⊥) → IsCounted view x more → IsCounted view y members → IsCounted (map (replaced x new) view) y (taken_in (is_of y new) members more)
-counted-changed view x new y members more ne of_x of_y = record { inside = inside; outside = outside }
+-- a list with the members of a class, and those of the class that it may have taken in
+pub counted-changed : (view : List Atom) (x : ℕ) (new : Atom) (y : ℕ) (members more joined : List ℕ) → (y ≡ x → ⊥) → IsCounted view x more → IsCounted view y members → ((v : ℕ) → times v joined ≡ times v members + (if is_of y new then times v more else 0)) → IsCounted (map (replaced x new) view) y joined
+counted-changed view x new y members more joined ne of_x of_y is_joined = record { inside = inside; outside = outside }
   where
     shorter : length (map (replaced x new) view) ≡ length view
     shorter = length-map view (replaced x new)
@@ -118,14 +106,30 @@ counted-changed view x new y members more ne of_x of_y = record { inside = insid
     none true i j n e f g = omega arith
     none false i j n e f g = omega arith
 
-    inside : (v : ℕ) → 1 ≤ v → v ≤ length (map (replaced x new) view) → times v (taken_in (is_of y new) members more) ≡ one_if (is_of y (label_of (map (replaced x new) view) v))
+    inside : (v : ℕ) → 1 ≤ v → v ≤ length (map (replaced x new) view) → times v joined ≡ one_if (is_of y (label_of (map (replaced x new) view) v))
     inside v low high =
         let within : v ≤ length view = omega (arith, shorter) in
-        same (is_of y new) (times v members) (one_if (is_of y (label_of view v))) (times v more) (one_if (is_of x (label_of view v))) (times v (taken_in (is_of y new) members more)) (of_y.inside v low within) (of_x.inside v low within) (times-taken_in (is_of y new) v members more)
+        same (is_of y new) (times v members) (one_if (is_of y (label_of view v))) (times v more) (one_if (is_of x (label_of view v))) (times v joined) (of_y.inside v low within) (of_x.inside v low within) (is_joined v)
         ∙ sym (sum-replaced x new y (label_of view v) ne)
         ∙ ap (λ (a : Atom). one_if (is_of y a)) (sym (label_of-map (replaced x new) view v low within))
 
-    outside : (v : ℕ) → (1 ≤ v → v ≤ length (map (replaced x new) view) → ⊥) → times v (taken_in (is_of y new) members more) ≡ 0
+    outside : (v : ℕ) → (1 ≤ v → v ≤ length (map (replaced x new) view) → ⊥) → times v joined ≡ 0
     outside v out =
         let far : 1 ≤ v → v ≤ length view → ⊥ = λ low high. out low (omega (arith, shorter)) in
-        none (is_of y new) (times v members) (times v more) (times v (taken_in (is_of y new) members more)) (of_y.outside v far) (of_x.outside v far) (times-taken_in (is_of y new) v members more)
+        none (is_of y new) (times v members) (times v more) (times v joined) (of_y.outside v far) (of_x.outside v far) (is_joined v)
+
+-- no variable stands in the walks of two classes
+pub counted-apart : (view : List Atom) (x y : ℕ) (of_x of_y : List ℕ) → (y ≡ x → ⊥) → IsCounted view x of_x → IsCounted view y of_y → (v : ℕ) → times v of_y + times v of_x ≤ 1
+counted-apart view x y of_x of_y ne in_x in_y v =
+    ⊎_elim (λ (low : v < 1). omega (arith, in_x.outside v (λ l h. omega arith), in_y.outside v (λ l h. omega arith)))
+    (λ low. ⊎_elim (λ (high : length view < v). omega (arith, in_x.outside v (λ l h. omega arith), in_y.outside v (λ l h. omega arith)))
+    (λ high. omega (arith, in_x.inside v low high, in_y.inside v low high, at_most (label_of view v))) (cases_lt (length view) v)) (cases_lt v 1)
+  where
+    one : (t : Bool) → one_if t ≤ 1
+    one true = omega arith
+    one false = omega arith
+
+    at_most : (a : Atom) → one_if (is_of y a) + one_if (is_of x a) ≤ 1
+    at_most a =
+        ⊎_elim (λ (e : is_of x a ≡ true). omega (arith, one (is_of x a), ap one_if (of-one x y a ne e)))
+        (λ e. omega (arith, one (is_of y a), ap one_if e)) (cases_Bool (is_of x a))

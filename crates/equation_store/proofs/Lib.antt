@@ -11,7 +11,9 @@ pub mod Previous
 pub mod Changes
 pub mod Owners
 pub mod Counts
+pub mod Steps
+pub mod Rings
 pub mod Kept
 pub mod Walking
-pub mod Entering
+pub mod Growing
 pub mod Stored

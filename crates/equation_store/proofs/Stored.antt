@@ -1,55 +1,52 @@
 -- What contracts see of a store, from what it keeps.
-use Rattle.std.proofs.Common.{◌≡◌, ℕ, ◌+◌, ◌-◌, ◌≤◌, true, List, [], length, get_or, refl, ap, sym, ◌∙◌, subst, arith, ⊎_elim, Option, Some, None}
-use Rattle.std.specs.Prelude.{◌⊎◌, ◌↔◌, ◌≢◌, IfSome, IsNone, IsSomeAnd, option_map}
-use Rattle.std.proofs.lemmas.Bool.{true≢false, eq-eqb}
-use Rattle.std.proofs.lemmas.Grind.{get_or_after_one}
+use Rattle.std.proofs.Common.{◌≡◌, ℕ, ◌-◌, ◌≤◌, true, List, [], length, refl, ap, sym, ◌∙◌, subst, arith, ⊎_elim, Option, Some, None}
+use Rattle.std.specs.Prelude.{◌⊎◌, ◌↔◌, ◌≢◌, IfSome, IsNone, IsSomeAnd, option_map, ◌==◌, if◌then◌else◌}
+use Rattle.std.proofs.lemmas.Bool.{true≢false}
+use Rattle.std.proofs.lemmas.List.FromFn.{get_or-map-range_with_len}
 use Rattle.order_ints.specs.declared.atom.Atom.{Atom}
-use Rattle.order_ints.specs.declared.atom.Atom.TheVariants.{True, False, Of}
 use Rattle.order_ints.specs.Truth.{not_atom}
 use Rattle.order_ints.specs.View.{label_of, resolve}
-use Rattle.order_ints.specs.Label.{IsLabel, IsLabelled}
-use Rattle.index_ring.specs.Lists.{RingLists, list_of, times, times_in_all}
-use Rattle.index_ring.proofs.Times.{all-get}
+use Rattle.order_ints.specs.Label.{IsLabel, IsOwnLabel, IsLabelled}
 use Rattle.equation_store.specs.declared.relabel.Change.{Change}
-use Rattle.equation_store.specs.Class.{is_of, IsMember, IsWalk}
+use Rattle.equation_store.specs.Class.{is_of, IsMember, IsWalk, first_in, after_in}
+use Rattle.equation_store.specs.Ring.{behind, ring_of}
 use Rattle.equation_store.specs.Merge.{change_of, changed_by, loser_of, IsReplacement}
-use Rattle.equation_store.specs.Laws.{IsAtomOf, IsConstant}
+use Rattle.equation_store.specs.Laws.{IsAtomOf}
 use Rattle.equation_store.specs.Store.{Store, IsStore, IsKept, ListsChanged, store_of, class_walk}
 use Rattle.equation_store.proofs.Merge.{ChangeOf, change_of-atoms}
 use Rattle.equation_store.proofs.Changes.{changes-by}
-use Rattle.equation_store.proofs.Facts.{of_label, own_label}
+use Rattle.equation_store.proofs.Facts.{of_label}
 use Rattle.equation_store.proofs.Walk.{member_from_times}
-use Rattle.equation_store.proofs.Counts.{one_if, counted-from}
+use Rattle.equation_store.proofs.Rings.{ring-begins, ring-after}
 
--- the walk of a class is the list of its ring
-pub class_walk-ring : (labels : List Atom) (classes : RingLists) (x : ℕ) → 1 ≤ x → class_walk (store_of labels classes) x ≡ list_of classes x
-class_walk-ring labels classes x low = let e : 1 + (x - 1) ≡ x = omega arith in get_or_after_one classes.lists (x - 1) [] ∙ ap (λ (r : ℕ). get_or classes.lists r []) e
+-- the walk of a class is its ring
+pub class_walk-ring : (labels : List Atom) (sizes next : List ℕ) (x : ℕ) → 1 ≤ x → x ≤ length labels → class_walk (store_of labels sizes next) x ≡ ring_of sizes next x
+class_walk-ring labels sizes next x low high = get_or-map-range_with_len (ring_of sizes next) 1 (length labels) (x - 1) x [] (omega arith) (omega arith)
 
-pub store-from : (labels : List Atom) (sizes : List ℕ) (classes : RingLists) → IsKept labels sizes classes → IsStore (store_of labels classes)
-store-from labels sizes classes k = record {
+pub store-from : (labels : List Atom) (sizes next : List ℕ) → IsKept labels sizes next → IsStore (store_of labels sizes next)
+store-from labels sizes next k = record {
   small = k.small;
   labelled = k.sizes_are.labelled;
-  walked = λ x low high own. subst (IsWalk labels x) (sym (class_walk-ring labels classes x low)) (k.walked x low high own);
+  walked = λ x low high own. subst (IsWalk labels x) (sym (class_walk-ring labels sizes next x low high)) (k.walked x low high own);
 }
 
--- a member of a class stands in its ring
-pub stands-at : (labels : List Atom) (sizes : List ℕ) (classes : RingLists) → IsKept labels sizes classes → (v x : ℕ) → 1 ≤ v → v ≤ length labels → is_of x (label_of labels v) ≡ true → 1 ≤ times v (list_of classes x)
-stands-at labels sizes classes k v x low high of_x =
+-- the walk of a class begins at the label's variable
+pub walk-begins : (labels : List Atom) (sizes next : List ℕ) → IsKept labels sizes next → (x : ℕ) → 1 ≤ x → x ≤ length labels → IsOwnLabel labels x → Some x ≡ first_in (class_walk (store_of labels sizes next) x)
+walk-begins labels sizes next k x low high own = sym (ap first_in (class_walk-ring labels sizes next x low high) ∙ ring-begins labels sizes next k x low high own)
+
+-- and goes along the links until it comes back
+pub walk-goes : (labels : List Atom) (sizes next : List ℕ) → IsKept labels sizes next → (x v : ℕ) → 1 ≤ v → v ≤ length labels → is_of x (label_of labels v) ≡ true → (if behind next v == x then None else Some (behind next v)) ≡ after_in v (class_walk (store_of labels sizes next) x)
+walk-goes labels sizes next k x v low high of_x =
     let label : IsLabel labels (label_of labels v) = k.sizes_are.labelled v low high in
     let range : (1 ≤ x) × (x ≤ length labels) = of_label labels x (label_of labels v) label of_x in
-    let walk : IsWalk labels x (list_of classes x) = k.walked x range.0 range.1 (own_label labels x (label_of labels v) label of_x) in
-    omega (arith, (counted-from labels x (list_of classes x) walk).inside v low high, ap one_if of_x)
+    sym (ap (after_in v) (class_walk-ring labels sizes next x range.0 range.1) ∙ ring-after labels sizes next k x v low high of_x)
 
--- a variable whose label isn't a constant stands in a ring
-pub not-free : (labels : List Atom) (sizes : List ℕ) (classes : RingLists) → IsKept labels sizes classes → (v : ℕ) → 1 ≤ v → v ≤ length labels → ¬ IsConstant (label_of labels v) → times_in_all v classes.lists ≡ 0 → ⊥
-not-free labels sizes classes k v low high not_constant none = by (label_of labels v) refl
-  where
-    by : (a : Atom) → label_of labels v ≡ a → ⊥
-    by True e = not_constant (subst IsConstant (sym e) tt)
-    by False e = not_constant (subst IsConstant (sym e) tt)
-    by (Of l) e =
-        let of_l : is_of l.var (label_of labels v) ≡ true = ap (is_of l.var) e ∙ eq-eqb l.var l.var refl in
-        omega (arith, stands-at labels sizes classes k v l.var low high of_l, all-get v classes.lists l.var, none)
+-- the same of lists that are equal to those that are kept
+pub store-same : (labels : List Atom) (sizes next : List ℕ) (labels_after : List Atom) (sizes_after next_after : List ℕ) → IsKept labels sizes next → labels_after ≡ labels → sizes_after ≡ sizes → next_after ≡ next → IsStore (store_of labels_after sizes_after next_after)
+store-same labels sizes next labels_after sizes_after next_after k e f g =
+    subst (λ (l : List Atom). IsStore (store_of l sizes_after next_after)) (sym e)
+    (subst (λ (l : List ℕ). IsStore (store_of labels l next_after)) (sym f)
+    (subst (λ (l : List ℕ). IsStore (store_of labels sizes l)) (sym g) (store-from labels sizes next k)))
 
 -- a change of two atoms replaces one label
 pub replaces-from : (view : List Atom) (a b : Atom) (o : Option Change) → ChangeOf view a b o → IfSome o (λ c. IsReplacement view c.loser c.label)

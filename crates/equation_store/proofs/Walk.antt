@@ -44,13 +44,6 @@ after_in-times v (u ∷ walk) w e = omega (arith, by_test (u == v) (λ h. after_
 pub member_from_times : (view : List Atom) (x : ℕ) (walk : List ℕ) (w : ℕ) → IsWalk view x walk → 1 ≤ times w walk → IsMember view x w
 member_from_times view x walk w h here = ⊎_elim (λ m. m) (λ ne. absurd (omega (arith, h.others w ne))) (cases_member view x w)
 
-pub first_in-member : (view : List Atom) (x : ℕ) (walk : List ℕ) → IsWalk view x walk → IfSome (first_in walk) (IsMember view x)
-first_in-member view x walk h = by_case (first_in walk) (λ w e. first_in-times walk w e)
-  where
-    by_case : (o : Option ℕ) → ((w : ℕ) → o ≡ Some w → 1 ≤ times w walk) → IfSome o (IsMember view x)
-    by_case None here = tt
-    by_case (Some w) here = member_from_times view x walk w h (here w refl)
-
 pub after_in-member : (view : List Atom) (x v : ℕ) (walk : List ℕ) → IsWalk view x walk → IfSome (after_in v walk) (IsMember view x)
 after_in-member view x v walk h = by_case (after_in v walk) (λ w e. after_in-times v walk w e)
   where

@@ -1,5 +1,5 @@
 -- A walk along a class that gives each member's label its new value.
-use Rattle.std.proofs.Common.{◌≡◌, ℕ, ◌+◌, ◌-◌, ◌≤◌, ◌<◌, false, List, [], ◌∷◌, ◌++◌, map, length, get_or, set, take, drop, refl, ap, sym, ◌∙◌, subst, arith, ⊎_elim, Option, Some}
+use Rattle.std.proofs.Common.{◌≡◌, ℕ, ◌+◌, ◌-◌, ◌≤◌, ◌<◌, false, List, [], ◌∷◌, ◌++◌, map, length, get_or, set, take, drop, refl, ap, sym, ◌∙◌, arith, ⊎_elim}
 use Rattle.std.specs.Prelude.{if◌then◌else◌, nat_lt}
 use Rattle.std.proofs.lemmas.Bool.{cases_eq, cond-true, cond-false, lt-ltb, le-ltb, false_from_ne_true}
 use Rattle.std.proofs.lemmas.List.{length-map, length-set, take-append-drop, drop_more, take_more, take_all, get_or_default, get_or-set_same, get_or-set_other, get_or-map, ext_get_or}
@@ -7,14 +7,15 @@ use Rattle.order_ints.specs.declared.atom.Atom.{Atom}
 use Rattle.order_ints.specs.declared.atom.Atom.TheVariants.{True}
 use Rattle.order_ints.specs.View.{label_of}
 use Rattle.order_ints.specs.Label.{variable}
-use Rattle.index_ring.specs.Lists.{times, first_in, after_in}
+use Rattle.index_ring.specs.Lists.{times}
 use Rattle.index_ring.proofs.Times.{times-same, times-other, times-append}
-use Rattle.index_ring.proofs.Seen.{after_in-cut}
 use Rattle.equation_store.specs.Class.{is_of, IsMember, IsWalk}
 use Rattle.equation_store.specs.Merge.{replaced}
+use Rattle.equation_store.specs.Ring.{walk_of, place_after}
 use Rattle.equation_store.proofs.Replaced.{replaced-other}
 use Rattle.equation_store.proofs.Walk.{cases_member}
 use Rattle.equation_store.proofs.Counts.{times-count, member-from}
+use Rattle.equation_store.proofs.Steps.{length-walk_of, get_or-walk_of, place_after-more}
 
 -- one of two atoms, by whether something was counted
 abbrev picked : ℕ → Atom → Atom → Atom
@@ -26,33 +27,23 @@ picked-some n a b h = cond-true (nat_lt 0 n) a b (lt-ltb 0 n (omega arith))
 picked-none : (n : ℕ) (a b : Atom) → n ≡ 0 → picked n a b ≡ b
 picked-none n a b h = cond-false (nat_lt 0 n) a b (le-ltb 0 n (omega arith))
 
--- the first k members of the walk have their new labels, and `next` is the member behind them
-pub record IsWalking (old labels : List Atom) (x : ℕ) (new : Atom) (walk : List ℕ) (k : ℕ) (next : Option ℕ) : Type 0 where
-  pub next_is : next ≡ first_in (drop k walk)
+-- the first k members of the walk have their new labels
+pub record IsWalking (old labels : List Atom) (x : ℕ) (new : Atom) (walk : List ℕ) (k : ℕ) : Type 0 where
   pub size : length labels ≡ length old
   pub label : (p : ℕ) → p < length old → get_or labels p True ≡ picked (times (p + 1) (take k walk)) (replaced x new (get_or old p True)) (get_or old p True)
 
-pub walking-none : (old : List Atom) (x : ℕ) (new : Atom) (walk : List ℕ) (next : Option ℕ) → next ≡ first_in walk → IsWalking old old x new walk 0 next
-walking-none old x new walk next e = record { next_is = e; size = refl; label = λ p h. refl }
-
--- a member of the walk that is at hand
-module _ (old labels : List Atom) (x : ℕ) (new : Atom) (walk : List ℕ) (h : IsWalk old x walk) (k member : ℕ) (w : IsWalking old labels x new walk k (Some member)) (more : k < length walk) where
-  at-hand : member ≡ get_or walk k 0
-  at-hand = let e : Some member ≡ Some (get_or walk k 0) = w.next_is ∙ ap first_in (drop_more walk k 0 more) in cc
-
+-- the member of the walk that is at hand
+module _ (old labels : List Atom) (x : ℕ) (new : Atom) (walk : List ℕ) (h : IsWalk old x walk) (k member : ℕ) (w : IsWalking old labels x new walk k) (more : k < length walk) (at_hand : member ≡ get_or walk k 0) where
   split : walk ≡ take k walk ++ member ∷ drop (k + 1) walk
   split =
       sym (take-append-drop k walk)
-      ∙ ap (λ (l : List ℕ). take k walk ++ l) (drop_more walk k 0 more ∙ ap (λ (v : ℕ). v ∷ drop (k + 1) walk) (sym at-hand))
+      ∙ ap (λ (l : List ℕ). take k walk ++ l) (drop_more walk k 0 more ∙ ap (λ (v : ℕ). v ∷ drop (k + 1) walk) (sym at_hand))
 
   counted : (q : ℕ) → times q walk ≡ times q (take k walk) + times q (member ∷ drop (k + 1) walk)
   counted q = ap (times q) split ∙ times-append q (take k walk) (member ∷ drop (k + 1) walk)
 
-  pub stands : 1 ≤ times member walk
-  stands = omega (arith, counted member, times-same member member (drop (k + 1) walk) refl)
-
   pub is-member : IsMember old x member
-  is-member = member-from old x member walk h stands
+  is-member = member-from old x member walk h (omega (arith, counted member, times-same member member (drop (k + 1) walk) refl))
 
   once : times member walk ≡ 1
   once = sym (times-count member walk) ∙ h.once member is-member
@@ -61,14 +52,13 @@ module _ (old labels : List Atom) (x : ℕ) (new : Atom) (walk : List ℕ) (h : 
   not-yet = omega (arith, counted member, once, times-same member member (drop (k + 1) walk) refl)
 
   taken : take (k + 1) walk ≡ take k walk ++ member ∷ []
-  taken = take_more walk k 0 more ∙ ap (λ (v : ℕ). take k walk ++ v ∷ []) (sym at-hand)
+  taken = take_more walk k 0 more ∙ ap (λ (v : ℕ). take k walk ++ v ∷ []) (sym at_hand)
 
   counted-more : (q : ℕ) → times q (take (k + 1) walk) ≡ times q (take k walk) + times q (member ∷ [])
   counted-more q = ap (times q) taken ∙ times-append q (take k walk) (member ∷ [])
 
-  pub walking-more : (written : List Atom) (d : Atom) (next : Option ℕ) → written ≡ set labels (member - 1) (replaced x new (get_or labels (member - 1) d)) → next ≡ after_in member walk → IsWalking old written x new walk (k + 1) next
-  walking-more written d next e f = record {
-    next_is = f ∙ ap (after_in member) split ∙ after_in-cut member (take k walk) (drop (k + 1) walk) not-yet;
+  pub walking-more : (written : List Atom) (d : Atom) → written ≡ set labels (member - 1) (replaced x new (get_or labels (member - 1) d)) → IsWalking old written x new walk (k + 1)
+  walking-more written d e = record {
     size = ap length e ∙ length-set labels (member - 1) (replaced x new (get_or labels (member - 1) d)) ∙ w.size;
     label = λ p low. ap (λ (l : List Atom). get_or l p True) e ∙ ⊎_elim (same p low) (other p low) (cases_eq p (member - 1));
   }
@@ -93,27 +83,26 @@ module _ (old labels : List Atom) (x : ℕ) (new : Atom) (walk : List ℕ) (h : 
           ∙ w.label p low
           ∙ ap (λ (n : ℕ). picked n (replaced x new (get_or old p True)) (get_or old p True)) (sym apart)
 
--- a walk does not end before its last member
-pub next-there : (old labels : List Atom) (x : ℕ) (new : Atom) (walk : List ℕ) (k : ℕ) (next : Option ℕ) → IsWalking old labels x new walk k next → k < length walk → next ≡ Some (get_or walk k 0)
-next-there old labels x new walk k next w more = w.next_is ∙ ap first_in (drop_more walk k 0 more)
+-- the same of a walk along links
+module _ (old labels : List Atom) (x : ℕ) (new : Atom) (f : ℕ → ℕ) (n k member : ℕ) (h : IsWalk old x (walk_of f x n)) (w : IsWalking old labels x new (walk_of f x n) k) (at : member ≡ place_after f x k) (more : k < n) where
+  longer : k < length (walk_of f x n)
+  longer = omega (arith, more, length-walk_of f x n)
 
--- the same of what a walk has as its next member
-module _ (old labels : List Atom) (x : ℕ) (new : Atom) (walk : List ℕ) (h : IsWalk old x walk) (k member : ℕ) (next : Option ℕ) (w : IsWalking old labels x new walk k next) (e : next ≡ Some member) (more : k < length walk) where
-  at : IsWalking old labels x new walk k (Some member)
-  at = subst (IsWalking old labels x new walk k) e w
+  hand : member ≡ get_or (walk_of f x n) k 0
+  hand = at ∙ sym (get_or-walk_of f x n k more)
 
   pub member-here : IsMember old x member
-  member-here = is-member old labels x new walk h k member at more
+  member-here = is-member old labels x new (walk_of f x n) h k member w longer hand
 
-  pub stands-here : 1 ≤ times member walk
-  stands-here = stands old labels x new walk h k member at more
+  pub walking-here : (written : List Atom) (d : Atom) → written ≡ set labels (member - 1) (replaced x new (get_or labels (member - 1) d)) → IsWalking old written x new (walk_of f x n) (k + 1)
+  walking-here = walking-more old labels x new (walk_of f x n) h k member w longer hand
 
-  pub walking-here : (written : List Atom) (d : Atom) (behind : Option ℕ) → written ≡ set labels (member - 1) (replaced x new (get_or labels (member - 1) d)) → behind ≡ after_in member walk → IsWalking old written x new walk (k + 1) behind
-  walking-here = walking-more old labels x new walk h k member at more
+  pub place-behind : f member ≡ place_after f x (k + 1)
+  place-behind = ap f at ∙ sym (place_after-more f x k)
 
 -- after the last member each label has its new value
-pub walking-all : (old labels : List Atom) (x : ℕ) (new : Atom) (walk : List ℕ) (k : ℕ) (next : Option ℕ) → IsWalk old x walk → IsWalking old labels x new walk k next → length walk ≤ k → labels ≡ map (replaced x new) old
-walking-all old labels x new walk k next h w all =
+pub walking-all : (old labels : List Atom) (x : ℕ) (new : Atom) (walk : List ℕ) (k : ℕ) → IsWalk old x walk → IsWalking old labels x new walk k → length walk ≤ k → labels ≡ map (replaced x new) old
+walking-all old labels x new walk k h w all =
     ext_get_or True labels (map (replaced x new) old) (w.size ∙ sym (length-map old (replaced x new)))
     (λ p low. let within : p < length old = omega (arith, w.size) in
     w.label p within

@@ -1,4 +1,5 @@
 pub mod Class
+pub mod Ring
 pub mod Store
 pub mod Merge
 pub mod Laws

@@ -1,10 +1,12 @@
 -- What contracts see of a store: its view, and a walk through each class.
-use Rattle.std.specs.Prelude.{◌≡◌, ◌≢◌, ◌↔◌, ℕ, ◌+◌, ◌-◌, ◌^◌, ◌<◌, ◌≤◌, List, [], ◌∷◌, length, drop, count_by, ◌==◌, slice_index, slice_index_or}
+use Rattle.std.specs.Prelude.{◌≡◌, ◌≢◌, ◌↔◌, ℕ, ◌-◌, ◌^◌, ◌≤◌, List, [], length, map, count_by, ◌==◌, slice_index, slice_index_or}
+use Rattle.std.specs.List.{range_with_len}
 use Rattle.order_ints.specs.declared.atom.Atom.{Atom}
 use Rattle.order_ints.specs.View.{label_of}
 use Rattle.order_ints.specs.Label.{IsOwnLabel, IsLabelled}
-use Rattle.index_ring.specs.Lists.{RingLists, IsRings, list_of, times_in_all}
 use Rattle.equation_store.specs.Class.{IsWalk, class_size}
+use Rattle.equation_store.specs.Merge.{size_in}
+use Rattle.equation_store.specs.Ring.{behind, place_after, ring_of}
 
 -- a view, and for each variable a list: where the variable is its own label, the walk of its class
 pub record Store : Type 0 where
@@ -25,9 +27,9 @@ pub record IsStore (store : Store) : Type 0 where
 abbrev pub ListsChanged : Store → Store → ℕ → Type 0
 ListsChanged old new x = (v : ℕ) → (1 ≤ count_by (λ w. w == v) (class_walk old x)) ↔ ((1 ≤ v) × (v ≤ length old.view) × (label_of new.view v ≢ label_of old.view v))
 
--- the store of labels, where the list of ring x is the walk of the class of x
-abbrev pub store_of : List Atom → RingLists → Store
-store_of labels classes = record { view = labels; walks = drop 1 classes.lists }
+-- the store of labels, where the walk of a class is its ring, from the label's variable on
+abbrev pub store_of : List Atom → List ℕ → List ℕ → Store
+store_of labels sizes next = record { view = labels; walks = map (ring_of sizes next) (range_with_len 1 (length labels)) }
 
 -- labels that label themselves, and the size of the class of each that is its own
 pub record IsSized (labels : List Atom) (sizes : List ℕ) : Type 0 where
@@ -35,22 +37,11 @@ pub record IsSized (labels : List Atom) (sizes : List ℕ) : Type 0 where
   pub count : length sizes ≡ length labels
   pub sized : (x : ℕ) → 1 ≤ x → x ≤ length labels → IsOwnLabel labels x → slice_index sizes (x - 1) ≡ class_size labels x
 
--- what a store keeps beside its labels: for each variable that is its own label its ring, which is the walk of its class,
--- and the size of that class. Ring 0 and node 0 are there for no variable
-pub record IsKept (labels : List Atom) (sizes : List ℕ) (classes : RingLists) : Type 0 where
+-- what a store keeps beside its labels: for each variable that is its own label the size of its class, and for each variable the one
+-- behind it in the ring of its class, which is a walk of the class and comes back to where it begins
+pub record IsKept (labels : List Atom) (sizes next : List ℕ) : Type 0 where
   pub small : length labels ≤ 2 ^ 27
   pub sizes_are : IsSized labels sizes
-  pub rings : IsRings classes
-  pub ring_count : length classes.lists ≡ length labels + 1
-  pub node_count : classes.nodes ≡ length labels + 1
-  pub walked : (x : ℕ) → 1 ≤ x → x ≤ length labels → IsOwnLabel labels x → IsWalk labels x (list_of classes x)
-  pub long : (x : ℕ) → 1 ≤ x → x ≤ length labels → IsOwnLabel labels x → length (list_of classes x) ≡ class_size labels x
-
--- as many variables, from `first` on, stand in the ring of their own number now, and no other list has changed
-pub record Entered (old new : RingLists) (first count : ℕ) : Type 0 where
-  pub rings : IsRings new
-  pub ring_count : length new.lists ≡ length old.lists
-  pub node_count : new.nodes ≡ old.nodes
-  pub entered : (x : ℕ) → first ≤ x → x < first + count → list_of new x ≡ x ∷ []
-  pub others : (x : ℕ) → (first ≤ x → x < first + count → ⊥) → list_of new x ≡ list_of old x
-  pub free : (v : ℕ) → first + count ≤ v → times_in_all v new.lists ≡ 0
+  pub count : length next ≡ length labels
+  pub walked : (x : ℕ) → 1 ≤ x → x ≤ length labels → IsOwnLabel labels x → IsWalk labels x (ring_of sizes next x)
+  pub closed : (x : ℕ) → 1 ≤ x → x ≤ length labels → IsOwnLabel labels x → place_after (behind next) x (size_in sizes x) ≡ x

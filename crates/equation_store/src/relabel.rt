@@ -10,7 +10,6 @@ ghost use Rattle.equation_store.specs.Store.{IsSized, IsKept};
 
 use crate::classes::{relabel, take_in};
 use crate::labels::resolved;
-use index_ring::Rings;
 use order_ints::{Atom, Lit};
 
 /// What a merge found.
@@ -120,16 +119,16 @@ pub fn change_between(labels: &[Atom], sizes: &[u32], a: Atom, b: Atom) -> Optio
 }
 
 /// Gives the members of the class that loses their new label, and the class that they join these members.
-fn apply(labels: &mut [Atom], sizes: &mut [u32], classes: &mut Rings, change: Change)
-    requires kept { IsKept labels.old sizes.old classes.old }
+fn apply(labels: &mut [Atom], sizes: &mut [u32], next: &mut [u32], change: Change)
+    requires kept { IsKept labels.old sizes.old next.old }
     requires replaces { IsReplacement labels.old change.loser change.label }
     ensures labels { labels.new ≡ map (replaced change.loser change.label) labels.old }
-    ensures kept { IsKept labels.new sizes.new classes.new }
+    ensures kept { IsKept labels.new sizes.new next.new }
 {
     let size = sizes[change.loser as usize - 1];
-    relabel(labels, classes, size, change.loser, change.label);
+    relabel(labels, next, size, change.loser, change.label);
     if let Atom::Of(winner) = change.label {
-        take_in(sizes, classes, change.loser, winner.var);
+        take_in(sizes, next, change.loser, winner.var);
     }
 }
 
@@ -137,24 +136,25 @@ fn apply(labels: &mut [Atom], sizes: &mut [u32], classes: &mut Rings, change: Ch
 pub fn merge_labels(
     labels: &mut [Atom],
     sizes: &mut [u32],
-    classes: &mut Rings,
+    next: &mut [u32],
     a: Atom,
     b: Atom,
 ) -> Merged
     requires first { IsAtomOf labels.old a }
     requires second { IsAtomOf labels.old b }
-    requires kept { IsKept labels.old sizes.old classes.old }
+    requires kept { IsKept labels.old sizes.old next.old }
     ensures labels { labels.new ≡ merged labels.old a b }
     ensures already { (result ≡ Merged.Already) ↔ (resolve labels.old a ≡ resolve labels.old b) }
     ensures clash { (result ≡ Merged.Clash)
         ↔ (resolve labels.old a ≡ not_atom (resolve labels.old b)) }
     ensures labels_stay { result ≢ Merged.Changed → labels.new ≡ labels.old }
-    ensures classes_stay { result ≢ Merged.Changed → classes.new ≡ classes.old }
-    ensures kept { IsKept labels.new sizes.new classes.new }
+    ensures sizes_stay { result ≢ Merged.Changed → sizes.new ≡ sizes.old }
+    ensures next_stay { result ≢ Merged.Changed → next.new ≡ next.old }
+    ensures kept { IsKept labels.new sizes.new next.new }
 {
     match change_between(labels, sizes, a, b) {
         Some(change) => {
-            apply(labels, sizes, classes, change);
+            apply(labels, sizes, next, change);
             Merged::Changed
         }
         None if resolved(labels, a) == resolved(labels, b) => Merged::Already,

@@ -9,32 +9,37 @@ ghost use Rattle.equation_store.specs.Store.{IsStore, ListsChanged, class_walk};
 ghost use Rattle.equation_store.specs.Merge.{loser_of, IsRelabelled, merged};
 ghost use Rattle.equation_store.specs.Laws.{IsAtomOf, IsConstant, AlwaysEqual, NeverEqual, AddsEquation, Doubles};
 
-use crate::classes::enter;
-use crate::labels::{push_ones, push_own_labels, resolved};
+use crate::classes::member_behind;
+use crate::labels::{push_alone, push_ones, push_own_labels, resolved};
 use crate::relabel::{Merged, change_between, merge_labels};
-use index_ring::Rings;
 use order_ints::Atom;
 use std::alloc::{AllocError, Global};
 use std::marker::Model;
+use std::mem::size_of;
 
 /// Equations between literals: each variable has a label, a constant or a literal of a variable that is
 /// its own label, and is as true as its label. The variables whose labels are literals of the same
-/// variable are a class, and stand in the ring of that variable.
+/// variable are a class, and stand in one ring. It takes 20 bytes for each variable.
 #[derive(Debug, Drop)]
 pub struct EqStore {
+    /// The label of each variable.
     labels: Vec<Atom>,
+    /// The size of the class of each variable that is its own label.
     sizes: Vec<u32>,
-    classes: Rings,
+    /// The variable behind each one in the ring of its class.
+    next: Vec<u32>,
 }
+
+const _: () = prove!(size_of::<Atom>() + 2 * size_of::<u32>() <= 20);
 
 impl Model for EqStore {
     ghost use Rattle.equation_store.specs.Store.{Store, IsKept, store_of};
 
     ghost Value = { Store };
 
-    ghost view = { λ s. store_of s.labels.items s.classes };
+    ghost view = { λ s. store_of s.labels.items s.sizes.items s.next.items };
 
-    ghost invariant = { λ s. IsKept s.labels.items s.sizes.items s.classes };
+    ghost invariant = { λ s. IsKept s.labels.items s.sizes.items s.next.items };
 }
 
 impl EqStore {
@@ -47,7 +52,7 @@ impl EqStore {
         let mut store = EqStore {
             labels: Vec::new(alloc),
             sizes: Vec::new(alloc),
-            classes: Rings::with(alloc, 1, 1)?,
+            next: Vec::new(alloc),
         };
         store.grow(vars)?;
         Ok(store)
@@ -61,13 +66,12 @@ impl EqStore {
         ensures err { OnErr result (self.new ≡ self.old) }
         ensures store { IsStore self.new }
     {
-        let first = self.labels.len() as u32 + 1;
         self.labels.reserve(more as usize)?;
         self.sizes.reserve(more as usize)?;
-        self.classes.grow(more, more)?;
+        self.next.reserve(more as usize)?;
         push_own_labels(&mut self.labels, more);
         push_ones(&mut self.sizes, more);
-        enter(&mut self.classes, first, more);
+        push_alone(&mut self.next, more);
         Ok(())
     }
 
@@ -103,7 +107,7 @@ impl EqStore {
     }
 
     /// Makes two atoms equally true. Each member of the class that loses gets a new label, in the time of a
-    /// walk of that class.
+    /// walk of that class, and the rings of the two classes become one in constant time.
     pub fn merge(&mut self, a: Atom, b: Atom) -> Merged
         requires first { IsAtomOf self.old.view a }
         requires second { IsAtomOf self.old.view b }
@@ -127,7 +131,8 @@ impl EqStore {
         ensures store { IsStore self.new }
     {
         let labels = self.labels.as_mut_slice();
-        merge_labels(labels, self.sizes.as_mut_slice(), &mut self.classes, a, b)
+        let sizes = self.sizes.as_mut_slice();
+        merge_labels(labels, sizes, self.next.as_mut_slice(), a, b)
     }
 
     /// The member of the class of `label` at which its walk begins. It takes constant time.
@@ -139,7 +144,8 @@ impl EqStore {
         ensures walk { IsWalk self.now.view label (class_walk self.now label) }
         ensures member { IfSome result (IsMember self.now.view label) }
     {
-        self.classes.first(label)
+        let _ = &self.next; // its use brings in what the store keeps
+        Some(label)
     }
 
     /// The member behind `var` in the walk of its class. It takes constant time.
@@ -154,6 +160,6 @@ impl EqStore {
         ensures member { (x : ℕ) → is_of x (label_of self.now.view var) ≡ true
             → IfSome result (IsMember self.now.view x) }
     {
-        self.classes.after(var)
+        member_behind(self.labels.as_slice(), self.next.as_slice(), var)
     }
 }

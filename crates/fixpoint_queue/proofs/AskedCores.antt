@@ -122,7 +122,7 @@ module _ (told : Core → Equation → Type 0) (k : Kernel) (occurs : Occurrence
     }
 
     -- a class loses, unless the two atoms are opposite
-    loses : same_atom e.a (not_atom e.b) ≡ false → is_some (loser_of k.view e.a e.b) ≡ true
+    pub loses : same_atom e.a (not_atom e.b) ≡ false → is_some (loser_of k.view e.a e.b) ≡ true
     loses h = by (change_of k.view (resolve k.view e.a) (resolve k.view e.b)) changes
       where
         ra : resolve k.view e.a ≡ e.a

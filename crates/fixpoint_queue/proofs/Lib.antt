@@ -13,3 +13,7 @@ pub mod LeastMarks
 pub mod Stood
 pub mod Encodings
 pub mod Entries
+pub mod Widened
+pub mod Splittings
+pub mod PairLaws
+pub mod Counted

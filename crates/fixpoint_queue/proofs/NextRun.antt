@@ -179,7 +179,7 @@ goes-encoded k new gone low kernel view cores = record {
     at : (id : ℕ) → (id ≡ gone → ⊥) → core_at new.cores id ≡ core_at k.cores id
     at id other = ap (λ (cs : List (Option Core)). core_at cs id) cores ∙ core_at-without k.cores gone id low other
 
-mapped : (gone : ℕ) (lists : List (List ℕ)) → length (map (without gone) lists) ≡ length lists
+pub mapped : (gone : ℕ) (lists : List (List ℕ)) → length (map (without gone) lists) ≡ length lists
 mapped gone [] = refl
 mapped gone (l ∷ lists) = ap suc (mapped gone lists)
 

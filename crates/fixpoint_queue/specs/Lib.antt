@@ -8,3 +8,5 @@ pub mod Marks
 pub mod Run
 pub mod Standing
 pub mod FormInstances
+pub mod Wider
+pub mod Pairs

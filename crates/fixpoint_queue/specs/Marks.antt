@@ -1,5 +1,5 @@
 -- Marks of ids.
-use Rattle.std.specs.Prelude.{ℕ, ◌+◌, ◌-◌, ◌==◌, Bool, false, List, [], ◌∷◌, slice_index_or, Option, None, Some, if◌then◌else◌}
+use Rattle.std.specs.Prelude.{◌≡◌, ℕ, ◌+◌, ◌-◌, ◌≤◌, ◌==◌, Bool, false, List, [], ◌∷◌, length, slice_index_or, Option, None, Some, if◌then◌else◌}
 
 -- the mark of an id; those of 0 and of ids without a place are false
 abbrev pub mark_of : List Bool → ℕ → Bool
@@ -14,3 +14,8 @@ least_marked id (m ∷ marks) = if m then Some id else least_marked (id + 1) mar
 abbrev pub false_first : List Bool → ℕ
 false_first [] = 0
 false_first (m ∷ marks) = if m then 0 else false_first marks + 1
+
+-- the marks are those that there were, and perhaps others behind them that are not set
+pub record AreLonger (marks longer : List Bool) : Type 0 where
+  pub length : length marks ≤ length longer
+  pub mark : (id : ℕ) → mark_of longer id ≡ mark_of marks id

@@ -46,6 +46,10 @@ pub record IsWoken (view : List Atom) (occurs : OccurrenceLists) (x : ℕ) (old 
 abbrev pub left_to_do : Kernel → Ids → ℕ
 left_to_do k queue = if k.bottom then 0 else number_own k.view * (queue.places + 1) + length queue.queued + 1
 
+-- how many cores are left to be asked: none at bottom
+abbrev pub left_to_ask : Kernel → Ids → ℕ
+left_to_ask k queue = if k.bottom then 0 else length queue.queued
+
 -- the queue has what it had, and each core that stands at a member of the class that loses, if one does
 abbrev pub IsWokenFor : List Atom → OccurrenceLists → Equation → Ids → Ids → Type 0
 IsWokenFor view occurs e old new = MatchOption (loser_of view e.a e.b) (new ≡ old) (λ x. IsWoken view occurs x old new)

@@ -12,7 +12,8 @@ ghost use Rattle.fixpoint_queue.specs.IdQueue.{IsIds};
 ghost use Rattle.core_occurrences.specs.Lists.{Occurs};
 ghost use Rattle.fixpoint_queue.specs.Ledgers.{AddsEquations};
 ghost use Rattle.fixpoint_queue.specs.Quiet.{IsClosed};
-ghost use Rattle.fixpoint_queue.specs.Waits.{IsRun, IsWokenFor, left_to_do};
+ghost use Rattle.fixpoint_queue.specs.Pairs.{IsCounted};
+ghost use Rattle.fixpoint_queue.specs.Waits.{IsRun, IsWokenFor, left_to_do, left_to_ask};
 
 use crate::id_queue::IdQueue;
 use crate::marks::Marks;
@@ -89,6 +90,10 @@ fn ask_core<F: Oracle, L: Ledger>(
     requires there { trimmed_at state.old id ≡ Some core.now }
     ensures run { IsRun F.told state.new occurs.now queue.new marks.new }
     ensures adds { AddsEquations F.told ledger.old.items state.old ledger.new.items state.new }
+    ensures counted { OnOk result (IsCounted state.old ledger.old.items ledger.new.items
+        (length queue.old.queued) steps.old steps.new (left_to_ask state.new queue.new)) }
+    ensures refused { OnErr result (IsCounted state.old ledger.old.items ledger.new.items
+        (length queue.old.queued) steps.old steps.new 0) }
     ensures less { OnOk result (left_to_do state.new queue.new < left_to_do state.old queue.old) }
 {
     match oracle.ask(alloc, core, steps)? {
@@ -122,6 +127,10 @@ fn ask_first<F: Oracle, L: Ledger>(
     requires first { 1 ≤ times id queue.old.queued }
     ensures run { IsRun F.told state.new occurs.now queue.new marks.new }
     ensures adds { AddsEquations F.told ledger.old.items state.old ledger.new.items state.new }
+    ensures counted { OnOk result (IsCounted state.old ledger.old.items ledger.new.items
+        (length queue.old.queued) steps.old steps.new (left_to_ask state.new queue.new)) }
+    ensures refused { OnErr result (IsCounted state.old ledger.old.items ledger.new.items
+        (length queue.old.queued) steps.old steps.new 0) }
     ensures less { OnOk result (left_to_do state.new queue.new < left_to_do state.old queue.old) }
 {
     match state.trimmed(alloc, u64::from(id))? {
@@ -147,6 +156,8 @@ pub fn ask_all<F: Oracle, L: Ledger>(
     requires run { IsRun F.told state.old occurs.now queue.old marks.old }
     ensures run { IsRun F.told state.new occurs.now queue.new marks.new }
     ensures adds { AddsEquations F.told ledger.old.items state.old ledger.new.items state.new }
+    ensures counted { IsCounted state.old ledger.old.items ledger.new.items
+        (length queue.old.queued) steps.old steps.new 0 }
     ensures empty { OnOk result (state.new.bottom ≡ true ⊎ queue.new.queued ≡ []) }
     ensures closed { OnOk result (state.new.bottom ≡ true ⊎ IsClosed F.told state.new) }
 {

@@ -27,18 +27,6 @@ pub fn all_variables(alloc: Global, cores: &[Core]) -> Result<Vec<Sequence<u32>>
     Ok(lists)
 }
 
-/// How many variables there are in all.
-pub fn number_of(lists: &[Sequence<u32>]) -> usize
-    requires { all_counted lists.now < 2 ^ 32 }
-    ensures { result ≡ all_counted lists.now }
-{
-    let mut number = 0;
-    for vars in lists {
-        number += vars.len();
-    }
-    number
-}
-
 /// Puts a core at its variables, and into the queue.
 pub fn enter(occurs: &mut Occurrences, queue: &mut IdQueue, id: u32, vars: &[u32])
     requires id { (1 ≤ id) × (id ≤ occurs.old.ids) }

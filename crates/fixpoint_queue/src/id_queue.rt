@@ -1,6 +1,6 @@
 //! A queue of ids, each once.
 
-ghost use Rattle.std.specs.Prelude.{◌≡◌, ◌+◌, ◌-◌, ◌<◌, ◌≤◌, ◌^◌, [], ◌↔◌, IfOk, OnOk, OnErr, true};
+ghost use Rattle.std.specs.Prelude.{◌≡◌, ◌+◌, ◌-◌, ◌<◌, ◌≤◌, ◌^◌, [], ◌↔◌, IfOk, OnOk, true};
 ghost use Rattle.index_ring.specs.Lists.{first_in, times, without};
 ghost use Rattle.fixpoint_queue.specs.IdQueue.{IsIds, with_id};
 
@@ -37,14 +37,19 @@ impl IdQueue {
         })
     }
 
-    /// Makes places for further ids.
-    pub fn grow(&mut self, more: u32) -> Result<(), AllocError>
-        requires { self.old.places + more < 2 ^ 31 - 1 }
+    /// Makes places for the ids below a number, where they are not there.
+    pub fn grow_to(&mut self, ids: u32) -> Result<(), AllocError>
+        requires { ids < 2 ^ 31 - 1 }
         ensures queued { self.new.queued ≡ self.old.queued }
-        ensures places { OnOk result (self.new.places ≡ self.old.places + more) }
-        ensures stays { OnErr result (self.new ≡ self.old) }
+        ensures places { self.old.places ≤ self.new.places }
+        ensures enough { OnOk result (ids ≤ self.new.places) }
+        ensures ids { IsIds self.new }
     {
-        self.ring.grow(0, more)
+        let places = self.ring.nodes();
+        if places < ids {
+            self.ring.grow(0, ids - places)?;
+        }
+        Ok(())
     }
 
     /// The first id.

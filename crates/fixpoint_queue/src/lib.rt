@@ -7,7 +7,9 @@ mod id_queue;
 mod lines;
 mod marks;
 mod oracle;
+mod room;
 mod runner;
+mod splitting;
 mod starting;
 mod wake;
 

@@ -19,7 +19,7 @@ use ledger_text::Line;
 use std::alloc::AllocError;
 
 /// Takes a core from its variables, from the queue and from the marks.
-fn leave(occurs: &mut Occurrences, queue: &mut IdQueue, marks: &mut Marks, id: u32)
+pub fn leave(occurs: &mut Occurrences, queue: &mut IdQueue, marks: &mut Marks, id: u32)
     requires id { (1 ≤ id) × (id ≤ occurs.old.ids) }
     requires place { id < queue.old.places }
     requires mark { id ≤ length marks.old }

@@ -1,7 +1,7 @@
 //! Marks of ids, and the least marked one.
 
 ghost use Rattle.std.specs.Prelude.{◌≡◌, ◌+◌, ◌-◌, ◌++◌, ◌≤◌, [], false, length, replicate, slice_set, vec_len, vec_capacity, OnOk, OnErr};
-ghost use Rattle.fixpoint_queue.specs.Marks.{least_marked, false_first};
+ghost use Rattle.fixpoint_queue.specs.Marks.{AreLonger, least_marked, false_first};
 
 use std::alloc::{AllocError, Global};
 use std::marker::Model;
@@ -67,6 +67,15 @@ impl Marks {
         self.marks.reserve(more)?;
         push_false(&mut self.marks, more);
         Ok(())
+    }
+
+    /// Adds ids that are not marked, until there are so many.
+    pub fn grow_to(&mut self, ids: usize) -> Result<(), AllocError>
+        ensures longer { AreLonger self.old self.new }
+        ensures enough { OnOk result (ids ≤ length self.new) }
+    {
+        let more = ids.saturating_sub(self.marks.len());
+        self.grow(more)
     }
 
     /// Sets the mark of an id.

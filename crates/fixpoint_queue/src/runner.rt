@@ -1,6 +1,6 @@
 //! A compilation whose cores are asked for equations.
 
-ghost use Rattle.std.specs.Prelude.{◌≡◌, ◌⊎◌, ◌+◌, ◌++◌, ◌∷◌, ◌<◌, ◌≤◌, ℕ, [], true, false, length, Ok, Some, IfOk, OnOk, OnErr};
+ghost use Rattle.std.specs.Prelude.{◌≡◌, ◌⊎◌, ◌+◌, ◌++◌, ◌∷◌, ◌≤◌, ℕ, [], true, false, length, Ok, Some, IfOk, OnOk, OnErr};
 ghost use Rattle.index_ring.specs.Lists.{times};
 ghost use Rattle.core_forms.specs.declared.form.Core.{Core};
 ghost use Rattle.ledger_text.specs.declared.line.Line.TheVariants.{Split, Encode};
@@ -8,6 +8,7 @@ ghost use Rattle.step_kernel.specs.Kernel.{core_at, trimmed_at, IsKernel};
 ghost use Rattle.step_kernel.specs.Least.{is_compound_if, least_compound_of};
 ghost use Rattle.step_kernel.specs.Steps.{step};
 ghost use Rattle.fixpoint_queue.specs.Ledgers.{AddsEquations};
+ghost use Rattle.fixpoint_queue.specs.Pairs.{IsCounted};
 ghost use Rattle.fixpoint_queue.specs.Quiet.{IsClosed};
 
 use crate::asking::ask_all;
@@ -99,6 +100,11 @@ impl<F: Oracle> Runner<F> {
         ensures empty { OnOk result (self.new.kernel.bottom ≡ true ⊎ self.new.queued ≡ []) }
         ensures closed { OnOk result (self.new.kernel.bottom ≡ true ⊎ IsClosed F.told self.new.kernel) }
         ensures kernel { IsKernel self.new.kernel }
+
+        // Three counts at most for each core that was queued, and for each pair of a pending core and one of its
+        // variables that got a new label.
+        ensures counted { IsCounted self.old.kernel self.old.ledger self.new.ledger
+            (length self.old.queued) steps.old steps.new 0 }
     {
         let alloc = *self.ledger.allocator();
         ask_all(
@@ -120,18 +126,5 @@ impl<F: Oracle> Runner<F> {
         ensures { result ≡ least_compound_of self.now.kernel }
     {
         self.marks.least()
-    }
-
-    /// Splits a core that is compound as the store has it. A stub until its proof is here.
-    pub fn split(&mut self, id: u64) -> Result<(), AllocError>
-        requires running { self.old.kernel.bottom ≡ false }
-        requires compound { is_compound_if (trimmed_at self.old.kernel id) ≡ true }
-        ensures step { OnOk result (step self.old.kernel (Split id) ≡ Ok self.new.kernel) }
-        ensures ledger { OnOk result (self.new.ledger ≡ self.old.ledger ++ Split id ∷ []) }
-        ensures queued { OnOk result ((j : ℕ) → 1 ≤ times j self.new.queued
-            → (1 ≤ times j self.old.queued) ⊎ (length self.old.kernel.cores < j)) }
-        ensures stays { OnErr result (self.new ≡ self.old) }
-    {
-        Err(AllocError)
     }
 }

@@ -17,18 +17,13 @@ use Rattle.typed_model.specs.declared.statement.Arithmetic.TheVariants as arithm
 use Rattle.typed_model.specs.declared.statement.Aggregate.{Aggregate}
 use Rattle.typed_model.specs.declared.statement.Aggregate.TheVariants as aggregate
 use Rattle.statement_lower.specs.Lines.{equal_core, equal_cores, array_cores, operator_made, comparison_core, operation_made, aggregate_made, made_of}
-use Rattle.statement_lower.specs.IsLowered.{is_lowered_aggregate, is_lowered}
+use Rattle.statement_lower.specs.IsLowered.{is_lowered}
 use Rattle.statement_lower.specs.Terms.{atom_of, atoms_of, integer_of, integers_of}
 use Rattle.model_lower.specs.Items.{ModelItem}
 use Rattle.model_lower.specs.Built.{most_vars, is_built_operator, is_built_operation, is_built_aggregate, is_built, fresh_of_operator, fresh_of, may_build, number_of, vars_after, unbuilt}
 use Rattle.model_lower.specs.Fits.{IsFirstForm, AreFirstForms}
 
 -- Lowered.
-
-lowered-aggregate : (o : Aggregate) → is_built_aggregate o ≡ true → is_lowered_aggregate o ≡ true
-lowered-aggregate aggregate.Plus e = absurd (false≢true e)
-lowered-aggregate aggregate.Max e = refl
-lowered-aggregate aggregate.Min e = refl
 
 pub built-lowered : (w : What) → is_built w ≡ true → is_lowered w ≡ true
 built-lowered (L4 x y) e = refl
@@ -39,7 +34,7 @@ built-lowered (L8 name rel i j) e = refl
 built-lowered (L9 name rel i j z) e = refl
 built-lowered (L14 name o i j k) e = refl
 built-lowered (L15 i j) e = refl
-built-lowered (L16 name o is i) e = lowered-aggregate o e
+built-lowered (L16 name o is i) e = refl
 built-lowered w e = absurd (false≢true e)
 
 -- Variables.

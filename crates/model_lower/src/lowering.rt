@@ -2,7 +2,7 @@
 
 ghost use Rattle.std.specs.Prelude.{◌≡◌, ◌↔◌, ◌≤◌, ℤ, List, length, take, drop, IfOk, IfErr, None};
 ghost use Rattle.typed_model.specs.WellTyped.{WellTyped};
-ghost use Rattle.typed_model.specs.Limits.{DeclsInLimit, InLimits};
+ghost use Rattle.typed_model.specs.Limits.{DeclsInLimit, StmtsInLimit, InLimits};
 ghost use Rattle.typed_model.specs.Solutions.{IsSolution};
 ghost use Rattle.model_lower.specs.Items.{stmts_before, stmts_from, items_of};
 ghost use Rattle.model_lower.specs.Built.{first_unbuilt, first_unbuilt_of, IsFaultOf};
@@ -34,7 +34,8 @@ pub fn count_before(stmts: &[Stmt], number: u64) -> usize
 
 /// Lowers declarations and statements in the order of their numbers.
 pub fn lower_items(alloc: Global, decls: &[Decl], stmts: &[Stmt]) -> Result<Lowered, LowerFault>
-    requires { DeclsInLimit decls.now }
+    requires decls { DeclsInLimit decls.now }
+    requires stmts { StmtsInLimit stmts.now }
     ensures built { IfOk result (λ l. first_unbuilt 0 (items_of decls.now stmts.now) ≡ None) }
     ensures shape { IfOk result (λ l. l ≡ lowered_items nothing_lowered (items_of decls.now stmts.now)) }
     ensures fault { IfErr result (λ e. IsFaultOf e (first_unbuilt 0 (items_of decls.now stmts.now))) }

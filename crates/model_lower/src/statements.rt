@@ -1,6 +1,7 @@
 //! The cores of statements, added to those so far.
 
 ghost use Rattle.std.specs.Prelude.{◌≡◌, ◌≤◌, OnOk, IfErr, None};
+ghost use Rattle.typed_model.specs.Limits.{WhatInLimit, StmtsInLimit};
 ghost use Rattle.statement_lower.specs.Entries.{AreInLimit};
 ghost use Rattle.model_lower.specs.Items.{Statement, statements};
 ghost use Rattle.model_lower.specs.Lowering.{lowered_item, lowered_items};
@@ -55,7 +56,8 @@ pub fn fresh_of(what: &What) -> u32
 
 /// Adds a statement.
 pub fn add_statement(alloc: Global, draft: &mut Draft, stmt: &Stmt) -> Result<(), LowerFault>
-    requires { AreInLimit draft.old.entries.items }
+    requires entries { AreInLimit draft.old.entries.items }
+    requires limit { WhatInLimit stmt.now.what }
     ensures built { OnOk result (unbuilt draft.old.vars (Statement stmt.now) ≡ None) }
     ensures shape { OnOk result (lowered_so_far draft.new ≡ lowered_item (lowered_so_far draft.old) (Statement stmt.now)) }
     ensures fault { IfErr result (λ e. IsFaultOf e (unbuilt draft.old.vars (Statement stmt.now))) }
@@ -74,7 +76,8 @@ pub fn add_statement(alloc: Global, draft: &mut Draft, stmt: &Stmt) -> Result<()
 
 /// Adds statements, up to the first one that isn't built.
 pub fn add_statements(alloc: Global, draft: &mut Draft, stmts: &[Stmt]) -> Result<(), LowerFault>
-    requires { AreInLimit draft.old.entries.items }
+    requires entries { AreInLimit draft.old.entries.items }
+    requires limits { StmtsInLimit stmts.now }
     ensures built { OnOk result (first_unbuilt draft.old.vars (statements stmts.now) ≡ None) }
     ensures shape { OnOk result (lowered_so_far draft.new ≡ lowered_items (lowered_so_far draft.old) (statements stmts.now)) }
     ensures fault { IfErr result (λ e. IsFaultOf e (first_unbuilt draft.old.vars (statements stmts.now))) }

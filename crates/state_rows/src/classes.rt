@@ -250,7 +250,7 @@ fn compare(rt: &impl Abort, store: &EqStore, labels: &[Atom]) {
     }
 }
 
-// `rt try --test --fail-alloc N` refuses the Nth allocation: one of the six of `with`, or one of the four of `grow`. What is
+// `rt try --test --fail-alloc N` refuses the Nth allocation: one of the three of `with`, or one of the three of `grow`. What is
 // refused is asked for again.
 #[test]
 fn growth_is_refused(rt: HostRuntime) -> Result<(), Fail> {

@@ -237,3 +237,30 @@ AreInLimit-at (entry.Bool a ∷ entries) zero h = (lit< tt, lit< tt)
 AreInLimit-at (entry.Bool a ∷ entries) (suc p) h = AreInLimit-at entries p h
 AreInLimit-at (entry.Int a ∷ entries) zero h = (omega (arith, h.0.0), omega (arith, h.0.1))
 AreInLimit-at (entry.Int a ∷ entries) (suc p) h = AreInLimit-at entries p h.1
+
+-- The integers of entries, and of terms, are sound and in the limit of numerals.
+
+abbrev pub IsSmall : OrdInt → Type 0
+IsSmall a = IsSound a × (greatest_abs a ≤ 1073741824)
+
+abbrev pub AreSmall : List OrdInt → Type 0
+AreSmall [] = Unit {0}
+AreSmall (a ∷ ints) = IsSmall a × AreSmall ints
+
+small-at : (entries : List MapValue) (p : ℕ) → AreInLimit entries → IsSmall (integer_at (slice_get entries p))
+small-at [] p h = (((lit< tt, lit< tt), tt), omega (arith, ints))
+small-at (entry.Bool a ∷ entries) zero h = (((lit< tt, lit< tt), tt), omega (arith, ints))
+small-at (entry.Bool a ∷ entries) (suc p) h = small-at entries p h
+small-at (entry.Int a ∷ entries) zero h = (((omega (arith, h.0.0), omega (arith, h.0.1)), h.0.2), omega (arith, h.0.0, h.0.1))
+small-at (entry.Int a ∷ entries) (suc p) h = small-at entries p h.1
+
+pub integer_of-in_limit : (entries : List MapValue) (i : IntTerm) → AreInLimit entries → TermInLimit i → IsSmall (integer_of entries i)
+integer_of-in_limit entries (int_term.Number z) h k = (((omega (arith, k), omega (arith, ints, k)), tt), omega (arith, ints, k))
+integer_of-in_limit entries (int_term.Of p) h k = small-at entries p h
+
+pub integers_of-in_limit : (entries : List MapValue) (is : List IntTerm) → AreInLimit entries → TermsInLimit is → AreSmall (integers_of entries is)
+integers_of-in_limit entries [] h k = tt
+integers_of-in_limit entries (i ∷ is) h k = (integer_of-in_limit entries i h (k 0), integers_of-in_limit entries is h (λ j. k (suc j)))
+
+pub integer_of-fits : (entries : List MapValue) (i : IntTerm) (a : OrdInt) → AreInLimit entries → TermInLimit i → a ≡ integer_of entries i → greatest_abs a ≤ 1073741824
+integer_of-fits entries i a h k e = subst (λ (a : OrdInt). greatest_abs a ≤ 1073741824) (sym e) (integer_of-in_limit entries i h k).1

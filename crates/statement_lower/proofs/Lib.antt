@@ -10,5 +10,6 @@ pub mod DivisionLines
 pub mod WordLines
 pub mod LineLaws
 pub mod LinearLaws
+pub mod SummandSteps
 pub mod EqualSums
 pub mod Pairs

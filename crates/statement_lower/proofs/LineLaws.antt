@@ -1,5 +1,5 @@
 -- Line by line, the cores of a statement stand for its being true.
-use Rattle.std.proofs.Common.{◌≡◌, ℕ, suc, ◌+◌, ◌<◌, ◌≤◌, ℤ, pos, ◌≤ℤ◌, Bool, true, false, List, [], ◌∷◌, ◌++◌, length, map, IsTrue, refl, sym, ap, ◌∙◌, arith}
+use Rattle.std.proofs.Common.{◌≡◌, ℕ, suc, ◌+◌, ◌≤◌, ℤ, pos, ◌≤ℤ◌, Bool, true, false, List, [], ◌∷◌, ◌++◌, length, map, IsTrue, refl, sym, ap, ◌∙◌, arith}
 use Rattle.std.specs.Prelude.{unsigned_abs, if◌then◌else◌}
 use Rattle.std.specs.Ordering.{int_eq}
 use Rattle.std.proofs.lemmas.Bool.{false≢true}
@@ -27,7 +27,7 @@ use Rattle.typed_model.specs.declared.model.Kind.TheVariants as kind
 use Rattle.typed_model.specs.declared.what.BoolTerm.{BoolTerm}
 use Rattle.typed_model.specs.declared.what.IntTerm.{IntTerm}
 use Rattle.typed_model.specs.declared.what.What.{What}
-use Rattle.typed_model.specs.declared.what.What.TheVariants.{L4, L5, L6, L7, L8, L9, L10, L14, L15, L16, L17, L18}
+use Rattle.typed_model.specs.declared.what.What.TheVariants.{L4, L5, L6, L7, L8, L9, L10, L11, L12, L13, L14, L15, L16, L17, L18}
 use Rattle.typed_model.specs.declared.statement.Operator.{Operator}
 use Rattle.typed_model.specs.declared.statement.Operator.TheVariants as operator
 use Rattle.typed_model.specs.declared.statement.Relation.{Relation}
@@ -48,7 +48,7 @@ use Rattle.typed_model.proofs.TableLaws.{Decides-holds}
 use Rattle.statement_lower.specs.Terms.{atom_of, atoms_of, integer_of, integers_of}
 use Rattle.statement_lower.specs.Entries.{EntryFits, EntriesFit, AreOrdered}
 use Rattle.statement_lower.specs.Lines.{equal_core, equal_cores, array_cores, operator_made, comparison_core, fresh_range, compared_count, count_made, operation_made, aggregate_made, absolute_core, least_core, made_of}
-use Rattle.statement_lower.specs.IsLowered.{is_lowered_aggregate, is_lowered}
+use Rattle.statement_lower.specs.IsLowered.{is_lowered}
 use Rattle.statement_lower.specs.Lowers.{Lowers, LineLaw}
 use Rattle.statement_lower.proofs.EntryLaws.{SmallInteger, AreSmallIntegers, atom_of-laws, atoms_of-truths, atoms_of-below, integer_of-small, integer_of-value, integer_of-least, small-more, integers_of-values, integers_of-small, IsOrdered-integer_of, ordered-integers_of, numbers_of-agree}
 use Rattle.statement_lower.proofs.BooleanLines.{equal-truth, array-truth, or-truth, and-truth, xor-truth}
@@ -58,6 +58,7 @@ use Rattle.statement_lower.proofs.FreshAtoms.{AtomsBelow-negated, AtomsBelow-mor
 use Rattle.statement_lower.proofs.FreshIntegers.{small-fresh, Counts, extends-number}
 use Rattle.statement_lower.proofs.WordLines.{difference-stands, words-stand}
 use Rattle.statement_lower.proofs.DivisionLines.{quotient-lowers, remainder-lowers}
+use Rattle.statement_lower.proofs.EqualSums.{truths-stand, sums-stand, multiples-stand, aggregate-sum-stands}
 use Rattle.statement_lower.proofs.MeaningLaws.{same_meanings}
 use Rattle.statement_lower.proofs.LowersLaws.{lowers-here, lowers-one, lowers-same, lowers-behind}
 
@@ -236,11 +237,11 @@ module _ (vars n : ℕ) (ds : List Decl) (entries : List MapValue) (h : EntriesF
       (λ σ o. (ordered i σ o, ordered j σ o, ordered k σ o)))
 
   aggregate-stands : (o : Aggregate) (is : List IntTerm) (i : IntTerm) → NumbersFit ds n is → NumberFits ds n i
-      → TermsInLimit is → TermInLimit i → 0 < length is → is_lowered_aggregate o ≡ true
+      → TermsInLimit is → TermInLimit i → length is ≤ 16777216 → HasMember o (Numbers is ∷ Number i ∷ [])
       → Lowers vars (aggregate_made vars o (integers_of entries is) (integer_of entries i)).vars C
       (aggregate_made vars o (integers_of entries is) (integer_of entries i)).cores
       (λ σ. IsTrue (is_aggregate o (numbers_of (env σ) is) (number_of (env σ) i)))
-  aggregate-stands aggregate.Max is i fs fi ls li some low =
+  aggregate-stands aggregate.Max is i fs fi ls li few some =
       let members : List OrdInt = integers_of entries is in
       let each : AreSmallIntegers (vars + 1) members = integers_of-small (vars + 1) n ds entries is h fs ls in
       let a = small i fi li in
@@ -248,7 +249,7 @@ module _ (vars n : ℕ) (ds : List Decl) (entries : List MapValue) (h : EntriesF
       (greatest-below (vars + 1) members (integer_of entries i) each a)
       (greatest-well_formed (vars + 1) members (integer_of entries i) each a (omega (arith, length-map is (integer_of entries), some)))
       (λ σ o. rw (← value i fi σ, ← integers_of-values (vars + 1) n ds entries h σ is fs) (greatest-truth σ members (integer_of entries i) (ordered-integers_of σ entries is o) (ordered i σ o)))
-  aggregate-stands aggregate.Min is i fs fi ls li some low =
+  aggregate-stands aggregate.Min is i fs fi ls li few some =
       let members : List OrdInt = integers_of entries is in
       let each : AreSmallIntegers (vars + 1) (map negated_of members) = small-negated_each (vars + 1) members (integers_of-small (vars + 1) n ds entries is h fs ls) in
       let a = small-negated (vars + 1) (integer_of entries i) (small i fi li) in
@@ -256,7 +257,7 @@ module _ (vars n : ℕ) (ds : List Decl) (entries : List MapValue) (h : EntriesF
       (greatest-below (vars + 1) (map negated_of members) (negated_of (integer_of entries i)) each a)
       (greatest-well_formed (vars + 1) (map negated_of members) (negated_of (integer_of entries i)) each a (omega (arith, length-map members negated_of, length-map is (integer_of entries), some)))
       (λ σ o. rw (← value i fi σ, ← integers_of-values (vars + 1) n ds entries h σ is fs) (least-truth σ members (integer_of entries i) (ordered-integers_of σ entries is o) (ordered i σ o)))
-  aggregate-stands aggregate.Plus is i fs fi ls li some low = absurd (false≢true low)
+  aggregate-stands aggregate.Plus is i fs fi ls li few some = aggregate-sum-stands vars n ds entries h is i fs ls few fi li
 
   comparison-stands : (rel : Relation) (r : Atom) (t : Valuation → Bool) (i j : IntTerm) → AtomBelow (vars + 1) r → ((σ : Valuation) → atom_truth σ r ≡ t σ)
       → NumberFits ds n i → NumberFits ds n j → TermInLimit i → TermInLimit j
@@ -316,11 +317,6 @@ module _ (vars n : ℕ) (ds : List Decl) (entries : List MapValue) (h : EntriesF
   count-stands relation.Gt xs i fs fi li few = compared-stands relation.Gt xs i fs fi li few
   count-stands relation.Neq xs i fs fi li few = compared-stands relation.Neq xs i fs fi li few
 
-  aggregate-some : (o : Aggregate) (is : List IntTerm) (i : IntTerm) → is_lowered_aggregate o ≡ true → HasMember o (Numbers is ∷ Number i ∷ []) → 0 < length is
-  aggregate-some aggregate.Max is i low some = some
-  aggregate-some aggregate.Min is i low some = some
-  aggregate-some aggregate.Plus is i low some = absurd (false≢true low)
-
   -- the test of a statement
   stands : (w : What) → WhatFits ds n w → WhatInLimit w → is_lowered w ≡ true
       → Lowers vars (made_of vars entries w).vars C (made_of vars entries w).cores (λ σ. IsTrue (holds (env σ) w))
@@ -350,6 +346,15 @@ module _ (vars n : ℕ) (ds : List Decl) (entries : List MapValue) (h : EntriesF
       comparison-stands rel (atom_of entries z) (λ σ. truth_of (env σ) z) i j (below z args.1.1.0) (truth z args.1.1.0) args.0 args.1.0 limit.0.0 limit.0.1.0
   stands (L10 name rel xs i) fit limit low =
       count-stands rel xs i fit.arguments.0 fit.arguments.1.0 limit.0.1.0 (omega (arith, limit.1))
+  stands (L11 name rel cs xs i) fit limit low =
+      let args = fit.arguments in
+      truths-stand vars n ds entries h rel cs xs i low limit.0.0 args.1.0 (omega (arith, limit.1)) args.1.1.0 limit.0.1.1.0
+  stands (L12 name rel is i) fit limit low =
+      let args = fit.arguments in
+      sums-stand vars n ds entries h rel is i low args.0 limit.0.0 (omega (arith, limit.1)) args.1.0 limit.0.1.0
+  stands (L13 name rel cs is i) fit limit low =
+      let args = fit.arguments in
+      multiples-stand vars n ds entries h rel cs is i low limit.0.0 args.1.0 limit.0.1.0 (omega (arith, limit.1)) args.1.1.0 limit.0.1.1.0
   stands (L14 name o i j k) fit limit low =
       let args = fit.arguments in
       operation-stands o i j k args.0 args.1.0 args.1.1.0 limit.0.0 limit.0.1.0 limit.0.1.1.0 fit.values
@@ -363,7 +368,7 @@ module _ (vars n : ℕ) (ds : List Decl) (entries : List MapValue) (h : EntriesF
       (greatest-below (vars + 1) members (integer_of entries j) each b) (greatest-well_formed (vars + 1) members (integer_of entries j) each b (omega arith))
       (λ σ o. rw (← value i args.0 σ, ← value j args.1.0 σ) (absolute-truth σ (integer_of entries i) (integer_of entries j) (ordered i σ o) (ordered j σ o)))
   stands (L16 name o is i) fit limit low =
-      aggregate-stands o is i fit.arguments.0 fit.arguments.1.0 limit.0.0 limit.0.1.0 (aggregate-some o is i low fit.values) low
+      aggregate-stands o is i fit.arguments.0 fit.arguments.1.0 limit.0.0 limit.0.1.0 (omega (arith, limit.1)) fit.values
   stands (L17 name d is z xs) fit limit low =
       difference-stands vars n ds entries h d is z xs low fit.arguments fit.lengths limit.0.0
   stands (L18 name o xs ys is js z) fit limit low =

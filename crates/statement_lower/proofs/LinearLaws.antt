@@ -1,5 +1,5 @@
 -- The members of a linear statement: their values, added up, and their limits.
-use Rattle.std.proofs.Common.{◌≡◌, ℕ, zero, suc, ◌+◌, ◌*◌, ◌≤◌, ℤ, pos, negsuc, ◌+ℤ◌, ◌*ℤ◌, Bool, true, false, ◌&&◌, List, [], ◌∷◌, length, map, refl, ap, ◌∙◌, arith}
+use Rattle.std.proofs.Common.{◌≡◌, ℕ, zero, suc, ◌+◌, ◌*◌, ◌<◌, ◌≤◌, ◌^◌, ℤ, pos, negsuc, ◌+ℤ◌, ◌*ℤ◌, Bool, true, false, ◌&&◌, List, [], ◌∷◌, length, map, refl, ap, ◌∙◌, arith}
 use Rattle.std.specs.Prelude.{neg_ℤ, unsigned_abs, if◌then◌else◌}
 use Rattle.std.specs.Ordering.{int_eq}
 use Rattle.std.proofs.lemmas.Bool.{and_parts}
@@ -8,23 +8,24 @@ use Rattle.std.proofs.lemmas.Int.{ints, unsigned_abs-mul}
 use Rattle.order_ints.specs.declared.atom.Atom.{Atom}
 use Rattle.order_ints.specs.declared.order_int.OrdInt.{OrdInt}
 use Rattle.order_ints.specs.Truth.{Valuation}
-use Rattle.order_ints.specs.OrderRange.{low_of, high_of, IntBelow}
+use Rattle.order_ints.specs.OrderMade.{integer_of_atom}
+use Rattle.order_ints.specs.OrderRange.{low_of, high_of, IsBounded, IntBelow}
 use Rattle.order_ints.specs.OrderValue.{gains, value_of, in_order, IsOrdered}
 use Rattle.order_ints.specs.OrderChange.{negated_of, multiplied_of, scaled_of}
-use Rattle.order_ints.proofs.Negation.{value_of-negated_of, high_of-negated_of}
+use Rattle.order_ints.proofs.Negation.{value_of-negated_of, high_of-negated_of, IsBounded-negated_of, AreRising-negated, StepsBelow-negated}
 use Rattle.order_ints.proofs.Multiples.{value_of-scaled_of, IsOrdered-scaled_of, AreRising-scaled_of, IntBelow-scaled_of, high_of-multiplied_of, IsBounded-scaled_of}
 use Rattle.core_forms.specs.Values as forms
 use Rattle.core_forms.specs.Meaning.{core_truth}
 use Rattle.core_forms.specs.Place.{CoreBelow, IntsBelow}
-use Rattle.core_forms.specs.WellFormed.{IsSound, AreSound, IsWellFormed, greatest_abs, abs_total}
+use Rattle.core_forms.specs.WellFormed.{AreSound, IsWellFormed, greatest_abs, abs_total}
 use Rattle.core_forms.proofs.IntLists.{all_ordered-append, values-append, total-append}
 use Rattle.core_forms.proofs.Limits.{times-le}
 use Rattle.typed_model.specs.Integers.{weight_of_true, linear_sum}
 use Rattle.typed_model.specs.Terms.{as_number}
 use Rattle.typed_model.specs.Limits.{InLimit, AllInLimit}
-use Rattle.statement_lower.specs.Linear.{scaled_each, has_steps, with_steps, constant_of_members, linear_members, zero_sum, equal_sum}
-use Rattle.statement_lower.proofs.EntryLaws.{SmallInteger, AreSmallIntegers}
-use Rattle.statement_lower.proofs.IntegerLines.{small-negated, ordered-negated}
+use Rattle.statement_lower.specs.Linear.{scaled_each, has_steps, with_steps, constant_of_members, linear_members, zero_sum, equal_sum, IsSummand, AreSummands}
+use Rattle.statement_lower.proofs.EntryLaws.{AreSmallIntegers, IsSmall, AreSmall}
+use Rattle.statement_lower.proofs.IntegerLines.{ordered-negated}
 
 -- Values.
 
@@ -107,14 +108,24 @@ bits-linear (c ∷ cs) (t ∷ ts) = rw (times-bit c t, bits-linear cs ts) refl
 
 -- Limits.
 
--- the members of a linear statement: no value is above 2 ^ 60 in absolute value
-abbrev pub AreWide : ℕ → List OrdInt → Type 0
-AreWide n [] = Unit {0}
-AreWide n (a ∷ members) = (IntBelow n a × IsSound a × (greatest_abs a ≤ 1152921504606846976)) × AreWide n members
+pub small-each : (n : ℕ) (members : List OrdInt) → AreSmallIntegers n members → AreSmall members
+small-each n [] h = tt
+small-each n (a ∷ members) h = ((h.0.sound, h.0.small), small-each n members h.1)
 
-pub wide-small : (n : ℕ) (members : List OrdInt) → AreSmallIntegers n members → AreWide n members
-wide-small n [] h = tt
-wide-small n (a ∷ members) h = ((h.0.below, h.0.sound, omega (arith, h.0.small)), wide-small n members h.1)
+pub summand-small : (a : OrdInt) → IsSmall a → IsSummand a
+summand-small a h = (h.0, omega (arith, h.1))
+
+pub summands-small : (members : List OrdInt) → AreSmall members → AreSummands members
+summands-small [] h = tt
+summands-small (a ∷ members) h = (summand-small a h.0, summands-small members h.1)
+
+-- Booleans as integers
+pub small-truths : (atoms : List Atom) → AreSmall (map integer_of_atom atoms)
+small-truths [] = tt
+small-truths (a ∷ atoms) = ((((omega (arith, ints), omega (arith, ints)), (omega arith, tt)), omega (arith, ints)), small-truths atoms)
+
+pub small-negative : (a : OrdInt) → IsSmall a → IsSmall (negated_of a)
+small-negative a h = ((IsBounded-negated_of a h.0.0, AreRising-negated a.steps h.0.1), omega (arith, ints, high_of-negated_of a, h.1))
 
 multiplied-abs : (n : ℕ) (a : OrdInt) → greatest_abs a ≤ 1073741824 → n ≤ 1073741824 → greatest_abs (multiplied_of n a) ≤ 1152921504606846976
 multiplied-abs n a h le =
@@ -130,64 +141,81 @@ scaled-abs a (pos zero) h k = omega (arith, ints)
 scaled-abs a (pos (suc n)) h k = multiplied-abs (suc n) a h k
 scaled-abs a (negsuc n) h k = multiplied-abs (suc n) (negated_of a) (omega (arith, ints, high_of-negated_of a, h)) k
 
-scaled-sound : (a : OrdInt) (c : ℤ) → IsSound a → greatest_abs a ≤ 1073741824 → InLimit c → IsSound (scaled_of a c)
-scaled-sound a c s h k =
+-- the multiple of an integer in the limit is in the range of integers
+pub scaled-bounded : (a : OrdInt) (c : ℤ) → greatest_abs a ≤ 1073741824 → InLimit c → IsBounded (scaled_of a c)
+scaled-bounded a c h k =
     let le = times-le (unsigned_abs c) 1073741824 1073741824 1073741824 k (omega arith) in
-    (IsBounded-scaled_of a c 1073741824 (omega (arith, h)) (omega (arith, h)) (omega (arith, le)), AreRising-scaled_of a c s.1)
+    IsBounded-scaled_of a c 1073741824 (omega (arith, h)) (omega (arith, h)) (omega (arith, le))
 
-pub wide-scaled : (n : ℕ) (cs : List ℤ) (members : List OrdInt) → AllInLimit cs → AreSmallIntegers n members → AreWide n (scaled_each cs members)
-wide-scaled n [] members k h = tt
-wide-scaled n (c ∷ cs) [] k h = tt
-wide-scaled n (c ∷ cs) (a ∷ members) k h =
-    ((IntBelow-scaled_of n a c h.0.below, scaled-sound a c h.0.sound h.0.small (k 0), scaled-abs a c h.0.small (k 0)), wide-scaled n cs members (λ i. k (suc i)) h.1)
+summand-scaled : (a : OrdInt) (c : ℤ) → IsSmall a → InLimit c → IsSummand (scaled_of a c)
+summand-scaled a c h k = ((scaled-bounded a c h.1 k, AreRising-scaled_of a c h.0.1), scaled-abs a c h.1 k)
+
+pub summands-scaled : (cs : List ℤ) (members : List OrdInt) → AllInLimit cs → AreSmall members → AreSummands (scaled_each cs members)
+summands-scaled [] members k h = tt
+summands-scaled (c ∷ cs) [] k h = tt
+summands-scaled (c ∷ cs) (a ∷ members) k h = (summand-scaled a c h.0 (k 0), summands-scaled cs members (λ i. k (suc i)) h.1)
+
+pub below-scaled : (n : ℕ) (cs : List ℤ) (members : List OrdInt) → IntsBelow n members → IntsBelow n (scaled_each cs members)
+below-scaled n [] members h = tt
+below-scaled n (c ∷ cs) [] h = tt
+below-scaled n (c ∷ cs) (a ∷ members) h = (IntBelow-scaled_of n a c h.0, below-scaled n cs members h.1)
 
 pub length-scaled : (cs : List ℤ) (members : List OrdInt) → length (scaled_each cs members) ≤ length members
 length-scaled [] members = omega arith
 length-scaled (c ∷ cs) [] = omega arith
 length-scaled (c ∷ cs) (a ∷ members) = omega (arith, length-scaled cs members)
 
-wide-last : (n : ℕ) (members : List OrdInt) (a : OrdInt) → AreWide n members → SmallInteger n a → AreWide n (linear_members members a)
-wide-last n [] a h k = let m = small-negated n a k in ((m.below, m.sound, omega (arith, m.small)), tt)
-wide-last n (b ∷ members) a h k = (h.0, wide-last n members a h.1 k)
+pub summands-last : (members : List OrdInt) (a : OrdInt) → AreSummands members → IsSmall a → AreSummands (linear_members members a)
+summands-last [] a h k = (summand-small (negated_of a) (small-negative a k), tt)
+summands-last (b ∷ members) a h k = (h.0, summands-last members a h.1 k)
 
-wide-below : (n : ℕ) (members : List OrdInt) → AreWide n members → IntsBelow n (with_steps members)
-wide-below n [] h = tt
-wide-below n (a ∷ members) h = by_steps (has_steps a.steps) (wide-below n members h.1)
+below-last : (n : ℕ) (members : List OrdInt) (a : OrdInt) → IntsBelow n members → IntBelow n a → IntsBelow n (linear_members members a)
+below-last n [] a h k = (StepsBelow-negated n a.steps k, tt)
+below-last n (b ∷ members) a h k = (h.0, below-last n members a h.1 k)
+
+below-steps : (n : ℕ) (members : List OrdInt) → IntsBelow n members → IntsBelow n (with_steps members)
+below-steps n [] h = tt
+below-steps n (a ∷ members) h = by_steps (has_steps a.steps) (below-steps n members h.1)
   where
     by_steps : (b : Bool) → IntsBelow n (with_steps members) → IntsBelow n (if b then a ∷ with_steps members else with_steps members)
+    by_steps true r = (h.0, r)
+    by_steps false r = r
+
+pub sound-steps : (members : List OrdInt) → AreSummands members → AreSound (with_steps members)
+sound-steps [] h = tt
+sound-steps (a ∷ members) h = by_steps (has_steps a.steps) (sound-steps members h.1)
+  where
+    by_steps : (b : Bool) → AreSound (with_steps members) → AreSound (if b then a ∷ with_steps members else with_steps members)
     by_steps true r = (h.0.0, r)
     by_steps false r = r
 
-wide-sound : (n : ℕ) (members : List OrdInt) → AreWide n members → AreSound (with_steps members)
-wide-sound n [] h = tt
-wide-sound n (a ∷ members) h = by_steps (has_steps a.steps) (wide-sound n members h.1)
-  where
-    by_steps : (b : Bool) → AreSound (with_steps members) → AreSound (if b then a ∷ with_steps members else with_steps members)
-    by_steps true r = (h.0.1, r)
-    by_steps false r = r
-
-wide-total : (n : ℕ) (members : List OrdInt) → AreWide n members → abs_total (with_steps members) + unsigned_abs (constant_of_members members) ≤ length members * 1152921504606846976
-wide-total n [] h = omega (arith, ints)
-wide-total n (a ∷ members) h = by_steps (has_steps a.steps) (wide-total n members h.1)
+pub summands-total : (members : List OrdInt) → AreSummands members → abs_total (with_steps members) + unsigned_abs (constant_of_members members) ≤ length members * 1152921504606846976
+summands-total [] h = omega (arith, ints)
+summands-total (a ∷ members) h = by_steps (has_steps a.steps) (summands-total members h.1)
   where
     base-within : unsigned_abs a.base ≤ greatest_abs a
     base-within = omega arith
 
     by_steps : (b : Bool) → abs_total (with_steps members) + unsigned_abs (constant_of_members members) ≤ length members * 1152921504606846976
         → abs_total (if b then a ∷ with_steps members else with_steps members) + unsigned_abs (if b then constant_of_members members else a.base +ℤ constant_of_members members) ≤ suc (length members) * 1152921504606846976
-    by_steps true r = omega (arith, h.0.2, r)
-    by_steps false r = omega (arith, ints, h.0.2, r, base-within)
+    by_steps true r = omega (arith, h.0.1, r)
+    by_steps false r = omega (arith, ints, h.0.1, r, base-within)
 
-length-last : (members : List OrdInt) (a : OrdInt) → length (linear_members members a) ≡ suc (length members)
+pub length-last : (members : List OrdInt) (a : OrdInt) → length (linear_members members a) ≡ suc (length members)
 length-last [] a = refl
 length-last (b ∷ members) a = ap suc (length-last members a)
 
-pub equal-sum-below : (n : ℕ) (members : List OrdInt) (a : OrdInt) → AreWide n members → SmallInteger n a → CoreBelow n (equal_sum members a)
-equal-sum-below n members a h k = (tt, wide-below n (linear_members members a) (wide-last n members a h k))
-
-pub equal-sum-well_formed : (n : ℕ) (members : List OrdInt) (a : OrdInt) → AreWide n members → SmallInteger n a → length members ≤ 16777216 → IsWellFormed (equal_sum members a)
-equal-sum-well_formed n members a h k few =
-    let wide = wide-last n members a h k in
-    let t = wide-total n (linear_members members a) wide in
+-- all members of a linear statement, and the number that those without steps are together
+pub last-total : (members : List OrdInt) (a : OrdInt) → AreSummands members → IsSmall a → length members ≤ 16777216
+    → abs_total (with_steps (linear_members members a)) + unsigned_abs (constant_of_members (linear_members members a)) < 2 ^ 85
+last-total members a h k few =
+    let t = summands-total (linear_members members a) (summands-last members a h k) in
     let l = length-last members a in
-    (wide-sound n (linear_members members a) wide, omega (arith, ints, t, l, few))
+    omega (arith, t, l, few)
+
+pub equal-sum-below : (n : ℕ) (members : List OrdInt) (a : OrdInt) → IntsBelow n members → IntBelow n a → CoreBelow n (equal_sum members a)
+equal-sum-below n members a h k = (tt, below-steps n (linear_members members a) (below-last n members a h k))
+
+pub equal-sum-well_formed : (members : List OrdInt) (a : OrdInt) → AreSummands members → IsSmall a → length members ≤ 16777216 → IsWellFormed (equal_sum members a)
+equal-sum-well_formed members a h k few =
+    (sound-steps (linear_members members a) (summands-last members a h k), omega (arith, ints, last-total members a h k few))

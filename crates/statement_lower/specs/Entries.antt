@@ -5,7 +5,7 @@ use Rattle.order_ints.specs.declared.order_int.MapValue.{MapValue}
 use Rattle.order_ints.specs.declared.order_int.MapValue.TheVariants as values
 use Rattle.order_ints.specs.Truth.{Valuation}
 use Rattle.order_ints.specs.Place.{AtomBelow}
-use Rattle.order_ints.specs.OrderRange.{IntBelow, low_of, high_of}
+use Rattle.order_ints.specs.OrderRange.{IntBelow, AreRising, low_of, high_of}
 use Rattle.order_ints.specs.OrderValue.{IsOrdered}
 use Rattle.core_forms.specs.WellFormed.{IsSound}
 use Rattle.typed_model.specs.declared.model.Kind.{Kind}
@@ -43,8 +43,8 @@ AreOrdered σ [] = Unit {0}
 AreOrdered σ (values.Bool a ∷ entries) = AreOrdered σ entries
 AreOrdered σ (values.Int a ∷ entries) = IsOrdered σ a × AreOrdered σ entries
 
--- the least and the greatest value of each integer of a map are in the limit of numerals
+-- the least and the greatest value of each integer of a map are in the limit of numerals, and each step raises the value
 abbrev pub AreInLimit : List MapValue → Type 0
 AreInLimit [] = Unit {0}
 AreInLimit (values.Bool a ∷ entries) = AreInLimit entries
-AreInLimit (values.Int a ∷ entries) = (InLimit (low_of a) × InLimit (high_of a)) × AreInLimit entries
+AreInLimit (values.Int a ∷ entries) = (InLimit (low_of a) × InLimit (high_of a) × AreRising a.steps) × AreInLimit entries

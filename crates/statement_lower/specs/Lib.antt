@@ -1,8 +1,8 @@
 pub mod Terms
 pub mod Entries
+pub mod Linear
 pub mod Lines
 pub mod IsLowered
 pub mod Lowers
-pub mod Linear
 pub mod Pairs
 pub mod SameMeanings

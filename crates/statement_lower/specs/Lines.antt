@@ -1,18 +1,18 @@
 -- What a statement is lowered to, line by line of the table of statements: the number of variables behind its fresh
 -- ones, and its cores.
-use Rattle.std.specs.Prelude.{ℕ, ◌+◌, ◌/◌, min, pos, ◌-ℤ◌, true, false, List, [], ◌∷◌, ◌++◌, length, map, Option, if◌then◌else◌}
+use Rattle.std.specs.Prelude.{ℕ, ◌+◌, ◌/◌, min, ℤ, pos, ◌-ℤ◌, true, false, List, [], ◌∷◌, ◌++◌, length, map, Option, if◌then◌else◌}
 use Rattle.order_ints.specs.declared.atom.Atom.{Atom}
 use Rattle.order_ints.specs.declared.atom.Atom.TheVariants.{True}
 use Rattle.order_ints.specs.declared.order_int.OrdInt.{OrdInt}
 use Rattle.order_ints.specs.declared.order_int.MapValue.{MapValue}
 use Rattle.order_ints.specs.Truth.{not_atom}
-use Rattle.order_ints.specs.OrderMade.{atom_of_var, unit_range_of}
+use Rattle.order_ints.specs.OrderMade.{atom_of_var, integer_of_atom, unit_range_of}
 use Rattle.order_ints.specs.OrderRange.{low_of, high_of}
 use Rattle.order_ints.specs.OrderChange.{negated_of}
 use Rattle.core_forms.specs.declared.form.Core.{Core}
 use Rattle.core_forms.specs.declared.form.Core.TheVariants as core
 use Rattle.typed_model.specs.declared.what.What.{What}
-use Rattle.typed_model.specs.declared.what.What.TheVariants.{L4, L5, L6, L7, L8, L9, L10, L14, L15, L16, L17, L18}
+use Rattle.typed_model.specs.declared.what.What.TheVariants.{L4, L5, L6, L7, L8, L9, L10, L11, L12, L13, L14, L15, L16, L17, L18}
 use Rattle.typed_model.specs.declared.statement.Operator.{Operator}
 use Rattle.typed_model.specs.declared.statement.Operator.TheVariants as operator
 use Rattle.typed_model.specs.declared.statement.Relation.{Relation}
@@ -30,6 +30,7 @@ use Rattle.typed_model.specs.Domains.{at_least_zero}
 use Rattle.typed_model.specs.Holds.{terms_or_none}
 use Rattle.statement_lower.specs.declared.made.Made.{Made}
 use Rattle.statement_lower.specs.Terms.{atom_of, atoms_of, integer_of, integers_of, atom_or_true, word_of}
+use Rattle.statement_lower.specs.Linear.{scaled_each, linear_made}
 
 -- cores without a fresh variable
 abbrev pub made_here : ℕ → List Core → Made
@@ -115,6 +116,13 @@ most_remainder a b = min (at_least_zero (high_of a)) (at_least_zero (high_of b -
 abbrev pub most_quotient : OrdInt → OrdInt → ℕ
 most_quotient a b = at_least_zero (high_of a) / at_least_zero (low_of b)
 
+-- lines 11 and 13: the members are multiplied by their coefficients; in line 11 a Boolean is 1 where it is true and else 0
+abbrev pub scaled_truths : List MapValue → List ℤ → List BoolTerm → List OrdInt
+scaled_truths entries cs xs = scaled_each cs (map integer_of_atom (atoms_of entries xs))
+
+abbrev pub scaled_integers : List MapValue → List ℤ → List IntTerm → List OrdInt
+scaled_integers entries cs is = scaled_each cs (integers_of entries is)
+
 -- line 14: an operation on two integers gives the third
 abbrev pub operation_made : ℕ → Arithmetic → OrdInt → OrdInt → OrdInt → Made
 operation_made vars arithmetic.Plus a b c = made_here vars (core.Sum3 a b c ∷ [])
@@ -136,7 +144,7 @@ absolute_core a b = core.Max (a ∷ negated_of a ∷ []) b
 
 -- line 16: an operation on a list gives an integer
 abbrev pub aggregate_made : ℕ → Aggregate → List OrdInt → OrdInt → Made
-aggregate_made vars aggregate.Plus ints a = made_here vars []
+aggregate_made vars aggregate.Plus ints a = linear_made vars relation.Eq ints a
 aggregate_made vars aggregate.Max ints a = made_here vars (core.Max ints a ∷ [])
 aggregate_made vars aggregate.Min ints a = made_here vars (least_core ints a ∷ [])
 
@@ -162,6 +170,9 @@ made_of vars entries (L8 name rel i j) =
 made_of vars entries (L9 name rel i j z) =
     made_here vars (comparison_core rel (atom_of entries z) (integer_of entries i) (integer_of entries j) ∷ [])
 made_of vars entries (L10 name rel xs i) = count_made vars rel (atoms_of entries xs) (integer_of entries i)
+made_of vars entries (L11 name rel cs xs i) = linear_made vars rel (scaled_truths entries cs xs) (integer_of entries i)
+made_of vars entries (L12 name rel is i) = linear_made vars rel (integers_of entries is) (integer_of entries i)
+made_of vars entries (L13 name rel cs is i) = linear_made vars rel (scaled_integers entries cs is) (integer_of entries i)
 made_of vars entries (L14 name o i j k) =
     operation_made vars o (integer_of entries i) (integer_of entries j) (integer_of entries k)
 made_of vars entries (L15 i j) = made_here vars (absolute_core (integer_of entries i) (integer_of entries j) ∷ [])

@@ -1,13 +1,15 @@
 //! The cores of the lines over integers.
 
-ghost use Rattle.std.specs.Prelude.{◌≡◌, ◌+◌, ◌<◌, ◌^◌, ◌∷◌, [], IfOk};
+ghost use Rattle.std.specs.Prelude.{◌≡◌, ◌+◌, ◌<◌, ◌≤◌, ◌^◌, ◌∷◌, [], length, IfOk};
 ghost use Rattle.typed_model.specs.declared.statement.Arithmetic.TheVariants.{Div, Mod};
 ghost use Rattle.core_forms.specs.declared.form.Core.TheVariants.{Max};
+ghost use Rattle.typed_model.specs.Limits.{TermInLimit, TermsInLimit};
 ghost use Rattle.statement_lower.specs.Terms.{atom_of, atoms_of, integer_of, integers_of};
 ghost use Rattle.statement_lower.specs.Entries.{AreInLimit};
 ghost use Rattle.statement_lower.specs.Lines.{made_here, comparison_core, compared_count, count_made, most_remainder, most_quotient, least_core, operation_made, absolute_core, aggregate_made};
 
 use crate::fresh::{fresh_range, most_quotient, most_remainder};
+use crate::linear_lines::sum_made;
 use crate::made::Made;
 use crate::terms::{
     atom_of, atoms_of, bounded_integer_of, integer_of, integers_of, negated_integer_of,
@@ -278,11 +280,14 @@ pub fn aggregate_made(
     members: &[IntTerm],
     value: IntTerm,
 ) -> Result<Made, AllocError>
-    requires { AreInLimit entries.now }
+    requires entries { AreInLimit entries.now }
+    requires members { TermsInLimit members.now }
+    requires few { length members.now ≤ 16777216 }
+    requires value { TermInLimit value }
     ensures { IfOk result (λ m. m ≡ aggregate_made vars operation (integers_of entries.now members.now) (integer_of entries.now value)) }
 {
     match operation {
-        Aggregate::Plus => Ok(Made::nothing(alloc, vars)),
+        Aggregate::Plus => sum_made(alloc, entries, vars, Relation::Eq, members, value),
         Aggregate::Max => {
             let ints = integers_of(alloc, entries, members)?;
             let c = integer_of(alloc, entries, value)?;

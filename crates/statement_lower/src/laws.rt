@@ -1,7 +1,6 @@
 //! Laws of lowering, for proofs of crates above. Each function does nothing; its contract is the law.
 
 ghost use Rattle.statement_lower.specs.Lowers.{LineLaw};
-ghost use Rattle.statement_lower.specs.Linear.{EqualSumLaw};
 ghost use Rattle.statement_lower.specs.Pairs.{ReifiedDifferenceLaw};
 ghost use Rattle.statement_lower.specs.SameMeanings.{SameMeanings};
 
@@ -13,11 +12,6 @@ pub fn meaning_law()
 /// The cores of a statement that is lowered stand for its being true.
 pub fn line_law()
     ensures { LineLaw }
-{}
-
-/// A core stands for a sum or a linear statement with `eq`.
-pub fn equal_sum_law()
-    ensures { EqualSumLaw }
 {}
 
 /// Cores over a fresh atom for each two members stand for the reified statement that all members differ.

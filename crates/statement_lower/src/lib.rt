@@ -8,11 +8,13 @@ mod boolean_lines;
 mod fresh;
 mod integer_lines;
 mod laws;
+mod linear_lines;
 mod list_lines;
 mod made;
 mod statements;
+mod summands;
 mod terms;
 
-pub use laws::{equal_sum_law, line_law, meaning_law, reified_difference_law};
+pub use laws::{line_law, meaning_law, reified_difference_law};
 pub use made::Made;
 pub use statements::{is_lowered, made_of};

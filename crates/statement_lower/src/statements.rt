@@ -1,6 +1,7 @@
 //! The cores of a statement.
 
 ghost use Rattle.std.specs.Prelude.{◌≡◌, ◌<◌, ◌^◌, IfOk};
+ghost use Rattle.typed_model.specs.Limits.{WhatInLimit};
 ghost use Rattle.statement_lower.specs.Entries.{AreInLimit};
 ghost use Rattle.statement_lower.specs.Lines.{made_of};
 ghost use Rattle.statement_lower.specs.IsLowered.{is_lowered};
@@ -9,11 +10,12 @@ use crate::boolean_lines::{array_made, equal_made, pair_made, truth_made};
 use crate::integer_lines::{
     absolute_made, aggregate_made, comparison_made, count_made, operation_made, reified_made,
 };
+use crate::linear_lines::{multiples_made, sum_made, truths_made};
 use crate::list_lines::{Lists, different_made, order_made, terms};
 use crate::made::Made;
 use order_ints::{Atom, MapValue};
 use std::alloc::{AllocError, Global};
-use typed_model::{Aggregate, AllDifferent, What};
+use typed_model::{AllDifferent, Relation, What};
 
 /// Whether a statement is lowered.
 pub fn is_lowered(what: &What) -> bool
@@ -29,8 +31,11 @@ pub fn is_lowered(what: &What) -> bool
         | What::L10 { .. }
         | What::L14 { .. }
         | What::L15 { .. }
+        | What::L16 { .. }
         | What::L18 { .. } => true,
-        What::L16 { operation, .. } => !matches!(operation, Aggregate::Plus),
+        What::L11 { relation, .. } | What::L12 { relation, .. } | What::L13 { relation, .. } => {
+            matches!(relation, Relation::Eq)
+        }
         What::L17 { kind, .. } => !matches!(kind, AllDifferent::Reified),
         _ => false,
     }
@@ -44,6 +49,7 @@ pub fn made_of(
     what: &What,
 ) -> Result<Made, AllocError>
     requires entries { AreInLimit entries.now }
+    requires what { WhatInLimit what.now }
     requires room { (made_of vars entries.now what.now).vars < 2 ^ 27 }
     ensures { IfOk result (λ m. m ≡ made_of vars entries.now what.now) }
 {
@@ -86,6 +92,50 @@ pub fn made_of(
             bound,
             ..
         } => count_made(alloc, entries, vars, *relation, members.as_slice(), *bound),
+        What::L11 {
+            relation,
+            coefficients,
+            members,
+            bound,
+            ..
+        } => {
+            let coefficients = coefficients.as_slice();
+            let members = members.as_slice();
+            truths_made(
+                alloc,
+                entries,
+                vars,
+                *relation,
+                coefficients,
+                members,
+                *bound,
+            )
+        }
+        What::L12 {
+            relation,
+            members,
+            bound,
+            ..
+        } => sum_made(alloc, entries, vars, *relation, members.as_slice(), *bound),
+        What::L13 {
+            relation,
+            coefficients,
+            members,
+            bound,
+            ..
+        } => {
+            let coefficients = coefficients.as_slice();
+            let members = members.as_slice();
+            multiples_made(
+                alloc,
+                entries,
+                vars,
+                *relation,
+                coefficients,
+                members,
+                *bound,
+            )
+        }
         What::L14 {
             operation,
             left,

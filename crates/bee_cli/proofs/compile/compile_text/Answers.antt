@@ -1,4 +1,4 @@
-use Rattle.bee_cli.proofs.Headline.{typed, limited}
+use Rattle.bee_cli.proofs.ModelShapes.{typed, limited}
 use Rattle.bee_cli.proofs.compile.compile_text.Goals as goal
 
 pub write_model-requires-clause-typed : goal.write_model-requires-clause-typed

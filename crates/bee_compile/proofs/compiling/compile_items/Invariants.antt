@@ -1,6 +1,5 @@
 use Rattle.std.proofs.Common.{◌+◌, length}
 use Rattle.std.specs.Prelude.{reverse}
-use Rattle.typed_model.specs.Limits.{DeclsInLimit}
 use Rattle.model_lower.specs.Items.{items_of}
 use Rattle.model_lower.specs.Lowering.{lowered_items, nothing_lowered}
 use Rattle.bee_compile.proofs.Steps.{Compiling}
@@ -9,10 +8,7 @@ use Rattle.bee_compile.proofs.compiling.compile_items.Given as goal
 -- what is compiled so far, and the items that are left, are the whole
 abbrev pub invariant-loop-stmt : goal.invariant-loop-stmt
 invariant-loop-stmt l =
-    record {
-      items : Compiling l.progress (items_of l.rest (reverse l.left.items)) (lowered_items nothing_lowered (items_of l.decls l.fn.stmts.items));
-      limits : DeclsInLimit l.rest;
-    }
+    Compiling l.progress (items_of l.rest (reverse l.left.items)) (lowered_items nothing_lowered (items_of l.decls l.fn.stmts.items))
 
 abbrev pub decreases-loop-stmt : goal.decreases-loop-stmt
 decreases-loop-stmt l = length l.rest + length l.left.items

@@ -1,13 +1,34 @@
-use Rattle.std.proofs.Common.{inr}
+use Rattle.std.proofs.Common.{◌≡◌, ℕ, false, length, inr, subst, rules}
+use Rattle.fixpoint_queue.specs.Pairs.{IsCounted}
+use Rattle.fixpoint_queue.specs.Waits.{left_to_ask}
+use Rattle.fixpoint_queue.proofs.Counted.{counted-then, left-running}
 use Rattle.fixpoint_queue.proofs.LedgerLaws.{adds-trans, closed-none, empty-queue}
 use Rattle.fixpoint_queue.proofs.asking.ask_all.Goals as goal
 
 pub loop-alloc-preserved : goal.loop-alloc-preserved
-loop-alloc-preserved g c = record {
-  run = c.ask_first.ensures.run;
-  adds = adds-trans g.F.Oracle.told c.args.ledger.now.items c.loop-alloc.ledger.items c.ask_first.new.ledger.items c.args.state.now c.loop-alloc.state c.ask_first.new.state
-      c.loop-alloc.invariant.adds c.ask_first.ensures.adds;
-}
+loop-alloc-preserved g c =
+    let running : c.loop-alloc.state.bottom ≡ false = search rules in
+    let asked : IsCounted c.args.state.now c.args.ledger.now.items c.loop-alloc.ledger.items (length c.args.queue.now.queued) c.args.steps.now c.loop-alloc.steps (length c.loop-alloc.queue.queued) =
+    subst (λ (n : ℕ). IsCounted c.args.state.now c.args.ledger.now.items c.loop-alloc.ledger.items (length c.args.queue.now.queued) c.args.steps.now c.loop-alloc.steps n)
+    (left-running c.loop-alloc.state c.loop-alloc.queue running) c.loop-alloc.invariant.counted in
+    record {
+      run = c.ask_first.ensures.run;
+      adds = adds-trans g.F.Oracle.told c.args.ledger.now.items c.loop-alloc.ledger.items c.ask_first.new.ledger.items c.args.state.now c.loop-alloc.state c.ask_first.new.state
+          c.loop-alloc.invariant.adds c.ask_first.ensures.adds;
+      counted = counted-then g.F.Oracle.told c.args.state.now c.loop-alloc.state c.ask_first.new.state c.args.ledger.now.items c.loop-alloc.ledger.items c.ask_first.new.ledger.items (length c.args.queue.now.queued)
+          c.args.steps.now c.loop-alloc.steps (length c.loop-alloc.queue.queued) c.ask_first.new.steps (left_to_ask c.ask_first.new.state c.ask_first.new.queue) c.loop-alloc.invariant.adds c.ask_first.ensures.adds
+          asked c.in_ok-ask_first-in-Some.ensures.counted;
+    }
+
+pub returns-in_err-ask_first-in-Some-clause-counted : goal.returns-in_err-ask_first-in-Some-clause-counted
+returns-in_err-ask_first-in-Some-clause-counted g c =
+    let running : c.loop-alloc.state.bottom ≡ false = search rules in
+    let asked : IsCounted c.args.state.now c.args.ledger.now.items c.loop-alloc.ledger.items (length c.args.queue.now.queued) c.args.steps.now c.loop-alloc.steps (length c.loop-alloc.queue.queued) =
+    subst (λ (n : ℕ). IsCounted c.args.state.now c.args.ledger.now.items c.loop-alloc.ledger.items (length c.args.queue.now.queued) c.args.steps.now c.loop-alloc.steps n)
+    (left-running c.loop-alloc.state c.loop-alloc.queue running) c.loop-alloc.invariant.counted in
+    counted-then g.F.Oracle.told c.args.state.now c.loop-alloc.state c.ask_first.new.state c.args.ledger.now.items c.loop-alloc.ledger.items c.ask_first.new.ledger.items (length c.args.queue.now.queued)
+    c.args.steps.now c.loop-alloc.steps (length c.loop-alloc.queue.queued) c.ask_first.new.steps 0 c.loop-alloc.invariant.adds c.ask_first.ensures.adds
+    asked c.in_err-ask_first-in-Some.ensures.refused
 
 pub returns-in_err-ask_first-in-Some-clause-adds : goal.returns-in_err-ask_first-in-Some-clause-adds
 returns-in_err-ask_first-in-Some-clause-adds g c =

@@ -1,13 +1,15 @@
-use Rattle.std.proofs.Common.{◌≡◌, ◌-◌, ◌<◌, true, sym, ap, ◌∙◌, subst, arith, Option}
+use Rattle.std.proofs.Common.{◌≡◌, ℕ, ◌-◌, ◌<◌, ◌≤◌, true, sym, ap, ◌∙◌, subst, arith, rules, Option}
 use Rattle.std.specs.Prelude.{IfSome, IfNone, slice_set}
 use Rattle.core_forms.specs.declared.equation.Equation.{Equation}
-use Rattle.step_kernel.specs.Kernel.{Kernel}
+use Rattle.step_kernel.specs.Kernel.{Kernel, trimmed_at}
+use Rattle.index_ring.specs.Lists.{times}
 use Rattle.step_kernel.specs.Parts.{is_compound_of}
 use Rattle.step_kernel.specs.Instances.{is_instance_at}
 use Rattle.step_kernel.proofs.There.{there-formed}
 use Rattle.step_kernel.proofs.Splits.{there-bounds}
 use Rattle.fixpoint_queue.specs.Waits.{IsRun, left_to_do}
 use Rattle.fixpoint_queue.proofs.AskedCores.{run-equated, less-equated, run-quiet, less-quiet}
+use Rattle.fixpoint_queue.proofs.Counted.{counted-taken, counted-silent}
 use Rattle.fixpoint_queue.proofs.asking.ask_core.Goals as goal
 
 pub ask-requires : goal.ask-requires
@@ -58,3 +60,18 @@ pub take_equation-requires-clause-places : goal.take_equation-requires-clause-pl
 take_equation-requires-clause-places g c = λ v id low o.
     let has = (c.requires.run.listed.there v id low).0 o in
     omega (arith, (there-bounds c.args.state.now.cores id has.0 has.1).1, c.requires.run.places)
+
+pub returns-in_ok-reserve-in-Some-clause-counted : goal.returns-in_ok-reserve-in-Some-clause-counted
+returns-in_ok-reserve-in-Some-clause-counted g c =
+    let instance : is_instance_at c.args.core.now c.in-Some.e ≡ true =
+    g.F.Oracle.told_is_instance c.args.core.now c.in-Some.e
+    (subst (λ (o : Option Equation). IfSome o (g.F.Oracle.told c.args.core.now)) c.in-Some.is c.in_ok-e.ensures.some) in
+    let same : c.from.result ≡ c.args.id = search rules in
+    counted-taken g.F.Oracle.told c.args.state.now c.args.occurs.now c.args.queue.now c.take_equation.new.queue c.args.marks.now c.requires.run c.from.result c.args.core.now
+    (ap (trimmed_at c.args.state.now) same ∙ c.requires.there) c.in-Some.e instance (subst (λ (i : ℕ). 1 ≤ times i c.args.queue.now.queued) (sym same) c.requires.first)
+    c.take_equation.ensures.woken c.take_equation.new.state c.take_equation.ensures.equated c.take_equation.ensures.step c.args.ledger.now.items c.take_equation.new.ledger.items
+    (search rules) c.args.steps.now c.ask.new.steps c.in_ok-e.ensures.most
+
+pub returns-in-None-clause-counted : goal.returns-in-None-clause-counted
+returns-in-None-clause-counted g c =
+    counted-silent c.args.state.now c.args.ledger.now.items c.args.id c.args.steps.now c.ask.new.steps c.args.queue.now c.take.new.self c.requires.running c.requires.first c.take.ensures.queued c.in_ok-e.ensures.most

@@ -1,8 +1,9 @@
-use Rattle.std.proofs.Common.{◌+◌, drop, ◌∙◌}
+use Rattle.std.proofs.Common.{◌+◌, drop, sym, subst, ◌∙◌}
+use Rattle.typed_model.specs.Limits.{StmtsInLimit}
 use Rattle.model_lower.specs.Items.{statements, items_of}
 use Rattle.model_lower.specs.Built.{first_unbuilt, IsFaultOf}
 use Rattle.model_lower.specs.Drafting.{lowered_so_far}
-use Rattle.model_lower.proofs.LimitLaws.{declared-limit, all-stated-limit, decls-left}
+use Rattle.model_lower.proofs.LimitLaws.{declared-limit, all-stated-limit, decls-left, stmts-front, stmts-back}
 use Rattle.model_lower.proofs.LoweredItems.{items-at, shape-step, unbuilt-step, fault-before, fault-here, handed_on}
 use Rattle.model_lower.proofs.lowering.lower_items.Goals as goal
 
@@ -58,10 +59,9 @@ loop-decl-preserved c =
       unbuilt = unbuilt-step items xs rest d parts l m k _ c.in_ok-add_statements.ensures.shape c.in_ok-add_declaration.ensures.shape c.in_ok-add_statements.ensures.built c.in_ok-add_declaration.ensures.built c.loop-decl.invariant.unbuilt;
       in_limit = declared-limit m k d c.in_ok-add_declaration.ensures.shape left.0 (all-stated-limit l m c.split_at.result.0.now c.in_ok-add_statements.ensures.shape c.loop-decl.invariant.in_limit);
       limits = left.1;
+      stmts = subst StmtsInLimit (sym c.split_at.ensures.back) (stmts-back c.count_before.result c.loop-decl.rest.now c.loop-decl.invariant.stmts);
     }
 
-pub add_statements-requires : goal.add_statements-requires
-add_statements-requires c = c.loop-decl.invariant.in_limit
-
-pub add_statements-requires-2 : goal.add_statements-requires-2
-add_statements-requires-2 c = c.loop-decl.invariant.in_limit
+pub add_statements-requires-clause-limits : goal.add_statements-requires-clause-limits
+add_statements-requires-clause-limits c =
+    subst StmtsInLimit (sym c.split_at.ensures.front) (stmts-front c.count_before.result c.loop-decl.rest.now c.loop-decl.invariant.stmts)

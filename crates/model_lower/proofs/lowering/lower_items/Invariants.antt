@@ -1,5 +1,5 @@
 use Rattle.std.proofs.Common.{◌≡◌, drop}
-use Rattle.typed_model.specs.Limits.{DeclsInLimit}
+use Rattle.typed_model.specs.Limits.{DeclsInLimit, StmtsInLimit}
 use Rattle.statement_lower.specs.Entries.{AreInLimit}
 use Rattle.model_lower.specs.Items.{items_of}
 use Rattle.model_lower.specs.Lowering.{lowered_items, nothing_lowered}
@@ -14,4 +14,5 @@ invariant-loop-decl l =
       unbuilt : first_unbuilt l.draft.vars (items_of (drop l.decl-index l.decls) l.rest) ≡ first_unbuilt 0 (items_of l.decls l.fn.stmts);
       in_limit : AreInLimit l.draft.entries.items;
       limits : DeclsInLimit (drop l.decl-index l.decls);
+      stmts : StmtsInLimit l.rest;
     }

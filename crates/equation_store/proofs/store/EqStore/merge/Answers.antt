@@ -21,7 +21,7 @@ labels_are : (c : After-merge_labels) → (with_items c.self.inside.labels c.mer
 labels_are c = with_items_is c.self.inside.labels c.merge_labels.new.labels (omega (arith, c.merge_labels.auto.labels, c.as_mut_slice-labels.ensures.len))
 
 sizes_are : (c : After-merge_labels) → (with_items c.self.inside.sizes c.merge_labels.new.sizes).items ≡ c.merge_labels.new.sizes
-sizes_are c = with_items_is c.self.inside.sizes c.merge_labels.new.sizes (omega (arith, c.merge_labels.auto.sizes, c.as_mut_slice.ensures.len))
+sizes_are c = with_items_is c.self.inside.sizes c.merge_labels.new.sizes (omega (arith, c.merge_labels.auto.sizes, c.as_mut_slice-sizes.ensures.len))
 
 merged-view : (c : After-merge_labels) → (with_items c.self.inside.labels c.merge_labels.new.labels).items ≡ merged c.self.inside.labels.items c.args.a c.args.b
 merged-view c = labels_are c ∙ c.merge_labels.ensures.labels ∙ ap (λ (labels : List Atom). merged labels c.args.a c.args.b) c.as_mut_slice-labels.ensures.value
@@ -30,10 +30,14 @@ facts : (c : After-merge_labels) → IsMerge c.args.self.now.view (with_items c.
 facts c =
     is_merge_from c.self.inside.labels.items c.args.self.now.view _ c.args.a c.args.b (same_view c) c.self.invariant.sizes_are.labelled (merged-view c) c.requires.first c.requires.second
 
-kept : (c : After-merge_labels) → IsKept (with_items c.self.inside.labels c.merge_labels.new.labels).items (with_items c.self.inside.sizes c.merge_labels.new.sizes).items c.merge_labels.new.classes
+next_is : (c : After-merge_labels) → (with_items c.self.inside.next c.merge_labels.new.next).items ≡ c.merge_labels.new.next
+next_is c = with_items_is c.self.inside.next c.merge_labels.new.next (omega (arith, c.merge_labels.auto.next, c.as_mut_slice.ensures.len))
+
+kept : (c : After-merge_labels) → IsKept (with_items c.self.inside.labels c.merge_labels.new.labels).items (with_items c.self.inside.sizes c.merge_labels.new.sizes).items (with_items c.self.inside.next c.merge_labels.new.next).items
 kept c =
-    subst (λ (l : List Atom). IsKept l (with_items c.self.inside.sizes c.merge_labels.new.sizes).items c.merge_labels.new.classes) (sym (labels_are c))
-    (subst (λ (l : List ℕ). IsKept c.merge_labels.new.labels l c.merge_labels.new.classes) (sym (sizes_are c)) c.merge_labels.ensures.kept)
+    subst (λ (l : List Atom). IsKept l (with_items c.self.inside.sizes c.merge_labels.new.sizes).items (with_items c.self.inside.next c.merge_labels.new.next).items) (sym (labels_are c))
+    (subst (λ (l : List ℕ). IsKept c.merge_labels.new.labels l (with_items c.self.inside.next c.merge_labels.new.next).items) (sym (sizes_are c))
+    (subst (λ (l : List ℕ). IsKept c.merge_labels.new.labels c.merge_labels.new.sizes l) (sym (next_is c)) c.merge_labels.ensures.kept))
 
 changed : (c : After-merge_labels) → c.merge_labels.result ≡ Changed → IsChangedBy (change_of c.args.self.now.view (resolve c.args.self.now.view c.args.a) (resolve c.args.self.now.view c.args.b)) c.args.self.now.view (with_items c.self.inside.labels c.merge_labels.new.labels).items c.args.a c.args.b
 changed c e =
@@ -56,8 +60,8 @@ returns-clause-relabels c e = (changed (goal.at.returns-clause-relabels c).After
 pub returns-clause-walked : goal.returns-clause-walked
 returns-clause-walked c e =
     let h = (goal.at.returns-clause-walked c).After-merge_labels in
-    let old : IsStore h.args.self.now = subst IsStore h.self.view_is (store-from h.self.inside.labels.items h.self.inside.sizes.items h.self.inside.classes h.self.invariant) in
-    let new : Store = store_of (with_items h.self.inside.labels h.merge_labels.new.labels).items h.merge_labels.new.classes in
+    let old : IsStore h.args.self.now = subst IsStore h.self.view_is (store-from h.self.inside.labels.items h.self.inside.sizes.items h.self.inside.next.items h.self.invariant) in
+    let new : Store = store_of (with_items h.self.inside.labels h.merge_labels.new.labels).items (with_items h.self.inside.sizes h.merge_labels.new.sizes).items (with_items h.self.inside.next h.merge_labels.new.next).items in
     lists-changed h.args.self.now new h.args.a h.args.b old h.requires.first h.requires.second
     (merged-view h ∙ ap (λ (labels : List Atom). merged labels h.args.a h.args.b) (same_view h))
     (IsRelabelled h.args.self.now.view (with_items h.self.inside.labels h.merge_labels.new.labels).items) (changed h e).relabels
@@ -74,4 +78,4 @@ returns-clause-doubles c e = (facts (goal.at.returns-clause-doubles c).After-mer
 pub returns-clause-store : goal.returns-clause-store
 returns-clause-store c =
     let h = (goal.at.returns-clause-store c).After-merge_labels in
-    store-from (with_items h.self.inside.labels h.merge_labels.new.labels).items (with_items h.self.inside.sizes h.merge_labels.new.sizes).items h.merge_labels.new.classes (kept h)
+    store-from (with_items h.self.inside.labels h.merge_labels.new.labels).items (with_items h.self.inside.sizes h.merge_labels.new.sizes).items (with_items h.self.inside.next h.merge_labels.new.next).items (kept h)

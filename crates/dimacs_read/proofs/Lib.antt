@@ -1,0 +1,15 @@
+pub mod Leads
+pub mod ReadTo
+pub mod ValuesTell
+pub mod ValuesRead
+pub mod TextSame
+pub mod StepsRead
+pub mod Pieces
+pub mod LiteralsRead
+pub mod TextRead
+pub mod NewNames
+pub mod TextLeads
+pub mod Taken
+pub mod Fronts
+pub mod Exact
+pub mod Lawful

@@ -1,0 +1,8 @@
+pub mod LineByLine
+pub mod Values
+pub mod TextLines
+pub mod TextSteps
+pub mod Steps
+pub mod Entries
+pub mod Faults
+pub mod ReadLaws

@@ -1,0 +1,242 @@
+-- The state after a split.
+use Rattle.std.proofs.Common.{◌≡◌, ◌⊎◌, inl, inr, ℕ, zero, suc, ◌+◌, ◌-◌, ◌≤◌, ◌<◌, ◌^◌, ◌==◌, Bool, true, false, List, [], ◌∷◌, ◌++◌, map, length, get_or, set, take, refl, sym, ap, ◌∙◌, subst, arith, ⊎_elim, Option, Some, None, Result, Ok, Err}
+use Rattle.std.specs.Prelude.{option_map, if◌then◌else◌}
+use Rattle.std.proofs.lemmas.Bool.{cases_eq, cond-false, ne_eqb}
+use Rattle.std.proofs.lemmas.Bool.Decides.{nat_tests}
+use Rattle.std.proofs.lemmas.List.{length-set, length-append, length-map, get_or_append_left, get_or-append-add, take_all}
+use Rattle.std.proofs.Math.Seq.{take-append_seam}
+use Rattle.order_ints.specs.declared.atom.Atom.{Atom}
+use Rattle.order_ints.specs.Label.{own_labels, with_own_labels}
+use Rattle.order_ints.proofs.Labels.{length-own_labels}
+use Rattle.core_forms.specs.declared.equation.Equation.{Equation}
+use Rattle.core_forms.specs.declared.form.Core.{Core}
+use Rattle.core_forms.specs.Trimmed.{trimmed_core}
+use Rattle.part_base.specs.declared.parts.Parts.{Parts}
+use Rattle.ledger_text.specs.declared.line.Line.TheVariants.{Split}
+use Rattle.core_occurrences.specs.Lists.{OccurrenceLists, IsOccurrences, removed}
+use Rattle.index_ring.specs.Lists.{times, without as without_id}
+use Rattle.index_ring.proofs.Times.{times-without}
+use Rattle.step_kernel.specs.declared.fault.StepFault.{StepFault}
+use Rattle.step_kernel.specs.declared.fault.StepFault.TheVariants.{AfterBottom, NotCompound}
+use Rattle.step_kernel.specs.Kernel.{Kernel, core_at, trimmed_at, IsKernel}
+use Rattle.step_kernel.specs.Parts.{parts_at}
+use Rattle.step_kernel.specs.SplitAt.{ArePartsAt}
+use Rattle.step_kernel.specs.Steps.{step, step_at, unless_fault, divided, without}
+use Rattle.step_kernel.proofs.Costs.{trimmed-more}
+use Rattle.step_kernel.proofs.Holes.{below-there}
+use Rattle.step_kernel.proofs.LeastCompound.{core_at-next}
+use Rattle.step_kernel.proofs.Splits.{at-bounds, there-bounds, divided-room}
+use Rattle.step_kernel.proofs.StepLaws.{step-kept}
+use Rattle.step_kernel.proofs.There.{there-divided}
+use Rattle.fixpoint_queue.specs.IdQueue.{Ids, IsIds}
+use Rattle.fixpoint_queue.specs.Listed.{IsListed}
+use Rattle.fixpoint_queue.specs.Standing.{Stand, AreVars, AreAllVars, AreVarsFrom, AreEntered, all_counted}
+use Rattle.fixpoint_queue.specs.Waits.{IsRun}
+use Rattle.fixpoint_queue.specs.Wider.{IsWider, HasRoom}
+use Rattle.fixpoint_queue.proofs.NextRun.{Goes, Queues, run-next, marked-gone, mapped}
+use Rattle.fixpoint_queue.proofs.Stood.{core_at-without, core_at-gone, stand-removed}
+use Rattle.fixpoint_queue.proofs.Widened.{run-wider}
+
+ok-of : (x y : Kernel) → ◌≡◌ {A = Result Kernel StepFault} (Ok x) (Ok y) → x ≡ y
+ok-of x y h = cc
+
+pub divided-is : (k new : Kernel) (id : ℕ) (parts : Parts) → k.bottom ≡ false → ArePartsAt k id parts → step k (Split id) ≡ Ok new → new ≡ divided k id parts
+divided-is k new id parts running at is =
+    ok-of new (divided k id (parts_at (length k.view + 1) at.core))
+    (sym is
+    ∙ ap (λ (b : Bool). if b then Err AfterBottom else step_at k (Split id) (trimmed_at k id)) running
+    ∙ ap (step_at k (Split id)) at.there
+    ∙ ap (λ (b : Bool). unless_fault (if b then None else Some NotCompound) (divided k id (parts_at (length k.view + 1) at.core))) at.compound)
+    ∙ ap (divided k id) (sym at.are)
+
+-- the state after it
+pub kernel-split : (k new : Kernel) (id : ℕ) → IsKernel k → step k (Split id) ≡ Ok new → IsKernel new
+kernel-split k new id is stepped = (step-kept k new (Split id) is stepped).kernel
+
+-- there are not too many variables with the fresh ones
+pub fresh-bound : (k : Kernel) (id : ℕ) (parts : Parts) → IsKernel k → ArePartsAt k id parts → length k.view + parts.fresh ≤ 2 ^ 27
+fresh-bound k id parts is at =
+    divided-room k id parts
+    (subst (λ (p : Parts). IsKernel (divided k id p)) (sym at.are) (there-divided k id at.core is at.there at.compound))
+
+-- the variables of each part, where the parts stand behind other cores
+pub vars-from : (xs : List (Option Core)) (lists : List (List ℕ)) (cores : List Core) → AreAllVars lists cores → AreVarsFrom (xs ++ map Some cores) (length xs) lists
+vars-from xs lists cores are i lt =
+    let at = part lists cores are i lt in
+    (at.0, get_or-append-add xs (map Some cores) i None ∙ at.1, at.2)
+  where
+    part : (ls : List (List ℕ)) (cs : List Core) → AreAllVars ls cs → (j : ℕ) → j < length ls → (core : Core) × (get_or (map Some cs) j None ≡ Some core) × AreVars (get_or ls j []) core
+    part [] cs h j less = absurd (omega (arith, less))
+    part (l ∷ ls) [] h j less = absurd h
+    part (l ∷ ls) (c ∷ cs) h zero less = (c, refl, h.0)
+    part (l ∷ ls) (c ∷ cs) h (suc j) less = part ls cs h.1 j (omega (arith, less))
+
+-- as many lists as parts
+pub as-many : (lists : List (List ℕ)) (cores : List Core) → AreAllVars lists cores → length lists ≡ length cores
+as-many [] [] h = refl
+as-many [] (c ∷ cores) h = absurd h
+as-many (l ∷ lists) [] h = absurd h
+as-many (l ∷ lists) (c ∷ cores) h = ap suc (as-many lists cores h.1)
+
+core_at-left : (xs ys : List (Option Core)) (id : ℕ) → id ≤ length xs → core_at (xs ++ ys) id ≡ core_at xs id
+core_at-left xs ys zero high = refl
+core_at-left xs ys (suc i) high =
+    let e : suc i ≡ i + 1 = omega arith in
+    ap (core_at (xs ++ ys)) e ∙ core_at-next (xs ++ ys) i ∙ get_or_append_left xs ys None i (omega (arith, high)) ∙ sym (core_at-next xs i) ∙ sym (ap (core_at xs) e)
+
+module _ (told : Core → Equation → Type 0) (k new : Kernel) (id : ℕ) (parts : Parts) (lists : List (List ℕ))
+    (first wide left : OccurrenceLists) (queue wide-queue left-queue : Ids) (marks wide-marks left-marks : List Bool)
+    (start : IsRun told k first queue marks) (wider : IsWider first wide queue wide-queue marks wide-marks) (room : HasRoom k parts.fresh lists wide wide-queue wide-marks)
+    (at : ArePartsAt k id parts) (are : AreAllVars lists parts.cores) (is : new ≡ divided k id parts)
+    (left-is : left ≡ removed wide id) (occurrences : IsOccurrences left) (queued : left-queue.queued ≡ without_id id wide-queue.queued) (places : left-queue.places ≡ wide-queue.places)
+    (ids : IsIds left-queue) (marks-are : left-marks ≡ set wide-marks (id - 1) false)
+  where
+    pub run : IsRun told k wide wide-queue wide-marks
+    run = run-wider told k first wide queue wide-queue marks wide-marks start wider
+
+    bounds : (1 ≤ id) × (id ≤ length k.cores)
+    bounds = at-bounds k id at.core at.there
+
+    cores-are : new.cores ≡ without k.cores id ++ map Some parts.cores
+    cores-are = ap (λ (kk : Kernel). kk.cores) is
+
+    view-is : new.view ≡ with_own_labels k.view parts.fresh
+    view-is = ap (λ (kk : Kernel). kk.view) is
+
+    front : length (without k.cores id) ≡ length k.cores
+    front = length-set k.cores (id - 1) None
+
+    many : length new.cores ≡ length k.cores + length lists
+    many = ap length cores-are ∙ length-append (without k.cores id) (map Some parts.cores) ∙ (let e = length-map parts.cores (λ (c : Core). Some c) in omega (arith, front, e, as-many lists parts.cores are))
+
+    pub lists-from : AreVarsFrom new.cores (length k.cores) lists
+    lists-from =
+        subst (λ (cs : List (Option Core)). AreVarsFrom cs (length k.cores) lists) (sym cores-are)
+        (subst (λ (n : ℕ). AreVarsFrom (without k.cores id ++ map Some parts.cores) n lists) front (vars-from (without k.cores id) lists parts.cores are))
+
+    taken : take (length k.cores) new.cores ≡ without k.cores id
+    taken =
+        ap (take (length k.cores)) cores-are
+        ∙ ap (λ (n : ℕ). take n (without k.cores id ++ map Some parts.cores)) (sym front)
+        ∙ take-append_seam (without k.cores id) (map Some parts.cores)
+
+    pub left-stand : Stand (take (length k.cores) new.cores) left
+    left-stand =
+        subst (λ (o : OccurrenceLists). Stand (take (length k.cores) new.cores) o) (sym left-is)
+        (subst (λ (cs : List (Option Core)). Stand cs (removed wide id)) (sym taken) (stand-removed k.cores wide id bounds.0 run.listed.there))
+
+    pub left-before : length k.cores ≤ length new.cores
+    left-before = omega (arith, many)
+
+    left-lists : length left.lists ≡ length wide.lists
+    left-lists = ap (λ (o : OccurrenceLists). length o.lists) left-is ∙ mapped id wide.lists
+
+    pub left-vars : length new.view ≤ length left.lists
+    left-vars =
+        omega (
+          arith,
+          left-lists,
+          ap length view-is,
+          length-append k.view (own_labels (length k.view + 1) parts.fresh),
+          length-own_labels (length k.view + 1) parts.fresh,
+          room.vars,
+        )
+
+    pub left-ids : length k.cores + length lists ≤ left.ids
+    left-ids = omega (arith, ap (λ (o : OccurrenceLists). o.ids) left-is, room.ids)
+
+    pub left-room : all_counted lists ≤ left.room
+    left-room = omega (arith, ap (λ (o : OccurrenceLists). o.room) left-is, room.room)
+
+    pub left-places : length k.cores + length lists < left-queue.places
+    left-places = omega (arith, places, room.places)
+
+    module _ (kernel : IsKernel new) (next : OccurrenceLists) (next-queue : Ids) (entered : AreEntered new.cores (length k.cores) (length lists) left next left-queue next-queue)
+      where
+        here : (other : ℕ) → (other ≡ id → ⊥) → other ≤ length k.cores → core_at new.cores other ≡ core_at k.cores other
+        here other n within =
+            ap (λ (cs : List (Option Core)). core_at cs other) cores-are
+            ∙ core_at-left (without k.cores id) (map Some parts.cores) other (omega (arith, within, front))
+            ∙ core_at-without k.cores id other bounds.0 n
+
+        trimmed-same : (other : ℕ) → (other ≡ id → ⊥) → other ≤ length k.cores → trimmed_at new other ≡ trimmed_at k other
+        trimmed-same other n within =
+            ap (option_map (trimmed_core new.view)) (here other n within) ∙ ap (λ (v : List Atom). option_map (trimmed_core v) (core_at k.cores other)) view-is
+            ∙ by (core_at k.cores other) refl
+          where
+            by : (o : Option Core) → core_at k.cores other ≡ o → option_map (trimmed_core (with_own_labels k.view parts.fresh)) o ≡ option_map (trimmed_core k.view) o
+            by None e = refl
+            by (Some core) e = ap Some (trimmed-more (length k.view + 1) k.view parts.fresh core (below-there k.cores other core e (length k.view + 1) start.kernel.below).0)
+
+        goes-split : Goes k new id
+        goes-split = record {
+          kernel = kernel;
+          longer = left-before;
+          empty = ap (λ (cs : List (Option Core)). core_at cs id) cores-are
+              ∙ core_at-left (without k.cores id) (map Some parts.cores) id (omega (arith, bounds.1, front))
+              ∙ core_at-gone k.cores id bounds.0;
+          at = λ other within n. here other n within;
+          trimmed = λ other within n. trimmed-same other n within;
+        }
+
+        whole : take (length k.cores + length lists) new.cores ≡ new.cores
+        whole = ap (λ (n : ℕ). take n new.cores) (sym many) ∙ take_all (length new.cores) new.cores (omega arith)
+
+        listed-split : IsListed new next
+        listed-split = record {
+          occurrences = entered.occurrences;
+          vars = omega (arith, left-vars, entered.lists);
+          ids = omega (arith, many, left-ids, entered.ids);
+          there = subst (λ (cs : List (Option Core)). Stand cs next) whole entered.stand;
+        }
+
+        times-left : (other : ℕ) → (other ≡ id → ⊥) → times other left-queue.queued ≡ times other queue.queued
+        times-left other n = ap (times other) queued ∙ times-without id other wide-queue.queued ∙ other-times ∙ ap (times other) wider.queued
+          where
+            other-times : (if other == id then 0 else times other wide-queue.queued) ≡ times other wide-queue.queued
+            other-times = cond-false (other == id) 0 (times other wide-queue.queued) (ne_eqb other id n)
+
+        gone-times : (other : ℕ) → other ≡ id → times other left-queue.queued ≡ 0
+        gone-times other e =
+            let yes : (other == id) ≡ true = grind (arith, nat_tests, e) in
+            ap (times other) queued ∙ times-without id other wide-queue.queued ∙ ap (λ (t : Bool). if t then 0 else times other wide-queue.queued) yes
+
+        part-there : (other : ℕ) → length k.cores < other → other ≤ length k.cores + length lists → (core : Core) × (core_at new.cores other ≡ Some core)
+        part-there other past within =
+            let i = other - length k.cores - 1 in
+            let p = lists-from i (omega (arith, past, within)) in
+            let e : other ≡ length k.cores + i + 1 = omega (arith, past) in
+            (p.0, ap (core_at new.cores) e ∙ core_at-next new.cores (length k.cores + i) ∙ p.1)
+
+        only-left : (other : ℕ) → 1 ≤ times other left-queue.queued → (other ≡ id → ⊥) × (1 ≤ times other queue.queued)
+        only-left other there =
+            ⊎_elim
+            (λ (e : other ≡ id). absurd (omega (arith, there, gone-times other e)))
+            (λ (n : other ≡ id → ⊥). (n, omega (arith, there, times-left other n)))
+            (cases_eq other id)
+
+        queues-split : Queues k new id queue next-queue
+        queues-split = record {
+          ids = entered.queued;
+          places = omega (arith, many, left-places, entered.places);
+          stays = λ other n there. entered.stays other (omega (arith, there, times-left other n));
+          come = λ other core past is-there. entered.come other past (omega (arith, many, (there-bounds new.cores other core is-there).1));
+          only = λ other there.
+              ⊎_elim
+              (λ (old : 1 ≤ times other left-queue.queued). inl (only-left other old))
+              (λ (b : (length k.cores < other) × (other ≤ length k.cores + length lists)). inr (part-there other b.0 b.1))
+              (entered.only other there);
+        }
+
+        pub run-split : IsRun told new next next-queue left-marks
+        run-split =
+            run-next told k new id first next queue next-queue marks left-marks start goes-split listed-split queues-split
+            (marked-gone k new id marks wide-marks left-marks bounds.0 wider.marks.mark marks-are (omega (arith, many, room.marks)))
+
+        -- only the parts come into the queue
+        pub only-parts : (other : ℕ) → 1 ≤ times other next-queue.queued → (1 ≤ times other queue.queued) ⊎ (length k.cores < other)
+        only-parts other there =
+            ⊎_elim
+            (λ (old : 1 ≤ times other left-queue.queued). inl (only-left other old).1)
+            (λ (b : (length k.cores < other) × (other ≤ length k.cores + length lists)). inr b.0)
+            (entered.only other there)

@@ -1,6 +1,0 @@
-use Rattle.std.proofs.Common.{◌≡◌, ◌+◌, drop}
-use Rattle.fixpoint_queue.specs.Standing.{all_counted}
-use Rattle.fixpoint_queue.proofs.entering.number_of.Given as goal
-
-abbrev pub invariant-loop-vars : goal.invariant-loop-vars
-invariant-loop-vars l = l.number + all_counted (drop l.vars-index l.lists) ≡ all_counted l.fn.lists

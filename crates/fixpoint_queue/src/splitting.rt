@@ -1,0 +1,86 @@
+//! Cores that are split.
+
+ghost use Rattle.std.specs.Prelude.{ℕ, ◌≡◌, ◌⊎◌, ◌+◌, ◌-◌, ◌++◌, ◌∷◌, ◌<◌, ◌≤◌, [], true, false, length, Ok, IfOk, OnOk, OnErr};
+ghost use Rattle.index_ring.specs.Lists.{times};
+ghost use Rattle.ledger_text.specs.declared.line.Line.TheVariants.{Split};
+ghost use Rattle.step_kernel.specs.Kernel.{trimmed_at, IsKernel};
+ghost use Rattle.step_kernel.specs.Least.{is_compound_if};
+ghost use Rattle.step_kernel.specs.SplitAt.{ArePartsAt};
+ghost use Rattle.step_kernel.specs.Steps.{step};
+ghost use Rattle.fixpoint_queue.specs.Standing.{AreAllVars};
+
+use crate::entering::{all_variables, enter_all};
+use crate::lines::leave;
+use crate::oracle::Oracle;
+use crate::room::make_room;
+use crate::runner::Runner;
+use bee_list::Sequence;
+use ledger_text::Line;
+use part_base::Parts;
+use std::alloc::{AllocError, Global};
+use step_kernel::State;
+
+/// The parts of a core that is compound as the store has it, and the variables of each.
+fn parts_with_variables(
+    alloc: Global,
+    state: &State,
+    id: u64,
+) -> Result<(Parts, Vec<Sequence<u32>>), AllocError>
+    requires kernel { IsKernel state.now }
+    requires compound { is_compound_if (trimmed_at state.now id) ≡ true }
+    ensures parts { IfOk result (λ made. ArePartsAt state.now id made.0) }
+    ensures lists { IfOk result (λ made. AreAllVars made.1.items made.0.cores) }
+{
+    let Some(core) = state.trimmed(alloc, id)? else {
+        return Err(AllocError);
+    };
+    let parts = state.parts_of(id, core)?;
+    let lists = all_variables(alloc, parts.cores.as_slice())?;
+    Ok((parts, lists))
+}
+
+impl<F: Oracle> Runner<F> {
+    /// Splits a core that is compound as the store has it: its parts come behind the cores that are there, and
+    /// into the queue, and one line behind the ledger's. It takes all memory first; it fails for want of memory
+    /// alone, and then nothing has changed. It costs the size of the parts.
+    pub fn split(&mut self, id: u64) -> Result<(), AllocError>
+        requires running { self.old.kernel.bottom ≡ false }
+        requires compound { is_compound_if (trimmed_at self.old.kernel id) ≡ true }
+        ensures step { OnOk result (step self.old.kernel (Split id) ≡ Ok self.new.kernel) }
+        ensures ledger { OnOk result (self.new.ledger ≡ self.old.ledger ++ Split id ∷ []) }
+
+        // Only the parts come into the queue.
+        ensures queued { OnOk result ((other : ℕ) → 1 ≤ times other self.new.queued
+            → (1 ≤ times other self.old.queued) ⊎ (length self.old.kernel.cores < other)) }
+        ensures stays { OnErr result (self.new ≡ self.old) }
+    {
+        let alloc = *self.ledger.allocator();
+        let (parts, lists) = parts_with_variables(alloc, &self.state, id)?;
+        make_room(
+            &self.state,
+            &mut self.occurs,
+            &mut self.queue,
+            &mut self.marks,
+            parts.fresh,
+            lists.as_slice(),
+        )?;
+        self.ledger.reserve(1)?;
+        let before = self.state.ids() as u32;
+        self.state.split_into(id, parts)?;
+        leave(
+            &mut self.occurs,
+            &mut self.queue,
+            &mut self.marks,
+            id as u32,
+        );
+        enter_all(
+            &self.state,
+            &mut self.occurs,
+            &mut self.queue,
+            before,
+            lists.as_slice(),
+        );
+        self.ledger.push(Line::Split { id }).unwrap();
+        Ok(())
+    }
+}

@@ -1,0 +1,140 @@
+//! What a worklist tells of cores, worked out by hand: the lines of its ledger, and the state they lead to. Where memory is
+//! refused it is asked for once more, and the ledger must still lead to the state.
+
+ghost use Rattle.std.specs.Prelude.{◌≡◌, ◌<◌};
+
+use crate::steps_made::{shown, started};
+use bee_text::push_bytes;
+use fixpoint_queue::{Oracle, Runner, Silent, TableP};
+use ledger_text::{Line, write_step};
+use rule_base::Steps;
+use std::alloc::{AllocError, Global};
+use std::marker::Brand;
+use std::process::Abort;
+use std::sync::ledger::{Blank, Ledger};
+use step_kernel::ApplyFault;
+
+/// The number of variables, cores in words, the ledger's lines, and the state at the end.
+type Row = (u32, &'static [&'static str], &'static str, &'static str);
+
+/// Equations by the order of integers and by the form of cores.
+static TOLD: [Row; 5] = [
+    (
+        4,
+        &["Parity even 1 2", "Parity odd 2 3", "Clause -4"],
+        "eq 1 form 1 2; eq 2 form 1 -3; eq 3 form -4 T",
+        "4: 1 1 -1 F; #1 Parity even 1 2 is Parity even 1 1; #2 Parity odd 2 3 is Parity odd 1 -1; #3 Clause -4 is Clause T; next 4; least 1 none; cnf 4",
+    ),
+    (
+        3,
+        &["Clause 1 2", "Clause 3 -2", "Clause -1"],
+        "eq 3 form -1 T; eq 1 form 2 T; eq 2 form 3 T",
+        "3: F T T; #1 Clause 1 2 is Clause T; #2 Clause 3 -2 is Clause T; #3 Clause -1 is Clause T; next 4; least 1 none; cnf 3",
+    ),
+    (
+        3,
+        &["Parity even 1 2", "Parity odd 1 2", "Clause 3"],
+        "eq 1 form 1 2; eq 2 form 1 -1",
+        "3: 1 1 3; #1 Parity even 1 2 is Parity even 1 1; #2 Parity odd 1 2 is Parity odd 1 1; #3 Clause 3; next 4; least 1 none; bottom; cnf 3 ()",
+    ),
+    (
+        5,
+        &["Ladder 2+2", "LeqR 1 2+2 4+2", "Clause 1", "Clause 3"],
+        "eq 3 form 1 T; eq 4 form 3 T; eq 2 order 2 T; eq 2 form 5 T; eq 2 order 4 T",
+        "5: T T T T T; #1 Ladder (0 2 3) is Ladder (2); #2 LeqR 1 (0 2 3) (0 4 5) is LeqR T (2) (2); #3 Clause 1 is Clause T; #4 Clause 3 is Clause T; next 5; least 1 none; cnf 5",
+    ),
+    (0, &[], "", "0:; next 1; least none none; cnf 0"),
+];
+
+/// Nothing is told.
+static SILENT: [Row; 1] = [(
+    2,
+    &["Parity even 1 2", "Clause 1"],
+    "",
+    "2: 1 2; #1 Parity even 1 2; #2 Clause 1; next 3; least 1 none; cnf 2",
+)];
+
+/// The lines of a ledger, with a semicolon between them.
+fn ledger_words(alloc: Global, ledger: &[Line]) -> Result<Vec<u8>, AllocError> {
+    let mut text = Vec::new(alloc);
+    for (place, line) in ledger.iter().enumerate() {
+        if 0 < place {
+            push_bytes(&mut text, b"; ")?;
+        }
+        push_bytes(&mut text, write_step(alloc, line)?.as_slice())?;
+    }
+    Ok(text)
+}
+
+/// Saturates, with a counter of its own.
+fn saturate_with<L: Ledger, F: Oracle>(
+    blank: Blank,
+    runner: &mut Runner<F>,
+) -> Result<(), AllocError>
+    requires name { blank.name ≡ L.name }
+    requires parts { blank.parts ≡ L.parts }
+    requires some { 0 < L.parts }
+{
+    let mut steps = Steps::<L>::open(blank);
+    match runner.saturate(&mut steps) {
+        Ok(()) => Ok(()),
+        Err(_) => runner.saturate(&mut steps),
+    }
+}
+
+/// Asserts that a ledger leads from the state at the start to the one in words.
+fn replay(rt: &impl Abort, alloc: Global, row: Row, ledger: &[Line]) -> Result<(), AllocError> {
+    let (vars, cores, _, wanted) = row;
+    let mut state = started(rt, alloc, vars, cores)?;
+    for line in ledger {
+        let mut answer = state.apply(line);
+        if answer == Err(ApplyFault::Memory) {
+            answer = state.apply(line);
+        }
+        assert_eq!(rt; answer, Ok(()));
+    }
+    let found = shown(alloc, &state)?;
+    assert_eq!(rt; found.as_slice(), wanted.as_bytes());
+    Ok(())
+}
+
+/// Tests a row.
+fn check<F: Oracle>(rt: &impl Abort, alloc: Global, oracle: F, row: Row) -> Result<(), AllocError> {
+    let (vars, cores, wanted_ledger, wanted_state) = row;
+    let state = started(rt, alloc, vars, cores)?;
+    let mut runner = Runner::with(alloc, state, oracle)?;
+    saturate_with::<Brand, F>(Blank::new(1), &mut runner)?;
+    let (state, ledger) = runner.finish();
+    let found = ledger_words(alloc, ledger.as_slice())?;
+    assert_eq!(rt;
+        found.as_slice(),
+        wanted_ledger.as_bytes(),
+        "{wanted_ledger}"
+    );
+    let found = shown(alloc, &state)?;
+    assert_eq!(rt; found.as_slice(), wanted_state.as_bytes(), "{wanted_state}");
+    replay(rt, alloc, row, ledger.as_slice())
+}
+
+/// Tests rows.
+fn check_all<F: Oracle>(
+    rt: &impl Abort,
+    alloc: Global,
+    oracle: F,
+    rows: &[Row],
+) -> Result<(), AllocError> {
+    for row in rows {
+        check(rt, alloc, oracle, *row)?;
+    }
+    Ok(())
+}
+
+#[test]
+fn told_equations_are_taken_to_the_end(rt: HostRuntime) -> Result<(), AllocError> {
+    check_all(&rt, rt.alloc(), TableP, &TOLD)
+}
+
+#[test]
+fn nothing_is_told_by_the_silent_one(rt: HostRuntime) -> Result<(), AllocError> {
+    check_all(&rt, rt.alloc(), Silent, &SILENT)
+}

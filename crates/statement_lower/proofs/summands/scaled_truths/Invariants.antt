@@ -1,0 +1,7 @@
+use Rattle.std.proofs.Common.{◌≡◌, ◌++◌, drop}
+use Rattle.statement_lower.specs.Lines.{scaled_truths}
+use Rattle.statement_lower.proofs.summands.scaled_truths.Given as goal
+
+abbrev pub invariant-loop-i : goal.invariant-loop-i
+invariant-loop-i l =
+    l.ints.items ++ scaled_truths l.entries (drop l.i l.coefficients) (drop l.i l.members) ≡ scaled_truths l.entries l.coefficients l.members

@@ -1,0 +1,119 @@
+//! The cores of the lines over sums.
+
+ghost use Rattle.std.specs.Prelude.{◌≡◌, ◌+◌, ◌<◌, ◌≤◌, ◌^◌, neg_ℤ, length, unsigned_abs, IfOk};
+ghost use Rattle.core_forms.specs.declared.form.Core.TheVariants.{Sum};
+ghost use Rattle.typed_model.specs.Limits.{AllInLimit, TermInLimit, TermsInLimit};
+ghost use Rattle.statement_lower.specs.Terms.{integer_of, integers_of};
+ghost use Rattle.statement_lower.specs.Entries.{AreInLimit};
+ghost use Rattle.statement_lower.specs.Linear.{linear_made, AreSummands};
+ghost use Rattle.statement_lower.specs.Lines.{scaled_truths, scaled_integers};
+
+use crate::made::Made;
+use crate::summands::{Summands, linear_members, scaled_integers, scaled_truths};
+use crate::terms::integers_of;
+use bee_list::Sequence;
+use core_forms::Core;
+use order_ints::{MapValue, OrdInt};
+use std::alloc::{AllocError, Global};
+use typed_model::{BoolTerm, IntTerm, Relation};
+
+/// Minus a number.
+fn minus(number: i128) -> i128
+    requires { unsigned_abs number < 2 ^ 85 }
+    ensures { result ≡ neg_ℤ number }
+{
+    -number
+}
+
+/// The core that says that members are 0, added up.
+fn zero_sum(alloc: Global, members: Summands) -> Result<Core, AllocError>
+    requires { unsigned_abs members.constant < 2 ^ 85 }
+    ensures { IfOk result (λ core. core ≡ Sum members.ints.items (neg_ℤ members.constant)) }
+{
+    let Summands { ints, constant } = members;
+    Core::sum(alloc, Sequence::from_vec(ints), minus(constant))
+}
+
+/// A sum stands in a relation to the right side.
+fn linear_made(
+    alloc: Global,
+    entries: &[MapValue],
+    vars: u32,
+    relation: Relation,
+    ints: Vec<OrdInt>,
+    right: IntTerm,
+) -> Result<Made, AllocError>
+    requires entries { AreInLimit entries.now }
+    requires ints { AreSummands ints.items }
+    requires few { length ints.items ≤ 16777216 }
+    requires right { TermInLimit right }
+    ensures { IfOk result (λ m. m ≡ linear_made vars relation ints.items (integer_of entries.now right)) }
+{
+    match relation {
+        Relation::Eq => {
+            let members = linear_members(alloc, entries, ints, right)?;
+            Made::of_core(alloc, vars, zero_sum(alloc, members)?)
+        }
+        _ => Ok(Made::nothing(alloc, vars)),
+    }
+}
+
+/// The coefficients of the true members, added up, stand in a relation to an integer.
+pub fn truths_made(
+    alloc: Global,
+    entries: &[MapValue],
+    vars: u32,
+    relation: Relation,
+    coefficients: &[i64],
+    members: &[BoolTerm],
+    bound: IntTerm,
+) -> Result<Made, AllocError>
+    requires entries { AreInLimit entries.now }
+    requires coefficients { AllInLimit coefficients.now }
+    requires few { length members.now ≤ 16777216 }
+    requires bound { TermInLimit bound }
+    ensures { IfOk result (λ m. m ≡ linear_made vars relation (scaled_truths entries.now coefficients.now members.now) (integer_of entries.now bound)) }
+{
+    let ints = scaled_truths(alloc, entries, coefficients, members)?;
+    linear_made(alloc, entries, vars, relation, ints, bound)
+}
+
+/// The members, added up, stand in a relation to an integer.
+pub fn sum_made(
+    alloc: Global,
+    entries: &[MapValue],
+    vars: u32,
+    relation: Relation,
+    members: &[IntTerm],
+    bound: IntTerm,
+) -> Result<Made, AllocError>
+    requires entries { AreInLimit entries.now }
+    requires members { TermsInLimit members.now }
+    requires few { length members.now ≤ 16777216 }
+    requires bound { TermInLimit bound }
+    ensures { IfOk result (λ m. m ≡ linear_made vars relation (integers_of entries.now members.now) (integer_of entries.now bound)) }
+{
+    let ints = integers_of(alloc, entries, members)?.into_vec();
+    linear_made(alloc, entries, vars, relation, ints, bound)
+}
+
+/// The members, multiplied by their coefficients and added up, stand in a relation to an integer.
+pub fn multiples_made(
+    alloc: Global,
+    entries: &[MapValue],
+    vars: u32,
+    relation: Relation,
+    coefficients: &[i64],
+    members: &[IntTerm],
+    bound: IntTerm,
+) -> Result<Made, AllocError>
+    requires entries { AreInLimit entries.now }
+    requires coefficients { AllInLimit coefficients.now }
+    requires members { TermsInLimit members.now }
+    requires few { length members.now ≤ 16777216 }
+    requires bound { TermInLimit bound }
+    ensures { IfOk result (λ m. m ≡ linear_made vars relation (scaled_integers entries.now coefficients.now members.now) (integer_of entries.now bound)) }
+{
+    let ints = scaled_integers(alloc, entries, coefficients, members)?;
+    linear_made(alloc, entries, vars, relation, ints, bound)
+}

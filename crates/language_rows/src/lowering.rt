@@ -296,8 +296,9 @@ fn statements_take_fresh_variables(rt: HostRuntime) -> Result<(), Fail> {
             "new_int(i,0,1) new_int(j,2,3) new_bool(x) {statement} solve satisfy"
         )?;
         let found = lowered(rt.alloc(), text.as_str())?;
-        let want =
-            format!(in rt.alloc(); "{vars}: 0+1*1 2+1*2 3; ladder 0+1*1; ladder 2+1*2; {want}")?;
+        let want = format!(in rt.alloc();
+            "{vars}: 0+1*1 2+1*2 3; ladder 0+1*1; ladder 2+1*2; {want}"
+        )?;
         assert_eq!(rt; found.as_str(), want.as_str(), "{statement}");
     }
     Ok(())

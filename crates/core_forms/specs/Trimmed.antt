@@ -8,7 +8,7 @@ use Rattle.order_ints.specs.OrderChange.{shifted_of}
 use Rattle.order_ints.specs.View.{resolve}
 use Rattle.core_forms.specs.declared.form.Core.{Core}
 use Rattle.core_forms.specs.declared.form.Core.TheVariants.{Ladder, Clause, Parity, Conj, Comp, LeqR, EqR, Sum3, Count, Sum, Max, AllDiff, Amo, Prod, DivMod, Lex}
-use Rattle.core_forms.specs.Resolved.{resolved_core}
+use Rattle.core_forms.specs.Resolved.{map_int, resolved_core}
 
 -- a step and those behind it: as long as the next one has the same atom its weight is added; and False steps at
 -- the end are gone
@@ -27,6 +27,10 @@ raised_by base (s ∷ steps) =
 -- atom in one step
 abbrev pub tidied_int : OrdInt → OrdInt
 tidied_int a = raised_by a.base a.steps
+
+-- an integer trimmed by a view: each step as the view has it
+abbrev pub trimmed_int : List Atom → OrdInt → OrdInt
+trimmed_int view a = tidied_int (map_int (resolve view) a)
 
 abbrev pub tidied_ints : List OrdInt → List OrdInt
 tidied_ints [] = []

@@ -7,15 +7,17 @@ mod ints;
 ghost use Rattle.std.specs.Prelude.{◌≡◌, ℕ, IfOk};
 ghost use Rattle.order_ints.specs.Truth.{Valuation};
 ghost use Rattle.order_ints.specs.Place.{AtomsBelow};
+ghost use Rattle.order_ints.specs.OrderRange.{IsBounded};
 ghost use Rattle.order_ints.specs.View.{MeetsView};
 ghost use Rattle.core_forms.specs.Place.{CoreBelow};
 ghost use Rattle.core_forms.specs.WellFormed.{IsWellFormed};
 ghost use Rattle.core_forms.specs.Meaning.{core_truth};
-ghost use Rattle.core_forms.specs.Trimmed.{trimmed_core, IsTrimmed};
+ghost use Rattle.core_forms.specs.Trimmed.{trimmed_core, trimmed_int, IsTrimmed};
 
 use crate::form::Core;
 use forms::trimmed_form;
-use order_ints::Atom;
+use ints::trimmed_int;
+use order_ints::{Atom, OrdInt};
 use std::alloc::{AllocError, Global};
 
 /// A core trimmed by a view: each atom as the view has it, and what constants say worked in. It takes
@@ -35,4 +37,13 @@ pub fn trim(alloc: Global, core: &Core, view: &[Atom]) -> Result<Core, AllocErro
         → CoreBelow n core.now → AtomsBelow n view.now → CoreBelow n trimmed) }
 {
     trimmed_form(alloc, core, view)
+}
+
+/// An integer trimmed by a view, as the integers of a core are: it has the same value under each valuation that
+/// meets the view. It takes one pass over the steps, and memory once for those that are left.
+pub fn trim_int(alloc: Global, a: &OrdInt, view: &[Atom]) -> Result<OrdInt, AllocError>
+    requires { IsBounded a.now }
+    ensures { IfOk result (λ trimmed. trimmed ≡ trimmed_int view.now a.now) }
+{
+    trimmed_int(alloc, a, view)
 }

@@ -26,4 +26,6 @@ mod steps;
 #[cfg(test)]
 mod steps_made;
 #[cfg(test)]
+mod told_once;
+#[cfg(test)]
 mod words;

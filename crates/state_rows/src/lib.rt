@@ -6,7 +6,11 @@
 #[cfg(test)]
 mod classes;
 #[cfg(test)]
+mod compilations;
+#[cfg(test)]
 mod core_words;
+#[cfg(test)]
+mod ledgers;
 #[cfg(test)]
 mod numbers;
 #[cfg(test)]

@@ -3,20 +3,15 @@
 
 ghost use Rattle.std.specs.Prelude.{◌≡◌, ◌<◌};
 
-use crate::steps_made::{shown, started};
+use crate::ledgers::{Row, compare};
+use crate::steps_made::started;
 use crate::told_once::ToldOnce;
-use bee_text::push_bytes;
 use fixpoint_queue::{Oracle, Runner, Silent, TableP};
-use ledger_text::{Line, write_step};
 use rule_base::Steps;
 use std::alloc::{AllocError, Global};
 use std::marker::Brand;
 use std::process::Abort;
 use std::sync::ledger::{Blank, Ledger};
-use step_kernel::ApplyFault;
-
-/// The number of variables, cores in words, the ledger's lines, and the state at the end.
-type Row = (u32, &'static [&'static str], &'static str, &'static str);
 
 /// Equations by the order of integers, by the form of cores, and by their truth tables.
 static TOLD: [Row; 7] = [
@@ -89,18 +84,6 @@ static TOLD_ONCE: [Row; 2] = [
     ),
 ];
 
-/// The lines of a ledger, with a semicolon between them.
-fn ledger_words(alloc: Global, ledger: &[Line]) -> Result<Vec<u8>, AllocError> {
-    let mut text = Vec::new(alloc);
-    for (place, line) in ledger.iter().enumerate() {
-        if 0 < place {
-            push_bytes(&mut text, b"; ")?;
-        }
-        push_bytes(&mut text, write_step(alloc, line)?.as_slice())?;
-    }
-    Ok(text)
-}
-
 /// Saturates, with a counter of its own.
 fn saturate_with<L: Ledger, F: Oracle>(
     blank: Blank,
@@ -117,38 +100,14 @@ fn saturate_with<L: Ledger, F: Oracle>(
     }
 }
 
-/// Asserts that a ledger leads from the state at the start to the one in words.
-fn replay(rt: &impl Abort, alloc: Global, row: Row, ledger: &[Line]) -> Result<(), AllocError> {
-    let (vars, cores, _, wanted) = row;
-    let mut state = started(rt, alloc, vars, cores)?;
-    for line in ledger {
-        let mut answer = state.apply(line);
-        if answer == Err(ApplyFault::Memory) {
-            answer = state.apply(line);
-        }
-        assert_eq!(rt; answer, Ok(()));
-    }
-    let found = shown(alloc, &state)?;
-    assert_eq!(rt; found.as_slice(), wanted.as_bytes());
-    Ok(())
-}
-
 /// Tests a row.
 fn check<F: Oracle>(rt: &impl Abort, alloc: Global, oracle: F, row: Row) -> Result<(), AllocError> {
-    let (vars, cores, wanted_ledger, wanted_state) = row;
+    let (vars, cores, _, _) = row;
     let state = started(rt, alloc, vars, cores)?;
     let mut runner = Runner::with(alloc, state, oracle)?;
     saturate_with::<Brand, F>(Blank::new(1), &mut runner)?;
     let (state, ledger) = runner.finish();
-    let found = ledger_words(alloc, ledger.as_slice())?;
-    assert_eq!(rt;
-        found.as_slice(),
-        wanted_ledger.as_bytes(),
-        "{wanted_ledger}"
-    );
-    let found = shown(alloc, &state)?;
-    assert_eq!(rt; found.as_slice(), wanted_state.as_bytes(), "{wanted_state}");
-    replay(rt, alloc, row, ledger.as_slice())
+    compare(rt, alloc, row, &state, ledger.as_slice())
 }
 
 /// Tests rows.

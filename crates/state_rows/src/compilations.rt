@@ -65,6 +65,27 @@ fn compile_with<L: Ledger, F: Oracle>(
     compile_state(alloc, state, oracle, &mut steps)
 }
 
+/// The compilation of the cores of a row.
+fn compiled<F: Oracle>(
+    rt: &impl Abort,
+    alloc: Global,
+    oracle: F,
+    row: Row,
+) -> Result<Compiled, AllocError> {
+    let (vars, cores, _, _) = row;
+    let state = started(rt, alloc, vars, cores)?;
+    compile_with::<Brand, F>(alloc, Blank::new(1), state, oracle)
+}
+
+/// Tests a row. Where memory is refused, the cores are compiled once more.
+fn check<F: Oracle>(rt: &impl Abort, alloc: Global, oracle: F, row: Row) -> Result<(), AllocError> {
+    let made = match compiled(rt, alloc, oracle, row) {
+        Ok(made) => made,
+        Err(_) => compiled(rt, alloc, oracle, row)?,
+    };
+    compare(rt, alloc, row, &made.state, made.ledger.as_slice())
+}
+
 /// Tests rows.
 fn check_all<F: Oracle>(
     rt: &impl Abort,
@@ -73,10 +94,7 @@ fn check_all<F: Oracle>(
     rows: &[Row],
 ) -> Result<(), AllocError> {
     for row in rows {
-        let (vars, cores, _, _) = *row;
-        let state = started(rt, alloc, vars, cores)?;
-        let made = compile_with::<Brand, F>(alloc, Blank::new(1), state, oracle)?;
-        compare(rt, alloc, *row, &made.state, made.ledger.as_slice())?;
+        check(rt, alloc, oracle, *row)?;
     }
     Ok(())
 }

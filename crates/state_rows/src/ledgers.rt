@@ -22,6 +22,14 @@ fn ledger_words(alloc: Global, ledger: &[Line]) -> Result<Vec<u8>, AllocError> {
     Ok(text)
 }
 
+/// A ledger in words. Where memory is refused it is asked for once more.
+fn shown_ledger(alloc: Global, ledger: &[Line]) -> Result<Vec<u8>, AllocError> {
+    match ledger_words(alloc, ledger) {
+        Ok(text) => Ok(text),
+        Err(_) => ledger_words(alloc, ledger),
+    }
+}
+
 /// Asserts that a ledger leads from the state at the start to the one in words.
 fn replay(rt: &impl Abort, alloc: Global, row: Row, ledger: &[Line]) -> Result<(), AllocError> {
     let (vars, cores, _, wanted) = row;
@@ -47,7 +55,7 @@ pub(super) fn compare(
     ledger: &[Line],
 ) -> Result<(), AllocError> {
     let (_, _, wanted_ledger, wanted_state) = row;
-    let found = ledger_words(alloc, ledger)?;
+    let found = shown_ledger(alloc, ledger)?;
     assert_eq!(rt;
         found.as_slice(),
         wanted_ledger.as_bytes(),

@@ -100,11 +100,23 @@ fn saturate_with<L: Ledger, F: Oracle>(
     }
 }
 
+/// A worklist of the cores of a row. Where memory is refused it is made once more.
+fn queued<F: Oracle>(
+    rt: &impl Abort,
+    alloc: Global,
+    oracle: F,
+    row: Row,
+) -> Result<Runner<F>, AllocError> {
+    let (vars, cores, _, _) = row;
+    match Runner::with(alloc, started(rt, alloc, vars, cores)?, oracle) {
+        Ok(runner) => Ok(runner),
+        Err(_) => Runner::with(alloc, started(rt, alloc, vars, cores)?, oracle),
+    }
+}
+
 /// Tests a row.
 fn check<F: Oracle>(rt: &impl Abort, alloc: Global, oracle: F, row: Row) -> Result<(), AllocError> {
-    let (vars, cores, _, _) = row;
-    let state = started(rt, alloc, vars, cores)?;
-    let mut runner = Runner::with(alloc, state, oracle)?;
+    let mut runner = queued(rt, alloc, oracle, row)?;
     saturate_with::<Brand, F>(Blank::new(1), &mut runner)?;
     let (state, ledger) = runner.finish();
     compare(rt, alloc, row, &state, ledger.as_slice())

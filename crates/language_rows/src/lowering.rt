@@ -215,7 +215,11 @@ fn statements_have_great_cores(rt: HostRuntime) -> Result<(), Fail> {
     for (statement, vars, want) in [
         ("bool_array_xor([x,-x,true])", 3, "odd 3 -3 T"),
         ("bool_array_xor_reif([x,x,true],-x)", 3, "even 3 3 T -3"),
-        ("bool_array_sum_eq([x,-x,true],i)", 3, "count 0+1*1 of 3 -3 T"),
+        (
+            "bool_array_sum_eq([x,-x,true],i)",
+            3,
+            "count 0+1*1 of 3 -3 T",
+        ),
         (
             "bool_array_sum_geq([x,x],j)",
             5,
@@ -234,7 +238,11 @@ fn statements_have_great_cores(rt: HostRuntime) -> Result<(), Fail> {
         ),
         ("int_plus(i,j,3)", 3, "plus 0+1*1 2+1*2 3"),
         ("int_array_plus([i,j],3)", 3, "sum 3 of 0+1*1 2+1*2"),
-        ("int_array_allDiff([i,j,1])", 3, "differ 0+1*1 2+1*2 1 where T T T"),
+        (
+            "int_array_allDiff([i,j,1])",
+            3,
+            "differ 0+1*1 2+1*2 1 where T T T",
+        ),
         (
             "int_array_allDiffCond([i,j],[x,-x])",
             3,

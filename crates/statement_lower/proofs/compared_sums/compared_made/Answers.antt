@@ -1,4 +1,5 @@
 use Rattle.std.proofs.Common.{arith}
+use Rattle.core_forms.proofs.Bounds.{small_bits}
 use Rattle.statement_lower.proofs.QueueSteps.{turn, end}
 use Rattle.statement_lower.proofs.compared_sums.compared_made.Goals as goal
 
@@ -17,7 +18,7 @@ loop-queue-preserved c =
 
 pub returns : goal.returns
 returns c =
-    rw (c.from_vec.ensures, c.in_ok-push.ensures.items, c.in_ok-core.ensures)
+    rw (c.from_vec.ensures, c.in_ok-push.ensures.items, c.in_ok-core.ensures, small_bits c.args.members.constant (omega (arith, c.requires.limit)))
     (end c.args.vars c.args.relation c.args.members.ints.items c.loop-queue.queue.vars c.loop-queue.queue.members.items c.take_first-2.new.members.items
     c.in_ok-first-2.first c.in_ok-second-2.second c.loop-queue.queue.cores.items c.args.members.constant c.loop-queue.invariant (omega (arith, c.loop-queue.queue.members.ok.0))
     c.in_ok-first-2.ensures.first c.in_ok-first-2.ensures.rest c.in_ok-second-2.ensures.first c.requires.limit).made

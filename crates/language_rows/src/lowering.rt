@@ -236,6 +236,17 @@ fn statements_have_great_cores(rt: HostRuntime) -> Result<(), Fail> {
             3,
             "sum 1 of 0+2*1 -3+1*-2",
         ),
+        (
+            "int_array_sum_leq([i,j,j],7)",
+            5,
+            "plus 0+1*1 2+1*2 2+1*4+1*5; leq T -5+1*2 -4+1*-5+1*-4",
+        ),
+        (
+            "bool_array_pb_lt([2,-3],[x,true],i)",
+            6,
+            "plus 0+2*3 -3+3*F -3+2*4+1*5+2*6; leq F -2+2*-6+1*-5+2*-4 -1+1*-1",
+        ),
+        ("int_array_sum_neq([],0)", 3, "eq F 0 0"),
         ("int_plus(i,j,3)", 3, "plus 0+1*1 2+1*2 3"),
         ("int_array_plus([i,j],3)", 3, "sum 3 of 0+1*1 2+1*2"),
         (

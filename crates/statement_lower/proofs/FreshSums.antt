@@ -1,12 +1,11 @@
 -- A fresh integer that is the sum of two: its range, and that it takes each sum.
-use Rattle.std.proofs.Common.{◌≡◌, ℕ, suc, ◌+◌, ◌-◌, ◌<◌, ◌≤◌, ◌^◌, ℤ, ◌+ℤ◌, ◌-ℤ◌, ◌&&◌, List, [], ◌∷◌, map, length, Contains, refl, sym, ap, subst, ◌∙◌, arith}
+use Rattle.std.proofs.Common.{◌≡◌, ℕ, suc, ◌+◌, ◌-◌, ◌<◌, ◌^◌, ℤ, ◌+ℤ◌, ◌&&◌, List, [], ◌∷◌, length, Contains, refl, sym, ap, subst, ◌∙◌, arith}
 use Rattle.std.specs.Ordering.{int_eq}
 use Rattle.std.proofs.lemmas.Bool.{and_parts}
 use Rattle.std.proofs.lemmas.Bool.Decides.{Decides-int_eq}
-use Rattle.order_ints.specs.declared.atom.Atom.{Atom}
 use Rattle.order_ints.specs.declared.order_int.OrdInt.{OrdInt}
 use Rattle.order_ints.specs.Truth.{Valuation, Agree}
-use Rattle.order_ints.specs.OrderMade.{vars_from, steps_between, integer_of_values}
+use Rattle.order_ints.specs.OrderMade.{steps_between, integer_of_values}
 use Rattle.order_ints.specs.OrderRange.{IntBelow}
 use Rattle.order_ints.specs.OrderValue.{value_of, in_order, IsOrdered}
 use Rattle.order_ints.specs.Represents.{DependsBelow}
@@ -90,7 +89,7 @@ module _ (vars : ℕ) (a b : OrdInt) where
             t.0,
             t.1,
             (MeetsAll-one t.0 (core.Sum3 a b (fresh_sum vars a b))).1
-            (sum-truth t.0 a b (fresh_sum vars a b) (IsOrdered-agree (vars + 1) σ t.0 a t.1 ha o.0) (IsOrdered-agree (vars + 1) σ t.0 b t.1 hb o.1) t.2.0
-            ∙ (Decides-int_eq (value_of t.0 (fresh_sum vars a b)) (value_of t.0 a +ℤ value_of t.0 b)).1 e),
+                (sum-truth t.0 a b (fresh_sum vars a b) (IsOrdered-agree (vars + 1) σ t.0 a t.1 ha o.0) (IsOrdered-agree (vars + 1) σ t.0 b t.1 hb o.1) t.2.0
+                ∙ (Decides-int_eq (value_of t.0 (fresh_sum vars a b)) (value_of t.0 a +ℤ value_of t.0 b)).1 e),
           );
     }

@@ -14,7 +14,7 @@ use std::process::Abort;
 use std::sync::ledger::{Blank, Ledger};
 
 /// Equations by the order of integers, by the form of cores, and by their truth tables.
-static TOLD: [Row; 7] = [
+static TOLD: [Row; 8] = [
     (
         4,
         &["Parity even 1 2", "Parity odd 2 3", "Clause -4"],
@@ -50,6 +50,20 @@ static TOLD: [Row; 7] = [
         &["Sum3 1+1 1+1 2+2", "Parity even 3 4"],
         "eq 1 table 1 2; eq 1 table 1 3; eq 2 form 1 4",
         "4: 1 1 1 1; #1 Sum3 (0 1) (0 1) (0 2 3) is Sum3 (0 1) (0 1) (0 1:2); #2 Parity even 3 4 is Parity even 1 1; next 3; least 1 none; cnf 4",
+    ),
+    // A class of three members gets a new label, and each member stands in a clause of its own.
+    (
+        6,
+        &[
+            "Parity even 1 2",
+            "Parity even 2 5",
+            "Clause 2 3",
+            "Clause 1 4",
+            "Clause 5 6",
+            "Clause -1",
+        ],
+        "eq 1 form 1 2; eq 2 form 1 5; eq 6 form -1 T; eq 4 form 4 T; eq 5 form 6 T; eq 3 form 3 T",
+        "6: F F T T F T; #1 Parity even 1 2 is Parity even; #2 Parity even 2 5 is Parity even; #3 Clause 2 3 is Clause T; #4 Clause 1 4 is Clause T; #5 Clause 5 6 is Clause T; #6 Clause -1 is Clause T; next 7; least 1 none; cnf 6",
     ),
     (0, &[], "", "0:; next 1; least none none; cnf 0"),
 ];

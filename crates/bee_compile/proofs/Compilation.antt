@@ -62,7 +62,7 @@ module _ (l : Lowered) (decls : List Decl) (fits : Fits l decls) where
     decoded-given a d =
         let t = stands.forth d.0 ((started-models l.vars l.cores d.0).1 d.1) in
         let same = subst (λ n. numbers_of d.0 l.map.entries ≡ numbers_of t.0 l.map.entries) start-vars
-            (numbers_of-agree (l.vars + 1) d.0 t.0 decls l.map.entries (λ v below. t.1 v (omega (arith, below, start-vars))) fits.entries) in
+        (numbers_of-agree (l.vars + 1) d.0 t.0 decls l.map.entries (λ v below. t.1 v (omega (arith, below, start-vars))) fits.entries) in
         (t.0, t.3, d.2 ∙ same ∙ sym (numbers-met last.view t.0 t.2 (l.vars + 1) decls l.map.entries fits.entries))
 
 module _ (told : Core → Equation → Type 0) (instance : (core : Core) (e : Equation) → told core e → is_instance_at core e ≡ true) where
@@ -71,8 +71,7 @@ module _ (told : Core → Equation → Type 0) (instance : (core : Core) (e : Eq
   given c last l decls fits compilation cnf map a =
       let start = start-kernel l decls fits in
       let is = (compilation-kept told (start_of l) last c.ledger start compilation).kernel in
-      let stands = compilation-models told (start_of l) last c.ledger start compilation in
-      (
+      let stands = compilation-models told (start_of l) last c.ledger start compilation in (
         λ d.
             let g = decoded-given l decls fits last is stands a d in
             (g.0, subst (λ f. Satisfies g.0 f) (sym cnf) g.1, g.2 ∙ ap (numbers_of g.0) (sym map)),

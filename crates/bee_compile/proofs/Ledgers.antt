@@ -39,8 +39,8 @@ cores-longer k new line made =
     after_step k (λ (n : Kernel). length k.cores ≤ length n.cores)
     (λ running id e core at instance. omega (arith, ap length (equated-cores k e)))
     (λ running id core at compound.
-        let made : List (Option Core) = map Some (parts_at (length k.view + 1) (trimmed_core k.view core)).cores in
-        omega (arith, length-set k.cores (id - 1) None, length-append (without k.cores id) made))
+    let made : List (Option Core) = map Some (parts_at (length k.view + 1) (trimmed_core k.view core)).cores in
+    omega (arith, length-set k.cores (id - 1) None, length-append (without k.cores id) made))
     (λ running id core at basic. omega (arith, length-set k.cores (id - 1) None))
     line new made
 
@@ -90,8 +90,7 @@ module _ (told : Core → Equation → Type 0) (instance : (core : Core) (e : Eq
   ledger-below k last (line ∷ lines) is l few =
       let first = step-kept k l.0 line is l.1 in
       let ids = ids-longer k last (line ∷ lines) l in
-      let vars = vars-longer k last (line ∷ lines) is l in
-      (
+      let vars = vars-longer k last (line ∷ lines) is l in (
         line-up (length k.view + 1) (length last.view + 1) line (omega (arith, vars)) (line-below k line is (omega (arith, ids, few)) l.2),
         ledger-below l.0 last lines first.kernel l.3 few,
       )

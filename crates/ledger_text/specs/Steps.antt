@@ -8,6 +8,7 @@
 use Rattle.std.specs.Prelude.{ℕ, ◌<◌, ◌^◌, List, [], ◌∷◌, codes}
 use Rattle.std.specs.Fmt.{decimal}
 use Rattle.bee_text.specs.Words.{join_words}
+use Rattle.order_ints.specs.Place.{AtomBelow}
 use Rattle.core_forms.specs.declared.equation.Rule.{Rule}
 use Rattle.core_forms.specs.declared.equation.Rule.TheVariants.{Order, Form, Table}
 use Rattle.core_forms.specs.declared.equation.Equation.{Equation}
@@ -39,3 +40,13 @@ abbrev pub IsReadableStep : Line → Type 0
 IsReadableStep (Equate id e) = (id < 2 ^ 64) × IsReadableAtom e.a × IsReadableAtom e.b
 IsReadableStep (Split id) = id < 2 ^ 64
 IsReadableStep (Encode id) = id < 2 ^ 64
+
+-- the id has 64 bits, and the variables are from 1 and below n
+abbrev pub LineBelow : ℕ → Line → Type 0
+LineBelow n (Equate id e) = (id < 2 ^ 64) × AtomBelow n e.a × AtomBelow n e.b
+LineBelow n (Split id) = id < 2 ^ 64
+LineBelow n (Encode id) = id < 2 ^ 64
+
+abbrev pub LedgerBelow : ℕ → List Line → Type 0
+LedgerBelow n [] = Unit {0}
+LedgerBelow n (line ∷ lines) = LineBelow n line × LedgerBelow n lines

@@ -1,5 +1,5 @@
 -- Each line of a compiled text leads to one standing alone.
-use Rattle.std.proofs.Common.{◌≡◌, ℕ, ◌+◌, ◌-◌, ◌^◌, ◌<◌, ◌⊎◌, inl, inr, List, [], ◌∷◌, ◌++◌, get_or, sym, ap, subst, ◌∙◌, arith}
+use Rattle.std.proofs.Common.{◌≡◌, ℕ, ◌+◌, ◌^◌, ◌<◌, ◌⊎◌, inl, inr, List, [], ◌∷◌, ◌++◌, get_or, sym, ap, subst, ◌∙◌, arith}
 use Rattle.order_ints.specs.declared.literal.Lit.{Lit}
 use Rattle.ledger_text.specs.declared.line.Line.{Line}
 use Rattle.ledger_text.specs.declared.line.Line.TheVariants.{Equate, Split, Encode}

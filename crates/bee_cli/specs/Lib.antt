@@ -5,4 +5,7 @@ pub mod Promises
 pub mod ModelTexts
 pub mod Compiled
 pub mod CompileMode
+pub mod Decoded
+pub mod DecodeParts
+pub mod DecodeMode
 pub mod Obeyed

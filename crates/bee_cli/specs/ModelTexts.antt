@@ -29,6 +29,7 @@ IsFirstFault text fault.TooLong = ⊥
 IsFirstFault text (fault.Syntax line) = IsSyntaxFault text line
 IsFirstFault text (fault.Number line) = IsNumberFault text line
 IsFirstFault text (fault.Typed f) = (s : Syntax) × IsText text s × (first_fault s.items ≡ Some f)
+IsFirstFault text (fault.Cnf line) = ⊥
 IsFirstFault text (fault.Unbuilt number) = (m : Model) × IsModelOf text m × (first_unbuilt_of m ≡ Some number)
 
 -- what a fault of the items makes of a text: want of memory is no fault of it

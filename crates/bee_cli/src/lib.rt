@@ -3,12 +3,15 @@
 
 mod compile;
 mod compile_mode;
+mod decode;
+mod decode_mode;
 mod entries;
 mod exit_code;
 mod model_text;
 mod reporting;
 mod running;
 mod status;
+mod whole_text;
 
 pub use exit_code::code;
 pub use running::run;

@@ -1,5 +1,4 @@
-use Rattle.std.proofs.Common.{◌≡◌, ◌++◌, map, drop}
-use Rattle.bee_text.specs.Lines.{join_lines}
+use Rattle.std.proofs.Common.{◌≡◌, ◌++◌, drop}
 use Rattle.order_ints.specs.Truth.{valuation_of}
 use Rattle.dimacs_out.specs.ValueLines.{values_text, AreBounded}
 use Rattle.dimacs_out.proofs.values.write_values.Given as goal

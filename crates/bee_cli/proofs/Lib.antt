@@ -6,4 +6,6 @@ pub mod Causes
 pub mod Headline
 pub mod Answering
 pub mod CompileEnds
+pub mod DecodeEnds
+pub mod DecodedSolutions
 pub mod Obeyings

@@ -8,4 +8,5 @@ pub mod CompileMode
 pub mod Decoded
 pub mod DecodeParts
 pub mod DecodeMode
+pub mod DecodeLaws
 pub mod Obeyed

@@ -7,6 +7,7 @@ mod decode;
 mod decode_mode;
 mod entries;
 mod exit_code;
+mod laws;
 mod model_text;
 mod reporting;
 mod running;
@@ -14,5 +15,6 @@ mod status;
 mod whole_text;
 
 pub use exit_code::code;
+pub use laws::decoding_law;
 pub use running::run;
 pub use status::{ModelFault, Status};

@@ -1,6 +1,7 @@
 pub mod MapLines
 pub mod Names
 pub mod ModelShapes
+pub mod Weights
 pub mod FirstFaults
 pub mod Causes
 pub mod Headline

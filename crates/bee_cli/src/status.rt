@@ -40,10 +40,9 @@ pub enum ModelFault {
     /// An item has a fault of names, kinds or domains; never `Memory`.
     #[error("model: {0}")]
     Typed(TypeFault),
-    /// The number of the first statement that has no cores yet, or of the first declaration with which
-    /// there are more than 16,777,216 variables.
-    #[error("model: statement {0}: not built")]
-    Unbuilt(u64),
+    /// The model's weight is this, and above 67,108,864.
+    #[error("model: weight {0}")]
+    TooHeavy(u128),
     /// It is no compiled text; the first line that fails, counted from 1.
     #[error("cnf: line {0}")]
     Cnf(u64),

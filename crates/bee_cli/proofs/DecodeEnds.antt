@@ -1,8 +1,7 @@
 -- What each end of a run in decode mode says decides the rest of its promise.
-use Rattle.std.proofs.Common.{◌≡◌, ℕ, ◌^◌, ◌<◌, ◌≤◌, ◌⊎◌, List, [], Option, Some, None, Ok, Err, refl, ap, sym, ◌∙◌, subst, arith, inl, inr}
+use Rattle.std.proofs.Common.{◌≡◌, ℕ, ◌^◌, ◌<◌, ◌≤◌, ◌⊎◌, List, [], Option, Some, None, Err, refl, ap, sym, ◌∙◌, subst, arith, inl, inr}
 use Rattle.std.specs.Prelude.{◌≢◌}
-use Rattle.bee_outside.specs.Faults.{Rose, next_count, read_count}
-use Rattle.bee_outside.specs.declared.reading.ReadFault.TheVariants as fault
+use Rattle.bee_outside.specs.Faults.{Rose, next_count}
 use Rattle.bee_outside.proofs.FaultLaws.{Rose-next, Rose-from_before}
 use Rattle.dimacs_out.specs.declared.text.CnfText.{CnfText}
 use Rattle.dimacs_read.specs.TextLines.{IsTextOf}
@@ -10,9 +9,9 @@ use Rattle.dimacs_read.specs.TextSteps.{TextFails}
 use Rattle.dimacs_read.specs.Values.{ValuesFail}
 use Rattle.dimacs_read.proofs.Exact.{values_fit, line_same, text_same, text_fits, text_line_same}
 use Rattle.bee_cli.specs.Seen.{ShelfShown, Seen}
-use Rattle.bee_cli.specs.Ends.{IsSilent, count_read, count_written}
+use Rattle.bee_cli.specs.Ends.{IsSilent}
 use Rattle.bee_cli.specs.Promises.{ReadWhole, ToldUnder, ReadFailed, WriteFailed, Answers}
-use Rattle.bee_cli.specs.Decoded.{Texts, TellsValues, TellsRefusal, IsDecoded, IsRefused, Gives, InForm, FailsBehind}
+use Rattle.bee_cli.specs.Decoded.{Texts, TellsValues, TellsRefusal, Gives, InForm, FailsBehind}
 use Rattle.bee_cli.specs.DecodeParts.{ReadForm, CompiledRead, Wrote, WroteSome, TellsSome, DecodingWritten}
 use Rattle.bee_cli.specs.DecodeMode.{ReadBoth, ToldBoth, EitherFailed, HasFault, HasAnswer, TookUnder, DecodeMode}
 use Rattle.bee_cli.specs.Obeyed.{Untouched}
@@ -81,9 +80,9 @@ has_form texts a h = absurd h
 -- no text that is told has such an answer
 never : {T : Type 0} (AreTold : T → Type 0) (HaveAnswer : T → Status → Type 0) (ReadFails : Type 0) (status : Status) (seen : Seen)
     → ((texts : T) (answer : Status) → AreTold texts → HaveAnswer texts answer → ⊥) → Answers AreTold HaveAnswer ReadFails status seen
-never AreTold HaveAnswer ReadFails status seen no = record {
-  refused = λ texts answer told has quiet read. absurd (no texts answer told has);
-  complete = λ texts answer told has read write. absurd (no texts answer told has);
+never AreTold HaveAnswer ReadFails status seen unmet = record {
+  refused = λ texts answer told has quiet read. absurd (unmet texts answer told has);
+  complete = λ texts answer told has read write. absurd (unmet texts answer told has);
 }
 
 -- nothing is read where nothing is asked for
@@ -215,7 +214,7 @@ module _ (input second : List ℕ) (between : ShelfShown) (seen : Seen) (held : 
   nothing_behind before (Some rest) text t e read = ap Some read.whole
 
   module _ (t : List ℕ) (read : ReadWhole (between.left second) (seen.shelf_after.left second) t) (counts : seen.shelf_after.faults second ≡ between.faults second) where
-    texts : Texts
+    abbrev texts : Texts
     texts = record { compiled = r.compiled.text; answer = t }
 
     both : ReadBoth input second between seen texts

@@ -7,6 +7,7 @@ pub mod Causes
 pub mod Headline
 pub mod Answering
 pub mod CompileEnds
+pub mod Bounds
 pub mod DecodeEnds
 pub mod DecodedSolutions
 pub mod Obeyings

@@ -9,7 +9,6 @@ use Rattle.bee_cli.specs.Promises.{ReadWhole, ToldUnder, ReadFailed, WriteFailed
 use Rattle.bee_cli.specs.Decoded.{Texts, IsDecoded, IsRefused, Gives, InForm, FailsBehind}
 use Rattle.bee_cli.specs.declared.status.Status.{Status}
 use Rattle.bee_cli.specs.declared.status.Status.TheVariants.{Done, Refused, Model, Read, Write, Memory}
-use Rattle.bee_cli.specs.declared.status.ModelFault.{ModelFault}
 use Rattle.bee_cli.specs.declared.status.ModelFault.TheVariants.{Cnf}
 
 -- The compiled text was read to its end, and then the answer. `between` is what the shelf showed between the two: where both

@@ -12,7 +12,6 @@ use Rattle.bee_cli.specs.declared.decode.Decoding.{Decoding}
 use Rattle.bee_cli.specs.declared.decode.Decoding.TheVariants as decoding
 use Rattle.bee_cli.specs.declared.status.Status.{Status}
 use Rattle.bee_cli.specs.declared.status.Status.TheVariants.{Done, Refused, Model, Read, Write, Memory}
-use Rattle.bee_cli.specs.declared.status.ModelFault.{ModelFault}
 use Rattle.bee_cli.specs.declared.status.ModelFault.TheVariants.{Cnf}
 
 -- the text under a name was read to its end, has this form, and no fault of reading happened

@@ -1,5 +1,5 @@
 -- The values that are written for a compiled text are an assignment that it stands for.
-use Rattle.std.proofs.Common.{◌≡◌, List, ℕ, ℤ, refl, sym, subst}
+use Rattle.std.proofs.Common.{List, ℕ, refl, sym, subst}
 use Rattle.order_ints.specs.Truth.{valuation_of}
 use Rattle.dimacs_out.specs.TextSolutions.{StandsFor, assignment_of}
 use Rattle.dimacs_read.proofs.Lawful.{read_is_writable, values_give_assignment}

@@ -5,6 +5,7 @@
 #![tactic(auto)]
 
 mod boolean_lines;
+mod compared_sums;
 mod fresh;
 mod integer_lines;
 mod laws;
@@ -18,5 +19,5 @@ mod terms;
 
 pub use laws::{line_law, meaning_law, variables_law};
 pub use made::Made;
-pub use statements::{is_lowered, made_of};
+pub use statements::made_of;
 pub use terms::atom_of;

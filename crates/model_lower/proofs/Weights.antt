@@ -1,5 +1,5 @@
 -- What the items of a model are lowered to is no larger than their weights.
-use Rattle.std.proofs.Common.{◌≡◌, ℕ, zero, suc, ◌+◌, ◌≤◌, pos, ◌+ℤ◌, Bool, true, false, List, [], ◌∷◌, ◌++◌, length, map, refl, sym, ap, ◌∙◌, arith, length-append}
+use Rattle.std.proofs.Common.{◌≡◌, ℕ, ◌+◌, ◌≤◌, pos, ◌+ℤ◌, Bool, true, false, List, [], ◌∷◌, ◌++◌, length, map, refl, sym, ap, ◌∙◌, arith, length-append}
 use Rattle.std.specs.Prelude.{◌==◌, nat_lt, if◌then◌else◌}
 use Rattle.std.proofs.lemmas.Int.{ints}
 use Rattle.std.proofs.lemmas.List.{append_assoc, length-map}
@@ -26,7 +26,7 @@ use Rattle.model_lower.specs.ItemLaws.{IsDefinition}
 use Rattle.model_lower.specs.Lowering.{vars_taken, entry_of, entry_cores, with_declaration, with_statement, defined_entry, with_definition, lowered_items, nothing_lowered}
 use Rattle.model_lower.proofs.DeclarationSteps.{gap-reaches}
 use Rattle.model_lower.proofs.Standing.{ItemsFit, decls_in}
-use Rattle.weight_laws.specs.Size.{size_of_lowered}
+use Rattle.model_lower.specs.Weighed.{size_of_lowered}
 use Rattle.weight_laws.proofs.Integers.{EntryIs, EntriesAre}
 use Rattle.weight_laws.proofs.ComparisonCosts.{length-units}
 use Rattle.weight_laws.proofs.Statements.{statement-size, statement-count}

@@ -22,6 +22,8 @@ mod models;
 #[cfg(test)]
 mod reading;
 #[cfg(test)]
+mod shown;
+#[cfg(test)]
 mod sum_lines;
 #[cfg(test)]
 mod verdicts;

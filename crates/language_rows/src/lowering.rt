@@ -1,212 +1,117 @@
 //! Models with what they are lowered to, worked out by hand.
 
-use crate::verdicts::model;
-use bee_list::Sequence;
+use crate::shown::show;
 use bumblebee_reader::read_model;
-use core_forms::Core;
-use model_lower::{LowerFault, Lowered, first_unbuilt, lower};
-use order_ints::{Atom, MapValue, OrdInt};
-use std::alloc::{AllocError, Global};
+use model_lower::{lower, lower_owned};
+use std::alloc::Global;
 use std::test::Fail;
 use typed_model::{Model, check_types, in_limits};
 
-fn show_atom(alloc: Global, atom: Atom) -> Result<String, AllocError> {
-    match atom {
-        Atom::True => String::from_str(alloc, "T"),
-        Atom::False => String::from_str(alloc, "F"),
-        Atom::Of(literal) => {
-            let sign = if literal.positive { "" } else { "-" };
-            let var = literal.var;
-            format!(in alloc; "{sign}{var}")
-        }
-    }
-}
-
-/// The base, and then each step: its weight and its atom.
-fn show_int(alloc: Global, integer: &OrdInt) -> Result<String, AllocError> {
-    let base = integer.base;
-    let mut text = format!(in alloc; "{base}")?;
-    for (atom, weight) in integer.steps.as_slice() {
-        let atom = show_atom(alloc, *atom)?;
-        text = format!(in alloc; "{text}+{weight}*{atom}")?;
-    }
-    Ok(text)
-}
-
-fn show_entry(alloc: Global, entry: &MapValue) -> Result<String, AllocError> {
-    match entry {
-        MapValue::Bool(atom) => show_atom(alloc, *atom),
-        MapValue::Int(integer) => show_int(alloc, integer),
-    }
-}
-
-/// A comparison of two integers, and the atom that is its truth.
-fn show_comparison(
-    alloc: Global,
-    form: &str,
-    truth: Atom,
-    left: &OrdInt,
-    right: &OrdInt,
-) -> Result<String, AllocError> {
-    let truth = show_atom(alloc, truth)?;
-    let left = show_int(alloc, left)?;
-    let right = show_int(alloc, right)?;
-    format!(in alloc; "{form} {truth} {left} {right}")
-}
-
-/// A form, and its atoms.
-fn show_atoms(alloc: Global, form: &str, atoms: &[Atom]) -> Result<String, AllocError> {
-    let mut text = String::from_str(alloc, form)?;
-    for atom in atoms {
-        let atom = show_atom(alloc, *atom)?;
-        text = format!(in alloc; "{text} {atom}")?;
-    }
-    Ok(text)
-}
-
-/// An atom that is the truth of a conjunction, and the members.
-fn show_conjunction(alloc: Global, truth: Atom, atoms: &[Atom]) -> Result<String, AllocError> {
-    let truth = show_atom(alloc, truth)?;
-    let form = format!(in alloc; "conj {truth}")?;
-    show_atoms(alloc, form.as_str(), atoms)
-}
-
-/// The greatest of some integers, and the integers.
-fn show_greatest(
-    alloc: Global,
-    greatest: &OrdInt,
-    members: &[OrdInt],
-) -> Result<String, AllocError> {
-    let greatest = show_int(alloc, greatest)?;
-    let mut text = format!(in alloc; "max {greatest} of")?;
-    for member in members {
-        let member = show_int(alloc, member)?;
-        text = format!(in alloc; "{text} {member}")?;
-    }
-    Ok(text)
-}
-
-/// Two integers and their product.
-fn show_product(
-    alloc: Global,
-    left: &OrdInt,
-    right: &OrdInt,
-    value: &OrdInt,
-) -> Result<String, AllocError> {
-    let left = show_int(alloc, left)?;
-    let right = show_int(alloc, right)?;
-    let value = show_int(alloc, value)?;
-    format!(in alloc; "prod {left} {right} {value}")
-}
-
-/// A dividend, a divisor, their quotient and their remainder.
-fn show_division(
-    alloc: Global,
-    dividend: &OrdInt,
-    divisor: &OrdInt,
-    quotient: &OrdInt,
-    remainder: &OrdInt,
-) -> Result<String, AllocError> {
-    let dividend = show_int(alloc, dividend)?;
-    let divisor = show_int(alloc, divisor)?;
-    let quotient = show_int(alloc, quotient)?;
-    let remainder = show_int(alloc, remainder)?;
-    format!(in alloc; "div {dividend} {divisor} {quotient} {remainder}")
-}
-
-fn show_core(alloc: Global, core: &Core) -> Result<String, AllocError> {
-    match core {
-        Core::Ladder(integer) => {
-            let integer = show_int(alloc, integer.get())?;
-            format!(in alloc; "ladder {integer}")
-        }
-        Core::Clause(atoms) => show_atoms(alloc, "clause", atoms.as_slice()),
-        Core::Parity(atoms, odd) => {
-            show_atoms(alloc, if *odd { "odd" } else { "even" }, atoms.as_slice())
-        }
-        Core::Conj(truth, atoms) => show_conjunction(alloc, *truth, atoms.as_slice()),
-        Core::Max(members, greatest) => { show_greatest(alloc, greatest.get(), members.as_slice()) }
-        Core::Prod(left, right, value) => {
-            show_product(alloc, left.get(), right.get(), value.get())
-        }
-        Core::DivMod(dividend, divisor, quotient, remainder) => show_division(
-            alloc,
-            dividend.get(),
-            divisor.get(),
-            quotient.get(),
-            remainder.get(),
-        ),
-        Core::LeqR(truth, left, right) => {
-            show_comparison(alloc, "leq", *truth, left.get(), right.get())
-        }
-        Core::EqR(truth, left, right) => {
-            show_comparison(alloc, "eq", *truth, left.get(), right.get())
-        }
-        _ => String::from_str(alloc, "another form"),
-    }
-}
-
-/// How many variables there are, the entries of the map, and the cores.
-fn show(alloc: Global, lowered: &Lowered) -> Result<String, AllocError> {
-    let vars = lowered.vars;
-    let mut text = format!(in alloc; "{vars}:")?;
-    for entry in lowered.map.entries.as_slice() {
-        let entry = show_entry(alloc, entry)?;
-        text = format!(in alloc; "{text} {entry}")?;
-    }
-    for core in lowered.cores.as_slice() {
-        let core = show_core(alloc, core)?;
-        text = format!(in alloc; "{text}; {core}")?;
-    }
-    Ok(text)
-}
-
-fn outcome(alloc: Global, answer: Result<Lowered, LowerFault>) -> Result<String, AllocError> {
-    match answer {
-        Ok(lowered) => show(alloc, &lowered),
-        Err(fault) => format!(in alloc; "{fault}"),
-    }
-}
-
-/// What a text is lowered to.
-fn lowered(alloc: Global, text: &str) -> Result<String, Fail> {
+/// A model that is in the limits of a text.
+fn small_model(alloc: Global, text: &str) -> Result<Model, Fail> {
     let syntax = read_model(alloc, text.as_bytes())?;
     let model = check_types(alloc, &syntax)?;
     if !in_limits(&model) {
         return Err(Fail::from("too great a numeral"));
     }
-    Ok(outcome(alloc, lower(alloc, &model))?)
+    Ok(model)
 }
 
-const BUILT: &str =
+/// What a text is lowered to.
+fn lowered(alloc: Global, text: &str) -> Result<String, Fail> {
+    let model = small_model(alloc, text)?;
+    match lower(alloc, &model) {
+        Ok(lowered) => Ok(show(alloc, &lowered)?),
+        Err(fault) => Ok(format!(in alloc; "{fault}")?),
+    }
+}
+
+/// What a text is lowered to where the model is used up, and how many declarations are kept.
+fn lowered_at_last(alloc: Global, text: &str) -> Result<String, Fail> {
+    let model = small_model(alloc, text)?;
+    match lower_owned(alloc, model) {
+        Ok(model) => {
+            let kept = model.decls.len();
+            let lowered = show(alloc, &model.lowered)?;
+            Ok(format!(in alloc; "{kept}/{lowered}")?)
+        }
+        Err(fault) => Ok(format!(in alloc; "{fault}")?),
+    }
+}
+
+const MIXED: &str =
     "new_bool(x) new_int(i,2,4) bool_array_or([x,-x]) new_int(j,7,7) int_leq(i,j) int_neq(i,i) new_bool(y) bool_array_or([y,-x]) int_leq(3,i) solve satisfy";
 
 const CORES: &str =
     "4: 1 2+1*2+1*3 7 4; ladder 2+1*2+1*3; clause 1 -1; ladder 7; leq T 2+1*2+1*3 7; eq F 2+1*2+1*3 2+1*2+1*3; clause 4 -1; leq T 3 2+1*2+1*3";
 
+/// Models of different kinds of items, in different orders, lent and used up.
+static MODELS: [(&str, &str, &str); 7] = [
+    (MIXED, "4", CORES),
+    ("bool_array_or([]) solve satisfy", "0", "0:; clause"),
+    (
+        "new_bool(x) bool_array_xor([x]) bool_eq(x,x) solve satisfy",
+        "1",
+        "1: 1; odd 1; even 1 1",
+    ),
+    (
+        "new_int(i,0,2) int_neq(i,1) int_plus(i,i,2) solve satisfy",
+        "1",
+        "2: 0+1*1+1*2; ladder 0+1*1+1*2; eq F 0+1*1+1*2 1; plus 0+1*1+1*2 0+1*1+1*2 2",
+    ),
+    (
+        "new_bool(x) bool2int(-x,i) int_leq(1,i) new_bool(y) bool2int(y,i) solve satisfy",
+        "3",
+        "2: 1 0+1*-1 2; leq T 1 0+1*-1; eq T 0+1*-1 0+1*2",
+    ),
+    (
+        "new_bool(x) bool2int(x,i) bool2int(-x,j) solve satisfy",
+        "3",
+        "1: 1 0+1*1 0+1*-1",
+    ),
+    (
+        "bool_array_and([true]) bool_array_or([false]) new_bool(x) solve satisfy",
+        "1",
+        "1: 1; conj T T; clause F",
+    ),
+];
+
 #[test]
 fn models_are_lowered(rt: HostRuntime) -> Result<(), Fail> {
+    for (text, _, want) in &MODELS {
+        let found = lowered(rt.alloc(), text)?;
+        assert_eq!(rt; found.as_str(), *want, "{text}");
+    }
+    Ok(())
+}
+
+#[test]
+fn models_that_are_used_up_are_lowered(rt: HostRuntime) -> Result<(), Fail> {
+    for (text, kept, want) in &MODELS {
+        let found = lowered_at_last(rt.alloc(), text)?;
+        let want = format!(in rt.alloc(); "{kept}/{want}")?;
+        assert_eq!(rt; found.as_str(), want.as_str(), "{text}");
+    }
+    Ok(())
+}
+
+/// An integer with n values but its least weighs 3n - 2.
+#[test]
+fn models_that_weigh_too_much_are_told(rt: HostRuntime) -> Result<(), Fail> {
     for (text, want) in [
-        (BUILT, CORES),
-        ("bool_array_or([]) solve satisfy", "0:; clause"),
         (
-            "new_bool(x) bool_array_xor([x]) bool_eq(x,x) solve satisfy",
-            "statement 2: not built",
+            "new_int(x,-1000000000,1000000000) solve satisfy",
+            "weight 5999999998",
         ),
+        ("new_int(i,0,22369623) solve satisfy", "weight 67108867"),
         (
-            "new_int(i,0,9) int_neq(i,3) int_plus(i,i,3) solve satisfy",
-            "statement 3: not built",
-        ),
-        (
-            "new_bool(x) new_int(i,0,16777216) bool_eq(x,x) solve satisfy",
-            "statement 2: not built",
-        ),
-        (
-            "new_bool(x) bool2int(-x,i) int_leq(1,i) new_bool(y) bool2int(y,i) solve satisfy",
-            "2: 1 0+1*-1 2; leq T 1 0+1*-1; eq T 0+1*-1 0+1*2",
+            "new_bool(x) new_int(i,0,22369622) solve satisfy",
+            "weight 67108865",
         ),
     ] {
         let found = lowered(rt.alloc(), text)?;
+        assert_eq!(rt; found.as_str(), want, "{text}");
+        let found = lowered_at_last(rt.alloc(), text)?;
         assert_eq!(rt; found.as_str(), want, "{text}");
     }
     Ok(())
@@ -304,49 +209,56 @@ fn statements_take_fresh_variables(rt: HostRuntime) -> Result<(), Fail> {
     Ok(())
 }
 
-/// The same model, where each item has three times its number.
-fn with_gaps(model: Model) -> Model {
-    let Model { decls, stmts, goal } = model;
-    let mut decls = decls.into_vec();
-    for decl in decls.iter_mut() {
-        decl.number = decl.number.saturating_mul(3);
-    }
-    let mut stmts = stmts.into_vec();
-    for stmt in stmts.iter_mut() {
-        stmt.number = stmt.number.saturating_mul(3);
-    }
-    Model {
-        decls: Sequence::from_vec(decls),
-        stmts: Sequence::from_vec(stmts),
-        goal,
-    }
-}
-
+/// Lines with cores that may be split, over the same i, j and x.
 #[test]
-fn items_that_are_not_built_are_told(rt: HostRuntime) -> Result<(), Fail> {
-    for (text, want) in [
-        (BUILT, None),
-        ("new_bool(x) bool_array_xor([x]) solve satisfy", Some(6)),
-        ("new_bool(x) new_int(i,0,16777216) solve satisfy", Some(6)),
+fn statements_have_great_cores(rt: HostRuntime) -> Result<(), Fail> {
+    for (statement, vars, want) in [
+        ("bool_array_xor([x,-x,true])", 3, "odd 3 -3 T"),
+        ("bool_array_xor_reif([x,x,true],-x)", 3, "even 3 3 T -3"),
+        ("bool_array_sum_eq([x,-x,true],i)", 3, "count 0+1*1 of 3 -3 T"),
         (
-            "new_bool(x) new_int(i,0,16777213) bool_iff_reif(x,x,x) solve satisfy",
-            None,
+            "bool_array_sum_geq([x,x],j)",
+            5,
+            "count 0+1*4+1*5 of 3 3; leq T 2+1*2 0+1*4+1*5",
         ),
         (
-            "new_bool(x) bool_iff_reif(x,x,x) new_int(i,0,16777213) bool_iff_reif(x,x,x) solve satisfy",
-            Some(12),
+            "bool_array_pb_eq([2,-3],[x,true],i)",
+            3,
+            "sum 0 of 0+2*3 -3+3*F -1+1*-1",
+        ),
+        ("int_array_sum_eq([i,3],j)", 3, "sum -3 of 0+1*1 -3+1*-2"),
+        (
+            "int_array_lin_eq([2,-1],[i,j],1)",
+            3,
+            "sum 1 of 0+2*1 -3+1*-2",
+        ),
+        ("int_plus(i,j,3)", 3, "plus 0+1*1 2+1*2 3"),
+        ("int_array_plus([i,j],3)", 3, "sum 3 of 0+1*1 2+1*2"),
+        ("int_array_allDiff([i,j,1])", 3, "differ 0+1*1 2+1*2 1 where T T T"),
+        (
+            "int_array_allDiffCond([i,j],[x,-x])",
+            3,
+            "differ 0+1*1 2+1*2 where 3 -3",
         ),
         (
-            "new_bool(x) bool2int(x,i) new_int(j,0,16777214) int_div(j,2,1) int_neq(i,j) bool_array_xor([x]) solve satisfy",
-            Some(18),
+            "int_arrays_lex([i,1],[j,i])",
+            3,
+            "before or same T 0+1*1 1 and 2+1*2 0+1*1",
         ),
         (
-            "new_bool(x) bool2int(x,i) new_int(j,0,16777215) int_mod(j,2,1) int_div(j,2,1) solve satisfy",
-            Some(12),
+            "bool_arrays_lexLt_reif([x],[true],-x)",
+            3,
+            "before -3 0+1*3 and 0+1*T",
         ),
     ] {
-        let found = with_gaps(model(rt.alloc(), text)?);
-        assert_eq!(rt; first_unbuilt(&found), want, "{text}");
+        let text = format!(in rt.alloc();
+            "new_int(i,0,1) new_int(j,2,3) new_bool(x) {statement} solve satisfy"
+        )?;
+        let found = lowered(rt.alloc(), text.as_str())?;
+        let want = format!(in rt.alloc();
+            "{vars}: 0+1*1 2+1*2 3; ladder 0+1*1; ladder 2+1*2; {want}"
+        )?;
+        assert_eq!(rt; found.as_str(), want.as_str(), "{statement}");
     }
     Ok(())
 }

@@ -16,8 +16,8 @@ use Rattle.order_ints.proofs.Gains.{low-le, high-ge}
 use Rattle.order_ints.proofs.Fresh.{weights-unit_steps, atoms-unit_steps, values_of-unit_range_of, AreRising-unit_steps, StepsBelow-vars, IsBounded-unit_range_of, takes_each_value}
 use Rattle.core_forms.specs.declared.form.Core.TheVariants.{Ladder}
 use Rattle.core_forms.specs.WellFormed.{IsSound}
-use Rattle.core_forms.specs.Cores.{MeetsAll}
-use Rattle.core_forms.proofs.CoreLists.{MeetsAll-one, MeetsAll-append, MeetsAll-agree}
+use Rattle.core_forms.specs.Cores.{MeetsAll, CoresBelow, AreWellFormed}
+use Rattle.core_forms.proofs.CoreLists.{MeetsAll-one, MeetsAll-append, MeetsAll-agree, CoresBelow-append, CoresBelow-more, AreWellFormed-append}
 use Rattle.typed_model.specs.declared.model.Kind.{Kind}
 use Rattle.typed_model.specs.declared.model.Kind.TheVariants as kind
 use Rattle.typed_model.specs.Integers.{is_member}
@@ -26,17 +26,16 @@ use Rattle.typed_model.specs.Limits.{KindInLimit}
 use Rattle.typed_model.specs.WellTyped.{KindFits}
 use Rattle.typed_model.proofs.DomainLaws.{Decides-domain}
 use Rattle.model_lower.specs.Lowering.{vars_taken, entry_of, entry_cores}
-use Rattle.model_lower.specs.Fits.{CoresFit}
 use Rattle.model_lower.specs.ItemLaws.{DeclarationLaw}
 use Rattle.statement_lower.specs.Entries.{EntryFits, AreOrdered}
 use Rattle.statement_lower.proofs.FreshAtoms.{set_from, set_from-same, set_from-here}
 use Rattle.statement_lower.proofs.EntryLaws.{EntriesFit-more, EntriesFit-append, numbers_of-append, numbers_of-agree, AreOrdered-append}
-use Rattle.model_lower.proofs.CoreLaws.{CoresFit-below, CoresFit-more, CoresFit-append}
 
 -- what is known of the entry of a declaration
 pub record EntryLaws (vars : ℕ) (k : Kind) : Type 0 where
   pub fits : EntryFits (vars + vars_taken k + 1) k (entry_of vars k)
-  pub cores : CoresFit (vars + vars_taken k + 1) (entry_cores (entry_of vars k))
+  pub below : CoresBelow (vars + vars_taken k + 1) (entry_cores (entry_of vars k))
+  pub well_formed : AreWellFormed (entry_cores (entry_of vars k))
   pub ordered : (σ : Valuation) → MeetsAll σ (entry_cores (entry_of vars k)) → AreOrdered σ (entry_of vars k ∷ [])
   pub some : (σ : Valuation) → MeetsAll σ (entry_cores (entry_of vars k)) → IsTrue (is_member (number_of σ (entry_of vars k)) (domain k))
   pub each : (σ : Valuation) (v : ℤ) → IsTrue (is_member v (domain k)) → (τ : Valuation) × Agree (vars + 1) σ τ × MeetsAll τ (entry_cores (entry_of vars k)) × (number_of τ (entry_of vars k) ≡ v)
@@ -64,7 +63,8 @@ bit_of v (inr e) = rw (← e) refl
 bool-laws : (vars : ℕ) → EntryLaws vars kind.Bool
 bool-laws vars = record {
   fits = (omega arith, omega arith);
-  cores = tt;
+  below = tt;
+  well_formed = tt;
   ordered = λ σ h. tt;
   some = λ σ h. bit-in_domain (atom_truth σ (atom_of_var (vars + 1)));
   each = λ σ v h.
@@ -113,7 +113,8 @@ int-laws vars low high fit small =
         low_in_limit = small.0;
         high_in_limit = small.1;
       };
-      cores = (record { below = (tt, (below, tt)); well_formed = sound; form = tt }, tt);
+      below = ((tt, (below, tt)), tt);
+      well_formed = (sound, tt);
       ordered = λ σ h. ((MeetsAll-one σ (Ladder a)).0 h, tt);
       some = λ σ h.
           (Decides-domain low high (value_of σ a)).1
@@ -132,7 +133,7 @@ entry-laws vars (kind.Int low high) fit small = int-laws vars low high fit small
 -- The law of a declaration.
 
 pub declaration_law : DeclarationLaw
-declaration_law l decls d enc fit small within =
+declaration_law l decls d enc fit small =
     let k = d.kind in
     let n : ℕ = l.vars + 1 in
     let m : ℕ = l.vars + vars_taken k + 1 in
@@ -141,11 +142,9 @@ declaration_law l decls d enc fit small within =
     let e = entry_of l.vars k in
     let laws = entry-laws l.vars k fit small in (
       record {
-        fits = record {
-          vars = within;
-          entries = EntriesFit-append m decls entries d e (EntriesFit-more n m decls entries le enc.fits.entries) laws.fits;
-          cores = CoresFit-append m l.cores (entry_cores e) (CoresFit-more n m l.cores le enc.fits.cores) laws.cores;
-        };
+        entries = EntriesFit-append m decls entries d e (EntriesFit-more n m decls entries le enc.entries) laws.fits;
+        below = CoresBelow-append m l.cores (entry_cores e) (CoresBelow-more n m l.cores le enc.below) laws.below;
+        well_formed = AreWellFormed-append l.cores (entry_cores e) enc.well_formed laws.well_formed;
         ordered = λ σ h.
             let r = (MeetsAll-append σ l.cores (entry_cores e)).0 h in
             AreOrdered-append σ entries (e ∷ []) (enc.ordered σ r.0) (laws.ordered σ r.1);
@@ -158,10 +157,10 @@ declaration_law l decls d enc fit small within =
             let t = laws.each σ v mem in (
               t.0,
               t.1,
-              (MeetsAll-append t.0 l.cores (entry_cores e)).1 (MeetsAll-agree n σ t.0 l.cores t.1 (CoresFit-below n l.cores enc.fits.cores) h, t.2),
+              (MeetsAll-append t.0 l.cores (entry_cores e)).1 (MeetsAll-agree n σ t.0 l.cores t.1 enc.below h, t.2),
               numbers_of-append t.0 entries e
                   ∙ (ap (λ (v : ℤ). numbers_of t.0 entries ++ v ∷ []) t.3
-                  ∙ ap (λ (vs : List ℤ). vs ++ v ∷ []) (sym (numbers_of-agree n σ t.0 decls entries t.1 enc.fits.entries))),
+                  ∙ ap (λ (vs : List ℤ). vs ++ v ∷ []) (sym (numbers_of-agree n σ t.0 decls entries t.1 enc.entries))),
             );
       },
     )

@@ -69,11 +69,11 @@ module _ (l : Lowered) (ds : List Decl) (enc : Encodes l ds) (d : Decl) (x : Boo
   value σ = as_number (truth_of (numbers_of σ entries) x)
 
   truth : (σ : Valuation) → atom_truth σ a ≡ truth_of (numbers_of σ entries) x
-  truth σ = (atom_of-laws σ (l.vars + 1) d.number ds entries x enc.fits.entries f).0
+  truth σ = (atom_of-laws σ (l.vars + 1) d.number ds entries x enc.entries f).0
 
   entry-fits : EntryFits (l.vars + 1) d.kind (defined_entry entries w)
   entry-fits =
-      let small = small-bit (l.vars + 1) a (atom_of-laws (λ _. false) (l.vars + 1) d.number ds entries x enc.fits.entries f).1 in
+      let small = small-bit (l.vars + 1) a (atom_of-laws (λ _. false) (l.vars + 1) d.number ds entries x enc.entries f).1 in
       subst (λ (k : Kind). EntryFits (l.vars + 1) k (defined_entry entries w)) (sym is) (record {
         below = small.below;
         sound = small.sound;
@@ -91,7 +91,7 @@ module _ (l : Lowered) (ds : List Decl) (enc : Encodes l ds) (d : Decl) (x : Boo
   holds-for : (σ : Valuation) (z : ℤ) → Holds (numbers_of σ entries ++ z ∷ []) w ↔ (z ≡ value σ)
   unfolding Holds
   holds-for σ z =
-      let long = length-numbers_of σ (l.vars + 1) ds entries enc.fits.entries in
+      let long = length-numbers_of σ (l.vars + 1) ds entries enc.entries in
       let e : value_at (numbers_of σ entries ++ z ∷ []) (length ds) ≡ z = at-end (numbers_of σ entries) z (length ds) long in
       let g : as_number (truth_of (numbers_of σ entries ++ z ∷ []) x) ≡ value σ = ap as_number (truth-front ds d.number (numbers_of σ entries) z x long f) in
       (λ h. sym e ∙ (h ∙ g), λ h. e ∙ (h ∙ sym g))
@@ -99,11 +99,9 @@ module _ (l : Lowered) (ds : List Decl) (enc : Encodes l ds) (d : Decl) (x : Boo
   defined : Encodes (with_definition l w) (ds ++ d ∷ []) × TakesItsValue l (with_definition l w) d.kind w
   defined = (
     record {
-      fits = record {
-        vars = enc.fits.vars;
-        entries = EntriesFit-append (l.vars + 1) ds entries d (defined_entry entries w) enc.fits.entries entry-fits;
-        cores = enc.fits.cores;
-      };
+      entries = EntriesFit-append (l.vars + 1) ds entries d (defined_entry entries w) enc.entries entry-fits;
+      below = enc.below;
+      well_formed = enc.well_formed;
       ordered = λ σ h. AreOrdered-append σ entries (defined_entry entries w ∷ []) (enc.ordered σ h) (bit-ordered (atom_truth σ a), tt);
     },
     record {

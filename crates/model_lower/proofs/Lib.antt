@@ -1,13 +1,13 @@
-pub mod CoreLaws
-pub mod BuiltLaws
 pub mod StatementSteps
-pub mod FreshCounts
 pub mod DeclarationSteps
 pub mod DefinitionSteps
 pub mod Standing
 pub mod EarlierNames
 pub mod ItemOrder
 pub mod ItemFits
+pub mod Weights
 pub mod LoweringLaw
 pub mod LoweredItems
 pub mod LimitLaws
+pub mod NextItem
+pub mod Walking

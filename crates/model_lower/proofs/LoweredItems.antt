@@ -1,13 +1,10 @@
 -- Lowering goes on behind the items so far.
-use Rattle.std.proofs.Common.{◌≡◌, ℕ, ◌<◌, ◌≤◌, List, [], ◌∷◌, Option, Some, None, sym, ap, ◌∙◌, arith}
+use Rattle.std.proofs.Common.{◌≡◌, ◌<◌, ◌≤◌, List, [], ◌∷◌, sym, ap, ◌∙◌, arith}
 use Rattle.std.specs.Prelude.{◌^◌}
-use Rattle.typed_model.specs.declared.model.Decl.{Decl}
-use Rattle.typed_model.specs.Names.{first_of}
 use Rattle.model_items.specs.Items.{ModelItem, Declaration, Statement, Definition}
 use Rattle.statement_lower.proofs.MoreVariables.{variables_law}
 use Rattle.model_lower.specs.declared.state.Lowered.{Lowered}
 use Rattle.model_lower.specs.Lowering.{lowered_item, lowered_items}
-use Rattle.model_lower.specs.Built.{vars_after, unbuilt, first_unbuilt}
 
 -- Variables get no fewer.
 
@@ -31,19 +28,3 @@ room-here l all i items left parts e room =
 -- behind an item
 pub items-step : (l m all : Lowered) (i : ModelItem) (items left : List ModelItem) → left ≡ i ∷ items → m ≡ lowered_item l i → lowered_items l left ≡ all → lowered_items m items ≡ all
 items-step l m all i items left parts next e = ap (λ (k : Lowered). lowered_items k items) next ∙ (sym (ap (lowered_items l) parts) ∙ e)
-
--- The first item that isn't built.
-
-module _ (ds : List Decl) (vars : ℕ) (i : ModelItem) (items left : List ModelItem) (all : Option ℕ) (parts : left ≡ i ∷ items) (e : first_unbuilt ds vars left ≡ all) where
-  here : first_of (unbuilt ds vars i) (first_unbuilt ds (vars_after ds vars i) items) ≡ all
-  here = sym (ap (first_unbuilt ds vars) parts) ∙ e
-
-  -- this item isn't
-  pub found : (n : ℕ) → unbuilt ds vars i ≡ Some n → Some n ≡ all
-  found n is = sym (ap (λ (o : Option ℕ). first_of o (first_unbuilt ds (vars_after ds vars i) items)) is) ∙ here
-
-  -- it is
-  pub passed : (after : ℕ) → unbuilt ds vars i ≡ None → after ≡ vars_after ds vars i → first_unbuilt ds after items ≡ all
-  passed after none is =
-      ap (λ (v : ℕ). first_unbuilt ds v items) is
-      ∙ (sym (ap (λ (o : Option ℕ). first_of o (first_unbuilt ds (vars_after ds vars i) items)) none) ∙ here)

@@ -9,7 +9,6 @@ use Rattle.typed_model.specs.declared.model.Decl.{Decl}
 use Rattle.typed_model.specs.declared.model.Stmt.{Stmt}
 use Rattle.typed_model.specs.Integers.{is_member}
 use Rattle.typed_model.specs.Domains.{domain, in_domains}
-use Rattle.typed_model.specs.Names.{first_of}
 use Rattle.typed_model.specs.Holds.{Holds}
 use Rattle.typed_model.specs.Limits.{KindInLimit, WhatInLimit}
 use Rattle.typed_model.specs.WellTyped.{KindFits, WhatFits}
@@ -19,13 +18,10 @@ use Rattle.typed_model.proofs.BehindLaws.{behind}
 use Rattle.model_lower.specs.declared.state.Lowered.{Lowered}
 use Rattle.model_items.specs.Items.{ModelItem, Declaration, Statement, Definition}
 use Rattle.model_lower.specs.Lowering.{with_declaration, with_statement, with_definition, lowered_item, lowered_items, nothing_lowered}
-use Rattle.model_lower.specs.Built.{most_vars, is_built, may_build, vars_after, unbuilt, first_unbuilt}
 use Rattle.model_lower.specs.Decoded.{IsDecoded}
 use Rattle.model_lower.specs.ItemLaws.{Encodes, TakesEachValue, TakesItsValue, IsDefinition}
 use Rattle.statement_lower.proofs.EntryLaws.{numbers_of-agree}
 use Rattle.model_lower.proofs.StatementSteps.{statement_law}
-use Rattle.model_lower.proofs.BuiltLaws.{built-room}
-use Rattle.model_lower.proofs.FreshCounts.{built-vars}
 use Rattle.model_lower.proofs.DeclarationSteps.{declaration_law}
 use Rattle.model_lower.proofs.DefinitionSteps.{definition_law}
 
@@ -121,9 +117,9 @@ module _ (l m : Lowered) (ds : List Decl) (ss : List Stmt) (d : Decl) (st : Stan
         subst (λ (vs : List ℤ). AllHold vs ss) (sym e) ((AllHold-append ds ss front (v ∷ []) (in_domains-length ds front r.0) st.placed).1 r.1),
       )
 
-pub declaration-stands : (l : Lowered) (ds : List Decl) (ss : List Stmt) (d : Decl) → Stands l ds ss → KindFits d.kind → KindInLimit d.kind → (with_declaration l d.kind).vars ≤ most_vars → Stands (with_declaration l d.kind) (ds ++ d ∷ []) ss
-declaration-stands l ds ss d st fit small room =
-    let law = declaration_law l ds d st.encodes fit small room in
+pub declaration-stands : (l : Lowered) (ds : List Decl) (ss : List Stmt) (d : Decl) → Stands l ds ss → KindFits d.kind → KindInLimit d.kind → Stands (with_declaration l d.kind) (ds ++ d ∷ []) ss
+declaration-stands l ds ss d st fit small =
+    let law = declaration_law l ds d st.encodes fit small in
     let m = with_declaration l d.kind in
     record {
       encodes = law.0;
@@ -133,9 +129,9 @@ declaration-stands l ds ss d st fit small room =
 
 -- One more statement.
 
-pub statement-stands : (l : Lowered) (ds : List Decl) (ss : List Stmt) (s : Stmt) → Stands l ds ss → WhatFits ds s.number s.what → WhatInLimit s.what → is_built s.what ≡ true → (with_statement l s.what).vars ≤ most_vars → Stands (with_statement l s.what) ds (ss ++ s ∷ [])
-statement-stands l ds ss s st fit small built room =
-    let law = statement_law l ds s st.encodes fit small built room in
+pub statement-stands : (l : Lowered) (ds : List Decl) (ss : List Stmt) (s : Stmt) → Stands l ds ss → WhatFits ds s.number s.what → WhatInLimit s.what → Stands (with_statement l s.what) ds (ss ++ s ∷ [])
+statement-stands l ds ss s st fit small =
+    let law = statement_law l ds s st.encodes fit small in
     let entries = l.map.entries in
     record {
       encodes = law.0;
@@ -145,7 +141,7 @@ statement-stands l ds ss s st fit small built room =
             let p = (AllHold-split ss s a).0 h.1 in
             let c = (st.solutions a).0 (h.0, p.0) in
             let t = law.1.extends c.0 (c.1, subst (λ (vs : List ℤ). Holds vs s.what) c.2 p.1) in
-            (t.0, t.2, c.2 ∙ numbers_of-agree (l.vars + 1) c.0 t.0 ds entries t.1 st.encodes.fits.entries),
+            (t.0, t.2, c.2 ∙ numbers_of-agree (l.vars + 1) c.0 t.0 ds entries t.1 st.encodes.entries),
         λ c.
             let p = law.1.implies c.0 c.1 in
             let r = (st.solutions a).1 (c.0, p.0, c.2) in
@@ -203,7 +199,7 @@ empty-alone (v ∷ a) h = absurd (false≢true h)
 
 pub nothing-stands : Stands nothing_lowered [] []
 nothing-stands = record {
-  encodes = record { fits = record { vars = omega arith; entries = tt; cores = tt }; ordered = λ σ h. tt };
+  encodes = record { entries = tt; below = tt; well_formed = tt; ordered = λ σ h. tt };
   placed = tt;
   solutions = λ a. (λ h. ((λ v. false), refl, empty-alone a h.0), λ c. (subst (λ (vs : List ℤ). IsTrue (in_domains [] vs)) (sym c.2) refl, tt));
 }
@@ -229,42 +225,15 @@ stmts_in (Declaration d ∷ items) = stmts_in items
 stmts_in (Statement s ∷ items) = s ∷ stmts_in items
 stmts_in (Definition d s ∷ items) = s ∷ stmts_in items
 
-first_of-none : {A : Type 0} (o p : Option A) → first_of o p ≡ None → (o ≡ None) × (p ≡ None)
-first_of-none None p e = (refl, e)
-first_of-none (Some x) p e = absurd (cc)
-
--- the variables that are counted for an item that may be built are those that it takes
-counted : (l : Lowered) (ds es : List Decl) (ss : List Stmt) (i : ModelItem) (items : List ModelItem) → Stands l ds ss → ItemsFit ds (i ∷ items) → may_build i ≡ true → (lowered_item l i).vars ≡ vars_after (ds ++ es) l.vars i
-counted l ds es ss (Declaration d) items st fit may = refl
-counted l ds es ss (Statement s) items st fit may = built-vars l.vars s.number ds es l.map.entries s.what st.encodes.fits.entries fit.0 may
-counted l ds es ss (Definition d s) items st fit may = omega arith
-
--- the first item is built, and so are the others behind it
-record IsBuiltFirst (all : List Decl) (l : Lowered) (i : ModelItem) (items : List ModelItem) : Type 0 where
-  may : may_build i ≡ true
-  room : (lowered_item l i).vars ≤ most_vars
-  rest : first_unbuilt all (lowered_item l i).vars items ≡ None
-
-built-first : (all : List Decl) (l : Lowered) (ds es : List Decl) (ss : List Stmt) (i : ModelItem) (items : List ModelItem) → ds ++ es ≡ all → Stands l ds ss → ItemsFit ds (i ∷ items) → first_unbuilt all l.vars (i ∷ items) ≡ None → IsBuiltFirst all l i items
-built-first all l ds es ss i items e st fit none =
-    let p = first_of-none (unbuilt all l.vars i) (first_unbuilt all (vars_after all l.vars i) items) none in
-    let r = built-room all l.vars i p.0 in
-    let same : (lowered_item l i).vars ≡ vars_after all l.vars i =
-    counted l ds es ss i items st fit r.0 ∙ ap (λ (ds : List Decl). vars_after ds l.vars i) e in
-    record { may = r.0; room = omega (arith, same, r.1); rest = ap (λ (v : ℕ). first_unbuilt all v items) same ∙ p.1 }
-
-pub items-stand : (all : List Decl) (l : Lowered) (ds : List Decl) (ss : List Stmt) (items : List ModelItem) → ds ++ decls_in items ≡ all → Stands l ds ss → ItemsFit ds items → first_unbuilt all l.vars items ≡ None → Stands (lowered_items l items) (ds ++ decls_in items) (ss ++ stmts_in items)
-items-stand all l ds ss [] e st fit none = rw (append-nil ds, append-nil ss) st
-items-stand all l ds ss (Declaration d ∷ items) e st fit none =
-    let p = built-first all l ds (d ∷ decls_in items) ss (Declaration d) items e st fit none in
+pub items-stand : (l : Lowered) (ds : List Decl) (ss : List Stmt) (items : List ModelItem) → Stands l ds ss → ItemsFit ds items → Stands (lowered_items l items) (ds ++ decls_in items) (ss ++ stmts_in items)
+items-stand l ds ss [] st fit = rw (append-nil ds, append-nil ss) st
+items-stand l ds ss (Declaration d ∷ items) st fit =
     subst (λ (cs : List Decl). Stands (lowered_items (with_declaration l d.kind) items) cs (ss ++ stmts_in items)) (append_assoc ds (d ∷ []) (decls_in items))
-    (items-stand all (with_declaration l d.kind) (ds ++ d ∷ []) ss items (append_assoc ds (d ∷ []) (decls_in items) ∙ e) (declaration-stands l ds ss d st fit.0 fit.1 p.room) fit.2 p.rest)
-items-stand all l ds ss (Statement s ∷ items) e st fit none =
-    let p = built-first all l ds (decls_in items) ss (Statement s) items e st fit none in
+    (items-stand (with_declaration l d.kind) (ds ++ d ∷ []) ss items (declaration-stands l ds ss d st fit.0 fit.1) fit.2)
+items-stand l ds ss (Statement s ∷ items) st fit =
     subst (λ (ts : List Stmt). Stands (lowered_items (with_statement l s.what) items) (ds ++ decls_in items) ts) (append_assoc ss (s ∷ []) (stmts_in items))
-    (items-stand all (with_statement l s.what) ds (ss ++ s ∷ []) items e (statement-stands l ds ss s st fit.0 fit.1 p.may p.room) fit.2 p.rest)
-items-stand all l ds ss (Definition d s ∷ items) e st fit none =
-    let p = built-first all l ds (d ∷ decls_in items) ss (Definition d s) items e st fit none in
+    (items-stand (with_statement l s.what) ds (ss ++ s ∷ []) items (statement-stands l ds ss s st fit.0 fit.1) fit.2)
+items-stand l ds ss (Definition d s ∷ items) st fit =
     subst (λ (ts : List Stmt). Stands (lowered_items (with_definition l s.what) items) (ds ++ d ∷ decls_in items) ts) (append_assoc ss (s ∷ []) (stmts_in items))
     (subst (λ (cs : List Decl). Stands (lowered_items (with_definition l s.what) items) cs ((ss ++ s ∷ []) ++ stmts_in items)) (append_assoc ds (d ∷ []) (decls_in items))
-    (items-stand all (with_definition l s.what) (ds ++ d ∷ []) (ss ++ s ∷ []) items (append_assoc ds (d ∷ []) (decls_in items) ∙ e) (definition-stands l ds ss d s st fit.0 fit.1) fit.2 p.rest))
+    (items-stand (with_definition l s.what) (ds ++ d ∷ []) (ss ++ s ∷ []) items (definition-stands l ds ss d s st fit.0 fit.1) fit.2))

@@ -1,9 +1,9 @@
 -- What one more item makes of the assignments that cores and a map of names stand for.
-use Rattle.std.specs.Prelude.{◌≡◌, ◌↔◌, ◌+◌, ◌≤◌, ℤ, pos, true, List, [], ◌∷◌, ◌++◌, length, None, IsTrue}
+use Rattle.std.specs.Prelude.{◌≡◌, ◌↔◌, ◌+◌, ◌≤◌, ℤ, pos, List, [], ◌∷◌, ◌++◌, length, IsTrue}
 use Rattle.order_ints.specs.Truth.{Valuation, Agree}
 use Rattle.order_ints.specs.Numbers.{numbers_of}
 use Rattle.order_ints.specs.Represents.{Represents}
-use Rattle.core_forms.specs.Cores.{MeetsAll}
+use Rattle.core_forms.specs.Cores.{MeetsAll, CoresBelow, AreWellFormed}
 use Rattle.typed_model.specs.declared.what.BoolTerm.{BoolTerm}
 use Rattle.typed_model.specs.declared.what.IntTerm.TheVariants.{Of}
 use Rattle.typed_model.specs.declared.what.What.{What}
@@ -19,16 +19,20 @@ use Rattle.typed_model.specs.Holds.{Holds}
 use Rattle.typed_model.specs.Limits.{KindInLimit, WhatInLimit, InLimits}
 use Rattle.typed_model.specs.WellTyped.{TruthFits, KindFits, WhatFits, WellTyped}
 use Rattle.typed_model.specs.Solutions.{IsSolution}
-use Rattle.statement_lower.specs.Entries.{AreOrdered}
+use Rattle.model_weight.specs.Weight.{weight_of}
+use Rattle.statement_lower.specs.Entries.{EntriesFit, AreOrdered}
 use Rattle.model_lower.specs.declared.state.Lowered.{Lowered}
 use Rattle.model_lower.specs.Lowering.{with_declaration, with_statement, with_definition, lowered_of}
-use Rattle.model_lower.specs.Built.{most_vars, is_built, first_unbuilt_of}
+use Rattle.model_lower.specs.Weighed.{most_weight}
 use Rattle.model_lower.specs.Decoded.{IsDecoded}
 use Rattle.model_lower.specs.Fits.{Fits}
 
--- what is lowered so far fits the declarations so far, and its cores keep the integers of its map ordered
+-- what is lowered so far has one entry for each declaration so far, and well formed cores over the variables so far, which keep the
+-- integers of its map ordered
 pub record Encodes (l : Lowered) (decls : List Decl) : Type 0 where
-  pub fits : Fits l decls
+  pub entries : EntriesFit (l.vars + 1) decls l.map.entries
+  pub below : CoresBelow (l.vars + 1) l.cores
+  pub well_formed : AreWellFormed l.cores
   pub ordered : (σ : Valuation) → MeetsAll σ l.cores → AreOrdered σ l.map.entries
 
 -- a declaration adds a value of its domain, and it may be each of them
@@ -52,17 +56,16 @@ pub record IsDefinition (decls : List Decl) (d : Decl) (s : Stmt) : Type 0 where
   pub what : s.what ≡ L3 truth (Of (length decls))
   pub kind : d.kind ≡ Int (pos 0) (pos 1)
 
--- a declaration for which there is room
+-- a declaration
 abbrev pub DeclarationLaw : Type 0
 DeclarationLaw = (l : Lowered) (decls : List Decl) (d : Decl)
-    → Encodes l decls → KindFits d.kind → KindInLimit d.kind → (with_declaration l d.kind).vars ≤ most_vars
+    → Encodes l decls → KindFits d.kind → KindInLimit d.kind
     → Encodes (with_declaration l d.kind) (decls ++ d ∷ []) × TakesEachValue l (with_declaration l d.kind) d.kind
 
--- A statement that is built and for which there is room: together with the cores so far its cores stand for its being true
--- of the numbers that the names have.
+-- a statement: together with the cores so far its cores stand for its being true of the numbers that the names have
 abbrev pub StatementLaw : Type 0
 StatementLaw = (l : Lowered) (decls : List Decl) (s : Stmt)
-    → Encodes l decls → WhatFits decls s.number s.what → WhatInLimit s.what → is_built s.what ≡ true → (with_statement l s.what).vars ≤ most_vars
+    → Encodes l decls → WhatFits decls s.number s.what → WhatInLimit s.what
     → Encodes (with_statement l s.what) decls
     × Represents (l.vars + 1) ((with_statement l s.what).vars + 1) (λ σ. MeetsAll σ (with_statement l s.what).cores) (λ σ. MeetsAll σ l.cores × Holds (numbers_of σ l.map.entries) s.what)
 
@@ -72,11 +75,10 @@ DefinitionLaw = (l : Lowered) (decls : List Decl) (d : Decl) (s : Stmt)
     → Encodes l decls → IsDefinition decls d s
     → Encodes (with_definition l s.what) (decls ++ d ∷ []) × TakesItsValue l (with_definition l s.what) d.kind s.what
 
--- a model that is well typed, in the limits, and built throughout: the solutions are the assignments that are
--- decoded
+-- a model that is well typed, in the limits, and no heavier than may be: the solutions are the assignments that are decoded
 pub record LoweringLaw (model : Model) : Type 0 where
   pub solutions : (a : List ℤ) → IsSolution model a ↔ IsDecoded (lowered_of model) a
   pub fits : Fits (lowered_of model) model.decls
 
 abbrev pub LoweringLaws : Type 0
-LoweringLaws = (model : Model) → WellTyped model → InLimits model → first_unbuilt_of model ≡ None → LoweringLaw model
+LoweringLaws = (model : Model) → WellTyped model → InLimits model → weight_of model ≤ most_weight → LoweringLaw model

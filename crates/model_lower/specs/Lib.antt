@@ -1,7 +1,8 @@
 pub mod Lowering
-pub mod FreshVars
-pub mod Built
+pub mod Weighed
+pub mod Faults
 pub mod Decoded
 pub mod Fits
 pub mod ItemLaws
 pub mod Drafting
+pub mod Walk

@@ -2,14 +2,13 @@
 
 ghost use Rattle.std.specs.Prelude.{◌≡◌};
 ghost use Rattle.model_lower.specs.Lowering.{nothing_lowered};
-ghost use Rattle.model_lower.specs.Drafting.{lowered_so_far, emptied};
+ghost use Rattle.model_lower.specs.Drafting.{lowered_so_far};
 
 use crate::state::{Lowered, NameMap};
 use bee_list::Sequence;
 use core_forms::Core;
 use order_ints::MapValue;
 use std::alloc::Global;
-use std::mem;
 
 /// What the items so far are lowered to.
 #[derive(Drop)]
@@ -32,14 +31,6 @@ impl Draft {
             entries: Vec::new(alloc),
             cores: Vec::new(alloc),
         }
-    }
-
-    /// Takes the cores out, so that they may be used and let go before the next item.
-    pub fn take_cores(&mut self, alloc: Global) -> Vec<Core>
-        ensures cores { result.items ≡ self.old.cores.items }
-        ensures rest { lowered_so_far self.new ≡ emptied (lowered_so_far self.old) }
-    {
-        mem::replace(&mut self.cores, Vec::new(alloc))
     }
 
     /// The model that was lowered, after its last item.

@@ -9,10 +9,9 @@ use thiserror::Error;
 /// Why a model has no cores.
 #[derive(Debug, Drop, Error)]
 pub enum LowerFault {
-    /// The item with this number is the first one that isn't built: a statement for which there are no clauses
-    /// yet, or an item with which there are too many variables.
-    #[error("statement {0}: not built")]
-    Unbuilt(u64),
+    /// The model has this weight, which is above 67,108,864.
+    #[error("weight {0}")]
+    TooHeavy(u128),
     /// Memory was wanting.
     #[error("out of memory")]
     Memory,

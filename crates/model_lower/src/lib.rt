@@ -1,25 +1,23 @@
 //! From a typed model to cores and a map of names.
 //!
 //! Items are taken in the order of their numbers. A declaration takes variables, and makes an entry of the
-//! map; a statement makes cores, by `statement_lower`; a `bool2int` that declares its integer makes an entry alone. A statement
-//! that isn't built is refused by its number.
+//! map; a statement makes cores, by `statement_lower`; a `bool2int` that declares its integer makes an entry alone. A model
+//! that weighs too much is refused before any core is made.
 #![tactic(auto)]
 
 mod declarations;
 mod draft;
 mod fault;
-mod fresh_vars;
 mod laws;
 mod lowering;
+mod owned;
 mod state;
 mod statements;
-mod unbuilt;
+mod statements_left;
+mod weighing;
 
-pub use declarations::{add_declaration, add_definition};
-pub use draft::Draft;
 pub use fault::LowerFault;
-pub use laws::{item_law, lowering_law};
+pub use laws::{lowering_law, weight_law};
 pub use lowering::lower;
-pub use state::{Lowered, NameMap};
-pub use statements::add_statement;
-pub use unbuilt::first_unbuilt;
+pub use owned::lower_owned;
+pub use state::{Lowered, LoweredModel, NameMap};

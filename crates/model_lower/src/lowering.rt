@@ -1,13 +1,15 @@
 //! From a typed model to cores and a map of names.
 
-ghost use Rattle.std.specs.Prelude.{◌≡◌, ◌↔◌, ◌<◌, ◌^◌, ℤ, List, IfOk, IfErr, OnOk, None};
+ghost use Rattle.std.specs.Prelude.{◌≡◌, ◌↔◌, ◌<◌, ◌≤◌, ◌^◌, ℤ, List, IfOk, IfErr, OnOk};
 ghost use Rattle.typed_model.specs.WellTyped.{WellTyped};
 ghost use Rattle.typed_model.specs.Limits.{InLimits};
 ghost use Rattle.typed_model.specs.Solutions.{IsSolution};
 ghost use Rattle.statement_lower.specs.Entries.{AreInLimit};
 ghost use Rattle.model_items.specs.ItemLimits.{ItemInLimit};
 ghost use Rattle.model_items.specs.Lent.{lent_item};
-ghost use Rattle.model_lower.specs.Built.{first_unbuilt_of, IsFaultOf};
+ghost use Rattle.model_weight.specs.Weight.{weight_of};
+ghost use Rattle.model_lower.specs.Weighed.{most_weight};
+ghost use Rattle.model_lower.specs.Faults.{IsFaultOf};
 ghost use Rattle.model_lower.specs.Lowering.{lowered_item, lowered_of};
 ghost use Rattle.model_lower.specs.Drafting.{lowered_so_far};
 ghost use Rattle.model_lower.specs.Decoded.{IsDecoded};
@@ -18,7 +20,7 @@ use crate::draft::Draft;
 use crate::fault::LowerFault;
 use crate::state::Lowered;
 use crate::statements::add_statement;
-use crate::unbuilt::first_unbuilt;
+use crate::weighing::weigh;
 use model_items::{Item, Items};
 use std::alloc::{AllocError, Global};
 use typed_model::Model;
@@ -51,19 +53,17 @@ fn lower_items(alloc: Global, model: &Model) -> Result<Lowered, AllocError>
     Ok(draft.finish())
 }
 
-/// The cores and the map of names of a model, or the first item that isn't built. It is linear in the
-/// model, the number of variables and the cores.
+/// The cores and the map of names of a model that is lent. It fails where the model weighs more than 67,108,864, before any core is made,
+/// and else takes time linear in the weight, but for a sort of the members of some statements.
 pub fn lower(alloc: Global, model: &Model) -> Result<Lowered, LowerFault>
     requires typed { WellTyped model.now }
     requires limits { InLimits model.now }
-    ensures built { IfOk result (λ l. first_unbuilt_of model.now ≡ None) }
+    ensures light { IfOk result (λ l. weight_of model.now ≤ most_weight) }
+    ensures heavy { IfErr result (λ e. IsFaultOf e model.now) }
     ensures shape { IfOk result (λ l. l ≡ lowered_of model.now) }
-    ensures unbuilt { IfErr result (λ e. IsFaultOf e (first_unbuilt_of model.now)) }
     ensures solutions { IfOk result (λ l. (a : List ℤ) → IsSolution model.now a ↔ IsDecoded l a) }
     ensures fits { IfOk result (λ l. Fits l model.now.decls) }
 {
-    if let Some(number) = first_unbuilt(model) {
-        return Err(LowerFault::Unbuilt(number));
-    }
+    weigh(alloc, model)?;
     Ok(lower_items(alloc, model)?)
 }

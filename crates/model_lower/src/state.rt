@@ -3,6 +3,7 @@
 use bee_list::Sequence;
 use core_forms::Core;
 use order_ints::MapValue;
+use typed_model::Decl;
 
 /// What each declared name stands for.
 #[derive(Debug, Clone, Drop)]
@@ -20,4 +21,13 @@ pub struct Lowered {
     pub map: NameMap,
     /// The cores, in the order of their items.
     pub cores: Sequence<Core>,
+}
+
+/// A model as cores, and its declarations.
+#[derive(Debug, Drop)]
+pub struct LoweredModel {
+    /// The model as cores.
+    pub lowered: Lowered,
+    /// The declarations, whose names the entries of the map belong to.
+    pub decls: Sequence<Decl>,
 }

@@ -11,5 +11,3 @@ pub mod QueueSteps
 pub mod LinearCosts
 pub mod Statements
 pub mod StatementLaws
-pub mod Items
-pub mod ModelLaws

@@ -1,3 +1,2 @@
 pub mod Size
 pub mod StatementLaws
-pub mod ModelLaws

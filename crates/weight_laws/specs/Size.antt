@@ -2,10 +2,6 @@
 use Rattle.std.specs.Prelude.{ℕ, ◌+◌}
 use Rattle.core_forms.specs.Cores.{costs_of}
 use Rattle.statement_lower.specs.declared.made.Made.{Made}
-use Rattle.model_lower.specs.declared.state.Lowered.{Lowered}
 
 abbrev pub size_of_made : Made → ℕ
 size_of_made made = made.vars + costs_of made.cores
-
-abbrev pub size_of_lowered : Lowered → ℕ
-size_of_lowered l = l.vars + costs_of l.cores

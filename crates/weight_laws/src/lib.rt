@@ -1,6 +1,6 @@
-//! The weight of a model bounds what the model is lowered to.
+//! The weight of a statement bounds what the statement is lowered to.
 #![tactic(auto)]
 
 mod laws;
 
-pub use laws::{model_law, statement_law};
+pub use laws::statement_law;

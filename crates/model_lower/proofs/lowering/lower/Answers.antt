@@ -1,8 +1,7 @@
-use Rattle.std.proofs.Common.{◌≡◌, None, sym, subst, ◌∙◌, arith}
+use Rattle.std.proofs.Common.{sym, subst, arith}
 use Rattle.std.specs.Prelude.{◌↔◌}
 use Rattle.typed_model.specs.Solutions.{IsSolution}
 use Rattle.model_lower.specs.declared.state.Lowered.{Lowered}
-use Rattle.model_lower.specs.Built.{first_unbuilt_of}
 use Rattle.model_lower.specs.Decoded.{IsDecoded}
 use Rattle.model_lower.specs.Fits.{Fits}
 use Rattle.model_lower.proofs.LoweringLaw.{lowering_law}
@@ -10,18 +9,14 @@ use Rattle.model_lower.proofs.lowering.lower.Goals as goal
 
 pub lower_items-requires-clause-room : goal.lower_items-requires-clause-room
 lower_items-requires-clause-room c =
-    let model = c.args.model.now in
-    let none : first_unbuilt_of model ≡ None = sym c.first_unbuilt.ensures ∙ c.in_default.is in
-    omega (arith, (lowering_law model c.requires.typed c.requires.limits none).fits.vars)
+    omega (arith, (lowering_law c.args.model.now c.requires.typed c.requires.limits c.in_ok-weigh.ensures.light).fits.size)
 
 pub returns-clause-solutions : goal.returns-clause-solutions
 returns-clause-solutions c a =
     let model = c.args.model.now in
-    let none : first_unbuilt_of model ≡ None = sym c.first_unbuilt.ensures ∙ c.in_default.is in
-    subst (λ (l : Lowered). IsSolution model a ↔ IsDecoded l a) (sym c.in_ok-lower_items.ensures) ((lowering_law model c.requires.typed c.requires.limits none).solutions a)
+    subst (λ (l : Lowered). IsSolution model a ↔ IsDecoded l a) (sym c.in_ok-lower_items.ensures) ((lowering_law model c.requires.typed c.requires.limits c.in_ok-weigh.ensures.light).solutions a)
 
 pub returns-clause-fits : goal.returns-clause-fits
 returns-clause-fits c =
     let model = c.args.model.now in
-    let none : first_unbuilt_of model ≡ None = sym c.first_unbuilt.ensures ∙ c.in_default.is in
-    subst (λ (l : Lowered). Fits l model.decls) (sym c.in_ok-lower_items.ensures) (lowering_law model c.requires.typed c.requires.limits none).fits
+    subst (λ (l : Lowered). Fits l model.decls) (sym c.in_ok-lower_items.ensures) (lowering_law model c.requires.typed c.requires.limits c.in_ok-weigh.ensures.light).fits

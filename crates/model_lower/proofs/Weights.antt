@@ -26,7 +26,7 @@ use Rattle.model_lower.specs.ItemLaws.{IsDefinition}
 use Rattle.model_lower.specs.Lowering.{vars_taken, entry_of, entry_cores, with_declaration, with_statement, defined_entry, with_definition, lowered_items, nothing_lowered}
 use Rattle.model_lower.proofs.DeclarationSteps.{gap-reaches}
 use Rattle.model_lower.proofs.Standing.{ItemsFit, decls_in}
-use Rattle.weight_laws.specs.Size.{size_of_lowered}
+use Rattle.model_lower.specs.Weighed.{size_of_lowered}
 use Rattle.weight_laws.proofs.Integers.{EntryIs, EntriesAre}
 use Rattle.weight_laws.proofs.ComparisonCosts.{length-units}
 use Rattle.weight_laws.proofs.Statements.{statement-size, statement-count}

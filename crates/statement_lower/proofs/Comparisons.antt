@@ -19,7 +19,7 @@ use Rattle.typed_model.specs.declared.statement.Relation.TheVariants as relation
 use Rattle.typed_model.specs.Integers.{relates}
 use Rattle.typed_model.specs.Holds.{same}
 use Rattle.typed_model.proofs.DomainLaws.{Decides-int_le, Decides-int_lt}
-use Rattle.statement_lower.specs.Lines.{comparison_core}
+use Rattle.statement_lower.specs.Comparison.{comparison_core}
 use Rattle.statement_lower.proofs.EntryLaws.{SmallInteger}
 use Rattle.statement_lower.proofs.BooleanLines.{beq-same}
 

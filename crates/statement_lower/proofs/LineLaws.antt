@@ -47,7 +47,8 @@ use Rattle.typed_model.specs.WellTyped.{TruthFits, NumberFits, TruthsFit, Number
 use Rattle.typed_model.proofs.TableLaws.{Decides-holds}
 use Rattle.statement_lower.specs.Terms.{atom_of, atoms_of, integer_of, integers_of}
 use Rattle.statement_lower.specs.Entries.{EntriesFit, AreOrdered}
-use Rattle.statement_lower.specs.Lines.{bit_core, equal_core, equal_cores, array_cores, operator_made, comparison_core, fresh_range, compared_count, count_made, operation_made, aggregate_made, absolute_core, least_core, made_of}
+use Rattle.statement_lower.specs.Comparison.{comparison_core}
+use Rattle.statement_lower.specs.Lines.{bit_core, equal_core, equal_cores, array_cores, operator_made, fresh_range, compared_count, count_made, operation_made, aggregate_made, absolute_core, least_core, made_of}
 use Rattle.statement_lower.specs.IsLowered.{is_lowered}
 use Rattle.statement_lower.specs.Lowers.{Lowers, LineLaw}
 use Rattle.statement_lower.proofs.EntryLaws.{SmallInteger, AreSmallIntegers, atom_of-laws, atoms_of-truths, atoms_of-below, integer_of-small, integer_of-value, integer_of-least, small-more, integers_of-values, integers_of-small, IsOrdered-integer_of, ordered-integers_of, numbers_of-agree}

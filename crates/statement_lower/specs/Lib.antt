@@ -2,8 +2,9 @@ pub mod Terms
 pub mod Entries
 pub mod Fresh
 pub mod Pairs
+pub mod Comparison
+pub mod Queue
 pub mod Linear
 pub mod Lines
-pub mod IsLowered
 pub mod Lowers
 pub mod SameMeanings

@@ -1,5 +1,5 @@
 -- The linear rule: members with steps are added up, and those without are one number.
-use Rattle.std.specs.Prelude.{ℕ, ◌+◌, ◌≤◌, ℤ, pos, ◌+ℤ◌, neg_ℤ, Bool, true, false, List, [], ◌∷◌, ◌++◌, if◌then◌else◌}
+use Rattle.std.specs.Prelude.{ℕ, ◌+◌, ◌-◌, ◌≤◌, ℤ, pos, ◌+ℤ◌, neg_ℤ, Bool, true, false, List, [], ◌∷◌, ◌++◌, length, if◌then◌else◌}
 use Rattle.order_ints.specs.declared.atom.Atom.{Atom}
 use Rattle.order_ints.specs.declared.order_int.OrdInt.{OrdInt}
 use Rattle.order_ints.specs.OrderChange.{negated_of, scaled_of}
@@ -9,6 +9,7 @@ use Rattle.core_forms.specs.WellFormed.{IsSound, greatest_abs}
 use Rattle.typed_model.specs.declared.statement.Relation.{Relation}
 use Rattle.typed_model.specs.declared.statement.Relation.TheVariants as relation
 use Rattle.statement_lower.specs.declared.made.Made.{Made}
+use Rattle.statement_lower.specs.Queue.{queue_made}
 
 -- each integer multiplied by its coefficient
 abbrev pub scaled_each : List ℤ → List OrdInt → List OrdInt
@@ -42,14 +43,22 @@ zero_sum members = core.Sum (with_steps members) (neg_ℤ (constant_of_members m
 abbrev pub equal_sum : List OrdInt → OrdInt → Core
 equal_sum ints a = zero_sum (linear_members ints a)
 
--- a sum stands in a relation to the right side; nothing yet for relations other than equality
+-- members with steps and a number, added up, stand in a relation to 0: fresh sums until two members are left
+abbrev pub compared_made : ℕ → Relation → ℤ → List OrdInt → Made
+compared_made vars rel k members = queue_made (length members - 2) vars rel k members
+
+-- members, added up, stand in a relation to 0 other than equality
+abbrev pub compared_sum : ℕ → Relation → List OrdInt → Made
+compared_sum vars rel members = compared_made vars rel (constant_of_members members) (with_steps members)
+
+-- a sum stands in a relation to the right side; for equality it is one core
 abbrev pub linear_made : ℕ → Relation → List OrdInt → OrdInt → Made
-linear_made vars relation.Leq ints a = record { vars = vars; cores = [] }
-linear_made vars relation.Geq ints a = record { vars = vars; cores = [] }
+linear_made vars relation.Leq ints a = compared_sum vars relation.Leq (linear_members ints a)
+linear_made vars relation.Geq ints a = compared_sum vars relation.Geq (linear_members ints a)
 linear_made vars relation.Eq ints a = record { vars = vars; cores = equal_sum ints a ∷ [] }
-linear_made vars relation.Lt ints a = record { vars = vars; cores = [] }
-linear_made vars relation.Gt ints a = record { vars = vars; cores = [] }
-linear_made vars relation.Neq ints a = record { vars = vars; cores = [] }
+linear_made vars relation.Lt ints a = compared_sum vars relation.Lt (linear_members ints a)
+linear_made vars relation.Gt ints a = compared_sum vars relation.Gt (linear_members ints a)
+linear_made vars relation.Neq ints a = compared_sum vars relation.Neq (linear_members ints a)
 
 -- an integer that may be added up with 16,777,216 others: it is sound, and no value is above 2 ^ 60 in absolute value, as
 -- it is so of the multiple of an integer in the limit of numerals by a numeral

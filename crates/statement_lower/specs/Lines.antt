@@ -31,6 +31,7 @@ use Rattle.typed_model.specs.Holds.{terms_or_none}
 use Rattle.statement_lower.specs.declared.made.Made.{Made}
 use Rattle.statement_lower.specs.Terms.{atom_of, atoms_of, integer_of, integers_of, atom_or_true, word_of}
 use Rattle.statement_lower.specs.Fresh.{fresh_atom, second_fresh_atom}
+use Rattle.statement_lower.specs.Comparison.{comparison_core}
 use Rattle.statement_lower.specs.Pairs.{difference_made}
 use Rattle.statement_lower.specs.Linear.{scaled_each, linear_made}
 
@@ -72,15 +73,6 @@ operator_made vars operator.Iff atoms z = record {
   vars = vars + 1 + 1;
   cores = all_equal_cores (fresh_atom vars) (second_fresh_atom vars) atoms z;
 }
-
--- lines 8 and 9: r is the truth of a comparison
-abbrev pub comparison_core : Relation → Atom → OrdInt → OrdInt → Core
-comparison_core relation.Leq r a b = core.LeqR r a b
-comparison_core relation.Geq r a b = core.LeqR r b a
-comparison_core relation.Eq r a b = core.EqR r a b
-comparison_core relation.Lt r a b = core.LeqR (not_atom r) b a
-comparison_core relation.Gt r a b = core.LeqR (not_atom r) a b
-comparison_core relation.Neq r a b = core.EqR (not_atom r) a b
 
 -- a fresh integer from 0 to `most`, with a variable for each value but 0
 abbrev pub fresh_range : ℕ → ℕ → OrdInt
@@ -158,7 +150,7 @@ abbrev pub order_core : List MapValue → Order → List BoolTerm → List BoolT
 order_core entries o xs ys is js z =
     core.Lex (if o.reified then atom_or_true entries z else True) o.strict (word_of entries o.of_booleans xs is) (word_of entries o.of_booleans ys js)
 
--- a statement, behind so many variables; nothing yet for what isn't lowered
+-- a statement, behind so many variables
 abbrev pub made_of : ℕ → List MapValue → What → Made
 made_of vars entries (L3 x i) = made_here vars (bit_core (atom_of entries x) (integer_of entries i) ∷ [])
 made_of vars entries (L4 x y) = made_here vars (equal_core (atom_of entries x) (atom_of entries y) ∷ [])

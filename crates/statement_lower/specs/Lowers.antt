@@ -1,5 +1,5 @@
 -- When cores over fresh variables stand for a property, and that the cores of a statement stand for its being true.
-use Rattle.std.specs.Prelude.{◌≡◌, ℕ, ◌+◌, ◌≤◌, true, List}
+use Rattle.std.specs.Prelude.{ℕ, ◌+◌, ◌≤◌, List}
 use Rattle.order_ints.specs.declared.order_int.MapValue.{MapValue}
 use Rattle.order_ints.specs.Truth.{Valuation, Agree}
 use Rattle.order_ints.specs.Numbers.{numbers_of}
@@ -12,7 +12,6 @@ use Rattle.typed_model.specs.Limits.{WhatInLimit}
 use Rattle.typed_model.specs.WellTyped.{WhatFits}
 use Rattle.statement_lower.specs.Entries.{EntriesFit, AreOrdered}
 use Rattle.statement_lower.specs.Lines.{made_of}
-use Rattle.statement_lower.specs.IsLowered.{is_lowered}
 
 -- Cores over m variables, of which those beyond `vars` are fresh, stand for a property of the others, where C holds:
 -- each valuation that meets them has it, and each one that has it can be changed at the fresh variables so that it meets
@@ -24,12 +23,12 @@ pub record Lowers (vars m : ℕ) (C : Valuation → Type 0) (cores : List Core) 
   pub implies : (σ : Valuation) → C σ → MeetsAll σ cores → P σ
   pub extends : (σ : Valuation) → C σ → P σ → (τ : Valuation) × Agree (vars + 1) σ τ × MeetsAll τ cores
 
--- where the integers of the declared names are ordered, the cores of a statement that is lowered stand for its being true
--- of the numbers that the names have
+-- where the integers of the declared names are ordered, the cores of a statement stand for its being true of the numbers
+-- that the names have
 abbrev pub LineLaw : Type 0
 LineLaw =
     (vars n : ℕ) (ds : List Decl) (entries : List MapValue) (w : What)
-    → EntriesFit (vars + 1) ds entries → WhatFits ds n w → WhatInLimit w → is_lowered w ≡ true
+    → EntriesFit (vars + 1) ds entries → WhatFits ds n w → WhatInLimit w
     → Lowers vars (made_of vars entries w).vars (λ σ. AreOrdered σ entries) (made_of vars entries w).cores (λ σ. Holds (numbers_of σ entries) w)
 
 -- a statement keeps the variables so far

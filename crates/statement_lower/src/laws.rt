@@ -8,7 +8,7 @@ pub fn meaning_law()
     ensures { SameMeanings }
 {}
 
-/// The cores of a statement that is lowered stand for its being true.
+/// The cores of a statement stand for its being true.
 pub fn line_law()
     ensures { LineLaw }
 {}

@@ -18,5 +18,5 @@ mod terms;
 
 pub use laws::{line_law, meaning_law, variables_law};
 pub use made::Made;
-pub use statements::{is_lowered, made_of};
+pub use statements::made_of;
 pub use terms::atom_of;

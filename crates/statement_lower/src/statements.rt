@@ -4,7 +4,6 @@ ghost use Rattle.std.specs.Prelude.{◌≡◌, ◌<◌, ◌^◌, IfOk};
 ghost use Rattle.typed_model.specs.Limits.{WhatInLimit};
 ghost use Rattle.statement_lower.specs.Entries.{AreInLimit};
 ghost use Rattle.statement_lower.specs.Lines.{made_of};
-ghost use Rattle.statement_lower.specs.IsLowered.{is_lowered};
 
 use crate::boolean_lines::{array_made, equal_made, pair_made, truth_made};
 use crate::integer_lines::{
@@ -16,33 +15,9 @@ use crate::list_lines::{Lists, atom_or_true, different_made, order_made, terms};
 use crate::made::Made;
 use order_ints::{Atom, MapValue};
 use std::alloc::{AllocError, Global};
-use typed_model::{Relation, What};
+use typed_model::What;
 
-/// Whether a statement is lowered.
-pub fn is_lowered(what: &What) -> bool
-    ensures { result ≡ is_lowered what.now }
-{
-    match what {
-        What::L3 { .. }
-        | What::L4 { .. }
-        | What::L5 { .. }
-        | What::L6 { .. }
-        | What::L7 { .. }
-        | What::L8 { .. }
-        | What::L9 { .. }
-        | What::L10 { .. }
-        | What::L14 { .. }
-        | What::L15 { .. }
-        | What::L16 { .. }
-        | What::L17 { .. }
-        | What::L18 { .. } => true,
-        What::L11 { relation, .. } | What::L12 { relation, .. } | What::L13 { relation, .. } => {
-            matches!(relation, Relation::Eq)
-        }
-    }
-}
-
-/// What a statement is lowered to behind so many variables, and no core for one that isn't lowered.
+/// What a statement is lowered to behind so many variables.
 pub fn made_of(
     alloc: Global,
     entries: &[MapValue],

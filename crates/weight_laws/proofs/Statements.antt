@@ -28,7 +28,8 @@ use Rattle.typed_model.specs.declared.statement.Order.{Order}
 use Rattle.typed_model.specs.Holds.{terms_or_none}
 use Rattle.typed_model.specs.WellTyped.{NumberFits, NumbersFit, WhatFits}
 use Rattle.statement_lower.specs.Terms.{atom_of, atoms_of, integer_of, integers_of, atom_or_true, word_of}
-use Rattle.statement_lower.specs.Lines.{made_here, bit_core, scaled_truths, scaled_integers, array_cores, operator_made, comparison_core, least_core, absolute_core, aggregate_made, different_made, order_core, made_of}
+use Rattle.statement_lower.specs.Comparison.{comparison_core}
+use Rattle.statement_lower.specs.Lines.{made_here, bit_core, scaled_truths, scaled_integers, array_cores, operator_made, least_core, absolute_core, aggregate_made, different_made, order_core, made_of}
 use Rattle.model_weight.specs.Shapes.{steps_in, shape_in, domain_of, all_steps}
 use Rattle.model_weight.specs.Linear.{numbers}
 use Rattle.model_weight.specs.Linear as linear

@@ -5,7 +5,7 @@ use Rattle.bee_text.specs.Lines.{unfinished}
 use Rattle.order_ints.specs.declared.cnf.Cnf.{Cnf}
 use Rattle.dimacs_read.specs.declared.fault.TextFault.{TextFault}
 use Rattle.dimacs_read.specs.declared.fault.TextFault.TheVariants.{Form, Memory}
-use Rattle.dimacs_read.specs.declared.text.CnfText.{CnfText}
+use Rattle.dimacs_out.specs.declared.text.CnfText.{CnfText}
 use Rattle.dimacs_read.specs.Values.{NextValues, AreTold, nothing_told, IsValues, ValuesFail}
 use Rattle.dimacs_read.specs.TextLines.{first_above, IsTextOf}
 use Rattle.dimacs_read.specs.TextSteps.{Draft, nothing_read, held, NextLine, IsComplete, IsAbove, FaultAt, FaultLine, TextFails}

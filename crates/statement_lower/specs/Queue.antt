@@ -25,6 +25,11 @@ vars_behind_sum vars a b = vars + steps_of (fresh_sum vars a b)
 abbrev pub last_made : ℕ → Relation → ℤ → OrdInt → OrdInt → Made
 last_made vars rel k a b = record { vars = vars; cores = comparison_core rel True (shifted_of a k) (negated_of b) ∷ [] }
 
+-- the first member, or 0 where there is none
+abbrev pub first_or_zero : List OrdInt → OrdInt
+first_or_zero [] = constant_of (pos 0)
+first_or_zero (a ∷ rest) = a
+
 -- one core more, in front
 abbrev pub with_first : Core → Made → Made
 with_first first made = record { vars = made.vars; cores = first ∷ made.cores }

@@ -6,7 +6,8 @@ ghost use Rattle.core_forms.specs.declared.form.Core.TheVariants.{Max};
 ghost use Rattle.typed_model.specs.Limits.{TermInLimit, TermsInLimit};
 ghost use Rattle.statement_lower.specs.Terms.{atom_of, atoms_of, integer_of, integers_of};
 ghost use Rattle.statement_lower.specs.Entries.{AreInLimit};
-ghost use Rattle.statement_lower.specs.Lines.{made_here, bit_core, comparison_core, compared_count, count_made, most_remainder, most_quotient, least_core, operation_made, absolute_core, aggregate_made};
+ghost use Rattle.statement_lower.specs.Comparison.{comparison_core};
+ghost use Rattle.statement_lower.specs.Lines.{made_here, bit_core, compared_count, count_made, most_remainder, most_quotient, least_core, operation_made, absolute_core, aggregate_made};
 
 use crate::fresh::{fresh_range, most_quotient, most_remainder};
 use crate::linear_lines::sum_made;
@@ -37,7 +38,7 @@ pub fn bit_made(
 }
 
 /// The core that says that an atom is the truth of a comparison.
-fn comparison_core(
+pub fn comparison_core(
     alloc: Global,
     relation: Relation,
     truth: Atom,

@@ -5,6 +5,7 @@
 #![tactic(auto)]
 
 mod boolean_lines;
+mod compared_sums;
 mod fresh;
 mod integer_lines;
 mod laws;

@@ -8,6 +8,7 @@ ghost use Rattle.statement_lower.specs.Entries.{AreInLimit};
 ghost use Rattle.statement_lower.specs.Linear.{linear_made, AreSummands};
 ghost use Rattle.statement_lower.specs.Lines.{scaled_truths, scaled_integers};
 
+use crate::compared_sums::compared_made;
 use crate::made::Made;
 use crate::summands::{Summands, linear_members, scaled_integers, scaled_truths};
 use crate::terms::integers_of;
@@ -47,14 +48,13 @@ fn linear_made(
     requires ints { AreSummands ints.items }
     requires few { length ints.items ≤ 16777216 }
     requires right { TermInLimit right }
+    requires room { (linear_made vars relation ints.items (integer_of entries.now right)).vars < 2 ^ 27 }
     ensures { IfOk result (λ m. m ≡ linear_made vars relation ints.items (integer_of entries.now right)) }
 {
+    let members = linear_members(alloc, entries, ints, right)?;
     match relation {
-        Relation::Eq => {
-            let members = linear_members(alloc, entries, ints, right)?;
-            Made::of_core(alloc, vars, zero_sum(alloc, members)?)
-        }
-        _ => Ok(Made::nothing(alloc, vars)),
+        Relation::Eq => Made::of_core(alloc, vars, zero_sum(alloc, members)?),
+        _ => compared_made(alloc, vars, relation, members),
     }
 }
 
@@ -72,6 +72,7 @@ pub fn truths_made(
     requires coefficients { AllInLimit coefficients.now }
     requires few { length members.now ≤ 16777216 }
     requires bound { TermInLimit bound }
+    requires room { (linear_made vars relation (scaled_truths entries.now coefficients.now members.now) (integer_of entries.now bound)).vars < 2 ^ 27 }
     ensures { IfOk result (λ m. m ≡ linear_made vars relation (scaled_truths entries.now coefficients.now members.now) (integer_of entries.now bound)) }
 {
     let ints = scaled_truths(alloc, entries, coefficients, members)?;
@@ -91,6 +92,7 @@ pub fn sum_made(
     requires members { TermsInLimit members.now }
     requires few { length members.now ≤ 16777216 }
     requires bound { TermInLimit bound }
+    requires room { (linear_made vars relation (integers_of entries.now members.now) (integer_of entries.now bound)).vars < 2 ^ 27 }
     ensures { IfOk result (λ m. m ≡ linear_made vars relation (integers_of entries.now members.now) (integer_of entries.now bound)) }
 {
     let ints = integers_of(alloc, entries, members)?.into_vec();
@@ -112,6 +114,7 @@ pub fn multiples_made(
     requires members { TermsInLimit members.now }
     requires few { length members.now ≤ 16777216 }
     requires bound { TermInLimit bound }
+    requires room { (linear_made vars relation (scaled_integers entries.now coefficients.now members.now) (integer_of entries.now bound)).vars < 2 ^ 27 }
     ensures { IfOk result (λ m. m ≡ linear_made vars relation (scaled_integers entries.now coefficients.now members.now) (integer_of entries.now bound)) }
 {
     let ints = scaled_integers(alloc, entries, coefficients, members)?;

@@ -2,7 +2,7 @@
 
 ghost use Rattle.std.specs.Prelude.{◌≡◌, ◌+◌, ◌<◌, ◌≤◌, ◌^◌, length, unsigned_abs, IfOk, IfSome};
 ghost use Rattle.order_ints.specs.OrderChange.{scaled_of};
-ghost use Rattle.core_forms.specs.WellFormed.{greatest_abs};
+ghost use Rattle.core_forms.specs.WellFormed.{AreSound, greatest_abs, abs_total};
 ghost use Rattle.typed_model.specs.Limits.{InLimit, AllInLimit, TermInLimit, TermsInLimit};
 ghost use Rattle.statement_lower.specs.Terms.{integer_of};
 ghost use Rattle.statement_lower.specs.Entries.{AreInLimit};
@@ -143,6 +143,8 @@ pub fn linear_members(
     ensures ints { IfOk result (λ s. s.ints.items ≡ with_steps (linear_members ints.items (integer_of entries.now right))) }
     ensures constant { IfOk result (λ s. s.constant ≡ constant_of_members (linear_members ints.items (integer_of entries.now right))) }
     ensures range { IfOk result (λ s. unsigned_abs s.constant < 2 ^ 85) }
+    ensures sound { IfOk result (λ s. AreSound s.ints.items) }
+    ensures limit { IfOk result (λ s. abs_total s.ints.items + unsigned_abs s.constant < 2 ^ 85) }
 {
     let mut ints = ints;
     ints.push(negated_integer_of(alloc, entries, right)?)?;

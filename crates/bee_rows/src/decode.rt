@@ -2,7 +2,7 @@
 
 ghost use Rattle.std.specs.Prelude.{◌≤◌};
 
-use crate::outside::{AMPLE, Outside, Shown, run_files, run_over};
+use crate::outside::{AMPLE, Outside, Shown, compile_over, run_files};
 use std::alloc::{AllocError, Global};
 use std::test::Fail;
 
@@ -91,6 +91,7 @@ fn other_answers_are_refused(rt: HostRuntime) -> Result<(), Fail> {
             AMPLE,
         )?;
         assert_eq!(rt; run.status, ("refused", line), "{answer}");
+        assert_eq!(rt; run.code, 1, "{answer}");
         let told = format!(in alloc; "REFUSED {line}\n")?;
         assert_eq!(rt; run.out.taken(), told.as_bytes(), "{answer}");
         assert_eq!(rt; run.err.taken(), b"".as_slice(), "{answer}");
@@ -119,6 +120,7 @@ fn other_texts_are_no_compiled_texts(rt: HostRuntime) -> Result<(), Fail> {
             AMPLE,
         )?;
         assert_eq!(rt; run.status, ("cnf", line), "{compiled}");
+        assert_eq!(rt; run.code, 3, "{compiled}");
         assert_eq!(rt; run.out.taken(), b"".as_slice(), "{compiled}");
         let told = format!(in alloc; "bee: cnf: line {line}\n")?;
         assert_eq!(rt; run.err.taken(), told.as_bytes(), "{compiled}");
@@ -130,7 +132,7 @@ fn other_texts_are_no_compiled_texts(rt: HostRuntime) -> Result<(), Fail> {
 fn compiled_text_cut_at_every_byte(rt: HostRuntime) -> Result<(), Fail> {
     let alloc = rt.alloc();
     let text = SUM.as_bytes();
-    let mut line: u64 = 1;
+    let mut line: u128 = 1;
     for length in 0..text.len() {
         let run = decoded(
             alloc,
@@ -222,14 +224,8 @@ fn decoding_with_faults_at_each_call(rt: HostRuntime) -> Result<(), Fail> {
 #[test]
 fn model_is_compiled_and_decoded(rt: HostRuntime) -> Result<(), Fail> {
     let alloc = rt.alloc();
-    let model = b"new_bool(a)\nnew_bool(b)\nbool_array_or([a,-b])\nsolve satisfy\n";
-    let compile = ["bee", "compile", "m.bee"];
-    let text = run_over(
-        alloc,
-        compile.as_slice(),
-        Vec::from_slice(alloc, model)?,
-        AMPLE,
-    )?;
+    let model = "new_bool(a)\nnew_bool(b)\nbool_array_or([a,-b])\nsolve satisfy\n";
+    let text = compile_over(alloc, model, AMPLE)?;
     let run = decoded(
         alloc,
         DECODE.as_slice(),

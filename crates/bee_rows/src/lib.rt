@@ -13,4 +13,10 @@ mod outside;
 #[cfg(test)]
 mod shelves;
 #[cfg(test)]
+mod solution_sets;
+#[cfg(test)]
+mod statements;
+#[cfg(test)]
+mod texts;
+#[cfg(test)]
 mod words;

@@ -11,7 +11,7 @@ use Rattle.dimacs_read.proofs.Exact.{values_fit, line_same, text_same, text_fits
 use Rattle.bee_cli.specs.Seen.{ShelfShown, Seen}
 use Rattle.bee_cli.specs.Ends.{IsSilent}
 use Rattle.bee_cli.specs.Promises.{ReadWhole, ToldUnder, ReadFailed, WriteFailed, Answers}
-use Rattle.bee_cli.specs.Decoded.{Texts, TellsValues, TellsRefusal, Gives, InForm, FailsBehind}
+use Rattle.bee_cli.specs.Decoded.{Texts, HasForm, TellsValues, TellsRefusal, Gives, InForm, FailsBehind}
 use Rattle.bee_cli.specs.DecodeParts.{ReadForm, CompiledRead, Wrote, WroteSome, TellsSome, DecodingWritten}
 use Rattle.bee_cli.specs.DecodeMode.{ReadBoth, ToldBoth, EitherFailed, HasFault, HasAnswer, TookUnder, DecodeMode}
 use Rattle.bee_cli.specs.Obeyed.{Untouched}
@@ -68,10 +68,6 @@ one_fault text a b h k =
     p.answer_is ∙ ap (λ n. Model (Cnf n)) (text_line_same text p.line q.line p.fails q.fails) ∙ sym q.answer_is
 
 -- a compiled text with an answer of both texts is in form
-pub record HasForm (text : List ℕ) : Type 0 where
-  pub held : CnfText
-  pub form : IsTextOf held text
-
 has_form : (texts : Texts) (a : Status) → HasAnswer texts a → HasForm texts.compiled
 has_form texts Done h = record { held = h.held; form = h.form }
 has_form texts (Refused line) h = record { held = h.held; form = h.form }
@@ -105,7 +101,7 @@ module _ (input second : List ℕ) (seen : Seen) (took : TookUnder input seen.sh
             (λ text told. (Model (Cnf line), subst (λ (t : List ℕ). TextFails t line) (same text told) r.form, inl refl));
         answers = never (ToldBoth input second seen) HasAnswer (EitherFailed input second seen) (Model (Cnf line)) seen
             (λ texts answer told has. (let form = has_form texts answer has in
-        text_fits texts.compiled form.held line form.form (subst (λ (t : List ℕ). TextFails t line) (same texts.compiled told.compiled_told) r.form)));
+            text_fits texts.compiled form.held line form.form (subst (λ (t : List ℕ). TextFails t line) (same texts.compiled told.compiled_told) r.form)));
         silent = λ _. ap (λ s. s.taken) still;
         read_faults = inl (r.counts, refl);
         write_faults = ap (λ s. s.faults) still;

@@ -10,4 +10,5 @@ pub mod CompileEnds
 pub mod Bounds
 pub mod DecodeEnds
 pub mod DecodedSolutions
+pub mod RoundTrip
 pub mod Obeyings

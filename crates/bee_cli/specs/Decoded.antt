@@ -27,6 +27,11 @@ pub record Texts : Type 0 where
   pub compiled : List ℕ
   pub answer : List ℕ
 
+-- a compiled text is in form
+pub record HasForm (compiled : List ℕ) : Type 0 where
+  pub held : CnfText
+  pub form : IsTextOf held compiled
+
 -- both texts are in form, and the written lines tell the values
 pub record IsDecoded (texts : Texts) (written : List ℕ) : Type 0 where
   pub held : CnfText

@@ -9,11 +9,7 @@ use bee_outside::{ReadFault, ReadText, Shelf, read_all};
 use std::alloc::Global;
 
 /// Reads what is left under a name, to its end.
-pub fn read_whole<S: Shelf>(
-    alloc: Global,
-    shelf: &mut S,
-    name: &str,
-) -> Result<Vec<u8>, ReadFault>
+pub fn read_whole<S: Shelf>(alloc: Global, shelf: &mut S, name: &str) -> Result<Vec<u8>, ReadFault>
     ensures no_count_falls { (other : List ℕ) → S.faults shelf.old other ≤ S.faults shelf.new other }
     ensures others_stay { (other : List ℕ) → other ≢ name.now →
         S.left shelf.new other ≡ S.left shelf.old other }

@@ -7,7 +7,8 @@ use std::alloc::{AllocError, Global};
 use std::test::Fail;
 
 /// Two integers from 0 to 3 whose sum is 3, with the ledger of their compilation.
-const SUM: &str = "c bee 1\nc int x 0 1:1 2:1 3:1\nc int y 0 -3:1 -2:1 -1:1\nc led eq 3 form 4 -3\nc led eq 3 form 5 -2\nc led eq 3 form 6 -1\nc led enc 1\nc led enc 2\nc led enc 3\np cnf 6 2\n1 -2 0\n2 -3 0\n";
+const SUM: &str =
+    "c bee 1\nc int x 0 1:1 2:1 3:1\nc int y 0 -3:1 -2:1 -1:1\nc led eq 3 form 4 -3\nc led eq 3 form 5 -2\nc led eq 3 form 6 -1\nc led enc 1\nc led enc 2\nc led enc 3\np cnf 6 2\n1 -2 0\n2 -3 0\n";
 
 /// What a solver may answer for it.
 const FOUND: &str = "c found\ns SATISFIABLE\nv 1 -2 -3\nv 4 5 -6 0\n";
@@ -196,7 +197,11 @@ fn decoding_with_faults_at_each_call(rt: HostRuntime) -> Result<(), Fail> {
             ("done", FOUND_DECODED)
         };
         assert_eq!(rt; run.status.0, word, "failing call {number} of the shelf");
-        assert_eq!(rt; run.out.taken(), lines.as_bytes(), "failing call {number} of the shelf");
+        assert_eq!(rt;
+            run.out.taken(),
+            lines.as_bytes(),
+            "failing call {number} of the shelf"
+        );
     }
     // The lines have 12 bytes, which take three calls of five, and then they are flushed.
     for number in 1..6u64 {
@@ -215,8 +220,14 @@ fn decoding_with_faults_at_each_call(rt: HostRuntime) -> Result<(), Fail> {
         let word = if number <= 4 { "write" } else { "done" };
         assert_eq!(rt; run.status.0, word, "failing call {number} of the sink");
         let taken = run.out.taken();
-        assert!(rt; FOUND_DECODED.as_bytes().starts_with(taken), "failing call {number} of the sink");
-        assert_eq!(rt; taken.len(), FOUND_DECODED.len().min(5 * (number as usize - 1)));
+        assert!(rt;
+            FOUND_DECODED.as_bytes().starts_with(taken),
+            "failing call {number} of the sink"
+        );
+        assert_eq!(rt;
+            taken.len(),
+            FOUND_DECODED.len().min(5 * (number as usize - 1))
+        );
     }
     Ok(())
 }

@@ -104,7 +104,11 @@ fn steps(alloc: Global) -> Result<Sequence<Line>, AllocError> {
         a: of(2, false),
         b: Atom::True,
     };
-    let steps = vec![in alloc; Line::Equate { id: 7, e }, Line::Split { id: 8 }, Line::Encode { id: u64::MAX }]?;
+    let steps = vec![in alloc;
+        Line::Equate { id: 7, e },
+        Line::Split { id: 8 },
+        Line::Encode { id: u64::MAX },
+    ]?;
     Ok(Sequence::from_vec(steps))
 }
 
@@ -117,7 +121,8 @@ fn name_ledger_and_clause(rt: HostRuntime) -> Result<(), Fail> {
         cnf: cnf(alloc, 2, Some(&[Lit::of(1, true)]))?,
     };
     let written = write_compiled(alloc, &text)?;
-    let want = b"c bee 1\nc bool x 1\nc led eq 7 table -2 T\nc led split 8\nc led enc 18446744073709551615\np cnf 2 1\n1 0\n";
+    let want =
+        b"c bee 1\nc bool x 1\nc led eq 7 table -2 T\nc led split 8\nc led enc 18446744073709551615\np cnf 2 1\n1 0\n";
     assert_eq!(rt; written.as_slice(), want.as_slice());
     Ok(())
 }

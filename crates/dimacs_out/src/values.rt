@@ -36,11 +36,7 @@ fn push_value(out: &mut Vec<u8>, value: &MapValue, values: &[bool]) -> Result<()
 }
 
 /// Writes the line of a name, and its line feed.
-fn push_value_line(
-    out: &mut Vec<u8>,
-    entry: &MapEntry,
-    values: &[bool],
-) -> Result<(), AllocError>
+fn push_value_line(out: &mut Vec<u8>, entry: &MapEntry, values: &[bool]) -> Result<(), AllocError>
     requires { IsBoundedValue entry.now.value }
     ensures { OnOk result (out.new.items ≡ out.old.items
         ++ value_line entry.now (number_of (valuation_of values.now) entry.now.value) ++ 10 ∷ []) }

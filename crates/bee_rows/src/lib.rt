@@ -5,10 +5,18 @@
 #[cfg(test)]
 mod compile;
 #[cfg(test)]
+mod decode;
+#[cfg(test)]
 mod examples;
 #[cfg(test)]
 mod outside;
 #[cfg(test)]
 mod shelves;
+#[cfg(test)]
+mod solution_sets;
+#[cfg(test)]
+mod statements;
+#[cfg(test)]
+mod texts;
 #[cfg(test)]
 mod words;

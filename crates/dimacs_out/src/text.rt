@@ -1,7 +1,7 @@
 //! What a compiled text holds.
 
+use crate::entry::MapEntry;
 use bee_list::Sequence;
-use dimacs_out::MapEntry;
 use ledger_text::Line;
 use order_ints::Cnf;
 

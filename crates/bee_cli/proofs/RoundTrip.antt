@@ -28,10 +28,10 @@ use Rattle.bee_cli.proofs.Headline.{made, well, writable}
 
 -- what the names stand for is in the limit of what is read
 
-low_limit : (low high base : ℤ) (w : ℕ) → unsigned_abs low ≤ 1073741824 → unsigned_abs high ≤ 1073741824 → low ≤ℤ base → base +ℤ pos w ≤ℤ high → unsigned_abs base ≤ 2 ^ 30
+low_limit : (low high base : ℤ) (w : ℕ) → unsigned_abs low ≤ 1073741824 → unsigned_abs high ≤ 1073741824 → low ≤ℤ base → (base +ℤ pos w) ≤ℤ high → unsigned_abs base ≤ 2 ^ 30
 low_limit low high base w p q r s = omega (arith, ints)
 
-high_limit : (low high base : ℤ) (w : ℕ) → unsigned_abs low ≤ 1073741824 → unsigned_abs high ≤ 1073741824 → low ≤ℤ base → base +ℤ pos w ≤ℤ high → unsigned_abs (base +ℤ pos w) ≤ 2 ^ 30
+high_limit : (low high base : ℤ) (w : ℕ) → unsigned_abs low ≤ 1073741824 → unsigned_abs high ≤ 1073741824 → low ≤ℤ base → (base +ℤ pos w) ≤ℤ high → unsigned_abs (base +ℤ pos w) ≤ 2 ^ 30
 high_limit low high base w p q r s = omega (arith, ints)
 
 value_in_limit : (n : ℕ) (k : Kind) (v : MapValue) → ValueFits n k v → IsInLimit v

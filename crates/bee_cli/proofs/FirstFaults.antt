@@ -1,6 +1,7 @@
 -- A text has one first fault, or it says a model that is compiled.
-use Rattle.std.proofs.Common.{◌≡◌, ℕ, ◌<◌, ◌≤◌, nat_tests, arith, Bool, true, false, List, ap, sym, ◌∙◌, refl, Option, Some, None, Ok, Err}
+use Rattle.std.proofs.Common.{◌≡◌, ℕ, ◌<◌, ◌≤◌, arith, true, false, List, ap, sym, ◌∙◌, refl, Option, Some, None, Ok, Err}
 use Rattle.std.specs.Prelude.{nat_lt, if◌then◌else◌}
+use Rattle.std.proofs.lemmas.Bool.Decides.{nat_tests}
 use Rattle.bumblebee_reader.specs.declared.syntax.Item.{Item}
 use Rattle.bumblebee_reader.specs.declared.fault.ReadFault.TheVariants as read_fault
 use Rattle.bumblebee_reader.specs.Reading.{AtItem, Outcome, reading}

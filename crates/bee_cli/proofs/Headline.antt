@@ -1,22 +1,18 @@
 -- The assignments that a compiled text stands for are exactly the solutions of the model that was read.
-use Rattle.std.proofs.Common.{arith, ◌≡◌, ℕ, ◌<◌, ◌≤◌, ◌^◌, true, List, ℤ, length, map, sym, subst, ◌∙◌}
+use Rattle.std.proofs.Common.{arith, ◌≡◌, ℕ, ◌≤◌, List, ℤ, length, map, sym, subst, ◌∙◌}
 use Rattle.std.specs.Prelude.{◌↔◌}
 use Rattle.order_ints.specs.Truth.{Valuation}
 use Rattle.order_ints.specs.Numbers.{numbers_of}
 use Rattle.bumblebee_reader.specs.Names.{AreDeclared}
 use Rattle.typed_model.specs.declared.model.Decl.{Decl}
-use Rattle.typed_model.specs.declared.model.Model.{Model}
 use Rattle.typed_model.specs.Solutions.{IsSolution}
-use Rattle.model_weight.specs.Weight.{weight_of}
-use Rattle.model_lower.specs.Weighed.{most_weight}
 use Rattle.bee_compile.specs.declared.compiled.Compiled.{Compiled}
 use Rattle.bee_compile.specs.Compiled.{IsCompiledWell}
 use Rattle.bee_compile.proofs.Compilation.{compilation}
 use Rattle.dimacs_out.specs.CompiledText.{IsWritable}
 use Rattle.dimacs_out.specs.TextSolutions.{StandsFor, assignment_of}
 use Rattle.dimacs_out.proofs.TextTells.{stands_for_exactly}
-use Rattle.bee_cli.specs.Compiled.{entries_of, written_of, IsInstance, IsCompiledText, Compiles}
-use Rattle.bee_cli.specs.ModelTexts.{IsModelOf}
+use Rattle.bee_cli.specs.Compiled.{written_of, IsInstance, Compiles}
 use Rattle.bee_cli.specs.CompileMode.{longest_text, IsHeadline}
 use Rattle.bee_cli.proofs.MapLines.{same_assignment, same_names, entries_below}
 use Rattle.bee_cli.proofs.ModelShapes.{typed, limited, names}

@@ -1,5 +1,5 @@
 -- What is known of the model that a text says.
-use Rattle.std.proofs.Common.{arith, ◌≡◌, ℕ, ◌+◌, ◌≤◌, ◌<◌, ◌^◌, List, [], map, length, sym, subst}
+use Rattle.std.proofs.Common.{arith, ℕ, ◌≤◌, List, [], map, length, sym, subst}
 use Rattle.bumblebee_reader.specs.Names.{AreDeclared}
 use Rattle.bumblebee_reader.proofs.Shapes.{text_is_spellable_lem}
 use Rattle.typed_model.specs.declared.model.Decl.{Decl}

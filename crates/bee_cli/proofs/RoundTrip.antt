@@ -22,7 +22,7 @@ use Rattle.dimacs_read.specs.ReadLaws.{AreInLimit}
 use Rattle.dimacs_read.proofs.Lawful.{written_is_read, read_is_writable, values_satisfy}
 use Rattle.bee_cli.specs.Compiled.{entries_of, written_of, Compiles}
 use Rattle.bee_cli.specs.CompileMode.{longest_text}
-use Rattle.bee_cli.specs.Decoded.{Texts, IsDecoded}
+use Rattle.bee_cli.specs.Decoded.{IsDecoded}
 use Rattle.bee_cli.specs.DecodeLaws.{kind_word, solution_line, solution_lines, TellsSolution, CompiledIsRead, DecodedIsSolution}
 use Rattle.bee_cli.proofs.Headline.{made, well, writable}
 
@@ -37,9 +37,10 @@ high_limit low high base w p q r s = omega (arith, ints)
 value_in_limit : (n : ℕ) (k : Kind) (v : MapValue) → ValueFits n k v → IsInLimit v
 value_in_limit n k (Bool a) h = tt
 value_in_limit n kind.Bool (Int a) h = elim h [ ]
-value_in_limit n (kind.Int low high) (Int a) h =
-    (low_limit low high a.base (weights a.steps) h.low_in_limit h.high_in_limit h.least h.greatest,
-    high_limit low high a.base (weights a.steps) h.low_in_limit h.high_in_limit h.least h.greatest)
+value_in_limit n (kind.Int low high) (Int a) h = (
+  low_limit low high a.base (weights a.steps) h.low_in_limit h.high_in_limit h.least h.greatest,
+  high_limit low high a.base (weights a.steps) h.low_in_limit h.high_in_limit h.least h.greatest,
+)
 
 in_limit : (n : ℕ) (decls : List Decl) (values : List MapValue) → ValuesFit n decls values → AreInLimit (entries_of decls values)
 in_limit n [] [] h = tt

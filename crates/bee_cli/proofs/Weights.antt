@@ -1,10 +1,9 @@
 -- The weight of a model that a text says has 128 bits.
-use Rattle.std.proofs.Common.{arith, ◌≡◌, ℕ, zero, suc, ◌+◌, ◌≤◌, ◌<◌, ◌^◌, List, [], ◌∷◌, ◌++◌, length, ap, sym, subst, Option, Some, None}
+use Rattle.std.proofs.Common.{arith, ◌≡◌, ℕ, zero, suc, ◌+◌, ◌≤◌, ◌<◌, ◌^◌, List, [], ◌∷◌, length, ap, sym, subst, Option, Some, None}
 use Rattle.std.proofs.lemmas.List.{length-append}
 use Rattle.bumblebee_reader.specs.Tokens.{Token, TokenAt, token_from, length_from, with_token, next_line, tokens_behind, tokens}
-use Rattle.bumblebee_reader.specs.Grammar.{SpellsItem, Spells, kinds, IsText}
+use Rattle.bumblebee_reader.specs.Grammar.{SpellsItem, Spells, kinds}
 use Rattle.bumblebee_reader.specs.declared.syntax.GoalKind.TheVariants.{Satisfy, Minimize, Maximize}
-use Rattle.bumblebee_reader.specs.declared.syntax.Syntax.{Syntax}
 use Rattle.bumblebee_reader.specs.declared.syntax.Item.{Item}
 use Rattle.bumblebee_reader.specs.declared.syntax.Item.TheVariants.{Call, Goal}
 use Rattle.typed_model.specs.declared.model.Model.{Model}

@@ -89,7 +89,7 @@ module _ (digits : ℕ) (k : Kernel) (is : IsKernel k) where
       where
         by : (b : Bool) → LeavesLess digits k (if b then record k { bottom = true } else record k { view = merged k.view e.a e.b })
         by true most v low high = stays-less digits k.view k.view v refl (omega arith)
-        by false = merged-labels
+        by false most v low high = merged-labels most v low high
 
   divided-labels : (id : ℕ) (parts : Parts) → LeavesLess digits k (divided k id parts)
   divided-labels id parts most v low high =

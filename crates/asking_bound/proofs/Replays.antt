@@ -1,5 +1,6 @@
 -- What all lines of a ledger leave of the new labels.
-use Rattle.std.proofs.Common.{◌≡◌, ℕ, ◌+◌, ◌*◌, ◌≤◌, List, [], ◌∷◌, ◌++◌, length, refl, ap, sym, ◌∙◌, arith, Result, Ok, Err}
+use Rattle.std.proofs.Common.{◌≡◌, ℕ, ◌+◌, ◌*◌, ◌≤◌, ◌<◌, List, [], ◌∷◌, ◌++◌, length, refl, ap, sym, ◌∙◌, arith, ⊎_elim, Result, Ok, Err}
+use Rattle.std.proofs.lemmas.Bool.{cases_lt}
 use Rattle.order_ints.specs.View.{label_of}
 use Rattle.core_forms.specs.declared.form.Core.{Core}
 use Rattle.ledger_text.specs.declared.line.Line.{Line}
@@ -17,7 +18,7 @@ use Rattle.asking_bound.specs.Questions.{binary_digits, occurrences_of}
 use Rattle.asking_bound.proofs.CoresLeft.{pairs_left, pairs-most}
 use Rattle.asking_bound.proofs.DigitLaws.{digits-more}
 use Rattle.asking_bound.proofs.LabelsLeft.{labels_left, left-most}
-use Rattle.asking_bound.proofs.StepLabels.{step-labels}
+use Rattle.asking_bound.proofs.StepLabels.{step-labels, step-past}
 use Rattle.asking_bound.proofs.StepPairs.{step-pairs}
 
 -- the variables of two lists of cores
@@ -46,7 +47,22 @@ module _ (digits : ℕ) (last : Kernel) (most : binary_digits (length last.view)
             rest mid kept.kernel e low (omega (arith, high, kept.longer)),
           )
 
-  along : (k : Kernel) (lines : List Line) → IsKernel k → replay k lines ≡ Ok last → pairs_along (Ok k) lines ≤ pairs_left digits k.view (pending k.cores) + occurrences_of (made_along (Ok k) lines) * digits
+  -- also of one that comes on the way
+  pub labels-any : (k : Kernel) (lines : List Line) (v : ℕ) → IsKernel k → replay k lines ≡ Ok last → 1 ≤ v → new_labels v (Ok k) lines ≤ digits
+  labels-any k [] v is e low = omega arith
+  labels-any k (line ∷ lines) v is e low =
+      ⊎_elim
+      (λ (past : length k.view < v). by (step k line) refl e past (λ mid. labels-any mid lines v))
+      (λ (high : v ≤ length k.view). omega (arith, labels-along k (line ∷ lines) v is e low high, left-most digits k.view (label_of k.view v)))
+      (cases_lt (length k.view) v)
+    where
+      by : (r : Result Kernel StepFault) → step k line ≡ r → replayed r lines ≡ Ok last → length k.view < v
+          → ((mid : Kernel) → IsKernel mid → replay mid lines ≡ Ok last → 1 ≤ v → new_labels v (Ok mid) lines ≤ digits) → new_label_to v k r + new_labels v r lines ≤ digits
+      by (Err fault) stepped e past rest = absurd (err_ok fault last (sym (replayed-err fault lines) ∙ e))
+      by (Ok mid) stepped e past rest =
+          omega (arith, step-past digits k is line mid stepped v past, rest mid (step-kept k mid line is stepped).kernel e low)
+
+  pub along : (k : Kernel) (lines : List Line) → IsKernel k → replay k lines ≡ Ok last → pairs_along (Ok k) lines ≤ pairs_left digits k.view (pending k.cores) + occurrences_of (made_along (Ok k) lines) * digits
   along k [] is e = omega arith
   along k (line ∷ lines) is e = by (step k line) refl e (λ mid. along mid lines)
     where
@@ -66,9 +82,7 @@ module _ (digits : ℕ) (last : Kernel) (most : binary_digits (length last.view)
           )
 
 pub few-new-labels : FewNewLabels
-few-new-labels start last lines v is e low high =
-    let digits = binary_digits (length last.view) in
-    omega (arith, labels-along digits last (omega arith) start lines v is e low high, left-most digits start.view (label_of start.view v))
+few-new-labels start last lines v is e low = labels-any (binary_digits (length last.view)) last (omega arith) start lines v is e low
 
 pub few-pairs : FewPairs
 few-pairs start last lines is e =

@@ -1,15 +1,15 @@
 -- What a step leaves of the new labels that a variable can get.
-use Rattle.std.proofs.Common.{◌≡◌, ◌⊎◌, ℕ, ◌+◌, ◌≤◌, Bool, true, false, List, ◌++◌, length, refl, ap, sym, ◌∙◌, subst, arith, ⊎_elim, Option, Some, None, Result, Ok}
+use Rattle.std.proofs.Common.{◌≡◌, ◌⊎◌, ℕ, ◌+◌, ◌≤◌, ◌<◌, Bool, true, false, List, ◌++◌, length, refl, ap, sym, ◌∙◌, subst, arith, ⊎_elim, Option, Some, None, Result, Ok}
 use Rattle.std.specs.Prelude.{◌≢◌, IsSomeAnd, if◌then◌else◌}
 use Rattle.std.proofs.lemmas.Bool.{false≢true}
 use Rattle.order_ints.specs.declared.atom.Atom.{Atom}
 use Rattle.order_ints.specs.declared.atom.Atom.TheVariants.{True, False, Of}
 use Rattle.order_ints.specs.Equality.{same_atom-true, same_atom-refl}
-use Rattle.order_ints.specs.Label.{IsLabel, IsLabelled, own_labels}
+use Rattle.order_ints.specs.Label.{variable, IsLabel, IsLabelled, own_labels, with_own_labels}
 use Rattle.order_ints.specs.Same.{same_atom}
 use Rattle.order_ints.specs.Truth.{not_atom}
 use Rattle.order_ints.specs.View.{label_of}
-use Rattle.order_ints.proofs.Labels.{AtomBelow-label, label_of-old}
+use Rattle.order_ints.proofs.Labels.{AtomBelow-label, label_of-past, label_of-added, label_of-old}
 use Rattle.core_forms.specs.declared.equation.Equation.{Equation}
 use Rattle.core_forms.specs.declared.form.Core.{Core}
 use Rattle.core_forms.specs.Trimmed.{trimmed_core}
@@ -102,3 +102,24 @@ module _ (digits : ℕ) (k : Kernel) (is : IsKernel k) where
       (λ running id e core at instance. equated-labels id e core at instance)
       (λ running id core at compound. divided-labels id (parts_at (length k.view + 1) (trimmed_core k.view core)))
       (λ running id core at basic most v low high. stays-less digits k.view k.view v refl (omega arith))
+
+  -- ---- a variable that there is not yet
+
+  past-none : (new : List Atom) (v : ℕ) → length k.view < v → label_of new v ≡ variable v → one_new k.view new v ≡ 0
+  past-none new v past own = ap {B = ℕ} (λ (b : Bool). if b then 1 else 0) (none-new k.view new v (own ∙ sym (label_of-past k.view v past)))
+
+  equated-past : (id : ℕ) (e : Equation) (core : Core) → core_at k.cores id ≡ Some core → is_instance_at (trimmed_core k.view core) e ≡ true → (v : ℕ) → length k.view < v → one_new k.view (equated k e).view v ≡ 0
+  equated-past id e core at instance v past = by (same_atom e.a (not_atom e.b))
+    where
+      by : (b : Bool) → one_new k.view (if b then record k { bottom = true } else record k { view = merged k.view e.a e.b }).view v ≡ 0
+      by true = past-none k.view v past (label_of-past k.view v past)
+      by false = past-none (merged k.view e.a e.b) v past (label_of-past (merged k.view e.a e.b) v (omega (arith, past, merged-long id e core at instance)))
+
+  pub step-past : (line : Line) (new : Kernel) → step k line ≡ Ok new → (v : ℕ) → length k.view < v → one_new k.view new.view v ≡ 0
+  step-past =
+      after_step k (λ (new : Kernel). (v : ℕ) → length k.view < v → one_new k.view new.view v ≡ 0)
+      (λ running id e core at instance. equated-past id e core at instance)
+      (λ running id core at compound v past.
+      let fresh = (parts_at (length k.view + 1) (trimmed_core k.view core)).fresh in
+      past-none (with_own_labels k.view fresh) v past (label_of-added k.view fresh v past))
+      (λ running id core at basic v past. past-none k.view v past (label_of-past k.view v past))

@@ -11,7 +11,7 @@ use Rattle.asking_bound.specs.Questions.{binary_digits, occurrences_of}
 -- a variable gets no more new labels than the last number of variables has binary digits
 abbrev pub FewNewLabels : Type 0
 FewNewLabels =
-    (start last : Kernel) (lines : List Line) (v : ℕ) → IsKernel start → replay start lines ≡ Ok last → 1 ≤ v → v ≤ length start.view →
+    (start last : Kernel) (lines : List Line) (v : ℕ) → IsKernel start → replay start lines ≡ Ok last → 1 ≤ v →
     new_labels v (Ok start) lines ≤ binary_digits (length last.view)
 
 -- so the pairs of a core and one of its variables that get a new label are no more than so many for each pair that was made

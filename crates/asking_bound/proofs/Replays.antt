@@ -8,7 +8,7 @@ use Rattle.step_kernel.specs.declared.fault.StepFault.{StepFault}
 use Rattle.step_kernel.specs.Kernel.{Kernel, pending, IsKernel}
 use Rattle.step_kernel.specs.Steps.{step, replayed, replay}
 use Rattle.step_kernel.proofs.Kept.{Kept}
-use Rattle.step_kernel.proofs.StepLaws.{step-kept, replayed-err, replay-kept}
+use Rattle.step_kernel.proofs.StepLaws.{step-kept, replay-kept}
 use Rattle.step_kernel.proofs.Stepped.{err_ok}
 use Rattle.fixpoint_queue.specs.Pairs.{pairs_to, pairs_along}
 use Rattle.asking_bound.specs.Laws.{FewNewLabels, FewPairs}
@@ -20,6 +20,10 @@ use Rattle.asking_bound.proofs.DigitLaws.{digits-more}
 use Rattle.asking_bound.proofs.LabelsLeft.{labels_left, left-most}
 use Rattle.asking_bound.proofs.StepLabels.{step-labels, step-past}
 use Rattle.asking_bound.proofs.StepPairs.{step-pairs}
+
+replayed-err : (fault : StepFault) (lines : List Line) → replayed (Err fault) lines ≡ Err fault
+replayed-err fault [] = refl
+replayed-err fault (line ∷ lines) = refl
 
 -- the variables of two lists of cores
 pub occurrences-append : (cs ds : List Core) → occurrences_of (cs ++ ds) ≡ occurrences_of cs + occurrences_of ds

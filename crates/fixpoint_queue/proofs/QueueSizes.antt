@@ -34,24 +34,24 @@ module _ (limit last : ℕ) (old new : List ℕ) (within : limit ≤ last)
     (were : (id : ℕ) → 1 ≤ times id old → (1 ≤ id) × (id ≤ last)) (are : (id : ℕ) → 1 ≤ times id new → (1 ≤ id) × (id ≤ last))
     (once : (id : ℕ) → times id new ≤ 1) (only : (id : ℕ) → 1 ≤ times id new → (1 ≤ times id old) ⊎ (limit < id))
   where
-  fewer : (id : ℕ) → times id new ≤ times id old + one_past limit id
-  fewer id =
-      ⊎_elim
-      (λ (none : times id new < 1). omega (arith, none))
-      (λ (there : 1 ≤ times id new).
-      ⊎_elim
-      (λ (old-there : 1 ≤ times id old). omega (arith, once id, old-there))
-      (λ (past : limit < id). omega (arith, once id, ap {B = ℕ} (λ (b : Bool). if b then 1 else 0) (lt-ltb limit id past)))
-      (only id there))
-      (cases_lt (times id new) 1)
+    fewer : (id : ℕ) → times id new ≤ times id old + one_past limit id
+    fewer id =
+        ⊎_elim
+        (λ (none : times id new < 1). omega (arith, none))
+        (λ (there : 1 ≤ times id new).
+        ⊎_elim
+        (λ (old-there : 1 ≤ times id old). omega (arith, once id, old-there))
+        (λ (past : limit < id). omega (arith, once id, ap {B = ℕ} (λ (b : Bool). if b then 1 else 0) (lt-ltb limit id past)))
+        (only id there))
+        (cases_lt (times id new) 1)
 
-  pub queue-grows : length new + limit ≤ length old + last
-  queue-grows =
-      omega (
-        arith,
-        length-sum last new are,
-        length-sum last old were,
-        sum-le last (λ id. times id new) (λ id. times id old + one_past limit id) (λ id low high. fewer id),
-        sum-add last (λ id. times id old) (one_past limit),
-        past-sum last limit within,
-      )
+    pub queue-grows : length new + limit ≤ length old + last
+    queue-grows =
+        omega (
+          arith,
+          length-sum last new are,
+          length-sum last old were,
+          sum-le last (λ id. times id new) (λ id. times id old + one_past limit id) (λ id low high. fewer id),
+          sum-add last (λ id. times id old) (one_past limit),
+          past-sum last limit within,
+        )

@@ -8,9 +8,9 @@ use Rattle.step_kernel.specs.declared.fault.StepFault.{StepFault}
 use Rattle.step_kernel.specs.Kernel.{Kernel, pending, IsKernel}
 use Rattle.step_kernel.specs.Steps.{step, replayed, replay}
 use Rattle.fixpoint_queue.specs.Ledgers.{Leads, Adds}
-use Rattle.fixpoint_queue.specs.Pairs.{pairs_to, pairs_along, IsCounted}
+use Rattle.fixpoint_queue.specs.Pairs.{pairs_along, IsCounted}
 use Rattle.fixpoint_queue.proofs.Counted.{only-lines, pairs-append}
-use Rattle.asking_bound.specs.Made.{made_between, made_to, made_along}
+use Rattle.asking_bound.specs.Made.{made_to, made_along}
 use Rattle.asking_bound.specs.Questions.{most_questions, IsAsked}
 use Rattle.asking_bound.proofs.Replays.{few-pairs}
 use Rattle.asking_bound.proofs.StepPairs.{made-as-many}

@@ -1,7 +1,6 @@
 -- How many pairs of a core and one of its variables can still get a new label.
-use Rattle.std.proofs.Common.{◌≡◌, ◌⊎◌, ℕ, zero, suc, ◌+◌, ◌*◌, ◌≤◌, ◌<◌, Bool, true, false, ◌&&◌, List, [], ◌∷◌, ◌++◌, length, refl, ap, ◌∙◌, sym, subst, arith, ⊎_elim, length-append}
+use Rattle.std.proofs.Common.{◌≡◌, ℕ, zero, suc, ◌+◌, ◌*◌, ◌≤◌, Bool, true, false, ◌&&◌, List, [], ◌∷◌, ◌++◌, length, refl, ap, sym, subst, arith, length-append}
 use Rattle.std.specs.Prelude.{if◌then◌else◌}
-use Rattle.std.proofs.lemmas.Bool.{cases_lt}
 use Rattle.std.proofs.Math.Nat.{mul-le-mul_right}
 use Rattle.order_ints.specs.declared.atom.Atom.{Atom}
 use Rattle.order_ints.specs.declared.atom.Atom.TheVariants.{True, False, Of}
@@ -9,7 +8,6 @@ use Rattle.order_ints.specs.View.{label_of}
 use Rattle.order_ints.proofs.Labels.{label_of-old}
 use Rattle.core_forms.specs.declared.form.Core.{Core}
 use Rattle.core_forms.specs.Cores.{CoresBelow}
-use Rattle.core_forms.specs.OwnVars.{own_vars}
 use Rattle.core_forms.specs.Place.{CoreBelow}
 use Rattle.equation_store.specs.Laws.{size_at}
 use Rattle.fixpoint_queue.specs.Pairs.{is_relabelled, has_var, relabelled_in, relabelled_pairs}

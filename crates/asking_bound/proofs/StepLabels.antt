@@ -1,5 +1,5 @@
 -- What a step leaves of the new labels that a variable can get.
-use Rattle.std.proofs.Common.{◌≡◌, ◌⊎◌, ℕ, ◌+◌, ◌≤◌, ◌<◌, Bool, true, false, List, ◌++◌, length, refl, ap, sym, ◌∙◌, subst, arith, ⊎_elim, Option, Some, None, Result, Ok}
+use Rattle.std.proofs.Common.{◌≡◌, ℕ, ◌+◌, ◌≤◌, ◌<◌, Bool, true, false, List, ◌++◌, length, refl, ap, sym, ◌∙◌, arith, Option, Some, None, Ok}
 use Rattle.std.specs.Prelude.{◌≢◌, IsSomeAnd, if◌then◌else◌}
 use Rattle.std.proofs.lemmas.Bool.{false≢true}
 use Rattle.order_ints.specs.declared.atom.Atom.{Atom}
@@ -23,11 +23,10 @@ use Rattle.ledger_text.specs.declared.line.Line.{Line}
 use Rattle.step_kernel.specs.Instances.{is_instance_at}
 use Rattle.step_kernel.specs.Kernel.{Kernel, core_at, IsKernel}
 use Rattle.step_kernel.specs.Parts.{parts_at}
-use Rattle.step_kernel.specs.Steps.{step, equated, divided, encoded}
+use Rattle.step_kernel.specs.Steps.{step, equated, divided}
 use Rattle.step_kernel.proofs.Holes.{below-there}
 use Rattle.step_kernel.proofs.InstanceLaws.{instance-labels}
 use Rattle.step_kernel.proofs.Stepped.{after_step}
-use Rattle.fixpoint_queue.specs.Pairs.{is_relabelled}
 use Rattle.asking_bound.specs.Questions.{binary_digits}
 use Rattle.asking_bound.proofs.CoresLeft.{variable-more}
 use Rattle.asking_bound.proofs.LabelsLeft.{labels_left, left-merged, none-new, one_new}

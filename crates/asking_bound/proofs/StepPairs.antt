@@ -1,9 +1,9 @@
 -- What a step leaves of the pairs that can get a new label, and the cores that it makes.
-use Rattle.std.proofs.Common.{◌≡◌, ℕ, ◌+◌, ◌-◌, ◌*◌, ◌≤◌, Bool, true, false, List, ◌∷◌, ◌++◌, map, length, drop, refl, ap, sym, ◌∙◌, subst, arith, length-append, Option, Some, None, Result, Ok}
+use Rattle.std.proofs.Common.{◌≡◌, ℕ, ◌+◌, ◌-◌, ◌*◌, ◌≤◌, Bool, true, false, List, ◌∷◌, ◌++◌, map, length, refl, ap, ◌∙◌, arith, length-append, Option, Some, None, Ok}
 use Rattle.std.specs.Prelude.{if◌then◌else◌}
 use Rattle.std.proofs.lemmas.List.{length-set, length-map, drop_at}
 use Rattle.order_ints.specs.declared.atom.Atom.{Atom}
-use Rattle.order_ints.specs.Label.{own_labels, with_own_labels}
+use Rattle.order_ints.specs.Label.{own_labels}
 use Rattle.order_ints.specs.Same.{same_atom}
 use Rattle.order_ints.specs.Truth.{not_atom}
 use Rattle.order_ints.proofs.Labels.{label_of-old}
@@ -19,7 +19,7 @@ use Rattle.step_kernel.specs.Parts.{parts_at}
 use Rattle.step_kernel.specs.Steps.{step, without, equated, divided, encoded}
 use Rattle.step_kernel.proofs.Holes.{between, below-there, pending-append, pending-parts}
 use Rattle.step_kernel.proofs.Stepped.{after_step}
-use Rattle.fixpoint_queue.specs.Pairs.{relabelled_pairs, pairs_between}
+use Rattle.fixpoint_queue.specs.Pairs.{pairs_between}
 use Rattle.asking_bound.specs.Made.{made_between}
 use Rattle.asking_bound.specs.Questions.{binary_digits, occurrences_of}
 use Rattle.asking_bound.proofs.CoresLeft.{pairs_left, left-append, pairs-falls, pairs-more, pairs-most, no-pairs}

@@ -1,12 +1,12 @@
 -- How many ids a queue has.
-use Rattle.std.proofs.Common.{◌≡◌, ◌⊎◌, ℕ, ◌+◌, ◌≤◌, ◌<◌, Bool, true, false, List, length, refl, ap, arith, ⊎_elim, Option, Some, None}
-use Rattle.std.specs.Prelude.{nat_lt, is_some, if◌then◌else◌}
+use Rattle.std.proofs.Common.{◌≡◌, ◌⊎◌, ℕ, ◌+◌, ◌≤◌, ◌<◌, Bool, List, length, refl, ap, arith, ⊎_elim, Option, Some, None}
+use Rattle.std.specs.Prelude.{if◌then◌else◌}
 use Rattle.std.proofs.lemmas.Bool.{cases_lt, lt-ltb}
 use Rattle.core_forms.specs.declared.form.Core.{Core}
 use Rattle.index_ring.specs.Lists.{times}
 use Rattle.step_kernel.specs.Kernel.{core_at, pending}
 use Rattle.step_kernel.proofs.Splits.{there-bounds}
-use Rattle.fixpoint_queue.proofs.PairLaws.{sum_to, sum-le, sum-add, length-sum, one_there, pending-sum, one_past, past-sum}
+use Rattle.fixpoint_queue.proofs.PairLaws.{sum-le, sum-add, length-sum, one_there, pending-sum, one_past, past-sum}
 
 -- each pending core stands in the queue once, and nothing else does
 module _ (cores : List (Option Core)) (queued : List ℕ) (exact : (id : ℕ) → times id queued ≡ one_there (core_at cores id)) where

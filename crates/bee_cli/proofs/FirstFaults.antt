@@ -50,6 +50,7 @@ faulty text fault.TooLong h = elim h [ ]
 faulty text (fault.Syntax line) h = ap verdict (reading_from_syntax_fault text line h)
 faulty text (fault.Number line) h = ap verdict (reading_from_number_fault text line h)
 faulty text (fault.Typed f) h = ap verdict (reading_from_text text h.0 h.1) ∙ typed_verdict h.0.items f h.2
+faulty text (fault.Cnf line) h = elim h [ ]
 faulty text (fault.TooHeavy w) h =
     ap verdict (reading_from_text text h.1.syntax h.1.spelled)
     ∙ weighed_verdict h.1.syntax.items h.0 h.1.no_fault h.1.model_is ∙ heavy_above (weight_of h.0) h.2 ∙ ap (λ n. Some (fault.TooHeavy n)) (sym h.3)

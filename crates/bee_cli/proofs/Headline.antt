@@ -22,14 +22,14 @@ use Rattle.bee_cli.proofs.MapLines.{same_assignment, same_names, entries_below}
 use Rattle.bee_cli.proofs.ModelShapes.{typed, limited, names}
 
 module _ (text written : List ℕ) (short : length text ≤ longest_text) (c : Compiles text written) where
-  made : Compiled
+  abbrev pub made : Compiled
   made = c.is.compiled
 
-  well : IsCompiledWell c.model made
+  pub well : IsCompiledWell c.model made
   well = compilation IsInstance (λ core e h. h) c.model made (typed text c.model c.says) (limited text c.model short c.says) c.light c.is.cores c.is.is
 
   -- what the model is compiled to can be written
-  writable : IsWritable (written_of made)
+  pub writable : IsWritable (written_of made)
   writable =
       let same = subst (λ ds. AreDeclared ds) (sym (same_names _ made.decls made.map.entries well.fits.values)) in
       record {

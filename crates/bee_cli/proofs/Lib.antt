@@ -7,4 +7,8 @@ pub mod Causes
 pub mod Headline
 pub mod Answering
 pub mod CompileEnds
+pub mod Bounds
+pub mod DecodeEnds
+pub mod DecodedSolutions
+pub mod RoundTrip
 pub mod Obeyings

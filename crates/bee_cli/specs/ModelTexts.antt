@@ -31,6 +31,7 @@ IsFirstFault text (fault.Syntax line) = IsSyntaxFault text line
 IsFirstFault text (fault.Number line) = IsNumberFault text line
 IsFirstFault text (fault.Typed f) = (s : Syntax) × IsText text s × (first_fault s.items ≡ Some f)
 IsFirstFault text (fault.TooHeavy weight) = (m : Model) × IsModelOf text m × (most_weight < weight_of m) × (weight ≡ weight_of m)
+IsFirstFault text (fault.Cnf line) = ⊥
 
 -- what a fault of the items makes of a text: want of memory is no fault of it
 abbrev pub text_fault_of : TypeFault → TextFault

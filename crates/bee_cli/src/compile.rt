@@ -54,7 +54,11 @@ fn write_compilation(alloc: Global, compiled: Compiled) -> Result<Vec<u8>, Alloc
     ensures count { IfOk result (λ text. length compiled.cnf.clauses < 2 ^ 64) }
 {
     let Compiled {
-        cnf, decls, map, ledger, ..
+        cnf,
+        decls,
+        map,
+        ledger,
+        ..
     } = compiled;
     let entries = entries_of(alloc, decls.into_vec(), map.entries.into_vec())?;
     let held = CnfText {

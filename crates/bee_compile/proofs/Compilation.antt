@@ -1,11 +1,11 @@
 -- The compilation keeps the solutions.
-use Rattle.std.proofs.Common.{◌≡◌, ℕ, ◌+◌, ◌≤◌, ◌<◌, ◌^◌, true, List, length, Ok, refl, sym, ap, subst, ◌∙◌, ℤ, arith}
+use Rattle.std.proofs.Common.{◌≡◌, ◌+◌, ◌≤◌, ◌<◌, ◌^◌, true, List, length, Ok, refl, sym, ap, subst, ◌∙◌, ℤ, arith}
 use Rattle.std.specs.Prelude.{◌↔◌}
+use Rattle.order_ints.specs.declared.atom.Atom.{Atom}
 use Rattle.order_ints.specs.Truth.{Valuation}
 use Rattle.order_ints.specs.Satisfies.{Satisfies}
 use Rattle.order_ints.specs.Numbers.{numbers_of}
 use Rattle.order_ints.specs.Place.{InRange}
-use Rattle.order_ints.specs.Label.{own_labels}
 use Rattle.order_ints.proofs.Labels.{labels_below, length-own_labels}
 use Rattle.core_forms.specs.declared.equation.Equation.{Equation}
 use Rattle.core_forms.specs.declared.form.Core.{Core}
@@ -13,7 +13,6 @@ use Rattle.typed_model.specs.declared.model.Decl.{Decl}
 use Rattle.typed_model.specs.declared.model.Model.{Model}
 use Rattle.typed_model.specs.WellTyped.{WellTyped}
 use Rattle.typed_model.specs.Limits.{InLimits}
-use Rattle.typed_model.specs.Solutions.{IsSolution}
 use Rattle.statement_lower.proofs.EntryLaws.{numbers_of-agree}
 use Rattle.model_weight.specs.Weight.{weight_of}
 use Rattle.model_lower.specs.declared.state.Lowered.{Lowered}
@@ -22,8 +21,7 @@ use Rattle.model_lower.specs.Decoded.{IsDecoded}
 use Rattle.model_lower.specs.Weighed.{most_weight}
 use Rattle.model_lower.specs.Fits.{Fits}
 use Rattle.model_lower.proofs.LoweringLaw.{lowering_law}
-use Rattle.step_kernel.specs.Kernel.{Kernel, IsKernel}
-use Rattle.step_kernel.specs.Models.{IsModel}
+use Rattle.step_kernel.specs.Kernel.{Kernel, IsKernel, started}
 use Rattle.step_kernel.specs.CnfOf.{cnf_of}
 use Rattle.step_kernel.specs.Instances.{is_instance_at}
 use Rattle.step_kernel.proofs.Started.{started-kernel, started-models}
@@ -35,7 +33,7 @@ use Rattle.state_compile.proofs.Reading.{read-model}
 use Rattle.bee_compile.specs.declared.compiled.Compiled.{Compiled}
 use Rattle.bee_compile.specs.Trimmed.{trimmed_values}
 use Rattle.bee_compile.specs.Fits.{CompiledFits}
-use Rattle.bee_compile.specs.Compiled.{start_of, IsCompiled, IsGiven, IsCompiledWell, CompilationLaw}
+use Rattle.bee_compile.specs.Compiled.{start_of, IsGiven, IsCompiledWell, CompilationLaw}
 use Rattle.bee_compile.proofs.Numbers.{numbers-read, numbers-met}
 use Rattle.bee_compile.proofs.Fitting.{values-fit}
 use Rattle.bee_compile.proofs.Ledgers.{ledger-below}
@@ -62,7 +60,7 @@ module _ (l : Lowered) (decls : List Decl) (fits : Fits l decls) where
     decoded-given a d =
         let t = stands.forth d.0 ((started-models l.vars l.cores d.0).1 d.1) in
         let same = subst (λ n. numbers_of d.0 l.map.entries ≡ numbers_of t.0 l.map.entries) start-vars
-            (numbers_of-agree (l.vars + 1) d.0 t.0 decls l.map.entries (λ v below. t.1 v (omega (arith, below, start-vars))) fits.entries) in
+        (numbers_of-agree (l.vars + 1) d.0 t.0 decls l.map.entries (λ v below. t.1 v (omega (arith, below, start-vars))) fits.entries) in
         (t.0, t.3, d.2 ∙ same ∙ sym (numbers-met last.view t.0 t.2 (l.vars + 1) decls l.map.entries fits.entries))
 
 module _ (told : Core → Equation → Type 0) (instance : (core : Core) (e : Equation) → told core e → is_instance_at core e ≡ true) where
@@ -71,8 +69,7 @@ module _ (told : Core → Equation → Type 0) (instance : (core : Core) (e : Eq
   given c last l decls fits compilation cnf map a =
       let start = start-kernel l decls fits in
       let is = (compilation-kept told (start_of l) last c.ledger start compilation).kernel in
-      let stands = compilation-models told (start_of l) last c.ledger start compilation in
-      (
+      let stands = compilation-models told (start_of l) last c.ledger start compilation in (
         λ d.
             let g = decoded-given l decls fits last is stands a d in
             (g.0, subst (λ f. Satisfies g.0 f) (sym cnf) g.1, g.2 ∙ ap (numbers_of g.0) (sym map)),
@@ -104,3 +101,19 @@ module _ (told : Core → Equation → Type 0) (instance : (core : Core) (e : Eq
             (λ s. g.0 ((law.solutions a).0 s), λ h. (law.solutions a).1 (g.1 h));
         fits = fitting c is.last l model.decls law.fits is.compilation (omega (arith, is.cores, few)) is.cnf is.decls is.map;
       }
+
+  -- what the parts of a compilation give, one after another
+  pub compiled-well : (model : Model) (l : Lowered) (cores : List Core) (state last : Kernel) (view : List Atom) (c : Compiled) → WellTyped model → InLimits model
+      → weight_of model ≤ most_weight → l ≡ lowered_of model → cores ≡ l.cores → state ≡ started l.vars cores → IsCompilation told state c.ledger last
+      → c.cores ≡ length last.cores → c.cores < 2 ^ 64 → c.cnf ≡ cnf_of last → c.decls ≡ model.decls → view ≡ last.view → c.map.entries ≡ trimmed_values view l.map.entries
+      → IsCompiledWell model c
+  compiled-well model l cores state last view c typed limits light shape same start made ids few cnf decls seen map =
+      let first : state ≡ start_of (lowered_of model) = start ∙ ap (started l.vars) same ∙ ap (λ (k : Lowered). start_of k) shape in
+      compilation model c typed limits light few (record {
+        last = last;
+        compilation = subst (λ (k : Kernel). IsCompilation told k c.ledger last) first made;
+        cores = ids;
+        cnf = cnf;
+        decls = decls;
+        map = map ∙ ap (λ v. trimmed_values v l.map.entries) seen ∙ ap (λ (k : Lowered). trimmed_values last.view k.map.entries) shape;
+      })

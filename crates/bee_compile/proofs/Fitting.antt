@@ -1,17 +1,16 @@
 -- What names stand for, as a store has it, fits.
-use Rattle.std.proofs.Common.{◌≡◌, ℕ, ◌+◌, ◌≤◌, List, [], ◌∷◌, length, ℤ, pos, ◌≤ℤ◌, ap, subst, sym, ◌∙◌, arith}
+use Rattle.std.proofs.Common.{◌≡◌, ℕ, ◌≤◌, List, [], ◌∷◌, ℤ, pos, ◌≤ℤ◌, subst}
 use Rattle.std.specs.Prelude.{◌+ℤ◌}
-use Rattle.std.proofs.lemmas.Int.{ints}
 use Rattle.order_ints.specs.declared.atom.Atom.{Atom}
 use Rattle.order_ints.specs.declared.order_int.OrdInt.{OrdInt}
 use Rattle.order_ints.specs.declared.order_int.MapValue.{MapValue}
 use Rattle.order_ints.specs.declared.order_int.MapValue.TheVariants as values
 use Rattle.order_ints.specs.OrderRange.{weights, low_of, high_of}
-use Rattle.order_ints.specs.Place.{AtomBelow, AtomsBelow}
+use Rattle.order_ints.specs.Place.{AtomsBelow}
 use Rattle.order_ints.specs.View.{resolve}
 use Rattle.order_ints.proofs.PlaceLaws.{AtomBelow-resolve, AtomBelow-up}
 use Rattle.core_forms.specs.declared.form.Core.TheVariants.{Ladder}
-use Rattle.core_forms.specs.Resolved.{map_steps, map_int}
+use Rattle.core_forms.specs.Resolved.{map_steps}
 use Rattle.core_forms.specs.Trimmed.{trimmed_int}
 use Rattle.core_forms.proofs.Places.{CoreBelow-trimmed, CoreBelow-more}
 use Rattle.core_forms.proofs.Tidied.{low-raised_by, high-raised_by, weights-map_steps}
@@ -31,7 +30,7 @@ module _ (view : List Atom) (n m : ℕ) (up : n ≤ m) (labels : AtomsBelow m vi
       let same : weights (map_steps (resolve view) a.steps) ≡ weights a.steps = weights-map_steps (resolve view) a.steps in
       let most : high_of (trimmed_int view a) ≤ℤ high_of a = subst (λ w. high_of (trimmed_int view a) ≤ℤ (a.base +ℤ pos w)) same greatest in
       record {
-        below = CoreBelow-trimmed m view (Ladder a) (CoreBelow-more n m (Ladder a) up h.below) labels;
+        below = (CoreBelow-trimmed m view (Ladder a) (CoreBelow-more n m (Ladder a) up (tt, (h.below, tt))) labels).1.0;
         sound = IsWellFormed-trimmed view (Ladder a) h.sound;
         least = subst (λ l. l ≤ℤ low_of (trimmed_int view a)) h.least least;
         greatest = subst (λ g. high_of (trimmed_int view a) ≤ℤ g) h.greatest most;

@@ -1,5 +1,5 @@
 -- The lines of a compilation are over its variables, and their ids are among those of its cores.
-use Rattle.std.proofs.Common.{◌≡◌, ℕ, ◌+◌, ◌≤◌, ◌<◌, ◌^◌, Bool, true, false, List, [], ◌∷◌, ◌++◌, map, length, length-append, Option, Some, None, Ok, refl, sym, ap, subst, ◌∙◌, arith}
+use Rattle.std.proofs.Common.{◌≡◌, ℕ, ◌+◌, ◌-◌, ◌≤◌, ◌<◌, ◌^◌, Bool, true, false, List, [], ◌∷◌, map, length, length-append, Option, Some, None, Ok, refl, ap, ◌∙◌, arith}
 use Rattle.std.specs.Prelude.{option_map, if◌then◌else◌}
 use Rattle.std.proofs.lemmas.List.{length-set}
 use Rattle.order_ints.specs.Place.{AtomBelow}
@@ -7,13 +7,14 @@ use Rattle.order_ints.specs.Same.{same_atom}
 use Rattle.order_ints.specs.Truth.{not_atom}
 use Rattle.order_ints.proofs.Labels.{AtomBelow-label}
 use Rattle.order_ints.proofs.PlaceLaws.{AtomBelow-up}
+use Rattle.equation_store.specs.Merge.{merged}
 use Rattle.core_forms.specs.declared.equation.Equation.{Equation}
 use Rattle.core_forms.specs.declared.form.Core.{Core}
 use Rattle.core_forms.specs.Trimmed.{trimmed_core}
 use Rattle.ledger_text.specs.declared.line.Line.{Line}
 use Rattle.ledger_text.specs.declared.line.Line.TheVariants.{Equate, Split, Encode}
 use Rattle.ledger_text.specs.Steps.{LineBelow, LedgerBelow}
-use Rattle.step_kernel.specs.Kernel.{Kernel, IsKernel, core_at, trimmed_at}
+use Rattle.step_kernel.specs.Kernel.{Kernel, IsKernel, core_at}
 use Rattle.step_kernel.specs.Instances.{is_instance_at}
 use Rattle.step_kernel.specs.Parts.{parts_at}
 use Rattle.step_kernel.specs.Steps.{without, equated, step}
@@ -30,7 +31,7 @@ use Rattle.state_compile.proofs.Found.{compound-there, basic-there}
 equated-cores : (k : Kernel) (e : Equation) → (equated k e).cores ≡ k.cores
 equated-cores k e = by (same_atom e.a (not_atom e.b))
   where
-    by : (b : Bool) → (if b then record k { bottom = true } else record k { view = (equated k e).view }).cores ≡ k.cores
+    by : (b : Bool) → (if b then record k { bottom = true } else record k { view = merged k.view e.a e.b }).cores ≡ k.cores
     by true = refl
     by false = refl
 
@@ -39,8 +40,8 @@ cores-longer k new line made =
     after_step k (λ (n : Kernel). length k.cores ≤ length n.cores)
     (λ running id e core at instance. omega (arith, ap length (equated-cores k e)))
     (λ running id core at compound.
-        let made : List (Option Core) = map Some (parts_at (length k.view + 1) (trimmed_core k.view core)).cores in
-        omega (arith, length-set k.cores (id - 1) None, length-append (without k.cores id) made))
+    let made : List (Option Core) = map Some (parts_at (length k.view + 1) (trimmed_core k.view core)).cores in
+    omega (arith, length-set k.cores (id - 1) None, length-append (without k.cores id) made))
     (λ running id core at basic. omega (arith, length-set k.cores (id - 1) None))
     line new made
 
@@ -61,7 +62,8 @@ module _ (told : Core → Equation → Type 0) (instance : (core : Core) (e : Eq
   line-below : (k : Kernel) (line : Line) → IsKernel k → length k.cores < 2 ^ 64 → IsDue told k line → LineBelow (length k.view + 1) line
   line-below k (Equate id e) is few due =
       let there = at-bounds k id due.0 due.1 in
-      (omega (arith, there, few), equation-below k is id e due.0 (core_at k.cores id) refl due.1 due.2)
+      let below = equation-below k is id e due.0 (core_at k.cores id) refl due.1 due.2 in
+      (omega (arith, there, few), below.0, below.1)
   line-below k (Split id) is few due =
       let c = compound-there k id due.1 in
       omega (arith, at-bounds k id c.core c.there, few)
@@ -90,8 +92,7 @@ module _ (told : Core → Equation → Type 0) (instance : (core : Core) (e : Eq
   ledger-below k last (line ∷ lines) is l few =
       let first = step-kept k l.0 line is l.1 in
       let ids = ids-longer k last (line ∷ lines) l in
-      let vars = vars-longer k last (line ∷ lines) is l in
-      (
+      let vars = vars-longer k last (line ∷ lines) is l in (
         line-up (length k.view + 1) (length last.view + 1) line (omega (arith, vars)) (line-below k line is (omega (arith, ids, few)) l.2),
         ledger-below l.0 last lines first.kernel l.3 few,
       )

@@ -5,7 +5,7 @@ use Rattle.order_ints.specs.declared.atom.Atom.{Atom}
 use Rattle.order_ints.specs.declared.order_int.OrdInt.{OrdInt}
 use Rattle.order_ints.specs.declared.order_int.MapValue.{MapValue}
 use Rattle.order_ints.specs.declared.order_int.MapValue.TheVariants as values
-use Rattle.order_ints.specs.Truth.{Valuation, atom_truth}
+use Rattle.order_ints.specs.Truth.{Valuation}
 use Rattle.order_ints.specs.OrderValue.{gains, value_of}
 use Rattle.order_ints.specs.Numbers.{number_of, numbers_of}
 use Rattle.order_ints.specs.Place.{StepsBelow}

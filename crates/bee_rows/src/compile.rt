@@ -142,7 +142,6 @@ fn other_words_are_refused(rt: HostRuntime) -> Result<(), Fail> {
     let check = ["bee", "check", "m.bee"];
     let queens = ["bee", "queens", "3"];
     let checked = ["bee", "check", "m.bee", "m.bee"];
-    let decoded = ["bee", "decode", "m.bee", "m.bee"];
     let board = ["bee", "queens", "8"];
     let budget = ["bee", "solve", "m.bee", "--budget", "0"];
     let nothing = ["bee", "compile", "m.bee", "--budget", "0"];
@@ -154,7 +153,6 @@ fn other_words_are_refused(rt: HostRuntime) -> Result<(), Fail> {
         check.as_slice(),
         queens.as_slice(),
         checked.as_slice(),
-        decoded.as_slice(),
         board.as_slice(),
         budget.as_slice(),
         nothing.as_slice(),

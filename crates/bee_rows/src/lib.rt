@@ -5,6 +5,8 @@
 #[cfg(test)]
 mod compile;
 #[cfg(test)]
+mod decode;
+#[cfg(test)]
 mod examples;
 #[cfg(test)]
 mod outside;

@@ -62,12 +62,14 @@ fn fault_described(fault: &TypeFault) -> (&'static str, u128) {
 fn described(status: &Status) -> (&'static str, u128) {
     match status {
         Status::Done => ("done", 0),
+        Status::Refused(line) => ("refused", u128::from(*line)),
         Status::Usage => ("usage", 0),
         Status::Model(ModelFault::TooLong) => ("too long", 0),
         Status::Model(ModelFault::Syntax(line)) => ("syntax", u128::from(*line)),
         Status::Model(ModelFault::Number(line)) => ("number", u128::from(*line)),
         Status::Model(ModelFault::Typed(fault)) => fault_described(fault),
         Status::Model(ModelFault::TooHeavy(weight)) => ("weight", *weight),
+        Status::Model(ModelFault::Cnf(line)) => ("cnf", u128::from(*line)),
         Status::Read => ("read", 0),
         Status::Write => ("write", 0),
         Status::Memory => ("memory", 0),
@@ -83,11 +85,23 @@ pub fn run_over(
 ) -> Result<Shown, AllocError>
     requires { 1 ≤ outside.step }
 {
+    let files = vec![in alloc; (String::from_str(alloc, "m.bee")?, model)]?;
+    run_files(alloc, words, files, outside)
+}
+
+/// Runs the words over a shelf on which texts stand under their names.
+pub fn run_files(
+    alloc: Global,
+    words: &[&str],
+    files: Vec<(String, Vec<u8>)>,
+    outside: Outside<'_>,
+) -> Result<Shown, AllocError>
+    requires { 1 ≤ outside.step }
+{
     let mut all = Vec::new(alloc);
     for word in words {
         all.push(String::from_str(alloc, word)?)?;
     }
-    let files = vec![in alloc; (String::from_str(alloc, "m.bee")?, model)]?;
     let shelf_failing = Vec::from_slice(alloc, outside.shelf_failing)?;
     let sink_failing = Vec::from_slice(alloc, outside.sink_failing)?;
     let err_failing = Vec::from_slice(alloc, outside.err_failing)?;

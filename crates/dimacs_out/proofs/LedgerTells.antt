@@ -12,9 +12,9 @@ use Rattle.core_forms.specs.declared.equation.Rule.TheVariants.{Order, Form, Tab
 use Rattle.ledger_text.specs.declared.line.Line.{Line}
 use Rattle.ledger_text.specs.declared.line.Line.TheVariants.{Equate, Split, Encode}
 use Rattle.ledger_text.specs.Words.{atom_word}
-use Rattle.ledger_text.specs.Steps.{rule_word, step_words, step_text}
+use Rattle.ledger_text.specs.Steps.{rule_word, step_words, step_text, LineBelow, LedgerBelow}
 use Rattle.ledger_text.proofs.Spelled.{atom_word_word, atom_word_tells}
-use Rattle.dimacs_out.specs.CompiledText.{ledger_line, LineBelow, LedgerBelow}
+use Rattle.dimacs_out.specs.CompiledText.{ledger_line}
 use Rattle.dimacs_out.proofs.SpelledWords.{words_line}
 
 -- what it is made of are words

@@ -11,7 +11,8 @@ use Rattle.order_ints.specs.Satisfies.{Satisfies}
 use Rattle.dimacs_out.specs.declared.entry.MapEntry.{MapEntry}
 use Rattle.dimacs_out.specs.declared.text.CnfText.{CnfText}
 use Rattle.ledger_text.specs.declared.line.Line.{Line}
-use Rattle.dimacs_out.specs.CompiledText.{entry_line, ledger_line, numbers_line, clause_line, text_lines, text_of, EntriesBelow, LedgerBelow, IsWritable}
+use Rattle.ledger_text.specs.Steps.{LedgerBelow}
+use Rattle.dimacs_out.specs.CompiledText.{entry_line, ledger_line, numbers_line, clause_line, text_lines, text_of, EntriesBelow, IsWritable}
 use Rattle.dimacs_out.specs.TextSolutions.{StandsFor, assignment_of}
 use Rattle.dimacs_out.specs.TextLaws.{TextTellsAll, StandsForExactly}
 use Rattle.dimacs_out.proofs.LinesTell.{IsEntry, entry_line_line, entry_line_tells, entry_line_begins, clause_lines_tell, clause_lines_lines, numbers_line_line, numbers_line_tells}

@@ -19,9 +19,8 @@ use Rattle.order_ints.specs.declared.order_int.MapValue.{MapValue}
 use Rattle.order_ints.specs.declared.order_int.MapValue.TheVariants.{Bool, Int}
 use Rattle.order_ints.specs.Place.{AtomBelow, StepsBelow, InRange}
 use Rattle.ledger_text.specs.declared.line.Line.{Line}
-use Rattle.ledger_text.specs.declared.line.Line.TheVariants.{Equate, Split, Encode}
 use Rattle.ledger_text.specs.Words.{literal_word, atom_word}
-use Rattle.ledger_text.specs.Steps.{step_text}
+use Rattle.ledger_text.specs.Steps.{step_text, LedgerBelow}
 use Rattle.bumblebee_reader.specs.Names.{AreDeclared}
 use Rattle.dimacs_out.specs.declared.entry.MapEntry.{MapEntry}
 use Rattle.dimacs_out.specs.declared.text.CnfText.{CnfText}
@@ -79,16 +78,6 @@ ValueBelow n (Int a) = FitsSigned w128 a.base × StepsBelow n a.steps × Weights
 abbrev pub EntriesBelow : ℕ → List MapEntry → Type 0
 EntriesBelow n [] = Unit {0}
 EntriesBelow n (e ∷ entries) = ValueBelow n e.value × EntriesBelow n entries
-
--- a ledger line's id has 64 bits, and it speaks of variables below n
-abbrev pub LineBelow : ℕ → Line → Type 0
-LineBelow n (Equate id e) = (id < 2 ^ 64) × AtomBelow n e.a × AtomBelow n e.b
-LineBelow n (Split id) = id < 2 ^ 64
-LineBelow n (Encode id) = id < 2 ^ 64
-
-abbrev pub LedgerBelow : ℕ → List Line → Type 0
-LedgerBelow n [] = Unit {0}
-LedgerBelow n (l ∷ ledger) = LineBelow n l × LedgerBelow n ledger
 
 -- what has a compiled text: declared names, each once, that stand for atoms and integers over the variables from 1 to the
 -- CNF's number of them, with weights of at least 1; ledger lines and a CNF over these variables

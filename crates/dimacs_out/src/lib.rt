@@ -5,9 +5,11 @@
 mod entry;
 mod laws;
 mod text;
+mod values;
 mod write;
 
 pub use entry::MapEntry;
 pub use laws::text_laws;
 pub use text::CnfText;
+pub use values::write_values;
 pub use write::write_compiled;

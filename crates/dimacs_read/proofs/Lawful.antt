@@ -17,8 +17,8 @@ use Rattle.bumblebee_reader.specs.Names.{AreDeclared}
 use Rattle.dimacs_out.specs.declared.entry.MapEntry.{MapEntry}
 use Rattle.ledger_text.specs.declared.line.Line.{Line}
 use Rattle.ledger_text.specs.declared.line.Line.TheVariants.{Equate, Split, Encode}
-use Rattle.ledger_text.specs.Steps.{IsReadableStep}
-use Rattle.dimacs_out.specs.CompiledText.{ValueBelow, EntriesBelow, LineBelow, LedgerBelow}
+use Rattle.ledger_text.specs.Steps.{IsReadableStep, LineBelow, LedgerBelow}
+use Rattle.dimacs_out.specs.CompiledText.{ValueBelow, EntriesBelow}
 use Rattle.dimacs_read.specs.declared.values.Stage.{Stage}
 use Rattle.dimacs_read.specs.declared.values.Stage.TheVariants.{Before, Listing, Ended}
 use Rattle.dimacs_read.specs.LineByLine.{Lead}

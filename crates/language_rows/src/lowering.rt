@@ -1,5 +1,9 @@
 //! Models with what they are lowered to, worked out by hand.
 
+ghost use Rattle.std.specs.Prelude.{IfOk};
+ghost use Rattle.typed_model.specs.WellTyped.{WellTyped};
+ghost use Rattle.typed_model.specs.Limits.{InLimits};
+
 use crate::shown::show;
 use bumblebee_reader::read_model;
 use model_lower::{lower, lower_owned};
@@ -8,7 +12,10 @@ use std::test::Fail;
 use typed_model::{Model, check_types, in_limits};
 
 /// A model that is in the limits of a text.
-fn small_model(alloc: Global, text: &str) -> Result<Model, Fail> {
+fn small_model(alloc: Global, text: &str) -> Result<Model, Fail>
+    ensures typed { IfOk result WellTyped }
+    ensures limits { IfOk result InLimits }
+{
     let syntax = read_model(alloc, text.as_bytes())?;
     let model = check_types(alloc, &syntax)?;
     if !in_limits(&model) {
@@ -215,7 +222,11 @@ fn statements_have_great_cores(rt: HostRuntime) -> Result<(), Fail> {
     for (statement, vars, want) in [
         ("bool_array_xor([x,-x,true])", 3, "odd 3 -3 T"),
         ("bool_array_xor_reif([x,x,true],-x)", 3, "even 3 3 T -3"),
-        ("bool_array_sum_eq([x,-x,true],i)", 3, "count 0+1*1 of 3 -3 T"),
+        (
+            "bool_array_sum_eq([x,-x,true],i)",
+            3,
+            "count 0+1*1 of 3 -3 T",
+        ),
         (
             "bool_array_sum_geq([x,x],j)",
             5,
@@ -232,9 +243,24 @@ fn statements_have_great_cores(rt: HostRuntime) -> Result<(), Fail> {
             3,
             "sum 1 of 0+2*1 -3+1*-2",
         ),
+        (
+            "int_array_sum_leq([i,j,j],7)",
+            5,
+            "plus 0+1*1 2+1*2 2+1*4+1*5; leq T -5+1*2 -4+1*-5+1*-4",
+        ),
+        (
+            "bool_array_pb_lt([2,-3],[x,true],i)",
+            6,
+            "plus 0+2*3 -3+3*F -3+2*4+1*5+2*6; leq F -2+2*-6+1*-5+2*-4 -1+1*-1",
+        ),
+        ("int_array_sum_neq([],0)", 3, "eq F 0 0"),
         ("int_plus(i,j,3)", 3, "plus 0+1*1 2+1*2 3"),
         ("int_array_plus([i,j],3)", 3, "sum 3 of 0+1*1 2+1*2"),
-        ("int_array_allDiff([i,j,1])", 3, "differ 0+1*1 2+1*2 1 where T T T"),
+        (
+            "int_array_allDiff([i,j,1])",
+            3,
+            "differ 0+1*1 2+1*2 1 where T T T",
+        ),
         (
             "int_array_allDiffCond([i,j],[x,-x])",
             3,

@@ -4,7 +4,6 @@ use Rattle.std.specs.Prelude.{◌↔◌, slice_get, IsSomeAnd}
 use Rattle.std.proofs.lemmas.Int.{ints}
 use Rattle.order_ints.specs.declared.atom.Atom.{Atom}
 use Rattle.order_ints.specs.declared.order_int.MapValue.{MapValue}
-use Rattle.order_ints.specs.declared.order_int.MapValue.TheVariants as entry
 use Rattle.order_ints.specs.Truth.{Valuation, atom_truth}
 use Rattle.order_ints.specs.Numbers.{numbers_of}
 use Rattle.typed_model.specs.declared.model.Kind.{Kind}

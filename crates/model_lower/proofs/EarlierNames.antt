@@ -1,5 +1,5 @@
 -- A statement speaks of declarations with lesser numbers alone.
-use Rattle.std.proofs.Common.{◌≡◌, ℕ, zero, suc, ◌+◌, ◌<◌, ◌≤◌, ℤ, ◌≤ℤ◌, Some, Bool, List, [], ◌∷◌, ◌++◌, IsSomeAnd, arith}
+use Rattle.std.proofs.Common.{◌≡◌, ℕ, zero, suc, ◌+◌, ◌<◌, ◌≤◌, ℤ, ◌≤ℤ◌, Some, List, [], ◌∷◌, ◌++◌, IsSomeAnd, arith}
 use Rattle.std.specs.Prelude.{slice_get}
 use Rattle.typed_model.specs.declared.model.Decl.{Decl}
 use Rattle.typed_model.specs.declared.model.Kind.TheVariants as kind
@@ -17,7 +17,6 @@ use Rattle.typed_model.specs.Signatures.{signature}
 use Rattle.typed_model.specs.Scope.{low_of}
 use Rattle.typed_model.specs.Arguments.{Argument, Truth, Number, Truths, Numbers, Numerals, arguments_of, statement_in}
 use Rattle.typed_model.specs.WellTyped.{IsInt, TruthFits, NumberFits, TruthsFit, NumbersFit, IsAtLeast, ArgumentFits, ArgumentsFit, IsDivision, ValuesFit, WhatFits, DeclsFit}
-use Rattle.model_items.specs.Items.{Statement}
 
 -- the numbers of declarations are n or more
 abbrev pub AllFrom : ℕ → List Decl → Type 0

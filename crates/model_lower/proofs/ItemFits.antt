@@ -4,17 +4,11 @@ use Rattle.std.specs.Prelude.{slice_get, ◌==◌, nat_lt, IfSome, if◌then◌e
 use Rattle.std.proofs.lemmas.Bool.Decides.{nat_tests}
 use Rattle.std.proofs.lemmas.List.{append_assoc}
 use Rattle.typed_model.specs.declared.model.Decl.{Decl}
-use Rattle.typed_model.specs.declared.model.Kind.TheVariants as kind
 use Rattle.typed_model.specs.declared.model.Stmt.{Stmt}
-use Rattle.typed_model.specs.declared.what.BoolTerm.TheVariants as bool_term
 use Rattle.typed_model.specs.declared.what.IntTerm.TheVariants as int_term
 use Rattle.typed_model.specs.declared.what.What.{What}
 use Rattle.typed_model.specs.declared.what.What.TheVariants.{L3}
 use Rattle.typed_model.specs.Limits.{KindInLimit, StmtsInLimit, DeclsInLimit}
-use Rattle.typed_model.specs.declared.signature.Wanted.TheVariants as wanted
-use Rattle.typed_model.specs.declared.statement.Arithmetic.TheVariants as arithmetic
-use Rattle.typed_model.specs.declared.statement.Statement as statement
-use Rattle.typed_model.specs.declared.statement.Statement.TheVariants as variant
 use Rattle.typed_model.specs.WellTyped.{TruthFits, WhatFits, KindFits, StmtsFit, DeclsFit, DeclaresPlace, SharesFit}
 use Rattle.model_items.specs.Items.{ModelItem, Declaration, Statement, Definition, stmts_before, stmts_from, declared_item, behind_declared, items_of}
 use Rattle.model_lower.specs.ItemLaws.{IsDefinition}

@@ -1,5 +1,5 @@
 -- What is lowered so far stands for the declarations and statements so far; each item keeps this.
-use Rattle.std.proofs.Common.{◌≡◌, ◌↔◌, ℕ, suc, ◌+◌, ◌≤◌, ℤ, Bool, true, false, ◌&&◌, List, [], ◌∷◌, ◌++◌, length, Option, Some, None, IsTrue, refl, sym, ap, subst, ◌∙◌, arith}
+use Rattle.std.proofs.Common.{◌≡◌, ◌↔◌, suc, ◌+◌, ℤ, Bool, true, false, ◌&&◌, List, [], ◌∷◌, ◌++◌, length, IsTrue, refl, sym, ap, subst, ◌∙◌, arith}
 use Rattle.std.proofs.lemmas.Bool.{false≢true, and_parts}
 use Rattle.std.proofs.lemmas.List.{append-nil, append_assoc}
 use Rattle.order_ints.specs.Numbers.{numbers_of}
@@ -17,7 +17,7 @@ use Rattle.typed_model.proofs.AppendLaws.{WhatFits-append}
 use Rattle.typed_model.proofs.BehindLaws.{behind}
 use Rattle.model_lower.specs.declared.state.Lowered.{Lowered}
 use Rattle.model_items.specs.Items.{ModelItem, Declaration, Statement, Definition}
-use Rattle.model_lower.specs.Lowering.{with_declaration, with_statement, with_definition, lowered_item, lowered_items, nothing_lowered}
+use Rattle.model_lower.specs.Lowering.{with_declaration, with_statement, with_definition, lowered_items, nothing_lowered}
 use Rattle.model_lower.specs.Decoded.{IsDecoded}
 use Rattle.model_lower.specs.ItemLaws.{Encodes, TakesEachValue, TakesItsValue, IsDefinition}
 use Rattle.statement_lower.proofs.EntryLaws.{numbers_of-agree}

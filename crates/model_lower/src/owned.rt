@@ -76,7 +76,7 @@ fn lower_each(alloc: Global, decls: &[Decl], stmts: Vec<Stmt>) -> Result<Lowered
 }
 
 /// The cores and the map of names of a model that is used up: each statement is let go as soon as it is lowered, and the
-/// declarations are kept. It fails, and takes as long, as `lower`.
+/// declarations are kept. It refuses what `lower` refuses, and takes as long.
 pub fn lower_owned(alloc: Global, model: Model) -> Result<LoweredModel, LowerFault>
     requires typed { WellTyped model }
     requires limits { InLimits model }

@@ -9,6 +9,7 @@ use Rattle.order_ints.specs.declared.atom.Atom.{Atom}
 use Rattle.order_ints.specs.declared.order_int.OrdInt.{OrdInt}
 use Rattle.order_ints.specs.Truth.{Valuation, atom_truth, not_atom}
 use Rattle.order_ints.specs.Place.{AtomBelow}
+use Rattle.order_ints.specs.OrderRange.{IntBelow}
 use Rattle.order_ints.specs.OrderValue.{value_of, in_order, IsOrdered}
 use Rattle.order_ints.proofs.Truths.{atom_truth-not_atom, AtomBelow-not_atom}
 use Rattle.core_forms.specs.Meaning.{core_truth}
@@ -20,7 +21,6 @@ use Rattle.typed_model.specs.Integers.{relates}
 use Rattle.typed_model.specs.Holds.{same}
 use Rattle.typed_model.proofs.DomainLaws.{Decides-int_le, Decides-int_lt}
 use Rattle.statement_lower.specs.Comparison.{comparison_core}
-use Rattle.statement_lower.proofs.EntryLaws.{SmallInteger}
 use Rattle.statement_lower.proofs.BooleanLines.{beq-same}
 
 beq-not : (x y : Bool) → beq (not x) y ≡ beq x (not y)
@@ -63,13 +63,13 @@ comparison-truth σ rel r a b h k =
     to-beq σ rel r a b h k ∙ beq-same (atom_truth σ r) (relates rel (value_of σ a) (value_of σ b))
 
 -- ranges of integers that are compared
-pub comparison-below : (n : ℕ) (rel : Relation) (r : Atom) (a b : OrdInt) → AtomBelow n r → SmallInteger n a → SmallInteger n b → CoreBelow n (comparison_core rel r a b)
-comparison-below n relation.Leq r a b at h k = ((at, tt), (h.below, (k.below, tt)))
-comparison-below n relation.Geq r a b at h k = ((at, tt), (k.below, (h.below, tt)))
-comparison-below n relation.Eq r a b at h k = ((at, tt), (h.below, (k.below, tt)))
-comparison-below n relation.Lt r a b at h k = ((AtomBelow-not_atom n r at, tt), (k.below, (h.below, tt)))
-comparison-below n relation.Gt r a b at h k = ((AtomBelow-not_atom n r at, tt), (h.below, (k.below, tt)))
-comparison-below n relation.Neq r a b at h k = ((AtomBelow-not_atom n r at, tt), (h.below, (k.below, tt)))
+pub comparison-below : (n : ℕ) (rel : Relation) (r : Atom) (a b : OrdInt) → AtomBelow n r → IntBelow n a → IntBelow n b → CoreBelow n (comparison_core rel r a b)
+comparison-below n relation.Leq r a b at h k = ((at, tt), (h, (k, tt)))
+comparison-below n relation.Geq r a b at h k = ((at, tt), (k, (h, tt)))
+comparison-below n relation.Eq r a b at h k = ((at, tt), (h, (k, tt)))
+comparison-below n relation.Lt r a b at h k = ((AtomBelow-not_atom n r at, tt), (k, (h, tt)))
+comparison-below n relation.Gt r a b at h k = ((AtomBelow-not_atom n r at, tt), (h, (k, tt)))
+comparison-below n relation.Neq r a b at h k = ((AtomBelow-not_atom n r at, tt), (h, (k, tt)))
 
 pub comparison-well_formed : (rel : Relation) (r : Atom) (a b : OrdInt) → IsSound a → IsSound b → IsWellFormed (comparison_core rel r a b)
 comparison-well_formed relation.Leq r a b h k = (h, k)

@@ -14,5 +14,8 @@ pub mod WordLines
 pub mod LineLaws
 pub mod LinearLaws
 pub mod SummandSteps
+pub mod FreshSums
+pub mod Queues
 pub mod EqualSums
 pub mod MoreVariables
+pub mod QueueSteps

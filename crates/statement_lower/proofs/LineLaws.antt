@@ -7,7 +7,6 @@ use Rattle.order_ints.specs.declared.atom.Atom.{Atom}
 use Rattle.order_ints.specs.declared.atom.Atom.TheVariants.{True}
 use Rattle.order_ints.specs.declared.order_int.OrdInt.{OrdInt}
 use Rattle.order_ints.specs.declared.order_int.MapValue.{MapValue}
-use Rattle.order_ints.specs.declared.order_int.MapValue.TheVariants as entry
 use Rattle.order_ints.specs.Truth.{Valuation, Agree, atom_truth, not_atom}
 use Rattle.order_ints.specs.Place.{AtomBelow, AtomsBelow}
 use Rattle.order_ints.specs.OrderValue.{value_of, IsOrdered}
@@ -21,7 +20,6 @@ use Rattle.core_forms.specs.declared.form.Core.TheVariants as core
 use Rattle.core_forms.specs.Truths as forms
 use Rattle.core_forms.specs.Cores.{CoresBelow, AreWellFormed}
 use Rattle.typed_model.specs.declared.model.Decl.{Decl}
-use Rattle.typed_model.specs.declared.model.Kind.TheVariants as kind
 use Rattle.typed_model.specs.declared.what.BoolTerm.{BoolTerm}
 use Rattle.typed_model.specs.declared.what.IntTerm.{IntTerm}
 use Rattle.typed_model.specs.declared.what.IntTerm.TheVariants as int_term
@@ -49,7 +47,6 @@ use Rattle.statement_lower.specs.Terms.{atom_of, atoms_of, integer_of, integers_
 use Rattle.statement_lower.specs.Entries.{EntriesFit, AreOrdered}
 use Rattle.statement_lower.specs.Comparison.{comparison_core}
 use Rattle.statement_lower.specs.Lines.{bit_core, equal_core, equal_cores, array_cores, operator_made, fresh_range, compared_count, count_made, operation_made, aggregate_made, absolute_core, least_core, made_of}
-use Rattle.statement_lower.specs.IsLowered.{is_lowered}
 use Rattle.statement_lower.specs.Lowers.{Lowers, LineLaw}
 use Rattle.statement_lower.proofs.EntryLaws.{SmallInteger, AreSmallIntegers, atom_of-laws, atoms_of-truths, atoms_of-below, integer_of-small, integer_of-value, integer_of-least, small-more, integers_of-values, integers_of-small, IsOrdered-integer_of, ordered-integers_of, numbers_of-agree}
 use Rattle.statement_lower.proofs.OrderedEntries.{AreOrdered-depends}
@@ -255,7 +252,7 @@ module _ (vars n : ℕ) (ds : List Decl) (entries : List MapValue) (h : EntriesF
       let a = small i fi li in
       let b = small j fj lj in
       lowers-one vars C (comparison_core rel r (integer_of entries i) (integer_of entries j)) (λ σ. same (t σ) (relates rel (number_of (env σ) i) (number_of (env σ) j)))
-      (comparison-below (vars + 1) rel r (integer_of entries i) (integer_of entries j) at a b) (comparison-well_formed rel r (integer_of entries i) (integer_of entries j) a.sound b.sound)
+      (comparison-below (vars + 1) rel r (integer_of entries i) (integer_of entries j) at a.below b.below) (comparison-well_formed rel r (integer_of entries i) (integer_of entries j) a.sound b.sound)
       (λ σ o. rw (← e σ, ← value i fi σ, ← value j fj σ) (comparison-truth σ rel r (integer_of entries i) (integer_of entries j) (ordered i σ o) (ordered j σ o)))
 
   -- a fresh integer counts, and is compared
@@ -289,7 +286,7 @@ module _ (vars n : ℕ) (ds : List Decl) (entries : List MapValue) (h : EntriesF
       rw (d.2, value i fi σ, ← truths xs fs σ) (ap (λ n. relates rel (pos n) (number_of (env σ) i)) (same_meanings.count σ atoms)) in
       (λ p. e ∙ p, λ p. sym e ∙ p))
       (lowers-one (vars + most) D (comparison_core rel True z a) (λ σ. same true (relates rel (value_of σ z) (value_of σ a)))
-      (comparison-below (vars + most + 1) rel True z a tt fresh fits) (comparison-well_formed rel True z a fresh.sound fits.sound)
+      (comparison-below (vars + most + 1) rel True z a tt fresh.below fits.below) (comparison-well_formed rel True z a fresh.sound fits.sound)
       (λ σ d. comparison-truth σ rel True z a d.1 (ordered i σ d.0)))
 
   count-stands : (rel : Relation) (xs : List BoolTerm) (i : IntTerm) → TruthsFit ds n xs → NumberFits ds n i → TermInLimit i → length xs ≤ 16777216
@@ -317,54 +314,54 @@ module _ (vars n : ℕ) (ds : List Decl) (entries : List MapValue) (h : EntriesF
       let b : OrdInt = integer_of_atom (atom_of entries x) in
       let fb : SmallInteger (vars + 1) b = small-bit (vars + 1) (atom_of entries x) (below x f) in
       lowers-one vars C (bit_core (atom_of entries x) a) (λ σ. int_eq (number_of (env σ) i) (as_number (truth_of (env σ) x)))
-      (comparison-below (vars + 1) relation.Eq True a b tt fa fb) (comparison-well_formed relation.Eq True a b fa.sound fb.sound)
+      (comparison-below (vars + 1) relation.Eq True a b tt fa.below fb.below) (comparison-well_formed relation.Eq True a b fa.sound fb.sound)
       (λ σ o.
       rw (← integer_of-value (vars + 1) (n + 1) ds entries h σ i g, ← truth x f σ, ← bit-value (atom_truth σ (atom_of entries x)))
       (comparison-truth σ relation.Eq True a b (ordered i σ o) (bit-ordered (atom_truth σ (atom_of entries x)))))
 
   -- the test of a statement
-  stands : (w : What) → WhatFits ds n w → WhatInLimit w → is_lowered w ≡ true
+  stands : (w : What) → WhatFits ds n w → WhatInLimit w
       → Lowers vars (made_of vars entries w).vars C (made_of vars entries w).cores (λ σ. IsTrue (holds (env σ) w))
   unfolding holds
-  stands (L3 x i) fit limit low = bit-stands x i fit.arguments.0 fit.arguments.1.0 limit.0.1.0
-  stands (L4 x y) fit limit low =
+  stands (L3 x i) fit limit = bit-stands x i fit.arguments.0 fit.arguments.1.0 limit.0.1.0
+  stands (L4 x y) fit limit =
       lowers-one vars C (equal_core (atom_of entries x) (atom_of entries y)) (λ σ. same (truth_of (env σ) x) (truth_of (env σ) y))
       ((below x fit.arguments.0, (below y fit.arguments.1.0, tt)), tt) tt
       (λ σ o. rw (← truth x fit.arguments.0 σ, ← truth y fit.arguments.1.0 σ) (equal-truth σ (atom_of entries x) (atom_of entries y)))
-  stands (L5 name op x y z) fit limit low =
+  stands (L5 name op x y z) fit limit =
       let args = fit.arguments in
       operator-stands op (atom_of entries x ∷ atom_of entries y ∷ []) (atom_of entries z)
       (λ σ. truth_of (env σ) x ∷ truth_of (env σ) y ∷ []) (λ σ. truth_of (env σ) z)
       (below x args.0, (below y args.1.0, tt)) (below z args.1.1.0)
       (λ σ. truths (x ∷ y ∷ []) (args.0, (args.1.0, tt)) σ)
       (λ σ. truth z args.1.1.0 σ)
-  stands (L6 name op xs) fit limit low =
+  stands (L6 name op xs) fit limit =
       lowers-here vars C (array_cores op (atoms_of entries xs)) (λ σ. combine op (truths_of (env σ) xs))
       (array-below (vars + 1) op (atoms_of entries xs) (all-below xs fit.arguments.0)) (array-well_formed op (atoms_of entries xs))
       (λ σ o. rw (← truths xs fit.arguments.0 σ) (array-truth σ op (atoms_of entries xs)))
-  stands (L7 name op xs z) fit limit low =
+  stands (L7 name op xs z) fit limit =
       operator-stands op (atoms_of entries xs) (atom_of entries z) (λ σ. truths_of (env σ) xs) (λ σ. truth_of (env σ) z)
       (all-below xs fit.arguments.0) (below z fit.arguments.1.0) (truths xs fit.arguments.0) (truth z fit.arguments.1.0)
-  stands (L8 name rel i j) fit limit low =
+  stands (L8 name rel i j) fit limit =
       comparison-stands rel True (λ σ. true) i j tt (λ σ. refl) fit.arguments.0 fit.arguments.1.0 limit.0.0 limit.0.1.0
-  stands (L9 name rel i j z) fit limit low =
+  stands (L9 name rel i j z) fit limit =
       let args = fit.arguments in
       comparison-stands rel (atom_of entries z) (λ σ. truth_of (env σ) z) i j (below z args.1.1.0) (truth z args.1.1.0) args.0 args.1.0 limit.0.0 limit.0.1.0
-  stands (L10 name rel xs i) fit limit low =
+  stands (L10 name rel xs i) fit limit =
       count-stands rel xs i fit.arguments.0 fit.arguments.1.0 limit.0.1.0 (omega (arith, limit.1))
-  stands (L11 name rel cs xs i) fit limit low =
+  stands (L11 name rel cs xs i) fit limit =
       let args = fit.arguments in
-      truths-stand vars n ds entries h rel cs xs i low limit.0.0 args.1.0 (omega (arith, limit.1)) args.1.1.0 limit.0.1.1.0
-  stands (L12 name rel is i) fit limit low =
+      truths-stand vars n ds entries h rel cs xs i limit.0.0 args.1.0 (omega (arith, limit.1)) args.1.1.0 limit.0.1.1.0
+  stands (L12 name rel is i) fit limit =
       let args = fit.arguments in
-      sums-stand vars n ds entries h rel is i low args.0 limit.0.0 (omega (arith, limit.1)) args.1.0 limit.0.1.0
-  stands (L13 name rel cs is i) fit limit low =
+      sums-stand vars n ds entries h rel is i args.0 limit.0.0 (omega (arith, limit.1)) args.1.0 limit.0.1.0
+  stands (L13 name rel cs is i) fit limit =
       let args = fit.arguments in
-      multiples-stand vars n ds entries h rel cs is i low limit.0.0 args.1.0 limit.0.1.0 (omega (arith, limit.1)) args.1.1.0 limit.0.1.1.0
-  stands (L14 name o i j k) fit limit low =
+      multiples-stand vars n ds entries h rel cs is i limit.0.0 args.1.0 limit.0.1.0 (omega (arith, limit.1)) args.1.1.0 limit.0.1.1.0
+  stands (L14 name o i j k) fit limit =
       let args = fit.arguments in
       operation-stands o i j k args.0 args.1.0 args.1.1.0 limit.0.0 limit.0.1.0 limit.0.1.1.0 fit.values
-  stands (L15 i j) fit limit low =
+  stands (L15 i j) fit limit =
       let args = fit.arguments in
       let a = small i args.0 limit.0.0 in
       let b = small j args.1.0 limit.0.1.0 in
@@ -373,17 +370,17 @@ module _ (vars n : ℕ) (ds : List Decl) (entries : List MapValue) (h : EntriesF
       lowers-one vars C (absolute_core (integer_of entries i) (integer_of entries j)) (λ σ. int_eq (number_of (env σ) j) (pos (unsigned_abs (number_of (env σ) i))))
       (greatest-below (vars + 1) members (integer_of entries j) each b) (greatest-well_formed (vars + 1) members (integer_of entries j) each b (omega arith))
       (λ σ o. rw (← value i args.0 σ, ← value j args.1.0 σ) (absolute-truth σ (integer_of entries i) (integer_of entries j) (ordered i σ o) (ordered j σ o)))
-  stands (L16 name o is i) fit limit low =
+  stands (L16 name o is i) fit limit =
       aggregate-stands o is i fit.arguments.0 fit.arguments.1.0 limit.0.0 limit.0.1.0 (omega (arith, limit.1)) fit.values
-  stands (L17 name d is z xs) fit limit low =
+  stands (L17 name d is z xs) fit limit =
       difference-stands vars n ds entries h d is z xs fit.arguments fit.lengths limit.0.0
-  stands (L18 name o xs ys is js z) fit limit low =
+  stands (L18 name o xs ys is js z) fit limit =
       words-stand vars n ds entries h o.strict xs ys is js z o.of_booleans o.reified fit.arguments fit.lengths limit.0
 
 pub line_law : LineLaw
-line_law vars n ds entries w h fit limit low =
+line_law vars n ds entries w h fit limit =
     let decides = λ (σ : Valuation). Decides-holds (numbers.numbers_of σ entries) w in
     lowers-same vars (made_of vars entries w).vars (λ σ. AreOrdered σ entries) (made_of vars entries w).cores
     (λ σ. IsTrue (holds (numbers.numbers_of σ entries) w)) (λ σ. Holds (numbers.numbers_of σ entries) w)
     (λ σ c. ((decides σ).0, (decides σ).1))
-    (stands vars n ds entries h w fit limit low)
+    (stands vars n ds entries h w fit limit)

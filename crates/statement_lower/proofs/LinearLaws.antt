@@ -36,7 +36,7 @@ constant-value σ a e = at-steps a.base a.steps e
     at-steps base [] e = omega (arith, ints)
     at-steps base (s ∷ steps) e = absurd (cc)
 
-total-parts : (σ : Valuation) (members : List OrdInt) → forms.total (forms.values σ members) ≡ forms.total (forms.values σ (with_steps members)) +ℤ constant_of_members members
+pub total-parts : (σ : Valuation) (members : List OrdInt) → forms.total (forms.values σ members) ≡ forms.total (forms.values σ (with_steps members)) +ℤ constant_of_members members
 total-parts σ [] = refl
 total-parts σ (a ∷ members) = by_steps (has_steps a.steps) refl (total-parts σ members)
   where
@@ -45,7 +45,7 @@ total-parts σ (a ∷ members) = by_steps (has_steps a.steps) refl (total-parts 
     by_steps true is e = omega (arith, ints, e)
     by_steps false is e = let c = constant-value σ a is in omega (arith, ints, e, c)
 
-ordered-parts : (σ : Valuation) (members : List OrdInt) → forms.all_ordered σ members ≡ true → forms.all_ordered σ (with_steps members) ≡ true
+pub ordered-parts : (σ : Valuation) (members : List OrdInt) → forms.all_ordered σ members ≡ true → forms.all_ordered σ (with_steps members) ≡ true
 ordered-parts σ [] h = refl
 ordered-parts σ (a ∷ members) h =
     let p = and_parts (in_order σ a.steps) (forms.all_ordered σ members) h in
@@ -66,15 +66,19 @@ zero-sum-truth σ members h =
     only-test : (o t : Bool) → o ≡ true → (o && t) ≡ t
     only-test o t e = rw e refl
 
-ordered-last : (σ : Valuation) (ints : List OrdInt) (a : OrdInt) → forms.all_ordered σ ints ≡ true → IsOrdered σ a → forms.all_ordered σ (linear_members ints a) ≡ true
+pub ordered-last : (σ : Valuation) (ints : List OrdInt) (a : OrdInt) → forms.all_ordered σ ints ≡ true → IsOrdered σ a → forms.all_ordered σ (linear_members ints a) ≡ true
 ordered-last σ ints a h k = all_ordered-append σ ints (negated_of a ∷ []) ∙ rw (h, ordered-negated σ a k) refl
+
+-- all members, added up, are the integers less the right side
+pub total-last : (σ : Valuation) (ints : List OrdInt) (a : OrdInt) → forms.total (forms.values σ (linear_members ints a)) ≡ forms.total (forms.values σ ints) +ℤ (neg_ℤ (value_of σ a) +ℤ pos 0)
+total-last σ members a =
+    ap forms.total (values-append σ members (negated_of a ∷ []))
+    ∙ (total-append (forms.values σ members) (value_of σ (negated_of a) ∷ []) ∙ ap (λ v. forms.total (forms.values σ members) +ℤ (v +ℤ pos 0)) (value_of-negated_of σ a))
 
 -- the integers, added up, are the right side
 pub equal-sum-truth : (σ : Valuation) (ints : List OrdInt) (a : OrdInt) → forms.all_ordered σ ints ≡ true → IsOrdered σ a → core_truth σ (equal_sum ints a) ≡ int_eq (forms.total (forms.values σ ints)) (value_of σ a)
 equal-sum-truth σ members a h k =
-    let split : forms.total (forms.values σ (linear_members members a)) ≡ forms.total (forms.values σ members) +ℤ (neg_ℤ (value_of σ a) +ℤ pos 0) =
-    ap forms.total (values-append σ members (negated_of a ∷ []))
-    ∙ (total-append (forms.values σ members) (value_of σ (negated_of a) ∷ []) ∙ ap (λ v. forms.total (forms.values σ members) +ℤ (v +ℤ pos 0)) (value_of-negated_of σ a)) in
+    let split = total-last σ members a in
     zero-sum-truth σ (linear_members members a) (ordered-last σ members a h k)
     ∙ same_from_decides _ _
     (Decides-like _ (λ e. omega (arith, ints, e, split)) (λ e. omega (arith, ints, e, split)) (Decides-int_eq (forms.total (forms.values σ (linear_members members a))) (pos 0)))
@@ -169,11 +173,11 @@ pub summands-last : (members : List OrdInt) (a : OrdInt) → AreSummands members
 summands-last [] a h k = (summand-small (negated_of a) (small-negative a k), tt)
 summands-last (b ∷ members) a h k = (h.0, summands-last members a h.1 k)
 
-below-last : (n : ℕ) (members : List OrdInt) (a : OrdInt) → IntsBelow n members → IntBelow n a → IntsBelow n (linear_members members a)
+pub below-last : (n : ℕ) (members : List OrdInt) (a : OrdInt) → IntsBelow n members → IntBelow n a → IntsBelow n (linear_members members a)
 below-last n [] a h k = (StepsBelow-negated n a.steps k, tt)
 below-last n (b ∷ members) a h k = (h.0, below-last n members a h.1 k)
 
-below-steps : (n : ℕ) (members : List OrdInt) → IntsBelow n members → IntsBelow n (with_steps members)
+pub below-steps : (n : ℕ) (members : List OrdInt) → IntsBelow n members → IntsBelow n (with_steps members)
 below-steps n [] h = tt
 below-steps n (a ∷ members) h = by_steps (has_steps a.steps) (below-steps n members h.1)
   where

@@ -54,7 +54,7 @@ pub record Extends (vars m : ℕ) (C D : Valuation → Type 0) (cores : List Cor
   pub gives : (σ : Valuation) → C σ → MeetsAll σ cores → D σ
   pub extends : (σ : Valuation) → C σ → (τ : Valuation) × Agree (vars + 1) σ τ × MeetsAll τ cores
 
-agree-less : (n m : ℕ) (σ τ : Valuation) → n ≤ m → Agree m σ τ → Agree n σ τ
+pub agree-less : (n m : ℕ) (σ τ : Valuation) → n ≤ m → Agree m σ τ → Agree n σ τ
 agree-less n m σ τ le same v lt = same v (omega (arith, lt, le))
 
 agree-both : (n : ℕ) (σ τ υ : Valuation) → Agree n σ τ → Agree n τ υ → Agree n σ υ

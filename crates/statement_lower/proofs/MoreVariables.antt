@@ -1,5 +1,5 @@
 -- A statement keeps the variables so far.
-use Rattle.std.proofs.Common.{ℕ, ◌≤◌, List, [], ◌∷◌, arith}
+use Rattle.std.proofs.Common.{ℕ, zero, suc, ◌-◌, ◌≤◌, ℤ, List, [], ◌∷◌, ◌++◌, length, arith}
 use Rattle.order_ints.specs.declared.atom.Atom.{Atom}
 use Rattle.order_ints.specs.declared.order_int.OrdInt.{OrdInt}
 use Rattle.typed_model.specs.declared.what.What.TheVariants.{L3, L4, L5, L6, L7, L8, L9, L10, L11, L12, L13, L14, L15, L16, L17, L18}
@@ -16,7 +16,8 @@ use Rattle.typed_model.specs.declared.statement.AllDifferent.TheVariants as all_
 use Rattle.typed_model.specs.Holds.{terms_or_none}
 use Rattle.statement_lower.specs.Terms.{atom_of, atoms_of, integer_of, integers_of, atom_or_true}
 use Rattle.statement_lower.specs.Lines.{operator_made, count_made, operation_made, aggregate_made, different_made}
-use Rattle.statement_lower.specs.Linear.{linear_made}
+use Rattle.statement_lower.specs.Queue.{fresh_sum, vars_behind_sum, queue_made}
+use Rattle.statement_lower.specs.Linear.{with_steps, constant_of_members, linear_members, compared_sum, linear_made}
 use Rattle.statement_lower.specs.Lines.{scaled_truths, scaled_integers}
 use Rattle.statement_lower.specs.Lowers.{VariablesLaw}
 use Rattle.statement_lower.proofs.Pairs.{pairs-more}
@@ -53,13 +54,25 @@ difference-more vars all_different.Plain ints z cs = omega arith
 difference-more vars all_different.Reified ints z cs = pairs-more vars ints
 difference-more vars all_different.Conditional ints z cs = omega arith
 
+pub queue-more : (times vars : ℕ) (rel : Relation) (k : ℤ) (queue : List OrdInt) → vars ≤ (queue_made times vars rel k queue).vars
+queue-more times vars rel k [] = omega arith
+queue-more times vars rel k (a ∷ []) = omega arith
+queue-more zero vars rel k (a ∷ b ∷ rest) = omega arith
+queue-more (suc times) vars rel k (a ∷ b ∷ rest) =
+    omega (arith, queue-more times (vars_behind_sum vars a b) rel k (rest ++ fresh_sum vars a b ∷ []))
+
+compared-more : (vars : ℕ) (rel : Relation) (ints : List OrdInt) (a : OrdInt) → vars ≤ (compared_sum vars rel (linear_members ints a)).vars
+compared-more vars rel ints a =
+    let members : List OrdInt = linear_members ints a in
+    queue-more (length (with_steps members) - 2) vars rel (constant_of_members members) (with_steps members)
+
 linear-more : (vars : ℕ) (rel : Relation) (ints : List OrdInt) (a : OrdInt) → vars ≤ (linear_made vars rel ints a).vars
-linear-more vars relation.Leq ints a = omega arith
-linear-more vars relation.Geq ints a = omega arith
+linear-more vars relation.Leq ints a = compared-more vars relation.Leq ints a
+linear-more vars relation.Geq ints a = compared-more vars relation.Geq ints a
 linear-more vars relation.Eq ints a = omega arith
-linear-more vars relation.Lt ints a = omega arith
-linear-more vars relation.Gt ints a = omega arith
-linear-more vars relation.Neq ints a = omega arith
+linear-more vars relation.Lt ints a = compared-more vars relation.Lt ints a
+linear-more vars relation.Gt ints a = compared-more vars relation.Gt ints a
+linear-more vars relation.Neq ints a = compared-more vars relation.Neq ints a
 
 pub variables_law : VariablesLaw
 variables_law vars entries (L3 x i) = omega arith

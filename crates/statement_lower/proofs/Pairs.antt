@@ -7,7 +7,6 @@ use Rattle.order_ints.specs.declared.order_int.OrdInt.{OrdInt}
 use Rattle.order_ints.specs.Truth.{Valuation, Agree, atom_truth, not_atom}
 use Rattle.order_ints.specs.Place.{AtomBelow, AtomsBelow}
 use Rattle.order_ints.specs.OrderValue.{value_of, in_order, IsOrdered}
-use Rattle.order_ints.specs.Numbers as numbers
 use Rattle.order_ints.specs.Represents.{DependsBelow}
 use Rattle.order_ints.proofs.Truths.{atom_truth-agree}
 use Rattle.order_ints.proofs.Gains.{AtomBelow-more, value_of-agree}
@@ -15,7 +14,6 @@ use Rattle.core_forms.specs.declared.form.Core.{Core}
 use Rattle.core_forms.specs.declared.form.Core.TheVariants as core
 use Rattle.core_forms.specs.Truths as forms
 use Rattle.core_forms.specs.Values.{values, all_ordered}
-use Rattle.typed_model.specs.declared.statement.AllDifferent.TheVariants as all_different
 use Rattle.typed_model.specs.Lists.{differs_from, all_differ}
 use Rattle.typed_model.specs.Holds.{same}
 use Rattle.statement_lower.specs.Fresh.{fresh_atom}

@@ -28,14 +28,4 @@ impl Made {
             cores: Sequence::from_vec(cores),
         })
     }
-
-    /// No core.
-    pub fn nothing(alloc: Global, vars: u32) -> Made
-        ensures { result ≡ made_here vars [] }
-    {
-        Made {
-            vars,
-            cores: Sequence::from_vec(Vec::new(alloc)),
-        }
-    }
 }

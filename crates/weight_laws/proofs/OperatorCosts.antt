@@ -13,13 +13,10 @@ use Rattle.statement_lower.specs.Lines.{made_here, equal_core, array_cores, oper
 use Rattle.model_weight.specs.Statements.{weight_of_array, weight_of_reified_array}
 use Rattle.weight_laws.specs.Size.{size_of_made}
 
--- One core, and none.
+-- One core.
 
 pub one-core : (vars : ℕ) (core : Core) (w : ℕ) → cost_of core ≤ w → size_of_made (made_here vars (core ∷ [])) ≤ vars + w
 one-core vars core w h = omega (arith, h)
-
-pub no-core : (vars w : ℕ) → size_of_made (made_here vars []) ≤ vars + w
-no-core vars w = omega arith
 
 -- Equal neighbours.
 

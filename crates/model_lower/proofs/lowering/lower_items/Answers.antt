@@ -1,4 +1,3 @@
-use Rattle.std.proofs.Common.{◌≡◌, ◌∷◌}
 use Rattle.model_items.specs.Lent.{lent_item}
 use Rattle.model_lower.specs.Lowering.{lowered_of}
 use Rattle.model_lower.specs.Drafting.{lowered_so_far}

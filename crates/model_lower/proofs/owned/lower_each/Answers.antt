@@ -23,16 +23,16 @@ take_statement-requires-clause-room c =
     item-room (lowered_so_far c.loop-stmt.draft) all (Statement c.in-Some.stmt) (items_of c.loop-stmt.rest.now (reverse c.next_statement.new.left.items)) (items_of c.loop-stmt.rest.now (reverse c.loop-stmt.left.items))
     c.in-Some.ensures.next c.loop-stmt.invariant c.requires.room
 
-pub add_declared-requires-clause-room : goal.add_declared-requires-clause-room
-add_declared-requires-clause-room c =
+pub add_declared-requires : goal.add_declared-requires
+add_declared-requires c =
     let all = lowered_items nothing_lowered (items_of c.args.decls.now c.args.stmts.items) in
     let ss = reverse c.loop-stmt.left.items in
     let d = c.in-Some-split_first.decl.now in
     let others = c.in-Some-split_first.others.now in
-    let parts : c.loop-stmt.rest.now ≡ d ∷ others = search (rules, c.in-Some-split_first.ensures.cases, c.in-Some-split_first.is) in
+    let parts : c.loop-stmt.rest.now ≡ d ∷ others = search (rules, c.in-Some-split_first.ensures.cases) in
     let kept : c.next_statement.new.left.items ≡ c.loop-stmt.left.items = search (rules, c.in_default.ensures.next) in
     let next = declaration-next c.loop-stmt.rest.now others d ss parts c.in_default.ensures.next.1 in
-    rw kept (item-room (lowered_so_far c.loop-stmt.draft) all (declared_item d ss) (items_of others (behind_declared d ss)) (items_of c.loop-stmt.rest.now ss) next c.loop-stmt.invariant c.requires.room)
+    record { room = rw kept (item-room (lowered_so_far c.loop-stmt.draft) all (declared_item d ss) (items_of others (behind_declared d ss)) (items_of c.loop-stmt.rest.now ss) next c.loop-stmt.invariant c.requires.room) }
 
 pub loop-stmt-init : goal.loop-stmt-init
 loop-stmt-init c =
@@ -46,7 +46,7 @@ loop-stmt-preserved c =
     let ss = reverse c.loop-stmt.left.items in
     let d = c.in-Some-split_first.decl.now in
     let others = c.in-Some-split_first.others.now in
-    let parts : c.loop-stmt.rest.now ≡ d ∷ others = search (rules, c.in-Some-split_first.ensures.cases, c.in-Some-split_first.is) in
+    let parts : c.loop-stmt.rest.now ≡ d ∷ others = search (rules, c.in-Some-split_first.ensures.cases) in
     let kept : c.next_statement.new.left.items ≡ c.loop-stmt.left.items = search (rules, c.in_default.ensures.next) in
     let next = declaration-next c.loop-stmt.rest.now others d ss parts c.in_default.ensures.next.1 in
     let behind : reverse c.add_declared.new.left.items ≡ behind_declared d ss = rw kept at c.in_ok-add_declared.ensures.left in

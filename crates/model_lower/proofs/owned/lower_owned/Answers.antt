@@ -1,4 +1,4 @@
-use Rattle.std.proofs.Common.{◌≡◌, sym, subst, ◌∙◌, arith}
+use Rattle.std.proofs.Common.{◌≡◌, sym, subst, arith}
 use Rattle.std.specs.Prelude.{◌↔◌}
 use Rattle.typed_model.specs.Solutions.{IsSolution}
 use Rattle.model_lower.specs.declared.state.Lowered.{Lowered}
@@ -16,11 +16,11 @@ lower_each-requires-clause-room c =
 pub returns-clause-solutions : goal.returns-clause-solutions
 returns-clause-solutions c a =
     let model = c.args.model in
-    let same : c.in_ok-lower_each.lowered ≡ lowered_of model = rw (c.as_slice.ensures, c.into_vec.ensures) at c.in_ok-lower_each.ensures in
+    let same : c.in_ok-lowered.lowered ≡ lowered_of model = rw (c.as_slice.ensures, c.into_vec.ensures) at c.in_ok-lowered.ensures in
     subst (λ (l : Lowered). IsSolution model a ↔ IsDecoded l a) (sym same) ((lowering_law model c.requires.typed c.requires.limits c.in_ok-weigh.ensures.light).solutions a)
 
 pub returns-clause-fits : goal.returns-clause-fits
 returns-clause-fits c =
     let model = c.args.model in
-    let same : c.in_ok-lower_each.lowered ≡ lowered_of model = rw (c.as_slice.ensures, c.into_vec.ensures) at c.in_ok-lower_each.ensures in
+    let same : c.in_ok-lowered.lowered ≡ lowered_of model = rw (c.as_slice.ensures, c.into_vec.ensures) at c.in_ok-lowered.ensures in
     subst (λ (l : Lowered). Fits l model.decls) (sym same) (lowering_law model c.requires.typed c.requires.limits c.in_ok-weigh.ensures.light).fits

@@ -20,7 +20,7 @@ use Rattle.bee_cli.specs.declared.status.ModelFault.TheVariants.{TooLong}
 -- a text that is compiled is not too long, and has no fault
 compiled_or_fault : (text : List ℕ) (f : ModelFault) → HasAnswer text Done → HasFault text f → ⊥
 compiled_or_fault text f h (inl k) = absurd (let low = h.0 in let high = k.0 in omega arith)
-compiled_or_fault text f h (inr k) = no_fault text f h.1.model h.1.says h.1.built k.1
+compiled_or_fault text f h (inr k) = no_fault text f h.1.model h.1.says h.1.light k.1
 
 -- a text has one fault
 one_text_fault : (text : List ℕ) (f g : ModelFault) → HasFault text f → HasFault text g → f ≡ g
@@ -58,7 +58,7 @@ refused_came input seen fault s = came input seen (Model fault) s.text s.read (i
 
 done_answer : (text written : List ℕ) → IsHeadline text written → HasAnswer text Done
 done_answer text written h =
-    (h.within, record { model = h.compiled.model; says = h.compiled.says; built = h.compiled.built })
+    (h.within, record { model = h.compiled.model; says = h.compiled.says; light = h.compiled.light })
 
 -- where a text is told, the answer is the one that it has
 answers : (input : List ℕ) (status : Status) (seen : Seen) → Says input status seen → Promised input status seen

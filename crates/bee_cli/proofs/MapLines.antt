@@ -13,21 +13,21 @@ use Rattle.order_ints.specs.OrderRange.{weights, AreRising}
 use Rattle.typed_model.specs.declared.model.Kind.{Kind}
 use Rattle.typed_model.specs.declared.model.Kind.TheVariants as kind
 use Rattle.typed_model.specs.declared.model.Decl.{Decl}
-use Rattle.statement_lower.specs.Entries.{EntryFits, EntriesFit}
+use Rattle.bee_compile.specs.Fits.{ValueFits, ValuesFit}
 use Rattle.dimacs_out.specs.declared.entry.MapEntry.{MapEntry}
 use Rattle.dimacs_out.specs.CompiledText.{WeightsCount, ValueBelow, EntriesBelow}
 use Rattle.dimacs_out.specs.TextSolutions.{assignment_of}
 use Rattle.bee_cli.specs.Compiled.{entries_of}
 
 -- one entry for each declaration
-pub as_many : (n : ℕ) (decls : List Decl) (values : List MapValue) → EntriesFit n decls values → length decls ≡ length values
+pub as_many : (n : ℕ) (decls : List Decl) (values : List MapValue) → ValuesFit n decls values → length decls ≡ length values
 as_many n [] [] h = refl
 as_many n [] (v ∷ values) h = elim h [ ]
 as_many n (d ∷ decls) [] h = elim h [ ]
 as_many n (d ∷ decls) (v ∷ values) h = omega (arith, as_many n decls values h.1)
 
 -- the assignment that the map lines give is that of the map
-pub same_assignment : (σ : Valuation) (n : ℕ) (decls : List Decl) (values : List MapValue) → EntriesFit n decls values
+pub same_assignment : (σ : Valuation) (n : ℕ) (decls : List Decl) (values : List MapValue) → ValuesFit n decls values
     → assignment_of σ (entries_of decls values) ≡ numbers_of σ values
 same_assignment σ n [] [] h = refl
 same_assignment σ n [] (v ∷ values) h = elim h [ ]
@@ -35,7 +35,7 @@ same_assignment σ n (d ∷ decls) [] h = elim h [ ]
 same_assignment σ n (d ∷ decls) (v ∷ values) h = ap (λ l. number_of σ v ∷ l) (same_assignment σ n decls values h.1)
 
 -- the names of the map lines are the declared names
-pub same_names : (n : ℕ) (decls : List Decl) (values : List MapValue) → EntriesFit n decls values
+pub same_names : (n : ℕ) (decls : List Decl) (values : List MapValue) → ValuesFit n decls values
     → map (λ (e : MapEntry). e.name) (entries_of decls values) ≡ map (λ (d : Decl). d.name) decls
 same_names n [] [] h = refl
 same_names n [] (v ∷ values) h = elim h [ ]
@@ -53,7 +53,7 @@ small_weights base w low high = omega (arith, ints)
 small_base : (base : ℤ) → unsigned_abs base < 2 ^ 100 → FitsSigned w128 base
 small_base base low = omega (arith, ints)
 
-value_below : (n : ℕ) (k : Kind) (v : MapValue) → EntryFits n k v → ValueBelow n v
+value_below : (n : ℕ) (k : Kind) (v : MapValue) → ValueFits n k v → ValueBelow n v
 value_below n kind.Bool (Bool a) h = h
 value_below n kind.Bool (Int a) h = elim h [ ]
 value_below n (kind.Int low high) (Bool a) h = elim h [ ]
@@ -61,7 +61,7 @@ value_below n (kind.Int low high) (Int a) h =
     (small_base a.base h.sound.0.0, h.below, weights_count a.steps h.sound.1 (small_weights a.base (weights a.steps) h.sound.0.0 h.sound.0.1))
 
 -- what each name stands for can be written
-pub entries_below : (n : ℕ) (decls : List Decl) (values : List MapValue) → EntriesFit n decls values → EntriesBelow n (entries_of decls values)
+pub entries_below : (n : ℕ) (decls : List Decl) (values : List MapValue) → ValuesFit n decls values → EntriesBelow n (entries_of decls values)
 entries_below n [] [] h = tt
 entries_below n [] (v ∷ values) h = elim h [ ]
 entries_below n (d ∷ decls) [] h = elim h [ ]

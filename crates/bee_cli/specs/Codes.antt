@@ -1,10 +1,11 @@
 -- The exit code of each status.
 use Rattle.std.specs.Prelude.{ℕ}
 use Rattle.bee_cli.specs.declared.status.Status.{Status}
-use Rattle.bee_cli.specs.declared.status.Status.TheVariants.{Done, Usage, Model, Read, Write, Memory}
+use Rattle.bee_cli.specs.declared.status.Status.TheVariants.{Done, Refused, Usage, Model, Read, Write, Memory}
 
 abbrev pub code_of : Status → ℕ
 code_of Done = 0
+code_of (Refused line) = 1
 code_of Usage = 2
 code_of (Model fault) = 3
 code_of Read = 4

@@ -1,13 +1,18 @@
 -- The compiled text of the model that a text says.
-use Rattle.std.specs.Prelude.{◌≡◌, ℕ, ◌<◌, ◌^◌, List, [], ◌∷◌, length, None}
-use Rattle.order_ints.specs.declared.cnf.Cnf.{Cnf}
+use Rattle.std.specs.Prelude.{◌≡◌, ℕ, ◌≤◌, ◌<◌, ◌^◌, true, List, [], ◌∷◌, length}
 use Rattle.order_ints.specs.declared.order_int.MapValue.{MapValue}
+use Rattle.core_forms.specs.declared.equation.Equation.{Equation}
+use Rattle.core_forms.specs.declared.form.Core.{Core}
 use Rattle.typed_model.specs.declared.model.Decl.{Decl}
 use Rattle.typed_model.specs.declared.model.Model.{Model}
-use Rattle.model_lower.specs.Built.{first_unbuilt_of}
-use Rattle.bee_compile.specs.Compiled.{compiled_of}
+use Rattle.model_weight.specs.Weight.{weight_of}
+use Rattle.model_lower.specs.Weighed.{most_weight}
+use Rattle.step_kernel.specs.Instances.{is_instance_at}
+use Rattle.bee_compile.specs.declared.compiled.Compiled.{Compiled}
+use Rattle.bee_compile.specs.Compiled.{IsCompiled}
 use Rattle.dimacs_out.specs.declared.entry.MapEntry.{MapEntry}
-use Rattle.dimacs_out.specs.CompiledText.{compiled_text}
+use Rattle.dimacs_out.specs.declared.text.CnfText.{CnfText}
+use Rattle.dimacs_out.specs.CompiledText.{text_of}
 use Rattle.bee_cli.specs.ModelTexts.{IsModelOf}
 
 -- each declared name with what it stands for
@@ -16,23 +21,32 @@ entries_of [] values = []
 entries_of (d ∷ decls) [] = []
 entries_of (d ∷ decls) (v ∷ values) = record { name = d.name; value = v } ∷ entries_of decls values
 
-abbrev pub cnf_of_model : Model → Cnf
-cnf_of_model model = (compiled_of model).cnf
+-- what is written of what a model is compiled to
+abbrev pub written_of : Compiled → CnfText
+written_of c = record { entries = entries_of c.decls c.map.entries; ledger = c.ledger; cnf = c.cnf }
 
--- the compiled text of a model
-abbrev pub text_of : Model → List ℕ
-text_of model = compiled_text (entries_of model.decls (compiled_of model).map.entries) (cnf_of_model model)
+-- each instance of each rule is told
+abbrev pub IsInstance : Core → Equation → Type 0
+IsInstance core e = is_instance_at core e ≡ true
 
--- a text says a model of which every item is built
+-- the compiled text of a model: of names as the last store has them, of a ledger that leads through a whole compilation from
+-- the lowered model to a last state, and of the CNF of that
+pub record IsCompiledText (model : Model) (written : List ℕ) : Type 0 where
+  pub compiled : Compiled
+  pub is : IsCompiled IsInstance model compiled
+  pub cores : compiled.cores < 2 ^ 64
+  pub count : length compiled.cnf.clauses < 2 ^ 64
+  pub writes : written ≡ text_of (written_of compiled)
+
+-- a text says a model that is not too heavy
 pub record IsCompilable (text : List ℕ) : Type 0 where
   pub model : Model
   pub says : IsModelOf text model
-  pub built : first_unbuilt_of model ≡ None
+  pub light : weight_of model ≤ most_weight
 
 -- the compiled text of the model that a text says
 pub record Compiles (text written : List ℕ) : Type 0 where
   pub model : Model
   pub says : IsModelOf text model
-  pub built : first_unbuilt_of model ≡ None
-  pub fits : length (cnf_of_model model).clauses < 2 ^ 64
-  pub writes : written ≡ text_of model
+  pub light : weight_of model ≤ most_weight
+  pub is : IsCompiledText model written

@@ -2,11 +2,12 @@
 use Rattle.std.specs.Prelude.{ℕ}
 use Rattle.bee_outside.specs.Faults.{next_count}
 use Rattle.bee_cli.specs.declared.status.Status.{Status}
-use Rattle.bee_cli.specs.declared.status.Status.TheVariants.{Done, Usage, Model, Read, Write, Memory}
+use Rattle.bee_cli.specs.declared.status.Status.TheVariants.{Done, Refused, Usage, Model, Read, Write, Memory}
 
 -- this status comes without a byte on the sink
 abbrev pub IsSilent : Status → Type 0
 IsSilent Done = ⊥
+IsSilent (Refused line) = ⊥
 IsSilent Write = ⊥
 IsSilent Usage = Unit {0}
 IsSilent (Model fault) = Unit {0}

@@ -5,4 +5,8 @@ pub mod Promises
 pub mod ModelTexts
 pub mod Compiled
 pub mod CompileMode
+pub mod Decoded
+pub mod DecodeParts
+pub mod DecodeMode
+pub mod DecodeLaws
 pub mod Obeyed

@@ -1,5 +1,5 @@
 -- The model that a text says, and why a text says none that is compiled.
-use Rattle.std.specs.Prelude.{◌≡◌, ℕ, List, Some, None}
+use Rattle.std.specs.Prelude.{◌≡◌, ℕ, ◌<◌, List, Some, None}
 use Rattle.bumblebee_reader.specs.declared.syntax.Syntax.{Syntax}
 use Rattle.bumblebee_reader.specs.declared.fault.ReadFault.{ReadFault}
 use Rattle.bumblebee_reader.specs.declared.fault.ReadFault.TheVariants as read_fault
@@ -9,7 +9,8 @@ use Rattle.typed_model.specs.declared.model.Model.{Model}
 use Rattle.typed_model.specs.declared.fault.TypeFault.{TypeFault}
 use Rattle.typed_model.specs.declared.fault.TypeFault.TheVariants as type_fault
 use Rattle.typed_model.specs.Items.{first_fault, model_of}
-use Rattle.model_lower.specs.Built.{first_unbuilt_of}
+use Rattle.model_weight.specs.Weight.{weight_of}
+use Rattle.model_lower.specs.Weighed.{most_weight}
 use Rattle.bee_cli.specs.declared.model_text.TextFault.{TextFault}
 use Rattle.bee_cli.specs.declared.model_text.TextFault.TheVariants as text_fault
 use Rattle.bee_cli.specs.declared.status.ModelFault.{ModelFault}
@@ -23,13 +24,14 @@ pub record IsModelOf (text : List ℕ) (model : Model) : Type 0 where
   pub model_is : model ≡ model_of syntax.items
 
 -- a text within the limit has this fault first: a token that fits nowhere or a numeral that is too great, whichever
--- stands first; a fault of its items; or an item that isn't built
+-- stands first; a fault of its items; or a weight above the limit
 abbrev pub IsFirstFault : List ℕ → ModelFault → Type 0
 IsFirstFault text fault.TooLong = ⊥
 IsFirstFault text (fault.Syntax line) = IsSyntaxFault text line
 IsFirstFault text (fault.Number line) = IsNumberFault text line
 IsFirstFault text (fault.Typed f) = (s : Syntax) × IsText text s × (first_fault s.items ≡ Some f)
-IsFirstFault text (fault.Unbuilt number) = (m : Model) × IsModelOf text m × (first_unbuilt_of m ≡ Some number)
+IsFirstFault text (fault.TooHeavy weight) = (m : Model) × IsModelOf text m × (most_weight < weight_of m) × (weight ≡ weight_of m)
+IsFirstFault text (fault.Cnf line) = ⊥
 
 -- what a fault of the items makes of a text: want of memory is no fault of it
 abbrev pub text_fault_of : TypeFault → TextFault

@@ -1,10 +1,15 @@
 //! From the text of a model to its compiled text.
 
-ghost use Rattle.std.specs.Prelude.{◌≡◌, ◌<◌, ◌≤◌, ◌^◌, length, IfOk, IfErr, None};
+ghost use Rattle.std.specs.Prelude.{◌≡◌, ◌<◌, ◌≤◌, ◌^◌, length, IfOk, IfErr};
 ghost use Rattle.typed_model.specs.WellTyped.{WellTyped};
 ghost use Rattle.typed_model.specs.Limits.{InLimits};
-ghost use Rattle.model_lower.specs.Built.{first_unbuilt_of, IsFaultOf};
-ghost use Rattle.bee_cli.specs.Compiled.{text_of, cnf_of_model, Compiles};
+ghost use Rattle.model_weight.specs.Weight.{weight_of};
+ghost use Rattle.model_lower.specs.Weighed.{most_weight};
+ghost use Rattle.model_lower.specs.Faults.{IsFaultOf};
+ghost use Rattle.bee_compile.specs.Compiled.{IsCompiled};
+ghost use Rattle.bee_compile.specs.Fits.{CompiledFits};
+ghost use Rattle.dimacs_out.specs.CompiledText.{text_of};
+ghost use Rattle.bee_cli.specs.Compiled.{written_of, IsInstance, IsCompiledText, Compiles};
 ghost use Rattle.bee_cli.specs.ModelTexts.{IsCauseOf};
 ghost use Rattle.bee_cli.specs.CompileMode.{longest_text};
 
@@ -12,24 +17,68 @@ use crate::entries::entries_of;
 use crate::model_text::{TextFault, model_of};
 use crate::status::ModelFault;
 use bee_compile::{Compiled, compile};
-use dimacs_out::write_map;
+use bee_list::Sequence;
+use dimacs_out::{CnfText, write_compiled};
+use fixpoint_queue::TableP;
 use model_lower::LowerFault;
-use std::alloc::Global;
+use rule_base::Steps;
+use std::alloc::{AllocError, Global};
+use std::marker::Brand;
+use std::sync::ledger::{Blank, Ledger};
 use typed_model::Model;
 
-/// The compiled text of a model. Each statement is let go when it is compiled.
+/// What a model is compiled to, by all rules, with a counter of its own.
+fn compile_with<L: Ledger>(
+    alloc: Global,
+    blank: Blank,
+    model: Model,
+) -> Result<Compiled, LowerFault>
+    requires typed { WellTyped model }
+    requires limits { InLimits model }
+    requires name { blank.name ≡ L.name }
+    requires parts { blank.parts ≡ L.parts }
+    requires some { 0 < L.parts }
+    ensures light { IfOk result (λ c. weight_of model ≤ most_weight) }
+    ensures compiled { IfOk result (λ c. IsCompiled IsInstance model c) }
+    ensures fits { IfOk result CompiledFits }
+    ensures heavy { IfErr result (λ e. IsFaultOf e model) }
+{
+    let mut steps = Steps::<L>::open(blank);
+    compile(alloc, model, TableP, &mut steps)
+}
+
+/// The compiled text of what a model is compiled to.
+fn write_compilation(alloc: Global, compiled: Compiled) -> Result<Vec<u8>, AllocError>
+    requires { CompiledFits compiled }
+    ensures text { IfOk result (λ text. text.items ≡ text_of (written_of compiled)) }
+    ensures count { IfOk result (λ text. length compiled.cnf.clauses < 2 ^ 64) }
+{
+    let Compiled {
+        cnf,
+        decls,
+        map,
+        ledger,
+        ..
+    } = compiled;
+    let entries = entries_of(alloc, decls.into_vec(), map.entries.into_vec())?;
+    let held = CnfText {
+        entries: Sequence::from_vec(entries),
+        ledger,
+        cnf,
+    };
+    write_compiled(alloc, &held)
+}
+
+/// The compiled text of a model. Each statement is let go when it is lowered.
 fn write_model(alloc: Global, model: Model) -> Result<Vec<u8>, LowerFault>
     requires typed { WellTyped model }
     requires limits { InLimits model }
-    ensures built { IfOk result (λ text. first_unbuilt_of model ≡ None) }
-    ensures text { IfOk result (λ text. text.items ≡ text_of model) }
-    ensures fits { IfOk result (λ text. length (cnf_of_model model).clauses < 2 ^ 64) }
-    ensures unbuilt { IfErr result (λ e. IsFaultOf e (first_unbuilt_of model)) }
+    ensures light { IfOk result (λ text. weight_of model ≤ most_weight) }
+    ensures text { IfOk result (λ text. IsCompiledText model text.items) }
+    ensures heavy { IfErr result (λ e. IsFaultOf e model) }
 {
-    let Compiled { cnf, decls, map } = compile(alloc, model)?;
-    let entries = entries_of(alloc, decls.into_vec(), map.entries.into_vec())?;
-    let text = write_map(alloc, entries.as_slice(), &cnf)?;
-    Ok(text)
+    let compiled = compile_with::<Brand>(alloc, Blank::new(1), model)?;
+    Ok(write_compilation(alloc, compiled)?)
 }
 
 /// The compiled text of the model that a text says.
@@ -41,7 +90,7 @@ pub fn compile_text(alloc: Global, text: &[u8]) -> Result<Vec<u8>, TextFault>
     let model = model_of(alloc, text)?;
     match write_model(alloc, model) {
         Ok(written) => Ok(written),
-        Err(LowerFault::Unbuilt(number)) => Err(TextFault::Model(ModelFault::Unbuilt(number))),
+        Err(LowerFault::TooHeavy(weight)) => Err(TextFault::Model(ModelFault::TooHeavy(weight))),
         Err(LowerFault::Memory) => Err(TextFault::Memory),
     }
 }

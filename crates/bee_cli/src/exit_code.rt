@@ -11,6 +11,7 @@ pub fn code(status: &Status) -> u8
 {
     match status {
         Status::Done => 0,
+        Status::Refused(_) => 1,
         Status::Usage => 2,
         Status::Model(_) => 3,
         Status::Read => 4,

@@ -3,13 +3,18 @@
 
 mod compile;
 mod compile_mode;
+mod decode;
+mod decode_mode;
 mod entries;
 mod exit_code;
+mod laws;
 mod model_text;
 mod reporting;
 mod running;
 mod status;
+mod whole_text;
 
 pub use exit_code::code;
+pub use laws::decoding_law;
 pub use running::run;
 pub use status::{ModelFault, Status};

@@ -7,6 +7,7 @@ ghost use Rattle.bee_cli.specs.Seen.{seen, shelf_shown, sink_shown};
 ghost use Rattle.bee_cli.specs.Obeyed.{is_built, Obeys};
 
 use crate::compile_mode::compile;
+use crate::decode_mode::decode;
 use crate::reporting::report;
 use crate::status::Status;
 use bee_outside::{Shelf, Sink};
@@ -29,7 +30,7 @@ fn obey<S: Shelf, O: Sink>(
         Command::Compile { input } => compile(alloc, input, shelf, out),
         Command::Solve { .. } => Status::Usage,
         Command::Check { .. } => Status::Usage,
-        Command::Decode { .. } => Status::Usage,
+        Command::Decode { input, second } => decode(alloc, input, second, shelf, out),
         Command::Queens { .. } => Status::Usage,
     }
 }

@@ -10,9 +10,11 @@ use typed_model::TypeFault;
 pub enum Status {
     /// The whole text was written and flushed.
     Done,
+    /// The second text is refused: the first line that fails, counted from 1. A line on the sink says so.
+    Refused(u64),
     /// The words aren't the command's.
     Usage,
-    /// The input was read and is no model that is compiled.
+    /// The input was read and is no model that is compiled, or no compiled text.
     Model(ModelFault),
     /// The input could not be read.
     Read,
@@ -22,8 +24,8 @@ pub enum Status {
     Memory,
 }
 
-/// Why an input is no model that is compiled. The first of these that it has, in this order, is its fault;
-/// of `Syntax` and `Number` the one that stands first in the text.
+/// Why an input is no model that is compiled, or no compiled text. The first of these that it has, in this order, is
+/// its fault; of `Syntax` and `Number` the one that stands first in the text. `Cnf` is a compiled text's alone.
 #[derive(Debug, Drop, Error)]
 pub enum ModelFault {
     /// Its text has more than 16,777,216 bytes.
@@ -38,8 +40,10 @@ pub enum ModelFault {
     /// An item has a fault of names, kinds or domains; never `Memory`.
     #[error("model: {0}")]
     Typed(TypeFault),
-    /// The number of the first statement that has no cores yet, or of the first declaration with which
-    /// there are more than 16,777,216 variables.
-    #[error("model: statement {0}: not built")]
-    Unbuilt(u64),
+    /// The model's weight is this, and above 67,108,864.
+    #[error("model: weight {0}")]
+    TooHeavy(u128),
+    /// It is no compiled text; the first line that fails, counted from 1.
+    #[error("cnf: line {0}")]
+    Cnf(u64),
 }

@@ -1,4 +1,4 @@
-pub mod Encodings
+pub mod Numbers
+pub mod Fitting
+pub mod Ledgers
 pub mod Compilation
-pub mod Steps
-pub mod Merging

@@ -1,44 +1,58 @@
 -- What a model is compiled to, and which assignments that gives.
-use Rattle.std.specs.Prelude.{◌≡◌, ◌↔◌, ◌+◌, ◌≤◌, List, [], None, ℤ}
-use Rattle.order_ints.specs.declared.cnf.Cnf.{Cnf}
+use Rattle.std.specs.Prelude.{◌≡◌, ◌↔◌, ℕ, ◌+◌, ◌*◌, ◌≤◌, ◌<◌, ◌^◌, List, length, ℤ}
 use Rattle.order_ints.specs.Truth.{Valuation}
 use Rattle.order_ints.specs.Satisfies.{Satisfies}
-use Rattle.order_ints.specs.Place.{InRange}
 use Rattle.order_ints.specs.Numbers.{numbers_of}
-use Rattle.order_ints.specs.OrderedClauses.{ordered_clauses}
+use Rattle.core_forms.specs.declared.equation.Equation.{Equation}
+use Rattle.core_forms.specs.declared.form.Core.{Core}
 use Rattle.typed_model.specs.declared.model.Model.{Model}
 use Rattle.typed_model.specs.WellTyped.{WellTyped}
 use Rattle.typed_model.specs.Limits.{InLimits}
 use Rattle.typed_model.specs.Solutions.{IsSolution}
+use Rattle.model_weight.specs.Weight.{weight_of}
 use Rattle.model_lower.specs.declared.state.Lowered.{Lowered}
 use Rattle.model_lower.specs.Lowering.{lowered_of}
-use Rattle.model_lower.specs.Built.{most_vars, first_unbuilt_of}
-use Rattle.statement_lower.specs.Entries.{EntriesFit}
+use Rattle.model_lower.specs.Weighed.{most_weight}
+use Rattle.step_kernel.specs.Kernel.{Kernel, started}
+use Rattle.step_kernel.specs.CnfOf.{cnf_of}
+use Rattle.asking_bound.specs.Made.{all_made}
+use Rattle.asking_bound.specs.Questions.{occurrences_of, binary_digits}
+use Rattle.state_compile.specs.Compilation.{IsCompilation}
 use Rattle.bee_compile.specs.declared.compiled.Compiled.{Compiled}
-use Rattle.bee_compile.specs.Encoded.{encoded}
+use Rattle.bee_compile.specs.Trimmed.{trimmed_values}
+use Rattle.bee_compile.specs.Fits.{CompiledFits}
 
--- the clauses of all cores, put in order
-abbrev pub cnf_of : Lowered → Cnf
-cnf_of l = record { vars = l.vars; clauses = ordered_clauses [] (encoded l.cores) }
+-- the state with which the compilation of a lowered model begins
+abbrev pub start_of : Lowered → Kernel
+start_of l = started l.vars l.cores
 
--- what a model is compiled to
-abbrev pub compiled_of : Model → Compiled
-compiled_of model = record { cnf = cnf_of (lowered_of model); decls = model.decls; map = (lowered_of model).map }
+-- The ledger leads through a whole compilation from the lowered model to a last state. The cores that were made are those of
+-- this state, which keeps the places of all ids; the clauses are its CNF; and each name stands for what it has in the lowered
+-- model, as the last store has it.
+pub record IsCompiled (told : Core → Equation → Type 0) (model : Model) (c : Compiled) : Type 0 where
+  pub last : Kernel
+  pub compilation : IsCompilation told (start_of (lowered_of model)) c.ledger last
+  pub cores : c.cores ≡ length last.cores
+  pub cnf : c.cnf ≡ cnf_of last
+  pub decls : c.decls ≡ model.decls
+  pub map : c.map.entries ≡ trimmed_values last.view (lowered_of model).map.entries
+
+-- The most questions that a compilation may ask: one for each core that is made, and one for each new label that one of its
+-- variables can get, which are as many at most as the number of variables has binary digits.
+abbrev pub questions_of : Model → Compiled → ℕ
+questions_of model c =
+    let made = all_made (start_of (lowered_of model)) c.ledger in
+    length made + occurrences_of made * binary_digits c.cnf.vars
 
 -- an assignment is what the declared names have under a valuation that satisfies the clauses
 abbrev pub IsGiven : Compiled → List ℤ → Type 0
 IsGiven c a = (σ : Valuation) × Satisfies σ c.cnf × (a ≡ numbers_of σ c.map.entries)
 
--- there are not too many variables, the clauses are over them, and so is what each name stands for
-pub record CompiledFits (c : Compiled) : Type 0 where
-  pub vars : c.cnf.vars ≤ most_vars
-  pub clauses : InRange c.cnf
-  pub entries : EntriesFit (c.cnf.vars + 1) c.decls c.map.entries
+-- what a model is compiled to gives its solutions, and is within the limits
+pub record IsCompiledWell (model : Model) (c : Compiled) : Type 0 where
+  pub solutions : (a : List ℤ) → IsSolution model a ↔ IsGiven c a
+  pub fits : CompiledFits c
 
--- a model that is well typed, in the limits, and built throughout: its solutions are the assignments that are given
-pub record IsCompiledWell (model : Model) : Type 0 where
-  pub solutions : (a : List ℤ) → IsSolution model a ↔ IsGiven (compiled_of model) a
-  pub fits : CompiledFits (compiled_of model)
-
-abbrev pub CompilationLaw : Type 0
-CompilationLaw = (model : Model) → WellTyped model → InLimits model → first_unbuilt_of model ≡ None → IsCompiledWell model
+-- so is what a model is compiled to that is well typed, in the limits and not too heavy
+abbrev pub CompilationLaw : (Core → Equation → Type 0) → Type 0
+CompilationLaw told = (model : Model) (c : Compiled) → WellTyped model → InLimits model → weight_of model ≤ most_weight → c.cores < 2 ^ 64 → IsCompiled told model c → IsCompiledWell model c

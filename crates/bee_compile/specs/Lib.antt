@@ -1,3 +1,3 @@
-pub mod Encoded
+pub mod Trimmed
+pub mod Fits
 pub mod Compiled
-pub mod Progressed

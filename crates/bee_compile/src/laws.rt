@@ -2,7 +2,9 @@
 
 ghost use Rattle.bee_compile.specs.Compiled.{CompilationLaw};
 
+use fixpoint_queue::Oracle;
+
 /// The assignments that the satisfying valuations of a model's clauses give are its solutions.
-pub fn compilation_law()
-    ensures { CompilationLaw }
+pub fn compilation_law<F: Oracle>()
+    ensures { CompilationLaw F.told }
 {}

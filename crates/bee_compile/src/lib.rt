@@ -1,15 +1,14 @@
-//! The compilation: from a typed model to a CNF and a map of names, of which the satisfying assignments
+//! The compilation: from a typed model to a CNF, a map of names and a ledger. The satisfying assignments of the CNF, read by the map,
 //! are the model's solutions.
 //!
-//! Item by item, the model is lowered to cores; each core is trimmed by the view in which each variable is
-//! its own label, gives its clauses, and is let go; the clauses of all cores are put in order.
+//! The model is lowered to cores; the cores are compiled by `state_compile`; and what the names stand for is
+//! trimmed by the last store.
 #![tactic(auto)]
 
 mod compiled;
 mod compiling;
-mod encoding;
 pub mod laws;
-mod progress;
+mod trimming;
 
 pub use compiled::Compiled;
 pub use compiling::compile;

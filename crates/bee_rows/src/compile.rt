@@ -1,15 +1,47 @@
 //! Compile mode.
 
-use crate::outside::{AMPLE, Outside, run_over};
+use crate::outside::{AMPLE, Outside, Shown, compile_over, run_over};
 use std::alloc::{AllocError, Global};
 use std::test::Fail;
-
-const COMPILE: [&str; 3] = ["bee", "compile", "m.bee"];
 
 /// One declared Boolean, and its compiled text.
 const ONE: &str = "new_bool(x)\nsolve satisfy\n";
 
 const ONE_COMPILED: &str = "c bee 1\nc bool x 1\np cnf 1 0\n";
+
+/// Two integers with a sum, and its compiled text.
+const SUM: &str = "new_int(x,0,3)\nnew_int(y,0,3)\nint_plus(x,y,3)\nsolve satisfy\n";
+
+const SUM_COMPILED: &str = "c bee 1
+c int x 0 1:1 2:1 3:1
+c int y 0 -3:1 -2:1 -1:1
+c led eq 3 form 1 -6
+c led eq 3 form 2 -5
+c led eq 3 form 3 -4
+c led enc 1
+c led enc 2
+c led enc 3
+p cnf 6 2
+1 -2 0
+2 -3 0
+";
+
+/// Models that are too heavy, and their weights.
+static TOO_HEAVY: [(&str, u128); 4] = [
+    // 2,000,000,000 variables, and twice one less for their order.
+    (
+        "new_int(x,-1000000000,1000000000)\nsolve satisfy\n",
+        5_999_999_998,
+    ),
+    // The least weight that is too heavy, and the least one of a single integer.
+    ("new_bool(b)new_int(x,0,22369622)solve satisfy", 67_108_865),
+    ("new_int(x,0,22369623)solve satisfy", 67_108_867),
+    // Ten for each two values, which 64 bits don't hold, and the order of the integer three times more.
+    (
+        "new_int(x,-1000000000,1000000000)int_times(x,x,x)solve satisfy",
+        40_000_000_058_000_000_002,
+    ),
+];
 
 fn bytes(alloc: Global, text: &str) -> Result<Vec<u8>, AllocError> {
     Vec::from_slice(alloc, text.as_bytes())
@@ -23,113 +55,8 @@ fn padded(alloc: Global, length: usize) -> Result<Vec<u8>, AllocError> {
     Ok(text)
 }
 
-#[test]
-fn texts_are_compiled(rt: HostRuntime) -> Result<(), Fail> {
-    let alloc = rt.alloc();
-    for (text, compiled) in [
-        (ONE, ONE_COMPILED),
-        ("solve satisfy", "c bee 1\np cnf 0 0\n"),
-        (
-            "new_bool(a)\nnew_bool(b)\nbool_array_or([a,-b,a])\nsolve satisfy\n",
-            "c bee 1\nc bool a 1\nc bool b 2\np cnf 2 1\n1 -2 0\n",
-        ),
-        (
-            "bool_array_or([])\nsolve satisfy\n",
-            "c bee 1\np cnf 0 1\n0\n",
-        ),
-        (
-            "bool_array_or([false])\nsolve satisfy\n",
-            "c bee 1\np cnf 0 1\n0\n",
-        ),
-        (
-            "bool_array_or([true])\nsolve satisfy\n",
-            "c bee 1\np cnf 0 0\n",
-        ),
-        (
-            "new_bool ( a )\tnew_bool(_b2)\r\nbool_array_or([_b2, - a])solve\nsatisfy",
-            "c bee 1\nc bool a 1\nc bool _b2 2\np cnf 2 1\n-1 2 0\n",
-        ),
-        (
-            "new_bool(a)bool_array_or([a,-a])bool_array_or([-a,-a])solve satisfy",
-            "c bee 1\nc bool a 1\np cnf 1 1\n-1 0\n",
-        ),
-        (
-            "new_bool(a)new_bool(b)bool_array_or([a,b])bool_array_or([b,a])bool_array_or([a,b])solve satisfy",
-            "c bee 1\nc bool a 1\nc bool b 2\np cnf 2 1\n1 2 0\n",
-        ),
-        (
-            "new_bool(a)\nbool_array_or([])\nbool_array_or([a])\nsolve satisfy\n",
-            "c bee 1\nc bool a 1\np cnf 1 2\n0\n1 0\n",
-        ),
-    ] {
-        let run = run_over(alloc, COMPILE.as_slice(), bytes(alloc, text)?, AMPLE)?;
-        assert_eq!(rt; run.status.0, "done", "{text}");
-        assert_eq!(rt; run.out.taken(), compiled.as_bytes(), "{text}");
-        assert_eq!(rt; run.err.taken(), b"".as_slice(), "{text}");
-    }
-    Ok(())
-}
-
-#[test]
-fn integers_are_compiled(rt: HostRuntime) -> Result<(), Fail> {
-    let alloc = rt.alloc();
-    for (text, compiled) in [
-        // 0, 2
-        (
-            "new_int(x,0,2)\nint_neq(x,1)\nsolve satisfy\n",
-            "c bee 1\nc int x 0 1:1 2:1\np cnf 2 2\n1 -2 0\n-1 2 0\n",
-        ),
-        // 0 0, 0 1, 1 1
-        (
-            "new_int(x,0,1)\nnew_int(y,0,1)\nint_leq(x,y)\nsolve satisfy\n",
-            "c bee 1\nc int x 0 1:1\nc int y 0 2:1\np cnf 2 1\n-1 2 0\n",
-        ),
-        // Of two numerals: none, and the one empty assignment.
-        ("int_leq(1,0)\nsolve satisfy\n", "c bee 1\np cnf 0 1\n0\n"),
-        ("int_leq(-1,0)\nsolve satisfy\n", "c bee 1\np cnf 0 0\n"),
-        // -1, for -2 is other than x, and x is at most -1
-        (
-            "new_int(x,-2,0)int_neq(-2,x)int_leq(x,-1)solve satisfy",
-            "c bee 1\nc int x -2 1:1 2:1\np cnf 2 3\n1 -2 0\n1 0\n-2 0\n",
-        ),
-        // A domain of one value.
-        (
-            "new_int(x,7,7)int_leq(x,7)solve satisfy",
-            "c bee 1\nc int x 7\np cnf 0 0\n",
-        ),
-        (
-            "new_int(x,7,7)int_neq(x,7)solve satisfy",
-            "c bee 1\nc int x 7\np cnf 0 1\n0\n",
-        ),
-        // Other than itself: none.
-        (
-            "new_int(x,3,4)int_neq(x,x)solve satisfy",
-            "c bee 1\nc int x 3 1:1\np cnf 1 2\n1 0\n-1 0\n",
-        ),
-        // Numerals outside of the domain: each value, and none.
-        (
-            "new_int(x,0,1)int_neq(x,5)int_leq(x,9)solve satisfy",
-            "c bee 1\nc int x 0 1:1\np cnf 1 0\n",
-        ),
-        (
-            "new_int(x,0,1)int_leq(5,x)solve satisfy",
-            "c bee 1\nc int x 0 1:1\np cnf 1 1\n0\n",
-        ),
-        // A Boolean declared behind an integer and a statement.
-        (
-            "new_int(x,1,2)int_neq(x,1)new_bool(b)bool_array_or([-b])solve maximize x",
-            "c bee 1\nc int x 1 1:1\nc bool b 2\np cnf 2 2\n1 0\n-2 0\n",
-        ),
-    ] {
-        let run = run_over(alloc, COMPILE.as_slice(), bytes(alloc, text)?, AMPLE)?;
-        assert_eq!(rt; run.status.0, "done", "{text}");
-        assert_eq!(rt; run.out.taken(), compiled.as_bytes(), "{text}");
-    }
-    Ok(())
-}
-
 /// The line on `err` for a fault of a text.
-fn told(alloc: Global, word: &'static str, number: u64) -> Result<String, AllocError> {
+fn told(alloc: Global, word: &'static str, number: u128) -> Result<String, AllocError> {
     if word == "syntax" || word == "number" {
         format!(in alloc; "bee: model: line {number}: {word}\n")
     } else {
@@ -182,8 +109,9 @@ fn other_texts_are_refused(rt: HostRuntime) -> Result<(), Fail> {
             4,
         ),
     ] {
-        let run = run_over(alloc, COMPILE.as_slice(), bytes(alloc, text)?, AMPLE)?;
+        let run = compile_over(alloc, text, AMPLE)?;
         assert_eq!(rt; run.status, (word, number), "{text}");
+        assert_eq!(rt; run.code, 3, "{text}");
         assert_eq!(rt; run.out.taken(), b"".as_slice(), "{text}");
         let told = told(alloc, word, number)?;
         assert_eq!(rt; run.err.taken(), told.as_bytes(), "{text}");
@@ -192,31 +120,14 @@ fn other_texts_are_refused(rt: HostRuntime) -> Result<(), Fail> {
 }
 
 #[test]
-fn statements_that_are_not_built_are_refused(rt: HostRuntime) -> Result<(), Fail> {
+fn models_that_are_too_heavy_are_refused(rt: HostRuntime) -> Result<(), Fail> {
     let alloc = rt.alloc();
-    for (text, item) in [
-        (
-            "new_bool(x)\nnew_bool(y)\nbool_array_xor([x,y])\nsolve satisfy\n",
-            3,
-        ),
-        (
-            "new_int(x,0,3)int_lt(x,2)int_plus(x,x,2)int_eq(x,1)solve satisfy",
-            3,
-        ),
-        ("new_bool(x)bool2int(x,i)int_plus(i,i,0)solve maximize i", 3),
-        ("new_int(x,-1000000000,1000000000)solve satisfy", 1),
-        (
-            "new_bool(x)new_int(y,0,16777216)bool_eq(x,x)solve satisfy",
-            2,
-        ),
-        (
-            "bool_array_xor([true])new_int(y,0,16777217)solve satisfy",
-            1,
-        ),
-    ] {
-        let run = run_over(alloc, COMPILE.as_slice(), bytes(alloc, text)?, AMPLE)?;
-        assert_eq!(rt; run.status, ("not built", item), "{text}");
-        let told = format!(in alloc; "bee: model: statement {item}: not built\n")?;
+    for (text, weight) in &TOO_HEAVY {
+        let run = compile_over(alloc, text, AMPLE)?;
+        assert_eq!(rt; run.status, ("weight", *weight), "{text}");
+        assert_eq!(rt; run.code, 3, "{text}");
+        assert_eq!(rt; run.out.taken(), b"".as_slice(), "{text}");
+        let told = format!(in alloc; "bee: model: weight {weight}\n")?;
         assert_eq!(rt; run.err.taken(), told.as_bytes(), "{text}");
     }
     Ok(())
@@ -231,7 +142,6 @@ fn other_words_are_refused(rt: HostRuntime) -> Result<(), Fail> {
     let check = ["bee", "check", "m.bee"];
     let queens = ["bee", "queens", "3"];
     let checked = ["bee", "check", "m.bee", "m.bee"];
-    let decoded = ["bee", "decode", "m.bee", "m.bee"];
     let board = ["bee", "queens", "8"];
     let budget = ["bee", "solve", "m.bee", "--budget", "0"];
     let nothing = ["bee", "compile", "m.bee", "--budget", "0"];
@@ -243,7 +153,6 @@ fn other_words_are_refused(rt: HostRuntime) -> Result<(), Fail> {
         check.as_slice(),
         queens.as_slice(),
         checked.as_slice(),
-        decoded.as_slice(),
         board.as_slice(),
         budget.as_slice(),
         nothing.as_slice(),
@@ -251,6 +160,7 @@ fn other_words_are_refused(rt: HostRuntime) -> Result<(), Fail> {
     ] {
         let run = run_over(alloc, words, bytes(alloc, ONE)?, AMPLE)?;
         assert_eq!(rt; run.status.0, "usage");
+        assert_eq!(rt; run.code, 2);
         assert_eq!(rt; run.out.taken(), b"".as_slice());
         assert_eq!(rt;
             run.err.taken(),
@@ -260,6 +170,8 @@ fn other_words_are_refused(rt: HostRuntime) -> Result<(), Fail> {
     let absent = ["bee", "compile", "absent"];
     let run = run_over(alloc, absent.as_slice(), bytes(alloc, ONE)?, AMPLE)?;
     assert_eq!(rt; run.status.0, "read");
+    assert_eq!(rt; run.code, 4);
+    assert_eq!(rt; run.out.taken(), b"".as_slice());
     assert_eq!(rt; run.err.taken(), b"bee: read fault\n".as_slice());
     Ok(())
 }
@@ -274,13 +186,27 @@ fn options_mean_nothing_to_compile(rt: HostRuntime) -> Result<(), Fail> {
     Ok(())
 }
 
+/// Compiles a text of this length.
+fn compile_padded(alloc: Global, length: usize) -> Result<Shown, AllocError> {
+    let words = ["bee", "compile", "m.bee"];
+    run_over(alloc, words.as_slice(), padded(alloc, length)?, AMPLE)
+}
+
 #[test]
-fn texts_end_at_their_limit(rt: HostRuntime) -> Result<(), Fail> {
-    let alloc = rt.alloc();
-    for (length, word) in [(16_777_216, "done"), (16_777_217, "too long")] {
-        let run = run_over(alloc, COMPILE.as_slice(), padded(alloc, length)?, AMPLE)?;
-        assert_eq!(rt; run.status.0, word, "{length} bytes");
-    }
+fn longest_text_is_compiled(rt: HostRuntime) -> Result<(), Fail> {
+    let run = compile_padded(rt.alloc(), 16_777_216)?;
+    assert_eq!(rt; run.status, ("done", 0));
+    assert_eq!(rt; run.out.taken(), b"c bee 1\np cnf 0 0\n".as_slice());
+    Ok(())
+}
+
+#[test]
+fn longer_text_is_refused(rt: HostRuntime) -> Result<(), Fail> {
+    let run = compile_padded(rt.alloc(), 16_777_217)?;
+    assert_eq!(rt; run.status, ("too long", 0));
+    assert_eq!(rt; run.code, 3);
+    assert_eq!(rt; run.out.taken(), b"".as_slice());
+    assert_eq!(rt; run.err.taken(), b"bee: model: too long\n".as_slice());
     Ok(())
 }
 
@@ -295,7 +221,7 @@ fn faults_at_each_call(rt: HostRuntime) -> Result<(), Fail> {
             shelf_failing: &[number],
             ..AMPLE
         };
-        let run = run_over(alloc, COMPILE.as_slice(), bytes(alloc, ONE)?, outside)?;
+        let run = compile_over(alloc, ONE, outside)?;
         let word = if number <= 8 { "read" } else { "done" };
         assert_eq!(rt; run.status.0, word, "failing call {number} of the shelf");
         let wanted: &[u8] = if number <= 8 { b"" } else { whole };
@@ -312,7 +238,7 @@ fn faults_at_each_call(rt: HostRuntime) -> Result<(), Fail> {
             sink_failing: &[number],
             ..AMPLE
         };
-        let run = run_over(alloc, COMPILE.as_slice(), bytes(alloc, ONE)?, outside)?;
+        let run = compile_over(alloc, ONE, outside)?;
         let word = if number <= 5 { "write" } else { "done" };
         assert_eq!(rt; run.status.0, word, "failing call {number} of the sink");
         let taken = run.out.taken();
@@ -324,15 +250,43 @@ fn faults_at_each_call(rt: HostRuntime) -> Result<(), Fail> {
     }
     // A sink that is full, and one for errors that always fails.
     let full = Outside { room: 20, ..AMPLE };
-    let run = run_over(alloc, COMPILE.as_slice(), bytes(alloc, ONE)?, full)?;
+    let run = compile_over(alloc, ONE, full)?;
     assert_eq!(rt; run.status.0, "write");
     assert_eq!(rt; run.err.taken(), b"bee: write fault\n".as_slice());
     let mute = Outside {
         err_failing: &[1, 2, 3],
         ..AMPLE
     };
-    let run = run_over(alloc, COMPILE.as_slice(), bytes(alloc, "solve")?, mute)?;
+    let run = compile_over(alloc, "solve", mute)?;
     assert_eq!(rt; run.status, ("syntax", 1));
     assert_eq!(rt; run.err.taken(), b"".as_slice());
+    Ok(())
+}
+
+#[test]
+fn faults_at_the_second_part(rt: HostRuntime) -> Result<(), Fail> {
+    let alloc = rt.alloc();
+    let outside = Outside {
+        step: 8,
+        shelf_failing: &[2],
+        ..AMPLE
+    };
+    let run = compile_over(alloc, SUM, outside)?;
+    assert_eq!(rt; run.status, ("read", 0));
+    assert_eq!(rt; run.code, 4);
+    assert_eq!(rt; run.out.taken(), b"".as_slice());
+    let outside = Outside {
+        step: 40,
+        sink_failing: &[2],
+        ..AMPLE
+    };
+    let run = compile_over(alloc, SUM, outside)?;
+    assert_eq!(rt; run.status, ("write", 0));
+    assert_eq!(rt; run.code, 5);
+    assert_eq!(rt; run.out.taken().len(), 40);
+    assert!(rt; SUM_COMPILED.as_bytes().starts_with(run.out.taken()));
+    let run = compile_over(alloc, SUM, AMPLE)?;
+    assert_eq!(rt; run.status, ("done", 0));
+    assert_eq!(rt; run.out.taken(), SUM_COMPILED.as_bytes());
     Ok(())
 }

@@ -1,7 +1,8 @@
 //! The models of `examples/`, with their numbers of variables and clauses, counted by hand from the tables of
-//! declarations and clauses in `docs/CORES.md`.
+//! declarations, equations and clauses in `docs/CORES.md`; and a count so long that the sum of its halves is split.
 
-use crate::outside::{AMPLE, run_over};
+use crate::outside::{AMPLE, compile_over};
+use std::alloc::{AllocError, Global};
 use std::test::Fail;
 
 static GRAPH_COLOURING: &str =
@@ -288,17 +289,43 @@ fn has_line(text: &[u8], line: &str) -> bool {
 #[test]
 fn examples_are_compiled(rt: HostRuntime) -> Result<(), Fail> {
     let alloc = rt.alloc();
-    let words = ["bee", "compile", "m.bee"];
     for (text, line) in [
-        (GRAPH_COLOURING, "\np cnf 20 57\n"),
-        (SCHEDULE, "\np cnf 25 90\n"),
+        (GRAPH_COLOURING, "\np cnf 20 36\n"),
+        (SCHEDULE, "\np cnf 25 54\n"),
         (PIGEONHOLE, "\np cnf 20 45\n"),
-        (SEATING, "\np cnf 16 64\n"),
+        (SEATING, "\np cnf 16 51\n"),
         (MAP_COLOURING, "\np cnf 21 55\n"),
     ] {
-        let model = Vec::from_slice(alloc, text.as_bytes())?;
-        let run = run_over(alloc, words.as_slice(), model, AMPLE)?;
-        assert_eq!(rt; run.status.0, "done", "{line}");
+        let run = compile_over(alloc, text, AMPLE)?;
+        assert_eq!(rt; run.status, ("done", 0), "{line}");
+        assert!(rt; has_line(run.out.taken(), line), "{line}");
+    }
+    Ok(())
+}
+
+/// Forty Booleans, of which twenty are true.
+fn half_of_forty(alloc: Global) -> Result<String, AllocError> {
+    let mut text = String::new(alloc);
+    let mut names = String::new(alloc);
+    for i in 1..41u64 {
+        text = format!(in alloc; "{text}new_bool(x{i})\n")?;
+        names = format!(in alloc; "{names},x{i}")?;
+    }
+    let members = names.trim_start_matches(',');
+    format!(in alloc; "{text}bool_array_sum_eq([{members}],20)\nsolve satisfy\n")
+}
+
+/// The count becomes the counts of two halves and their sum, which is core 4; its network is cheaper than its clauses.
+#[test]
+fn a_long_count_is_split(rt: HostRuntime) -> Result<(), Fail> {
+    let alloc = rt.alloc();
+    let text = half_of_forty(alloc)?;
+    let run = compile_over(alloc, text.as_str(), AMPLE)?;
+    assert_eq!(rt; run.status, ("done", 0));
+    for line in [
+        "\nc led split 1\n",
+        "\nc led split 2\nc led split 3\nc led split 4\n",
+    ] {
         assert!(rt; has_line(run.out.taken(), line), "{line}");
     }
     Ok(())

@@ -1,14 +1,26 @@
-//! Tests of the program's one call, over a shelf and sinks in memory, of the words, and of shelves and
-//! sinks.
+//! Tests of the program's one call, over a shelf and sinks in memory, of the solutions that compiled texts stand for, of the
+//! words, and of shelves and sinks.
 #![tactic(auto)]
 
 #[cfg(test)]
+mod boolean_models;
+#[cfg(test)]
 mod compile;
 #[cfg(test)]
+mod decode;
+#[cfg(test)]
 mod examples;
+#[cfg(test)]
+mod integer_models;
+#[cfg(test)]
+mod list_models;
 #[cfg(test)]
 mod outside;
 #[cfg(test)]
 mod shelves;
+#[cfg(test)]
+mod solution_sets;
+#[cfg(test)]
+mod texts;
 #[cfg(test)]
 mod words;

@@ -2,7 +2,7 @@
 
 ghost use Rattle.std.specs.Prelude.{◌≤◌};
 
-use bee_cli::{ModelFault, Status, run};
+use bee_cli::{ModelFault, Status, code, run};
 use bee_outside::{MemShelf, MemSink};
 use std::alloc::{AllocError, Global};
 use typed_model::TypeFault;
@@ -34,38 +34,42 @@ pub const AMPLE: Outside<'static> = Outside {
 /// What a run showed.
 #[derive(Drop)]
 pub struct Shown {
-    /// The status in one word, and its number where it has one.
-    pub status: (&'static str, u64),
+    /// The status in words, and its number where it has one.
+    pub status: (&'static str, u128),
+    /// The exit code of the status.
+    pub code: u8,
     /// The bytes that the sink took.
     pub out: MemSink,
     /// The bytes that the sink for errors took.
     pub err: MemSink,
 }
 
-/// A fault of an item in one word, and the item's number.
-fn fault_described(fault: &TypeFault) -> (&'static str, u64) {
+/// A fault of an item in words, and the item's number.
+fn fault_described(fault: &TypeFault) -> (&'static str, u128) {
     match fault {
-        TypeFault::NoGoal(item) => ("goal", *item),
-        TypeFault::Unknown(item) => ("unknown", *item),
-        TypeFault::Undeclared(item) => ("undeclared", *item),
-        TypeFault::Kind(item) => ("kind", *item),
-        TypeFault::Twice(item) => ("twice", *item),
-        TypeFault::Lengths(item) => ("lengths", *item),
-        TypeFault::EmptyDomain(item) => ("empty domain", *item),
-        TypeFault::DivDomain(item) => ("division domain", *item),
+        TypeFault::NoGoal(item) => ("goal", u128::from(*item)),
+        TypeFault::Unknown(item) => ("unknown", u128::from(*item)),
+        TypeFault::Undeclared(item) => ("undeclared", u128::from(*item)),
+        TypeFault::Kind(item) => ("kind", u128::from(*item)),
+        TypeFault::Twice(item) => ("twice", u128::from(*item)),
+        TypeFault::Lengths(item) => ("lengths", u128::from(*item)),
+        TypeFault::EmptyDomain(item) => ("empty domain", u128::from(*item)),
+        TypeFault::DivDomain(item) => ("division domain", u128::from(*item)),
         TypeFault::Memory => ("memory", 0),
     }
 }
 
-fn described(status: &Status) -> (&'static str, u64) {
+fn described(status: &Status) -> (&'static str, u128) {
     match status {
         Status::Done => ("done", 0),
+        Status::Refused(line) => ("refused", u128::from(*line)),
         Status::Usage => ("usage", 0),
         Status::Model(ModelFault::TooLong) => ("too long", 0),
-        Status::Model(ModelFault::Syntax(line)) => ("syntax", *line),
-        Status::Model(ModelFault::Number(line)) => ("number", *line),
+        Status::Model(ModelFault::Syntax(line)) => ("syntax", u128::from(*line)),
+        Status::Model(ModelFault::Number(line)) => ("number", u128::from(*line)),
         Status::Model(ModelFault::Typed(fault)) => fault_described(fault),
-        Status::Model(ModelFault::Unbuilt(item)) => ("not built", *item),
+        Status::Model(ModelFault::TooHeavy(weight)) => ("weight", *weight),
+        Status::Model(ModelFault::Cnf(line)) => ("cnf", u128::from(*line)),
         Status::Read => ("read", 0),
         Status::Write => ("write", 0),
         Status::Memory => ("memory", 0),
@@ -81,17 +85,42 @@ pub fn run_over(
 ) -> Result<Shown, AllocError>
     requires { 1 ≤ outside.step }
 {
+    let files = vec![in alloc; (String::from_str(alloc, "m.bee")?, model)]?;
+    run_files(alloc, words, files, outside)
+}
+
+/// Runs the words over a shelf on which texts stand under their names.
+pub fn run_files(
+    alloc: Global,
+    words: &[&str],
+    files: Vec<(String, Vec<u8>)>,
+    outside: Outside<'_>,
+) -> Result<Shown, AllocError>
+    requires { 1 ≤ outside.step }
+{
     let mut all = Vec::new(alloc);
     for word in words {
         all.push(String::from_str(alloc, word)?)?;
     }
-    let files = vec![in alloc; (String::from_str(alloc, "m.bee")?, model)]?;
     let shelf_failing = Vec::from_slice(alloc, outside.shelf_failing)?;
     let sink_failing = Vec::from_slice(alloc, outside.sink_failing)?;
     let err_failing = Vec::from_slice(alloc, outside.err_failing)?;
     let mut shelf = MemShelf::with(files, outside.step, shelf_failing);
     let mut out = MemSink::with(alloc, outside.room, outside.step, sink_failing)?;
     let mut err = MemSink::with(alloc, 1024, outside.step, err_failing)?;
-    let status = described(&run(alloc, &all, &mut shelf, &mut out, &mut err));
-    Ok(Shown { status, out, err })
+    let status = run(alloc, &all, &mut shelf, &mut out, &mut err);
+    Ok(Shown {
+        status: described(&status),
+        code: code(&status),
+        out,
+        err,
+    })
+}
+
+/// Compiles a model.
+pub fn compile_over(alloc: Global, model: &str, outside: Outside<'_>) -> Result<Shown, AllocError>
+    requires { 1 ≤ outside.step }
+{
+    let model = Vec::from_slice(alloc, model.as_bytes())?;
+    run_over(alloc, &["bee", "compile", "m.bee"], model, outside)
 }

@@ -1,25 +1,14 @@
 //! Compiled texts that are read, worked out by hand.
 
-use dimacs_out::write_map;
-use dimacs_read::{CnfText, TextFault, read_compiled};
-use ledger_text::write_step;
+use dimacs_out::write_compiled;
+use dimacs_read::{TextFault, read_compiled};
 use std::alloc::{AllocError, Global};
 use std::test::Fail;
 
-/// What a text holds, written again: the names and the clauses, then the lines of the ledger.
-fn show(alloc: Global, text: &CnfText) -> Result<Vec<u8>, AllocError> {
-    let mut shown = write_map(alloc, text.entries.as_slice(), &text.cnf)?;
-    for line in text.ledger.as_slice() {
-        shown.extend_from_slice(write_step(alloc, line)?.as_slice())?;
-        shown.push(b'\n')?;
-    }
-    Ok(shown)
-}
-
-/// What a text holds, or the line that fails.
+/// What a text holds, written again, or the line that fails.
 fn read(alloc: Global, text: &str) -> Result<Vec<u8>, AllocError> {
     match read_compiled(alloc, text.as_bytes()) {
-        Ok(held) => show(alloc, &held),
+        Ok(held) => write_compiled(alloc, &held),
         Err(TextFault::Form(line)) => {
             let fault = format!(in alloc; "line {line}")?;
             Vec::from_slice(alloc, fault.as_bytes())
@@ -29,7 +18,7 @@ fn read(alloc: Global, text: &str) -> Result<Vec<u8>, AllocError> {
 }
 
 #[test]
-fn texts_without_a_ledger(rt: HostRuntime) -> Result<(), Fail> {
+fn texts_are_read_and_written(rt: HostRuntime) -> Result<(), Fail> {
     for text in [
         "c bee 1\np cnf 0 0\n",
         "c bee 1\np cnf 0 1\n0\n",
@@ -37,23 +26,14 @@ fn texts_without_a_ledger(rt: HostRuntime) -> Result<(), Fail> {
         "c bee 1\nc int i_1 -3 -6:1 5:2\np cnf 6 0\n",
         // Out of order, repeated or always true clauses, and integers that are not trimmed, are read as they stand.
         "c bee 1\nc int i 0 T:1 F:1 1:1 1:1\np cnf 3 4\n3 -1 0\n3 -1 0\n1 1 -1 0\n0\n",
+        // A ledger.
+        "c bee 1\nc bool a 1\nc led eq 1 order 1 T\nc led split 2\nc led enc 18446744073709551615\np cnf 1 1\n1 0\n",
         // The greatest numbers.
         "c bee 1\nc int low -1073741824 1:2147483648\nc int high 1073741824\np cnf 67108864 1\n67108864 0\n",
     ] {
         let shown = read(rt.alloc(), text)?;
         assert_eq!(rt; shown.as_slice(), text.as_bytes(), "{text}");
     }
-    Ok(())
-}
-
-#[test]
-fn text_with_a_ledger(rt: HostRuntime) -> Result<(), Fail> {
-    let text =
-        "c bee 1\nc bool a 1\nc led eq 1 order 1 T\nc led split 2\nc led enc 18446744073709551615\np cnf 1 1\n1 0\n";
-    let want =
-        "c bee 1\nc bool a 1\np cnf 1 1\n1 0\neq 1 order 1 T\nsplit 2\nenc 18446744073709551615\n";
-    let shown = read(rt.alloc(), text)?;
-    assert_eq!(rt; shown.as_slice(), want.as_bytes());
     Ok(())
 }
 

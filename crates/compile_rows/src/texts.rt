@@ -2,7 +2,9 @@
 
 use bee_list::Sequence;
 use bumblebee_reader::Name;
-use dimacs_out::{MapEntry, write_map};
+use core_forms::{Equation, Rule};
+use dimacs_out::{CnfText, MapEntry, write_compiled};
+use ledger_text::Line;
 use order_ints::{Atom, Cnf, Lit, MapValue, OrdInt};
 use std::alloc::{AllocError, Global};
 use std::test::Fail;
@@ -46,8 +48,12 @@ fn written(
     vars: u32,
     clause: Option<&[Lit]>,
 ) -> Result<Vec<u8>, AllocError> {
-    let entries = booleans(alloc, names)?;
-    write_map(alloc, entries.as_slice(), &cnf(alloc, vars, clause)?)
+    let text = CnfText {
+        entries: Sequence::from_vec(booleans(alloc, names)?),
+        ledger: Sequence::from_vec(Vec::new(alloc)),
+        cnf: cnf(alloc, vars, clause)?,
+    };
+    write_compiled(alloc, &text)
 }
 
 #[test]
@@ -80,9 +86,43 @@ fn names_of_booleans(rt: HostRuntime) -> Result<(), Fail> {
 fn name_of_an_integer(rt: HostRuntime) -> Result<(), Fail> {
     let alloc = rt.alloc();
     let value = integer(alloc, -3, &[(of(6, false), 1), (of(5, true), 2)])?;
-    let entries = vec![in alloc; entry(alloc, b"i_1", value)?]?;
-    let text = write_map(alloc, entries.as_slice(), &cnf(alloc, 6, None)?)?;
+    let text = CnfText {
+        entries: Sequence::from_vec(vec![in alloc; entry(alloc, b"i_1", value)?]?),
+        ledger: Sequence::from_vec(Vec::new(alloc)),
+        cnf: cnf(alloc, 6, None)?,
+    };
+    let written = write_compiled(alloc, &text)?;
     let want = b"c bee 1\nc int i_1 -3 -6:1 5:2\np cnf 6 0\n";
-    assert_eq!(rt; text.as_slice(), want.as_slice());
+    assert_eq!(rt; written.as_slice(), want.as_slice());
+    Ok(())
+}
+
+/// An equation, a splitting and an encoding.
+fn steps(alloc: Global) -> Result<Sequence<Line>, AllocError> {
+    let e = Equation {
+        rule: Rule::Table,
+        a: of(2, false),
+        b: Atom::True,
+    };
+    let steps = vec![in alloc;
+        Line::Equate { id: 7, e },
+        Line::Split { id: 8 },
+        Line::Encode { id: u64::MAX },
+    ]?;
+    Ok(Sequence::from_vec(steps))
+}
+
+#[test]
+fn name_ledger_and_clause(rt: HostRuntime) -> Result<(), Fail> {
+    let alloc = rt.alloc();
+    let text = CnfText {
+        entries: Sequence::from_vec(booleans(alloc, &[(b'x', of(1, true))])?),
+        ledger: steps(alloc)?,
+        cnf: cnf(alloc, 2, Some(&[Lit::of(1, true)]))?,
+    };
+    let written = write_compiled(alloc, &text)?;
+    let want =
+        b"c bee 1\nc bool x 1\nc led eq 7 table -2 T\nc led split 8\nc led enc 18446744073709551615\np cnf 2 1\n1 0\n";
+    assert_eq!(rt; written.as_slice(), want.as_slice());
     Ok(())
 }

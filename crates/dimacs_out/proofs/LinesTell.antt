@@ -6,24 +6,18 @@ use Rattle.std.proofs.lemmas.List.{same_from_push}
 use Rattle.bee_text.specs.Lines.{lacks, IsLine, AreLines}
 use Rattle.bee_text.specs.Words.{join_words, AreWords}
 use Rattle.bee_text.proofs.NumberLemmas.{decimal_injective_wide, signed_decimal_injective_wide}
-use Rattle.bee_text.proofs.WordLemmas.{join_words_line}
-use Rattle.bee_text.proofs.GapLemmas.{join_words_injective, words_lines}
+use Rattle.bee_text.proofs.GapLemmas.{join_words_injective}
 use Rattle.bumblebee_reader.specs.Names.{IsName}
 use Rattle.order_ints.specs.declared.literal.Lit.{Lit}
 use Rattle.order_ints.specs.declared.order_int.MapValue.{MapValue}
 use Rattle.order_ints.specs.declared.order_int.MapValue.TheVariants.{Bool as OfBool, Int as OfInt}
-use Rattle.order_ints.specs.declared.cnf.Cnf.{Cnf}
 use Rattle.order_ints.specs.Place.{ClauseBelow, ClausesBelow}
 use Rattle.dimacs_out.specs.declared.entry.MapEntry.{MapEntry}
 use Rattle.ledger_text.specs.Words.{literal_word}
 use Rattle.ledger_text.proofs.Spelled.{atom_word_tells}
-use Rattle.dimacs_out.specs.CompiledText.{value_words, entry_line, clause_words, clause_line, problem_line, ValueBelow}
-use Rattle.dimacs_out.proofs.SpelledWords.{value_words_words, clause_words_words, problem_words, problem_words_words}
+use Rattle.dimacs_out.specs.CompiledText.{value_words, entry_line, clause_words, clause_line, numbers_line, ValueBelow}
+use Rattle.dimacs_out.proofs.SpelledWords.{value_words_words, clause_words_words, numbers_words, numbers_words_words, words_line}
 use Rattle.dimacs_out.proofs.WordsTell.{step_words_tell, literal_words_tell}
-
--- joined words are a line
-words_line : (ws : List (List ℕ)) → AreWords ws → IsLine (join_words ws)
-words_line ws h = join_words_line ws (words_lines ws h)
 
 -- the words of a name's line tell the name and what it stands for
 
@@ -65,13 +59,13 @@ entry_line_tells n m e f p q same =
     let both = value_words_tell n m e.name f.name e.value f.value p.bound q.bound p.below q.below words in
     λ i. record { name = both.names i; value = both.values i }
 
--- a name's line begins with `c`
-entry_begins : (name : List ℕ) (v : MapValue) → get_or (join_words (value_words name v)) 0 0 ≡ 99
-entry_begins name (OfBool a) = refl
-entry_begins name (OfInt a) = refl
+-- a name's line begins with `c`, a blank, and `b` or `i`
+value_begins : (name : List ℕ) (v : MapValue) → (get_or (join_words (value_words name v)) 0 0 ≡ 99) × (get_or (join_words (value_words name v)) 2 0 ≤ 105)
+value_begins name (OfBool a) = (refl, omega arith)
+value_begins name (OfInt a) = (refl, omega arith)
 
-pub entry_line_begins : (e : MapEntry) → get_or (entry_line e) 0 0 ≡ 99
-entry_line_begins e = entry_begins e.name e.value
+pub entry_line_begins : (e : MapEntry) → (get_or (entry_line e) 0 0 ≡ 99) × (get_or (entry_line e) 2 0 ≤ 105)
+entry_line_begins e = value_begins e.name e.value
 
 -- the line of a clause tells the clause
 
@@ -98,13 +92,19 @@ clause_lines_lines n [] bound below = refl
 clause_lines_lines n (c ∷ cs) bound below =
     and_from (lacks 10 (clause_line c)) (list_all (lacks 10) (map clause_line cs)) (clause_line_line n c bound below.0) (clause_lines_lines n cs bound below.1)
 
--- the problem line tells the number of variables
+-- the line of the numbers tells them
 
-pub problem_line_line : (cnf : Cnf) → cnf.vars < 2 ^ 32 → length cnf.clauses < 2 ^ 64 → IsLine (problem_line cnf)
-problem_line_line cnf vars count = words_line (problem_words cnf) (problem_words_words cnf vars count)
+pub numbers_line_line : (vars count : ℕ) → vars < 2 ^ 32 → count < 2 ^ 64 → IsLine (numbers_line vars count)
+numbers_line_line vars count vs cs = words_line (numbers_words vars count) (numbers_words_words vars count vs cs)
 
-pub problem_line_tells : (cnf dnf : Cnf) → cnf.vars < 2 ^ 32 → dnf.vars < 2 ^ 32 → length cnf.clauses < 2 ^ 64 → length dnf.clauses < 2 ^ 64
-    → problem_line cnf ≡ problem_line dnf → cnf.vars ≡ dnf.vars
-problem_line_tells cnf dnf cv dv cn dn e =
-    let words = join_words_injective (problem_words cnf) (problem_words dnf) (problem_words_words cnf cv cn) (problem_words_words dnf dv dn) e in
-    decimal_injective_wide cnf.vars dnf.vars (omega arith) (omega arith) (ap (λ ws. get_or ws 2 []) words)
+pub record SameNumbers (v w c d : ℕ) : Type 0 where
+  pub vars_same : v ≡ w
+  pub counts_same : c ≡ d
+
+pub numbers_line_tells : (v w c d : ℕ) → v < 2 ^ 32 → w < 2 ^ 32 → c < 2 ^ 64 → d < 2 ^ 64 → numbers_line v c ≡ numbers_line w d → SameNumbers v w c d
+numbers_line_tells v w c d vs ws cs ds e =
+    let words = join_words_injective (numbers_words v c) (numbers_words w d) (numbers_words_words v c vs cs) (numbers_words_words w d ws ds) e in
+    record {
+      vars_same = decimal_injective_wide v w (omega arith) (omega arith) (ap (λ ws. get_or ws 2 []) words);
+      counts_same = decimal_injective_wide c d (omega arith) (omega arith) (ap (λ ws. get_or ws 3 []) words);
+    }

@@ -1,20 +1,21 @@
 -- What a compiled text is made of are words, and its lines are lines.
-use Rattle.std.proofs.Common.{◌≡◌, ℕ, ◌^◌, ◌<◌, ◌≤◌, true, not, ◌&&◌, List, [], ◌∷◌, ◌++◌, length, map, codes, refl, ◌∙◌, arith, rules}
+use Rattle.std.proofs.Common.{◌≡◌, ℕ, ◌^◌, ◌<◌, ◌≤◌, true, not, ◌&&◌, List, [], ◌∷◌, ◌++◌, map, codes, refl, ◌∙◌, arith, rules}
 use Rattle.std.specs.List.{list_all}
 use Rattle.std.specs.Fmt.{decimal, signed_decimal}
 use Rattle.std.proofs.lemmas.Bool.{and_parts, and_from, or_left, false≢true}
 use Rattle.std.proofs.lemmas.Bool.Decides.{nat_tests}
 use Rattle.std.proofs.lemmas.List.Folds.{list_all-append}
-use Rattle.bee_text.specs.Words.{is_gap, is_word, IsWord, AreWords}
+use Rattle.bee_text.specs.Lines.{IsLine}
+use Rattle.bee_text.specs.Words.{is_gap, is_word, IsWord, AreWords, join_words}
 use Rattle.bee_text.proofs.NumberLemmas.{decimal_word, signed_decimal_word}
-use Rattle.bee_text.proofs.GapLemmas.{solid}
+use Rattle.bee_text.proofs.WordLemmas.{join_words_line}
+use Rattle.bee_text.proofs.GapLemmas.{solid, words_lines}
 use Rattle.bumblebee_reader.specs.Bytes.{is_letter, is_digit, is_word as is_name_byte}
 use Rattle.bumblebee_reader.specs.Names.{IsName}
 use Rattle.order_ints.specs.declared.literal.Lit.{Lit}
 use Rattle.order_ints.specs.declared.atom.Atom.{Atom}
 use Rattle.order_ints.specs.declared.order_int.MapValue.{MapValue}
 use Rattle.order_ints.specs.declared.order_int.MapValue.TheVariants.{Bool as OfBool, Int as OfInt}
-use Rattle.order_ints.specs.declared.cnf.Cnf.{Cnf}
 use Rattle.order_ints.specs.Place.{AtomBelow, StepsBelow, ClauseBelow}
 use Rattle.ledger_text.specs.Words.{literal_word, atom_word}
 use Rattle.ledger_text.proofs.Spelled.{literal_word_word, atom_word_word}
@@ -75,10 +76,14 @@ pub clause_words_words : (n : ℕ) (c : List Lit) → n ≤ 2 ^ 32 → ClauseBel
 clause_words_words n c bound below =
     list_all-append is_word (map literal_word c) (codes "0" ∷ []) ∙ and_from (list_all is_word (map literal_word c)) true (clause_literals_words n c bound below) refl
 
-abbrev pub problem_words : Cnf → List (List ℕ)
-problem_words cnf = codes "p" ∷ codes "cnf" ∷ decimal cnf.vars ∷ decimal (length cnf.clauses) ∷ []
+abbrev pub numbers_words : ℕ → ℕ → List (List ℕ)
+numbers_words vars count = codes "p" ∷ codes "cnf" ∷ decimal vars ∷ decimal count ∷ []
 
-pub problem_words_words : (cnf : Cnf) → cnf.vars < 2 ^ 32 → length cnf.clauses < 2 ^ 64 → AreWords (problem_words cnf)
-problem_words_words cnf vars count =
-    and_from (is_word (decimal cnf.vars)) (is_word (decimal (length cnf.clauses)) && true) (decimal_word cnf.vars (omega arith))
-    (and_from (is_word (decimal (length cnf.clauses))) true (decimal_word (length cnf.clauses) (omega arith)) refl)
+pub numbers_words_words : (vars count : ℕ) → vars < 2 ^ 32 → count < 2 ^ 64 → AreWords (numbers_words vars count)
+numbers_words_words vars count vs cs =
+    and_from (is_word (decimal vars)) (is_word (decimal count) && true) (decimal_word vars (omega arith))
+    (and_from (is_word (decimal count)) true (decimal_word count (omega arith)) refl)
+
+-- joined words are a line
+pub words_line : (ws : List (List ℕ)) → AreWords ws → IsLine (join_words ws)
+words_line ws h = join_words_line ws (words_lines ws h)

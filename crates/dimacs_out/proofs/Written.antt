@@ -2,6 +2,7 @@
 use Rattle.std.proofs.Common.{◌≡◌, ℕ, List, [], ◌∷◌, ◌++◌, map, codes, refl, ap, sym, ◌∙◌, append_assoc}
 use Rattle.std.proofs.lemmas.List.{append-nil}
 use Rattle.bee_text.specs.Lines.{join_lines}
+use Rattle.bee_text.proofs.LineLemmas.{join_lines-append}
 use Rattle.bee_text.specs.Words.{join_words, words_behind}
 use Rattle.order_ints.specs.declared.literal.Lit.{Lit}
 use Rattle.ledger_text.specs.Words.{literal_word}
@@ -30,8 +31,10 @@ join_lines-around [] y zs = refl
 join_lines-around (x ∷ xs) y zs =
     ap (λ l. x ++ 10 ∷ l) (join_lines-around xs y zs) ∙ sym (append_assoc x (10 ∷ join_lines xs) (y ++ 10 ∷ join_lines zs))
 
-pub text_written : (h e p n : List ℕ) (es : List (List ℕ)) (y : List ℕ) (zs : List (List ℕ)) → e ≡ h ++ join_lines es → p ≡ e ++ y ++ 10 ∷ [] → n ≡ p ++ join_lines zs → n ≡ h ++ join_lines (es ++ y ∷ zs)
-text_written h e p n es y zs a b c =
-    c ∙ ap (λ l. l ++ join_lines zs) b ∙ append_assoc (e ++ y) (10 ∷ []) (join_lines zs) ∙ append_assoc e y (10 ∷ join_lines zs)
-    ∙ ap (λ l. l ++ (y ++ 10 ∷ join_lines zs)) a ∙ append_assoc h (join_lines es) (y ++ 10 ∷ join_lines zs)
-    ∙ ap (λ l. h ++ l) (sym (join_lines-around es y zs))
+pub text_written : (h e l p n : List ℕ) (es ls : List (List ℕ)) (y : List ℕ) (zs : List (List ℕ)) → e ≡ h ++ join_lines es → l ≡ e ++ join_lines ls → p ≡ l ++ y ++ 10 ∷ []
+    → n ≡ p ++ join_lines zs → n ≡ h ++ join_lines (es ++ (ls ++ y ∷ zs))
+text_written h e l p n es ls y zs a b c d =
+    d ∙ ap (λ t. t ++ join_lines zs) c ∙ append_assoc (l ++ y) (10 ∷ []) (join_lines zs) ∙ append_assoc l y (10 ∷ join_lines zs)
+    ∙ ap (λ t. t ++ (y ++ 10 ∷ join_lines zs)) b ∙ append_assoc e (join_lines ls) (y ++ 10 ∷ join_lines zs)
+    ∙ ap (λ t. e ++ t) (sym (join_lines-around ls y zs)) ∙ ap (λ t. t ++ join_lines (ls ++ y ∷ zs)) a ∙ append_assoc h (join_lines es) (join_lines (ls ++ y ∷ zs))
+    ∙ ap (λ t. h ++ t) (sym (join_lines-append es (ls ++ y ∷ zs)))

@@ -1,4 +1,5 @@
 pub mod CompiledText
 pub mod TextLaws
 pub mod TextSolutions
+pub mod ValueLines
 pub mod Written

@@ -1,10 +1,15 @@
-//! The compiled text: a CNF in the DIMACS format, with comment lines that say what each declared name is.
+//! The compiled text: a CNF in the DIMACS format, with comment lines that say what each declared name is, and the
+//! steps of the compilation.
 #![tactic(auto)]
 
 mod entry;
 mod laws;
+mod text;
+mod values;
 mod write;
 
 pub use entry::MapEntry;
 pub use laws::text_laws;
-pub use write::write_map;
+pub use text::CnfText;
+pub use values::write_values;
+pub use write::write_compiled;

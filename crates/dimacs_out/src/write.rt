@@ -4,18 +4,20 @@ ghost use Rattle.std.specs.Prelude.{◌≡◌, ◌<◌, ◌^◌, ◌++◌, ◌�
 ghost use Rattle.bee_text.specs.Lines.{join_lines};
 ghost use Rattle.bee_text.specs.Words.{words_behind};
 ghost use Rattle.ledger_text.specs.Words.{literal_word};
-ghost use Rattle.dimacs_out.specs.CompiledText.{step_word, entry_line, clause_line, problem_line, compiled_text};
+ghost use Rattle.ledger_text.specs.Steps.{step_text};
+ghost use Rattle.dimacs_out.specs.CompiledText.{step_word, entry_line, ledger_line, numbers_line, clause_line, text_of};
 ghost use Rattle.dimacs_out.specs.Written.{words_ended};
 
 use crate::entry::MapEntry;
+use crate::text::CnfText;
 use bee_list::Sequence;
 use bee_text::{end_line, push_blank, push_bytes, push_number, push_signed};
-use ledger_text::{push_atom, push_literal};
+use ledger_text::{Line, push_atom, push_literal, push_step};
 use order_ints::{Atom, Cnf, Lit, MapValue};
 use std::alloc::{AllocError, Global};
 
 /// Writes a step of an integer.
-fn push_step(out: &mut Vec<u8>, step: (Atom, u128)) -> Result<(), AllocError>
+fn push_step_word(out: &mut Vec<u8>, step: (Atom, u128)) -> Result<(), AllocError>
     ensures { OnOk result (out.new.items ≡ out.old.items ++ step_word step) }
 {
     push_atom(out, step.0)?;
@@ -29,7 +31,7 @@ fn push_steps(out: &mut Vec<u8>, steps: &[(Atom, u128)]) -> Result<(), AllocErro
 {
     for step in steps {
         push_blank(out)?;
-        push_step(out, *step)?;
+        push_step_word(out, *step)?;
     }
     Ok(())
 }
@@ -66,6 +68,25 @@ fn push_entries(out: &mut Vec<u8>, entries: &[MapEntry]) -> Result<(), AllocErro
     Ok(())
 }
 
+/// Writes the lines of the ledger.
+fn push_ledger(out: &mut Vec<u8>, ledger: &[Line]) -> Result<(), AllocError>
+    ensures { OnOk result (out.new.items ≡ out.old.items ++ join_lines (map ledger_line ledger.now)) }
+{
+    for step in ledger {
+        push_ledger_line(out, step)?;
+    }
+    Ok(())
+}
+
+/// Writes the line of a ledger line, and its line feed.
+fn push_ledger_line(out: &mut Vec<u8>, step: &Line) -> Result<(), AllocError>
+    ensures { OnOk result (out.new.items ≡ out.old.items ++ ledger_line step.now ++ 10 ∷ []) }
+{
+    push_bytes(out, b"c led ")?;
+    push_step(out, step)?;
+    end_line(out)
+}
+
 /// Writes the literals of a clause, each before a blank.
 fn push_literals(out: &mut Vec<u8>, clause: &[Lit]) -> Result<(), AllocError>
     ensures { OnOk result (out.new.items ≡ out.old.items ++ words_ended (map literal_word clause.now)) }
@@ -98,8 +119,9 @@ fn push_clauses(out: &mut Vec<u8>, clauses: &[Sequence<Lit>]) -> Result<(), Allo
 }
 
 /// Writes the line that tells the numbers of variables and clauses, and its line feed.
-fn push_problem(out: &mut Vec<u8>, cnf: &Cnf) -> Result<(), AllocError>
-    ensures line { OnOk result (out.new.items ≡ out.old.items ++ problem_line cnf.now ++ 10 ∷ []) }
+fn push_numbers(out: &mut Vec<u8>, cnf: &Cnf) -> Result<(), AllocError>
+    ensures line { OnOk result
+        (out.new.items ≡ out.old.items ++ numbers_line cnf.now.vars (length cnf.now.clauses) ++ 10 ∷ []) }
     ensures fits { length cnf.now.clauses < 2 ^ 64 }
 {
     let count = cnf.clauses.len();
@@ -110,16 +132,17 @@ fn push_problem(out: &mut Vec<u8>, cnf: &Cnf) -> Result<(), AllocError>
     end_line(out)
 }
 
-/// The compiled text of declared names, what they stand for, and a CNF. One pass over what is written; the
+/// The compiled text of declared names, what they stand for, a ledger, and a CNF. One pass over what is written; the
 /// text is held in memory once.
-pub fn write_map(alloc: Global, entries: &[MapEntry], cnf: &Cnf) -> Result<Vec<u8>, AllocError>
-    ensures text { IfOk result (λ text. text.items ≡ compiled_text entries.now cnf.now) }
-    ensures fits { OnOk result (length cnf.now.clauses < 2 ^ 64) }
+pub fn write_compiled(alloc: Global, text: &CnfText) -> Result<Vec<u8>, AllocError>
+    ensures text { IfOk result (λ written. written.items ≡ text_of text.now) }
+    ensures fits { OnOk result (length text.now.cnf.clauses < 2 ^ 64) }
 {
     let mut out = Vec::new(alloc);
     push_bytes(&mut out, b"c bee 1\n")?;
-    push_entries(&mut out, entries)?;
-    push_problem(&mut out, cnf)?;
-    push_clauses(&mut out, cnf.clauses.as_slice())?;
+    push_entries(&mut out, text.entries.as_slice())?;
+    push_ledger(&mut out, text.ledger.as_slice())?;
+    push_numbers(&mut out, &text.cnf)?;
+    push_clauses(&mut out, text.cnf.clauses.as_slice())?;
     Ok(out)
 }

@@ -5,7 +5,7 @@ use Rattle.bee_text.specs.Lines.{unfinished}
 use Rattle.order_ints.specs.declared.cnf.Cnf.{Cnf}
 use Rattle.dimacs_read.specs.declared.fault.TextFault.{TextFault}
 use Rattle.dimacs_read.specs.declared.fault.TextFault.TheVariants.{Form, Memory}
-use Rattle.dimacs_read.specs.declared.text.CnfText.{CnfText}
+use Rattle.dimacs_out.specs.declared.text.CnfText.{CnfText}
 use Rattle.dimacs_read.specs.Values.{NextValues, AreTold, nothing_told, IsValues, ValuesFail}
 use Rattle.dimacs_read.specs.TextLines.{first_above, IsTextOf}
 use Rattle.dimacs_read.specs.TextSteps.{Draft, nothing_read, held, NextLine, IsComplete, IsAbove, FaultAt, FaultLine, TextFails}
@@ -28,11 +28,11 @@ module _ (cnf : Cnf) (small : cnf.vars < 2 ^ 32) (text : List ℕ) where
       let same : p.told ≡ q.told = whole_same (NextValues cnf) FitsTold (next_fits cnf) (next_same cnf) AreTold (nothing_told cnf.vars) (start_fits cnf small) text p.told q.told p.whole q.whole in
       sym p.values_are ∙ ap (λ t. t.known.values) same ∙ q.values_are
 
-  values_fit : (v : List Bool) (line : ℕ) → IsValues cnf text v → ValuesFail cnf text line → ⊥
+  pub values_fit : (v : List Bool) (line : ℕ) → IsValues cnf text v → ValuesFail cnf text line → ⊥
   values_fit v line p m =
       whole_fits (NextValues cnf) FitsTold (next_fits cnf) (next_same cnf) AreTold (nothing_told cnf.vars) (start_fits cnf small) text p.told m.stands m.before m.left p.whole m.parts m.lead m.misfit
 
-  line_same : (m n : ℕ) → ValuesFail cnf text m → ValuesFail cnf text n → m ≡ n
+  pub line_same : (m n : ℕ) → ValuesFail cnf text m → ValuesFail cnf text n → m ≡ n
   line_same m n p q = misfit_same (NextValues cnf) FitsTold (next_fits cnf) (next_same cnf) AreTold (nothing_told cnf.vars) (start_fits cnf small) (unfinished text) text m n refl p q
 
   module _ {X : Type 0} (view : X → List Bool) where
@@ -48,12 +48,12 @@ module _ (cnf : Cnf) (small : cnf.vars < 2 ^ 32) (text : List ℕ) where
 
 -- compiled texts
 
-text_same : (text : List ℕ) (x y : CnfText) → IsTextOf x text → IsTextOf y text → x ≡ y
+pub text_same : (text : List ℕ) (x y : CnfText) → IsTextOf x text → IsTextOf y text → x ≡ y
 text_same text x y p q =
     let same : draft_of x ≡ draft_of y = whole_same NextLine FitsDraft next_line_fits next_line_same IsComplete nothing_read tt text (draft_of x) (draft_of y) (text_whole x text p) (text_whole y text q) in
     ap held same
 
-text_fits : (text : List ℕ) (x : CnfText) (line : ℕ) → IsTextOf x text → TextFails text line → ⊥
+pub text_fits : (text : List ℕ) (x : CnfText) (line : ℕ) → IsTextOf x text → TextFails text line → ⊥
 text_fits text x line p m =
     whole_fits NextLine FitsDraft next_line_fits next_line_same IsComplete nothing_read tt text (draft_of x) m.stands m.before m.left (text_whole x text p) m.parts m.lead m.misfit
 
@@ -72,7 +72,7 @@ fault_line_same : (s : Draft) (left : List (List ℕ)) (here m n : ℕ) → Faul
 fault_line_same s [] here m n p q = p ∙ sym q
 fault_line_same s (line ∷ left) here m n p q = fault_at_same s line here m n p q
 
-text_line_same : (text : List ℕ) (m n : ℕ) → TextFails text m → TextFails text n → m ≡ n
+pub text_line_same : (text : List ℕ) (m n : ℕ) → TextFails text m → TextFails text n → m ≡ n
 text_line_same text m n p q =
     let same = front_same NextLine FitsDraft next_line_fits next_line_same IsComplete nothing_read tt (unfinished text) p.before p.left q.before q.left p.stands q.stands (sym p.parts ∙ q.parts) p.lead p.misfit q.lead q.misfit in
     let P : Draft → Type 0 = λ s. FaultLine s q.left (length q.before + 1) n in

@@ -1,5 +1,5 @@
 -- Lines that lead from one standing to another.
-use Rattle.std.proofs.Common.{◌≡◌, ℕ, ◌+◌, List, [], ◌∷◌, ◌++◌, refl, sym, ap, subst, ◌∙◌}
+use Rattle.std.proofs.Common.{◌≡◌, ℕ, List, [], ◌∷◌, ◌++◌, refl, sym, ap, subst, ◌∙◌}
 use Rattle.std.proofs.lemmas.List.{append-nil}
 use Rattle.bee_text.specs.Lines.{join_lines, lines_of, unfinished}
 use Rattle.bee_text.proofs.LineLemmas.{lines_of-join_lines, unfinished-join_lines}

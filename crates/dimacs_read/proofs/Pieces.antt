@@ -12,12 +12,11 @@ use Rattle.order_ints.specs.Place.{ClauseBelow}
 use Rattle.ledger_text.specs.Words.{literal_word}
 use Rattle.dimacs_out.specs.declared.entry.MapEntry.{MapEntry}
 use Rattle.dimacs_out.specs.CompiledText.{value_words, entry_line, clause_words, clause_line}
-use Rattle.dimacs_out.proofs.SpelledWords.{value_words_words, clause_words_words}
+use Rattle.dimacs_out.proofs.SpelledWords.{value_words_words, clause_words_words, numbers_words, numbers_words_words}
 use Rattle.dimacs_read.specs.declared.entry.Kind.{Kind}
 use Rattle.dimacs_read.specs.Entries.{kind_word, kind_of, tail_words}
 use Rattle.dimacs_read.specs.TextLines.{IsReadableEntry}
 use Rattle.dimacs_read.specs.TextSteps.{IsNumbers}
-use Rattle.dimacs_read.proofs.TextSame.{numbers_words, numbers_words_words}
 
 -- a word has no blank
 no_blank : (w : List ℕ) → list_all (λ c. not (is_gap c)) w ≡ true → lacks 32 w ≡ true

@@ -1,35 +1,25 @@
 -- The lines of what can be read lead to it.
-use Rattle.std.proofs.Common.{◌≡◌, ◌≢◌, ℕ, ◌+◌, ◌^◌, ◌≤◌, inl, inr, true, List, [], ◌∷◌, ◌++◌, length, map, refl, sym, ap, subst, ◌∙◌, arith, length-append}
+use Rattle.std.proofs.Common.{◌≡◌, ◌≢◌, ℕ, ◌+◌, ◌^◌, ◌≤◌, inl, inr, List, [], ◌∷◌, ◌++◌, length, map, refl, sym, ap, subst, ◌∙◌, arith, length-append}
 use Rattle.std.specs.List.{list_all}
-use Rattle.std.specs.Fmt.{decimal}
 use Rattle.std.proofs.lemmas.Bool.{and_from}
 use Rattle.std.proofs.lemmas.List.{append-nil, append_assoc}
 use Rattle.std.proofs.lemmas.List.Folds.{list_all-append}
-use Rattle.bee_text.specs.Lines.{lacks, IsLine, AreLines}
-use Rattle.bee_text.specs.Words.{is_word, AreWords, join_words}
-use Rattle.bee_text.proofs.NumberLemmas.{decimal_word}
-use Rattle.bee_text.proofs.WordLemmas.{join_words_line}
-use Rattle.bee_text.proofs.GapLemmas.{words_lines}
+use Rattle.bee_text.specs.Lines.{lacks, AreLines}
 use Rattle.order_ints.specs.declared.literal.Lit.{Lit}
 use Rattle.order_ints.specs.Place.{ClausesBelow}
-use Rattle.core_forms.specs.declared.equation.Rule.{Rule}
-use Rattle.core_forms.specs.declared.equation.Rule.TheVariants.{Order, Form, Table}
 use Rattle.ledger_text.specs.declared.line.Line.{Line}
-use Rattle.ledger_text.specs.declared.line.Line.TheVariants.{Equate, Split, Encode}
-use Rattle.ledger_text.specs.Words.{atom_word}
-use Rattle.ledger_text.specs.Steps.{rule_word, step_words, IsReadableStep}
-use Rattle.ledger_text.proofs.Spelled.{atom_word_word}
 use Rattle.bumblebee_reader.specs.Names.{IsNew, AreDeclared}
 use Rattle.dimacs_out.specs.declared.entry.MapEntry.{MapEntry}
-use Rattle.dimacs_out.specs.CompiledText.{entry_line, clause_line}
-use Rattle.dimacs_out.proofs.LinesTell.{entry_line_line, clause_lines_lines}
-use Rattle.dimacs_read.specs.declared.text.CnfText.{CnfText}
+use Rattle.dimacs_out.specs.CompiledText.{entry_line, clause_line, ledger_line, numbers_line, text_lines}
+use Rattle.dimacs_out.proofs.LinesTell.{entry_line_line, clause_lines_lines, numbers_line_line}
+use Rattle.dimacs_out.proofs.LedgerTells.{ledger_line_line}
+use Rattle.dimacs_out.specs.declared.text.CnfText.{CnfText}
 use Rattle.dimacs_read.specs.declared.draft.TextStage.{TextStage}
 use Rattle.dimacs_read.specs.declared.draft.TextStage.TheVariants.{Start, Names, Steps, Clauses}
 use Rattle.dimacs_read.specs.LineByLine.{Lead, IsWhole}
-use Rattle.dimacs_read.specs.TextLines.{ledger_line, numbers_line, text_lines, AreReadableEntries, AreReadableSteps, IsReadable, IsTextOf}
+use Rattle.dimacs_read.specs.TextLines.{AreReadableEntries, AreReadableSteps, IsReadable, IsTextOf}
 use Rattle.dimacs_read.specs.TextSteps.{Draft, nothing_read, IsNamed, IsLedgered, IsProblem, IsClause, NextLine, IsComplete, MayHaveNumbers}
-use Rattle.dimacs_read.proofs.TextSame.{entry_of, numbers_words, numbers_words_words}
+use Rattle.dimacs_read.proofs.TextSame.{entry_of, line_of}
 
 lead_join : (s : Draft) (xs ys : List (List ℕ)) (m t : Draft) → Lead NextLine s xs m → Lead NextLine m ys t → Lead NextLine s (xs ++ ys) t
 lead_join s [] ys m t p q = let P : Draft → Type 0 = λ x. Lead NextLine x ys t in subst P (sym p) q
@@ -146,28 +136,9 @@ text_leads x h =
 
 -- the lines are lines
 
-rule_is_word : (r : Rule) → is_word (rule_word r) ≡ true
-rule_is_word Order = refl
-rule_is_word Form = refl
-rule_is_word Table = refl
-
-step_is_words : (l : Line) → IsReadableStep l → AreWords (step_words l)
-step_is_words (Equate id e) h =
-    and_from (is_word (decimal id)) _ (decimal_word id (omega (arith, h.0)))
-    (and_from (is_word (rule_word e.rule)) _ (rule_is_word e.rule)
-    (and_from (is_word (atom_word e.a)) _ (atom_word_word (2 ^ 27 + 1) e.a (omega arith) h.1) (and_from (is_word (atom_word e.b)) true (atom_word_word (2 ^ 27 + 1) e.b (omega arith) h.2) refl)))
-step_is_words (Split id) h = and_from (is_word (decimal id)) true (decimal_word id (omega arith)) refl
-step_is_words (Encode id) h = and_from (is_word (decimal id)) true (decimal_word id (omega arith)) refl
-
-words_line : (ws : List (List ℕ)) → AreWords ws → IsLine (join_words ws)
-words_line ws h = join_words_line ws (words_lines ws h)
-
-ledger_line_line : (l : Line) → IsReadableStep l → IsLine (ledger_line l)
-ledger_line_line l h = words_line (step_words l) (step_is_words l h)
-
 ledger_lines_lines : (ls : List Line) → AreReadableSteps ls → AreLines (map ledger_line ls)
 ledger_lines_lines [] h = refl
-ledger_lines_lines (l ∷ ls) h = and_from (lacks 10 (ledger_line l)) (list_all (lacks 10) (map ledger_line ls)) (ledger_line_line l h.0) (ledger_lines_lines ls h.1)
+ledger_lines_lines (l ∷ ls) h = and_from (lacks 10 (ledger_line l)) (list_all (lacks 10) (map ledger_line ls)) (ledger_line_line (2 ^ 27 + 1) l (omega arith) (line_of l h.0)) (ledger_lines_lines ls h.1)
 
 entry_lines_lines : (es : List MapEntry) → AreReadableEntries es → AreLines (map entry_line es)
 entry_lines_lines [] h = refl
@@ -180,7 +151,7 @@ lines_join xs ys p q = list_all-append (lacks 10) xs ys ∙ and_from (list_all (
 pub text_lines_lines : (x : CnfText) → IsReadable x → AreLines (text_lines x)
 text_lines_lines x h =
     let n = x.cnf.vars + 1 in
-    let numbers = words_line (numbers_words x.cnf.vars (length x.cnf.clauses)) (numbers_words_words x.cnf.vars (length x.cnf.clauses) (omega (arith, h.vars)) h.count) in
+    let numbers = numbers_line_line x.cnf.vars (length x.cnf.clauses) (omega (arith, h.vars)) h.count in
     let clauses = clause_lines_lines n x.cnf.clauses (omega (arith, h.vars)) h.clauses in
     lines_join (map entry_line x.entries) (map ledger_line x.ledger ++ numbers_line x.cnf.vars (length x.cnf.clauses) ∷ map clause_line x.cnf.clauses) (entry_lines_lines x.entries h.entries)
     (lines_join (map ledger_line x.ledger) (numbers_line x.cnf.vars (length x.cnf.clauses) ∷ map clause_line x.cnf.clauses) (ledger_lines_lines x.ledger h.ledger)

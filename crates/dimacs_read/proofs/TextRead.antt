@@ -9,11 +9,11 @@ use Rattle.ledger_text.specs.declared.line.Line.{Line}
 use Rattle.ledger_text.specs.Steps.{IsReadableStep}
 use Rattle.bumblebee_reader.specs.Names.{IsDeclarable, IsNew, AreDeclared}
 use Rattle.dimacs_out.specs.declared.entry.MapEntry.{MapEntry}
-use Rattle.dimacs_out.specs.CompiledText.{entry_line, clause_line}
+use Rattle.dimacs_out.specs.CompiledText.{entry_line, clause_line, heading, ledger_line, numbers_line, text_lines}
 use Rattle.dimacs_read.specs.declared.draft.TextStage.{TextStage}
 use Rattle.dimacs_read.specs.declared.draft.TextStage.TheVariants.{Start, Names, Steps, Clauses}
 use Rattle.dimacs_read.specs.LineByLine.{Lead, IsWhole}
-use Rattle.dimacs_read.specs.TextLines.{heading, ledger_line, numbers_line, text_lines, IsReadableEntry, AreReadableEntries, AreReadableSteps, first_above, IsReadable, IsTextOf}
+use Rattle.dimacs_read.specs.TextLines.{IsReadableEntry, AreReadableEntries, AreReadableSteps, first_above, IsReadable, IsTextOf}
 use Rattle.dimacs_read.specs.TextSteps.{Draft, nothing_read, IsNamed, IsLedgered, IsProblem, IsClause, NextAt, NextLine, vars_of, held, HasAll, IsComplete, FaultAt, TextFails}
 use Rattle.dimacs_read.proofs.ReadTo.{ReadTo, lines_behind}
 

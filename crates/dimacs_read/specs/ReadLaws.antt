@@ -4,9 +4,10 @@ use Rattle.order_ints.specs.declared.cnf.Cnf.{Cnf}
 use Rattle.order_ints.specs.Truth.{valuation_of}
 use Rattle.order_ints.specs.Satisfies.{Satisfies}
 use Rattle.dimacs_out.specs.declared.entry.MapEntry.{MapEntry}
-use Rattle.dimacs_out.specs.CompiledText.{compiled_text, IsWritable}
+use Rattle.dimacs_out.specs.declared.text.CnfText.{CnfText}
+use Rattle.dimacs_out.specs.CompiledText.{text_of, IsWritable}
 use Rattle.dimacs_out.specs.TextSolutions.{StandsFor, assignment_of}
-use Rattle.dimacs_read.specs.TextLines.{IsInLimit, IsTextOf}
+use Rattle.dimacs_read.specs.TextLines.{IsInLimit, IsReadable, IsTextOf}
 use Rattle.dimacs_read.specs.Values.{IsValues}
 
 -- the values of each integer are in the limit
@@ -16,9 +17,11 @@ AreInLimit (e ∷ entries) = IsInLimit e.value × AreInLimit entries
 
 -- a text that is written, of values and variables in the limits, is read as what was written
 abbrev pub WrittenIsRead : Type 0
-WrittenIsRead =
-    (entries : List MapEntry) (cnf : Cnf) → IsWritable entries cnf → cnf.vars ≤ 2 ^ 26 → AreInLimit entries
-    → IsTextOf (record { entries = entries; ledger = []; cnf = cnf }) (compiled_text entries cnf)
+WrittenIsRead = (x : CnfText) → IsWritable x → x.cnf.vars ≤ 2 ^ 26 → AreInLimit x.entries → IsTextOf x (text_of x)
+
+-- what is read can be written
+abbrev pub ReadIsWritable : Type 0
+ReadIsWritable = (x : CnfText) → IsReadable x → IsWritable x
 
 -- values satisfy the clauses
 abbrev pub ValuesSatisfy : Type 0
@@ -27,5 +30,5 @@ ValuesSatisfy = (cnf : Cnf) (text : List ℕ) (values : List Bool) → IsValues 
 -- what the names have under values is an assignment that the compiled text stands for
 abbrev pub ValuesGiveAssignment : Type 0
 ValuesGiveAssignment =
-    (entries : List MapEntry) (cnf : Cnf) (text : List ℕ) (values : List Bool) → IsWritable entries cnf → IsValues cnf text values
-    → StandsFor (compiled_text entries cnf) (assignment_of (valuation_of values) entries)
+    (x : CnfText) (text : List ℕ) (values : List Bool) → IsWritable x → IsValues x.cnf text values
+    → StandsFor (text_of x) (assignment_of (valuation_of values) x.entries)

@@ -1,16 +1,6 @@
--- A compiled text with the lines of its ledger, and its lines one by one.
---
---     c bee 1
---     c bool NAME ATOM                for each declared Boolean
---     c int NAME BASE ATOM:WEIGHT ..  for each declared integer
---     c led LINE                      for each line of the ledger
---     p cnf VARS CLAUSES
---     LITERAL .. 0                    for each clause
-use Rattle.std.specs.Prelude.{◌≡◌, ℕ, ◌+◌, ◌^◌, ◌<◌, ◌≤◌, Bool, true, not, ◌&&◌, nat_le, List, [], ◌∷◌, ◌++◌, codes, length, map, position, Option, Some, None, option_map, unsigned_abs}
-use Rattle.std.specs.Fmt.{decimal}
+-- Which compiled texts can be read.
+use Rattle.std.specs.Prelude.{◌≡◌, ℕ, ◌+◌, ◌^◌, ◌<◌, ◌≤◌, Bool, true, not, ◌&&◌, nat_le, List, [], ◌∷◌, length, map, position, Option, Some, None, option_map, unsigned_abs}
 use Rattle.std.specs.List.{list_all}
-use Rattle.bee_text.specs.Lines.{join_lines}
-use Rattle.bee_text.specs.Words.{join_words}
 use Rattle.order_ints.specs.declared.atom.Atom.{Atom}
 use Rattle.order_ints.specs.declared.atom.Atom.TheVariants.{True, False, Of}
 use Rattle.order_ints.specs.declared.order_int.MapValue.{MapValue}
@@ -19,32 +9,11 @@ use Rattle.order_ints.specs.OrderRange.{low_of, high_of}
 use Rattle.order_ints.specs.Place.{InRange}
 use Rattle.ledger_text.specs.declared.line.Line.{Line}
 use Rattle.ledger_text.specs.declared.line.Line.TheVariants.{Equate, Split, Encode}
-use Rattle.ledger_text.specs.Steps.{step_text, IsReadableStep}
+use Rattle.ledger_text.specs.Steps.{IsReadableStep}
 use Rattle.bumblebee_reader.specs.Names.{IsDeclarable, AreDeclared}
 use Rattle.dimacs_out.specs.declared.entry.MapEntry.{MapEntry}
-use Rattle.dimacs_out.specs.CompiledText.{entry_line, clause_line, ValueBelow}
-use Rattle.dimacs_read.specs.declared.text.CnfText.{CnfText}
-
--- the first line
-abbrev pub heading : List ℕ
-heading = codes "c bee 1"
-
--- the line of a ledger line
-abbrev pub ledger_line : Line → List ℕ
-ledger_line step = codes "c led " ++ step_text step
-
--- the line that tells how many variables and clauses there are
-abbrev pub numbers_line : ℕ → ℕ → List ℕ
-numbers_line vars count = join_words (codes "p" ∷ codes "cnf" ∷ decimal vars ∷ decimal count ∷ [])
-
--- the lines of what a text holds
-abbrev pub text_lines : CnfText → List (List ℕ)
-text_lines x =
-    heading ∷ (map entry_line x.entries ++ (map ledger_line x.ledger ++ numbers_line x.cnf.vars (length x.cnf.clauses) ∷ map clause_line x.cnf.clauses))
-
--- its text
-abbrev pub text_of : CnfText → List ℕ
-text_of x = join_lines (text_lines x)
+use Rattle.dimacs_out.specs.CompiledText.{ValueBelow, text_of}
+use Rattle.dimacs_out.specs.declared.text.CnfText.{CnfText}
 
 -- an integer's least and greatest value are at most 1,073,741,824 in absolute value
 abbrev pub IsInLimit : MapValue → Type 0

@@ -6,11 +6,11 @@ use Rattle.ledger_text.specs.declared.line.Line.{Line}
 use Rattle.ledger_text.specs.Steps.{IsReadableStep}
 use Rattle.bumblebee_reader.specs.Names.{IsNew}
 use Rattle.dimacs_out.specs.declared.entry.MapEntry.{MapEntry}
-use Rattle.dimacs_out.specs.CompiledText.{entry_line, clause_line}
-use Rattle.dimacs_read.specs.declared.text.CnfText.{CnfText}
+use Rattle.dimacs_out.specs.CompiledText.{entry_line, clause_line, heading, ledger_line, numbers_line}
+use Rattle.dimacs_out.specs.declared.text.CnfText.{CnfText}
 use Rattle.dimacs_read.specs.declared.draft.TextStage.{TextStage}
 use Rattle.dimacs_read.specs.declared.draft.TextStage.TheVariants.{Start, Names, Steps, Clauses}
-use Rattle.dimacs_read.specs.TextLines.{heading, ledger_line, numbers_line, IsReadableEntry, first_above}
+use Rattle.dimacs_read.specs.TextLines.{IsReadableEntry, first_above}
 use Rattle.dimacs_read.specs.LineByLine.{Lead, IsMisfit}
 use Rattle.bee_text.specs.Lines.{lines_of, unfinished}
 

@@ -1,15 +1,15 @@
 //! Reads a compiled text.
 
 ghost use Rattle.std.specs.Prelude.{ℕ, IfOk, IfErr};
-ghost use Rattle.dimacs_read.specs.declared.text.CnfText.{CnfText};
+ghost use Rattle.dimacs_out.specs.declared.text.CnfText.{CnfText};
 ghost use Rattle.dimacs_read.specs.TextLines.{IsTextOf};
 ghost use Rattle.dimacs_read.specs.TextSteps.{TextFails};
 ghost use Rattle.dimacs_read.specs.Faults.{TextFaultOf, IsReadAs, FailsAt};
 
 use crate::draft::DraftText;
 use crate::fault::TextFault;
-use crate::text::CnfText;
 use bee_text::Lines;
+use dimacs_out::CnfText;
 use std::alloc::Global;
 
 /// What a text holds, or the first line that fails.

@@ -12,11 +12,9 @@ mod lines;
 mod literal;
 mod name;
 mod steps;
-mod text;
 mod values;
 
 pub use compiled::read_compiled;
 pub use fault::TextFault;
 pub use laws::read_laws;
-pub use text::CnfText;
 pub use values::read_values;

@@ -6,8 +6,7 @@ ghost use Rattle.order_ints.specs.declared.literal.Lit.{Lit};
 ghost use Rattle.order_ints.specs.Place.{ClauseBelow};
 ghost use Rattle.ledger_text.specs.declared.line.Line.{Line};
 ghost use Rattle.ledger_text.specs.Steps.{IsReadableStep};
-ghost use Rattle.dimacs_out.specs.CompiledText.{clause_line, clause_words};
-ghost use Rattle.dimacs_read.specs.TextLines.{heading, ledger_line};
+ghost use Rattle.dimacs_out.specs.CompiledText.{clause_line, clause_words, heading, ledger_line};
 ghost use Rattle.dimacs_read.specs.TextSteps.{IsNumbers};
 
 use crate::literal::{is, read_literal};

@@ -1,5 +1,9 @@
 //! Models with what they are lowered to, worked out by hand.
 
+ghost use Rattle.std.specs.Prelude.{IfOk};
+ghost use Rattle.typed_model.specs.WellTyped.{WellTyped};
+ghost use Rattle.typed_model.specs.Limits.{InLimits};
+
 use crate::shown::show;
 use bumblebee_reader::read_model;
 use model_lower::{lower, lower_owned};
@@ -8,7 +12,10 @@ use std::test::Fail;
 use typed_model::{Model, check_types, in_limits};
 
 /// A model that is in the limits of a text.
-fn small_model(alloc: Global, text: &str) -> Result<Model, Fail> {
+fn small_model(alloc: Global, text: &str) -> Result<Model, Fail>
+    ensures typed { IfOk result WellTyped }
+    ensures limits { IfOk result InLimits }
+{
     let syntax = read_model(alloc, text.as_bytes())?;
     let model = check_types(alloc, &syntax)?;
     if !in_limits(&model) {

@@ -1,31 +1,27 @@
-use Rattle.std.proofs.Common.{rules, ◌≡◌, ◌↔◌, sym, subst, ◌∙◌, None}
-use Rattle.typed_model.specs.Solutions.{IsSolution}
-use Rattle.model_lower.specs.Built.{first_unbuilt_of}
-use Rattle.bee_compile.specs.declared.compiled.Compiled.{Compiled}
-use Rattle.bee_compile.specs.Compiled.{compiled_of, IsGiven, CompiledFits}
-use Rattle.bee_compile.proofs.Compilation.{cores-fit, has-room, compilation}
+use Rattle.std.proofs.Common.{arith, ◌∙◌}
+use Rattle.bee_compile.proofs.Compilation.{compiled-well, asked-of}
+use Rattle.bee_compile.proofs.Fitting.{are-bounded}
 use Rattle.bee_compile.proofs.compiling.compile.Goals as goal
 
-pub compile_items-requires-clause-fits : goal.compile_items-requires-clause-fits
-compile_items-requires-clause-fits c =
-    let none : first_unbuilt_of c.args.model ≡ None = sym c.first_unbuilt.ensures ∙ c.in_default.is in
-    rw (c.as_slice.ensures, c.into_vec.ensures) (cores-fit c.args.model c.requires.typed c.requires.limits none)
-
-pub compile_items-requires-clause-room : goal.compile_items-requires-clause-room
-compile_items-requires-clause-room c =
-    let none : first_unbuilt_of c.args.model ≡ None = sym c.first_unbuilt.ensures ∙ c.in_default.is in
-    rw (c.as_slice.ensures, c.into_vec.ensures) (has-room c.args.model c.requires.typed c.requires.limits none)
+pub trim_map-requires : goal.trim_map-requires
+trim_map-requires g c = are-bounded _ c.args.model.decls c.in_ok-lowered.field-0.lowered.map.entries c.in_ok-lowered.ensures.fits.entries
 
 pub returns-clause-solutions : goal.returns-clause-solutions
-returns-clause-solutions c a =
-    let model = c.args.model in
-    let none : first_unbuilt_of model ≡ None = sym c.first_unbuilt.ensures ∙ c.in_default.is in
-    let same : ◌≡◌ {A = Compiled} (record { cnf = c.in_ok-cnf.cnf; decls = model.decls; map = c.finish-vars.result.map }) (compiled_of model) = search rules in
-    subst (λ (k : Compiled). IsSolution model a ↔ IsGiven k a) (sym same) ((compilation model c.requires.typed c.requires.limits none).solutions a)
+returns-clause-solutions g c =
+    (compiled-well g.F.Oracle.told g.F.Oracle.told_is_instance c.args.model c.in_ok-lowered.field-0.lowered c.into_vec.result.items c.in_ok-state.state
+    c.in_ok-compilation.compilation.state c.view.result.now _ c.requires.typed c.requires.limits c.in_ok-lowered.ensures.light c.in_ok-lowered.ensures.shape c.into_vec.ensures
+    c.in_ok-state.ensures.start c.in_ok-compilation.ensures.compilation c.ids.ensures.ids (omega (arith, c.ids.type_inv)) c.in_ok-cnf.ensures.shape c.in_ok-lowered.ensures.decls
+    (c.view.ensures.view ∙ c.store.ensures.view) c.in_ok-map.ensures).solutions
 
 pub returns-clause-fits : goal.returns-clause-fits
-returns-clause-fits c =
-    let model = c.args.model in
-    let none : first_unbuilt_of model ≡ None = sym c.first_unbuilt.ensures ∙ c.in_default.is in
-    let same : ◌≡◌ {A = Compiled} (record { cnf = c.in_ok-cnf.cnf; decls = model.decls; map = c.finish-vars.result.map }) (compiled_of model) = search rules in
-    subst CompiledFits (sym same) (compilation model c.requires.typed c.requires.limits none).fits
+returns-clause-fits g c =
+    (compiled-well g.F.Oracle.told g.F.Oracle.told_is_instance c.args.model c.in_ok-lowered.field-0.lowered c.into_vec.result.items c.in_ok-state.state
+    c.in_ok-compilation.compilation.state c.view.result.now _ c.requires.typed c.requires.limits c.in_ok-lowered.ensures.light c.in_ok-lowered.ensures.shape c.into_vec.ensures
+    c.in_ok-state.ensures.start c.in_ok-compilation.ensures.compilation c.ids.ensures.ids (omega (arith, c.ids.type_inv)) c.in_ok-cnf.ensures.shape c.in_ok-lowered.ensures.decls
+    (c.view.ensures.view ∙ c.store.ensures.view) c.in_ok-map.ensures).fits
+
+pub returns-clause-asked : goal.returns-clause-asked
+returns-clause-asked g c =
+    asked-of c.args.model c.in_ok-lowered.field-0.lowered c.into_vec.result.items c.in_ok-state.state c.in_ok-compilation.compilation.state
+    (record { cnf = c.in_ok-cnf.cnf; decls = c.in_ok-lowered.field-0.decls; map = c.in_ok-map.map; cores = c.ids.result; ledger = c.in_ok-compilation.compilation.ledger }) _ _
+    c.in_ok-lowered.ensures.shape c.into_vec.ensures c.in_ok-state.ensures.start c.in_ok-cnf.ensures.shape c.in_ok-compilation.ensures.asked

@@ -1,6 +1,6 @@
-use Rattle.std.proofs.Common.{ℕ, ◌+◌, ◌==◌, List, [], length, refl, sym, ap, subst, ◌∙◌}
+use Rattle.std.proofs.Common.{ℕ, ◌+◌, ◌==◌, List, length, refl, sym, ap, subst, ◌∙◌}
 use Rattle.std.proofs.lemmas.Bool.{true≢false}
-use Rattle.dimacs_read.specs.declared.text.CnfText.{CnfText}
+use Rattle.dimacs_out.specs.declared.text.CnfText.{CnfText}
 use Rattle.dimacs_read.specs.TextLines.{IsTextOf}
 use Rattle.dimacs_read.specs.TextSteps.{Draft, NextLine, IsComplete, nothing_read, FaultAt}
 use Rattle.dimacs_read.proofs.ReadTo.{line_read, read_whole}

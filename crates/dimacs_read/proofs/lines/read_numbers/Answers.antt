@@ -1,4 +1,4 @@
-use Rattle.std.proofs.Common.{◌∷◌, [], codes, sym, ap, drop, ◌∙◌}
+use Rattle.std.proofs.Common.{◌∷◌, codes, sym, ap, drop, ◌∙◌}
 use Rattle.bee_text.specs.Words.{join_words}
 use Rattle.dimacs_read.proofs.Pieces.{numbers_pieces}
 use Rattle.dimacs_read.proofs.lines.read_numbers.Goals as goal

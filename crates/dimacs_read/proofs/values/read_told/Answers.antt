@@ -1,4 +1,4 @@
-use Rattle.std.proofs.Common.{ℕ, ◌+◌, ◌==◌, List, [], length, refl, sym, ap, ◌∙◌}
+use Rattle.std.proofs.Common.{ℕ, ◌+◌, ◌==◌, List, length, refl, sym, ap, ◌∙◌}
 use Rattle.std.proofs.lemmas.Bool.{true≢false}
 use Rattle.dimacs_read.specs.Values.{NextValues, AreTold, nothing_told, told}
 use Rattle.dimacs_read.proofs.ReadTo.{line_read, line_fails, end_fails}

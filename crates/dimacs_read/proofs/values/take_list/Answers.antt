@@ -1,4 +1,4 @@
-use Rattle.std.proofs.Common.{false, sym, ◌∙◌}
+use Rattle.std.proofs.Common.{sym, ◌∙◌}
 use Rattle.std.proofs.lemmas.Bool.{true≢false}
 use Rattle.dimacs_read.proofs.ValuesRead.{no_answer}
 use Rattle.dimacs_read.proofs.values.take_list.Goals as goal

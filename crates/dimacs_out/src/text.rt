@@ -1,0 +1,17 @@
+//! What a compiled text holds.
+
+use crate::entry::MapEntry;
+use bee_list::Sequence;
+use ledger_text::Line;
+use order_ints::Cnf;
+
+/// What a compiled text holds.
+#[derive(Debug, Drop)]
+pub struct CnfText {
+    /// The declared names, each once, and what they stand for.
+    pub entries: Sequence<MapEntry>,
+    /// The steps of the compilation.
+    pub ledger: Sequence<Line>,
+    /// The clauses.
+    pub cnf: Cnf,
+}

@@ -14,7 +14,8 @@ FewNewLabels =
     (start last : Kernel) (lines : List Line) (v : ℕ) → IsKernel start → replay start lines ≡ Ok last → 1 ≤ v →
     new_labels v (Ok start) lines ≤ binary_digits (length last.view)
 
--- so the pairs of a core and one of its variables that get a new label are no more than so many for each pair that was made
+-- the pairs of a pending core and one of its variables that get a new label are no more than that number for each pair of a core
+-- that was made and one of its variables
 abbrev pub FewPairs : Type 0
 FewPairs =
     (start last : Kernel) (lines : List Line) → IsKernel start → replay start lines ≡ Ok last →

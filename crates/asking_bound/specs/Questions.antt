@@ -17,8 +17,8 @@ abbrev pub occurrences_of : List Core → ℕ
 occurrences_of [] = 0
 occurrences_of (core ∷ cores) = length (own_vars core) + occurrences_of cores
 
--- One question for each core that was made, and one for each new label that one of its variables can get: as many as the last
--- number of variables has binary digits.
+-- One question for each core that was made, and one for each new label that each of its different variables can get, of which
+-- there are as many as the last number of variables has binary digits.
 abbrev pub most_questions : Kernel → List Line → Kernel → ℕ
 most_questions start lines last =
     length (all_made start lines) + occurrences_of (all_made start lines) * binary_digits (length last.view)

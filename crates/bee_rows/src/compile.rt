@@ -1,6 +1,6 @@
 //! Compile mode.
 
-use crate::outside::{AMPLE, Outside, compile_over, run_over};
+use crate::outside::{AMPLE, Outside, Shown, compile_over, run_over};
 use std::alloc::{AllocError, Global};
 use std::test::Fail;
 
@@ -186,14 +186,27 @@ fn options_mean_nothing_to_compile(rt: HostRuntime) -> Result<(), Fail> {
     Ok(())
 }
 
+/// Compiles a text of this length.
+fn compile_padded(alloc: Global, length: usize) -> Result<Shown, AllocError> {
+    let words = ["bee", "compile", "m.bee"];
+    run_over(alloc, words.as_slice(), padded(alloc, length)?, AMPLE)
+}
+
 #[test]
-fn texts_end_at_their_limit(rt: HostRuntime) -> Result<(), Fail> {
-    let alloc = rt.alloc();
-    for (length, word) in [(16_777_216, "done"), (16_777_217, "too long")] {
-        let words = ["bee", "compile", "m.bee"];
-        let run = run_over(alloc, words.as_slice(), padded(alloc, length)?, AMPLE)?;
-        assert_eq!(rt; run.status.0, word, "{length} bytes");
-    }
+fn longest_text_is_compiled(rt: HostRuntime) -> Result<(), Fail> {
+    let run = compile_padded(rt.alloc(), 16_777_216)?;
+    assert_eq!(rt; run.status, ("done", 0));
+    assert_eq!(rt; run.out.taken(), b"c bee 1\np cnf 0 0\n".as_slice());
+    Ok(())
+}
+
+#[test]
+fn longer_text_is_refused(rt: HostRuntime) -> Result<(), Fail> {
+    let run = compile_padded(rt.alloc(), 16_777_217)?;
+    assert_eq!(rt; run.status, ("too long", 0));
+    assert_eq!(rt; run.code, 3);
+    assert_eq!(rt; run.out.taken(), b"".as_slice());
+    assert_eq!(rt; run.err.taken(), b"bee: model: too long\n".as_slice());
     Ok(())
 }
 

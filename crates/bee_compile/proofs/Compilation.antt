@@ -1,5 +1,5 @@
 -- The compilation keeps the solutions.
-use Rattle.std.proofs.Common.{◌≡◌, ◌+◌, ◌≤◌, ◌<◌, ◌^◌, true, List, length, Ok, refl, sym, ap, subst, ◌∙◌, ℤ, arith}
+use Rattle.std.proofs.Common.{◌≡◌, ℕ, ◌+◌, ◌*◌, ◌≤◌, ◌<◌, ◌^◌, true, List, length, Ok, refl, sym, ap, subst, ◌∙◌, ℤ, arith}
 use Rattle.std.specs.Prelude.{◌↔◌}
 use Rattle.order_ints.specs.declared.atom.Atom.{Atom}
 use Rattle.order_ints.specs.Truth.{Valuation}
@@ -26,6 +26,8 @@ use Rattle.step_kernel.specs.CnfOf.{cnf_of}
 use Rattle.step_kernel.specs.Instances.{is_instance_at}
 use Rattle.step_kernel.proofs.Started.{started-kernel, started-models}
 use Rattle.step_kernel.proofs.CnfLaws.{in_range-of}
+use Rattle.asking_bound.specs.Made.{all_made}
+use Rattle.asking_bound.specs.Questions.{most_questions, occurrences_of, binary_digits}
 use Rattle.state_compile.specs.Compilation.{IsCompilation}
 use Rattle.state_compile.specs.StandsFor.{CnfStandsFor, read_by}
 use Rattle.state_compile.proofs.Answered.{compilation-kept, compilation-models}
@@ -33,7 +35,7 @@ use Rattle.state_compile.proofs.Reading.{read-model}
 use Rattle.bee_compile.specs.declared.compiled.Compiled.{Compiled}
 use Rattle.bee_compile.specs.Trimmed.{trimmed_values}
 use Rattle.bee_compile.specs.Fits.{CompiledFits}
-use Rattle.bee_compile.specs.Compiled.{start_of, IsGiven, IsCompiledWell, CompilationLaw}
+use Rattle.bee_compile.specs.Compiled.{start_of, questions_of, IsGiven, IsCompiledWell, CompilationLaw}
 use Rattle.bee_compile.proofs.Numbers.{numbers-read, numbers-met}
 use Rattle.bee_compile.proofs.Fitting.{values-fit}
 use Rattle.bee_compile.proofs.Ledgers.{ledger-below}
@@ -117,3 +119,13 @@ module _ (told : Core → Equation → Type 0) (instance : (core : Core) (e : Eq
         decls = decls;
         map = map ∙ ap (λ v. trimmed_values v l.map.entries) seen ∙ ap (λ (k : Lowered). trimmed_values last.view k.map.entries) shape;
       })
+
+-- what the compilation of its state says of a model's questions
+pub asked-of : (model : Model) (l : Lowered) (cores : List Core) (state last : Kernel) (c : Compiled) (counter now : ℕ) → l ≡ lowered_of model → cores ≡ l.cores → state ≡ started l.vars cores
+    → c.cnf ≡ cnf_of last → now ≤ counter + 3 * most_questions state c.ledger last → now ≤ counter + 3 * questions_of model c
+asked-of model l cores state last c counter now shape same start cnf h =
+    let first : state ≡ start_of (lowered_of model) = start ∙ ap (started l.vars) same ∙ ap (λ (k : Lowered). start_of k) shape in
+    let vars : length last.view ≡ c.cnf.vars = sym (ap (λ f. f.vars) cnf) in
+    let g = subst (λ (k : Kernel). now ≤ counter + 3 * most_questions k c.ledger last) first h in
+    let made = all_made (start_of (lowered_of model)) c.ledger in
+    subst (λ n. now ≤ counter + 3 * (length made + occurrences_of made * binary_digits n)) vars g

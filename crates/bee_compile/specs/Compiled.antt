@@ -1,5 +1,5 @@
 -- What a model is compiled to, and which assignments that gives.
-use Rattle.std.specs.Prelude.{◌≡◌, ◌↔◌, ◌≤◌, ◌<◌, ◌^◌, List, length, ℤ}
+use Rattle.std.specs.Prelude.{◌≡◌, ◌↔◌, ℕ, ◌+◌, ◌*◌, ◌≤◌, ◌<◌, ◌^◌, List, length, ℤ}
 use Rattle.order_ints.specs.Truth.{Valuation}
 use Rattle.order_ints.specs.Satisfies.{Satisfies}
 use Rattle.order_ints.specs.Numbers.{numbers_of}
@@ -15,6 +15,8 @@ use Rattle.model_lower.specs.Lowering.{lowered_of}
 use Rattle.model_lower.specs.Weighed.{most_weight}
 use Rattle.step_kernel.specs.Kernel.{Kernel, started}
 use Rattle.step_kernel.specs.CnfOf.{cnf_of}
+use Rattle.asking_bound.specs.Made.{all_made}
+use Rattle.asking_bound.specs.Questions.{occurrences_of, binary_digits}
 use Rattle.state_compile.specs.Compilation.{IsCompilation}
 use Rattle.bee_compile.specs.declared.compiled.Compiled.{Compiled}
 use Rattle.bee_compile.specs.Trimmed.{trimmed_values}
@@ -34,6 +36,13 @@ pub record IsCompiled (told : Core → Equation → Type 0) (model : Model) (c :
   pub cnf : c.cnf ≡ cnf_of last
   pub decls : c.decls ≡ model.decls
   pub map : c.map.entries ≡ trimmed_values last.view (lowered_of model).map.entries
+
+-- The most questions that a compilation may ask: one for each core that is made, and one for each new label that one of its
+-- variables can get, which are as many at most as the number of variables has binary digits.
+abbrev pub questions_of : Model → Compiled → ℕ
+questions_of model c =
+    let made = all_made (start_of (lowered_of model)) c.ledger in
+    length made + occurrences_of made * binary_digits c.cnf.vars
 
 -- an assignment is what the declared names have under a valuation that satisfies the clauses
 abbrev pub IsGiven : Compiled → List ℤ → Type 0

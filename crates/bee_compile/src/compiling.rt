@@ -1,13 +1,13 @@
 //! From a typed model to clauses.
 
-ghost use Rattle.std.specs.Prelude.{◌↔◌, ◌≤◌, ℤ, List, IfOk, IfErr};
+ghost use Rattle.std.specs.Prelude.{◌↔◌, ◌+◌, ◌*◌, ◌≤◌, ℤ, List, IfOk, IfErr};
 ghost use Rattle.typed_model.specs.WellTyped.{WellTyped};
 ghost use Rattle.typed_model.specs.Limits.{InLimits};
 ghost use Rattle.typed_model.specs.Solutions.{IsSolution};
 ghost use Rattle.model_weight.specs.Weight.{weight_of};
 ghost use Rattle.model_lower.specs.Weighed.{most_weight};
 ghost use Rattle.model_lower.specs.Faults.{IsFaultOf};
-ghost use Rattle.bee_compile.specs.Compiled.{IsCompiled, IsGiven};
+ghost use Rattle.bee_compile.specs.Compiled.{IsCompiled, IsGiven, questions_of};
 ghost use Rattle.bee_compile.specs.Fits.{CompiledFits};
 
 use crate::compiled::Compiled;
@@ -42,6 +42,9 @@ pub fn compile<F: Oracle, L: Ledger>(
     // The satisfying valuations give exactly the solutions.
     ensures solutions { IfOk result (λ c. (a : List ℤ) → IsSolution model a ↔ IsGiven c a) }
     ensures fits { IfOk result CompiledFits }
+
+    // The counter rises by three at most for each question that may be asked.
+    ensures asked { IfOk result (λ c. steps.new ≤ steps.old + 3 * questions_of model c) }
 {
     let LoweredModel { lowered, decls } = lower_owned(alloc, model)?;
     let Lowered { vars, map, cores } = lowered;

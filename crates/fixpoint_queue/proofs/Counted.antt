@@ -233,10 +233,10 @@ module _ (told : Core → Equation → Type 0) (k : Kernel) (occurs : Occurrence
 -- ---- the counter
 
 -- the lines that were added are those
-only-lines : (before behind lines added : List Line) → behind ≡ before ++ lines → behind ≡ before ++ added → lines ≡ added
+pub only-lines : (before behind lines added : List Line) → behind ≡ before ++ lines → behind ≡ before ++ added → lines ≡ added
 only-lines before behind lines added h is = append_cancel_left before lines added (sym h ∙ is)
 
-pairs-append : (told : Core → Equation → Type 0) (old mid : Kernel) (lines more : List Line) → Leads told old lines mid → pairs_along (Ok old) (lines ++ more) ≡ pairs_along (Ok old) lines + pairs_along (Ok mid) more
+pub pairs-append : (told : Core → Equation → Type 0) (old mid : Kernel) (lines more : List Line) → Leads told old lines mid → pairs_along (Ok old) (lines ++ more) ≡ pairs_along (Ok old) lines + pairs_along (Ok mid) more
 pairs-append told old mid [] more e = let same = ap (λ (k : Kernel). pairs_along (Ok k) more) e in omega (arith, same)
 pairs-append told old mid (line ∷ lines) more leads =
     let next = leads.0 in

@@ -17,3 +17,4 @@ pub mod Widened
 pub mod Splittings
 pub mod PairLaws
 pub mod Counted
+pub mod QueueSizes

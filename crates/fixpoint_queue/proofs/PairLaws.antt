@@ -1,8 +1,8 @@
 -- What a core with a variable that gets a new label counts for.
 use Rattle.std.proofs.Common.{◌≡◌, ◌⊎◌, ℕ, zero, suc, ◌+◌, ◌-◌, ◌≤◌, ◌<◌, ◌==◌, Bool, true, false, ◌&&◌, List, [], ◌∷◌, length, get_or, Contains, refl, sym, ap, ◌∙◌, subst, arith, rules, ⊎_elim, Option, Some, None}
-use Rattle.std.specs.Prelude.{if◌then◌else◌}
+use Rattle.std.specs.Prelude.{nat_lt, is_some, if◌then◌else◌}
 use Rattle.std.specs.List.{list_any}
-use Rattle.std.proofs.lemmas.Bool.{cases_eq, cases_lt}
+use Rattle.std.proofs.lemmas.Bool.{cases_eq, cases_lt, le-ltb}
 use Rattle.std.proofs.lemmas.Bool.Decides.{nat_tests}
 use Rattle.order_ints.specs.declared.atom.Atom.{Atom}
 use Rattle.core_forms.specs.declared.form.Core.{Core}
@@ -109,12 +109,12 @@ abbrev pub counted_at : List Atom → List Atom → Option Core → ℕ
 counted_at old new None = 0
 counted_at old new (Some core) = relabelled_in old new core (length old)
 
--- those of the first cores
-total : List Atom → List Atom → List (Option Core) → ℕ
-total old new [] = 0
-total old new (c ∷ cores) = counted_at old new c + total old new cores
+-- a number for each place, together
+total : (Option Core → ℕ) → List (Option Core) → ℕ
+total f [] = 0
+total f (c ∷ cores) = f c + total f cores
 
-pairs-total : (old new : List Atom) (cores : List (Option Core)) → relabelled_pairs old new (pending cores) ≡ total old new cores
+pairs-total : (old new : List Atom) (cores : List (Option Core)) → relabelled_pairs old new (pending cores) ≡ total (counted_at old new) cores
 unfolding total
 pairs-total old new [] = refl
 pairs-total old new (None ∷ cores) = omega (arith, pairs-total old new cores)
@@ -126,11 +126,11 @@ unfolding sum_to
 sum-first zero f = refl
 sum-first (suc n) f = omega (arith, sum-first n f)
 
-total-sum : (old new : List Atom) (cores : List (Option Core)) → total old new cores ≡ sum_to (length cores) (λ id. counted_at old new (core_at cores id))
+total-sum : (f : Option Core → ℕ) (cores : List (Option Core)) → total f cores ≡ sum_to (length cores) (λ id. f (core_at cores id))
 unfolding total sum_to
-total-sum old new [] = refl
-total-sum old new (c ∷ cores) =
-    omega (arith, total-sum old new cores, sum-first (length cores) (λ id. counted_at old new (core_at (c ∷ cores) id)), same (length cores))
+total-sum f [] = refl
+total-sum f (c ∷ cores) =
+    omega (arith, total-sum f cores, sum-first (length cores) (λ id. f (core_at (c ∷ cores) id)), same (length cores))
   where
     at-next : (i : ℕ) → core_at (c ∷ cores) (suc (suc i)) ≡ core_at cores (suc i)
     at-next i =
@@ -138,10 +138,48 @@ total-sum old new (c ∷ cores) =
         let f : suc i ≡ i + 1 = omega arith in
         ap (core_at (c ∷ cores)) e ∙ core_at-next (c ∷ cores) (suc i) ∙ sym (ap (core_at cores) f ∙ core_at-next cores i)
 
-    same : (n : ℕ) → sum_to n (λ i. counted_at old new (core_at (c ∷ cores) (suc i))) ≡ sum_to n (λ id. counted_at old new (core_at cores id))
+    same : (n : ℕ) → sum_to n (λ i. f (core_at (c ∷ cores) (suc i))) ≡ sum_to n (λ id. f (core_at cores id))
     same zero = refl
-    same (suc n) = omega (arith, same n, ap (counted_at old new) (at-next n))
+    same (suc n) = omega (arith, same n, ap f (at-next n))
 
 -- the pairs of the pending cores are those of each id
 pub pairs-sum : (old new : List Atom) (cores : List (Option Core)) → relabelled_pairs old new (pending cores) ≡ sum_to (length cores) (λ id. counted_at old new (core_at cores id))
-pairs-sum old new cores = pairs-total old new cores ∙ total-sum old new cores
+pairs-sum old new cores = pairs-total old new cores ∙ total-sum (counted_at old new) cores
+
+-- and so many cores are pending as ids have one
+abbrev pub one_there : Option Core → ℕ
+one_there o = if is_some o then 1 else 0
+
+pending-total : (cores : List (Option Core)) → length (pending cores) ≡ total one_there cores
+unfolding total
+pending-total [] = refl
+pending-total (None ∷ cores) = omega (arith, pending-total cores)
+pending-total (Some core ∷ cores) = omega (arith, pending-total cores)
+
+pub pending-sum : (cores : List (Option Core)) → length (pending cores) ≡ sum_to (length cores) (λ id. one_there (core_at cores id))
+pending-sum cores = pending-total cores ∙ total-sum one_there cores
+
+-- ---- numbers past a limit
+
+abbrev pub one_past : ℕ → ℕ → ℕ
+one_past limit i = if nat_lt limit i then 1 else 0
+
+none-past : (n limit : ℕ) → n ≤ limit → sum_to n (one_past limit) ≡ 0
+unfolding sum_to
+none-past zero limit h = refl
+none-past (suc n) limit h =
+    let no : nat_lt limit (suc n) ≡ false = le-ltb limit (suc n) h in
+    omega (arith, ap {B = ℕ} (λ (b : Bool). if b then 1 else 0) no, none-past n limit (omega (arith, h)))
+
+most-one : (t : Bool) → (if t then 1 else 0) ≤ 1
+most-one true = omega arith
+most-one false = omega arith
+
+pub past-sum : (n limit : ℕ) → limit ≤ n → sum_to n (one_past limit) + limit ≤ n
+unfolding sum_to
+past-sum zero limit h = omega (arith, h)
+past-sum (suc n) limit h =
+    ⊎_elim
+    (λ (within : limit < suc n). omega (arith, most-one (nat_lt limit (suc n)), past-sum n limit (omega (arith, within))))
+    (λ (all : suc n ≤ limit). omega (arith, none-past (suc n) limit all, h))
+    (cases_lt limit (suc n))

@@ -33,6 +33,7 @@ use Rattle.fixpoint_queue.specs.Listed.{IsListed}
 use Rattle.fixpoint_queue.specs.Standing.{Stand, AreVars, AreAllVars, AreVarsFrom, AreEntered, all_counted}
 use Rattle.fixpoint_queue.specs.Waits.{IsRun}
 use Rattle.fixpoint_queue.specs.Wider.{IsWider, HasRoom}
+use Rattle.fixpoint_queue.proofs.QueueSizes.{queue-grows}
 use Rattle.fixpoint_queue.proofs.NextRun.{Goes, Queues, run-next, marked-gone, mapped}
 use Rattle.fixpoint_queue.proofs.Stood.{core_at-without, core_at-gone, stand-removed}
 use Rattle.fixpoint_queue.proofs.Widened.{run-wider}
@@ -240,3 +241,12 @@ module _ (told : Core → Equation → Type 0) (k new : Kernel) (id : ℕ) (part
             (λ (old : 1 ≤ times other left-queue.queued). inl (only-left other old).1)
             (λ (b : (length k.cores < other) × (other ≤ length k.cores + length lists)). inr b.0)
             (entered.only other there)
+
+        -- the queue grows by no more than the cores
+        pub no-more : length next-queue.queued + length k.cores ≤ length queue.queued + length new.cores
+        no-more =
+            queue-grows (length k.cores) (length new.cores) queue.queued next-queue.queued (omega (arith, many))
+            (λ other there. let p = start.pending other there in let b = there-bounds k.cores other p.0 p.1 in (b.0, omega (arith, b.1, many)))
+            (λ other there. let p = run-split.pending other there in there-bounds new.cores other p.0 p.1)
+            entered.queued.once
+            only-parts

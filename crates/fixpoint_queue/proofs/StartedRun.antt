@@ -1,5 +1,5 @@
 -- The run of a state whose pending cores are all queued.
-use Rattle.std.proofs.Common.{◌≡◌, ◌⊎◌, ℕ, zero, suc, ◌-◌, ◌≤◌, ◌<◌, ◌==◌, Bool, true, false, List, [], length, get_or, take, replicate, refl, sym, ap, ◌∙◌, subst, arith, ⊎_elim, Option, Some, None}
+use Rattle.std.proofs.Common.{◌≡◌, ◌⊎◌, ℕ, ◌-◌, ◌≤◌, ◌<◌, ◌==◌, Bool, true, false, List, [], length, get_or, take, replicate, refl, sym, ap, ◌∙◌, subst, arith, ⊎_elim, Option, Some, None}
 use Rattle.std.specs.Prelude.{Contains, option_map, if◌then◌else◌}
 use Rattle.std.proofs.lemmas.Option.{none-some}
 use Rattle.std.proofs.lemmas.Bool.{cases_lt}
@@ -15,6 +15,7 @@ use Rattle.fixpoint_queue.specs.IdQueue.{Ids}
 use Rattle.fixpoint_queue.specs.Marks.{mark_of}
 use Rattle.fixpoint_queue.specs.Standing.{Stand, ArePending}
 use Rattle.fixpoint_queue.specs.Waits.{IsRun, Waits}
+use Rattle.fixpoint_queue.proofs.PairLaws.{one_there}
 
 -- no core stands at variables that have just come
 all-past : (n i : ℕ) → ◌≡◌ {A = List ℕ} (get_or (replicate n []) i []) []
@@ -47,8 +48,22 @@ module _ (told : Core → Equation → Type 0) (k : Kernel) (occurs : Occurrence
   all : take (length k.cores) k.cores ≡ k.cores
   all = take_all (length k.cores) k.cores (omega arith)
 
-  pub all-queued : (id : ℕ) (core : Core) → core_at k.cores id ≡ Some core → 1 ≤ times id queue.queued
+  all-queued : (id : ℕ) (core : Core) → core_at k.cores id ≡ Some core → 1 ≤ times id queue.queued
   all-queued id core at = h.come id core (ap (λ (cs : List (Option Core)). core_at cs id) all ∙ at)
+
+  -- each once, and nothing else
+  pub exactly-queued : (id : ℕ) → times id queue.queued ≡ one_there (core_at k.cores id)
+  exactly-queued id = by (core_at k.cores id) refl
+    where
+      by : (o : Option Core) → core_at k.cores id ≡ o → times id queue.queued ≡ one_there o
+      by None is =
+          ⊎_elim
+          (λ (none : times id queue.queued < 1). omega (arith, none))
+          (λ (there : 1 ≤ times id queue.queued).
+          let p = h.only id there in
+          absurd (none-some p.0 (sym is ∙ ap (λ (cs : List (Option Core)). core_at cs id) (sym all) ∙ p.1)))
+          (cases_lt (times id queue.queued) 1)
+      by (Some core) is = omega (arith, h.queued.once id, all-queued id core is)
 
   no-core : (id : ℕ) → times id queue.queued ≡ 0 → core_at k.cores id ≡ None
   no-core id none = by (core_at k.cores id) refl

@@ -1,8 +1,7 @@
 //! A compilation whose cores are asked for equations.
 
-ghost use Rattle.std.specs.Prelude.{◌≡◌, ◌⊎◌, ◌+◌, ◌++◌, ◌∷◌, ◌≤◌, ℕ, [], true, false, length, Ok, Some, IfOk, OnOk, OnErr};
+ghost use Rattle.std.specs.Prelude.{◌≡◌, ◌⊎◌, ◌+◌, ◌++◌, ◌∷◌, ◌≤◌, ℕ, [], true, false, length, Ok, is_some, if◌then◌else◌, IfOk, OnOk, OnErr};
 ghost use Rattle.index_ring.specs.Lists.{times};
-ghost use Rattle.core_forms.specs.declared.form.Core.{Core};
 ghost use Rattle.ledger_text.specs.declared.line.Line.TheVariants.{Split, Encode};
 ghost use Rattle.step_kernel.specs.Kernel.{core_at, trimmed_at, IsKernel};
 ghost use Rattle.step_kernel.specs.Least.{is_compound_if, least_compound_of};
@@ -54,8 +53,10 @@ impl<F: Oracle> Runner<F> {
     pub fn with(alloc: Global, state: State, oracle: F) -> Result<Runner<F>, AllocError>
         ensures kernel { IfOk result (λ made. made.kernel ≡ state) }
         ensures ledger { IfOk result (λ made. made.ledger ≡ []) }
-        ensures queued { IfOk result (λ made. (id : ℕ) (core : Core) → core_at state.cores id ≡ Some core
-            → 1 ≤ times id made.queued) }
+
+        // Each pending core is queued once, and nothing else is.
+        ensures queued { IfOk result (λ made. (id : ℕ)
+            → times id made.queued ≡ (if is_some (core_at state.cores id) then 1 else 0)) }
     {
         let ids = state.ids();
         if ids >= (1 << 31) - 2 {

@@ -52,6 +52,10 @@ impl<F: Oracle> Runner<F> {
         // Only the parts come into the queue.
         ensures queued { OnOk result ((other : ℕ) → 1 ≤ times other self.new.queued
             → (1 ≤ times other self.old.queued) ⊎ (length self.old.kernel.cores < other)) }
+
+        // The queue grows by no more than the cores.
+        ensures grows { OnOk result (length self.new.queued + length self.old.kernel.cores
+            ≤ length self.old.queued + length self.new.kernel.cores) }
         ensures stays { OnErr result (self.new ≡ self.old) }
     {
         let alloc = *self.ledger.allocator();

@@ -8,3 +8,4 @@ pub mod StepSizes
 pub mod Answered
 pub mod Reading
 pub mod Turns
+pub mod Askings

@@ -1,8 +1,9 @@
 //! A compilation from a state to its end.
 
-ghost use Rattle.std.specs.Prelude.{IfOk};
+ghost use Rattle.std.specs.Prelude.{◌+◌, ◌*◌, ◌≤◌, IfOk};
 ghost use Rattle.step_kernel.specs.Kernel.{IsKernel};
 ghost use Rattle.fixpoint_queue.specs.Ledgers.{Leads};
+ghost use Rattle.asking_bound.specs.Questions.{most_questions};
 ghost use Rattle.state_compile.specs.StandsFor.{CnfStandsFor};
 ghost use Rattle.state_compile.specs.Compilation.{IsCompilation};
 
@@ -32,6 +33,10 @@ pub fn compile_state<F: Oracle, L: Ledger>(
     // The valuations that satisfy the last CNF and meet the last store give exactly the first state's models.
     ensures models { IfOk result (λ made. CnfStandsFor state made.state) }
     ensures kernel { IfOk result (λ made. IsKernel made.state) }
+
+    // Three counts at most for each core that was made, and for each new label that one of its variables can get.
+    ensures asked { IfOk result
+        (λ made. steps.new ≤ steps.old + 3 * most_questions state made.ledger made.state) }
 {
     if state.bottom() {
         let ledger = Sequence::from_vec(Vec::new(alloc));

@@ -1,9 +1,10 @@
 //! Splits, of the least compound core each, until no core is compound.
 
-ghost use Rattle.std.specs.Prelude.{◌≡◌, ◌⊎◌, ◌<◌, [], true, false, None, Some, OnOk};
+ghost use Rattle.std.specs.Prelude.{◌≡◌, ◌⊎◌, ◌<◌, [], true, false, length, None, Some, OnOk};
 ghost use Rattle.step_kernel.specs.Kernel.{IsKernel};
 ghost use Rattle.step_kernel.specs.Least.{least_compound_of};
 ghost use Rattle.fixpoint_queue.specs.Quiet.{IsClosed};
+ghost use Rattle.asking_bound.specs.Questions.{IsAsked};
 ghost use Rattle.state_compile.specs.Compilation.{AddsInOrder};
 ghost use Rattle.state_compile.specs.Size.{left_to_split};
 
@@ -22,12 +23,15 @@ fn split_least<F: Oracle, L: Ledger>(
     requires running { runner.old.kernel.bottom ≡ false }
     requires closed { IsClosed F.told runner.old.kernel }
     requires least { least_compound_of runner.old.kernel ≡ Some id }
+    requires none { runner.old.queued ≡ [] }
     ensures adds { OnOk result
         (AddsInOrder F.told runner.old.ledger runner.old.kernel runner.new.ledger runner.new.kernel) }
     ensures kernel { OnOk result (IsKernel runner.new.kernel) }
     ensures empty { OnOk result (runner.new.kernel.bottom ≡ true ⊎ runner.new.queued ≡ []) }
     ensures closed { OnOk result (runner.new.kernel.bottom ≡ true ⊎ IsClosed F.told runner.new.kernel) }
     ensures smaller { OnOk result (left_to_split runner.new.kernel < left_to_split runner.old.kernel) }
+    ensures asked { OnOk result
+        (IsAsked runner.old.kernel runner.old.ledger runner.new.ledger 0 steps.old steps.new 0) }
 {
     runner.split(id)?;
     runner.saturate(steps)?;
@@ -45,6 +49,8 @@ pub fn split_all<F: Oracle, L: Ledger>(
     ensures closed { OnOk result (runner.new.kernel.bottom ≡ true ⊎ IsClosed F.told runner.new.kernel) }
     ensures none { OnOk result
         (runner.new.kernel.bottom ≡ true ⊎ least_compound_of runner.new.kernel ≡ None) }
+    ensures asked { OnOk result (IsAsked runner.old.kernel runner.old.ledger runner.new.ledger
+        (length runner.old.queued) steps.old steps.new 0) }
 {
     runner.saturate(steps)?;
     while !runner.state().bottom() {

@@ -6,7 +6,11 @@
 #[cfg(test)]
 mod classes;
 #[cfg(test)]
+mod compilations;
+#[cfg(test)]
 mod core_words;
+#[cfg(test)]
+mod ledgers;
 #[cfg(test)]
 mod numbers;
 #[cfg(test)]
@@ -25,5 +29,7 @@ mod step_faults;
 mod steps;
 #[cfg(test)]
 mod steps_made;
+#[cfg(test)]
+mod told_once;
 #[cfg(test)]
 mod words;

@@ -3,22 +3,18 @@
 
 ghost use Rattle.std.specs.Prelude.{◌≡◌, ◌<◌};
 
-use crate::steps_made::{shown, started};
-use bee_text::push_bytes;
+use crate::ledgers::{Row, compare};
+use crate::steps_made::started;
+use crate::told_once::ToldOnce;
 use fixpoint_queue::{Oracle, Runner, Silent, TableP};
-use ledger_text::{Line, write_step};
 use rule_base::Steps;
 use std::alloc::{AllocError, Global};
 use std::marker::Brand;
 use std::process::Abort;
 use std::sync::ledger::{Blank, Ledger};
-use step_kernel::ApplyFault;
 
-/// The number of variables, cores in words, the ledger's lines, and the state at the end.
-type Row = (u32, &'static [&'static str], &'static str, &'static str);
-
-/// Equations by the order of integers and by the form of cores.
-static TOLD: [Row; 5] = [
+/// Equations by the order of integers, by the form of cores, and by their truth tables.
+static TOLD: [Row; 7] = [
     (
         4,
         &["Parity even 1 2", "Parity odd 2 3", "Clause -4"],
@@ -43,6 +39,18 @@ static TOLD: [Row; 5] = [
         "eq 3 form 1 T; eq 4 form 3 T; eq 2 order 2 T; eq 2 form 5 T; eq 2 order 4 T",
         "5: T T T T T; #1 Ladder (0 2 3) is Ladder (2); #2 LeqR 1 (0 2 3) (0 4 5) is LeqR T (2) (2); #3 Clause 1 is Clause T; #4 Clause 3 is Clause T; next 5; least 1 none; cnf 5",
     ),
+    (
+        2,
+        &["Conj 1 -1 2"],
+        "eq 1 table T -1; eq 1 form F 2",
+        "2: F F; #1 Conj 1 -1 2 is Conj F F; next 2; least 1 none; cnf 2",
+    ),
+    (
+        4,
+        &["Sum3 1+1 1+1 2+2", "Parity even 3 4"],
+        "eq 1 table 1 2; eq 1 table 1 3; eq 2 form 1 4",
+        "4: 1 1 1 1; #1 Sum3 (0 1) (0 1) (0 2 3) is Sum3 (0 1) (0 1) (0 1:2); #2 Parity even 3 4 is Parity even 1 1; next 3; least 1 none; cnf 4",
+    ),
     (0, &[], "", "0:; next 1; least none none; cnf 0"),
 ];
 
@@ -54,17 +62,27 @@ static SILENT: [Row; 1] = [(
     "2: 1 2; #1 Parity even 1 2; #2 Clause 1; next 3; least 1 none; cnf 2",
 )];
 
-/// The lines of a ledger, with a semicolon between them.
-fn ledger_words(alloc: Global, ledger: &[Line]) -> Result<Vec<u8>, AllocError> {
-    let mut text = Vec::new(alloc);
-    for (place, line) in ledger.iter().enumerate() {
-        if 0 < place {
-            push_bytes(&mut text, b"; ")?;
-        }
-        push_bytes(&mut text, write_step(alloc, line)?.as_slice())?;
-    }
-    Ok(text)
-}
+/// The equation that is told is taken at the first core that tells it, and no other one, although rules state more.
+static TOLD_ONCE: [Row; 2] = [
+    (
+        4,
+        &[
+            "Parity even 1 2",
+            "Clause 2",
+            "Clause 1",
+            "Clause 1",
+            "Conj 4 3",
+        ],
+        "eq 3 form 1 T",
+        "4: T 2 3 4; #1 Parity even 1 2 is Parity odd 2; #2 Clause 2; #3 Clause 1 is Clause T; #4 Clause 1 is Clause T; #5 Conj 4 3; next 6; least 1 none; cnf 4",
+    ),
+    (
+        2,
+        &["Clause 2", "Clause -1", "Clause 1 2"],
+        "",
+        "2: 1 2; #1 Clause 2; #2 Clause -1; #3 Clause 1 2; next 4; least 1 none; cnf 2",
+    ),
+];
 
 /// Saturates, with a counter of its own.
 fn saturate_with<L: Ledger, F: Oracle>(
@@ -82,38 +100,26 @@ fn saturate_with<L: Ledger, F: Oracle>(
     }
 }
 
-/// Asserts that a ledger leads from the state at the start to the one in words.
-fn replay(rt: &impl Abort, alloc: Global, row: Row, ledger: &[Line]) -> Result<(), AllocError> {
-    let (vars, cores, _, wanted) = row;
-    let mut state = started(rt, alloc, vars, cores)?;
-    for line in ledger {
-        let mut answer = state.apply(line);
-        if answer == Err(ApplyFault::Memory) {
-            answer = state.apply(line);
-        }
-        assert_eq!(rt; answer, Ok(()));
+/// A worklist of the cores of a row. Where memory is refused it is made once more.
+fn queued<F: Oracle>(
+    rt: &impl Abort,
+    alloc: Global,
+    oracle: F,
+    row: Row,
+) -> Result<Runner<F>, AllocError> {
+    let (vars, cores, _, _) = row;
+    match Runner::with(alloc, started(rt, alloc, vars, cores)?, oracle) {
+        Ok(runner) => Ok(runner),
+        Err(_) => Runner::with(alloc, started(rt, alloc, vars, cores)?, oracle),
     }
-    let found = shown(alloc, &state)?;
-    assert_eq!(rt; found.as_slice(), wanted.as_bytes());
-    Ok(())
 }
 
 /// Tests a row.
 fn check<F: Oracle>(rt: &impl Abort, alloc: Global, oracle: F, row: Row) -> Result<(), AllocError> {
-    let (vars, cores, wanted_ledger, wanted_state) = row;
-    let state = started(rt, alloc, vars, cores)?;
-    let mut runner = Runner::with(alloc, state, oracle)?;
+    let mut runner = queued(rt, alloc, oracle, row)?;
     saturate_with::<Brand, F>(Blank::new(1), &mut runner)?;
     let (state, ledger) = runner.finish();
-    let found = ledger_words(alloc, ledger.as_slice())?;
-    assert_eq!(rt;
-        found.as_slice(),
-        wanted_ledger.as_bytes(),
-        "{wanted_ledger}"
-    );
-    let found = shown(alloc, &state)?;
-    assert_eq!(rt; found.as_slice(), wanted_state.as_bytes(), "{wanted_state}");
-    replay(rt, alloc, row, ledger.as_slice())
+    compare(rt, alloc, row, &state, ledger.as_slice())
 }
 
 /// Tests rows.
@@ -137,4 +143,9 @@ fn told_equations_are_taken_to_the_end(rt: HostRuntime) -> Result<(), AllocError
 #[test]
 fn nothing_is_told_by_the_silent_one(rt: HostRuntime) -> Result<(), AllocError> {
     check_all(&rt, rt.alloc(), Silent, &SILENT)
+}
+
+#[test]
+fn only_what_is_told_is_taken(rt: HostRuntime) -> Result<(), AllocError> {
+    check_all(&rt, rt.alloc(), ToldOnce, &TOLD_ONCE)
 }

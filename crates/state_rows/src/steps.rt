@@ -44,6 +44,31 @@ static BY_ORDER: [(&str, &str); 4] = [
     ),
 ];
 
+/// Equations that the truth table of a core alone tells: a member and its negation, an integer added to itself, and one
+/// member twice. Neither their order nor their form states one.
+static BY_TABLE: [(&str, &str); 5] = [
+    (
+        "start",
+        "6: 1 2 3 4 5 6; #1 Conj 1 -1 2; #2 Sum3 (0 3) (0 3) (0 4 5); #3 Clause 6 6; next 4; least 1 none; cnf 6",
+    ),
+    (
+        "eq 1 table T -1",
+        "6: F 2 3 4 5 6; #1 Conj 1 -1 2 is Conj F 2; #2 Sum3 (0 3) (0 3) (0 4 5); #3 Clause 6 6; next 4; least 1 none; cnf 6",
+    ),
+    (
+        "eq 2 table 5 4",
+        "6: F 2 3 4 4 6; #1 Conj 1 -1 2 is Conj F 2; #2 Sum3 (0 3) (0 3) (0 4 5) is Sum3 (0 3) (0 3) (0 4:2); #3 Clause 6 6; next 4; least 1 none; cnf 6",
+    ),
+    (
+        "eq 2 table -3 -4",
+        "6: F 2 4 4 4 6; #1 Conj 1 -1 2 is Conj F 2; #2 Sum3 (0 3) (0 3) (0 4 5) is Sum3 (0 4) (0 4) (0 4:2); #3 Clause 6 6; next 4; least 1 none; cnf 6",
+    ),
+    (
+        "eq 3 table 6 T",
+        "6: F 2 4 4 4 T; #1 Conj 1 -1 2 is Conj F 2; #2 Sum3 (0 3) (0 3) (0 4 5) is Sum3 (0 4) (0 4) (0 4:2); #3 Clause 6 6 is Clause T; next 4; least 1 none; cnf 6",
+    ),
+];
+
 /// Parts have the next ids in their order, and the fresh variables are the next ones.
 static SPLITS: [(&str, &str); 5] = [
     (
@@ -221,7 +246,9 @@ fn equations(rt: HostRuntime) -> Result<(), AllocError> {
     let by_form = ["Parity even 1 2", "Clause -3", "Parity odd 2 5"];
     walk_both(&rt, alloc, 5, &by_form, &BY_FORM)?;
     let by_order = ["Ladder 2+2", "Parity odd 2 3", "Parity even 1 3"];
-    walk_both(&rt, alloc, 4, &by_order, &BY_ORDER)
+    walk_both(&rt, alloc, 4, &by_order, &BY_ORDER)?;
+    let by_table = ["Conj 1 -1 2", "Sum3 3+1 3+1 4+2", "Clause 6 6"];
+    walk_both(&rt, alloc, 6, &by_table, &BY_TABLE)
 }
 
 #[test]

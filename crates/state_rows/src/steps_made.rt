@@ -54,12 +54,12 @@ fn core_at(rt: &impl Abort, alloc: Global, state: &State, id: u64) -> Result<Cor
     }
 }
 
-/// Whether an equation is one that a rule states of a core by its order or its form.
+/// Whether an equation is one that a rule states of a core by its order, its form or its truth table.
 fn is_told(core: &Core, e: &Equation) -> bool
     requires { IsWellFormed core.now }
     ensures { IsTrue result → is_instance_at core.now e.now ≡ true }
 {
-    equi_rules::is_instance(core, e)
+    equi_rules::is_instance(core, e) || table_rules::is_instance(core, e)
 }
 
 /// Makes the step of an equation that is told to be one.

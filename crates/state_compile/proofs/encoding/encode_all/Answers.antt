@@ -1,7 +1,6 @@
 use Rattle.std.proofs.Common.{◌≡◌, inr, Some, None, rules}
 use Rattle.ledger_text.specs.declared.line.Line.TheVariants.{Encode}
 use Rattle.step_kernel.specs.Least.{least_of}
-use Rattle.step_kernel.specs.Steps.{step}
 use Rattle.state_compile.proofs.Encodings.{encoded-running, encoded-closed, encoded-none, fewer-pending}
 use Rattle.state_compile.proofs.Found.{all-gone, basic-there}
 use Rattle.state_compile.proofs.InOrder.{adds-line, adds-more}

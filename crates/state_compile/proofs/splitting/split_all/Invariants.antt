@@ -1,6 +1,7 @@
-use Rattle.std.proofs.Common.{◌≡◌, ◌⊎◌, true, []}
+use Rattle.std.proofs.Common.{◌≡◌, ◌⊎◌, true, [], length}
 use Rattle.step_kernel.specs.Kernel.{IsKernel}
 use Rattle.fixpoint_queue.specs.Quiet.{IsClosed}
+use Rattle.asking_bound.specs.Questions.{IsAsked}
 use Rattle.state_compile.specs.Compilation.{AddsInOrder}
 use Rattle.state_compile.specs.Size.{left_to_split}
 use Rattle.state_compile.proofs.splitting.split_all.Given as goal
@@ -11,6 +12,7 @@ invariant-loop-runner g l = record {
   adds : AddsInOrder g.F.Oracle.told l.fn.runner.ledger l.fn.runner.kernel l.runner.ledger l.runner.kernel;
   empty : (l.runner.kernel.bottom ≡ true) ⊎ (l.runner.queued ≡ []);
   closed : (l.runner.kernel.bottom ≡ true) ⊎ IsClosed g.F.Oracle.told l.runner.kernel;
+  asked : IsAsked l.fn.runner.kernel l.fn.runner.ledger l.runner.ledger (length l.fn.runner.queued) l.fn.steps l.steps 0;
 }
 
 abbrev pub decreases-loop-runner : goal.decreases-loop-runner

@@ -1,4 +1,4 @@
-use Rattle.std.proofs.Common.{◌≡◌, ◌⊎◌, ℕ, ◌≤◌, ◌<◌, List, length, sym, ap, ◌∙◌, subst, arith, take}
+use Rattle.std.proofs.Common.{◌≡◌, ◌⊎◌, ℕ, ◌+◌, ◌≤◌, ◌<◌, List, length, sym, ap, ◌∙◌, subst, arith, take}
 use Rattle.index_ring.specs.Lists.{times}
 use Rattle.step_kernel.specs.Kernel.{Kernel}
 use Rattle.step_kernel.specs.Steps.{step, divided}
@@ -6,7 +6,7 @@ use Rattle.fixpoint_queue.specs.Run.{Run}
 use Rattle.fixpoint_queue.specs.Standing.{Stand, AreAllVars, AreVarsFrom, AreEntered}
 use Rattle.fixpoint_queue.specs.Waits.{IsRun}
 use Rattle.fixpoint_queue.specs.Wider.{HasRoom}
-use Rattle.fixpoint_queue.proofs.Splittings.{divided-is, kernel-split, fresh-bound, lists-from, left-stand, left-vars, run-split, only-parts}
+use Rattle.fixpoint_queue.proofs.Splittings.{divided-is, kernel-split, fresh-bound, lists-from, left-stand, left-vars, run-split, only-parts, no-more}
 use Rattle.fixpoint_queue.proofs.Widened.{run-wider}
 use Rattle.fixpoint_queue.proofs.runner.Runner.split.Given
 use Rattle.fixpoint_queue.proofs.runner.Runner.split.Goals as goal
@@ -98,6 +98,15 @@ pub returns-clause-queued : goal.returns-clause-queued
 returns-clause-queued g c =
     subst (λ (r : Run). (other : ℕ) → 1 ≤ times other c.enter_all.new.queue.queued → (1 ≤ times other r.queued) ⊎ (length r.kernel.cores < other)) c.self.view_is
     (only-parts g.F.Oracle.told c.self.inside.state c.split_into.new.self c.args.id c.in_ok-parts.parts c.as_slice-2.result.now
+    c.self.inside.occurs c.make_room.new.occurs c.leave.new.occurs c.self.inside.queue c.make_room.new.queue c.leave.new.queue c.self.inside.marks c.make_room.new.marks c.leave.new.marks
+    c.self.invariant c.make_room.ensures.wider (has-room-2 g c) c.in_ok-parts.ensures.parts (are-vars-2 g c) (is-divided-2 g c)
+    c.leave.ensures.occurs c.leave.ensures.occurrences c.leave.ensures.queued c.leave.ensures.places c.leave.ensures.ids c.leave.ensures.marks
+    (kernel-split c.self.inside.state c.split_into.new.self c.args.id c.self.invariant.kernel c.in_ok-split_into.ensures.step) c.enter_all.new.occurs c.enter_all.new.queue (entered g c))
+
+pub returns-clause-grows : goal.returns-clause-grows
+returns-clause-grows g c =
+    subst (λ (r : Run). length c.enter_all.new.queue.queued + length r.kernel.cores ≤ length r.queued + length c.split_into.new.self.cores) c.self.view_is
+    (no-more g.F.Oracle.told c.self.inside.state c.split_into.new.self c.args.id c.in_ok-parts.parts c.as_slice-2.result.now
     c.self.inside.occurs c.make_room.new.occurs c.leave.new.occurs c.self.inside.queue c.make_room.new.queue c.leave.new.queue c.self.inside.marks c.make_room.new.marks c.leave.new.marks
     c.self.invariant c.make_room.ensures.wider (has-room-2 g c) c.in_ok-parts.ensures.parts (are-vars-2 g c) (is-divided-2 g c)
     c.leave.ensures.occurs c.leave.ensures.occurrences c.leave.ensures.queued c.leave.ensures.places c.leave.ensures.ids c.leave.ensures.marks

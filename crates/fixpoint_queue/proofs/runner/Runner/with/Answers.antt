@@ -3,7 +3,7 @@ use Rattle.std.proofs.lemmas.List.{append-nil, length-replicate}
 use Rattle.core_occurrences.specs.Lists.{OccurrenceLists, grown}
 use Rattle.fixpoint_queue.proofs.runner.Runner.with.Given
 use Rattle.fixpoint_queue.proofs.Started.{pending-start}
-use Rattle.fixpoint_queue.proofs.StartedRun.{none-stands, all-queued, run-started}
+use Rattle.fixpoint_queue.proofs.StartedRun.{none-stands, exactly-queued, run-started}
 use Rattle.fixpoint_queue.proofs.runner.Runner.with.Goals as goal
 
 pub enter_state-requires-clause-none : goal.enter_state-requires-clause-none
@@ -25,4 +25,4 @@ invariant_of-result g c = run-started g.F.Oracle.told c.args.state c.enter_state
     (omega (arith, c.ids-ids.ensures.ids, c.in_ok-enter_state.ensures.places, c.in_ok-queue.ensures.places))
 
 pub returns-clause-queued : goal.returns-clause-queued
-returns-clause-queued g c = all-queued g.F.Oracle.told c.args.state c.enter_state.new.occurs c.enter_state.new.queue c.in_ok-enter_state.ensures.pending
+returns-clause-queued g c = exactly-queued g.F.Oracle.told c.args.state c.enter_state.new.occurs c.enter_state.new.queue c.in_ok-enter_state.ensures.pending

@@ -1,0 +1,9 @@
+pub mod DigitLaws
+pub mod ClassSizes
+pub mod LabelsLeft
+pub mod OwnCounts
+pub mod CoresLeft
+pub mod StepLabels
+pub mod StepPairs
+pub mod Replays
+pub mod Asked

@@ -1,0 +1,4 @@
+pub mod NewLabels
+pub mod Made
+pub mod Questions
+pub mod Laws

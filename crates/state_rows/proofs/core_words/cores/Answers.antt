@@ -1,4 +1,4 @@
-use Rattle.std.proofs.Common.{sym, subst, []}
+use Rattle.std.proofs.Common.{sym, subst}
 use Rattle.core_forms.specs.Cores.{AreWellFormed}
 use Rattle.core_forms.proofs.CoreLists.{AreWellFormed-append}
 use Rattle.state_rows.proofs.core_words.cores.Goals as goal

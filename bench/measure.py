@@ -2,7 +2,8 @@
 # Compiles models and prints what that took: measure.py PROGRAM FAMILY:SIZE,SIZE.. ..
 # A line for each model: its family and size, the processor's seconds (the least of nine runs or more, or of as many as
 # twenty seconds hold), the peak memory in MB, and beside both texts and an empty model's memory in bytes for each variable
-# and literal; the variables, the clauses and the ledger's lines; and the bytes of both texts. A family of several sizes then
+# and literal; the variables, the clauses, the cores that were made, the ledger's lines and the equations among them; and the bytes of
+# both texts. A family of several sizes then
 # has its growth exponents from its first model to its last, of the seconds and of the memory against the size, and of the
 # seconds against the bytes of both texts. A model that the program refuses, or that takes longer than ten minutes, ends its family.
 import math, os, signal, subprocess, sys, tempfile
@@ -41,18 +42,23 @@ class Models:
             runs.append(self.run())
         return min(runs)
 
-    # Variables, clauses, literals and lines of the ledger.
+    # Variables, clauses, literals, cores (the ledger's greatest id, since each core is split or encoded at the end), the lines of the
+    # ledger, and those of them that are equations. Each equation answers a question; how many more were asked the program
+    # doesn't know, for its counter takes no memory: the bound is proved.
     def counts(self):
-        variables = clauses = literals = lines = 0
+        variables = clauses = literals = cores = lines = equations = 0
         with open(self.out) as text:
             for line in text:
                 if line.startswith("p cnf"):
                     variables, clauses = map(int, line.split()[2:])
                 elif line.startswith("c led"):
                     lines += 1
+                    kind, core = line.split()[2:4]
+                    equations += kind == "eq"
+                    cores = max(cores, int(core))
                 elif not line.startswith("c"):
                     literals += line.count(" ")
-        return variables, clauses, literals, lines
+        return variables, clauses, literals, cores, lines, equations
 
 def exponents(first, last):
     def growth(of, against):
@@ -68,12 +74,12 @@ def measure(models, base, family, sizes):
         except Refused as why:
             print(f"{family:10} {size:7}  {why}", flush=True)
             break
-        variables, clauses, literals, lines = models.counts()
+        variables, clauses, literals, cores, lines, equations = models.counts()
         read, written = os.path.getsize(models.path), os.path.getsize(models.out)
         beside = (peak - base - read - written) / max(1, variables + literals)
         print(
             f"{family:10} {size:7}  {seconds:8.3f}  {peak / 1e6:7.1f}  {beside:10.1f}"
-            f"  {variables:9}  {clauses:9}  {lines:9}  {read:11}  {written:10}",
+            f"  {variables:9}  {clauses:9}  {cores:9}  {lines:9}  {equations:9}  {read:11}  {written:10}",
             flush=True,
         )
         measured.append({"size": size, "seconds": seconds, "peak": peak, "bytes": read + written})
@@ -85,7 +91,7 @@ def main(program, families):
         models = Models(program, folder)
         models.write("empty", 0)
         _, base = models.run()
-        print("family        size   seconds  peak MB  bytes/item  variables    clauses     ledger  model bytes  text bytes")
+        print("family        size   seconds  peak MB  bytes/item  variables    clauses      cores     ledger  equations  model bytes  text bytes")
         told = []
         for it in families:
             family, _, sizes = it.partition(":")

@@ -1,5 +1,5 @@
 #!/usr/bin/env python3
-# Writes a model of a family: models.py FAMILY SIZE FILE.
+# Writes a model of a family: models.py FAMILY SIZE FILE. A number behind these is how many values an integer of `eq_row` has.
 import random, sys
 
 FIRST = "abcdefghijklmnopqrstuvwxyzABCDEFGHIJKLMNOPQRSTUVWXYZ_"
@@ -117,8 +117,8 @@ def empty(_):
     return ()
 
 if __name__ == "__main__":
-    family, size, path = sys.argv[1:]
+    family, size, path, *values = sys.argv[1:]
     with open(path, "w") as sink:
-        for line in globals()[family](int(size)):
+        for line in globals()[family](int(size), *map(int, values)):
             sink.write(line + "\n")
         sink.write("solve satisfy\n")

@@ -53,6 +53,11 @@ fn values_are_told(rt: HostRuntime) -> Result<(), Fail> {
             "s SATISFIABLE\nv 1 0\n",
             "high = 1073741824\n",
         ),
+        (
+            "c bee 1\nc int h 1 F:4 1:2\np cnf 1 0\n",
+            "s SATISFIABLE\nv 1 0\n",
+            "h = 3\n",
+        ),
         ("c bee 1\np cnf 0 0\n", "s SATISFIABLE\nv 0\n", ""),
     ] {
         let run = decoded(
@@ -74,9 +79,10 @@ fn other_answers_are_refused(rt: HostRuntime) -> Result<(), Fail> {
     for (answer, line) in [
         ("s UNSATISFIABLE\n", 1),
         ("", 1),
-        // A variable that is missing, a false clause, one above the variables, and one that stands twice.
+        // A variable that is missing, a false clause, the first or the second, one above the variables, and one that stands twice.
         ("s SATISFIABLE\nv 1 -2 -3 4 5 0\n", 2),
         ("s SATISFIABLE\nv -1 2 -3 4 5 6 0\n", 2),
+        ("s SATISFIABLE\nv -1 -2 3 4 5 6 0\n", 2),
         ("s SATISFIABLE\nv 1 -2 -3 4 5 -6 7 0\n", 2),
         ("s SATISFIABLE\nv 1\nv 1 -2 -3 4 5 -6 0\n", 3),
         // A last line without line feed, no end, and something behind it.
@@ -112,6 +118,7 @@ fn other_texts_are_no_compiled_texts(rt: HostRuntime) -> Result<(), Fail> {
         ("c bee 1\nc bool x 2\np cnf 1 0\n", 2),
         ("c bee 1\np cnf 1 1\n1 0", 3),
         ("c bee 1\np cnf 1 0\n1 0\n", 3),
+        ("c bee 1\np cnf 1 0\nc", 3),
     ] {
         let run = decoded(
             alloc,

@@ -1,0 +1,108 @@
+//! The equations that link two integers value by value.
+
+ghost use Rattle.std.specs.Prelude.{◌≡◌, ◌^◌, ◌<◌, ◌++◌, map, pos, ◌+ℤ◌, ◌-ℤ◌, unsigned_abs, OnOk};
+ghost use Rattle.core_forms.specs.WellFormed.{IsSound};
+ghost use Rattle.core_forms.specs.declared.equation.Rule.TheVariants.{Form};
+ghost use Rattle.arith_rules.specs.Links.{linked, opposed, opposed_above};
+ghost use Rattle.arith_rules.specs.SumRows.{raised_equations, mirrored_equations};
+ghost use Rattle.equation_runs.specs.RunRows.{equation_of};
+
+use core_forms::{Equation, Rule};
+use order_ints::{OrdInt, Walk};
+use std::alloc::AllocError;
+
+/// Adds, for each value of `a`, that `a` reaches it exactly where `b` reaches that value and `k`, added up.
+fn push_linked(run: &mut Vec<Equation>, k: i128, a: &OrdInt, b: &OrdInt) -> Result<(), AllocError>
+    requires k { unsigned_abs k < 2 ^ 110 }
+    requires a { IsSound a.now }
+    requires b { IsSound b.now }
+    ensures { OnOk result (run.new.items ≡ run.old.items ++ map (equation_of Form) (linked (λ v. v +ℤ k) a.now b.now)) }
+{
+    let mut walk = Walk::along(b);
+    for (value, atom) in a.levels() {
+        run.push(Equation {
+            rule: Rule::Form,
+            a: atom,
+            b: walk.at(value + k),
+        })?;
+    }
+    Ok(())
+}
+
+/// Adds, for each value of `a`, that `a` reaches it exactly where `b` is below `k` less that value, and 1.
+fn push_opposed(run: &mut Vec<Equation>, k: i128, a: &OrdInt, b: &OrdInt) -> Result<(), AllocError>
+    requires k { unsigned_abs k < 2 ^ 110 }
+    requires a { IsSound a.now }
+    requires b { IsSound b.now }
+    ensures { OnOk result (run.new.items
+        ≡ run.old.items ++ map (equation_of Form) (opposed (λ v. k -ℤ v +ℤ pos 1) a.now b.now)) }
+{
+    let mut walk = Walk::along(b);
+    for (value, atom) in a.levels() {
+        run.push(Equation {
+            rule: Rule::Form,
+            a: atom,
+            b: walk.at(k - value + 1).not(),
+        })?;
+    }
+    Ok(())
+}
+
+/// Adds, for each value of `b`, that `b` is at most that value exactly where `a` reaches `k` less the value.
+fn push_opposed_above(
+    run: &mut Vec<Equation>,
+    k: i128,
+    b: &OrdInt,
+    a: &OrdInt,
+) -> Result<(), AllocError>
+    requires k { unsigned_abs k < 2 ^ 110 }
+    requires b { IsSound b.now }
+    requires a { IsSound a.now }
+    ensures { OnOk result (run.new.items
+        ≡ run.old.items ++ map (equation_of Form) (opposed_above (λ w. k -ℤ w) b.now a.now)) }
+{
+    let mut walk = Walk::along(a);
+    let mut above = Walk::along(b);
+    for (value, _) in b.levels() {
+        run.push(Equation {
+            rule: Rule::Form,
+            a: walk.at(k - value),
+            b: above.at(value + 1).not(),
+        })?;
+    }
+    Ok(())
+}
+
+/// Adds the equations of `b` being `a` and a number, added up.
+pub(crate) fn push_raised(
+    run: &mut Vec<Equation>,
+    k: i128,
+    a: &OrdInt,
+    b: &OrdInt,
+) -> Result<(), AllocError>
+    requires k { unsigned_abs k < 2 ^ 100 }
+    requires a { IsSound a.now }
+    requires b { IsSound b.now }
+    ensures { OnOk result (run.new.items
+        ≡ run.old.items ++ map (equation_of Form) (raised_equations k a.now b.now)) }
+{
+    push_linked(run, k, a, b)?;
+    push_linked(run, -k, b, a)
+}
+
+/// Adds the equations of `a` and `b` being a number, added up.
+pub(crate) fn push_mirrored(
+    run: &mut Vec<Equation>,
+    k: i128,
+    a: &OrdInt,
+    b: &OrdInt,
+) -> Result<(), AllocError>
+    requires k { unsigned_abs k < 2 ^ 100 }
+    requires a { IsSound a.now }
+    requires b { IsSound b.now }
+    ensures { OnOk result (run.new.items
+        ≡ run.old.items ++ map (equation_of Form) (mirrored_equations k a.now b.now)) }
+{
+    push_opposed(run, k, a, b)?;
+    push_opposed_above(run, k, b, a)
+}

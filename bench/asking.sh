@@ -1,9 +1,11 @@
 #!/usr/bin/env bash
 # Counts the questions that a compilation asks: how often an oracle is asked for an equation at a core. An oracle of its own adds one
 # to a cell, and hands the question on to all the rules. Prints for families of models, of sizes that mostly double, the questions that
-# were asked; the cores that were made, by the lowering and by splits; the numbers of their different variables, together; the binary
-# digits of the last number of variables; the bound, which is the cores, and the variables times the digits; and the equations. It stops
-# with an error where more questions were asked than the bound says.
+# were asked; the different variables of the cores at which they were asked, as the store had these, together, which is what was looked
+# at; the cores that were made, by the lowering and by splits; the numbers of their different variables, together; the binary
+# digits of the last number of variables; the bound, which is the cores, and the variables times the digits; and the equations. Behind
+# them stand, for a family of several sizes, the growth exponents of the questions and of what was looked at, from its first size to its
+# last, against the variables of the cores. It stops with an error where more questions were asked than the bound says.
 #   clauses                        clauses of three literals over a tenth as many names
 #   leq_chain                      a chain of `int_leq` over integers of 1,000 values each
 #   upwards, downwards, shuffled   a chain of `bool_eq`, in the order of the names, in the other one, and in none
@@ -70,10 +72,11 @@ use std::sync::ledger::{Blank, Ledger};
 use step_kernel::State;
 use typed_model::{Model, Typing};
 
-/// Tells what all rules tell, and counts how often it is asked.
+/// Tells what all rules tell, and counts how often it is asked, and the different variables of the cores at which it is.
 #[derive(Clone, Copy)]
 struct Counting<'a> {
     asked: &'a Cell<u64>,
+    looked: &'a Cell<u64>,
 }
 
 impl Oracle for Counting<'_> {
@@ -90,8 +93,14 @@ impl Oracle for Counting<'_> {
         core: &Core,
         steps: &mut Steps<L>,
     ) -> Result<Option<Equation>, AllocError> {
+        let vars = variables(alloc, core)?.len() as u64;
         self.asked.set(self.asked.get().saturating_add(1));
+        self.looked.set(self.looked.get().saturating_add(vars));
         TableP.ask(alloc, core, steps)
+    }
+
+    fn run(&self, alloc: Global, core: &Core) -> Result<Vec<Equation>, AllocError> {
+        TableP.run(alloc, core)
     }
 }
 
@@ -163,16 +172,21 @@ fn model_of(alloc: Global, text: &[u8]) -> Option<Model> {
     typing.finish().ok()
 }
 
-/// What a model is compiled to, by all rules, and how many questions were asked of them.
+/// What a model is compiled to, by all rules, how many questions were asked of them, and at how many variables.
 fn compile_counting<L: Ledger>(
     alloc: Global,
     blank: Blank,
     model: Model,
-) -> Option<(Compiled, u64)> {
+) -> Option<(Compiled, u64, u64)> {
     let asked = Cell::new(0_u64);
+    let looked = Cell::new(0_u64);
+    let counting = Counting {
+        asked: &asked,
+        looked: &looked,
+    };
     let mut steps = Steps::<L>::open(blank);
-    let compiled = compile(alloc, model, Counting { asked: &asked }, &mut steps).ok()?;
-    Some((compiled, asked.get()))
+    let compiled = compile(alloc, model, counting, &mut steps).ok()?;
+    Some((compiled, asked.get(), looked.get()))
 }
 
 fn main(rt: HostRuntime) -> io::Result<()> {
@@ -185,7 +199,7 @@ fn main(rt: HostRuntime) -> io::Result<()> {
     let Ok(lowered) = lower(alloc, &model) else {
         return Err(io::Error::other("the model is not lowered"));
     };
-    let Some((compiled, asked)) = compile_counting::<Brand>(alloc, Blank::new(1), model) else {
+    let Some((compiled, asked, looked)) = compile_counting::<Brand>(alloc, Blank::new(1), model) else {
         return Err(io::Error::other("the model is not compiled"));
     };
     let Made {
@@ -194,24 +208,32 @@ fn main(rt: HostRuntime) -> io::Result<()> {
         equations,
     } = replay(alloc, lowered, compiled.ledger.as_slice())?;
     let digits = u32::BITS - compiled.cnf.vars.leading_zeros();
-    println!(rt; "{asked} {cores} {occurrences} {digits} {equations}")
+    println!(rt; "{asked} {looked} {cores} {occurrences} {digits} {equations}")
 }
 RT
 (cd "$folder/crates/asking" && rt try --steps 1 --seconds 300 --cases "$folder/models" >"$folder/log" 2>&1) || { tail -n 20 "$folder/log" >&2; exit 1; }
 python3 - "$folder/order" "$folder/log" <<'PY'
-import sys
+import math, sys
 
 order, log = ([line.rstrip("\n") for line in open(path)] for path in sys.argv[1:])
 said = {line[3:]: after.split() for line, after in zip(log, log[1:]) if line.startswith("== ")}
-row = "{:10} {:>6} {:>10} {:>9} {:>11} {:>7} {:>11} {:>10}".format
-print(row("family", "size", "questions", "cores", "variables", "digits", "bound", "equations"))
+row = "{:10} {:>6} {:>10} {:>10} {:>9} {:>11} {:>7} {:>11} {:>10}".format
+print(row("family", "size", "questions", "looked at", "cores", "variables", "digits", "bound", "equations"))
+families = {}
 for name in order:
     family, size = name.split("-")
-    if len(said[name]) != 5 or not all(word.isdigit() for word in said[name]):
+    if len(said[name]) != 6 or not all(word.isdigit() for word in said[name]):
         sys.exit(f"{name}: {' '.join(said[name])}")
-    asked, cores, variables, digits, equations = map(int, said[name])
+    asked, looked, cores, variables, digits, equations = map(int, said[name])
     bound = cores + variables * digits
-    print(row(family, size, asked, cores, variables, digits, bound, equations))
+    print(row(family, size, asked, looked, cores, variables, digits, bound, equations))
     if asked > bound:
         sys.exit(f"{name}: more questions were asked than {bound}")
+    families.setdefault(family, []).append((variables, asked, looked))
+print("growth exponents against the variables of the cores: of the questions, and of what was looked at")
+for family, counted in families.items():
+    if len(counted) > 1:
+        first, last = counted[0], counted[-1]
+        growth = lambda of: math.log(last[of] / first[of]) / math.log(last[0] / first[0])
+        print(f"{family}: {growth(1):.2f}, {growth(2):.2f}")
 PY

@@ -1,0 +1,4 @@
+pub mod AtTrimmed
+pub mod NextValue
+pub mod LinkedAt
+pub mod LinkTurns

@@ -1,4 +1,5 @@
 pub mod AtTrimmed
 pub mod NextValue
 pub mod LinkedAt
+pub mod LinkLists
 pub mod LinkTurns

@@ -11,7 +11,7 @@ use Rattle.order_ints.specs.Equality.{is_true-True, is_false-False, same_atom-tr
 use Rattle.order_ints.specs.OrderRange.{low_of}
 use Rattle.order_ints.specs.OrderLevels.{levels, first_reaching, at_of}
 use Rattle.order_ints.specs.View.{resolve}
-use Rattle.order_ints.proofs.Comparisons.{le_from_test, lt_from_test}
+use Rattle.order_ints.proofs.Comparisons.{int_le-false, le_from_test, lt_from_test}
 use Rattle.order_ints.proofs.Reaching.{reaching-low, reaching-above}
 use Rattle.core_forms.specs.Resolved.{map_steps, map_int}
 use Rattle.core_forms.specs.Trimmed.{merged_steps, raised_by, tidied_int, trimmed_int}
@@ -46,10 +46,7 @@ false-gone : (v low : ℤ) (x : Atom) (w : ℕ) → reached v low x [] ≡ reach
 false-gone v low x w = reached-alike v low x [] ((False, w) ∷ []) above
   where
     none : low <ℤ v → reached v low x [] ≡ False
-    none h = ap (λ (b : Bool). cond b x False) (lt_test h)
-      where
-        lt_test : low <ℤ v → int_le v low ≡ false
-        lt_test h = grind (arith, ints)
+    none h = ap (λ (b : Bool). cond b x False) (int_le-false v low h)
 
     last : reached v (low +ℤ pos w) False [] ≡ False
     last = same (int_le v (low +ℤ pos w))

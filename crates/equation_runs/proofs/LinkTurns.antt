@@ -1,5 +1,5 @@
 -- Each equation that links two integers is made or stated in every view, whatever became of the one before it.
-use Rattle.std.proofs.Common.{◌≡◌, Bool, true, false, not, ◌&&◌, ◌||◌, ◌⊎◌, inl, inr, List, [], ◌∷◌, ◌++◌, map, ℤ, pos, ◌+ℤ◌, ◌-ℤ◌, refl, sym, ap, subst, subst₂, ◌∙◌, arith}
+use Rattle.std.proofs.Common.{◌≡◌, Bool, true, false, not, ◌&&◌, ◌⊎◌, inl, inr, List, [], ◌∷◌, ◌++◌, map, ℤ, pos, ◌+ℤ◌, ◌-ℤ◌, refl, sym, ap, subst, subst₂, ◌∙◌}
 use Rattle.order_ints.specs.declared.atom.Atom.{Atom}
 use Rattle.order_ints.specs.declared.atom.Atom.TheVariants.{True, False, Of}
 use Rattle.order_ints.specs.declared.order_int.OrdInt.{OrdInt}
@@ -23,7 +23,7 @@ use Rattle.equi_rules.specs.CompareRows.{eq_equations_true, eq_equations_constan
 use Rattle.equi_rules.specs.Instances.{equations_of as equi_equations_of, is_instance_of as is_equi_instance}
 use Rattle.arith_rules.specs.SumRows.{sum3_ranges, raised_equations, mirrored_equations, sum3_constants, sum3_equations}
 use Rattle.arith_rules.specs.Instances.{equations_of as arith_equations_of, is_instance_of as is_arith_instance}
-use Rattle.equation_runs.specs.Turns.{resolved_equation, IsMade, IsMadeOrTold, AreToldAfter, is_stated}
+use Rattle.equation_runs.specs.Turns.{IsMadeOrTold, AreToldAfter, is_stated}
 use Rattle.equation_runs.specs.RunRows.{equation_of, link_pairs}
 use Rattle.equation_runs.proofs.AtTrimmed.{at-trimmed, constant-stays, low-stays}
 use Rattle.equation_runs.proofs.NextValue.{or-left, or-right}

@@ -5,7 +5,7 @@ use Rattle.std.proofs.lemmas.Int.{ints}
 use Rattle.order_ints.specs.declared.atom.Atom.{Atom}
 use Rattle.order_ints.specs.declared.atom.Atom.TheVariants.{True, False}
 use Rattle.order_ints.specs.declared.order_int.OrdInt.{OrdInt}
-use Rattle.order_ints.specs.OrderLevels.{levels, values_of, first_reaching, at_of, is_among}
+use Rattle.order_ints.specs.OrderLevels.{levels, values_of, at_of, is_among}
 use Rattle.order_ints.proofs.Comparisons.{int_le-false}
 use Rattle.order_ints.proofs.Reaching.{reaching-low, reaching-above}
 use Rattle.equation_runs.proofs.AtTrimmed.{cases-le, reached}

@@ -6,3 +6,4 @@ pub mod LinkTurns
 pub mod Neighbours
 pub mod ChainTurns
 pub mod Turns
+pub mod ChainSteps

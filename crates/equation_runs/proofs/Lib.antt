@@ -7,3 +7,4 @@ pub mod Neighbours
 pub mod ChainTurns
 pub mod Turns
 pub mod ChainSteps
+pub mod LinkSteps

@@ -68,7 +68,8 @@ fn push_opposed(run: &mut Vec<Equation>, k: i128, a: &OrdInt, b: &OrdInt) -> Res
 {
     let mut walk = Walk::along(b);
     for (value, atom) in a.levels() {
-        let target = next(left(k, value));
+        let most = left(k, value);
+        let target = next(most);
         let other = walk.at(target);
         push_pair(run, atom, other.not())?;
     }
@@ -93,7 +94,8 @@ fn push_opposed_above(
     for (value, _) in b.levels() {
         let target = left(k, value);
         let other = walk.at(target);
-        let upper = above.at(next(value));
+        let beyond = next(value);
+        let upper = above.at(beyond);
         push_pair(run, other, upper.not())?;
     }
     Ok(())

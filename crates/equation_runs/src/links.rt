@@ -115,7 +115,8 @@ pub(crate) fn push_raised(
         ≡ run.old.items ++ map (equation_of Form) (raised_equations k a.now b.now)) }
 {
     push_linked(run, k, a, b)?;
-    push_linked(run, -k, b, a)
+    push_linked(run, -k, b, a)?;
+    Ok(())
 }
 
 /// Adds the equations of `a` and `b` being a number, added up.
@@ -132,5 +133,6 @@ pub(crate) fn push_mirrored(
         ≡ run.old.items ++ map (equation_of Form) (mirrored_equations k a.now b.now)) }
 {
     push_opposed(run, k, a, b)?;
-    push_opposed_above(run, k, b, a)
+    push_opposed_above(run, k, b, a)?;
+    Ok(())
 }

@@ -1,6 +1,6 @@
 //! The equations that link two integers value by value.
 
-ghost use Rattle.std.specs.Prelude.{◌≡◌, ◌^◌, ◌<◌, [], ◌∷◌, ◌++◌, map, pos, ◌+ℤ◌, ◌-ℤ◌, unsigned_abs, OnOk};
+ghost use Rattle.std.specs.Prelude.{◌≡◌, ◌^◌, ◌<◌, [], ◌∷◌, ◌++◌, map, pos, ◌+ℤ◌, ◌-ℤ◌, neg_ℤ, unsigned_abs, OnOk};
 ghost use Rattle.core_forms.specs.WellFormed.{IsSound};
 ghost use Rattle.core_forms.specs.declared.equation.Rule.TheVariants.{Form};
 ghost use Rattle.arith_rules.specs.Links.{linked, opposed, opposed_above};
@@ -28,6 +28,15 @@ fn left(k: i128, value: i128) -> i128
     ensures { result ≡ k -ℤ value }
 {
     k - value
+}
+
+/// The negative of `k`.
+fn minus(k: i128) -> i128
+    requires { unsigned_abs k < 2 ^ 100 }
+    ensures value { result ≡ neg_ℤ k }
+    ensures range { unsigned_abs result < 2 ^ 100 }
+{
+    -k
 }
 
 /// Adds that two atoms are equal.
@@ -115,7 +124,8 @@ pub(crate) fn push_raised(
         ≡ run.old.items ++ map (equation_of Form) (raised_equations k a.now b.now)) }
 {
     push_linked(run, k, a, b)?;
-    push_linked(run, -k, b, a)?;
+    let back = minus(k);
+    push_linked(run, back, b, a)?;
     Ok(())
 }
 

@@ -1,5 +1,5 @@
 -- Each equation that follows along the steps of an integer is made or stated in every view in which the one before it is made.
-use Rattle.std.proofs.Common.{◌≡◌, ℕ, Bool, true, false, not, ◌&&◌, ◌||◌, ◌⊎◌, inl, inr, List, [], ◌∷◌, ◌++◌, map, refl, sym, ap, subst, ◌∙◌}
+use Rattle.std.proofs.Common.{◌≡◌, ℕ, Bool, true, false, not, ◌&&◌, ◌⊎◌, inl, inr, List, [], ◌∷◌, ◌++◌, map, refl, sym, ap, subst, ◌∙◌}
 use Rattle.std.specs.Prelude.{reverse}
 use Rattle.std.proofs.lemmas.List.{map-append, reverse-append}
 use Rattle.order_ints.specs.declared.atom.Atom.{Atom}
@@ -26,7 +26,7 @@ use Rattle.equation_runs.specs.RunRows.{equation_of, behind, chain_pairs, chains
 use Rattle.equation_runs.proofs.NextValue.{or-left}
 use Rattle.equation_runs.proofs.LinkLists.{listed-left, listed-right}
 use Rattle.equation_runs.proofs.LinkTurns.{Told}
-use Rattle.equation_runs.proofs.Neighbours.{EachNext, EachNeighbour, each-later, IsWithin, AreTold, AreToldIn, neighbours-told}
+use Rattle.equation_runs.proofs.Neighbours.{EachNext, EachNeighbour, each-later, IsWithin, AreToldIn, neighbours-told}
 
 -- lists of equations one behind the other
 pub append-turn : (told : Core → Equation → Type 0) (core : Core) (before : Equation) (xs ys : List Equation) → AreToldAfter told core before xs → ((e : Equation) → AreToldAfter told core e ys) → AreToldAfter told core before (xs ++ ys)
@@ -152,11 +152,10 @@ AreParts core (a ∷ ints) = IsPart core a × AreParts core ints
 
 parts-of : (core : Core) (ints : List OrdInt) → ((view : List Atom) → IsWithin (int_equations (trimmed_ints view ints)) (order_equations (trimmed_core view core))) → AreParts core ints
 parts-of core [] within = tt
-parts-of core (a ∷ ints) within =
-    (
-      (λ view x y e. within view x y (listed-left x y (step_equations (trimmed_int view a).steps) (int_equations (trimmed_ints view ints)) e)),
-      parts-of core ints (λ view x y e. within view x y (listed-right x y (step_equations (trimmed_int view a).steps) (int_equations (trimmed_ints view ints)) e)),
-    )
+parts-of core (a ∷ ints) within = (
+  (λ view x y e. within view x y (listed-left x y (step_equations (trimmed_int view a).steps) (int_equations (trimmed_ints view ints)) e)),
+  parts-of core ints (λ view x y e. within view x y (listed-right x y (step_equations (trimmed_int view a).steps) (int_equations (trimmed_ints view ints)) e)),
+)
 
 all-turn : (core : Core) (ints : List OrdInt) (before : Equation) → AreParts core ints → AreToldAfter Told core before (map (equation_of Order) (chains_of ints))
 all-turn core [] before parts = tt

@@ -1,20 +1,20 @@
 -- Two neighbours among the steps of an integer, as a view has them: trimming either makes them one step, or takes one of them away
 -- that tells nothing of the other, or leaves them neighbours.
-use Rattle.std.proofs.Common.{◌≡◌, ℕ, ◌+◌, Bool, true, false, ◌&&◌, ◌||◌, ◌⊎◌, inl, inr, List, [], ◌∷◌, ◌++◌, reverse, ℤ, pos, ◌+ℤ◌, refl, sym, ap, subst, ◌∙◌}
+use Rattle.std.proofs.Common.{◌≡◌, ℕ, ◌+◌, Bool, true, false, ◌&&◌, ◌⊎◌, inl, inr, List, [], ◌∷◌, ◌++◌, ℤ, pos, ◌+ℤ◌, refl, sym, ap, subst, ◌∙◌}
 use Rattle.std.proofs.lemmas.Bool.{false≢true}
 use Rattle.order_ints.specs.declared.atom.Atom.{Atom}
-use Rattle.order_ints.specs.declared.atom.Atom.TheVariants.{True, False, Of}
+use Rattle.order_ints.specs.declared.atom.Atom.TheVariants.{True, False}
 use Rattle.order_ints.specs.declared.order_int.OrdInt.{OrdInt}
 use Rattle.order_ints.specs.Truth.{not_atom}
 use Rattle.order_ints.specs.Same.{is_true, is_false, same_atom}
 use Rattle.order_ints.specs.Equality.{is_true-True, is_false-False, same_atom-true, same_atom-refl}
 use Rattle.order_ints.specs.View.{resolve}
-use Rattle.core_forms.specs.Resolved.{map_steps, map_int}
-use Rattle.core_forms.specs.Trimmed.{merged_steps, raised_by, tidied_int, trimmed_int}
+use Rattle.core_forms.specs.Resolved.{map_steps}
+use Rattle.core_forms.specs.Trimmed.{merged_steps, raised_by, trimmed_int}
 use Rattle.core_forms.proofs.Tidied.{by_test}
 use Rattle.rule_base.specs.Pairs.{is_pair_of, is_listed, only_if}
 use Rattle.equi_rules.specs.OrderRows.{neighbour_equations, equations_above, step_equations}
-use Rattle.equation_runs.proofs.LinkLists.{listed-left, listed-right, listed-if}
+use Rattle.equation_runs.proofs.LinkLists.{listed-left, listed-right}
 use Rattle.equation_runs.proofs.NextValue.{or-left}
 
 -- something holds of each two neighbours, from an atom on

@@ -1,6 +1,6 @@
 -- Equations of a core that are told one after another, each when its turn comes, however the store has changed since the core was
 -- looked at.
-use Rattle.std.specs.Prelude.{◌≡◌, ◌⊎◌, true, ◌||◌, Bool, List, [], ◌∷◌}
+use Rattle.std.specs.Prelude.{◌≡◌, ◌⊎◌, ◌||◌, Bool, List, [], ◌∷◌}
 use Rattle.order_ints.specs.declared.atom.Atom.{Atom}
 use Rattle.order_ints.specs.declared.atom.Atom.TheVariants.{True}
 use Rattle.order_ints.specs.View.{resolve}

@@ -58,12 +58,7 @@ fn push_mirrored_by(
 }
 
 /// Adds the equations of a sum of two integers, where one of the three is constant.
-fn push_sum3(
-    run: &mut Vec<Equation>,
-    a: &OrdInt,
-    b: &OrdInt,
-    c: &OrdInt,
-) -> Result<(), AllocError>
+fn push_sum3(run: &mut Vec<Equation>, a: &OrdInt, b: &OrdInt, c: &OrdInt) -> Result<(), AllocError>
     requires a { IsSound a.now }
     requires b { IsSound b.now }
     requires c { IsSound c.now }

@@ -1,4 +1,4 @@
-use Rattle.std.proofs.Common.{◌≡◌, ℤ, ◌+ℤ◌, ◌-ℤ◌, to_z, of_z, rules, ap, ◌∙◌, ◌++◌, map}
+use Rattle.std.proofs.Common.{ℤ, ◌+ℤ◌, ◌-ℤ◌, rules, ap, ◌∙◌, ◌++◌, map}
 use Rattle.std.specs.Prelude.{neg_ℤ}
 use mir.Syntax.{w128}
 use Rattle.std.proofs.lemmas.Int.{to_z-of_z}

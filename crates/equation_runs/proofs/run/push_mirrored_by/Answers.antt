@@ -1,4 +1,4 @@
-use Rattle.std.proofs.Common.{◌≡◌, Bool, ℤ, rules, sym, ap, ◌∙◌, ◌++◌, map}
+use Rattle.std.proofs.Common.{Bool, ℤ, rules, sym, ap, ◌∙◌, ◌++◌, map}
 use mir.Syntax.{w128}
 use Rattle.std.proofs.lemmas.Int.{to_z-of_z}
 use Rattle.order_ints.specs.OrderRange.{low_of}

@@ -1,0 +1,10 @@
+pub mod AtTrimmed
+pub mod NextValue
+pub mod LinkedAt
+pub mod LinkLists
+pub mod LinkTurns
+pub mod Neighbours
+pub mod ChainTurns
+pub mod Turns
+pub mod ChainSteps
+pub mod LinkSteps

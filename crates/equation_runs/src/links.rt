@@ -1,6 +1,6 @@
 //! The equations that link two integers value by value.
 
-ghost use Rattle.std.specs.Prelude.{◌≡◌, ◌^◌, ◌<◌, ◌++◌, map, pos, ◌+ℤ◌, ◌-ℤ◌, unsigned_abs, OnOk};
+ghost use Rattle.std.specs.Prelude.{◌≡◌, ◌^◌, ◌<◌, [], ◌∷◌, ◌++◌, map, pos, ◌+ℤ◌, ◌-ℤ◌, neg_ℤ, unsigned_abs, OnOk};
 ghost use Rattle.core_forms.specs.WellFormed.{IsSound};
 ghost use Rattle.core_forms.specs.declared.equation.Rule.TheVariants.{Form};
 ghost use Rattle.arith_rules.specs.Links.{linked, opposed, opposed_above};
@@ -8,8 +8,48 @@ ghost use Rattle.arith_rules.specs.SumRows.{raised_equations, mirrored_equations
 ghost use Rattle.equation_runs.specs.RunRows.{equation_of};
 
 use core_forms::{Equation, Rule};
-use order_ints::{OrdInt, Walk};
+use order_ints::{Atom, OrdInt, Walk};
+use rule_base::next;
 use std::alloc::AllocError;
+
+/// A value and `k`, added up.
+fn raised(value: i128, k: i128) -> i128
+    requires value { unsigned_abs value < 2 ^ 100 }
+    requires k { unsigned_abs k < 2 ^ 110 }
+    ensures { result ≡ value +ℤ k }
+{
+    value + k
+}
+
+/// What a value leaves of `k`.
+fn left(k: i128, value: i128) -> i128
+    requires k { unsigned_abs k < 2 ^ 110 }
+    requires value { unsigned_abs value < 2 ^ 100 }
+    ensures { result ≡ k -ℤ value }
+{
+    k - value
+}
+
+/// The negative of `k`.
+fn minus(k: i128) -> i128
+    requires { unsigned_abs k < 2 ^ 100 }
+    ensures value { result ≡ neg_ℤ k }
+    ensures range { unsigned_abs result < 2 ^ 100 }
+{
+    -k
+}
+
+/// Adds that two atoms are equal.
+fn push_pair(run: &mut Vec<Equation>, a: Atom, b: Atom) -> Result<(), AllocError>
+    ensures { OnOk result (run.new.items ≡ run.old.items ++ equation_of Form (a, b) ∷ []) }
+{
+    run.push(Equation {
+        rule: Rule::Form,
+        a,
+        b,
+    })?;
+    Ok(())
+}
 
 /// Adds, for each value of `a`, that `a` reaches it exactly where `b` reaches that value and `k`, added up.
 fn push_linked(run: &mut Vec<Equation>, k: i128, a: &OrdInt, b: &OrdInt) -> Result<(), AllocError>
@@ -20,11 +60,9 @@ fn push_linked(run: &mut Vec<Equation>, k: i128, a: &OrdInt, b: &OrdInt) -> Resu
 {
     let mut walk = Walk::along(b);
     for (value, atom) in a.levels() {
-        run.push(Equation {
-            rule: Rule::Form,
-            a: atom,
-            b: walk.at(value + k),
-        })?;
+        let target = raised(value, k);
+        let other = walk.at(target);
+        push_pair(run, atom, other)?;
     }
     Ok(())
 }
@@ -39,11 +77,10 @@ fn push_opposed(run: &mut Vec<Equation>, k: i128, a: &OrdInt, b: &OrdInt) -> Res
 {
     let mut walk = Walk::along(b);
     for (value, atom) in a.levels() {
-        run.push(Equation {
-            rule: Rule::Form,
-            a: atom,
-            b: walk.at(k - value + 1).not(),
-        })?;
+        let most = left(k, value);
+        let target = next(most);
+        let other = walk.at(target);
+        push_pair(run, atom, other.not())?;
     }
     Ok(())
 }
@@ -64,11 +101,11 @@ fn push_opposed_above(
     let mut walk = Walk::along(a);
     let mut above = Walk::along(b);
     for (value, _) in b.levels() {
-        run.push(Equation {
-            rule: Rule::Form,
-            a: walk.at(k - value),
-            b: above.at(value + 1).not(),
-        })?;
+        let target = left(k, value);
+        let other = walk.at(target);
+        let beyond = next(value);
+        let upper = above.at(beyond);
+        push_pair(run, other, upper.not())?;
     }
     Ok(())
 }
@@ -87,7 +124,9 @@ pub(crate) fn push_raised(
         ≡ run.old.items ++ map (equation_of Form) (raised_equations k a.now b.now)) }
 {
     push_linked(run, k, a, b)?;
-    push_linked(run, -k, b, a)
+    let back = minus(k);
+    push_linked(run, back, b, a)?;
+    Ok(())
 }
 
 /// Adds the equations of `a` and `b` being a number, added up.
@@ -104,5 +143,6 @@ pub(crate) fn push_mirrored(
         ≡ run.old.items ++ map (equation_of Form) (mirrored_equations k a.now b.now)) }
 {
     push_opposed(run, k, a, b)?;
-    push_opposed_above(run, k, b, a)
+    push_opposed_above(run, k, b, a)?;
+    Ok(())
 }

@@ -4,7 +4,10 @@ ghost use Rattle.std.specs.Prelude.{◌≡◌, ◌++◌, map, IfOk, OnOk};
 ghost use Rattle.core_forms.specs.Contents.{ints_of};
 ghost use Rattle.core_forms.specs.WellFormed.{IsWellFormed, IsSound};
 ghost use Rattle.core_forms.specs.declared.equation.Rule.TheVariants.{Order, Form};
-ghost use Rattle.arith_rules.specs.SumRows.{sum3_constants};
+ghost use Rattle.order_ints.specs.OrderRange.{low_of};
+ghost use Rattle.rule_base.specs.Pairs.{only_if};
+ghost use Rattle.rule_base.specs.Constant.{is_constant};
+ghost use Rattle.arith_rules.specs.SumRows.{raised_equations, mirrored_equations, sum3_constants};
 ghost use Rattle.equation_runs.specs.RunRows.{equation_of, chains_of, link_pairs, run_of};
 
 use crate::chains::push_chains;
@@ -14,28 +17,57 @@ use order_ints::OrdInt;
 use rule_base::is_constant;
 use std::alloc::{AllocError, Global};
 
-/// Adds the equations of a sum of two integers, where one of the three is constant.
-fn push_sum3(
+/// Adds the equations of `b` being `a` and a constant, added up, where `by` is one.
+fn push_raised_by(
     run: &mut Vec<Equation>,
+    by: &OrdInt,
     a: &OrdInt,
     b: &OrdInt,
-    c: &OrdInt,
 ) -> Result<(), AllocError>
+    requires by { IsSound by.now }
+    requires a { IsSound a.now }
+    requires b { IsSound b.now }
+    ensures { OnOk result (run.new.items
+        ≡ run.old.items ++ map (equation_of Form) (only_if (is_constant by.now) (raised_equations (low_of by.now) a.now b.now))) }
+{
+    if is_constant(by) {
+        let k = by.low();
+        push_raised(run, k, a, b)?;
+    }
+    Ok(())
+}
+
+/// Adds the equations of `a` and `b` being a constant, added up, where `by` is one.
+fn push_mirrored_by(
+    run: &mut Vec<Equation>,
+    by: &OrdInt,
+    a: &OrdInt,
+    b: &OrdInt,
+) -> Result<(), AllocError>
+    requires by { IsSound by.now }
+    requires a { IsSound a.now }
+    requires b { IsSound b.now }
+    ensures { OnOk result (run.new.items
+        ≡ run.old.items ++ map (equation_of Form) (only_if (is_constant by.now) (mirrored_equations (low_of by.now) a.now b.now))) }
+{
+    if is_constant(by) {
+        let k = by.low();
+        push_mirrored(run, k, a, b)?;
+    }
+    Ok(())
+}
+
+/// Adds the equations of a sum of two integers, where one of the three is constant.
+fn push_sum3(run: &mut Vec<Equation>, a: &OrdInt, b: &OrdInt, c: &OrdInt) -> Result<(), AllocError>
     requires a { IsSound a.now }
     requires b { IsSound b.now }
     requires c { IsSound c.now }
     ensures { OnOk result (run.new.items
         ≡ run.old.items ++ map (equation_of Form) (sum3_constants a.now b.now c.now)) }
 {
-    if is_constant(a) {
-        push_raised(run, a.low(), b, c)?;
-    }
-    if is_constant(b) {
-        push_raised(run, b.low(), a, c)?;
-    }
-    if is_constant(c) {
-        push_mirrored(run, c.low(), a, b)?;
-    }
+    push_raised_by(run, a, b, c)?;
+    push_raised_by(run, b, a, c)?;
+    push_mirrored_by(run, c, a, b)?;
     Ok(())
 }
 

@@ -1,0 +1,43 @@
+use Rattle.std.proofs.Common.{◌≡◌, ℤ, pos, ◌+ℤ◌, ◌-ℤ◌, to_z, of_z, rules, sym, ap, ap₂, ◌∙◌}
+use mir.Syntax.{w128}
+use Rattle.std.proofs.lemmas.Int.{to_z-of_z}
+use Rattle.order_ints.specs.declared.order_int.OrdInt.{OrdInt}
+use Rattle.order_ints.specs.Truth.{not_atom}
+use Rattle.order_ints.specs.OrderLevels.{levels_of, at_of}
+use Rattle.arith_rules.specs.Links.{opposed}
+use Rattle.arith_rules.proofs.Beside.{opposed_pair, opposed-is}
+use Rattle.equation_runs.proofs.LinkSteps.{near-first, pair-more, pair-done, pairs-first}
+use Rattle.equation_runs.proofs.links.push_opposed.Goals as goal
+
+pub loop-value-init : goal.loop-value-init
+loop-value-init c =
+    let a = c.args.a.now in
+    let b = c.args.b.now in
+    record {
+      near = search rules;
+      run = λ n _. pairs-first (opposed_pair (λ v. n -ℤ v +ℤ pos 1) b) c.into_iter-value-iterator.result (levels_of a) (opposed (λ v. n -ℤ v +ℤ pos 1) a b) c.args.run.now.items
+          (c.into_iter-value-iterator.ensures.into_iter_gives ∙ c.levels-value-items.ensures.shape) (opposed-is (λ v. n -ℤ v +ℤ pos 1) a b c.requires.a);
+      same = c.along-walk.ensures;
+    }
+
+pub loop-value-preserved : goal.loop-value-preserved
+loop-value-preserved c =
+    let b = c.args.b.now in
+    let value = c.in-Some.value in
+    let first = near-first c.loop-value.value-iterator c.next.new.self (value, c.in-Some.atom) c.in-Some.ensures.steps c.loop-value.invariant.near in
+    let other : c.at-other.result ≡ at_of b c.next-target.result =
+    c.at-other.ensures.atom ∙ ap (λ (w : OrdInt). at_of w (to_z w128 (of_z w128 c.next-target.result))) c.loop-value.invariant.same
+    ∙ ap (at_of b) (to_z-of_z w128 c.next-target.result (search rules)) in
+    let target : c.next-target.result ≡ c.left-most.result +ℤ pos 1 =
+    c.next-target.ensures ∙ ap (λ (v : ℤ). v +ℤ pos 1) (to_z-of_z w128 c.left-most.result (search rules)) in
+    record {
+      near = first.1;
+      run = λ n e. pair-more (opposed_pair (λ v. n -ℤ v +ℤ pos 1) b) c.loop-value.value-iterator c.next.new.self (value, c.in-Some.atom) (c.in-Some.atom, c.not.result) c.loop-value.run.items c.push_pair.new.run.items _
+          c.in-Some.ensures.steps
+          (λ i. (c.in-Some.atom, (c.not.ensures ∙ ap not_atom (other ∙ ap (at_of b) (target ∙ ap (λ (v : ℤ). v +ℤ pos 1) (c.left-most.ensures ∙ ap₂ (λ (v w : ℤ). v -ℤ w) (sym e) (to_z-of_z w128 value (search rules)))))) i))
+          c.in_ok-push_pair.ensures (c.loop-value.invariant.run n e);
+      same = c.at-other.ensures.same ∙ c.loop-value.invariant.same;
+    }
+
+pub returns : goal.returns
+returns c = pair-done (opposed_pair (λ v. c.args.k -ℤ v +ℤ pos 1) c.args.b.now) c.loop-value.value-iterator c.loop-value.run.items _ c.in-None.ensures.steps.0 (c.loop-value.invariant.run c.args.k (sym (to_z-of_z w128 c.args.k c.ranges.k)))

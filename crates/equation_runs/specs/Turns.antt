@@ -1,8 +1,9 @@
 -- Equations of a core that are told one after another, each when its turn comes, however the store has changed since the core was
 -- looked at.
-use Rattle.std.specs.Prelude.{◌≡◌, ◌⊎◌, true, ◌||◌, Bool, List, [], ◌∷◌}
+use Rattle.std.specs.Prelude.{◌≡◌, ◌⊎◌, ℕ, ◌||◌, Bool, List, [], ◌∷◌}
 use Rattle.order_ints.specs.declared.atom.Atom.{Atom}
 use Rattle.order_ints.specs.declared.atom.Atom.TheVariants.{True}
+use Rattle.order_ints.specs.Place.{AtomBelow}
 use Rattle.order_ints.specs.View.{resolve}
 use Rattle.core_forms.specs.declared.equation.Equation.{Equation}
 use Rattle.core_forms.specs.declared.equation.Rule.TheVariants.{Order}
@@ -39,3 +40,8 @@ AreToldInTurn told core es = AreToldAfter told core made_equation es
 -- the rules Order and Form of equi_rules and arith_rules state an equation
 abbrev pub is_stated : Core → Equation → Bool
 is_stated core e = is_equi_instance core e || is_arith_instance core e
+
+-- the variables of each equation are from 1 and below n
+abbrev pub EquationsBelow : ℕ → List Equation → Type 0
+EquationsBelow n [] = Unit {0}
+EquationsBelow n (e ∷ es) = (AtomBelow n e.a × AtomBelow n e.b) × EquationsBelow n es

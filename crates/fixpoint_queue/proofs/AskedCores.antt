@@ -58,7 +58,7 @@ same-cores k e = by (same_atom e.a (not_atom e.b))
     by false = refl
 
 module _ (view : List Atom) (occurs : OccurrenceLists) (e : Equation) (old new : Ids) (ids : IsIds old) where
-  woken-stays : (o : Option ℕ) → MatchOption o (new ≡ old) (λ x. IsWoken view occurs x old new) → (id : ℕ) → 1 ≤ times id old.queued → 1 ≤ times id new.queued
+  pub woken-stays : (o : Option ℕ) → MatchOption o (new ≡ old) (λ x. IsWoken view occurs x old new) → (id : ℕ) → 1 ≤ times id old.queued → 1 ≤ times id new.queued
   woken-stays None w id h = subst (λ (q : Ids). 1 ≤ times id q.queued) (sym w) h
   woken-stays (Some x) w id h = w.stays id h
 

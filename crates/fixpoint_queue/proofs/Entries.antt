@@ -1,5 +1,5 @@
 -- One core after another comes to its variables and into the queue.
-use Rattle.std.proofs.Common.{◌≡◌, ◌⊎◌, inl, inr, ℕ, zero, suc, ◌+◌, ◌-◌, ◌≤◌, ◌<◌, List, [], ◌∷◌, ◌++◌, length, get_or, take, drop, refl, sym, ap, ◌∙◌, subst, arith, ⊎_elim, Option, Some, None}
+use Rattle.std.proofs.Common.{◌≡◌, inl, inr, ℕ, zero, suc, ◌+◌, ◌≤◌, ◌<◌, List, [], ◌∷◌, ◌++◌, length, get_or, take, drop, refl, sym, ap, ◌∙◌, subst, arith, ⊎_elim, Option, Some, None}
 use Rattle.std.specs.Prelude.{Contains}
 use Rattle.std.specs.List.{All}
 use Rattle.std.proofs.lemmas.Option.{none-some}
@@ -11,7 +11,7 @@ use Rattle.core_forms.proofs.VariableLaws.{vars_below}
 use Rattle.index_ring.specs.Lists.{times}
 use Rattle.core_occurrences.specs.Lists.{OccurrenceLists, Occurs, IsOccurrences, added}
 use Rattle.core_occurrences.proofs.Listed.{length-with_id}
-use Rattle.step_kernel.specs.Kernel.{Kernel, core_at, pending, IsKernel}
+use Rattle.step_kernel.specs.Kernel.{Kernel, core_at, IsKernel}
 use Rattle.step_kernel.proofs.Holes.{below-there}
 use Rattle.step_kernel.proofs.Splits.{there-bounds}
 use Rattle.fixpoint_queue.specs.IdQueue.{Ids, IsIds, with_id}

@@ -18,3 +18,4 @@ pub mod Splittings
 pub mod PairLaws
 pub mod Counted
 pub mod QueueSizes
+pub mod Runs

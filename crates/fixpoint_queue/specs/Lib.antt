@@ -10,3 +10,4 @@ pub mod Standing
 pub mod FormInstances
 pub mod Wider
 pub mod Pairs
+pub mod Taken

@@ -18,7 +18,7 @@ ghost use Rattle.fixpoint_queue.specs.Waits.{IsRun, IsWokenFor, left_to_do, left
 use crate::id_queue::IdQueue;
 use crate::marks::Marks;
 use crate::oracle::Oracle;
-use crate::wake::wake;
+use crate::taking::{take_equation, take_run};
 use core_forms::{Core, Equation};
 use core_occurrences::Occurrences;
 use ledger_text::Line;
@@ -27,51 +27,8 @@ use std::alloc::{AllocError, Global};
 use std::sync::ledger::Ledger;
 use step_kernel::{State, is_compound};
 
-/// Queues the cores that may tell something new once an equation is made.
-fn wake_for(state: &State, occurs: &Occurrences, queue: &mut IdQueue, e: &Equation)
-    requires kernel { IsKernel state.now }
-    requires first { IsLabel state.now.view e.now.a }
-    requires second { IsLabel state.now.view e.now.b }
-    requires lists { length state.now.view ≤ length occurs.now.lists }
-    requires places { (v id : ℕ) → 1 ≤ v → Occurs occurs.now v id → id < queue.old.places }
-    requires queued { IsIds queue.old }
-    ensures { IsWokenFor state.now.view occurs.now e.now queue.old queue.new }
-{
-    if let Some(loser) = state.store().loser(e.a, e.b) {
-        wake(state.store(), occurs, queue, loser);
-    }
-}
-
-/// Takes an equation that was told: queues what it wakes, makes its step, and writes its line.
-fn take_equation(
-    state: &mut State,
-    occurs: &Occurrences,
-    queue: &mut IdQueue,
-    ledger: &mut Vec<Line>,
-    id: u64,
-    e: Equation,
-    core: &Core,
-)
-    requires kernel { IsKernel state.old }
-    requires running { state.old.bottom ≡ false }
-    requires there { trimmed_at state.old id ≡ Some core.now }
-    requires instance { is_instance_at core.now e ≡ true }
-    requires lists { length state.old.view ≤ length occurs.now.lists }
-    requires places { (v id : ℕ) → 1 ≤ v → Occurs occurs.now v id → id < queue.old.places }
-    requires queued { IsIds queue.old }
-    requires room { vec_len ledger.old < vec_capacity ledger.old }
-    ensures step { step state.old (Equate id e) ≡ Ok state.new }
-    ensures equated { state.new ≡ equated state.old e }
-    ensures woken { IsWokenFor state.old.view occurs.now e queue.old queue.new }
-    ensures ledger { ledger.new.items ≡ ledger.old.items ++ Equate id e ∷ [] }
-{
-    wake_for(state, occurs, queue, &e);
-    state.equate_told(id, &e, core);
-    ledger.push(Line::Equate { id, e }).unwrap();
-}
-
-/// Asks one core, which stands here as the store has it: where it tells an equation, that is taken, and else
-/// the core leaves the queue.
+/// Asks one core, which stands here as the store has it: where it tells an equation, that is taken, with those
+/// that it tells one after another; and else the core leaves the queue.
 fn ask_core<F: Oracle, L: Ledger>(
     alloc: Global,
     oracle: F,
@@ -98,8 +55,19 @@ fn ask_core<F: Oracle, L: Ledger>(
 {
     match oracle.ask(alloc, core, steps)? {
         Some(e) => {
-            ledger.reserve(1)?;
-            take_equation(state, occurs, queue, ledger, u64::from(id), e, core);
+            let run = oracle.run(alloc, core)?;
+            ledger.reserve(1 + run.len())?;
+            take_equation(state, occurs, queue, ledger, u64::from(id), e);
+            take_run::<F>(
+                state,
+                occurs,
+                queue,
+                marks,
+                ledger,
+                id,
+                core,
+                run.as_slice(),
+            );
             Ok(())
         }
         None => {

@@ -11,6 +11,7 @@ mod room;
 mod runner;
 mod splitting;
 mod starting;
+mod taking;
 mod wake;
 
 pub use oracle::{Oracle, Silent, TableP};

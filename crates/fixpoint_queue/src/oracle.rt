@@ -1,8 +1,10 @@
 //! What equations cores tell.
 
-ghost use Rattle.std.specs.Prelude.{◌≡◌, ◌+◌, ◌≤◌, true, false, IfOk, IfSome, IfNone};
+ghost use Rattle.std.specs.Prelude.{◌≡◌, ℕ, ◌+◌, ◌≤◌, true, false, IfOk, IfSome, IfNone};
 ghost use Rattle.core_forms.specs.declared.equation.Equation.{Equation};
 ghost use Rattle.core_forms.specs.WellFormed.{IsWellFormed};
+ghost use Rattle.core_forms.specs.Place.{CoreBelow};
+ghost use Rattle.equation_runs.specs.Turns.{AreToldInTurn, EquationsBelow};
 ghost use Rattle.equi_rules.specs.Instances.{is_instance_of as is_equi_instance};
 ghost use Rattle.alldiff_rules.specs.Instances.{is_instance_of as is_alldiff_instance};
 ghost use Rattle.fixpoint_queue.specs.FormInstances.{is_form_instance};
@@ -10,6 +12,7 @@ ghost use Rattle.arith_rules.specs.Instances.{is_instance_of as is_arith_instanc
 ghost use Rattle.step_kernel.specs.Instances.{is_instance_at};
 
 use core_forms::{Core, Equation};
+use equation_runs::run_of;
 use rule_base::Steps;
 use std::alloc::{AllocError, Global};
 use std::sync::ledger::Ledger;
@@ -39,6 +42,13 @@ pub trait Oracle: Copy {
         ensures none { IfOk result (λ found. IfNone found ((e : Equation) → told core.now e → ⊥)) }
         ensures least { steps.old + 1 ≤ steps.new }
         ensures most { steps.new ≤ steps.old + 3 };
+
+    /// Equations that the core tells one after another, each when its turn comes, whatever the store has made
+    /// of the core by then; perhaps none. So one look at a core that tells many is enough. It counts no step.
+    fn run(&self, alloc: Global, core: &Core) -> Result<Vec<Equation>, AllocError>
+        requires { IsWellFormed core.now }
+        ensures told { IfOk result (λ run. AreToldInTurn told core.now run.items) }
+        ensures below { (n : ℕ) → CoreBelow n core.now → IfOk result (λ run. EquationsBelow n run.items) };
 }
 
 /// Tells nothing. It is for tests.
@@ -60,6 +70,10 @@ impl Oracle for Silent {
     ) -> Result<Option<Equation>, AllocError> {
         steps.tick();
         Ok(None)
+    }
+
+    fn run(&self, alloc: Global, _core: &Core) -> Result<Vec<Equation>, AllocError> {
+        Ok(Vec::new(alloc))
     }
 }
 
@@ -173,5 +187,9 @@ impl Oracle for TableP {
         steps: &mut Steps<L>,
     ) -> Result<Option<Equation>, AllocError> {
         instance(alloc, core, steps)
+    }
+
+    fn run(&self, alloc: Global, core: &Core) -> Result<Vec<Equation>, AllocError> {
+        run_of(alloc, core)
     }
 }

@@ -73,7 +73,7 @@ fn equate(
     assert!(rt; !state.bottom());
     let core = core_at(rt, alloc, state, id)?;
     assert!(rt; is_told(&core, e));
-    state.equate_told(id, e, &core);
+    state.equate_told(id, e);
     Ok(())
 }
 

@@ -71,4 +71,8 @@ impl Oracle for ToldOnce {
         }
         Ok(None)
     }
+
+    fn run(&self, alloc: Global, _core: &Core) -> Result<Vec<Equation>, AllocError> {
+        Ok(Vec::new(alloc))
+    }
 }

@@ -8,7 +8,7 @@ ghost use Rattle.core_forms.specs.Place.{CoreBelow};
 ghost use Rattle.core_forms.specs.WellFormed.{IsWellFormed};
 ghost use Rattle.ledger_text.specs.declared.line.Line.TheVariants.{Equate, Split, Encode};
 ghost use Rattle.step_kernel.specs.Kernel.{trimmed_at, IsKernel};
-ghost use Rattle.step_kernel.specs.Instances.{is_instance_at};
+ghost use Rattle.step_kernel.specs.Instances.{IsInstanceAt};
 ghost use Rattle.step_kernel.specs.Models.{Keeps};
 ghost use Rattle.step_kernel.specs.Parts.{parts_at, is_compound_of};
 ghost use Rattle.step_kernel.specs.SplitAt.{ArePartsAt};
@@ -207,13 +207,12 @@ impl State {
         self.run(line)
     }
 
-    /// Makes the step of an equation that is known to be an instance at its core, which stands here as the
-    /// store has it. It looks at no core and takes no memory.
-    pub fn equate_told(&mut self, id: u64, e: &Equation, core: &Core)
+    /// Makes the step of an equation that is known to be an instance at its core, as the store has it. It
+    /// looks at no core and takes no memory.
+    pub fn equate_told(&mut self, id: u64, e: &Equation)
         requires kernel { IsKernel self.old }
         requires running { self.old.bottom ≡ false }
-        requires there { trimmed_at self.old id ≡ Some core.now }
-        requires instance { is_instance_at core.now e.now ≡ true }
+        requires instance { IsInstanceAt self.old id e.now }
         ensures step { step self.old (Equate id e.now) ≡ Ok self.new }
         ensures equated { self.new ≡ equated self.old e.now }
     {

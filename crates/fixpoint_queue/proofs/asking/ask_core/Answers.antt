@@ -1,42 +1,26 @@
-use Rattle.std.proofs.Common.{◌≡◌, ℕ, ◌-◌, ◌<◌, ◌≤◌, true, sym, ap, ◌∙◌, subst, arith, rules, Option}
+use Rattle.std.proofs.Common.{◌≡◌, ℕ, ◌-◌, sym, ap, ◌∙◌, subst, arith, rules, Option}
 use Rattle.std.specs.Prelude.{IfSome, IfNone, slice_set}
 use Rattle.core_forms.specs.declared.equation.Equation.{Equation}
-use Rattle.step_kernel.specs.Kernel.{Kernel, trimmed_at}
-use Rattle.index_ring.specs.Lists.{times}
+use Rattle.step_kernel.specs.Kernel.{trimmed_at}
 use Rattle.step_kernel.specs.Parts.{is_compound_of}
-use Rattle.step_kernel.specs.Instances.{is_instance_at}
 use Rattle.step_kernel.proofs.There.{there-formed}
 use Rattle.step_kernel.proofs.Splits.{there-bounds}
-use Rattle.fixpoint_queue.specs.Waits.{IsRun, left_to_do}
-use Rattle.fixpoint_queue.proofs.AskedCores.{run-equated, less-equated, run-quiet, less-quiet}
-use Rattle.fixpoint_queue.proofs.Counted.{counted-taken, counted-silent}
+use Rattle.fixpoint_queue.specs.Waits.{IsRun}
+use Rattle.fixpoint_queue.proofs.AskedCores.{run-quiet, less-quiet}
+use Rattle.fixpoint_queue.proofs.Counted.{counted-silent}
 use Rattle.fixpoint_queue.proofs.asking.ask_core.Goals as goal
+use Rattle.fixpoint_queue.proofs.asking.ask_core.Goals.{After-as_slice}
+use Rattle.fixpoint_queue.proofs.asking.ask_core.Given.{Over}
+use Rattle.fixpoint_queue.specs.Taken.{HasTaken}
+use Rattle.fixpoint_queue.proofs.Runs.{asked-first, asked-core, asked-adds, asked-counted, asked-less}
+use Rattle.ledger_text.specs.declared.line.Line.TheVariants.{Equate}
+use Rattle.step_kernel.specs.Steps.{step}
+use Rattle.std.proofs.Common.{Ok, List, [], ◌∷◌, ◌++◌, ◌+◌, length}
+use Rattle.equation_runs.specs.Turns.{EquationsBelow}
+use Rattle.ledger_text.specs.declared.line.Line.{Line}
 
 pub ask-requires : goal.ask-requires
 ask-requires g c = there-formed c.args.state.now c.args.id c.args.core.now c.requires.run.kernel c.requires.there
-
-pub take_equation-requires-clause-instance : goal.take_equation-requires-clause-instance
-take_equation-requires-clause-instance g c =
-    g.F.Oracle.told_is_instance c.args.core.now c.in-Some.e
-    (subst (λ (o : Option Equation). IfSome o (g.F.Oracle.told c.args.core.now)) c.in-Some.is c.in_ok-e.ensures.some)
-
-pub returns-in_ok-reserve-in-Some-clause-run : goal.returns-in_ok-reserve-in-Some-clause-run
-returns-in_ok-reserve-in-Some-clause-run g c =
-    let instance : is_instance_at c.args.core.now c.in-Some.e ≡ true =
-    g.F.Oracle.told_is_instance c.args.core.now c.in-Some.e
-    (subst (λ (o : Option Equation). IfSome o (g.F.Oracle.told c.args.core.now)) c.in-Some.is c.in_ok-e.ensures.some) in
-    subst (λ (k : Kernel). IsRun g.F.Oracle.told k c.args.occurs.now c.take_equation.new.queue c.args.marks.now) (sym c.take_equation.ensures.equated)
-    (run-equated g.F.Oracle.told c.args.state.now c.args.occurs.now c.args.queue.now c.take_equation.new.queue c.args.marks.now c.requires.run
-    c.args.id c.args.core.now c.requires.there c.in-Some.e instance c.take_equation.ensures.woken)
-
-pub returns-in_ok-reserve-in-Some-clause-less : goal.returns-in_ok-reserve-in-Some-clause-less
-returns-in_ok-reserve-in-Some-clause-less g c =
-    let instance : is_instance_at c.args.core.now c.in-Some.e ≡ true =
-    g.F.Oracle.told_is_instance c.args.core.now c.in-Some.e
-    (subst (λ (o : Option Equation). IfSome o (g.F.Oracle.told c.args.core.now)) c.in-Some.is c.in_ok-e.ensures.some) in
-    subst (λ (k : Kernel). left_to_do k c.take_equation.new.queue < left_to_do c.args.state.now c.args.queue.now) (sym c.take_equation.ensures.equated)
-    (less-equated g.F.Oracle.told c.args.state.now c.args.occurs.now c.args.queue.now c.take_equation.new.queue c.args.marks.now c.requires.run
-    c.args.id c.args.core.now c.requires.there c.in-Some.e instance c.take_equation.ensures.woken c.requires.running)
 
 pub returns-in-None-clause-run : goal.returns-in-None-clause-run
 returns-in-None-clause-run g c =
@@ -61,17 +45,95 @@ take_equation-requires-clause-places g c = λ v id low o.
     let has = (c.requires.run.listed.there v id low).0 o in
     omega (arith, (there-bounds c.args.state.now.cores id has.0 has.1).1, c.requires.run.places)
 
-pub returns-in_ok-reserve-in-Some-clause-counted : goal.returns-in_ok-reserve-in-Some-clause-counted
-returns-in_ok-reserve-in-Some-clause-counted g c =
-    let instance : is_instance_at c.args.core.now c.in-Some.e ≡ true =
-    g.F.Oracle.told_is_instance c.args.core.now c.in-Some.e
-    (subst (λ (o : Option Equation). IfSome o (g.F.Oracle.told c.args.core.now)) c.in-Some.is c.in_ok-e.ensures.some) in
-    let same : c.from.result ≡ c.args.id = search rules in
-    counted-taken g.F.Oracle.told c.args.state.now c.args.occurs.now c.args.queue.now c.take_equation.new.queue c.args.marks.now c.requires.run c.from.result c.args.core.now
-    (ap (trimmed_at c.args.state.now) same ∙ c.requires.there) c.in-Some.e instance (subst (λ (i : ℕ). 1 ≤ times i c.args.queue.now.queued) (sym same) c.requires.first)
-    c.take_equation.ensures.woken c.take_equation.new.state c.take_equation.ensures.equated c.take_equation.ensures.step c.args.ledger.now.items c.take_equation.new.ledger.items
-    (search rules) c.args.steps.now c.ask.new.steps c.in_ok-e.ensures.most
-
 pub returns-in-None-clause-counted : goal.returns-in-None-clause-counted
 returns-in-None-clause-counted g c =
     counted-silent c.args.state.now c.args.ledger.now.items c.args.id c.args.steps.now c.ask.new.steps c.args.queue.now c.take.new.self c.requires.running c.requires.first c.take.ensures.queued c.in_ok-e.ensures.most
+
+pub run-requires : goal.run-requires
+run-requires g c = there-formed c.args.state.now c.args.id c.args.core.now c.requires.run.kernel c.requires.there
+
+pub take_equation-requires-clause-instance : goal.take_equation-requires-clause-instance
+take_equation-requires-clause-instance g c =
+    let tells : g.F.Oracle.told c.args.core.now c.in-Some.e = subst (λ (o : Option Equation). IfSome o (g.F.Oracle.told c.args.core.now)) c.in-Some.is c.in_ok-e.ensures.some in
+    let same : c.from.result ≡ c.args.id = search rules in
+    (c.args.core.now, ap (trimmed_at c.args.state.now) same ∙ c.requires.there, g.F.Oracle.told_is_instance c.args.core.now c.in-Some.e tells)
+
+-- what the first equation makes
+first-taken : (g : Over) (c : After-as_slice g)
+    → HasTaken g.F.Oracle.told c.args.occurs.now c.args.marks.now c.args.id c.args.core.now c.args.state.now c.args.ledger.now.items c.args.queue.now
+    c.take_equation.new.state c.take_equation.new.ledger.items c.take_equation.new.queue
+first-taken g c =
+    let tells : g.F.Oracle.told c.args.core.now c.in-Some.e = subst (λ (o : Option Equation). IfSome o (g.F.Oracle.told c.args.core.now)) c.in-Some.is c.in_ok-e.ensures.some in
+    let same : c.from.result ≡ c.args.id = search rules in
+    let stepped : step c.args.state.now (Equate c.args.id c.in-Some.e) ≡ Ok c.take_equation.new.state =
+    subst (λ (i : ℕ). step c.args.state.now (Equate i c.in-Some.e) ≡ Ok c.take_equation.new.state) same c.take_equation.ensures.step in
+    let line : c.take_equation.new.ledger.items ≡ c.args.ledger.now.items ++ Equate c.args.id c.in-Some.e ∷ [] =
+    c.take_equation.ensures.ledger ∙ ap (λ (l : List Line). l ++ Equate c.from.result c.in-Some.e ∷ []) c.in_ok-reserve-in-Some.ensures.items ∙ ap (λ (i : ℕ). c.args.ledger.now.items ++ Equate i c.in-Some.e ∷ []) same in
+    asked-first g.F.Oracle.told c.args.state.now c.args.occurs.now c.args.queue.now c.take_equation.new.queue c.args.marks.now c.requires.run c.args.id c.args.core.now c.requires.there c.requires.running c.requires.first
+    c.in-Some.e tells (g.F.Oracle.told_is_instance c.args.core.now c.in-Some.e tells) c.take_equation.ensures.woken c.take_equation.new.state c.take_equation.ensures.equated stepped
+    c.args.ledger.now.items c.take_equation.new.ledger.items line
+
+pub take_run-requires-clause-run : goal.take_run-requires-clause-run
+take_run-requires-clause-run g c = (first-taken g c).run
+
+pub take_run-requires-clause-queued : goal.take_run-requires-clause-queued
+take_run-requires-clause-queued g c = (first-taken g c).queued
+
+pub take_run-requires-clause-there : goal.take_run-requires-clause-there
+take_run-requires-clause-there g c = (first-taken g c).there
+
+pub take_run-requires-clause-core : goal.take_run-requires-clause-core
+take_run-requires-clause-core g c =
+    let tells : g.F.Oracle.told c.args.core.now c.in-Some.e = subst (λ (o : Option Equation). IfSome o (g.F.Oracle.told c.args.core.now)) c.in-Some.is c.in_ok-e.ensures.some in
+    let same : c.from.result ≡ c.args.id = search rules in
+    let stepped : step c.args.state.now (Equate c.args.id c.in-Some.e) ≡ Ok c.take_equation.new.state =
+    subst (λ (i : ℕ). step c.args.state.now (Equate i c.in-Some.e) ≡ Ok c.take_equation.new.state) same c.take_equation.ensures.step in
+    let line : c.take_equation.new.ledger.items ≡ c.args.ledger.now.items ++ Equate c.args.id c.in-Some.e ∷ [] =
+    c.take_equation.ensures.ledger ∙ ap (λ (l : List Line). l ++ Equate c.from.result c.in-Some.e ∷ []) c.in_ok-reserve-in-Some.ensures.items ∙ ap (λ (i : ℕ). c.args.ledger.now.items ++ Equate i c.in-Some.e ∷ []) same in
+    asked-core g.F.Oracle.told c.args.state.now c.args.occurs.now c.args.queue.now c.take_equation.new.queue c.args.marks.now c.requires.run c.args.id c.args.core.now c.requires.there c.requires.running c.requires.first
+    c.in-Some.e tells (g.F.Oracle.told_is_instance c.args.core.now c.in-Some.e tells) c.take_equation.ensures.woken c.take_equation.new.state c.take_equation.ensures.equated stepped
+    c.args.ledger.now.items c.take_equation.new.ledger.items line
+
+pub take_run-requires-clause-below : goal.take_run-requires-clause-below
+take_run-requires-clause-below g c =
+    subst (λ (es : List Equation). EquationsBelow (length c.take_equation.new.state.view + 1) es) (sym c.as_slice.ensures.value)
+    (c.in_ok-run-in-Some.ensures.below (length c.take_equation.new.state.view + 1) (take_run-requires-clause-core g c))
+
+pub returns-in_ok-reserve-in-Some-clause-adds : goal.returns-in_ok-reserve-in-Some-clause-adds
+returns-in_ok-reserve-in-Some-clause-adds g c =
+    let tells : g.F.Oracle.told c.args.core.now c.in-Some.e = subst (λ (o : Option Equation). IfSome o (g.F.Oracle.told c.args.core.now)) c.in-Some.is c.in_ok-e.ensures.some in
+    let same : c.from.result ≡ c.args.id = search rules in
+    let stepped : step c.args.state.now (Equate c.args.id c.in-Some.e) ≡ Ok c.take_equation.new.state =
+    subst (λ (i : ℕ). step c.args.state.now (Equate i c.in-Some.e) ≡ Ok c.take_equation.new.state) same c.take_equation.ensures.step in
+    let line : c.take_equation.new.ledger.items ≡ c.args.ledger.now.items ++ Equate c.args.id c.in-Some.e ∷ [] =
+    c.take_equation.ensures.ledger ∙ ap (λ (l : List Line). l ++ Equate c.from.result c.in-Some.e ∷ []) c.in_ok-reserve-in-Some.ensures.items ∙ ap (λ (i : ℕ). c.args.ledger.now.items ++ Equate i c.in-Some.e ∷ []) same in
+    asked-adds g.F.Oracle.told c.args.state.now c.args.occurs.now c.args.queue.now c.take_equation.new.queue c.args.marks.now c.requires.run c.args.id c.args.core.now c.requires.there c.requires.running c.requires.first
+    c.in-Some.e tells (g.F.Oracle.told_is_instance c.args.core.now c.in-Some.e tells) c.take_equation.ensures.woken c.take_equation.new.state c.take_equation.ensures.equated stepped
+    c.args.ledger.now.items c.take_equation.new.ledger.items line
+    c.take_run.new.state c.take_run.new.ledger.items c.take_run.new.queue c.take_run.ensures
+
+pub returns-in_ok-reserve-in-Some-clause-counted : goal.returns-in_ok-reserve-in-Some-clause-counted
+returns-in_ok-reserve-in-Some-clause-counted g c =
+    let tells : g.F.Oracle.told c.args.core.now c.in-Some.e = subst (λ (o : Option Equation). IfSome o (g.F.Oracle.told c.args.core.now)) c.in-Some.is c.in_ok-e.ensures.some in
+    let same : c.from.result ≡ c.args.id = search rules in
+    let stepped : step c.args.state.now (Equate c.args.id c.in-Some.e) ≡ Ok c.take_equation.new.state =
+    subst (λ (i : ℕ). step c.args.state.now (Equate i c.in-Some.e) ≡ Ok c.take_equation.new.state) same c.take_equation.ensures.step in
+    let line : c.take_equation.new.ledger.items ≡ c.args.ledger.now.items ++ Equate c.args.id c.in-Some.e ∷ [] =
+    c.take_equation.ensures.ledger ∙ ap (λ (l : List Line). l ++ Equate c.from.result c.in-Some.e ∷ []) c.in_ok-reserve-in-Some.ensures.items ∙ ap (λ (i : ℕ). c.args.ledger.now.items ++ Equate i c.in-Some.e ∷ []) same in
+    asked-counted g.F.Oracle.told c.args.state.now c.args.occurs.now c.args.queue.now c.take_equation.new.queue c.args.marks.now c.requires.run c.args.id c.args.core.now c.requires.there c.requires.running c.requires.first
+    c.in-Some.e tells (g.F.Oracle.told_is_instance c.args.core.now c.in-Some.e tells) c.take_equation.ensures.woken c.take_equation.new.state c.take_equation.ensures.equated stepped
+    c.args.ledger.now.items c.take_equation.new.ledger.items line
+    c.take_run.new.state c.take_run.new.ledger.items c.take_run.new.queue c.take_run.ensures c.args.steps.now c.ask.new.steps c.in_ok-e.ensures.most
+
+pub returns-in_ok-reserve-in-Some-clause-less : goal.returns-in_ok-reserve-in-Some-clause-less
+returns-in_ok-reserve-in-Some-clause-less g c =
+    let tells : g.F.Oracle.told c.args.core.now c.in-Some.e = subst (λ (o : Option Equation). IfSome o (g.F.Oracle.told c.args.core.now)) c.in-Some.is c.in_ok-e.ensures.some in
+    let same : c.from.result ≡ c.args.id = search rules in
+    let stepped : step c.args.state.now (Equate c.args.id c.in-Some.e) ≡ Ok c.take_equation.new.state =
+    subst (λ (i : ℕ). step c.args.state.now (Equate i c.in-Some.e) ≡ Ok c.take_equation.new.state) same c.take_equation.ensures.step in
+    let line : c.take_equation.new.ledger.items ≡ c.args.ledger.now.items ++ Equate c.args.id c.in-Some.e ∷ [] =
+    c.take_equation.ensures.ledger ∙ ap (λ (l : List Line). l ++ Equate c.from.result c.in-Some.e ∷ []) c.in_ok-reserve-in-Some.ensures.items ∙ ap (λ (i : ℕ). c.args.ledger.now.items ++ Equate i c.in-Some.e ∷ []) same in
+    asked-less g.F.Oracle.told c.args.state.now c.args.occurs.now c.args.queue.now c.take_equation.new.queue c.args.marks.now c.requires.run c.args.id c.args.core.now c.requires.there c.requires.running c.requires.first
+    c.in-Some.e tells (g.F.Oracle.told_is_instance c.args.core.now c.in-Some.e tells) c.take_equation.ensures.woken c.take_equation.new.state c.take_equation.ensures.equated stepped
+    c.args.ledger.now.items c.take_equation.new.ledger.items line
+    c.take_run.new.state c.take_run.new.ledger.items c.take_run.new.queue c.take_run.ensures

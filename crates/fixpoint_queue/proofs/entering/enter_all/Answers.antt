@@ -1,4 +1,4 @@
-use Rattle.std.proofs.Common.{◌≡◌, ℕ, ◌+◌, ◌≤◌, [], length, get_or, take, ap, ◌∙◌, arith, Some, None}
+use Rattle.std.proofs.Common.{◌≡◌, ℕ, ◌+◌, ◌≤◌, length, get_or, take, ap, ◌∙◌, arith, Some, None}
 use Rattle.std.specs.Prelude.{Contains}
 use Rattle.core_forms.specs.declared.form.Core.{Core}
 use Rattle.core_occurrences.specs.Lists.{OccurrenceLists, added}

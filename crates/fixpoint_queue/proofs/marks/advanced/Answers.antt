@@ -1,4 +1,4 @@
-use Rattle.std.proofs.Common.{false, true, arith}
+use Rattle.std.proofs.Common.{arith}
 use Rattle.fixpoint_queue.proofs.MarkLaws.{false-bound, false-next, false-here}
 use Rattle.fixpoint_queue.proofs.marks.advanced.Goals as goal
 

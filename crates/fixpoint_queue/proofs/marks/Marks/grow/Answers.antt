@@ -1,4 +1,4 @@
-use Rattle.std.proofs.Common.{◌+◌, ◌≤◌, ◌++◌, List, Bool, false, replicate, sym, ap, ◌∙◌, subst, arith}
+use Rattle.std.proofs.Common.{◌≤◌, ◌++◌, List, Bool, false, replicate, sym, ap, ◌∙◌, subst, arith}
 use Rattle.fixpoint_queue.specs.Marks.{false_first}
 use Rattle.fixpoint_queue.proofs.MarkLaws.{false-append}
 use Rattle.fixpoint_queue.proofs.marks.Marks.grow.Goals as goal

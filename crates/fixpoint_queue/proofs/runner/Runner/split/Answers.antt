@@ -1,7 +1,7 @@
 use Rattle.std.proofs.Common.{◌≡◌, ◌⊎◌, ℕ, ◌+◌, ◌≤◌, ◌<◌, List, length, sym, ap, ◌∙◌, subst, arith, take}
 use Rattle.index_ring.specs.Lists.{times}
 use Rattle.step_kernel.specs.Kernel.{Kernel}
-use Rattle.step_kernel.specs.Steps.{step, divided}
+use Rattle.step_kernel.specs.Steps.{divided}
 use Rattle.fixpoint_queue.specs.Run.{Run}
 use Rattle.fixpoint_queue.specs.Standing.{Stand, AreAllVars, AreVarsFrom, AreEntered}
 use Rattle.fixpoint_queue.specs.Waits.{IsRun}

@@ -1,0 +1,144 @@
+//! Equations that a core tells, taken one after another.
+
+ghost use Rattle.std.specs.Prelude.{ℕ, ◌≡◌, ◌⊎◌, ◌+◌, ◌<◌, ◌≤◌, ◌++◌, ◌∷◌, [], true, false, length, vec_len, vec_capacity, Some, Ok};
+ghost use Rattle.order_ints.specs.Label.{IsLabel};
+ghost use Rattle.order_ints.specs.Place.{AtomBelow};
+ghost use Rattle.index_ring.specs.Lists.{times};
+ghost use Rattle.core_forms.specs.declared.equation.Equation.{Equation};
+ghost use Rattle.core_forms.specs.Place.{CoreBelow};
+ghost use Rattle.core_forms.specs.Trimmed.{trimmed_core};
+ghost use Rattle.core_occurrences.specs.Lists.{Occurs};
+ghost use Rattle.equation_runs.specs.Turns.{resolved_equation, IsMade, IsMadeOrTold, AreToldInTurn, EquationsBelow};
+ghost use Rattle.ledger_text.specs.declared.line.Line.TheVariants.{Equate};
+ghost use Rattle.step_kernel.specs.Kernel.{trimmed_at, IsKernel};
+ghost use Rattle.step_kernel.specs.Instances.{IsInstanceAt};
+ghost use Rattle.step_kernel.specs.Steps.{step, equated};
+ghost use Rattle.fixpoint_queue.specs.IdQueue.{IsIds};
+ghost use Rattle.fixpoint_queue.specs.Taken.{HasTaken};
+ghost use Rattle.fixpoint_queue.specs.Waits.{IsRun, IsWokenFor};
+
+use crate::id_queue::IdQueue;
+use crate::marks::Marks;
+use crate::oracle::Oracle;
+use crate::wake::wake;
+use core_forms::{Core, Equation};
+use core_occurrences::Occurrences;
+use ledger_text::Line;
+use step_kernel::State;
+
+/// Queues the cores that may tell something new once an equation is made.
+fn wake_for(state: &State, occurs: &Occurrences, queue: &mut IdQueue, e: &Equation)
+    requires kernel { IsKernel state.now }
+    requires first { IsLabel state.now.view e.now.a }
+    requires second { IsLabel state.now.view e.now.b }
+    requires lists { length state.now.view ≤ length occurs.now.lists }
+    requires places { (v id : ℕ) → 1 ≤ v → Occurs occurs.now v id → id < queue.old.places }
+    requires queued { IsIds queue.old }
+    ensures { IsWokenFor state.now.view occurs.now e.now queue.old queue.new }
+{
+    if let Some(loser) = state.store().loser(e.a, e.b) {
+        wake(state.store(), occurs, queue, loser);
+    }
+}
+
+/// Takes an equation that was told: queues what it wakes, makes its step, and writes its line.
+pub fn take_equation(
+    state: &mut State,
+    occurs: &Occurrences,
+    queue: &mut IdQueue,
+    ledger: &mut Vec<Line>,
+    id: u64,
+    e: Equation,
+)
+    requires kernel { IsKernel state.old }
+    requires running { state.old.bottom ≡ false }
+    requires instance { IsInstanceAt state.old id e }
+    requires lists { length state.old.view ≤ length occurs.now.lists }
+    requires places { (v id : ℕ) → 1 ≤ v → Occurs occurs.now v id → id < queue.old.places }
+    requires queued { IsIds queue.old }
+    requires room { vec_len ledger.old < vec_capacity ledger.old }
+    ensures step { step state.old (Equate id e) ≡ Ok state.new }
+    ensures equated { state.new ≡ equated state.old e }
+    ensures woken { IsWokenFor state.old.view occurs.now e queue.old queue.new }
+    ensures ledger { ledger.new.items ≡ ledger.old.items ++ Equate id e ∷ [] }
+    ensures lines { vec_len ledger.new ≡ vec_len ledger.old + 1 }
+    ensures room { vec_capacity ledger.new ≡ vec_capacity ledger.old }
+{
+    wake_for(state, occurs, queue, &e);
+    state.equate_told(id, &e);
+    ledger.push_reserved(Line::Equate { id, e });
+}
+
+/// An equation with its atoms as the store has them.
+fn resolved(state: &State, e: &Equation) -> Equation
+    requires first { AtomBelow (length state.now.view + 1) e.now.a }
+    requires second { AtomBelow (length state.now.view + 1) e.now.b }
+    ensures { result ≡ resolved_equation state.now.view e.now }
+{
+    Equation {
+        rule: e.rule,
+        a: state.store().resolve(e.a),
+        b: state.store().resolve(e.b),
+    }
+}
+
+/// Takes an equation of a run, as the store has it, unless it is made already.
+fn take_next<F: Oracle>(
+    state: &mut State,
+    occurs: &Occurrences,
+    queue: &mut IdQueue,
+    marks: &Marks,
+    ledger: &mut Vec<Line>,
+    id: u32,
+    core: &Core,
+    e: &Equation,
+)
+    requires run { IsRun F.told state.old occurs.now queue.old marks.now }
+    requires running { state.old.bottom ≡ false }
+    requires queued { 1 ≤ times id queue.old.queued }
+    requires there { trimmed_at state.old id ≡ Some (trimmed_core state.old.view core.now) }
+    requires core { CoreBelow (length state.old.view + 1) core.now }
+    requires first { AtomBelow (length state.old.view + 1) e.now.a }
+    requires second { AtomBelow (length state.old.view + 1) e.now.b }
+    requires told { IsMadeOrTold F.told core.now state.old.view e.now }
+    requires room { vec_len ledger.old < vec_capacity ledger.old }
+    ensures taken { HasTaken F.told occurs.now marks.now id core.now
+        state.old ledger.old.items queue.old state.new ledger.new.items queue.new }
+    ensures made { (state.new.bottom ≡ true) ⊎ IsMade state.new.view e.now }
+    ensures lines { vec_len ledger.new ≤ vec_len ledger.old + 1 }
+    ensures room { vec_capacity ledger.new ≡ vec_capacity ledger.old }
+{
+    let e = resolved(state, e);
+    if e.a != e.b {
+        take_equation(state, occurs, queue, ledger, u64::from(id), e);
+    }
+}
+
+/// Takes equations that a core tells one after another, up to a contradiction.
+pub fn take_run<F: Oracle>(
+    state: &mut State,
+    occurs: &Occurrences,
+    queue: &mut IdQueue,
+    marks: &Marks,
+    ledger: &mut Vec<Line>,
+    id: u32,
+    core: &Core,
+    run: &[Equation],
+)
+    requires run { IsRun F.told state.old occurs.now queue.old marks.now }
+    requires queued { 1 ≤ times id queue.old.queued }
+    requires there { trimmed_at state.old id ≡ Some (trimmed_core state.old.view core.now) }
+    requires core { CoreBelow (length state.old.view + 1) core.now }
+    requires below { EquationsBelow (length state.old.view + 1) run.now }
+    requires told { AreToldInTurn F.told core.now run.now }
+    requires room { vec_len ledger.old + length run.now ≤ vec_capacity ledger.old }
+    ensures { HasTaken F.told occurs.now marks.now id core.now
+        state.old ledger.old.items queue.old state.new ledger.new.items queue.new }
+{
+    for e in run {
+        if state.bottom() {
+            return;
+        }
+        take_next::<F>(state, occurs, queue, marks, ledger, id, core, e);
+    }
+}

@@ -3,3 +3,4 @@ pub mod NextValue
 pub mod LinkedAt
 pub mod LinkLists
 pub mod LinkTurns
+pub mod RunBelow

@@ -8,3 +8,4 @@ pub mod ChainTurns
 pub mod Turns
 pub mod ChainSteps
 pub mod LinkSteps
+pub mod RunBelow

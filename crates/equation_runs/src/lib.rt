@@ -2,7 +2,6 @@
 #![tactic(auto)]
 
 mod chains;
-pub mod laws;
 mod links;
 mod run;
 

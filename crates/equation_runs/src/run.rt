@@ -1,6 +1,6 @@
 //! The run of a core.
 
-ghost use Rattle.std.specs.Prelude.{◌≡◌, ◌++◌, map, IfOk, OnOk};
+ghost use Rattle.std.specs.Prelude.{◌≡◌, ℕ, true, ◌++◌, map, IfOk, OnOk};
 ghost use Rattle.core_forms.specs.Contents.{ints_of};
 ghost use Rattle.core_forms.specs.WellFormed.{IsWellFormed, IsSound};
 ghost use Rattle.core_forms.specs.declared.equation.Rule.TheVariants.{Order, Form};
@@ -8,6 +8,8 @@ ghost use Rattle.order_ints.specs.OrderRange.{low_of};
 ghost use Rattle.rule_base.specs.Pairs.{only_if};
 ghost use Rattle.rule_base.specs.Constant.{is_constant};
 ghost use Rattle.arith_rules.specs.SumRows.{raised_equations, mirrored_equations, sum3_constants};
+ghost use Rattle.core_forms.specs.Place.{CoreBelow};
+ghost use Rattle.equation_runs.specs.Turns.{AreToldInTurn, is_stated, EquationsBelow};
 ghost use Rattle.equation_runs.specs.RunRows.{equation_of, chains_of, link_pairs, run_of};
 
 use crate::chains::push_chains;
@@ -91,12 +93,17 @@ fn push_links(run: &mut Vec<Equation>, core: &Core) -> Result<(), AllocError>
 /// Equations that a core tells one after another: upwards along the steps of each integer from a False one,
 /// and downwards from a True one; and between two of its integers, where these are equal or make up a
 /// constant, or where one is the other and a constant, added up. Whatever the store makes of the core later,
-/// each of them is made or is told of it when its turn comes (`laws::turn_law`). So one look at a core of n
+/// each of them is made or is told of it when its turn comes. So one look at a core of n
 /// steps gives up to 2 * n equations. Its time and memory are linear in the core; where it has no such
 /// equation it takes no memory.
 pub fn run_of(alloc: Global, core: &Core) -> Result<Vec<Equation>, AllocError>
     requires { IsWellFormed core.now }
-    ensures { IfOk result (λ run. run.items ≡ run_of core.now) }
+    ensures shape { IfOk result (λ run. run.items ≡ run_of core.now) }
+
+    // Each of them is made, or stated of the core as the store has it, in every store in which the one before it
+    // is made.
+    ensures told { IfOk result (λ run. AreToldInTurn (λ c e. is_stated c e ≡ true) core.now run.items) }
+    ensures below { (n : ℕ) → CoreBelow n core.now → IfOk result (λ run. EquationsBelow n run.items) }
 {
     let mut run = Vec::new(alloc);
     for a in core.ints() {

@@ -1,4 +1,4 @@
-//! The models of `examples/`, with their numbers of variables and clauses, counted by hand from the tables of
+//! Models of `examples/`, with their numbers of variables and clauses, counted by hand from the tables of
 //! declarations, equations and clauses in `docs/CORES.md`; and a count so long that the sum of its halves is split.
 
 use crate::example_rows::{check, has_line};

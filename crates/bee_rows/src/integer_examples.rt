@@ -1,4 +1,4 @@
-//! Models of `examples/` over integers, with the variables and clauses that `examples/README.md` tells of them.
+//! Models of `examples/` over integers, with the variables and clauses of `examples/README.md`.
 
 use crate::example_rows::check;
 use std::test::Fail;
@@ -189,23 +189,26 @@ int_eq(r9c5,8) int_eq(r9c8,7) int_eq(r9c9,9)
 solve satisfy
 ";
 
+/// A count by hand from the tables in `docs/CORES.md` agrees with these. All different integers take a mark for each value
+/// that a member has left, and where equations fill a square, each member has one and no clause is left.
 #[test]
-fn sums_of_the_examples_are_compiled(rt: HostRuntime) -> Result<(), Fail> {
+fn counted_examples_are_compiled(rt: HostRuntime) -> Result<(), Fail> {
     let rows = [
         (GOLOMB_RULER, "\np cnf 51 89\n"),
-        (KNAPSACK, "\np cnf 83 291\n"),
+        (JOB_SHOP, "\np cnf 148 52\n"),
+        (QUASIGROUP, "\np cnf 150 0\n"),
         (QUEENS, "\np cnf 396 852\n"),
-        (SEND_MORE_MONEY, "\np cnf 162 475\n"),
+        (SUDOKU, "\np cnf 891 0\n"),
     ];
     check(&rt, rt.alloc(), &rows)
 }
 
+/// These are what the program told, with no count beside it.
 #[test]
-fn plans_of_the_examples_are_compiled(rt: HostRuntime) -> Result<(), Fail> {
+fn examples_with_long_sums_are_compiled(rt: HostRuntime) -> Result<(), Fail> {
     let rows = [
-        (JOB_SHOP, "\np cnf 148 52\n"),
-        (QUASIGROUP, "\np cnf 150 0\n"),
-        (SUDOKU, "\np cnf 891 0\n"),
+        (KNAPSACK, "\np cnf 83 291\n"),
+        (SEND_MORE_MONEY, "\np cnf 162 475\n"),
     ];
     check(&rt, rt.alloc(), &rows)
 }

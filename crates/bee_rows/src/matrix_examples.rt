@@ -1,4 +1,4 @@
-//! Models of `examples/` over a matrix of Booleans, with the variables and clauses that `examples/README.md` tells of them.
+//! Models of `examples/` over a matrix of Booleans, with the variables and clauses of `examples/README.md`.
 
 use crate::example_rows::check;
 use std::test::Fail;
@@ -208,6 +208,7 @@ bool_array_and([ab1,ac2,ad3,ae4,af5])
 solve satisfy
 ";
 
+/// A count by hand agrees with the round robin's; the block design's are what the program told.
 #[test]
 fn matrices_of_the_examples_are_compiled(rt: HostRuntime) -> Result<(), Fail> {
     let rows = [

@@ -1,6 +1,7 @@
-//! The models of `examples/`, with their numbers of variables and clauses, counted by hand from the tables of
+//! Models of `examples/`, with their numbers of variables and clauses, counted by hand from the tables of
 //! declarations, equations and clauses in `docs/CORES.md`; and a count so long that the sum of its halves is split.
 
+use crate::example_rows::{check, has_line};
 use crate::outside::{AMPLE, compile_over};
 use std::alloc::{AllocError, Global};
 use std::test::Fail;
@@ -276,31 +277,16 @@ bool_array_or([-nsw_blue,-v_blue])
 solve satisfy
 ";
 
-/// Whether a text has this line.
-fn has_line(text: &[u8], line: &str) -> bool {
-    for i in 0..text.len() {
-        if text[i..].starts_with(line.as_bytes()) {
-            return true;
-        }
-    }
-    false
-}
-
 #[test]
 fn examples_are_compiled(rt: HostRuntime) -> Result<(), Fail> {
-    let alloc = rt.alloc();
-    for (text, line) in [
+    let rows = [
         (GRAPH_COLOURING, "\np cnf 20 36\n"),
         (SCHEDULE, "\np cnf 25 54\n"),
         (PIGEONHOLE, "\np cnf 20 45\n"),
         (SEATING, "\np cnf 16 51\n"),
         (MAP_COLOURING, "\np cnf 21 55\n"),
-    ] {
-        let run = compile_over(alloc, text, AMPLE)?;
-        assert_eq!(rt; run.status, ("done", 0), "{line}");
-        assert!(rt; has_line(run.out.taken(), line), "{line}");
-    }
-    Ok(())
+    ];
+    check(&rt, rt.alloc(), &rows)
 }
 
 /// Forty Booleans, of which twenty are true.

@@ -9,11 +9,17 @@ mod compile;
 #[cfg(test)]
 mod decode;
 #[cfg(test)]
+mod example_rows;
+#[cfg(test)]
 mod examples;
+#[cfg(test)]
+mod integer_examples;
 #[cfg(test)]
 mod integer_models;
 #[cfg(test)]
 mod list_models;
+#[cfg(test)]
+mod matrix_examples;
 #[cfg(test)]
 mod outside;
 #[cfg(test)]

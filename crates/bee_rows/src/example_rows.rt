@@ -1,0 +1,30 @@
+//! Rows of examples: what a compiled text says of its variables and clauses.
+
+use crate::outside::{AMPLE, compile_over};
+use std::alloc::Global;
+use std::process::Abort;
+use std::test::Fail;
+
+/// An example's text, and the line with the variables and clauses of its compiled text.
+pub(super) type Row = (&'static str, &'static str);
+
+/// Whether a text has this line.
+pub(super) fn has_line(text: &[u8], line: &str) -> bool {
+    for i in 0..text.len() {
+        if text[i..].starts_with(line.as_bytes()) {
+            return true;
+        }
+    }
+    false
+}
+
+/// Asserts that each example is compiled with its line, and that nothing is on the sink for errors.
+pub(super) fn check(rt: &impl Abort, alloc: Global, rows: &[Row]) -> Result<(), Fail> {
+    for (text, line) in rows {
+        let run = compile_over(alloc, text, AMPLE)?;
+        assert_eq!(rt; run.status, ("done", 0), "{line}");
+        assert_eq!(rt; run.err.taken(), b"".as_slice(), "{line}");
+        assert!(rt; has_line(run.out.taken(), line), "{line}");
+    }
+    Ok(())
+}

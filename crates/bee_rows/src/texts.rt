@@ -141,10 +141,10 @@ static INTEGERS: [Row; 13] = [
 
 /// Sums, products and different members.
 static SUMS: [Row; 7] = [
-    // 3 3
+    // 3 3: the third step of x, and then what links the values of x and of y.
     (
         "new_int(x,0,3)\nnew_int(y,0,3)\nint_plus(x,y,6)\nsolve satisfy\n",
-        "c bee 1\nc int x 3\nc int y 3\nc led eq 3 form 3 T\nc led eq 3 order 2 T\nc led eq 3 order 1 T\nc led eq 3 form 6 T\nc led eq 3 order 5 T\nc led eq 3 order 4 T\nc led enc 1\nc led enc 2\nc led enc 3\np cnf 6 0\n",
+        "c bee 1\nc int x 3\nc int y 3\nc led eq 3 form 3 T\nc led eq 3 form 1 T\nc led eq 3 form 2 T\nc led eq 3 form F -4\nc led eq 3 form F -5\nc led eq 3 form F -6\nc led enc 1\nc led enc 2\nc led enc 3\np cnf 6 0\n",
     ),
     // 0 3, 1 2, 2 1, 3 0: y by the negations of the variables of x.
     (

@@ -93,9 +93,9 @@ fn push_links(run: &mut Vec<Equation>, core: &Core) -> Result<(), AllocError>
 /// Equations that a core tells one after another: upwards along the steps of each integer from a False one,
 /// and downwards from a True one; and between two of its integers, where these are equal or make up a
 /// constant, or where one is the other and a constant, added up. Whatever the store makes of the core later,
-/// each of them is made or is told of it when its turn comes. So one look at a core of n
-/// steps gives up to 2 * n equations. Its time and memory are linear in the core; where it has no such
-/// equation it takes no memory.
+/// each of them is made or is told of it when its turn comes. So one look at a core is enough for all of them,
+/// where each would else cost one of its own. Its time and memory are linear in the core; where there is no
+/// such equation it takes no memory.
 pub fn run_of(alloc: Global, core: &Core) -> Result<Vec<Equation>, AllocError>
     requires { IsWellFormed core.now }
     ensures shape { IfOk result (λ run. run.items ≡ run_of core.now) }

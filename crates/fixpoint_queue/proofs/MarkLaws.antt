@@ -31,6 +31,15 @@ false-set (true ∷ marks) (suc i) m n le low = le
 false-set (false ∷ marks) (suc i) m zero le low = omega arith
 false-set (false ∷ marks) (suc i) m (suc n) le low = omega (arith, false-set marks i m n (omega (arith, le)) (omega (arith, low)))
 
+-- and one that is taken away makes no more than before true
+pub false-cleared : (marks : List Bool) (i : ℕ) (n : ℕ) → n ≤ false_first marks → n ≤ false_first (set marks i false)
+false-cleared [] i n le = le
+false-cleared (true ∷ marks) zero n le = omega (arith, le)
+false-cleared (false ∷ marks) zero n le = le
+false-cleared (true ∷ marks) (suc i) n le = le
+false-cleared (false ∷ marks) (suc i) zero le = omega arith
+false-cleared (false ∷ marks) (suc i) (suc n) le = omega (arith, false-cleared marks i n (omega (arith, le)))
+
 pub false-append : (marks more : List Bool) → false_first marks ≤ false_first (marks ++ more)
 false-append [] more = omega arith
 false-append (true ∷ marks) more = omega arith

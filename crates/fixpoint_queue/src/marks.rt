@@ -6,8 +6,9 @@ ghost use Rattle.fixpoint_queue.specs.Marks.{AreLonger, least_marked, false_firs
 use std::alloc::{AllocError, Global};
 use std::marker::Model;
 
-/// A mark for each id, in one byte. The marks before `known` are false, so that the least marked id is found
-/// by a walk that goes back only where a mark is set before it.
+/// A mark for each id, in one byte. The marks before `known` are false. Where a mark is taken away `known` goes
+/// forward to the least one that is left, and back only where a mark is set before it, so that the marks are
+/// gone along once, and once more for what was gone back.
 #[derive(Drop)]
 pub struct Marks {
     marks: Vec<bool>,
@@ -78,15 +79,19 @@ impl Marks {
         self.grow(more)
     }
 
-    /// Sets the mark of an id.
+    /// Sets the mark of an id, or takes it away.
     pub fn set(&mut self, id: u32, mark: bool)
         requires low { 1 ≤ id }
         requires high { id ≤ length self.old }
         ensures { self.new ≡ slice_set self.old (id - 1) mark }
     {
         let place = id as usize - 1;
-        self.known = self.known.min(place);
         self.marks[place] = mark;
+        if mark {
+            self.known = self.known.min(place);
+        } else {
+            self.known = advanced(self.marks.as_slice(), self.known);
+        }
     }
 
     /// The least marked id.

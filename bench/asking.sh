@@ -1,8 +1,8 @@
 #!/usr/bin/env bash
 # Counts the questions that a compilation asks: how often an oracle is asked for an equation at a core. An oracle of its own adds one
 # to a cell, and hands the question on to all the rules. Prints for families of models, of sizes that mostly double, the questions that
-# were asked; the different variables of the cores at which they were asked, as the store had these, together, which is what was looked
-# at; the cores that were made, by the lowering and by splits; the numbers of their different variables, together; the binary
+# were asked; the different variables of the cores at which they were asked, as the store had these, together, and once more where a run
+# was taken, which is what was looked at; the cores that were made, by the lowering and by splits; the numbers of their different variables, together; the binary
 # digits of the last number of variables; the bound, which is the cores, and the variables times the digits; and the equations. Behind
 # them stand, for a family of several sizes, the growth exponents of the questions and of what was looked at, from its first size to its
 # last, against the variables of the cores. It stops with an error where more questions were asked than the bound says.
@@ -40,7 +40,7 @@ folder=$(mktemp -d)
 trap 'rm -rf "$folder"' EXIT
 git init -q "$folder"
 tar -C "$top" --exclude=out -c crates crates.txt | tar -C "$folder" -x
-echo 'asking: bee_list core_forms rule_base ledger_text step_kernel fixpoint_queue bumblebee_reader typed_model model_lower bee_compile' \
+echo 'asking: bee_list core_forms rule_base core_rules ledger_text step_kernel fixpoint_queue bumblebee_reader typed_model model_lower bee_compile' \
   >>"$folder/crates.txt"
 mkdir -p "$folder/crates/asking/src" "$folder/models"
 for family in "${families[@]}"; do
@@ -58,7 +58,8 @@ cat >"$folder/crates/asking/src/main.rt" <<'RT'
 
 use bee_compile::{Compiled, compile};
 use bumblebee_reader::Items;
-use core_forms::{Core, Equation, variables};
+use core_forms::{Core, Rule, variables};
+use core_rules::FoundRun;
 use fixpoint_queue::{Oracle, TableP};
 use ledger_text::Line;
 use model_lower::{Lowered, lower};
@@ -72,35 +73,38 @@ use std::sync::ledger::{Blank, Ledger};
 use step_kernel::State;
 use typed_model::{Model, Typing};
 
-/// Tells what all rules tell, and counts how often it is asked, and the different variables of the cores at which it is.
+/// Tells what all rules tell, and counts how often it is asked, and the different variables of the cores at which it is, once
+/// more where a run is taken.
 #[derive(Clone, Copy)]
 struct Counting<'a> {
     asked: &'a Cell<u64>,
     looked: &'a Cell<u64>,
 }
 
-impl Oracle for Counting<'_> {
+impl<L: Ledger> Oracle<L> for Counting<'_> {
     ghost use Rattle.std.specs.Prelude.{◌≡◌, true};
-    ghost use Rattle.step_kernel.specs.Instances.{is_instance_at};
+    ghost use Rattle.core_rules.specs.Instances.{is_instance_at};
 
     ghost told = { λ core e. is_instance_at core e ≡ true };
 
     ghost told_is_instance = { λ core e told. told };
 
-    fn ask<L: Ledger>(
+    fn ask(
         &self,
         alloc: Global,
         core: &Core,
         steps: &mut Steps<L>,
-    ) -> Result<Option<Equation>, AllocError> {
+    ) -> Result<Option<FoundRun>, AllocError> {
         let vars = variables(alloc, core)?.len() as u64;
         self.asked.set(self.asked.get().saturating_add(1));
         self.looked.set(self.looked.get().saturating_add(vars));
-        TableP.ask(alloc, core, steps)
-    }
-
-    fn run(&self, alloc: Global, core: &Core) -> Result<Vec<Equation>, AllocError> {
-        TableP.run(alloc, core)
+        let found = TableP.ask(alloc, core, steps)?;
+        if let Some(first) = &found {
+            if !matches!(first.equation.rule, Rule::Table) {
+                self.looked.set(self.looked.get().saturating_add(vars));
+            }
+        }
+        Ok(found)
     }
 }
 

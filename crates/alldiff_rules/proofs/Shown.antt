@@ -1,4 +1,4 @@
--- The first three places: one more, and how many are others than a given one.
+-- Up to three different places: one more, and how many are others than a given one.
 use Rattle.std.proofs.Common.{◌≡◌, ℕ, ◌+◌, ◌≤◌, Bool, true, false, cond, ◌⊎◌, inl, inr, refl, ap, sym, ◌∙◌, subst, arith, ⊎_elim, Option, None, Some}
 use Rattle.std.specs.Prelude.{◌==◌, nat_le}
 use Rattle.std.proofs.lemmas.Bool.Decides.{nat_tests}

@@ -1,4 +1,4 @@
--- Tables of the first three places of which something holds, as places are put into them.
+-- Tables of up to three different places of which something holds, as places are put into them.
 use Rattle.std.proofs.Common.{◌≡◌, ℕ, ◌+◌, ◌≤◌, ◌<◌, true, false, ◌⊎◌, inl, inr, ℤ, refl, ap, sym, ◌∙◌, subst, arith, ⊎_elim, Some}
 use Rattle.std.specs.declared.cmp.Ordering.{Ordering}
 use Rattle.std.specs.declared.cmp.Ordering.TheVariants.{Less, Equal, Greater}

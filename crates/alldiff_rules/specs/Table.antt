@@ -1,4 +1,4 @@
--- The first three places at which something stands.
+-- Up to three different places at which something stands.
 use Rattle.std.specs.Prelude.{◌≡◌, ◌≢◌, ◌⊎◌, ◌==◌, ℕ, ◌+◌, nat_le, Bool, false, ℤ, Option, None, Some, if◌then◌else◌}
 use Rattle.std.specs.declared.cmp.Ordering.{Ordering}
 use Rattle.std.specs.Ordering.{int_cmp, nat_cmp, ordering_then}
@@ -50,7 +50,7 @@ HasOther P k = (i : ℕ) × P i × (i ≢ k)
 abbrev pub HasTwoOthers : (ℕ → Type 0) → ℕ → Type 0
 HasTwoOthers P k = (i : ℕ) × (j : ℕ) × P i × P j × (i ≢ j) × (i ≢ k) × (j ≢ k)
 
--- the first three of the places of which something holds: where there are fewer, all of them
+-- three different ones of the places of which something holds: where there are fewer, all of them
 abbrev pub ShowsThird : (ℕ → Type 0) → ℕ → ℕ → Option ℕ → Type 0
 ShowsThird P f s None = (i : ℕ) → P i → (i ≡ f) ⊎ (i ≡ s)
 ShowsThird P f s (Some t) = P t × (t ≢ f) × (t ≢ s)

@@ -26,7 +26,7 @@ abbrev pub IsPlaced : ℤ → ℕ → List (ℤ × ℕ) → Type 0
 IsPlaced v i [] = ⊥
 IsPlaced v i (e ∷ entries) = ((e.0 ≡ v) × (e.1 ≡ i)) ⊎ IsPlaced v i entries
 
--- for each value its first three places, and how many different values there are
+-- for each value up to three different places, and how many different values there are
 pub record IsTally (entries : List (ℤ × ℕ)) (tally : Tally) : Type 0 where
   pub values : (v : ℤ) → Shows (λ i. IsPlaced v i entries) (get int_cmp tally.values v)
   pub count : tally.count ≡ number_new [] (listed_values entries)

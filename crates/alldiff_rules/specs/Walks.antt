@@ -18,7 +18,7 @@ use Rattle.alldiff_rules.specs.RowLists.{are_too_few, are_as_many, value_equatio
 use Rattle.alldiff_rules.specs.Instances.{IsOneOf}
 
 -- the tables of members: those of the sure ones with one value or two, whether there are fewer values than members, which
--- all differ, or as many, and in this case each value with the first three places at which it stands
+-- all differ, or as many, and in this case each value with up to three different places at which it stands
 pub record AreTables (ints : List OrdInt) (cs : List Atom) (tables : Tables) : Type 0 where
   pub narrow : IsNarrow ints cs tables.narrow
   pub values : tables.as_many ≡ true → (v : ℤ) → Shows (λ i. (i < length ints) × (is_among v (values_of (int_at ints i)) ≡ true)) (get int_cmp tables.tally.values v)

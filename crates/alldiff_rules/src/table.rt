@@ -1,4 +1,4 @@
-//! Tables of values, each with the first three places at which something stands.
+//! Tables of values, each with up to three different places at which something stands.
 
 ghost use Rattle.std.specs.Prelude.{◌≡◌, Some, OnOk};
 ghost use Rattle.std.specs.BTreeMap.{get, Updates};
@@ -8,14 +8,14 @@ ghost use Rattle.alldiff_rules.specs.Table.{pair_cmp, with_place, joined, number
 use std::alloc::AllocError;
 use std::collections::BTreeMap;
 
-/// The first three places at which something stands, of which there is one at least.
+/// Up to three different places at which something stands, of which there is one at least: three where there are so many, and else all.
 #[derive(Clone, Copy)]
 pub(crate) struct Places {
-    /// The first place.
+    /// One place.
     pub first: usize,
-    /// The second one.
+    /// Another one.
     pub second: Option<usize>,
-    /// The third one.
+    /// A third one.
     pub third: Option<usize>,
 }
 

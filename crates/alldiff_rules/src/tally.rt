@@ -34,7 +34,7 @@ fn placed_values(alloc: Global, ints: &[OrdInt]) -> Result<Vec<(i128, usize)>, A
     Ok(entries)
 }
 
-/// Values by the first three places at which each stands, and how many different ones there are.
+/// Values by up to three different places at which each stands, and how many different ones there are.
 #[derive(Drop)]
 pub(crate) struct Tally {
     /// The values.

@@ -8,12 +8,16 @@ use Rattle.order_ints.specs.Truth.{not_atom}
 use Rattle.order_ints.specs.OrderLevels.{levels_of, at_of}
 use Rattle.order_ints.proofs.Everywhere.{map_levels, filter_levels}
 use Rattle.core_forms.specs.WellFormed.{IsSound}
-use Rattle.arith_rules.specs.Links.{linked, opposed, opposed_above, alike_where}
+use Rattle.arith_rules.specs.Links.{linked, linked_back, opposed, opposed_above, alike_where}
 use Rattle.arith_rules.specs.Tops.{false_above}
 
 -- at a level: its atom, and that of b where the level's value is linked
 abbrev pub linked_pair : (ℤ → ℤ) → OrdInt → ℤ × Atom → Atom × Atom
 linked_pair link b level = (level.1, at_of b (link level.0))
+
+-- the same with the atom of b first
+abbrev pub back_pair : (ℤ → ℤ) → OrdInt → ℤ × Atom → Atom × Atom
+back_pair link b level = (at_of b (link level.0), level.1)
 
 abbrev pub opposed_pair : (ℤ → ℤ) → OrdInt → ℤ × Atom → Atom × Atom
 opposed_pair link b level = (level.1, not_atom (at_of b (link level.0)))
@@ -29,6 +33,9 @@ false_pair level = (level.1, False)
 module _ (link : ℤ → ℤ) (a b : OrdInt) (sound : IsSound a) where
   pub linked-is : map (linked_pair link b) (levels_of a) ≡ linked link a b
   linked-is = map_levels (λ v x. (x, at_of b (link v))) a sound.1
+
+  pub back-is : map (back_pair link b) (levels_of a) ≡ linked_back link a b
+  back-is = map_levels (λ v x. (at_of b (link v), x)) a sound.1
 
   pub opposed-is : map (opposed_pair link b) (levels_of a) ≡ opposed link a b
   opposed-is = map_levels (λ v x. (x, not_atom (at_of b (link v)))) a sound.1

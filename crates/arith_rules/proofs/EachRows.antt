@@ -19,7 +19,7 @@ use Rattle.rule_base.specs.Stated.{at_least, is_below, all_equal}
 use Rattle.rule_base.specs.Constant.{is_constant}
 use Rattle.rule_base.proofs.PairLaws.{EachOfPairs-append, EachOfPairs-only_if, EachOfPairs-map}
 use Rattle.rule_base.proofs.StatedLaws.{each-at_of, each-all_equal}
-use Rattle.arith_rules.specs.Links.{within, linked, opposed, opposed_above, alike_where}
+use Rattle.arith_rules.specs.Links.{within, linked, linked_back, opposed, opposed_above, alike_where, alike_back}
 use Rattle.arith_rules.specs.SumRows.{sum3_ranges, raised_equations, mirrored_equations, sum3_constants, sum3_equations, count_equations, lows_of, highs_of, shares, sum_equations}
 use Rattle.arith_rules.specs.MaxRows.{member_ranges, top_from, top_equations, reaching, is_sole, linked_equations, leader_equations, unreached_equations, max_equations}
 use Rattle.arith_rules.specs.ProductRows.{floor_of, ceiling_of, least_product, greatest_product, factor_equations, multiple_equations, negative_equations, scaled_equations, prod_equations, quotient_equations, dividend_equations, div_mod_equations}
@@ -36,6 +36,10 @@ module _ (P : Atom → Type 0) (closed : IsClosed P) where
     each-linked link =
         EachOfPairs-map P (λ v. (at_of a v, at_of b (link v))) (values_of a) (λ v. (each-at_of P closed a v ea, each-at_of P closed b (link v) eb))
 
+    each-linked_back : (link : ℤ → ℤ) → EachOfPairs P (linked_back link a b)
+    each-linked_back link =
+        EachOfPairs-map P (λ v. (at_of b (link v), at_of a v)) (values_of a) (λ v. (each-at_of P closed b (link v) eb, each-at_of P closed a v ea))
+
     each-opposed : (link : ℤ → ℤ) → EachOfPairs P (opposed link a b)
     each-opposed link =
         EachOfPairs-map P (λ v. (at_of a v, not_atom (at_of b (link v)))) (values_of a)
@@ -50,11 +54,15 @@ module _ (P : Atom → Type 0) (closed : IsClosed P) where
     each-alike test =
         EachOfPairs-map P (λ v. (at_of a v, at_of b v)) (filter test (values_of a)) (λ v. (each-at_of P closed a v ea, each-at_of P closed b v eb))
 
+    each-alike_back : (test : ℤ → Bool) → EachOfPairs P (alike_back test a b)
+    each-alike_back test =
+        EachOfPairs-map P (λ v. (at_of b v, at_of a v)) (filter test (values_of a)) (λ v. (each-at_of P closed b v eb, each-at_of P closed a v ea))
+
   -- ---- sums and counts
 
   each-raised : (k : ℤ) (b c : OrdInt) → EachStep P b.steps → EachStep P c.steps → EachOfPairs P (raised_equations k b c)
   each-raised k b c eb ec =
-      EachOfPairs-append P (linked (λ v. v +ℤ k) b c) (linked (λ w. w -ℤ k) c b) (each-linked b c eb ec (λ v. v +ℤ k)) (each-linked c b ec eb (λ w. w -ℤ k))
+      EachOfPairs-append P (linked (λ v. v +ℤ k) b c) (linked_back (λ w. w -ℤ k) c b) (each-linked b c eb ec (λ v. v +ℤ k)) (each-linked_back c b ec eb (λ w. w -ℤ k))
 
   each-mirrored : (k : ℤ) (a b : OrdInt) → EachStep P a.steps → EachStep P b.steps → EachOfPairs P (mirrored_equations k a b)
   each-mirrored k a b ea eb =
@@ -113,8 +121,8 @@ module _ (P : Atom → Type 0) (closed : IsClosed P) where
     each-leaders all (a ∷ xs) each =
         EachOfPairs-append P (only_if (is_sole all (high_of a)) (linked_equations c a all)) (leader_equations c all xs)
         (EachOfPairs-only_if P (is_sole all (high_of a)) (linked_equations c a all)
-        (EachOfPairs-append P (alike_where (is_sole all) c a) (alike_where (is_sole all) a c)
-        (each-alike c a ec each.0 (is_sole all)) (each-alike a c each.0 ec (is_sole all))))
+        (EachOfPairs-append P (alike_where (is_sole all) c a) (alike_back (is_sole all) a c)
+        (each-alike c a ec each.0 (is_sole all)) (each-alike_back a c each.0 ec (is_sole all))))
         (each-leaders all xs each.1)
 
     each-max : (xs : List OrdInt) → EachInt P xs → EachOfPairs P (max_equations xs c)
@@ -136,7 +144,7 @@ module _ (P : Atom → Type 0) (closed : IsClosed P) where
   each-scaled k b c eb ec =
       EachOfPairs-append P (only_if (int_lt (pos 0) k) (multiple_equations k b c)) (only_if (int_lt k (pos 0)) (negative_equations k b c))
       (EachOfPairs-only_if P (int_lt (pos 0) k) (multiple_equations k b c)
-      (EachOfPairs-append P (linked (λ v. k *ℤ v) b c) (linked (λ w. ceiling_of w k) c b) (each-linked b c eb ec (λ v. k *ℤ v)) (each-linked c b ec eb (λ w. ceiling_of w k))))
+      (EachOfPairs-append P (linked_back (λ v. k *ℤ v) b c) (linked (λ w. ceiling_of w k) c b) (each-linked_back b c eb ec (λ v. k *ℤ v)) (each-linked c b ec eb (λ w. ceiling_of w k))))
       (EachOfPairs-only_if P (int_lt k (pos 0)) (negative_equations k b c)
       (EachOfPairs-append P (opposed_above (λ v. k *ℤ v) b c) (opposed (λ w. floor_of (neg_ℤ w) (neg_ℤ k) +ℤ pos 1) c b)
       (each-opposed_above b c eb ec (λ v. k *ℤ v)) (each-opposed c b ec eb (λ w. floor_of (neg_ℤ w) (neg_ℤ k) +ℤ pos 1))))

@@ -1,6 +1,7 @@
 pub mod RangeBits
 pub mod FourBits
 pub mod LoopFound
+pub mod Turned
 pub mod TopLaws
 pub mod SumFound
 pub mod LinkFound

@@ -17,8 +17,9 @@ use Rattle.core_forms.specs.Values.{all_ordered, values, all_at_most, is_greates
 use Rattle.rule_base.specs.Pairs.{only_if, AreEqual}
 use Rattle.rule_base.proofs.PairLaws.{AreEqual-append, AreEqual-only_if}
 use Rattle.rule_base.proofs.StatedLaws.{at_of-reached, at_of-passed}
-use Rattle.arith_rules.specs.Links.{alike_where}
+use Rattle.arith_rules.specs.Links.{alike_where, alike_back}
 use Rattle.arith_rules.specs.MaxRows.{member_ranges, top_from, top_equations, reaching, is_sole, linked_equations, leader_equations, unreached_equations, max_equations}
+use Rattle.arith_rules.proofs.Turned.{alike_back-equal}
 use Rattle.arith_rules.proofs.LinkSound.{alike-equal}
 
 and-left : (s t : Bool) → (s && t) ≡ true → s ≡ true
@@ -174,8 +175,8 @@ module _ (σ : Valuation) (c : OrdInt) where
       (subst (λ (zs : List OrdInt). reaching v zs ≤ 1) (sym parts) (at-most (reaching v all) 1 sole)) in
       AreEqual-append σ (only_if (is_sole all (high_of a)) (linked_equations c a all)) (leader_equations c all ys)
       (AreEqual-only_if σ (is_sole all (high_of a)) (linked_equations c a all) (λ leads.
-      AreEqual-append σ (alike_where (is_sole all) c a) (alike_where (is_sole all) a c)
-      (alike-equal σ c a oc oa (is_sole all) (whole leads)) (alike-equal σ a c oa oc (is_sole all) (λ v sole. sym (whole leads v sole)))))
+      AreEqual-append σ (alike_where (is_sole all) c a) (alike_back (is_sole all) a c)
+      (alike-equal σ c a oc oa (is_sole all) (whole leads)) (alike_back-equal σ (is_sole all) a c (alike-equal σ a c oa oc (is_sole all) (λ v sole. sym (whole leads v sole))))))
       (leaders-equal all (xs ++ a ∷ []) ys (append_assoc xs (a ∷ []) ys ∙ parts) oc
       (and-right (in_order σ a.steps) (all_ordered σ ys) order) (and-right (int_le (value_of σ a) (value_of σ c)) (all_at_most (value_of σ c) (values σ ys)) most) among)
 

@@ -15,7 +15,7 @@ use Rattle.rule_base.specs.declared.sought.Sought.{Sought}
 use Rattle.rule_base.specs.Pairs.{first_sought}
 use Rattle.rule_base.proofs.PairLaws.{both-found}
 use Rattle.arith_rules.specs.declared.links.Link.TheVariants.{Times, Ceiling, Over}
-use Rattle.arith_rules.specs.Links.{linked, opposed, opposed_above}
+use Rattle.arith_rules.specs.Links.{linked, linked_back, opposed, opposed_above}
 use Rattle.arith_rules.specs.Ranges.{range_of}
 use Rattle.arith_rules.specs.ProductRows.{multiple_equations, negative_equations}
 use Rattle.arith_rules.specs.ProductRanges.{HaveSmallCorners}
@@ -64,9 +64,9 @@ corners-small a b small = (
 -- ---- two links, with the number that the code computes
 
 module _ (sought : Sought) (x y : OrdInt) (k k' : ℤ) (o p : Option (Atom × Atom)) where
-  pub multiple-found : o ≡ first_sought sought (linked (link_of (Times k')) x y) → p ≡ first_sought sought (linked (link_of (Ceiling k')) y x) → k' ≡ k → option_or o p ≡ first_sought sought (multiple_equations k x y)
+  pub multiple-found : o ≡ first_sought sought (linked_back (link_of (Times k')) x y) → p ≡ first_sought sought (linked (link_of (Ceiling k')) y x) → k' ≡ k → option_or o p ≡ first_sought sought (multiple_equations k x y)
   multiple-found first second e =
-      both-found sought (linked (link_of (Times k')) x y) (linked (link_of (Ceiling k')) y x) o p first second ∙ ap (λ n. first_sought sought (multiple_equations n x y)) e
+      both-found sought (linked_back (link_of (Times k')) x y) (linked (link_of (Ceiling k')) y x) o p first second ∙ ap (λ n. first_sought sought (multiple_equations n x y)) e
 
   pub negative-found : o ≡ first_sought sought (opposed_above (link_of (Times k')) x y) → p ≡ first_sought sought (opposed (link_of (Over k')) y x) → k' ≡ k → option_or o p ≡ first_sought sought (negative_equations k x y)
   negative-found first second e =

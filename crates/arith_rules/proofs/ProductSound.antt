@@ -16,8 +16,9 @@ use Rattle.rule_base.specs.Constant.{is_constant}
 use Rattle.rule_base.proofs.PairLaws.{AreEqual-append, AreEqual-only_if}
 use Rattle.rule_base.proofs.StatedLaws.{at_of-reached, at_of-passed}
 use Rattle.rule_base.proofs.ConstantLaws.{constant-value}
-use Rattle.arith_rules.specs.Links.{within, linked, opposed, opposed_above}
+use Rattle.arith_rules.specs.Links.{within, linked, linked_back, opposed, opposed_above}
 use Rattle.arith_rules.specs.ProductRows.{floor_of, ceiling_of, least_product, greatest_product, factor_equations, multiple_equations, negative_equations, scaled_equations, prod_equations, quotient_equations, dividend_equations, div_mod_equations}
+use Rattle.arith_rules.proofs.Turned.{linked_back-equal}
 use Rattle.arith_rules.proofs.LinkSound.{within-equal, linked-equal, opposed-equal, opposed_above-equal}
 use Rattle.arith_rules.proofs.ProductLaws.{times-up, times-next, le-le, times-test, corners-low, corners-high, floor-low, floor-test, ceiling-test, negative-test, negative-floor}
 
@@ -41,8 +42,8 @@ module _ (σ : Valuation) where
   module _ (k : ℤ) (b c : OrdInt) (ob : IsOrdered σ b) (oc : IsOrdered σ c) (is : (k *ℤ value_of σ b) ≡ value_of σ c) where
     multiples-equal : pos 1 ≤ℤ k → AreEqual σ (multiple_equations k b c)
     multiples-equal one =
-        AreEqual-append σ (linked (λ v. k *ℤ v) b c) (linked (λ w. ceiling_of w k) c b)
-        (linked-equal σ b c ob oc (λ v. k *ℤ v) (λ v. times-test k v (value_of σ b) one ∙ ap (int_le (k *ℤ v)) is))
+        AreEqual-append σ (linked_back (λ v. k *ℤ v) b c) (linked (λ w. ceiling_of w k) c b)
+        (linked_back-equal σ (λ v. k *ℤ v) b c (linked-equal σ b c ob oc (λ v. k *ℤ v) (λ v. times-test k v (value_of σ b) one ∙ ap (int_le (k *ℤ v)) is)))
         (linked-equal σ c b oc ob (λ w. ceiling_of w k) (λ w. ap (int_le w) (sym is) ∙ sym (ceiling-test w (value_of σ b) k one)))
 
     negatives-equal : k <ℤ pos 0 → AreEqual σ (negative_equations k b c)

@@ -18,8 +18,9 @@ use Rattle.rule_base.specs.Constant.{is_constant}
 use Rattle.rule_base.proofs.PairLaws.{AreEqual-append, AreEqual-only_if}
 use Rattle.rule_base.proofs.StatedLaws.{all_equal-true, all_equal-false}
 use Rattle.rule_base.proofs.ConstantLaws.{constant-value}
-use Rattle.arith_rules.specs.Links.{within, linked, opposed, opposed_above}
+use Rattle.arith_rules.specs.Links.{within, linked, linked_back, opposed, opposed_above}
 use Rattle.arith_rules.specs.SumRows.{sum3_ranges, raised_equations, mirrored_equations, sum3_constants, sum3_equations, count_equations, lows_of, highs_of, shares, sum_equations}
+use Rattle.arith_rules.proofs.Turned.{linked_back-equal}
 use Rattle.arith_rules.proofs.LinkSound.{within-equal, linked-equal, opposed-equal, opposed_above-equal}
 
 -- ---- a sum of two integers
@@ -39,9 +40,9 @@ mirrored-above-test w k x y e = grind (arith, ints)
 module _ (σ : Valuation) where
   raised-equal : (k : ℤ) (b c : OrdInt) → IsOrdered σ b → IsOrdered σ c → k +ℤ value_of σ b ≡ value_of σ c → AreEqual σ (raised_equations k b c)
   raised-equal k b c ob oc is =
-      AreEqual-append σ (linked (λ v. v +ℤ k) b c) (linked (λ w. w -ℤ k) c b)
+      AreEqual-append σ (linked (λ v. v +ℤ k) b c) (linked_back (λ w. w -ℤ k) c b)
       (linked-equal σ b c ob oc (λ v. v +ℤ k) (λ v. raised-test v k (value_of σ b) (value_of σ c) is))
-      (linked-equal σ c b oc ob (λ w. w -ℤ k) (λ w. lowered-test w k (value_of σ b) (value_of σ c) is))
+      (linked_back-equal σ (λ w. w -ℤ k) c b (linked-equal σ c b oc ob (λ w. w -ℤ k) (λ w. lowered-test w k (value_of σ b) (value_of σ c) is)))
 
   mirrored-equal : (k : ℤ) (a b : OrdInt) → IsOrdered σ a → IsOrdered σ b → value_of σ a +ℤ value_of σ b ≡ k → AreEqual σ (mirrored_equations k a b)
   mirrored-equal k a b oa ob is =

@@ -16,7 +16,7 @@ use Rattle.rule_base.specs.declared.sought.Sought.{Sought}
 use Rattle.rule_base.specs.Pairs.{first_sought, only_if}
 use Rattle.rule_base.specs.Stated.{is_below}
 use Rattle.arith_rules.specs.declared.maxima.Tops.{Tops}
-use Rattle.arith_rules.specs.Links.{alike_where}
+use Rattle.arith_rules.specs.Links.{alike_where, alike_back}
 use Rattle.arith_rules.specs.MaxRows.{member_ranges, top_from, top_equations, reaching, is_sole, linked_equations, leader_equations, unreached_equations, max_equations}
 use Rattle.arith_rules.specs.Tops.{no_tops, with_top, tops_from, tops_of, false_above, leader_above, leaders_above}
 
@@ -176,8 +176,11 @@ module _ (xs : List OrdInt) (c : OrdInt) (bounded : IsBounded c) where
   alike-is : (a b : OrdInt) → IsBounded a → alike_where (int_lt (tops_of xs).second) a b ≡ alike_where (is_sole xs) a b
   alike-is a b small = ap (map (λ v. (at_of a v, at_of b v))) (values-same (int_lt (tops_of xs).second) (is_sole xs) a small (sole-test xs))
 
+  alike_back-is : (a b : OrdInt) → IsBounded a → alike_back (int_lt (tops_of xs).second) a b ≡ alike_back (is_sole xs) a b
+  alike_back-is a b small = ap (map (λ v. (at_of b v, at_of a v))) (values-same (int_lt (tops_of xs).second) (is_sole xs) a small (sole-test xs))
+
   leader-is : (a : OrdInt) → IsBounded a → leader_above (tops_of xs).second c a ≡ only_if (is_sole xs (high_of a)) (linked_equations c a xs)
-  leader-is a small = λ i. only_if (sole-test xs (high_of a) small.1 i) (alike-is c a bounded i ++ alike-is a c small i)
+  leader-is a small = λ i. only_if (sole-test xs (high_of a) small.1 i) (alike-is c a bounded i ++ alike_back-is a c small i)
 
   pub leaders_is : (ys : List OrdInt) → AreSound ys → leaders_above (tops_of xs).second c ys ≡ leader_equations c xs ys
   leaders_is [] sound = refl

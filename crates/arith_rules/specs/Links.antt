@@ -14,6 +14,10 @@ within a low high = at_least a low ∷ is_below a (high +ℤ pos 1) ∷ []
 abbrev pub linked : (ℤ → ℤ) → OrdInt → OrdInt → List (Atom × Atom)
 linked link a b = map (λ v. (at_of a v, at_of b (link v))) (values_of a)
 
+-- the same with the atom of b first
+abbrev pub linked_back : (ℤ → ℤ) → OrdInt → OrdInt → List (Atom × Atom)
+linked_back link a b = map (λ v. (at_of b (link v), at_of a v)) (values_of a)
+
 -- a is at least v exactly where b is below what v is linked with
 abbrev pub opposed : (ℤ → ℤ) → OrdInt → OrdInt → List (Atom × Atom)
 opposed link a b = map (λ v. (at_of a v, not_atom (at_of b (link v)))) (values_of a)
@@ -25,3 +29,11 @@ opposed_above link a b = map (λ v. (at_of b (link v), not_atom (at_of a (v +ℤ
 -- for each value of a that passes a test: a is at least that value exactly where b is
 abbrev pub alike_where : (ℤ → Bool) → OrdInt → OrdInt → List (Atom × Atom)
 alike_where test a b = map (λ v. (at_of a v, at_of b v)) (filter test (values_of a))
+
+-- the same with the atom of b first
+abbrev pub alike_back : (ℤ → Bool) → OrdInt → OrdInt → List (Atom × Atom)
+alike_back test a b = map (λ v. (at_of b v, at_of a v)) (filter test (values_of a))
+
+-- an equation with its two atoms exchanged
+abbrev pub turned : Atom × Atom → Atom × Atom
+turned p = (p.1, p.0)

@@ -7,7 +7,7 @@ use Rattle.order_ints.specs.OrderRange.{low_of, high_of}
 use Rattle.order_ints.specs.OrderLevels.{values_of, at_of}
 use Rattle.rule_base.specs.Pairs.{only_if}
 use Rattle.rule_base.specs.Stated.{at_least, is_below}
-use Rattle.arith_rules.specs.Links.{alike_where}
+use Rattle.arith_rules.specs.Links.{alike_where, alike_back}
 
 -- c is the greatest of members: at least the least value of each, and none is above the greatest value of c
 abbrev pub member_ranges : OrdInt → List OrdInt → List (Atom × Atom)
@@ -35,7 +35,7 @@ is_sole ints v = nat_le (reaching v ints) 1
 
 -- c is at least v exactly where the member a is, for each value v of c and each of a that no other member reaches
 abbrev pub linked_equations : OrdInt → OrdInt → List OrdInt → List (Atom × Atom)
-linked_equations c a ints = alike_where (is_sole ints) c a ++ alike_where (is_sole ints) a c
+linked_equations c a ints = alike_where (is_sole ints) c a ++ alike_back (is_sole ints) a c
 
 -- the members one by one: one whose greatest value no other member reaches is linked with c
 abbrev pub leader_equations : OrdInt → List OrdInt → List OrdInt → List (Atom × Atom)

@@ -7,7 +7,7 @@ use Rattle.order_ints.specs.OrderRange.{low_of, high_of}
 use Rattle.rule_base.specs.Pairs.{only_if}
 use Rattle.rule_base.specs.Stated.{at_least, is_below}
 use Rattle.rule_base.specs.Constant.{is_constant}
-use Rattle.arith_rules.specs.Links.{within, linked, opposed, opposed_above}
+use Rattle.arith_rules.specs.Links.{within, linked, linked_back, opposed, opposed_above}
 
 -- the quotient by a divisor from 1, rounded down, and rounded up
 abbrev pub floor_of : ℤ → ℤ → ℤ
@@ -32,9 +32,9 @@ factor_equations a b c =
     only_if (int_le (pos 0) (low_of a) && (int_le (pos 1) (low_of b) && int_le (pos 0) (low_of c)))
     (within a (ceiling_of (low_of c) (high_of b)) (floor_of (high_of c) (low_of b)))
 
--- k times b is c, for k above 0: for each value of b, and for each value of c
+-- k times b is c, for k above 0: for each value of b, and for each value of c, with the atom of c first
 abbrev pub multiple_equations : ℤ → OrdInt → OrdInt → List (Atom × Atom)
-multiple_equations k b c = linked (λ v. k *ℤ v) b c ++ linked (λ w. ceiling_of w k) c b
+multiple_equations k b c = linked_back (λ v. k *ℤ v) b c ++ linked (λ w. ceiling_of w k) c b
 
 -- k times b is c, for k below 0: c goes down as b goes up
 abbrev pub negative_equations : ℤ → OrdInt → OrdInt → List (Atom × Atom)

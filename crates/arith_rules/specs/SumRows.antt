@@ -8,7 +8,7 @@ use Rattle.order_ints.specs.OrderRange.{low_of, high_of}
 use Rattle.rule_base.specs.Pairs.{only_if}
 use Rattle.rule_base.specs.Stated.{all_equal}
 use Rattle.rule_base.specs.Constant.{is_constant}
-use Rattle.arith_rules.specs.Links.{within, linked, opposed, opposed_above}
+use Rattle.arith_rules.specs.Links.{within, linked, linked_back, opposed, opposed_above}
 
 -- a and b, added up, are c: each is from the least to the greatest value that the ranges of the two others leave it
 abbrev pub sum3_ranges : OrdInt → OrdInt → OrdInt → List (Atom × Atom)
@@ -17,9 +17,9 @@ sum3_ranges a b c =
     ++ within a (low_of c -ℤ high_of b) (high_of c -ℤ low_of b)
     ++ within b (low_of c -ℤ high_of a) (high_of c -ℤ low_of a)
 
--- k and b, added up, are c: for each value of b, and for each value of c
+-- k and b, added up, are c: b is at least v exactly where c is at least v and k, for each value v of b, and for each value of c less k
 abbrev pub raised_equations : ℤ → OrdInt → OrdInt → List (Atom × Atom)
-raised_equations k b c = linked (λ v. v +ℤ k) b c ++ linked (λ w. w -ℤ k) c b
+raised_equations k b c = linked (λ v. v +ℤ k) b c ++ linked_back (λ w. w -ℤ k) c b
 
 -- a and b, added up, are k: a is at least v exactly where b is at most k less v
 abbrev pub mirrored_equations : ℤ → OrdInt → OrdInt → List (Atom × Atom)

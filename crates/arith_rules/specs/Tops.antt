@@ -7,7 +7,7 @@ use Rattle.order_ints.specs.OrderRange.{high_of}
 use Rattle.order_ints.specs.OrderLevels.{values_of, at_of}
 use Rattle.rule_base.specs.Pairs.{only_if}
 use Rattle.arith_rules.specs.declared.maxima.Tops.{Tops}
-use Rattle.arith_rules.specs.Links.{alike_where}
+use Rattle.arith_rules.specs.Links.{alike_where, alike_back}
 
 -- before any member: a number below each value
 abbrev pub no_tops : Tops
@@ -38,7 +38,7 @@ false_above n c = map (λ v. (at_of c v, False)) (filter (int_lt n) (values_of c
 
 -- a member whose greatest value is above a number is linked with c at the values above it
 abbrev pub leader_above : ℤ → OrdInt → OrdInt → List (Atom × Atom)
-leader_above n c a = only_if (int_lt n (high_of a)) (alike_where (int_lt n) c a ++ alike_where (int_lt n) a c)
+leader_above n c a = only_if (int_lt n (high_of a)) (alike_where (int_lt n) c a ++ alike_back (int_lt n) a c)
 
 abbrev pub leaders_above : ℤ → OrdInt → List OrdInt → List (Atom × Atom)
 leaders_above n c [] = []

@@ -7,7 +7,7 @@ ghost use Rattle.rule_base.specs.Pairs.{first_sought, only_if};
 ghost use Rattle.rule_base.specs.Constant.{is_constant};
 ghost use Rattle.arith_rules.specs.SumRows.{raised_equations, mirrored_equations, sum3_constants, sum3_equations};
 
-use crate::links::{Link, linked, opposed, opposed_above};
+use crate::links::{Link, linked, linked_back, opposed, opposed_above};
 use crate::sums::by_sum3_ranges;
 use order_ints::{Atom, OrdInt};
 use rule_base::{Sought, is_constant};
@@ -23,7 +23,7 @@ fn by_raised(sought: Sought, a: &OrdInt, b: &OrdInt, c: &OrdInt) -> Option<(Atom
     let plus = Link::Plus(k);
     let minus = Link::Minus(k);
     let upwards = linked(sought, &plus, b, c);
-    let back = linked(sought, &minus, c, b);
+    let back = linked_back(sought, &minus, c, b);
     upwards.or(back)
 }
 

@@ -1,9 +1,9 @@
 //! The equations that link the values of one integer with those of another.
 
-ghost use Rattle.std.specs.Prelude.{◌≡◌, ◌^◌, ◌<◌, unsigned_abs};
+ghost use Rattle.std.specs.Prelude.{◌≡◌, ◌^◌, ◌<◌, option_map, unsigned_abs};
 ghost use Rattle.core_forms.specs.WellFormed.{IsSound};
 ghost use Rattle.rule_base.specs.Pairs.{first_sought};
-ghost use Rattle.arith_rules.specs.Links.{linked, opposed, opposed_above};
+ghost use Rattle.arith_rules.specs.Links.{linked, linked_back, opposed, opposed_above, turned};
 ghost use Rattle.arith_rules.specs.CodeLinks.{link_of, LinkFits, LinkFitsAll};
 
 use crate::numbers::{ceiling_of, over_floor_of, product};
@@ -66,6 +66,32 @@ pub(crate) fn linked(sought: Sought, link: &Link, a: &OrdInt, b: &OrdInt) -> Opt
         }
     }
     None
+}
+
+/// An equation that was found, with its two atoms exchanged.
+pub(crate) fn turned(found: Option<(Atom, Atom)>) -> Option<(Atom, Atom)>
+    ensures { result ≡ option_map turned found }
+{
+    match found {
+        Some((a, b)) => Some((b, a)),
+        None => None,
+    }
+}
+
+/// That `b` reaches what each value of `a` is linked with exactly where `a` reaches that value.
+pub(crate) fn linked_back(
+    sought: Sought,
+    link: &Link,
+    a: &OrdInt,
+    b: &OrdInt,
+) -> Option<(Atom, Atom)>
+    requires a { IsSound a.now }
+    requires b { IsSound b.now }
+    requires fits { LinkFitsAll link.now a.now }
+    ensures { result ≡ first_sought sought (linked_back (link_of link.now) a.now b.now) }
+{
+    let found = linked(sought, link, a, b);
+    turned(found)
 }
 
 /// That `a` reaches each of its values exactly where `b` is below what it is linked with.

@@ -5,10 +5,11 @@ ghost use Rattle.order_ints.specs.OrderRange.{IsBounded, high_of};
 ghost use Rattle.core_forms.specs.WellFormed.{IsSound, AreSound};
 ghost use Rattle.rule_base.specs.Pairs.{first_sought};
 ghost use Rattle.rule_base.specs.Stated.{is_below};
-ghost use Rattle.arith_rules.specs.Links.{alike_where};
+ghost use Rattle.arith_rules.specs.Links.{alike_where, alike_back};
 ghost use Rattle.arith_rules.specs.MaxRows.{member_ranges, top_equations, max_equations};
 ghost use Rattle.arith_rules.specs.Tops.{no_tops, with_top, tops_of, AreSmall, false_above, leader_above, leaders_above};
 
+use crate::links::turned;
 use order_ints::{Atom, OrdInt, Walk};
 use rule_base::{Sought, next};
 
@@ -150,6 +151,16 @@ fn alike_above(sought: Sought, least: &i128, a: &OrdInt, b: &OrdInt) -> Option<(
     None
 }
 
+/// That `b` reaches each value of `a` above a number exactly where `a` does.
+fn alike_back(sought: Sought, least: &i128, a: &OrdInt, b: &OrdInt) -> Option<(Atom, Atom)>
+    requires a { IsSound a.now }
+    requires b { IsSound b.now }
+    ensures { result ≡ first_sought sought (alike_back (int_lt least.now) a.now b.now) }
+{
+    let found = alike_above(sought, least, a, b);
+    turned(found)
+}
+
 /// That `c` and a member are linked at the values above a number, where the member reaches some.
 fn on_leader(sought: Sought, least: &i128, c: &OrdInt, a: &OrdInt) -> Option<(Atom, Atom)>
     requires c { IsSound c.now }
@@ -158,7 +169,7 @@ fn on_leader(sought: Sought, least: &i128, c: &OrdInt, a: &OrdInt) -> Option<(At
 {
     if *least < a.high() {
         let upwards = alike_above(sought, least, c, a);
-        let back = alike_above(sought, least, a, c);
+        let back = alike_back(sought, least, a, c);
         return upwards.or(back);
     }
     None

@@ -10,7 +10,7 @@ ghost use Rattle.arith_rules.specs.Ranges.{IsSmall};
 ghost use Rattle.arith_rules.specs.ProductRows.{multiple_equations, negative_equations, scaled_equations, prod_ranges, prod_equations};
 ghost use Rattle.arith_rules.specs.ProductRanges.{products_of, HaveSmallCorners, factors_of, factor_within, are_unsigned};
 
-use crate::links::{Link, linked, opposed, opposed_above};
+use crate::links::{Link, linked, linked_back, opposed, opposed_above};
 use crate::numbers::{ceiling_of, floor_of, greater, lesser, product};
 use crate::ranges::Range;
 use order_ints::{Atom, OrdInt};
@@ -100,7 +100,7 @@ fn by_multiple(sought: Sought, k: &i128, b: &OrdInt, c: &OrdInt) -> Option<(Atom
 {
     let times = Link::Times(*k);
     let ceiling = Link::Ceiling(*k);
-    let upwards = linked(sought, &times, b, c);
+    let upwards = linked_back(sought, &times, b, c);
     let back = linked(sought, &ceiling, c, b);
     upwards.or(back)
 }

@@ -20,12 +20,12 @@ use Rattle.equation_store.specs.Merge.{loser_of, merged}
 use Rattle.equation_store.proofs.Changes.{merge_changes, merge_labelled, merge_never_shrinks}
 use Rattle.equation_store.proofs.Merge.{merge_doubles}
 use Rattle.ledger_text.specs.declared.line.Line.{Line}
-use Rattle.step_kernel.specs.Instances.{is_instance_at}
+use Rattle.core_rules.specs.Instances.{is_instance_at}
 use Rattle.step_kernel.specs.Kernel.{Kernel, core_at, IsKernel}
-use Rattle.step_kernel.specs.Parts.{parts_at}
+use Rattle.core_parts.specs.Parts.{parts_at}
 use Rattle.step_kernel.specs.Steps.{step, equated, divided}
 use Rattle.step_kernel.proofs.Holes.{below-there}
-use Rattle.step_kernel.proofs.InstanceLaws.{instance-labels}
+use Rattle.core_rules.proofs.InstanceLaws.{instance-labels}
 use Rattle.step_kernel.proofs.Stepped.{after_step}
 use Rattle.asking_bound.specs.Questions.{binary_digits}
 use Rattle.asking_bound.proofs.CoresLeft.{variable-more}

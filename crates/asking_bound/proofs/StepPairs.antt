@@ -13,9 +13,9 @@ use Rattle.core_forms.specs.Trimmed.{trimmed_core}
 use Rattle.part_base.specs.declared.parts.Parts.{Parts}
 use Rattle.equation_store.specs.Merge.{merged}
 use Rattle.ledger_text.specs.declared.line.Line.{Line}
-use Rattle.step_kernel.specs.Instances.{is_instance_at}
+use Rattle.core_rules.specs.Instances.{is_instance_at}
 use Rattle.step_kernel.specs.Kernel.{Kernel, core_at, pending, IsKernel}
-use Rattle.step_kernel.specs.Parts.{parts_at}
+use Rattle.core_parts.specs.Parts.{parts_at}
 use Rattle.step_kernel.specs.Steps.{step, without, equated, divided, encoded}
 use Rattle.step_kernel.proofs.Holes.{between, below-there, pending-append, pending-parts}
 use Rattle.step_kernel.proofs.Stepped.{after_step}

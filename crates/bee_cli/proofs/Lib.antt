@@ -1,14 +1,3 @@
-pub mod MapLines
-pub mod Names
-pub mod ModelShapes
-pub mod Weights
-pub mod FirstFaults
-pub mod Causes
-pub mod Headline
-pub mod Answering
-pub mod CompileEnds
-pub mod Bounds
-pub mod DecodeEnds
-pub mod DecodedSolutions
-pub mod RoundTrip
-pub mod Obeyings
+mod DecodedSolutions
+mod RoundTrip
+mod Obeyings

@@ -9,22 +9,25 @@ use Rattle.order_ints.specs.OrderRange.{weights}
 use Rattle.order_ints.specs.Truth.{Valuation, valuation_of}
 use Rattle.order_ints.specs.Numbers.{number_of, numbers_of}
 use Rattle.order_ints.specs.Satisfies.{Satisfies}
-use Rattle.typed_model.specs.declared.model.Kind.{Kind}
-use Rattle.typed_model.specs.declared.model.Kind.TheVariants as kind
-use Rattle.typed_model.specs.declared.model.Decl.{Decl}
+use Rattle.model_meaning.specs.declared.model.Kind.{Kind}
+use Rattle.model_meaning.specs.declared.model.Kind.TheVariants as kind
+use Rattle.model_meaning.specs.declared.model.Decl.{Decl}
+use Rattle.value_lists.specs.ValueLists.{first_of, last_of}
 use Rattle.bee_compile.specs.Fits.{ValueFits, ValuesFit}
 use Rattle.dimacs_out.specs.declared.entry.MapEntry.{MapEntry}
 use Rattle.dimacs_out.specs.declared.text.CnfText.{CnfText}
-use Rattle.dimacs_out.specs.ValueLines.{number_word, value_line, values_text}
+use Rattle.name_map.specs.Values.{is_boolean as is_boolean_value}
+use Rattle.name_map.specs.ValueLines.{value_line}
+use Rattle.dimacs_out.specs.ValueLines.{number_line, values_text}
 use Rattle.dimacs_out.proofs.TextTells.{text_tells_all}
 use Rattle.dimacs_read.specs.TextLines.{IsInLimit, IsTextOf}
 use Rattle.dimacs_read.specs.ReadLaws.{AreInLimit}
 use Rattle.dimacs_read.proofs.Lawful.{written_is_read, read_is_writable, values_satisfy}
-use Rattle.bee_cli.specs.Compiled.{entries_of, written_of, Compiles}
-use Rattle.bee_cli.specs.CompileMode.{longest_text}
-use Rattle.bee_cli.specs.Decoded.{IsDecoded}
-use Rattle.bee_cli.specs.DecodeLaws.{kind_word, solution_line, solution_lines, TellsSolution, CompiledIsRead, DecodedIsSolution}
-use Rattle.bee_cli.proofs.Headline.{made, well, writable}
+use Rattle.model_texts.specs.ModelTexts.{longest_text}
+use Rattle.compile_mode.specs.Compiled.{entries_of, written_of, Compiles}
+use Rattle.decode_mode.specs.Decoded.{IsDecoded}
+use Rattle.bee_cli.specs.DecodeLaws.{is_boolean, solution_line, solution_lines, TellsSolution, CompiledIsRead, DecodedIsSolution}
+use Rattle.compile_mode.proofs.Headline.{made, well, writable}
 
 -- what the names stand for is in the limit of what is read
 
@@ -37,9 +40,13 @@ high_limit low high base w p q r s = omega (arith, ints)
 value_in_limit : (n : ℕ) (k : Kind) (v : MapValue) → ValueFits n k v → IsInLimit v
 value_in_limit n k (Bool a) h = tt
 value_in_limit n kind.Bool (Int a) h = elim h [ ]
-value_in_limit n (kind.Int low high) (Int a) h = (
+value_in_limit n (kind.Range low high) (Int a) h = (
   low_limit low high a.base (weights a.steps) h.low_in_limit h.high_in_limit h.least h.greatest,
   high_limit low high a.base (weights a.steps) h.low_in_limit h.high_in_limit h.least h.greatest,
+)
+value_in_limit n (kind.Listed vs) (Int a) h = (
+  low_limit (first_of vs) (last_of vs) a.base (weights a.steps) h.low_in_limit h.high_in_limit h.least h.greatest,
+  high_limit (first_of vs) (last_of vs) a.base (weights a.steps) h.low_in_limit h.high_in_limit h.least h.greatest,
 )
 
 in_limit : (n : ℕ) (decls : List Decl) (values : List MapValue) → ValuesFit n decls values → AreInLimit (entries_of decls values)
@@ -50,20 +57,22 @@ in_limit n (d ∷ decls) (v ∷ values) h = (value_in_limit n d.kind v h.0, in_l
 
 -- the lines of the names are those of the declarations
 
-word_same : (n : ℕ) (k : Kind) (v : MapValue) (z : ℤ) → ValueFits n k v → number_word v z ≡ kind_word k z
-word_same n kind.Bool (Bool a) z h = refl
-word_same n kind.Bool (Int a) z h = elim h [ ]
-word_same n (kind.Int low high) (Bool a) z h = elim h [ ]
-word_same n (kind.Int low high) (Int a) z h = refl
+kind_same : (n : ℕ) (k : Kind) (v : MapValue) → ValueFits n k v → is_boolean_value v ≡ is_boolean k
+kind_same n kind.Bool (Bool a) h = refl
+kind_same n kind.Bool (Int a) h = elim h [ ]
+kind_same n (kind.Range low high) (Bool a) h = elim h [ ]
+kind_same n (kind.Range low high) (Int a) h = refl
+kind_same n (kind.Listed vs) (Bool a) h = elim h [ ]
+kind_same n (kind.Listed vs) (Int a) h = refl
 
 lines_same : (σ : Valuation) (n : ℕ) (decls : List Decl) (values : List MapValue) → ValuesFit n decls values
-    → map (λ (e : MapEntry). value_line e (number_of σ e.value)) (entries_of decls values) ≡ solution_lines decls (numbers_of σ values)
+    → map (λ (e : MapEntry). number_line e (number_of σ e.value)) (entries_of decls values) ≡ solution_lines decls (numbers_of σ values)
 lines_same σ n [] [] h = refl
 lines_same σ n [] (v ∷ values) h = elim h [ ]
 lines_same σ n (d ∷ decls) [] h = elim h [ ]
 lines_same σ n (d ∷ decls) (v ∷ values) h =
-    let first : d.name ++ (codes " = " ++ number_word v (number_of σ v)) ≡ solution_line d (number_of σ v) =
-    ap (λ w. d.name ++ (codes " = " ++ w)) (word_same n d.kind v (number_of σ v) h.0) in
+    let first : value_line d.name (is_boolean_value v) (number_of σ v) ≡ solution_line d (number_of σ v) =
+    ap (λ b. value_line d.name b (number_of σ v)) (kind_same n d.kind v h.0) in
     let rest = lines_same σ n decls values h.1 in
     λ i. first i ∷ rest i
 
@@ -75,7 +84,7 @@ module _ (text compiled : List ℕ) (short : length text ≤ longest_text) (c : 
       subst (λ (t : List ℕ). IsTextOf (written_of x) t) (sym c.is.writes)
       (written_is_read (written_of x) (writable text compiled short c) fits.vars (in_limit (x.cnf.vars + 1) x.decls x.map.entries fits.values))
 
-  module _ (answer written : List ℕ) (d : IsDecoded (record { compiled = compiled; answer = answer }) written) where
+  module _ (answer written : List ℕ) (d : IsDecoded (record { first = compiled; second = answer }) written) where
     same : d.held ≡ written_of (made text compiled short c)
     same =
         text_tells_all d.held (written_of (made text compiled short c)) (read_is_writable d.held d.form.readable) (writable text compiled short c)
@@ -97,7 +106,7 @@ module _ (text compiled : List ℕ) (short : length text ≤ longest_text) (c : 
         }
 
 pub compiled_is_read : CompiledIsRead
-compiled_is_read text compiled short c = record { held = written_of (made text compiled short c); form = is_read text compiled short c }
+compiled_is_read text compiled short c = (written_of (made text compiled short c), is_read text compiled short c)
 
 pub decoded_is_solution : DecodedIsSolution
-decoded_is_solution text texts written short c d = solution text texts.compiled short c texts.answer written d
+decoded_is_solution text texts written short c d = solution text texts.first short c texts.second written d

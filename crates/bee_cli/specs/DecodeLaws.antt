@@ -1,21 +1,22 @@
 -- What decoding makes of the compiled text of a model.
-use Rattle.std.specs.Prelude.{◌≡◌, ◌↔◌, ◌≤◌, List, [], ◌∷◌, ◌++◌, ℕ, ℤ, pos, codes, length, if◌then◌else◌}
-use Rattle.std.specs.Fmt.{signed_decimal}
-use Rattle.std.specs.Ordering.{int_eq}
+use Rattle.std.specs.Prelude.{◌≡◌, ◌↔◌, ◌≤◌, List, [], ◌∷◌, ℕ, ℤ, length, true, false}
+use Rattle.std.specs.Prelude.{Bool as Boolean}
 use Rattle.bee_text.specs.Lines.{join_lines}
 use Rattle.order_ints.specs.Truth.{Valuation}
-use Rattle.typed_model.specs.declared.model.Kind.{Kind}
-use Rattle.typed_model.specs.declared.model.Kind.TheVariants.{Bool, Int}
-use Rattle.typed_model.specs.declared.model.Decl.{Decl}
-use Rattle.typed_model.specs.declared.model.Model.{Model}
-use Rattle.typed_model.specs.Solutions.{IsSolution}
+use Rattle.model_meaning.specs.declared.model.Kind.{Kind}
+use Rattle.model_meaning.specs.declared.model.Kind.TheVariants.{Bool, Range, Listed}
+use Rattle.model_meaning.specs.declared.model.Decl.{Decl}
+use Rattle.model_meaning.specs.declared.model.Model.{Model}
+use Rattle.model_meaning.specs.Solutions.{IsSolution}
 use Rattle.dimacs_out.specs.declared.text.CnfText.{CnfText}
 use Rattle.dimacs_out.specs.TextSolutions.{StandsFor, assignment_of}
+use Rattle.name_map.specs.ValueLines.{value_line}
 use Rattle.dimacs_out.specs.ValueLines.{values_text}
 use Rattle.dimacs_read.specs.TextLines.{IsTextOf}
-use Rattle.bee_cli.specs.Compiled.{Compiles}
-use Rattle.bee_cli.specs.CompileMode.{longest_text}
-use Rattle.bee_cli.specs.Decoded.{Texts, HasForm, IsDecoded}
+use Rattle.text_modes.specs.TwoTexts.{Texts}
+use Rattle.model_texts.specs.ModelTexts.{longest_text}
+use Rattle.compile_mode.specs.Compiled.{Compiles}
+use Rattle.decode_mode.specs.Decoded.{HasForm, IsDecoded}
 
 -- the written lines tell this assignment: it is what the names of the compiled text have under a valuation, and so are the lines
 pub record TellsAssignment (compiled written : List ℕ) (a : List ℤ) : Type 0 where
@@ -29,17 +30,18 @@ pub record TellsAssignment (compiled written : List ℕ) (a : List ℤ) : Type 0
 -- written for it are one of them
 abbrev pub DecodedSolves : Type 0
 DecodedSolves =
-    (model : Model) (texts : Texts) (written : List ℕ) → ((a : List ℤ) → StandsFor texts.compiled a ↔ IsSolution model a)
-    → IsDecoded texts written → (a : List ℤ) × (IsSolution model a × TellsAssignment texts.compiled written a)
+    (model : Model) (texts : Texts) (written : List ℕ) → ((a : List ℤ) → StandsFor texts.first a ↔ IsSolution model a)
+    → IsDecoded texts written → (a : List ℤ) × (IsSolution model a × TellsAssignment texts.first written a)
 
--- how the number of a declared name is told: of a Boolean 0 is `false`
-abbrev pub kind_word : Kind → ℤ → List ℕ
-kind_word Bool z = if int_eq z (pos 0) then codes "false" else codes "true"
-kind_word (Int low high) z = signed_decimal z
+-- whether a declaration is of a Boolean
+abbrev pub is_boolean : Kind → Boolean
+is_boolean Bool = true
+is_boolean (Range low high) = false
+is_boolean (Listed values) = false
 
 -- the line of a declared name and its number
 abbrev pub solution_line : Decl → ℤ → List ℕ
-solution_line d z = d.name ++ (codes " = " ++ kind_word d.kind z)
+solution_line d z = value_line d.name (is_boolean d.kind) z
 
 -- the lines of an assignment to declared names, one for each
 abbrev pub solution_lines : List Decl → List ℤ → List (List ℕ)
@@ -60,5 +62,5 @@ CompiledIsRead = (text compiled : List ℕ) → length text ≤ longest_text →
 -- from a model to its compiled text, and with an answer in form back to its names: the lines of a solution of the model
 abbrev pub DecodedIsSolution : Type 0
 DecodedIsSolution =
-    (text : List ℕ) (texts : Texts) (written : List ℕ) → length text ≤ longest_text → (c : Compiles text texts.compiled) → IsDecoded texts written
+    (text : List ℕ) (texts : Texts) (written : List ℕ) → length text ≤ longest_text → (c : Compiles text texts.first) → IsDecoded texts written
     → TellsSolution c.model written

@@ -1,12 +1,4 @@
-pub mod Seen
-pub mod Ends
+pub mod Statuses
 pub mod Codes
-pub mod Promises
-pub mod ModelTexts
-pub mod Compiled
-pub mod CompileMode
-pub mod Decoded
-pub mod DecodeParts
-pub mod DecodeMode
-pub mod DecodeLaws
 pub mod Obeyed
+pub mod DecodeLaws

@@ -17,5 +17,6 @@ pub fn code(status: &Status) -> u8
         Status::Read => 4,
         Status::Write => 5,
         Status::Memory => 6,
+        Status::Unknown(_) => 8,
     }
 }

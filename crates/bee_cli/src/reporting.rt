@@ -8,7 +8,7 @@ use std::alloc::Global;
 /// passed over.
 pub fn report<E: Sink>(alloc: Global, status: &Status, err: &mut E) {
     match status {
-        Status::Done | Status::Refused(_) => {}
+        Status::Done | Status::Refused(_) | Status::Unknown(_) => {}
         Status::Usage => say(
             err,
             b"bee: usage: bee MODE INPUT [SECOND] [--budget N] [--no-restart]\n",

@@ -3,15 +3,15 @@
 ghost use Rattle.std.specs.Prelude.{◌≡◌, ◌≢◌, ◌↔◌, Some, map, string_bytes, IsFalse};
 ghost use Rattle.command_words.specs.Request.{request_of};
 ghost use Rattle.command_words.specs.Line.{request};
-ghost use Rattle.bee_cli.specs.Seen.{seen, shelf_shown, sink_shown};
+ghost use Rattle.text_modes.specs.Seen.{seen, shelf_shown, sink_shown};
 ghost use Rattle.bee_cli.specs.Obeyed.{is_built, Obeys};
 
-use crate::compile_mode::compile;
-use crate::decode_mode::decode;
 use crate::reporting::report;
-use crate::status::Status;
+use crate::status::{Status, cnf_status, model_status};
 use bee_outside::{Shelf, Sink};
 use command_words::{Command, read_command};
+use compile_mode::compile;
+use decode_mode::decode;
 use std::alloc::{AllocError, Global};
 
 /// What comes of a command.
@@ -27,10 +27,10 @@ fn obey<S: Shelf, O: Sink>(
         (sink_shown O.taken O.flushed O.faults) shelf.old shelf.new out.old out.new) }
 {
     match command {
-        Command::Compile { input } => compile(alloc, input, shelf, out),
+        Command::Compile { input } => model_status(compile(alloc, input, shelf, out)),
         Command::Solve { .. } => Status::Usage,
         Command::Check { .. } => Status::Usage,
-        Command::Decode { input, second } => decode(alloc, input, second, shelf, out),
+        Command::Decode { input, second } => cnf_status(decode(alloc, input, second, shelf, out)),
         Command::Queens { .. } => Status::Usage,
     }
 }

@@ -1,9 +1,10 @@
 //! How a run ends.
 
-ghost use Rattle.std.specs.Prelude.{◌≡◌};
+ghost use Rattle.std.specs.Prelude.{◌≡◌, ◌≢◌};
+ghost use Rattle.bee_cli.specs.Statuses.{status_of, outcome_status, model_fault, cnf_fault};
 
-use thiserror::Error;
-use typed_model::TypeFault;
+use model_texts::ModelFault;
+use text_modes::{End, Outcome};
 
 /// How a run ends.
 #[derive(Debug, Drop)]
@@ -22,28 +23,46 @@ pub enum Status {
     Write,
     /// Memory is wanting.
     Memory,
+    /// An answer was sought for so long as this number says, and the text that was written tells so.
+    Unknown(u64),
 }
 
-/// Why an input is no model that is compiled, or no compiled text. The first of these that it has, in this order, is
-/// its fault; of `Syntax` and `Number` the one that stands first in the text. `Cnf` is a compiled text's alone.
-#[derive(Debug, Drop, Error)]
-pub enum ModelFault {
-    /// Its text has more than 16,777,216 bytes.
-    #[error("model: too long")]
-    TooLong,
-    /// It is no text of the language; the line of the first token that fits nowhere, or of its end.
-    #[error("model: line {0}: syntax")]
-    Syntax(u64),
-    /// A numeral is too great; its line.
-    #[error("model: line {0}: number")]
-    Number(u64),
-    /// An item has a fault of names, kinds or domains; never `Memory`.
-    #[error("model: {0}")]
-    Typed(TypeFault),
-    /// The model's weight is this, and above 67,108,864.
-    #[error("model: weight {0}")]
-    TooHeavy(u128),
-    /// It is no compiled text; the first line that fails, counted from 1.
-    #[error("cnf: line {0}")]
-    Cnf(u64),
+/// The status of a run that wrote its text.
+fn outcome_status(outcome: Outcome) -> Status
+    ensures status { result ≡ outcome_status outcome }
+    ensures built { result ≢ Status.Usage }
+{
+    match outcome {
+        Outcome::Done => Status::Done,
+        Outcome::Refused(line) => Status::Refused(line),
+        Outcome::Unknown(count) => Status::Unknown(count),
+    }
+}
+
+/// The status of a run over the text of a model.
+pub(crate) fn model_status(end: End<ModelFault>) -> Status
+    ensures status { result ≡ status_of model_fault end }
+    ensures built { result ≢ Status.Usage }
+{
+    match end {
+        End::Wrote(outcome) => outcome_status(outcome),
+        End::Fault(fault) => Status::Model(fault),
+        End::Read => Status::Read,
+        End::Write => Status::Write,
+        End::Memory => Status::Memory,
+    }
+}
+
+/// The status of a run over a compiled text, whose fault is a line.
+pub(crate) fn cnf_status(end: End<u64>) -> Status
+    ensures status { result ≡ status_of cnf_fault end }
+    ensures built { result ≢ Status.Usage }
+{
+    match end {
+        End::Wrote(outcome) => outcome_status(outcome),
+        End::Fault(line) => Status::Model(ModelFault::Cnf(line)),
+        End::Read => Status::Read,
+        End::Write => Status::Write,
+        End::Memory => Status::Memory,
+    }
 }

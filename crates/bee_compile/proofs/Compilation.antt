@@ -9,10 +9,10 @@ use Rattle.order_ints.specs.Place.{InRange}
 use Rattle.order_ints.proofs.Labels.{labels_below, length-own_labels}
 use Rattle.core_forms.specs.declared.equation.Equation.{Equation}
 use Rattle.core_forms.specs.declared.form.Core.{Core}
-use Rattle.typed_model.specs.declared.model.Decl.{Decl}
-use Rattle.typed_model.specs.declared.model.Model.{Model}
-use Rattle.typed_model.specs.WellTyped.{WellTyped}
-use Rattle.typed_model.specs.Limits.{InLimits}
+use Rattle.model_meaning.specs.declared.model.Decl.{Decl}
+use Rattle.model_meaning.specs.declared.model.Model.{Model}
+use Rattle.model_meaning.specs.WellTyped.{WellTyped}
+use Rattle.model_meaning.specs.Limits.{InLimits}
 use Rattle.statement_lower.proofs.EntryLaws.{numbers_of-agree}
 use Rattle.model_weight.specs.Weight.{weight_of}
 use Rattle.model_lower.specs.declared.state.Lowered.{Lowered}
@@ -23,7 +23,7 @@ use Rattle.model_lower.specs.Fits.{Fits}
 use Rattle.model_lower.proofs.LoweringLaw.{lowering_law}
 use Rattle.step_kernel.specs.Kernel.{Kernel, IsKernel, started}
 use Rattle.step_kernel.specs.CnfOf.{cnf_of}
-use Rattle.step_kernel.specs.Instances.{is_instance_at}
+use Rattle.core_rules.specs.Instances.{is_instance_at}
 use Rattle.step_kernel.proofs.Started.{started-kernel, started-models}
 use Rattle.step_kernel.proofs.CnfLaws.{in_range-of}
 use Rattle.asking_bound.specs.Made.{all_made}

@@ -15,9 +15,10 @@ use Rattle.core_forms.specs.Trimmed.{trimmed_int}
 use Rattle.core_forms.proofs.Places.{CoreBelow-trimmed, CoreBelow-more}
 use Rattle.core_forms.proofs.Tidied.{low-raised_by, high-raised_by, weights-map_steps}
 use Rattle.core_forms.proofs.Kept.{IsWellFormed-trimmed}
-use Rattle.typed_model.specs.declared.model.Kind.{Kind}
-use Rattle.typed_model.specs.declared.model.Kind.TheVariants as kind
-use Rattle.typed_model.specs.declared.model.Decl.{Decl}
+use Rattle.model_meaning.specs.declared.model.Kind.{Kind}
+use Rattle.model_meaning.specs.declared.model.Kind.TheVariants as kind
+use Rattle.model_meaning.specs.declared.model.Decl.{Decl}
+use Rattle.value_lists.specs.ValueLists.{first_of, last_of}
 use Rattle.statement_lower.specs.Entries.{IntegerFits, EntryFits, EntriesFit}
 use Rattle.bee_compile.specs.Trimmed.{trimmed_value, trimmed_values, IsBoundedValue, AreBounded}
 use Rattle.bee_compile.specs.Fits.{TrimmedFits, ValueFits, ValuesFit}
@@ -41,8 +42,10 @@ module _ (view : List Atom) (n m : ℕ) (up : n ≤ m) (labels : AtomsBelow m vi
   value-fits : (k : Kind) (v : MapValue) → EntryFits n k v → ValueFits m k (trimmed_value view v)
   value-fits kind.Bool (values.Bool a) h = AtomBelow-resolve m view labels a (AtomBelow-up n m up a h)
   value-fits kind.Bool (values.Int a) h = absurd h
-  value-fits (kind.Int low high) (values.Bool a) h = absurd h
-  value-fits (kind.Int low high) (values.Int a) h = integer-fits low high a h
+  value-fits (kind.Range low high) (values.Bool a) h = absurd h
+  value-fits (kind.Range low high) (values.Int a) h = integer-fits low high a h
+  value-fits (kind.Listed vs) (values.Bool a) h = absurd h
+  value-fits (kind.Listed vs) (values.Int a) h = integer-fits (first_of vs) (last_of vs) a h.fits
 
   pub values-fit : (ds : List Decl) (map : List MapValue) → EntriesFit n ds map → ValuesFit m ds (trimmed_values view map)
   values-fit [] [] h = tt
@@ -55,8 +58,10 @@ module _ (view : List Atom) (n m : ℕ) (up : n ≤ m) (labels : AtomsBelow m vi
 is-bounded : (n : ℕ) (k : Kind) (v : MapValue) → EntryFits n k v → IsBoundedValue v
 is-bounded n kind.Bool (values.Bool a) h = tt
 is-bounded n kind.Bool (values.Int a) h = absurd h
-is-bounded n (kind.Int low high) (values.Bool a) h = absurd h
-is-bounded n (kind.Int low high) (values.Int a) h = h.sound.0
+is-bounded n (kind.Range low high) (values.Bool a) h = absurd h
+is-bounded n (kind.Range low high) (values.Int a) h = h.sound.0
+is-bounded n (kind.Listed vs) (values.Bool a) h = absurd h
+is-bounded n (kind.Listed vs) (values.Int a) h = h.fits.sound.0
 
 pub are-bounded : (n : ℕ) (ds : List Decl) (map : List MapValue) → EntriesFit n ds map → AreBounded map
 are-bounded n [] [] h = tt

@@ -15,14 +15,14 @@ use Rattle.ledger_text.specs.declared.line.Line.{Line}
 use Rattle.ledger_text.specs.declared.line.Line.TheVariants.{Equate, Split, Encode}
 use Rattle.ledger_text.specs.Steps.{LineBelow, LedgerBelow}
 use Rattle.step_kernel.specs.Kernel.{Kernel, IsKernel, core_at}
-use Rattle.step_kernel.specs.Instances.{is_instance_at}
-use Rattle.step_kernel.specs.Parts.{parts_at}
+use Rattle.core_rules.specs.Instances.{is_instance_at}
+use Rattle.core_parts.specs.Parts.{parts_at}
 use Rattle.step_kernel.specs.Steps.{without, equated, step}
 use Rattle.step_kernel.proofs.Stepped.{after_step}
 use Rattle.step_kernel.proofs.StepLaws.{step-kept}
 use Rattle.step_kernel.proofs.Holes.{below-there}
 use Rattle.step_kernel.proofs.Splits.{at-bounds}
-use Rattle.step_kernel.proofs.InstanceLaws.{instance-labels}
+use Rattle.core_rules.proofs.InstanceLaws.{instance-labels}
 use Rattle.state_compile.specs.Compilation.{IsDue, LeadsInOrder}
 use Rattle.state_compile.proofs.Found.{compound-there, basic-there}
 

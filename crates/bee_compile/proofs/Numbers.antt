@@ -14,9 +14,9 @@ use Rattle.order_ints.proofs.TruthLaws.{atom_truth-resolve}
 use Rattle.core_forms.specs.Resolved.{map_steps, map_int}
 use Rattle.core_forms.specs.Trimmed.{trimmed_int}
 use Rattle.core_forms.proofs.Tidied.{value-tidied}
-use Rattle.typed_model.specs.declared.model.Kind.{Kind}
-use Rattle.typed_model.specs.declared.model.Kind.TheVariants as kind
-use Rattle.typed_model.specs.declared.model.Decl.{Decl}
+use Rattle.model_meaning.specs.declared.model.Kind.{Kind}
+use Rattle.model_meaning.specs.declared.model.Kind.TheVariants as kind
+use Rattle.model_meaning.specs.declared.model.Decl.{Decl}
 use Rattle.statement_lower.specs.Entries.{EntryFits, EntriesFit}
 use Rattle.state_compile.specs.StandsFor.{read_by}
 use Rattle.state_compile.proofs.Reading.{read-atom}
@@ -52,8 +52,10 @@ module _ (view : List Atom) (σ : Valuation) (meets : MeetsView σ view) (n : �
   number-met : (k : Kind) (v : MapValue) → EntryFits n k v → number_of σ (trimmed_value view v) ≡ number_of σ v
   number-met kind.Bool (values.Bool a) h = ap (λ t. if t then pos 1 else pos 0) (atom_truth-resolve σ view n meets a h)
   number-met kind.Bool (values.Int a) h = absurd h
-  number-met (kind.Int low high) (values.Bool a) h = absurd h
-  number-met (kind.Int low high) (values.Int a) h = value-met a h.below
+  number-met (kind.Range low high) (values.Bool a) h = absurd h
+  number-met (kind.Range low high) (values.Int a) h = value-met a h.below
+  number-met (kind.Listed vs) (values.Bool a) h = absurd h
+  number-met (kind.Listed vs) (values.Int a) h = value-met a h.fits.below
 
   -- what names have, trimmed, is what they have
   pub numbers-met : (ds : List Decl) (map : List MapValue) → EntriesFit n ds map → numbers_of σ (trimmed_values view map) ≡ numbers_of σ map

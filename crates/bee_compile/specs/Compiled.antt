@@ -5,10 +5,10 @@ use Rattle.order_ints.specs.Satisfies.{Satisfies}
 use Rattle.order_ints.specs.Numbers.{numbers_of}
 use Rattle.core_forms.specs.declared.equation.Equation.{Equation}
 use Rattle.core_forms.specs.declared.form.Core.{Core}
-use Rattle.typed_model.specs.declared.model.Model.{Model}
-use Rattle.typed_model.specs.WellTyped.{WellTyped}
-use Rattle.typed_model.specs.Limits.{InLimits}
-use Rattle.typed_model.specs.Solutions.{IsSolution}
+use Rattle.model_meaning.specs.declared.model.Model.{Model}
+use Rattle.model_meaning.specs.WellTyped.{WellTyped}
+use Rattle.model_meaning.specs.Limits.{InLimits}
+use Rattle.model_meaning.specs.Solutions.{IsSolution}
 use Rattle.model_weight.specs.Weight.{weight_of}
 use Rattle.model_lower.specs.declared.state.Lowered.{Lowered}
 use Rattle.model_lower.specs.Lowering.{lowered_of}

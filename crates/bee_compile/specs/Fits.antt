@@ -7,10 +7,11 @@ use Rattle.order_ints.specs.OrderRange.{IntBelow, low_of, high_of}
 use Rattle.order_ints.specs.Place.{AtomBelow, InRange}
 use Rattle.core_forms.specs.WellFormed.{IsSound}
 use Rattle.ledger_text.specs.Steps.{LedgerBelow}
-use Rattle.typed_model.specs.declared.model.Kind.{Kind}
-use Rattle.typed_model.specs.declared.model.Kind.TheVariants as kind
-use Rattle.typed_model.specs.declared.model.Decl.{Decl}
-use Rattle.typed_model.specs.Limits.{InLimit}
+use Rattle.model_meaning.specs.declared.model.Kind.{Kind}
+use Rattle.model_meaning.specs.declared.model.Kind.TheVariants as kind
+use Rattle.model_meaning.specs.declared.model.Decl.{Decl}
+use Rattle.model_meaning.specs.Limits.{InLimit}
+use Rattle.value_lists.specs.ValueLists.{first_of, last_of}
 use Rattle.bee_compile.specs.declared.compiled.Compiled.{Compiled}
 
 -- An integer of a domain, as a store has it: its variables are below n, it is sound, and its values are from the least to the
@@ -27,8 +28,10 @@ pub record TrimmedFits (n : ℕ) (low high : ℤ) (a : OrdInt) : Type 0 where
 abbrev pub ValueFits : ℕ → Kind → MapValue → Type 0
 ValueFits n kind.Bool (values.Bool a) = AtomBelow n a
 ValueFits n kind.Bool (values.Int a) = ⊥
-ValueFits n (kind.Int low high) (values.Bool a) = ⊥
-ValueFits n (kind.Int low high) (values.Int a) = TrimmedFits n low high a
+ValueFits n (kind.Range low high) (values.Bool a) = ⊥
+ValueFits n (kind.Range low high) (values.Int a) = TrimmedFits n low high a
+ValueFits n (kind.Listed vs) (values.Bool a) = ⊥
+ValueFits n (kind.Listed vs) (values.Int a) = TrimmedFits n (first_of vs) (last_of vs) a
 
 -- one value for each declaration
 abbrev pub ValuesFit : ℕ → List Decl → List MapValue → Type 0

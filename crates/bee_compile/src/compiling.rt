@@ -1,9 +1,9 @@
 //! From a typed model to clauses.
 
 ghost use Rattle.std.specs.Prelude.{◌↔◌, ◌+◌, ◌*◌, ◌≤◌, ℤ, List, IfOk, IfErr};
-ghost use Rattle.typed_model.specs.WellTyped.{WellTyped};
-ghost use Rattle.typed_model.specs.Limits.{InLimits};
-ghost use Rattle.typed_model.specs.Solutions.{IsSolution};
+ghost use Rattle.model_meaning.specs.WellTyped.{WellTyped};
+ghost use Rattle.model_meaning.specs.Limits.{InLimits};
+ghost use Rattle.model_meaning.specs.Solutions.{IsSolution};
 ghost use Rattle.model_weight.specs.Weight.{weight_of};
 ghost use Rattle.model_lower.specs.Weighed.{most_weight};
 ghost use Rattle.model_lower.specs.Faults.{IsFaultOf};
@@ -27,7 +27,7 @@ use typed_model::Model;
 /// split or encoded.
 ///
 /// It fails with the model's weight where that is above 67,108,864, and for want of memory.
-pub fn compile<F: Oracle, L: Ledger>(
+pub fn compile<F: Oracle<L>, L: Ledger>(
     alloc: Global,
     model: Model,
     oracle: F,

@@ -25,9 +25,9 @@ fresh_sink room step failing =
 abbrev pub next_is_listed : MemSinkState → Bool
 next_is_listed sink = list_any (λ number. number == next_count sink.calls) sink.failing
 
--- the next call fails as a call of `put`: it is listed, or the piece has bytes and there is no room
+-- the next call fails as a call of `put`: the piece has bytes, and the call is listed, or there is no room
 abbrev pub put_fails : MemSinkState → List ℕ → Bool
-put_fails sink piece = next_is_listed sink || (nat_lt 0 (length piece) && nat_le sink.room (length sink.taken))
+put_fails sink piece = nat_lt 0 (length piece) && (nat_le sink.room (length sink.taken) || next_is_listed sink)
 
 -- how many bytes of the piece the next call takes
 abbrev pub put_size : MemSinkState → List ℕ → ℕ

@@ -51,6 +51,7 @@ impl<W: Write> Sink for HostSink<W> {
     fn put(&mut self, piece: &[u8]) -> Result<usize, Failed>
         ensures fits { IfOk result (λ k. k ≤ length piece.now) }
         ensures takes_some { IfOk result (λ k. 0 < length piece.now → 1 ≤ k) }
+        ensures empty { length piece.now ≡ 0 → result ≡ Ok 0 }
         ensures counts_faults { self.new ≡ counted result self.old }
     {
         if piece.is_empty() {

@@ -14,7 +14,7 @@ use std::marker::Model;
 /// A text in memory that grows. It takes at most so many bytes a call as its step says, and the calls of
 /// `put` and `flush` whose numbers are listed fail. Both are counted together, from 1; every call from
 /// number 18,446,744,073,709,551,615 on has that number. Where its room is full, a piece with bytes
-/// fails. Its calls take no memory.
+/// fails; one without never does. Its calls take no memory.
 #[derive(Debug, Drop)]
 pub struct MemSink {
     // It has the capacity of the room from the start.
@@ -91,6 +91,7 @@ impl Sink for MemSink {
         // What every sink keeps.
         ensures fits { IfOk result (λ k. k ≤ length piece.now) }
         ensures takes_some { IfOk result (λ k. 0 < length piece.now → 1 ≤ k) }
+        ensures empty { length piece.now ≡ 0 → result ≡ Ok 0 }
         ensures takes { IfOk result (λ k.
             Some self.new.taken ≡ grown (Some self.old.taken) (take k piece.now)) }
         ensures flushed_stays { Some self.new.flushed ≡ Some self.old.flushed }
@@ -98,8 +99,8 @@ impl Sink for MemSink {
         ensures counts_faults { self.new.faults ≡ counted result self.old.faults }
     {
         self.calls = self.calls.saturating_add(1);
-        let is_full = !piece.is_empty() && self.taken.len() >= self.room;
-        if is_full || self.failing.contains(&self.calls) {
+        let fails = self.taken.len() >= self.room || self.failing.contains(&self.calls);
+        if !piece.is_empty() && fails {
             self.faults = self.faults.saturating_add(1);
             return Err(Failed);
         }

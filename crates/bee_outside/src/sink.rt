@@ -17,10 +17,12 @@ pub trait Sink {
 
     ghost faults: { Self → ℕ };
 
-    /// Takes bytes from the front of the piece, at least one where it has any, and answers how many.
+    /// Takes bytes from the front of the piece, at least one where it has any, and answers how many. A piece without bytes is
+    /// no fault.
     fn put(&mut self, piece: &[u8]) -> Result<usize, Failed>
         ensures fits { IfOk result (λ k. k ≤ length piece.now) }
         ensures takes_some { IfOk result (λ k. 0 < length piece.now → 1 ≤ k) }
+        ensures empty { length piece.now ≡ 0 → result ≡ Ok 0 }
         ensures takes { IfOk result (λ k. taken self.new ≡ grown (taken self.old) (take k piece.now)) }
         ensures flushed_stays { flushed self.new ≡ flushed self.old }
         ensures fault_takes_nothing { OnErr result (taken self.new ≡ taken self.old) }

@@ -19,6 +19,8 @@ mod integer_models;
 #[cfg(test)]
 mod list_models;
 #[cfg(test)]
+mod listed_models;
+#[cfg(test)]
 mod matrix_examples;
 #[cfg(test)]
 mod outside;

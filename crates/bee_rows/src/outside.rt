@@ -73,6 +73,7 @@ fn described(status: &Status) -> (&'static str, u128) {
         Status::Read => ("read", 0),
         Status::Write => ("write", 0),
         Status::Memory => ("memory", 0),
+        Status::Unknown(count) => ("unknown", u128::from(*count)),
     }
 }
 

@@ -74,7 +74,7 @@ static BOOLEANS: [Row; 14] = [
 ];
 
 /// Integers and their comparisons.
-static INTEGERS: [Row; 13] = [
+static INTEGERS: [Row; 15] = [
     // 0, 2
     (
         "new_int(x,0,2)\nint_neq(x,1)\nsolve satisfy\n",
@@ -99,6 +99,11 @@ static INTEGERS: [Row; 13] = [
         "new_int(x,-2,0)int_neq(-2,x)int_leq(x,-1)solve satisfy",
         "c bee 1\nc int x -1\nc led eq 2 form T 1\nc led eq 3 form 2 F\nc led enc 1\nc led enc 2\nc led enc 3\np cnf 2 0\n",
     ),
+    // Three listed values: other than the middle one, at least it is at least the greatest.
+    (
+        "new_int(x,[7,1,3,1])int_neq(x,3)solve satisfy",
+        "c bee 1\nc int x 1 1:6\nc led eq 2 form 1 2\nc led enc 1\nc led enc 2\np cnf 2 0\n",
+    ),
     // A domain of one value.
     (
         "new_int(x,7,7)int_leq(x,7)solve satisfy",
@@ -121,6 +126,11 @@ static INTEGERS: [Row; 13] = [
     (
         "new_int(x,0,1)int_leq(5,x)solve satisfy",
         "c bee 1\nc int x 0 1:1\nc led eq 2 form T F\np cnf 1 1\n0\n",
+    ),
+    // What is sought changes no clause.
+    (
+        "new_int(x,0,1)new_int(y,0,2)solve minimize x then y",
+        "c bee 1\nc int x 0 1:1\nc int y 0 2:1 3:1\nc led enc 1\nc led enc 2\np cnf 3 1\n2 -3 0\n",
     ),
     // A Boolean declared behind an integer and a statement.
     (
@@ -164,7 +174,7 @@ static SUMS: [Row; 7] = [
     // 1 4, 2 8, 3 12: y by the variables of x, in steps of four.
     (
         "new_int(x,1,3)\nnew_int(y,0,20)\nint_times(x,4,y)\nsolve satisfy\n",
-        "c bee 1\nc int x 1 1:1 2:1\nc int y 4 1:4 2:4\nc led eq 3 form 6 T\nc led eq 3 order 5 T\nc led eq 3 order 4 T\nc led eq 3 order 3 T\nc led eq 3 form 15 F\nc led eq 3 order 16 F\nc led eq 3 order 17 F\nc led eq 3 order 18 F\nc led eq 3 order 19 F\nc led eq 3 order 20 F\nc led eq 3 order 21 F\nc led eq 3 order 22 F\nc led eq 3 form 1 10\nc led eq 3 form 2 14\nc led eq 3 form 7 1\nc led eq 3 form 8 1\nc led eq 3 form 9 1\nc led eq 3 form 11 2\nc led eq 3 form 12 2\nc led eq 3 form 13 2\nc led enc 1\nc led enc 2\nc led enc 3\np cnf 22 1\n1 -2 0\n",
+        "c bee 1\nc int x 1 1:1 2:1\nc int y 4 1:4 2:4\nc led eq 3 form 6 T\nc led eq 3 order 5 T\nc led eq 3 order 4 T\nc led eq 3 order 3 T\nc led eq 3 form 15 F\nc led eq 3 order 16 F\nc led eq 3 order 17 F\nc led eq 3 order 18 F\nc led eq 3 order 19 F\nc led eq 3 order 20 F\nc led eq 3 order 21 F\nc led eq 3 order 22 F\nc led eq 3 form 10 1\nc led eq 3 form 14 2\nc led eq 3 form 7 1\nc led eq 3 form 8 1\nc led eq 3 form 9 1\nc led eq 3 form 11 2\nc led eq 3 form 12 2\nc led eq 3 form 13 2\nc led enc 1\nc led enc 2\nc led enc 3\np cnf 22 1\n1 -2 0\n",
     ),
     // Three members, and two values.
     (

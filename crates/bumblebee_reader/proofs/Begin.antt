@@ -6,7 +6,7 @@ use Rattle.bumblebee_reader.specs.declared.syntax.Item.{Item}
 use Rattle.bumblebee_reader.specs.declared.lexeme.Sign.TheVariants.{CloseCall, OpenCall, CloseList}
 use Rattle.bumblebee_reader.specs.Tokens.{Token, Word, Mark}
 use Rattle.bumblebee_reader.specs.Grammar.{Begins}
-use Rattle.bumblebee_reader.specs.Reading.{InCall, InList, Place, AtItem, AtOpen, AtArg, BehindArg, AtFirst, AtTerm, BehindTerm, BehindDash, AtKind, AtObjective, AtInner, AtClose, Move, Misfit, Go, Done, move}
+use Rattle.bumblebee_reader.specs.Reading.{InCall, InList, Place, AtItem, AtOpen, AtArg, BehindArg, AtFirst, AtTerm, BehindTerm, BehindDash, AtKind, AtObjective, AtInner, AtClose, BehindObjective, FirstOf, SecondOf, Move, Misfit, Go, Done, move}
 use Rattle.bumblebee_reader.proofs.Machine.{accepts, lives, live_turn, lives_front}
 use Rattle.bumblebee_reader.proofs.Complete.{accepts_spelled}
 use Rattle.bumblebee_reader.proofs.Sound.{spelled_accepted}
@@ -23,9 +23,10 @@ finish (BehindTerm name args terms) = Mark CloseList ∷ Mark CloseCall ∷ []
 finish (BehindDash (InCall name args)) = Word (codes "x") ∷ Mark CloseCall ∷ []
 finish (BehindDash (InList name args terms)) = Word (codes "x") ∷ Mark CloseList ∷ Mark CloseCall ∷ []
 finish AtKind = Word (codes "satisfy") ∷ []
-finish (AtObjective kind) = Word (codes "x") ∷ []
-finish (AtInner kind) = Word (codes "x") ∷ Mark CloseCall ∷ []
-finish (AtClose kind name) = Mark CloseCall ∷ []
+finish (AtObjective seeking) = Word (codes "x") ∷ []
+finish (AtInner seeking) = Word (codes "x") ∷ Mark CloseCall ∷ []
+finish (AtClose seeking name) = Mark CloseCall ∷ []
+finish (BehindObjective kind name) = []
 
 finished : (p : Place) → (items : List Item) × (accepts p (finish p) ≡ Some items)
 finished AtItem = (_, refl)
@@ -38,9 +39,13 @@ finished (BehindTerm name args terms) = (_, refl)
 finished (BehindDash (InCall name args)) = (_, refl)
 finished (BehindDash (InList name args terms)) = (_, refl)
 finished AtKind = (_, refl)
-finished (AtObjective kind) = (_, refl)
-finished (AtInner kind) = (_, refl)
-finished (AtClose kind name) = (_, refl)
+finished (AtObjective (FirstOf kind)) = (_, refl)
+finished (AtObjective (SecondOf kind first)) = (_, refl)
+finished (AtInner (FirstOf kind)) = (_, refl)
+finished (AtInner (SecondOf kind first)) = (_, refl)
+finished (AtClose (FirstOf kind) name) = (_, refl)
+finished (AtClose (SecondOf kind first) name) = (_, refl)
+finished (BehindObjective kind name) = (_, refl)
 
 -- the tokens go on to a text
 record Continues (p : Place) (ts : List Token) : Type 0 where
@@ -53,8 +58,8 @@ continues-turn p t ts Misfit e h rest = absurd (false≢true h)
 continues-turn p t ts (Go q) e h rest =
     let r = rest q h in
     record { more = r.more; items = r.items; accepted = rw e r.accepted }
-continues-turn p t ts (Done i) e h rest =
-    let r = rest AtItem h in
+continues-turn p t ts (Done i q) e h rest =
+    let r = rest q h in
     record { more = r.more; items = i ∷ r.items; accepted = rw (e, r.accepted) refl }
 
 continues : (ts : List Token) (p : Place) → lives p ts ≡ true → Continues p ts

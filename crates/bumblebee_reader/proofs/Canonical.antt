@@ -19,10 +19,10 @@ use Rattle.bumblebee_reader.specs.declared.lexeme.Sign.TheVariants.{OpenCall, Cl
 use Rattle.bumblebee_reader.specs.Bytes.{is_letter, is_digit, is_word}
 use Rattle.bumblebee_reader.specs.Tokens.{Token, TokenAt, Word, Digits, Mark, token_from, length_from, next_line, with_token, tokens_behind, tokens_at}
 use Rattle.bumblebee_reader.specs.Numeral.{number_of, number_behind, is_too_great}
-use Rattle.bumblebee_reader.specs.Grammar.{SpellsTerm, SpellsTerms, SpellsMembers, SpellsArg, SpellsArgs, SpellsItem, Spells, AllWithin, kinds, IsText}
-use Rattle.bumblebee_reader.specs.Canonical.{term_text, next_term_text, terms_text, arg_text, next_arg_text, args_text, item_line, canonical}
+use Rattle.bumblebee_reader.specs.Grammar.{SpellsTerm, SpellsTerms, SpellsMembers, SpellsArg, SpellsArgs, SpellsSecond, SpellsItem, Spells, AllWithin, kinds, IsText}
+use Rattle.bumblebee_reader.specs.Canonical.{term_text, next_term_text, terms_text, arg_text, next_arg_text, args_text, name_text, item_line, canonical}
 use Rattle.bumblebee_reader.specs.Names.{is_name}
-use Rattle.bumblebee_reader.specs.Spellable.{IsSpellableTerm, AreSpellableTerms, IsSpellableArg, AreSpellableArgs, IsSpellableItem, AreSpellableItems}
+use Rattle.bumblebee_reader.specs.Spellable.{IsSpellableTerm, AreSpellableTerms, IsSpellableArg, AreSpellableArgs, IsSpellableSecond, IsSpellableItem, AreSpellableItems}
 use Rattle.bumblebee_reader.specs.Laws.{CanonicalIsText, RoundTrip}
 use Rattle.bumblebee_reader.proofs.Scan.{tokens_at-cons}
 use Rattle.bumblebee_reader.proofs.Shapes.{text_is_spellable_lem}
@@ -141,14 +141,19 @@ abbrev args_tokens : List Arg → List Token
 args_tokens [] = []
 args_tokens (a ∷ args) = arg_tokens a ++ flat_map next_arg_tokens args
 
+abbrev second_tokens : Option (List ℕ) → List Token
+second_tokens None = []
+second_tokens (Some second) = Word (codes "then") ∷ Word second ∷ []
+
 abbrev item_tokens : Item → List Token
 item_tokens (Call name args) = Word name ∷ Mark OpenCall ∷ (args_tokens args ++ Mark CloseCall ∷ [])
-item_tokens (Goal Satisfy None) = Word (codes "solve") ∷ Word (codes "satisfy") ∷ []
-item_tokens (Goal Satisfy (Some name)) = []
-item_tokens (Goal Minimize None) = []
-item_tokens (Goal Minimize (Some name)) = Word (codes "solve") ∷ Word (codes "minimize") ∷ Word name ∷ []
-item_tokens (Goal Maximize None) = []
-item_tokens (Goal Maximize (Some name)) = Word (codes "solve") ∷ Word (codes "maximize") ∷ Word name ∷ []
+item_tokens (Goal Satisfy None None) = Word (codes "solve") ∷ Word (codes "satisfy") ∷ []
+item_tokens (Goal Satisfy None (Some second)) = []
+item_tokens (Goal Satisfy (Some name) second) = []
+item_tokens (Goal Minimize None second) = []
+item_tokens (Goal Minimize (Some name) second) = Word (codes "solve") ∷ Word (codes "minimize") ∷ Word name ∷ second_tokens second
+item_tokens (Goal Maximize None second) = []
+item_tokens (Goal Maximize (Some name) second) = Word (codes "solve") ∷ Word (codes "maximize") ∷ Word name ∷ second_tokens second
 
 small : (n : ℕ) → n ≤ 1073741824 → n < 2 ^ 64
 small n h = omega arith
@@ -208,21 +213,32 @@ scan_call name args bs h hs =
     ∙ scan_name name (40 ∷ (args_text args ++ (41 ∷ 10 ∷ bs))) h refl
     ∙ ap (λ l. Word name ∷ Mark OpenCall ∷ l) (scan_args args (41 ∷ 10 ∷ bs) hs refl ∙ ap (λ l. args_tokens args ++ Mark CloseCall ∷ l) (scan_line 2 bs) ∙ sym (append_assoc (args_tokens args) (Mark CloseCall ∷ []) (scan bs)))
 
-scan_objective : (name bs : List ℕ) → is_name name ≡ true → scan ((name ++ 10 ∷ []) ++ bs) ≡ Word name ∷ scan bs
-scan_objective name bs h =
-    ap scan (append_assoc name (10 ∷ []) bs) ∙ scan_name name (10 ∷ bs) h refl ∙ ap (λ l. Word name ∷ l) (scan_line 2 bs)
+-- a name at the end of a line
+scan_last : (name bs : List ℕ) → is_name name ≡ true → scan (name ++ 10 ∷ bs) ≡ Word name ∷ scan bs
+scan_last name bs h = scan_name name (10 ∷ bs) h refl ∙ ap (λ l. Word name ∷ l) (scan_line 2 bs)
+
+scan_objective : (name : List ℕ) (second : Option (List ℕ)) (bs : List ℕ) → is_name name ≡ true → IsSpellableSecond second → scan (((name ++ name_text (codes " then ") second) ++ 10 ∷ []) ++ bs) ≡ (Word name ∷ second_tokens second) ++ scan bs
+scan_objective name None bs h k =
+    let whole : ((name ++ []) ++ 10 ∷ []) ++ bs ≡ name ++ 10 ∷ bs = simp (append_assoc, append-nil) in
+    ap scan whole ∙ scan_last name bs h
+scan_objective name (Some second) bs h k =
+    let whole : ((name ++ (codes " then " ++ second)) ++ 10 ∷ []) ++ bs ≡ name ++ (codes " then " ++ (second ++ 10 ∷ bs)) = simp append_assoc in
+    ap scan whole
+    ∙ scan_name name (codes " then " ++ (second ++ 10 ∷ bs)) h refl
+    ∙ ap (λ l. Word name ∷ Word (codes "then") ∷ l) (scan_last second bs k)
 
 scan_item : (i : Item) (bs : List ℕ) → IsSpellableItem i → scan (item_line i ++ bs) ≡ item_tokens i ++ scan bs
-scan_item (Call name args) bs h = scan_call name args bs h.0 h.3
-scan_item (Goal Satisfy None) bs h =
+scan_item (Call name args) bs h = scan_call name args bs h.0 h.4
+scan_item (Goal Satisfy None None) bs h =
     ap (λ l. Word (codes "solve") ∷ Word (codes "satisfy") ∷ l) (scan_line 2 bs)
-scan_item (Goal Satisfy (Some name)) bs h = absurd h
-scan_item (Goal Minimize None) bs h = absurd h
-scan_item (Goal Minimize (Some name)) bs h =
-    ap (λ l. Word (codes "solve") ∷ Word (codes "minimize") ∷ l) (scan_objective name bs h)
-scan_item (Goal Maximize None) bs h = absurd h
-scan_item (Goal Maximize (Some name)) bs h =
-    ap (λ l. Word (codes "solve") ∷ Word (codes "maximize") ∷ l) (scan_objective name bs h)
+scan_item (Goal Satisfy None (Some second)) bs h = absurd h
+scan_item (Goal Satisfy (Some name) second) bs h = absurd h
+scan_item (Goal Minimize None second) bs h = absurd h
+scan_item (Goal Minimize (Some name) second) bs h =
+    ap (λ l. Word (codes "solve") ∷ Word (codes "minimize") ∷ l) (scan_objective name second bs h.0 h.1)
+scan_item (Goal Maximize None second) bs h = absurd h
+scan_item (Goal Maximize (Some name) second) bs h =
+    ap (λ l. Word (codes "solve") ∷ Word (codes "maximize") ∷ l) (scan_objective name second bs h.0 h.1)
 
 scan_items : (is : List Item) → AreSpellableItems is → scan (flat_map item_line is) ≡ flat_map item_tokens is
 scan_items [] h = refl
@@ -260,19 +276,26 @@ spells_args a [] h hs = subst (λ l. SpellsArg l a) (sym (append-nil (arg_tokens
 spells_args a (a' ∷ args) h hs =
     (arg_tokens a, args_tokens (a' ∷ args), refl, spells_arg a h, spells_args a' args hs.0 hs.1)
 
-spells_call : (name : List ℕ) (args : List Arg) → name ≢ codes "solve" → args ≢ [] → AreSpellableArgs args → SpellsItem (item_tokens (Call name args)) (Call name args)
-spells_call name [] other some h = absurd (some refl)
-spells_call name (a ∷ args) other some h =
-    (other, args_tokens (a ∷ args), refl, spells_args a args h.0 h.1)
+spells_call : (name : List ℕ) (args : List Arg) → name ≢ codes "solve" → name ≢ codes "then" → args ≢ [] → AreSpellableArgs args → SpellsItem (item_tokens (Call name args)) (Call name args)
+spells_call name [] other another some h = absurd (some refl)
+spells_call name (a ∷ args) other another some h =
+    (other, another, args_tokens (a ∷ args), refl, spells_args a args h.0 h.1)
+
+spells_second : (second : Option (List ℕ)) → SpellsSecond (second_tokens second) second
+spells_second None = refl
+spells_second (Some second) = (Word second ∷ [], refl, inl refl)
 
 spells_item : (i : Item) → IsSpellableItem i → SpellsItem (item_tokens i) i
-spells_item (Call name args) h = spells_call name args h.1 h.2 h.3
-spells_item (Goal Satisfy None) h = refl
-spells_item (Goal Satisfy (Some name)) h = h
-spells_item (Goal Minimize None) h = h
-spells_item (Goal Minimize (Some name)) h = (Word name ∷ [], refl, inl refl)
-spells_item (Goal Maximize None) h = h
-spells_item (Goal Maximize (Some name)) h = (Word name ∷ [], refl, inl refl)
+spells_item (Call name args) h = spells_call name args h.1 h.2 h.3 h.4
+spells_item (Goal Satisfy None None) h = refl
+spells_item (Goal Satisfy None (Some second)) h = h
+spells_item (Goal Satisfy (Some name) second) h = h
+spells_item (Goal Minimize None second) h = h
+spells_item (Goal Minimize (Some name) second) h =
+    (Word name ∷ second_tokens second, refl, (Word name ∷ [], second_tokens second, refl, inl refl, spells_second second))
+spells_item (Goal Maximize None second) h = h
+spells_item (Goal Maximize (Some name) second) h =
+    (Word name ∷ second_tokens second, refl, (Word name ∷ [], second_tokens second, refl, inl refl, spells_second second))
 
 spells_items : (is : List Item) → AreSpellableItems is → Spells (flat_map item_tokens is) is
 spells_items [] h = refl
@@ -319,15 +342,20 @@ within_args [] h = tt
 within_args (a ∷ args) h =
     within_append (arg_tokens a) (flat_map next_arg_tokens args) (within_arg a h.0) (within_next_args args h.1)
 
+within_second : (second : Option (List ℕ)) → AllWithin (second_tokens second)
+within_second None = tt
+within_second (Some second) = (refl, (refl, tt))
+
 within_item : (i : Item) → IsSpellableItem i → AllWithin (item_tokens i)
 within_item (Call name args) h =
-    (refl, (refl, within_append (args_tokens args) (Mark CloseCall ∷ []) (within_args args h.3) (refl, tt)))
-within_item (Goal Satisfy None) h = (refl, (refl, tt))
-within_item (Goal Satisfy (Some name)) h = tt
-within_item (Goal Minimize None) h = tt
-within_item (Goal Minimize (Some name)) h = (refl, (refl, (refl, tt)))
-within_item (Goal Maximize None) h = tt
-within_item (Goal Maximize (Some name)) h = (refl, (refl, (refl, tt)))
+    (refl, (refl, within_append (args_tokens args) (Mark CloseCall ∷ []) (within_args args h.4) (refl, tt)))
+within_item (Goal Satisfy None None) h = (refl, (refl, tt))
+within_item (Goal Satisfy None (Some second)) h = tt
+within_item (Goal Satisfy (Some name) second) h = tt
+within_item (Goal Minimize None second) h = tt
+within_item (Goal Minimize (Some name) second) h = (refl, (refl, (refl, within_second second)))
+within_item (Goal Maximize None second) h = tt
+within_item (Goal Maximize (Some name) second) h = (refl, (refl, (refl, within_second second)))
 
 within_items : (is : List Item) → AreSpellableItems is → AllWithin (flat_map item_tokens is)
 within_items [] h = tt

@@ -1,5 +1,5 @@
 -- What the grammar spells is accepted.
-use Rattle.std.proofs.Common.{◌≡◌, ◌≢◌, ℕ, Bool, true, false, Some, None, List, [], ◌∷◌, ◌++◌, refl, ap, ◌∙◌, ⊎_elim, append_assoc}
+use Rattle.std.proofs.Common.{◌≡◌, ◌≢◌, ℕ, Bool, true, false, cond, Option, Some, None, List, [], ◌∷◌, ◌++◌, refl, sym, ap, ◌∙◌, ⊎_elim, append_assoc}
 use Rattle.std.specs.Prelude.{codes}
 use Rattle.std.specs.Option.{option_map}
 use Rattle.std.proofs.lemmas.Slice.Eq.{bytes_eq-Decides}
@@ -12,10 +12,10 @@ use Rattle.bumblebee_reader.specs.declared.syntax.Term.TheVariants.{Plain, Minus
 use Rattle.bumblebee_reader.specs.declared.syntax.GoalKind.{GoalKind}
 use Rattle.bumblebee_reader.specs.declared.syntax.GoalKind.TheVariants.{Satisfy, Minimize, Maximize}
 use Rattle.bumblebee_reader.specs.declared.lexeme.Sign.TheVariants.{OpenCall, CloseCall, OpenList, CloseList, Comma, Dash}
-use Rattle.bumblebee_reader.specs.Tokens.{Token, Word, Digits, Mark}
-use Rattle.bumblebee_reader.specs.Grammar.{SpellsTerm, SpellsTerms, SpellsMembers, SpellsArg, SpellsArgs, SpellsObjective, SpellsItem, Spells}
-use Rattle.bumblebee_reader.specs.Reading.{Owner, InCall, InList, Place, AtItem, AtArg, BehindArg, AtFirst, AtTerm, AtObjective, move, begin_term, behind_term, is_solve}
-use Rattle.bumblebee_reader.proofs.Machine.{accepts}
+use Rattle.bumblebee_reader.specs.Tokens.{Token, Word, Digits, Mark, Stray}
+use Rattle.bumblebee_reader.specs.Grammar.{SpellsTerm, SpellsTerms, SpellsMembers, SpellsArg, SpellsArgs, SpellsObjective, SpellsSecond, SpellsObjectives, SpellsItem, Spells}
+use Rattle.bumblebee_reader.specs.Reading.{Owner, InCall, InList, Place, AtItem, AtArg, BehindArg, AtFirst, AtTerm, AtObjective, BehindObjective, Seeking, FirstOf, SecondOf, Misfit, Go, AtKind, AtOpen, move, begin_term, behind_term, behind_name, behind_item, is_solve, is_then}
+use Rattle.bumblebee_reader.proofs.Machine.{accepts, accept_turn}
 
 -- a term may begin at the place
 record BeginsTerm (p : Place) (owner : Owner) : Type 0 where
@@ -75,29 +75,67 @@ accepts_args name before ts us (a ∷ a' ∷ args) h =
     ∙ rest
     ∙ ap (λ l. option_map (λ is. Call name l ∷ is) (accepts AtItem us)) (append_assoc before (a ∷ []) (a' ∷ args))
 
-accepts_objective : (kind : GoalKind) (ts us : List Token) (name : List ℕ) → SpellsObjective ts name → accepts (AtObjective kind) (ts ++ us) ≡ option_map (λ is. Goal kind (Some name) ∷ is) (accepts AtItem us)
-accepts_objective kind ts us name h = ⊎_elim (λ e. rw e refl) (λ e. rw e refl) h
+accepts_objective : (s : Seeking) (ts us : List Token) (name : List ℕ) → SpellsObjective ts name → accepts (AtObjective s) (ts ++ us) ≡ accept_turn (behind_name s name) (λ q. accepts q us)
+accepts_objective s ts us name h = ⊎_elim (λ e. rw e refl) (λ e. rw e refl) h
+
+-- `solve` is not `then`
+not_both : (word : List ℕ) → is_then word ≡ true → is_solve word ≡ true → ⊥
+not_both word e s =
+    let same = sym ((bytes_eq-Decides word (codes "then")).0 e) ∙ (bytes_eq-Decides word (codes "solve")).0 s in
+    cc
+
+-- behind a goal that is whole comes what comes at an item
+accepts_word : (kind : GoalKind) (name word : List ℕ) (ts : List Token) (is : List Item) (b t : Bool) → accept_turn (cond b (Go AtKind) (cond t Misfit (Go (AtOpen word)))) (λ q. accepts q ts) ≡ Some is → is_then word ≡ t → is_solve word ≡ b → accept_turn (cond t (Go (AtObjective (SecondOf kind name))) (behind_item (Goal kind (Some name) None) (cond b (Go AtKind) (cond t Misfit (Go (AtOpen word)))))) (λ q. accepts q ts) ≡ Some (Goal kind (Some name) None ∷ is)
+accepts_word kind name word ts is true true h e s = absurd (not_both word e s)
+accepts_word kind name word ts is true false h e s = rw h refl
+accepts_word kind name word ts is false true h e s = cc
+accepts_word kind name word ts is false false h e s = rw h refl
+
+accepts_behind : (kind : GoalKind) (name : List ℕ) (us : List Token) (is : List Item) → accepts AtItem us ≡ Some is → accepts (BehindObjective kind name) us ≡ Some (Goal kind (Some name) None ∷ is)
+accepts_behind kind name [] is h = cc
+accepts_behind kind name (Word word ∷ ts) is h = accepts_word kind name word ts is (is_solve word) (is_then word) h refl refl
+accepts_behind kind name (Digits digits ∷ ts) is h = cc
+accepts_behind kind name (Mark sign ∷ ts) is h = cc
+accepts_behind kind name (Stray ∷ ts) is h = cc
+
+accepts_second : (kind : GoalKind) (name : List ℕ) (second : Option (List ℕ)) (ts us : List Token) (is : List Item) → SpellsSecond ts second → accepts AtItem us ≡ Some is → accepts (BehindObjective kind name) (ts ++ us) ≡ Some (Goal kind (Some name) second ∷ is)
+accepts_second kind name None ts us is h e = rw h (accepts_behind kind name us is e)
+accepts_second kind name (Some second) ts us is h e =
+    ap (λ l. accepts (BehindObjective kind name) (l ++ us)) h.1 ∙ accepts_objective (SecondOf kind name) h.0 us second h.2 ∙ ap (option_map (λ l. Goal kind (Some name) (Some second) ∷ l)) e
+
+accepts_objectives : (kind : GoalKind) (name : List ℕ) (second : Option (List ℕ)) (ts us : List Token) (is : List Item) → SpellsObjectives ts name second → accepts AtItem us ≡ Some is → accepts (AtObjective (FirstOf kind)) (ts ++ us) ≡ Some (Goal kind (Some name) second ∷ is)
+accepts_objectives kind name second ts us is h e =
+    ap (λ l. accepts (AtObjective (FirstOf kind)) l) (ap (λ l. l ++ us) h.2 ∙ append_assoc h.0 h.1 us)
+    ∙ accepts_objective (FirstOf kind) h.0 (h.1 ++ us) name h.3
+    ∙ accepts_second kind name second h.1 us is h.4 e
 
 not_solve : (name : List ℕ) (b : Bool) → is_solve name ≡ b → name ≢ codes "solve" → b ≡ false
 not_solve name true e h = absurd (h ((bytes_eq-Decides name (codes "solve")).0 e))
 not_solve name false e h = refl
 
-accepts_item : (ts us : List Token) (i : Item) → SpellsItem ts i → accepts AtItem (ts ++ us) ≡ option_map (λ is. i ∷ is) (accepts AtItem us)
-accepts_item ts us (Call name args) h =
+not_then : (name : List ℕ) (b : Bool) → is_then name ≡ b → name ≢ codes "then" → b ≡ false
+not_then name true e h = absurd (h ((bytes_eq-Decides name (codes "then")).0 e))
+not_then name false e h = refl
+
+accepts_item : (ts us : List Token) (i : Item) (is : List Item) → SpellsItem ts i → accepts AtItem us ≡ Some is → accepts AtItem (ts ++ us) ≡ Some (i ∷ is)
+accepts_item ts us (Call name args) is h e =
     let other = not_solve name (is_solve name) refl h.0 in
-    ap (accepts AtItem) (ap (λ l. l ++ us) h.2 ∙ ap (λ l. Word name ∷ Mark OpenCall ∷ l) (append_assoc h.1 (Mark CloseCall ∷ []) us))
-    ∙ (rw other refl)
-    ∙ accepts_args name [] h.1 us args h.3
-accepts_item ts us (Goal Satisfy None) h = rw h refl
-accepts_item ts us (Goal Satisfy (Some name)) h = absurd h
-accepts_item ts us (Goal Minimize None) h = absurd h
-accepts_item ts us (Goal Minimize (Some name)) h =
-    ap (λ l. accepts AtItem (l ++ us)) h.1 ∙ accepts_objective Minimize h.0 us name h.2
-accepts_item ts us (Goal Maximize None) h = absurd h
-accepts_item ts us (Goal Maximize (Some name)) h =
-    ap (λ l. accepts AtItem (l ++ us)) h.1 ∙ accepts_objective Maximize h.0 us name h.2
+    let another = not_then name (is_then name) refl h.1 in
+    ap (accepts AtItem) (ap (λ l. l ++ us) h.3 ∙ ap (λ l. Word name ∷ Mark OpenCall ∷ l) (append_assoc h.2 (Mark CloseCall ∷ []) us))
+    ∙ (rw (other, another) refl)
+    ∙ accepts_args name [] h.2 us args h.4
+    ∙ ap (option_map (λ l. Call name args ∷ l)) e
+accepts_item ts us (Goal Satisfy None None) is h e = ap (λ l. accepts AtItem (l ++ us)) h ∙ ap (option_map (λ l. Goal Satisfy None None ∷ l)) e
+accepts_item ts us (Goal Satisfy None (Some second)) is h e = absurd h
+accepts_item ts us (Goal Satisfy (Some name) second) is h e = absurd h
+accepts_item ts us (Goal Minimize None second) is h e = absurd h
+accepts_item ts us (Goal Minimize (Some name) second) is h e =
+    ap (λ l. accepts AtItem (l ++ us)) h.1 ∙ accepts_objectives Minimize name second h.0 us is h.2 e
+accepts_item ts us (Goal Maximize None second) is h e = absurd h
+accepts_item ts us (Goal Maximize (Some name) second) is h e =
+    ap (λ l. accepts AtItem (l ++ us)) h.1 ∙ accepts_objectives Maximize name second h.0 us is h.2 e
 
 pub accepts_spelled : (ts : List Token) (items : List Item) → Spells ts items → accepts AtItem ts ≡ Some items
 accepts_spelled ts [] h = rw h refl
 accepts_spelled ts (i ∷ is) h =
-    ap (accepts AtItem) h.2 ∙ accepts_item h.0 h.1 i h.3 ∙ ap (option_map (λ l. i ∷ l)) (accepts_spelled h.1 is h.4)
+    ap (accepts AtItem) h.2 ∙ accepts_item h.0 h.1 i is h.3 (accepts_spelled h.1 is h.4)

@@ -8,7 +8,7 @@ use Rattle.bumblebee_reader.specs.declared.fault.ReadFault.TheVariants as fault
 use Rattle.bumblebee_reader.specs.Tokens.{Token, TokenAt}
 use Rattle.bumblebee_reader.specs.Numeral.{is_too_great}
 use Rattle.bumblebee_reader.specs.Grammar.{AllWithin, kinds}
-use Rattle.bumblebee_reader.specs.Reading.{Place, AtItem, Move, Misfit, Go, Done, Outcome, move, turn, with_item, ended, run}
+use Rattle.bumblebee_reader.specs.Reading.{Place, AtItem, BehindObjective, Move, Misfit, Go, Done, Outcome, move, turn, with_item, ended, run}
 use Rattle.bumblebee_reader.proofs.Machine.{accepts, accept_turn, accept_end, lives, live_turn}
 
 -- from a place, a token on this line is the first that does not fit
@@ -48,8 +48,8 @@ record Leads (p : Place) (t : Token) (q : Place) : Type 0 where
 leads_go : (p : Place) (t : Token) (q : Place) → move p t ≡ Go q → Leads p t q
 leads_go p t q e = record { lives_on = λ ts. rw e refl; none = λ ts h. rw e h }
 
-leads_done : (p : Place) (t : Token) (i : Item) → move p t ≡ Done i → Leads p t AtItem
-leads_done p t i e = record { lives_on = λ ts. rw e refl; none = λ ts h. rw (e, h) refl }
+leads_done : (p : Place) (t : Token) (i : Item) (q : Place) → move p t ≡ Done i q → Leads p t q
+leads_done p t i q e = record { lives_on = λ ts. rw e refl; none = λ ts h. rw (e, h) refl }
 
 misfit_behind : (p q : Place) (t : TokenAt) (ts : List TokenAt) (line : ℕ) → Leads p t.token q → is_too_great t.token ≡ false → MisfitFrom q ts line → MisfitFrom p (t ∷ ts) line
 misfit_behind p q t ts line leads small f = record {
@@ -137,19 +137,21 @@ run_fault-turn p end t ts f Misfit e h rest =
     subst (λ g. FaultFrom p end (t ∷ ts) g) (err_is (fault.Syntax t.line) f h) (misfit_here p end t ts e)
 run_fault-turn p end t ts f (Go q) e h rest =
     fault_bounded p q end t ts f (is_too_great t.token) (run q end ts) (leads_go p t.token q e) refl h (rest q)
-run_fault-turn p end t ts f (Done i) e h rest =
-    fault_bounded p AtItem end t ts f (is_too_great t.token) (with_item i (run AtItem end ts)) (leads_done p t.token i e) refl h (λ o. rest AtItem (with_item_err i (run AtItem end ts) f o))
+run_fault-turn p end t ts f (Done i q) e h rest =
+    fault_bounded p q end t ts f (is_too_great t.token) (with_item i (run q end ts)) (leads_done p t.token i q e) refl h (λ o. rest q (with_item_err i (run q end ts) f o))
 
 early_here : (p : Place) (end : ℕ) → accept_end p ≡ None → FaultFrom p end [] (fault.Syntax end)
 early_here p end e = inr (record { fits = refl; early = e; within = tt; line_is = refl })
 
 early_end : (p : Place) (end : ℕ) → accept_end p ≡ None → ended p end ≡ Err (fault.Syntax end)
 early_end AtItem end h = cc
+early_end (BehindObjective kind name) end h = cc
 early_end _ end h = refl
 
 -- a text may end, or it ends too early
-whole_or_early : (p : Place) (end : ℕ) → (ended p end ≡ Ok []) ⊎ (accept_end p ≡ None)
-whole_or_early AtItem end = inl refl
+whole_or_early : (p : Place) (end : ℕ) → ((items : List Item) × (ended p end ≡ Ok items)) ⊎ (accept_end p ≡ None)
+whole_or_early AtItem end = inl (_, refl)
+whole_or_early (BehindObjective kind name) end = inl (_, refl)
 whole_or_early _ end = inr refl
 
 not_ok : (o : Outcome) (items : List Item) (f : ReadFault) → o ≡ Ok items → o ≡ Err f → ⊥
@@ -157,7 +159,7 @@ not_ok o items f a b = cc
 
 run_fault-end : (p : Place) (end : ℕ) (f : ReadFault) → ended p end ≡ Err f → FaultFrom p end [] f
 run_fault-end p end f h =
-    ⊎_elim (λ e. absurd (not_ok (ended p end) [] f e h)) (λ e. subst (λ g. FaultFrom p end [] g) (err_is (fault.Syntax end) f (sym (early_end p end e) ∙ h)) (early_here p end e)) (whole_or_early p end)
+    ⊎_elim (λ e. absurd (not_ok (ended p end) e.0 f e.1 h)) (λ e. subst (λ g. FaultFrom p end [] g) (err_is (fault.Syntax end) f (sym (early_end p end e) ∙ h)) (early_here p end e)) (whole_or_early p end)
 
 pub run_fault : (ts : List TokenAt) (p : Place) (end : ℕ) (f : ReadFault) → run p end ts ≡ Err f → FaultFrom p end ts f
 run_fault [] p end f h = run_fault-end p end f h
@@ -173,23 +175,23 @@ pass t o f small e = rw small e
 behind-turn : (m : Move) (t : TokenAt) (live : Place → Bool) (next : Place → Outcome) (f : ReadFault) → live_turn m live ≡ true → is_too_great t.token ≡ false → ((q : Place) → live q ≡ true → next q ≡ Err f) → turn m t next ≡ Err f
 behind-turn Misfit t live next f h small rest = absurd (false≢true h)
 behind-turn (Go q) t live next f h small rest = rw small (rest q h)
-behind-turn (Done i) t live next f h small rest = rw (small, rest AtItem h) refl
+behind-turn (Done i q) t live next f h small rest = rw (small, rest q h) refl
 
 dead-turn : (m : Move) (t : TokenAt) (next : Place → Outcome) → live_turn m (λ q. true) ≡ false → turn m t next ≡ Err (fault.Syntax t.line)
 dead-turn Misfit t next h = refl
 dead-turn (Go q) t next h = absurd (false≢true (sym h))
-dead-turn (Done i) t next h = absurd (false≢true (sym h))
+dead-turn (Done i q) t next h = absurd (false≢true (sym h))
 
 great-turn : (m : Move) (t : TokenAt) (next : Place → Outcome) → live_turn m (λ q. true) ≡ true → is_too_great t.token ≡ true → turn m t next ≡ Err (fault.Number t.line)
 great-turn Misfit t next h great = absurd (false≢true h)
 great-turn (Go q) t next h great = rw great refl
-great-turn (Done i) t next h great = rw great refl
+great-turn (Done i q) t next h great = rw great refl
 
 -- both tests of a move at once
 both-turn : (m : Move) (a b : Place → Bool) → live_turn m a ≡ true → live_turn m b ≡ false → live_turn m (λ q. a q && not (b q)) ≡ true
 both-turn Misfit a b h k = h
 both-turn (Go q) a b h k = rw (h, k) refl
-both-turn (Done i) a b h k = rw (h, k) refl
+both-turn (Done i q) a b h k = rw (h, k) refl
 
 both_are : (x y : Bool) → (x && not y) ≡ true → (x ≡ true) × (y ≡ false)
 both_are true true h = absurd (false≢true h)
@@ -215,7 +217,7 @@ option_map_none i (Some is) h = cc
 none-turn : (m : Move) (ts : List Token) → live_turn m (λ q. lives q ts) ≡ true → accept_turn m (λ q. accepts q ts) ≡ None → live_turn m (λ q. lives q ts && is_none (accepts q ts)) ≡ true
 none-turn Misfit ts h k = h
 none-turn (Go q) ts h k = rw (h, k) refl
-none-turn (Done i) ts h k = rw (h, option_map_none i (accepts AtItem ts) k) refl
+none-turn (Done i q) ts h k = rw (h, option_map_none i (accepts q ts) k) refl
 
 none_are : (x : Bool) (o : Option (List Item)) → (x && is_none o) ≡ true → (x ≡ true) × (o ≡ None)
 none_are true None h = (refl, refl)

@@ -14,9 +14,9 @@ use Rattle.bumblebee_reader.specs.declared.lexeme.Sign.TheVariants.{OpenCall, Cl
 use Rattle.bumblebee_reader.specs.Bytes.{is_letter, is_digit, is_word}
 use Rattle.bumblebee_reader.specs.Tokens.{Token, TokenAt, Word, Digits, Mark, Stray, token_from, length_from, next_line, with_token, tokens_behind, tokens, begins_gap, lone_token}
 use Rattle.bumblebee_reader.specs.Numeral.{number_of, is_too_great}
-use Rattle.bumblebee_reader.specs.Grammar.{SpellsTerm, SpellsTerms, SpellsMembers, SpellsArg, SpellsArgs, SpellsObjective, SpellsItem, Spells, AllWithin, kinds}
+use Rattle.bumblebee_reader.specs.Grammar.{SpellsTerm, SpellsTerms, SpellsMembers, SpellsArg, SpellsArgs, SpellsObjective, SpellsSecond, SpellsObjectives, SpellsItem, Spells, AllWithin, kinds}
 use Rattle.bumblebee_reader.specs.Names.{is_name}
-use Rattle.bumblebee_reader.specs.Spellable.{IsSpellableTerm, AreSpellableTerms, IsSpellableArg, AreSpellableArgs, IsSpellableItem, AreSpellableItems}
+use Rattle.bumblebee_reader.specs.Spellable.{IsSpellableTerm, AreSpellableTerms, IsSpellableArg, AreSpellableArgs, IsSpellableSecond, IsSpellableItem, AreSpellableItems}
 use Rattle.bumblebee_reader.specs.Laws.{TextIsSpellable}
 
 -- a name is a name, and a numeral is within the bound
@@ -138,20 +138,32 @@ spellable_objective : (ts : List Token) (name : List ℕ) → SpellsObjective ts
 spellable_objective ts name h g =
     ⊎_elim (λ e. (good_as ts (Word name ∷ []) e g).0.0) (λ e. (good_as ts (Mark OpenCall ∷ Word name ∷ Mark CloseCall ∷ []) e g).1.0.0) h
 
+spellable_second : (ts : List Token) (second : Option (List ℕ)) → SpellsSecond ts second → AllGood ts → IsSpellableSecond second
+spellable_second ts None h g = tt
+spellable_second ts (Some second) h g =
+    let k = good_as ts (Word (codes "then") ∷ h.0) h.1 g in
+    spellable_objective h.0 second h.2 k.1
+
+spellable_objectives : (ts : List Token) (name : List ℕ) (second : Option (List ℕ)) → SpellsObjectives ts name second → AllGood ts → (is_name name ≡ true) × IsSpellableSecond second
+spellable_objectives ts name second h g =
+    let k = good_as ts (h.0 ++ h.1) h.2 g in
+    (spellable_objective h.0 name h.3 (good_left h.0 h.1 k), spellable_second h.1 second h.4 (good_right h.0 h.1 k))
+
 spellable_item : (ts : List Token) (i : Item) → SpellsItem ts i → AllGood ts → IsSpellableItem i
 spellable_item ts (Call name args) h g =
-    let k = good_as ts (Word name ∷ Mark OpenCall ∷ (h.1 ++ Mark CloseCall ∷ [])) h.2 g in
-    (k.0.0, h.0, some_args h.1 args h.3, spellable_args h.1 args h.3 (good_left h.1 (Mark CloseCall ∷ []) k.1.1))
-spellable_item ts (Goal Satisfy None) h g = tt
-spellable_item ts (Goal Satisfy (Some name)) h g = h
-spellable_item ts (Goal Minimize None) h g = h
-spellable_item ts (Goal Minimize (Some name)) h g =
+    let k = good_as ts (Word name ∷ Mark OpenCall ∷ (h.2 ++ Mark CloseCall ∷ [])) h.3 g in
+    (k.0.0, h.0, h.1, some_args h.2 args h.4, spellable_args h.2 args h.4 (good_left h.2 (Mark CloseCall ∷ []) k.1.1))
+spellable_item ts (Goal Satisfy None None) h g = tt
+spellable_item ts (Goal Satisfy None (Some second)) h g = h
+spellable_item ts (Goal Satisfy (Some name) second) h g = h
+spellable_item ts (Goal Minimize None second) h g = h
+spellable_item ts (Goal Minimize (Some name) second) h g =
     let k = good_as ts (Word (codes "solve") ∷ Word (codes "minimize") ∷ h.0) h.1 g in
-    spellable_objective h.0 name h.2 k.1.1
-spellable_item ts (Goal Maximize None) h g = h
-spellable_item ts (Goal Maximize (Some name)) h g =
+    spellable_objectives h.0 name second h.2 k.1.1
+spellable_item ts (Goal Maximize None second) h g = h
+spellable_item ts (Goal Maximize (Some name) second) h g =
     let k = good_as ts (Word (codes "solve") ∷ Word (codes "maximize") ∷ h.0) h.1 g in
-    spellable_objective h.0 name h.2 k.1.1
+    spellable_objectives h.0 name second h.2 k.1.1
 
 spellable_items : (ts : List Token) (is : List Item) → Spells ts is → AllGood ts → AreSpellableItems is
 spellable_items ts [] h g = tt

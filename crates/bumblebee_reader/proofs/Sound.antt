@@ -1,5 +1,5 @@
 -- What is accepted is spelled by the grammar.
-use Rattle.std.proofs.Common.{◌≡◌, ◌≢◌, ℕ, Bool, true, false, cond, Some, None, List, [], ◌∷◌, ◌++◌, refl, sym, ap, subst, ◌∙◌, inl, inr, append_assoc, append-nil, pos, neg_ℤ}
+use Rattle.std.proofs.Common.{◌≡◌, ◌≢◌, ℕ, Bool, true, false, cond, Option, Some, None, List, [], ◌∷◌, ◌++◌, refl, sym, ap, subst, ◌∙◌, inl, inr, append_assoc, append-nil, pos, neg_ℤ}
 use Rattle.std.specs.Prelude.{codes}
 use Rattle.std.specs.Option.{option_map}
 use Rattle.std.specs.Str.{bytes_eq}
@@ -16,8 +16,8 @@ use Rattle.bumblebee_reader.specs.declared.syntax.GoalKind.TheVariants.{Satisfy,
 use Rattle.bumblebee_reader.specs.declared.lexeme.Sign.TheVariants.{OpenCall, CloseCall, OpenList, CloseList, Comma, Dash}
 use Rattle.bumblebee_reader.specs.Tokens.{Token, Word, Digits, Mark}
 use Rattle.bumblebee_reader.specs.Numeral.{number_of}
-use Rattle.bumblebee_reader.specs.Grammar.{SpellsTerm, SpellsTerms, SpellsMembers, SpellsArg, SpellsArgs, SpellsObjective, SpellsItem, Spells}
-use Rattle.bumblebee_reader.specs.Reading.{Go, Owner, InCall, InList, Place, AtItem, AtOpen, AtArg, BehindArg, AtFirst, AtTerm, BehindTerm, BehindDash, AtKind, AtObjective, AtInner, AtClose, move, begin_term, behind_term, is_solve, begin_goal}
+use Rattle.bumblebee_reader.specs.Grammar.{SpellsTerm, SpellsTerms, SpellsMembers, SpellsArg, SpellsArgs, SpellsObjective, SpellsSecond, SpellsItem, Spells}
+use Rattle.bumblebee_reader.specs.Reading.{Misfit, Go, Seeking, FirstOf, SecondOf, Owner, InCall, InList, Place, AtItem, AtOpen, AtArg, BehindArg, AtFirst, AtTerm, BehindTerm, BehindDash, AtKind, AtObjective, AtInner, AtClose, BehindObjective, move, begin_term, behind_term, behind_name, behind_item, is_solve, is_then, begin_goal}
 use Rattle.bumblebee_reader.proofs.Machine.{accepts, accept_turn, option_map_cons}
 
 -- terms behind another: nothing, or `,` and one term or more
@@ -102,24 +102,38 @@ record CompletesKind (ts : List Token) (items : List Item) : Type 0 where
   spelled : SpellsItem (Word (codes "solve") ∷ us) item
   ends : Ends item vs items
 
-record CompletesObjective (kind : GoalKind) (ts : List Token) (items : List Item) : Type 0 where
+-- the tokens complete a goal behind its first objective
+record CompletesBehindObjective (kind : GoalKind) (name : List ℕ) (ts : List Token) (items : List Item) : Type 0 where
+  second : Option (List ℕ)
+  us : List Token
+  vs : List Token
+  parts : ts ≡ us ++ vs
+  spelled : SpellsSecond us second
+  ends : Ends (Goal kind (Some name) second) vs items
+
+-- the tokens complete a goal behind an objective
+abbrev CompletesNamed : Seeking → List ℕ → List Token → List Item → Type 0
+CompletesNamed (FirstOf kind) name ts items = CompletesBehindObjective kind name ts items
+CompletesNamed (SecondOf kind first) name ts items = Ends (Goal kind (Some first) (Some name)) ts items
+
+record CompletesObjective (s : Seeking) (ts : List Token) (items : List Item) : Type 0 where
   name : List ℕ
   us : List Token
   vs : List Token
   parts : ts ≡ us ++ vs
   spelled : SpellsObjective us name
-  ends : Ends (Goal kind (Some name)) vs items
+  rest : CompletesNamed s name vs items
 
-record CompletesInner (kind : GoalKind) (ts : List Token) (items : List Item) : Type 0 where
+record CompletesInner (s : Seeking) (ts : List Token) (items : List Item) : Type 0 where
   name : List ℕ
   us : List Token
   parts : ts ≡ Word name ∷ Mark CloseCall ∷ us
-  ends : Ends (Goal kind (Some name)) us items
+  rest : CompletesNamed s name us items
 
-record CompletesClose (kind : GoalKind) (name : List ℕ) (ts : List Token) (items : List Item) : Type 0 where
+record CompletesClose (s : Seeking) (name : List ℕ) (ts : List Token) (items : List Item) : Type 0 where
   us : List Token
   parts : ts ≡ Mark CloseCall ∷ us
-  ends : Ends (Goal kind (Some name)) us items
+  rest : CompletesNamed s name us items
 
 abbrev Completes : Place → List Token → List Item → Type 0
 Completes AtItem ts items = Spells ts items
@@ -131,9 +145,10 @@ Completes (AtTerm name args terms) ts items = CompletesTerms name args terms ts 
 Completes (BehindTerm name args terms) ts items = CompletesBehindTerm name args terms ts items
 Completes (BehindDash owner) ts items = CompletesDash owner ts items
 Completes AtKind ts items = CompletesKind ts items
-Completes (AtObjective kind) ts items = CompletesObjective kind ts items
-Completes (AtInner kind) ts items = CompletesInner kind ts items
-Completes (AtClose kind name) ts items = CompletesClose kind name ts items
+Completes (AtObjective s) ts items = CompletesObjective s ts items
+Completes (AtInner s) ts items = CompletesInner s ts items
+Completes (AtClose s name) ts items = CompletesClose s name ts items
+Completes (BehindObjective kind name) ts items = CompletesBehindObjective kind name ts items
 
 some_is : (a b : List Item) → Some a ≡ Some b → a ≡ b
 some_is a b h = cc
@@ -250,20 +265,24 @@ ends_spell i us vs ts items parts spelled ends =
 differs : (name : List ℕ) → is_solve name ≡ false → name ≢ codes "solve"
 differs name e same = false≢true (sym e ∙ (bytes_eq-Decides name (codes "solve")).1 same)
 
-sound_name : (name : List ℕ) (b : Bool) → is_solve name ≡ b → (ts : List Token) (items : List Item) → accept_turn (cond b (Go AtKind) (Go (AtOpen name))) (λ q. accepts q ts) ≡ Some items → Rest ts → Spells (Word name ∷ ts) items
+differs_then : (name : List ℕ) → is_then name ≡ false → name ≢ codes "then"
+differs_then name e same = false≢true (sym e ∙ (bytes_eq-Decides name (codes "then")).1 same)
+
+sound_name : (name : List ℕ) (b t : Bool) → is_solve name ≡ b → is_then name ≡ t → (ts : List Token) (items : List Item) → accept_turn (cond b (Go AtKind) (cond t Misfit (Go (AtOpen name)))) (λ q. accepts q ts) ≡ Some items → Rest ts → Spells (Word name ∷ ts) items
 unfolding Rest
-sound_name name true e ts items h rest =
+sound_name name true t e et ts items h rest =
     let c = rest AtKind items h in
     let same = (bytes_eq-Decides name (codes "solve")).0 e in
     ends_spell c.item (Word (codes "solve") ∷ c.us) c.vs (Word name ∷ ts) items (ap (λ l. Word l ∷ ts) same ∙ ap (λ l. Word (codes "solve") ∷ l) c.parts) c.spelled c.ends
-sound_name name false e ts items h rest =
+sound_name name false true e et ts items h rest = cc
+sound_name name false false e et ts items h rest =
     let c = rest (AtOpen name) items h in
     let d = c.rest in
     let whole = c.parts ∙ ap (λ l. Mark OpenCall ∷ l) (d.parts ∙ sym (append_assoc d.us (Mark CloseCall ∷ []) d.vs)) in
-    ends_spell (Call name d.more) (Word name ∷ Mark OpenCall ∷ (d.us ++ Mark CloseCall ∷ [])) d.vs (Word name ∷ ts) items (ap (λ l. Word name ∷ l) whole) (differs name e, d.us, refl, d.spelled) d.ends
+    ends_spell (Call name d.more) (Word name ∷ Mark OpenCall ∷ (d.us ++ Mark CloseCall ∷ [])) d.vs (Word name ∷ ts) items (ap (λ l. Word name ∷ l) whole) (differs name e, differs_then name et, d.us, refl, d.spelled) d.ends
 
 sound_item : (t : Token) (ts : List Token) (items : List Item) → accept_turn (move AtItem t) (λ q. accepts q ts) ≡ Some items → Rest ts → Spells (t ∷ ts) items
-sound_item (Word name) ts items h rest = sound_name name (is_solve name) refl ts items h rest
+sound_item (Word name) ts items h rest = sound_name name (is_solve name) (is_then name) refl refl ts items h rest
 sound_item _ ts items h rest = cc
 
 sound_open : (name : List ℕ) (t : Token) (ts : List Token) (items : List Item) → accept_turn (move (AtOpen name) t) (λ q. accepts q ts) ≡ Some items → Rest ts → CompletesOpen name (t ∷ ts) items
@@ -378,32 +397,34 @@ sound_dash owner _ ts items h rest = cc
 sound_words : (word : List ℕ) (a b c : Bool) → bytes_eq word (codes "satisfy") ≡ a → bytes_eq word (codes "minimize") ≡ b → bytes_eq word (codes "maximize") ≡ c → (ts : List Token) (items : List Item) → accept_turn (begin_goal (cond a (Some Satisfy) (cond b (Some Minimize) (cond c (Some Maximize) None)))) (λ q. accepts q ts) ≡ Some items → Rest ts → CompletesKind (Word word ∷ ts) items
 unfolding Rest
 sound_words word true b c ea eb ec ts items h rest = record {
-  item = Goal Satisfy None;
+  item = Goal Satisfy None None;
   us = Word (codes "satisfy") ∷ [];
   vs = ts;
   parts = ap (λ l. Word l ∷ ts) ((bytes_eq-Decides word (codes "satisfy")).0 ea);
   spelled = refl;
-  ends = done (Goal Satisfy None) ts items h rest;
+  ends = done (Goal Satisfy None None) ts items h rest;
 }
 sound_words word false true c ea eb ec ts items h rest =
-    let d = rest (AtObjective Minimize) items h in
+    let d = rest (AtObjective (FirstOf Minimize)) items h in
+    let e = d.rest in
     record {
-      item = Goal Minimize (Some d.name);
-      us = Word (codes "minimize") ∷ d.us;
-      vs = d.vs;
-      parts = ap (λ l. Word l ∷ ts) ((bytes_eq-Decides word (codes "minimize")).0 eb) ∙ ap (λ l. Word (codes "minimize") ∷ l) d.parts;
-      spelled = (d.us, refl, d.spelled);
-      ends = d.ends;
+      item = Goal Minimize (Some d.name) e.second;
+      us = Word (codes "minimize") ∷ (d.us ++ e.us);
+      vs = e.vs;
+      parts = ap (λ l. Word l ∷ ts) ((bytes_eq-Decides word (codes "minimize")).0 eb) ∙ ap (λ l. Word (codes "minimize") ∷ l) (d.parts ∙ ap (λ l. d.us ++ l) e.parts ∙ sym (append_assoc d.us e.us e.vs));
+      spelled = (d.us ++ e.us, refl, (d.us, e.us, refl, d.spelled, e.spelled));
+      ends = e.ends;
     }
 sound_words word false false true ea eb ec ts items h rest =
-    let d = rest (AtObjective Maximize) items h in
+    let d = rest (AtObjective (FirstOf Maximize)) items h in
+    let e = d.rest in
     record {
-      item = Goal Maximize (Some d.name);
-      us = Word (codes "maximize") ∷ d.us;
-      vs = d.vs;
-      parts = ap (λ l. Word l ∷ ts) ((bytes_eq-Decides word (codes "maximize")).0 ec) ∙ ap (λ l. Word (codes "maximize") ∷ l) d.parts;
-      spelled = (d.us, refl, d.spelled);
-      ends = d.ends;
+      item = Goal Maximize (Some d.name) e.second;
+      us = Word (codes "maximize") ∷ (d.us ++ e.us);
+      vs = e.vs;
+      parts = ap (λ l. Word l ∷ ts) ((bytes_eq-Decides word (codes "maximize")).0 ec) ∙ ap (λ l. Word (codes "maximize") ∷ l) (d.parts ∙ ap (λ l. d.us ++ l) e.parts ∙ sym (append_assoc d.us e.us e.vs));
+      spelled = (d.us ++ e.us, refl, (d.us, e.us, refl, d.spelled, e.spelled));
+      ends = e.ends;
     }
 sound_words word false false false ea eb ec ts items h rest = cc
 
@@ -412,39 +433,80 @@ sound_kind (Word word) ts items h rest =
     sound_words word (bytes_eq word (codes "satisfy")) (bytes_eq word (codes "minimize")) (bytes_eq word (codes "maximize")) refl refl refl ts items h rest
 sound_kind _ ts items h rest = cc
 
-sound_objective : (kind : GoalKind) (t : Token) (ts : List Token) (items : List Item) → accept_turn (move (AtObjective kind) t) (λ q. accepts q ts) ≡ Some items → Rest ts → CompletesObjective kind (t ∷ ts) items
+-- behind an objective
+named_rest : (s : Seeking) (name : List ℕ) (ts : List Token) (items : List Item) → accept_turn (behind_name s name) (λ q. accepts q ts) ≡ Some items → Rest ts → CompletesNamed s name ts items
 unfolding Rest
-sound_objective kind (Word name) ts items h rest = record {
+named_rest (FirstOf kind) name ts items h rest = rest (BehindObjective kind name) items h
+named_rest (SecondOf kind first) name ts items h rest = done (Goal kind (Some first) (Some name)) ts items h rest
+
+sound_objective : (s : Seeking) (t : Token) (ts : List Token) (items : List Item) → accept_turn (move (AtObjective s) t) (λ q. accepts q ts) ≡ Some items → Rest ts → CompletesObjective s (t ∷ ts) items
+unfolding Rest
+sound_objective s (Word name) ts items h rest = record {
   name = name;
   us = Word name ∷ [];
   vs = ts;
   parts = refl;
   spelled = inl refl;
-  ends = done (Goal kind (Some name)) ts items h rest;
+  rest = named_rest s name ts items h rest;
 }
-sound_objective kind (Mark OpenCall) ts items h rest =
-    let c = rest (AtInner kind) items h in
+sound_objective s (Mark OpenCall) ts items h rest =
+    let c = rest (AtInner s) items h in
     record {
       name = c.name;
       us = Mark OpenCall ∷ Word c.name ∷ Mark CloseCall ∷ [];
       vs = c.us;
       parts = ap (λ l. Mark OpenCall ∷ l) c.parts;
       spelled = inr refl;
-      ends = c.ends;
+      rest = c.rest;
     }
-sound_objective kind _ ts items h rest = cc
+sound_objective s _ ts items h rest = cc
 
-sound_inner : (kind : GoalKind) (t : Token) (ts : List Token) (items : List Item) → accept_turn (move (AtInner kind) t) (λ q. accepts q ts) ≡ Some items → Rest ts → CompletesInner kind (t ∷ ts) items
+sound_inner : (s : Seeking) (t : Token) (ts : List Token) (items : List Item) → accept_turn (move (AtInner s) t) (λ q. accepts q ts) ≡ Some items → Rest ts → CompletesInner s (t ∷ ts) items
 unfolding Rest
-sound_inner kind (Word name) ts items h rest =
-    let c = rest (AtClose kind name) items h in
-    record { name = name; us = c.us; parts = ap (λ l. Word name ∷ l) c.parts; ends = c.ends }
-sound_inner kind _ ts items h rest = cc
+sound_inner s (Word name) ts items h rest =
+    let c = rest (AtClose s name) items h in
+    record { name = name; us = c.us; parts = ap (λ l. Word name ∷ l) c.parts; rest = c.rest }
+sound_inner s _ ts items h rest = cc
 
-sound_close : (kind : GoalKind) (name : List ℕ) (t : Token) (ts : List Token) (items : List Item) → accept_turn (move (AtClose kind name) t) (λ q. accepts q ts) ≡ Some items → Rest ts → CompletesClose kind name (t ∷ ts) items
-sound_close kind name (Mark CloseCall) ts items h rest =
-    record { us = ts; parts = refl; ends = done (Goal kind (Some name)) ts items h rest }
-sound_close kind name _ ts items h rest = cc
+sound_close : (s : Seeking) (name : List ℕ) (t : Token) (ts : List Token) (items : List Item) → accept_turn (move (AtClose s name) t) (λ q. accepts q ts) ≡ Some items → Rest ts → CompletesClose s name (t ∷ ts) items
+sound_close s name (Mark CloseCall) ts items h rest =
+    record { us = ts; parts = refl; rest = named_rest s name ts items h rest }
+sound_close s name _ ts items h rest = cc
+
+-- an item begins behind the first objective, which is the only one
+sound_next : (kind : GoalKind) (name word : List ℕ) (ts : List Token) (items is : List Item) → items ≡ Goal kind (Some name) None ∷ is → Spells (Word word ∷ ts) is → CompletesBehindObjective kind name (Word word ∷ ts) items
+sound_next kind name word ts items is e spelled = record {
+  second = None;
+  us = [];
+  vs = Word word ∷ ts;
+  parts = refl;
+  spelled = refl;
+  ends = record { behind = is; items_are = e; spelled = spelled };
+}
+
+sound_word : (kind : GoalKind) (name word : List ℕ) (b t : Bool) → is_solve word ≡ b → is_then word ≡ t → (ts : List Token) (items : List Item) → accept_turn (cond t (Go (AtObjective (SecondOf kind name))) (behind_item (Goal kind (Some name) None) (cond b (Go AtKind) (cond t Misfit (Go (AtOpen word)))))) (λ q. accepts q ts) ≡ Some items → Rest ts → CompletesBehindObjective kind name (Word word ∷ ts) items
+unfolding Rest
+sound_word kind name word b true e et ts items h rest =
+    let c = rest (AtObjective (SecondOf kind name)) items h in
+    record {
+      second = Some c.name;
+      us = Word (codes "then") ∷ c.us;
+      vs = c.vs;
+      parts = ap (λ l. Word l ∷ ts) ((bytes_eq-Decides word (codes "then")).0 et) ∙ ap (λ l. Word (codes "then") ∷ l) c.parts;
+      spelled = (c.us, refl, c.spelled);
+      ends = c.rest;
+    }
+sound_word kind name word true false e et ts items h rest =
+    let w = option_map_cons (Goal kind (Some name) None) (accepts AtKind ts) items h in
+    sound_next kind name word ts items w.0 w.2 (sound_name word true false e et ts w.0 w.1 rest)
+sound_word kind name word false false e et ts items h rest =
+    let w = option_map_cons (Goal kind (Some name) None) (accepts (AtOpen word) ts) items h in
+    sound_next kind name word ts items w.0 w.2 (sound_name word false false e et ts w.0 w.1 rest)
+
+sound_behind_objective : (kind : GoalKind) (name : List ℕ) (t : Token) (ts : List Token) (items : List Item) → accept_turn (move (BehindObjective kind name) t) (λ q. accepts q ts) ≡ Some items → Rest ts → CompletesBehindObjective kind name (t ∷ ts) items
+sound_behind_objective kind name (Word word) ts items h rest =
+    sound_word kind name word (is_solve word) (is_then word) refl refl ts items h rest
+sound_behind_objective kind name _ ts items h rest = cc
 
 sound_step : (p : Place) (t : Token) (ts : List Token) (items : List Item) → accept_turn (move p t) (λ q. accepts q ts) ≡ Some items → Rest ts → Completes p (t ∷ ts) items
 sound_step AtItem t ts items h rest = sound_item t ts items h rest
@@ -456,12 +518,21 @@ sound_step (AtTerm name args terms) t ts items h rest = sound_term (InList name 
 sound_step (BehindTerm name args terms) t ts items h rest = sound_behind_term name args terms t ts items h rest
 sound_step (BehindDash owner) t ts items h rest = sound_dash owner t ts items h rest
 sound_step AtKind t ts items h rest = sound_kind t ts items h rest
-sound_step (AtObjective kind) t ts items h rest = sound_objective kind t ts items h rest
-sound_step (AtInner kind) t ts items h rest = sound_inner kind t ts items h rest
-sound_step (AtClose kind name) t ts items h rest = sound_close kind name t ts items h rest
+sound_step (AtObjective s) t ts items h rest = sound_objective s t ts items h rest
+sound_step (AtInner s) t ts items h rest = sound_inner s t ts items h rest
+sound_step (AtClose s name) t ts items h rest = sound_close s name t ts items h rest
+sound_step (BehindObjective kind name) t ts items h rest = sound_behind_objective kind name t ts items h rest
 
 sound_end : (p : Place) (items : List Item) → accepts p [] ≡ Some items → Completes p [] items
 sound_end AtItem items h = subst (λ l. Spells [] l) (some_is [] items h) refl
+sound_end (BehindObjective kind name) items h = record {
+  second = None;
+  us = [];
+  vs = [];
+  parts = refl;
+  spelled = refl;
+  ends = record { behind = []; items_are = sym (some_is (Goal kind (Some name) None ∷ []) items h); spelled = refl };
+}
 sound_end _ items h = cc
 
 completes : (ts : List Token) (p : Place) (items : List Item) → accepts p ts ≡ Some items → Completes p ts items

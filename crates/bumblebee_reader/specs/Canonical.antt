@@ -1,6 +1,6 @@
 -- The canonical text of a syntax: one item a line, no gap but one blank between the words of a goal, no leading zero,
--- no `-0`, and the objective without parentheses.
-use Rattle.std.specs.Prelude.{ℕ, Some, None, List, [], ◌∷◌, ◌++◌, codes}
+-- no `-0`, and objectives without parentheses.
+use Rattle.std.specs.Prelude.{ℕ, Option, Some, None, List, [], ◌∷◌, ◌++◌, codes}
 use Rattle.std.specs.List.{flat_map}
 use Rattle.std.specs.Fmt.{signed_decimal}
 use Rattle.bumblebee_reader.specs.declared.syntax.Syntax.{Syntax}
@@ -45,10 +45,15 @@ kind_word Satisfy = codes "satisfy"
 kind_word Minimize = codes "minimize"
 kind_word Maximize = codes "maximize"
 
+-- a name behind these bytes, where there is one
+abbrev pub name_text : List ℕ → Option (List ℕ) → List ℕ
+name_text front None = []
+name_text front (Some name) = front ++ name
+
 abbrev pub item_text : Item → List ℕ
 item_text (Call name args) = name ++ (codes "(" ++ (args_text args ++ codes ")"))
-item_text (Goal kind None) = codes "solve " ++ kind_word kind
-item_text (Goal kind (Some name)) = codes "solve " ++ (kind_word kind ++ (codes " " ++ name))
+item_text (Goal kind objective second) =
+    codes "solve " ++ (kind_word kind ++ (name_text (codes " ") objective ++ name_text (codes " then ") second))
 
 -- an item on a line of its own
 abbrev pub item_line : Item → List ℕ

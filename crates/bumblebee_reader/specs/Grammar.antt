@@ -1,5 +1,5 @@
 -- The grammar of model texts: which tokens spell which items.
-use Rattle.std.specs.Prelude.{◌≡◌, ◌≢◌, ◌⊎◌, ℕ, false, Some, None, List, [], ◌∷◌, ◌++◌, pos, neg_ℤ, codes}
+use Rattle.std.specs.Prelude.{◌≡◌, ◌≢◌, ◌⊎◌, ℕ, false, Option, Some, None, List, [], ◌∷◌, ◌++◌, pos, neg_ℤ, codes}
 use Rattle.bumblebee_reader.specs.declared.syntax.Syntax.{Syntax}
 use Rattle.bumblebee_reader.specs.declared.syntax.Item.{Item}
 use Rattle.bumblebee_reader.specs.declared.syntax.Item.TheVariants.{Call, Goal}
@@ -48,19 +48,30 @@ SpellsArgs ts (a ∷ a' ∷ args) =
 abbrev pub SpellsObjective : List Token → List ℕ → Type 0
 SpellsObjective ts name = (ts ≡ Word name ∷ []) ⊎ (ts ≡ Mark OpenCall ∷ Word name ∷ Mark CloseCall ∷ [])
 
--- an item: a name other than `solve`, `(`, one argument or more separated by `,`, and `)`; or `solve satisfy`;
--- or `solve minimize` or `solve maximize` and the objective
+-- `then` and a second objective, where there is one
+abbrev pub SpellsSecond : List Token → Option (List ℕ) → Type 0
+SpellsSecond ts None = ts ≡ []
+SpellsSecond ts (Some second) = (us : List Token) × (ts ≡ Word (codes "then") ∷ us) × SpellsObjective us second
+
+-- an objective, and `then` and a second one where there is one
+abbrev pub SpellsObjectives : List Token → List ℕ → Option (List ℕ) → Type 0
+SpellsObjectives ts name second =
+    (us : List Token) × (vs : List Token) × (ts ≡ us ++ vs) × SpellsObjective us name × SpellsSecond vs second
+
+-- an item: a name other than `solve` and `then`, `(`, one argument or more separated by `,`, and `)`; or `solve satisfy`;
+-- or `solve minimize` or `solve maximize`, an objective, and then optionally `then` and another
 abbrev pub SpellsItem : List Token → Item → Type 0
 SpellsItem ts (Call name args) =
-    (name ≢ codes "solve") × (us : List Token) × (ts ≡ Word name ∷ Mark OpenCall ∷ (us ++ Mark CloseCall ∷ [])) × SpellsArgs us args
-SpellsItem ts (Goal Satisfy None) = ts ≡ Word (codes "solve") ∷ Word (codes "satisfy") ∷ []
-SpellsItem ts (Goal Satisfy (Some name)) = ⊥
-SpellsItem ts (Goal Minimize None) = ⊥
-SpellsItem ts (Goal Minimize (Some name)) =
-    (us : List Token) × (ts ≡ Word (codes "solve") ∷ Word (codes "minimize") ∷ us) × SpellsObjective us name
-SpellsItem ts (Goal Maximize None) = ⊥
-SpellsItem ts (Goal Maximize (Some name)) =
-    (us : List Token) × (ts ≡ Word (codes "solve") ∷ Word (codes "maximize") ∷ us) × SpellsObjective us name
+    (name ≢ codes "solve") × (name ≢ codes "then") × (us : List Token) × (ts ≡ Word name ∷ Mark OpenCall ∷ (us ++ Mark CloseCall ∷ [])) × SpellsArgs us args
+SpellsItem ts (Goal Satisfy None None) = ts ≡ Word (codes "solve") ∷ Word (codes "satisfy") ∷ []
+SpellsItem ts (Goal Satisfy None (Some second)) = ⊥
+SpellsItem ts (Goal Satisfy (Some name) second) = ⊥
+SpellsItem ts (Goal Minimize None second) = ⊥
+SpellsItem ts (Goal Minimize (Some name) second) =
+    (us : List Token) × (ts ≡ Word (codes "solve") ∷ Word (codes "minimize") ∷ us) × SpellsObjectives us name second
+SpellsItem ts (Goal Maximize None second) = ⊥
+SpellsItem ts (Goal Maximize (Some name) second) =
+    (us : List Token) × (ts ≡ Word (codes "solve") ∷ Word (codes "maximize") ∷ us) × SpellsObjectives us name second
 
 -- any number of items
 abbrev pub Spells : List Token → List Item → Type 0

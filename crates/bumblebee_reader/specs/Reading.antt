@@ -20,6 +20,11 @@ pub data Owner : Type 0 where
   InCall : (name : List ℕ) (args : List Arg) → Owner
   InList : (name : List ℕ) (args : List Arg) (terms : List Term) → Owner
 
+-- which objective is read: the first of a goal of this kind, or the second behind the name of the first
+pub data Seeking : Type 0 where
+  FirstOf : (kind : GoalKind) → Seeking
+  SecondOf : (kind : GoalKind) (first : List ℕ) → Seeking
+
 -- what may come next
 pub data Place : Type 0 where
   AtItem : Place
@@ -31,15 +36,16 @@ pub data Place : Type 0 where
   BehindTerm : (name : List ℕ) (args : List Arg) (terms : List Term) → Place
   BehindDash : (owner : Owner) → Place
   AtKind : Place
-  AtObjective : (kind : GoalKind) → Place
-  AtInner : (kind : GoalKind) → Place
-  AtClose : (kind : GoalKind) (name : List ℕ) → Place
+  AtObjective : (seeking : Seeking) → Place
+  AtInner : (seeking : Seeking) → Place
+  AtClose : (seeking : Seeking) (name : List ℕ) → Place
+  BehindObjective : (kind : GoalKind) (name : List ℕ) → Place
 
--- what a token does: it fits nowhere, the reading goes on, or an item is whole
+-- what a token does: it fits nowhere, the reading goes on, or an item is whole and the reading goes on
 pub data Move : Type 0 where
   Misfit : Move
   Go : (place : Place) → Move
-  Done : (item : Item) → Move
+  Done : (item : Item) (place : Place) → Move
 
 abbrev pub behind_term : Owner → Term → Place
 behind_term (InCall name args) t = BehindArg name (args ++ One t ∷ [])
@@ -67,9 +73,18 @@ end_term owner Stray = Misfit
 abbrev pub is_solve : List ℕ → Bool
 is_solve name = bytes_eq name (codes "solve")
 
+abbrev pub is_then : List ℕ → Bool
+is_then name = bytes_eq name (codes "then")
+
 -- an item begins with a name
 abbrev pub begin_item : List ℕ → Move
-begin_item name = if is_solve name then Go AtKind else Go (AtOpen name)
+begin_item name = if is_solve name then Go AtKind else (if is_then name then Misfit else Go (AtOpen name))
+
+-- an item is whole before the token that makes this move, by which no other item is whole
+abbrev pub behind_item : Item → Move → Move
+behind_item i Misfit = Misfit
+behind_item i (Go place) = Done i place
+behind_item i (Done j place) = Misfit
 
 -- the kind of goal that a word names
 abbrev pub goal_kind : List ℕ → Option GoalKind
@@ -79,9 +94,14 @@ goal_kind word =
 -- a goal goes on behind its kind
 abbrev pub begin_goal : Option GoalKind → Move
 begin_goal None = Misfit
-begin_goal (Some Satisfy) = Done (Goal Satisfy None)
-begin_goal (Some Minimize) = Go (AtObjective Minimize)
-begin_goal (Some Maximize) = Go (AtObjective Maximize)
+begin_goal (Some Satisfy) = Done (Goal Satisfy None None) AtItem
+begin_goal (Some Minimize) = Go (AtObjective (FirstOf Minimize))
+begin_goal (Some Maximize) = Go (AtObjective (FirstOf Maximize))
+
+-- an objective is read: `then` or another item comes behind the first, and the goal is whole with the second
+abbrev pub behind_name : Seeking → List ℕ → Move
+behind_name (FirstOf kind) name = Go (BehindObjective kind name)
+behind_name (SecondOf kind first) name = Done (Goal kind (Some first) (Some name)) AtItem
 
 abbrev pub at_item : Token → Move
 at_item (Word name) = begin_item name
@@ -115,7 +135,7 @@ abbrev pub behind_arg : List ℕ → List Arg → Token → Move
 behind_arg name args (Word word) = Misfit
 behind_arg name args (Digits digits) = Misfit
 behind_arg name args (Mark OpenCall) = Misfit
-behind_arg name args (Mark CloseCall) = Done (Call name args)
+behind_arg name args (Mark CloseCall) = Done (Call name args) AtItem
 behind_arg name args (Mark OpenList) = Misfit
 behind_arg name args (Mark CloseList) = Misfit
 behind_arg name args (Mark Comma) = Go (AtArg name args)
@@ -150,33 +170,40 @@ at_kind (Digits digits) = Misfit
 at_kind (Mark sign) = Misfit
 at_kind Stray = Misfit
 
-abbrev pub at_objective : GoalKind → Token → Move
-at_objective kind (Word name) = Done (Goal kind (Some name))
-at_objective kind (Digits digits) = Misfit
-at_objective kind (Mark OpenCall) = Go (AtInner kind)
-at_objective kind (Mark CloseCall) = Misfit
-at_objective kind (Mark OpenList) = Misfit
-at_objective kind (Mark CloseList) = Misfit
-at_objective kind (Mark Comma) = Misfit
-at_objective kind (Mark Dash) = Misfit
-at_objective kind Stray = Misfit
+abbrev pub at_objective : Seeking → Token → Move
+at_objective seeking (Word name) = behind_name seeking name
+at_objective seeking (Digits digits) = Misfit
+at_objective seeking (Mark OpenCall) = Go (AtInner seeking)
+at_objective seeking (Mark CloseCall) = Misfit
+at_objective seeking (Mark OpenList) = Misfit
+at_objective seeking (Mark CloseList) = Misfit
+at_objective seeking (Mark Comma) = Misfit
+at_objective seeking (Mark Dash) = Misfit
+at_objective seeking Stray = Misfit
 
-abbrev pub at_inner : GoalKind → Token → Move
-at_inner kind (Word name) = Go (AtClose kind name)
-at_inner kind (Digits digits) = Misfit
-at_inner kind (Mark sign) = Misfit
-at_inner kind Stray = Misfit
+abbrev pub at_inner : Seeking → Token → Move
+at_inner seeking (Word name) = Go (AtClose seeking name)
+at_inner seeking (Digits digits) = Misfit
+at_inner seeking (Mark sign) = Misfit
+at_inner seeking Stray = Misfit
 
-abbrev pub at_close : GoalKind → List ℕ → Token → Move
-at_close kind name (Word word) = Misfit
-at_close kind name (Digits digits) = Misfit
-at_close kind name (Mark OpenCall) = Misfit
-at_close kind name (Mark CloseCall) = Done (Goal kind (Some name))
-at_close kind name (Mark OpenList) = Misfit
-at_close kind name (Mark CloseList) = Misfit
-at_close kind name (Mark Comma) = Misfit
-at_close kind name (Mark Dash) = Misfit
-at_close kind name Stray = Misfit
+abbrev pub at_close : Seeking → List ℕ → Token → Move
+at_close seeking name (Word word) = Misfit
+at_close seeking name (Digits digits) = Misfit
+at_close seeking name (Mark OpenCall) = Misfit
+at_close seeking name (Mark CloseCall) = behind_name seeking name
+at_close seeking name (Mark OpenList) = Misfit
+at_close seeking name (Mark CloseList) = Misfit
+at_close seeking name (Mark Comma) = Misfit
+at_close seeking name (Mark Dash) = Misfit
+at_close seeking name Stray = Misfit
+
+-- `then` goes on with a second objective; else the goal is whole, and the next item begins
+abbrev pub behind_objective : GoalKind → List ℕ → Token → Move
+behind_objective kind name (Word word) = if is_then word then Go (AtObjective (SecondOf kind name)) else behind_item (Goal kind (Some name) None) (begin_item word)
+behind_objective kind name (Digits digits) = Misfit
+behind_objective kind name (Mark sign) = Misfit
+behind_objective kind name Stray = Misfit
 
 -- what a token does at a place
 abbrev pub move : Place → Token → Move
@@ -189,9 +216,10 @@ move (AtTerm name args terms) t = begin_term (InList name args terms) t
 move (BehindTerm name args terms) t = behind_member name args terms t
 move (BehindDash owner) t = end_term owner t
 move AtKind t = at_kind t
-move (AtObjective kind) t = at_objective kind t
-move (AtInner kind) t = at_inner kind t
-move (AtClose kind name) t = at_close kind name t
+move (AtObjective seeking) t = at_objective seeking t
+move (AtInner seeking) t = at_inner seeking t
+move (AtClose seeking name) t = at_close seeking name t
+move (BehindObjective kind name) t = behind_objective kind name t
 
 -- what was read: the items, or the fault
 abbrev pub Outcome : Type 0
@@ -209,7 +237,7 @@ bounded t o = if is_too_great t.token then Err (fault.Number t.line) else o
 abbrev pub turn : Move → TokenAt → (Place → Outcome) → Outcome
 turn Misfit t next = Err (fault.Syntax t.line)
 turn (Go place) t next = bounded t (next place)
-turn (Done item) t next = bounded t (with_item item (next AtItem))
+turn (Done item place) t next = bounded t (with_item item (next place))
 
 -- the text ends at a place, on this line
 abbrev pub ended : Place → ℕ → Outcome
@@ -222,9 +250,10 @@ ended (AtTerm name args terms) line = Err (fault.Syntax line)
 ended (BehindTerm name args terms) line = Err (fault.Syntax line)
 ended (BehindDash owner) line = Err (fault.Syntax line)
 ended AtKind line = Err (fault.Syntax line)
-ended (AtObjective kind) line = Err (fault.Syntax line)
-ended (AtInner kind) line = Err (fault.Syntax line)
-ended (AtClose kind name) line = Err (fault.Syntax line)
+ended (AtObjective seeking) line = Err (fault.Syntax line)
+ended (AtInner seeking) line = Err (fault.Syntax line)
+ended (AtClose seeking name) line = Err (fault.Syntax line)
+ended (BehindObjective kind name) line = Ok (Goal kind (Some name) None ∷ [])
 
 -- what tokens give from a place, where the text ends on the line `end`
 abbrev pub run : Place → ℕ → List TokenAt → Outcome
@@ -257,6 +286,10 @@ term_taken owner (Some t) line bytes = turn_at (begin_term owner t) t line bytes
 abbrev pub with_items : List Item → Outcome → Outcome
 with_items before (Ok is) = Ok (before ++ is)
 with_items before (Err f) = Err f
+
+abbrev pub is_then_word : Option Token → Bool
+is_then_word (Some (Word word)) = is_then word
+is_then_word _ = false
 
 abbrev pub is_open_list : Option Token → Bool
 is_open_list (Some (Mark OpenList)) = true

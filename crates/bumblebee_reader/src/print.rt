@@ -3,7 +3,7 @@
 ghost use Rattle.std.specs.Prelude.{◌≡◌, ◌++◌, IfOk, OnOk};
 ghost use Rattle.bumblebee_reader.specs.declared.syntax.Item.TheVariants.{Call, Goal};
 ghost use Rattle.bumblebee_reader.specs.declared.syntax.Arg.TheVariants.{Many};
-ghost use Rattle.bumblebee_reader.specs.Canonical.{canonical, item_line, args_text, arg_text, terms_text, term_text, kind_word};
+ghost use Rattle.bumblebee_reader.specs.Canonical.{canonical, item_line, name_text, args_text, arg_text, terms_text, term_text, kind_word};
 
 use crate::name::Name;
 use crate::syntax::{Arg, GoalKind, Item, Syntax, Term};
@@ -11,7 +11,7 @@ use bee_text::push_signed;
 use std::alloc::{AllocError, Global};
 
 /// The canonical text: one item a line, no gap but one blank between the words of a goal, no leading zero,
-/// no `-0`, and the objective without parentheses. Read again, it gives the same syntax, where some text
+/// no `-0`, and objectives without parentheses. Read again, it gives the same syntax, where some text
 /// has that syntax.
 pub fn print_model(alloc: Global, syntax: &Syntax) -> Result<Vec<u8>, AllocError>
     ensures { IfOk result (λ text. text.items ≡ canonical syntax.now) }
@@ -28,7 +28,11 @@ fn push_item(out: &mut Vec<u8>, item: &Item) -> Result<(), AllocError>
 {
     match item {
         Item::Call { name, args } => push_call(out, name, args.as_slice()),
-        Item::Goal { kind, objective } => push_goal(out, *kind, objective),
+        Item::Goal {
+            kind,
+            objective,
+            second,
+        } => push_goal(out, *kind, objective, second),
     }
 }
 
@@ -41,16 +45,32 @@ fn push_call(out: &mut Vec<u8>, name: &Name, args: &[Arg]) -> Result<(), AllocEr
     out.extend_from_slice(b")\n")
 }
 
-fn push_goal(out: &mut Vec<u8>, kind: GoalKind, objective: &Option<Name>) -> Result<(), AllocError>
-    ensures { OnOk result (out.new.items ≡ out.old.items ++ item_line (Goal kind objective.now)) }
+fn push_goal(
+    out: &mut Vec<u8>,
+    kind: GoalKind,
+    objective: &Option<Name>,
+    second: &Option<Name>,
+) -> Result<(), AllocError>
+    ensures { OnOk result (out.new.items ≡ out.old.items ++ item_line (Goal kind objective.now second.now)) }
 {
     out.extend_from_slice(b"solve ")?;
     out.extend_from_slice(kind_word(kind))?;
-    if let Some(name) = objective {
-        out.extend_from_slice(b" ")?;
-        out.extend_from_slice(name.as_bytes())?;
-    }
+    push_name(out, b" ", objective)?;
+    push_name(out, b" then ", second)?;
     out.extend_from_slice(b"\n")
+}
+
+/// Adds a name behind these bytes, where there is one.
+fn push_name(out: &mut Vec<u8>, front: &[u8], name: &Option<Name>) -> Result<(), AllocError>
+    ensures { OnOk result (out.new.items ≡ out.old.items ++ name_text front.now name.now) }
+{
+    match name {
+        Some(name) => {
+            out.extend_from_slice(front)?;
+            out.extend_from_slice(name.as_bytes())
+        }
+        None => Ok(()),
+    }
 }
 
 fn kind_word(kind: GoalKind) -> &'static [u8]

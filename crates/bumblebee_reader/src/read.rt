@@ -6,7 +6,7 @@ ghost use Rattle.bumblebee_reader.specs.declared.syntax.Arg.{Arg};
 ghost use Rattle.bumblebee_reader.specs.declared.syntax.Arg.TheVariants.{Many};
 ghost use Rattle.bumblebee_reader.specs.declared.syntax.Item.TheVariants.{Call, Goal};
 ghost use Rattle.bumblebee_reader.specs.declared.syntax.GoalKind.{GoalKind};
-ghost use Rattle.bumblebee_reader.specs.Reading.{AtItem, AtOpen, AtArg, BehindArg, AtFirst, AtKind, AtObjective, AtInner, BehindDash, Owner, Place, behind_term, at_item, taken, term_taken, turn_at, reading, with_item, Gives, is_open_list, is_close_list};
+ghost use Rattle.bumblebee_reader.specs.Reading.{AtItem, AtOpen, AtArg, BehindArg, AtFirst, AtKind, AtObjective, AtInner, BehindDash, BehindObjective, FirstOf, SecondOf, Owner, Place, behind_term, at_item, taken, term_taken, turn_at, reading, with_item, Gives, is_then_word, is_open_list, is_close_list};
 ghost use Rattle.bumblebee_reader.specs.Unread.{next_before};
 
 use crate::fault::ReadFault;
@@ -15,7 +15,7 @@ use crate::name::Name;
 use crate::numeral::read_number;
 use crate::syntax::{Arg, GoalKind, Item, Term};
 use crate::tokens::Tokens;
-use crate::words::{goal_kind, is_solve, own_name};
+use crate::words::{goal_kind, is_solve, is_then, own_name};
 use bee_list::Sequence;
 use std::alloc::Global;
 
@@ -40,10 +40,12 @@ fn read_item(alloc: Global, tokens: &mut Tokens<'_>, first: Lexeme<'_>) -> Resul
     match first {
         Lexeme::Word(name) => {
             if is_solve(name) {
-                read_goal(alloc, tokens)
-            } else {
-                read_call(alloc, tokens, name)
+                return read_goal(alloc, tokens);
             }
+            if is_then(name) {
+                return Err(misfit(tokens));
+            }
+            read_call(alloc, tokens, name)
         }
         _ => Err(misfit(tokens)),
     }
@@ -63,18 +65,63 @@ fn read_goal(alloc: Global, tokens: &mut Tokens<'_>) -> Result<Item, ReadFault>
         Some(GoalKind::Satisfy) => Ok(Item::Goal {
             kind: GoalKind::Satisfy,
             objective: None,
+            second: None,
         }),
-        Some(kind) => Ok(Item::Goal {
-            kind,
-            objective: Some(read_objective(alloc, tokens)?),
-        }),
+        Some(kind) => read_objectives(alloc, tokens, kind),
     }
 }
 
-/// The objective behind `minimize` or `maximize`.
+/// The objectives of a goal of this kind.
+fn read_objectives(
+    alloc: Global,
+    tokens: &mut Tokens<'_>,
+    kind: GoalKind,
+) -> Result<Item, ReadFault>
+    ensures read { Gives result (reading (AtObjective (FirstOf kind)) tokens.old.line tokens.old.rest.now)
+        (λ item. with_item item (reading AtItem tokens.new.line tokens.new.rest.now)) }
+    ensures not_longer { length tokens.new.rest.now ≤ length tokens.old.rest.now }
+{
+    let first = read_objective(alloc, tokens)?;
+    read_second(alloc, tokens, kind, first)
+}
+
+/// The goal whose first objective was read: with a second one, where `then` comes next. Where another token comes
+/// next, it isn't taken.
+#[tactic(auto, using(crate::proofs::Parse::next_item_behind))]
+fn read_second(
+    alloc: Global,
+    tokens: &mut Tokens<'_>,
+    kind: GoalKind,
+    first: Name,
+) -> Result<Item, ReadFault>
+    ensures read { Gives result (reading (BehindObjective kind first) tokens.old.line tokens.old.rest.now)
+        (λ item. with_item item (reading AtItem tokens.new.line tokens.new.rest.now)) }
+    ensures not_longer { length tokens.new.rest.now ≤ length tokens.old.rest.now }
+{
+    let mut ahead = *tokens;
+    let next = take(&mut ahead);
+    if !is_then_word(next) {
+        return Ok(Item::Goal {
+            kind,
+            objective: Some(first),
+            second: None,
+        });
+    }
+    *tokens = ahead;
+    let second = read_objective(alloc, tokens)?;
+    Ok(Item::Goal {
+        kind,
+        objective: Some(first),
+        second: Some(second),
+    })
+}
+
+/// The objective behind `minimize`, `maximize` or `then`.
 fn read_objective(alloc: Global, tokens: &mut Tokens<'_>) -> Result<Name, ReadFault>
-    ensures read { (kind : GoalKind) → Gives result (reading (AtObjective kind) tokens.old.line tokens.old.rest.now)
-        (λ name. with_item (Goal kind (Some name)) (reading AtItem tokens.new.line tokens.new.rest.now)) }
+    ensures first { (kind : GoalKind) → Gives result (reading (AtObjective (FirstOf kind)) tokens.old.line tokens.old.rest.now)
+        (λ name. reading (BehindObjective kind name) tokens.new.line tokens.new.rest.now) }
+    ensures second { (kind : GoalKind) (first : List ℕ) → Gives result (reading (AtObjective (SecondOf kind first)) tokens.old.line tokens.old.rest.now)
+        (λ name. with_item (Goal kind (Some first) (Some name)) (reading AtItem tokens.new.line tokens.new.rest.now)) }
     ensures not_longer { length tokens.new.rest.now ≤ length tokens.old.rest.now }
 {
     match take(tokens) {
@@ -86,8 +133,10 @@ fn read_objective(alloc: Global, tokens: &mut Tokens<'_>) -> Result<Name, ReadFa
 
 /// The objective behind an opening parenthesis, and the closing one.
 fn read_inner(alloc: Global, tokens: &mut Tokens<'_>) -> Result<Name, ReadFault>
-    ensures read { (kind : GoalKind) → Gives result (reading (AtInner kind) tokens.old.line tokens.old.rest.now)
-        (λ name. with_item (Goal kind (Some name)) (reading AtItem tokens.new.line tokens.new.rest.now)) }
+    ensures first { (kind : GoalKind) → Gives result (reading (AtInner (FirstOf kind)) tokens.old.line tokens.old.rest.now)
+        (λ name. reading (BehindObjective kind name) tokens.new.line tokens.new.rest.now) }
+    ensures second { (kind : GoalKind) (first : List ℕ) → Gives result (reading (AtInner (SecondOf kind first)) tokens.old.line tokens.old.rest.now)
+        (λ name. with_item (Goal kind (Some first) (Some name)) (reading AtItem tokens.new.line tokens.new.rest.now)) }
     ensures not_longer { length tokens.new.rest.now ≤ length tokens.old.rest.now }
 {
     let Some(Lexeme::Word(name)) = take(tokens) else {
@@ -201,6 +250,16 @@ fn read_negated(alloc: Global, tokens: &mut Tokens<'_>) -> Result<Term, ReadFaul
             Ok(Term::Number(-i64::from(number)))
         }
         _ => Err(misfit(tokens)),
+    }
+}
+
+/// Whether a token is the word `then`.
+fn is_then_word(token: Option<Lexeme<'_>>) -> bool
+    ensures { result ≡ is_then_word (option_map token_of token.entry) }
+{
+    match token {
+        Some(Lexeme::Word(word)) => is_then(word),
+        _ => false,
     }
 }
 

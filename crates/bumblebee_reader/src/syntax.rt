@@ -13,7 +13,7 @@ pub struct Syntax {
 /// One item of a text.
 #[derive(Debug, Clone, Drop)]
 pub enum Item {
-    /// A name other than `solve` with one or more arguments in parentheses: a declaration or a statement.
+    /// A name other than `solve` and `then` with one or more arguments in parentheses: a declaration or a statement.
     Call {
         /// The name before the parentheses.
         name: Name,
@@ -26,6 +26,8 @@ pub enum Item {
         kind: GoalKind,
         /// The name behind `minimize` or `maximize`; none behind `satisfy`.
         objective: Option<Name>,
+        /// The name behind `then`, which decides among the best by the first; none where there is no `then`.
+        second: Option<Name>,
     },
 }
 
@@ -54,8 +56,8 @@ pub enum Term {
 pub enum GoalKind {
     /// Any solution.
     Satisfy,
-    /// A solution with the least value of the objective.
+    /// A solution with the least values of the objectives.
     Minimize,
-    /// A solution with the greatest value of the objective.
+    /// A solution with the greatest values of the objectives.
     Maximize,
 }

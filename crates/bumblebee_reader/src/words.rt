@@ -2,7 +2,7 @@
 
 ghost use Rattle.std.specs.Prelude.{◌≡◌, IfOk};
 ghost use Rattle.std.specs.Str.{bytes_eq};
-ghost use Rattle.bumblebee_reader.specs.Reading.{is_solve, goal_kind};
+ghost use Rattle.bumblebee_reader.specs.Reading.{is_solve, is_then, goal_kind};
 
 use crate::name::Name;
 use crate::syntax::GoalKind;
@@ -20,6 +20,13 @@ pub fn is_solve(name: &[u8]) -> bool
     ensures { result ≡ is_solve name.now }
 {
     is_word(name, b"solve")
+}
+
+/// Whether a name is the word that stands before a second objective.
+pub fn is_then(name: &[u8]) -> bool
+    ensures { result ≡ is_then name.now }
+{
+    is_word(name, b"then")
 }
 
 /// The kind of goal that a word names.

@@ -1,12 +1,12 @@
 //! What small models are compiled to, worked out by hand: by all rules, and by none.
 
 ghost use Rattle.std.specs.Prelude.{◌≡◌, ◌<◌};
-ghost use Rattle.typed_model.specs.WellTyped.{WellTyped};
-ghost use Rattle.typed_model.specs.Limits.{InLimits};
+ghost use Rattle.model_meaning.specs.WellTyped.{WellTyped};
+ghost use Rattle.model_meaning.specs.Limits.{InLimits};
 
 use bee_compile::{Compiled, compile};
 use bumblebee_reader::read_model;
-use fixpoint_queue::{Oracle, Silent, TableP};
+use fixpoint_queue::{Silent, TableP};
 use ledger_text::write_step;
 use model_lower::LowerFault;
 use order_ints::Lit;
@@ -115,12 +115,19 @@ fn show(alloc: Global, compiled: &Compiled) -> Result<Vec<u8>, AllocError> {
     Ok(text)
 }
 
+/// Who is asked.
+#[derive(Clone, Copy, Debug)]
+enum Asked {
+    AllRules,
+    Silence,
+}
+
 /// What a model is compiled to, with a counter of its own.
-fn compile_with<L: Ledger, F: Oracle>(
+fn compile_with<L: Ledger>(
     alloc: Global,
     blank: Blank,
     model: Model,
-    oracle: F,
+    asked: Asked,
 ) -> Result<Compiled, LowerFault>
     requires typed { WellTyped model }
     requires limits { InLimits model }
@@ -129,11 +136,14 @@ fn compile_with<L: Ledger, F: Oracle>(
     requires some { 0 < L.parts }
 {
     let mut steps = Steps::<L>::open(blank);
-    compile(alloc, model, oracle, &mut steps)
+    match asked {
+        Asked::AllRules => compile(alloc, model, TableP, &mut steps),
+        Asked::Silence => compile(alloc, model, Silent, &mut steps),
+    }
 }
 
 /// What a text is compiled to, or why it isn't.
-fn compiled<F: Oracle>(alloc: Global, text: &str, oracle: F) -> Result<Vec<u8>, AllocError> {
+fn compiled(alloc: Global, text: &str, asked: Asked) -> Result<Vec<u8>, AllocError> {
     let Ok(syntax) = read_model(alloc, text.as_bytes()) else {
         return Vec::from_slice(alloc, b"no text");
     };
@@ -143,7 +153,7 @@ fn compiled<F: Oracle>(alloc: Global, text: &str, oracle: F) -> Result<Vec<u8>, 
     if !in_limits(&model) {
         return Vec::from_slice(alloc, b"too great a numeral");
     }
-    match compile_with::<Brand, F>(alloc, Blank::new(1), model, oracle) {
+    match compile_with::<Brand>(alloc, Blank::new(1), model, asked) {
         Ok(compiled) => show(alloc, &compiled),
         Err(fault) => {
             let told = format!(in alloc; "{fault}")?;
@@ -153,14 +163,9 @@ fn compiled<F: Oracle>(alloc: Global, text: &str, oracle: F) -> Result<Vec<u8>, 
 }
 
 /// Asserts the rows.
-fn check<F: Oracle>(
-    rt: &impl Abort,
-    alloc: Global,
-    oracle: F,
-    rows: &[Row],
-) -> Result<(), AllocError> {
+fn check(rt: &impl Abort, alloc: Global, asked: Asked, rows: &[Row]) -> Result<(), AllocError> {
     for (text, wanted) in rows {
-        let found = compiled(alloc, text, oracle)?;
+        let found = compiled(alloc, text, asked)?;
         assert_eq!(rt; found.as_slice(), wanted.as_bytes(), "{text}");
     }
     Ok(())
@@ -168,10 +173,10 @@ fn check<F: Oracle>(
 
 #[test]
 fn models_are_compiled_by_all_rules(rt: HostRuntime) -> Result<(), AllocError> {
-    check(&rt, rt.alloc(), TableP, &BY_ALL_RULES)
+    check(&rt, rt.alloc(), Asked::AllRules, &BY_ALL_RULES)
 }
 
 #[test]
 fn models_are_compiled_by_no_rule(rt: HostRuntime) -> Result<(), AllocError> {
-    check(&rt, rt.alloc(), Silent, &BY_NO_RULE)
+    check(&rt, rt.alloc(), Asked::Silence, &BY_NO_RULE)
 }

@@ -4,46 +4,22 @@ ghost use Rattle.std.specs.Prelude.{◌≡◌, ◌++◌, ◌∷◌, [], map, IfO
 ghost use Rattle.bee_text.specs.Lines.{join_lines};
 ghost use Rattle.order_ints.specs.Truth.{valuation_of};
 ghost use Rattle.order_ints.specs.Numbers.{number_of};
-ghost use Rattle.dimacs_out.specs.ValueLines.{number_word, value_line, values_text, IsBoundedValue, AreBounded};
+ghost use Rattle.name_map.specs.Values.{IsBoundedValue};
+ghost use Rattle.dimacs_out.specs.ValueLines.{number_line, values_text, AreBounded};
 
 use crate::entry::MapEntry;
-use bee_text::{end_line, push_bytes, push_signed};
-use order_ints::{Atom, MapValue};
+use bee_text::end_line;
+use name_map::{is_boolean, number_under, push_value_line};
 use std::alloc::{AllocError, Global};
 
-/// Writes the truth value of an atom.
-fn push_truth(out: &mut Vec<u8>, atom: Atom, values: &[bool]) -> Result<(), AllocError>
-    ensures { OnOk result (out.new.items ≡ out.old.items
-        ++ number_word (MapValue.Bool atom) (number_of (valuation_of values.now) (MapValue.Bool atom))) }
-{
-    if atom.holds(values) {
-        push_bytes(out, b"true")
-    } else {
-        push_bytes(out, b"false")
-    }
-}
-
-/// Writes what a name has under values.
-fn push_value(out: &mut Vec<u8>, value: &MapValue, values: &[bool]) -> Result<(), AllocError>
-    requires { IsBoundedValue value.now }
-    ensures { OnOk result (out.new.items ≡ out.old.items
-        ++ number_word value.now (number_of (valuation_of values.now) value.now)) }
-{
-    match value {
-        MapValue::Bool(atom) => push_truth(out, *atom, values),
-        MapValue::Int(integer) => push_signed(out, integer.value(values)),
-    }
-}
-
 /// Writes the line of a name, and its line feed.
-fn push_value_line(out: &mut Vec<u8>, entry: &MapEntry, values: &[bool]) -> Result<(), AllocError>
+fn push_number_line(out: &mut Vec<u8>, entry: &MapEntry, values: &[bool]) -> Result<(), AllocError>
     requires { IsBoundedValue entry.now.value }
     ensures { OnOk result (out.new.items ≡ out.old.items
-        ++ value_line entry.now (number_of (valuation_of values.now) entry.now.value) ++ 10 ∷ []) }
+        ++ number_line entry.now (number_of (valuation_of values.now) entry.now.value) ++ 10 ∷ []) }
 {
-    push_bytes(out, entry.name.as_bytes())?;
-    push_bytes(out, b" = ")?;
-    push_value(out, &entry.value, values)?;
+    let number = number_under(&entry.value, values);
+    push_value_line(out, entry.name.as_bytes(), is_boolean(&entry.value), number)?;
     end_line(out)
 }
 
@@ -59,7 +35,7 @@ pub fn write_values(
 {
     let mut out = Vec::new(alloc);
     for entry in entries {
-        push_value_line(&mut out, entry, values)?;
+        push_number_line(&mut out, entry, values)?;
     }
     Ok(out)
 }

@@ -10,8 +10,8 @@ use Rattle.dimacs_read.specs.Values.{NextValues, AreTold, nothing_told, IsValues
 use Rattle.dimacs_read.specs.TextLines.{first_above, IsTextOf}
 use Rattle.dimacs_read.specs.TextSteps.{Draft, nothing_read, held, NextLine, IsComplete, IsAbove, FaultAt, FaultLine, TextFails}
 use Rattle.dimacs_read.specs.Faults.{ValuesFault, TextFaultOf, IsReadAs, FailsAt}
-use Rattle.dimacs_read.proofs.Leads.{whole_same, whole_fits}
-use Rattle.dimacs_read.proofs.Fronts.{front_same, misfit_same}
+use Rattle.line_texts.proofs.Leads.{whole_same, whole_fits}
+use Rattle.line_texts.proofs.Fronts.{front_same, misfit_same}
 use Rattle.dimacs_read.proofs.ValuesTell.{FitsTold, next_same, next_fits}
 use Rattle.dimacs_read.proofs.ValuesRead.{some_same}
 use Rattle.dimacs_read.proofs.TextSame.{FitsDraft, next_line_same, next_line_fits, numbers_tell}

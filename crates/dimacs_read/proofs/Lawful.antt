@@ -21,7 +21,7 @@ use Rattle.ledger_text.specs.Steps.{IsReadableStep, LineBelow, LedgerBelow}
 use Rattle.dimacs_out.specs.CompiledText.{ValueBelow, EntriesBelow}
 use Rattle.dimacs_read.specs.declared.values.Stage.{Stage}
 use Rattle.dimacs_read.specs.declared.values.Stage.TheVariants.{Before, Listing, Ended}
-use Rattle.dimacs_read.specs.LineByLine.{Lead}
+use Rattle.line_texts.specs.LineByLine.{Lead}
 use Rattle.dimacs_read.specs.TextLines.{atom_within, value_within, step_within, AreReadableEntries, AreReadableSteps, above_of, first_above}
 use Rattle.dimacs_read.specs.Values.{Known, Told, told, nothing_told, IsAnswer, Stands, Says, NextValues}
 use Rattle.dimacs_read.specs.ReadLaws.{AreInLimit, WrittenIsRead, ReadIsWritable, ValuesSatisfy, ValuesGiveAssignment}

@@ -1,15 +1,13 @@
-pub mod Leads
-pub mod ReadTo
-pub mod ValuesTell
-pub mod ValuesRead
-pub mod TextSame
-pub mod StepsRead
-pub mod Pieces
-pub mod LiteralsRead
-pub mod TextRead
-pub mod NewNames
-pub mod TextLeads
-pub mod Taken
-pub mod Fronts
+mod ValuesTell
+mod ValuesRead
+mod TextSame
+mod StepsRead
+mod Pieces
+mod LiteralsRead
+mod TextRead
+mod NewNames
+mod TextLeads
+mod Taken
 pub mod Exact
 pub mod Lawful
+pub mod Answered

@@ -24,7 +24,7 @@ use Rattle.dimacs_read.specs.declared.entry.Kind.{Kind}
 use Rattle.dimacs_read.specs.declared.entry.Kind.TheVariants as kind
 use Rattle.dimacs_read.specs.Entries.{kind_word, kind_of, tail_words, IsReadableInt, IsReadableValue}
 use Rattle.dimacs_read.specs.TextLines.{IsReadableEntry, first_above}
-use Rattle.dimacs_read.specs.TextSteps.{Draft, IsNamed, IsLedgered, IsNumbers, IsProblem, NextAt, NextLine, MayHaveNumbers, FaultAt}
+use Rattle.dimacs_read.specs.TextSteps.{Draft, IsNamed, IsLedgered, IsNumbers, IsProblem, NextAt, NextLine, MayHaveNumbers, FailsBefore}
 use Rattle.dimacs_read.proofs.TextSame.{numbers_tell, entry_of}
 use Rattle.dimacs_read.proofs.ValuesRead.{none_some, some_same}
 
@@ -91,18 +91,16 @@ most_no_problem s t line v c h above p =
 
 -- which line fails
 
-pub fault_no_numbers : (s : Draft) (line : List ℕ) (here : ℕ) → ((v c : ℕ) → IsNumbers line v c → ⊥) → FaultAt s line here here
-fault_no_numbers s line here none = inr ((λ n a. none a.vars a.count a.numbers), refl)
+pub before_no_numbers : (s : Draft) (line : List ℕ) → ((v c : ℕ) → IsNumbers line v c → ⊥) → FailsBefore s line None
+before_no_numbers s line none n a = none a.vars a.count a.numbers
 
-pub fault_above : (s : Draft) (line : List ℕ) (here number v c : ℕ) → MayHaveNumbers s.stage → IsNumbers line v c → first_above v s.entries s.ledger ≡ Some number → FaultAt s line here number
-fault_above s line here number v c may numbers above = inl (record { may = may; vars = v; count = c; numbers = numbers; above = above })
+pub before_shut : (s : Draft) (line : List ℕ) → (MayHaveNumbers s.stage → ⊥) → FailsBefore s line None
+before_shut s line shut n a = shut a.may
 
-pub fault_within : (s : Draft) (line : List ℕ) (here v c : ℕ) → IsNumbers line v c → first_above v s.entries s.ledger ≡ None → FaultAt s line here here
-fault_within s line here v c numbers none =
-    inr ((λ n a. (let same = numbers_tell line a.vars v a.count c a.numbers numbers in none_some (first_above v s.entries s.ledger) n none (ap (λ m. first_above m s.entries s.ledger) (sym same.vars_same) ∙ a.above))), refl)
-
-pub fault_shut : (s : Draft) (line : List ℕ) (here : ℕ) → (MayHaveNumbers s.stage → ⊥) → FaultAt s line here here
-fault_shut s line here shut = inr ((λ n a. shut a.may), refl)
+pub before_numbers : (s : Draft) (line : List ℕ) (v c : ℕ) (above : Option ℕ) → MayHaveNumbers s.stage → IsNumbers line v c → above ≡ first_above v s.entries s.ledger → FailsBefore s line above
+before_numbers s line v c (Some n) may numbers e = record { may = may; vars = v; count = c; numbers = numbers; above = sym e }
+before_numbers s line v c None may numbers e = λ n a. (let same = numbers_tell line a.vars v a.count c a.numbers numbers in
+    none_some (first_above v s.entries s.ledger) n (sym e) (ap (λ m. first_above m s.entries s.ledger) (sym same.vars_same) ∙ a.above))
 
 -- the words of an integer
 

@@ -16,14 +16,11 @@ use Rattle.dimacs_out.proofs.LedgerTells.{ledger_line_line}
 use Rattle.dimacs_out.specs.declared.text.CnfText.{CnfText}
 use Rattle.dimacs_read.specs.declared.draft.TextStage.{TextStage}
 use Rattle.dimacs_read.specs.declared.draft.TextStage.TheVariants.{Start, Names, Steps, Clauses}
-use Rattle.dimacs_read.specs.LineByLine.{Lead, IsWhole}
+use Rattle.line_texts.specs.LineByLine.{Lead, IsWhole}
+use Rattle.line_texts.proofs.Leads.{lead_join}
 use Rattle.dimacs_read.specs.TextLines.{AreReadableEntries, AreReadableSteps, IsReadable, IsTextOf}
 use Rattle.dimacs_read.specs.TextSteps.{Draft, nothing_read, IsNamed, IsLedgered, IsProblem, IsClause, NextLine, IsComplete, MayHaveNumbers}
 use Rattle.dimacs_read.proofs.TextSame.{entry_of, line_of}
-
-lead_join : (s : Draft) (xs ys : List (List ℕ)) (m t : Draft) → Lead NextLine s xs m → Lead NextLine m ys t → Lead NextLine s (xs ++ ys) t
-lead_join s [] ys m t p q = let P : Draft → Type 0 = λ x. Lead NextLine x ys t in subst P (sym p) q
-lead_join s (x ∷ xs) ys m t p q = (p.0, p.1, lead_join p.0 xs ys m t p.2 q)
 
 -- names
 
@@ -130,8 +127,8 @@ text_leads x h =
     let clauses = lead_clauses vars count x.entries x.ledger [] x.cnf.clauses (omega arith) h.clauses in
     let behind : Lead NextLine open_draft (numbers_line vars count ∷ map clause_line x.cnf.clauses) (draft_of x) =
     (start, next_problem ledger.stage x.entries x.ledger (numbers_line vars count) start ledger.may problem, clauses) in
-    let later = lead_join (among_names x.entries) (map ledger_line x.ledger) (numbers_line vars count ∷ map clause_line x.cnf.clauses) open_draft (draft_of x) ledger.lead behind in
-    let all = lead_join (among_names []) (map entry_line x.entries) (map ledger_line x.ledger ++ numbers_line vars count ∷ map clause_line x.cnf.clauses) (among_names x.entries) (draft_of x) names later in
+    let later = lead_join NextLine (among_names x.entries) (map ledger_line x.ledger) (numbers_line vars count ∷ map clause_line x.cnf.clauses) open_draft (draft_of x) ledger.lead behind in
+    let all = lead_join NextLine (among_names []) (map entry_line x.entries) (map ledger_line x.ledger ++ numbers_line vars count ∷ map clause_line x.cnf.clauses) (among_names x.entries) (draft_of x) names later in
     (among_names [], (refl, refl), all)
 
 -- the lines are lines

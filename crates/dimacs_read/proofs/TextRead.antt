@@ -1,8 +1,7 @@
 -- What lines that lead somewhere spell, and which line fails.
-use Rattle.std.proofs.Common.{◌≡◌, ◌≢◌, ℕ, ◌+◌, ◌^◌, ◌<◌, ◌≤◌, ◌⊎◌, inl, inr, List, [], ◌∷◌, ◌++◌, length, map, None, refl, sym, ap, subst, ◌∙◌, arith}
+use Rattle.std.proofs.Common.{◌≡◌, ◌≢◌, ℕ, ◌+◌, ◌^◌, ◌<◌, ◌≤◌, ◌⊎◌, inl, inr, List, [], ◌∷◌, ◌++◌, length, map, Option, Some, None, refl, sym, ap, subst, ◌∙◌, arith}
 use Rattle.std.proofs.lemmas.List.{map-append, append-nil, append_assoc}
-use Rattle.bee_text.specs.Lines.{IsLine, join_lines, lines_of, unfinished}
-use Rattle.bee_text.proofs.LineLemmas.{unfinished-join_lines, lines_of-rest}
+use Rattle.bee_text.specs.Lines.{join_lines, lines_of}
 use Rattle.order_ints.specs.declared.literal.Lit.{Lit}
 use Rattle.order_ints.specs.Place.{ClauseBelow, ClausesBelow}
 use Rattle.ledger_text.specs.declared.line.Line.{Line}
@@ -12,10 +11,10 @@ use Rattle.dimacs_out.specs.declared.entry.MapEntry.{MapEntry}
 use Rattle.dimacs_out.specs.CompiledText.{entry_line, clause_line, heading, ledger_line, numbers_line, text_lines}
 use Rattle.dimacs_read.specs.declared.draft.TextStage.{TextStage}
 use Rattle.dimacs_read.specs.declared.draft.TextStage.TheVariants.{Start, Names, Steps, Clauses}
-use Rattle.dimacs_read.specs.LineByLine.{Lead, IsWhole}
+use Rattle.line_texts.specs.LineByLine.{Lead, IsWhole}
+use Rattle.line_texts.specs.Ends.{MisfitAt, MissingAt}
 use Rattle.dimacs_read.specs.TextLines.{IsReadableEntry, AreReadableEntries, AreReadableSteps, first_above, IsReadable, IsTextOf}
-use Rattle.dimacs_read.specs.TextSteps.{Draft, nothing_read, IsNamed, IsLedgered, IsProblem, IsClause, NextAt, NextLine, vars_of, held, HasAll, IsComplete, FaultAt, TextFails}
-use Rattle.dimacs_read.proofs.ReadTo.{ReadTo, lines_behind}
+use Rattle.dimacs_read.specs.TextSteps.{Draft, nothing_read, IsNamed, IsLedgered, IsProblem, IsClause, NextAt, NextLine, vars_of, held, HasAll, IsComplete, FaultAt, FailsBefore, TextFails}
 
 -- the lines that were read
 abbrev pub lines_at : TextStage → Draft → List (List ℕ)
@@ -210,32 +209,19 @@ whole_text text s h =
 
 -- which line fails
 
-pub text_line_fails : (text rest line later : List ℕ) (read here number : ℕ) (s : Draft) → ReadTo NextLine nothing_read text rest read s → lines_of rest ≡ line ∷ lines_of later
-    → here ≡ read + 1 → ((t : Draft) → NextLine s line t → ⊥) → FaultAt s line here number → TextFails text number
-text_line_fails text rest line later read here number s h cut n misfit fault =
-    let P : ℕ → Type 0 = λ k. FaultAt s line k number in
-    let place : here ≡ length h.before + 1 = omega (arith, n, h.count) in
-    record {
-      before = h.before;
-      left = line ∷ lines_of later;
-      parts = (lines_behind text rest h.before h.are_lines h.joined).lines ∙ ap (λ ls. h.before ++ ls) cut;
-      stands = s;
-      lead = h.lead;
-      misfit = misfit;
-      fault = subst P place fault;
-    }
+pub text_line_fails : (text : List ℕ) (here number : ℕ) (before : Option ℕ) → MisfitAt NextLine FailsBefore nothing_read text here before → ((s : Draft) (line : List ℕ) → FailsBefore s line before → FaultAt s line here number)
+    → TextFails text number
+text_line_fails text here number before h fault =
+    let P : ℕ → Type 0 = λ k. FaultAt h.stands h.line k number in
+    record { before = h.before; left = h.line ∷ h.left; parts = h.parts; stands = h.stands; lead = h.lead; misfit = h.misfit; fault = subst P h.number_is (fault h.stands h.line h.because) }
 
-pub text_end_fails : (text rest : List ℕ) (read number : ℕ) (s : Draft) → ReadTo NextLine nothing_read text rest read s → IsLine rest → number ≡ read + 1
-    → (rest ≡ [] → IsComplete s → ⊥) → TextFails text number
-text_end_fails text rest read number s h line n early =
-    let behind = lines_behind text rest h.before h.are_lines h.joined in
-    let rest_is : unfinished text ≡ rest = behind.end ∙ unfinished-join_lines [] rest line in
-    record {
-      before = h.before;
-      left = [];
-      parts = behind.lines ∙ ap (λ ls. h.before ++ ls) (lines_of-rest rest line);
-      stands = s;
-      lead = h.lead;
-      misfit = λ none. early (sym rest_is ∙ none);
-      fault = omega (arith, n, h.count);
-    }
+-- a line before it, or the line itself
+pub text_fails_before : (text : List ℕ) (here number : ℕ) → MisfitAt NextLine FailsBefore nothing_read text here (Some number) → TextFails text number
+text_fails_before text here number h = text_line_fails text here number (Some number) h (λ s line above. inl above)
+
+pub text_fails_here : (text : List ℕ) (here : ℕ) → MisfitAt NextLine FailsBefore nothing_read text here None → TextFails text here
+text_fails_here text here h = text_line_fails text here here None h (λ s line none. inr (none, refl))
+
+pub text_end_fails : (text : List ℕ) (number : ℕ) → MissingAt NextLine IsComplete nothing_read text number → TextFails text number
+text_end_fails text number h =
+    record { before = lines_of text; left = []; parts = sym (append-nil (lines_of text)); stands = h.stands; lead = h.lead; misfit = h.early; fault = h.number_is }

@@ -1,4 +1,3 @@
-pub mod LineByLine
 pub mod Values
 pub mod TextLines
 pub mod TextSteps
@@ -6,3 +5,4 @@ pub mod Steps
 pub mod Entries
 pub mod Faults
 pub mod ReadLaws
+pub mod AnswerLaws

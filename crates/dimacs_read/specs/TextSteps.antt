@@ -1,5 +1,5 @@
 -- Which line may stand next in a compiled text.
-use Rattle.std.specs.Prelude.{◌≡◌, ◌⊎◌, ℕ, ◌+◌, ◌^◌, ◌<◌, ◌≤◌, List, [], ◌∷◌, ◌++◌, length, map, Some, None}
+use Rattle.std.specs.Prelude.{◌≡◌, ◌⊎◌, ℕ, ◌+◌, ◌^◌, ◌<◌, ◌≤◌, List, [], ◌∷◌, ◌++◌, length, map, Option, Some, None}
 use Rattle.order_ints.specs.declared.literal.Lit.{Lit}
 use Rattle.order_ints.specs.Place.{ClauseBelow}
 use Rattle.ledger_text.specs.declared.line.Line.{Line}
@@ -11,7 +11,7 @@ use Rattle.dimacs_out.specs.declared.text.CnfText.{CnfText}
 use Rattle.dimacs_read.specs.declared.draft.TextStage.{TextStage}
 use Rattle.dimacs_read.specs.declared.draft.TextStage.TheVariants.{Start, Names, Steps, Clauses}
 use Rattle.dimacs_read.specs.TextLines.{IsReadableEntry, first_above}
-use Rattle.dimacs_read.specs.LineByLine.{Lead, IsMisfit}
+use Rattle.line_texts.specs.LineByLine.{Lead, IsMisfit}
 use Rattle.bee_text.specs.Lines.{lines_of, unfinished}
 
 -- how far a text is read, and what it told so far
@@ -112,6 +112,11 @@ pub record IsAbove (s : Draft) (line : List ℕ) (number : ℕ) : Type 0 where
 -- above the number of variables that it tells, and else itself.
 abbrev pub FaultAt : Draft → List ℕ → ℕ → ℕ → Type 0
 FaultAt s line here number = IsAbove s line number ⊎ (((n : ℕ) → IsAbove s line n → ⊥) × (number ≡ here))
+
+-- the number of the line before it that fails for a line that isn't the next, where there is one
+abbrev pub FailsBefore : Draft → List ℕ → Option ℕ → Type 0
+FailsBefore s line (Some number) = IsAbove s line number
+FailsBefore s line None = (n : ℕ) → IsAbove s line n → ⊥
 
 -- the same of the first of the lines that are left; where none is left, the line that is missing fails
 abbrev pub FaultLine : Draft → List (List ℕ) → ℕ → ℕ → Type 0

@@ -16,7 +16,7 @@ use Rattle.order_ints.specs.Satisfies.{Satisfies}
 use Rattle.ledger_text.specs.Words.{literal_word}
 use Rattle.dimacs_read.specs.declared.values.Stage.{Stage}
 use Rattle.dimacs_read.specs.declared.values.Stage.TheVariants.{Before, Listing, Ended}
-use Rattle.dimacs_read.specs.LineByLine.{IsWhole, FirstMisfit}
+use Rattle.line_texts.specs.LineByLine.{IsWhole, FirstMisfit}
 
 -- which variables were told, and their truth values, false for one that wasn't; that of variable 1 stands first
 pub record Known : Type 0 where

@@ -1,9 +1,9 @@
 //! A compiled text, as far as it is read.
 
-ghost use Rattle.std.specs.Prelude.{◌≡◌, ◌⊎◌, ◌∷◌, ◌++◌, [], map, IfOk, MatchBool, MatchOption};
+ghost use Rattle.std.specs.Prelude.{◌≡◌, ◌⊎◌, ◌∷◌, ◌++◌, [], map, ◌↔◌, IfOk, IsTrue, MatchBool};
 ghost use Rattle.bumblebee_reader.specs.Names.{IsNew};
 ghost use Rattle.dimacs_read.specs.declared.draft.TextStage.TheVariants.{Start, Names, Steps, Clauses};
-ghost use Rattle.dimacs_read.specs.TextSteps.{Draft, nothing_read, IsNamed, IsLedgered, IsProblem, IsClause, NextAt, NextLine, IsComplete, MayHaveNumbers, FaultAt, held};
+ghost use Rattle.dimacs_read.specs.TextSteps.{Draft, nothing_read, IsNamed, IsLedgered, IsProblem, IsClause, NextAt, NextLine, IsComplete, MayHaveNumbers, FailsBefore, vars_of, held};
 ghost use Rattle.dimacs_read.specs.TextLines.{first_above};
 
 use crate::above::first_above;
@@ -14,6 +14,7 @@ use bumblebee_reader::Name;
 use dimacs_out::{CnfText, MapEntry};
 use indexmap::IndexSet;
 use ledger_text::Line;
+use line_texts::{LineTaken, LineTaker};
 use order_ints::{Cnf, Lit};
 use std::alloc::{AllocError, Global};
 use std::marker::Model;
@@ -37,6 +38,18 @@ pub(crate) enum TextStage {
         /// The number of clauses.
         count: u64,
     },
+}
+
+impl TextStage {
+    /// The number of variables that was told, or 0.
+    fn vars(self) -> u32
+        ensures { result ≡ vars_of self }
+    {
+        match self {
+            TextStage::Clauses { vars, count: _ } => vars,
+            TextStage::Start | TextStage::Names | TextStage::Steps => 0,
+        }
+    }
 }
 
 /// What a text told so far. A name takes a look-up in a hash set.
@@ -210,7 +223,7 @@ impl DraftText {
     }
 
     /// Takes a line, if it is the next. A line that isn't leaves all as it was.
-    pub(crate) fn take_line(&mut self, alloc: Global, line: &[u8]) -> Result<bool, AllocError>
+    fn take_next(&mut self, alloc: Global, line: &[u8]) -> Result<bool, AllocError>
         ensures { IfOk result
             (λ taken. MatchBool taken (NextLine self.old line.now self.new)
             (((t : Draft) → NextLine self.old line.now t → ⊥) × (self.new ≡ self.old))) }
@@ -232,36 +245,42 @@ impl DraftText {
         }
     }
 
-    /// The number of the line that fails, where the line with the number `here` may tell the numbers, but isn't
-    /// the next.
-    fn numbers_fault(&self, line: &[u8], here: u64) -> u64
+    /// The number of the line before it that fails for a line that may tell the numbers, but isn't the next.
+    fn numbers_fault(&self, line: &[u8]) -> Option<u64>
         requires { MayHaveNumbers self.now.stage }
-        ensures { FaultAt self.now line.now here result }
+        ensures { FailsBefore self.now line.now result }
     {
         match read_numbers(line) {
-            Some(numbers) => match self.first_above(numbers.vars) {
-                Some(above) => above,
-                None => here,
-            },
-            None => here,
+            Some(numbers) => self.first_above(numbers.vars),
+            None => None,
         }
     }
 
-    /// The number of the line that fails, where the line with the number `here` isn't the next.
-    pub(crate) fn fault_line(&self, line: &[u8], here: u64) -> u64
-        ensures { FaultAt self.now line.now here result }
+    /// The number of the line before it that fails for a line that isn't the next, if there is one.
+    fn fault_before(&self, line: &[u8]) -> Option<u64>
+        ensures { FailsBefore self.now line.now result }
     {
         match self.stage {
-            TextStage::Names => self.numbers_fault(line, here),
-            TextStage::Steps => self.numbers_fault(line, here),
-            TextStage::Start => here,
-            TextStage::Clauses { vars: _, count: _ } => here,
+            TextStage::Names => self.numbers_fault(line),
+            TextStage::Steps => self.numbers_fault(line),
+            TextStage::Start => None,
+            TextStage::Clauses { vars: _, count: _ } => None,
         }
     }
 
-    /// What the text holds, if it is whole: as many clauses stand as was told.
-    pub(crate) fn finish(self) -> Option<CnfText>
-        ensures { MatchOption result (IsComplete self → ⊥) (λ x. IsComplete self × (x ≡ held self)) }
+    /// Whether the text may end: as many clauses stand as was told.
+    fn is_complete(&self) -> bool
+        ensures { IsTrue result ↔ IsComplete self.now }
+    {
+        match self.stage {
+            TextStage::Clauses { vars: _, count } => self.clauses.len() as u64 == count,
+            TextStage::Start | TextStage::Names | TextStage::Steps => false,
+        }
+    }
+
+    /// What was told.
+    pub(crate) fn finish(self) -> CnfText
+        ensures { result ≡ held self }
     {
         let DraftText {
             stage,
@@ -271,22 +290,43 @@ impl DraftText {
             clauses,
         } = self;
         drop(names);
-        match stage {
-            TextStage::Clauses { vars, count } => {
-                if clauses.len() as u64 == count {
-                    Some(CnfText {
-                        entries: Sequence::from_vec(entries),
-                        ledger: Sequence::from_vec(ledger),
-                        cnf: Cnf {
-                            vars,
-                            clauses: Sequence::from_vec(clauses),
-                        },
-                    })
-                } else {
-                    None
-                }
-            }
-            TextStage::Start | TextStage::Names | TextStage::Steps => None,
+        CnfText {
+            entries: Sequence::from_vec(entries),
+            ledger: Sequence::from_vec(ledger),
+            cnf: Cnf {
+                vars: stage.vars(),
+                clauses: Sequence::from_vec(clauses),
+            },
         }
+    }
+}
+
+impl LineTaker for DraftText {
+    ghost use Rattle.dimacs_read.specs.TextSteps.{NextLine, FailsBefore, IsComplete};
+
+    type Against = ();
+
+    type Cause = Option<u64>;
+
+    ghost next = { λ _. NextLine };
+
+    ghost ended = { λ s. IsComplete s };
+
+    ghost because = { λ _. FailsBefore };
+
+    fn take_line(
+        &mut self,
+        alloc: Global,
+        _against: &(),
+        line: &[u8],
+    ) -> Result<LineTaken<Option<u64>>, AllocError> {
+        if self.take_next(alloc, line)? {
+            return Ok(LineTaken::Next);
+        }
+        Ok(LineTaken::Misfit(self.fault_before(line)))
+    }
+
+    fn is_ended(&self) -> bool {
+        self.is_complete()
     }
 }

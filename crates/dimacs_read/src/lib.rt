@@ -2,6 +2,7 @@
 #![tactic(auto)]
 
 mod above;
+mod answer_laws;
 mod compiled;
 mod draft;
 mod entry;
@@ -14,6 +15,7 @@ mod name;
 mod steps;
 mod values;
 
+pub use answer_laws::answer_law;
 pub use compiled::read_compiled;
 pub use fault::TextFault;
 pub use laws::read_laws;

@@ -2,16 +2,17 @@
 
 ghost use Rattle.std.specs.Prelude.{◌≡◌, ◌↔◌, ◌∷◌, [], ℕ, List, Bool, codes, IsTrue, MatchOption, IfSome, IfOk, IfErr};
 ghost use Rattle.bee_text.specs.Gaps.{words_of};
-ghost use Rattle.dimacs_read.specs.declared.values.Stage.TheVariants.{Ended};
-ghost use Rattle.dimacs_read.specs.Values.{Known, Told, told, Tell, IsTold, Says, NextValues, IsValues, ValuesFail};
+ghost use Rattle.dimacs_read.specs.Values.{Known, Told, told, nothing_told, Tell, IsTold, Says, NextValues, IsValues, ValuesFail};
 ghost use Rattle.dimacs_read.specs.Faults.{ValuesFault, IsReadAs, FailsAt};
 
 use crate::fault::TextFault;
 use crate::known::KnownValues;
 use crate::literal::{is, read_literal};
-use bee_text::{Lines, next_word};
+use bee_text::next_word;
+use line_texts::{LineTaken, LineTaker, TextEnd, read_lines};
 use order_ints::Cnf;
-use std::alloc::Global;
+use std::alloc::{AllocError, Global};
+use std::marker::Model;
 
 /// How far values are told.
 #[derive(Clone, Copy, Debug, PartialEq, Eq)]
@@ -127,11 +128,73 @@ fn take_line(stage: Stage, known: &mut KnownValues, line: &[u8], cnf: &Cnf) -> O
     }
 }
 
-/// Whether the values are told to their end.
-fn is_ended(stage: Stage) -> bool
-    ensures { IsTrue result ↔ (stage ≡ Ended) }
-{
-    matches!(stage, Stage::Ended)
+/// What a text of values told so far.
+#[derive(Drop)]
+struct ValuesDraft {
+    stage: Stage,
+    known: KnownValues,
+}
+
+impl Model for ValuesDraft {
+    ghost use Rattle.dimacs_read.specs.Values.{Told, told};
+
+    ghost Value = { Told };
+
+    ghost view = { λ d. told d.stage d.known };
+}
+
+impl ValuesDraft {
+    /// Nothing is told of `vars` variables.
+    fn new(alloc: Global, vars: u32) -> Result<ValuesDraft, AllocError>
+        ensures { IfOk result (λ d. d ≡ nothing_told vars) }
+    {
+        let known = KnownValues::new(alloc, vars)?;
+        Ok(ValuesDraft {
+            stage: Stage::Before,
+            known,
+        })
+    }
+
+    /// The truth values, that of variable 1 first.
+    fn into_values(self) -> Vec<bool>
+        ensures { result.items ≡ self.known.values }
+    {
+        let ValuesDraft { stage: _, known } = self;
+        known.into_values()
+    }
+}
+
+impl LineTaker for ValuesDraft {
+    ghost use Rattle.dimacs_read.specs.Values.{NextValues, AreTold};
+
+    type Against = Cnf;
+
+    type Cause = ();
+
+    ghost next = { NextValues };
+
+    ghost ended = { λ d. AreTold d };
+
+    ghost because = { λ _ _ _ _. Unit {0} };
+
+    fn take_line(
+        &mut self,
+        _alloc: Global,
+        cnf: &Cnf,
+        line: &[u8],
+    ) -> Result<LineTaken<()>, AllocError> {
+        match take_line(self.stage, &mut self.known, line, cnf) {
+            Some(next) => {
+                self.stage = next;
+                Ok(LineTaken::Next)
+            }
+            None => Ok(LineTaken::Misfit(())),
+        }
+    }
+
+    fn is_ended(&self) -> bool {
+        matches!(self.stage, Stage::Ended)
+    }
 }
 
 /// The truth values that a text tells, or the first line that fails.
@@ -139,21 +202,12 @@ fn read_told(alloc: Global, text: &[u8], cnf: &Cnf) -> Result<Vec<bool>, TextFau
     ensures read { IfOk result (λ values. IsValues cnf.now text.now values.items) }
     ensures fault { IfErr result (ValuesFault cnf.now text.now) }
 {
-    let mut known = KnownValues::new(alloc, cnf.vars)?;
-    let mut stage = Stage::Before;
-    let mut lines = Lines::new(text);
-    let mut read: usize = 0;
-    while let Some(line) = lines.next_line() {
-        match take_line(stage, &mut known, line.bytes, cnf) {
-            Some(next) => stage = next,
-            None => return Err(TextFault::Form(line.number as u64)),
-        }
-        read = line.number;
+    let mut draft = ValuesDraft::new(alloc, cnf.vars)?;
+    match read_lines(alloc, text, cnf, &mut draft)? {
+        TextEnd::Whole => Ok(draft.into_values()),
+        TextEnd::Misfit(line, _) => Err(TextFault::Form(line)),
+        TextEnd::Missing(line) => Err(TextFault::Form(line)),
     }
-    if is_ended(stage) && lines.rest().is_empty() {
-        return Ok(known.into_values());
-    }
-    Err(TextFault::Form(read as u64 + 1))
 }
 
 /// The truth values that a text tells, that of variable 1 first, or the first line that fails. The text is looked

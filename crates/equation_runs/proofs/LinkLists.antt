@@ -10,7 +10,7 @@ use Rattle.order_ints.specs.Same.{same_atom}
 use Rattle.order_ints.specs.Equality.{same_atom-tells}
 use Rattle.order_ints.specs.OrderLevels.{values_of, at_of, is_among}
 use Rattle.rule_base.specs.Pairs.{is_pair_of, is_listed, only_if}
-use Rattle.arith_rules.specs.Links.{linked, opposed, opposed_above}
+use Rattle.arith_rules.specs.Links.{linked, linked_back, opposed, opposed_above}
 use Rattle.arith_rules.specs.SumRows.{raised_equations, mirrored_equations}
 use Rattle.equi_rules.specs.CompareRows.{equal_at, eq_equations_true}
 use Rattle.equation_runs.proofs.NextValue.{or-left, or-right}
@@ -24,16 +24,6 @@ pair-itself : (x y : Atom) (p : Atom × Atom) → p.0 ≡ x → p.1 ≡ y → is
 pair-itself x y p e f =
     or-left (same_atom p.0 x && same_atom p.1 y) (same_atom p.0 y && same_atom p.1 x)
     (and-true (same_atom p.0 x) (same_atom p.1 y) ((same_atom-tells p.0 x).1 e) ((same_atom-tells p.1 y).1 f))
-
-or-turned : (s t : Bool) → (s || t) ≡ (t || s)
-or-turned true true = refl
-or-turned true false = refl
-or-turned false true = refl
-or-turned false false = refl
-
-pub listed-turned : (x y : Atom) (ps : List (Atom × Atom)) → is_listed x y ps ≡ is_listed y x ps
-listed-turned x y [] = refl
-listed-turned x y (p ∷ ps) = λ i. or-turned (same_atom p.0 x && same_atom p.1 y) (same_atom p.0 y && same_atom p.1 x) i || listed-turned x y ps i
 
 -- what is listed in one of two parts is listed
 pub listed-left : (x y : Atom) (ps qs : List (Atom × Atom)) → is_listed x y ps ≡ true → is_listed x y (ps ++ qs) ≡ true
@@ -62,16 +52,9 @@ listed-at f w (v ∷ vs) x y one e g = ⊎_elim
     (λ (h : is_among w vs ≡ true). or-right (is_pair_of x y (f v)) (is_listed x y (map f vs)) (listed-at f w vs x y h e g))
     (or_cases (int_eq v w) (is_among w vs) one)
 
-pub listed-across : (f : ℤ → Atom × Atom) (w : ℤ) (vs : List ℤ) (x y : Atom) → is_among w vs ≡ true → (f w).0 ≡ y → (f w).1 ≡ x → is_listed x y (map f vs) ≡ true
-listed-across f w vs x y one e g = listed-turned x y (map f vs) ∙ listed-at f w vs y x one e g
-
 -- two atoms are one, or listed
 abbrev pub IsOneOrListed : Atom → Atom → List (Atom × Atom) → Type 0
 IsOneOrListed x y ps = (x ≡ y) ⊎ (is_listed x y ps ≡ true)
-
-pub one-turned : (x y : Atom) (ps : List (Atom × Atom)) → IsOneOrListed x y ps → IsOneOrListed y x ps
-one-turned x y ps (inl e) = inl (sym e)
-one-turned x y ps (inr e) = inr (listed-turned y x ps ∙ e)
 
 -- and so they are in a list that has what another one has
 pub one-within : (x y : Atom) (ps qs : List (Atom × Atom)) → (is_listed x y ps ≡ true → is_listed x y qs ≡ true) → IsOneOrListed x y ps → IsOneOrListed x y qs
@@ -84,10 +67,10 @@ raised-listed k a b v = by (raised-at k a b v)
   where
     by : RaisedAt k a b v → IsOneOrListed (at_of a v) (at_of b (v +ℤ k)) (raised_equations k a b)
     by (raised_one e) = inl e
-    by (raised_first w is e f) = inr (listed-left (at_of a v) (at_of b (v +ℤ k)) (linked (λ u. u +ℤ k) a b) (linked (λ u. u -ℤ k) b a)
+    by (raised_first w is e f) = inr (listed-left (at_of a v) (at_of b (v +ℤ k)) (linked (λ u. u +ℤ k) a b) (linked_back (λ u. u -ℤ k) b a)
         (listed-at (λ u. (at_of a u, at_of b (u +ℤ k))) w (values_of a) (at_of a v) (at_of b (v +ℤ k)) is e f))
-    by (raised_second w is e f) = inr (listed-right (at_of a v) (at_of b (v +ℤ k)) (linked (λ u. u +ℤ k) a b) (linked (λ u. u -ℤ k) b a)
-        (listed-across (λ u. (at_of b u, at_of a (u -ℤ k))) w (values_of b) (at_of a v) (at_of b (v +ℤ k)) is e f))
+    by (raised_second w is e f) = inr (listed-right (at_of a v) (at_of b (v +ℤ k)) (linked (λ u. u +ℤ k) a b) (linked_back (λ u. u -ℤ k) b a)
+        (listed-at (λ u. (at_of a (u -ℤ k), at_of b u)) w (values_of b) (at_of a v) (at_of b (v +ℤ k)) is f e))
 
 pub mirrored-listed : (k : ℤ) (a b : OrdInt) (v : ℤ) → IsOneOrListed (at_of a v) (not_atom (at_of b (k -ℤ v +ℤ pos 1))) (mirrored_equations k a b)
 mirrored-listed k a b v = by (mirrored-at k a b v)
@@ -135,11 +118,11 @@ module _ (P : Atom → Atom → Type 0) where
   each-map f (v ∷ vs) each = (each v, each-map f vs each)
 
   -- what holds at all numbers that belong together holds of the pairs that link two integers
-  pub each-raised : (k : ℤ) (a b : OrdInt) → ((x y : Atom) → P x y → P y x) → ((v : ℤ) → P (at_of a v) (at_of b (v +ℤ k))) → EachPair P (raised_equations k a b)
-  each-raised k a b turned each =
-      each-append (linked (λ v. v +ℤ k) a b) (linked (λ w. w -ℤ k) b a)
+  pub each-raised : (k : ℤ) (a b : OrdInt) → ((v : ℤ) → P (at_of a v) (at_of b (v +ℤ k))) → EachPair P (raised_equations k a b)
+  each-raised k a b each =
+      each-append (linked (λ v. v +ℤ k) a b) (linked_back (λ w. w -ℤ k) b a)
       (each-map (λ v. (at_of a v, at_of b (v +ℤ k))) (values_of a) each)
-      (each-map (λ w. (at_of b w, at_of a (w -ℤ k))) (values_of b) (λ w. turned (at_of a (w -ℤ k)) (at_of b w) (back w)))
+      (each-map (λ w. (at_of a (w -ℤ k), at_of b w)) (values_of b) back)
     where
       back : (w : ℤ) → P (at_of a (w -ℤ k)) (at_of b w)
       back w =

@@ -27,7 +27,7 @@ use Rattle.equation_runs.specs.Turns.{IsMadeOrTold, AreToldAfter, is_stated}
 use Rattle.equation_runs.specs.RunRows.{equation_of, link_pairs}
 use Rattle.equation_runs.proofs.AtTrimmed.{at-trimmed, constant-stays, low-stays}
 use Rattle.equation_runs.proofs.NextValue.{or-left, or-right}
-use Rattle.equation_runs.proofs.LinkLists.{listed-left, listed-right, listed-if, IsOneOrListed, one-turned, one-within, raised-listed, mirrored-listed, equal-listed, EachPair, each-append, each-if, each-raised, each-mirrored}
+use Rattle.equation_runs.proofs.LinkLists.{listed-left, listed-right, listed-if, IsOneOrListed, one-within, raised-listed, mirrored-listed, equal-listed, EachPair, each-append, each-if, each-raised, each-mirrored}
 
 -- what is listed is an instance, where its atoms are not one
 listed-instance : (pairs : Rule → List (Atom × Atom)) (x y : Atom) → IsOneOrListed x y (pairs Form) → (x ≡ y) ⊎ (is_instance_by pairs (equation_of Form (x, y)) ≡ true)
@@ -42,9 +42,6 @@ listed-instance pairs x y (inr e) = by (same_atom x y) refl
 module _ (listed : List Atom → List (Atom × Atom)) where
   abbrev pub IsLinked : Atom → Atom → Type 0
   IsLinked x y = (view : List Atom) → IsOneOrListed (resolve view x) (resolve view y) (listed view)
-
-  turned : (x y : Atom) → IsLinked x y → IsLinked y x
-  turned x y linked view = one-turned (resolve view x) (resolve view y) (listed view) (linked view)
 
   -- at two numbers, by the trimmed integers there
   linked-at : (a b : OrdInt) (v w : ℤ) → ((view : List Atom) → IsOneOrListed (at_of (trimmed_int view a) v) (at_of (trimmed_int view b) w) (listed view)) → IsLinked (at_of a v) (at_of b w)
@@ -78,7 +75,7 @@ in-front a b x y e =
 equal-turn : (a b : OrdInt) (before : Equation) → AreToldAfter Told (EqR True a b) before (map (equation_of Form) (raised_equations (pos 0) a b))
 equal-turn a b before =
     each-told listed Told (EqR True a b) before (raised_equations (pos 0) a b) told
-    (each-raised (IsLinked listed) (pos 0) a b (turned listed) (λ v. linked-at listed a b v (v +ℤ pos 0) (at v)))
+    (each-raised (IsLinked listed) (pos 0) a b (λ v. linked-at listed a b v (v +ℤ pos 0) (at v)))
   where
     listed : List Atom → List (Atom × Atom)
     listed view = eq_equations True (trimmed_int view a) (trimmed_int view b)
@@ -160,9 +157,9 @@ module _ (a b c : OrdInt) where
       each-append (IsLinked listed_sum) (only_if (is_constant a) (raised_equations (low_of a) b c) ++ only_if (is_constant b) (raised_equations (low_of b) a c)) (only_if (is_constant c) (mirrored_equations (low_of c) a b))
       (each-append (IsLinked listed_sum) (only_if (is_constant a) (raised_equations (low_of a) b c)) (only_if (is_constant b) (raised_equations (low_of b) a c))
       (each-if (IsLinked listed_sum) (is_constant a) (raised_equations (low_of a) b c)
-      (λ is. each-raised (IsLinked listed_sum) (low_of a) b c (turned listed_sum) (λ v. linked-at listed_sum b c v (v +ℤ low_of a) (first-linked is v))))
+      (λ is. each-raised (IsLinked listed_sum) (low_of a) b c (λ v. linked-at listed_sum b c v (v +ℤ low_of a) (first-linked is v))))
       (each-if (IsLinked listed_sum) (is_constant b) (raised_equations (low_of b) a c)
-      (λ is. each-raised (IsLinked listed_sum) (low_of b) a c (turned listed_sum) (λ v. linked-at listed_sum a c v (v +ℤ low_of b) (second-linked is v)))))
+      (λ is. each-raised (IsLinked listed_sum) (low_of b) a c (λ v. linked-at listed_sum a c v (v +ℤ low_of b) (second-linked is v)))))
       (each-if (IsLinked listed_sum) (is_constant c) (mirrored_equations (low_of c) a b)
       (λ is. each-mirrored (IsLinked listed_sum) (low_of c) a b (λ v. opposed-at listed_sum a b v (low_of c -ℤ v +ℤ pos 1) (third-linked is v))))
 

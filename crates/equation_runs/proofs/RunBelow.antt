@@ -25,7 +25,7 @@ use Rattle.rule_base.specs.Stated.{all_equal}
 use Rattle.rule_base.specs.Constant.{is_constant}
 use Rattle.rule_base.proofs.PairLaws.{EachOfPairs-append, EachOfPairs-only_if, EachOfPairs-map}
 use Rattle.rule_base.proofs.StatedLaws.{each-at_of, each-all_equal}
-use Rattle.arith_rules.specs.Links.{linked, opposed, opposed_above}
+use Rattle.arith_rules.specs.Links.{linked, linked_back, opposed, opposed_above}
 use Rattle.arith_rules.specs.SumRows.{raised_equations, mirrored_equations, sum3_constants}
 use Rattle.equation_runs.specs.Turns.{EquationsBelow}
 use Rattle.equation_runs.specs.RunRows.{equation_of, behind, chain_pairs, chains_of, link_pairs, run_of}
@@ -69,6 +69,10 @@ module _ (P : Atom → Type 0) (closed : IsClosed P) where
     each-linked link =
         EachOfPairs-map P (λ v. (at_of a v, at_of b (link v))) (values_of a) (λ v. (each-at_of P closed a v ea, each-at_of P closed b (link v) eb))
 
+    each-linked_back : (link : ℤ → ℤ) → EachOfPairs P (linked_back link a b)
+    each-linked_back link =
+        EachOfPairs-map P (λ v. (at_of b (link v), at_of a v)) (values_of a) (λ v. (each-at_of P closed b (link v) eb, each-at_of P closed a v ea))
+
     each-opposed : (link : ℤ → ℤ) → EachOfPairs P (opposed link a b)
     each-opposed link =
         EachOfPairs-map P (λ v. (at_of a v, not_atom (at_of b (link v)))) (values_of a)
@@ -81,7 +85,7 @@ module _ (P : Atom → Type 0) (closed : IsClosed P) where
 
   each-raised : (k : ℤ) (b c : OrdInt) → EachStep P b.steps → EachStep P c.steps → EachOfPairs P (raised_equations k b c)
   each-raised k b c eb ec =
-      EachOfPairs-append P (linked (λ v. v +ℤ k) b c) (linked (λ w. w -ℤ k) c b) (each-linked b c eb ec (λ v. v +ℤ k)) (each-linked c b ec eb (λ w. w -ℤ k))
+      EachOfPairs-append P (linked (λ v. v +ℤ k) b c) (linked_back (λ w. w -ℤ k) c b) (each-linked b c eb ec (λ v. v +ℤ k)) (each-linked_back c b ec eb (λ w. w -ℤ k))
 
   each-mirrored : (k : ℤ) (a b : OrdInt) → EachStep P a.steps → EachStep P b.steps → EachOfPairs P (mirrored_equations k a b)
   each-mirrored k a b ea eb =

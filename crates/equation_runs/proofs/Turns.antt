@@ -1,15 +1,32 @@
 -- A run is told in turn.
-use Rattle.std.proofs.Common.{◌≡◌, true, map}
+use Rattle.std.proofs.Common.{◌≡◌, ℕ, true, map, sym, subst, Result, Ok, Err}
+use Rattle.std.specs.Prelude.{IfOk}
+use Rattle.std.specs.Global.{Vec}
 use Rattle.core_forms.specs.declared.equation.Rule.TheVariants.{Order, Form}
 use Rattle.core_forms.specs.declared.form.Core.{Core}
+use Rattle.core_forms.specs.declared.equation.Equation.{Equation}
 use Rattle.core_forms.specs.Contents.{ints_of}
-use Rattle.equation_runs.specs.Turns.{AreToldInTurn, made_equation, is_stated}
+use Rattle.core_forms.specs.Place.{CoreBelow}
+use Rattle.equation_runs.specs.Turns.{AreToldInTurn, EquationsBelow, made_equation, is_stated}
 use Rattle.equation_runs.specs.RunRows.{equation_of, chains_of, link_pairs, run_of}
 use Rattle.equation_runs.proofs.LinkTurns.{Told, links-turn}
 use Rattle.equation_runs.proofs.ChainTurns.{append-turn, chains-turn}
+use Rattle.equation_runs.proofs.RunBelow.{run-below}
 
 -- first what follows along the integers, then what links two of them
 pub run-turn : (core : Core) → AreToldInTurn (λ c e. is_stated c e ≡ true) core (run_of core)
 run-turn core =
     append-turn Told core made_equation (map (equation_of Order) (chains_of (ints_of core))) (map (equation_of Form) (link_pairs core))
     (chains-turn core made_equation) (links-turn core)
+
+-- and so is what is the run
+pub told-of : {E : Type 0} (core : Core) (r : Result (Vec Equation) E) → IfOk r (λ run. run.items ≡ run_of core)
+    → IfOk r (λ run. AreToldInTurn (λ c e. is_stated c e ≡ true) core run.items)
+told-of core (Ok run) is = subst (AreToldInTurn (λ c e. is_stated c e ≡ true) core) (sym is) (run-turn core)
+told-of core (Err e) is = tt
+
+-- its variables are those of the core
+pub below-of : {E : Type 0} (core : Core) (r : Result (Vec Equation) E) → IfOk r (λ run. run.items ≡ run_of core)
+    → (n : ℕ) → CoreBelow n core → IfOk r (λ run. EquationsBelow n run.items)
+below-of core (Ok run) is n below = subst (EquationsBelow n) (sym is) (run-below n core below)
+below-of core (Err e) is n below = tt

@@ -19,7 +19,7 @@ use Rattle.arith_rules.specs.SumRows.{raised_equations, sum3_constants}
 abbrev pub equation_of : Rule → Atom × Atom → Equation
 equation_of rule p = record { rule = rule; a = p.0; b = p.1 }
 
--- behind the first step whose atom is a constant, each step's atom is that constant too
+-- of steps in an order: the atom of each one behind the first whose atom is the constant is that constant too
 abbrev pub behind : Atom → List (Atom × ℕ) → List (Atom × Atom)
 behind constant [] = []
 behind constant (s ∷ steps) = if same_atom s.0 constant then all_equal (map (λ t. t.0) steps) constant else behind constant steps

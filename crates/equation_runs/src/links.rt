@@ -3,7 +3,7 @@
 ghost use Rattle.std.specs.Prelude.{◌≡◌, ◌^◌, ◌<◌, [], ◌∷◌, ◌++◌, map, pos, ◌+ℤ◌, ◌-ℤ◌, neg_ℤ, unsigned_abs, OnOk};
 ghost use Rattle.core_forms.specs.WellFormed.{IsSound};
 ghost use Rattle.core_forms.specs.declared.equation.Rule.TheVariants.{Form};
-ghost use Rattle.arith_rules.specs.Links.{linked, opposed, opposed_above};
+ghost use Rattle.arith_rules.specs.Links.{linked, linked_back, opposed, opposed_above};
 ghost use Rattle.arith_rules.specs.SumRows.{raised_equations, mirrored_equations};
 ghost use Rattle.equation_runs.specs.RunRows.{equation_of};
 
@@ -67,6 +67,28 @@ fn push_linked(run: &mut Vec<Equation>, k: i128, a: &OrdInt, b: &OrdInt) -> Resu
     Ok(())
 }
 
+/// Adds the same with the atom of `b` first.
+fn push_linked_back(
+    run: &mut Vec<Equation>,
+    k: i128,
+    a: &OrdInt,
+    b: &OrdInt,
+) -> Result<(), AllocError>
+    requires k { unsigned_abs k < 2 ^ 110 }
+    requires a { IsSound a.now }
+    requires b { IsSound b.now }
+    ensures { OnOk result (run.new.items
+        ≡ run.old.items ++ map (equation_of Form) (linked_back (λ v. v +ℤ k) a.now b.now)) }
+{
+    let mut walk = Walk::along(b);
+    for (value, atom) in a.levels() {
+        let target = raised(value, k);
+        let other = walk.at(target);
+        push_pair(run, other, atom)?;
+    }
+    Ok(())
+}
+
 /// Adds, for each value of `a`, that `a` reaches it exactly where `b` is below `k` less that value, and 1.
 fn push_opposed(run: &mut Vec<Equation>, k: i128, a: &OrdInt, b: &OrdInt) -> Result<(), AllocError>
     requires k { unsigned_abs k < 2 ^ 110 }
@@ -125,7 +147,7 @@ pub(crate) fn push_raised(
 {
     push_linked(run, k, a, b)?;
     let back = minus(k);
-    push_linked(run, back, b, a)?;
+    push_linked_back(run, back, b, a)?;
     Ok(())
 }
 

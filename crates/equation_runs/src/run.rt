@@ -1,6 +1,6 @@
 //! The run of a core.
 
-ghost use Rattle.std.specs.Prelude.{◌≡◌, ℕ, true, ◌++◌, map, IfOk, OnOk};
+ghost use Rattle.std.specs.Prelude.{◌≡◌, ℕ, true, ◌+◌, ◌++◌, map, IfOk, OnOk};
 ghost use Rattle.core_forms.specs.Contents.{ints_of};
 ghost use Rattle.core_forms.specs.WellFormed.{IsWellFormed, IsSound};
 ghost use Rattle.core_forms.specs.declared.equation.Rule.TheVariants.{Order, Form};
@@ -16,8 +16,9 @@ use crate::chains::push_chains;
 use crate::links::{push_mirrored, push_raised};
 use core_forms::{Core, Equation};
 use order_ints::OrdInt;
-use rule_base::is_constant;
+use rule_base::{Steps, is_constant};
 use std::alloc::{AllocError, Global};
+use std::sync::ledger::Ledger;
 
 /// Adds the equations of `b` being `a` and a constant, added up, where `by` is one.
 fn push_raised_by(
@@ -90,20 +91,10 @@ fn push_links(run: &mut Vec<Equation>, core: &Core) -> Result<(), AllocError>
     }
 }
 
-/// Equations that a core tells one after another: upwards along the steps of each integer from a False one,
-/// and downwards from a True one; and between two of its integers, where these are equal or make up a
-/// constant, or where one is the other and a constant, added up. Whatever the store makes of the core later,
-/// each of them is made or is told of it when its turn comes. So one look at a core is enough for all of them,
-/// where each would else cost one of its own. Its time and memory are linear in the core; where there is no
-/// such equation it takes no memory.
-pub fn run_of(alloc: Global, core: &Core) -> Result<Vec<Equation>, AllocError>
+/// The equations along the integers of a core, and those that link two of them.
+fn equations_in_turn(alloc: Global, core: &Core) -> Result<Vec<Equation>, AllocError>
     requires { IsWellFormed core.now }
-    ensures shape { IfOk result (λ run. run.items ≡ run_of core.now) }
-
-    // Each of them is made, or stated of the core as the store has it, in every store in which the one before it
-    // is made.
-    ensures told { IfOk result (λ run. AreToldInTurn (λ c e. is_stated c e ≡ true) core.now run.items) }
-    ensures below { (n : ℕ) → CoreBelow n core.now → IfOk result (λ run. EquationsBelow n run.items) }
+    ensures { IfOk result (λ run. run.items ≡ run_of core.now) }
 {
     let mut run = Vec::new(alloc);
     for a in core.ints() {
@@ -111,4 +102,28 @@ pub fn run_of(alloc: Global, core: &Core) -> Result<Vec<Equation>, AllocError>
     }
     push_links(&mut run, core)?;
     Ok(run)
+}
+
+/// Equations that a core tells one after another: upwards along the steps of each integer from a False one,
+/// and downwards from a True one; and between two of its integers, where these are equal or make up a
+/// constant, or where one is the other and a constant, added up. Whatever the store makes of the core later,
+/// each of them is made or is told of it when its turn comes. So one look at a core is enough for all of them,
+/// where each would else cost one of its own. Its time and memory are linear in the core; where there is no
+/// such equation it takes no memory. It counts one step.
+pub fn run_of<L: Ledger>(
+    alloc: Global,
+    core: &Core,
+    steps: &mut Steps<L>,
+) -> Result<Vec<Equation>, AllocError>
+    requires { IsWellFormed core.now }
+    ensures shape { IfOk result (λ run. run.items ≡ run_of core.now) }
+
+    // Each of them is made, or stated of the core as the store has it, in every store in which the one before it
+    // is made.
+    ensures told { IfOk result (λ run. AreToldInTurn (λ c e. is_stated c e ≡ true) core.now run.items) }
+    ensures below { (n : ℕ) → CoreBelow n core.now → IfOk result (λ run. EquationsBelow n run.items) }
+    ensures steps { steps.new ≡ steps.old + 1 }
+{
+    steps.tick();
+    equations_in_turn(alloc, core)
 }

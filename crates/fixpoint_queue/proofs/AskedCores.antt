@@ -25,11 +25,11 @@ use Rattle.equation_store.proofs.Owners.{merge_takes_one}
 use Rattle.index_ring.specs.Lists.{times, without}
 use Rattle.index_ring.proofs.Times.{length-without, times-without}
 use Rattle.step_kernel.specs.Kernel.{Kernel, core_at, trimmed_at}
-use Rattle.step_kernel.specs.Parts.{is_compound_of}
+use Rattle.core_parts.specs.Parts.{is_compound_of}
 use Rattle.step_kernel.specs.Least.{is_compound_if}
-use Rattle.step_kernel.specs.Instances.{is_instance_at}
+use Rattle.core_rules.specs.Instances.{is_instance_at}
 use Rattle.step_kernel.specs.Steps.{equated}
-use Rattle.step_kernel.proofs.InstanceLaws.{instance-different}
+use Rattle.core_rules.proofs.InstanceLaws.{instance-different}
 use Rattle.step_kernel.proofs.There.{is-there, there-labels, there-equated}
 use Rattle.step_kernel.proofs.Splits.{at-bounds}
 use Rattle.fixpoint_queue.specs.IdQueue.{Ids, IsIds}

@@ -31,9 +31,9 @@ use Rattle.ledger_text.specs.declared.line.Line.{Line}
 use Rattle.ledger_text.specs.declared.line.Line.TheVariants.{Equate}
 use Rattle.step_kernel.specs.declared.fault.StepFault.{StepFault}
 use Rattle.step_kernel.specs.Kernel.{Kernel, core_at, trimmed_at, pending}
-use Rattle.step_kernel.specs.Instances.{is_instance_at}
+use Rattle.core_rules.specs.Instances.{is_instance_at}
 use Rattle.step_kernel.specs.Steps.{step, equated}
-use Rattle.step_kernel.proofs.InstanceLaws.{instance-each}
+use Rattle.core_rules.proofs.InstanceLaws.{instance-each}
 use Rattle.step_kernel.proofs.Splits.{there-bounds}
 use Rattle.step_kernel.proofs.There.{is-there, there-labels}
 use Rattle.fixpoint_queue.specs.IdQueue.{Ids}

@@ -5,7 +5,7 @@ use Rattle.std.proofs.lemmas.Bool.Decides.{nat_tests}
 use Rattle.core_forms.specs.declared.form.Core.{Core}
 use Rattle.core_forms.specs.Trimmed.{trimmed_core}
 use Rattle.step_kernel.specs.Kernel.{Kernel, trimmed_at}
-use Rattle.step_kernel.specs.Parts.{is_compound_of}
+use Rattle.core_parts.specs.Parts.{is_compound_of}
 use Rattle.step_kernel.specs.Least.{least_from, is_compound_if, least_compound_of}
 use Rattle.step_kernel.proofs.LeastCompound.{core_at-next}
 use Rattle.fixpoint_queue.specs.Marks.{mark_of, least_marked}

@@ -1,9 +1,7 @@
 pub mod Ids
 pub mod NextRun
-pub mod NotDifferent
 pub mod Started
 pub mod StartedRun
-pub mod Told
 pub mod Quieter
 pub mod Waking
 pub mod AskedCores

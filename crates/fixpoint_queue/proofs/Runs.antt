@@ -22,16 +22,12 @@ use Rattle.equation_store.proofs.Changes.{merge_is_later, merge_labelled}
 use Rattle.equation_store.proofs.Facts.{is_merge}
 use Rattle.equation_store.proofs.Merge.{merge_resolves}
 use Rattle.equation_runs.specs.Turns.{resolved_equation, IsMade, IsMadeOrTold, AreToldAfter, AreToldInTurn, made_equation, EquationsBelow, is_stated}
-use Rattle.equi_rules.specs.Instances.{is_instance_of as is_equi_instance}
-use Rattle.arith_rules.specs.Instances.{is_instance_of as is_arith_instance}
-use Rattle.alldiff_rules.specs.Instances.{is_instance_of as is_alldiff_instance}
-use Rattle.table_rules.specs.Instances.{is_instance_of as is_table_instance}
 use Rattle.index_ring.specs.Lists.{times}
 use Rattle.core_occurrences.specs.Lists.{OccurrenceLists}
 use Rattle.ledger_text.specs.declared.line.Line.{Line}
 use Rattle.ledger_text.specs.declared.line.Line.TheVariants.{Equate}
 use Rattle.step_kernel.specs.Kernel.{Kernel, trimmed_at, IsKernel}
-use Rattle.step_kernel.specs.Instances.{is_instance_at}
+use Rattle.core_rules.specs.Instances.{is_instance_at}
 use Rattle.step_kernel.specs.Steps.{step, equated}
 use Rattle.step_kernel.proofs.Holes.{below-there}
 use Rattle.step_kernel.proofs.There.{is-there, there-below, there-labels}
@@ -138,29 +134,6 @@ below-next n run i low below = subst (EquationsBelow n) (drop_more run i made_eq
 pub unless-bottom : {T : Type 0} (bottom : Bool) → bottom ≡ false → (bottom ≡ true) ⊎ T → T
 unless-bottom bottom running (inl h) = absurd (false≢true (sym running ∙ h))
 unless-bottom bottom running (inr t) = t
-
--- what is told in turn is told by each weaker meaning
-turns-weaker : (told other : Core → Equation → Type 0) → ((c : Core) (e : Equation) → told c e → other c e) → (core : Core) (before : Equation) (run : List Equation)
-    → AreToldAfter told core before run → AreToldAfter other core before run
-turns-weaker told other weaker core before [] turns = tt
-turns-weaker told other weaker core before (e ∷ run) turns = (λ view made. by view (turns.0 view made), turns-weaker told other weaker core e run turns.1)
-  where
-    by : (view : List Atom) → IsMadeOrTold told core view e → IsMadeOrTold other core view e
-    by view (inl made) = inl made
-    by view (inr tells) = inr (weaker (trimmed_core view core) (resolved_equation view e) tells)
-
-stated-instance : (core : Core) (e : Equation) → is_stated core e ≡ true → is_instance_at core e ≡ true
-stated-instance core e h = by (is_equi_instance core e) (is_arith_instance core e) (is_alldiff_instance core e || is_table_instance core e) h
-  where
-    by : (a b c : Bool) → (a || b) ≡ true → (a || (b || c)) ≡ true
-    by true b c h = refl
-    by false true c h = refl
-    by false false c h = absurd (false≢true h)
-
-pub run-told : {V E : Type 0} (items : V → List Equation) (core : Core) (r : Result V E) → IfOk r (λ run. AreToldInTurn (λ c e. is_stated c e ≡ true) core (items run))
-    → IfOk r (λ run. AreToldInTurn (λ c e. is_instance_at c e ≡ true) core (items run))
-run-told items core (Ok run) turns = turns-weaker (λ c e. is_stated c e ≡ true) (λ c e. is_instance_at c e ≡ true) stated-instance core made_equation (items run) turns
-run-told items core (Err e) turns = tt
 
 -- ---- what was taken
 

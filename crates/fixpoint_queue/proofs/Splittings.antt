@@ -19,7 +19,7 @@ use Rattle.index_ring.proofs.Times.{times-without}
 use Rattle.step_kernel.specs.declared.fault.StepFault.{StepFault}
 use Rattle.step_kernel.specs.declared.fault.StepFault.TheVariants.{AfterBottom, NotCompound}
 use Rattle.step_kernel.specs.Kernel.{Kernel, core_at, trimmed_at, IsKernel}
-use Rattle.step_kernel.specs.Parts.{parts_at}
+use Rattle.core_parts.specs.Parts.{parts_at}
 use Rattle.step_kernel.specs.SplitAt.{ArePartsAt}
 use Rattle.step_kernel.specs.Steps.{step, step_at, unless_fault, divided, without}
 use Rattle.step_kernel.proofs.Costs.{trimmed-more}

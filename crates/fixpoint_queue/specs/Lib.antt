@@ -7,7 +7,6 @@ pub mod Walks
 pub mod Marks
 pub mod Run
 pub mod Standing
-pub mod FormInstances
 pub mod Wider
 pub mod Pairs
 pub mod Taken

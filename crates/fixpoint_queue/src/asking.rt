@@ -6,7 +6,7 @@ ghost use Rattle.index_ring.specs.Lists.{times, without};
 ghost use Rattle.core_forms.specs.declared.equation.Equation.{Equation};
 ghost use Rattle.step_kernel.specs.Kernel.{Kernel, trimmed_at, IsKernel};
 ghost use Rattle.ledger_text.specs.declared.line.Line.TheVariants.{Equate};
-ghost use Rattle.step_kernel.specs.Instances.{is_instance_at};
+ghost use Rattle.core_rules.specs.Instances.{is_instance_at};
 ghost use Rattle.step_kernel.specs.Steps.{step, equated};
 ghost use Rattle.fixpoint_queue.specs.IdQueue.{IsIds};
 ghost use Rattle.core_occurrences.specs.Lists.{Occurs};
@@ -29,7 +29,7 @@ use step_kernel::{State, is_compound};
 
 /// Asks one core, which stands here as the store has it: where it tells an equation, that is taken, with those
 /// that it tells one after another; and else the core leaves the queue.
-fn ask_core<F: Oracle, L: Ledger>(
+fn ask_core<F: Oracle<L>, L: Ledger>(
     alloc: Global,
     oracle: F,
     state: &mut State,
@@ -54,11 +54,10 @@ fn ask_core<F: Oracle, L: Ledger>(
     ensures less { OnOk result (left_to_do state.new queue.new < left_to_do state.old queue.old) }
 {
     match oracle.ask(alloc, core, steps)? {
-        Some(e) => {
-            let run = oracle.run(alloc, core)?;
-            ledger.reserve(1 + run.len())?;
-            take_equation(state, occurs, queue, ledger, u64::from(id), e);
-            take_run::<F>(
+        Some(found) => {
+            ledger.reserve(1 + found.run.len())?;
+            take_equation(state, occurs, queue, ledger, u64::from(id), found.equation);
+            take_run::<F, L>(
                 state,
                 occurs,
                 queue,
@@ -66,7 +65,7 @@ fn ask_core<F: Oracle, L: Ledger>(
                 ledger,
                 id,
                 core,
-                run.as_slice(),
+                found.run.as_slice(),
             );
             Ok(())
         }
@@ -79,7 +78,7 @@ fn ask_core<F: Oracle, L: Ledger>(
 }
 
 /// Asks the first core of the queue.
-fn ask_first<F: Oracle, L: Ledger>(
+fn ask_first<F: Oracle<L>, L: Ledger>(
     alloc: Global,
     oracle: F,
     state: &mut State,
@@ -111,7 +110,7 @@ fn ask_first<F: Oracle, L: Ledger>(
 
 /// Asks the cores of the queue, one after another, until the queue is empty or a contradiction was found. Each
 /// is asked until it tells nothing.
-pub fn ask_all<F: Oracle, L: Ledger>(
+pub fn ask_all<F: Oracle<L>, L: Ledger>(
     alloc: Global,
     oracle: F,
     state: &mut State,

@@ -17,6 +17,7 @@ use crate::runner::Runner;
 use core_occurrences::Occurrences;
 use ledger_text::Line;
 use std::alloc::AllocError;
+use std::sync::ledger::Ledger;
 
 /// Takes a core from its variables, from the queue and from the marks.
 pub fn leave(occurs: &mut Occurrences, queue: &mut IdQueue, marks: &mut Marks, id: u32)
@@ -35,7 +36,7 @@ pub fn leave(occurs: &mut Occurrences, queue: &mut IdQueue, marks: &mut Marks, i
     marks.set(id, false);
 }
 
-impl<F: Oracle> Runner<F> {
+impl<F: Oracle<L>, L: Ledger> Runner<F, L> {
     /// Encodes a core that is basic as the store has it: its clauses come behind those that are there, and one
     /// line behind the ledger's. No core is queued. It fails for want of memory alone, and then nothing has changed.
     pub fn encode(&mut self, id: u64) -> Result<(), AllocError>

@@ -19,24 +19,25 @@ use core_occurrences::Occurrences;
 use ledger_text::Line;
 use rule_base::Steps;
 use std::alloc::{AllocError, Global};
-use std::marker::Model;
+use std::marker::{Model, PhantomData};
 use std::sync::ledger::Ledger;
 use step_kernel::State;
 
 /// A state with the ledger of its lines, and a queue of the cores that may tell an equation which the store
-/// lacks. For each variable it keeps which pending cores have it, so that an equation queues those at the
+/// lacks to an oracle whose questions are counted in `L`. For each variable it keeps which pending cores have it, so that an equation queues those at the
 /// class that gets a new label, and no others.
 #[derive(Drop)]
-pub struct Runner<F: Oracle> {
+pub struct Runner<F: Oracle<L>, L: Ledger> {
     pub(crate) state: State,
     pub(crate) oracle: F,
     pub(crate) ledger: Vec<Line>,
     pub(crate) occurs: Occurrences,
     pub(crate) queue: IdQueue,
     pub(crate) marks: Marks,
+    pub(crate) counted_in: PhantomData<L>,
 }
 
-impl<F: Oracle> Model for Runner<F> {
+impl<F: Oracle<L>, L: Ledger> Model for Runner<F, L> {
     ghost use Rattle.fixpoint_queue.specs.Run.{Run};
     ghost use Rattle.fixpoint_queue.specs.Waits.{IsRun};
 
@@ -47,10 +48,10 @@ impl<F: Oracle> Model for Runner<F> {
     ghost invariant = { λ s. IsRun F.told s.state s.occurs s.queue s.marks };
 }
 
-impl<F: Oracle> Runner<F> {
+impl<F: Oracle<L>, L: Ledger> Runner<F, L> {
     /// A state whose pending cores are all queued, with no line. Where there are 2^31 - 2 ids or more, it is as
     /// if memory were wanting.
-    pub fn with(alloc: Global, state: State, oracle: F) -> Result<Runner<F>, AllocError>
+    pub fn with(alloc: Global, state: State, oracle: F) -> Result<Runner<F, L>, AllocError>
         ensures kernel { IfOk result (λ made. made.kernel ≡ state) }
         ensures ledger { IfOk result (λ made. made.ledger ≡ []) }
 
@@ -75,6 +76,7 @@ impl<F: Oracle> Runner<F> {
             occurs,
             queue,
             marks,
+            counted_in: PhantomData,
         })
     }
 
@@ -96,7 +98,7 @@ impl<F: Oracle> Runner<F> {
 
     /// Asks the cores of the queue until none is left, or a contradiction was found, and adds an equation to
     /// the ledger for each that is told. Where memory is wanting, the state stands for the ledger so far.
-    pub fn saturate<L: Ledger>(&mut self, steps: &mut Steps<L>) -> Result<(), AllocError>
+    pub fn saturate(&mut self, steps: &mut Steps<L>) -> Result<(), AllocError>
         ensures lines { AddsEquations F.told self.old.ledger self.old.kernel self.new.ledger self.new.kernel }
         ensures empty { OnOk result (self.new.kernel.bottom ≡ true ⊎ self.new.queued ≡ []) }
         ensures closed { OnOk result (self.new.kernel.bottom ≡ true ⊎ IsClosed F.told self.new.kernel) }

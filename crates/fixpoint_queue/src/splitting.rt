@@ -18,6 +18,7 @@ use bee_list::Sequence;
 use ledger_text::Line;
 use part_base::Parts;
 use std::alloc::{AllocError, Global};
+use std::sync::ledger::Ledger;
 use step_kernel::State;
 
 /// The parts of a core that is compound as the store has it, and the variables of each.
@@ -39,7 +40,7 @@ fn parts_with_variables(
     Ok((parts, lists))
 }
 
-impl<F: Oracle> Runner<F> {
+impl<F: Oracle<L>, L: Ledger> Runner<F, L> {
     /// Splits a core that is compound as the store has it: its parts come behind the cores that are there, and
     /// into the queue, and one line behind the ledger's. It takes all memory first; it fails for want of memory
     /// alone, and then nothing has changed. It costs the size of the parts.

@@ -24,6 +24,7 @@ use crate::wake::wake;
 use core_forms::{Core, Equation};
 use core_occurrences::Occurrences;
 use ledger_text::Line;
+use std::sync::ledger::Ledger;
 use step_kernel::State;
 
 /// Queues the cores that may tell something new once an equation is made.
@@ -83,7 +84,7 @@ fn resolved(state: &State, e: &Equation) -> Equation
 }
 
 /// Takes an equation of a run, as the store has it, unless it is made already.
-fn take_next<F: Oracle>(
+fn take_next<F: Oracle<L>, L: Ledger>(
     state: &mut State,
     occurs: &Occurrences,
     queue: &mut IdQueue,
@@ -115,7 +116,7 @@ fn take_next<F: Oracle>(
 }
 
 /// Takes equations that a core tells one after another, up to a contradiction.
-pub fn take_run<F: Oracle>(
+pub fn take_run<F: Oracle<L>, L: Ledger>(
     state: &mut State,
     occurs: &Occurrences,
     queue: &mut IdQueue,
@@ -139,6 +140,6 @@ pub fn take_run<F: Oracle>(
         if state.bottom() {
             return;
         }
-        take_next::<F>(state, occurs, queue, marks, ledger, id, core, e);
+        take_next::<F, L>(state, occurs, queue, marks, ledger, id, core, e);
     }
 }

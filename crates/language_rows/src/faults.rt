@@ -234,3 +234,73 @@ static FAULTS: [(&str, &str); 91] = [
 fn faults(rt: HostRuntime) -> Result<(), Fail> {
     says(&rt, rt.alloc(), &FAULTS)
 }
+
+/// Faults of listed domains and of second objectives, and models that have them.
+static LISTED_OR_SECOND: [(&str, &str); 25] = [
+    (
+        "new_int(i,0,1) new_bool(x) bool2int(x,j) solve maximize(i)then(j)",
+        "model",
+    ),
+    ("new_int(i,0,1) solve minimize i then i", "model"),
+    ("new_int(then,0,1) solve minimize then then then", "model"),
+    ("new_int(x,[5]) solve satisfy", "model"),
+    ("new_int(x,[3,-1,3]) solve minimize x", "model"),
+    ("new_int(x,[]) solve satisfy", "statement 1: empty domain"),
+    ("new_int(x,[5],7) solve satisfy", "statement 1: kind"),
+    ("new_int(x,1,[2]) solve satisfy", "statement 1: kind"),
+    ("new_int(x,[a]) solve satisfy", "statement 1: undeclared"),
+    ("new_int(x,[-a]) solve satisfy", "statement 1: undeclared"),
+    ("new_int(x,[x]) solve satisfy", "statement 1: undeclared"),
+    ("new_int(x,[1,true]) solve satisfy", "statement 1: kind"),
+    (
+        "new_bool(y) new_int(x,[1,y]) solve satisfy",
+        "statement 2: kind",
+    ),
+    ("new_int(true,[]) solve satisfy", "statement 1: kind"),
+    (
+        "new_bool(x) new_int(x,[]) solve satisfy",
+        "statement 2: twice",
+    ),
+    (
+        "new_int(i,[3,-1]) int_div(i,1,i) solve satisfy",
+        "statement 2: division domain",
+    ),
+    (
+        "new_int(j,[3,0]) int_mod(6,j,1) solve satisfy",
+        "statement 2: division domain",
+    ),
+    ("new_int(j,[3,1]) int_div(6,j,1) solve satisfy", "model"),
+    (
+        "new_int(i,0,1) solve minimize i then x",
+        "statement 2: undeclared",
+    ),
+    (
+        "new_int(i,0,1) solve minimize x then i",
+        "statement 2: undeclared",
+    ),
+    (
+        "new_bool(x) solve minimize y then x",
+        "statement 2: undeclared",
+    ),
+    (
+        "new_bool(x) solve maximize x then y",
+        "statement 2: undeclared",
+    ),
+    (
+        "new_bool(x) new_int(i,0,1) solve minimize i then x",
+        "statement 3: kind",
+    ),
+    (
+        "new_bool(x) new_int(i,0,1) solve maximize x then i",
+        "statement 3: kind",
+    ),
+    (
+        "new_int(i,0,1) solve minimize i then true",
+        "statement 2: kind",
+    ),
+];
+
+#[test]
+fn faults_of_lists_and_second_objectives(rt: HostRuntime) -> Result<(), Fail> {
+    says(&rt, rt.alloc(), &LISTED_OR_SECOND)
+}

@@ -1,8 +1,8 @@
 //! Models with what they are lowered to, worked out by hand.
 
 ghost use Rattle.std.specs.Prelude.{IfOk};
-ghost use Rattle.typed_model.specs.WellTyped.{WellTyped};
-ghost use Rattle.typed_model.specs.Limits.{InLimits};
+ghost use Rattle.model_meaning.specs.WellTyped.{WellTyped};
+ghost use Rattle.model_meaning.specs.Limits.{InLimits};
 
 use crate::shown::show;
 use bumblebee_reader::read_model;

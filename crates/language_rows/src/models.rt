@@ -16,9 +16,13 @@ use typed_model::{
 fn declaration_shown(alloc: Global, decl: &Decl) -> Result<String, Fail> {
     let number = decl.number;
     let name = String::from_utf8(Vec::from_slice(alloc, decl.name.as_bytes())?)?;
-    match decl.kind {
+    match &decl.kind {
         Kind::Bool => Ok(format!(in alloc; "{number} {name}")?),
-        Kind::Int { low, high } => Ok(format!(in alloc; "{number} {name} {low}..{high}")?),
+        Kind::Range { low, high } => Ok(format!(in alloc; "{number} {name} {low}..{high}")?),
+        Kind::Listed { values } => {
+            let values = values.as_slice();
+            Ok(format!(in alloc; "{number} {name} {values:?}")?)
+        }
     }
 }
 
@@ -43,11 +47,23 @@ fn items_have_their_numbers(rt: HostRuntime) -> Result<(), Fail> {
     for (text, want) in [
         (
             "new_bool(x) int_eq(1,1) new_int(k,-2,3) bool2int(x,i) solve maximize k",
-            "1 x; 3 k -2..3; 4 i 0..1; 2 4 Maximize(1)",
+            "1 x; 3 k -2..3; 4 i 0..1; 2 4 Maximize(1, None)",
         ),
         (
             "new_bool(x) int_eq(1,1) new_int(k,-2,3) bool2int(-x,i) solve minimize i",
-            "1 x; 3 k -2..3; 4 i 0..1; 2 4 Minimize(2)",
+            "1 x; 3 k -2..3; 4 i 0..1; 2 4 Minimize(2, None)",
+        ),
+        (
+            "new_int(i,0,1) new_int(j,0,2) solve minimize j then i",
+            "1 i 0..1; 2 j 0..2; Minimize(1, Some(0))",
+        ),
+        (
+            "new_int(i,[7,1,3,1]) solve maximize i",
+            "1 i [1, 3, 7]; Maximize(0, None)",
+        ),
+        (
+            "new_int(then,0,1) solve maximize then then then",
+            "1 then 0..1; Maximize(0, Some(0))",
         ),
         ("solve satisfy", "Satisfy"),
     ] {
@@ -93,6 +109,25 @@ fn domains_have_their_bounds(rt: HostRuntime) -> Result<(), Fail> {
     for (numbers, want) in DOMAINS {
         let a = assignment(rt.alloc(), numbers)?;
         assert_eq!(rt; in_domains(&found, &a), want, "{numbers}");
+    }
+    Ok(())
+}
+
+#[test]
+fn listed_domains_have_their_values(rt: HostRuntime) -> Result<(), Fail> {
+    let found = model(rt.alloc(), "new_int(i,[7,-5,3,-5]) solve satisfy")?;
+    for (number, want) in [
+        ("-6", false),
+        ("-5", true),
+        ("-4", false),
+        ("0", false),
+        ("3", true),
+        ("5", false),
+        ("7", true),
+        ("8", false),
+    ] {
+        let a = assignment(rt.alloc(), number)?;
+        assert_eq!(rt; in_domains(&found, &a), want, "{number}");
     }
     Ok(())
 }

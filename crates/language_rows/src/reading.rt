@@ -131,6 +131,47 @@ fn reads_and_prints_short_texts(rt: HostRuntime) -> Result<(), Fail> {
     Ok(())
 }
 
+/// A second objective. `then` names no call, and elsewhere it is a name like others.
+static SECOND_OBJECTIVES: [(&[u8], &[u8]); 19] = [
+    (b"solve minimize x then y", b"solve minimize x then y\n"),
+    (b"solve\nmaximize(x)then(\ny)", b"solve maximize x then y\n"),
+    (b"solve minimize x\nthen(y)", b"solve minimize x then y\n"),
+    (
+        b"solve minimize then then then",
+        b"solve minimize then then then\n",
+    ),
+    (
+        b"new_int(then,0,1)\nsolve minimize then then then",
+        b"new_int(then,0,1)\nsolve minimize then then then\n",
+    ),
+    (b"f(then,[-then])", b"f(then,[-then])\n"),
+    (b"then_x(y)", b"then_x(y)\n"),
+    (
+        b"solve minimize x solve minimize y then z",
+        b"solve minimize x\nsolve minimize y then z\n",
+    ),
+    (b"solve minimize x f(y)", b"solve minimize x\nf(y)\n"),
+    (b"then(x)", b"syntax 1"),
+    (b"f(x)\nthen(y)", b"syntax 2"),
+    (b"solve satisfy\nthen x", b"syntax 2"),
+    (b"solve minimize x then", b"syntax 1"),
+    (b"solve minimize x\nthen\n\n", b"syntax 4"),
+    (b"solve minimize x then 5", b"syntax 1"),
+    (b"solve minimize x then (y", b"syntax 1"),
+    (b"solve minimize x then ((y))", b"syntax 1"),
+    (b"solve minimize x then y\nthen z", b"syntax 2"),
+    (b"solve minimize x\n1073741825", b"syntax 2"),
+];
+
+#[test]
+fn reads_and_prints_second_objectives(rt: HostRuntime) -> Result<(), Fail> {
+    for (text, want) in SECOND_OBJECTIVES {
+        let got = shown(rt.alloc(), text)?;
+        assert_eq!(rt; got.as_slice(), want, "at {text:?}");
+    }
+    Ok(())
+}
+
 /// Whether the items are the call `f(x,[-y,-3])` and the goal `solve minimize z`.
 fn has_parts(items: &[Item]) -> bool {
     let [
@@ -138,6 +179,7 @@ fn has_parts(items: &[Item]) -> bool {
         Item::Goal {
             kind,
             objective: Some(objective),
+            second: None,
         },
     ] = items
     else {
@@ -180,12 +222,20 @@ fn next_shown(alloc: Global, items: &mut Items<'_>) -> Result<Vec<u8>, Fail> {
 }
 
 /// Texts, and what three calls give of each.
-static CALLS: [(&[u8], [&[u8]; 3]); 5] = [
+static CALLS: [(&[u8], [&[u8]; 3]); 7] = [
     (b" % no item", [b"end", b"end", b"end"]),
     (b"f(x)\n% c\n", [b"f(x)\n", b"end", b"end"]),
     (
         b"f(x)solve minimize (z)\n",
         [b"f(x)\n", b"solve minimize z\n", b"end"],
+    ),
+    (
+        b"solve minimize x\nf(y)",
+        [b"solve minimize x\n", b"f(y)\n", b"end"],
+    ),
+    (
+        b"solve minimize x\nthen",
+        [b"syntax 2", b"syntax 2", b"syntax 2"],
     ),
     (b"f(x)\ng(\n)", [b"f(x)\n", b"syntax 3", b"syntax 3"]),
     (

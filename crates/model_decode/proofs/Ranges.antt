@@ -11,10 +11,11 @@ use Rattle.order_ints.specs.OrderRange.{low_of, high_of}
 use Rattle.order_ints.specs.Numbers.{number_of}
 use Rattle.order_ints.proofs.Gains.{low-le, high-ge}
 use Rattle.order_ints.proofs.Wide.{small_bits}
-use Rattle.typed_model.specs.declared.model.Kind.{Kind}
-use Rattle.typed_model.specs.declared.model.Kind.TheVariants as kind
-use Rattle.typed_model.specs.declared.model.Decl.{Decl}
-use Rattle.typed_model.specs.Limits.{InLimit}
+use Rattle.model_meaning.specs.declared.model.Kind.{Kind}
+use Rattle.model_meaning.specs.declared.model.Kind.TheVariants as kind
+use Rattle.model_meaning.specs.declared.model.Decl.{Decl}
+use Rattle.model_meaning.specs.Limits.{InLimit}
+use Rattle.value_lists.specs.ValueLists.{first_of, last_of}
 use Rattle.statement_lower.specs.Entries.{EntryFits, EntriesFit}
 use Rattle.model_decode.specs.Short.{IsShort, AreShort}
 
@@ -44,9 +45,12 @@ limit-fits z h = omega (arith, ints)
 entry-short : (n : ℕ) (k : Kind) (v : MapValue) → EntryFits n k v → IsShort v
 entry-short n kind.Bool (values.Bool a) h = tt
 entry-short n kind.Bool (values.Int a) h = absurd h
-entry-short n (kind.Int low high) (values.Bool a) h = absurd h
-entry-short n (kind.Int low high) (values.Int a) h =
+entry-short n (kind.Range low high) (values.Bool a) h = absurd h
+entry-short n (kind.Range low high) (values.Int a) h =
     (subst (FitsSigned w64) (sym h.least) (limit-fits low h.low_in_limit), subst (FitsSigned w64) (sym h.greatest) (limit-fits high h.high_in_limit))
+entry-short n (kind.Listed vs) (values.Bool a) h = absurd h
+entry-short n (kind.Listed vs) (values.Int a) h =
+    (subst (FitsSigned w64) (sym h.fits.least) (limit-fits (first_of vs) h.fits.low_in_limit), subst (FitsSigned w64) (sym h.fits.greatest) (limit-fits (last_of vs) h.fits.high_in_limit))
 
 pub entries-short : (n : ℕ) (ds : List Decl) (map : List MapValue) → EntriesFit n ds map → AreShort map
 entries-short n [] [] h = tt

@@ -6,7 +6,7 @@ use Rattle.order_ints.specs.Numbers.{numbers_of}
 use Rattle.order_ints.proofs.Labels.{length-own_labels}
 use Rattle.core_forms.specs.declared.equation.Equation.{Equation}
 use Rattle.core_forms.specs.declared.form.Core.{Core}
-use Rattle.typed_model.specs.declared.model.Decl.{Decl}
+use Rattle.model_meaning.specs.declared.model.Decl.{Decl}
 use Rattle.statement_lower.proofs.EntryLaws.{numbers_of-agree}
 use Rattle.model_lower.specs.declared.state.Lowered.{Lowered}
 use Rattle.model_lower.specs.Lowering.{lowered_of}

@@ -10,10 +10,10 @@ use Rattle.step_kernel.specs.Kernel.{Kernel}
 use Rattle.step_kernel.specs.CnfOf.{cnf_of}
 use Rattle.state_compile.specs.Compilation.{IsCompilation}
 use Rattle.state_compile.specs.StandsFor.{read_by}
-use Rattle.typed_model.specs.declared.model.Model.{Model}
-use Rattle.typed_model.specs.WellTyped.{WellTyped}
-use Rattle.typed_model.specs.Limits.{InLimits}
-use Rattle.typed_model.specs.Solutions.{IsSolution}
+use Rattle.model_meaning.specs.declared.model.Model.{Model}
+use Rattle.model_meaning.specs.WellTyped.{WellTyped}
+use Rattle.model_meaning.specs.Limits.{InLimits}
+use Rattle.model_meaning.specs.Solutions.{IsSolution}
 use Rattle.model_weight.specs.Weight.{weight_of}
 use Rattle.model_lower.specs.Lowering.{lowered_of}
 use Rattle.model_lower.specs.Weighed.{most_weight}

@@ -2,8 +2,8 @@
 use Rattle.std.proofs.Common.{◌≡◌, ◌<◌, true, false, List, [], ◌∷◌, refl, arith}
 use Rattle.std.specs.Prelude.{◌==◌, nat_lt}
 use Rattle.std.proofs.lemmas.Bool.Decides.{nat_tests}
-use Rattle.typed_model.specs.declared.model.Decl.{Decl}
-use Rattle.typed_model.specs.declared.model.Stmt.{Stmt}
+use Rattle.model_meaning.specs.declared.model.Decl.{Decl}
+use Rattle.model_meaning.specs.declared.model.Stmt.{Stmt}
 use Rattle.model_items.specs.Items.{Declaration, Statement, Definition, items_of}
 
 pub statement-first : (d : Decl) (ds : List Decl) (s : Stmt) (ss : List Stmt) → s.number < d.number → items_of (d ∷ ds) (s ∷ ss) ≡ Statement s ∷ items_of (d ∷ ds) ss

@@ -1,6 +1,6 @@
 -- Items in the limits of a text.
 use Rattle.std.specs.Prelude.{List, [], ◌∷◌}
-use Rattle.typed_model.specs.Limits.{KindInLimit, WhatInLimit}
+use Rattle.model_meaning.specs.Limits.{KindInLimit, WhatInLimit}
 use Rattle.model_items.specs.Items.{ModelItem, Declaration, Statement, Definition}
 
 -- the domain of a declaration, and the numbers of a statement and its members

@@ -1,13 +1,13 @@
 //! The items of a model, one at a time.
 
 ghost use Rattle.std.specs.Prelude.{◌≡◌, ◌∷◌, [], MatchOption};
-ghost use Rattle.typed_model.specs.Limits.{DeclsInLimit, StmtsInLimit};
+ghost use Rattle.model_meaning.specs.Limits.{DeclsInLimit, StmtsInLimit};
 ghost use Rattle.model_items.specs.Items.{items_of};
 ghost use Rattle.model_items.specs.ItemLimits.{ItemsInLimit};
 ghost use Rattle.model_items.specs.Lent.{lent_item};
 
+use model_meaning::{Decl, Stmt};
 use std::marker::Model;
-use typed_model::{Decl, Stmt};
 
 /// An item of a model.
 #[derive(Drop)]

@@ -6,20 +6,20 @@ use Rattle.order_ints.specs.declared.atom.Atom.{Atom}
 use Rattle.order_ints.specs.declared.order_int.MapValue.{MapValue}
 use Rattle.order_ints.specs.Truth.{Valuation, atom_truth}
 use Rattle.order_ints.specs.Numbers.{numbers_of}
-use Rattle.typed_model.specs.declared.model.Kind.{Kind}
-use Rattle.typed_model.specs.declared.model.Kind.TheVariants as kind
-use Rattle.typed_model.specs.declared.model.Decl.{Decl}
-use Rattle.typed_model.specs.declared.what.BoolTerm.{BoolTerm}
-use Rattle.typed_model.specs.declared.what.BoolTerm.TheVariants as bool_term
-use Rattle.typed_model.specs.declared.what.IntTerm.TheVariants as int_term
-use Rattle.typed_model.specs.declared.what.What.{What}
-use Rattle.typed_model.specs.declared.what.What.TheVariants.{L3}
-use Rattle.typed_model.specs.Terms.{value_at, truth_of, as_number}
-use Rattle.typed_model.specs.Integers.{is_member}
-use Rattle.typed_model.specs.Domains.{domain}
-use Rattle.typed_model.specs.Holds.{Holds}
-use Rattle.typed_model.specs.WellTyped.{TruthFits}
-use Rattle.typed_model.proofs.DomainLaws.{Decides-domain}
+use Rattle.model_meaning.specs.declared.model.Kind.{Kind}
+use Rattle.model_meaning.specs.declared.model.Kind.TheVariants as kind
+use Rattle.model_meaning.specs.declared.model.Decl.{Decl}
+use Rattle.model_meaning.specs.declared.what.BoolTerm.{BoolTerm}
+use Rattle.model_meaning.specs.declared.what.BoolTerm.TheVariants as bool_term
+use Rattle.model_meaning.specs.declared.what.IntTerm.TheVariants as int_term
+use Rattle.model_meaning.specs.declared.what.What.{What}
+use Rattle.model_meaning.specs.declared.what.What.TheVariants.{L3}
+use Rattle.model_meaning.specs.Terms.{value_at, truth_of, as_number}
+use Rattle.model_meaning.specs.Integers.{is_member}
+use Rattle.model_meaning.specs.Domains.{domain}
+use Rattle.model_meaning.specs.Holds.{Holds}
+use Rattle.model_meaning.specs.WellTyped.{TruthFits}
+use Rattle.model_meaning.proofs.DomainLaws.{Decides-domain}
 use Rattle.statement_lower.specs.Terms.{atom_of}
 use Rattle.statement_lower.specs.Entries.{EntryFits}
 use Rattle.statement_lower.proofs.EntryLaws.{EntriesFit-append, AreOrdered-append, numbers_of-append, length-numbers_of, atom_of-laws}
@@ -50,11 +50,11 @@ truth-front : (ds : List Decl) (n : ℕ) (a : List ℤ) (v : ℤ) (x : BoolTerm)
 truth-front ds n a v (bool_term.Const t) long f = refl
 truth-front ds n a v (bool_term.Of p s) long f = rw (value-front a v p (omega (arith, within ds p _ f, long))) refl
 
-bit-in_domain : (t : Bool) → IsTrue (is_member (as_number t) (domain (kind.Int (pos 0) (pos 1))))
+bit-in_domain : (t : Bool) → IsTrue (is_member (as_number t) (domain (kind.Range (pos 0) (pos 1))))
 bit-in_domain true = (Decides-domain (pos 0) (pos 1) (pos 1)).1 (omega (arith, ints), omega (arith, ints))
 bit-in_domain false = (Decides-domain (pos 0) (pos 1) (pos 0)).1 (omega (arith, ints), omega (arith, ints))
 
-module _ (l : Lowered) (ds : List Decl) (enc : Encodes l ds) (d : Decl) (x : BoolTerm) (f : TruthFits ds d.number x) (is : d.kind ≡ kind.Int (pos 0) (pos 1)) where
+module _ (l : Lowered) (ds : List Decl) (enc : Encodes l ds) (d : Decl) (x : BoolTerm) (f : TruthFits ds d.number x) (is : d.kind ≡ kind.Range (pos 0) (pos 1)) where
   abbrev w : What
   w = L3 x (int_term.Of (length ds))
 

@@ -1,22 +1,22 @@
 -- A statement speaks of declarations with lesser numbers alone.
 use Rattle.std.proofs.Common.{◌≡◌, ℕ, zero, suc, ◌+◌, ◌<◌, ◌≤◌, ℤ, ◌≤ℤ◌, Some, List, [], ◌∷◌, ◌++◌, IsSomeAnd, arith}
 use Rattle.std.specs.Prelude.{slice_get}
-use Rattle.typed_model.specs.declared.model.Decl.{Decl}
-use Rattle.typed_model.specs.declared.model.Kind.TheVariants as kind
-use Rattle.typed_model.specs.declared.what.BoolTerm.{BoolTerm}
-use Rattle.typed_model.specs.declared.what.BoolTerm.TheVariants as bool_term
-use Rattle.typed_model.specs.declared.what.IntTerm.{IntTerm}
-use Rattle.typed_model.specs.declared.what.IntTerm.TheVariants as int_term
-use Rattle.typed_model.specs.declared.what.What.{What}
-use Rattle.typed_model.specs.declared.signature.Wanted.{Wanted}
-use Rattle.typed_model.specs.declared.signature.Wanted.TheVariants as wanted
-use Rattle.typed_model.specs.declared.statement.Arithmetic.TheVariants as arithmetic
-use Rattle.typed_model.specs.declared.statement.Statement as statement
-use Rattle.typed_model.specs.declared.statement.Statement.TheVariants as variant
-use Rattle.typed_model.specs.Signatures.{signature}
-use Rattle.typed_model.specs.Scope.{low_of}
-use Rattle.typed_model.specs.Arguments.{Argument, Truth, Number, Truths, Numbers, Numerals, arguments_of, statement_in}
-use Rattle.typed_model.specs.WellTyped.{IsInt, TruthFits, NumberFits, TruthsFit, NumbersFit, IsAtLeast, ArgumentFits, ArgumentsFit, IsDivision, ValuesFit, WhatFits, DeclsFit}
+use Rattle.model_meaning.specs.declared.model.Decl.{Decl}
+use Rattle.model_meaning.specs.declared.model.Kind.TheVariants as kind
+use Rattle.model_meaning.specs.declared.what.BoolTerm.{BoolTerm}
+use Rattle.model_meaning.specs.declared.what.BoolTerm.TheVariants as bool_term
+use Rattle.model_meaning.specs.declared.what.IntTerm.{IntTerm}
+use Rattle.model_meaning.specs.declared.what.IntTerm.TheVariants as int_term
+use Rattle.model_meaning.specs.declared.what.What.{What}
+use Rattle.model_meaning.specs.declared.wanted.Wanted.{Wanted}
+use Rattle.model_meaning.specs.declared.wanted.Wanted.TheVariants as wanted
+use Rattle.model_meaning.specs.declared.statement.Arithmetic.TheVariants as arithmetic
+use Rattle.model_meaning.specs.declared.statement.Statement as statement
+use Rattle.model_meaning.specs.declared.statement.Statement.TheVariants as variant
+use Rattle.model_meaning.specs.Signatures.{signature}
+use Rattle.model_meaning.specs.Places.{low_of}
+use Rattle.model_meaning.specs.Arguments.{Argument, Truth, Number, Truths, Numbers, Numerals, arguments_of, statement_in}
+use Rattle.model_meaning.specs.WellTyped.{IsInt, TruthFits, NumberFits, TruthsFit, NumbersFit, IsAtLeast, ArgumentFits, ArgumentsFit, IsDivision, ValuesFit, WhatFits, DeclsFit}
 
 -- the numbers of declarations are n or more
 abbrev pub AllFrom : ℕ → List Decl → Type 0

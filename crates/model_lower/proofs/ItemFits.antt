@@ -3,13 +3,13 @@ use Rattle.std.proofs.Common.{◌≡◌, ℕ, zero, suc, ◌+◌, ◌<◌, ◌�
 use Rattle.std.specs.Prelude.{slice_get, ◌==◌, nat_lt, IfSome, if◌then◌else◌}
 use Rattle.std.proofs.lemmas.Bool.Decides.{nat_tests}
 use Rattle.std.proofs.lemmas.List.{append_assoc}
-use Rattle.typed_model.specs.declared.model.Decl.{Decl}
-use Rattle.typed_model.specs.declared.model.Stmt.{Stmt}
-use Rattle.typed_model.specs.declared.what.IntTerm.TheVariants as int_term
-use Rattle.typed_model.specs.declared.what.What.{What}
-use Rattle.typed_model.specs.declared.what.What.TheVariants.{L3}
-use Rattle.typed_model.specs.Limits.{KindInLimit, StmtsInLimit, DeclsInLimit}
-use Rattle.typed_model.specs.WellTyped.{TruthFits, WhatFits, KindFits, StmtsFit, DeclsFit, DeclaresPlace, SharesFit}
+use Rattle.model_meaning.specs.declared.model.Decl.{Decl}
+use Rattle.model_meaning.specs.declared.model.Stmt.{Stmt}
+use Rattle.model_meaning.specs.declared.what.IntTerm.TheVariants as int_term
+use Rattle.model_meaning.specs.declared.what.What.{What}
+use Rattle.model_meaning.specs.declared.what.What.TheVariants.{L3}
+use Rattle.model_meaning.specs.Limits.{KindInLimit, StmtsInLimit, DeclsInLimit}
+use Rattle.model_meaning.specs.WellTyped.{TruthFits, WhatFits, KindFits, StmtsFit, DeclsFit, DeclaresPlace, SharesFit}
 use Rattle.model_items.specs.Items.{ModelItem, Declaration, Statement, Definition, stmts_before, stmts_from, declared_item, behind_declared, items_of}
 use Rattle.model_lower.specs.ItemLaws.{IsDefinition}
 use Rattle.model_lower.proofs.Standing.{ItemsFit}

@@ -3,13 +3,15 @@ use Rattle.std.proofs.Common.{◌≡◌, ℕ, ◌+◌, ℤ, pos, negsuc, ◌+ℤ
 use Rattle.std.proofs.lemmas.Int.{ints}
 use Rattle.order_ints.specs.declared.order_int.MapValue.{MapValue}
 use Rattle.order_ints.specs.declared.order_int.MapValue.TheVariants as entry
-use Rattle.order_ints.proofs.Fresh.{weights-unit_steps, AreRising-unit_steps}
-use Rattle.typed_model.specs.declared.model.Kind.{Kind}
-use Rattle.typed_model.specs.declared.model.Kind.TheVariants as kind
-use Rattle.typed_model.specs.declared.what.What.{What}
-use Rattle.typed_model.specs.declared.what.What.TheVariants.{L3}
-use Rattle.typed_model.specs.Domains.{at_least_zero}
-use Rattle.typed_model.specs.Limits.{InLimit, KindInLimit}
+use Rattle.order_ints.proofs.Fresh.{weights-unit_steps, AreRising-unit_steps, AreRising-integer_of_values}
+use Rattle.value_lists.proofs.Shapes.{low-listed, high-listed}
+use Rattle.model_lower.proofs.DeclarationSteps.{first-limit, last-of-limit}
+use Rattle.model_meaning.specs.declared.model.Kind.{Kind}
+use Rattle.model_meaning.specs.declared.model.Kind.TheVariants as kind
+use Rattle.model_meaning.specs.declared.what.What.{What}
+use Rattle.model_meaning.specs.declared.what.What.TheVariants.{L3}
+use Rattle.model_meaning.specs.Domains.{at_least_zero}
+use Rattle.model_meaning.specs.Limits.{InLimit, KindInLimit}
 use Rattle.statement_lower.specs.Entries.{AreInLimit}
 use Rattle.model_lower.specs.declared.state.Lowered.{Lowered}
 use Rattle.model_items.specs.Items.{ModelItem, Declaration, Statement, Definition}
@@ -27,10 +29,14 @@ gap-limit (negsuc n) low high e h k = omega (arith, ints, e, h, k)
 
 entry-limit : (vars : ℕ) (k : Kind) → KindInLimit k → AreInLimit (entry_of vars k ∷ [])
 entry-limit vars kind.Bool h = tt
-entry-limit vars (kind.Int low high) h =
-    let count = vars_taken (kind.Int low high) in
+entry-limit vars (kind.Range low high) h =
+    let count = vars_taken (kind.Range low high) in
     let top = subst (λ (n : ℕ). InLimit (low +ℤ pos n)) (sym (weights-unit_steps (vars + 1) count)) (gap-limit (high -ℤ low) low high refl h.0 h.1) in
     ((h.0, top, AreRising-unit_steps (vars + 1) count), tt)
+entry-limit vars (kind.Listed vs) h =
+    let low = subst InLimit (sym (low-listed vs (vars + 1))) (first-limit vs h.0) in
+    let high = subst InLimit (sym (high-listed vs (vars + 1) h.1)) (last-of-limit vs h.0) in
+    ((low, high, AreRising-integer_of_values vs (vars + 1) h.1), tt)
 
 defined-limit : (entries : List MapValue) (w : What) → AreInLimit (defined_entry entries w ∷ [])
 defined-limit entries (L3 x i) = ((omega arith, omega (arith, ints), (omega arith, tt)), tt)

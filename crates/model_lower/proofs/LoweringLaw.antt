@@ -1,11 +1,11 @@
 -- The solutions of a model are the assignments that are decoded from what it is lowered to, which is no larger than the model's
 -- weight.
 use Rattle.std.proofs.Common.{List, [], subst, arith}
-use Rattle.typed_model.specs.declared.model.Decl.{Decl}
-use Rattle.typed_model.specs.declared.model.Stmt.{Stmt}
-use Rattle.typed_model.specs.declared.model.Model.{Model}
-use Rattle.typed_model.specs.WellTyped.{WellTyped}
-use Rattle.typed_model.specs.Limits.{InLimits}
+use Rattle.model_meaning.specs.declared.model.Decl.{Decl}
+use Rattle.model_meaning.specs.declared.model.Stmt.{Stmt}
+use Rattle.model_meaning.specs.declared.model.Model.{Model}
+use Rattle.model_meaning.specs.WellTyped.{WellTyped}
+use Rattle.model_meaning.specs.Limits.{InLimits}
 use Rattle.model_items.specs.Items.{items_of}
 use Rattle.model_lower.specs.Lowering.{nothing_lowered, lowered_of}
 use Rattle.model_lower.specs.Weighed.{ModelWeightLaws}
@@ -39,4 +39,5 @@ lowering_law model typed limits light =
         below = all.encodes.below;
         well_formed = all.encodes.well_formed;
       };
+      ordered = all.encodes.ordered;
     }

@@ -4,8 +4,8 @@ use Rattle.std.specs.Prelude.{◌-◌, slice_get, MatchOption, reverse}
 use Rattle.std.specs.Option.{option_to_list}
 use Rattle.std.proofs.lemmas.List.{reverse-append, reverse-reverse, length-append}
 use Rattle.std.proofs.lemmas.Grind.{reverse_onto}
-use Rattle.typed_model.specs.declared.model.Decl.{Decl}
-use Rattle.typed_model.specs.declared.model.Stmt.{Stmt}
+use Rattle.model_meaning.specs.declared.model.Decl.{Decl}
+use Rattle.model_meaning.specs.declared.model.Stmt.{Stmt}
 use Rattle.model_items.specs.Items.{Statement, Definition, declared_item, behind_declared, items_of}
 use Rattle.model_lower.specs.Walk.{DeclarationFirst, Defines}
 

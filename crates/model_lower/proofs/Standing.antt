@@ -5,16 +5,16 @@ use Rattle.std.proofs.lemmas.List.{append-nil, append_assoc}
 use Rattle.order_ints.specs.Numbers.{numbers_of}
 use Rattle.core_forms.specs.declared.form.Core.{Core}
 use Rattle.core_forms.specs.Cores.{MeetsAll}
-use Rattle.typed_model.specs.declared.model.Decl.{Decl}
-use Rattle.typed_model.specs.declared.model.Stmt.{Stmt}
-use Rattle.typed_model.specs.Integers.{is_member}
-use Rattle.typed_model.specs.Domains.{domain, in_domains}
-use Rattle.typed_model.specs.Holds.{Holds}
-use Rattle.typed_model.specs.Limits.{KindInLimit, WhatInLimit}
-use Rattle.typed_model.specs.WellTyped.{KindFits, WhatFits}
-use Rattle.typed_model.specs.Solutions.{AllHold}
-use Rattle.typed_model.proofs.AppendLaws.{WhatFits-append}
-use Rattle.typed_model.proofs.BehindLaws.{behind}
+use Rattle.model_meaning.specs.declared.model.Decl.{Decl}
+use Rattle.model_meaning.specs.declared.model.Stmt.{Stmt}
+use Rattle.model_meaning.specs.Integers.{is_member}
+use Rattle.model_meaning.specs.Domains.{domain, in_domains}
+use Rattle.model_meaning.specs.Holds.{Holds}
+use Rattle.model_meaning.specs.Limits.{KindInLimit, WhatInLimit}
+use Rattle.model_meaning.specs.WellTyped.{KindFits, WhatFits}
+use Rattle.model_meaning.specs.Solutions.{AllHold}
+use Rattle.model_meaning.proofs.AppendLaws.{WhatFits-append}
+use Rattle.model_meaning.proofs.BehindLaws.{behind}
 use Rattle.model_lower.specs.declared.state.Lowered.{Lowered}
 use Rattle.model_items.specs.Items.{ModelItem, Declaration, Statement, Definition}
 use Rattle.model_lower.specs.Lowering.{with_declaration, with_statement, with_definition, lowered_items, nothing_lowered}

@@ -3,7 +3,7 @@ use Rattle.std.proofs.Common.{ℕ, ◌+◌, ◌≤◌, List, ◌++◌, subst, ar
 use Rattle.core_forms.specs.declared.form.Core.{Core}
 use Rattle.core_forms.specs.Cores.{CoresBelow}
 use Rattle.core_forms.proofs.CoreLists.{MeetsAll-append, MeetsAll-agree, MeetsAll-depends, CoresBelow-append, CoresBelow-more, AreWellFormed-append}
-use Rattle.typed_model.specs.Holds.{Holds}
+use Rattle.model_meaning.specs.Holds.{Holds}
 use Rattle.statement_lower.specs.Lines.{made_of}
 use Rattle.statement_lower.proofs.EntryLaws.{EntriesFit-more, numbers_of-agree}
 use Rattle.statement_lower.proofs.LineLaws.{line_law}

@@ -1,9 +1,9 @@
 -- The items that are left are lowered behind those so far, one after another.
 use Rattle.std.proofs.Common.{◌≡◌, ◌<◌, List, ◌∷◌, refl, subst}
 use Rattle.std.specs.Prelude.{◌^◌}
-use Rattle.typed_model.specs.declared.model.Decl.{Decl}
-use Rattle.typed_model.specs.declared.model.Stmt.{Stmt}
-use Rattle.typed_model.specs.Limits.{DeclsInLimit, StmtsInLimit}
+use Rattle.model_meaning.specs.declared.model.Decl.{Decl}
+use Rattle.model_meaning.specs.declared.model.Stmt.{Stmt}
+use Rattle.model_meaning.specs.Limits.{DeclsInLimit, StmtsInLimit}
 use Rattle.statement_lower.specs.Entries.{AreInLimit}
 use Rattle.model_items.specs.Items.{ModelItem, items_of}
 use Rattle.model_items.specs.ItemLimits.{ItemInLimit, ItemsInLimit}

@@ -5,18 +5,20 @@ use Rattle.std.proofs.lemmas.Int.{ints}
 use Rattle.std.proofs.lemmas.List.{append_assoc, length-map}
 use Rattle.order_ints.specs.declared.order_int.MapValue.{MapValue}
 use Rattle.order_ints.specs.OrderMade.{unit_range_of}
-use Rattle.order_ints.proofs.Fresh.{weights-unit_steps, AreRising-unit_steps}
+use Rattle.order_ints.proofs.Fresh.{weights-unit_steps, AreRising-unit_steps, AreRising-integer_of_values}
+use Rattle.core_cost.specs.declared.shape.Shape.{Shape}
+use Rattle.value_lists.proofs.Shapes.{shape-listed, low-listed, high-listed}
 use Rattle.core_cost.specs.Comparisons.{cost_of_ladder}
 use Rattle.core_forms.specs.declared.form.Core.{Core}
 use Rattle.core_forms.specs.Shapes.{steps_of}
 use Rattle.core_forms.specs.Cores.{costs_of}
 use Rattle.core_forms.proofs.CoreLists.{costs_of-append}
-use Rattle.typed_model.specs.declared.model.Decl.{Decl}
-use Rattle.typed_model.specs.declared.model.Stmt.{Stmt}
-use Rattle.typed_model.specs.declared.model.Kind.{Kind}
-use Rattle.typed_model.specs.declared.model.Kind.TheVariants as kind
-use Rattle.typed_model.specs.declared.what.What.{What}
-use Rattle.typed_model.specs.WellTyped.{KindFits, WhatFits}
+use Rattle.model_meaning.specs.declared.model.Decl.{Decl}
+use Rattle.model_meaning.specs.declared.model.Stmt.{Stmt}
+use Rattle.model_meaning.specs.declared.model.Kind.{Kind}
+use Rattle.model_meaning.specs.declared.model.Kind.TheVariants as kind
+use Rattle.model_meaning.specs.declared.what.What.{What}
+use Rattle.model_meaning.specs.WellTyped.{KindFits, WhatFits}
 use Rattle.statement_lower.specs.Lines.{made_of}
 use Rattle.model_weight.specs.Statements.{weight_of_what}
 use Rattle.model_weight.specs.Weight.{weight_of_declaration, weight_of_items}
@@ -35,10 +37,18 @@ use Rattle.weight_laws.proofs.Statements.{statement-size, statement-count}
 
 pub entry-is : (vars : ℕ) (k : Kind) → KindFits k → EntryIs k (entry_of vars k)
 entry-is vars kind.Bool fit = tt
-entry-is vars (kind.Int low high) fit = record {
-  rising = AreRising-unit_steps (vars + 1) (vars_taken (kind.Int low high));
+entry-is vars (kind.Range low high) fit = record {
+  rising = AreRising-unit_steps (vars + 1) (vars_taken (kind.Range low high));
   least = refl;
-  greatest = ap (λ (n : ℕ). low +ℤ pos n) (weights-unit_steps (vars + 1) (vars_taken (kind.Int low high))) ∙ gap-reaches low high fit;
+  greatest = ap (λ (n : ℕ). low +ℤ pos n) (weights-unit_steps (vars + 1) (vars_taken (kind.Range low high))) ∙ gap-reaches low high fit;
+}
+entry-is vars (kind.Listed vs) fit = record {
+  of = record {
+    rising = AreRising-integer_of_values vs (vars + 1) fit.1;
+    least = low-listed vs (vars + 1);
+    greatest = high-listed vs (vars + 1) fit.1;
+  };
+  shape = shape-listed vs (vars + 1);
 }
 
 pub entries-more : (ds : List Decl) (entries : List MapValue) (d : Decl) (e : MapValue) → EntriesAre ds entries → EntryIs d.kind e → EntriesAre (ds ++ d ∷ []) (entries ++ e ∷ [])
@@ -56,9 +66,12 @@ defined-is ds entries d s h =
 
 declaration-costs : (vars : ℕ) (k : Kind) → vars_taken k + costs_of (entry_cores (entry_of vars k)) ≡ weight_of_declaration k
 declaration-costs vars kind.Bool = refl
-declaration-costs vars (kind.Int low high) =
-    let count : ℕ = vars_taken (kind.Int low high) in
+declaration-costs vars (kind.Range low high) =
+    let count : ℕ = vars_taken (kind.Range low high) in
     let ladder : cost_of_ladder (steps_of (unit_range_of low (vars + 1) count)) ≡ cost_of_ladder count = ap cost_of_ladder (length-units (vars + 1) count) in
+    omega (arith, ladder)
+declaration-costs vars (kind.Listed vs) =
+    let ladder = ap (λ (s : Shape). cost_of_ladder s.steps) (shape-listed vs (vars + 1)) in
     omega (arith, ladder)
 
 declaration-size : (l : Lowered) (k : Kind) → size_of_lowered (with_declaration l k) ≡ size_of_lowered l + weight_of_declaration k
@@ -106,7 +119,8 @@ items-size all l ds (Definition d s ∷ items) e h fit =
 
 entry-count : (vars : ℕ) (k : Kind) → length (entry_cores (entry_of vars k)) ≤ 1
 entry-count vars kind.Bool = omega arith
-entry-count vars (kind.Int low high) = omega arith
+entry-count vars (kind.Range low high) = omega arith
+entry-count vars (kind.Listed vs) = omega arith
 
 pub items-count : (l : Lowered) (items : List ModelItem) (n : ℕ) → length l.cores ≤ n + costs_of l.cores
     → length (lowered_items l items).cores ≤ n + length items + costs_of (lowered_items l items).cores

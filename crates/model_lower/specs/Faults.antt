@@ -1,6 +1,6 @@
 -- Which models are not lowered.
 use Rattle.std.specs.Prelude.{◌≡◌, ◌<◌, ◌^◌}
-use Rattle.typed_model.specs.declared.model.Model.{Model}
+use Rattle.model_meaning.specs.declared.model.Model.{Model}
 use Rattle.model_weight.specs.Weight.{weight_of}
 use Rattle.model_lower.specs.declared.fault.LowerFault.{LowerFault}
 use Rattle.model_lower.specs.declared.fault.LowerFault.TheVariants.{TooHeavy, Memory}

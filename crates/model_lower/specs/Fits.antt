@@ -1,7 +1,7 @@
 -- The ranges of cores and of a map of names.
 use Rattle.std.specs.Prelude.{◌+◌, ◌^◌, ◌≤◌, List}
 use Rattle.core_forms.specs.Cores.{CoresBelow, AreWellFormed}
-use Rattle.typed_model.specs.declared.model.Decl.{Decl}
+use Rattle.model_meaning.specs.declared.model.Decl.{Decl}
 use Rattle.statement_lower.specs.Entries.{EntriesFit}
 use Rattle.model_lower.specs.declared.state.Lowered.{Lowered}
 use Rattle.model_lower.specs.Weighed.{size_of_lowered}

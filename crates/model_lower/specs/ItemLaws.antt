@@ -4,21 +4,21 @@ use Rattle.order_ints.specs.Truth.{Valuation, Agree}
 use Rattle.order_ints.specs.Numbers.{numbers_of}
 use Rattle.order_ints.specs.Represents.{Represents}
 use Rattle.core_forms.specs.Cores.{MeetsAll, CoresBelow, AreWellFormed}
-use Rattle.typed_model.specs.declared.what.BoolTerm.{BoolTerm}
-use Rattle.typed_model.specs.declared.what.IntTerm.TheVariants.{Of}
-use Rattle.typed_model.specs.declared.what.What.{What}
-use Rattle.typed_model.specs.declared.what.What.TheVariants.{L3}
-use Rattle.typed_model.specs.declared.model.Kind.{Kind}
-use Rattle.typed_model.specs.declared.model.Kind.TheVariants.{Int}
-use Rattle.typed_model.specs.declared.model.Decl.{Decl}
-use Rattle.typed_model.specs.declared.model.Stmt.{Stmt}
-use Rattle.typed_model.specs.declared.model.Model.{Model}
-use Rattle.typed_model.specs.Integers.{is_member}
-use Rattle.typed_model.specs.Domains.{domain}
-use Rattle.typed_model.specs.Holds.{Holds}
-use Rattle.typed_model.specs.Limits.{KindInLimit, WhatInLimit, InLimits}
-use Rattle.typed_model.specs.WellTyped.{TruthFits, KindFits, WhatFits, WellTyped}
-use Rattle.typed_model.specs.Solutions.{IsSolution}
+use Rattle.model_meaning.specs.declared.what.BoolTerm.{BoolTerm}
+use Rattle.model_meaning.specs.declared.what.IntTerm.TheVariants.{Of}
+use Rattle.model_meaning.specs.declared.what.What.{What}
+use Rattle.model_meaning.specs.declared.what.What.TheVariants.{L3}
+use Rattle.model_meaning.specs.declared.model.Kind.{Kind}
+use Rattle.model_meaning.specs.declared.model.Kind.TheVariants.{Range}
+use Rattle.model_meaning.specs.declared.model.Decl.{Decl}
+use Rattle.model_meaning.specs.declared.model.Stmt.{Stmt}
+use Rattle.model_meaning.specs.declared.model.Model.{Model}
+use Rattle.model_meaning.specs.Integers.{is_member}
+use Rattle.model_meaning.specs.Domains.{domain}
+use Rattle.model_meaning.specs.Holds.{Holds}
+use Rattle.model_meaning.specs.Limits.{KindInLimit, WhatInLimit, InLimits}
+use Rattle.model_meaning.specs.WellTyped.{TruthFits, KindFits, WhatFits, WellTyped}
+use Rattle.model_meaning.specs.Solutions.{IsSolution}
 use Rattle.model_weight.specs.Weight.{weight_of}
 use Rattle.statement_lower.specs.Entries.{EntriesFit, AreOrdered}
 use Rattle.model_lower.specs.declared.state.Lowered.{Lowered}
@@ -54,7 +54,7 @@ pub record IsDefinition (decls : List Decl) (d : Decl) (s : Stmt) : Type 0 where
   pub truth : BoolTerm
   pub truth_fits : TruthFits decls d.number truth
   pub what : s.what ≡ L3 truth (Of (length decls))
-  pub kind : d.kind ≡ Int (pos 0) (pos 1)
+  pub kind : d.kind ≡ Range (pos 0) (pos 1)
 
 -- a declaration
 abbrev pub DeclarationLaw : Type 0
@@ -75,10 +75,12 @@ DefinitionLaw = (l : Lowered) (decls : List Decl) (d : Decl) (s : Stmt)
     → Encodes l decls → IsDefinition decls d s
     → Encodes (with_definition l s.what) (decls ++ d ∷ []) × TakesItsValue l (with_definition l s.what) d.kind s.what
 
--- a model that is well typed, in the limits, and no heavier than may be: the solutions are the assignments that are decoded
+-- a model that is well typed, in the limits, and no heavier than may be: the solutions are the assignments that are decoded, and the
+-- cores keep the integers of the names ordered
 pub record LoweringLaw (model : Model) : Type 0 where
   pub solutions : (a : List ℤ) → IsSolution model a ↔ IsDecoded (lowered_of model) a
   pub fits : Fits (lowered_of model) model.decls
+  pub ordered : (σ : Valuation) → MeetsAll σ (lowered_of model).cores → AreOrdered σ (lowered_of model).map.entries
 
 abbrev pub LoweringLaws : Type 0
 LoweringLaws = (model : Model) → WellTyped model → InLimits model → weight_of model ≤ most_weight → LoweringLaw model

@@ -2,15 +2,16 @@
 use Rattle.std.specs.Prelude.{ℕ, ◌+◌, pos, ◌-ℤ◌, List, [], ◌∷◌, ◌++◌}
 use Rattle.order_ints.specs.declared.order_int.MapValue.{MapValue}
 use Rattle.order_ints.specs.declared.order_int.MapValue.TheVariants as values
-use Rattle.order_ints.specs.OrderMade.{atom_of_var, constant_of, integer_of_atom, unit_range_of}
+use Rattle.order_ints.specs.OrderMade.{atom_of_var, constant_of, integer_of_atom, unit_range_of, integer_of_values}
 use Rattle.core_forms.specs.declared.form.Core.{Core}
 use Rattle.core_forms.specs.declared.form.Core.TheVariants.{Ladder}
-use Rattle.typed_model.specs.declared.model.Kind.{Kind}
-use Rattle.typed_model.specs.declared.model.Kind.TheVariants as kind
-use Rattle.typed_model.specs.declared.model.Model.{Model}
-use Rattle.typed_model.specs.declared.what.What.{What}
-use Rattle.typed_model.specs.declared.what.What.TheVariants.{L3}
-use Rattle.typed_model.specs.Domains.{at_least_zero}
+use Rattle.model_meaning.specs.declared.model.Kind.{Kind}
+use Rattle.model_meaning.specs.declared.model.Kind.TheVariants as kind
+use Rattle.model_meaning.specs.declared.model.Model.{Model}
+use Rattle.model_meaning.specs.declared.what.What.{What}
+use Rattle.model_meaning.specs.declared.what.What.TheVariants.{L3}
+use Rattle.model_meaning.specs.Domains.{at_least_zero}
+use Rattle.value_lists.specs.ValueLists.{shape_of}
 use Rattle.model_items.specs.Items.{ModelItem, Declaration, Statement, Definition, items_of_model}
 use Rattle.statement_lower.specs.Terms.{atom_of}
 use Rattle.statement_lower.specs.Lines.{made_of}
@@ -19,12 +20,14 @@ use Rattle.model_lower.specs.declared.state.Lowered.{Lowered}
 -- how many variables a declared name takes: a Boolean one, an integer one for each value but the least
 abbrev pub vars_taken : Kind → ℕ
 vars_taken kind.Bool = 1
-vars_taken (kind.Int low high) = at_least_zero (high -ℤ low)
+vars_taken (kind.Range low high) = at_least_zero (high -ℤ low)
+vars_taken (kind.Listed vs) = (shape_of vs).steps
 
 -- what a name stands for that is declared where there are so many variables
 abbrev pub entry_of : ℕ → Kind → MapValue
 entry_of vars kind.Bool = values.Bool (atom_of_var (vars + 1))
-entry_of vars (kind.Int low high) = values.Int (unit_range_of low (vars + 1) (vars_taken (kind.Int low high)))
+entry_of vars (kind.Range low high) = values.Int (unit_range_of low (vars + 1) (vars_taken (kind.Range low high)))
+entry_of vars (kind.Listed vs) = values.Int (integer_of_values vs (vars + 1))
 
 -- an integer is to be ordered
 abbrev pub entry_cores : MapValue → List Core

@@ -1,7 +1,7 @@
 -- The next item of declarations and statements that are left.
 use Rattle.std.specs.Prelude.{◌≡◌, List, [], ◌∷◌}
-use Rattle.typed_model.specs.declared.model.Decl.{Decl}
-use Rattle.typed_model.specs.declared.model.Stmt.{Stmt}
+use Rattle.model_meaning.specs.declared.model.Decl.{Decl}
+use Rattle.model_meaning.specs.declared.model.Stmt.{Stmt}
 use Rattle.model_items.specs.Items.{Declaration, Definition, declared_item, behind_declared, items_of}
 
 -- no statement stands before the first declaration, and there is none where there is no declaration

@@ -1,9 +1,9 @@
 -- The weight of a model bounds what the model is lowered to.
 use Rattle.std.specs.Prelude.{ℕ, ◌+◌, ◌≤◌, length}
 use Rattle.core_forms.specs.Cores.{costs_of}
-use Rattle.typed_model.specs.declared.model.Model.{Model}
-use Rattle.typed_model.specs.Limits.{InLimits}
-use Rattle.typed_model.specs.WellTyped.{WellTyped}
+use Rattle.model_meaning.specs.declared.model.Model.{Model}
+use Rattle.model_meaning.specs.Limits.{InLimits}
+use Rattle.model_meaning.specs.WellTyped.{WellTyped}
 use Rattle.model_weight.specs.Weight.{weight_of}
 use Rattle.model_lower.specs.declared.state.Lowered.{Lowered}
 use Rattle.model_lower.specs.Lowering.{lowered_of}

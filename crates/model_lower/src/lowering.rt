@@ -1,9 +1,9 @@
 //! From a typed model to cores and a map of names.
 
 ghost use Rattle.std.specs.Prelude.{◌≡◌, ◌↔◌, ◌<◌, ◌≤◌, ◌^◌, ℤ, List, IfOk, IfErr, OnOk};
-ghost use Rattle.typed_model.specs.WellTyped.{WellTyped};
-ghost use Rattle.typed_model.specs.Limits.{InLimits};
-ghost use Rattle.typed_model.specs.Solutions.{IsSolution};
+ghost use Rattle.model_meaning.specs.WellTyped.{WellTyped};
+ghost use Rattle.model_meaning.specs.Limits.{InLimits};
+ghost use Rattle.model_meaning.specs.Solutions.{IsSolution};
 ghost use Rattle.statement_lower.specs.Entries.{AreInLimit};
 ghost use Rattle.model_items.specs.ItemLimits.{ItemInLimit};
 ghost use Rattle.model_items.specs.Lent.{lent_item};

@@ -1,9 +1,9 @@
 //! From a typed model that is used up to cores and a map of names.
 
 ghost use Rattle.std.specs.Prelude.{◌≡◌, ◌↔◌, ◌<◌, ◌≤◌, ◌^◌, ℤ, List, length, reverse, IfOk, IfErr, OnOk};
-ghost use Rattle.typed_model.specs.WellTyped.{WellTyped};
-ghost use Rattle.typed_model.specs.Limits.{WhatInLimit, DeclsInLimit, StmtsInLimit, InLimits};
-ghost use Rattle.typed_model.specs.Solutions.{IsSolution};
+ghost use Rattle.model_meaning.specs.WellTyped.{WellTyped};
+ghost use Rattle.model_meaning.specs.Limits.{WhatInLimit, DeclsInLimit, StmtsInLimit, InLimits};
+ghost use Rattle.model_meaning.specs.Solutions.{IsSolution};
 ghost use Rattle.statement_lower.specs.Entries.{AreInLimit};
 ghost use Rattle.model_items.specs.Items.{declared_item, behind_declared, items_of};
 ghost use Rattle.model_weight.specs.Weight.{weight_of};

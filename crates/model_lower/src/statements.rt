@@ -1,7 +1,7 @@
 //! The cores of statements, added to those so far.
 
 ghost use Rattle.std.specs.Prelude.{◌≡◌, ◌<◌, ◌^◌, OnOk};
-ghost use Rattle.typed_model.specs.Limits.{WhatInLimit};
+ghost use Rattle.model_meaning.specs.Limits.{WhatInLimit};
 ghost use Rattle.statement_lower.specs.Entries.{AreInLimit};
 ghost use Rattle.statement_lower.specs.Lines.{made_of};
 ghost use Rattle.model_lower.specs.Lowering.{with_statement};

@@ -1,7 +1,7 @@
 //! The statements of a model that are left, in reverse order, so that each is taken as it is its turn.
 
 ghost use Rattle.std.specs.Prelude.{◌≡◌, ◌<◌, ◌∷◌, List, true, false, length, reverse, MatchOption, OnSome};
-ghost use Rattle.typed_model.specs.declared.model.Stmt.{Stmt};
+ghost use Rattle.model_meaning.specs.declared.model.Stmt.{Stmt};
 ghost use Rattle.model_items.specs.Items.{Statement, Definition, declared_item, behind_declared, items_of};
 ghost use Rattle.model_lower.specs.Walk.{DeclarationFirst, IsApart, Defines};
 

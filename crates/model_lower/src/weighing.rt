@@ -1,7 +1,7 @@
 //! Whether a model is light enough to be lowered.
 
 ghost use Rattle.std.specs.Prelude.{◌≤◌, IfOk, IfErr};
-ghost use Rattle.typed_model.specs.Limits.{InLimits};
+ghost use Rattle.model_meaning.specs.Limits.{InLimits};
 ghost use Rattle.model_weight.specs.Weight.{weight_of};
 ghost use Rattle.model_lower.specs.Weighed.{most_weight};
 ghost use Rattle.model_lower.specs.Faults.{IsFaultOf};

@@ -1,9 +1,9 @@
 -- The weights of items, one after another, and the statements that stay in the limits.
 use Rattle.std.proofs.Common.{◌≡◌, ℕ, ◌+◌, Bool, true, false, List, [], ◌∷◌, ◌++◌, arith}
 use Rattle.std.specs.Prelude.{nat_lt, ◌==◌, if◌then◌else◌}
-use Rattle.typed_model.specs.declared.model.Decl.{Decl}
-use Rattle.typed_model.specs.declared.model.Stmt.{Stmt}
-use Rattle.typed_model.specs.Limits.{StmtsInLimit}
+use Rattle.model_meaning.specs.declared.model.Decl.{Decl}
+use Rattle.model_meaning.specs.declared.model.Stmt.{Stmt}
+use Rattle.model_meaning.specs.Limits.{StmtsInLimit}
 use Rattle.model_items.specs.Items.{ModelItem, stmts_before, stmts_from, behind_declared}
 use Rattle.model_weight.specs.Weight.{weight_of_items}
 

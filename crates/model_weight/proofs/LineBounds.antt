@@ -11,24 +11,24 @@ use Rattle.core_cost.specs.Counts.{cost_of_half, cost_of_count}
 use Rattle.core_cost.proofs.Monotone.{ladder_lem}
 use Rattle.core_cost.proofs.NetworkBounds.{sum3_over-bound}
 use Rattle.core_cost.proofs.CountLaws.{count_of_few, count_of_halves}
-use Rattle.typed_model.specs.declared.what.BoolTerm.{BoolTerm}
-use Rattle.typed_model.specs.declared.what.IntTerm.{IntTerm}
-use Rattle.typed_model.specs.declared.statement.Operator.{Operator}
-use Rattle.typed_model.specs.declared.statement.Operator.TheVariants as operator
-use Rattle.typed_model.specs.declared.statement.Relation.{Relation}
-use Rattle.typed_model.specs.declared.statement.Relation.TheVariants as relation
-use Rattle.typed_model.specs.declared.model.Decl.{Decl}
-use Rattle.typed_model.specs.Limits.{DeclsInLimit}
+use Rattle.model_meaning.specs.declared.what.BoolTerm.{BoolTerm}
+use Rattle.model_meaning.specs.declared.what.IntTerm.{IntTerm}
+use Rattle.model_meaning.specs.declared.statement.Operator.{Operator}
+use Rattle.model_meaning.specs.declared.statement.Operator.TheVariants as operator
+use Rattle.model_meaning.specs.declared.statement.Relation.{Relation}
+use Rattle.model_meaning.specs.declared.statement.Relation.TheVariants as relation
+use Rattle.model_meaning.specs.declared.model.Decl.{Decl}
+use Rattle.model_meaning.specs.Limits.{DeclsInLimit}
 use Rattle.model_weight.specs.Shapes.{steps_in, all_steps}
 use Rattle.model_weight.specs.Comparisons.{weight_of_fresh_count, weight_of_count}
 use Rattle.model_weight.specs.Pairs.{weight_of_pairs_with, weight_of_pairs, count_of_pairs, weight_of_reified_all_different}
 use Rattle.model_weight.specs.Statements.{weight_of_array, weight_of_reified_array, truth_steps}
-use Rattle.model_weight.proofs.Spans.{units-span, span-bound}
+use Rattle.model_weight.proofs.Spans.{term-bound}
 use Rattle.model_weight.proofs.PairSums.{count-twice, reified-is}
 use Rattle.model_weight.proofs.LinearBounds.{comparison-bound}
 
 pub steps_in-bound : (ds : List Decl) (i : IntTerm) → DeclsInLimit ds → steps_in ds i ≤ 2 ^ 31
-steps_in-bound ds i h = omega (arith, units-span (steps_in ds i), span-bound ds i h)
+steps_in-bound ds i h = term-bound ds i h
 
 -- Lists of Booleans.
 

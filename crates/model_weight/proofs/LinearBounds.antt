@@ -14,11 +14,13 @@ use Rattle.core_cost.proofs.NetworkBounds.{sum3_over-bound}
 use Rattle.core_cost.proofs.ShapeLaws.{steps-le_units, common-divides_first, common-divides_second, zero_common_first, zero_common_second, IsShape-constant, IsShape-fresh, IsShape-units}
 use Rattle.core_cost.proofs.SumLaws.{sum_of_more, spans-append}
 use Rattle.core_cost.proofs.SumBounds.{sum-bound}
-use Rattle.typed_model.specs.declared.what.BoolTerm.{BoolTerm}
-use Rattle.typed_model.specs.declared.what.IntTerm.{IntTerm}
-use Rattle.typed_model.specs.declared.model.Decl.{Decl}
-use Rattle.typed_model.specs.declared.statement.Relation.{Relation}
-use Rattle.typed_model.specs.declared.statement.Relation.TheVariants as relation
+use Rattle.model_meaning.specs.declared.what.BoolTerm.{BoolTerm}
+use Rattle.model_meaning.specs.declared.what.IntTerm.{IntTerm}
+use Rattle.model_meaning.specs.declared.model.Decl.{Decl}
+use Rattle.model_meaning.specs.declared.statement.Relation.{Relation}
+use Rattle.model_meaning.specs.declared.statement.Relation.TheVariants as relation
+use Rattle.model_meaning.specs.Limits.{DeclsInLimit}
+use Rattle.model_weight.proofs.Spans.{shape-in}
 use Rattle.model_weight.specs.Shapes.{shape_in}
 use Rattle.model_weight.specs.Comparisons.{weight_of_comparison}
 use Rattle.model_weight.specs.Linear.{scaled, scaled_truths, scaled_numbers, numbers, with_steps, weight_of_fresh_sum, weight_of_compared, weight_of_sum}
@@ -63,15 +65,15 @@ kept a rest shape h = by_test (a.steps == 0)
     by_test true = h
     by_test false = (shape, h)
 
-pub AreShapes-numbers : (ds : List Decl) (is : List IntTerm) (right : Shape) → IsShape right → AreShapes (with_steps (numbers ds is ++ right ∷ []))
-AreShapes-numbers ds [] right shape = kept right [] shape tt
-AreShapes-numbers ds (i ∷ is) right shape = kept (shape_in ds i) (numbers ds is ++ right ∷ []) (IsShape-units _) (AreShapes-numbers ds is right shape)
+pub AreShapes-numbers : (ds : List Decl) (limit : DeclsInLimit ds) (is : List IntTerm) (right : Shape) → IsShape right → AreShapes (with_steps (numbers ds is ++ right ∷ []))
+AreShapes-numbers ds limit [] right shape = kept right [] shape tt
+AreShapes-numbers ds limit (i ∷ is) right shape = kept (shape_in ds i) (numbers ds is ++ right ∷ []) (shape-in ds i limit) (AreShapes-numbers ds limit is right shape)
 
-pub AreShapes-scaled_numbers : (ds : List Decl) (cs : List ℤ) (is : List IntTerm) (right : Shape) → IsShape right → AreShapes (with_steps (scaled_numbers ds cs is ++ right ∷ []))
-AreShapes-scaled_numbers ds [] is right shape = kept right [] shape tt
-AreShapes-scaled_numbers ds (c ∷ cs) [] right shape = kept right [] shape tt
-AreShapes-scaled_numbers ds (c ∷ cs) (i ∷ is) right shape =
-    kept (scaled c (shape_in ds i)) (scaled_numbers ds cs is ++ right ∷ []) (IsShape-scaled c (shape_in ds i) (IsShape-units _)) (AreShapes-scaled_numbers ds cs is right shape)
+pub AreShapes-scaled_numbers : (ds : List Decl) (limit : DeclsInLimit ds) (cs : List ℤ) (is : List IntTerm) (right : Shape) → IsShape right → AreShapes (with_steps (scaled_numbers ds cs is ++ right ∷ []))
+AreShapes-scaled_numbers ds limit [] is right shape = kept right [] shape tt
+AreShapes-scaled_numbers ds limit (c ∷ cs) [] right shape = kept right [] shape tt
+AreShapes-scaled_numbers ds limit (c ∷ cs) (i ∷ is) right shape =
+    kept (scaled c (shape_in ds i)) (scaled_numbers ds cs is ++ right ∷ []) (IsShape-scaled c (shape_in ds i) (shape-in ds i limit)) (AreShapes-scaled_numbers ds limit cs is right shape)
 
 pub AreShapes-scaled_truths : (cs : List ℤ) (xs : List BoolTerm) (right : Shape) → IsShape right → AreShapes (with_steps (scaled_truths cs xs ++ right ∷ []))
 AreShapes-scaled_truths [] xs right shape = kept right [] shape tt

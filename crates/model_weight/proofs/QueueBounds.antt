@@ -5,8 +5,8 @@ use Rattle.core_cost.specs.Sums.{fresh_sum_of}
 use Rattle.core_cost.specs.Relations.{IsShape, IsWithin, AreWithin}
 use Rattle.core_cost.proofs.Monotone.{leq-mono, eq-mono}
 use Rattle.core_cost.proofs.ShapeLaws.{sum3-mono, IsShape-fresh, IsWithin-fresh}
-use Rattle.typed_model.specs.declared.statement.Relation.{Relation}
-use Rattle.typed_model.specs.declared.statement.Relation.TheVariants as relation
+use Rattle.model_meaning.specs.declared.statement.Relation.{Relation}
+use Rattle.model_meaning.specs.declared.statement.Relation.TheVariants as relation
 use Rattle.model_weight.specs.Comparisons.{weight_of_comparison}
 use Rattle.model_weight.specs.Linear.{weight_of_fresh_sum, weight_of_queue}
 

@@ -3,7 +3,7 @@ use Rattle.std.proofs.Common.{◌≡◌, ℕ, suc, ◌+◌, ◌-◌, ◌≤◌, 
 use Rattle.core_cost.specs.declared.shape.Shape.{Shape}
 use Rattle.core_cost.specs.Sums.{fresh_sum_of, spans_of}
 use Rattle.core_cost.proofs.SumLaws.{spans-append}
-use Rattle.typed_model.specs.declared.statement.Relation.{Relation}
+use Rattle.model_meaning.specs.declared.statement.Relation.{Relation}
 use Rattle.model_weight.specs.Comparisons.{weight_of_comparison}
 use Rattle.model_weight.specs.Linear.{weight_of_fresh_sum, steps_of_first, weight_of_queue, weight_of_compared}
 

@@ -8,20 +8,28 @@ use Rattle.core_cost.proofs.SumLaws.{spans-append}
 use Rattle.std.proofs.Math.Nat.{mul-le-mul}
 use Rattle.core_cost.specs.declared.shape.Shape.{Shape}
 use Rattle.core_cost.specs.Sums.{constant, unit_steps, spans_of}
-use Rattle.typed_model.specs.declared.what.BoolTerm.{BoolTerm}
-use Rattle.typed_model.specs.declared.what.IntTerm.{IntTerm}
-use Rattle.typed_model.specs.declared.what.IntTerm.TheVariants as int_term
-use Rattle.typed_model.specs.declared.model.Kind.{Kind}
-use Rattle.typed_model.specs.declared.model.Kind.TheVariants as kind
-use Rattle.typed_model.specs.declared.model.Decl.{Decl}
-use Rattle.typed_model.specs.Domains.{at_least_zero}
-use Rattle.typed_model.specs.Limits.{InLimit, AllInLimit, KindInLimit, DeclsInLimit}
-use Rattle.model_weight.specs.Shapes.{steps_of, domain_at, shape_in}
+use Rattle.model_meaning.specs.declared.what.BoolTerm.{BoolTerm}
+use Rattle.model_meaning.specs.declared.what.IntTerm.{IntTerm}
+use Rattle.model_meaning.specs.declared.what.IntTerm.TheVariants as int_term
+use Rattle.model_meaning.specs.declared.model.Kind.{Kind}
+use Rattle.model_meaning.specs.declared.model.Kind.TheVariants as kind
+use Rattle.model_meaning.specs.declared.model.Decl.{Decl}
+use Rattle.model_meaning.specs.Domains.{at_least_zero}
+use Rattle.model_meaning.specs.Limits.{InLimit, AllInLimit, KindInLimit, DeclsInLimit}
+use Rattle.core_cost.specs.Relations.{IsShape}
+use Rattle.core_cost.proofs.ShapeLaws.{IsShape-units}
+use Rattle.value_lists.specs.ValueLists.{Ascends, last_behind, shape_of as listed_shape}
+use Rattle.value_lists.proofs.Shapes.{span-reaches, steps-within, IsShape-listed}
+use Rattle.model_weight.specs.Shapes.{steps_of, shape_of, domain_at, steps_in, shape_in}
 use Rattle.model_weight.specs.Linear.{scaled, scaled_truths, scaled_numbers, numbers, with_steps}
 
 pub units-span : (n : ℕ) → (unit_steps n).span ≡ n
 units-span zero = refl
 units-span (suc n) = refl
+
+pub units-steps : (n : ℕ) → (unit_steps n).steps ≡ n
+units-steps zero = refl
+units-steps (suc n) = refl
 
 pub units-divisor : (n : ℕ) → (unit_steps n).divisor ≤ 1
 units-divisor zero = omega arith
@@ -34,18 +42,66 @@ at_least_zero-bound (negsuc n) m h = omega arith
 same-bounds : (z : ℤ) → at_least_zero (z -ℤ z) ≡ 0
 same-bounds z = let e : z -ℤ z ≡ pos 0 = omega (arith, ints) in rw e refl
 
+-- the last value of a list is one of its values
+pub last-limit : (v : ℤ) (vs : List ℤ) → AllInLimit (v ∷ vs) → InLimit (last_behind v vs)
+last-limit v [] h = h 0
+last-limit v (w ∷ vs) h = last-limit w vs (λ k. h (suc k))
+
+listed-span : (vs : List ℤ) → AllInLimit vs → Ascends vs → (listed_shape vs).span ≤ 2 ^ 31
+listed-span [] h up = omega arith
+listed-span (v ∷ vs) h up =
+    let top = last-limit v vs h in
+    let low : InLimit v = h 0 in
+    let ends = span-reaches v vs up in
+    omega (arith, ints, low, top, ends)
+
 pub steps-bound : (k : Kind) → KindInLimit k → steps_of k ≤ 2 ^ 31
 steps-bound kind.Bool h = omega arith
-steps-bound (kind.Int low high) h = at_least_zero-bound (high -ℤ low) (2 ^ 31) (omega (arith, ints, h.0, h.1))
+steps-bound (kind.Range low high) h = at_least_zero-bound (high -ℤ low) (2 ^ 31) (omega (arith, ints, h.0, h.1))
+steps-bound (kind.Listed vs) h = omega (arith, steps-within vs h.1, listed-span vs h.0 h.1)
+
+-- the shape of a domain has its steps, its span is bounded, and it is that of an integer
+pub kind-steps : (k : Kind) → (shape_of k).steps ≡ steps_of k
+kind-steps kind.Bool = refl
+kind-steps (kind.Range low high) = units-steps (at_least_zero (high -ℤ low))
+kind-steps (kind.Listed vs) = refl
+
+pub kind-span : (k : Kind) → KindInLimit k → (shape_of k).span ≤ 2 ^ 31
+kind-span kind.Bool h = omega arith
+kind-span (kind.Range low high) h = omega (arith, units-span (at_least_zero (high -ℤ low)), steps-bound (kind.Range low high) h)
+kind-span (kind.Listed vs) h = listed-span vs h.0 h.1
+
+pub kind-shape : (k : Kind) → KindInLimit k → IsShape (shape_of k)
+kind-shape kind.Bool h = IsShape-units 1
+kind-shape (kind.Range low high) h = IsShape-units (at_least_zero (high -ℤ low))
+kind-shape (kind.Listed vs) h = IsShape-listed vs h.1
 
 domain-bound : (ds : List Decl) (place : ℕ) → DeclsInLimit ds → steps_of (domain_at (slice_get ds place)) ≤ 2 ^ 31
 domain-bound [] place h = omega (arith, same-bounds (pos 0))
 domain-bound (d ∷ ds) zero h = steps-bound d.kind h.0
 domain-bound (d ∷ ds) (suc place) h = domain-bound ds place h.1
 
+pub term-bound : (ds : List Decl) (i : IntTerm) → DeclsInLimit ds → steps_in ds i ≤ 2 ^ 31
+term-bound ds (int_term.Number n) h = omega (arith, same-bounds n)
+term-bound ds (int_term.Of place) h = domain-bound ds place h
+
+domain-span : (ds : List Decl) (place : ℕ) → DeclsInLimit ds → (shape_of (domain_at (slice_get ds place))).span ≤ 2 ^ 31
+domain-span [] place h = omega (arith, units-span (at_least_zero (pos 0 -ℤ pos 0)), same-bounds (pos 0))
+domain-span (d ∷ ds) zero h = kind-span d.kind h.0
+domain-span (d ∷ ds) (suc place) h = domain-span ds place h.1
+
 pub span-bound : (ds : List Decl) (i : IntTerm) → DeclsInLimit ds → (shape_in ds i).span ≤ 2 ^ 31
-span-bound ds (int_term.Number n) h = omega (arith, units-span (steps_of (kind.Int n n)), same-bounds n)
-span-bound ds (int_term.Of place) h = omega (arith, units-span (steps_of (domain_at (slice_get ds place))), domain-bound ds place h)
+span-bound ds (int_term.Number n) h = omega (arith, units-span (at_least_zero (n -ℤ n)), same-bounds n)
+span-bound ds (int_term.Of place) h = domain-span ds place h
+
+domain-shape : (ds : List Decl) (place : ℕ) → DeclsInLimit ds → IsShape (shape_of (domain_at (slice_get ds place)))
+domain-shape [] place h = IsShape-units (at_least_zero (pos 0 -ℤ pos 0))
+domain-shape (d ∷ ds) zero h = kind-shape d.kind h.0
+domain-shape (d ∷ ds) (suc place) h = domain-shape ds place h.1
+
+pub shape-in : (ds : List Decl) (i : IntTerm) → DeclsInLimit ds → IsShape (shape_in ds i)
+shape-in ds (int_term.Number n) h = IsShape-units (at_least_zero (n -ℤ n))
+shape-in ds (int_term.Of place) h = domain-shape ds place h
 
 scaled-bound : (c : ℤ) (a : Shape) → InLimit c → a.span ≤ 2 ^ 31 → (scaled c a).span ≤ 2 ^ 61
 scaled-bound c a h k = by_test (int_eq c (pos 0)) (mul-le-mul h k)

@@ -10,35 +10,36 @@ use Rattle.core_cost.specs.Sums.{spans_of}
 use Rattle.core_cost.specs.Relations.{AreShapes}
 use Rattle.core_cost.proofs.Monotone.{ladder_lem}
 use Rattle.core_cost.proofs.ShapeLaws.{IsShape-units}
-use Rattle.typed_model.specs.declared.what.BoolTerm.{BoolTerm}
-use Rattle.typed_model.specs.declared.what.IntTerm.{IntTerm}
-use Rattle.typed_model.specs.declared.what.IntTerm.TheVariants as int_term
-use Rattle.typed_model.specs.declared.what.What.{What}
-use Rattle.typed_model.specs.declared.what.What.TheVariants.{L3, L4, L5, L6, L7, L8, L9, L10, L11, L12, L13, L14, L15, L16, L17, L18}
-use Rattle.typed_model.specs.declared.statement.Relation.{Relation}
-use Rattle.typed_model.specs.declared.statement.Relation.TheVariants as relation
-use Rattle.typed_model.specs.declared.statement.Arithmetic.{Arithmetic}
-use Rattle.typed_model.specs.declared.statement.Arithmetic.TheVariants as arithmetic
-use Rattle.typed_model.specs.declared.statement.Aggregate.{Aggregate}
-use Rattle.typed_model.specs.declared.statement.Aggregate.TheVariants as aggregate
-use Rattle.typed_model.specs.declared.statement.AllDifferent.{AllDifferent}
-use Rattle.typed_model.specs.declared.statement.AllDifferent.TheVariants as all_different
-use Rattle.typed_model.specs.declared.statement.Order.{Order}
-use Rattle.typed_model.specs.declared.model.Kind.{Kind}
-use Rattle.typed_model.specs.declared.model.Kind.TheVariants as kind
-use Rattle.typed_model.specs.declared.model.Decl.{Decl}
-use Rattle.typed_model.specs.declared.model.Stmt.{Stmt}
-use Rattle.typed_model.specs.declared.model.Model.{Model}
-use Rattle.typed_model.specs.Holds.{terms_or_none}
-use Rattle.typed_model.specs.Arguments.{Argument, Truth, Truths, Numbers, given}
-use Rattle.typed_model.specs.Sizes.{arguments_members, what_members, members_of}
-use Rattle.typed_model.specs.Limits.{TermInLimit, WhatInLimit, KindInLimit, DeclsInLimit, StmtsInLimit, InLimits}
+use Rattle.model_meaning.specs.declared.what.BoolTerm.{BoolTerm}
+use Rattle.model_meaning.specs.declared.what.IntTerm.{IntTerm}
+use Rattle.model_meaning.specs.declared.what.IntTerm.TheVariants as int_term
+use Rattle.model_meaning.specs.declared.what.What.{What}
+use Rattle.model_meaning.specs.declared.what.What.TheVariants.{L3, L4, L5, L6, L7, L8, L9, L10, L11, L12, L13, L14, L15, L16, L17, L18}
+use Rattle.model_meaning.specs.declared.statement.Relation.{Relation}
+use Rattle.model_meaning.specs.declared.statement.Relation.TheVariants as relation
+use Rattle.model_meaning.specs.declared.statement.Arithmetic.{Arithmetic}
+use Rattle.model_meaning.specs.declared.statement.Arithmetic.TheVariants as arithmetic
+use Rattle.model_meaning.specs.declared.statement.Aggregate.{Aggregate}
+use Rattle.model_meaning.specs.declared.statement.Aggregate.TheVariants as aggregate
+use Rattle.model_meaning.specs.declared.statement.AllDifferent.{AllDifferent}
+use Rattle.model_meaning.specs.declared.statement.AllDifferent.TheVariants as all_different
+use Rattle.model_meaning.specs.declared.statement.Order.{Order}
+use Rattle.model_meaning.specs.declared.model.Kind.{Kind}
+use Rattle.model_meaning.specs.declared.model.Kind.TheVariants as kind
+use Rattle.model_meaning.specs.declared.model.Decl.{Decl}
+use Rattle.model_meaning.specs.declared.model.Stmt.{Stmt}
+use Rattle.model_meaning.specs.declared.model.Model.{Model}
+use Rattle.model_meaning.specs.Holds.{terms_or_none}
+use Rattle.model_meaning.specs.Arguments.{Argument, Truth, Truths, Numbers, given}
+use Rattle.model_meaning.specs.Sizes.{arguments_members, what_members, members_of}
+use Rattle.model_meaning.specs.Limits.{InLimit, AllInLimit, TermInLimit, WhatInLimit, KindInLimit, DeclsInLimit, StmtsInLimit, InLimits}
+use Rattle.value_lists.specs.ValueLists.{last_of}
 use Rattle.model_weight.specs.Shapes.{steps_of, shape_of, least_of, greatest_of, domain_at, domain_of, steps_in, shape_in, all_steps}
 use Rattle.model_weight.specs.Linear.{scaled_truths, scaled_numbers, numbers, with_steps, weight_of_linear}
 use Rattle.model_weight.specs.Statements.{steps_of_remainder, steps_of_quotient, weight_of_operation, weight_of_aggregate, weight_of_all_different, weight_of_order, weight_of_what}
 use Rattle.model_items.specs.Items.{Declaration, Statement, Definition, stmts_before, stmts_from, declared_item, behind_declared, items_of}
 use Rattle.model_weight.specs.Weight.{weight_of_declaration, weight_of_item, weight_of_items, weight_of}
-use Rattle.model_weight.proofs.Spans.{units-span, at_least_zero-bound, steps-bound, span-bound, numbers-spans, scaled_numbers-spans, scaled_truths-spans, pushed-spans}
+use Rattle.model_weight.proofs.Spans.{at_least_zero-bound, last-limit, steps-bound, kind-span, kind-shape, span-bound, shape-in, numbers-spans, scaled_numbers-spans, scaled_truths-spans, pushed-spans}
 use Rattle.model_weight.proofs.MemberSteps.{with_steps-append}
 use Rattle.model_weight.proofs.ItemSums.{weights-append, before-limit, rest-limit}
 use Rattle.model_weight.proofs.LinearBounds.{AreShapes-numbers, AreShapes-scaled_numbers, AreShapes-scaled_truths, length-with_steps, comparison-bound, sum3-bound, linear-limit}
@@ -77,7 +78,7 @@ numbers-limit : (ds : List Decl) (rel : Relation) (is : List IntTerm) (i : IntTe
     → weight_of_linear rel (numbers ds is) (shape_in ds i) ≤ 2 ^ 82 * (m + 1)
 numbers-limit ds rel is i m limit h k =
     linear-line rel (numbers ds is) (shape_in ds i) (length is) m h k (length-numbers ds is) (numbers-spans ds is limit) (span-bound ds i limit)
-    (AreShapes-numbers ds is (shape_in ds i) (IsShape-units _))
+    (AreShapes-numbers ds limit is (shape_in ds i) (shape-in ds i limit))
 
 -- Operations.
 
@@ -90,21 +91,26 @@ domain-limit ds (int_term.Of place) limit h = declared ds place limit
     declared (d ∷ ds) zero limit = limit.0
     declared (d ∷ ds) (suc place) limit = declared ds place limit.1
 
+listed-last : (vs : List ℤ) → AllInLimit vs → InLimit (last_of vs)
+listed-last [] h = omega arith
+listed-last (v ∷ vs) h = last-limit v vs h
+
 greatest-bound : (k : Kind) → KindInLimit k → greatest_of k ≤ 2 ^ 30
 greatest-bound kind.Bool h = omega arith
-greatest-bound (kind.Int low high) h = at_least_zero-bound high (2 ^ 30) h.1
+greatest-bound (kind.Range low high) h = at_least_zero-bound high (2 ^ 30) h.1
+greatest-bound (kind.Listed vs) h = at_least_zero-bound (last_of vs) (2 ^ 30) (listed-last vs h.0)
 
 pairs-limit : (n m : ℕ) → n ≤ 2 ^ 31 → m ≤ 2 ^ 31 → pairs_of_values n m ≤ 2 ^ 64
 pairs-limit n m h k = mul-le (n + 1) (m + 1) (2 ^ 32) (2 ^ 32) (omega arith) (omega arith)
 
 operation-limit : (o : Arithmetic) (i j k : Kind) → KindInLimit i → KindInLimit j → KindInLimit k → weight_of_operation o i j k ≤ 2 ^ 82
 operation-limit arithmetic.Plus i j k hi hj hk =
-    let a = units-span (steps_of i) in
-    let b = units-span (steps_of j) in
+    let a = kind-span i hi in
+    let b = kind-span j hj in
     let p = steps-bound i hi in
     let q = steps-bound j hj in
     let r = steps-bound k hk in
-    let l = sum3-bound (shape_of i) (shape_of j) (steps_of k) (IsShape-units _) (IsShape-units _) (omega arith) (omega arith) in
+    let l = sum3-bound (shape_of i) (shape_of j) (steps_of k) (kind-shape i hi) (kind-shape j hj) (omega arith) (omega arith) in
     omega arith
 operation-limit arithmetic.Times i j k hi hj hk =
     let p = steps-bound i hi in
@@ -187,11 +193,11 @@ what-limit ds (L9 name rel i j z) limit h = omega (arith, compares-limit ds rel 
 what-limit ds (L10 name rel xs i) limit h = omega (arith, weight_of_count-limit rel (length xs) (steps_in ds i) (omega (arith, h.1)) (steps_in-bound ds i limit))
 what-limit ds (L11 name rel cs xs i) limit h =
     linear-line rel (scaled_truths cs xs) (shape_in ds i) (length xs) (what_members (L11 name rel cs xs i)) (omega arith) h.1 (length-scaled_truths cs xs)
-    (scaled_truths-spans cs xs h.0.0) (span-bound ds i limit) (AreShapes-scaled_truths cs xs (shape_in ds i) (IsShape-units _))
+    (scaled_truths-spans cs xs h.0.0) (span-bound ds i limit) (AreShapes-scaled_truths cs xs (shape_in ds i) (shape-in ds i limit))
 what-limit ds (L12 name rel is i) limit h = numbers-limit ds rel is i (what_members (L12 name rel is i)) limit (omega arith) h.1
 what-limit ds (L13 name rel cs is i) limit h =
     linear-line rel (scaled_numbers ds cs is) (shape_in ds i) (length is) (what_members (L13 name rel cs is i)) (omega arith) h.1 (length-scaled_numbers ds cs is)
-    (scaled_numbers-spans ds cs is limit h.0.0) (span-bound ds i limit) (AreShapes-scaled_numbers ds cs is (shape_in ds i) (IsShape-units _))
+    (scaled_numbers-spans ds cs is limit h.0.0) (span-bound ds i limit) (AreShapes-scaled_numbers ds limit cs is (shape_in ds i) (shape-in ds i limit))
 what-limit ds (L14 name o i j k) limit h =
     omega (arith, operation-limit o (domain_of ds i) (domain_of ds j) (domain_of ds k) (domain-limit ds i limit h.0.0) (domain-limit ds j limit h.0.1.0) (domain-limit ds k limit h.0.1.1.0))
 what-limit ds (L15 i j) limit h =
@@ -240,7 +246,8 @@ statements-limit all (s ∷ ss) limit h = omega (arith, what-limit all s.what li
 
 declaration-limit : (k : Kind) → KindInLimit k → weight_of_declaration k ≤ 2 ^ 82
 declaration-limit kind.Bool h = omega arith
-declaration-limit (kind.Int low high) h = omega (arith, steps-bound (kind.Int low high) h, ladder_lem (steps_of (kind.Int low high)))
+declaration-limit (kind.Range low high) h = omega (arith, steps-bound (kind.Range low high) h, ladder_lem (steps_of (kind.Range low high)))
+declaration-limit (kind.Listed vs) h = omega (arith, steps-bound (kind.Listed vs) h, ladder_lem (steps_of (kind.Listed vs)))
 
 declared-limit : (all : List Decl) (d : Decl) (ss : List Stmt) → KindInLimit d.kind → weight_of_item all (declared_item d ss) ≤ 2 ^ 82
 declared-limit all d [] h = declaration-limit d.kind h

@@ -2,8 +2,8 @@
 use Rattle.std.specs.Prelude.{ℕ, ◌+◌}
 use Rattle.core_cost.specs.Comparisons.{cost_of_leq, cost_of_eq}
 use Rattle.core_cost.specs.Counts.{cost_of_count}
-use Rattle.typed_model.specs.declared.statement.Relation.{Relation}
-use Rattle.typed_model.specs.declared.statement.Relation.TheVariants as relation
+use Rattle.model_meaning.specs.declared.statement.Relation.{Relation}
+use Rattle.model_meaning.specs.declared.statement.Relation.TheVariants as relation
 
 -- an atom is the truth of a comparison of two integers with so many steps
 abbrev pub weight_of_comparison : Relation → ℕ → ℕ → ℕ

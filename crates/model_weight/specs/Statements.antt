@@ -6,23 +6,23 @@ use Rattle.core_cost.specs.ListForms.{cost_of_clause, cost_of_conj, cost_of_pari
 use Rattle.core_cost.specs.Comparisons.{cost_of_eq, cost_of_lex}
 use Rattle.core_cost.specs.Arithmetic.{cost_of_max, cost_of_all_diff, cost_of_prod, cost_of_div_mod}
 use Rattle.core_cost.specs.Sums.{cost_of_sum3}
-use Rattle.typed_model.specs.declared.what.BoolTerm.{BoolTerm}
-use Rattle.typed_model.specs.declared.what.IntTerm.{IntTerm}
-use Rattle.typed_model.specs.declared.what.What.{What}
-use Rattle.typed_model.specs.declared.what.What.TheVariants.{L3, L4, L5, L6, L7, L8, L9, L10, L11, L12, L13, L14, L15, L16, L17, L18}
-use Rattle.typed_model.specs.declared.statement.Operator.{Operator}
-use Rattle.typed_model.specs.declared.statement.Operator.TheVariants as operator
-use Rattle.typed_model.specs.declared.statement.Relation.TheVariants as relation
-use Rattle.typed_model.specs.declared.statement.Arithmetic.{Arithmetic}
-use Rattle.typed_model.specs.declared.statement.Arithmetic.TheVariants as arithmetic
-use Rattle.typed_model.specs.declared.statement.Aggregate.{Aggregate}
-use Rattle.typed_model.specs.declared.statement.Aggregate.TheVariants as aggregate
-use Rattle.typed_model.specs.declared.statement.AllDifferent.{AllDifferent}
-use Rattle.typed_model.specs.declared.statement.AllDifferent.TheVariants as all_different
-use Rattle.typed_model.specs.declared.statement.Order.{Order}
-use Rattle.typed_model.specs.declared.model.Kind.{Kind}
-use Rattle.typed_model.specs.declared.model.Decl.{Decl}
-use Rattle.typed_model.specs.Holds.{terms_or_none}
+use Rattle.model_meaning.specs.declared.what.BoolTerm.{BoolTerm}
+use Rattle.model_meaning.specs.declared.what.IntTerm.{IntTerm}
+use Rattle.model_meaning.specs.declared.what.What.{What}
+use Rattle.model_meaning.specs.declared.what.What.TheVariants.{L3, L4, L5, L6, L7, L8, L9, L10, L11, L12, L13, L14, L15, L16, L17, L18}
+use Rattle.model_meaning.specs.declared.statement.Operator.{Operator}
+use Rattle.model_meaning.specs.declared.statement.Operator.TheVariants as operator
+use Rattle.model_meaning.specs.declared.statement.Relation.TheVariants as relation
+use Rattle.model_meaning.specs.declared.statement.Arithmetic.{Arithmetic}
+use Rattle.model_meaning.specs.declared.statement.Arithmetic.TheVariants as arithmetic
+use Rattle.model_meaning.specs.declared.statement.Aggregate.{Aggregate}
+use Rattle.model_meaning.specs.declared.statement.Aggregate.TheVariants as aggregate
+use Rattle.model_meaning.specs.declared.statement.AllDifferent.{AllDifferent}
+use Rattle.model_meaning.specs.declared.statement.AllDifferent.TheVariants as all_different
+use Rattle.model_meaning.specs.declared.statement.Order.{Order}
+use Rattle.model_meaning.specs.declared.model.Kind.{Kind}
+use Rattle.model_meaning.specs.declared.model.Decl.{Decl}
+use Rattle.model_meaning.specs.Holds.{terms_or_none}
 use Rattle.model_weight.specs.Shapes.{steps_of, shape_of, least_of, greatest_of, domain_of, steps_in, shape_in, all_steps}
 use Rattle.model_weight.specs.Comparisons.{weight_of_comparison, weight_of_count}
 use Rattle.model_weight.specs.Linear.{scaled_truths, scaled_numbers, numbers, weight_of_linear}

@@ -5,7 +5,7 @@ ghost use Rattle.core_cost.specs.Saturated.{saturated};
 ghost use Rattle.model_weight.specs.Statements.{weight_of_array, weight_of_reified_array};
 
 use core_cost::{clause_cost, conj_cost, parity_cost};
-use typed_model::Operator;
+use model_meaning::Operator;
 
 /// An operator of so many members is true.
 pub fn array_weight(operator: Operator, members: usize) -> u128

@@ -5,7 +5,7 @@ ghost use Rattle.core_cost.specs.Saturated.{saturated};
 ghost use Rattle.model_weight.specs.Comparisons.{weight_of_comparison, weight_of_fresh_count, weight_of_count};
 
 use core_cost::{count_cost, eq_cost, leq_cost};
-use typed_model::Relation;
+use model_meaning::Relation;
 
 /// An atom is the truth of a comparison of two integers with so many steps.
 pub fn comparison_weight(relation: Relation, left: u128, right: u128) -> u128

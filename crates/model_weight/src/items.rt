@@ -2,8 +2,8 @@
 
 ghost use Rattle.std.specs.Prelude.{◌≡◌, ◌<◌, ◌+◌, ◌^◌, length, IfOk};
 ghost use Rattle.core_cost.specs.Saturated.{saturated};
-ghost use Rattle.typed_model.specs.Sizes.{members_of};
-ghost use Rattle.typed_model.specs.Limits.{DeclsInLimit, InLimits};
+ghost use Rattle.model_meaning.specs.Sizes.{members_of};
+ghost use Rattle.model_meaning.specs.Limits.{DeclsInLimit, InLimits};
 ghost use Rattle.model_items.specs.Lent.{lent_item};
 ghost use Rattle.model_items.specs.ItemLimits.{ItemInLimit};
 ghost use Rattle.model_weight.specs.Weight.{weight_of_declaration, weight_of_item, weight_of};
@@ -12,17 +12,17 @@ use crate::lines::statement_weight;
 use crate::shapes::steps_of;
 use core_cost::ladder_cost;
 use model_items::{Item, Items};
+use model_meaning::{Decl, Kind, Model};
 use std::alloc::{AllocError, Global};
-use typed_model::{Decl, Kind, Model};
 
 /// A declared name: its variables, and that an integer is ordered.
-fn declaration_weight(kind: Kind) -> u128
-    ensures { result ≡ saturated (weight_of_declaration kind) }
+fn declaration_weight(kind: &Kind) -> u128
+    ensures { result ≡ saturated (weight_of_declaration kind.now) }
 {
     let steps = steps_of(kind);
     match kind {
         Kind::Bool => steps,
-        Kind::Int { .. } => steps.saturating_add(ladder_cost(steps)),
+        Kind::Range { .. } | Kind::Listed { .. } => steps.saturating_add(ladder_cost(steps)),
     }
 }
 
@@ -33,7 +33,7 @@ fn item_weight(alloc: Global, decls: &[Decl], item: &Item<'_>) -> Result<u128, A
     ensures { IfOk result (λ weight. weight ≡ saturated (weight_of_item decls.now (lent_item item.now))) }
 {
     match item {
-        Item::Declaration(decl) => Ok(declaration_weight(decl.kind)),
+        Item::Declaration(decl) => Ok(declaration_weight(&decl.kind)),
         Item::Statement(stmt) => statement_weight(alloc, decls, &stmt.what),
         Item::Definition(_, _) => Ok(0),
     }

@@ -3,10 +3,10 @@
 ghost use Rattle.std.specs.Prelude.{ℕ, ◌+◌, ◌^◌, ◌<◌, ◌≤◌, List, length};
 ghost use Rattle.core_cost.specs.declared.shape.Shape.{Shape};
 ghost use Rattle.core_cost.specs.Relations.{IsShape, IsWithin, AreWithin};
-ghost use Rattle.typed_model.specs.declared.statement.Relation.{Relation};
-ghost use Rattle.typed_model.specs.declared.model.Model.{Model};
-ghost use Rattle.typed_model.specs.Sizes.{members_of};
-ghost use Rattle.typed_model.specs.Limits.{InLimits};
+ghost use Rattle.model_meaning.specs.declared.statement.Relation.{Relation};
+ghost use Rattle.model_meaning.specs.declared.model.Model.{Model};
+ghost use Rattle.model_meaning.specs.Sizes.{members_of};
+ghost use Rattle.model_meaning.specs.Limits.{InLimits};
 ghost use Rattle.model_weight.specs.Linear.{weight_of_fresh_sum, weight_of_queue};
 ghost use Rattle.model_weight.specs.Weight.{weight_of};
 

@@ -5,7 +5,7 @@ ghost use Rattle.std.specs.VecDeque.{deque_len};
 ghost use Rattle.core_cost.specs.declared.shape.Shape.{Shape};
 ghost use Rattle.core_cost.specs.Saturated.{saturated};
 ghost use Rattle.core_cost.specs.Sums.{spans_of, fresh_sum_of};
-ghost use Rattle.typed_model.specs.Limits.{AllInLimit, DeclsInLimit};
+ghost use Rattle.model_meaning.specs.Limits.{AllInLimit, DeclsInLimit};
 ghost use Rattle.model_weight.specs.Shapes.{shape_in};
 ghost use Rattle.model_weight.specs.Linear.{scaled_truths, scaled_numbers, numbers, with_steps, steps_of_first, weight_of_fresh_sum, weight_of_compared, weight_of_sum, weight_of_linear};
 
@@ -13,9 +13,9 @@ use crate::comparisons::comparison_weight;
 use crate::members::{add_member, numbers, scaled_numbers, scaled_truths};
 use crate::shapes::shape_in;
 use core_cost::{Shape, fresh_sum, sum_cost, sum3_cost};
+use model_meaning::{BoolTerm, Decl, IntTerm, Relation};
 use std::alloc::{AllocError, Global};
 use std::collections::VecDeque;
-use typed_model::{BoolTerm, Decl, IntTerm, Relation};
 
 /// A fresh integer is the sum of two members.
 fn fresh_sum_weight(first: Shape, second: Shape, sum: Shape) -> u128

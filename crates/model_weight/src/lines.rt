@@ -2,8 +2,8 @@
 
 ghost use Rattle.std.specs.Prelude.{◌≡◌, IfOk};
 ghost use Rattle.core_cost.specs.Saturated.{saturated};
-ghost use Rattle.typed_model.specs.Limits.{DeclsInLimit, WhatInLimit};
-ghost use Rattle.typed_model.specs.Holds.{terms_or_none};
+ghost use Rattle.model_meaning.specs.Limits.{DeclsInLimit, WhatInLimit};
+ghost use Rattle.model_meaning.specs.Holds.{terms_or_none};
 ghost use Rattle.model_weight.specs.Statements.{weight_of_what};
 
 use crate::arrays::{array_weight, reified_array_weight};
@@ -14,8 +14,8 @@ use crate::orders::{Lists, order_weight};
 use crate::shapes::{domain_of, steps_in};
 use bee_list::{Apart, Sequence};
 use core_cost::{eq_cost, max_cost, parity_cost};
+use model_meaning::{Decl, What};
 use std::alloc::{AllocError, Global};
-use typed_model::{Decl, What};
 
 /// The members of a list that may be left out.
 fn terms<T>(list: &Option<Apart<Sequence<T>>>) -> &[T]

@@ -6,8 +6,8 @@ ghost use Rattle.model_weight.specs.Shapes.{all_steps};
 ghost use Rattle.model_weight.specs.Statements.{truth_steps};
 
 use crate::shapes::steps_in;
+use model_meaning::{BoolTerm, Decl, IntTerm};
 use std::alloc::{AllocError, Global};
-use typed_model::{BoolTerm, Decl, IntTerm};
 
 /// The numbers of steps of integer terms.
 pub fn all_steps(alloc: Global, decls: &[Decl], terms: &[IntTerm]) -> Result<Vec<u128>, AllocError>

@@ -2,18 +2,18 @@
 
 ghost use Rattle.std.specs.Prelude.{◌≡◌, ◌*◌, ◌^◌, ◌≤◌, ◌<◌, ◌++◌, ◌∷◌, [], length, OnOk, IfOk};
 ghost use Rattle.core_cost.specs.Sums.{spans_of};
-ghost use Rattle.typed_model.specs.Limits.{AllInLimit, DeclsInLimit};
+ghost use Rattle.model_meaning.specs.Limits.{AllInLimit, DeclsInLimit};
 ghost use Rattle.model_weight.specs.Linear.{scaled, scaled_truths, scaled_numbers, numbers, with_steps};
 
 use crate::shapes::shape_in;
 use core_cost::Shape;
+use model_meaning::{BoolTerm, Decl, IntTerm};
 use std::alloc::{AllocError, Global};
-use typed_model::{BoolTerm, Decl, IntTerm};
 
 /// An integer times a coefficient.
 fn scaled(coefficient: i64, shape: Shape) -> Shape
     requires span { shape.span < 2 ^ 64 }
-    requires divisor { shape.divisor ≤ 1 }
+    requires divisor { shape.divisor < 2 ^ 64 }
     ensures { result ≡ scaled coefficient shape }
 {
     if coefficient == 0 {

@@ -2,45 +2,50 @@
 
 ghost use Rattle.std.specs.Prelude.{◌≡◌, ◌≤◌, length, IfOk};
 ghost use Rattle.core_cost.specs.Saturated.{saturated};
-ghost use Rattle.typed_model.specs.Limits.{DeclsInLimit};
+ghost use Rattle.model_meaning.specs.Limits.{DeclsInLimit};
 ghost use Rattle.model_weight.specs.Statements.{steps_of_remainder, steps_of_quotient, weight_of_operation, weight_of_aggregate, weight_of_all_different};
-ghost use Rattle.model_weight.specs.Shapes.{all_steps, steps_in};
+ghost use Rattle.model_weight.specs.Shapes.{all_steps, steps_in, lent_domain};
 ghost use Rattle.core_cost.specs.Arithmetic.{cost_of_max};
 
 use crate::linear::total_weight;
 use crate::lists::all_steps;
 use crate::pairs::reified_all_different_weight;
-use crate::shapes::{greatest_of, least_of, shape_of, steps_in, steps_of};
+use crate::shapes::{Domain, greatest, least, shape, steps, steps_in};
 use core_cost::{all_diff_cost, div_mod_cost, max_cost, prod_cost, sum3_cost};
+use model_meaning::{Aggregate, AllDifferent, Arithmetic, Decl, IntTerm, Relation};
 use std::alloc::{AllocError, Global};
-use typed_model::{Aggregate, AllDifferent, Arithmetic, Decl, IntTerm, Kind, Relation};
 
 /// How many steps the fresh remainder of a division has.
-fn remainder_steps(dividend: Kind, divisor: Kind) -> u128
-    ensures { result ≡ steps_of_remainder dividend divisor }
+fn remainder_steps(dividend: Domain<'_>, divisor: Domain<'_>) -> u128
+    ensures { result ≡ steps_of_remainder (lent_domain dividend.entry) (lent_domain divisor.entry) }
 {
-    greatest_of(dividend).min(greatest_of(divisor).saturating_sub(1))
+    greatest(dividend).min(greatest(divisor).saturating_sub(1))
 }
 
 /// How many steps the fresh quotient of a division has.
-fn quotient_steps(dividend: Kind, divisor: Kind) -> u128
-    ensures { result ≡ steps_of_quotient dividend divisor }
+fn quotient_steps(dividend: Domain<'_>, divisor: Domain<'_>) -> u128
+    ensures { result ≡ steps_of_quotient (lent_domain dividend.entry) (lent_domain divisor.entry) }
 {
-    let least = least_of(divisor);
+    let least = least(divisor);
     if least == 0 {
         0
     } else {
-        greatest_of(dividend) / least
+        greatest(dividend) / least
     }
 }
 
 /// An integer is what an operation gives of two others, by the domains of the three.
-pub fn operation_weight(operation: Arithmetic, left: Kind, right: Kind, value: Kind) -> u128
-    ensures { result ≡ saturated (weight_of_operation operation left right value) }
+pub fn operation_weight(
+    operation: Arithmetic,
+    left: Domain<'_>,
+    right: Domain<'_>,
+    value: Domain<'_>,
+) -> u128
+    ensures { result ≡ saturated (weight_of_operation operation (lent_domain left.entry) (lent_domain right.entry) (lent_domain value.entry)) }
 {
-    let (first, second, third) = (steps_of(left), steps_of(right), steps_of(value));
+    let (first, second, third) = (steps(left), steps(right), steps(value));
     match operation {
-        Arithmetic::Plus => sum3_cost(shape_of(left), shape_of(right), third),
+        Arithmetic::Plus => sum3_cost(shape(left), shape(right), third),
         Arithmetic::Times => prod_cost(first, second, third),
         Arithmetic::Div => {
             let fresh = remainder_steps(left, right);

@@ -6,8 +6,8 @@ ghost use Rattle.model_weight.specs.Statements.{weight_of_order};
 
 use crate::lists::{pairs_of_steps, pairs_of_truths};
 use core_cost::lex_cost;
+use model_meaning::{BoolTerm, Decl, IntTerm, Order};
 use std::alloc::{AllocError, Global};
-use typed_model::{BoolTerm, Decl, IntTerm, Order};
 
 /// Two lists of Booleans, and two of integers, of which an order reads the ones that it names.
 #[derive(Clone, Copy)]

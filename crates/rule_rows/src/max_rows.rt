@@ -5,7 +5,9 @@ use std::alloc::AllocError;
 
 /// One member, several of which one alone reaches the top, equal ones, values that no member reaches, and ends
 /// that bound the others.
-static MAXIMA: [Row; 16] = [
+static MAXIMA: [Row; 17] = [
+    // at a value that a member has and the greatest lacks, the atom of the greatest stands first too
+    ("Max 0,2,4@2;0 0,4@3", "Form 3 2", "Form 2 3", "Form 2 T"),
     (
         "Max 0,1,2 0,1,2@3",
         "Form 3 1",

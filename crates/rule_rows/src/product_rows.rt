@@ -63,21 +63,21 @@ static CONSTANTS: [Row; 13] = [
     ),
     (
         "Prod 3 -1,0,2@1 -3,0,6@3",
-        "Form 1 3",
-        "Form 2 4;Form 3 1",
+        "Form 3 1",
+        "Form 2 4;Form 1 3",
         "Form 1 4;Form 2 3;Form 1 T",
     ),
     // -3 by 2 is rounded up to -1
     (
         "Prod 2 -2,-1,1@1 -4,-3,-2,2@3",
-        "Form 1 4",
-        "Form 2 5;Form 3 1;Form 4 1",
+        "Form 4 1",
+        "Form 2 5;Form 3 1;Form 1 4",
         "Form 3 T;Form 1 5;Form 2 4",
     ),
     (
         "Prod 0,2@1 2 0,3,4@2",
-        "Form 1 3",
-        "Form 2 1;Form 1 2",
+        "Form 3 1",
+        "Form 1 3;Form 2 1;Form 1 2",
         "Form 2 3;Form 1 T",
     ),
     // one goes down as the other goes up; -3 by -2 is rounded down to 1
@@ -100,7 +100,7 @@ static CONSTANTS: [Row; 13] = [
         "Form 3 -2;Form 4 -1",
         "Form 4 -2;Form 3 -1;Form 5 -2",
     ),
-    ("Prod 1 0,1@1 0,1@2", "Form 1 2", "Form 2 1", "Form 1 -2"),
+    ("Prod 1 0,1@1 0,1@2", "Form 2 1", "Form 1 2", "Form 1 -2"),
     ("Prod -1 0,1@1 -1,0@2", "Form 2 -1", "Form -1 2", "Form 2 1"),
     (
         "Prod 0 0,1,2@1 -1,0,1@3",

@@ -5,7 +5,9 @@ use std::alloc::AllocError;
 
 /// Sums of two integers: bounds of the sum and of each summand, a constant at each place, negative values, and
 /// values that have no partner.
-static SUMS_OF_TWO: [Row; 17] = [
+static SUMS_OF_TWO: [Row; 18] = [
+    // at a value that the sum has and the summand lacks, the atom of the summand stands first too
+    ("Sum3 2 0,4@3 2,4,6@2", "Form 3 2", "Form 2 3", "Form 3 T"),
     ("Sum3 0,1 0,1@2 0,1,2@3", "none", "", "Form 3 T;Form 1 3"),
     (
         "Sum3 1,2 1,3@2 1,2,3,4@3",

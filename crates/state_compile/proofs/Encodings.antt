@@ -9,7 +9,7 @@ use Rattle.core_forms.specs.Trimmed.{trimmed_core}
 use Rattle.ledger_text.specs.declared.line.Line.TheVariants.{Encode}
 use Rattle.step_kernel.specs.Kernel.{Kernel, core_at, trimmed_at, pending}
 use Rattle.step_kernel.specs.Least.{least_from, least_compound_of}
-use Rattle.step_kernel.specs.Parts.{is_compound_of}
+use Rattle.core_parts.specs.Parts.{is_compound_of}
 use Rattle.step_kernel.specs.Steps.{step, without, encoded}
 use Rattle.step_kernel.proofs.Holes.{between}
 use Rattle.step_kernel.proofs.There.{is-there}

@@ -8,7 +8,7 @@ use Rattle.core_forms.specs.Basic.{is_basic_of}
 use Rattle.core_forms.specs.Trimmed.{trimmed_core}
 use Rattle.step_kernel.specs.Kernel.{Kernel, trimmed_at, pending}
 use Rattle.step_kernel.specs.Least.{least_from, least_of, least_compound_of, is_compound_if}
-use Rattle.step_kernel.specs.Parts.{is_compound_of}
+use Rattle.core_parts.specs.Parts.{is_compound_of}
 use Rattle.step_kernel.proofs.LeastCompound.{core_at-next}
 
 some-of : (x y : ℕ) → ◌≡◌ {A = Option ℕ} (Some x) (Some y) → x ≡ y

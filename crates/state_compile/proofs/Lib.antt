@@ -3,7 +3,6 @@ pub mod InOrder
 pub mod Found
 pub mod Encodings
 pub mod Sizes
-pub mod PartSizes
 pub mod StepSizes
 pub mod Answered
 pub mod Reading

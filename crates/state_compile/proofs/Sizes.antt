@@ -21,7 +21,7 @@ use Rattle.step_kernel.specs.Steps.{without}
 use Rattle.step_kernel.proofs.Costs.{trimmed-more}
 use Rattle.step_kernel.proofs.Holes.{between}
 use Rattle.std.specs.Prelude.{Option, Some}
-use Rattle.state_compile.specs.Size.{members_of, size_of, sizes_of}
+use Rattle.core_parts.specs.Size.{members_of, size_of, sizes_of}
 
 -- ---- members
 

@@ -13,16 +13,17 @@ use Rattle.ledger_text.specs.declared.line.Line.TheVariants.{Equate, Split, Enco
 use Rattle.part_base.specs.declared.parts.Parts.{Parts}
 use Rattle.part_base.specs.PartsFor.{ArePartsFor}
 use Rattle.step_kernel.specs.Kernel.{Kernel, core_at, trimmed_at, pending, IsKernel}
-use Rattle.step_kernel.specs.Parts.{parts_at, is_compound_of}
+use Rattle.core_parts.specs.Parts.{parts_at, is_compound_of}
 use Rattle.step_kernel.specs.Steps.{step, without, equated, divided}
 use Rattle.step_kernel.proofs.Holes.{pending-append, pending-parts, below-there}
 use Rattle.step_kernel.proofs.Kept.{Kept}
 use Rattle.step_kernel.proofs.StepLaws.{step-kept, parts-there}
 use Rattle.step_kernel.proofs.There.{is-there}
 use Rattle.fixpoint_queue.specs.Ledgers.{Leads, AreEquations}
-use Rattle.state_compile.specs.Size.{size_of, sizes_of, left_to_split}
+use Rattle.core_parts.specs.Size.{size_of, sizes_of}
+use Rattle.state_compile.specs.Size.{left_to_split}
 use Rattle.state_compile.proofs.Made.{made-by}
-use Rattle.state_compile.proofs.PartSizes.{parts-smaller}
+use Rattle.core_parts.proofs.PartSizes.{parts-smaller}
 use Rattle.state_compile.proofs.Sizes.{trimmed_sizes, sizes-append, sizes-bound, sizes-later, sizes-more, sizes-there}
 
 -- ---- equations

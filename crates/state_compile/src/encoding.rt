@@ -8,9 +8,10 @@ ghost use Rattle.state_compile.specs.Compilation.{AddsInOrder, IsAtEnd};
 
 use fixpoint_queue::{Oracle, Runner};
 use std::alloc::AllocError;
+use std::sync::ledger::Ledger;
 
 /// Encodes the pending cores, none of which is compound, the least id first. At bottom there is nothing to do.
-pub fn encode_all<F: Oracle>(runner: &mut Runner<F>) -> Result<(), AllocError>
+pub fn encode_all<F: Oracle<L>, L: Ledger>(runner: &mut Runner<F, L>) -> Result<(), AllocError>
     requires closed { runner.old.kernel.bottom ≡ true ⊎ IsClosed F.told runner.old.kernel }
     requires none { runner.old.kernel.bottom ≡ true ⊎ least_compound_of runner.old.kernel ≡ None }
     ensures adds { OnOk result

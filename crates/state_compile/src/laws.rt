@@ -15,10 +15,11 @@ ghost use Rattle.state_compile.specs.StandsFor.{CnfStandsFor, read_by};
 ghost use Rattle.state_compile.specs.Compilation.{IsCompilation};
 
 use fixpoint_queue::Oracle;
+use std::sync::ledger::Ledger;
 
 /// The ledger of a compilation leads from its first state to its last, which is a state with a later store,
 /// and whose CNF has the models of the first one.
-pub fn compilation_law<F: Oracle>()
+pub fn compilation_law<F: Oracle<L>, L: Ledger>()
     ensures leads { (start last : Kernel) (ledger : List Line)
         → IsCompilation F.told start ledger last → Leads F.told start ledger last }
     ensures kernel { (start last : Kernel) (ledger : List Line)

@@ -14,8 +14,8 @@ use std::alloc::AllocError;
 use std::sync::ledger::Ledger;
 
 /// Splits the least compound core, and saturates.
-fn split_least<F: Oracle, L: Ledger>(
-    runner: &mut Runner<F>,
+fn split_least<F: Oracle<L>, L: Ledger>(
+    runner: &mut Runner<F, L>,
     steps: &mut Steps<L>,
     id: u64,
 ) -> Result<(), AllocError>
@@ -40,8 +40,8 @@ fn split_least<F: Oracle, L: Ledger>(
 
 /// Saturates, and splits the least compound core while there is one, saturating after each split. It stops
 /// where a contradiction is found.
-pub fn split_all<F: Oracle, L: Ledger>(
-    runner: &mut Runner<F>,
+pub fn split_all<F: Oracle<L>, L: Ledger>(
+    runner: &mut Runner<F, L>,
     steps: &mut Steps<L>,
 ) -> Result<(), AllocError>
     ensures adds { OnOk result

@@ -6,7 +6,7 @@ use Rattle.core_forms.specs.declared.equation.Rule.TheVariants.{Form}
 use Rattle.core_forms.specs.declared.equation.Equation.{Equation}
 use Rattle.core_forms.specs.declared.form.Core.{Core}
 use Rattle.core_forms.specs.declared.form.Core.TheVariants.{Clause}
-use Rattle.step_kernel.specs.Instances.{is_instance_at}
+use Rattle.core_rules.specs.Instances.{is_instance_at}
 
 abbrev pub first_variable : Atom
 first_variable = Of (record { var = 1; positive = true })

@@ -5,7 +5,8 @@ ghost use Rattle.std.specs.Prelude.{◌≡◌, ◌<◌};
 
 use crate::ledgers::{Row, compare};
 use crate::steps_made::started;
-use fixpoint_queue::{Oracle, Silent, TableP};
+use crate::told_once::{Asked, ToldOnce};
+use fixpoint_queue::{Silent, TableP};
 use rule_base::Steps;
 use state_compile::{Compiled, compile_state};
 use std::alloc::{AllocError, Global};
@@ -51,50 +52,49 @@ static BY_SILENCE: [Row; 1] = [(
 )];
 
 /// Compiles, with a counter of its own.
-fn compile_with<L: Ledger, F: Oracle>(
+fn compile_with<L: Ledger>(
     alloc: Global,
     blank: Blank,
     state: State,
-    oracle: F,
+    asked: Asked,
 ) -> Result<Compiled, AllocError>
     requires name { blank.name ≡ L.name }
     requires parts { blank.parts ≡ L.parts }
     requires some { 0 < L.parts }
 {
     let mut steps = Steps::<L>::open(blank);
-    compile_state(alloc, state, oracle, &mut steps)
+    match asked {
+        Asked::AllRules => compile_state(alloc, state, TableP, &mut steps),
+        Asked::Silence => compile_state(alloc, state, Silent, &mut steps),
+        Asked::OneEquation => compile_state(alloc, state, ToldOnce, &mut steps),
+    }
 }
 
 /// The compilation of the cores of a row.
-fn compiled<F: Oracle>(
+fn compiled(
     rt: &impl Abort,
     alloc: Global,
-    oracle: F,
+    asked: Asked,
     row: Row,
 ) -> Result<Compiled, AllocError> {
     let (vars, cores, _, _) = row;
     let state = started(rt, alloc, vars, cores)?;
-    compile_with::<Brand, F>(alloc, Blank::new(1), state, oracle)
+    compile_with::<Brand>(alloc, Blank::new(1), state, asked)
 }
 
 /// Tests a row. Where memory is refused, the cores are compiled once more.
-fn check<F: Oracle>(rt: &impl Abort, alloc: Global, oracle: F, row: Row) -> Result<(), AllocError> {
-    let made = match compiled(rt, alloc, oracle, row) {
+fn check(rt: &impl Abort, alloc: Global, asked: Asked, row: Row) -> Result<(), AllocError> {
+    let made = match compiled(rt, alloc, asked, row) {
         Ok(made) => made,
-        Err(_) => compiled(rt, alloc, oracle, row)?,
+        Err(_) => compiled(rt, alloc, asked, row)?,
     };
     compare(rt, alloc, row, &made.state, made.ledger.as_slice())
 }
 
 /// Tests rows.
-fn check_all<F: Oracle>(
-    rt: &impl Abort,
-    alloc: Global,
-    oracle: F,
-    rows: &[Row],
-) -> Result<(), AllocError> {
+fn check_all(rt: &impl Abort, alloc: Global, asked: Asked, rows: &[Row]) -> Result<(), AllocError> {
     for row in rows {
-        check(rt, alloc, oracle, *row)?;
+        check(rt, alloc, asked, *row)?;
     }
     Ok(())
 }
@@ -102,6 +102,6 @@ fn check_all<F: Oracle>(
 #[test]
 fn states_are_compiled(rt: HostRuntime) -> Result<(), AllocError> {
     let alloc = rt.alloc();
-    check_all(&rt, alloc, TableP, &BY_TABLES)?;
-    check_all(&rt, alloc, Silent, &BY_SILENCE)
+    check_all(&rt, alloc, Asked::AllRules, &BY_TABLES)?;
+    check_all(&rt, alloc, Asked::Silence, &BY_SILENCE)
 }

@@ -5,13 +5,15 @@ ghost use Rattle.std.specs.Prelude.{◌≡◌, ◌<◌};
 
 use crate::ledgers::{Row, compare};
 use crate::steps_made::started;
-use crate::told_once::ToldOnce;
+use crate::told_once::{Asked, ToldOnce};
 use fixpoint_queue::{Oracle, Runner, Silent, TableP};
+use ledger_text::Line;
 use rule_base::Steps;
 use std::alloc::{AllocError, Global};
 use std::marker::Brand;
 use std::process::Abort;
 use std::sync::ledger::{Blank, Ledger};
+use step_kernel::State;
 
 /// Equations by the order of integers, by the form of cores, and by their truth tables.
 static TOLD: [Row; 8] = [
@@ -98,68 +100,79 @@ static TOLD_ONCE: [Row; 2] = [
     ),
 ];
 
+/// Saturates a worklist of the cores of a state. Where memory is refused it is asked for once more.
+fn saturated<F: Oracle<L>, L: Ledger>(
+    alloc: Global,
+    state: State,
+    oracle: F,
+    steps: &mut Steps<L>,
+) -> Result<(State, Vec<Line>), AllocError> {
+    let mut runner = Runner::with(alloc, state, oracle)?;
+    if runner.saturate(steps).is_err() {
+        runner.saturate(steps)?;
+    }
+    Ok(runner.finish())
+}
+
 /// Saturates, with a counter of its own.
-fn saturate_with<L: Ledger, F: Oracle>(
+fn saturate_with<L: Ledger>(
+    alloc: Global,
     blank: Blank,
-    runner: &mut Runner<F>,
-) -> Result<(), AllocError>
+    state: State,
+    asked: Asked,
+) -> Result<(State, Vec<Line>), AllocError>
     requires name { blank.name ≡ L.name }
     requires parts { blank.parts ≡ L.parts }
     requires some { 0 < L.parts }
 {
     let mut steps = Steps::<L>::open(blank);
-    match runner.saturate(&mut steps) {
-        Ok(()) => Ok(()),
-        Err(_) => runner.saturate(&mut steps),
+    match asked {
+        Asked::AllRules => saturated(alloc, state, TableP, &mut steps),
+        Asked::Silence => saturated(alloc, state, Silent, &mut steps),
+        Asked::OneEquation => saturated(alloc, state, ToldOnce, &mut steps),
     }
 }
 
-/// A worklist of the cores of a row. Where memory is refused it is made once more.
-fn queued<F: Oracle>(
+/// The cores of a row, saturated.
+fn saturated_row(
     rt: &impl Abort,
     alloc: Global,
-    oracle: F,
+    asked: Asked,
     row: Row,
-) -> Result<Runner<F>, AllocError> {
+) -> Result<(State, Vec<Line>), AllocError> {
     let (vars, cores, _, _) = row;
-    match Runner::with(alloc, started(rt, alloc, vars, cores)?, oracle) {
-        Ok(runner) => Ok(runner),
-        Err(_) => Runner::with(alloc, started(rt, alloc, vars, cores)?, oracle),
-    }
+    let state = started(rt, alloc, vars, cores)?;
+    saturate_with::<Brand>(alloc, Blank::new(1), state, asked)
 }
 
-/// Tests a row.
-fn check<F: Oracle>(rt: &impl Abort, alloc: Global, oracle: F, row: Row) -> Result<(), AllocError> {
-    let mut runner = queued(rt, alloc, oracle, row)?;
-    saturate_with::<Brand, F>(Blank::new(1), &mut runner)?;
-    let (state, ledger) = runner.finish();
+/// Tests a row. Where memory is refused, the cores are saturated once more.
+fn check(rt: &impl Abort, alloc: Global, asked: Asked, row: Row) -> Result<(), AllocError> {
+    let (state, ledger) = match saturated_row(rt, alloc, asked, row) {
+        Ok(made) => made,
+        Err(_) => saturated_row(rt, alloc, asked, row)?,
+    };
     compare(rt, alloc, row, &state, ledger.as_slice())
 }
 
 /// Tests rows.
-fn check_all<F: Oracle>(
-    rt: &impl Abort,
-    alloc: Global,
-    oracle: F,
-    rows: &[Row],
-) -> Result<(), AllocError> {
+fn check_all(rt: &impl Abort, alloc: Global, asked: Asked, rows: &[Row]) -> Result<(), AllocError> {
     for row in rows {
-        check(rt, alloc, oracle, *row)?;
+        check(rt, alloc, asked, *row)?;
     }
     Ok(())
 }
 
 #[test]
 fn told_equations_are_taken_to_the_end(rt: HostRuntime) -> Result<(), AllocError> {
-    check_all(&rt, rt.alloc(), TableP, &TOLD)
+    check_all(&rt, rt.alloc(), Asked::AllRules, &TOLD)
 }
 
 #[test]
 fn nothing_is_told_by_the_silent_one(rt: HostRuntime) -> Result<(), AllocError> {
-    check_all(&rt, rt.alloc(), Silent, &SILENT)
+    check_all(&rt, rt.alloc(), Asked::Silence, &SILENT)
 }
 
 #[test]
 fn only_what_is_told_is_taken(rt: HostRuntime) -> Result<(), AllocError> {
-    check_all(&rt, rt.alloc(), ToldOnce, &TOLD_ONCE)
+    check_all(&rt, rt.alloc(), Asked::OneEquation, &TOLD_ONCE)
 }

@@ -5,7 +5,7 @@
 ghost use Rattle.std.specs.Prelude.{◌≡◌, true, Some, IfOk, IsTrue};
 ghost use Rattle.core_forms.specs.WellFormed.{IsWellFormed};
 ghost use Rattle.step_kernel.specs.Kernel.{trimmed_at};
-ghost use Rattle.step_kernel.specs.Instances.{is_instance_at};
+ghost use Rattle.core_rules.specs.Instances.{is_instance_at};
 
 use crate::starts::start;
 use crate::state_text::state_text;

@@ -4,11 +4,20 @@ ghost use Rattle.std.specs.Prelude.{◌≡◌, ◌↔◌, ◌∷◌, [], IsTrue}
 ghost use Rattle.state_rows.specs.ToldOnce.{first_variable, told_core, told_equation};
 
 use core_forms::{Core, Equation, Rule};
+use core_rules::FoundRun;
 use fixpoint_queue::Oracle;
 use order_ints::{Atom, Lit};
 use rule_base::Steps;
 use std::alloc::{AllocError, Global};
 use std::sync::ledger::Ledger;
+
+/// Who is asked in a row.
+#[derive(Clone, Copy, Debug)]
+pub enum Asked {
+    AllRules,
+    Silence,
+    OneEquation,
+}
 
 /// Tells that variable 1 is true, at the clause that has it alone, and nothing else.
 #[derive(Clone, Copy, Debug)]
@@ -52,27 +61,26 @@ fn told_equation() -> Equation
     }
 }
 
-impl Oracle for ToldOnce {
+impl<L: Ledger> Oracle<L> for ToldOnce {
     ghost use Rattle.state_rows.specs.ToldOnce.{IsToldOnce, told_once_is_instance};
 
     ghost told = { IsToldOnce };
 
     ghost told_is_instance = { told_once_is_instance };
 
-    fn ask<L: Ledger>(
+    fn ask(
         &self,
-        _alloc: Global,
+        alloc: Global,
         core: &Core,
         steps: &mut Steps<L>,
-    ) -> Result<Option<Equation>, AllocError> {
+    ) -> Result<Option<FoundRun>, AllocError> {
         steps.tick();
         if is_told_core(core) {
-            return Ok(Some(told_equation()));
+            return Ok(Some(FoundRun {
+                equation: told_equation(),
+                run: Vec::new(alloc),
+            }));
         }
         Ok(None)
-    }
-
-    fn run(&self, alloc: Global, _core: &Core) -> Result<Vec<Equation>, AllocError> {
-        Ok(Vec::new(alloc))
     }
 }

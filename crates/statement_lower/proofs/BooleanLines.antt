@@ -9,10 +9,10 @@ use Rattle.order_ints.proofs.Truths.{atom_truth-not_atom}
 use Rattle.core_forms.specs.Truths as forms
 use Rattle.core_forms.specs.Meaning.{core_truth}
 use Rattle.core_forms.specs.Cores.{cores_truth}
-use Rattle.typed_model.specs.declared.statement.Operator.{Operator}
-use Rattle.typed_model.specs.declared.statement.Operator.TheVariants as operator
-use Rattle.typed_model.specs.Booleans.{some_true, all_true, none_true, count_true, combine}
-use Rattle.typed_model.specs.Holds.{same}
+use Rattle.model_meaning.specs.declared.statement.Operator.{Operator}
+use Rattle.model_meaning.specs.declared.statement.Operator.TheVariants as operator
+use Rattle.model_meaning.specs.Booleans.{some_true, all_true, none_true, count_true, combine}
+use Rattle.model_meaning.specs.Holds.{same}
 use Rattle.statement_lower.specs.Lines.{equal_core, equal_cores, array_cores}
 use Rattle.statement_lower.proofs.MeaningLaws.{same_meanings}
 

@@ -15,11 +15,11 @@ use Rattle.order_ints.proofs.Truths.{atom_truth-not_atom, AtomBelow-not_atom}
 use Rattle.core_forms.specs.Meaning.{core_truth}
 use Rattle.core_forms.specs.Place.{CoreBelow}
 use Rattle.core_forms.specs.WellFormed.{IsSound, IsWellFormed}
-use Rattle.typed_model.specs.declared.statement.Relation.{Relation}
-use Rattle.typed_model.specs.declared.statement.Relation.TheVariants as relation
-use Rattle.typed_model.specs.Integers.{relates}
-use Rattle.typed_model.specs.Holds.{same}
-use Rattle.typed_model.proofs.DomainLaws.{Decides-int_le, Decides-int_lt}
+use Rattle.model_meaning.specs.declared.statement.Relation.{Relation}
+use Rattle.model_meaning.specs.declared.statement.Relation.TheVariants as relation
+use Rattle.model_meaning.specs.Integers.{relates}
+use Rattle.model_meaning.specs.Holds.{same}
+use Rattle.model_meaning.proofs.DomainLaws.{Decides-int_le, Decides-int_lt}
 use Rattle.statement_lower.specs.Comparison.{comparison_core}
 use Rattle.statement_lower.proofs.BooleanLines.{beq-same}
 

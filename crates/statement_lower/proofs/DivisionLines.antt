@@ -17,11 +17,11 @@ use Rattle.core_forms.specs.Meaning.{is_division}
 use Rattle.core_forms.specs.WellFormed.{IsWellFormed, greatest_abs}
 use Rattle.core_forms.proofs.CoreLists.{MeetsAll-one}
 use Rattle.core_forms.proofs.Limits.{times-le, small-divisions}
-use Rattle.typed_model.specs.Integers.{is_quotient, is_remainder}
-use Rattle.typed_model.specs.Domains.{at_least_zero}
-use Rattle.typed_model.proofs.DomainLaws.{Decides-int_le, Decides-int_lt}
-use Rattle.typed_model.proofs.HoldsLaws.{Decides-is_quotient}
-use Rattle.typed_model.proofs.Remainders.{Decides-is_remainder}
+use Rattle.model_meaning.specs.Integers.{is_quotient, is_remainder}
+use Rattle.model_meaning.specs.Domains.{at_least_zero}
+use Rattle.model_meaning.proofs.DomainLaws.{Decides-int_le, Decides-int_lt}
+use Rattle.model_meaning.proofs.HoldsLaws.{Decides-is_quotient}
+use Rattle.model_meaning.proofs.Remainders.{Decides-is_remainder}
 use Rattle.statement_lower.specs.Lines.{fresh_range, most_remainder, most_quotient}
 use Rattle.statement_lower.specs.Lowers.{Lowers}
 use Rattle.statement_lower.proofs.EntryLaws.{SmallInteger, small-more}

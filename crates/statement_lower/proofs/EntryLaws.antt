@@ -20,27 +20,25 @@ use Rattle.core_forms.specs.Truths.{truths}
 use Rattle.core_forms.specs.Values.{values, all_ordered}
 use Rattle.core_forms.specs.Place.{IntsBelow}
 use Rattle.core_forms.specs.WellFormed.{IsSound, AreSound, greatest_abs}
-use Rattle.typed_model.specs.declared.model.Decl.{Decl}
-use Rattle.typed_model.specs.declared.model.Kind.{Kind}
-use Rattle.typed_model.specs.declared.model.Kind.TheVariants as kind
-use Rattle.typed_model.specs.declared.what.BoolTerm.{BoolTerm}
-use Rattle.typed_model.specs.declared.what.BoolTerm.TheVariants as bool_term
-use Rattle.typed_model.specs.declared.what.IntTerm.{IntTerm}
-use Rattle.typed_model.specs.declared.what.IntTerm.TheVariants as int_term
-use Rattle.typed_model.specs.Terms.{value_at, is_one, truth_of, number_of, truths_of, numbers_of}
-use Rattle.typed_model.specs.Limits.{TermInLimit, TermsInLimit}
-use Rattle.typed_model.specs.WellTyped.{IsInt, IsTruthAt, IsNumberAt, TruthFits, NumberFits, TruthsFit, NumbersFit, IsAtLeast}
-use Rattle.typed_model.specs.Scope as scope
+use Rattle.model_meaning.specs.declared.model.Decl.{Decl}
+use Rattle.model_meaning.specs.declared.model.Kind.{Kind}
+use Rattle.model_meaning.specs.declared.model.Kind.TheVariants as kind
+use Rattle.model_meaning.specs.declared.what.BoolTerm.{BoolTerm}
+use Rattle.model_meaning.specs.declared.what.BoolTerm.TheVariants as bool_term
+use Rattle.model_meaning.specs.declared.what.IntTerm.{IntTerm}
+use Rattle.model_meaning.specs.declared.what.IntTerm.TheVariants as int_term
+use Rattle.model_meaning.specs.Terms.{value_at, is_one, truth_of, number_of, truths_of, numbers_of}
+use Rattle.model_meaning.specs.Limits.{TermInLimit, TermsInLimit}
+use Rattle.model_meaning.specs.WellTyped.{IsInt, IsTruthAt, IsNumberAt, TruthFits, NumberFits, TruthsFit, NumbersFit, IsAtLeast}
+use Rattle.model_meaning.specs.Places as scope
 use Rattle.statement_lower.specs.Terms.{atom_at, atom_of, atoms_of, integer_at, integer_of, integers_of}
+use Rattle.value_lists.specs.ValueLists.{first_of, last_of}
 use Rattle.statement_lower.specs.Entries.{IntegerFits, EntryFits, EntriesFit, AreOrdered, AreInLimit}
 
 -- More variables.
 
-EntryFits-more : (n m : ℕ) (k : Kind) (e : MapValue) → n ≤ m → EntryFits n k e → EntryFits m k e
-EntryFits-more n m kind.Bool (entry.Bool a) le h = AtomBelow-more n m a le h
-EntryFits-more n m kind.Bool (entry.Int a) le h = absurd h
-EntryFits-more n m (kind.Int low high) (entry.Bool a) le h = absurd h
-EntryFits-more n m (kind.Int low high) (entry.Int a) le h = record {
+IntegerFits-more : (n m : ℕ) (low high : ℤ) (a : OrdInt) → n ≤ m → IntegerFits n low high a → IntegerFits m low high a
+IntegerFits-more n m low high a le h = record {
   below = StepsBelow-more n m a.steps le h.below;
   sound = h.sound;
   least = h.least;
@@ -48,6 +46,15 @@ EntryFits-more n m (kind.Int low high) (entry.Int a) le h = record {
   low_in_limit = h.low_in_limit;
   high_in_limit = h.high_in_limit;
 }
+
+EntryFits-more : (n m : ℕ) (k : Kind) (e : MapValue) → n ≤ m → EntryFits n k e → EntryFits m k e
+EntryFits-more n m kind.Bool (entry.Bool a) le h = AtomBelow-more n m a le h
+EntryFits-more n m kind.Bool (entry.Int a) le h = absurd h
+EntryFits-more n m (kind.Range low high) (entry.Bool a) le h = absurd h
+EntryFits-more n m (kind.Range low high) (entry.Int a) le h = IntegerFits-more n m low high a le h
+EntryFits-more n m (kind.Listed vs) (entry.Bool a) le h = absurd h
+EntryFits-more n m (kind.Listed vs) (entry.Int a) le h =
+    record { fits = IntegerFits-more n m (first_of vs) (last_of vs) a le h.fits; shape = h.shape }
 
 pub EntriesFit-more : (n m : ℕ) (ds : List Decl) (entries : List MapValue) → n ≤ m → EntriesFit n ds entries → EntriesFit m ds entries
 EntriesFit-more n m [] [] le h = tt
@@ -83,8 +90,10 @@ length-numbers_of σ n (d ∷ ds) (e ∷ entries) h = ap suc (length-numbers_of 
 number_of-agree : (n : ℕ) (σ τ : Valuation) (k : Kind) (e : MapValue) → Agree n σ τ → EntryFits n k e → numbers.number_of σ e ≡ numbers.number_of τ e
 number_of-agree n σ τ kind.Bool (entry.Bool a) same h = ap (λ (t : Bool). if t then pos 1 else pos 0) (atom_truth-agree n σ τ a same h)
 number_of-agree n σ τ kind.Bool (entry.Int a) same h = absurd h
-number_of-agree n σ τ (kind.Int low high) (entry.Bool a) same h = absurd h
-number_of-agree n σ τ (kind.Int low high) (entry.Int a) same h = value_of-agree n σ τ a same h.below
+number_of-agree n σ τ (kind.Range low high) (entry.Bool a) same h = absurd h
+number_of-agree n σ τ (kind.Range low high) (entry.Int a) same h = value_of-agree n σ τ a same h.below
+number_of-agree n σ τ (kind.Listed vs) (entry.Bool a) same h = absurd h
+number_of-agree n σ τ (kind.Listed vs) (entry.Int a) same h = value_of-agree n σ τ a same h.fits.below
 
 pub numbers_of-agree : (n : ℕ) (σ τ : Valuation) (ds : List Decl) (entries : List MapValue) → Agree n σ τ → EntriesFit n ds entries → numbers.numbers_of σ entries ≡ numbers.numbers_of τ entries
 numbers_of-agree n σ τ [] [] same h = refl
@@ -144,8 +153,10 @@ small-from n low high a h = record { below = h.below; sound = h.sound; small = o
 
 number-entry : (n : ℕ) (k : Kind) (e : MapValue) → IsInt k → EntryFits n k e → SmallInteger n (integer_at (Some e)) × ((σ : Valuation) → value_of σ (integer_at (Some e)) ≡ numbers.number_of σ e)
 number-entry n kind.Bool e i h = absurd i
-number-entry n (kind.Int low high) (entry.Bool a) i h = absurd h
-number-entry n (kind.Int low high) (entry.Int a) i h = (small-from n low high a h, λ σ. refl)
+number-entry n (kind.Range low high) (entry.Bool a) i h = absurd h
+number-entry n (kind.Range low high) (entry.Int a) i h = (small-from n low high a h, λ σ. refl)
+number-entry n (kind.Listed vs) (entry.Bool a) i h = absurd h
+number-entry n (kind.Listed vs) (entry.Int a) i h = (small-from n (first_of vs) (last_of vs) a h.fits, λ σ. refl)
 
 number-at : (n m : ℕ) (ds : List Decl) (entries : List MapValue) (p : ℕ) → EntriesFit n ds entries → IsNumberAt ds m p → SmallInteger n (integer_at (slice_get entries p)) × ((σ : Valuation) → value_of σ (integer_at (slice_get entries p)) ≡ value_at (numbers.numbers_of σ entries) p)
 number-at n m [] entries p h k = absurd k
@@ -183,8 +194,10 @@ small-more n m a le h = record { below = StepsBelow-more n m a.steps le h.below;
 
 least-entry : (n : ℕ) (m : ℤ) (k : Kind) (e : MapValue) → IsInt k → EntryFits n k e → m ≤ℤ scope.low_of (Some k) → m ≤ℤ low_of (integer_at (Some e))
 least-entry n m kind.Bool e i h l = absurd i
-least-entry n m (kind.Int low high) (entry.Bool a) i h l = absurd h
-least-entry n m (kind.Int low high) (entry.Int a) i h l = omega (arith, ints, h.least, l)
+least-entry n m (kind.Range low high) (entry.Bool a) i h l = absurd h
+least-entry n m (kind.Range low high) (entry.Int a) i h l = omega (arith, ints, h.least, l)
+least-entry n m (kind.Listed vs) (entry.Bool a) i h l = absurd h
+least-entry n m (kind.Listed vs) (entry.Int a) i h l = omega (arith, ints, h.fits.least, l)
 
 least-at : (n k : ℕ) (m : ℤ) (ds : List Decl) (entries : List MapValue) (p : ℕ) → EntriesFit n ds entries → IsNumberAt ds k p → IsAtLeast ds m (int_term.Of p) → m ≤ℤ low_of (integer_at (slice_get entries p))
 least-at n k m [] entries p h i l = absurd i

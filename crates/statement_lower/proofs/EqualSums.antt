@@ -10,16 +10,16 @@ use Rattle.order_ints.specs.OrderMade.{integer_of_atom}
 use Rattle.order_ints.specs.Numbers as numbers
 use Rattle.core_forms.specs.Values as forms
 use Rattle.core_forms.specs.Place.{IntsBelow}
-use Rattle.typed_model.specs.declared.model.Decl.{Decl}
-use Rattle.typed_model.specs.declared.what.IntTerm.{IntTerm}
-use Rattle.typed_model.specs.declared.what.BoolTerm.{BoolTerm}
-use Rattle.typed_model.specs.declared.statement.Relation.{Relation}
-use Rattle.typed_model.specs.declared.statement.Relation.TheVariants as relation
-use Rattle.typed_model.specs.declared.statement.Aggregate.TheVariants as aggregate
-use Rattle.typed_model.specs.Terms.{number_of, truths_of, numbers_of, as_number}
-use Rattle.typed_model.specs.Integers.{relates, total, weight_of_true, linear_sum, is_aggregate}
-use Rattle.typed_model.specs.Limits.{AllInLimit, TermInLimit, TermsInLimit}
-use Rattle.typed_model.specs.WellTyped.{NumberFits, NumbersFit, TruthsFit}
+use Rattle.model_meaning.specs.declared.model.Decl.{Decl}
+use Rattle.model_meaning.specs.declared.what.IntTerm.{IntTerm}
+use Rattle.model_meaning.specs.declared.what.BoolTerm.{BoolTerm}
+use Rattle.model_meaning.specs.declared.statement.Relation.{Relation}
+use Rattle.model_meaning.specs.declared.statement.Relation.TheVariants as relation
+use Rattle.model_meaning.specs.declared.statement.Aggregate.TheVariants as aggregate
+use Rattle.model_meaning.specs.Terms.{number_of, truths_of, numbers_of, as_number}
+use Rattle.model_meaning.specs.Integers.{relates, total, weight_of_true, linear_sum, is_aggregate}
+use Rattle.model_meaning.specs.Limits.{AllInLimit, TermInLimit, TermsInLimit}
+use Rattle.model_meaning.specs.WellTyped.{NumberFits, NumbersFit, TruthsFit}
 use Rattle.statement_lower.specs.Terms.{atom_of, atoms_of, integer_of, integers_of}
 use Rattle.statement_lower.specs.Entries.{EntriesFit, AreOrdered}
 use Rattle.statement_lower.specs.declared.made.Made.{Made}

@@ -15,8 +15,8 @@ use Rattle.core_forms.specs.Meaning.{core_truth}
 use Rattle.core_forms.specs.Place.{CoreBelow}
 use Rattle.core_forms.specs.WellFormed.{IsWellFormed}
 use Rattle.core_forms.proofs.CoreLists.{MeetsAll-one}
-use Rattle.typed_model.specs.Booleans.{all_true, none_true}
-use Rattle.typed_model.specs.Holds.{same}
+use Rattle.model_meaning.specs.Booleans.{all_true, none_true}
+use Rattle.model_meaning.specs.Holds.{same}
 use Rattle.statement_lower.specs.Fresh.{fresh_atom, second_fresh_atom}
 use Rattle.statement_lower.specs.Lines.{all_equal_cores}
 use Rattle.statement_lower.specs.Lowers.{Lowers}

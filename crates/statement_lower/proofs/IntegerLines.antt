@@ -20,9 +20,9 @@ use Rattle.core_forms.specs.Place.{CoreBelow}
 use Rattle.core_forms.specs.WellFormed.{IsWellFormed, greatest_abs}
 use Rattle.core_forms.proofs.IntLists.{IntsBelow-append}
 use Rattle.core_forms.proofs.Limits.{times-le, small-products}
-use Rattle.typed_model.specs.Booleans.{count_true}
-use Rattle.typed_model.specs.Integers.{is_greatest, is_least}
-use Rattle.typed_model.proofs.DomainLaws.{Decides-int_le}
+use Rattle.model_meaning.specs.Booleans.{count_true}
+use Rattle.model_meaning.specs.Integers.{is_greatest, is_least}
+use Rattle.model_meaning.proofs.DomainLaws.{Decides-int_le}
 use Rattle.statement_lower.specs.Lines.{least_core, absolute_core}
 use Rattle.statement_lower.proofs.MeaningLaws.{same_meanings}
 use Rattle.statement_lower.proofs.EntryLaws.{SmallInteger, AreSmallIntegers, below-small, sound-small}

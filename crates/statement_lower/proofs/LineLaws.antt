@@ -19,30 +19,30 @@ use Rattle.order_ints.proofs.Truths.{AtomBelow-not_atom}
 use Rattle.core_forms.specs.declared.form.Core.TheVariants as core
 use Rattle.core_forms.specs.Truths as forms
 use Rattle.core_forms.specs.Cores.{CoresBelow, AreWellFormed}
-use Rattle.typed_model.specs.declared.model.Decl.{Decl}
-use Rattle.typed_model.specs.declared.what.BoolTerm.{BoolTerm}
-use Rattle.typed_model.specs.declared.what.IntTerm.{IntTerm}
-use Rattle.typed_model.specs.declared.what.IntTerm.TheVariants as int_term
-use Rattle.typed_model.specs.declared.what.What.{What}
-use Rattle.typed_model.specs.declared.what.What.TheVariants.{L3, L4, L5, L6, L7, L8, L9, L10, L11, L12, L13, L14, L15, L16, L17, L18}
-use Rattle.typed_model.specs.declared.signature.Wanted.TheVariants as wanted
-use Rattle.typed_model.specs.declared.statement.Operator.{Operator}
-use Rattle.typed_model.specs.declared.statement.Operator.TheVariants as operator
-use Rattle.typed_model.specs.declared.statement.Relation.{Relation}
-use Rattle.typed_model.specs.declared.statement.Relation.TheVariants as relation
-use Rattle.typed_model.specs.declared.statement.Arithmetic.{Arithmetic}
-use Rattle.typed_model.specs.declared.statement.Arithmetic.TheVariants as arithmetic
-use Rattle.typed_model.specs.declared.statement.Aggregate.{Aggregate}
-use Rattle.typed_model.specs.declared.statement.Aggregate.TheVariants as aggregate
-use Rattle.typed_model.specs.declared.statement.Statement.TheVariants as statement
-use Rattle.typed_model.specs.Arguments.{Number, Numbers}
-use Rattle.typed_model.specs.Terms.{truth_of, number_of, truths_of, numbers_of, as_number}
-use Rattle.typed_model.specs.Booleans.{combine, count_true}
-use Rattle.typed_model.specs.Integers.{relates, gives, is_quotient, is_remainder, is_aggregate}
-use Rattle.typed_model.specs.Holds.{Holds, holds, same}
-use Rattle.typed_model.specs.Limits.{TermInLimit, TermsInLimit, WhatInLimit}
-use Rattle.typed_model.specs.WellTyped.{TruthFits, NumberFits, TruthsFit, NumbersFit, HasMember, IsAtLeast, ArgumentFits, ValuesFit, WhatFits}
-use Rattle.typed_model.proofs.TableLaws.{Decides-holds}
+use Rattle.model_meaning.specs.declared.model.Decl.{Decl}
+use Rattle.model_meaning.specs.declared.what.BoolTerm.{BoolTerm}
+use Rattle.model_meaning.specs.declared.what.IntTerm.{IntTerm}
+use Rattle.model_meaning.specs.declared.what.IntTerm.TheVariants as int_term
+use Rattle.model_meaning.specs.declared.what.What.{What}
+use Rattle.model_meaning.specs.declared.what.What.TheVariants.{L3, L4, L5, L6, L7, L8, L9, L10, L11, L12, L13, L14, L15, L16, L17, L18}
+use Rattle.model_meaning.specs.declared.wanted.Wanted.TheVariants as wanted
+use Rattle.model_meaning.specs.declared.statement.Operator.{Operator}
+use Rattle.model_meaning.specs.declared.statement.Operator.TheVariants as operator
+use Rattle.model_meaning.specs.declared.statement.Relation.{Relation}
+use Rattle.model_meaning.specs.declared.statement.Relation.TheVariants as relation
+use Rattle.model_meaning.specs.declared.statement.Arithmetic.{Arithmetic}
+use Rattle.model_meaning.specs.declared.statement.Arithmetic.TheVariants as arithmetic
+use Rattle.model_meaning.specs.declared.statement.Aggregate.{Aggregate}
+use Rattle.model_meaning.specs.declared.statement.Aggregate.TheVariants as aggregate
+use Rattle.model_meaning.specs.declared.statement.Statement.TheVariants as statement
+use Rattle.model_meaning.specs.Arguments.{Number, Numbers}
+use Rattle.model_meaning.specs.Terms.{truth_of, number_of, truths_of, numbers_of, as_number}
+use Rattle.model_meaning.specs.Booleans.{combine, count_true}
+use Rattle.model_meaning.specs.Integers.{relates, gives, is_quotient, is_remainder, is_aggregate}
+use Rattle.model_meaning.specs.Holds.{Holds, holds, same}
+use Rattle.model_meaning.specs.Limits.{TermInLimit, TermsInLimit, WhatInLimit}
+use Rattle.model_meaning.specs.WellTyped.{TruthFits, NumberFits, TruthsFit, NumbersFit, HasMember, IsAtLeast, ArgumentFits, ValuesFit, WhatFits}
+use Rattle.model_meaning.proofs.TableLaws.{Decides-holds}
 use Rattle.statement_lower.specs.Terms.{atom_of, atoms_of, integer_of, integers_of}
 use Rattle.statement_lower.specs.Entries.{EntriesFit, AreOrdered}
 use Rattle.statement_lower.specs.Comparison.{comparison_core}

@@ -20,9 +20,9 @@ use Rattle.core_forms.specs.Place.{CoreBelow, IntsBelow}
 use Rattle.core_forms.specs.WellFormed.{AreSound, IsWellFormed, greatest_abs, abs_total}
 use Rattle.core_forms.proofs.IntLists.{all_ordered-append, values-append, total-append}
 use Rattle.core_forms.proofs.Limits.{times-le}
-use Rattle.typed_model.specs.Integers.{weight_of_true, linear_sum}
-use Rattle.typed_model.specs.Terms.{as_number}
-use Rattle.typed_model.specs.Limits.{InLimit, AllInLimit}
+use Rattle.model_meaning.specs.Integers.{weight_of_true, linear_sum}
+use Rattle.model_meaning.specs.Terms.{as_number}
+use Rattle.model_meaning.specs.Limits.{InLimit, AllInLimit}
 use Rattle.statement_lower.specs.Linear.{scaled_each, has_steps, with_steps, constant_of_members, linear_members, zero_sum, equal_sum, IsSummand, AreSummands}
 use Rattle.statement_lower.proofs.EntryLaws.{AreSmallIntegers, IsSmall, AreSmall}
 use Rattle.statement_lower.proofs.IntegerLines.{ordered-negated}

@@ -9,10 +9,10 @@ use Rattle.order_ints.specs.Truth.{Valuation, atom_truth}
 use Rattle.core_forms.specs.Truths.{true_count, truths, is_odd}
 use Rattle.core_forms.specs.Values as cores
 use Rattle.order_ints.specs.OrderLevels.{is_among}
-use Rattle.typed_model.specs.Booleans.{count_true}
-use Rattle.typed_model.specs.Integers.{total, is_member, not_exceeded, not_undercut}
-use Rattle.typed_model.specs.Lists.{differs_from, all_differ, differs_where, differ_where, in_order}
-use Rattle.typed_model.proofs.DomainLaws.{Decides-int_le}
+use Rattle.model_meaning.specs.Booleans.{count_true}
+use Rattle.model_meaning.specs.Integers.{total, is_member, not_exceeded, not_undercut}
+use Rattle.model_meaning.specs.Lists.{differs_from, all_differ, differs_where, differ_where, in_order}
+use Rattle.model_meaning.proofs.DomainLaws.{Decides-int_le}
 use Rattle.statement_lower.specs.SameMeanings.{SameMeanings}
 
 total-same : (xs : List ℤ) → total xs ≡ cores.total xs

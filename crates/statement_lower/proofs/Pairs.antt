@@ -14,8 +14,8 @@ use Rattle.core_forms.specs.declared.form.Core.{Core}
 use Rattle.core_forms.specs.declared.form.Core.TheVariants as core
 use Rattle.core_forms.specs.Truths as forms
 use Rattle.core_forms.specs.Values.{values, all_ordered}
-use Rattle.typed_model.specs.Lists.{differs_from, all_differ}
-use Rattle.typed_model.specs.Holds.{same}
+use Rattle.model_meaning.specs.Lists.{differs_from, all_differ}
+use Rattle.model_meaning.specs.Holds.{same}
 use Rattle.statement_lower.specs.Fresh.{fresh_atom}
 use Rattle.statement_lower.specs.Pairs.{each_vars, each_atoms, each_equal, pairs_vars, pairs_atoms, pairs_equal, difference_made}
 use Rattle.statement_lower.specs.Lowers.{Lowers}

@@ -14,7 +14,7 @@ use Rattle.core_forms.specs.Sums.{sums_of}
 use Rattle.core_forms.specs.WellFormed.{IsSound, AreSound, greatest_abs, abs_total}
 use Rattle.core_forms.proofs.IntLists.{AreSound-append, abs_total-append}
 use Rattle.core_forms.proofs.SumValues.{fresh-abs}
-use Rattle.typed_model.specs.declared.statement.Relation.{Relation}
+use Rattle.model_meaning.specs.declared.statement.Relation.{Relation}
 use Rattle.statement_lower.specs.declared.made.Made.{Made}
 use Rattle.statement_lower.specs.Comparison.{comparison_core}
 use Rattle.statement_lower.specs.Queue.{fresh_sum, vars_behind_sum, first_or_zero, with_first, queue_made}

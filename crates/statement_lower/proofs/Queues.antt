@@ -21,10 +21,10 @@ use Rattle.core_forms.specs.Place.{IntsBelow}
 use Rattle.core_forms.specs.WellFormed.{IsSound, AreSound, greatest_abs, abs_total}
 use Rattle.core_forms.proofs.IntLists.{IntsBelow-append, AreSound-append, all_ordered-append, values-append, total-append, abs_total-append}
 use Rattle.core_forms.proofs.SumValues.{fresh-abs}
-use Rattle.typed_model.specs.declared.statement.Relation.{Relation}
-use Rattle.typed_model.specs.declared.statement.Relation.TheVariants as relation
-use Rattle.typed_model.specs.Integers.{relates}
-use Rattle.typed_model.proofs.DomainLaws.{Decides-int_le, Decides-int_lt}
+use Rattle.model_meaning.specs.declared.statement.Relation.{Relation}
+use Rattle.model_meaning.specs.declared.statement.Relation.TheVariants as relation
+use Rattle.model_meaning.specs.Integers.{relates}
+use Rattle.model_meaning.proofs.DomainLaws.{Decides-int_le, Decides-int_lt}
 use Rattle.statement_lower.specs.Comparison.{comparison_core}
 use Rattle.statement_lower.specs.Queue.{fresh_sum, vars_behind_sum, last_made, queue_made}
 use Rattle.statement_lower.specs.Lowers.{Lowers}

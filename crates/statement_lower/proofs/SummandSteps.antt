@@ -10,8 +10,8 @@ use Rattle.order_ints.specs.declared.order_int.OrdInt.{OrdInt}
 use Rattle.order_ints.specs.declared.order_int.MapValue.{MapValue}
 use Rattle.order_ints.specs.OrderMade.{integer_of_atom}
 use Rattle.order_ints.specs.OrderChange.{scaled_of}
-use Rattle.typed_model.specs.declared.what.BoolTerm.{BoolTerm}
-use Rattle.typed_model.specs.declared.what.IntTerm.{IntTerm}
+use Rattle.model_meaning.specs.declared.what.BoolTerm.{BoolTerm}
+use Rattle.model_meaning.specs.declared.what.IntTerm.{IntTerm}
 use Rattle.statement_lower.specs.Terms.{atom_of, integer_of}
 use Rattle.statement_lower.specs.Linear.{scaled_each, has_steps, with_steps, constant_of_members, AreSummands}
 use Rattle.statement_lower.specs.Lines.{scaled_truths, scaled_integers}

@@ -18,20 +18,20 @@ use Rattle.core_forms.specs.Truths as forms
 use Rattle.core_forms.specs.Values.{values, all_ordered}
 use Rattle.core_forms.specs.Meaning.{core_truth}
 use Rattle.core_forms.proofs.IntLists.{IntsBelow-append}
-use Rattle.typed_model.specs.declared.model.Decl.{Decl}
-use Rattle.typed_model.specs.declared.what.BoolTerm.{BoolTerm}
-use Rattle.typed_model.specs.declared.what.IntTerm.{IntTerm}
-use Rattle.typed_model.specs.declared.statement.AllDifferent.{AllDifferent}
-use Rattle.typed_model.specs.declared.statement.AllDifferent.TheVariants as all_different
-use Rattle.typed_model.specs.declared.signature.Wanted.{Wanted}
-use Rattle.typed_model.specs.declared.signature.Wanted.TheVariants as wanted
-use Rattle.typed_model.specs.Arguments.{Argument, Truth, Truths, Numbers, given}
-use Rattle.typed_model.specs.Signatures.{all_different_signature, lex_signature}
-use Rattle.typed_model.specs.Terms.{truth_of, number_of, truths_of, numbers_of, as_number}
-use Rattle.typed_model.specs.Lists as typed
-use Rattle.typed_model.specs.Holds.{same, reify, members_differ, truth_or_true, terms_or_none}
-use Rattle.typed_model.specs.Limits.{TermsInLimit, ArgumentsInLimit}
-use Rattle.typed_model.specs.WellTyped.{TruthFits, TruthsFit, NumbersFit, ArgumentsFit, LengthsFit}
+use Rattle.model_meaning.specs.declared.model.Decl.{Decl}
+use Rattle.model_meaning.specs.declared.what.BoolTerm.{BoolTerm}
+use Rattle.model_meaning.specs.declared.what.IntTerm.{IntTerm}
+use Rattle.model_meaning.specs.declared.statement.AllDifferent.{AllDifferent}
+use Rattle.model_meaning.specs.declared.statement.AllDifferent.TheVariants as all_different
+use Rattle.model_meaning.specs.declared.wanted.Wanted.{Wanted}
+use Rattle.model_meaning.specs.declared.wanted.Wanted.TheVariants as wanted
+use Rattle.model_meaning.specs.Arguments.{Argument, Truth, Truths, Numbers, given}
+use Rattle.model_meaning.specs.Signatures.{all_different_signature, lex_signature}
+use Rattle.model_meaning.specs.Terms.{truth_of, number_of, truths_of, numbers_of, as_number}
+use Rattle.model_meaning.specs.Lists as typed
+use Rattle.model_meaning.specs.Holds.{same, reify, members_differ, truth_or_true, terms_or_none}
+use Rattle.model_meaning.specs.Limits.{TermsInLimit, ArgumentsInLimit}
+use Rattle.model_meaning.specs.WellTyped.{TruthFits, TruthsFit, NumbersFit, ArgumentsFit, LengthsFit}
 use Rattle.statement_lower.specs.Terms.{atom_of, atoms_of, integer_of, integers_of, atom_or_true, word_of}
 use Rattle.statement_lower.specs.Entries.{EntriesFit, AreOrdered}
 use Rattle.statement_lower.specs.Pairs.{difference_made}

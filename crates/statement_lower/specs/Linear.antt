@@ -6,8 +6,8 @@ use Rattle.order_ints.specs.OrderChange.{negated_of, scaled_of}
 use Rattle.core_forms.specs.declared.form.Core.{Core}
 use Rattle.core_forms.specs.declared.form.Core.TheVariants as core
 use Rattle.core_forms.specs.WellFormed.{IsSound, greatest_abs}
-use Rattle.typed_model.specs.declared.statement.Relation.{Relation}
-use Rattle.typed_model.specs.declared.statement.Relation.TheVariants as relation
+use Rattle.model_meaning.specs.declared.statement.Relation.{Relation}
+use Rattle.model_meaning.specs.declared.statement.Relation.TheVariants as relation
 use Rattle.statement_lower.specs.declared.made.Made.{Made}
 use Rattle.statement_lower.specs.Queue.{queue_made}
 

@@ -5,11 +5,11 @@ use Rattle.order_ints.specs.Truth.{Valuation, Agree}
 use Rattle.order_ints.specs.Numbers.{numbers_of}
 use Rattle.core_forms.specs.declared.form.Core.{Core}
 use Rattle.core_forms.specs.Cores.{MeetsAll, CoresBelow, AreWellFormed}
-use Rattle.typed_model.specs.declared.model.Decl.{Decl}
-use Rattle.typed_model.specs.declared.what.What.{What}
-use Rattle.typed_model.specs.Holds.{Holds}
-use Rattle.typed_model.specs.Limits.{WhatInLimit}
-use Rattle.typed_model.specs.WellTyped.{WhatFits}
+use Rattle.model_meaning.specs.declared.model.Decl.{Decl}
+use Rattle.model_meaning.specs.declared.what.What.{What}
+use Rattle.model_meaning.specs.Holds.{Holds}
+use Rattle.model_meaning.specs.Limits.{WhatInLimit}
+use Rattle.model_meaning.specs.WellTyped.{WhatFits}
 use Rattle.statement_lower.specs.Entries.{EntriesFit, AreOrdered}
 use Rattle.statement_lower.specs.Lines.{made_of}
 

@@ -9,7 +9,7 @@ use Rattle.core_forms.specs.declared.form.Core.{Core}
 use Rattle.core_forms.specs.declared.form.Core.TheVariants as core
 use Rattle.core_forms.specs.Shapes.{steps_of}
 use Rattle.core_forms.specs.Sums.{sums_of}
-use Rattle.typed_model.specs.declared.statement.Relation.{Relation}
+use Rattle.model_meaning.specs.declared.statement.Relation.{Relation}
 use Rattle.statement_lower.specs.declared.made.Made.{Made}
 use Rattle.statement_lower.specs.Comparison.{comparison_core}
 

@@ -5,9 +5,9 @@ use Rattle.order_ints.specs.declared.atom.Atom.{Atom}
 use Rattle.order_ints.specs.Truth.{Valuation}
 use Rattle.core_forms.specs.Truths.{true_count, truths, is_odd}
 use Rattle.core_forms.specs.Values as cores
-use Rattle.typed_model.specs.Booleans.{count_true}
-use Rattle.typed_model.specs.Integers.{total, is_greatest, is_least}
-use Rattle.typed_model.specs.Lists.{all_differ, differ_where, in_order}
+use Rattle.model_meaning.specs.Booleans.{count_true}
+use Rattle.model_meaning.specs.Integers.{total, is_greatest, is_least}
+use Rattle.model_meaning.specs.Lists.{all_differ, differ_where, in_order}
 
 pub record SameMeanings : Type 0 where
   pub total : (xs : List ℤ) → total xs ≡ cores.total xs

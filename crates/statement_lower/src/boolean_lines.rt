@@ -9,9 +9,9 @@ use crate::made::Made;
 use crate::terms::{atom_of, atoms_of, negated_atoms};
 use bee_list::Sequence;
 use core_forms::Core;
+use model_meaning::{BoolTerm, Operator};
 use order_ints::{Atom, Lit, MapValue};
 use std::alloc::{AllocError, Global};
-use typed_model::{BoolTerm, Operator};
 
 /// The core that says that two atoms are equal.
 fn equal_core(alloc: Global, x: Atom, y: Atom) -> Result<Core, AllocError>

@@ -16,10 +16,10 @@ use crate::made::Made;
 use crate::summands::Summands;
 use bee_list::Sequence;
 use core_forms::{Core, sums};
+use model_meaning::Relation;
 use order_ints::{Atom, OrdInt};
 use std::alloc::{AllocError, Global};
 use std::collections::VecDeque;
-use typed_model::Relation;
 
 /// A fresh integer for the sum of two, with the variables behind so many.
 fn fresh_sum(alloc: Global, vars: u32, a: &OrdInt, b: &OrdInt) -> Result<OrdInt, AllocError>

@@ -2,7 +2,7 @@
 
 ghost use Rattle.std.specs.Prelude.{◌≡◌, ◌+◌, ◌<◌, ◌^◌, pos, ◌-ℤ◌, unsigned_abs, IfOk};
 ghost use Rattle.order_ints.specs.OrderRange.{IsBounded};
-ghost use Rattle.typed_model.specs.Domains.{at_least_zero};
+ghost use Rattle.model_meaning.specs.Domains.{at_least_zero};
 ghost use Rattle.statement_lower.specs.Lines.{fresh_range, most_remainder, most_quotient};
 
 use order_ints::OrdInt;

@@ -1,9 +1,9 @@
 //! The cores of the lines over integers.
 
 ghost use Rattle.std.specs.Prelude.{◌≡◌, ◌+◌, ◌<◌, ◌≤◌, ◌^◌, ◌∷◌, [], length, IfOk};
-ghost use Rattle.typed_model.specs.declared.statement.Arithmetic.TheVariants.{Div, Mod};
+ghost use Rattle.model_meaning.specs.declared.statement.Arithmetic.TheVariants.{Div, Mod};
 ghost use Rattle.core_forms.specs.declared.form.Core.TheVariants.{Max};
-ghost use Rattle.typed_model.specs.Limits.{TermInLimit, TermsInLimit};
+ghost use Rattle.model_meaning.specs.Limits.{TermInLimit, TermsInLimit};
 ghost use Rattle.statement_lower.specs.Terms.{atom_of, atoms_of, integer_of, integers_of};
 ghost use Rattle.statement_lower.specs.Entries.{AreInLimit};
 ghost use Rattle.statement_lower.specs.Comparison.{comparison_core};
@@ -18,9 +18,9 @@ use crate::terms::{
 };
 use bee_list::Sequence;
 use core_forms::Core;
+use model_meaning::{Aggregate, Arithmetic, BoolTerm, IntTerm, Relation};
 use order_ints::{Atom, MapValue, OrdInt};
 use std::alloc::{AllocError, Global};
-use typed_model::{Aggregate, Arithmetic, BoolTerm, IntTerm, Relation};
 
 /// An integer is 1 where a Boolean is true, and else 0.
 pub fn bit_made(

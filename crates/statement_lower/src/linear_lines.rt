@@ -2,7 +2,7 @@
 
 ghost use Rattle.std.specs.Prelude.{◌≡◌, ◌+◌, ◌<◌, ◌≤◌, ◌^◌, neg_ℤ, length, unsigned_abs, IfOk};
 ghost use Rattle.core_forms.specs.declared.form.Core.TheVariants.{Sum};
-ghost use Rattle.typed_model.specs.Limits.{AllInLimit, TermInLimit, TermsInLimit};
+ghost use Rattle.model_meaning.specs.Limits.{AllInLimit, TermInLimit, TermsInLimit};
 ghost use Rattle.statement_lower.specs.Terms.{integer_of, integers_of};
 ghost use Rattle.statement_lower.specs.Entries.{AreInLimit};
 ghost use Rattle.statement_lower.specs.Linear.{linear_made, AreSummands};
@@ -14,9 +14,9 @@ use crate::summands::{Summands, linear_members, scaled_integers, scaled_truths};
 use crate::terms::integers_of;
 use bee_list::Sequence;
 use core_forms::Core;
+use model_meaning::{BoolTerm, IntTerm, Relation};
 use order_ints::{MapValue, OrdInt};
 use std::alloc::{AllocError, Global};
-use typed_model::{BoolTerm, IntTerm, Relation};
 
 /// Minus a number.
 fn minus(number: i128) -> i128

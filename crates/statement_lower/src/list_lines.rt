@@ -3,7 +3,7 @@
 ghost use Rattle.std.specs.Prelude.{◌≡◌, ◌<◌, ◌^◌, ◌∷◌, [], IfOk, map, Option};
 ghost use Rattle.order_ints.specs.declared.atom.Atom.TheVariants.{True};
 ghost use Rattle.order_ints.specs.OrderMade.{integer_of_atom};
-ghost use Rattle.typed_model.specs.Holds.{terms_or_none};
+ghost use Rattle.model_meaning.specs.Holds.{terms_or_none};
 ghost use Rattle.statement_lower.specs.Terms.{atoms_of, integers_of, atom_or_true, word_of};
 ghost use Rattle.statement_lower.specs.Lines.{made_here, different_made, order_core};
 
@@ -12,9 +12,9 @@ use crate::pair_lines::difference_made;
 use crate::terms::{atom_of, atoms_of, integers_of};
 use bee_list::{Apart, Sequence};
 use core_forms::Core;
+use model_meaning::{AllDifferent, BoolTerm, IntTerm, Order};
 use order_ints::{Atom, MapValue, OrdInt};
 use std::alloc::{AllocError, Global};
-use typed_model::{AllDifferent, BoolTerm, IntTerm, Order};
 
 /// The members of a list that may be left out; one that is left out has none.
 pub fn terms<T>(list: &Option<Apart<Sequence<T>>>) -> &[T]

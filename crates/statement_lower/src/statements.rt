@@ -1,7 +1,7 @@
 //! The cores of a statement.
 
 ghost use Rattle.std.specs.Prelude.{◌≡◌, ◌<◌, ◌^◌, IfOk};
-ghost use Rattle.typed_model.specs.Limits.{WhatInLimit};
+ghost use Rattle.model_meaning.specs.Limits.{WhatInLimit};
 ghost use Rattle.statement_lower.specs.Entries.{AreInLimit};
 ghost use Rattle.statement_lower.specs.Lines.{made_of};
 
@@ -13,9 +13,9 @@ use crate::integer_lines::{
 use crate::linear_lines::{multiples_made, sum_made, truths_made};
 use crate::list_lines::{Lists, atom_or_true, different_made, order_made, terms};
 use crate::made::Made;
+use model_meaning::What;
 use order_ints::{Atom, MapValue};
 use std::alloc::{AllocError, Global};
-use typed_model::What;
 
 /// What a statement is lowered to behind so many variables.
 pub fn made_of(

@@ -3,16 +3,16 @@
 ghost use Rattle.std.specs.Prelude.{◌≡◌, ◌+◌, ◌<◌, ◌≤◌, ◌^◌, length, unsigned_abs, IfOk, IfSome};
 ghost use Rattle.order_ints.specs.OrderChange.{scaled_of};
 ghost use Rattle.core_forms.specs.WellFormed.{AreSound, greatest_abs, abs_total};
-ghost use Rattle.typed_model.specs.Limits.{InLimit, AllInLimit, TermInLimit, TermsInLimit};
+ghost use Rattle.model_meaning.specs.Limits.{InLimit, AllInLimit, TermInLimit, TermsInLimit};
 ghost use Rattle.statement_lower.specs.Terms.{integer_of};
 ghost use Rattle.statement_lower.specs.Entries.{AreInLimit};
 ghost use Rattle.statement_lower.specs.Linear.{with_steps, constant_of_members, linear_members, AreSummands};
 ghost use Rattle.statement_lower.specs.Lines.{scaled_truths, scaled_integers};
 
 use crate::terms::{atom_of, integer_of, negated_integer_of};
+use model_meaning::{BoolTerm, IntTerm};
 use order_ints::{MapValue, OrdInt};
 use std::alloc::{AllocError, Global};
-use typed_model::{BoolTerm, IntTerm};
 
 /// A multiple of an integer.
 fn scaled(int: &OrdInt, coefficient: i64) -> Result<OrdInt, AllocError>

@@ -8,9 +8,9 @@ ghost use Rattle.statement_lower.specs.Terms.{atom_of, atoms_of, integer_of, int
 ghost use Rattle.statement_lower.specs.Entries.{AreInLimit};
 
 use bee_list::Sequence;
+use model_meaning::{BoolTerm, IntTerm};
 use order_ints::{Atom, MapValue, OrdInt};
 use std::alloc::{AllocError, Global};
-use typed_model::{BoolTerm, IntTerm};
 
 /// The atom of a Boolean term.
 pub fn atom_of(entries: &[MapValue], term: BoolTerm) -> Atom

@@ -24,12 +24,12 @@ use Rattle.equation_store.proofs.Changes.{merge_is_later}
 use Rattle.equation_store.proofs.Negation.{not-other}
 use Rattle.step_kernel.specs.Kernel.{Kernel, core_at, pending, potential, IsKernel}
 use Rattle.step_kernel.specs.Models.{IsModel, Keeps}
-use Rattle.step_kernel.specs.Instances.{is_instance_at}
+use Rattle.core_rules.specs.Instances.{is_instance_at}
 use Rattle.step_kernel.specs.Steps.{equated}
 use Rattle.step_kernel.proofs.Kept.{Kept}
 use Rattle.step_kernel.proofs.Holes.{below-there, formed-there, met-there}
 use Rattle.step_kernel.proofs.Costs.{trimmed_costs-later}
-use Rattle.step_kernel.proofs.InstanceLaws.{instance-implied, instance-labels, instance-different}
+use Rattle.core_rules.proofs.InstanceLaws.{instance-implied, instance-labels, instance-different}
 
 module _ (k : Kernel) (is : IsKernel k) (id : ℕ) (e : Equation) (core : Core) (at : core_at k.cores id ≡ Some core) (instance : is_instance_at (trimmed_core k.view core) e ≡ true) where
   core-below : CoreBelow (length k.view + 1) core

@@ -6,7 +6,7 @@ use Rattle.std.proofs.lemmas.Bool.Decides.{nat_tests}
 use Rattle.core_forms.specs.declared.form.Core.{Core}
 use Rattle.core_forms.specs.Trimmed.{trimmed_core}
 use Rattle.step_kernel.specs.Kernel.{Kernel, core_at, trimmed_at}
-use Rattle.step_kernel.specs.Parts.{is_compound_of}
+use Rattle.core_parts.specs.Parts.{is_compound_of}
 use Rattle.step_kernel.specs.Least.{least_from, is_compound_if}
 
 pub core_at-next : (cores : List (Option Core)) (i : ℕ) → core_at cores (i + 1) ≡ slice_index_or cores i None

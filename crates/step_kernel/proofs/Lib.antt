@@ -1,7 +1,5 @@
 pub mod Holes
 pub mod Costs
-pub mod InstanceLaws
-pub mod PartLaws
 pub mod Kept
 pub mod Stepped
 pub mod Equated

@@ -9,10 +9,10 @@ use Rattle.part_base.specs.PartsFor.{ArePartsFor}
 use Rattle.ledger_text.specs.declared.line.Line.{Line}
 use Rattle.step_kernel.specs.declared.fault.StepFault.{StepFault}
 use Rattle.step_kernel.specs.Kernel.{Kernel, core_at, IsKernel}
-use Rattle.step_kernel.specs.Parts.{parts_at, is_compound_of}
+use Rattle.core_parts.specs.Parts.{parts_at, is_compound_of}
 use Rattle.step_kernel.specs.Steps.{step, replayed, replay}
 use Rattle.step_kernel.proofs.Holes.{below-there, formed-there, costs-there}
-use Rattle.step_kernel.proofs.PartLaws.{parts-of_compound}
+use Rattle.core_parts.proofs.PartLaws.{parts-of_compound}
 use Rattle.step_kernel.proofs.Kept.{Kept, Kept-itself, Kept-trans}
 use Rattle.step_kernel.proofs.Stepped.{ok_of, err_ok, after_step}
 use Rattle.step_kernel.proofs.Equated.{equated-kept}

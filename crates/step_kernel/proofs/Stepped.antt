@@ -10,8 +10,8 @@ use Rattle.ledger_text.specs.declared.line.Line.TheVariants.{Equate, Split, Enco
 use Rattle.step_kernel.specs.declared.fault.StepFault.{StepFault}
 use Rattle.step_kernel.specs.declared.fault.StepFault.TheVariants.{AfterBottom, NoSuch, NotInstance, NotCompound, NotBasic}
 use Rattle.step_kernel.specs.Kernel.{Kernel, core_at, trimmed_at}
-use Rattle.step_kernel.specs.Instances.{is_instance_at}
-use Rattle.step_kernel.specs.Parts.{parts_at, is_compound_of}
+use Rattle.core_rules.specs.Instances.{is_instance_at}
+use Rattle.core_parts.specs.Parts.{parts_at, is_compound_of}
 use Rattle.step_kernel.specs.Steps.{id_of, fault_at, equated, divided, encoded, after, unless_fault, step_at, step}
 
 pub ok_of : (x y : Kernel) → ◌≡◌ {A = Result Kernel StepFault} (Ok x) (Ok y) → x ≡ y

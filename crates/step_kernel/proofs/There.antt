@@ -14,11 +14,11 @@ use Rattle.core_forms.specs.WellFormed.{IsWellFormed}
 use Rattle.core_forms.proofs.Kept.{IsWellFormed-trimmed}
 use Rattle.core_forms.proofs.Places.{CoreBelow-trimmed}
 use Rattle.step_kernel.specs.Kernel.{Kernel, core_at, trimmed_at, IsKernel}
-use Rattle.step_kernel.specs.Instances.{is_instance_at}
-use Rattle.step_kernel.specs.Parts.{parts_at, is_compound_of}
+use Rattle.core_rules.specs.Instances.{is_instance_at}
+use Rattle.core_parts.specs.Parts.{parts_at, is_compound_of}
 use Rattle.step_kernel.specs.Steps.{equated, divided, encoded}
 use Rattle.step_kernel.proofs.Holes.{below-there, formed-there, costs-there}
-use Rattle.step_kernel.proofs.InstanceLaws.{instance-labels}
+use Rattle.core_rules.proofs.InstanceLaws.{instance-labels}
 use Rattle.step_kernel.proofs.Equated.{equated-kernel}
 use Rattle.step_kernel.proofs.Divided.{divided-kernel}
 use Rattle.step_kernel.proofs.Encoded.{encoded-kernel}

@@ -3,7 +3,7 @@ use Rattle.std.specs.Prelude.{ℕ, ◌+◌, Bool, true, false, List, [], ◌∷�
 use Rattle.core_forms.specs.declared.form.Core.{Core}
 use Rattle.core_forms.specs.Trimmed.{trimmed_core}
 use Rattle.step_kernel.specs.Kernel.{Kernel}
-use Rattle.step_kernel.specs.Parts.{is_compound_of}
+use Rattle.core_parts.specs.Parts.{is_compound_of}
 
 -- the least id of a pending core that passes a test, where the first core has the id that is given
 abbrev pub least_from : (Core → Bool) → ℕ → List (Option Core) → Option ℕ

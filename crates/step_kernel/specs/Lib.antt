@@ -1,7 +1,6 @@
 pub mod Kernel
 pub mod Models
 pub mod Instances
-pub mod Parts
 pub mod Steps
 pub mod CnfOf
 pub mod Least

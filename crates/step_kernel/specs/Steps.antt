@@ -18,8 +18,8 @@ use Rattle.step_kernel.specs.declared.fault.ApplyFault.{ApplyFault}
 use Rattle.step_kernel.specs.declared.fault.ApplyFault.TheVariants.{Step, Memory}
 use Rattle.step_kernel.specs.declared.fault.StepFault.TheVariants.{AfterBottom, NoSuch, NotInstance, NotCompound, NotBasic}
 use Rattle.step_kernel.specs.Kernel.{Kernel, trimmed_at}
-use Rattle.step_kernel.specs.Instances.{is_instance_at}
-use Rattle.step_kernel.specs.Parts.{parts_at, is_compound_of}
+use Rattle.core_rules.specs.Instances.{is_instance_at}
+use Rattle.core_parts.specs.Parts.{parts_at, is_compound_of}
 
 -- the id that a line names
 abbrev pub id_of : Line → ℕ

@@ -10,10 +10,10 @@ ghost use Rattle.step_kernel.specs.Models.{IsModel};
 ghost use Rattle.step_kernel.specs.CnfOf.{cnf_of};
 ghost use Rattle.step_kernel.specs.Least.{is_compound_if, least_compound_of};
 
-use crate::parts::is_compound;
 use crate::state::State;
 use bee_list::Sequence;
 use clause_order::OrderedClauses;
+use core_parts::is_compound;
 use order_ints::Cnf;
 use std::alloc::{AllocError, Global};
 

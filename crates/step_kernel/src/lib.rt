@@ -6,15 +6,13 @@ mod clause_list;
 mod cnf;
 mod cursor;
 mod fault;
-mod instances;
 pub mod laws;
 mod lists;
-mod parts;
 mod state;
 mod steps;
 
+pub use core_parts::is_compound;
 pub use fault::{ApplyFault, StepFault};
 pub use ledger_text::{Line, read_step, write_step};
 pub use order_ints::{Cnf, first_false};
-pub use parts::is_compound;
 pub use state::State;

@@ -14,12 +14,12 @@ ghost use Rattle.step_kernel.specs.Least.{least_of, least_compound_of};
 
 use crate::clause_list::ClauseList;
 use crate::fault::{ApplyFault, StepFault};
-use crate::instances::is_instance;
 use crate::lists::all_pending;
-use crate::parts::{is_compound, parts};
 use bee_list::Sequence;
 use clause_order::OrderedClauses;
 use core_forms::{Core, Equation, is_basic, trim};
+use core_parts::{is_compound, parts};
+use core_rules::is_instance;
 use equation_store::{EqStore, Merged};
 use ledger_text::Line;
 use order_ints::{Atom, Cnf};

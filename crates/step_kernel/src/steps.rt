@@ -10,17 +10,17 @@ ghost use Rattle.ledger_text.specs.declared.line.Line.TheVariants.{Equate, Split
 ghost use Rattle.step_kernel.specs.Kernel.{trimmed_at, IsKernel};
 ghost use Rattle.step_kernel.specs.Instances.{IsInstanceAt};
 ghost use Rattle.step_kernel.specs.Models.{Keeps};
-ghost use Rattle.step_kernel.specs.Parts.{parts_at, is_compound_of};
+ghost use Rattle.core_parts.specs.Parts.{parts_at, is_compound_of};
 ghost use Rattle.step_kernel.specs.SplitAt.{ArePartsAt};
 ghost use Rattle.step_kernel.specs.Steps.{id_of, equated, divided, encoded, step_at, step, IsFaultOf};
 
 use crate::cursor::take_out;
 use crate::fault::{ApplyFault, StepFault};
-use crate::instances::is_instance;
 use crate::lists::all_pending;
-use crate::parts::{is_compound, parts};
 use crate::state::State;
 use core_forms::{Core, Equation, is_basic};
+use core_parts::{is_compound, parts};
+use core_rules::is_instance;
 use direct_encode::clauses;
 use equation_store::Merged;
 use ledger_text::Line;

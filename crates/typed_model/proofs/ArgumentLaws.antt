@@ -3,22 +3,22 @@ use Rattle.std.proofs.Common.{◌≡◌, ℕ, suc, Bool, true, false, List, [], 
 use Rattle.std.specs.Prelude.{slice_get, IfSome, if◌then◌else◌}
 use Rattle.std.specs.Option.{option_map}
 use Rattle.bumblebee_reader.specs.declared.syntax.Arg.{Arg}
-use Rattle.typed_model.specs.declared.what.BoolTerm.{BoolTerm}
-use Rattle.typed_model.specs.declared.what.IntTerm.{IntTerm}
-use Rattle.typed_model.specs.declared.what.IntTerm.TheVariants as int_term
-use Rattle.typed_model.specs.declared.what.What.{What}
-use Rattle.typed_model.specs.declared.signature.Wanted.{Wanted}
-use Rattle.typed_model.specs.declared.signature.Wanted.TheVariants as wanted
-use Rattle.typed_model.specs.declared.statement.AllDifferent.{AllDifferent}
-use Rattle.typed_model.specs.declared.statement.AllDifferent.TheVariants as all_different
-use Rattle.typed_model.specs.declared.statement.Statement.{Statement}
-use Rattle.typed_model.specs.declared.statement.Statement.TheVariants as statement
-use Rattle.typed_model.specs.declared.model.Decl.{Decl}
-use Rattle.typed_model.specs.Names.{statement_of}
-use Rattle.typed_model.specs.Signatures.{signature}
+use Rattle.model_meaning.specs.declared.what.BoolTerm.{BoolTerm}
+use Rattle.model_meaning.specs.declared.what.IntTerm.{IntTerm}
+use Rattle.model_meaning.specs.declared.what.IntTerm.TheVariants as int_term
+use Rattle.model_meaning.specs.declared.what.What.{What}
+use Rattle.model_meaning.specs.declared.wanted.Wanted.{Wanted}
+use Rattle.model_meaning.specs.declared.wanted.Wanted.TheVariants as wanted
+use Rattle.model_meaning.specs.declared.statement.AllDifferent.{AllDifferent}
+use Rattle.model_meaning.specs.declared.statement.AllDifferent.TheVariants as all_different
+use Rattle.model_meaning.specs.declared.statement.Statement.{Statement}
+use Rattle.model_meaning.specs.declared.statement.Statement.TheVariants as statement
+use Rattle.model_meaning.specs.declared.model.Decl.{Decl}
+use Rattle.model_meaning.specs.Names.{statement_of}
+use Rattle.model_meaning.specs.Signatures.{signature}
 use Rattle.typed_model.specs.Faults.{numeral_in}
 use Rattle.typed_model.specs.Items.{truth_in, number_in, truths_in, numbers_in, numerals_in, what_of, all_different_what}
-use Rattle.typed_model.specs.Arguments.{Argument, Truth, Number, Truths, Numbers, Numerals, given, arguments_of, statement_in, own_name}
+use Rattle.model_meaning.specs.Arguments.{Argument, Truth, Number, Truths, Numbers, Numerals, given, arguments_of, statement_in, own_name}
 
 -- the argument that is wanted; no statement keeps a new name or a single numeral
 abbrev pub argument_in : List Decl → Wanted → Option Arg → Argument

@@ -2,8 +2,8 @@
 use Rattle.std.proofs.Common.{◌≡◌, ◌<◌, nat_eq, List, [], ◌∷◌, length, refl, arith}
 use Rattle.bumblebee_reader.specs.declared.syntax.Arg.{Arg}
 use Rattle.std.proofs.lemmas.Bool.Decides.{nat_tests}
-use Rattle.typed_model.specs.declared.model.Decl.{Decl}
-use Rattle.typed_model.specs.declared.signature.Wanted.{Wanted}
+use Rattle.model_meaning.specs.declared.model.Decl.{Decl}
+use Rattle.model_meaning.specs.declared.wanted.Wanted.{Wanted}
 use Rattle.typed_model.specs.Faults.{fit}
 
 pub fit-end : (ds : List Decl) (ws : List Wanted) (rest : List Arg) → length rest < 1 → nat_eq (length ws) 0 ≡ fit ds ws rest

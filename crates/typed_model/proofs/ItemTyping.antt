@@ -10,20 +10,22 @@ use Rattle.std.proofs.lemmas.Slice.Eq.{bytes_eq-Decides}
 use Rattle.bumblebee_reader.specs.declared.syntax.Term.TheVariants as term
 use Rattle.bumblebee_reader.specs.declared.syntax.Arg.{Arg}
 use Rattle.bumblebee_reader.specs.declared.syntax.Arg.TheVariants as arg
-use Rattle.typed_model.specs.declared.signature.Wanted.TheVariants as wanted
-use Rattle.typed_model.specs.declared.statement.Statement.{Statement}
-use Rattle.typed_model.specs.declared.statement.Statement.TheVariants as statement
-use Rattle.typed_model.specs.declared.model.Kind.{Kind}
-use Rattle.typed_model.specs.declared.model.Kind.TheVariants as kind
-use Rattle.typed_model.specs.declared.model.Decl.{Decl}
-use Rattle.typed_model.specs.Signatures.{signature}
-use Rattle.typed_model.specs.Names.{statement_of}
-use Rattle.typed_model.specs.Scope.{place_of, kind_of, is_bool, is_constant, place_or_zero, truth}
+use Rattle.model_meaning.specs.declared.wanted.Wanted.TheVariants as wanted
+use Rattle.model_meaning.specs.declared.statement.Statement.{Statement}
+use Rattle.model_meaning.specs.declared.statement.Statement.TheVariants as statement
+use Rattle.model_meaning.specs.declared.model.Kind.{Kind}
+use Rattle.model_meaning.specs.declared.model.Kind.TheVariants as kind
+use Rattle.model_meaning.specs.declared.model.Decl.{Decl}
+use Rattle.model_meaning.specs.Signatures.{signature}
+use Rattle.model_meaning.specs.Names.{statement_of}
+use Rattle.model_meaning.specs.Places.{place_of, is_constant}
+use Rattle.typed_model.specs.Scope.{kind_of, is_bool, place_or_zero, truth}
 use Rattle.typed_model.specs.Items.{declare_name, declare, declare_by, what_of, name_in, truth_in, number_in}
-use Rattle.typed_model.specs.Arguments.{Truth, Number}
-use Rattle.typed_model.specs.WellTyped.{IsInt, IsNumberAt, TruthFits, ArgumentsFit, WhatFits}
+use Rattle.model_meaning.specs.Arguments.{Truth, Number}
+use Rattle.model_meaning.specs.WellTyped.{IsInt, IsNumberAt, TruthFits, ArgumentsFit, WhatFits}
 use Rattle.typed_model.proofs.TypingLaws.{AllBefore, ArgFits, fit-at, truth-fits, NoFault}
-use Rattle.typed_model.proofs.AppendLaws.{TruthFits-append, truth-same, place_of-last}
+use Rattle.model_meaning.proofs.AppendLaws.{TruthFits-append}
+use Rattle.typed_model.proofs.PlaceLaws.{truth-same, place_of-last}
 use Rattle.typed_model.proofs.StatementLaws.{IsPlain, plain-fits}
 
 some_at : {A : Type 0} (xs : List A) (p : ℕ) (P : A → Type 0) → p < length xs → ((x : A) → slice_get xs p ≡ Some x → P x) → IsSomeAnd (slice_get xs p) P
@@ -38,7 +40,8 @@ at_end (y ∷ xs) x P h = at_end xs x P h
 -- a declared name that is no Boolean is an integer
 not_bool : (k : Kind) → is_bool (Some k) ≡ false → IsInt k
 not_bool kind.Bool e = absurd (false≢true (sym e))
-not_bool (kind.Int low high) e = tt
+not_bool (kind.Range low high) e = tt
+not_bool (kind.Listed values) e = tt
 
 number_before : (n : ℕ) (ds : List Decl) (p : ℕ) (P : Decl → Type 0) → AllBefore n ds → IsSomeAnd (slice_get ds p) P → IsSomeAnd (slice_get ds p) (λ d. (d.number < n + 1) × P d)
 number_before n [] p P h s = s
@@ -51,7 +54,7 @@ placed_within name ds d k e = (position-Some (λ (d : Decl). bytes_eq name d.nam
 
 -- a `bool2int`'s integer, where it declares it
 abbrev pub own_kind : Kind
-own_kind = kind.Int (pos 0) (pos 1)
+own_kind = kind.Range (pos 0) (pos 1)
 
 no_decl : Decl
 no_decl = record { number = 0; name = []; kind = kind.Bool }

@@ -1,5 +1,5 @@
 -- The numbers of a model are those of its items.
-use Rattle.std.proofs.Common.{◌≡◌, ◌≤◌, ℕ, zero, suc, ◌+◌, pos, refl, Bool, true, false, List, [], ◌∷◌, ◌++◌, map, Option, Some, None, is_some, arith}
+use Rattle.std.proofs.Common.{◌≡◌, ◌≤◌, ◌⊎◌, inl, inr, ℕ, ℤ, zero, suc, ◌+◌, pos, refl, subst, Bool, true, false, List, [], ◌∷◌, ◌++◌, map, Option, Some, None, is_some, arith}
 use Rattle.std.specs.Prelude.{slice_get, IfSome, if◌then◌else◌}
 use Rattle.bumblebee_reader.specs.declared.syntax.Term.{Term}
 use Rattle.bumblebee_reader.specs.declared.syntax.Term.TheVariants as term
@@ -7,21 +7,26 @@ use Rattle.bumblebee_reader.specs.declared.syntax.Arg.{Arg}
 use Rattle.bumblebee_reader.specs.declared.syntax.Arg.TheVariants as arg
 use Rattle.bumblebee_reader.specs.declared.syntax.Item.{Item}
 use Rattle.bumblebee_reader.specs.declared.syntax.Item.TheVariants as item
-use Rattle.typed_model.specs.declared.statement.Statement.{Statement}
-use Rattle.typed_model.specs.declared.statement.Statement.TheVariants as statement
-use Rattle.typed_model.specs.declared.signature.Wanted.{Wanted}
-use Rattle.typed_model.specs.declared.signature.Wanted.TheVariants as wanted
-use Rattle.typed_model.specs.declared.what.What.{What}
-use Rattle.typed_model.specs.declared.model.Kind.{Kind}
-use Rattle.typed_model.specs.declared.model.Decl.{Decl}
-use Rattle.typed_model.specs.declared.model.Stmt.{Stmt}
-use Rattle.typed_model.specs.Names.{statement_of}
-use Rattle.typed_model.specs.Scope.{place_of, number, numeral}
+use Rattle.model_meaning.specs.declared.statement.Statement.{Statement}
+use Rattle.model_meaning.specs.declared.statement.Statement.TheVariants as statement
+use Rattle.model_meaning.specs.declared.wanted.Wanted.{Wanted}
+use Rattle.model_meaning.specs.declared.wanted.Wanted.TheVariants as wanted
+use Rattle.model_meaning.specs.declared.what.What.{What}
+use Rattle.model_meaning.specs.declared.model.Kind.{Kind}
+use Rattle.model_meaning.specs.declared.model.Decl.{Decl}
+use Rattle.model_meaning.specs.declared.model.Stmt.{Stmt}
+use Rattle.model_meaning.specs.Names.{statement_of}
+use Rattle.model_meaning.specs.Places.{place_of}
+use Rattle.typed_model.specs.Scope.{number, numeral}
 use Rattle.typed_model.specs.Faults.{numeral_in}
-use Rattle.typed_model.specs.Signatures.{signature}
-use Rattle.typed_model.specs.Items.{declare, declare_by, declare_if, declarations_of, what_of, number_in, terms_in, state, state_if, statements_of, decls_from, stmts_from}
+use Rattle.model_meaning.specs.Signatures.{signature}
+use Rattle.typed_model.specs.Items.{domain_in, declare, declare_by, declare_if, declarations_of, what_of, number_in, terms_in, state, state_if, statements_of, decls_from, stmts_from}
 use Rattle.typed_model.specs.Sizes.{args_terms, item_terms, terms_of}
-use Rattle.typed_model.specs.Limits.{InLimit, AllInLimit, TermInLimit, TermsInLimit, ArgumentInLimit, ArgumentsInLimit, WhatInLimit, StmtsInLimit, KindInLimit, DeclsInLimit, TextTermInLimit, TextTermsInLimit, ArgInLimit, ArgsInLimit, ItemInLimit, ItemsInLimit}
+use Rattle.model_meaning.specs.Limits.{InLimit, AllInLimit, TermInLimit, TermsInLimit, ArgumentInLimit, ArgumentsInLimit, WhatInLimit, StmtsInLimit, KindInLimit, DeclsInLimit}
+use Rattle.typed_model.specs.Limits.{TextTermInLimit, TextTermsInLimit, ArgInLimit, ArgsInLimit, ItemInLimit, ItemsInLimit}
+use Rattle.core_forms.proofs.Ascending.{Among}
+use Rattle.value_lists.specs.ValueLists.{different}
+use Rattle.value_lists.proofs.Different.{Ascends-different, each-different}
 use Rattle.typed_model.specs.Laws.{LimitLaw}
 use Rattle.typed_model.proofs.ArgumentLaws.{argument_in, arguments_in, Reads, reads}
 use Rattle.typed_model.proofs.ModelSizes.{read-size}
@@ -73,6 +78,23 @@ map_numerals [] h k = zero_in
 map_numerals (t ∷ ts) h zero = term_numeral t h.0
 map_numerals (t ∷ ts) h (suc k) = map_numerals ts h.1 k
 
+-- a listed value is one of the numerals
+among-numerals : (ts : List Term) → TextTermsInLimit ts → (u : ℤ) → Among u (map numeral ts) → InLimit u
+among-numerals [] h u m = absurd m
+among-numerals (t ∷ ts) h u (inl e) = let P : ℤ → Type 0 = λ z. InLimit z in subst P e (term_numeral t h.0)
+among-numerals (t ∷ ts) h u (inr m) = among-numerals ts h.1 u m
+
+limit-at : (vs : List ℤ) → ((u : ℤ) → Among u vs → InLimit u) → AllInLimit vs
+limit-at [] each k = zero_in
+limit-at (v ∷ vs) each zero = each v (inl refl)
+limit-at (v ∷ vs) each (suc k) = limit-at vs (λ u m. each u (inr m)) k
+
+domain-limit : (a b : Option Arg) → ArgIf a → ArgIf b → KindInLimit (domain_in a b)
+domain-limit None b h k = (zero_in, numeral_in-limit b k)
+domain-limit (Some (arg.One t)) b h k = (numeral_in-limit (Some (arg.One t)) h, numeral_in-limit b k)
+domain-limit (Some (arg.Many ts)) b h k =
+    (limit-at (different (map numeral ts)) (each-different InLimit (map numeral ts) (among-numerals ts h)), Ascends-different (map numeral ts))
+
 argument-limit : (ds : List Decl) (w : Wanted) (a : Option Arg) → ArgIf a → ArgumentInLimit (argument_in ds w a)
 argument-limit ds wanted.Truth a h = tt
 argument-limit ds wanted.Number a h = number_in-limit ds a h
@@ -99,7 +121,7 @@ module _ (ds : List Decl) (args : List Arg) (h : ArgsInLimit args) where
   by-limit : (n : ℕ) (s : Statement) → DeclsInLimit (declare_by n ds s args)
   unfolding declare_by
   by-limit n statement.NewBool = as-limit n _ _ tt
-  by-limit n statement.NewInt = as-limit n _ _ (numeral_in-limit (slice_get args 1) (arg_at args 1 h), numeral_in-limit (slice_get args 2) (arg_at args 2 h))
+  by-limit n statement.NewInt = as-limit n _ _ (domain-limit (slice_get args 1) (slice_get args 2) (arg_at args 1 h) (arg_at args 2 h))
   by-limit n statement.BoolToInt = as-limit n _ _ (omega arith, omega arith)
   by-limit n s = tt
 
@@ -135,11 +157,11 @@ stmts-append (s ∷ ss) ts h k = (h.0, stmts-append ss ts h.1 k)
 
 declarations_of-limit : (n : ℕ) (ds : List Decl) (x : Item) → ItemInLimit x → DeclsInLimit (declarations_of n ds x)
 declarations_of-limit n ds (item.Call name args) h = if-limit ds args h n (statement_of name)
-declarations_of-limit n ds (item.Goal k objective) h = tt
+declarations_of-limit n ds (item.Goal k objective second) h = tt
 
 item-limit : (n : ℕ) (ds : List Decl) (x : Item) → ItemInLimit x → item_terms x ≤ 16777216 → StmtsInLimit (statements_of n ds x)
 item-limit n ds (item.Call name args) h few = call-limit ds args h few n name (statement_of name) refl
-item-limit n ds (item.Goal k objective) h few = tt
+item-limit n ds (item.Goal k objective second) h few = tt
 
 decls-limit : (n : ℕ) (ds : List Decl) (items : List Item) → DeclsInLimit ds → ItemsInLimit items → DeclsInLimit (decls_from n ds items)
 unfolding decls_from

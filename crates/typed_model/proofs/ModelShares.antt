@@ -1,8 +1,8 @@
 -- The goal of items without a fault fits, and a declaration and a statement of one item are a `bool2int`.
 use Rattle.std.proofs.Common.{◌≡◌, ℕ, zero, suc, ◌+◌, Bool, true, false, not, List, [], ◌∷◌, ◌++◌, length, Option, Some, None, is_some, arith, refl, sym, ◌∙◌, ap, subst}
-use Rattle.std.specs.Prelude.{slice_get, IfSome, if◌then◌else◌}
+use Rattle.std.specs.Prelude.{slice_get, IfSome, ◌&&◌, ◌||◌, if◌then◌else◌}
 use Rattle.std.specs.Option.{unwrap_or, option_map_or}
-use Rattle.std.proofs.lemmas.Bool.{false≢true}
+use Rattle.std.proofs.lemmas.Bool.{false≢true, and_parts}
 use Rattle.std.proofs.lemmas.List.{append-nil}
 use Rattle.std.proofs.lemmas.Slice.Eq.{bytes_eq-Decides}
 use Rattle.bumblebee_reader.specs.declared.syntax.Term.TheVariants as term
@@ -12,26 +12,28 @@ use Rattle.bumblebee_reader.specs.declared.syntax.Item.{Item}
 use Rattle.bumblebee_reader.specs.declared.syntax.Item.TheVariants as item
 use Rattle.bumblebee_reader.specs.declared.syntax.GoalKind.{GoalKind}
 use Rattle.bumblebee_reader.specs.declared.syntax.GoalKind.TheVariants as goal_kind
-use Rattle.typed_model.specs.declared.signature.Wanted.TheVariants as wanted
-use Rattle.typed_model.specs.declared.statement.Statement.{Statement}
-use Rattle.typed_model.specs.declared.statement.Statement.TheVariants as statement
-use Rattle.typed_model.specs.declared.what.BoolTerm.{BoolTerm}
-use Rattle.typed_model.specs.declared.what.IntTerm.TheVariants as int_term
-use Rattle.typed_model.specs.declared.what.What.{What}
-use Rattle.typed_model.specs.declared.what.What.TheVariants.{L3}
-use Rattle.typed_model.specs.declared.model.Decl.{Decl}
-use Rattle.typed_model.specs.declared.model.Stmt.{Stmt}
-use Rattle.typed_model.specs.declared.model.Goal.{Goal}
-use Rattle.typed_model.specs.declared.model.Goal.TheVariants as goal
+use Rattle.model_meaning.specs.declared.wanted.Wanted.TheVariants as wanted
+use Rattle.model_meaning.specs.declared.statement.Statement.{Statement}
+use Rattle.model_meaning.specs.declared.statement.Statement.TheVariants as statement
+use Rattle.model_meaning.specs.declared.what.BoolTerm.{BoolTerm}
+use Rattle.model_meaning.specs.declared.what.IntTerm.TheVariants as int_term
+use Rattle.model_meaning.specs.declared.what.What.{What}
+use Rattle.model_meaning.specs.declared.what.What.TheVariants.{L3}
+use Rattle.model_meaning.specs.declared.model.Decl.{Decl}
+use Rattle.model_meaning.specs.declared.model.Stmt.{Stmt}
+use Rattle.model_meaning.specs.declared.model.Goal.{Goal}
+use Rattle.model_meaning.specs.declared.model.Goal.TheVariants as goal
 use Rattle.typed_model.specs.declared.fault.TypeFault.TheVariants.{Undeclared, Kind as KindFault}
-use Rattle.typed_model.specs.Names.{statement_of}
-use Rattle.typed_model.specs.Signatures.{signature}
-use Rattle.typed_model.specs.Scope.{place_of, place_or_zero}
-use Rattle.typed_model.specs.Faults.{call_fault, item_fault, objective_unknown, objective_fits, goal_fault}
-use Rattle.typed_model.specs.Items.{declare_name, declare, declare_by, declare_if, declarations_of, what_of, name_in, truth_in, number_in, state, state_if, statements_of, goal_of, goal_after, decls_from, stmts_from, goal_from, first_fault_from, first_fault, model_of}
-use Rattle.typed_model.specs.WellTyped.{GoalFits, DeclaresPlace, WellTyped}
+use Rattle.model_meaning.specs.Names.{statement_of}
+use Rattle.model_meaning.specs.Signatures.{signature}
+use Rattle.model_meaning.specs.Places.{place_of}
+use Rattle.typed_model.specs.Scope.{place_or_zero, is_int, kind_of}
+use Rattle.typed_model.specs.Faults.{call_fault, item_fault, objective_unknown, second_fits, objectives_fit, goal_fault}
+use Rattle.typed_model.specs.Items.{declare_name, declare, declare_by, declare_if, declarations_of, what_of, name_in, truth_in, number_in, state, state_if, statements_of, objective_place, second_place, goal_of, goal_after, decls_from, stmts_from, goal_from, first_fault_from, first_fault, model_of}
+use Rattle.model_meaning.specs.WellTyped.{ObjectiveFits, SecondFits, GoalFits, DeclaresPlace, WellTyped}
 use Rattle.typed_model.proofs.TypingLaws.{AllBefore, ArgFits, fit-at, NoFault, no_fault, int_placed}
-use Rattle.typed_model.proofs.AppendLaws.{at-append, place_of-last}
+use Rattle.model_meaning.proofs.AppendLaws.{at-append}
+use Rattle.typed_model.proofs.PlaceLaws.{place_of-last}
 use Rattle.typed_model.proofs.ItemTyping.{own_kind}
 use Rattle.typed_model.proofs.ModelTyping.{AllFrom, AllBefore-declarations_of, decls-prefix, faults-none, before-goal, stmts-fit, decls-fit}
 
@@ -45,22 +47,35 @@ not_false : (b : Bool) → not b ≡ false → b ≡ true
 not_false true e = refl
 not_false false e = cc
 
-goal_of-fits : (ds : List Decl) (k : GoalKind) (objective : Option (List ℕ)) → objective_fits ds k objective ≡ true → GoalFits ds (goal_of ds k objective)
-goal_of-fits ds goal_kind.Satisfy objective e = tt
-goal_of-fits ds goal_kind.Minimize None e = absurd (false≢true e)
-goal_of-fits ds goal_kind.Minimize (Some name) e = int_placed ds (place_of name ds) e
-goal_of-fits ds goal_kind.Maximize None e = absurd (false≢true e)
-goal_of-fits ds goal_kind.Maximize (Some name) e = int_placed ds (place_of name ds) e
+second-fits : (ds : List Decl) (second : Option (List ℕ)) → second_fits ds second ≡ true → SecondFits ds (second_place ds second)
+second-fits ds None e = tt
+second-fits ds (Some name) e = int_placed ds (place_of name ds) e
 
-goal_fault-none : (n : ℕ) (ds : List Decl) (k : GoalKind) (objective : Option (List ℕ)) → goal_fault n ds k objective ≡ None → objective_fits ds k objective ≡ true
-goal_fault-none n ds k objective e =
-    let a = passed_by (objective_unknown ds objective) (Undeclared n) (if not (objective_fits ds k objective) then Some (KindFault n) else None) e in
-    not_false _ (passed_by (not (objective_fits ds k objective)) (KindFault n) None a.1).0
+objectives-fit : (ds : List Decl) (name : List ℕ) (second : Option (List ℕ)) → (is_int (kind_of name ds) && second_fits ds second) ≡ true → ObjectiveFits ds (objective_place ds (Some name)) × SecondFits ds (second_place ds second)
+objectives-fit ds name second e =
+    let p = and_parts (is_int (kind_of name ds)) (second_fits ds second) e in
+    (int_placed ds (place_of name ds) p.0, second-fits ds second p.1)
+
+goal_of-fits : (ds : List Decl) (k : GoalKind) (objective second : Option (List ℕ)) → objectives_fit ds k objective second ≡ true → GoalFits ds (goal_of ds k objective second)
+goal_of-fits ds goal_kind.Satisfy objective second e = tt
+goal_of-fits ds goal_kind.Minimize None second e = absurd (false≢true e)
+goal_of-fits ds goal_kind.Minimize (Some name) second e = objectives-fit ds name second e
+goal_of-fits ds goal_kind.Maximize None second e = absurd (false≢true e)
+goal_of-fits ds goal_kind.Maximize (Some name) second e = objectives-fit ds name second e
+
+goal_fault-none : (n : ℕ) (ds : List Decl) (k : GoalKind) (objective second : Option (List ℕ)) → goal_fault n ds k objective second ≡ None → objectives_fit ds k objective second ≡ true
+goal_fault-none n ds k objective second e =
+    let a = passed_by (objective_unknown ds objective || objective_unknown ds second) (Undeclared n) (if not (objectives_fit ds k objective second) then Some (KindFault n) else None) e in
+    not_false _ (passed_by (not (objectives_fit ds k objective second)) (KindFault n) None a.1).0
+
+SecondFits-append : (ds es : List Decl) (p : Option ℕ) → SecondFits ds p → SecondFits (ds ++ es) p
+SecondFits-append ds es None h = tt
+SecondFits-append ds es (Some p) h = at-append ds es p _ h
 
 GoalFits-append : (ds es : List Decl) (g : Goal) → GoalFits ds g → GoalFits (ds ++ es) g
 GoalFits-append ds es goal.Satisfy h = tt
-GoalFits-append ds es (goal.Minimize p) h = at-append ds es p _ h
-GoalFits-append ds es (goal.Maximize p) h = at-append ds es p _ h
+GoalFits-append ds es (goal.Minimize p q) h = (at-append ds es p _ h.0, SecondFits-append ds es q h.1)
+GoalFits-append ds es (goal.Maximize p q) h = (at-append ds es p _ h.0, SecondFits-append ds es q h.1)
 
 abbrev GoalFitsIf : List Decl → Option Goal → Type 0
 GoalFitsIf ds None = Unit {0}
@@ -73,7 +88,7 @@ GoalFitsIf-append ds es (Some g) h = GoalFits-append ds es g h
 goal_after-fits : (n : ℕ) (ds : List Decl) (g : Option Goal) (x : Item) → item_fault n false ds x ≡ None → GoalFitsIf ds g → GoalFitsIf (ds ++ declarations_of n ds x) (goal_after g ds x)
 unfolding item_fault
 goal_after-fits n ds g (item.Call name args) e h = GoalFitsIf-append ds _ g h
-goal_after-fits n ds g (item.Goal k objective) e h = GoalFits-append ds [] (goal_of ds k objective) (goal_of-fits ds k objective (goal_fault-none n ds k objective e))
+goal_after-fits n ds g (item.Goal k objective second) e h = GoalFits-append ds [] (goal_of ds k objective second) (goal_of-fits ds k objective second (goal_fault-none n ds k objective second e))
 
 goal-fit : (n : ℕ) (ds : List Decl) (g : Option Goal) (items : List Item) → first_fault_from n ds g items ≡ None → GoalFitsIf ds g → GoalFitsIf (decls_from n ds items) (goal_from n ds g items)
 unfolding decls_from goal_from
@@ -170,7 +185,7 @@ module _ (n : ℕ) (ds more : List Decl) (before : AllBefore n ds) (later : AllF
   item_shares : (x : Item) → item_fault n false ds x ≡ None → slice_get ((ds ++ declarations_of n ds x) ++ more) p ≡ Some d → EachStmt (Shares ((ds ++ declarations_of n ds x) ++ more) d) (statements_of n (ds ++ declarations_of n ds x) x)
   unfolding item_fault
   item_shares (item.Call name args) f g = if_shares name args (statement_of name) f g
-  item_shares (item.Goal k objective) f g = tt
+  item_shares (item.Goal k objective second) f g = tt
 
 shares-from : (n : ℕ) (ds : List Decl) (g : Option Goal) (items : List Item) → AllBefore n ds → first_fault_from n ds g items ≡ None → (p : ℕ) (d : Decl) → slice_get (decls_from n ds items) p ≡ Some d → EachStmt (Shares (decls_from n ds items) d) (stmts_from n ds items)
 unfolding decls_from stmts_from

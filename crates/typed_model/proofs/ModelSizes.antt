@@ -6,19 +6,21 @@ use Rattle.bumblebee_reader.specs.declared.syntax.Arg.{Arg}
 use Rattle.bumblebee_reader.specs.declared.syntax.Arg.TheVariants as arg
 use Rattle.bumblebee_reader.specs.declared.syntax.Item.{Item}
 use Rattle.bumblebee_reader.specs.declared.syntax.Item.TheVariants as item
-use Rattle.typed_model.specs.declared.statement.Statement.{Statement}
-use Rattle.typed_model.specs.declared.statement.Statement.TheVariants as statement
-use Rattle.typed_model.specs.declared.signature.Wanted.{Wanted}
-use Rattle.typed_model.specs.declared.signature.Wanted.TheVariants as wanted
-use Rattle.typed_model.specs.declared.what.What.{What}
-use Rattle.typed_model.specs.declared.model.Kind.{Kind}
-use Rattle.typed_model.specs.declared.model.Decl.{Decl}
-use Rattle.typed_model.specs.declared.model.Stmt.{Stmt}
-use Rattle.typed_model.specs.Names.{statement_of}
-use Rattle.typed_model.specs.Scope.{place_of, truth, number, numeral}
-use Rattle.typed_model.specs.Signatures.{signature}
+use Rattle.model_meaning.specs.declared.statement.Statement.{Statement}
+use Rattle.model_meaning.specs.declared.statement.Statement.TheVariants as statement
+use Rattle.model_meaning.specs.declared.wanted.Wanted.{Wanted}
+use Rattle.model_meaning.specs.declared.wanted.Wanted.TheVariants as wanted
+use Rattle.model_meaning.specs.declared.what.What.{What}
+use Rattle.model_meaning.specs.declared.model.Kind.{Kind}
+use Rattle.model_meaning.specs.declared.model.Decl.{Decl}
+use Rattle.model_meaning.specs.declared.model.Stmt.{Stmt}
+use Rattle.model_meaning.specs.Names.{statement_of}
+use Rattle.model_meaning.specs.Places.{place_of}
+use Rattle.typed_model.specs.Scope.{truth, number, numeral}
+use Rattle.model_meaning.specs.Signatures.{signature}
 use Rattle.typed_model.specs.Items.{declare, declare_by, declare_if, declarations_of, what_of, terms_in, state, state_if, statements_of, decls_from, stmts_from}
-use Rattle.typed_model.specs.Sizes.{arg_terms, args_terms, item_terms, terms_of, argument_members, arguments_members, what_members, members_of}
+use Rattle.model_meaning.specs.Sizes.{argument_members, arguments_members, what_members, members_of}
+use Rattle.typed_model.specs.Sizes.{arg_terms, args_terms, item_terms, terms_of}
 use Rattle.typed_model.specs.Laws.{SizeLaw}
 use Rattle.typed_model.proofs.ArgumentLaws.{argument_in, arguments_in, Reads, reads}
 
@@ -45,7 +47,7 @@ if-one n ds (Some s) args = by-one n ds s args
 
 declarations_of-one : (n : ℕ) (ds : List Decl) (i : Item) → length (declarations_of n ds i) ≤ 1
 declarations_of-one n ds (item.Call name args) = if-one n ds (statement_of name) args
-declarations_of-one n ds (item.Goal k objective) = omega arith
+declarations_of-one n ds (item.Goal k objective second) = omega arith
 
 decls-size : (n : ℕ) (ds : List Decl) (items : List Item) → length (decls_from n ds items) ≤ length ds + length items
 unfolding decls_from
@@ -65,7 +67,7 @@ state_if-one n ds name (Some s) args = state-one n (what_of ds name s args)
 
 statements_of-one : (n : ℕ) (ds : List Decl) (i : Item) → length (statements_of n ds i) ≤ 1
 statements_of-one n ds (item.Call name args) = state_if-one n ds name (statement_of name) args
-statements_of-one n ds (item.Goal k objective) = omega arith
+statements_of-one n ds (item.Goal k objective second) = omega arith
 
 stmts-size : (n : ℕ) (ds : List Decl) (items : List Item) → length (stmts_from n ds items) ≤ length items
 unfolding stmts_from
@@ -108,7 +110,7 @@ call-members n ds args name (Some s) m = state-members n ds args s (what_of ds n
 
 statements_of-members : (n : ℕ) (ds : List Decl) (i : Item) → members_of (statements_of n ds i) ≤ item_terms i
 statements_of-members n ds (item.Call name args) = call-members n ds args name (statement_of name) refl
-statements_of-members n ds (item.Goal k objective) = omega arith
+statements_of-members n ds (item.Goal k objective second) = omega arith
 
 members-append : (ss ts : List Stmt) → members_of (ss ++ ts) ≡ members_of ss + members_of ts
 members-append [] ts = omega arith

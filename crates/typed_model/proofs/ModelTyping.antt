@@ -1,6 +1,6 @@
 -- The model of items without a fault is well typed.
-use Rattle.std.proofs.Common.{◌≡◌, ℕ, ◌+◌, ◌≤◌, Bool, true, false, not, cond, List, [], ◌∷◌, ◌++◌, Option, Some, None, is_some, arith, refl, sym, ◌∙◌, ap, subst}
-use Rattle.std.specs.Prelude.{slice_get, IfSome, if◌then◌else◌}
+use Rattle.std.proofs.Common.{◌≡◌, ℕ, ◌+◌, ◌≤◌, ◌<◌, Bool, true, false, not, cond, List, [], ◌∷◌, ◌++◌, length, map, Option, Some, None, is_some, arith, refl, sym, ◌∙◌, ap, subst}
+use Rattle.std.specs.Prelude.{slice_get, ◌==◌, IfSome, if◌then◌else◌}
 use Rattle.std.specs.Str.{bytes_eq}
 use Rattle.std.specs.List.{position_from}
 use Rattle.std.proofs.lemmas.Bool.{false≢true, and_parts}
@@ -8,28 +8,31 @@ use Rattle.std.proofs.lemmas.Int.{ints}
 use Rattle.std.proofs.lemmas.List.{append-nil, append_assoc}
 use Rattle.std.proofs.lemmas.Iterator.Adapters.{position_from-zero}
 use Rattle.std.proofs.lemmas.Slice.Eq.{bytes_eq-Decides}
+use Rattle.bumblebee_reader.specs.declared.syntax.Term.{Term}
 use Rattle.bumblebee_reader.specs.declared.syntax.Term.TheVariants as term
 use Rattle.bumblebee_reader.specs.declared.syntax.Arg.{Arg}
 use Rattle.bumblebee_reader.specs.declared.syntax.Arg.TheVariants as arg
 use Rattle.bumblebee_reader.specs.declared.syntax.Item.{Item}
 use Rattle.bumblebee_reader.specs.declared.syntax.Item.TheVariants as item
-use Rattle.typed_model.specs.declared.signature.Wanted.TheVariants as wanted
-use Rattle.typed_model.specs.declared.statement.Statement.{Statement}
-use Rattle.typed_model.specs.declared.statement.Statement.TheVariants as statement
-use Rattle.typed_model.specs.declared.what.What.{What}
-use Rattle.typed_model.specs.declared.model.Kind.{Kind}
-use Rattle.typed_model.specs.declared.model.Kind.TheVariants as kind
-use Rattle.typed_model.specs.declared.model.Decl.{Decl}
-use Rattle.typed_model.specs.declared.model.Stmt.{Stmt}
-use Rattle.typed_model.specs.declared.model.Goal.{Goal}
-use Rattle.typed_model.specs.Names.{statement_of, first_of}
-use Rattle.typed_model.specs.Signatures.{signature}
-use Rattle.typed_model.specs.Scope.{place_of, kind_of, is_bool, is_constant}
-use Rattle.typed_model.specs.Faults.{call_fault, item_fault, numeral_in}
-use Rattle.typed_model.specs.Items.{declare_name, declare, declare_by, declare_if, declarations_of, name_in, state, state_if, statements_of, goal_after, decls_from, stmts_from, first_fault_from}
-use Rattle.typed_model.specs.WellTyped.{WhatFits, StmtsFit, IsFree, KindFits, DeclsFit}
+use Rattle.model_meaning.specs.declared.wanted.Wanted.TheVariants as wanted
+use Rattle.model_meaning.specs.declared.statement.Statement.{Statement}
+use Rattle.model_meaning.specs.declared.statement.Statement.TheVariants as statement
+use Rattle.model_meaning.specs.declared.what.What.{What}
+use Rattle.model_meaning.specs.declared.model.Kind.{Kind}
+use Rattle.model_meaning.specs.declared.model.Kind.TheVariants as kind
+use Rattle.model_meaning.specs.declared.model.Decl.{Decl}
+use Rattle.model_meaning.specs.declared.model.Stmt.{Stmt}
+use Rattle.model_meaning.specs.declared.model.Goal.{Goal}
+use Rattle.model_meaning.specs.Names.{statement_of, first_of}
+use Rattle.model_meaning.specs.Signatures.{signature}
+use Rattle.model_meaning.specs.Places.{place_of, is_constant}
+use Rattle.typed_model.specs.Scope.{kind_of, is_bool, numeral}
+use Rattle.value_lists.proofs.Different.{Ascends-different, some-different}
+use Rattle.typed_model.specs.Faults.{fit, wanted_of, lacks_value, call_fault, item_fault, numeral_in}
+use Rattle.typed_model.specs.Items.{domain_in, declare_name, declare, declare_by, declare_if, declarations_of, name_in, state, state_if, statements_of, goal_after, decls_from, stmts_from, first_fault_from}
+use Rattle.model_meaning.specs.WellTyped.{WhatFits, StmtsFit, IsFree, KindFits, DeclsFit}
 use Rattle.typed_model.proofs.TypingLaws.{not_less, AllBefore, ArgFits, fit-at, NoFault, no_fault}
-use Rattle.typed_model.proofs.AppendLaws.{WhatFits-append}
+use Rattle.model_meaning.proofs.AppendLaws.{WhatFits-append}
 use Rattle.typed_model.proofs.ItemTyping.{own_kind, statements_of-fits}
 
 not_true : (b : Bool) → not b ≡ true → b ≡ false
@@ -72,7 +75,7 @@ all_of_if n ds (Some s) args = all_of_by n ds s args
 
 pub AllOf-declarations_of : (n : ℕ) (ds : List Decl) (x : Item) → AllOf n (declarations_of n ds x)
 AllOf-declarations_of n ds (item.Call name args) = all_of_if n ds (statement_of name) args
-AllOf-declarations_of n ds (item.Goal k objective) = tt
+AllOf-declarations_of n ds (item.Goal k objective second) = tt
 
 AllBefore-AllOf : (n : ℕ) (es : List Decl) → AllOf n es → AllBefore (n + 1) es
 AllBefore-AllOf n [] h = tt
@@ -136,7 +139,7 @@ call-fits n ds before name args (Some s) m e =
 pub statements_of-one : (n : ℕ) (ds : List Decl) (x : Item) → AllBefore n ds → item_fault n false ds x ≡ None → OneFits (ds ++ declarations_of n ds x) n (statements_of n (ds ++ declarations_of n ds x) x)
 unfolding item_fault
 statements_of-one n ds (item.Call name args) before e = call-fits n ds before name args (statement_of name) refl e
-statements_of-one n ds (item.Goal k objective) before e = tt
+statements_of-one n ds (item.Goal k objective second) before e = tt
 
 StmtsFit-less : (ds : List Decl) (n m : ℕ) (ss : List Stmt) → m ≤ n → StmtsFit ds n ss → StmtsFit ds m ss
 StmtsFit-less ds n m [] l h = tt
@@ -207,6 +210,16 @@ DeclsFit-last m (e ∷ ds) d h before l c f k =
     let p = free-parts d.name e ds f in
     (h.0, (h.1.0, (free-last e.name ds d h.1.1.0 (bytes_other d.name e.name p.0), (h.1.1.1.0, DeclsFit-last (e.number + 1) ds d h.1.1.1.1 before.1 (omega (arith, before.0)) c p.1 k))))
 
+-- a domain that lacks no value fits
+listed-some : (ts : List Term) → (length ts == 0) ≡ false → 0 < length (map numeral ts)
+listed-some [] e = absurd (false≢true (sym e))
+listed-some (t ∷ ts) e = omega arith
+
+domain-fits : (a b : Option Arg) → lacks_value a b ≡ false → KindFits (domain_in a b)
+domain-fits None b e = not_less (numeral_in b) (numeral_in None) e
+domain-fits (Some (arg.One t)) b e = not_less (numeral_in b) (numeral_in (Some (arg.One t))) e
+domain-fits (Some (arg.Many ts)) b e = (some-different (map numeral ts) (listed-some ts e), Ascends-different (map numeral ts))
+
 module _ (n : ℕ) (ds : List Decl) (fits : DeclsFit 1 ds) (before : AllBefore n ds) (one : 1 ≤ n) where
   name-decls : (name : List ℕ) (k : Kind) (o : Option ℕ) → place_of name ds ≡ o → is_constant name ≡ false → KindFits k → DeclsFit 1 (ds ++ declare_name n ds name k)
   name-decls name k None e c h =
@@ -235,11 +248,17 @@ module _ (n : ℕ) (ds : List Decl) (fits : DeclsFit 1 ds) (before : AllBefore n
   new_integer-decls (Some (arg.One (term.Number z))) h = absurd (false≢true h)
   new_integer-decls (Some (arg.Many ts)) h = absurd (false≢true h)
 
+  -- the first argument of `new_int` is a name, whichever form it has
+  name-wanted : (args : List Arg) (a : Option Arg) → fit ds (wanted_of statement.NewInt a) args ≡ true → ArgFits ds wanted.NewName (slice_get args 0)
+  name-wanted args None e = fit-at ds (signature statement.NewInt) args 0 e
+  name-wanted args (Some (arg.One t)) e = fit-at ds (signature statement.NewInt) args 0 e
+  name-wanted args (Some (arg.Many ts)) e = fit-at ds (wanted.NewName ∷ wanted.Numerals ∷ []) args 0 e
+
   by-decls : (s : Statement) (args : List Arg) → NoFault ds s args → DeclsFit 1 (ds ++ declare_by n ds s args)
   unfolding declare_by
   by-decls statement.NewBool args ok = new_name-decls (slice_get args 0) kind.Bool (fit-at ds (signature statement.NewBool) args 0 ok.fits) tt
   by-decls statement.NewInt args ok =
-      new_name-decls (slice_get args 0) (kind.Int (numeral_in (slice_get args 1)) (numeral_in (slice_get args 2))) (fit-at ds (signature statement.NewInt) args 0 ok.fits) (not_less (numeral_in (slice_get args 2)) (numeral_in (slice_get args 1)) ok.domain)
+      new_name-decls (slice_get args 0) (domain_in (slice_get args 1) (slice_get args 2)) (name-wanted args (slice_get args 1) ok.fits) (domain-fits (slice_get args 1) (slice_get args 2) ok.domain)
   by-decls statement.BoolToInt args ok = new_integer-decls (slice_get args 1) (fit-at ds (signature statement.BoolToInt) args 1 ok.fits)
   by-decls s args ok = same-decls
 
@@ -250,7 +269,7 @@ module _ (n : ℕ) (ds : List Decl) (fits : DeclsFit 1 ds) (before : AllBefore n
   pub item-decls : (x : Item) → item_fault n false ds x ≡ None → DeclsFit 1 (ds ++ declarations_of n ds x)
   unfolding item_fault
   item-decls (item.Call name args) e = if-decls (statement_of name) args e
-  item-decls (item.Goal k objective) e = same-decls
+  item-decls (item.Goal k objective second) e = same-decls
 
 pub decls-fit : (n : ℕ) (ds : List Decl) (g : Option Goal) (items : List Item) → DeclsFit 1 ds → AllBefore n ds → 1 ≤ n → first_fault_from n ds g items ≡ None → DeclsFit 1 (decls_from n ds items)
 unfolding decls_from

@@ -9,11 +9,12 @@ use Rattle.std.proofs.lemmas.Option.{slice_get-map}
 use Rattle.std.specs.Str.{bytes_eq}
 use Rattle.indexmap.specs.IndexMap.{insert_entry}
 use Rattle.typed_model.specs.declared.scope.Sort.{Sort}
-use Rattle.typed_model.specs.declared.model.Decl.{Decl}
-use Rattle.typed_model.specs.declared.model.Kind.{Kind}
-use Rattle.typed_model.specs.declared.model.Kind.TheVariants as kind
+use Rattle.model_meaning.specs.declared.model.Decl.{Decl}
+use Rattle.model_meaning.specs.declared.model.Kind.{Kind}
+use Rattle.model_meaning.specs.declared.model.Kind.TheVariants as kind
 use Rattle.std.specs.Option.{option_map}
-use Rattle.typed_model.specs.Scope.{entry_of, sort_of, sort_is_bool, sort_is_int, is_bool, is_int, place_of, kind_of}
+use Rattle.model_meaning.specs.Places.{place_of}
+use Rattle.typed_model.specs.Scope.{entry_of, sort_of, sort_is_bool, sort_is_int, is_bool, is_int, kind_of}
 
 module _ {X Y : Type 0} (f : X → Y) where
   prefix_len-map : (p : Y → Bool) (xs : List X) → prefix_len p (map f xs) ≡ prefix_len (λ x. p (f x)) xs
@@ -48,12 +49,14 @@ module _ (name : List ℕ) (es : List (List ℕ × Sort)) (ds : List Decl) (h : 
 pub is_bool-sort : (k : Option Kind) → sort_is_bool (option_map sort_of k) ≡ is_bool k
 is_bool-sort None = refl
 is_bool-sort (Some kind.Bool) = refl
-is_bool-sort (Some (kind.Int low high)) = refl
+is_bool-sort (Some (kind.Range low high)) = refl
+is_bool-sort (Some (kind.Listed values)) = refl
 
 pub is_int-sort : (k : Option Kind) → sort_is_int (option_map sort_of k) ≡ is_int k
 is_int-sort None = refl
 is_int-sort (Some kind.Bool) = refl
-is_int-sort (Some (kind.Int low high)) = refl
+is_int-sort (Some (kind.Range low high)) = refl
+is_int-sort (Some (kind.Listed values)) = refl
 
 goes_on : {X : Type 0} (b : Bool) (i : ℕ) (o : Option ℕ) (e f : X) (es rest all : List X) → cond b (Some i) o ≡ None → (o ≡ None → rest ≡ all) → (if b then f ∷ es else e ∷ rest) ≡ e ∷ all
 goes_on true i o e f es rest all absent h = absurd (cc)

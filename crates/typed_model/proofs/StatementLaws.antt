@@ -1,28 +1,28 @@
 -- A statement without fault fits the declarations before it.
-use Rattle.std.proofs.Common.{◌≡◌, ℕ, ◌<◌, pos, Bool, true, false, not, ◌||◌, List, [], ◌∷◌, length, arith, Option, Some, None}
+use Rattle.std.proofs.Common.{◌≡◌, ℕ, ◌<◌, pos, Bool, true, false, not, ◌||◌, List, [], ◌∷◌, length, arith, Option, Some, None, refl, subst}
 use Rattle.std.specs.Prelude.{int_lt, nat_eq, slice_get, IfSome, if◌then◌else◌}
 use Rattle.std.proofs.lemmas.Bool.{false≢true, and_parts, or_parts}
 use Rattle.std.proofs.lemmas.Bool.Decides.{nat_tests}
 use Rattle.std.proofs.lemmas.List.{length-map}
 use Rattle.bumblebee_reader.specs.declared.syntax.Arg.{Arg}
 use Rattle.bumblebee_reader.specs.declared.syntax.Arg.TheVariants as arg
-use Rattle.typed_model.specs.declared.signature.Wanted.{Wanted}
-use Rattle.typed_model.specs.declared.signature.Wanted.TheVariants as wanted
-use Rattle.typed_model.specs.declared.statement.Arithmetic.TheVariants as arithmetic
-use Rattle.typed_model.specs.declared.statement.Aggregate.{Aggregate}
-use Rattle.typed_model.specs.declared.statement.Aggregate.TheVariants as aggregate
-use Rattle.typed_model.specs.declared.statement.AllDifferent.{AllDifferent}
-use Rattle.typed_model.specs.declared.statement.AllDifferent.TheVariants as all_different
-use Rattle.typed_model.specs.declared.statement.Statement.{Statement}
-use Rattle.typed_model.specs.declared.statement.Statement.TheVariants as statement
-use Rattle.typed_model.specs.declared.what.What.{What}
-use Rattle.typed_model.specs.declared.model.Decl.{Decl}
+use Rattle.model_meaning.specs.declared.wanted.Wanted.{Wanted}
+use Rattle.model_meaning.specs.declared.wanted.Wanted.TheVariants as wanted
+use Rattle.model_meaning.specs.declared.statement.Arithmetic.TheVariants as arithmetic
+use Rattle.model_meaning.specs.declared.statement.Aggregate.{Aggregate}
+use Rattle.model_meaning.specs.declared.statement.Aggregate.TheVariants as aggregate
+use Rattle.model_meaning.specs.declared.statement.AllDifferent.{AllDifferent}
+use Rattle.model_meaning.specs.declared.statement.AllDifferent.TheVariants as all_different
+use Rattle.model_meaning.specs.declared.statement.Statement.{Statement}
+use Rattle.model_meaning.specs.declared.statement.Statement.TheVariants as statement
+use Rattle.model_meaning.specs.declared.what.What.{What}
+use Rattle.model_meaning.specs.declared.model.Decl.{Decl}
 use Rattle.typed_model.specs.Scope.{truth, number, numeral}
-use Rattle.typed_model.specs.Names.{statement_of}
-use Rattle.typed_model.specs.Signatures.{signature}
-use Rattle.typed_model.specs.Faults.{arg_fits, fit, lists_differ, is_empty, least_in}
+use Rattle.model_meaning.specs.Names.{statement_of}
+use Rattle.model_meaning.specs.Signatures.{signature}
+use Rattle.typed_model.specs.Faults.{arg_fits, fit, wanted_of, lists_differ, is_empty, least_in}
 use Rattle.typed_model.specs.Items.{what_of, terms_in, numbers_in}
-use Rattle.typed_model.specs.WellTyped.{ArgumentFits, ArgumentsFit, list_length, LengthsFit, IsDivision, ValuesFit, WhatFits}
+use Rattle.model_meaning.specs.WellTyped.{ArgumentFits, ArgumentsFit, list_length, LengthsFit, IsDivision, ValuesFit, WhatFits}
 use Rattle.typed_model.proofs.TypingLaws.{AllBefore, ArgFits, fit-at, truth-fits, number-fits, truths-fit, numbers-fit, list-member, least-fits, NoFault}
 use Rattle.typed_model.proofs.ArgumentLaws.{argument_in, arguments_in, Reads, reads}
 
@@ -154,12 +154,18 @@ module _ (n : ℕ) (ds : List Decl) (before : AllBefore n ds) (args : List Arg) 
       division (F 0) (F 1) ok.division
   values-fit s ok = tt
 
+  -- only `new_int` has two forms
+  wanted-plain : (s : Statement) (a : Option Arg) → IsPlain s → wanted_of s a ≡ signature s
+  wanted-plain statement.NewInt a p = absurd p
+  wanted-plain s a p = refl
+
   read-fits : (s : Statement) → IsPlain s → NoFault ds s args → (w : What) → Reads ds args s w → WhatFits ds n w
   read-fits s p ok w r =
+      let fits = subst (λ (ws : List Wanted). fit ds ws args ≡ true) (wanted-plain s (slice_get args 1) p) ok.fits in
       record {
         name = r.name;
-        arguments = rw (r.statement, r.arguments) (arguments-fit n ds before (signature s) args (signature-plain s p) ok.fits);
-        lengths = rw r.arguments (lengths-fit ds (signature s) args ok.fits ok.lengths);
+        arguments = rw (r.statement, r.arguments) (arguments-fit n ds before (signature s) args (signature-plain s p) fits);
+        lengths = rw r.arguments (lengths-fit ds (signature s) args fits ok.lengths);
         values = rw (r.statement, r.arguments) (values-fit s ok);
       }
 

@@ -4,18 +4,18 @@ use Rattle.std.specs.Prelude.{if◌then◌else◌}
 use Rattle.std.specs.Option.{unwrap_or}
 use Rattle.std.proofs.lemmas.List.{append_assoc, append-nil, length-append}
 use Rattle.bumblebee_reader.specs.declared.syntax.Item.{Item}
-use Rattle.typed_model.specs.declared.model.Decl.{Decl}
-use Rattle.typed_model.specs.declared.model.Stmt.{Stmt}
-use Rattle.typed_model.specs.declared.model.Goal.{Goal}
-use Rattle.typed_model.specs.declared.model.Goal.TheVariants.{Satisfy}
-use Rattle.typed_model.specs.declared.model.Model.{Model}
+use Rattle.model_meaning.specs.declared.model.Decl.{Decl}
+use Rattle.model_meaning.specs.declared.model.Stmt.{Stmt}
+use Rattle.model_meaning.specs.declared.model.Goal.{Goal}
+use Rattle.model_meaning.specs.declared.model.Goal.TheVariants.{Satisfy}
+use Rattle.model_meaning.specs.declared.model.Model.{Model}
 use Rattle.typed_model.specs.declared.fault.TypeFault.{TypeFault}
 use Rattle.typed_model.specs.declared.fault.TypeFault.TheVariants.{NoGoal}
-use Rattle.typed_model.specs.Names.{first_of}
+use Rattle.model_meaning.specs.Names.{first_of}
 use Rattle.typed_model.specs.Faults.{item_fault}
 use Rattle.typed_model.specs.Items.{declarations_of, statements_of, goal_after, first_fault_from, first_fault, decls_from, stmts_from, goal_from, model_of}
 use Rattle.typed_model.specs.Taken.{Taken, fault_from, fault_of, all_of, HasTaken, with_item}
-use Rattle.typed_model.specs.WellTyped.{WellTyped}
+use Rattle.model_meaning.specs.WellTyped.{WellTyped}
 use Rattle.typed_model.proofs.ModelShares.{WellTyped-model_of}
 
 -- where the items from n on end

@@ -46,8 +46,8 @@ args-size ts (a ∷ b ∷ args) h =
 
 item-size : (ts : List Token) (i : Item) → SpellsItem ts i → item_terms i ≤ length ts
 item-size ts (Call name args) h =
-    rw h.2 (omega (arith, length-append h.1 (Mark CloseCall ∷ []), args-size h.1 args h.3))
-item-size ts (Goal k objective) h = omega arith
+    rw h.3 (omega (arith, length-append h.2 (Mark CloseCall ∷ []), args-size h.2 args h.4))
+item-size ts (Goal k objective second) h = omega arith
 
 items-size : (ts : List Token) (items : List Item) → Spells ts items → terms_of items ≤ length ts
 items-size ts [] h = omega arith

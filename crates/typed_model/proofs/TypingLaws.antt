@@ -9,19 +9,20 @@ use Rattle.bumblebee_reader.specs.declared.syntax.Term.{Term}
 use Rattle.bumblebee_reader.specs.declared.syntax.Term.TheVariants as term
 use Rattle.bumblebee_reader.specs.declared.syntax.Arg.{Arg}
 use Rattle.bumblebee_reader.specs.declared.syntax.Arg.TheVariants as arg
-use Rattle.typed_model.specs.declared.what.BoolTerm.TheVariants as bool_term
-use Rattle.typed_model.specs.declared.signature.Wanted.{Wanted}
-use Rattle.typed_model.specs.declared.signature.Wanted.TheVariants as wanted
-use Rattle.typed_model.specs.declared.model.Kind.{Kind}
-use Rattle.typed_model.specs.declared.model.Kind.TheVariants as kind
-use Rattle.typed_model.specs.declared.model.Decl.{Decl}
-use Rattle.typed_model.specs.Scope.{place_of, kind_of, is_bool, is_int, low_of, is_constant, is_true, place_or_zero, is_truth, is_number, all_truths, all_numbers, truth, number}
-use Rattle.typed_model.specs.Faults.{arg_fits, fit, lists_differ, is_empty, least_in, has_undeclared, declares_twice, has_wrong_lengths, wants_member, empty_domain, division_domain, statement_fault}
+use Rattle.model_meaning.specs.declared.what.BoolTerm.TheVariants as bool_term
+use Rattle.model_meaning.specs.declared.wanted.Wanted.{Wanted}
+use Rattle.model_meaning.specs.declared.wanted.Wanted.TheVariants as wanted
+use Rattle.model_meaning.specs.declared.model.Kind.{Kind}
+use Rattle.model_meaning.specs.declared.model.Kind.TheVariants as kind
+use Rattle.model_meaning.specs.declared.model.Decl.{Decl}
+use Rattle.model_meaning.specs.Places.{place_of, low_of, is_constant, is_true}
+use Rattle.typed_model.specs.Scope.{kind_of, is_bool, is_int, place_or_zero, is_truth, is_number, all_truths, all_numbers, truth, number}
+use Rattle.typed_model.specs.Faults.{arg_fits, fit, lists_differ, is_empty, least_in, has_undeclared, declares_twice, has_wrong_lengths, wants_member, wanted_of, empty_domain, division_domain, statement_fault}
 use Rattle.typed_model.specs.declared.fault.TypeFault.TheVariants.{Undeclared, Kind as KindFault, Twice, Lengths, EmptyDomain, DivDomain}
-use Rattle.typed_model.specs.Signatures.{signature}
-use Rattle.typed_model.specs.declared.statement.Statement.{Statement}
+use Rattle.model_meaning.specs.Signatures.{signature}
+use Rattle.model_meaning.specs.declared.statement.Statement.{Statement}
 use Rattle.typed_model.specs.Items.{number_in, terms_in}
-use Rattle.typed_model.specs.WellTyped.{IsInt, IsTruthAt, IsNumberAt, TruthFits, NumberFits, TruthsFit, NumbersFit, IsAtLeast}
+use Rattle.model_meaning.specs.WellTyped.{IsInt, IsTruthAt, IsNumberAt, TruthFits, NumberFits, TruthsFit, NumbersFit, IsAtLeast}
 
 pub not_less : (x m : ℤ) → int_lt x m ≡ false → m ≤ℤ x
 not_less x m e = grind (arith, ints)
@@ -38,11 +39,13 @@ before_at n (d ∷ ds) (suc p) P h s = before_at n ds p P h.1 s
 
 bool_is : (k : Kind) → is_bool (Some k) ≡ true → k ≡ kind.Bool
 bool_is kind.Bool e = refl
-bool_is (kind.Int low high) e = absurd (false≢true e)
+bool_is (kind.Range low high) e = absurd (false≢true e)
+bool_is (kind.Listed values) e = absurd (false≢true e)
 
 int_is : (k : Kind) → is_int (Some k) ≡ true → IsInt k
 int_is kind.Bool e = absurd (false≢true e)
-int_is (kind.Int low high) e = tt
+int_is (kind.Range low high) e = tt
+int_is (kind.Listed values) e = tt
 
 bool_found : (o : Option Decl) → is_bool (option_map (λ d. d.kind) o) ≡ true → IsSomeAnd o (λ d. d.kind ≡ kind.Bool)
 bool_found None e = absurd (false≢true e)
@@ -145,7 +148,7 @@ or_parts true y e = absurd (false≢true (sym e))
 or_parts false y e = (refl, e)
 
 pub record NoFault (ds : List Decl) (s : Statement) (args : List Arg) : Type 0 where
-  pub fits : fit ds (signature s) args ≡ true
+  pub fits : fit ds (wanted_of s (slice_get args 1)) args ≡ true
   pub once : declares_twice ds s args ≡ false
   pub lengths : lists_differ (slice_get args 0) (slice_get args 1) ≡ false
   pub member : (wants_member s && is_empty (slice_get args 0)) ≡ false
@@ -155,11 +158,11 @@ pub record NoFault (ds : List Decl) (s : Statement) (args : List Arg) : Type 0 w
 pub no_fault : (n : ℕ) (ds : List Decl) (s : Statement) (args : List Arg) → statement_fault n ds s args ≡ None → NoFault ds s args
 unfolding statement_fault
 no_fault n ds s args e =
-    let a = passed_by (has_undeclared ds (signature s) args) (Undeclared n) (if not (fit ds (signature s) args) then Some (KindFault n) else (if declares_twice ds s args then Some (Twice n) else (if has_wrong_lengths s args then Some (Lengths n) else (if empty_domain s args then Some (EmptyDomain n) else (if division_domain ds s args then Some (DivDomain n) else None))))) e in
-    let b = passed_by (not (fit ds (signature s) args)) (KindFault n) (if declares_twice ds s args then Some (Twice n) else (if has_wrong_lengths s args then Some (Lengths n) else (if empty_domain s args then Some (EmptyDomain n) else (if division_domain ds s args then Some (DivDomain n) else None)))) a.1 in
+    let a = passed_by (has_undeclared ds (wanted_of s (slice_get args 1)) args) (Undeclared n) (if not (fit ds (wanted_of s (slice_get args 1)) args) then Some (KindFault n) else (if declares_twice ds s args then Some (Twice n) else (if has_wrong_lengths s args then Some (Lengths n) else (if empty_domain s args then Some (EmptyDomain n) else (if division_domain ds s args then Some (DivDomain n) else None))))) e in
+    let b = passed_by (not (fit ds (wanted_of s (slice_get args 1)) args)) (KindFault n) (if declares_twice ds s args then Some (Twice n) else (if has_wrong_lengths s args then Some (Lengths n) else (if empty_domain s args then Some (EmptyDomain n) else (if division_domain ds s args then Some (DivDomain n) else None)))) a.1 in
     let c = passed_by (declares_twice ds s args) (Twice n) (if has_wrong_lengths s args then Some (Lengths n) else (if empty_domain s args then Some (EmptyDomain n) else (if division_domain ds s args then Some (DivDomain n) else None))) b.1 in
     let d = passed_by (has_wrong_lengths s args) (Lengths n) (if empty_domain s args then Some (EmptyDomain n) else (if division_domain ds s args then Some (DivDomain n) else None)) c.1 in
     let m = or_parts (lists_differ (slice_get args 0) (slice_get args 1)) (wants_member s && is_empty (slice_get args 0)) d.0 in
     let f = passed_by (empty_domain s args) (EmptyDomain n) (if division_domain ds s args then Some (DivDomain n) else None) d.1 in
     let g = passed_by (division_domain ds s args) (DivDomain n) None f.1 in
-    record { fits = not_false (fit ds (signature s) args) b.0; once = c.0; lengths = m.0; member = m.1; domain = f.0; division = g.0 }
+    record { fits = not_false (fit ds (wanted_of s (slice_get args 1)) args) b.0; once = c.0; lengths = m.0; member = m.1; domain = f.0; division = g.0 }

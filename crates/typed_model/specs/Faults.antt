@@ -8,18 +8,19 @@ use Rattle.bumblebee_reader.specs.declared.syntax.Item.{Item}
 use Rattle.bumblebee_reader.specs.declared.syntax.Item.TheVariants as item
 use Rattle.bumblebee_reader.specs.declared.syntax.GoalKind.{GoalKind}
 use Rattle.bumblebee_reader.specs.declared.syntax.GoalKind.TheVariants as goal_kind
-use Rattle.typed_model.specs.declared.signature.Wanted.{Wanted}
-use Rattle.typed_model.specs.declared.signature.Wanted.TheVariants as wanted
-use Rattle.typed_model.specs.declared.statement.Arithmetic.TheVariants as arithmetic
-use Rattle.typed_model.specs.declared.statement.Aggregate.TheVariants as aggregate
-use Rattle.typed_model.specs.declared.statement.Statement.{Statement}
-use Rattle.typed_model.specs.declared.statement.Statement.TheVariants as statement
-use Rattle.typed_model.specs.declared.model.Decl.{Decl}
+use Rattle.model_meaning.specs.declared.wanted.Wanted.{Wanted}
+use Rattle.model_meaning.specs.declared.wanted.Wanted.TheVariants as wanted
+use Rattle.model_meaning.specs.declared.statement.Arithmetic.TheVariants as arithmetic
+use Rattle.model_meaning.specs.declared.statement.Aggregate.TheVariants as aggregate
+use Rattle.model_meaning.specs.declared.statement.Statement.{Statement}
+use Rattle.model_meaning.specs.declared.statement.Statement.TheVariants as statement
+use Rattle.model_meaning.specs.declared.model.Decl.{Decl}
 use Rattle.typed_model.specs.declared.fault.TypeFault.{TypeFault}
 use Rattle.typed_model.specs.declared.fault.TypeFault.TheVariants.{NoGoal, Unknown, Undeclared, Kind, Twice, Lengths, EmptyDomain, DivDomain}
-use Rattle.typed_model.specs.Names.{statement_of}
-use Rattle.typed_model.specs.Signatures.{signature}
-use Rattle.typed_model.specs.Scope.{place_of, kind_of, is_bool, is_int, low_of, is_constant, is_unknown, numeral, term_unknown, terms_unknown, is_truth, is_number, is_numeral, all_truths, all_numbers, all_numerals}
+use Rattle.model_meaning.specs.Names.{statement_of}
+use Rattle.model_meaning.specs.Signatures.{signature}
+use Rattle.model_meaning.specs.Places.{place_of, low_of, is_constant}
+use Rattle.typed_model.specs.Scope.{kind_of, is_bool, is_int, is_unknown, numeral, term_unknown, terms_unknown, is_truth, is_number, is_numeral, all_truths, all_numbers, all_numerals}
 
 -- Undeclared: a name in the arguments isn't declared.
 
@@ -39,7 +40,13 @@ has_undeclared ds ws [] = false
 has_undeclared ds [] (a ∷ rest) = arg_unknown ds a || has_undeclared ds [] rest
 has_undeclared ds (w ∷ ws) (a ∷ rest) = (not (declares w a) && arg_unknown ds a) || has_undeclared ds ws rest
 
--- Kind: the number of arguments, or the kind of one, is another than the signature's.
+-- what a call's arguments are to be: those of its statement's signature, but that a list of numerals may stand in place of
+-- the two numerals of `new_int`
+abbrev pub wanted_of : Statement → Option Arg → List Wanted
+wanted_of statement.NewInt (Some (arg.Many ts)) = wanted.NewName ∷ wanted.Numerals ∷ []
+wanted_of s a = signature s
+
+-- Kind: the number of arguments, or the kind of one, is another than what is wanted.
 
 abbrev pub one_fits : List Decl → Wanted → Term → Bool
 one_fits ds wanted.Truth t = is_truth ds t
@@ -97,7 +104,7 @@ is_empty a = false
 abbrev pub has_wrong_lengths : Statement → List Arg → Bool
 has_wrong_lengths s args = lists_differ (slice_get args 0) (slice_get args 1) || (wants_member s && is_empty (slice_get args 0))
 
--- EmptyDomain: the least value of a new integer is above its greatest.
+-- EmptyDomain: the least value of a new integer is above its greatest, or none is listed.
 
 abbrev pub numeral_in : Option Arg → ℤ
 numeral_in (Some (arg.One t)) = numeral t
@@ -107,8 +114,12 @@ abbrev pub declares_integer : Statement → Bool
 declares_integer statement.NewInt = true
 declares_integer s = false
 
+abbrev pub lacks_value : Option Arg → Option Arg → Bool
+lacks_value (Some (arg.Many ts)) b = length ts == 0
+lacks_value a b = int_lt (numeral_in b) (numeral_in a)
+
 abbrev pub empty_domain : Statement → List Arg → Bool
-empty_domain s args = declares_integer s && int_lt (numeral_in (slice_get args 2)) (numeral_in (slice_get args 1))
+empty_domain s args = declares_integer s && lacks_value (slice_get args 1) (slice_get args 2)
 
 -- DivDomain: the dividend may be below 0, or the divisor below 1.
 
@@ -129,28 +140,36 @@ division_domain ds s args = divides s && (int_lt (least_in ds (slice_get args 0)
 -- a declaration or statement, item n, among the names declared so far
 unfoldable pub statement_fault : ℕ → List Decl → Statement → List Arg → Option TypeFault
 statement_fault n ds s args =
-    if has_undeclared ds (signature s) args then Some (Undeclared n) else
-    (if not (fit ds (signature s) args) then Some (Kind n) else
+    if has_undeclared ds (wanted_of s (slice_get args 1)) args then Some (Undeclared n) else
+    (if not (fit ds (wanted_of s (slice_get args 1)) args) then Some (Kind n) else
     (if declares_twice ds s args then Some (Twice n) else
     (if has_wrong_lengths s args then Some (Lengths n) else
     (if empty_domain s args then Some (EmptyDomain n) else
     (if division_domain ds s args then Some (DivDomain n) else None)))))
 
--- the objective is an integer name where one is sought, and is left out where any solution serves
+-- an objective is an integer name where one is sought, and is left out where any solution serves; a second one may be
+-- left out
 abbrev pub objective_unknown : List Decl → Option (List ℕ) → Bool
 objective_unknown ds None = false
 objective_unknown ds (Some name) = is_unknown ds name
 
-abbrev pub objective_fits : List Decl → GoalKind → Option (List ℕ) → Bool
-objective_fits ds goal_kind.Satisfy None = true
-objective_fits ds goal_kind.Satisfy (Some name) = false
-objective_fits ds k None = false
-objective_fits ds k (Some name) = is_int (kind_of name ds)
+abbrev pub second_fits : List Decl → Option (List ℕ) → Bool
+second_fits ds None = true
+second_fits ds (Some name) = is_int (kind_of name ds)
 
-abbrev pub goal_fault : ℕ → List Decl → GoalKind → Option (List ℕ) → Option TypeFault
-goal_fault n ds k objective =
-    if objective_unknown ds objective then Some (Undeclared n) else
-    (if not (objective_fits ds k objective) then Some (Kind n) else None)
+abbrev pub objectives_fit : List Decl → GoalKind → Option (List ℕ) → Option (List ℕ) → Bool
+objectives_fit ds goal_kind.Satisfy None None = true
+objectives_fit ds goal_kind.Satisfy None (Some second) = false
+objectives_fit ds goal_kind.Satisfy (Some name) second = false
+objectives_fit ds goal_kind.Minimize None second = false
+objectives_fit ds goal_kind.Minimize (Some name) second = is_int (kind_of name ds) && second_fits ds second
+objectives_fit ds goal_kind.Maximize None second = false
+objectives_fit ds goal_kind.Maximize (Some name) second = is_int (kind_of name ds) && second_fits ds second
+
+abbrev pub goal_fault : ℕ → List Decl → GoalKind → Option (List ℕ) → Option (List ℕ) → Option TypeFault
+goal_fault n ds k objective second =
+    if objective_unknown ds objective || objective_unknown ds second then Some (Undeclared n) else
+    (if not (objectives_fit ds k objective second) then Some (Kind n) else None)
 
 abbrev pub call_fault : ℕ → List Decl → Option Statement → List Arg → Option TypeFault
 call_fault n ds None args = Some (Unknown n)
@@ -160,4 +179,4 @@ call_fault n ds (Some s) args = statement_fault n ds s args
 unfoldable pub item_fault : ℕ → Bool → List Decl → Item → Option TypeFault
 item_fault n true ds i = Some (NoGoal n)
 item_fault n false ds (item.Call name args) = call_fault n ds (statement_of name) args
-item_fault n false ds (item.Goal k objective) = goal_fault n ds k objective
+item_fault n false ds (item.Goal k objective second) = goal_fault n ds k objective second

@@ -9,28 +9,30 @@ use Rattle.bumblebee_reader.specs.declared.syntax.Item.{Item}
 use Rattle.bumblebee_reader.specs.declared.syntax.Item.TheVariants as item
 use Rattle.bumblebee_reader.specs.declared.syntax.GoalKind.{GoalKind}
 use Rattle.bumblebee_reader.specs.declared.syntax.GoalKind.TheVariants as goal_kind
-use Rattle.typed_model.specs.declared.what.BoolTerm.{BoolTerm}
-use Rattle.typed_model.specs.declared.what.BoolTerm.TheVariants as bool_term
-use Rattle.typed_model.specs.declared.what.IntTerm.{IntTerm}
-use Rattle.typed_model.specs.declared.what.IntTerm.TheVariants as int_term
-use Rattle.typed_model.specs.declared.what.What.{What}
-use Rattle.typed_model.specs.declared.what.What.TheVariants.{L3, L4, L5, L6, L7, L8, L9, L10, L11, L12, L13, L14, L15, L16, L17, L18}
-use Rattle.typed_model.specs.declared.statement.AllDifferent.{AllDifferent}
-use Rattle.typed_model.specs.declared.statement.AllDifferent.TheVariants as all_different
-use Rattle.typed_model.specs.declared.statement.Order.{Order}
-use Rattle.typed_model.specs.declared.statement.Statement.{Statement}
-use Rattle.typed_model.specs.declared.statement.Statement.TheVariants as statement
-use Rattle.typed_model.specs.declared.model.Kind.{Kind}
-use Rattle.typed_model.specs.declared.model.Kind.TheVariants as kind
-use Rattle.typed_model.specs.declared.model.Decl.{Decl}
-use Rattle.typed_model.specs.declared.model.Stmt.{Stmt}
-use Rattle.typed_model.specs.declared.model.Goal.{Goal}
-use Rattle.typed_model.specs.declared.model.Goal.TheVariants as goal
-use Rattle.typed_model.specs.declared.model.Model.{Model}
+use Rattle.model_meaning.specs.declared.what.BoolTerm.{BoolTerm}
+use Rattle.model_meaning.specs.declared.what.BoolTerm.TheVariants as bool_term
+use Rattle.model_meaning.specs.declared.what.IntTerm.{IntTerm}
+use Rattle.model_meaning.specs.declared.what.IntTerm.TheVariants as int_term
+use Rattle.model_meaning.specs.declared.what.What.{What}
+use Rattle.model_meaning.specs.declared.what.What.TheVariants.{L3, L4, L5, L6, L7, L8, L9, L10, L11, L12, L13, L14, L15, L16, L17, L18}
+use Rattle.model_meaning.specs.declared.statement.AllDifferent.{AllDifferent}
+use Rattle.model_meaning.specs.declared.statement.AllDifferent.TheVariants as all_different
+use Rattle.model_meaning.specs.declared.statement.Order.{Order}
+use Rattle.model_meaning.specs.declared.statement.Statement.{Statement}
+use Rattle.model_meaning.specs.declared.statement.Statement.TheVariants as statement
+use Rattle.model_meaning.specs.declared.model.Kind.{Kind}
+use Rattle.model_meaning.specs.declared.model.Kind.TheVariants as kind
+use Rattle.model_meaning.specs.declared.model.Decl.{Decl}
+use Rattle.model_meaning.specs.declared.model.Stmt.{Stmt}
+use Rattle.model_meaning.specs.declared.model.Goal.{Goal}
+use Rattle.model_meaning.specs.declared.model.Goal.TheVariants as goal
+use Rattle.model_meaning.specs.declared.model.Model.{Model}
 use Rattle.typed_model.specs.declared.fault.TypeFault.{TypeFault}
 use Rattle.typed_model.specs.declared.fault.TypeFault.TheVariants.{NoGoal, Memory}
-use Rattle.typed_model.specs.Names.{statement_of, first_of}
-use Rattle.typed_model.specs.Scope.{place_of, place_or_zero, truth, number, numeral}
+use Rattle.value_lists.specs.ValueLists.{different}
+use Rattle.model_meaning.specs.Names.{statement_of, first_of}
+use Rattle.model_meaning.specs.Places.{place_of}
+use Rattle.typed_model.specs.Scope.{place_or_zero, truth, number, numeral}
 use Rattle.typed_model.specs.Faults.{numeral_in, item_fault}
 
 -- Arguments of a wanted kind. Where an argument is of another, the answer is a constant or empty, which
@@ -71,10 +73,15 @@ abbrev pub declare : ℕ → List Decl → Option (List ℕ) → Kind → List D
 declare n ds None k = []
 declare n ds (Some name) k = declare_name n ds name k
 
+-- the domain that `new_int` declares: the listed values, or those from a numeral to another
+abbrev pub domain_in : Option Arg → Option Arg → Kind
+domain_in (Some (arg.Many ts)) b = kind.Listed (different (map numeral ts))
+domain_in a b = kind.Range (numeral_in a) (numeral_in b)
+
 unfoldable pub declare_by : ℕ → List Decl → Statement → List Arg → List Decl
 declare_by n ds statement.NewBool args = declare n ds (name_in (slice_get args 0)) kind.Bool
-declare_by n ds statement.NewInt args = declare n ds (name_in (slice_get args 0)) (kind.Int (numeral_in (slice_get args 1)) (numeral_in (slice_get args 2)))
-declare_by n ds statement.BoolToInt args = declare n ds (name_in (slice_get args 1)) (kind.Int (pos 0) (pos 1))
+declare_by n ds statement.NewInt args = declare n ds (name_in (slice_get args 0)) (domain_in (slice_get args 1) (slice_get args 2))
+declare_by n ds statement.BoolToInt args = declare n ds (name_in (slice_get args 1)) (kind.Range (pos 0) (pos 1))
 declare_by n ds s args = []
 
 abbrev pub declare_if : ℕ → List Decl → Option Statement → List Arg → List Decl
@@ -83,7 +90,7 @@ declare_if n ds (Some s) args = declare_by n ds s args
 
 abbrev pub declarations_of : ℕ → List Decl → Item → List Decl
 declarations_of n ds (item.Call name args) = declare_if n ds (statement_of name) args
-declarations_of n ds (item.Goal k objective) = []
+declarations_of n ds (item.Goal k objective second) = []
 
 -- What an item states, among the declarations that there are after it.
 
@@ -132,7 +139,7 @@ state_if n ds name (Some s) args = state n (what_of ds name s args)
 
 abbrev pub statements_of : ℕ → List Decl → Item → List Stmt
 statements_of n ds (item.Call name args) = state_if n ds name (statement_of name) args
-statements_of n ds (item.Goal k objective) = []
+statements_of n ds (item.Goal k objective second) = []
 
 -- What a goal seeks.
 
@@ -140,14 +147,19 @@ abbrev pub objective_place : List Decl → Option (List ℕ) → ℕ
 objective_place ds None = 0
 objective_place ds (Some name) = place_or_zero name ds
 
-abbrev pub goal_of : List Decl → GoalKind → Option (List ℕ) → Goal
-goal_of ds goal_kind.Satisfy objective = goal.Satisfy
-goal_of ds goal_kind.Minimize objective = goal.Minimize (objective_place ds objective)
-goal_of ds goal_kind.Maximize objective = goal.Maximize (objective_place ds objective)
+-- the place of a second objective, where there is one
+abbrev pub second_place : List Decl → Option (List ℕ) → Option ℕ
+second_place ds None = None
+second_place ds (Some name) = Some (place_or_zero name ds)
+
+abbrev pub goal_of : List Decl → GoalKind → Option (List ℕ) → Option (List ℕ) → Goal
+goal_of ds goal_kind.Satisfy objective second = goal.Satisfy
+goal_of ds goal_kind.Minimize objective second = goal.Minimize (objective_place ds objective) (second_place ds second)
+goal_of ds goal_kind.Maximize objective second = goal.Maximize (objective_place ds objective) (second_place ds second)
 
 abbrev pub goal_after : Option Goal → List Decl → Item → Option Goal
 goal_after g ds (item.Call name args) = g
-goal_after g ds (item.Goal k objective) = Some (goal_of ds k objective)
+goal_after g ds (item.Goal k objective second) = Some (goal_of ds k objective second)
 
 -- From item n on, where ds are the declarations before it and g is the goal so far.
 

@@ -1,77 +1,12 @@
--- Numbers in the limit of numerals, and lists in that of a text. A text's numerals are in the first, and its terms are
--- fewer than its bytes; so a model's numbers, domains and lists are in both.
-use Rattle.std.specs.Prelude.{ℕ, ◌≤◌, ℤ, pos, unsigned_abs, List, [], ◌∷◌, slice_index_or}
+-- The numerals of a text in their limit.
+use Rattle.std.specs.Prelude.{List, [], ◌∷◌}
 use Rattle.bumblebee_reader.specs.declared.syntax.Term.{Term}
 use Rattle.bumblebee_reader.specs.declared.syntax.Term.TheVariants as term
 use Rattle.bumblebee_reader.specs.declared.syntax.Arg.{Arg}
 use Rattle.bumblebee_reader.specs.declared.syntax.Arg.TheVariants as arg
 use Rattle.bumblebee_reader.specs.declared.syntax.Item.{Item}
 use Rattle.bumblebee_reader.specs.declared.syntax.Item.TheVariants as item
-use Rattle.typed_model.specs.declared.what.IntTerm.{IntTerm}
-use Rattle.typed_model.specs.declared.what.IntTerm.TheVariants as int_term
-use Rattle.typed_model.specs.declared.what.What.{What}
-use Rattle.typed_model.specs.declared.model.Kind.{Kind}
-use Rattle.typed_model.specs.declared.model.Kind.TheVariants as kind
-use Rattle.typed_model.specs.declared.model.Decl.{Decl}
-use Rattle.typed_model.specs.declared.model.Stmt.{Stmt}
-use Rattle.typed_model.specs.declared.model.Model.{Model}
-use Rattle.typed_model.specs.Terms.{value_at}
-use Rattle.typed_model.specs.Arguments.{Argument, Truth, Number, Truths, Numbers, Numerals, arguments_of}
-use Rattle.typed_model.specs.Sizes.{what_members}
-
--- a number's absolute value is at most the limit
-abbrev pub InLimit : ℤ → Type 0
-InLimit n = unsigned_abs n ≤ 1073741824
-
--- each number of a list
-abbrev pub AllInLimit : List ℤ → Type 0
-AllInLimit ns = (k : ℕ) → InLimit (value_at ns k)
-
--- the number of a term, where it is a numeral
-abbrev pub TermInLimit : IntTerm → Type 0
-TermInLimit (int_term.Number n) = InLimit n
-TermInLimit (int_term.Of place) = Unit {0}
-
--- each term of a list
-abbrev pub TermsInLimit : List IntTerm → Type 0
-TermsInLimit terms = (k : ℕ) → TermInLimit (slice_index_or terms k (int_term.Number (pos 0)))
-
--- each number of an argument
-abbrev pub ArgumentInLimit : Argument → Type 0
-ArgumentInLimit (Truth x) = Unit {0}
-ArgumentInLimit (Number i) = TermInLimit i
-ArgumentInLimit (Truths xs) = Unit {0}
-ArgumentInLimit (Numbers is) = TermsInLimit is
-ArgumentInLimit (Numerals cs) = AllInLimit cs
-
-abbrev pub ArgumentsInLimit : List Argument → Type 0
-ArgumentsInLimit [] = Unit {0}
-ArgumentsInLimit (a ∷ rest) = ArgumentInLimit a × ArgumentsInLimit rest
-
--- each number of a statement, and how many members its lists have
-abbrev pub WhatInLimit : What → Type 0
-WhatInLimit w = ArgumentsInLimit (arguments_of w) × (what_members w ≤ 16777216)
-
--- each statement
-abbrev pub StmtsInLimit : List Stmt → Type 0
-StmtsInLimit [] = Unit {0}
-StmtsInLimit (s ∷ ss) = WhatInLimit s.what × StmtsInLimit ss
-
--- the bounds of a domain
-abbrev pub KindInLimit : Kind → Type 0
-KindInLimit kind.Bool = Unit {0}
-KindInLimit (kind.Int low high) = InLimit low × InLimit high
-
--- the bounds of each domain
-abbrev pub DeclsInLimit : List Decl → Type 0
-DeclsInLimit [] = Unit {0}
-DeclsInLimit (d ∷ ds) = KindInLimit d.kind × DeclsInLimit ds
-
--- each number of a model, the bounds of each of its domains, and the members of each of its statements
-abbrev pub InLimits : Model → Type 0
-InLimits model = DeclsInLimit model.decls × StmtsInLimit model.stmts
-
--- The same of the items of a text.
+use Rattle.model_meaning.specs.Limits.{InLimit}
 
 abbrev pub TextTermInLimit : Term → Type 0
 TextTermInLimit (term.Plain name) = Unit {0}
@@ -92,7 +27,7 @@ ArgsInLimit (a ∷ rest) = ArgInLimit a × ArgsInLimit rest
 
 abbrev pub ItemInLimit : Item → Type 0
 ItemInLimit (item.Call name args) = ArgsInLimit args
-ItemInLimit (item.Goal k objective) = Unit {0}
+ItemInLimit (item.Goal k objective second) = Unit {0}
 
 -- each numeral of the items
 abbrev pub ItemsInLimit : List Item → Type 0

@@ -1,23 +1,24 @@
 -- The names that are declared so far, and what terms mean among them.
-use Rattle.std.specs.Prelude.{ℕ, ℤ, pos, Bool, true, false, not, ◌&&◌, ◌||◌, List, [], ◌∷◌, codes, position, slice_get, Option, Some, None, is_some, if◌then◌else◌}
+use Rattle.std.specs.Prelude.{ℕ, ℤ, pos, Bool, true, false, not, ◌&&◌, ◌||◌, List, [], ◌∷◌, slice_get, Option, Some, None, is_some, if◌then◌else◌}
 use Rattle.std.specs.Option.{option_and_then, option_map, option_map_or}
-use Rattle.std.specs.Str.{bytes_eq}
 use Rattle.bumblebee_reader.specs.declared.syntax.Term.{Term}
 use Rattle.bumblebee_reader.specs.declared.syntax.Term.TheVariants as term
-use Rattle.typed_model.specs.declared.model.Kind.{Kind}
-use Rattle.typed_model.specs.declared.model.Kind.TheVariants as kind
-use Rattle.typed_model.specs.declared.model.Decl.{Decl}
+use Rattle.model_meaning.specs.declared.model.Kind.{Kind}
+use Rattle.model_meaning.specs.declared.model.Kind.TheVariants as kind
+use Rattle.model_meaning.specs.declared.model.Decl.{Decl}
 use Rattle.typed_model.specs.declared.scope.Sort.{Sort}
 use Rattle.typed_model.specs.declared.scope.Sort.TheVariants as sort
-use Rattle.typed_model.specs.declared.what.BoolTerm.{BoolTerm}
-use Rattle.typed_model.specs.declared.what.BoolTerm.TheVariants as bool_term
-use Rattle.typed_model.specs.declared.what.IntTerm.{IntTerm}
-use Rattle.typed_model.specs.declared.what.IntTerm.TheVariants as int_term
+use Rattle.model_meaning.specs.Places.{place_of, is_true, is_constant}
+use Rattle.model_meaning.specs.declared.what.BoolTerm.{BoolTerm}
+use Rattle.model_meaning.specs.declared.what.BoolTerm.TheVariants as bool_term
+use Rattle.model_meaning.specs.declared.what.IntTerm.{IntTerm}
+use Rattle.model_meaning.specs.declared.what.IntTerm.TheVariants as int_term
 
 -- the sort of what is declared, and what is kept of a declaration for look-up
 abbrev pub sort_of : Kind → Sort
 sort_of kind.Bool = sort.Bool
-sort_of (kind.Int low high) = sort.Int
+sort_of (kind.Range low high) = sort.Int
+sort_of (kind.Listed values) = sort.Int
 
 abbrev pub entry_of : Decl → List ℕ × Sort
 entry_of d = (d.name, sort_of d.kind)
@@ -33,10 +34,6 @@ sort_is_int None = false
 sort_is_int (Some sort.Bool) = false
 sort_is_int (Some sort.Int) = true
 
--- the place of a declared name
-abbrev pub place_of : List ℕ → List Decl → Option ℕ
-place_of name ds = position (λ d. bytes_eq name d.name) ds
-
 -- what a declared name stands for
 abbrev pub kind_of : List ℕ → List Decl → Option Kind
 kind_of name ds = option_and_then (λ p. option_map (λ d. d.kind) (slice_get ds p)) (place_of name ds)
@@ -45,25 +42,14 @@ kind_of name ds = option_and_then (λ p. option_map (λ d. d.kind) (slice_get ds
 abbrev pub is_bool : Option Kind → Bool
 is_bool None = false
 is_bool (Some kind.Bool) = true
-is_bool (Some (kind.Int low high)) = false
+is_bool (Some (kind.Range low high)) = false
+is_bool (Some (kind.Listed values)) = false
 
 abbrev pub is_int : Option Kind → Bool
 is_int None = false
 is_int (Some kind.Bool) = false
-is_int (Some (kind.Int low high)) = true
-
--- the least value of a declared integer
-abbrev pub low_of : Option Kind → ℤ
-low_of None = pos 0
-low_of (Some kind.Bool) = pos 0
-low_of (Some (kind.Int low high)) = low
-
--- `true` and `false` are no names
-abbrev pub is_true : List ℕ → Bool
-is_true name = bytes_eq name (codes "true")
-
-abbrev pub is_constant : List ℕ → Bool
-is_constant name = is_true name || bytes_eq name (codes "false")
+is_int (Some (kind.Range low high)) = true
+is_int (Some (kind.Listed values)) = true
 
 -- a name other than `true` and `false` that isn't declared
 abbrev pub is_unknown : List Decl → List ℕ → Bool

@@ -1,11 +1,11 @@
 -- What is kept of items that are taken one after the other.
 use Rattle.std.specs.Prelude.{◌≡◌, ℕ, ◌+◌, List, [], ◌∷◌, ◌++◌, length, Option, None, is_some}
 use Rattle.bumblebee_reader.specs.declared.syntax.Item.{Item}
-use Rattle.typed_model.specs.declared.model.Decl.{Decl}
-use Rattle.typed_model.specs.declared.model.Stmt.{Stmt}
-use Rattle.typed_model.specs.declared.model.Goal.{Goal}
+use Rattle.model_meaning.specs.declared.model.Decl.{Decl}
+use Rattle.model_meaning.specs.declared.model.Stmt.{Stmt}
+use Rattle.model_meaning.specs.declared.model.Goal.{Goal}
 use Rattle.typed_model.specs.declared.fault.TypeFault.{TypeFault}
-use Rattle.typed_model.specs.Names.{first_of}
+use Rattle.model_meaning.specs.Names.{first_of}
 use Rattle.typed_model.specs.Faults.{item_fault}
 use Rattle.typed_model.specs.Items.{declarations_of, statements_of, goal_after, decls_from, stmts_from, goal_from}
 

@@ -5,9 +5,9 @@ ghost use Rattle.typed_model.specs.Scope.{truth, number, numeral};
 ghost use Rattle.typed_model.specs.Items.{truth_in, number_in, terms_in, truths_in, numbers_in, numerals_in};
 
 use crate::scope::{Scope, numeral};
-use crate::what::{BoolTerm, IntTerm};
 use bee_list::{Apart, Sequence};
 use bumblebee_reader::{Arg, Name, Term};
+use model_meaning::{BoolTerm, IntTerm};
 use std::alloc::{AllocError, Global};
 
 /// A call of a text, among the declarations of a scope.
@@ -52,7 +52,7 @@ fn numbers(alloc: Global, scope: &Scope, terms: &[Term]) -> Result<Sequence<IntT
 }
 
 /// The numerals of a list.
-fn numerals(alloc: Global, terms: &[Term]) -> Result<Sequence<i64>, AllocError>
+pub fn numerals(alloc: Global, terms: &[Term]) -> Result<Sequence<i64>, AllocError>
     ensures { IfOk result (λ xs. xs ≡ map numeral terms.now) }
 {
     let mut members = Vec::with_capacity(alloc, terms.len())?;

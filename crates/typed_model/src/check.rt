@@ -2,12 +2,12 @@
 
 ghost use Rattle.std.specs.Prelude.{◌≡◌, IfOk, IfErr, None};
 ghost use Rattle.typed_model.specs.Items.{first_fault, model_of, IsFaultOf};
-ghost use Rattle.typed_model.specs.WellTyped.{WellTyped};
+ghost use Rattle.model_meaning.specs.WellTyped.{WellTyped};
 
 use crate::fault::TypeFault;
-use crate::model::Model;
 use crate::taking::Typing;
 use bumblebee_reader::Syntax;
+use model_meaning::Model;
 use std::alloc::Global;
 
 /// The model of a text's items, or the first fault: that of the first item that has one. It is linear in

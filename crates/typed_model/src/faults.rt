@@ -1,17 +1,17 @@
 //! The first fault of an item.
 
 ghost use Rattle.std.specs.Prelude.{◌≡◌, slice_get};
-ghost use Rattle.typed_model.specs.Scope.{place_of};
-ghost use Rattle.typed_model.specs.Faults.{declares, arg_unknown, has_undeclared, one_fits, many_fit, arg_fits, fit, is_declaration, names_declared, declares_twice, lists_differ, wants_member, is_empty, has_wrong_lengths, numeral_in, declares_integer, empty_domain, divides, least_in, division_domain, statement_fault, objective_unknown, objective_fits, goal_fault, item_fault};
+ghost use Rattle.model_meaning.specs.Places.{place_of};
+ghost use Rattle.typed_model.specs.Faults.{declares, arg_unknown, has_undeclared, one_fits, many_fit, arg_fits, fit, is_declaration, names_declared, declares_twice, lists_differ, wants_member, is_empty, has_wrong_lengths, numeral_in, declares_integer, wanted_of, lacks_value, empty_domain, divides, least_in, division_domain, statement_fault, objective_unknown, second_fits, objectives_fit, goal_fault, item_fault};
 
 use crate::fault::TypeFault;
 use crate::names::statement_of;
 use crate::scope::{
     Scope, all_numerals, is_bool, is_constant, is_int, is_numeral, low_of, numeral,
 };
-use crate::signature::{Wanted, signature};
-use crate::statement::{Aggregate, Arithmetic, Statement};
+use crate::signature::signature;
 use bumblebee_reader::{Arg, GoalKind, Item, Name, Term};
+use model_meaning::{Aggregate, Arithmetic, Statement, Wanted};
 
 /// Whether an argument is a plain name in a declaring place.
 fn declares(wanted: Wanted, arg: &Arg) -> bool
@@ -93,6 +93,17 @@ fn arg_fits(scope: &Scope, wanted: Wanted, arg: &Arg) -> bool
     match arg {
         Arg::One(term) => one_fits(scope, wanted, term),
         Arg::Many(terms) => many_fit(scope, wanted, terms.as_slice()),
+    }
+}
+
+/// What a call's arguments are to be: those of its statement's signature, but that a list of numerals may stand in place
+/// of the two numerals of `new_int`.
+fn wanted_of(statement: Statement, args: &[Arg]) -> &'static [Wanted]
+    ensures { result.now ≡ wanted_of statement (slice_get args.now 1) }
+{
+    match (statement, args.get(1)) {
+        (Statement::NewInt, Some(Arg::Many(_))) => &[Wanted::NewName, Wanted::Numerals],
+        _ => signature(statement),
     }
 }
 
@@ -186,12 +197,22 @@ pub fn numeral_in(args: &[Arg], at: usize) -> i64
     }
 }
 
-/// Whether the least value of a new integer is above its greatest.
+/// Whether the least value of a new integer is above its greatest, or none is listed.
+fn lacks_value(args: &[Arg]) -> bool
+    ensures { result ≡ lacks_value (slice_get args.now 1) (slice_get args.now 2) }
+{
+    match args.get(1) {
+        Some(Arg::Many(terms)) => terms.is_empty(),
+        _ => numeral_in(args, 2) < numeral_in(args, 1),
+    }
+}
+
+/// Whether a new integer has no value.
 fn empty_domain(statement: Statement, args: &[Arg]) -> bool
     ensures { result ≡ empty_domain statement args.now }
 {
     match statement {
-        Statement::NewInt => numeral_in(args, 2) < numeral_in(args, 1),
+        Statement::NewInt => lacks_value(args),
         _ => false,
     }
 }
@@ -233,10 +254,11 @@ fn statement_fault(
 ) -> Option<TypeFault>
     ensures { result ≡ statement_fault number scope.now statement args.now }
 {
-    if has_undeclared(scope, signature(statement), args) {
+    let wanted = wanted_of(statement, args);
+    if has_undeclared(scope, wanted, args) {
         return Some(TypeFault::Undeclared(number));
     }
-    if !fit(scope, signature(statement), args) {
+    if !fit(scope, wanted, args) {
         return Some(TypeFault::Kind(number));
     }
     if declares_twice(scope, statement, args) {
@@ -264,15 +286,32 @@ fn objective_unknown(scope: &Scope, objective: &Option<Name>) -> bool
     }
 }
 
-/// Whether an objective is an integer name where one is sought, and is left out otherwise.
-fn objective_fits(scope: &Scope, kind: GoalKind, objective: &Option<Name>) -> bool
-    ensures { result ≡ objective_fits scope.now kind objective.now }
+/// Whether a second objective is an integer name, where there is one.
+fn second_fits(scope: &Scope, second: &Option<Name>) -> bool
+    ensures { result ≡ second_fits scope.now second.now }
 {
-    match (kind, objective) {
-        (GoalKind::Satisfy, None) => true,
-        (GoalKind::Minimize, Some(name)) => is_int(scope.kind_of(name)),
-        (GoalKind::Maximize, Some(name)) => is_int(scope.kind_of(name)),
-        _ => false,
+    match second {
+        Some(name) => is_int(scope.kind_of(name)),
+        None => true,
+    }
+}
+
+/// Whether an objective is an integer name where one is sought, and is left out otherwise, and a second one is an
+/// integer name where there is one.
+fn objectives_fit(
+    scope: &Scope,
+    kind: GoalKind,
+    objective: &Option<Name>,
+    second: &Option<Name>,
+) -> bool
+    ensures { result ≡ objectives_fit scope.now kind objective.now second.now }
+{
+    match kind {
+        GoalKind::Satisfy => objective.is_none() && second.is_none(),
+        GoalKind::Minimize | GoalKind::Maximize => match objective {
+            Some(name) => is_int(scope.kind_of(name)) && second_fits(scope, second),
+            None => false,
+        },
     }
 }
 
@@ -282,13 +321,14 @@ fn goal_fault(
     number: u64,
     kind: GoalKind,
     objective: &Option<Name>,
+    second: &Option<Name>,
 ) -> Option<TypeFault>
-    ensures { result ≡ goal_fault number scope.now kind objective.now }
+    ensures { result ≡ goal_fault number scope.now kind objective.now second.now }
 {
-    if objective_unknown(scope, objective) {
+    if objective_unknown(scope, objective) || objective_unknown(scope, second) {
         return Some(TypeFault::Undeclared(number));
     }
-    if !objective_fits(scope, kind, objective) {
+    if !objectives_fit(scope, kind, objective, second) {
         return Some(TypeFault::Kind(number));
     }
     None
@@ -307,6 +347,10 @@ pub fn item_fault(scope: &Scope, number: u64, after_goal: bool, item: &Item) -> 
             Some(statement) => statement_fault(scope, number, statement, args.as_slice()),
             None => Some(TypeFault::Unknown(number)),
         },
-        Item::Goal { kind, objective } => goal_fault(scope, number, *kind, objective),
+        Item::Goal {
+            kind,
+            objective,
+            second,
+        } => goal_fault(scope, number, *kind, objective, second),
     }
 }

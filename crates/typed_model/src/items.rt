@@ -1,15 +1,15 @@
 //! What an item declares, states and seeks.
 
-ghost use Rattle.std.specs.Prelude.{◌≡◌, ◌++◌, OnOk, slice_get};
+ghost use Rattle.std.specs.Prelude.{◌≡◌, ◌++◌, OnOk, IfOk, slice_get};
 ghost use Rattle.std.specs.Option.{option_copied};
-ghost use Rattle.typed_model.specs.Items.{declare_name, declare, declare_by, objective_place, goal_of, name_in};
+ghost use Rattle.typed_model.specs.Items.{declare_name, declare, domain_in, declare_by, objective_place, second_place, goal_of, name_in};
 
+use crate::call::numerals;
 use crate::faults::numeral_in;
-use crate::model::{Decl, Goal, Kind};
 use crate::scope::Scope;
-use crate::statement::Statement;
 use bumblebee_reader::{Arg, GoalKind, Name, Term};
-use std::alloc::AllocError;
+use model_meaning::{Decl, Goal, Kind, Statement, Values};
+use std::alloc::{AllocError, Global};
 
 /// The name that an argument is.
 fn name_in(args: &[Arg], at: usize) -> Option<&Name>
@@ -48,9 +48,28 @@ fn declare(
     }
 }
 
+/// The domain that `new_int` declares: the listed values, or those from a numeral to another.
+fn domain_in(alloc: Global, args: &[Arg]) -> Result<Kind, AllocError>
+    ensures { IfOk result (λ kind. kind ≡ domain_in (slice_get args.now 1) (slice_get args.now 2)) }
+{
+    match args.get(1) {
+        Some(Arg::Many(terms)) => {
+            let listed = numerals(alloc, terms.as_slice())?.into_vec();
+            Ok(Kind::Listed {
+                values: Values::from_vec(alloc, listed)?,
+            })
+        }
+        _ => Ok(Kind::Range {
+            low: numeral_in(args, 1),
+            high: numeral_in(args, 2),
+        }),
+    }
+}
+
 /// Declares what item `number` declares.
 #[tactic(auto, unfolding(crate::specs::Items::declare_by))]
 pub fn declare_by(
+    alloc: Global,
     scope: &mut Scope,
     number: u64,
     statement: Statement,
@@ -61,11 +80,10 @@ pub fn declare_by(
     match statement {
         Statement::NewBool => declare(scope, number, args, 0, Kind::Bool),
         Statement::NewInt => {
-            let low = numeral_in(args, 1);
-            let high = numeral_in(args, 2);
-            declare(scope, number, args, 0, Kind::Int { low, high })
+            let kind = domain_in(alloc, args)?;
+            declare(scope, number, args, 0, kind)
         }
-        Statement::BoolToInt => declare(scope, number, args, 1, Kind::Int { low: 0, high: 1 }),
+        Statement::BoolToInt => declare(scope, number, args, 1, Kind::Range { low: 0, high: 1 }),
         _ => Ok(()),
     }
 }
@@ -80,13 +98,34 @@ fn objective_place(scope: &Scope, objective: &Option<Name>) -> usize
     }
 }
 
+/// The place of a second objective, where there is one.
+fn second_place(scope: &Scope, second: &Option<Name>) -> Option<usize>
+    ensures { result ≡ second_place scope.now second.now }
+{
+    match second {
+        Some(name) => Some(scope.place_or_zero(name)),
+        None => None,
+    }
+}
+
 /// What a goal seeks.
-pub fn goal_of(scope: &Scope, kind: GoalKind, objective: &Option<Name>) -> Goal
-    ensures { result ≡ goal_of scope.now kind objective.now }
+pub fn goal_of(
+    scope: &Scope,
+    kind: GoalKind,
+    objective: &Option<Name>,
+    second: &Option<Name>,
+) -> Goal
+    ensures { result ≡ goal_of scope.now kind objective.now second.now }
 {
     match kind {
         GoalKind::Satisfy => Goal::Satisfy,
-        GoalKind::Minimize => Goal::Minimize(objective_place(scope, objective)),
-        GoalKind::Maximize => Goal::Maximize(objective_place(scope, objective)),
+        GoalKind::Minimize => Goal::Minimize(
+            objective_place(scope, objective),
+            second_place(scope, second),
+        ),
+        GoalKind::Maximize => Goal::Maximize(
+            objective_place(scope, objective),
+            second_place(scope, second),
+        ),
     }
 }

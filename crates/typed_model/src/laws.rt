@@ -1,12 +1,7 @@
 //! Facts about the definitions that crates above may use. Each is the contract of a function that does
 //! nothing.
 
-ghost use Rattle.typed_model.specs.Laws.{HoldsLaw, TypingLaw, LimitLaw, SizeLaw, TextSizeLaw, BehindLaw};
-
-/// The test of a statement is true exactly where the statement holds.
-pub fn holds_law()
-    ensures { HoldsLaw }
-{}
+ghost use Rattle.typed_model.specs.Laws.{TypingLaw, LimitLaw, SizeLaw, TextSizeLaw};
 
 /// The model of items without a fault is well typed.
 pub fn typing_law()
@@ -24,9 +19,4 @@ pub fn limit_law()
 pub fn size_law()
     ensures items { SizeLaw }
     ensures text { TextSizeLaw }
-{}
-
-/// A statement fits, and holds, the same when declarations and values are added behind.
-pub fn behind_law()
-    ensures { BehindLaw }
 {}

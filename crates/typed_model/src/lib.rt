@@ -1,38 +1,27 @@
-//! Models: which texts are models, what each statement means, and which assignments are solutions.
+//! Which texts are models: from the items of a text to its model, or to the first fault.
 //!
-//! The table of statements stands in `specs/Holds.antt`, line by line, and the faults of a text in
-//! `specs/Faults.antt`.
+//! The faults of a text stand in `specs/Faults.antt`, its model in `specs/Items.antt`. What a model means is said in
+//! `model_meaning`, whose names are handed on here.
 #![tactic(auto)]
 
-mod arguments;
-mod booleans;
 mod call;
 mod check;
 mod fault;
 mod faults;
-mod integers;
 mod items;
 mod laws;
-mod limits;
-mod lists;
-mod model;
 mod names;
 mod scope;
 mod signature;
-mod solutions;
-mod statement;
 mod statements;
-mod table;
 mod taking;
-mod terms;
-mod what;
 
 pub use check::check_types;
 pub use fault::TypeFault;
-pub use laws::{behind_law, holds_law, limit_law, size_law, typing_law};
-pub use limits::in_limits;
-pub use model::{Assignment, Decl, Goal, Kind, Model, Stmt};
-pub use solutions::{first_broken, holds, in_domains};
-pub use statement::{Aggregate, AllDifferent, Arithmetic, Operator, Order, Relation};
+pub use laws::{limit_law, size_law, typing_law};
+pub use model_meaning::{
+    Aggregate, AllDifferent, Arithmetic, Assignment, BoolTerm, Decl, Goal, IntTerm, Kind, Model,
+    Operator, Order, Relation, Stmt, Values, What, behind_law, first_broken, holds, holds_law,
+    in_domains, in_limits,
+};
 pub use taking::Typing;
-pub use what::{BoolTerm, IntTerm, What};

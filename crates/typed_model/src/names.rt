@@ -3,9 +3,9 @@
 ghost use Rattle.std.specs.Prelude.{◌≡◌};
 ghost use Rattle.std.specs.Option.{option_copied, option_and_then};
 ghost use Rattle.std.specs.Str.{bytes_eq};
-ghost use Rattle.typed_model.specs.Names.{after, between, relation_of, operator_of, arithmetic_of, aggregate_of, all_different_of, order_of, lone_statement, operator_statement, relation_statement, operation_statement, statement_of};
+ghost use Rattle.model_meaning.specs.Names.{after, between, relation_of, operator_of, arithmetic_of, aggregate_of, all_different_of, order_of, lone_statement, operator_statement, relation_statement, operation_statement, statement_of};
 
-use crate::statement::{Aggregate, AllDifferent, Arithmetic, Operator, Order, Relation, Statement};
+use model_meaning::{Aggregate, AllDifferent, Arithmetic, Operator, Order, Relation, Statement};
 
 /// What follows a front of a name.
 fn after<'a>(name: &'a [u8], front: &[u8]) -> Option<&'a [u8]>
@@ -174,7 +174,7 @@ fn order_of(of_booleans: bool, word: Option<&[u8]>) -> Option<Order>
 }
 
 /// The names that stand alone in their lines.
-#[tactic(auto, unfolding(crate::specs::Names::lone_statement))]
+#[tactic(auto, unfolding(model_meaning::specs::Names::lone_statement))]
 fn lone_statement(name: &[u8]) -> Option<Statement>
     ensures { result ≡ lone_statement name.now }
 {
@@ -197,7 +197,7 @@ fn lone_statement(name: &[u8]) -> Option<Statement>
 }
 
 /// The statements whose names have an operator.
-#[tactic(auto, unfolding(crate::specs::Names::operator_statement))]
+#[tactic(auto, unfolding(model_meaning::specs::Names::operator_statement))]
 fn operator_statement(name: &[u8]) -> Option<Statement>
     ensures { result ≡ operator_statement name.now }
 {
@@ -212,7 +212,7 @@ fn operator_statement(name: &[u8]) -> Option<Statement>
 }
 
 /// The statements whose names have a relation.
-#[tactic(auto, unfolding(crate::specs::Names::relation_statement))]
+#[tactic(auto, unfolding(model_meaning::specs::Names::relation_statement))]
 fn relation_statement(name: &[u8]) -> Option<Statement>
     ensures { result ≡ relation_statement name.now }
 {
@@ -236,7 +236,7 @@ fn relation_statement(name: &[u8]) -> Option<Statement>
 }
 
 /// The statements whose names have an operation, a kind of all-different, or an order.
-#[tactic(auto, unfolding(crate::specs::Names::operation_statement))]
+#[tactic(auto, unfolding(model_meaning::specs::Names::operation_statement))]
 fn operation_statement(name: &[u8]) -> Option<Statement>
     ensures { result ≡ operation_statement name.now }
 {
@@ -258,7 +258,7 @@ fn operation_statement(name: &[u8]) -> Option<Statement>
 
 /// The declaration or statement of a name; `None` where the language has none of that name. It compares
 /// the name with some thirty words.
-#[tactic(auto, unfolding(crate::specs::Names::statement_of))]
+#[tactic(auto, unfolding(model_meaning::specs::Names::statement_of))]
 pub fn statement_of(name: &[u8]) -> Option<Statement>
     ensures { result ≡ statement_of name.now }
 {

@@ -2,13 +2,13 @@
 
 ghost use Rattle.std.specs.Prelude.{◌≡◌, ◌∷◌, ◌++◌, [], ℤ, List, pos, OnOk, IfOk, None, is_some, slice_get};
 ghost use Rattle.std.specs.Option.{option_copied, option_map};
-ghost use Rattle.typed_model.specs.Scope.{sort_of, sort_is_bool, sort_is_int, place_of, kind_of, is_bool, is_int, low_of, is_true, is_constant, is_unknown, term_unknown, terms_unknown, is_truth, is_number, is_numeral, all_truths, all_numbers, all_numerals, place_or_zero, truth, number, numeral};
+ghost use Rattle.model_meaning.specs.Places.{place_of, low_of, is_true, is_constant};
+ghost use Rattle.typed_model.specs.Scope.{sort_of, sort_is_bool, sort_is_int, kind_of, is_bool, is_int, is_unknown, term_unknown, terms_unknown, is_truth, is_number, is_numeral, all_truths, all_numbers, all_numerals, place_or_zero, truth, number, numeral};
 
-use crate::model::{Decl, Kind};
 use crate::names::is;
-use crate::what::{BoolTerm, IntTerm};
 use bumblebee_reader::{Name, Term};
 use indexmap::IndexMap;
+use model_meaning::{BoolTerm, Decl, IntTerm, Kind};
 use std::alloc::{AllocError, Global};
 use std::marker::Model;
 
@@ -30,7 +30,7 @@ pub struct Scope {
 
 impl Model for Scope {
     ghost use Rattle.std.specs.Prelude.{◌≡◌, List, map};
-    ghost use Rattle.typed_model.specs.declared.model.Decl.{Decl};
+    ghost use Rattle.model_meaning.specs.declared.model.Decl.{Decl};
     ghost use Rattle.typed_model.specs.Scope.{entry_of};
 
     ghost Value = { List Decl };
@@ -59,12 +59,12 @@ impl Scope {
     }
 
     /// What a name stands for. It reads the declaration, which its sort alone does without.
-    pub fn kind_of(&self, name: &Name) -> Option<Kind>
-        ensures { result ≡ kind_of name.now self.now }
+    pub fn kind_of(&self, name: &Name) -> Option<&Kind>
+        ensures { option_copied result ≡ kind_of name.now self.now }
     {
         match self.place_of(name) {
             Some(place) => match self.decls.get(place) {
-                Some(decl) => Some(decl.kind),
+                Some(decl) => Some(&decl.kind),
                 None => None,
             },
             None => None,
@@ -223,7 +223,7 @@ impl Scope {
     {
         let name = decl.name.clone()?;
         self.decls.reserve(1)?;
-        self.sorts.insert(name, sort_of(decl.kind))?;
+        self.sorts.insert(name, sort_of(&decl.kind))?;
         self.decls.push(decl).unwrap();
         Ok(())
     }
@@ -239,12 +239,12 @@ impl Scope {
 }
 
 /// The sort of what is declared.
-fn sort_of(kind: Kind) -> Sort
-    ensures { result ≡ sort_of kind }
+fn sort_of(kind: &Kind) -> Sort
+    ensures { result ≡ sort_of kind.now }
 {
     match kind {
         Kind::Bool => Sort::Bool,
-        Kind::Int { .. } => Sort::Int,
+        Kind::Range { .. } | Kind::Listed { .. } => Sort::Int,
     }
 }
 
@@ -277,26 +277,27 @@ pub fn is_constant(name: &[u8]) -> bool
 }
 
 /// Whether it is a declared Boolean.
-pub fn is_bool(kind: Option<Kind>) -> bool
-    ensures { result ≡ is_bool kind }
+pub fn is_bool(kind: Option<&Kind>) -> bool
+    ensures { result ≡ is_bool (option_copied kind.entry) }
 {
     matches!(kind, Some(Kind::Bool))
 }
 
 /// Whether it is a declared integer.
-pub fn is_int(kind: Option<Kind>) -> bool
-    ensures { result ≡ is_int kind }
+pub fn is_int(kind: Option<&Kind>) -> bool
+    ensures { result ≡ is_int (option_copied kind.entry) }
 {
-    matches!(kind, Some(Kind::Int { .. }))
+    matches!(kind, Some(Kind::Range { .. } | Kind::Listed { .. }))
 }
 
-/// The least value of a declared integer.
-pub fn low_of(kind: Option<Kind>) -> i64
-    ensures { result ≡ low_of kind }
+/// The least value of what is declared.
+pub fn low_of(kind: Option<&Kind>) -> i64
+    ensures { result ≡ low_of (option_copied kind.entry) }
 {
     match kind {
-        Some(Kind::Int { low, .. }) => low,
-        _ => 0,
+        Some(Kind::Range { low, .. }) => *low,
+        Some(Kind::Listed { values }) => values.least(),
+        Some(Kind::Bool) | None => 0,
     }
 }
 

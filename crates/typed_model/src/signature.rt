@@ -1,30 +1,9 @@
 //! Which arguments each declaration and statement takes.
 
 ghost use Rattle.std.specs.Prelude.{◌≡◌};
-ghost use Rattle.typed_model.specs.Signatures.{signature, all_different_signature, lex_signature};
+ghost use Rattle.model_meaning.specs.Signatures.{signature, all_different_signature, lex_signature};
 
-use crate::statement::{AllDifferent, Order, Statement};
-
-/// What an argument is to be.
-#[derive(Clone, Copy, Debug)]
-pub enum Wanted {
-    /// A Boolean term.
-    Truth,
-    /// An integer term.
-    Number,
-    /// A numeral.
-    Numeral,
-    /// A list of Boolean terms.
-    Truths,
-    /// A list of integer terms.
-    Numbers,
-    /// A list of numerals.
-    Numerals,
-    /// A name that is declared here.
-    NewName,
-    /// An integer that is declared, or else is declared here.
-    NewInteger,
-}
+use model_meaning::{AllDifferent, Order, Statement, Wanted};
 
 /// The arguments of a statement that members differ.
 fn all_different_signature(all_different: AllDifferent) -> &'static [Wanted]

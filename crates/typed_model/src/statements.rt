@@ -1,13 +1,14 @@
 //! The statement of an item.
 
 ghost use Rattle.std.specs.Prelude.{◌≡◌, IfOk, slice_get, None, Some, if◌then◌else◌};
-ghost use Rattle.typed_model.specs.declared.what.What.TheVariants.{L3, L4, L5, L6, L7, L8, L9, L10, L11, L12, L13, L14, L15, L16, L18};
+ghost use Rattle.model_meaning.specs.declared.what.What.TheVariants.{L3, L4, L5, L6, L7, L8, L9, L10, L11, L12, L13, L14, L15, L16, L18};
 ghost use Rattle.typed_model.specs.Items.{truth_in, number_in, truths_in, numbers_in, numerals_in, all_different_what, order_what, what_of};
 
 use crate::call::Call;
-use crate::statement::{Aggregate, AllDifferent, Arithmetic, Operator, Order, Relation, Statement};
-use crate::what::{BoolTerm, What};
 use bee_list::Apart;
+use model_meaning::{
+    Aggregate, AllDifferent, Arithmetic, BoolTerm, Operator, Order, Relation, Statement, What,
+};
 use std::alloc::AllocError;
 
 /// The statement `bool2int`.

@@ -4,22 +4,21 @@ ghost use Rattle.std.specs.Prelude.{◌≡◌, ◌++◌, ◌∷◌, [], List, No
 ghost use Rattle.bumblebee_reader.specs.declared.syntax.Item.{Item};
 ghost use Rattle.typed_model.specs.declared.fault.TypeFault.{TypeFault};
 ghost use Rattle.typed_model.specs.declared.fault.TypeFault.TheVariants.{Memory};
-ghost use Rattle.typed_model.specs.Names.{statement_of};
+ghost use Rattle.model_meaning.specs.Names.{statement_of};
 ghost use Rattle.typed_model.specs.Items.{declare_if, declarations_of, what_of, state, state_if, statements_of, goal_after, first_fault, model_of, IsFaultOf};
 ghost use Rattle.typed_model.specs.Taken.{HasTaken, with_item};
-ghost use Rattle.typed_model.specs.WellTyped.{WellTyped};
+ghost use Rattle.model_meaning.specs.WellTyped.{WellTyped};
 
 use crate::call::Call;
 use crate::fault::TypeFault;
 use crate::faults::item_fault;
 use crate::items::{declare_by, goal_of};
-use crate::model::{Goal, Model, Stmt};
 use crate::names::statement_of;
 use crate::scope::Scope;
-use crate::statement::Statement;
 use crate::statements::what_of;
 use bee_list::Sequence;
 use bumblebee_reader::{Arg, Item, Name};
+use model_meaning::{Goal, Model, Statement, Stmt};
 use std::alloc::{AllocError, Global};
 
 /// Adds what a call states, where it states anything.
@@ -63,7 +62,7 @@ fn take_call(
 {
     match statement_of(name.as_bytes()) {
         Some(statement) => {
-            declare_by(scope, number, statement, args)?;
+            declare_by(alloc, scope, number, statement, args)?;
             state(alloc, scope, stmts, number, name, statement, args)
         }
         None => Ok(()),
@@ -85,8 +84,12 @@ fn take_item(
 {
     match item {
         Item::Call { name, args } => take_call(alloc, scope, stmts, number, name, args.as_slice()),
-        Item::Goal { kind, objective } => {
-            *goal = Some(goal_of(scope, *kind, objective));
+        Item::Goal {
+            kind,
+            objective,
+            second,
+        } => {
+            *goal = Some(goal_of(scope, *kind, objective, second));
             Ok(())
         }
     }

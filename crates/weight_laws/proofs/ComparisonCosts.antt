@@ -9,8 +9,8 @@ use Rattle.core_cost.proofs.Monotone.{leq-mono, eq-mono, count-mono}
 use Rattle.core_forms.specs.Shapes.{steps_of}
 use Rattle.core_forms.specs.Cost.{cost_of}
 use Rattle.core_forms.specs.Cores.{costs_of}
-use Rattle.typed_model.specs.declared.statement.Relation.{Relation}
-use Rattle.typed_model.specs.declared.statement.Relation.TheVariants as relation
+use Rattle.model_meaning.specs.declared.statement.Relation.{Relation}
+use Rattle.model_meaning.specs.declared.statement.Relation.TheVariants as relation
 use Rattle.statement_lower.specs.Comparison.{comparison_core}
 use Rattle.statement_lower.specs.Lines.{fresh_range, compared_count, count_made}
 use Rattle.model_weight.specs.Comparisons.{weight_of_comparison, weight_of_fresh_count, weight_of_count}

@@ -1,5 +1,5 @@
 -- The integers of terms have the shapes that weights count.
-use Rattle.std.proofs.Common.{◌≡◌, ℕ, zero, suc, ◌*◌, ◌<◌, ◌≤◌, ℤ, pos, negsuc, Bool, true, false, ◌+ℤ◌, List, [], ◌∷◌, ◌++◌, length, map, Some, ◌⊎◌, inl, inr, refl, ap, ◌∙◌, arith}
+use Rattle.std.proofs.Common.{◌≡◌, ℕ, zero, suc, ◌*◌, ◌<◌, ◌≤◌, ℤ, pos, negsuc, Bool, true, false, ◌+ℤ◌, List, [], ◌∷◌, ◌++◌, length, map, Some, ◌⊎◌, inl, inr, refl, ap, subst, ◌∙◌, arith}
 use Rattle.std.specs.Prelude.{slice_get, ◌-ℤ◌, reverse}
 use Rattle.std.specs.Bool.{Decides}
 use Rattle.std.specs.Ordering.{int_eq}
@@ -21,18 +21,21 @@ use Rattle.core_cost.specs.Sums.{unit_steps}
 use Rattle.core_cost.specs.Relations.{IsShape, IsWithin}
 use Rattle.core_forms.specs.Shapes.{shape_of}
 use Rattle.core_forms.proofs.ShapeLaws.{IsShape-of}
-use Rattle.typed_model.specs.declared.model.Decl.{Decl}
-use Rattle.typed_model.specs.declared.model.Kind.{Kind}
-use Rattle.typed_model.specs.declared.model.Kind.TheVariants as kind
-use Rattle.typed_model.specs.declared.what.IntTerm.{IntTerm}
-use Rattle.typed_model.specs.declared.what.IntTerm.TheVariants as int_term
-use Rattle.typed_model.specs.Domains.{at_least_zero}
-use Rattle.typed_model.specs.WellTyped.{IsInt, IsNumberAt, NumberFits}
+use Rattle.model_meaning.specs.declared.model.Decl.{Decl}
+use Rattle.model_meaning.specs.declared.model.Kind.{Kind}
+use Rattle.model_meaning.specs.declared.model.Kind.TheVariants as kind
+use Rattle.model_meaning.specs.declared.what.IntTerm.{IntTerm}
+use Rattle.model_meaning.specs.declared.what.IntTerm.TheVariants as int_term
+use Rattle.model_meaning.specs.Domains.{at_least_zero}
+use Rattle.model_meaning.specs.WellTyped.{IsInt, IsNumberAt, NumberFits}
 use Rattle.statement_lower.specs.Terms.{integer_at, integer_of}
 use Rattle.statement_lower.specs.Entries.{EntryFits, EntriesFit}
 use Rattle.model_weight.specs.Shapes as counted
 use Rattle.model_weight.specs.Linear.{scaled}
-use Rattle.model_weight.proofs.Spans.{units-span}
+use Rattle.std.proofs.lemmas.Nat.Gcd.{dvd_refl, dvd-zero}
+use Prim.Native.Nat.{◌∣◌}
+use Rattle.value_lists.specs.ValueLists.{first_of, last_of, shape_of as listed_shape}
+use Rattle.model_weight.proofs.Spans.{units-span, units-steps, kind-steps}
 use Rattle.weight_laws.proofs.Divisors.{divides-negated, divides-multiplied, divides-units, steps-few}
 
 -- An integer of a domain: its steps rise, and its least and greatest value are the domain's.
@@ -41,12 +44,19 @@ pub record IsOf (low high : ℤ) (a : OrdInt) : Type 0 where
   pub least : low_of a ≡ low
   pub greatest : high_of a ≡ high
 
+-- an integer of a listed domain, which has its shape
+pub record IsListed (vs : List ℤ) (a : OrdInt) : Type 0 where
+  pub of : IsOf (first_of vs) (last_of vs) a
+  pub shape : shape_of a ≡ listed_shape vs
+
 -- a Boolean has an atom, an integer an integer of its domain
 abbrev pub EntryIs : Kind → MapValue → Type 0
 EntryIs kind.Bool (entry.Bool a) = Unit {0}
 EntryIs kind.Bool (entry.Int a) = ⊥
-EntryIs (kind.Int low high) (entry.Bool a) = ⊥
-EntryIs (kind.Int low high) (entry.Int a) = IsOf low high a
+EntryIs (kind.Range low high) (entry.Bool a) = ⊥
+EntryIs (kind.Range low high) (entry.Int a) = IsOf low high a
+EntryIs (kind.Listed vs) (entry.Bool a) = ⊥
+EntryIs (kind.Listed vs) (entry.Int a) = IsListed vs a
 
 -- one entry for each declaration
 abbrev pub EntriesAre : List Decl → List MapValue → Type 0
@@ -58,8 +68,11 @@ EntriesAre (d ∷ ds) (e ∷ entries) = EntryIs d.kind e × EntriesAre ds entrie
 entry-fits : (n : ℕ) (k : Kind) (e : MapValue) → EntryFits n k e → EntryIs k e
 entry-fits n kind.Bool (entry.Bool a) h = tt
 entry-fits n kind.Bool (entry.Int a) h = absurd h
-entry-fits n (kind.Int low high) (entry.Bool a) h = absurd h
-entry-fits n (kind.Int low high) (entry.Int a) h = record { rising = h.sound.1; least = h.least; greatest = h.greatest }
+entry-fits n (kind.Range low high) (entry.Bool a) h = absurd h
+entry-fits n (kind.Range low high) (entry.Int a) h = record { rising = h.sound.1; least = h.least; greatest = h.greatest }
+entry-fits n (kind.Listed vs) (entry.Bool a) h = absurd h
+entry-fits n (kind.Listed vs) (entry.Int a) h =
+    record { of = record { rising = h.fits.sound.1; least = h.fits.least; greatest = h.fits.greatest }; shape = h.shape }
 
 pub entries-fit : (n : ℕ) (ds : List Decl) (entries : List MapValue) → EntriesFit n ds entries → EntriesAre ds entries
 entries-fit n [] [] h = tt
@@ -67,38 +80,59 @@ entries-fit n [] (e ∷ entries) h = absurd h
 entries-fit n (d ∷ ds) [] h = absurd h
 entries-fit n (d ∷ ds) (e ∷ entries) h = (entry-fits n d.kind e h.0, entries-fit n ds entries h.1)
 
--- the values of an integer are among a domain's: its steps rise, its span is at most the domain's, its greatest value is no
+-- of unit steps
+within-units : (n : ℕ) (a : OrdInt) → AreRising a.steps → weights a.steps ≤ n → IsWithin (shape_of a) (unit_steps n)
+within-units n a up h = record {
+  steps = omega (arith, units-steps n, steps-few a.steps up, h);
+  span = omega (arith, units-span n, h);
+  divisor = divides-units n a.steps up h;
+}
+
+within-itself : (s t : Shape) → s ≡ t → IsWithin s t
+within-itself s t e = subst (IsWithin s) e (record { steps = omega arith; span = omega arith; divisor = dvd_refl s.divisor })
+
+-- the values of an integer are among a domain's: its steps rise, its shape is within the domain's, its greatest value is no
 -- more, and its least value, as far as it is not negative, is the domain's or 0
 pub record IsIn (k : Kind) (a : OrdInt) : Type 0 where
   pub rising : AreRising a.steps
-  pub span : weights a.steps ≤ counted.steps_of k
+  pub within : IsWithin (shape_of a) (counted.shape_of k)
   pub least : (at_least_zero (low_of a) ≡ counted.least_of k) ⊎ (at_least_zero (low_of a) ≡ 0)
   pub greatest : at_least_zero (high_of a) ≤ counted.greatest_of k
 
-constant-in : (z : ℤ) → IsIn (kind.Int z z) (constant_of z)
+constant-in : (z : ℤ) → IsIn (kind.Range z z) (constant_of z)
 constant-in z = record {
   rising = tt;
-  span = omega arith;
+  within = within-units (at_least_zero (z -ℤ z)) (constant_of z) tt (omega arith);
   least = inl refl;
   greatest = let e : z +ℤ pos 0 ≡ z = omega (arith, ints) in rw e (omega arith);
 }
 
 -- where there is no integer, there is the constant 0
+nothing-within : (s : Shape) → s.divisor ∣ 0 → IsWithin (shape_of (constant_of (pos 0))) s
+nothing-within s h = record { steps = omega arith; span = omega arith; divisor = h }
+
 nothing-in : (k : Kind) → IsIn k (constant_of (pos 0))
-nothing-in k = record { rising = tt; span = omega arith; least = inr refl; greatest = omega arith }
+nothing-in k = record { rising = tt; within = nothing-within (counted.shape_of k) (dvd-zero (counted.shape_of k).divisor); least = inr refl; greatest = omega arith }
 
 entry-in : (k : Kind) (e : MapValue) → EntryIs k e → IsIn k (integer_at (Some e))
 entry-in kind.Bool (entry.Bool a) h = nothing-in kind.Bool
 entry-in kind.Bool (entry.Int a) h = absurd h
-entry-in (kind.Int low high) (entry.Bool a) h = absurd h
-entry-in (kind.Int low high) (entry.Int a) h =
+entry-in (kind.Range low high) (entry.Bool a) h = absurd h
+entry-in (kind.Range low high) (entry.Int a) h =
     let span : high -ℤ low ≡ pos (weights a.steps) = omega (arith, ints, h.least, h.greatest) in
     record {
       rising = h.rising;
-      span = rw span (omega arith);
+      within = within-units (at_least_zero (high -ℤ low)) a h.rising (rw span (omega arith));
       least = inl (ap at_least_zero h.least);
       greatest = rw h.greatest (omega arith);
     }
+entry-in (kind.Listed vs) (entry.Bool a) h = absurd h
+entry-in (kind.Listed vs) (entry.Int a) h = record {
+  rising = h.of.rising;
+  within = within-itself (shape_of a) (listed_shape vs) h.shape;
+  least = inl (ap at_least_zero h.of.least);
+  greatest = rw (h.of.greatest) (omega arith);
+}
 
 at-in : (ds more : List Decl) (entries : List MapValue) (p : ℕ) → EntriesAre ds entries → IsIn (counted.domain_at (slice_get (ds ++ more) p)) (integer_at (slice_get entries p))
 at-in [] more [] p h = nothing-in (counted.domain_at (slice_get more p))
@@ -113,27 +147,9 @@ integer-in ds more entries h (int_term.Number z) = constant-in z
 integer-in ds more entries h (int_term.Of p) = at-in ds more entries p h
 
 pub steps-in : (k : Kind) (a : OrdInt) → IsIn k a → length a.steps ≤ counted.steps_of k
-steps-in k a h = omega (arith, h.span, steps-few a.steps h.rising)
-
--- the integer of a well-typed term has the span of its domain
-span-entry : (k : Kind) (e : MapValue) → EntryIs k e → IsInt k → weights (integer_at (Some e)).steps ≡ counted.steps_of k
-span-entry kind.Bool e h i = absurd i
-span-entry (kind.Int low high) (entry.Bool a) h i = absurd h
-span-entry (kind.Int low high) (entry.Int a) h i =
-    let span : high -ℤ low ≡ pos (weights a.steps) = omega (arith, ints, h.least, h.greatest) in rw span refl
-
-span-at : (n : ℕ) (ds more : List Decl) (entries : List MapValue) (p : ℕ) → EntriesAre ds entries → IsNumberAt ds n p
-    → weights (integer_at (slice_get entries p)).steps ≡ counted.steps_of (counted.domain_at (slice_get (ds ++ more) p))
-span-at n [] more entries p h k = absurd k
-span-at n (d ∷ ds) more [] p h k = absurd h
-span-at n (d ∷ ds) more (e ∷ entries) zero h k = span-entry d.kind e h.0 k.1
-span-at n (d ∷ ds) more (e ∷ entries) (suc p) h k = span-at n ds more entries p h.1 k
-
-pub span-integer : (n : ℕ) (ds more : List Decl) (entries : List MapValue) → EntriesAre ds entries → (i : IntTerm) → NumberFits ds n i
-    → weights (integer_of entries i).steps ≡ counted.steps_in (ds ++ more) i
-span-integer n ds more entries h (int_term.Number z) k =
-    let none : z -ℤ z ≡ pos 0 = omega (arith, ints) in rw none refl
-span-integer n ds more entries h (int_term.Of p) k = span-at n ds more entries p h k
+steps-in k a h =
+    let within = h.within.steps in
+    omega (arith, within, kind-steps k)
 
 -- An integer is like a shape: its own is within it, and it has a step where the shape has one.
 pub record IsLike (a : OrdInt) (s : Shape) : Type 0 where
@@ -144,20 +160,8 @@ pub record IsLike (a : OrdInt) (s : Shape) : Type 0 where
 pub like-shape : (a : OrdInt) (s : Shape) → IsLike a s → IsShape (shape_of a)
 like-shape a s h = IsShape-of a h.rising
 
--- of unit steps
-units-steps : (n : ℕ) → (unit_steps n).steps ≡ n
-units-steps zero = refl
-units-steps (suc n) = refl
-
-within-units : (n : ℕ) (a : OrdInt) → AreRising a.steps → weights a.steps ≤ n → IsWithin (shape_of a) (unit_steps n)
-within-units n a up h = record {
-  steps = omega (arith, units-steps n, steps-few a.steps up, h);
-  span = omega (arith, units-span n, h);
-  divisor = divides-units n a.steps up h;
-}
-
 pub within-in : (k : Kind) (a : OrdInt) → IsIn k a → IsWithin (shape_of a) (counted.shape_of k)
-within-in k a h = within-units (counted.steps_of k) a h.rising h.span
+within-in k a h = h.within
 
 no-steps : (steps : List (Atom × ℕ)) → 0 < weights steps → 0 < length steps
 no-steps [] h = h
@@ -169,6 +173,33 @@ like-units n a up e = record {
   within = within-units n a up (omega (arith, e));
   some = λ h. no-steps a.steps (omega (arith, e, h, units-steps n));
 }
+
+-- the integer of a well-typed term is like the shape of its domain
+like-entry : (k : Kind) (e : MapValue) → EntryIs k e → IsInt k → IsLike (integer_at (Some e)) (counted.shape_of k)
+like-entry kind.Bool e h i = absurd i
+like-entry (kind.Range low high) (entry.Bool a) h i = absurd h
+like-entry (kind.Range low high) (entry.Int a) h i =
+    let span : high -ℤ low ≡ pos (weights a.steps) = omega (arith, ints, h.least, h.greatest) in
+    like-units (at_least_zero (high -ℤ low)) a h.rising (rw span refl)
+like-entry (kind.Listed vs) (entry.Bool a) h i = absurd h
+like-entry (kind.Listed vs) (entry.Int a) h i = record {
+  rising = h.of.rising;
+  within = within-itself (shape_of a) (listed_shape vs) h.shape;
+  some = λ some. let same : length a.steps ≡ (listed_shape vs).steps = ap (λ (s : Shape). s.steps) h.shape in omega (arith, same, some);
+}
+
+like-at : (n : ℕ) (ds more : List Decl) (entries : List MapValue) (p : ℕ) → EntriesAre ds entries → IsNumberAt ds n p
+    → IsLike (integer_at (slice_get entries p)) (counted.shape_of (counted.domain_at (slice_get (ds ++ more) p)))
+like-at n [] more entries p h k = absurd k
+like-at n (d ∷ ds) more [] p h k = absurd h
+like-at n (d ∷ ds) more (e ∷ entries) zero h k = like-entry d.kind e h.0 k.1
+like-at n (d ∷ ds) more (e ∷ entries) (suc p) h k = like-at n ds more entries p h.1 k
+
+pub like-term : (n : ℕ) (ds more : List Decl) (entries : List MapValue) → EntriesAre ds entries → (i : IntTerm) → NumberFits ds n i
+    → IsLike (integer_of entries i) (counted.shape_in (ds ++ more) i)
+like-term n ds more entries h (int_term.Number z) k =
+    let none : z -ℤ z ≡ pos 0 = omega (arith, ints) in like-units (at_least_zero (z -ℤ z)) (constant_of z) tt (rw none refl)
+like-term n ds more entries h (int_term.Of p) k = like-at n ds more entries p h k
 
 pub like-bit : (a : Atom) → IsLike (integer_of_atom a) (unit_steps 1)
 like-bit a = like-units 1 (integer_of_atom a) (omega arith, tt) refl

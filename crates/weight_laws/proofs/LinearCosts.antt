@@ -9,8 +9,8 @@ use Rattle.core_cost.specs.Sums.{fresh_sum_of}
 use Rattle.core_cost.specs.Relations.{AreWithin}
 use Rattle.core_forms.specs.Shapes.{steps_of, shapes_of}
 use Rattle.core_forms.specs.Cores.{costs_of}
-use Rattle.typed_model.specs.declared.statement.Relation.{Relation}
-use Rattle.typed_model.specs.declared.statement.Relation.TheVariants as relation
+use Rattle.model_meaning.specs.declared.statement.Relation.{Relation}
+use Rattle.model_meaning.specs.declared.statement.Relation.TheVariants as relation
 use Rattle.statement_lower.specs.declared.made.Made.{Made}
 use Rattle.statement_lower.specs.Comparison.{comparison_core}
 use Rattle.statement_lower.specs.Queue.{fresh_sum, vars_behind_sum, last_made, queue_made}

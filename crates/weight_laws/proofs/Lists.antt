@@ -13,16 +13,16 @@ use Rattle.core_cost.specs.declared.shape.Shape.{Shape}
 use Rattle.core_cost.specs.Sums.{unit_steps}
 use Rattle.core_cost.specs.Relations.{AreWithin, AreAtMost, PairsAreAtMost}
 use Rattle.core_forms.specs.Shapes.{steps_of, shapes_of, numbers_of_steps, pairs_of_steps}
-use Rattle.typed_model.specs.declared.model.Decl.{Decl}
-use Rattle.typed_model.specs.declared.what.BoolTerm.{BoolTerm}
-use Rattle.typed_model.specs.declared.what.IntTerm.{IntTerm}
-use Rattle.typed_model.specs.WellTyped.{NumberFits, NumbersFit}
+use Rattle.model_meaning.specs.declared.model.Decl.{Decl}
+use Rattle.model_meaning.specs.declared.what.BoolTerm.{BoolTerm}
+use Rattle.model_meaning.specs.declared.what.IntTerm.{IntTerm}
+use Rattle.model_meaning.specs.WellTyped.{NumberFits, NumbersFit}
 use Rattle.statement_lower.specs.Terms.{atom_of, atoms_of, integer_of, integers_of}
 use Rattle.statement_lower.specs.Linear.{scaled_each, has_steps, with_steps}
 use Rattle.model_weight.specs.Shapes.{steps_in, shape_in, all_steps, domain_of}
 use Rattle.model_weight.specs.Statements.{truth_steps}
 use Rattle.model_weight.specs.Linear as linear
-use Rattle.weight_laws.proofs.Integers.{EntriesAre, IsLike, integer-in, steps-in, span-integer, like-shape, like-units, like-bit, like-scaled, length-negated}
+use Rattle.weight_laws.proofs.Integers.{EntriesAre, IsLike, integer-in, steps-in, like-term, like-shape, like-units, like-bit, like-scaled, length-negated}
 
 -- Numbers of steps.
 
@@ -118,7 +118,7 @@ like-bits entries (c ∷ cs) (x ∷ xs) = (like-scaled c (integer_of_atom (atom_
 
 module _ (n : ℕ) (ds more : List Decl) (entries : List MapValue) (h : EntriesAre ds entries) where
   pub like-integer : (i : IntTerm) → NumberFits ds n i → IsLike (integer_of entries i) (shape_in (ds ++ more) i)
-  like-integer i k = like-units (steps_in (ds ++ more) i) (integer_of entries i) (integer-in ds more entries h i).rising (span-integer n ds more entries h i k)
+  like-integer i k = like-term n ds more entries h i k
 
   pub like-integers : (is : List IntTerm) → NumbersFit ds n is → AreLike (integers_of entries is) (linear.numbers (ds ++ more) is)
   like-integers [] k = tt

@@ -15,10 +15,10 @@ use Rattle.core_forms.specs.Shapes.{steps_of, shape_of, numbers_of_steps}
 use Rattle.core_forms.specs.Cost.{cost_of}
 use Rattle.core_forms.specs.Cores.{costs_of}
 use Rattle.core_forms.proofs.ShapeLaws.{IsShape-of}
-use Rattle.typed_model.specs.declared.model.Kind.{Kind}
-use Rattle.typed_model.specs.declared.statement.Arithmetic.{Arithmetic}
-use Rattle.typed_model.specs.declared.statement.Arithmetic.TheVariants as arithmetic
-use Rattle.typed_model.specs.Domains.{at_least_zero}
+use Rattle.model_meaning.specs.declared.model.Kind.{Kind}
+use Rattle.model_meaning.specs.declared.statement.Arithmetic.{Arithmetic}
+use Rattle.model_meaning.specs.declared.statement.Arithmetic.TheVariants as arithmetic
+use Rattle.model_meaning.specs.Domains.{at_least_zero}
 use Rattle.statement_lower.specs.Lines.{fresh_range, least_core, absolute_core, most_remainder, most_quotient, operation_made}
 use Rattle.model_weight.specs.Shapes as counted
 use Rattle.model_weight.specs.Statements.{steps_of_remainder, steps_of_quotient, weight_of_operation}

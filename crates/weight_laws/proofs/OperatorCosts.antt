@@ -7,8 +7,8 @@ use Rattle.core_cost.specs.ListForms.{cost_of_parity}
 use Rattle.core_forms.specs.declared.form.Core.{Core}
 use Rattle.core_forms.specs.Cost.{cost_of}
 use Rattle.core_forms.specs.Cores.{costs_of}
-use Rattle.typed_model.specs.declared.statement.Operator.{Operator}
-use Rattle.typed_model.specs.declared.statement.Operator.TheVariants as operator
+use Rattle.model_meaning.specs.declared.statement.Operator.{Operator}
+use Rattle.model_meaning.specs.declared.statement.Operator.TheVariants as operator
 use Rattle.statement_lower.specs.Lines.{made_here, equal_core, array_cores, operator_made}
 use Rattle.model_weight.specs.Statements.{weight_of_array, weight_of_reified_array}
 use Rattle.weight_laws.specs.Size.{size_of_made}

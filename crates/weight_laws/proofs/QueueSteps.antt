@@ -10,7 +10,7 @@ use Rattle.core_forms.specs.declared.form.Core.TheVariants as core
 use Rattle.core_forms.specs.Shapes.{steps_of, shape_of, shapes_of}
 use Rattle.core_forms.specs.Cores.{costs_of}
 use Rattle.core_forms.specs.Sums.{sums_of}
-use Rattle.typed_model.specs.declared.statement.Relation.{Relation}
+use Rattle.model_meaning.specs.declared.statement.Relation.{Relation}
 use Rattle.model_weight.specs.Linear.{weight_of_queue}
 use Rattle.weight_laws.proofs.FreshSums.{fresh-sum}
 

@@ -13,20 +13,20 @@ use Rattle.core_forms.specs.declared.form.Core.TheVariants as core
 use Rattle.core_forms.specs.Shapes.{steps_of, pairs_of_steps, numbers_of_steps}
 use Rattle.core_forms.specs.Cost.{cost_of}
 use Rattle.core_forms.specs.Cores.{costs_of}
-use Rattle.typed_model.specs.declared.model.Decl.{Decl}
-use Rattle.typed_model.specs.declared.what.BoolTerm.{BoolTerm}
-use Rattle.typed_model.specs.declared.what.IntTerm.{IntTerm}
-use Rattle.typed_model.specs.declared.what.What.{What}
-use Rattle.typed_model.specs.declared.what.What.TheVariants.{L3, L4, L5, L6, L7, L8, L9, L10, L11, L12, L13, L14, L15, L16, L17, L18}
-use Rattle.typed_model.specs.declared.statement.Operator.{Operator}
-use Rattle.typed_model.specs.declared.statement.Aggregate.{Aggregate}
-use Rattle.typed_model.specs.declared.statement.Aggregate.TheVariants as aggregate
-use Rattle.typed_model.specs.declared.statement.Relation.TheVariants as relation
-use Rattle.typed_model.specs.declared.statement.AllDifferent.{AllDifferent}
-use Rattle.typed_model.specs.declared.statement.AllDifferent.TheVariants as all_different
-use Rattle.typed_model.specs.declared.statement.Order.{Order}
-use Rattle.typed_model.specs.Holds.{terms_or_none}
-use Rattle.typed_model.specs.WellTyped.{NumberFits, NumbersFit, WhatFits}
+use Rattle.model_meaning.specs.declared.model.Decl.{Decl}
+use Rattle.model_meaning.specs.declared.what.BoolTerm.{BoolTerm}
+use Rattle.model_meaning.specs.declared.what.IntTerm.{IntTerm}
+use Rattle.model_meaning.specs.declared.what.What.{What}
+use Rattle.model_meaning.specs.declared.what.What.TheVariants.{L3, L4, L5, L6, L7, L8, L9, L10, L11, L12, L13, L14, L15, L16, L17, L18}
+use Rattle.model_meaning.specs.declared.statement.Operator.{Operator}
+use Rattle.model_meaning.specs.declared.statement.Aggregate.{Aggregate}
+use Rattle.model_meaning.specs.declared.statement.Aggregate.TheVariants as aggregate
+use Rattle.model_meaning.specs.declared.statement.Relation.TheVariants as relation
+use Rattle.model_meaning.specs.declared.statement.AllDifferent.{AllDifferent}
+use Rattle.model_meaning.specs.declared.statement.AllDifferent.TheVariants as all_different
+use Rattle.model_meaning.specs.declared.statement.Order.{Order}
+use Rattle.model_meaning.specs.Holds.{terms_or_none}
+use Rattle.model_meaning.specs.WellTyped.{NumberFits, NumbersFit, WhatFits}
 use Rattle.statement_lower.specs.Terms.{atom_of, atoms_of, integer_of, integers_of, atom_or_true, word_of}
 use Rattle.statement_lower.specs.Comparison.{comparison_core}
 use Rattle.statement_lower.specs.Lines.{made_here, bit_core, scaled_truths, scaled_integers, array_cores, operator_made, least_core, absolute_core, aggregate_made, different_made, order_core, made_of}

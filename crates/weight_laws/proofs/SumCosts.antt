@@ -8,11 +8,11 @@ use Rattle.core_cost.specs.declared.shape.Shape.{Shape}
 use Rattle.core_cost.proofs.ShapeLaws.{sum-mono}
 use Rattle.core_forms.specs.Shapes.{shapes_of}
 use Rattle.core_forms.specs.Cost.{cost_of}
-use Rattle.typed_model.specs.declared.model.Decl.{Decl}
-use Rattle.typed_model.specs.declared.what.BoolTerm.{BoolTerm}
-use Rattle.typed_model.specs.declared.what.IntTerm.{IntTerm}
-use Rattle.typed_model.specs.declared.statement.Relation.TheVariants as relation
-use Rattle.typed_model.specs.WellTyped.{NumberFits, NumbersFit}
+use Rattle.model_meaning.specs.declared.model.Decl.{Decl}
+use Rattle.model_meaning.specs.declared.what.BoolTerm.{BoolTerm}
+use Rattle.model_meaning.specs.declared.what.IntTerm.{IntTerm}
+use Rattle.model_meaning.specs.declared.statement.Relation.TheVariants as relation
+use Rattle.model_meaning.specs.WellTyped.{NumberFits, NumbersFit}
 use Rattle.statement_lower.specs.Terms.{atoms_of, integer_of, integers_of}
 use Rattle.statement_lower.specs.Linear.{scaled_each, with_steps, linear_members, equal_sum}
 use Rattle.model_weight.specs.Shapes.{shape_in}

@@ -2,9 +2,9 @@
 use Rattle.std.specs.Prelude.{ℕ, ◌+◌, ◌≤◌, List, ◌++◌, length}
 use Rattle.order_ints.specs.declared.order_int.MapValue.{MapValue}
 use Rattle.core_forms.specs.Cores.{costs_of}
-use Rattle.typed_model.specs.declared.model.Decl.{Decl}
-use Rattle.typed_model.specs.declared.what.What.{What}
-use Rattle.typed_model.specs.WellTyped.{WhatFits}
+use Rattle.model_meaning.specs.declared.model.Decl.{Decl}
+use Rattle.model_meaning.specs.declared.what.What.{What}
+use Rattle.model_meaning.specs.WellTyped.{WhatFits}
 use Rattle.statement_lower.specs.Entries.{EntriesFit}
 use Rattle.statement_lower.specs.Lines.{made_of}
 use Rattle.model_weight.specs.Statements.{weight_of_what}

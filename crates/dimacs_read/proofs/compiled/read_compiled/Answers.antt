@@ -2,7 +2,7 @@ use Rattle.dimacs_read.proofs.Exact.{text_complete, text_exact}
 use Rattle.dimacs_read.proofs.compiled.read_compiled.Goals as goal
 
 pub returns-clause-complete : goal.returns-clause-complete
-returns-clause-complete c = text_complete c.args.text.now c.read_lines.result c.read_lines.ensures.read c.read_lines.ensures.fault
+returns-clause-complete c = text_complete c.args.text.now c.read_text.result c.read_text.ensures.read c.read_text.ensures.fault
 
 pub returns-clause-exact : goal.returns-clause-exact
-returns-clause-exact c = text_exact c.args.text.now c.read_lines.result c.read_lines.ensures.read c.read_lines.ensures.fault
+returns-clause-exact c = text_exact c.args.text.now c.read_text.result c.read_text.ensures.read c.read_text.ensures.fault

@@ -4,7 +4,7 @@ use Rattle.core_forms.specs.Trimmed.{trimmed_core}
 use Rattle.equation_runs.specs.Turns.{resolved_equation, IsMade}
 use Rattle.index_ring.specs.Lists.{times}
 use Rattle.step_kernel.specs.Kernel.{Kernel, trimmed_at}
-use Rattle.step_kernel.specs.Instances.{is_instance_at}
+use Rattle.core_rules.specs.Instances.{is_instance_at}
 use Rattle.step_kernel.specs.Steps.{equated}
 use Rattle.step_kernel.proofs.Splits.{there-bounds}
 use Rattle.fixpoint_queue.specs.Taken.{HasTaken}

@@ -1,6 +1,6 @@
 use Rattle.std.proofs.Common.{◌≡◌, sym, subst, arith}
 use Rattle.std.specs.Prelude.{◌↔◌}
-use Rattle.typed_model.specs.Solutions.{IsSolution}
+use Rattle.model_meaning.specs.Solutions.{IsSolution}
 use Rattle.model_lower.specs.declared.state.Lowered.{Lowered}
 use Rattle.model_lower.specs.Lowering.{lowered_of}
 use Rattle.model_lower.specs.Decoded.{IsDecoded}

@@ -1,5 +1,5 @@
 use Rattle.std.proofs.Common.{arith, false}
-use Rattle.typed_model.specs.declared.what.BoolTerm.TheVariants as bool_term
+use Rattle.model_meaning.specs.declared.what.BoolTerm.TheVariants as bool_term
 use Rattle.model_weight.proofs.StepLists.{zip-moved, zip-finished}
 use Rattle.model_weight.proofs.lists.pairs_of_truths.Goals as goal
 

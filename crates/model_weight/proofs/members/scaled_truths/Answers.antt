@@ -2,7 +2,7 @@ use Rattle.std.proofs.Common.{◌≡◌, ℤ, pos, false, [], ◌∷◌, ◌++�
 use Rattle.std.proofs.lemmas.Int.{to_z-of_z}
 use Rattle.core_cost.specs.declared.shape.Shape.{Shape}
 use Rattle.core_cost.specs.Sums.{unit_steps}
-use Rattle.typed_model.specs.declared.what.BoolTerm.TheVariants as bool_term
+use Rattle.model_meaning.specs.declared.what.BoolTerm.TheVariants as bool_term
 use Rattle.model_weight.specs.Linear.{scaled, with_steps}
 use Rattle.model_weight.proofs.Spans.{scaled_truths-spans}
 use Rattle.model_weight.proofs.MemberSteps.{scaled_truths-moved, scaled_truths-finished}

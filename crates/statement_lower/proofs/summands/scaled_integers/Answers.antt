@@ -2,7 +2,7 @@ use Rattle.std.proofs.Common.{◌≡◌, ℤ, pos, [], ◌∷◌, ◌++◌, get_
 use Rattle.std.proofs.lemmas.Int.{to_z-of_z}
 use Rattle.order_ints.specs.declared.order_int.OrdInt.{OrdInt}
 use Rattle.order_ints.specs.OrderChange.{scaled_of}
-use Rattle.typed_model.specs.declared.what.IntTerm.TheVariants as int_term
+use Rattle.model_meaning.specs.declared.what.IntTerm.TheVariants as int_term
 use Rattle.statement_lower.specs.Terms.{integer_of}
 use Rattle.statement_lower.proofs.SummandSteps.{integers-moved, integers-finished}
 use Rattle.statement_lower.proofs.summands.scaled_integers.Goals as goal

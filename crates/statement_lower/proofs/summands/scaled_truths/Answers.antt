@@ -3,7 +3,7 @@ use Rattle.std.proofs.lemmas.Int.{to_z-of_z}
 use Rattle.order_ints.specs.declared.order_int.OrdInt.{OrdInt}
 use Rattle.order_ints.specs.OrderMade.{integer_of_atom}
 use Rattle.order_ints.specs.OrderChange.{scaled_of}
-use Rattle.typed_model.specs.declared.what.BoolTerm.TheVariants as bool_term
+use Rattle.model_meaning.specs.declared.what.BoolTerm.TheVariants as bool_term
 use Rattle.statement_lower.specs.Terms.{atom_of}
 use Rattle.statement_lower.proofs.SummandSteps.{truths-moved, truths-finished}
 use Rattle.statement_lower.proofs.summands.scaled_truths.Goals as goal

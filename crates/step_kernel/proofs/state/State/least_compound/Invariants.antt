@@ -1,6 +1,6 @@
 use Rattle.std.proofs.Common.{◌≡◌, ◌+◌, drop}
 use Rattle.core_forms.specs.Trimmed.{trimmed_core}
-use Rattle.step_kernel.specs.Parts.{is_compound_of}
+use Rattle.core_parts.specs.Parts.{is_compound_of}
 use Rattle.step_kernel.specs.Least.{least_from, least_compound_of}
 use Rattle.step_kernel.proofs.state.State.least_compound.Given as goal
 

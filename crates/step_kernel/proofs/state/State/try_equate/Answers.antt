@@ -1,5 +1,5 @@
 use Rattle.std.proofs.Common.{◌≡◌, true, rules}
-use Rattle.step_kernel.specs.Instances.{is_instance_at}
+use Rattle.core_rules.specs.Instances.{is_instance_at}
 use Rattle.step_kernel.proofs.There.{there-formed, there-labels, there-equated}
 use Rattle.step_kernel.proofs.state.State.try_equate.Goals as goal
 

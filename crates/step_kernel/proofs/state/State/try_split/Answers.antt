@@ -1,5 +1,5 @@
 use Rattle.std.proofs.Common.{◌≡◌, true, rules}
-use Rattle.step_kernel.specs.Parts.{is_compound_of}
+use Rattle.core_parts.specs.Parts.{is_compound_of}
 use Rattle.step_kernel.proofs.There.{there-formed, there-below, there-room, there-divided}
 use Rattle.step_kernel.proofs.state.State.try_split.Goals as goal
 

@@ -1,0 +1,7 @@
+mod Witnesses
+mod BoundLaws
+mod OrderLaws
+mod Shown
+pub mod ClaimLaws
+mod AgreementLaws
+mod WrittenLines

@@ -1,0 +1,6 @@
+pub mod Verdicts
+pub mod DocumentText
+pub mod Claims
+pub mod BoundAtoms
+pub mod Valid
+pub mod Laws

@@ -1,0 +1,13 @@
+//! Answers to models: the verdict, the document that an answer is written as, when a document is valid for a model, and that
+//! what a valid one says is true.
+#![tactic(auto)]
+
+mod document;
+mod laws;
+mod verdict;
+mod write;
+
+pub use document::Document;
+pub use laws::{agreement_law, claim_law};
+pub use verdict::{Bounds, Verdict};
+pub use write::{push_verdict, write_document};

@@ -1,5 +1,0 @@
-use Rattle.bee_cli.proofs.Bounds.{bounded}
-use Rattle.bee_cli.proofs.decode.decode_text.Goals as goal
-
-pub write_values-requires : goal.write_values-requires
-write_values-requires c = rw c.as_slice.ensures (bounded c.args.held.now.entries c.requires.entries)

@@ -1,0 +1,35 @@
+-- The status of a run, by the end that its mode has.
+use Rattle.std.specs.Prelude.{◌≡◌, ℕ}
+use Rattle.text_modes.specs.declared.ends.Outcome.{Outcome}
+use Rattle.text_modes.specs.declared.ends.Outcome.TheVariants as outcome
+use Rattle.text_modes.specs.declared.ends.End.{End}
+use Rattle.text_modes.specs.declared.ends.End.TheVariants as end
+use Rattle.model_texts.specs.declared.fault.ModelFault.{ModelFault}
+use Rattle.model_texts.specs.declared.fault.ModelFault.TheVariants.{Cnf}
+use Rattle.bee_cli.specs.declared.status.Status.{Status}
+use Rattle.bee_cli.specs.declared.status.Status.TheVariants.{Done, Refused, Model, Read, Write, Memory, Unknown}
+
+-- of a run that wrote its text
+abbrev pub outcome_status : Outcome → Status
+outcome_status outcome.Done = Done
+outcome_status (outcome.Refused line) = Refused line
+outcome_status (outcome.Unknown count) = Unknown count
+
+-- of any run, by what a fault of its first text is called
+abbrev pub status_of : {F : Type 0} → (F → ModelFault) → End F → Status
+status_of called (end.Wrote outcome) = outcome_status outcome
+status_of called (end.Fault fault) = Model (called fault)
+status_of called end.Read = Read
+status_of called end.Write = Write
+status_of called end.Memory = Memory
+
+-- the fault of the text of a model, and that of a compiled text, the first line that fails
+abbrev pub model_fault : ModelFault → ModelFault
+model_fault fault = fault
+
+abbrev pub cnf_fault : ℕ → ModelFault
+cnf_fault line = Cnf line
+
+-- a run had an end of which this holds, and this is its status
+abbrev pub Ended : {F : Type 0} → (F → ModelFault) → (End F → Type 0) → Status → Type 0
+Ended {F} called IsEnd status = (end : End F) × (status ≡ status_of called end) × IsEnd end

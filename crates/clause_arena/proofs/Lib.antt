@@ -1,0 +1,6 @@
+mod Laid
+mod Parts
+mod Lists
+mod Seen
+mod Slid
+mod Changed

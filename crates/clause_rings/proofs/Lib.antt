@@ -1,0 +1,17 @@
+mod Entries
+mod Literals
+mod Nodes
+mod Looking
+mod Db
+mod Guards
+mod Watching
+mod Kept
+mod Looked
+mod Walked
+mod Settling
+mod Reordered
+mod Linked
+mod Propagated
+mod Backwards
+mod ComeAndGo
+mod Widened

@@ -1,0 +1,6 @@
+pub mod Clauses
+pub mod Watches
+pub mod Looks
+pub mod Keeping
+pub mod Settling
+pub mod Moves

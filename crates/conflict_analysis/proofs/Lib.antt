@@ -1,0 +1,17 @@
+mod Cells
+mod Touched
+mod Members
+mod Literals
+mod Places
+mod Meets
+mod Counting
+mod Derived
+mod Resolves
+mod Walks
+mod Seeks
+mod Steps
+mod Follows
+mod Collects
+mod Works
+mod Accepted
+mod Newness

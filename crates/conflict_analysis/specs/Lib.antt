@@ -1,0 +1,10 @@
+pub mod Reasons
+pub mod Learned
+pub mod Analysis
+pub mod Marking
+pub mod Walking
+pub mod Resolving
+pub mod Seeking
+pub mod Collecting
+pub mod Working
+pub mod Laws

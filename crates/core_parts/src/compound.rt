@@ -1,0 +1,36 @@
+//! The parts of all compound forms.
+
+ghost use Rattle.std.specs.Prelude.{◌≡◌, ◌+◌, ◌≤◌, ◌^◌, true, IfOk};
+ghost use Rattle.core_forms.specs.Place.{CoreBelow};
+ghost use Rattle.core_forms.specs.WellFormed.{IsWellFormed};
+ghost use Rattle.core_forms.specs.Cost.{cost_of};
+ghost use Rattle.core_parts.specs.Parts.{parts_at, is_compound_of};
+
+use core_forms::{Core, is_basic};
+use part_base::Parts;
+use std::alloc::{AllocError, Global};
+
+/// Whether a core is compound.
+pub fn is_compound(core: &Core) -> bool
+    requires { IsWellFormed core.now }
+    ensures { result ≡ is_compound_of core.now }
+{
+    !is_basic(core)
+}
+
+/// The parts of a compound core, which take over its lists. The fresh variables are those from one on.
+pub fn parts(alloc: Global, core: Core, next_var: u32) -> Result<Parts, AllocError>
+    requires compound { is_compound_of core ≡ true }
+    requires well_formed { IsWellFormed core }
+    requires below { CoreBelow next_var core }
+    requires first { 1 ≤ next_var }
+    requires room { next_var + cost_of core ≤ 2 ^ 27 }
+    ensures { IfOk result (λ parts. parts ≡ parts_at next_var core) }
+{
+    match &core {
+        Core::Sum(_, _) | Core::AllDiff(_, _) | Core::Lex(_, _, _, _) => {
+            decompose::parts_from(alloc, core, next_var)
+        }
+        _ => network_encode::parts_from(alloc, core, next_var),
+    }
+}

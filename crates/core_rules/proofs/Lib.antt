@@ -1,0 +1,4 @@
+pub mod InstanceLaws
+mod Told
+mod NotDifferent
+mod Weaker

@@ -1,0 +1,171 @@
+//! An equation of any rule, with the run that the same look at the core tells.
+
+ghost use Rattle.std.specs.Prelude.{◌≡◌, ℕ, ◌+◌, ◌≤◌, true, IfOk, IfSome, IfNone};
+ghost use Rattle.core_forms.specs.declared.equation.Equation.{Equation};
+ghost use Rattle.core_forms.specs.WellFormed.{IsWellFormed};
+ghost use Rattle.core_forms.specs.Place.{CoreBelow};
+ghost use Rattle.equation_runs.specs.Turns.{AreToldInTurn, EquationsBelow};
+ghost use Rattle.alldiff_rules.specs.Instances.{is_instance_of as is_alldiff_instance};
+ghost use Rattle.arith_rules.specs.Instances.{is_instance_of as is_arith_instance};
+ghost use Rattle.core_rules.specs.Instances.{is_instance_at, is_form_instance, is_order_or_form};
+
+use core_forms::{Core, Equation};
+use equation_runs::run_of;
+use rule_base::Steps;
+use std::alloc::{AllocError, Global};
+use std::sync::ledger::Ledger;
+
+/// An equation that was found at a core, and a run of others: equations that the core tells one after another, each when
+/// its turn comes, whatever the store has made of the core by then; perhaps none. So one look at a core that
+/// tells many is enough.
+#[derive(Debug, Drop)]
+pub struct FoundRun {
+    pub equation: Equation,
+    pub run: Vec<Equation>,
+}
+
+/// An equation that a core's form states, where it is a sum, a count, a maximum, a product or a division. It
+/// counts one step at most.
+fn by_arithmetic<L: Ledger>(core: &Core, steps: &mut Steps<L>) -> Option<Equation>
+    requires { IsWellFormed core.now }
+    ensures some { IfSome result (λ e. is_arith_instance core.now e ≡ true) }
+    ensures none { IfNone result ((e : Equation) → is_arith_instance core.now e ≡ true → ⊥) }
+    ensures least { steps.old ≤ steps.new }
+    ensures most { steps.new ≤ steps.old + 1 }
+{
+    match core {
+        Core::Sum3(_, _, _)
+        | Core::Count(_, _)
+        | Core::Sum(_, _)
+        | Core::Max(_, _)
+        | Core::Prod(_, _, _)
+        | Core::DivMod(_, _, _, _) => arith_rules::find(core, steps),
+        _ => None,
+    }
+}
+
+/// An equation that all-different or lexicographic order states.
+fn by_difference<L: Ledger>(
+    alloc: Global,
+    core: &Core,
+    steps: &mut Steps<L>,
+) -> Result<Option<Equation>, AllocError>
+    requires { IsWellFormed core.now }
+    ensures some { IfOk result (λ found. IfSome found (λ e. is_alldiff_instance core.now e ≡ true)) }
+    ensures none { IfOk result
+        (λ found. IfNone found ((e : Equation) → is_alldiff_instance core.now e ≡ true → ⊥)) }
+    ensures steps { steps.new ≡ steps.old + 1 }
+{
+    alldiff_rules::find(alloc, core, steps)
+}
+
+/// An equation that a core's form states beside those of `equi_rules`. It counts one step at most.
+fn by_form<L: Ledger>(
+    alloc: Global,
+    core: &Core,
+    steps: &mut Steps<L>,
+) -> Result<Option<Equation>, AllocError>
+    requires { IsWellFormed core.now }
+    ensures some { IfOk result (λ found. IfSome found (λ e. is_form_instance core.now e ≡ true)) }
+    ensures none { IfOk result
+        (λ found. IfNone found ((e : Equation) → is_form_instance core.now e ≡ true → ⊥)) }
+    ensures least { steps.old ≤ steps.new }
+    ensures most { steps.new ≤ steps.old + 1 }
+{
+    match core {
+        Core::AllDiff(_, _) | Core::Lex(_, _, _, _) => by_difference(alloc, core, steps),
+        _ => Ok(by_arithmetic(core, steps)),
+    }
+}
+
+/// An equation that a core states by the order of its integers or by its form. It counts one step or two.
+fn by_order_or_form<L: Ledger>(
+    alloc: Global,
+    core: &Core,
+    steps: &mut Steps<L>,
+) -> Result<Option<Equation>, AllocError>
+    requires { IsWellFormed core.now }
+    ensures some { IfOk result (λ found. IfSome found (λ e. is_instance_at core.now e ≡ true)) }
+    ensures none { IfOk result
+        (λ found. IfNone found ((e : Equation) → is_order_or_form core.now e ≡ true → ⊥)) }
+    ensures least { steps.old + 1 ≤ steps.new }
+    ensures most { steps.new ≤ steps.old + 2 }
+{
+    match equi_rules::find(core, steps) {
+        Some(e) => Ok(Some(e)),
+        None => by_form(alloc, core, steps),
+    }
+}
+
+/// An equation that was found, with the run of its core.
+fn with_run<L: Ledger>(
+    alloc: Global,
+    core: &Core,
+    steps: &mut Steps<L>,
+    equation: Equation,
+) -> Result<FoundRun, AllocError>
+    requires { IsWellFormed core.now }
+    ensures equation { IfOk result (λ found. found.equation ≡ equation) }
+    ensures run { IfOk result
+        (λ found. AreToldInTurn (λ c e. is_instance_at c e ≡ true) core.now found.run.items) }
+    ensures below { (n : ℕ) → CoreBelow n core.now
+        → IfOk result (λ found. EquationsBelow n found.run.items) }
+    ensures steps { steps.new ≡ steps.old + 1 }
+{
+    let run = run_of(alloc, core, steps)?;
+    Ok(FoundRun { equation, run })
+}
+
+/// An instance of the rule Table at a core of which no other rule states an equation. There is no run behind it.
+fn by_table<L: Ledger>(
+    alloc: Global,
+    core: &Core,
+    steps: &mut Steps<L>,
+) -> Result<Option<FoundRun>, AllocError>
+    requires well_formed { IsWellFormed core.now }
+    requires none { (e : Equation) → is_order_or_form core.now e ≡ true → ⊥ }
+    ensures some { IfOk result
+        (λ found. IfSome found (λ first. is_instance_at core.now first.equation ≡ true)) }
+    ensures run { IfOk result (λ found. IfSome found
+        (λ first. AreToldInTurn (λ c e. is_instance_at c e ≡ true) core.now first.run.items)) }
+    ensures below { (n : ℕ) → CoreBelow n core.now
+        → IfOk result (λ found. IfSome found (λ first. EquationsBelow n first.run.items)) }
+    ensures none { IfOk result (λ found. IfNone found ((e : Equation) → is_instance_at core.now e ≡ true → ⊥)) }
+    ensures steps { steps.new ≡ steps.old + 1 }
+{
+    match table_rules::find(alloc, core, steps)? {
+        Some(equation) => Ok(Some(FoundRun {
+            equation,
+            run: Vec::new(alloc),
+        })),
+        None => Ok(None),
+    }
+}
+
+/// An instance of any rule at a core, by the rules Order, Form and Table in this order, with the run of the core where it was
+/// found by one of the first two; `None` exactly where there is no instance. It counts one step for each of the crates of
+/// rules that it asks, and one for the run: three at most.
+pub fn find<L: Ledger>(
+    alloc: Global,
+    core: &Core,
+    steps: &mut Steps<L>,
+) -> Result<Option<FoundRun>, AllocError>
+    requires { IsWellFormed core.now }
+    ensures some { IfOk result
+        (λ found. IfSome found (λ first. is_instance_at core.now first.equation ≡ true)) }
+    ensures run { IfOk result (λ found. IfSome found
+        (λ first. AreToldInTurn (λ c e. is_instance_at c e ≡ true) core.now first.run.items)) }
+    ensures below { (n : ℕ) → CoreBelow n core.now
+        → IfOk result (λ found. IfSome found (λ first. EquationsBelow n first.run.items)) }
+    ensures none { IfOk result (λ found. IfNone found ((e : Equation) → is_instance_at core.now e ≡ true → ⊥)) }
+    ensures least { steps.old + 1 ≤ steps.new }
+    ensures most { steps.new ≤ steps.old + 3 }
+{
+    match by_order_or_form(alloc, core, steps)? {
+        Some(equation) => {
+            let found = with_run(alloc, core, steps, equation)?;
+            Ok(Some(found))
+        }
+        None => by_table(alloc, core, steps),
+    }
+}

@@ -1,0 +1,3 @@
+mod Bounds
+pub mod Ends
+mod Answered

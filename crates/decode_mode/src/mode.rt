@@ -1,0 +1,74 @@
+//! The mode `decode`.
+
+ghost use Rattle.text_modes.specs.Seen.{seen, shelf_shown, sink_shown};
+ghost use Rattle.decode_mode.specs.DecodeMode.{DecodeMode};
+
+use crate::making::decode_text;
+use bee_outside::{Shelf, Sink};
+use dimacs_out::CnfText;
+use dimacs_read::{TextFault, read_compiled};
+use std::alloc::{AllocError, Global};
+use text_modes::{End, Outcome, TwoTexts, run_two};
+
+/// A compiled text is read first, and then an answer. Its fault is the first line that fails.
+struct Decoding;
+
+impl TwoTexts for Decoding {
+    ghost use Rattle.std.specs.Prelude.{None};
+    ghost use Rattle.dimacs_read.specs.TextSteps.{TextFails};
+    ghost use Rattle.decode_mode.specs.Decoded.{Holds, Gives};
+
+    type Held = CnfText;
+
+    type Fault = u64;
+
+    ghost most = { λ _. None };
+
+    ghost holds = { λ _. Holds };
+
+    ghost has_fault = { λ _. TextFails };
+
+    ghost gives = { λ _. Gives };
+
+    fn limit(&self) -> Option<usize> {
+        None
+    }
+
+    // A compiled text may have any length.
+    fn too_long(&self) -> u64 {
+        unreachable!()
+    }
+
+    fn judge(&self, alloc: Global, first: &[u8]) -> Result<Result<CnfText, u64>, AllocError> {
+        match read_compiled(alloc, first) {
+            Ok(held) => Ok(Ok(held)),
+            Err(TextFault::Form(line)) => Ok(Err(line)),
+            Err(TextFault::Memory) => Err(AllocError),
+        }
+    }
+
+    fn make(
+        &self,
+        alloc: Global,
+        held: &CnfText,
+        answer: &[u8],
+    ) -> Result<(Outcome, Vec<u8>), AllocError> {
+        decode_text(alloc, held, answer)
+    }
+}
+
+/// Reads the compiled text whole, tests its form, and then does so with the answer; makes the whole text, and then writes it.
+/// The fault of the compiled text is the first line that fails. Where both have one name, the answer is what the
+/// reading of the compiled text left: on a shelf that tells its bytes, nothing.
+pub fn decode<S: Shelf, O: Sink>(
+    alloc: Global,
+    input: &str,
+    second: &str,
+    shelf: &mut S,
+    out: &mut O,
+) -> End<u64>
+    ensures { DecodeMode input.now second.now result (seen (shelf_shown S.left S.faults)
+        (sink_shown O.taken O.flushed O.faults) shelf.old shelf.new out.old out.new) }
+{
+    run_two(alloc, &Decoding, input, second, shelf, out)
+}

@@ -1,9 +1,0 @@
-use Rattle.std.proofs.Common.{◌≡◌, ◌++◌, map}
-use Rattle.core_forms.specs.Contents.{ints_of}
-use Rattle.core_forms.specs.declared.equation.Rule.TheVariants.{Order}
-use Rattle.equation_runs.specs.RunRows.{equation_of, chains_of}
-use Rattle.equation_runs.proofs.run.run_of.Given as goal
-
--- those so far and those of the integers that are left are all
-abbrev pub invariant-loop-a : goal.invariant-loop-a
-invariant-loop-a l = l.run.items ++ map (equation_of Order) (chains_of l.a-iterator) ≡ map (equation_of Order) (chains_of (ints_of l.core))

@@ -1,0 +1,17 @@
+mod RingLaws
+mod NamedLaws
+mod LogLaws
+mod KeptLaws
+mod HeightLaws
+mod LitLaws
+mod SearchLaws
+mod ReasonLaws
+mod TurnLaws
+mod PaceLaws
+mod RunLaws
+mod EndLaws
+mod SolutionLaws
+mod MoveLaws
+mod AcceptLaws
+mod TeachLaws
+mod StartLaws

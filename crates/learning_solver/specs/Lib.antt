@@ -1,0 +1,11 @@
+pub mod Order
+pub mod Log
+pub mod Outcome
+pub mod Kept
+pub mod Height
+pub mod Pacing
+pub mod Sight
+pub mod Searching
+pub mod Ending
+pub mod Deciding
+pub mod Solving

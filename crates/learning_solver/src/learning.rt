@@ -1,0 +1,92 @@
+//! Learning from a conflict. The clause that is learned is false as the trail stands, by one literal of the current
+//! level, and unit at an earlier one: the search goes back there, where the clause makes that literal false (Marques-Silva and
+//! Sakallah 1996). How the clause comes about is told in the crate of the analysis.
+
+ghost use Rattle.std.specs.Prelude.{◌≡◌, ◌+◌, ◌<◌, ◌≤◌, ◌^◌, IfOk, OnOk};
+ghost use Rattle.clause_arena.specs.Clauses.{IsLive, lits_of};
+ghost use Rattle.literal_trail.specs.Standing.{IsFalse};
+ghost use Rattle.conflict_analysis.specs.Analysis.{IsAnalysed};
+ghost use Rattle.learning_solver.specs.Sight.{named_in};
+ghost use Rattle.learning_solver.specs.Pacing.{SameCall};
+ghost use Rattle.learning_solver.specs.Searching.{IsSearch, IsReady, Stays, IsRunning, IsTurned, GoesForward, Teaches, TurnsBack, BeginsAnew};
+
+use crate::found::Found;
+use crate::lesson::Lesson;
+use crate::pace::Pace;
+use crate::search::Search;
+use crate::sight::Sight;
+use crate::task::Task;
+use std::alloc::AllocError;
+
+impl Search<'_> {
+    /// Learns a clause from one that is false, above level 0, and raises the variables of the conflict.
+    fn study(&mut self, conflict: u32) -> Result<Lesson, AllocError>
+        requires search { IsSearch self.old }
+        requires live { IsLive self.old.db.clauses conflict }
+        requires is_false { IsFalse self.old.db.trail.entries (lits_of self.old.db.clauses conflict) }
+        requires above { 1 ≤ self.old.db.trail.level }
+        ensures ready { IfOk result (IsReady self.new) }
+        ensures analysed { OnOk result (IsAnalysed self.old.db.trail (named_in self.old.db.clauses) (named_in self.old.db.clauses conflict) self.new.walker) }
+        ensures stays { Stays self.old self.new }
+        ensures search { IsSearch self.new }
+    {
+        let level = self.db.level();
+        self.walker
+            .analyse(&Sight { db: &self.db }, conflict, level)?;
+        self.order.raise(self.walker.seen())?;
+        self.lesson()
+    }
+
+    /// Goes back to where a clause is unit, adds it, and makes its first literal true.
+    fn turn_back(&mut self, lesson: Lesson)
+        requires search { IsSearch self.old }
+        requires ready { IsReady self.old lesson }
+        requires teaches { Teaches self.old lesson }
+        ensures turned { TurnsBack self.old self.new lesson }
+        ensures search { IsSearch self.new }
+    {
+        let first = lesson.first();
+        let jump = self.walker.jump();
+        self.jump_back(jump);
+        let clause = self.take(lesson);
+        self.db.assign(first, Some(clause));
+    }
+
+    /// Begins anew, from the end of level 0.
+    fn begin_anew(&mut self)
+        requires { IsSearch self.old }
+        ensures anew { BeginsAnew self.old self.new }
+        ensures search { IsSearch self.new }
+    {
+        self.jump_back(0);
+    }
+
+    /// Learns from a conflict above level 0, unless the budget is spent.
+    pub fn learn(
+        &mut self,
+        conflict: u32,
+        task: Task,
+        pace: &mut Pace,
+    ) -> Result<Option<Found>, AllocError>
+        requires running { IsRunning task pace.old self.old }
+        requires live { IsLive self.old.db.clauses conflict }
+        requires is_false { IsFalse self.old.db.trail.entries (lits_of self.old.db.clauses conflict) }
+        requires above { 1 ≤ self.old.db.trail.level }
+        ensures turned { IsTurned task self.old pace.new self.new result }
+        ensures forward { GoesForward self.old self.new }
+        ensures same_call { SameCall pace.old pace.new }
+    {
+        if self.added >= task.budget {
+            return Ok(Some(Found::Spent));
+        }
+        let lesson = match self.study(conflict) {
+            Ok(lesson) => lesson,
+            Err(AllocError) => return Err(AllocError),
+        };
+        self.turn_back(lesson);
+        if pace.learn() {
+            self.begin_anew();
+        }
+        Ok(None)
+    }
+}

@@ -1,0 +1,19 @@
+//! The search for a valuation of clauses, or for a proof that there is none.
+#![tactic(auto)]
+
+mod adding;
+mod deciding;
+mod ending;
+mod found;
+mod learning;
+mod lesson;
+mod order;
+mod pace;
+mod running;
+mod search;
+mod sight;
+mod solver;
+mod task;
+
+pub use found::Found;
+pub use solver::Solver;

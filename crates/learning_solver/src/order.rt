@@ -1,0 +1,249 @@
+//! In which order variables are decided, and with which sign. A variable that took part in a conflict is likely to
+//! take part in the next one, so the variables of a conflict move to the front of a ring, as in VMTF (Ryan 2004; Biere
+//! and Froehlich 2015). Beside it each variable has an activity, which newer conflicts raise by more, as in VSIDS
+//! (Moskewicz and others 2001) in the form of MiniSat (Een and Soerensson 2003), but in whole numbers: they decide
+//! in which order the variables of a conflict move, and which of the first free ones is decided. That was faster than
+//! either alone, and than a heap. A variable gets the sign that it had last (Pipatsrisawat and Darwiche 2007).
+
+ghost use Rattle.std.specs.Prelude.{◌≡◌, ◌+◌, ◌^◌, ◌≤◌, ◌<◌, ◌⊎◌, ◌↔◌, ℕ, length, All, IsTrue, IfOk, IfSome, IsNone, Option, Some, None};
+ghost use Rattle.std.specs.Option.{ForSome};
+ghost use Rattle.index_ring.specs.Lists.{IsRings, Stands, list_of, first_in, no_lists};
+ghost use Rattle.literal_trail.specs.Trail.{entry_of};
+ghost use Rattle.learning_solver.specs.Order.{IsRing, IsFreeIn, AllGiven};
+
+use clause_rings::ClauseDb;
+use index_ring::Rings;
+use order_ints::Lit;
+use std::alloc::{AllocError, Global};
+use std::marker::Model;
+
+/// By how much the first conflict raises activities.
+const FIRST_GAIN: u64 = 1 << 10;
+
+/// Past this gain all activities are made smaller.
+const MOST_GAIN: u64 = 1 << 50;
+
+/// By how many binary digits they are.
+const SCALE: u32 = 40;
+
+/// How many free variables are looked at for the most active one, and at how many places of the ring at most.
+const LOOKED_AT: u32 = 8;
+
+const MOST_PLACES: u32 = 256;
+
+/// The order of the variables 1 to `vars`, their activities and signs. Some 17 bytes a variable.
+#[derive(Drop)]
+pub struct Order {
+    vars: u32,
+    ring: Rings,
+    activity: Vec<u64>,
+    signs: Vec<bool>,
+    gain: u64,
+    /// No variable before this one is free, as far as is known; 0 for the front.
+    start: u32,
+}
+
+impl Model for Order {
+    ghost use Rattle.std.specs.Prelude.{ℕ};
+    ghost use Rattle.learning_solver.specs.Order.{IsOrder};
+
+    ghost Value = { ℕ };
+
+    ghost view = { λ o. o.vars };
+
+    ghost invariant = { λ o. IsOrder o.vars o.ring o.activity.items o.signs.items o.start };
+}
+
+/// Puts the variables into the ring.
+fn push_all(ring: &mut Rings, vars: u32)
+    requires few { vars ≤ 2 ^ 27 }
+    requires empty { ring.old ≡ no_lists 1 (vars + 1) }
+    requires rings { IsRings ring.old }
+    ensures { IsRing vars ring.new }
+{
+    for v in 1..vars + 1 {
+        ring.push_back(0, v);
+    }
+}
+
+/// Whether a variable has no value.
+fn is_free(db: &ClauseDb, v: u32) -> bool
+    requires low { 1 ≤ v }
+    requires high { v ≤ db.now.trail.vars }
+    ensures { IsTrue result ↔ (entry_of db.now.trail.entries v ≡ None) }
+{
+    db.value(v).is_none()
+}
+
+/// The first free variable from a place of the ring on.
+fn first_free(ring: &Rings, db: &ClauseDb, from: Option<u32>) -> Option<u32>
+    requires ring { IsRing db.now.trail.vars ring.now }
+    requires from { ForSome from (Stands ring.now 0) }
+    ensures free { IfSome result (IsFreeIn db.now.trail) }
+    ensures none { from ≡ first_in (list_of ring.now 0) → IsNone result → AllGiven db.now.trail }
+{
+    let mut at = from;
+    while let Some(v) = at {
+        if is_free(db, v) {
+            return at;
+        }
+        at = ring.after(v);
+    }
+    None
+}
+
+/// The more active of two variables, the first where they are equally active.
+fn livelier(activity: &[u64], v: u32, w: u32) -> u32
+    requires first { v < length activity.now }
+    requires second { w < length activity.now }
+    ensures { (result ≡ v) ⊎ (result ≡ w) }
+{
+    if activity[w as usize] > activity[v as usize] {
+        w
+    } else {
+        v
+    }
+}
+
+/// The most active of the first free variables of the ring, from one of them on.
+fn most_active(ring: &Rings, activity: &[u64], db: &ClauseDb, first: u32) -> u32
+    requires ring { IsRing db.now.trail.vars ring.now }
+    requires activity { length activity.now ≡ db.now.trail.vars + 1 }
+    requires first { IsFreeIn db.now.trail first }
+    ensures { IsFreeIn db.now.trail result }
+{
+    let mut best = first;
+    let mut met = 1u32;
+    let mut at = ring.after(first);
+    'places: for _ in 0..MOST_PLACES {
+        let Some(v) = at else { break };
+        if is_free(db, v) {
+            best = livelier(activity, best, v);
+            met += 1;
+            if met >= LOOKED_AT {
+                return best;
+            }
+        }
+        at = ring.after(v);
+    }
+    best
+}
+
+/// Makes a variable the first of the ring.
+fn move_to_front(ring: &mut Rings, vars: u32, v: u32)
+    requires ring { IsRing vars ring.old }
+    requires low { 1 ≤ v }
+    requires high { v ≤ vars }
+    ensures { IsRing vars ring.new }
+{
+    let _vars = vars;
+    ring.unlink(v);
+    ring.push_front(0, v);
+}
+
+impl Order {
+    /// The variables in the order of their numbers.
+    pub fn with(alloc: Global, vars: u32) -> Result<Order, AllocError>
+        requires { vars ≤ 2 ^ 27 }
+        ensures { IfOk result (λ o. o ≡ vars) }
+    {
+        let places = vars as usize + 1;
+        let mut ring = Rings::with(alloc, 1, vars + 1)?;
+        let activity = vec![in alloc; 0; places]?;
+        let signs = vec![in alloc; false; places]?;
+        push_all(&mut ring, vars);
+        Ok(Order {
+            vars,
+            ring,
+            activity,
+            signs,
+            gain: FIRST_GAIN,
+            start: 0,
+        })
+    }
+
+    /// The literal to be decided, none where no variable is free.
+    pub fn pick(&mut self, db: &ClauseDb) -> Option<Lit>
+        requires { db.now.trail.vars ≡ self.old }
+        ensures free { IfSome result (λ l. IsFreeIn db.now.trail l.var) }
+        ensures none { IsNone result → AllGiven db.now.trail }
+        ensures vars { self.new ≡ self.old }
+    {
+        let first = self.first(db)?;
+        self.start = first;
+        let var = most_active(&self.ring, self.activity.as_slice(), db, first);
+        Some(Lit::of(var, self.signs[var as usize]))
+    }
+
+    /// The first free variable, sought from where the last search ended, and then from the front.
+    fn first(&self, db: &ClauseDb) -> Option<u32>
+        requires { db.now.trail.vars ≡ self.now }
+        ensures free { IfSome result (IsFreeIn db.now.trail) }
+        ensures none { IsNone result → AllGiven db.now.trail }
+    {
+        if self.start > 0
+            && let Some(v) = first_free(&self.ring, db, Some(self.start))
+        {
+            return Some(v);
+        }
+        first_free(&self.ring, db, self.ring.first(0))
+    }
+
+    /// The next search begins at the front: variables became free.
+    pub fn rewind(&mut self)
+        ensures { self.new ≡ self.old }
+    {
+        self.start = 0;
+    }
+
+    /// Keeps the sign of a literal whose variable becomes free.
+    pub fn save(&mut self, l: Lit)
+        requires { l.var ≤ self.old }
+        ensures { self.new ≡ self.old }
+    {
+        self.signs[l.var as usize] = l.positive;
+    }
+
+    /// Raises the variables of a conflict, and puts them in front, the most active one first. It sorts them.
+    pub fn raise(&mut self, seen: &[u32]) -> Result<(), AllocError>
+        requires { All (λ v. v ≤ self.old) seen.now }
+        ensures { self.new ≡ self.old }
+    {
+        let alloc = *self.activity.allocator();
+        let mut sorted: Vec<u32> = seen.iter().copied().collect(alloc)?;
+        let activity = self.activity.as_slice();
+        sorted.sort_unstable_by_key(|v| activity.get(*v as usize).copied());
+        for v in &sorted {
+            if *v > 0 {
+                self.put_in_front(*v);
+            }
+        }
+        self.gain = self.gain.saturating_add(self.gain / 19);
+        if self.gain > MOST_GAIN {
+            self.scale_down();
+        }
+        self.start = 0;
+        Ok(())
+    }
+
+    /// Raises a variable, and puts it in front.
+    fn put_in_front(&mut self, v: u32)
+        requires low { 1 ≤ v }
+        requires high { v ≤ self.old }
+        ensures { self.new ≡ self.old }
+    {
+        move_to_front(&mut self.ring, self.vars, v);
+        let place = v as usize;
+        self.activity[place] = self.activity[place].saturating_add(self.gain);
+    }
+
+    /// Makes all activities smaller, and the gain.
+    fn scale_down(&mut self)
+        ensures { self.new ≡ self.old }
+    {
+        for a in self.activity.iter_mut() {
+            *a >>= SCALE;
+        }
+        self.gain >>= SCALE;
+    }
+}

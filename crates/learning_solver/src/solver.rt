@@ -1,0 +1,99 @@
+//! The solver that callers see: a CNF, and a log that stands for itself.
+
+ghost use Rattle.std.specs.Prelude.{◌≡◌, ◌+◌, ◌<◌, ◌≤◌, ◌^◌, [], length, IfOk};
+ghost use Rattle.std.specs.Option.{ForSome};
+ghost use Rattle.order_ints.specs.Place.{LitBelow, InRange};
+ghost use Rattle.clause_rings.specs.Clauses.{AreApartIn};
+ghost use Rattle.proof_check.specs.Lrat.{Lrat};
+ghost use Rattle.learning_solver.specs.Log.{additions, GoesOn, IsFreshLog};
+ghost use Rattle.learning_solver.specs.Outcome.{Answers, most_learned};
+
+use crate::found::Found;
+use crate::search::Search;
+use crate::task::Task;
+use bee_list::Sequence;
+use order_ints::{Cnf, Lit};
+use proof_check::ProofLine;
+use std::alloc::{AllocError, Global};
+use std::marker::Model;
+
+/// A solver of a CNF that it borrows, and its log.
+#[derive(Drop)]
+pub struct Solver<'a> {
+    search: Search<'a>,
+}
+
+impl<'a> Model for Solver<'a> {
+    ghost use Rattle.learning_solver.specs.Outcome.{Logged};
+    ghost use Rattle.learning_solver.specs.Solving.{logged, IsSolver};
+
+    ghost Value = { Logged };
+
+    ghost view = { logged };
+
+    ghost invariant = { IsSolver };
+}
+
+impl<'a> Solver<'a> {
+    /// A solver of a CNF, with an empty log.
+    pub fn with(alloc: Global, cnf: &'a Cnf) -> Result<Solver<'a>, AllocError>
+        requires vars { cnf.now.vars ≤ 2 ^ 27 }
+        requires in_range { InRange cnf.now }
+        requires differ { AreApartIn cnf.now }
+        ensures { IfOk result (λ s. s ≡ record { cnf = cnf.entry.now; log = [] }) }
+    {
+        let search = Search::with(alloc, cnf)?;
+        Ok(Solver { search })
+    }
+
+    /// Searches for truth values that satisfy the CNF and the assumption, or for a clause that refutes them, until the log
+    /// has as many additions as the budget. It may be called again, whatever it answered.
+    pub fn solve(
+        &mut self,
+        assumption: Option<Lit>,
+        budget: u64,
+        restart: bool,
+    ) -> Result<Found, AllocError>
+        requires in_range { ForSome assumption (LitBelow (self.old.cnf.vars + 1)) }
+        requires budget { additions self.old.log ≤ budget }
+
+        // The CNF stays, and so do the lines of the log, also where memory was wanting.
+        ensures cnf { self.new.cnf ≡ self.old.cnf }
+        ensures log { GoesOn self.old.log self.new.log }
+
+        // The log is accepted to its last line; its additions are new where they stand, and its deletions name additions alone.
+        ensures accepted { Lrat self.new.cnf self.new.log }
+        ensures fresh { IsFreshLog self.new.cnf self.new.log }
+
+        // What is found, and what it may have cost.
+        ensures found { IfOk result (Answers self.new assumption) }
+        ensures spent { result ≡ Ok Found.Spent → additions self.new.log ≡ budget }
+        ensures spent_early { result ≡ Ok Found.Spent
+            → additions self.new.log < additions self.old.log + most_learned restart self.old.cnf.vars }
+        ensures within { additions self.new.log ≤ budget }
+        ensures most { additions self.new.log
+            ≤ additions self.old.log + most_learned restart self.old.cnf.vars }
+    {
+        let task = Task { assumption, budget };
+        self.search.run(task, restart)
+    }
+
+    /// The log: each line follows from the CNF and those before it.
+    pub fn log(&self) -> &[ProofLine]
+        ensures log { result.now ≡ self.now.log }
+        ensures accepted { Lrat self.now.cnf self.now.log }
+        ensures fresh { IsFreshLog self.now.cnf self.now.log }
+    {
+        self.search.lines.as_slice()
+    }
+
+    /// The log, without memory.
+    pub fn into_log(self) -> Sequence<ProofLine>
+        ensures log { result ≡ self.entry.log }
+        ensures accepted { Lrat self.entry.cnf result }
+        ensures fresh { IsFreshLog self.entry.cnf result }
+    {
+        let Solver { search } = self;
+        search.into_lines()
+    }
+}

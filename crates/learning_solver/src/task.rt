@@ -1,0 +1,12 @@
+//! What is asked of a search.
+
+use order_ints::Lit;
+
+/// A call's question.
+#[derive(Clone, Copy, Debug)]
+pub struct Task {
+    /// A literal that is to be true, if any.
+    pub assumption: Option<Lit>,
+    /// How many additions the log may have.
+    pub budget: u64,
+}

@@ -1,0 +1,16 @@
+mod Heads
+mod Answers
+mod Stepping
+mod Certificates
+mod Endings
+mod Onward
+mod Backward
+mod ValidWhole
+mod WordLaws
+mod Takings
+mod OpeningLaws
+mod BehindLaws
+mod LineWords
+mod Beginnings
+pub mod DocumentLines
+mod Endgame

@@ -1,0 +1,82 @@
+-- The pieces of the lines of verdicts and of best solutions' values are their words.
+use Rattle.std.proofs.Common.{◌≡◌, ℕ, suc, ◌+◌, ◌<◌, ◌^◌, Bool, true, false, not, ◌||◌, ◌==◌, List, [], ◌∷◌, ◌++◌, drop, codes, length, Option, None, Some, refl, sym, ap, ◌∙◌, ℤ, pos, negsuc, arith}
+use Rattle.std.specs.Prelude.{FitsSigned, IfSome}
+use Rattle.std.specs.Int.{w64}
+use Rattle.std.specs.List.{list_all}
+use Rattle.std.specs.Fmt.{decimal, signed_decimal}
+use Rattle.std.proofs.lemmas.Bool.{and_parts, and_from, or_parts, not-true, not_from_false, false≢true}
+use Rattle.bee_text.specs.Lines.{lacks}
+use Rattle.bee_text.specs.Words.{IsWord, AreWords, is_gap, is_word, ArePieces, split_blanks, join_words}
+use Rattle.bee_text.proofs.NumberLemmas.{decimal_word}
+use Rattle.bee_text.proofs.GapLemmas.{solid}
+use Rattle.bee_text.proofs.WordLemmas.{split_blanks-join_words}
+use Rattle.answer_document.specs.declared.verdict.Bounds.{Bounds}
+use Rattle.answer_document.specs.declared.verdict.Verdict.{Verdict}
+use Rattle.answer_document.specs.declared.verdict.Verdict.TheVariants.{Satisfiable, Unsatisfiable, Optimum, Unknown}
+use Rattle.answer_document.specs.Verdicts.{words_with, bound_words, verdict_words, verdict_text}
+use Rattle.answer_document.specs.DocumentText.{best_line}
+use Rattle.ledger_check.specs.Items.{HaveNumbers, IsVerdictLine}
+
+-- a word behind a byte that is no gap
+pub word-behind : (b : ℕ) (bs : List ℕ) → not (is_gap b) ≡ true → IsWord bs → IsWord (b ∷ bs)
+word-behind b [] first h = absurd (false≢true h)
+word-behind b (c ∷ bs) first h = and_from (not (is_gap b)) (solid (c ∷ bs)) first h
+
+-- numbers are words
+pub signed-word : (z : ℤ) → FitsSigned w64 z → IsWord (signed_decimal z)
+signed-word (pos n) fits = decimal_word n (omega (arith, fits.sfits))
+signed-word (negsuc n) fits = word-behind 45 (decimal (suc n)) refl (decimal_word (suc n) (omega (arith, fits.sfits)))
+
+-- a word has no blank
+no-blank : (w : List ℕ) → list_all (λ c. not (is_gap c)) w ≡ true → lacks 32 w ≡ true
+no-blank [] h = refl
+no-blank (b ∷ w) h =
+    let parts = and_parts (not (is_gap b)) (list_all (λ c. not (is_gap c)) w) h in
+    and_from _ _ (no-space b (not-true _ parts.0)) (no-blank w parts.1)
+  where
+    no-space : (b : ℕ) → is_gap b ≡ false → not (b == 32) ≡ true
+    no-space b e =
+        let first = or_parts (b == 32 || b == 9 || b == 10) (b == 13) e in
+        let second = or_parts (b == 32 || b == 9) (b == 10) first.0 in
+        not_from_false (b == 32) (or_parts (b == 32) (b == 9) second.0).0
+
+word-piece : (w : List ℕ) → IsWord w → lacks 32 w ≡ true
+word-piece [] h = refl
+word-piece (b ∷ w) h = no-blank (b ∷ w) h
+
+pub words-pieces : (ws : List (List ℕ)) → AreWords ws → ArePieces ws
+words-pieces [] h = refl
+words-pieces (w ∷ ws) h =
+    let parts = and_parts (is_word w) (list_all is_word ws) h in
+    and_from (lacks 32 w) _ (word-piece w parts.0) (words-pieces ws parts.1)
+
+bounds-with : (first : ℤ) (second : Option ℤ) → FitsSigned w64 first → IfSome second (FitsSigned w64) → AreWords (words_with first second)
+bounds-with first None f s = and_from (is_word (signed_decimal first)) true (signed-word first f) refl
+bounds-with first (Some n) f s = and_from (is_word (signed_decimal first)) _ (signed-word first f) (and_from (is_word (signed_decimal n)) true (signed-word n s) refl)
+
+pub bounds-words : (b : Bounds) → FitsSigned w64 b.first → IfSome b.second (FitsSigned w64) → AreWords (bound_words b)
+bounds-words b first second = bounds-with b.first b.second first second
+
+pub verdict-are-words : (two : Bool) (v : Verdict) → IsVerdictLine two v → AreWords (verdict_words v)
+verdict-are-words two Satisfiable h = refl
+verdict-are-words two Unsatisfiable h = refl
+verdict-are-words two (Optimum b) h = bounds-words b h.0 h.1
+verdict-are-words two (Unknown n best) h = and_from (is_word (decimal n)) true (decimal_word n (omega (arith, h.0))) refl
+
+some-words : (v : Verdict) → 0 < length (verdict_words v)
+some-words Satisfiable = omega arith
+some-words Unsatisfiable = omega arith
+some-words (Optimum b) = omega arith
+some-words (Unknown n best) = omega arith
+
+pub pieces-of-verdict : (two : Bool) (line : List ℕ) (v : Verdict) → IsVerdictLine two v → line ≡ verdict_text v → split_blanks line ≡ verdict_words v
+pieces-of-verdict two line v h is = ap split_blanks is ∙ split_blanks-join_words (verdict_words v) (some-words v) (words-pieces (verdict_words v) (verdict-are-words two v h))
+
+pub pieces-of-best : (two : Bool) (line : List ℕ) (b : Bounds) → HaveNumbers two b → line ≡ best_line b → split_blanks line ≡ codes "best" ∷ bound_words b
+pieces-of-best two line b h is =
+    ap split_blanks is ∙ split_blanks-join_words (codes "best" ∷ bound_words b) (omega arith) (words-pieces (codes "best" ∷ bound_words b) (bounds-words b h.0 h.1))
+
+-- what stands behind equal fronts is equal
+pub cancel : (front xs ys : List ℕ) → front ++ xs ≡ front ++ ys → xs ≡ ys
+cancel [] xs ys e = e
+cancel (b ∷ front) xs ys e = cancel front xs ys (ap (drop 1) e)

@@ -1,0 +1,9 @@
+//! Laws of the checker's reading. The function does nothing; its contract is the law.
+
+ghost use Rattle.ledger_check.specs.Laws.{WholeIsValid, ValidIsWhole};
+
+/// A text that is read line by line to its end is a valid answer, and a valid answer is read to its end.
+pub fn reading_law()
+    ensures whole { WholeIsValid }
+    ensures valid { ValidIsWhole }
+{}

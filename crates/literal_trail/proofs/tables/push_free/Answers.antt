@@ -1,0 +1,20 @@
+use Rattle.std.proofs.Common.{◌≡◌, ◌+◌, ◌++◌, ◌∷◌, [], List, true, replicate, ap, ◌∙◌, arith, append_assoc}
+use Rattle.std.specs.Prelude.{is_ok, vec_len}
+use Rattle.std.proofs.lemmas.Bool.{cond-true}
+use Rattle.std.proofs.lemmas.List.{replicate_more}
+use Rattle.literal_trail.specs.declared.tables.Value.{Value}
+use Rattle.literal_trail.specs.declared.tables.Value.TheVariants.{Free}
+use Rattle.literal_trail.proofs.tables.push_free.Goals as goal
+
+pub loop-k-preserved : goal.loop-k-preserved
+loop-k-preserved c =
+    let added : is_ok c.push.result ≡ true = c.push.ensures.succeeds (omega arith) in
+    let items : c.push.new.self.items ≡ c.loop-k.values.items ++ Free ∷ [] = c.push.ensures.items ∙ cond-true _ _ _ added in
+    let longer : vec_len c.push.new.self ≡ vec_len c.loop-k.values + 1 = c.push.ensures.len ∙ cond-true _ _ _ added in (
+      items
+          ∙ ap (λ (xs : List Value). xs ++ Free ∷ []) c.loop-k.invariant.0
+          ∙ append_assoc c.args.values.now.items (replicate c.loop-k.k Free) (Free ∷ [])
+          ∙ ap (λ (xs : List Value). c.args.values.now.items ++ xs) (replicate_more c.loop-k.k Free),
+      omega arith,
+      omega arith,
+    )

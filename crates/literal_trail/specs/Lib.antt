@@ -1,0 +1,4 @@
+pub mod Trail
+pub mod Standing
+pub mod Tables
+pub mod Laws

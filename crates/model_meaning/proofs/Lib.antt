@@ -1,0 +1,12 @@
+pub mod AppendLaws
+pub mod BehindLaws
+pub mod BooleanLaws
+pub mod DomainLaws
+pub mod HoldsLaws
+pub mod LimitLaws
+pub mod ListLaws
+pub mod Remainders
+pub mod SolutionLaws
+pub mod Sums
+pub mod TableLaws
+pub mod Wide

@@ -1,0 +1,8 @@
+use Rattle.std.proofs.Common.{◌≡◌, drop}
+use Rattle.model_meaning.specs.Terms.{truths_of}
+use Rattle.model_meaning.specs.Booleans.{some_true}
+use Rattle.model_meaning.proofs.booleans.some_true.Given as goal
+
+abbrev pub invariant-loop-member : goal.invariant-loop-member
+invariant-loop-member l =
+    some_true (truths_of l.values (drop l.member-index l.members)) ≡ some_true (truths_of l.values l.members)

@@ -1,0 +1,15 @@
+pub mod Names
+pub mod Terms
+pub mod Booleans
+pub mod Integers
+pub mod Lists
+pub mod Arguments
+pub mod Sizes
+pub mod Holds
+pub mod Limits
+pub mod Domains
+pub mod Solutions
+pub mod Signatures
+pub mod Places
+pub mod WellTyped
+pub mod Laws

@@ -1,0 +1,255 @@
+//! Whether statements hold under an assignment.
+
+ghost use Rattle.std.specs.Prelude.{◌≡◌, pos, unsigned_abs};
+ghost use Rattle.std.specs.Ordering.{int_eq};
+ghost use Rattle.model_meaning.specs.Terms.{truth_of, number_of, truths_of, numbers_of, as_number};
+ghost use Rattle.model_meaning.specs.Integers.{relates};
+ghost use Rattle.model_meaning.specs.Holds.{holds, same, truth_or_true, terms_or_none, members_differ, lists_in_order};
+ghost use Rattle.model_meaning.specs.Limits.{AllInLimit, WhatInLimit};
+
+use crate::booleans::{combine, count_true};
+use crate::integers::{gives, is_aggregate, linear_sum, relates, total, weight_of_true};
+use crate::lists::{all_differ, differ_where, numbers_in_order, truths_in_order};
+use crate::statement::{AllDifferent, Order, Relation};
+use crate::terms::{as_number, number_of, truth_of};
+use crate::what::{BoolTerm, IntTerm, What};
+use bee_list::{Apart, Sequence};
+
+/// Whether two truth values are equal.
+fn same(left: bool, right: bool) -> bool
+    ensures { result ≡ same left right }
+{
+    if left { right } else { !right }
+}
+
+/// Whether a number stands in a relation to the value of a term.
+fn relates_to(relation: Relation, number: i128, values: &[i64], bound: IntTerm) -> bool
+    ensures { result ≡ relates relation number (number_of values.now bound) }
+{
+    relates(relation, number, i128::from(number_of(values, bound)))
+}
+
+/// Whether the values of two terms stand in a relation.
+fn compares(relation: Relation, values: &[i64], left: IntTerm, right: IntTerm) -> bool
+    ensures { result ≡ relates relation (number_of values.now left) (number_of values.now right) }
+{
+    relates_to(relation, i128::from(number_of(values, left)), values, right)
+}
+
+/// Whether the value of a term is the absolute value of another's.
+fn is_absolute(values: &[i64], operand: IntTerm, value: IntTerm) -> bool
+    ensures { result ≡ int_eq (number_of values.now value) (pos (unsigned_abs (number_of values.now operand))) }
+{
+    i128::from(number_of(values, value)) == i128::from(number_of(values, operand).unsigned_abs())
+}
+
+/// The truth value of a term that may be left out; one that is left out is true.
+fn truth_or_true(values: &[i64], truth: &Option<Apart<BoolTerm>>) -> bool
+    ensures { result ≡ truth_or_true values.now truth.now }
+{
+    match truth {
+        Some(term) => truth_of(values, *term.get()),
+        None => true,
+    }
+}
+
+/// The members of a list that may be left out.
+fn terms<T>(list: &Option<Apart<Sequence<T>>>) -> &[T]
+    ensures { result.now ≡ terms_or_none list.now }
+{
+    match list {
+        Some(members) => members.get().as_slice(),
+        None => &[],
+    }
+}
+
+/// Which members differ.
+fn members_differ(
+    kind: AllDifferent,
+    values: &[i64],
+    members: &[IntTerm],
+    truth: bool,
+    conditions: &[BoolTerm],
+) -> bool
+    ensures { result ≡ members_differ kind (numbers_of values.now members.now) truth (truths_of values.now conditions.now) }
+{
+    match kind {
+        AllDifferent::Plain => all_differ(values, members),
+        AllDifferent::Reified => same(truth, all_differ(values, members)),
+        AllDifferent::Conditional => differ_where(values, members, conditions),
+    }
+}
+
+/// Two lists of Booleans, and two of integers, of which an order reads the ones that it names.
+#[derive(Clone, Copy)]
+struct Lists<'a> {
+    left_truths: &'a [BoolTerm],
+    right_truths: &'a [BoolTerm],
+    left_numbers: &'a [IntTerm],
+    right_numbers: &'a [IntTerm],
+}
+
+/// Whether the lists of an order are in it.
+fn lists_in_order(order: Order, values: &[i64], lists: &Lists, truth: bool) -> bool
+    ensures { result ≡ lists_in_order order (truths_of values.now lists.now.left_truths.now) (truths_of values.now lists.now.right_truths.now) (numbers_of values.now lists.now.left_numbers.now) (numbers_of values.now lists.now.right_numbers.now) truth }
+{
+    let in_order = if order.of_booleans {
+        truths_in_order(order.strict, values, lists.left_truths, lists.right_truths)
+    } else {
+        numbers_in_order(
+            order.strict,
+            values,
+            lists.left_numbers,
+            lists.right_numbers,
+        )
+    };
+    if order.reified {
+        same(truth, in_order)
+    } else {
+        in_order
+    }
+}
+
+/// Whether a statement holds.
+#[tactic(auto, unfolding(crate::specs::Holds::holds))]
+pub fn what_holds(values: &[i64], what: &What) -> bool
+    requires what { WhatInLimit what.now }
+    requires values { AllInLimit values.now }
+    ensures { result ≡ holds values.now what.now }
+{
+    match what {
+        What::L3 { truth, number } => {
+            number_of(values, *number) == as_number(truth_of(values, *truth))
+        }
+        What::L4 { left, right } => same(truth_of(values, *left), truth_of(values, *right)),
+        What::L5 {
+            operator,
+            left,
+            right,
+            truth,
+            ..
+        } => same(
+            truth_of(values, *truth),
+            combine(*operator, values, &[*left, *right]),
+        ),
+        What::L6 {
+            operator,
+            members,
+            ..
+        } => combine(*operator, values, members.as_slice()),
+        What::L7 {
+            operator,
+            members,
+            truth,
+            ..
+        } => same(
+            truth_of(values, *truth),
+            combine(*operator, values, members.as_slice()),
+        ),
+        What::L8 {
+            relation,
+            left,
+            right,
+            ..
+        } => compares(*relation, values, *left, *right),
+        What::L9 {
+            relation,
+            left,
+            right,
+            truth,
+            ..
+        } => same(
+            truth_of(values, *truth),
+            compares(*relation, values, *left, *right),
+        ),
+        What::L10 {
+            relation,
+            members,
+            bound,
+            ..
+        } => {
+            let count = count_true(values, members.as_slice()) as i128;
+            relates_to(*relation, count, values, *bound)
+        }
+        What::L11 {
+            relation,
+            coefficients,
+            members,
+            bound,
+            ..
+        } => {
+            let sum = weight_of_true(values, coefficients.as_slice(), members.as_slice());
+            relates_to(*relation, sum, values, *bound)
+        }
+        What::L12 {
+            relation,
+            members,
+            bound,
+            ..
+        } => relates_to(*relation, total(values, members.as_slice()), values, *bound),
+        What::L13 {
+            relation,
+            coefficients,
+            members,
+            bound,
+            ..
+        } => {
+            let sum = linear_sum(values, coefficients.as_slice(), members.as_slice());
+            relates_to(*relation, sum, values, *bound)
+        }
+        What::L14 {
+            operation,
+            left,
+            right,
+            value,
+            ..
+        } => gives(
+            *operation,
+            number_of(values, *left),
+            number_of(values, *right),
+            number_of(values, *value),
+        ),
+        What::L15 { operand, value } => is_absolute(values, *operand, *value),
+        What::L16 {
+            operation,
+            members,
+            value,
+            ..
+        } => is_aggregate(
+            *operation,
+            values,
+            members.as_slice(),
+            number_of(values, *value),
+        ),
+        What::L17 {
+            kind,
+            members,
+            truth,
+            conditions,
+            ..
+        } => members_differ(
+            *kind,
+            values,
+            members.as_slice(),
+            truth_or_true(values, truth),
+            terms(conditions),
+        ),
+        What::L18 {
+            order,
+            left_truths,
+            right_truths,
+            left_numbers,
+            right_numbers,
+            truth,
+            ..
+        } => {
+            let lists = Lists {
+                left_truths: terms(left_truths),
+                right_truths: terms(right_truths),
+                left_numbers: terms(left_numbers),
+                right_numbers: terms(right_numbers),
+            };
+            lists_in_order(*order, values, &lists, truth_or_true(values, truth))
+        }
+    }
+}

@@ -1,0 +1,5 @@
+mod Names
+pub mod ModelShapes
+pub mod Weights
+pub mod FirstFaults
+mod Causes

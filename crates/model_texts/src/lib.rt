@@ -1,0 +1,8 @@
+//! From a text to the model that it says, and the first fault of a text that says none that is compiled.
+#![tactic(auto)]
+
+mod fault;
+mod model_text;
+
+pub use fault::ModelFault;
+pub use model_text::{TextFault, model_of};

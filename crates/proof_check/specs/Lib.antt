@@ -1,0 +1,13 @@
+pub mod Named
+pub mod Values
+pub mod Standing
+pub mod Faults
+pub mod Lrat
+pub mod New
+pub mod Known
+pub mod Laws
+pub mod Lines
+pub mod Room
+pub mod Assigned
+pub mod Arena
+pub mod Checking

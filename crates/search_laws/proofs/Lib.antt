@@ -1,0 +1,3 @@
+pub mod LubyLaws
+pub mod StretchLaws
+pub mod TrailLaws

@@ -1,0 +1,3 @@
+pub mod Luby
+pub mod Stretches
+pub mod TrailNumber

@@ -1,0 +1,6 @@
+pub mod Idle
+mod FirstEnds
+mod TwoEnds
+mod Answering
+pub mod OneAnswer
+pub mod TwoAnswers

@@ -1,0 +1,5 @@
+pub mod Seen
+pub mod Ends
+pub mod Promises
+pub mod OneText
+pub mod TwoTexts

@@ -1,0 +1,13 @@
+//! What a run over one or two texts promises, and its body. A mode of a program is a relation between texts: which text is
+//! written for those that are read, with which outcome, and which fault the first one has.
+#![tactic(auto)]
+
+mod ends;
+mod one_text;
+mod two_texts;
+mod whole_text;
+
+pub use ends::{End, Made, Outcome};
+pub use one_text::{OneText, run_one};
+pub use two_texts::{TwoTexts, run_two};
+pub use whole_text::read_whole;

@@ -1,8 +1,0 @@
-use Rattle.std.proofs.Common.{◌≡◌, drop}
-use Rattle.typed_model.specs.Terms.{truths_of}
-use Rattle.typed_model.specs.Booleans.{some_true}
-use Rattle.typed_model.proofs.booleans.some_true.Given as goal
-
-abbrev pub invariant-loop-member : goal.invariant-loop-member
-invariant-loop-member l =
-    some_true (truths_of l.values (drop l.member-index l.members)) ≡ some_true (truths_of l.values l.members)

@@ -1,7 +1,0 @@
-use Rattle.std.proofs.Common.{ℕ, ◌<◌}
-use Rattle.typed_model.specs.Terms.{value_at}
-use Rattle.typed_model.specs.Limits.{InLimit}
-use Rattle.typed_model.proofs.limits.all_in_limit.Given as goal
-
-abbrev pub invariant-loop-number : goal.invariant-loop-number
-invariant-loop-number l = (k : ℕ) → k < l.number-index → InLimit (value_at l.numbers k)

@@ -1,8 +1,0 @@
-use Rattle.std.proofs.Common.{◌≡◌, drop}
-use Rattle.typed_model.specs.Terms.{numbers_of}
-use Rattle.typed_model.specs.Lists.{differs_from}
-use Rattle.typed_model.proofs.lists.differs_from.Given as goal
-
-abbrev pub invariant-loop-member : goal.invariant-loop-member
-invariant-loop-member l =
-    differs_from l.number (numbers_of l.values (drop l.member-index l.members)) ≡ differs_from l.number (numbers_of l.values l.members)

@@ -1,0 +1,4 @@
+pub mod Different
+pub mod Made
+pub mod Searching
+pub mod Shapes

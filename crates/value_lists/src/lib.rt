@@ -1,0 +1,6 @@
+//! Lists of values, ascending, each once.
+#![tactic(auto)]
+
+mod values;
+
+pub use values::Values;

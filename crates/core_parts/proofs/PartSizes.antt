@@ -14,12 +14,12 @@ use Rattle.core_forms.specs.Basic.{is_basic_of}
 use Rattle.core_forms.specs.Cores.{costs_of}
 use Rattle.core_forms.specs.Cost.{cost_of}
 use Rattle.core_forms.specs.Shapes.{pairs_of_steps}
-use Rattle.core_forms.specs.Sums.{ascending}
+use Rattle.core_forms.specs.Sums.{ascending, gap_of}
 use Rattle.decompose.specs.DifferingParts.{all_values, marks_from, marked, mark_cores, all_mark_cores, are_true, reached_cores, differing_parts}
 use Rattle.decompose.specs.LexParts.{last_order, lex_parts}
 use Rattle.decompose.specs.SumParts.{fresh_of, sum_parts}
 use Rattle.network_encode.specs.CountParts.{half_int, half_fresh, half_cores, halves_parts, count_parts}
-use Rattle.network_encode.specs.MergeParts.{units_of, odd_steps, even_steps, unit_of, further_odd, all_even, row_cores, half_sums, comparators, merged_int, network_parts, merge_parts}
+use Rattle.network_encode.specs.MergeParts.{units_of, odd_steps, even_steps, further_odd, all_even, row_cores, half_sums, comparators, merged_int, network_parts, merge_parts}
 use Rattle.network_encode.proofs.MergeStands.{units-some}
 use Rattle.network_encode.proofs.NetworkLaws.{compound_sum}
 use Rattle.network_encode.proofs.UnitLaws.{length-odd}
@@ -117,7 +117,7 @@ network-none next a b c g ls ms =
 
 merge-members : (next : ℕ) (a b c : OrdInt) → is_basic_of (Sum3 a b c) ≡ false → total_members (merge_parts next a b c).cores < (merge_parts next a b c).fresh + 0
 merge-members next a b c compound =
-    let g = unit_of a b in
+    let g = gap_of a b in
     omega (
       arith,
       network-none next a b c g (units_of g a.steps) (units_of g b.steps),

@@ -3,11 +3,11 @@ use Rattle.std.proofs.Common.{◌≡◌, ℕ, ◌+◌, ◌≤◌, zero, suc, Boo
 use Rattle.std.specs.Prelude.{int_le, int_lt, IsTrue}
 use Rattle.std.specs.Bool.{beq}
 use Rattle.std.specs.Ordering.{int_eq}
+use Rattle.order_ints.specs.Label.{variable}
 use Rattle.order_ints.specs.declared.atom.Atom.{Atom}
 use Rattle.order_ints.specs.declared.order_int.OrdInt.{OrdInt}
 use Rattle.order_ints.specs.Truth.{Valuation, Agree, atom_truth, not_atom}
 use Rattle.order_ints.specs.Place.{AtomBelow}
-use Rattle.order_ints.specs.OrderMade.{atom_of_var}
 use Rattle.order_ints.specs.OrderValue.{value_of, in_order}
 use Rattle.order_ints.proofs.Truths.{atom_truth-not_atom, AtomBelow-not_atom}
 use Rattle.order_ints.proofs.Gains.{value_of-agree}
@@ -112,19 +112,19 @@ module _ (next : ℕ) (r : Atom) (strict : Bool) (a b : OrdInt) (front back : Li
     pub order : atom_truth τ r ≡ (τ next && (τ (next + 3) && true))
 
   abbrev one : Core
-  one = LeqR (atom_of_var next) a b
+  one = LeqR (variable next) a b
 
   abbrev two : Core
-  two = LeqR (atom_of_var (next + 1)) b a
+  two = LeqR (variable (next + 1)) b a
 
   abbrev three : Core
-  three = Lex (atom_of_var (next + 2)) strict front back
+  three = Lex (variable (next + 2)) strict front back
 
   abbrev four : Core
-  four = Conj (not_atom (atom_of_var (next + 3))) (atom_of_var (next + 1) ∷ not_atom (atom_of_var (next + 2)) ∷ [])
+  four = Conj (not_atom (variable (next + 3))) (variable (next + 1) ∷ not_atom (variable (next + 2)) ∷ [])
 
   abbrev five : Core
-  five = Conj r (atom_of_var next ∷ atom_of_var (next + 3) ∷ [])
+  five = Conj r (variable next ∷ variable (next + 3) ∷ [])
 
   split_tells : (τ : Valuation) → MeetsAll τ (split_order next r strict a b front back) → Splits τ
   split_tells τ h =
@@ -133,9 +133,9 @@ module _ (next : ℕ) (r : Atom) (strict : Bool) (a b : OrdInt) (front back : Li
       let u = (MeetsAll-first τ three (four ∷ five ∷ [])).0 t.1 in
       let v = (MeetsAll-first τ four (five ∷ [])).0 u.1 in
       let w = (MeetsAll-first τ five []).0 v.1 in
-      let here = leq_tells τ (atom_of_var next) a b s.0 in
-      let there = leq_tells τ (atom_of_var (next + 1)) b a t.0 in
-      let rests = lex_tells τ (atom_of_var (next + 2)) strict front back u.0 in
+      let here = leq_tells τ (variable next) a b s.0 in
+      let there = leq_tells τ (variable (next + 1)) b a t.0 in
+      let rests = lex_tells τ (variable (next + 2)) strict front back u.0 in
       record {
         first = here.0;
         second = here.1;
@@ -151,11 +151,11 @@ module _ (next : ℕ) (r : Atom) (strict : Bool) (a b : OrdInt) (front back : Li
   split_made : (τ : Valuation) → Splits τ → MeetsAll τ (split_order next r strict a b front back)
   split_made τ s =
       (MeetsAll-first τ one (two ∷ three ∷ four ∷ five ∷ [])).1 (
-        leq_made τ (atom_of_var next) a b s.first s.second s.less,
+        leq_made τ (variable next) a b s.first s.second s.less,
         (MeetsAll-first τ two (three ∷ four ∷ five ∷ [])).1 (
-          leq_made τ (atom_of_var (next + 1)) b a s.second s.first s.greater,
+          leq_made τ (variable (next + 1)) b a s.second s.first s.greater,
           (MeetsAll-first τ three (four ∷ five ∷ [])).1 (
-            lex_made τ (atom_of_var (next + 2)) strict front back s.fronts s.backs s.rest,
+            lex_made τ (variable (next + 2)) strict front back s.fronts s.backs s.rest,
             (MeetsAll-first τ four (five ∷ [])).1 (
               beq_made (not (τ (next + 3))) (τ (next + 1) && (not (τ (next + 2)) && true)) s.undecided,
               (MeetsAll-first τ five []).1 (beq_made (atom_truth τ r) (τ next && (τ (next + 3) && true)) s.order, refl),
@@ -238,10 +238,10 @@ split_fits next r strict a b front back some well below =
     let up = CoreBelow-more next (next + 4) (Lex r strict (a ∷ front) (b ∷ back)) (omega arith) below in
     let all = IntsBelow-left (next + 4) (a ∷ front) (b ∷ back) up.1 in
     let others = IntsBelow-right (next + 4) (a ∷ front) (b ∷ back) up.1 in
-    let l : AtomBelow (next + 4) (atom_of_var next) = (omega arith, omega arith) in
-    let g : AtomBelow (next + 4) (atom_of_var (next + 1)) = (omega arith, omega arith) in
-    let t : AtomBelow (next + 4) (atom_of_var (next + 2)) = (omega arith, omega arith) in
-    let u : AtomBelow (next + 4) (atom_of_var (next + 3)) = (omega arith, omega arith) in
+    let l : AtomBelow (next + 4) (variable next) = (omega arith, omega arith) in
+    let g : AtomBelow (next + 4) (variable (next + 1)) = (omega arith, omega arith) in
+    let t : AtomBelow (next + 4) (variable (next + 2)) = (omega arith, omega arith) in
+    let u : AtomBelow (next + 4) (variable (next + 3)) = (omega arith, omega arith) in
     record {
       formed = ((well.0.0, well.1.0), ((well.1.0, well.0.0), ((well.0.1, well.1.1, omega (arith, well.2)), (tt, (tt, tt)))));
       below = (

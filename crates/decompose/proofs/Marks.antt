@@ -4,6 +4,7 @@ use Rattle.std.specs.Prelude.{IsTrue}
 use Rattle.std.specs.Ordering.{int_eq}
 use Rattle.std.proofs.lemmas.Int.{ints}
 use mathlib.Core.Bool.{and_comm}
+use Rattle.order_ints.specs.Label.{variable}
 use Rattle.order_ints.specs.declared.atom.Atom.{Atom}
 use Rattle.order_ints.specs.declared.atom.Atom.TheVariants.{True}
 use Rattle.order_ints.specs.declared.order_int.OrdInt.{OrdInt}
@@ -12,7 +13,7 @@ use Rattle.order_ints.specs.Place.{AtomsBelow}
 use Rattle.order_ints.specs.OrderRange.{AreRising}
 use Rattle.order_ints.specs.OrderValue.{value_of, in_order, IsOrdered}
 use Rattle.order_ints.specs.OrderLevels.{levels, values_of, is_among}
-use Rattle.order_ints.specs.OrderMade.{atom_of_var, AscendFrom, AreAscending}
+use Rattle.order_ints.specs.OrderMade.{AscendFrom, AreAscending}
 use Rattle.order_ints.proofs.Reaching.{Contains-value_of}
 use Rattle.core_forms.specs.Truths.{true_count, truths}
 use Rattle.core_forms.specs.Values.{all_ordered, values}
@@ -33,7 +34,7 @@ pub marks_from-append : (var : ℕ) (vs ws : List ℤ) → marks_from var (vs ++
 marks_from-append var [] ws = let e : var ≡ var + 0 = omega arith in ap (λ n. marks_from n ws) e
 marks_from-append var (v ∷ vs) ws =
     let e : var + 1 + length vs ≡ var + suc (length vs) = omega arith in
-    ap (λ ms. (v, atom_of_var var) ∷ ms) (marks_from-append (var + 1) vs ws ∙ ap (λ n. marks_from (var + 1) vs ++ marks_from n ws) e)
+    ap (λ ms. (v, variable var) ∷ ms) (marks_from-append (var + 1) vs ws ∙ ap (λ n. marks_from (var + 1) vs ++ marks_from n ws) e)
 
 pub length-marks : (var : ℕ) (vs : List ℤ) → length (marks_from var vs) ≡ length vs
 length-marks var [] = refl
@@ -49,7 +50,7 @@ marked-append w (m ∷ ms) ns =
 absent : (w k : ℤ) (var : ℕ) (vs : List ℤ) → AscendFrom k vs → w ≤ℤ k → marked w (marks_from var vs) ≡ []
 absent w k var [] up le = refl
 absent w k var (v ∷ vs) up le =
-    ap (λ t. cond t (atom_of_var var ∷ marked w (marks_from (var + 1) vs)) (marked w (marks_from (var + 1) vs))) (int_eq-false w v (λ e. omega (arith, ints, e, le, up.0)))
+    ap (λ t. cond t (variable var ∷ marked w (marks_from (var + 1) vs)) (marked w (marks_from (var + 1) vs))) (int_eq-false w v (λ e. omega (arith, ints, e, le, up.0)))
     ∙ absent w v (var + 1) vs up.1 (omega (arith, ints, le, up.0))
 
 pub ascend-rest : (v : ℤ) (vs : List ℤ) → AscendFrom v vs → AreAscending vs
@@ -60,7 +61,7 @@ ascend-rest v (w ∷ vs) up = up.1
 pub marked-below : (n : ℕ) (w : ℤ) (var : ℕ) (vs : List ℤ) → 1 ≤ var → var + length vs ≤ n → AtomsBelow n (marked w (marks_from var vs))
 marked-below n w var [] some few = tt
 marked-below n w var (v ∷ vs) some few =
-    elim (int_eq w v) as (λ t. AtomsBelow n (cond t (atom_of_var var ∷ marked w (marks_from (var + 1) vs)) (marked w (marks_from (var + 1) vs))))
+    elim (int_eq w v) as (λ t. AtomsBelow n (cond t (variable var ∷ marked w (marks_from (var + 1) vs)) (marked w (marks_from (var + 1) vs))))
     [ true ↦ ((some, omega arith), marked-below n w (var + 1) vs (omega arith) (omega arith)) | false ↦ marked-below n w (var + 1) vs (omega arith) (omega arith) ]
 
 -- ---- the values of an integer ascend
@@ -112,13 +113,13 @@ module _ (τ : Valuation) where
       → true_count τ (marked w (marks_from var vs)) ≡ cond (is_among w vs && (int_eq w (value_of τ a) && atom_truth τ c)) 1 0
   listed-count w var a c [] up h = refl
   listed-count w var a c (v ∷ vs) up h =
-      elim (int_eq w v) as (λ t. int_eq w v ≡ t → true_count τ (cond t (atom_of_var var ∷ marked w (marks_from (var + 1) vs)) (marked w (marks_from (var + 1) vs)))
+      elim (int_eq w v) as (λ t. int_eq w v ≡ t → true_count τ (cond t (variable var ∷ marked w (marks_from (var + 1) vs)) (marked w (marks_from (var + 1) vs)))
       ≡ cond ((int_eq v w || is_among w vs) && (int_eq w (value_of τ a) && atom_truth τ c)) 1 0) [
         | true ↦ λ e. here (int_eq_tells w v e)
         | false ↦ λ e. there (λ is. absurd (let k = int_eq_made w v is in cc)) (listed-count w (var + 1) a c vs (ascend-rest v vs up) h.1)
       ] refl
     where
-      here : w ≡ v → true_count τ (atom_of_var var ∷ marked w (marks_from (var + 1) vs)) ≡ cond ((int_eq v w || is_among w vs) && (int_eq w (value_of τ a) && atom_truth τ c)) 1 0
+      here : w ≡ v → true_count τ (variable var ∷ marked w (marks_from (var + 1) vs)) ≡ cond ((int_eq v w || is_among w vs) && (int_eq w (value_of τ a) && atom_truth τ c)) 1 0
       here is =
           let none = absent w v (var + 1) vs up (omega (arith, ints, is)) in
           let first : int_eq v w ≡ true = int_eq_made v w (sym is) in

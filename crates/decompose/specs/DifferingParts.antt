@@ -2,11 +2,11 @@
 -- and that its condition is true.
 use Rattle.std.specs.Prelude.{ℕ, ◌+◌, ◌==◌, Bool, true, ◌&&◌, List, [], ◌∷◌, ◌++◌, map, length, ℤ, pos, ◌+ℤ◌, if◌then◌else◌}
 use Rattle.std.specs.Ordering.{int_eq}
+use Rattle.order_ints.specs.Label.{variable}
 use Rattle.order_ints.specs.declared.atom.Atom.{Atom}
 use Rattle.order_ints.specs.declared.order_int.OrdInt.{OrdInt}
 use Rattle.order_ints.specs.Truth.{not_atom}
 use Rattle.order_ints.specs.OrderLevels.{values_of, at_of}
-use Rattle.order_ints.specs.OrderMade.{atom_of_var}
 use Rattle.order_ints.specs.Same.{is_true}
 use Rattle.core_forms.specs.declared.form.Core.{Core}
 use Rattle.core_forms.specs.declared.form.Core.TheVariants.{Ladder, Clause, Conj, Amo}
@@ -21,7 +21,7 @@ all_values (a ∷ ints) = values_of a ++ all_values ints
 -- the listed values with their marks, which are the variables from one on
 abbrev pub marks_from : ℕ → List ℤ → List (ℤ × Atom)
 marks_from var [] = []
-marks_from var (v ∷ vs) = (v, atom_of_var var) ∷ marks_from (var + 1) vs
+marks_from var (v ∷ vs) = (v, variable var) ∷ marks_from (var + 1) vs
 
 -- the marks of one value
 abbrev pub marked : ℤ → List (ℤ × Atom) → List Atom
@@ -30,7 +30,7 @@ marked v (m ∷ marks) = if int_eq v m.0 then m.1 ∷ marked v marks else marked
 
 -- a mark is true exactly where the member has its value and the condition is true
 abbrev pub mark_core : ℕ → OrdInt → Atom → ℤ → Core
-mark_core var a c v = Conj (atom_of_var var) (at_of a v ∷ not_atom (at_of a (v +ℤ pos 1)) ∷ c ∷ [])
+mark_core var a c v = Conj (variable var) (at_of a v ∷ not_atom (at_of a (v +ℤ pos 1)) ∷ c ∷ [])
 
 -- that of each listed value of a member
 abbrev pub mark_cores : ℕ → OrdInt → Atom → List ℤ → List Core

@@ -1,9 +1,9 @@
 -- The parts of an order of words: its first pair of members is compared, and where they are equal the rests are.
 use Rattle.std.specs.Prelude.{ℕ, ◌+◌, Bool, List, [], ◌∷◌, if◌then◌else◌}
+use Rattle.order_ints.specs.Label.{variable}
 use Rattle.order_ints.specs.declared.atom.Atom.{Atom}
 use Rattle.order_ints.specs.declared.order_int.OrdInt.{OrdInt}
 use Rattle.order_ints.specs.Truth.{not_atom}
-use Rattle.order_ints.specs.OrderMade.{atom_of_var}
 use Rattle.core_forms.specs.declared.form.Core.{Core}
 use Rattle.core_forms.specs.declared.form.Core.TheVariants.{Clause, Conj, LeqR, Lex}
 use Rattle.part_base.specs.declared.parts.Parts.{Parts}
@@ -24,11 +24,11 @@ last_order r strict a b = if strict then LeqR (not_atom r) b a else LeqR r a b
 -- is at most a and t is false; r is true where l and u are
 abbrev pub split_order : ℕ → Atom → Bool → OrdInt → OrdInt → List OrdInt → List OrdInt → List Core
 split_order next r strict a b front back =
-    LeqR (atom_of_var next) a b
-    ∷ LeqR (atom_of_var (next + 1)) b a
-    ∷ Lex (atom_of_var (next + 2)) strict front back
-    ∷ Conj (not_atom (atom_of_var (next + 3))) (atom_of_var (next + 1) ∷ not_atom (atom_of_var (next + 2)) ∷ [])
-    ∷ Conj r (atom_of_var next ∷ atom_of_var (next + 3) ∷ [])
+    LeqR (variable next) a b
+    ∷ LeqR (variable (next + 1)) b a
+    ∷ Lex (variable (next + 2)) strict front back
+    ∷ Conj (not_atom (variable (next + 3))) (variable (next + 1) ∷ not_atom (variable (next + 2)) ∷ [])
+    ∷ Conj r (variable next ∷ variable (next + 3) ∷ [])
     ∷ []
 
 abbrev pub lex_parts : ℕ → Atom → Bool → List OrdInt → List OrdInt → Parts

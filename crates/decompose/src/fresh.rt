@@ -1,7 +1,7 @@
 //! What the parts of all forms are made with.
 
+ghost use Rattle.order_ints.specs.Label.{variable};
 ghost use Rattle.std.specs.Prelude.{◌≡◌, ◌<◌, ◌∷◌, IfOk, length};
-ghost use Rattle.order_ints.specs.OrderMade.{atom_of_var};
 ghost use Rattle.decompose.specs.LexParts.{alone};
 
 use bee_list::Sequence;
@@ -12,7 +12,7 @@ use std::alloc::{AllocError, Global};
 
 /// The variable itself, as an atom.
 pub(crate) fn atom_of(var: u32) -> Atom
-    ensures { result ≡ atom_of_var var }
+    ensures { result ≡ variable var }
 {
     Atom::Of(Lit::of(var, true))
 }

@@ -7,9 +7,10 @@ use Rattle.std.proofs.lemmas.Bool.{false≢true}
 use Rattle.std.proofs.lemmas.Bool.Decides.{Decides-int_eq}
 use Rattle.std.proofs.lemmas.Int.{ints, by_lt_z}
 use Rattle.std.proofs.lemmas.List.{take_more}
+use Rattle.order_ints.specs.Label.{own_labels, variable}
 use Rattle.order_ints.specs.declared.order_int.OrdInt.{OrdInt}
 use Rattle.order_ints.specs.Truth.{Valuation, Agree, atom_truth}
-use Rattle.order_ints.specs.OrderMade.{atom_of_var, unit_range_of, values_from, vars_from, integer_of_values, AreSmall}
+use Rattle.order_ints.specs.OrderMade.{unit_range_of, values_from, integer_of_values, AreSmall}
 use Rattle.order_ints.specs.OrderRange.{IntBelow}
 use Rattle.order_ints.specs.OrderValue.{value_of}
 use Rattle.order_ints.specs.Numbers.{number_of, numbers_of}
@@ -72,7 +73,7 @@ bool-laws vars = record {
   below = tt;
   well_formed = tt;
   ordered = λ σ h. tt;
-  some = λ σ h. bit-in_domain (atom_truth σ (atom_of_var (vars + 1)));
+  some = λ σ h. bit-in_domain (atom_truth σ (variable (vars + 1)));
   each = λ σ v h.
       let t : Bool = int_eq v (pos 1) in (
         set_from σ (vars + 1) t,
@@ -195,7 +196,7 @@ listed-laws vars vs fit small =
     let count : ℕ = vars_taken (kind.Listed vs) in
     let first : ℕ = vars + 1 in
     let a : OrdInt = integer_of_values vs first in
-    let atoms = atoms-integer_of_values vs first ∙ ap (vars_from first) (further_listed vs) in
+    let atoms = atoms-integer_of_values vs first ∙ ap (own_labels first) (further_listed vs) in
     let values : values_of a ≡ vs = values_of-integer_of_values vs first fit.0 fit.1 in
     let below : IntBelow (vars + count + 1) a =
     StepsBelow-vars (vars + count + 1) first count a.steps atoms (λ _. omega arith) (omega arith) in

@@ -1,8 +1,9 @@
 -- From a model to cores and to what each declared name stands for, item by item.
 use Rattle.std.specs.Prelude.{ℕ, ◌+◌, pos, ◌-ℤ◌, List, [], ◌∷◌, ◌++◌}
+use Rattle.order_ints.specs.Label.{variable}
 use Rattle.order_ints.specs.declared.order_int.MapValue.{MapValue}
 use Rattle.order_ints.specs.declared.order_int.MapValue.TheVariants as values
-use Rattle.order_ints.specs.OrderMade.{atom_of_var, constant_of, integer_of_atom, unit_range_of, integer_of_values}
+use Rattle.order_ints.specs.OrderMade.{constant_of, integer_of_atom, unit_range_of, integer_of_values}
 use Rattle.core_forms.specs.declared.form.Core.{Core}
 use Rattle.core_forms.specs.declared.form.Core.TheVariants.{Ladder}
 use Rattle.model_meaning.specs.declared.model.Kind.{Kind}
@@ -25,7 +26,7 @@ vars_taken (kind.Listed vs) = (shape_of vs).steps
 
 -- what a name stands for that is declared where there are so many variables
 abbrev pub entry_of : ℕ → Kind → MapValue
-entry_of vars kind.Bool = values.Bool (atom_of_var (vars + 1))
+entry_of vars kind.Bool = values.Bool (variable (vars + 1))
 entry_of vars (kind.Range low high) = values.Int (unit_range_of low (vars + 1) (vars_taken (kind.Range low high)))
 entry_of vars (kind.Listed vs) = values.Int (integer_of_values vs (vars + 1))
 

@@ -3,9 +3,9 @@ use Rattle.std.proofs.Common.{◌≡◌, ℕ, zero, suc, ◌+◌, ◌≤◌, Boo
 use Rattle.std.specs.Prelude.{nat_le}
 use Rattle.std.proofs.lemmas.Bool.Decides.{nat_tests}
 use Rattle.std.proofs.lemmas.List.{length-append}
+use Rattle.order_ints.specs.Label.{variable}
 use Rattle.order_ints.specs.declared.atom.Atom.{Atom}
 use Rattle.order_ints.specs.Truth.{Valuation, Agree, atom_truth, not_atom}
-use Rattle.order_ints.specs.OrderMade.{atom_of_var}
 use Rattle.order_ints.proofs.Gains.{AtomBelow-more}
 use Rattle.order_ints.proofs.Truths.{atom_truth-not_atom}
 use Rattle.order_ints.proofs.TruthLaws.{atom_agrees}
@@ -80,12 +80,12 @@ cost-more (suc (suc k)) h = refl
 module _ (next : ℕ) (l m n : Atom) (rest : List Atom) where
   implies : (σ : Valuation) → MeetsAll σ (amo_parts next (l ∷ m ∷ n ∷ rest)).cores → Meets σ (Amo (l ∷ m ∷ n ∷ rest))
   implies σ met =
-      let front = core_truth σ (Amo (l ∷ m ∷ n ∷ not_atom (atom_of_var next) ∷ [])) in
-      let back = core_truth σ (Amo (rest ++ atom_of_var next ∷ [])) in
-      let first = true-le (true_count σ (l ∷ m ∷ n ∷ not_atom (atom_of_var next) ∷ [])) 1 (and-left front (back && true) met) in
-      let second = true-le (true_count σ (rest ++ atom_of_var next ∷ [])) 1 (and-left back true (and-right front (back && true) met)) in
+      let front = core_truth σ (Amo (l ∷ m ∷ n ∷ not_atom (variable next) ∷ [])) in
+      let back = core_truth σ (Amo (rest ++ variable next ∷ [])) in
+      let first = true-le (true_count σ (l ∷ m ∷ n ∷ not_atom (variable next) ∷ [])) 1 (and-left front (back && true) met) in
+      let second = true-le (true_count σ (rest ++ variable next ∷ [])) 1 (and-left back true (and-right front (back && true) met)) in
       le-true (true_count σ (l ∷ m ∷ n ∷ rest)) 1
-      (omega (arith, first, second, count-front σ l m n (atom_of_var next) rest, count-all σ l m n (atom_of_var next) rest, count-last σ rest (atom_of_var next), fresh-count σ (atom_of_var next)))
+      (omega (arith, first, second, count-front σ l m n (variable next) rest, count-all σ l m n (variable next) rest, count-last σ rest (variable next), fresh-count σ (variable next)))
 
   -- the fresh variable is true where one of the three members is
   changed : Valuation → Valuation
@@ -103,26 +103,26 @@ module _ (next : ℕ) (l m n : Atom) (rest : List Atom) where
       let sn : atom_truth σ n ≡ atom_truth τ n = atom_agrees next σ τ same n below.0.1.1.0 in
       let counts : true_count σ (l ∷ m ∷ n ∷ []) ≡ true_count τ (l ∷ m ∷ n ∷ []) =
       omega (arith, count-cons σ l (m ∷ n ∷ []), count-cons σ m (n ∷ []), count-cons σ n [], count-cons τ l (m ∷ n ∷ []), count-cons τ m (n ∷ []), count-cons τ n [], ap one_if sl, ap one_if sm, ap one_if sn) in
-      let three : true_count τ (l ∷ m ∷ n ∷ []) ≤ 1 = omega (arith, few, count-all τ l m n (atom_of_var next) rest) in
-      let is : one_if (atom_truth τ (atom_of_var next)) ≡ true_count τ (l ∷ m ∷ n ∷ []) =
+      let three : true_count τ (l ∷ m ∷ n ∷ []) ≤ 1 = omega (arith, few, count-all τ l m n (variable next) rest) in
+      let is : one_if (atom_truth τ (variable next)) ≡ true_count τ (l ∷ m ∷ n ∷ []) =
       ap one_if (truth-first next σ (λ _. is_some_of (true_count σ (l ∷ m ∷ n ∷ []))) ∙ ap is_some_of counts) ∙ some-counts (true_count τ (l ∷ m ∷ n ∷ [])) three in
-      let first : core_truth τ (Amo (l ∷ m ∷ n ∷ not_atom (atom_of_var next) ∷ [])) ≡ true =
-      le-true (true_count τ (l ∷ m ∷ n ∷ not_atom (atom_of_var next) ∷ [])) 1 (omega (arith, count-front τ l m n (atom_of_var next) rest, fresh-count τ (atom_of_var next), is)) in
-      let second : core_truth τ (Amo (rest ++ atom_of_var next ∷ [])) ≡ true =
-      le-true (true_count τ (rest ++ atom_of_var next ∷ [])) 1 (omega (arith, count-last τ rest (atom_of_var next), is, few, count-all τ l m n (atom_of_var next) rest)) in
-      (τ, same, both (core_truth τ (Amo (l ∷ m ∷ n ∷ not_atom (atom_of_var next) ∷ []))) (core_truth τ (Amo (rest ++ atom_of_var next ∷ []))) first second)
+      let first : core_truth τ (Amo (l ∷ m ∷ n ∷ not_atom (variable next) ∷ [])) ≡ true =
+      le-true (true_count τ (l ∷ m ∷ n ∷ not_atom (variable next) ∷ [])) 1 (omega (arith, count-front τ l m n (variable next) rest, fresh-count τ (variable next), is)) in
+      let second : core_truth τ (Amo (rest ++ variable next ∷ [])) ≡ true =
+      le-true (true_count τ (rest ++ variable next ∷ [])) 1 (omega (arith, count-last τ rest (variable next), is, few, count-all τ l m n (variable next) rest)) in
+      (τ, same, both (core_truth τ (Amo (l ∷ m ∷ n ∷ not_atom (variable next) ∷ []))) (core_truth τ (Amo (rest ++ variable next ∷ []))) first second)
 
   fit : 1 ≤ next → CoreBelow next (Amo (l ∷ m ∷ n ∷ rest)) → DoFit next (amo_parts next (l ∷ m ∷ n ∷ rest))
   fit least below = record {
     formed = (tt, (tt, tt));
     below = (
       ((AtomBelow-more next (next + 1) l (omega arith) below.0.0, (AtomBelow-more next (next + 1) m (omega arith) below.0.1.0, (AtomBelow-more next (next + 1) n (omega arith) below.0.1.1.0, (fresh_below next least, tt)))), tt),
-      ((AtomsBelow-last (next + 1) rest (atom_of_var next) (AtomsBelow-up next (next + 1) (omega arith) rest below.0.1.1.1) (fresh_below next least), tt), tt),
+      ((AtomsBelow-last (next + 1) rest (variable next) (AtomsBelow-up next (next + 1) (omega arith) rest below.0.1.1.1) (fresh_below next least), tt), tt),
     );
   }
 
   cost : 2 ≤ length rest → 1 + costs_of (amo_parts next (l ∷ m ∷ n ∷ rest)).cores ≤ cost_of (Amo (l ∷ m ∷ n ∷ rest))
-  cost more = omega (arith, ap cost_of_amo (length-append rest (atom_of_var next ∷ [])), cost-more (length rest) more, ap cost_of_amo longer)
+  cost more = omega (arith, ap cost_of_amo (length-append rest (variable next ∷ [])), cost-more (length rest) more, ap cost_of_amo longer)
     where
       longer : length rest + 1 ≡ suc (length rest)
       longer = omega arith

@@ -6,13 +6,13 @@ use Rattle.std.proofs.Common.{◌≡◌, ℕ, zero, suc, ◌+◌, ◌*◌, ◌-�
 use Rattle.std.specs.Bool.{beq}
 use Rattle.std.specs.Ordering.{int_eq}
 use Rattle.std.proofs.lemmas.Int.{ints}
+use Rattle.order_ints.specs.Label.{own_labels, variable}
 use Rattle.order_ints.specs.declared.atom.Atom.{Atom}
 use Rattle.order_ints.specs.declared.atom.Atom.TheVariants.{True}
 use Rattle.order_ints.specs.declared.order_int.OrdInt.{OrdInt}
 use Rattle.order_ints.specs.Truth.{Valuation, Agree}
 use Rattle.order_ints.specs.Place.{AtomsBelow}
 use Rattle.order_ints.specs.OrderValue.{gains, value_of}
-use Rattle.order_ints.specs.OrderMade.{atom_of_var, vars_from}
 use Rattle.order_ints.proofs.Gains.{gains-agree}
 use Rattle.order_ints.proofs.PlaceLaws.{AtomsBelow-up}
 use Rattle.order_ints.proofs.Standing.{Agree-fewer, Agree-trans}
@@ -32,23 +32,23 @@ use Rattle.network_encode.proofs.UnitLaws.{AreMultiples, gains-units, length-odd
 
 -- ---- the wires
 
-pub first-var : (next n : ℕ) → 1 ≤ n → vars_from next n ≡ atom_of_var next ∷ further_odd next n
+pub first-var : (next n : ℕ) → 1 ≤ n → own_labels next n ≡ variable next ∷ further_odd next n
 first-var next zero some = absurd (omega (arith, some))
 first-var next (suc n) some =
-    let e : n ≡ suc n - 1 = omega arith in ap (λ count. atom_of_var next ∷ vars_from (next + 1) count) e
+    let e : n ≡ suc n - 1 = omega arith in ap (λ count. variable next ∷ own_labels (next + 1) count) e
 
 -- the first atom of the odd ones is true where any atom is; the comparators put the others in order
-wires-behind : (σ : Valuation) (next x y fresh : ℕ) (ds es : List Atom) → y ≤ x → x ≤ y + 2 → Sorted σ x (atom_of_var next ∷ ds) → Sorted σ y es → MeetsAll σ (row_cores fresh ds es) → Sorted σ (x + y) (atom_of_var next ∷ row_wires fresh ds es)
+wires-behind : (σ : Valuation) (next x y fresh : ℕ) (ds es : List Atom) → y ≤ x → x ≤ y + 2 → Sorted σ x (variable next ∷ ds) → Sorted σ y es → MeetsAll σ (row_cores fresh ds es) → Sorted σ (x + y) (variable next ∷ row_wires fresh ds es)
 wires-behind σ next zero y fresh ds es more few odd even met =
     let none : y ≡ 0 = omega (arith, more) in
     let row = sorted-row σ fresh 0 y ds es (omega arith) (omega (arith, none)) odd.1 even met in
     let count : 0 + y ≡ 0 = omega (arith, none) in
-    sorted-same σ 0 (zero + y) (atom_of_var next ∷ row_wires fresh ds es) (sym count) (odd.0, sorted-same σ (0 + y) 0 (row_wires fresh ds es) count row)
+    sorted-same σ 0 (zero + y) (variable next ∷ row_wires fresh ds es) (sym count) (odd.0, sorted-same σ (0 + y) 0 (row_wires fresh ds es) count row)
 wires-behind σ next (suc x) y fresh ds es more few odd even met =
     let row = sorted-row σ fresh x y ds es (omega (arith, few)) (omega (arith, more)) odd.1 even met in
-    sorted-same σ (suc (x + y)) (suc x + y) (atom_of_var next ∷ row_wires fresh ds es) (omega arith) (odd.0, row)
+    sorted-same σ (suc (x + y)) (suc x + y) (variable next ∷ row_wires fresh ds es) (omega arith) (odd.0, row)
 
-pub wires-sorted : (σ : Valuation) (next n k x y : ℕ) → 1 ≤ n → y ≤ x → x ≤ y + 2 → Sorted σ x (vars_from next n) → Sorted σ y (all_even next n k) → MeetsAll σ (comparators next n k) → Sorted σ (x + y) (wires next n k)
+pub wires-sorted : (σ : Valuation) (next n k x y : ℕ) → 1 ≤ n → y ≤ x → x ≤ y + 2 → Sorted σ x (own_labels next n) → Sorted σ y (all_even next n k) → MeetsAll σ (comparators next n k) → Sorted σ (x + y) (wires next n k)
 wires-sorted σ next n k x y some more few odd even met =
     wires-behind σ next x y (next + n + k) (further_odd next n) (all_even next n k) more few
     (subst (λ (ls : List Atom). Sorted σ x ls) (first-var next n some) odd) even met
@@ -92,7 +92,7 @@ module _ (next : ℕ) (a b c : OrdInt) (g : ℕ) (ls ms : List Atom) (some : 1 �
     pub second_gain : gains σ b.steps ≡ g * k
 
   -- the wires are in order where both sides, their sums and the comparators are
-  in-order : (σ : Valuation) (j k : ℕ) → SidesIn σ j k → Sorted σ (half_up j + half_up k) (vars_from next (odd_steps ls ms)) → Sorted σ (half_down j + half_down k) (all_even next (odd_steps ls ms) (even_steps ls ms)) → MeetsAll σ (comparators next (odd_steps ls ms) (even_steps ls ms)) → Sorted σ (j + k) (wires next (odd_steps ls ms) (even_steps ls ms))
+  in-order : (σ : Valuation) (j k : ℕ) → SidesIn σ j k → Sorted σ (half_up j + half_up k) (own_labels next (odd_steps ls ms)) → Sorted σ (half_down j + half_down k) (all_even next (odd_steps ls ms) (even_steps ls ms)) → MeetsAll σ (comparators next (odd_steps ls ms) (even_steps ls ms)) → Sorted σ (j + k) (wires next (odd_steps ls ms) (even_steps ls ms))
   in-order σ j k sides odd even row =
       sorted-same σ (half_up j + half_up k + (half_down j + half_down k)) (j + k) (wires next (odd_steps ls ms) (even_steps ls ms)) (both-halves j k)
       (wires-sorted σ next (odd_steps ls ms) (even_steps ls ms) (half_up j + half_up k) (half_down j + half_down k) some (up-more j k) (up-few j k) odd even row)
@@ -127,7 +127,7 @@ module _ (next : ℕ) (a b c : OrdInt) (g : ℕ) (ls ms : List Atom) (some : 1 �
 
   -- ---- each valuation that meets the sum can be changed so that it meets the parts
 
-  met-parts : (τ : Valuation) (j k : ℕ) → SidesIn τ j k → Meets τ (Sum3 a b c) → Sorted τ (half_up j + half_up k) (vars_from next (odd_steps ls ms)) → Sorted τ (half_down j + half_down k) (all_even next (odd_steps ls ms) (even_steps ls ms)) → MeetsAll τ (comparators next (odd_steps ls ms) (even_steps ls ms)) → MeetsAll τ (network_parts next a b c g ls ms).cores
+  met-parts : (τ : Valuation) (j k : ℕ) → SidesIn τ j k → Meets τ (Sum3 a b c) → Sorted τ (half_up j + half_up k) (own_labels next (odd_steps ls ms)) → Sorted τ (half_down j + half_down k) (all_even next (odd_steps ls ms) (even_steps ls ms)) → MeetsAll τ (comparators next (odd_steps ls ms) (even_steps ls ms)) → MeetsAll τ (network_parts next a b c g ls ms).cores
   met-parts τ j k sides met odd even row =
       let f = merged_int next a b g ls ms in
       let orders = ordered τ a && (ordered τ b && ordered τ c) in
@@ -163,16 +163,16 @@ module _ (next : ℕ) (a b c : OrdInt) (g : ℕ) (ls ms : List Atom) (some : 1 �
       vars-below (next + odd_steps ls ms + even_steps ls ms) (next + odd_steps ls ms) (even_steps ls ms) (omega (arith, least)) (omega arith)
 
   -- the variables of the first sum, then those of the second and then those of the comparators are changed
-  changed : (σ ρ υ τ : Valuation) (j k : ℕ) → 1 ≤ next → CoreBelow next (Sum3 a b c) → AtomsBelow next ls → AtomsBelow next ms → SidesIn σ j k → Meets σ (Sum3 a b c) → Agree next σ ρ → Sorted ρ (half_up j + half_up k) (vars_from next (odd_steps ls ms)) → Agree (next + odd_steps ls ms) ρ υ → Sorted υ (half_down j + half_down k) (all_even next (odd_steps ls ms) (even_steps ls ms)) → Agree (next + odd_steps ls ms + even_steps ls ms) υ τ → MeetsAll τ (comparators next (odd_steps ls ms) (even_steps ls ms)) → Agree next σ τ × MeetsAll τ (network_parts next a b c g ls ms).cores
+  changed : (σ ρ υ τ : Valuation) (j k : ℕ) → 1 ≤ next → CoreBelow next (Sum3 a b c) → AtomsBelow next ls → AtomsBelow next ms → SidesIn σ j k → Meets σ (Sum3 a b c) → Agree next σ ρ → Sorted ρ (half_up j + half_up k) (own_labels next (odd_steps ls ms)) → Agree (next + odd_steps ls ms) ρ υ → Sorted υ (half_down j + half_down k) (all_even next (odd_steps ls ms) (even_steps ls ms)) → Agree (next + odd_steps ls ms + even_steps ls ms) υ τ → MeetsAll τ (comparators next (odd_steps ls ms) (even_steps ls ms)) → Agree next σ τ × MeetsAll τ (network_parts next a b c g ls ms).cores
   changed σ ρ υ τ j k least below bl bm sides met one odd two even three row =
       let n = odd_steps ls ms in
       let m = even_steps ls ms in
       let to_two : Agree next ρ υ = Agree-fewer next (next + n) ρ υ (omega arith) two in
       let to_three : Agree next υ τ = Agree-fewer next (next + n + m) υ τ (omega arith) three in
       let same : Agree next σ τ = Agree-trans next σ υ τ (Agree-trans next σ ρ υ one to_two) to_three in
-      let bo : AtomsBelow (next + odd_steps ls ms) (vars_from next (odd_steps ls ms)) = vars-below (next + odd_steps ls ms) next (odd_steps ls ms) least (omega arith) in
-      let odd_two = sorted-agree (next + n) ρ υ (half_up j + half_up k) (vars_from next n) two bo odd in
-      let odd_three = sorted-agree (next + n + m) υ τ (half_up j + half_up k) (vars_from next n) three (AtomsBelow-up (next + n) (next + n + m) (omega arith) (vars_from next n) bo) odd_two in
+      let bo : AtomsBelow (next + odd_steps ls ms) (own_labels next (odd_steps ls ms)) = vars-below (next + odd_steps ls ms) next (odd_steps ls ms) least (omega arith) in
+      let odd_two = sorted-agree (next + n) ρ υ (half_up j + half_up k) (own_labels next n) two bo odd in
+      let odd_three = sorted-agree (next + n + m) υ τ (half_up j + half_up k) (own_labels next n) three (AtomsBelow-up (next + n) (next + n + m) (omega arith) (own_labels next n) bo) odd_two in
       let even_three = sorted-agree (next + n + m) υ τ (half_down j + half_down k) (all_even next n m) three (even-places_below least) even in
       let kept : core_truth τ (Sum3 a b c) ≡ true = sym (core_truth-agree next σ τ (Sum3 a b c) below same) ∙ met in
       let sides_three : SidesIn τ j k = record {

@@ -9,6 +9,7 @@ use Rattle.core_cost.specs.Comparisons.{cost_of_ladder}
 use Rattle.core_cost.specs.Sums.{first_units, second_units}
 use Rattle.core_cost.proofs.NetworkLaws.{sides}
 use Rattle.core_cost.proofs.ShapeLaws.{common-divides_first, common-divides_second}
+use Rattle.core_forms.specs.Sums.{gap_of}
 use Rattle.core_forms.specs.declared.form.Core.{Core}
 use Rattle.core_forms.specs.declared.form.Core.TheVariants.{Sum3}
 use Rattle.core_forms.specs.Place.{CoreBelow}
@@ -20,7 +21,7 @@ use Rattle.core_forms.proofs.Mapped.{core_truth-agree}
 use Rattle.core_forms.proofs.CoreLists.{MeetsAll-depends}
 use Rattle.part_base.specs.declared.parts.Parts.{Parts}
 use Rattle.part_base.specs.PartsFor.{DoFit}
-use Rattle.network_encode.specs.MergeParts.{units_of, odd_steps, unit_of, network_parts, merge_parts}
+use Rattle.network_encode.specs.MergeParts.{units_of, odd_steps, network_parts, merge_parts}
 use Rattle.network_encode.specs.NetworkParts.{cost_by_parts, StandFor}
 use Rattle.network_encode.proofs.UnitLaws.{AreMultiples, multiples-of_divisor, weights-units, length-units, units-below, length-odd}
 use Rattle.network_encode.proofs.MergeLaws.{implies, extends, sides-of}
@@ -56,13 +57,13 @@ pub record HasUnits (a b : OrdInt) (g : ℕ) : Type 0 where
   pub first_some : 1 ≤ weights a.steps / g
   pub second_some : 1 ≤ weights b.steps / g
 
-pub has-units : (a b : OrdInt) → has_network (first_units (shape_of a) (shape_of b)) (second_units (shape_of a) (shape_of b)) ≡ true → HasUnits a b (unit_of a b)
+pub has-units : (a b : OrdInt) → has_network (first_units (shape_of a) (shape_of b)) (second_units (shape_of a) (shape_of b)) ≡ true → HasUnits a b (gap_of a b)
 has-units a b network =
     let s = sides (first_units (shape_of a) (shape_of b)) (second_units (shape_of a) (shape_of b)) network in
     record {
-      unit = unit-some (weights a.steps) (unit_of a b) s.0;
-      first_multiples = multiples-of_divisor (unit_of a b) a.steps (common-divides_first (divisor_of a.steps) (divisor_of b.steps));
-      second_multiples = multiples-of_divisor (unit_of a b) b.steps (common-divides_second (divisor_of a.steps) (divisor_of b.steps));
+      unit = unit-some (weights a.steps) (gap_of a b) s.0;
+      first_multiples = multiples-of_divisor (gap_of a b) a.steps (common-divides_first (divisor_of a.steps) (divisor_of b.steps));
+      second_multiples = multiples-of_divisor (gap_of a b) b.steps (common-divides_second (divisor_of a.steps) (divisor_of b.steps));
       first_some = s.0;
       second_some = s.1;
     }
@@ -90,27 +91,27 @@ units-stand next a b c g units well least below room bound =
 
 pub merge-stands : (next : ℕ) (a b c : OrdInt) → has_network (first_units (shape_of a) (shape_of b)) (second_units (shape_of a) (shape_of b)) ≡ true → IsWellFormed (Sum3 a b c) → 1 ≤ next → CoreBelow next (Sum3 a b c) → next + cost_by_parts (Sum3 a b c) ≤ 2 ^ 27 → StandFor (Sum3 a b c) next (merge_parts next a b c)
 merge-stands next a b c network well least below room =
-    units-stand next a b c (unit_of a b) (has-units a b network) well least below (omega (arith, room)) (omega arith)
+    units-stand next a b c (gap_of a b) (has-units a b network) well least below (omega (arith, room)) (omega arith)
 
 -- ---- what the call that makes them needs
 
-pub units-some : (a b : OrdInt) (g : ℕ) → has_network (first_units (shape_of a) (shape_of b)) (second_units (shape_of a) (shape_of b)) ≡ true → g ≡ unit_of a b → 1 ≤ length (units_of g a.steps)
+pub units-some : (a b : OrdInt) (g : ℕ) → has_network (first_units (shape_of a) (shape_of b)) (second_units (shape_of a) (shape_of b)) ≡ true → g ≡ gap_of a b → 1 ≤ length (units_of g a.steps)
 units-some a b g network is =
     let units = has-units a b network in
     omega (
       arith,
       units.first_some,
-      length-units (unit_of a b) a.steps units.unit units.first_multiples,
+      length-units (gap_of a b) a.steps units.unit units.first_multiples,
       ap (λ n. length (units_of n a.steps)) is,
     )
 
-pub units-room : (a b c : OrdInt) (g next : ℕ) → has_network (first_units (shape_of a) (shape_of b)) (second_units (shape_of a) (shape_of b)) ≡ true → g ≡ unit_of a b → next + cost_by_parts (Sum3 a b c) ≤ 2 ^ 27 → next + 2 * (length (units_of g a.steps) + length (units_of g b.steps)) ≤ 2 ^ 27 + 1
+pub units-room : (a b c : OrdInt) (g next : ℕ) → has_network (first_units (shape_of a) (shape_of b)) (second_units (shape_of a) (shape_of b)) ≡ true → g ≡ gap_of a b → next + cost_by_parts (Sum3 a b c) ≤ 2 ^ 27 → next + 2 * (length (units_of g a.steps) + length (units_of g b.steps)) ≤ 2 ^ 27 + 1
 units-room a b c g next network is room =
     let units = has-units a b network in
     omega (
       arith,
-      length-units (unit_of a b) a.steps units.unit units.first_multiples,
-      length-units (unit_of a b) b.steps units.unit units.second_multiples,
+      length-units (gap_of a b) a.steps units.unit units.first_multiples,
+      length-units (gap_of a b) b.steps units.unit units.second_multiples,
       ap (λ n. length (units_of n a.steps)) is,
       ap (λ n. length (units_of n b.steps)) is,
       network-floor (first_units (shape_of a) (shape_of b)) (second_units (shape_of a) (shape_of b)) (steps_of c) units.first_some,

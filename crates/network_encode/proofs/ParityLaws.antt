@@ -2,9 +2,9 @@
 use Rattle.std.proofs.Common.{◌≡◌, ℕ, zero, suc, ◌+◌, ◌≤◌, Bool, true, false, not, ◌&&◌, cond, List, [], ◌∷◌, ◌++◌, length, refl, sym, ap, ◌∙◌, arith}
 use Rattle.std.specs.Bool.{beq}
 use Rattle.std.proofs.lemmas.List.{length-append}
+use Rattle.order_ints.specs.Label.{variable}
 use Rattle.order_ints.specs.declared.atom.Atom.{Atom}
 use Rattle.order_ints.specs.Truth.{Valuation, Agree, atom_truth}
-use Rattle.order_ints.specs.OrderMade.{atom_of_var}
 use Rattle.order_ints.proofs.Gains.{AtomBelow-more}
 use Rattle.order_ints.proofs.TruthLaws.{atom_agrees}
 use Rattle.order_ints.proofs.PlaceLaws.{AtomsBelow-up}
@@ -106,13 +106,13 @@ both false t h k = absurd (cc)
 module _ (next : ℕ) (l m : Atom) (rest : List Atom) (odd : Bool) where
   implies : (σ : Valuation) → MeetsAll σ (parity_parts next (l ∷ m ∷ rest) odd).cores → Meets σ (Parity (l ∷ m ∷ rest) odd)
   implies σ met =
-      let front = core_truth σ (Parity (l ∷ m ∷ atom_of_var next ∷ []) false) in
-      let back = core_truth σ (Parity (rest ++ atom_of_var next ∷ []) odd) in
-      let first : core_truth σ (Parity (l ∷ m ∷ atom_of_var next ∷ []) false) ≡ true = and-left front (back && true) met in
-      let second : core_truth σ (Parity (rest ++ atom_of_var next ∷ []) odd) ≡ true = and-left back true (and-right front (back && true) met) in
-      let is : atom_truth σ (atom_of_var next) ≡ turned_by (atom_truth σ l) (atom_truth σ m) =
-      even-three (atom_truth σ l) (atom_truth σ m) (atom_truth σ (atom_of_var next)) (ap (λ b. beq b false) (sym (odd-three σ l m (atom_of_var next))) ∙ first) in
-      ap (λ b. beq b odd) (odd-all σ l m rest ∙ ap (λ t. turned_by t (odd_of σ rest)) (sym is) ∙ sym (odd-last σ rest (atom_of_var next))) ∙ second
+      let front = core_truth σ (Parity (l ∷ m ∷ variable next ∷ []) false) in
+      let back = core_truth σ (Parity (rest ++ variable next ∷ []) odd) in
+      let first : core_truth σ (Parity (l ∷ m ∷ variable next ∷ []) false) ≡ true = and-left front (back && true) met in
+      let second : core_truth σ (Parity (rest ++ variable next ∷ []) odd) ≡ true = and-left back true (and-right front (back && true) met) in
+      let is : atom_truth σ (variable next) ≡ turned_by (atom_truth σ l) (atom_truth σ m) =
+      even-three (atom_truth σ l) (atom_truth σ m) (atom_truth σ (variable next)) (ap (λ b. beq b false) (sym (odd-three σ l m (variable next))) ∙ first) in
+      ap (λ b. beq b odd) (odd-all σ l m rest ∙ ap (λ t. turned_by t (odd_of σ rest)) (sym is) ∙ sym (odd-last σ rest (variable next))) ∙ second
 
   -- the fresh variable is true where one of the two members is
   changed : Valuation → Valuation
@@ -126,25 +126,25 @@ module _ (next : ℕ) (l m : Atom) (rest : List Atom) (odd : Bool) where
       let kept : core_truth τ (Parity (l ∷ m ∷ rest) odd) ≡ true = sym (core_truth-agree next σ τ (Parity (l ∷ m ∷ rest) odd) below same) ∙ met in
       let sl : atom_truth σ l ≡ atom_truth τ l = atom_agrees next σ τ same l below.0.0 in
       let sm : atom_truth σ m ≡ atom_truth τ m = atom_agrees next σ τ same m below.0.1.0 in
-      let is : atom_truth τ (atom_of_var next) ≡ turned_by (atom_truth τ l) (atom_truth τ m) =
+      let is : atom_truth τ (variable next) ≡ turned_by (atom_truth τ l) (atom_truth τ m) =
       truth-first next σ (λ _. turned_by (atom_truth σ l) (atom_truth σ m)) ∙ (λ i. turned_by (sl i) (sm i)) in
-      let first : core_truth τ (Parity (l ∷ m ∷ atom_of_var next ∷ []) false) ≡ true =
-      ap (λ b. beq b false) (odd-three τ l m (atom_of_var next) ∙ ap (λ u. turned_by (atom_truth τ l) (turned_by (atom_truth τ m) (turned_by u false))) is) ∙ three-even (atom_truth τ l) (atom_truth τ m) in
-      let second : core_truth τ (Parity (rest ++ atom_of_var next ∷ []) odd) ≡ true =
-      ap (λ b. beq b odd) (odd-last τ rest (atom_of_var next) ∙ ap (λ u. turned_by u (odd_of τ rest)) is ∙ sym (odd-all τ l m rest)) ∙ kept in
-      (τ, same, both (core_truth τ (Parity (l ∷ m ∷ atom_of_var next ∷ []) false)) (core_truth τ (Parity (rest ++ atom_of_var next ∷ []) odd)) first second)
+      let first : core_truth τ (Parity (l ∷ m ∷ variable next ∷ []) false) ≡ true =
+      ap (λ b. beq b false) (odd-three τ l m (variable next) ∙ ap (λ u. turned_by (atom_truth τ l) (turned_by (atom_truth τ m) (turned_by u false))) is) ∙ three-even (atom_truth τ l) (atom_truth τ m) in
+      let second : core_truth τ (Parity (rest ++ variable next ∷ []) odd) ≡ true =
+      ap (λ b. beq b odd) (odd-last τ rest (variable next) ∙ ap (λ u. turned_by u (odd_of τ rest)) is ∙ sym (odd-all τ l m rest)) ∙ kept in
+      (τ, same, both (core_truth τ (Parity (l ∷ m ∷ variable next ∷ []) false)) (core_truth τ (Parity (rest ++ variable next ∷ []) odd)) first second)
 
   fit : 1 ≤ next → CoreBelow next (Parity (l ∷ m ∷ rest) odd) → DoFit next (parity_parts next (l ∷ m ∷ rest) odd)
   fit least below = record {
     formed = (tt, (tt, tt));
     below = (
       ((AtomBelow-more next (next + 1) l (omega arith) below.0.0, (AtomBelow-more next (next + 1) m (omega arith) below.0.1.0, (fresh_below next least, tt))), tt),
-      ((AtomsBelow-last (next + 1) rest (atom_of_var next) (AtomsBelow-up next (next + 1) (omega arith) rest below.0.1.1) (fresh_below next least), tt), tt),
+      ((AtomsBelow-last (next + 1) rest (variable next) (AtomsBelow-up next (next + 1) (omega arith) rest below.0.1.1) (fresh_below next least), tt), tt),
     );
   }
 
   cost : 2 ≤ length rest → 1 + costs_of (parity_parts next (l ∷ m ∷ rest) odd).cores ≤ cost_of (Parity (l ∷ m ∷ rest) odd)
-  cost more = omega (arith, ap cost_of_parity (length-append rest (atom_of_var next ∷ [])), cost-more (length rest) more, ap cost_of_parity longer)
+  cost more = omega (arith, ap cost_of_parity (length-append rest (variable next ∷ [])), cost-more (length rest) more, ap cost_of_parity longer)
     where
       longer : length rest + 1 ≡ suc (length rest)
       longer = omega arith

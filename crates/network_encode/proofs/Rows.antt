@@ -2,10 +2,10 @@
 -- changed in the row's fresh variables so that it is met.
 use Rattle.std.proofs.Common.{◌≡◌, ℕ, zero, suc, ◌+◌, ◌*◌, ◌≤◌, min, Bool, true, false, ◌&&◌, ◌||◌, List, [], ◌∷◌, length, refl, sym, ap, ◌∙◌, arith}
 use Rattle.std.specs.Bool.{beq}
+use Rattle.order_ints.specs.Label.{own_labels, variable}
 use Rattle.order_ints.specs.declared.atom.Atom.{Atom}
 use Rattle.order_ints.specs.Truth.{Valuation, Agree, atom_truth}
 use Rattle.order_ints.specs.Place.{AtomBelow, AtomsBelow}
-use Rattle.order_ints.specs.OrderMade.{atom_of_var, vars_from}
 use Rattle.order_ints.proofs.TruthLaws.{atom_agrees}
 use Rattle.order_ints.proofs.PlaceLaws.{AtomsBelow-up}
 use Rattle.order_ints.proofs.Standing.{Agree-fewer, Agree-trans}
@@ -54,28 +54,28 @@ pub sorted-row : (σ : Valuation) (fresh k j : ℕ) (ds es : List Atom) → k �
 sorted-row σ fresh k j [] es less more first second met = sorted-same σ j (k + j) es (omega (arith, first)) second
 sorted-row σ fresh k j (d ∷ ds) [] less more first second met = sorted-same σ k (k + j) (d ∷ ds) (omega (arith, second)) first
 sorted-row σ fresh zero zero (d ∷ ds) (e ∷ es) less more first second met =
-    let here = core_truth σ (Comp d e (atom_of_var fresh) (atom_of_var (fresh + 1))) in
+    let here = core_truth σ (Comp d e (variable fresh) (variable (fresh + 1))) in
     let rest = cores_truth σ (row_cores (fresh + 2) ds es) in
-    let is = compared σ d e (atom_of_var fresh) (atom_of_var (fresh + 1)) false false (and-left here rest met) first.0 second.0 in
+    let is = compared σ d e (variable fresh) (variable (fresh + 1)) false false (and-left here rest met) first.0 second.0 in
     (is.upper, (is.lower, sorted-row σ (fresh + 2) zero zero ds es less more first.1 second.1 (and-right here rest met)))
 sorted-row σ fresh zero (suc zero) (d ∷ ds) (e ∷ es) less more first second met =
-    let here = core_truth σ (Comp d e (atom_of_var fresh) (atom_of_var (fresh + 1))) in
+    let here = core_truth σ (Comp d e (variable fresh) (variable (fresh + 1))) in
     let rest = cores_truth σ (row_cores (fresh + 2) ds es) in
-    let is = compared σ d e (atom_of_var fresh) (atom_of_var (fresh + 1)) false true (and-left here rest met) first.0 second.0 in
+    let is = compared σ d e (variable fresh) (variable (fresh + 1)) false true (and-left here rest met) first.0 second.0 in
     (is.upper, (is.lower, sorted-row σ (fresh + 2) zero zero ds es (omega arith) (omega arith) first.1 second.1 (and-right here rest met)))
 sorted-row σ fresh zero (suc (suc j)) (d ∷ ds) (e ∷ es) less more first second met = absurd (omega (arith, more))
 sorted-row σ fresh (suc zero) zero (d ∷ ds) (e ∷ es) less more first second met =
-    let here = core_truth σ (Comp d e (atom_of_var fresh) (atom_of_var (fresh + 1))) in
+    let here = core_truth σ (Comp d e (variable fresh) (variable (fresh + 1))) in
     let rest = cores_truth σ (row_cores (fresh + 2) ds es) in
-    let is = compared σ d e (atom_of_var fresh) (atom_of_var (fresh + 1)) true false (and-left here rest met) first.0 second.0 in
+    let is = compared σ d e (variable fresh) (variable (fresh + 1)) true false (and-left here rest met) first.0 second.0 in
     (is.upper, (is.lower, sorted-row σ (fresh + 2) zero zero ds es (omega arith) (omega arith) first.1 second.1 (and-right here rest met)))
 sorted-row σ fresh (suc (suc k)) zero (d ∷ ds) (e ∷ es) less more first second met = absurd (omega (arith, less))
 sorted-row σ fresh (suc k) (suc j) (d ∷ ds) (e ∷ es) less more first second met =
-    let here = core_truth σ (Comp d e (atom_of_var fresh) (atom_of_var (fresh + 1))) in
+    let here = core_truth σ (Comp d e (variable fresh) (variable (fresh + 1))) in
     let rest = cores_truth σ (row_cores (fresh + 2) ds es) in
-    let is = compared σ d e (atom_of_var fresh) (atom_of_var (fresh + 1)) true true (and-left here rest met) first.0 second.0 in
+    let is = compared σ d e (variable fresh) (variable (fresh + 1)) true true (and-left here rest met) first.0 second.0 in
     let behind = sorted-row σ (fresh + 2) k j ds es (omega (arith, less)) (omega (arith, more)) first.1 second.1 (and-right here rest met) in
-    sorted-same σ (suc (suc (k + j))) (suc k + suc j) (atom_of_var fresh ∷ atom_of_var (fresh + 1) ∷ row_wires (fresh + 2) ds es) (omega arith)
+    sorted-same σ (suc (suc (k + j))) (suc k + suc j) (variable fresh ∷ variable (fresh + 1) ∷ row_wires (fresh + 2) ds es) (omega arith)
     (is.upper, (is.lower, behind))
 
 -- ---- extended
@@ -89,20 +89,20 @@ two_truths s t (suc i) = t
 abbrev raised : Valuation → ℕ → Atom → Atom → Valuation
 raised σ fresh d e = with_fresh fresh σ (two_truths (atom_truth σ d || atom_truth σ e) (atom_truth σ d && atom_truth σ e))
 
-comparator-met : (σ τ : Valuation) (fresh : ℕ) (d e : Atom) → AtomBelow fresh d → AtomBelow fresh e → Agree (fresh + 2) (raised σ fresh d e) τ → core_truth τ (Comp d e (atom_of_var fresh) (atom_of_var (fresh + 1))) ≡ true
+comparator-met : (σ τ : Valuation) (fresh : ℕ) (d e : Atom) → AtomBelow fresh d → AtomBelow fresh e → Agree (fresh + 2) (raised σ fresh d e) τ → core_truth τ (Comp d e (variable fresh) (variable (fresh + 1))) ≡ true
 comparator-met σ τ fresh d e bd be same =
     let truths = two_truths (atom_truth σ d || atom_truth σ e) (atom_truth σ d && atom_truth σ e) in
     let all : Agree fresh σ τ =
     Agree-trans fresh σ (raised σ fresh d e) τ (with_fresh-Agree fresh σ truths) (Agree-fewer fresh (fresh + 2) (raised σ fresh d e) τ (omega arith) same) in
     let sd : atom_truth σ d ≡ atom_truth τ d = atom_agrees fresh σ τ all d bd in
     let se : atom_truth σ e ≡ atom_truth τ e = atom_agrees fresh σ τ all e be in
-    let hi : atom_truth τ (atom_of_var fresh) ≡ (atom_truth τ d || atom_truth τ e) =
+    let hi : atom_truth τ (variable fresh) ≡ (atom_truth τ d || atom_truth τ e) =
     sym (same fresh (omega arith)) ∙ truth-first fresh σ truths ∙ (λ i. sd i || se i) in
-    let lo : atom_truth τ (atom_of_var (fresh + 1)) ≡ (atom_truth τ d && atom_truth τ e) =
+    let lo : atom_truth τ (variable (fresh + 1)) ≡ (atom_truth τ d && atom_truth τ e) =
     sym (same (fresh + 1) (omega arith)) ∙ truth-with_fresh fresh σ truths 1 ∙ (λ i. sd i && se i) in
-    both-true (beq (atom_truth τ (atom_of_var fresh)) (atom_truth τ d || atom_truth τ e)) (beq (atom_truth τ (atom_of_var (fresh + 1))) (atom_truth τ d && atom_truth τ e))
-    (beq-same (atom_truth τ (atom_of_var fresh)) (atom_truth τ d || atom_truth τ e) hi)
-    (beq-same (atom_truth τ (atom_of_var (fresh + 1))) (atom_truth τ d && atom_truth τ e) lo)
+    both-true (beq (atom_truth τ (variable fresh)) (atom_truth τ d || atom_truth τ e)) (beq (atom_truth τ (variable (fresh + 1))) (atom_truth τ d && atom_truth τ e))
+    (beq-same (atom_truth τ (variable fresh)) (atom_truth τ d || atom_truth τ e) hi)
+    (beq-same (atom_truth τ (variable (fresh + 1))) (atom_truth τ d && atom_truth τ e) lo)
 
 pub row-extends : (σ : Valuation) (fresh : ℕ) (ds es : List Atom) → AtomsBelow fresh ds → AtomsBelow fresh es → (τ : Valuation) × Agree fresh σ τ × MeetsAll τ (row_cores fresh ds es)
 row-extends σ fresh [] es bd be = (σ, (λ v h. refl), refl)
@@ -114,7 +114,7 @@ row-extends σ fresh (d ∷ ds) (e ∷ es) bd be =
     Agree-trans fresh σ (raised σ fresh d e) next.0 (with_fresh-Agree fresh σ truths) (Agree-fewer fresh (fresh + 2) (raised σ fresh d e) next.0 (omega arith) next.1) in (
       next.0,
       same,
-      both-true (core_truth next.0 (Comp d e (atom_of_var fresh) (atom_of_var (fresh + 1)))) (cores_truth next.0 (row_cores (fresh + 2) ds es))
+      both-true (core_truth next.0 (Comp d e (variable fresh) (variable (fresh + 1)))) (cores_truth next.0 (row_cores (fresh + 2) ds es))
           (comparator-met σ next.0 fresh d e bd.0 be.0 next.1)
           next.2,
     )
@@ -122,12 +122,12 @@ row-extends σ fresh (d ∷ ds) (e ∷ es) bd be =
 -- ---- places, and what a row costs
 
 -- the variables from first on
-pub vars-below : (n first count : ℕ) → 1 ≤ first → first + count ≤ n → AtomsBelow n (vars_from first count)
+pub vars-below : (n first count : ℕ) → 1 ≤ first → first + count ≤ n → AtomsBelow n (own_labels first count)
 vars-below n first zero least room = tt
 vars-below n first (suc count) least room =
     ((least, omega (arith, room)), vars-below n (first + 1) count (omega arith) (omega (arith, room)))
 
-pub length-vars : (first count : ℕ) → length (vars_from first count) ≡ count
+pub length-vars : (first count : ℕ) → length (own_labels first count) ≡ count
 length-vars first zero = refl
 length-vars first (suc count) = ap suc (length-vars (first + 1) count)
 

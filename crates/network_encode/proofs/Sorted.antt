@@ -1,12 +1,13 @@
 -- Lists of atoms that are in order under a valuation, the true ones first: how many are true, and what follows for steps of
 -- them, for their odd and even places, and for units of steps.
 use Rattle.std.proofs.Common.{◌≡◌, ℕ, zero, suc, ◌+◌, ◌*◌, ◌/◌, Bool, true, false, not, ◌&&◌, cond, List, [], ◌∷◌, ◌++◌, length, refl, sym, ap, subst, ◌∙◌, arith}
+use Rattle.order_ints.specs.Label.{own_labels, variable}
 use Rattle.order_ints.specs.declared.atom.Atom.{Atom}
 use Rattle.order_ints.specs.Truth.{Valuation, Agree, atom_truth}
 use Rattle.order_ints.specs.Place.{AtomsBelow}
 use Rattle.order_ints.specs.OrderValue.{gains, none_true, in_order}
 use Rattle.order_ints.specs.OrderRange.{weights}
-use Rattle.order_ints.specs.OrderMade.{atom_of_var, vars_from, unit_steps}
+use Rattle.order_ints.specs.OrderMade.{unit_steps}
 use Rattle.order_ints.proofs.TruthLaws.{atom_agrees}
 use Rattle.core_cost.specs.Network.{half_up, half_down}
 use Rattle.core_forms.specs.Truths.{true_count}
@@ -88,9 +89,9 @@ weights-weighted w [] = omega arith
 weights-weighted w (l ∷ ls) = ap (λ n. w + n) (weights-weighted w ls) ∙ one-gain w (length ls) true
 
 -- the steps of fresh variables
-pub weighted-vars : (first count : ℕ) → unit_steps first count ≡ weighted 1 (vars_from first count)
+pub weighted-vars : (first count : ℕ) → unit_steps first count ≡ weighted 1 (own_labels first count)
 weighted-vars first zero = refl
-weighted-vars first (suc count) = ap (λ steps. (atom_of_var first, 1) ∷ steps) (weighted-vars (first + 1) count)
+weighted-vars first (suc count) = ap (λ steps. (variable first, 1) ∷ steps) (weighted-vars (first + 1) count)
 
 -- ---- odd and even places
 

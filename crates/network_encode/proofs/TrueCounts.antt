@@ -1,10 +1,10 @@
 -- Numbers of true atoms in lists of two parts.
 use Rattle.std.proofs.Common.{◌≡◌, ℕ, suc, ◌+◌, ◌≤◌, Bool, true, false, cond, List, [], ◌∷◌, ◌++◌, take, drop, sym, ap, ◌∙◌, arith}
 use Rattle.std.proofs.lemmas.List.{take-append-drop}
+use Rattle.order_ints.specs.Label.{variable}
 use Rattle.order_ints.specs.declared.atom.Atom.{Atom}
 use Rattle.order_ints.specs.Truth.{Valuation, atom_truth}
 use Rattle.order_ints.specs.Place.{AtomBelow, AtomsBelow}
-use Rattle.order_ints.specs.OrderMade.{atom_of_var}
 use Rattle.core_forms.specs.Truths.{true_count}
 
 -- 1 for a true atom, and else 0
@@ -30,7 +30,7 @@ pub count-last : (σ : Valuation) (ls : List Atom) (a : Atom) → true_count σ 
 count-last σ ls a = omega (arith, count-append σ ls (a ∷ []), count-cons σ a [])
 
 -- a fresh variable, and a list of atoms with one more behind, below a bound
-pub fresh_below : (next : ℕ) → 1 ≤ next → AtomBelow (next + 1) (atom_of_var next)
+pub fresh_below : (next : ℕ) → 1 ≤ next → AtomBelow (next + 1) (variable next)
 fresh_below next least = (least, omega arith)
 
 pub AtomsBelow-last : (n : ℕ) (ls : List Atom) (a : Atom) → AtomsBelow n ls → AtomBelow n a → AtomsBelow n (ls ++ a ∷ [])

@@ -1,10 +1,10 @@
 -- Steps of the loops that make the parts of a sum, and what they make together.
 use Rattle.std.proofs.Common.{◌≡◌, ℕ, zero, suc, ◌+◌, ◌*◌, ◌-◌, ◌<◌, ◌≤◌, min, List, [], ◌∷◌, ◌++◌, drop, length, get_or, ◌+ℤ◌, refl, sym, ap, ◌∙◌, append_assoc, arith}
 use Rattle.std.proofs.lemmas.List.{drop_more}
+use Rattle.order_ints.specs.Label.{own_labels, variable}
 use Rattle.order_ints.specs.declared.atom.Atom.{Atom}
 use Rattle.order_ints.specs.declared.atom.Atom.TheVariants.{True}
 use Rattle.order_ints.specs.declared.order_int.OrdInt.{OrdInt}
-use Rattle.order_ints.specs.OrderMade.{atom_of_var, vars_from}
 use Rattle.core_cost.specs.Network.{half_up, half_down}
 use Rattle.core_forms.specs.declared.form.Core.{Core}
 use Rattle.core_forms.specs.declared.form.Core.TheVariants.{Ladder, Comp, EqR}
@@ -79,31 +79,31 @@ half_sums-made old one two x y next odd ls ms first second is_odd is_even count 
 
 -- ---- the row
 
-row-next : (f d e n m : ℕ) → 0 < n → 0 < m → row_cores f (vars_from d n) (vars_from e m) ≡ Comp (atom_of_var d) (atom_of_var e) (atom_of_var f) (atom_of_var (f + 1)) ∷ row_cores (f + 2) (vars_from (d + 1) (n - 1)) (vars_from (e + 1) (m - 1))
+row-next : (f d e n m : ℕ) → 0 < n → 0 < m → row_cores f (own_labels d n) (own_labels e m) ≡ Comp (variable d) (variable e) (variable f) (variable (f + 1)) ∷ row_cores (f + 2) (own_labels (d + 1) (n - 1)) (own_labels (e + 1) (m - 1))
 row-next f d e n m some more = λ i. row_cores f (first-var d n some i) (first-var e m more i)
 
-row-end : (f d e n m : ℕ) → min n m ≡ 0 → row_cores f (vars_from d n) (vars_from e m) ≡ []
+row-end : (f d e n m : ℕ) → min n m ≡ 0 → row_cores f (own_labels d n) (own_labels e m) ≡ []
 row-end f d e zero m none = refl
 row-end f d e (suc n) zero none = refl
 row-end f d e (suc n) (suc m) none = absurd (omega (arith, none))
 
-pub row-turn : (front more all : List Core) (core : Core) (f d e n m k : ℕ) → k < min n m → more ≡ front ++ core ∷ [] → core ≡ Comp (atom_of_var (d + k)) (atom_of_var (e + k)) (atom_of_var (f + 2 * k)) (atom_of_var (f + 2 * k + 1)) → front ++ row_cores (f + 2 * k) (vars_from (d + k) (n - k)) (vars_from (e + k) (m - k)) ≡ all → more ++ row_cores (f + 2 * (k + 1)) (vars_from (d + (k + 1)) (n - (k + 1))) (vars_from (e + (k + 1)) (m - (k + 1))) ≡ all
+pub row-turn : (front more all : List Core) (core : Core) (f d e n m k : ℕ) → k < min n m → more ≡ front ++ core ∷ [] → core ≡ Comp (variable (d + k)) (variable (e + k)) (variable (f + 2 * k)) (variable (f + 2 * k + 1)) → front ++ row_cores (f + 2 * k) (own_labels (d + k) (n - k)) (own_labels (e + k) (m - k)) ≡ all → more ++ row_cores (f + 2 * (k + 1)) (own_labels (d + (k + 1)) (n - (k + 1))) (own_labels (e + (k + 1)) (m - (k + 1))) ≡ all
 row-turn front more all core f d e n m k test pushed is so_far =
     let ef : f + 2 * k + 2 ≡ f + 2 * (k + 1) = omega arith in
     let ed : d + k + 1 ≡ d + (k + 1) = omega arith in
     let ee : e + k + 1 ≡ e + (k + 1) = omega arith in
     let en : n - k - 1 ≡ n - (k + 1) = omega (arith, test) in
     let em : m - k - 1 ≡ m - (k + 1) = omega (arith, test) in
-    let next : row_cores (f + 2 * k) (vars_from (d + k) (n - k)) (vars_from (e + k) (m - k)) ≡ core ∷ row_cores (f + 2 * (k + 1)) (vars_from (d + (k + 1)) (n - (k + 1))) (vars_from (e + (k + 1)) (m - (k + 1))) =
+    let next : row_cores (f + 2 * k) (own_labels (d + k) (n - k)) (own_labels (e + k) (m - k)) ≡ core ∷ row_cores (f + 2 * (k + 1)) (own_labels (d + (k + 1)) (n - (k + 1))) (own_labels (e + (k + 1)) (m - (k + 1))) =
     row-next (f + 2 * k) (d + k) (e + k) (n - k) (m - k) (omega (arith, test)) (omega (arith, test))
-    ∙ (λ i. sym is i ∷ row_cores (ef i) (vars_from (ed i) (en i)) (vars_from (ee i) (em i))) in
-    turn front more (row_cores (f + 2 * k) (vars_from (d + k) (n - k)) (vars_from (e + k) (m - k))) (row_cores (f + 2 * (k + 1)) (vars_from (d + (k + 1)) (n - (k + 1))) (vars_from (e + (k + 1)) (m - (k + 1)))) all core pushed next so_far
+    ∙ (λ i. sym is i ∷ row_cores (ef i) (own_labels (ed i) (en i)) (own_labels (ee i) (em i))) in
+    turn front more (row_cores (f + 2 * k) (own_labels (d + k) (n - k)) (own_labels (e + k) (m - k))) (row_cores (f + 2 * (k + 1)) (own_labels (d + (k + 1)) (n - (k + 1))) (own_labels (e + (k + 1)) (m - (k + 1)))) all core pushed next so_far
 
 append-nil : {X : Type 0} (xs : List X) → xs ++ [] ≡ xs
 append-nil [] = refl
 append-nil (x ∷ xs) = ap (λ rest. x ∷ rest) (append-nil xs)
 
-pub row-done : (cores all : List Core) (f d e n m k : ℕ) → min n m ≤ k → cores ++ row_cores (f + 2 * k) (vars_from (d + k) (n - k)) (vars_from (e + k) (m - k)) ≡ all → cores ≡ all
+pub row-done : (cores all : List Core) (f d e n m k : ℕ) → min n m ≤ k → cores ++ row_cores (f + 2 * k) (own_labels (d + k) (n - k)) (own_labels (e + k) (m - k)) ≡ all → cores ≡ all
 row-done cores all f d e n m k test so_far =
     sym (append-nil cores)
     ∙ ap (λ rest. cores ++ rest) (sym (row-end (f + 2 * k) (d + k) (e + k) (n - k) (m - k) (omega (arith, test))))
@@ -111,30 +111,30 @@ row-done cores all f d e n m k test so_far =
 
 -- ---- the wires
 
-pub vars-turn : (front more all : List (Atom × ℕ)) (weight first count k : ℕ) (x : Atom) → k < count → more ≡ front ++ (x, weight) ∷ [] → x ≡ atom_of_var (first + k) → front ++ weighted weight (vars_from (first + k) (count - k)) ≡ all → more ++ weighted weight (vars_from (first + (k + 1)) (count - (k + 1))) ≡ all
+pub vars-turn : (front more all : List (Atom × ℕ)) (weight first count k : ℕ) (x : Atom) → k < count → more ≡ front ++ (x, weight) ∷ [] → x ≡ variable (first + k) → front ++ weighted weight (own_labels (first + k) (count - k)) ≡ all → more ++ weighted weight (own_labels (first + (k + 1)) (count - (k + 1))) ≡ all
 vars-turn front more all weight first count k x test pushed is so_far =
     let ef : first + k + 1 ≡ first + (k + 1) = omega arith in
     let en : count - k - 1 ≡ count - (k + 1) = omega (arith, test) in
-    turn front more (weighted weight (vars_from (first + k) (count - k))) (weighted weight (vars_from (first + (k + 1)) (count - (k + 1)))) all (x, weight) pushed
-    (ap (weighted weight) (first-var (first + k) (count - k) (omega (arith, test)) ∙ (λ i. sym is i ∷ vars_from (ef i) (en i))))
+    turn front more (weighted weight (own_labels (first + k) (count - k))) (weighted weight (own_labels (first + (k + 1)) (count - (k + 1)))) all (x, weight) pushed
+    (ap (weighted weight) (first-var (first + k) (count - k) (omega (arith, test)) ∙ (λ i. sym is i ∷ own_labels (ef i) (en i))))
     so_far
 
 -- the wires are the variables of the comparators and those that have no partner
-row_wires-vars : (f d e n m : ℕ) → row_wires f (vars_from d n) (vars_from e m) ≡ vars_from f (2 * min n m) ++ vars_from (d + min n m) (n - min n m) ++ vars_from (e + min n m) (m - min n m)
+row_wires-vars : (f d e n m : ℕ) → row_wires f (own_labels d n) (own_labels e m) ≡ own_labels f (2 * min n m) ++ own_labels (d + min n m) (n - min n m) ++ own_labels (e + min n m) (m - min n m)
 row_wires-vars f d e zero m =
     let p : min zero m ≡ 0 = omega arith in
     let two : 2 * min zero m ≡ 0 = omega arith in
     let rest : zero - min zero m ≡ 0 = omega arith in
     let ee : e ≡ e + min zero m = omega arith in
     let em : m ≡ m - min zero m = omega arith in
-    λ i. vars_from f (sym two i) ++ vars_from (d + min zero m) (sym rest i) ++ vars_from (ee i) (em i)
+    λ i. own_labels f (sym two i) ++ own_labels (d + min zero m) (sym rest i) ++ own_labels (ee i) (em i)
 row_wires-vars f d e (suc n) zero =
     let two : 2 * min (suc n) zero ≡ 0 = omega arith in
     let rest : zero - min (suc n) zero ≡ 0 = omega arith in
     let ed : d ≡ d + min (suc n) zero = omega arith in
     let en : suc n ≡ suc n - min (suc n) zero = omega arith in
-    sym (append-nil (vars_from d (suc n)))
-    ∙ (λ i. vars_from f (sym two i) ++ vars_from (ed i) (en i) ++ vars_from (e + min (suc n) zero) (sym rest i))
+    sym (append-nil (own_labels d (suc n)))
+    ∙ (λ i. own_labels f (sym two i) ++ own_labels (ed i) (en i) ++ own_labels (e + min (suc n) zero) (sym rest i))
 row_wires-vars f d e (suc n) (suc m) =
     let two : suc (suc (2 * min n m)) ≡ 2 * min (suc n) (suc m) = omega arith in
     let ff : f + 1 + 1 ≡ f + 2 = omega arith in
@@ -142,32 +142,32 @@ row_wires-vars f d e (suc n) (suc m) =
     let ee : e + 1 + min n m ≡ e + min (suc n) (suc m) = omega arith in
     let en : n - min n m ≡ suc n - min (suc n) (suc m) = omega arith in
     let em : m - min n m ≡ suc m - min (suc n) (suc m) = omega arith in
-    ap (λ rest. atom_of_var f ∷ atom_of_var (f + 1) ∷ rest) (row_wires-vars (f + 2) (d + 1) (e + 1) n m)
-    ∙ (λ i. (atom_of_var f ∷ atom_of_var (f + 1) ∷ vars_from (sym ff i) (2 * min n m)) ++ vars_from (ed i) (en i) ++ vars_from (ee i) (em i))
-    ∙ ap (λ count. vars_from f count ++ vars_from (d + min (suc n) (suc m)) (suc n - min (suc n) (suc m)) ++ vars_from (e + min (suc n) (suc m)) (suc m - min (suc n) (suc m))) two
+    ap (λ rest. variable f ∷ variable (f + 1) ∷ rest) (row_wires-vars (f + 2) (d + 1) (e + 1) n m)
+    ∙ (λ i. (variable f ∷ variable (f + 1) ∷ own_labels (sym ff i) (2 * min n m)) ++ own_labels (ed i) (en i) ++ own_labels (ee i) (em i))
+    ∙ ap (λ count. own_labels f count ++ own_labels (d + min (suc n) (suc m)) (suc n - min (suc n) (suc m)) ++ own_labels (e + min (suc n) (suc m)) (suc m - min (suc n) (suc m))) two
 
 weighted-append : (w : ℕ) (ls ms : List Atom) → weighted w (ls ++ ms) ≡ weighted w ls ++ weighted w ms
 weighted-append w [] ms = refl
 weighted-append w (l ∷ ls) ms = ap (λ rest. (l, w) ∷ rest) (weighted-append w ls ms)
 
 -- what four runs of variables make together
-pub wires-made : (none one two three four : List (Atom × ℕ)) (w next odd even p : ℕ) → none ≡ [] → p ≡ min (odd - 1) even → one ≡ none ++ weighted w (vars_from next 1) → two ≡ one ++ weighted w (vars_from (next + odd + even) (2 * p)) → three ≡ two ++ weighted w (vars_from (next + 1 + p) (odd - 1 - p)) → four ≡ three ++ weighted w (vars_from (next + odd + p) (even - p)) → four ≡ weighted w (wires next odd even)
+pub wires-made : (none one two three four : List (Atom × ℕ)) (w next odd even p : ℕ) → none ≡ [] → p ≡ min (odd - 1) even → one ≡ none ++ weighted w (own_labels next 1) → two ≡ one ++ weighted w (own_labels (next + odd + even) (2 * p)) → three ≡ two ++ weighted w (own_labels (next + 1 + p) (odd - 1 - p)) → four ≡ three ++ weighted w (own_labels (next + odd + p) (even - p)) → four ≡ weighted w (wires next odd even)
 wires-made none one two three four w next odd even p is_none is_p e1 e2 e3 e4 =
-    let start : one ≡ (atom_of_var next, w) ∷ [] = e1 ∙ ap (λ xs. xs ++ weighted w (vars_from next 1)) is_none in
+    let start : one ≡ (variable next, w) ∷ [] = e1 ∙ ap (λ xs. xs ++ weighted w (own_labels next 1)) is_none in
     let f = next + odd + even in
-    let x = vars_from f (2 * p) in
-    let y = vars_from (next + 1 + p) (odd - 1 - p) in
-    let z = vars_from (next + odd + p) (even - p) in
-    let second : two ≡ (atom_of_var next, w) ∷ weighted w (vars_from (next + odd + even) (2 * p)) = e2 ∙ ap (λ xs. xs ++ weighted w x) start in
-    let third : three ≡ (atom_of_var next, w) ∷ (weighted w (vars_from (next + odd + even) (2 * p)) ++ weighted w (vars_from (next + 1 + p) (odd - 1 - p))) =
+    let x = own_labels f (2 * p) in
+    let y = own_labels (next + 1 + p) (odd - 1 - p) in
+    let z = own_labels (next + odd + p) (even - p) in
+    let second : two ≡ (variable next, w) ∷ weighted w (own_labels (next + odd + even) (2 * p)) = e2 ∙ ap (λ xs. xs ++ weighted w x) start in
+    let third : three ≡ (variable next, w) ∷ (weighted w (own_labels (next + odd + even) (2 * p)) ++ weighted w (own_labels (next + 1 + p) (odd - 1 - p))) =
     e3 ∙ ap (λ xs. xs ++ weighted w y) second in
-    let fourth : four ≡ (atom_of_var next, w) ∷ ((weighted w (vars_from (next + odd + even) (2 * p)) ++ weighted w (vars_from (next + 1 + p) (odd - 1 - p))) ++ weighted w (vars_from (next + odd + p) (even - p))) =
+    let fourth : four ≡ (variable next, w) ∷ ((weighted w (own_labels (next + odd + even) (2 * p)) ++ weighted w (own_labels (next + 1 + p) (odd - 1 - p))) ++ weighted w (own_labels (next + odd + p) (even - p))) =
     e4 ∙ ap (λ xs. xs ++ weighted w z) third in
     fourth
-    ∙ ap (λ rest. (atom_of_var next, w) ∷ rest) (
+    ∙ ap (λ rest. (variable next, w) ∷ rest) (
     ap (λ xs. xs ++ weighted w z) (sym (weighted-append w x y))
     ∙ sym (weighted-append w (x ++ y) z)
-    ∙ (λ i. weighted w (vars_from f (2 * is_p i) ++ vars_from (next + 1 + is_p i) (odd - 1 - is_p i) ++ vars_from (next + odd + is_p i) (even - is_p i)))
+    ∙ (λ i. weighted w (own_labels f (2 * is_p i) ++ own_labels (next + 1 + is_p i) (odd - 1 - is_p i) ++ own_labels (next + odd + is_p i) (even - is_p i)))
     ∙ ap (weighted w) (sym (row_wires-vars f (next + 1) (next + odd) (odd - 1) even)))
 
 -- ---- the whole

@@ -5,13 +5,14 @@ use Rattle.std.specs.Ordering.{int_eq}
 use Rattle.std.specs.Prelude.{Contains}
 use Rattle.std.proofs.Math.Nat.{mul-div_cancel', mul-div_cancel_left}
 use Rattle.std.proofs.lemmas.Int.{ints}
+use Rattle.order_ints.specs.Label.{own_labels}
 use Rattle.order_ints.specs.declared.atom.Atom.{Atom}
 use Rattle.order_ints.specs.Truth.{Valuation, Agree, atom_truth}
 use Rattle.order_ints.specs.Place.{AtomBelow, AtomsBelow, StepsBelow}
 use Rattle.order_ints.specs.OrderValue.{gains, in_order, value_of}
 use Rattle.order_ints.specs.OrderRange.{weights, AreRising}
 use Rattle.order_ints.specs.OrderLevels.{values_of}
-use Rattle.order_ints.specs.OrderMade.{vars_from, unit_range_of, unit_steps}
+use Rattle.order_ints.specs.OrderMade.{unit_range_of, unit_steps}
 use Rattle.order_ints.proofs.Fresh.{atoms-unit_steps, values_of-unit_range_of, AreRising-unit_steps, StepsBelow-vars, takes_each_value, IsBounded-unit_range_of}
 use Rattle.core_cost.specs.Network.{half_up, half_down, cost_of_unit_sum}
 use Rattle.core_cost.specs.Sums as sums
@@ -176,19 +177,19 @@ unit_sum-below n next ls ms least room bl bm = (
 -- ---- sums of units in order
 
 -- a fresh integer is in order exactly where its variables are, and then its value is the number of true ones
-range-sorted : (σ : Valuation) (next n j : ℕ) → ordered σ (unit_range_of (pos 0) next n) ≡ true → value_of σ (unit_range_of (pos 0) next n) ≡ pos j → Sorted σ j (vars_from next n)
+range-sorted : (σ : Valuation) (next n j : ℕ) → ordered σ (unit_range_of (pos 0) next n) ≡ true → value_of σ (unit_range_of (pos 0) next n) ≡ pos j → Sorted σ j (own_labels next n)
 range-sorted σ next n j order value =
-    let all = ordered-sorted σ 1 (vars_from next n) (ap (in_order σ) (sym (weighted-vars next n)) ∙ order) in
-    sorted-same σ (true_count σ (vars_from next n)) j (vars_from next n)
-    (omega (arith, ints, value, ap (gains σ) (weighted-vars next n), gains-weighted σ 1 (vars_from next n)))
+    let all = ordered-sorted σ 1 (own_labels next n) (ap (in_order σ) (sym (weighted-vars next n)) ∙ order) in
+    sorted-same σ (true_count σ (own_labels next n)) j (own_labels next n)
+    (omega (arith, ints, value, ap (gains σ) (weighted-vars next n), gains-weighted σ 1 (own_labels next n)))
     all
 
-sorted-range : (σ : Valuation) (next n j : ℕ) → Sorted σ j (vars_from next n) → ordered σ (unit_range_of (pos 0) next n) ≡ true
-sorted-range σ next n j h = ap (in_order σ) (weighted-vars next n) ∙ sorted-ordered σ 1 j (vars_from next n) h
+sorted-range : (σ : Valuation) (next n j : ℕ) → Sorted σ j (own_labels next n) → ordered σ (unit_range_of (pos 0) next n) ≡ true
+sorted-range σ next n j h = ap (in_order σ) (weighted-vars next n) ∙ sorted-ordered σ 1 j (own_labels next n) h
 
-sorted-value : (σ : Valuation) (next n j : ℕ) → Sorted σ j (vars_from next n) → value_of σ (unit_range_of (pos 0) next n) ≡ pos j
+sorted-value : (σ : Valuation) (next n j : ℕ) → Sorted σ j (own_labels next n) → value_of σ (unit_range_of (pos 0) next n) ≡ pos j
 sorted-value σ next n j h =
-    omega (arith, ints, ap (gains σ) (weighted-vars next n), gains-weighted σ 1 (vars_from next n), sorted-count σ j (vars_from next n) h)
+    omega (arith, ints, ap (gains σ) (weighted-vars next n), gains-weighted σ 1 (own_labels next n), sorted-count σ j (own_labels next n) h)
 
 -- three integers in order, and what their values say besides
 pub all-orders : (s t u v : Bool) → s ≡ true → t ≡ true → u ≡ true → v ≡ true → ((s && (t && u)) && v) ≡ true
@@ -203,7 +204,7 @@ module _ (σ : Valuation) (next j k : ℕ) (ls ms : List Atom) (first : Sorted �
       omega (arith, ints, value-units σ ls, value-units σ ms, sorted-count σ j ls first, sorted-count σ k ms second)
 
   -- where the sum of two lists in order is met, its variables are in order and as many are true as of both
-  pub sum-sorted : core_truth σ (unit_sum next ls ms) ≡ true → Sorted σ (j + k) (vars_from next (length ls + length ms))
+  pub sum-sorted : core_truth σ (unit_sum next ls ms) ≡ true → Sorted σ (j + k) (own_labels next (length ls + length ms))
   sum-sorted met =
       let n = length ls + length ms in
       let c = unit_range_of (pos 0) next (length ls + length ms) in
@@ -215,7 +216,7 @@ module _ (σ : Valuation) (next j k : ℕ) (ls ms : List Atom) (first : Sorted �
       range-sorted σ next n (j + k) order value
 
   -- and the other way round
-  pub sorted-sum : Sorted σ (j + k) (vars_from next (length ls + length ms)) → core_truth σ (unit_sum next ls ms) ≡ true
+  pub sorted-sum : Sorted σ (j + k) (own_labels next (length ls + length ms)) → core_truth σ (unit_sum next ls ms) ≡ true
   sorted-sum h =
       let n = length ls + length ms in
       let c = unit_range_of (pos 0) next (length ls + length ms) in
@@ -226,7 +227,7 @@ module _ (σ : Valuation) (next j k : ℕ) (ls ms : List Atom) (first : Sorted �
       (same-int (value_of σ (unit_int ls) +ℤ value_of σ (unit_int ms)) (value_of σ c) (values-sum ∙ sym (sorted-value σ next n (j + k) h)))
 
 -- fresh variables can be put in order with any number of true ones
-pub fresh-sorted : (σ : Valuation) (next n j : ℕ) → j ≤ n → (τ : Valuation) × Agree next σ τ × Sorted τ j (vars_from next n)
+pub fresh-sorted : (σ : Valuation) (next n j : ℕ) → j ≤ n → (τ : Valuation) × Agree next σ τ × Sorted τ j (own_labels next n)
 fresh-sorted σ next n j few =
     let c = unit_range_of (pos 0) next n in
     let has : Contains (values_of (unit_range_of (pos 0) next n)) (pos j) =

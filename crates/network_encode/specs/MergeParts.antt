@@ -1,14 +1,14 @@
 -- The parts of a sum of two integers by a merge network: the units of both sides are merged, the odd places with the odd
 -- places and the even places with the even places, and one row of comparators puts what comes of both in order.
 use Rattle.std.specs.Prelude.{ℕ, zero, suc, ◌+◌, ◌*◌, ◌-◌, ◌/◌, min, List, [], ◌∷◌, ◌++◌, map, length, pos, ◌+ℤ◌}
+use Rattle.order_ints.specs.Label.{own_labels, variable}
 use Rattle.order_ints.specs.declared.atom.Atom.{Atom}
 use Rattle.order_ints.specs.declared.atom.Atom.TheVariants.{True}
 use Rattle.order_ints.specs.declared.order_int.OrdInt.{OrdInt}
-use Rattle.order_ints.specs.OrderMade.{atom_of_var, vars_from, unit_range_of}
-use Rattle.core_cost.specs.Divisor.{common_divisor_of}
+use Rattle.order_ints.specs.OrderMade.{unit_range_of}
+use Rattle.core_forms.specs.Sums.{gap_of}
 use Rattle.core_forms.specs.declared.form.Core.{Core}
 use Rattle.core_forms.specs.declared.form.Core.TheVariants.{Ladder, Comp, EqR, Sum3}
-use Rattle.core_forms.specs.Shapes.{divisor_of}
 use Rattle.part_base.specs.declared.parts.Parts.{Parts}
 
 -- an atom so many times
@@ -53,7 +53,7 @@ abbrev pub row_cores : ℕ → List Atom → List Atom → List Core
 row_cores fresh [] es = []
 row_cores fresh (d ∷ ds) [] = []
 row_cores fresh (d ∷ ds) (e ∷ es) =
-    Comp d e (atom_of_var fresh) (atom_of_var (fresh + 1)) ∷ row_cores (fresh + 2) ds es
+    Comp d e (variable fresh) (variable (fresh + 1)) ∷ row_cores (fresh + 2) ds es
 
 -- what the row gives: of each comparator the disjunction and then the conjunction, and the atoms that have no partner. In a
 -- network there is one such atom at most: where both sides have an even number of units it is the last even one, and where
@@ -61,21 +61,21 @@ row_cores fresh (d ∷ ds) (e ∷ es) =
 abbrev pub row_wires : ℕ → List Atom → List Atom → List Atom
 row_wires fresh [] es = es
 row_wires fresh (d ∷ ds) [] = d ∷ ds
-row_wires fresh (d ∷ ds) (e ∷ es) = atom_of_var fresh ∷ atom_of_var (fresh + 1) ∷ row_wires (fresh + 2) ds es
+row_wires fresh (d ∷ ds) (e ∷ es) = variable fresh ∷ variable (fresh + 1) ∷ row_wires (fresh + 2) ds es
 
 -- The two sums have the fresh variables from next on, first n of them for the odd places and then k for the even places.
 -- The first atom of the odd ones is the first of the whole; each further one is compared with the even one before it.
 abbrev pub further_odd : ℕ → ℕ → List Atom
-further_odd next n = vars_from (next + 1) (n - 1)
+further_odd next n = own_labels (next + 1) (n - 1)
 
 abbrev pub all_even : ℕ → ℕ → ℕ → List Atom
-all_even next n k = vars_from (next + n) k
+all_even next n k = own_labels (next + n) k
 
 abbrev pub comparators : ℕ → ℕ → ℕ → List Core
 comparators next n k = row_cores (next + n + k) (further_odd next n) (all_even next n k)
 
 abbrev pub wires : ℕ → ℕ → ℕ → List Atom
-wires next n k = atom_of_var next ∷ row_wires (next + n + k) (further_odd next n) (all_even next n k)
+wires next n k = variable next ∷ row_wires (next + n + k) (further_odd next n) (all_even next n k)
 
 -- the sum of both sides by its wires, each of which weighs g
 abbrev pub merged_int : ℕ → OrdInt → OrdInt → ℕ → List Atom → List Atom → OrdInt
@@ -106,10 +106,6 @@ network_parts next a b c g ls ms = record {
   fresh = odd_steps ls ms + even_steps ls ms + 2 * min (odd_steps ls ms - 1) (even_steps ls ms);
 }
 
--- the greatest common divisor of the weights of both sides
-abbrev pub unit_of : OrdInt → OrdInt → ℕ
-unit_of a b = common_divisor_of (divisor_of a.steps) (divisor_of b.steps)
-
 abbrev pub merge_parts : ℕ → OrdInt → OrdInt → OrdInt → Parts
 merge_parts next a b c =
-    network_parts next a b c (unit_of a b) (units_of (unit_of a b) a.steps) (units_of (unit_of a b) b.steps)
+    network_parts next a b c (gap_of a b) (units_of (gap_of a b) a.steps) (units_of (gap_of a b) b.steps)

@@ -1,7 +1,7 @@
 //! The parts of a parity and of at-most-one.
 
+ghost use Rattle.order_ints.specs.Label.{variable};
 ghost use Rattle.std.specs.Prelude.{◌≡◌, [], ◌∷◌, ◌++◌, ◌≤◌, length, IfOk};
-ghost use Rattle.order_ints.specs.OrderMade.{atom_of_var};
 ghost use Rattle.network_encode.specs.AtomParts.{parity_parts, amo_parts};
 
 use bee_list::Sequence;
@@ -12,7 +12,7 @@ use std::alloc::{AllocError, Global};
 
 /// The atom of a fresh variable.
 pub(crate) fn fresh_atom(var: u32) -> Atom
-    ensures { result ≡ atom_of_var var }
+    ensures { result ≡ variable var }
 {
     Atom::Of(Lit {
         var,

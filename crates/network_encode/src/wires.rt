@@ -1,7 +1,7 @@
 //! The row of comparators of a merge network, and its wires.
 
+ghost use Rattle.order_ints.specs.Label.{own_labels};
 ghost use Rattle.std.specs.Prelude.{◌≡◌, ◌+◌, ◌-◌, ◌*◌, ◌^◌, ◌++◌, ◌≤◌, min, IfOk, OnOk};
-ghost use Rattle.order_ints.specs.OrderMade.{vars_from};
 ghost use Rattle.network_encode.specs.MergeParts.{weighted, comparators, wires};
 
 use crate::members::fresh_atom;
@@ -51,7 +51,7 @@ fn push_steps(
     weight: u128,
 ) -> Result<(), AllocError>
     requires { first + count ≤ 2 ^ 28 }
-    ensures { OnOk result (steps.new.items ≡ steps.old.items ++ weighted weight (vars_from first count)) }
+    ensures { OnOk result (steps.new.items ≡ steps.old.items ++ weighted weight (own_labels first count)) }
 {
     for k in 0..count {
         steps.push((fresh_atom(first + k), weight))?;

@@ -77,6 +77,6 @@ LaterThanLater = (n : ℕ) (old new newest : List Atom) → AtomsBelow n old →
 abbrev pub LaterResolves : Type 0
 LaterResolves = (n : ℕ) (old new : List Atom) (a : Atom) → IsLater old new → AtomBelow n a → resolve new (resolve old a) ≡ resolve new a
 
--- a valuation that meets a view meets each one that it is later than and no longer
+-- a valuation that meets a view meets each one that it is later than
 abbrev pub LaterMeets : Type 0
 LaterMeets = (n : ℕ) (old new : List Atom) (σ : Valuation) → AtomsBelow n old → IsLater old new → MeetsView σ new → MeetsView σ old

@@ -1,5 +1,6 @@
 -- The integers that are made of a value, of an atom, and of values with fresh variables.
 use Rattle.std.specs.Prelude.{ℕ, zero, suc, ◌+◌, ◌^◌, ◌<◌, ◌≤◌, true, ℤ, pos, ◌-ℤ◌, ◌+ℤ◌, ◌<ℤ◌, unsigned_abs, List, [], ◌∷◌}
+use Rattle.order_ints.specs.Label.{own_labels, variable}
 use Rattle.order_ints.specs.declared.atom.Atom.{Atom}
 use Rattle.order_ints.specs.declared.atom.Atom.TheVariants.{Of}
 use Rattle.order_ints.specs.declared.order_int.OrdInt.{OrdInt}
@@ -12,19 +13,10 @@ constant_of value = record { base = value; steps = [] }
 abbrev pub integer_of_atom : Atom → OrdInt
 integer_of_atom a = record { base = pos 0; steps = (a, 1) ∷ [] }
 
--- the variable itself, as an atom
-abbrev pub atom_of_var : ℕ → Atom
-atom_of_var var = Of (record { var = var; positive = true })
-
--- the variables from one on, so many of them, as atoms
-abbrev pub vars_from : ℕ → ℕ → List Atom
-vars_from first zero = []
-vars_from first (suc count) = atom_of_var first ∷ vars_from (first + 1) count
-
 -- steps of weight 1, one for each variable
 abbrev pub unit_steps : ℕ → ℕ → List (Atom × ℕ)
 unit_steps first zero = []
-unit_steps first (suc count) = (atom_of_var first, 1) ∷ unit_steps (first + 1) count
+unit_steps first (suc count) = (variable first, 1) ∷ unit_steps (first + 1) count
 
 -- from low upwards by ones, with a variable for each further value
 abbrev pub unit_range_of : ℤ → ℕ → ℕ → OrdInt
@@ -39,7 +31,7 @@ values_from low (suc count) = low ∷ values_from (low +ℤ pos 1) count
 abbrev pub steps_between : ℤ → List ℤ → ℕ → List (Atom × ℕ)
 steps_between value [] var = []
 steps_between value (next ∷ values) var =
-    (atom_of_var var, unsigned_abs (next -ℤ value)) ∷ steps_between next values (var + 1)
+    (variable var, unsigned_abs (next -ℤ value)) ∷ steps_between next values (var + 1)
 
 -- the integer of the listed values, the least first, with a variable for each further one
 abbrev pub integer_of_values : List ℤ → ℕ → OrdInt

@@ -3,6 +3,7 @@
 
 ghost use Rattle.std.specs.Prelude.{◌≡◌, ℕ, ◌+◌, ◌≤◌, Bool, not, ◌&&◌, ◌↔◌, ℤ, pos, neg_ℤ, ◌+ℤ◌, ◌-ℤ◌, ◌*ℤ◌, ◌≤ℤ◌, ◌<ℤ◌, int_le, List, ◌∷◌, ◌++◌, map, Contains, IsTrue};
 ghost use Rattle.std.specs.List.{AllByRecursion};
+ghost use Rattle.order_ints.specs.Label.{own_labels};
 ghost use Rattle.order_ints.specs.declared.atom.Atom.{Atom};
 ghost use Rattle.order_ints.specs.declared.atom.Atom.TheVariants.{True, False};
 ghost use Rattle.order_ints.specs.declared.order_int.OrdInt.{OrdInt};
@@ -12,7 +13,6 @@ ghost use Rattle.order_ints.specs.Place.{AtomBelow};
 ghost use Rattle.order_ints.specs.OrderValue.{value_of, in_order, IsOrdered};
 ghost use Rattle.order_ints.specs.OrderRange.{low_of, high_of, AreRising, IntBelow};
 ghost use Rattle.order_ints.specs.OrderLevels.{levels_of, values_of, at_of};
-ghost use Rattle.order_ints.specs.OrderMade.{vars_from};
 ghost use Rattle.order_ints.specs.OrderChange.{negated_of, shifted_of, scaled_of};
 ghost use Rattle.order_ints.specs.Represents.{DependsBelow, Represents};
 
@@ -81,7 +81,7 @@ pub fn change_law()
 {}
 
 /// Truth, value and order depend on the variables of the atom and of the integer alone.
-pub fn agreement_law()
+pub fn integer_agreement_law()
     ensures atom { (n : ℕ) (σ τ : Valuation) (a : Atom)
         → Agree n σ τ → AtomBelow n a → atom_truth σ a ≡ atom_truth τ a }
     ensures value { (n : ℕ) (σ τ : Valuation) (a : OrdInt)
@@ -104,7 +104,7 @@ pub fn below_law()
 /// valuation that is as a given one below those variables.
 pub fn fresh_law()
     ensures { (σ : Valuation) (a : OrdInt) (first count : ℕ) (value : ℤ)
-        → map (λ s. s.0) a.steps ≡ vars_from first count → Contains (values_of a) value
+        → map (λ s. s.0) a.steps ≡ own_labels first count → Contains (values_of a) value
         → (τ : Valuation) × Agree first σ τ × (IsOrdered τ a × (value_of τ a ≡ value)) }
 {}
 

@@ -1,8 +1,8 @@
 //! Laws of parts, for proofs of crates above. Each function does nothing; its contract is the law.
 
 ghost use Rattle.std.specs.Prelude.{◌≡◌, ℕ, ◌+◌, ◌≤◌, Bool};
+ghost use Rattle.order_ints.specs.Label.{variable};
 ghost use Rattle.order_ints.specs.Truth.{Valuation, Agree, atom_truth};
-ghost use Rattle.order_ints.specs.OrderMade.{atom_of_var};
 ghost use Rattle.core_forms.specs.declared.form.Core.{Core};
 ghost use Rattle.core_forms.specs.Place.{CoreBelow};
 ghost use Rattle.core_forms.specs.Meaning.{Meets};
@@ -27,5 +27,5 @@ pub fn parts_law()
 pub fn fresh_law()
     ensures agree { (next : ℕ) (σ : Valuation) (fresh : ℕ → Bool) → Agree next σ (with_fresh next σ fresh) }
     ensures truth { (next : ℕ) (σ : Valuation) (fresh : ℕ → Bool) (i : ℕ)
-        → atom_truth (with_fresh next σ fresh) (atom_of_var (next + i)) ≡ fresh i }
+        → atom_truth (with_fresh next σ fresh) (variable (next + i)) ≡ fresh i }
 {}

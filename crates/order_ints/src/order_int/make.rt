@@ -1,11 +1,12 @@
 //! The integers that are made of a value, of an atom, and of values with fresh variables.
 
 ghost use Rattle.std.specs.Prelude.{◌≡◌, ℕ, suc, ◌+◌, ◌-◌, ◌^◌, ◌<◌, ◌≤◌, ℤ, pos, ◌+ℤ◌, ◌-ℤ◌, ◌<ℤ◌, unsigned_abs, IfOk, length, map, if◌then◌else◌};
+ghost use Rattle.order_ints.specs.Label.{own_labels};
 ghost use Rattle.order_ints.specs.Truth.{Valuation, atom_truth};
 ghost use Rattle.order_ints.specs.OrderValue.{value_of, IsOrdered};
 ghost use Rattle.order_ints.specs.OrderRange.{IsBounded, AreRising, IntBelow};
 ghost use Rattle.order_ints.specs.OrderLevels.{values_of};
-ghost use Rattle.order_ints.specs.OrderMade.{constant_of, integer_of_atom, unit_steps, steps_between, AscendFrom, unit_range_of, integer_of_values, vars_from, values_from, AreAscending, AreSmall, AreVars};
+ghost use Rattle.order_ints.specs.OrderMade.{constant_of, integer_of_atom, unit_steps, steps_between, AscendFrom, unit_range_of, integer_of_values, values_from, AreAscending, AreSmall, AreVars};
 
 use super::OrdInt;
 use super::signed::gap;
@@ -98,7 +99,7 @@ impl OrdInt {
         requires variables { AreVars first_var count }
         ensures shape { IfOk result (λ a. a ≡ unit_range_of low first_var count) }
         ensures values { IfOk result (λ a. values_of a ≡ values_from low (count + 1)) }
-        ensures variables { IfOk result (λ a. map (λ s. s.0) a.steps ≡ vars_from first_var count) }
+        ensures variables { IfOk result (λ a. map (λ s. s.0) a.steps ≡ own_labels first_var count) }
         ensures bounded { IfOk result (λ a. IsBounded a) }
         ensures rising { IfOk result (λ a. AreRising a.steps) }
         ensures below { IfOk result (λ a. (n : ℕ) → first_var + count ≤ n → IntBelow n a) }
@@ -119,7 +120,7 @@ impl OrdInt {
         ensures shape { IfOk result (λ a. a ≡ integer_of_values values.now first_var) }
         ensures values { IfOk result (λ a. values_of a ≡ values.now) }
         ensures variables { IfOk result
-            (λ a. map (λ s. s.0) a.steps ≡ vars_from first_var (length values.now - 1)) }
+            (λ a. map (λ s. s.0) a.steps ≡ own_labels first_var (length values.now - 1)) }
         ensures bounded { IfOk result (λ a. IsBounded a) }
         ensures rising { IfOk result (λ a. AreRising a.steps) }
         ensures below { IfOk result

@@ -1,6 +1,6 @@
 use Rattle.order_ints.proofs.Truths.{atom_truth-agree}
 use Rattle.order_ints.proofs.Gains.{value_of-agree, in_order-agree}
-use Rattle.order_ints.proofs.order_laws.agreement_law.Goals as goal
+use Rattle.order_ints.proofs.order_laws.integer_agreement_law.Goals as goal
 
 pub returns-clause-atom : goal.returns-clause-atom
 returns-clause-atom c = atom_truth-agree

@@ -1,0 +1,4 @@
+pub mod Objectives
+pub mod Rounds
+pub mod Seeking
+pub mod Answers

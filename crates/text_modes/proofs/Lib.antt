@@ -4,3 +4,4 @@ mod TwoEnds
 mod Answering
 pub mod OneAnswer
 pub mod TwoAnswers
+pub mod OneFree

@@ -1,5 +1,6 @@
 pub mod Seen
 pub mod Ends
 pub mod Promises
+pub mod Refusal
 pub mod OneText
 pub mod TwoTexts

@@ -1,0 +1,3 @@
+mod Better
+mod Refuting
+mod Turning

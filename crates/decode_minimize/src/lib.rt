@@ -1,0 +1,11 @@
+//! Answers to models: the model is compiled, its clauses are solved, and an objective is improved round by round.
+#![tactic(auto)]
+
+mod answering;
+mod asking;
+mod improving;
+mod objective;
+mod options;
+
+pub use answering::{AnsweredModel, answer, answer_owned};
+pub use options::Options;

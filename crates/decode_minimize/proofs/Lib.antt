@@ -1,3 +1,9 @@
 mod Better
 mod Refuting
 mod Turning
+mod Ready
+mod Sound
+mod Rounding
+mod Makings
+mod Entries
+mod Answered

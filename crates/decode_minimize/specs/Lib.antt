@@ -4,3 +4,4 @@ pub mod Seeking
 pub mod Settling
 pub mod Solved
 pub mod Answers
+pub mod Answering

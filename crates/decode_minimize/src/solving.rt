@@ -27,7 +27,7 @@ use proof_check::ProofLine;
 use std::alloc::{AllocError, Global};
 
 /// That there is no solution.
-fn refuted(proof: Sequence<ProofLine>) -> Solved
+pub fn refuted(proof: Sequence<ProofLine>) -> Solved
     ensures { result ≡ record { verdict = Verdict.Unsatisfiable; assignment = None; proof = proof; second = None } }
 {
     Solved {

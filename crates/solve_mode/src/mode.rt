@@ -9,17 +9,25 @@ use bee_outside::{Shelf, Sink};
 use decode_minimize::Options;
 use model_texts::{ModelFault, TextFault};
 use std::alloc::{AllocError, Global};
+use std::marker::Model;
 use text_modes::{End, Made, OneText, run_one};
 
 /// The greatest number of bytes of a model's text.
 const LONGEST_TEXT: usize = 16_777_216;
 
 /// The text of a model is read, and that of its answer is written.
+#[derive(Drop)]
 struct Solving {
     options: Options,
 }
 
-impl Solving {
+impl Model for Solving {
+    ghost use Rattle.decode_minimize.specs.declared.options.Options.{Options};
+
+    ghost Value = { Options };
+
+    ghost view = { λ s. s.options };
+
     ghost invariant = { λ s. IsBudget s.options.budget };
 }
 
@@ -32,7 +40,7 @@ impl OneText for Solving {
 
     ghost most = { λ _. Some (longest_text + 1) };
 
-    ghost gives = { λ mode. IsSolved mode.options };
+    ghost gives = { λ options. IsSolved options };
 
     ghost has_fault = { λ _. HasFault };
 

@@ -3,4 +3,5 @@ pub mod Ends
 pub mod Promises
 pub mod Refusal
 pub mod OneText
+pub mod NoText
 pub mod TwoTexts

@@ -158,6 +158,7 @@ fits-count model (Optimum b) h = tt
 fits-count model (Unknown n best) h = omega (arith, h.1)
 
 value-of : (k : Kind) (z : ℤ) → is_member z (domain k) ≡ true → IsValueOf k z
+unfolding domain
 value-of kind.Bool z h = by (int_eq (pos 0) z) (int_eq (pos 1) z) refl refl h
   where
     by : (p q : Bool) → int_eq (pos 0) z ≡ p → int_eq (pos 1) z ≡ q → (p || (q || false)) ≡ true → (z ≡ pos 0) ⊎ (z ≡ pos 1)

@@ -112,6 +112,22 @@ module _ (model : Model) (s : Standing) where
   items-tell part.Second (Derived l) End h k e = absurd (line-no-word l (codes "end") h (omega arith) e)
   items-tell part.Second End (Derived m) h k e = absurd (line-no-word m (codes "end") k (omega arith) (sym e))
   items-tell part.Second End End h k e = refl
+  items-tell part.Version (Version a) j h k e = elim k [ ]
+  items-tell part.Verdict (Answer v) j h k e = elim k [ ]
+  items-tell part.Best (Best b) j h k e = elim k [ ]
+  items-tell part.Best LedgerBegins j h k e = elim k [ ]
+  items-tell part.Values (Value t) j h k e = elim k [ ]
+  items-tell part.Values LedgerBegins j h k e = elim k [ ]
+  items-tell part.Values End j h k e = elim k [ ]
+  items-tell part.Unanswered LedgerBegins j h k e = elim k [ ]
+  items-tell part.Ledger (Step l) j h k e = elim k [ ]
+  items-tell part.Ledger ProofBegins j h k e = elim k [ ]
+  items-tell part.Proof (Derived l) j h k e = elim k [ ]
+  items-tell part.Proof SecondBegins j h k e = elim k [ ]
+  items-tell part.Proof End j h k e = elim k [ ]
+  items-tell part.Second (Derived l) j h k e = elim k [ ]
+  items-tell part.Second End j h k e = elim k [ ]
+  items-tell p i j h k e = elim h [ ]
 
 -- a line says one thing where it stands
 pub one_item : (model : Model) (s : Standing) (line : List ℕ) (i j : Item) → Says model s line i → Says model s line j → i ≡ j
@@ -120,10 +136,10 @@ one_item model s line i j p q = items-tell model s s.part i j p.0 q.0 (sym p.1 �
 -- so it leads to one standing
 pub one_next : (model : Model) (s t u : Standing) (line : List ℕ) → IsNext model s line t → IsNext model s line u → t ≡ u
 one_next model s t u line p q =
-    same t u (sym p.taken ∙ ap (taken model s) (one_item model s line p.item q.item p.says q.says) ∙ q.taken)
+    same (taken model s p.item) t u p.taken (ap (taken model s) (one_item model s line p.item q.item p.says q.says) ∙ q.taken)
   where
-    same : (t u : Standing) → Ok t ≡ Ok u → t ≡ u
-    same t u e = cc
+    same : (r : Result Standing Why) (t u : Standing) → r ≡ Ok t → r ≡ Ok u → t ≡ u
+    same r t u p q = cc
 
 abbrev Any : Standing → Type 0
 Any s = Unit {0}

@@ -26,6 +26,7 @@ use Rattle.answer_document.specs.declared.document.Document.{Document}
 use Rattle.answer_document.specs.DocumentText.{document_text}
 use Rattle.answer_document.specs.Valid.{start_of, second_cnf, numbers_given, stated, IsValid}
 use Rattle.decode_minimize.specs.declared.options.Options.{Options}
+use Rattle.decode_minimize.specs.Solved.{second_added}
 
 -- the budget is one that a document can state
 abbrev pub IsBudget : ℕ → Type 0
@@ -51,12 +52,8 @@ most_rounds decls (Minimize place second) = values_at decls place + second_value
 most_rounds decls (Maximize place second) = values_at decls place + second_values decls second
 
 -- how many clauses both derivations add together
-abbrev pub second_additions : Option (List ProofLine) → ℕ
-second_additions None = 0
-second_additions (Some lines) = additions lines
-
 abbrev pub all_additions : Document → ℕ
-all_additions d = additions d.proof + second_additions d.second
+all_additions d = additions d.proof + second_added d.second
 
 -- the search was not given up
 abbrev pub IsDecided : Verdict → Type 0

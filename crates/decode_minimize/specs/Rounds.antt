@@ -20,9 +20,9 @@ pub record AreSatisfying (cnf : Cnf) (values : List Bool) : Type 0 where
 
 -- what an assumption was asked for
 abbrev pub IsAsked : Logged → Option Lit → Round → Type 0
-IsAsked s assumption (Better values) = IsSolution s.cnf assumption values
-IsAsked s assumption Shown = (id : ℕ) × IsRefutation s.cnf s.log assumption id
-IsAsked s assumption Spent = Unit {0}
+IsAsked s asked (Better values) = IsSolution s.cnf asked values
+IsAsked s asked Shown = (id : ℕ) × IsRefutation s.cnf s.log asked id
+IsAsked s asked Spent = Unit {0}
 
 -- A bound is broken by truth values that satisfy the CNF; or it is shown by the log; or it is none that is True.
 abbrev pub IsRound : Logged → Atom → Round → Type 0

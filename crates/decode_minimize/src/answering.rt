@@ -1,22 +1,29 @@
 //! The answer to a model.
 
-ghost use Rattle.std.specs.Prelude.{◌≡◌, ◌≤◌, IfOk, IfErr};
+ghost use Rattle.std.specs.Prelude.{◌≡◌, ◌+◌, ◌<◌, ◌≤◌, ◌^◌, IfOk, IfErr, length};
 ghost use Rattle.model_meaning.specs.WellTyped.{WellTyped};
 ghost use Rattle.model_meaning.specs.Limits.{InLimits};
 ghost use Rattle.model_weight.specs.Weight.{weight_of};
 ghost use Rattle.model_lower.specs.Weighed.{most_weight};
 ghost use Rattle.model_lower.specs.Faults.{IsFaultOf};
+ghost use Rattle.decode_minimize.specs.Solved.{IsProblem, IsSolvedFor};
 ghost use Rattle.decode_minimize.specs.Answers.{IsBudget, IsAnswer};
+ghost use Rattle.decode_minimize.specs.Answering.{IsReady, IsAnswerOf, problem_at};
 
 use crate::options::Options;
-use answer_document::{Document, Verdict};
+use crate::readable::are_derivations_readable;
+use crate::solved::{Names, Solved};
+use crate::solving::{refuted, solve};
+use answer_document::Document;
 use bee_list::Sequence;
 use fixpoint_queue::Oracle;
-use model_lower::{LowerFault, LoweredModel, lower, lower_owned};
+use model_lower::{LowerFault, Lowered, LoweredModel, NameMap, lower, lower_owned};
+use model_meaning::{Decl, Goal, Model};
 use rule_base::Steps;
-use std::alloc::Global;
+use state_compile::{Compiled, compile_state};
+use std::alloc::{AllocError, Global};
 use std::sync::ledger::Ledger;
-use typed_model::{Decl, Model};
+use step_kernel::State;
 
 /// An answer to a model that was used up, and the model's declarations.
 #[derive(Debug, Drop)]
@@ -25,6 +32,64 @@ pub struct AnsweredModel {
     pub document: Document,
     /// The declared names, as the model has them.
     pub decls: Sequence<Decl>,
+}
+
+/// Solves the clauses of the last state of a compilation. At bottom there is no solution, and nothing is to be derived.
+fn solve_state(
+    alloc: Global,
+    state: &State,
+    map: &NameMap,
+    goal: Goal,
+    options: Options,
+) -> Result<Solved, AllocError>
+    requires { IsProblem (problem_at map.now.entries state.now) }
+    ensures { IfOk result (IsSolvedFor (problem_at map.now.entries state.now) options goal) }
+{
+    if state.bottom() {
+        return Ok(refuted(Sequence::from_vec(Vec::new(alloc))));
+    }
+    let cnf = state.cnf()?;
+    let names = Names {
+        map,
+        view: state.view(),
+    };
+    let solved = solve(alloc, cnf, &names, goal, options)?;
+    Ok(solved)
+}
+
+/// The answer to a model that is lowered.
+fn answer_lowered<F: Oracle<L>, L: Ledger>(
+    alloc: Global,
+    lowered: Lowered,
+    goal: Goal,
+    options: Options,
+    oracle: F,
+    steps: &mut Steps<L>,
+) -> Result<Document, AllocError>
+    requires ready { IsReady lowered }
+    requires budget { IsBudget options.budget }
+    ensures { IfOk result (λ d. IsAnswerOf F.told lowered goal options d steps.old steps.new) }
+{
+    let Lowered { vars, map, cores } = lowered;
+    let state = State::start(alloc, vars, cores.into_vec())?;
+    let Compiled { state, ledger } = compile_state(alloc, state, oracle, steps)?;
+    let _ids = state.ids();
+    let Solved {
+        verdict,
+        assignment,
+        proof,
+        second,
+    } = solve_state(alloc, &state, &map, goal, options)?;
+    if !are_derivations_readable(&proof, &second) {
+        return Err(AllocError);
+    }
+    Ok(Document {
+        verdict,
+        assignment,
+        ledger,
+        proof,
+        second,
+    })
 }
 
 /// The answer to a model: whether it has a solution, or which is a best one, with a certificate. The model is compiled
@@ -49,7 +114,8 @@ pub fn answer<F: Oracle<L>, L: Ledger>(
     ensures heavy { IfErr result (λ e. IsFaultOf e model.now) }
 {
     let lowered = lower(alloc, model)?;
-    Err(LowerFault::Memory)
+    let document = answer_lowered(alloc, lowered, model.goal, options, oracle, steps)?;
+    Ok(document)
 }
 
 /// The answer to a model that is used up: each statement is let go as soon as it is lowered, and the declarations are given
@@ -69,6 +135,8 @@ pub fn answer_owned<F: Oracle<L>, L: Ledger>(
     ensures decls { IfOk result (λ a. a.decls ≡ model.decls) }
     ensures heavy { IfErr result (λ e. IsFaultOf e model) }
 {
+    let goal = model.goal;
     let LoweredModel { lowered, decls } = lower_owned(alloc, model)?;
-    Err(LowerFault::Memory)
+    let document = answer_lowered(alloc, lowered, goal, options, oracle, steps)?;
+    Ok(AnsweredModel { document, decls })
 }

@@ -27,13 +27,13 @@ pub enum Round {
 /// Asks for truth values under an assumption, if any.
 fn ask(
     solver: &mut Solver<'_>,
-    assumption: Option<Lit>,
+    assumed: Option<Lit>,
     options: Options,
 ) -> Result<Round, AllocError>
-    requires in_range { ForSome assumption (LitBelow (solver.old.cnf.vars + 1)) }
+    requires in_range { ForSome assumed (LitBelow (solver.old.cnf.vars + 1)) }
     requires budget { additions solver.old.log ≤ options.budget }
     ensures cnf { solver.new.cnf ≡ solver.old.cnf }
-    ensures asked { IfOk result (IsAsked solver.new assumption) }
+    ensures asked { IfOk result (IsAsked solver.new assumed) }
     ensures spent { result ≡ Ok Round.Spent → additions solver.new.log ≡ options.budget }
     ensures spent_early { result ≡ Ok Round.Spent
         → additions solver.new.log < additions solver.old.log + most_learned options.restart solver.old.cnf.vars }
@@ -41,7 +41,7 @@ fn ask(
     ensures most { additions solver.new.log
         ≤ additions solver.old.log + most_learned options.restart solver.old.cnf.vars }
 {
-    match solver.solve(assumption, options.budget, options.restart)? {
+    match solver.solve(assumed, options.budget, options.restart)? {
         Found::Sat(values) => Ok(Round::Better(values)),
         Found::Refuted(_) => Ok(Round::Shown),
         Found::Spent => Ok(Round::Spent),

@@ -6,6 +6,11 @@ mod asking;
 mod improving;
 mod objective;
 mod options;
+mod readable;
+mod rounds;
+mod settling;
+mod solved;
+mod solving;
 
 pub use answering::{AnsweredModel, answer, answer_owned};
 pub use options::Options;

@@ -6,4 +6,5 @@ mod Sound
 mod Rounding
 mod Makings
 mod Entries
+mod AnswerParts
 mod Answered

@@ -69,7 +69,7 @@ progress-from first new sought options best is shown proof seeking before cnf wi
       within = omega (arith, same, within);
       most = all-searches (left sought best) (values_count sought.integer.now) m (additions proof) (additions first.log) few before (omega (arith, same, improved.most));
       shown = λ e. subst (λ (f : Cnf). IsShown (proof_behind f proof) (asked_bound sought is)) cnf
-          (subst (λ (l : List ProofLine). IsShown (proof_behind new.cnf l) (asked_bound sought is)) (sym log) (improved.shown e));
+          (subst (λ (l : List ProofLine). IsShown (proof_behind new.cnf l) (asked_bound sought is)) (sym log) (improved.best e));
       spent = λ e.
           let s = improved.spent e in
           (same ∙ s.0, fewer-searches (left sought best) (values_count sought.integer.now) m (additions proof) (additions first.log) few before (omega (arith, same, s.1)));

@@ -141,9 +141,9 @@ module _ (first old new : Logged) (sought : Sought) (options : Options) (start w
   pub last-shown : IsTurned old new sought options was is turn.Shown → IsImproved first new sought options start is true
   last-shown t =
       let here = subst (λ (m : ℕ). additions new.log ≤ additions old.log + left sought was * m) same-most t.1 in
-      record { shown = λ e. t.0; most = omega (arith, here, so_far); spent = λ e. absurd (cc) }
+      record { best = λ e. t.0; most = omega (arith, here, so_far); spent = λ e. absurd (cc) }
 
   pub last-spent : IsTurned old new sought options was is turn.Spent → IsImproved first new sought options start is false
   last-spent t =
       let here = subst (λ (m : ℕ). additions new.log < additions old.log + left sought was * m) same-most t.1 in
-      record { shown = λ e. absurd (cc); most = omega (arith, here, so_far); spent = λ e. (t.0, omega (arith, here, so_far)) }
+      record { best = λ e. absurd (cc); most = omega (arith, here, so_far); spent = λ e. (t.0, omega (arith, here, so_far)) }

@@ -47,6 +47,6 @@ IsTurned old new sought options was is Spent =
 
 -- rounds to their end
 pub record IsImproved (old new : Logged) (sought : Sought) (options : Options) (was is : Best) (shown : Bool) : Type 0 where
-  pub shown : shown ≡ true → IsBestShown new sought is
+  pub best : shown ≡ true → IsBestShown new sought is
   pub most : additions new.log ≤ additions old.log + left sought was * most_learned options.restart old.cnf.vars
   pub spent : shown ≡ false → (additions new.log ≡ options.budget) × (additions new.log < additions old.log + left sought was * most_learned options.restart old.cnf.vars)

@@ -115,9 +115,9 @@ abbrev pub value_under : Problem → List Bool → OrdInt → ℤ
 value_under p values a = value_of (read_by p.view (valuation_of values)) a
 
 -- the values of the objectives, of which there may be a second one
-pub record HasBounds (p : Problem) (values : List Bool) (a : OrdInt) (second : Option OrdInt) (b : Bounds) : Type 0 where
+pub record HasBounds (p : Problem) (values : List Bool) (a : OrdInt) (other : Option OrdInt) (b : Bounds) : Type 0 where
   pub first : b.first ≡ value_under p values a
-  pub second : b.second ≡ option_map (value_under p values) second
+  pub second : b.second ≡ option_map (value_under p values) other
 
 -- the first objective is shown to be no better than its number
 abbrev pub IsFirstShown : Problem → Direction → OrdInt → Solved → Bounds → Type 0
@@ -185,10 +185,10 @@ second_added None = 0
 second_added (Some lines) = additions lines
 
 -- what holds of the derivations, and what the verdict says
-pub record IsSolved (p : Problem) (options : Options) (s : Solved) (says : Verdict → Type 0) : Type 0 where
+pub record IsSolved (p : Problem) (options : Options) (s : Solved) (claims : Verdict → Type 0) : Type 0 where
   pub derivation : IsDerivation p.cnf s.proof
   pub within : additions s.proof + second_added s.second ≤ options.budget
-  pub says : says s.verdict
+  pub says : claims s.verdict
 
 -- any solution serves; or a best one is sought, of one objective or two
 abbrev pub IsAnySolved : Problem → Options → Solved → Type 0
@@ -207,11 +207,11 @@ IsSolvedFor p options (Minimize place second) s = IsBestSolved p options Least (
 IsSolvedFor p options (Maximize place second) s = IsBestSolved p options Greatest (integer_named p.entries place) (second_named p.entries second) s
 
 -- what is made of truth values, a verdict and derivations
-pub record IsMadeOf (names : Names) (values : List Bool) (verdict : Verdict) (proof : List ProofLine) (second : Option (List ProofLine)) (s : Solved) : Type 0 where
-  pub verdict : s.verdict ≡ verdict
+pub record IsMadeOf (names : Names) (values : List Bool) (v : Verdict) (lines : List ProofLine) (behind : Option (List ProofLine)) (s : Solved) : Type 0 where
+  pub verdict : s.verdict ≡ v
   pub numbers : numbers_given s.assignment ≡ Some (numbers_of (read_by names.view.now (valuation_of values)) names.map.now.entries)
-  pub proof : s.proof ≡ proof
-  pub second : s.second ≡ second
+  pub proof : s.proof ≡ lines
+  pub second : s.second ≡ behind
 
 -- the verdict on a solution that is known
 abbrev pub verdict_on : Bool → Bounds → Options → Verdict

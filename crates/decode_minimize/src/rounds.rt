@@ -38,9 +38,9 @@ fn rounds_from(
     best: Best,
     options: Options,
 ) -> Result<Progress, AllocError>
-    requires seeking { IsSeeking solver.entry sought.now best }
-    requires budget { additions solver.entry.log ≤ options.budget }
-    requires most { additions solver.entry.log ≤ most_learned options.restart solver.entry.cnf.vars }
+    requires seeking { IsSeeking solver sought.now best }
+    requires budget { additions solver.log ≤ options.budget }
+    requires most { additions solver.log ≤ most_learned options.restart solver.cnf.vars }
     ensures { IfOk result (IsProgress solver.entry.cnf sought.now options) }
 {
     let mut solver = solver;

@@ -3,4 +3,5 @@ mod FirstEnds
 mod TwoEnds
 mod Answering
 pub mod OneAnswer
+pub mod NoAnswer
 pub mod TwoAnswers

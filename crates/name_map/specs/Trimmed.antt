@@ -3,7 +3,6 @@ use Rattle.std.specs.Prelude.{List, [], ◌∷◌}
 use Rattle.order_ints.specs.declared.atom.Atom.{Atom}
 use Rattle.order_ints.specs.declared.order_int.MapValue.{MapValue}
 use Rattle.order_ints.specs.declared.order_int.MapValue.TheVariants as values
-use Rattle.order_ints.specs.OrderRange.{IsBounded}
 use Rattle.order_ints.specs.View.{resolve}
 use Rattle.core_forms.specs.Trimmed.{trimmed_int}
 
@@ -15,12 +14,3 @@ trimmed_value view (values.Int a) = values.Int (trimmed_int view a)
 abbrev pub trimmed_values : List Atom → List MapValue → List MapValue
 trimmed_values view [] = []
 trimmed_values view (v ∷ map) = trimmed_value view v ∷ trimmed_values view map
-
--- the values of an integer are below 2 ^ 100 in absolute value
-abbrev pub IsBoundedValue : MapValue → Type 0
-IsBoundedValue (values.Bool a) = Unit {0}
-IsBoundedValue (values.Int a) = IsBounded a
-
-abbrev pub AreBounded : List MapValue → Type 0
-AreBounded [] = Unit {0}
-AreBounded (v ∷ map) = IsBoundedValue v × AreBounded map

@@ -1,6 +1,7 @@
 use Rattle.std.proofs.Common.{◌≡◌, ◌++◌, drop}
-use Rattle.bee_compile.specs.Trimmed.{trimmed_values, AreBounded}
-use Rattle.bee_compile.proofs.trimming.trim_map.Given as goal
+use Rattle.name_map.specs.Values.{AreBounded}
+use Rattle.name_map.specs.Trimmed.{trimmed_values}
+use Rattle.name_map.proofs.trimming.trim_map.Given as goal
 
 -- those so far and what is left make all
 abbrev pub invariant-loop-value : goal.invariant-loop-value

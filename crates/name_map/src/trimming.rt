@@ -1,11 +1,12 @@
 //! What names stand for, as a store has it.
 
 ghost use Rattle.std.specs.Prelude.{◌≡◌, IfOk};
-ghost use Rattle.bee_compile.specs.Trimmed.{trimmed_value, trimmed_values, IsBoundedValue, AreBounded};
+ghost use Rattle.name_map.specs.Values.{IsBoundedValue, AreBounded};
+ghost use Rattle.name_map.specs.Trimmed.{trimmed_value, trimmed_values};
 
+use crate::entries::NameMap;
 use bee_list::Sequence;
 use core_forms::trim_int;
-use model_lower::NameMap;
 use order_ints::{Atom, MapValue, resolve};
 use std::alloc::{AllocError, Global};
 

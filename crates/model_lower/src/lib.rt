@@ -21,3 +21,4 @@ pub use laws::{lowering_law, weight_law};
 pub use lowering::lower;
 pub use owned::lower_owned;
 pub use state::{Lowered, LoweredModel};
+pub use weighing::weigh;

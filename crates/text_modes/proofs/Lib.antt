@@ -5,3 +5,4 @@ mod Answering
 pub mod OneAnswer
 pub mod NoAnswer
 pub mod TwoAnswers
+pub mod OneFree

@@ -5,11 +5,13 @@
 mod ends;
 mod no_text;
 mod one_text;
+mod refusals;
 mod two_texts;
 mod whole_text;
 
 pub use ends::{End, Made, Outcome};
 pub use no_text::{NoText, run_none};
 pub use one_text::{OneText, run_one};
+pub use refusals::refusal;
 pub use two_texts::{TwoTexts, run_two};
 pub use whole_text::read_whole;

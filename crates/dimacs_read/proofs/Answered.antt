@@ -63,7 +63,7 @@ module _ {S : Type 0} (Next : S → List ℕ → S → Type 0) (IsEnd : S → Ty
         inr (record { before = before; left = line ∷ left; parts = parts; stands = s; lead = lead; misfit = λ t h. none (record { to = t; is = h }) }))
         (next s line fine)
 
-    pub either : Either
+    either : Either
     either = from-line [] (lines_of text) start refl refl good
 
 -- Values.

@@ -181,7 +181,7 @@ module _ (names : List (List ℕ)) (line : List ℕ) where
   by-pieces (a ∷ b ∷ []) cut = inr (short (a ∷ b ∷ []) cut (omega arith))
   by-pieces (a ∷ b ∷ c ∷ rest) cut = pieces-decided a b c rest cut
 
-  pub entry-decided : Decided (Entry names line)
+  entry-decided : Decided (Entry names line)
   entry-decided = by-pieces (split_blanks line) refl
 
 -- The line of a ledger line.

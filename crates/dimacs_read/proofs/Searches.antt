@@ -80,7 +80,7 @@ words-decided (x ∷ xs) (y ∷ ys) =
 
 -- Options.
 
-is_there : {A : Type 0} → Option A → Bool
+abbrev is_there : {A : Type 0} → Option A → Bool
 is_there None = false
 is_there (Some a) = true
 
@@ -96,7 +96,7 @@ pub there-decided : (o : Option ℕ) → Decided (IsThere o)
 there-decided None = inr (λ h. false≢true (ap is_there h.is))
 there-decided (Some n) = inl (record { number = n; is = refl })
 
-is_false : Option Bool → Bool
+abbrev is_false : Option Bool → Bool
 is_false None = false
 is_false (Some true) = false
 is_false (Some false) = true
@@ -150,8 +150,8 @@ module _ (n : ℕ) (P : Lit → Type 0) (d : (l : Lit) → Decided (P l)) where
   to-signed l b below p e = record { at = l.var; less = below.1; holds = (below.0, subst (λ (c : Bool). P (of l.var c)) e p) }
 
   neither : (l : Lit) (b : Bool) → LitBelow n l → P l → l.positive ≡ b → (Signed true → ⊥) → (Signed false → ⊥) → ⊥
-  neither l true below p e yes no = yes (to-signed l true below p e)
-  neither l false below p e yes no = no (to-signed l false below p e)
+  neither l true below p e first second = first (to-signed l true below p e)
+  neither l false below p e first second = second (to-signed l false below p e)
 
   by-signs : Decided (Signed true) → Decided (Signed false) → Decided (Literal n P)
   by-signs (inl h) k = inl (from-signed true h)
@@ -171,9 +171,9 @@ module _ (n : ℕ) (P : Atom → Type 0) (d : (a : Atom) → Decided (P a)) wher
   OfLiteral = Literal n (λ l. P (Of l))
 
   none-atomic : (a : Atom) → AtomBelow n a → P a → (P True → ⊥) → (P False → ⊥) → (OfLiteral → ⊥) → ⊥
-  none-atomic True below p yes no lit = yes p
-  none-atomic False below p yes no lit = no p
-  none-atomic (Of l) below p yes no lit = lit (record { at = l; below = below; holds = p })
+  none-atomic True below p first second lit = first p
+  none-atomic False below p first second lit = second p
+  none-atomic (Of l) below p first second lit = lit (record { at = l; below = below; holds = p })
 
   by-atoms : Decided (P True) → Decided (P False) → Decided OfLiteral → Decided (Atomic n P)
   by-atoms (inl p) f l = inl (record { at = True; below = tt; holds = p })

@@ -24,7 +24,7 @@ nothing_taken limit left = record { piece = []; moved = nothing_in_front left; w
 pub untouched : (name : List ℕ) (limit : Option ℕ) (s : ShelfShown) → TookUnder name limit s s
 untouched name limit s = record { front = nothing_taken limit (s.left name); others_stay = λ other _. refl }
 
-pub none_idle : {F : Type 0} (Gives : Outcome → List ℕ → Type 0) (seen : Seen) → Untouched seen → NoTextRun {F} Gives Memory seen
+pub none_idle : {F : Type 0} (Gives : Outcome → List ℕ → Type 0) (seen : Seen) → Untouched seen → NoTextRun {F = F} Gives Memory seen
 none_idle Gives seen same = record {
   says = tt;
   silent = λ _. ap (λ s. s.taken) same.out;

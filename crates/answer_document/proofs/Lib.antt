@@ -5,3 +5,8 @@ mod Shown
 pub mod ClaimLaws
 mod AgreementLaws
 mod WrittenLines
+pub mod SpelledWords
+pub mod DocumentLines
+pub mod LinesTell
+pub mod ProofLinesTell
+mod TextTells

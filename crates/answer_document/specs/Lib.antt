@@ -4,3 +4,4 @@ pub mod Claims
 pub mod BoundAtoms
 pub mod Valid
 pub mod Laws
+pub mod Told

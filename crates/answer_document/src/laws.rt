@@ -2,6 +2,7 @@
 //! the law.
 
 ghost use Rattle.answer_document.specs.Laws.{ClaimLaw, NoneContradicts, OptimaAgree, OptimumIsBest};
+ghost use Rattle.answer_document.specs.Told.{TextTellsAnswer, ValidTellsAnswer};
 
 /// What a valid answer says of a model that is taken is true, whoever wrote it.
 pub fn claim_law()
@@ -14,4 +15,12 @@ pub fn agreement_law()
     ensures none { NoneContradicts }
     ensures optima { OptimaAgree }
     ensures best { OptimumIsBest }
+{}
+
+/// The text of a document tells its answer: documents whose texts are equal, for the same declarations, have the same verdict and
+/// the same assignment, and, where the verdict has a certificate, the same ledger and the same derivations. So a text is a valid answer
+/// with one verdict and one assignment at most.
+pub fn text_law()
+    ensures text { TextTellsAnswer }
+    ensures valid { ValidTellsAnswer }
 {}

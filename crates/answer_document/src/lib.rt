@@ -8,6 +8,6 @@ mod verdict;
 mod write;
 
 pub use document::Document;
-pub use laws::{agreement_law, claim_law};
+pub use laws::{agreement_law, claim_law, text_law};
 pub use verdict::{Bounds, Verdict};
 pub use write::{push_verdict, write_document};

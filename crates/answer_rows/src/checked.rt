@@ -36,7 +36,7 @@ fn are_lines(decls: &[Decl]) -> bool
 }
 
 /// A model that is in the limits of a text.
-fn small_model(alloc: Global, text: &str) -> Result<Model, Fail>
+pub(super) fn small_model(alloc: Global, text: &str) -> Result<Model, Fail>
     ensures typed { IfOk result WellTyped }
     ensures limits { IfOk result InLimits }
     ensures names { IfOk result (λ m. AreLines (map (λ (d : Decl). d.name) m.decls)) }

@@ -1,4 +1,4 @@
-//! Rows worked out by hand: documents for models, with the verdict that is taken, or the line that fails and why.
+//! Rows worked out by hand: documents as whole texts, and documents for models, with the verdict that is taken, or the line that fails and why.
 //! They stand apart from the checker, so that proving them proves it not anew.
 #![tactic(auto)]
 
@@ -6,3 +6,7 @@
 mod checked;
 #[cfg(test)]
 mod documents;
+#[cfg(test)]
+mod misfits;
+#[cfg(test)]
+mod written;

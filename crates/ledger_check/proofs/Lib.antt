@@ -14,3 +14,4 @@ mod LineWords
 mod Beginnings
 pub mod DocumentLines
 mod Endgame
+pub mod OneFault

@@ -15,17 +15,8 @@ use Rattle.answer_document.specs.declared.verdict.Verdict.{Verdict}
 use Rattle.answer_document.specs.declared.verdict.Verdict.TheVariants.{Satisfiable, Unsatisfiable, Optimum, Unknown}
 use Rattle.answer_document.specs.Verdicts.{words_with, bound_words, verdict_words, verdict_text}
 use Rattle.answer_document.specs.DocumentText.{best_line}
+use Rattle.answer_document.proofs.SpelledWords.{bounds-words, verdict-are-words}
 use Rattle.ledger_check.specs.Items.{HaveNumbers, IsVerdictLine}
-
--- a word behind a byte that is no gap
-pub word-behind : (b : ℕ) (bs : List ℕ) → not (is_gap b) ≡ true → IsWord bs → IsWord (b ∷ bs)
-word-behind b [] first h = absurd (false≢true h)
-word-behind b (c ∷ bs) first h = and_from (not (is_gap b)) (solid (c ∷ bs)) first h
-
--- numbers are words
-pub signed-word : (z : ℤ) → FitsSigned w64 z → IsWord (signed_decimal z)
-signed-word (pos n) fits = decimal_word n (omega (arith, fits.sfits))
-signed-word (negsuc n) fits = word-behind 45 (decimal (suc n)) refl (decimal_word (suc n) (omega (arith, fits.sfits)))
 
 -- a word has no blank
 no-blank : (w : List ℕ) → list_all (λ c. not (is_gap c)) w ≡ true → lacks 32 w ≡ true
@@ -50,18 +41,11 @@ words-pieces (w ∷ ws) h =
     let parts = and_parts (is_word w) (list_all is_word ws) h in
     and_from (lacks 32 w) _ (word-piece w parts.0) (words-pieces ws parts.1)
 
-bounds-with : (first : ℤ) (second : Option ℤ) → FitsSigned w64 first → IfSome second (FitsSigned w64) → AreWords (words_with first second)
-bounds-with first None f s = and_from (is_word (signed_decimal first)) true (signed-word first f) refl
-bounds-with first (Some n) f s = and_from (is_word (signed_decimal first)) _ (signed-word first f) (and_from (is_word (signed_decimal n)) true (signed-word n s) refl)
-
-pub bounds-words : (b : Bounds) → FitsSigned w64 b.first → IfSome b.second (FitsSigned w64) → AreWords (bound_words b)
-bounds-words b first second = bounds-with b.first b.second first second
-
-pub verdict-are-words : (two : Bool) (v : Verdict) → IsVerdictLine two v → AreWords (verdict_words v)
-verdict-are-words two Satisfiable h = refl
-verdict-are-words two Unsatisfiable h = refl
-verdict-are-words two (Optimum b) h = bounds-words b h.0 h.1
-verdict-are-words two (Unknown n best) h = and_from (is_word (decimal n)) true (decimal_word n (omega (arith, h.0))) refl
+line-are-words : (two : Bool) (v : Verdict) → IsVerdictLine two v → AreWords (verdict_words v)
+line-are-words two Satisfiable h = refl
+line-are-words two Unsatisfiable h = refl
+line-are-words two (Optimum b) h = verdict-are-words (Optimum b) (h.0, h.1) tt
+line-are-words two (Unknown n best) h = verdict-are-words (Unknown n None) tt h.0
 
 some-words : (v : Verdict) → 0 < length (verdict_words v)
 some-words Satisfiable = omega arith
@@ -70,7 +54,7 @@ some-words (Optimum b) = omega arith
 some-words (Unknown n best) = omega arith
 
 pub pieces-of-verdict : (two : Bool) (line : List ℕ) (v : Verdict) → IsVerdictLine two v → line ≡ verdict_text v → split_blanks line ≡ verdict_words v
-pieces-of-verdict two line v h is = ap split_blanks is ∙ split_blanks-join_words (verdict_words v) (some-words v) (words-pieces (verdict_words v) (verdict-are-words two v h))
+pieces-of-verdict two line v h is = ap split_blanks is ∙ split_blanks-join_words (verdict_words v) (some-words v) (words-pieces (verdict_words v) (line-are-words two v h))
 
 pub pieces-of-best : (two : Bool) (line : List ℕ) (b : Bounds) → HaveNumbers two b → line ≡ best_line b → split_blanks line ≡ codes "best" ∷ bound_words b
 pieces-of-best two line b h is =

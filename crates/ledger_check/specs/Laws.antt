@@ -8,10 +8,12 @@ use Rattle.answer_document.specs.declared.document.Document.{Document}
 use Rattle.answer_document.specs.DocumentText.{document_lines}
 use Rattle.answer_document.specs.Valid.{IsReadableDocument, IsValid}
 use Rattle.line_texts.specs.LineByLine.{IsWhole}
+use Rattle.ledger_check.specs.declared.fault.Why.{Why}
 use Rattle.ledger_check.specs.Items.{Standing}
 use Rattle.ledger_check.specs.Tests.{start_standing}
 use Rattle.ledger_check.specs.Reading.{IsNext, IsEnd}
 use Rattle.ledger_check.specs.Fronts.{answer_of}
+use Rattle.ledger_check.specs.Checked.{IsFirstFault}
 
 -- a whole text is a valid answer, with the verdict and the values that its lines told
 abbrev pub WholeIsValid : Type 0
@@ -25,3 +27,7 @@ AreWrittenLines model = (d : Document) → IsReadableDocument d → VerdictFits 
 abbrev pub ValidIsWhole : Type 0
 ValidIsWhole = (model : Model) (text : List ℕ) (v : Verdict) (a : Option (List ℤ)) → AreWrittenLines model → IsValid model text v a
     → (s : Standing) × IsWhole (IsNext model) IsEnd (start_standing model) text s × (s.verdict ≡ v)
+
+-- a text has one first line that fails
+abbrev pub OneFirstFault : Type 0
+OneFirstFault = (model : Model) (text : List ℕ) (m n : ℕ) (why cause : Why) → IsFirstFault model text m why → IsFirstFault model text n cause → m ≡ n

@@ -16,5 +16,5 @@ mod words;
 
 pub use checking::check;
 pub use fault::{CheckFault, Why};
-pub use laws::reading_law;
+pub use laws::{first_fault_law, reading_law};
 pub use part::Part;

@@ -33,11 +33,26 @@ static ANSWERS: [Row; 18] = [
         "bee 1\nOPTIMUM 0\nx = false\ni = 0\n",
     ),
     // One value, negative values, listed values.
-    ("new_int(x,5,5) solve minimize x", "bee 1\nOPTIMUM 5\nx = 5\n"),
-    ("new_int(x,5,5) solve maximize x", "bee 1\nOPTIMUM 5\nx = 5\n"),
-    ("new_int(x,-7,-3) solve minimize x", "bee 1\nOPTIMUM -7\nx = -7\n"),
-    ("new_int(x,-7,-3) solve maximize x", "bee 1\nOPTIMUM -3\nx = -3\n"),
-    ("new_int(x,[4,9]) solve minimize x", "bee 1\nOPTIMUM 4\nx = 4\n"),
+    (
+        "new_int(x,5,5) solve minimize x",
+        "bee 1\nOPTIMUM 5\nx = 5\n",
+    ),
+    (
+        "new_int(x,5,5) solve maximize x",
+        "bee 1\nOPTIMUM 5\nx = 5\n",
+    ),
+    (
+        "new_int(x,-7,-3) solve minimize x",
+        "bee 1\nOPTIMUM -7\nx = -7\n",
+    ),
+    (
+        "new_int(x,-7,-3) solve maximize x",
+        "bee 1\nOPTIMUM -3\nx = -3\n",
+    ),
+    (
+        "new_int(x,[4,9]) solve minimize x",
+        "bee 1\nOPTIMUM 4\nx = 4\n",
+    ),
     (
         "new_int(x,[-20,4,9,30]) int_lt(x,30) solve maximize x",
         "bee 1\nOPTIMUM 9\nx = 9\n",
@@ -68,7 +83,8 @@ static ANSWERS: [Row; 18] = [
 ];
 
 /// Pigeons that find no hole: a search is needed.
-static PIGEONS: &str = "new_bool(p11) new_bool(p12) new_bool(p13) new_bool(p21) new_bool(p22) new_bool(p23) new_bool(p31) new_bool(p32) new_bool(p33) new_bool(p41) new_bool(p42) new_bool(p43) bool_array_or([p11,p12,p13]) bool_array_or([p21,p22,p23]) bool_array_or([p31,p32,p33]) bool_array_or([p41,p42,p43]) bool_array_or([-p11,-p21]) bool_array_or([-p11,-p31]) bool_array_or([-p11,-p41]) bool_array_or([-p21,-p31]) bool_array_or([-p21,-p41]) bool_array_or([-p31,-p41]) bool_array_or([-p12,-p22]) bool_array_or([-p12,-p32]) bool_array_or([-p12,-p42]) bool_array_or([-p22,-p32]) bool_array_or([-p22,-p42]) bool_array_or([-p32,-p42]) bool_array_or([-p13,-p23]) bool_array_or([-p13,-p33]) bool_array_or([-p13,-p43]) bool_array_or([-p23,-p33]) bool_array_or([-p23,-p43]) bool_array_or([-p33,-p43]) solve satisfy";
+static PIGEONS: &str =
+    "new_bool(p11) new_bool(p12) new_bool(p13) new_bool(p21) new_bool(p22) new_bool(p23) new_bool(p31) new_bool(p32) new_bool(p33) new_bool(p41) new_bool(p42) new_bool(p43) bool_array_or([p11,p12,p13]) bool_array_or([p21,p22,p23]) bool_array_or([p31,p32,p33]) bool_array_or([p41,p42,p43]) bool_array_or([-p11,-p21]) bool_array_or([-p11,-p31]) bool_array_or([-p11,-p41]) bool_array_or([-p21,-p31]) bool_array_or([-p21,-p41]) bool_array_or([-p31,-p41]) bool_array_or([-p12,-p22]) bool_array_or([-p12,-p32]) bool_array_or([-p12,-p42]) bool_array_or([-p22,-p32]) bool_array_or([-p22,-p42]) bool_array_or([-p32,-p42]) bool_array_or([-p13,-p23]) bool_array_or([-p13,-p33]) bool_array_or([-p13,-p43]) bool_array_or([-p23,-p33]) bool_array_or([-p23,-p43]) bool_array_or([-p33,-p43]) solve satisfy";
 
 /// Budgets, with restarts or without, and the verdict.
 static BUDGETS: [(u64, bool, &str); 4] = [

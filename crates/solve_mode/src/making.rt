@@ -68,7 +68,12 @@ fn write_answer(
     ensures heavy { IfErr result (λ e. IsFaultOf e model) }
 {
     let goal = model.goal;
-    let AnsweredModel { document, decls } = answer_with::<Brand>(alloc, Blank::new(1), model, options)?;
+    let AnsweredModel { document, decls } = answer_with::<Brand>(
+        alloc,
+        Blank::new(1),
+        model,
+        options,
+    )?;
     let text = write_document(alloc, decls.as_slice(), goal, &document)?;
     Ok((outcome_of(document.verdict), text))
 }

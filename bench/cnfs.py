@@ -114,7 +114,7 @@ def families():
         yield f"pigeons{holes}", pigeons(holes)
     for size in (20, 24, 28):
         yield f"parities{size}", parities(size, size)
-    for bits in (5, 6, 7):
+    for bits in (4, 5, 6):
         yield f"multipliers{bits}", multipliers(bits)
 
 

@@ -20,8 +20,9 @@ use Rattle.model_meaning.specs.declared.model.Kind.TheVariants as kind
 use Rattle.model_meaning.specs.Domains.{run_of, at_least_zero, domain}
 use Rattle.model_meaning.specs.Limits.{InLimit}
 use Rattle.model_meaning.specs.WellTyped.{IsInt, KindFits, DeclsFit, ObjectiveFits}
-use Rattle.value_lists.specs.ValueLists.{first_of, last_of}
-use Rattle.statement_lower.specs.Entries.{IntegerFits, ListedFits, EntryFits, EntriesFit}
+use Rattle.core_cost.specs.declared.shape.Shape.{Shape}
+use Rattle.value_lists.specs.ValueLists.{first_of, last_of, shape_of}
+use Rattle.name_map.specs.Fits.{IntegerFits, EntryFits, EntriesFit}
 use Rattle.statement_lower.specs.Terms.{integer_at}
 use Rattle.model_decode.specs.Short.{IsShort, AreShort}
 use Rattle.model_decode.proofs.Ranges.{value-fits}
@@ -34,8 +35,8 @@ use Rattle.decode_minimize.specs.Answers.{values_at}
 limit-fits : (z : ℤ) → InLimit z → FitsSigned w64 z
 limit-fits z h = omega (arith, ints)
 
-integer-objective : (n : ℕ) (low high : ℤ) (a : OrdInt) → IntegerFits n low high a → IsObjective n a
-integer-objective n low high a h = record {
+integer-objective : (n : ℕ) (low high : ℤ) (s : Shape) (a : OrdInt) → IntegerFits n low high s a → IsObjective n a
+integer-objective n low high s a h = record {
   bounded = h.sound.0;
   least = subst (FitsSigned w64) (sym h.least) (limit-fits low h.low_in_limit);
   greatest = subst (FitsSigned w64) (sym h.greatest) (limit-fits high h.high_in_limit);
@@ -49,8 +50,8 @@ entry-objective : (n : ℕ) (k : Kind) (e : MapValue) → EntryFits n k e → Is
 entry-objective n kind.Bool (values.Bool a) h = zero-objective n
 entry-objective n kind.Bool (values.Int a) h = absurd h
 entry-objective n k (values.Bool a) h = zero-objective n
-entry-objective n (kind.Range low high) (values.Int a) h = integer-objective n low high a h
-entry-objective n (kind.Listed vs) (values.Int a) h = integer-objective n (first_of vs) (last_of vs) a h.fits
+entry-objective n (kind.Range low high) (values.Int a) h = integer-objective n low high _ a h
+entry-objective n (kind.Listed vs) (values.Int a) h = integer-objective n (first_of vs) (last_of vs) (shape_of vs) a h
 
 -- each name stands for an integer that may be sought
 pub entries-objectives : (n : ℕ) (ds : List Decl) (entries : List MapValue) → EntriesFit n ds entries → (place : ℕ) → IsObjective n (integer_named entries place)
@@ -89,25 +90,25 @@ range-size low high n e = by (high -ℤ low +ℤ pos 1) (omega (arith, ints, e))
 values-length : (a : OrdInt) → values_count a ≡ length a.steps + 1
 values-length a = length-levels a.base _ a.steps
 
-range-count : (n : ℕ) (low high : ℤ) (a : OrdInt) → IntegerFits n low high a → values_count a ≤ length (domain (kind.Range low high))
+range-count : (n : ℕ) (low high : ℤ) (s : Shape) (a : OrdInt) → IntegerFits n low high s a → values_count a ≤ length (domain (kind.Range low high))
 unfolding domain
-range-count n low high a h =
+range-count n low high s a h =
     let whole : high ≡ low +ℤ pos (weights a.steps) = omega (arith, ints, h.least, h.greatest) in
     let size = length-run (at_least_zero (high -ℤ low +ℤ pos 1)) low ∙ range-size low high (weights a.steps) whole in
     omega (arith, size, values-length a, steps-most a.steps h.sound.1)
 
-listed-steps : (n : ℕ) (vs : List ℤ) (a : OrdInt) → ListedFits n vs a → 0 < length vs → length a.steps + 1 ≡ length vs
+listed-steps : (n : ℕ) (vs : List ℤ) (a : OrdInt) → IntegerFits n (first_of vs) (last_of vs) (shape_of vs) a → 0 < length vs → length a.steps + 1 ≡ length vs
 listed-steps n [] a h some = absurd (omega (arith, some))
 listed-steps n (v ∷ vs) a h some = omega (arith, ap (λ s. s.steps) h.shape)
 
-listed-count : (n : ℕ) (vs : List ℤ) (a : OrdInt) → ListedFits n vs a → 0 < length vs → values_count a ≤ length (domain (kind.Listed vs))
+listed-count : (n : ℕ) (vs : List ℤ) (a : OrdInt) → IntegerFits n (first_of vs) (last_of vs) (shape_of vs) a → 0 < length vs → values_count a ≤ length (domain (kind.Listed vs))
 unfolding domain
 listed-count n vs a h some = omega (arith, values-length a, listed-steps n vs a h some)
 
 entry-count : (n : ℕ) (k : Kind) (e : MapValue) → IsInt k → KindFits k → EntryFits n k e → values_count (integer_at (Some e)) ≤ length (domain k)
 entry-count n kind.Bool e i fits h = absurd i
 entry-count n (kind.Range low high) (values.Bool a) i fits h = absurd h
-entry-count n (kind.Range low high) (values.Int a) i fits h = range-count n low high a h
+entry-count n (kind.Range low high) (values.Int a) i fits h = range-count n low high _ a h
 entry-count n (kind.Listed vs) (values.Bool a) i fits h = absurd h
 entry-count n (kind.Listed vs) (values.Int a) i fits h = listed-count n vs a h fits.0
 

@@ -8,3 +8,4 @@ mod Makings
 mod Entries
 mod AnswerParts
 mod Answered
+mod Lowerings

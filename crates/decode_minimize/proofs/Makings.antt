@@ -1,6 +1,7 @@
 -- What is made of rounds is solved.
-use Rattle.std.proofs.Common.{◌≡◌, ◌⊎◌, ℕ, ◌+◌, ◌-◌, ◌*◌, ◌≤◌, ◌<◌, Bool, true, false, List, [], ◌∷◌, ◌++◌, length, Option, Some, None, refl, sym, ap, ◌∙◌, subst, inl, inr, ℤ, arith}
+use Rattle.std.proofs.Common.{◌≡◌, ◌⊎◌, ℕ, ◌+◌, ◌-◌, ◌*◌, ◌≤◌, ◌<◌, Bool, true, false, List, [], ◌∷◌, ◌++◌, length, Option, Some, None, refl, sym, ap, ◌∙◌, subst, inl, inr, ℤ, FitsSigned, w64, to_z, of_z, arith}
 use Rattle.std.specs.Option.{option_map}
+use Rattle.std.proofs.lemmas.Int.{to_z-of_z}
 use Rattle.order_ints.specs.declared.atom.Atom.{Atom}
 use Rattle.order_ints.specs.declared.cnf.Cnf.{Cnf}
 use Rattle.order_ints.specs.declared.order_int.OrdInt.{OrdInt}
@@ -16,6 +17,7 @@ use Rattle.order_ints.specs.OrderRange.{IntBelow}
 use Rattle.std.specs.Prelude.{pos, ◌+ℤ◌}
 use Rattle.state_compile.specs.StandsFor.{read_by}
 use Rattle.state_compile.proofs.Reading.{read-atom}
+use Rattle.model_decode.proofs.Ranges.{value-fits}
 use Rattle.proof_check.specs.declared.line.ProofLine.{ProofLine}
 use Rattle.learning_solver.specs.Log.{additions, proof_behind}
 use Rattle.learning_solver.specs.Outcome.{most_learned}
@@ -156,6 +158,15 @@ module _ (cnf : Cnf) (sought : Sought) (options : Options) (r : Progress) (seeka
   abbrev settled : Cnf
   settled = record { vars = cnf.vars; clauses = cnf.clauses ++ atom_clauses settled_atom }
 
+  pub found-fits : FitsSigned w64 r.best.number
+  found-fits = subst (FitsSigned w64) (sym progress.number) (value-fits (read_by sought.view.now (valuation_of r.best.values)) sought.integer.now seekable.objective.least seekable.objective.greatest)
+
+  pub settled-is : (made : Cnf) (worse resolved : Atom) → made ≡ record { vars = cnf.vars; clauses = cnf.clauses ++ atom_clauses resolved } → resolved ≡ resolve sought.view.now worse
+      → worse ≡ no_worse_of sought.direction sought.integer.now (to_z w64 (of_z w64 r.best.number)) → made ≡ settled
+  settled-is made worse resolved e f g =
+      e ∙ ap (λ (a : Atom). record { vars = cnf.vars; clauses = cnf.clauses ++ atom_clauses a })
+      (f ∙ ap (resolve sought.view.now) (g ∙ ap (no_worse_of sought.direction sought.integer.now) (to_z-of_z w64 r.best.number found-fits)))
+
   pub settled-solvable : IsSolvable cnf → IsSolvable settled
   settled-solvable is =
       let n = length sought.view.now + 1 in
@@ -288,3 +299,14 @@ module _ (names : Names) (cnf : Cnf) (sought behind : Sought) (options left : Op
     pub both-solved : IsMadeOf names last.best.values (verdict_on last.is_best both_bounds options) r.proof (Some last.proof) s
         → IsBestSolved both_problem options sought.direction sought.integer.now (Some behind.integer.now) s
     both-solved made = both-by last.is_best refl made
+
+-- the same, of what the code has: the clauses as they were made, and the number as its bits
+pub both-made : (names : Names) (cnf made : Cnf) (sought behind : Sought) (options left : Options) (r last : Progress) (number : ℤ) (s : Solved) → sought.view.now ≡ names.view.now → behind.view.now ≡ names.view.now
+    → behind.direction ≡ sought.direction → IsSeekable cnf sought → IsProgress cnf sought options r → r.is_best ≡ true → left.budget ≡ options.budget - additions r.proof → left.restart ≡ options.restart
+    → made ≡ record { vars = cnf.vars; clauses = cnf.clauses ++ atom_clauses (resolve sought.view.now (no_worse_of sought.direction sought.integer.now r.best.number)) } → IsProgress made behind left last
+    → number ≡ r.best.number → IsMadeOf names last.best.values (verdict_on last.is_best (record { first = number; second = Some last.best.number }) options) r.proof (Some last.proof) s
+    → IsBestSolved (problem_of names cnf) options sought.direction sought.integer.now (Some behind.integer.now) s
+both-made names cnf made sought behind options left r last number s view view_behind direction seekable progress shown budget restart settled second same is =
+    both-solved names cnf sought behind options left r last view view_behind direction seekable progress shown budget restart
+    (subst (λ (f : Cnf). IsProgress f behind left last) settled second) s
+    (subst (λ (z : ℤ). IsMadeOf names last.best.values (verdict_on last.is_best (record { first = z; second = Some last.best.number }) options) r.proof (Some last.proof) s) same is)

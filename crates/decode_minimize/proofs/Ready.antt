@@ -8,8 +8,19 @@ use Rattle.order_ints.specs.OrderedClauses.{VarsAbove, VarsAscend, ClausesAscend
 use Rattle.order_ints.specs.Place.{AtomBelow, ClausesBelow, InRange}
 use Rattle.clause_arena.specs.Clauses.{lit_in}
 use Rattle.clause_rings.specs.Clauses.{IsApart, AreApartIn}
+use Rattle.order_ints.specs.declared.order_int.MapValue.{MapValue}
+use Rattle.order_ints.specs.declared.order_int.MapValue.TheVariants as entry
+use Rattle.order_ints.specs.declared.order_int.OrdInt.{OrdInt}
+use Rattle.order_ints.specs.OrderValue.{IsOrdered}
+use Rattle.order_ints.specs.Place.{AtomsBelow}
+use Rattle.order_ints.specs.Truth.{Valuation}
+use Rattle.statement_lower.specs.Entries.{AreOrdered}
+use Rattle.state_compile.specs.StandsFor.{read_by}
+use Rattle.answer_document.specs.BoundAtoms.{integer_named}
 use Rattle.answer_document.specs.Valid.{atom_clauses}
-use Rattle.decode_minimize.specs.Solved.{IsSolvable}
+use Rattle.decode_minimize.specs.declared.improving.Sought.{Sought}
+use Rattle.decode_minimize.specs.Objectives.{IsObjective}
+use Rattle.decode_minimize.specs.Solved.{Problem, IsSolvable, IsProblem, IsSeekable}
 
 above-all : (v : ℕ) (ls : List Lit) (i : ℕ) → VarsAbove v ls → i < length ls → v < (lit_in ls i).var
 above-all v [] i h low = absurd (omega (arith, low))
@@ -50,3 +61,25 @@ solvable-with cnf a is below = record {
   in_range = atom-below (cnf.vars + 1) cnf.clauses a is.in_range below;
   ascend = atom-ascend cnf.clauses a is.ascend;
 }
+
+-- each integer of a map is ordered where all are
+ordered-named : (σ : Valuation) (entries : List MapValue) (place : ℕ) → AreOrdered σ entries → IsOrdered σ (integer_named entries place)
+ordered-named σ [] place h = refl
+ordered-named σ (entry.Bool a ∷ entries) zero h = refl
+ordered-named σ (entry.Int a ∷ entries) zero h = h.0
+ordered-named σ (entry.Bool a ∷ entries) (suc place) h = ordered-named σ entries place h
+ordered-named σ (entry.Int a ∷ entries) (suc place) h = ordered-named σ entries place h.1
+
+-- so what a name stands for can be sought
+pub seekable-at : (p : Problem) → IsProblem p → (sought : Sought) (entries : List MapValue) (place : ℕ) → sought.view.now ≡ p.view → entries ≡ p.entries → sought.integer.now ≡ integer_named entries place
+    → IsSeekable p.cnf sought
+seekable-at p is sought entries place view same named =
+    let integer : integer_named p.entries place ≡ sought.integer.now = ap (λ (es : List MapValue). integer_named es place) (sym same) ∙ sym named in
+    let seen : p.view ≡ sought.view.now = sym view in
+    record {
+      vars = is.vars ∙ ap length seen;
+      labels = subst (λ (v : List Atom). AtomsBelow (length v + 1) v) seen is.labels;
+      objective = subst (λ (v : List Atom). IsObjective (length v + 1) sought.integer.now) seen (subst (IsObjective (length p.view + 1)) integer (is.objectives place));
+      ordered = λ σ h. subst (λ (v : List Atom). IsOrdered (read_by v σ) sought.integer.now) seen
+          (subst (IsOrdered (read_by p.view σ)) integer (ordered-named (read_by p.view σ) p.entries place (is.ordered σ h)));
+    }

@@ -132,12 +132,12 @@ taken-behind p (line ∷ lines) q e = by (line_fault p line) e (taken-behind (af
     by None e more = more e
     by (Some f) e more = absurd (cc)
 
+no-error : (f : ProofFault) → IsOk {T = Proof} (Err f) → ⊥
+no-error f h = cc
+
 pub accepted-behind : (cnf : Cnf) (lines : List ProofLine) → Lrat cnf lines → take_lines (proof_of cnf) lines ≡ Ok (proof_behind cnf lines)
 accepted-behind cnf lines h = by (take_lines (proof_of cnf) lines) refl h
   where
     by : (r : Result Proof ProofFault) → take_lines (proof_of cnf) lines ≡ r → IsOk r → take_lines (proof_of cnf) lines ≡ Ok (proof_behind cnf lines)
     by (Ok q) e h = e ∙ ap (λ (p : Proof). Ok p) (taken-behind (proof_of cnf) lines q e)
-    by (Err f) e h = absurd (no h)
-      where
-        no : IsOk (Err f) → ⊥
-        no h = cc
+    by (Err f) e h = absurd (no-error f h)

@@ -89,7 +89,7 @@ module _ (cnf : Cnf) (old new : Logged) (options : Options) (start : old ≡ new
       omega (arith, most, none-before, vars)
 
   module _ (proof : List ProofLine) (log : proof ≡ new.log) (lrat : Lrat new.cnf proof) (fresh : IsFreshLog new.cnf proof) where
-    first-derivation : IsDerivation cnf proof
+    pub first-derivation : IsDerivation cnf proof
     first-derivation = subst (λ (f : Cnf). IsDerivation f proof) of-cnf (log-derivation new.cnf proof lrat fresh)
 
     same-count : additions proof ≡ additions new.log
@@ -110,6 +110,9 @@ module _ (cnf : Cnf) (old new : Logged) (options : Options) (start : old ≡ new
           let vars : most_learned options.restart old.cnf.vars ≡ most_learned options.restart cnf.vars = ap (λ (s : Logged). most_learned options.restart s.cnf.vars) start in
           omega (arith, same-count, early, none-before, vars);
     }
+
+  pub first-satisfying : (values : List Bool) → IsRound new False (round.Better values) → AreSatisfying cnf values
+  first-satisfying values found = subst (λ (f : Cnf). AreSatisfying f values) of-cnf found.0
 
   pub first-seeking : (sought : Sought) (values : List Bool) (best : Best) → IsSeekable cnf sought → IsRound new False (round.Better values) → best.values ≡ values
       → best.number ≡ value_of (read_by sought.view.now (valuation_of values)) sought.integer.now → IsSeeking new sought best

@@ -1,6 +1,7 @@
 -- What a round makes of a search for the best value.
-use Rattle.std.proofs.Common.{◌≡◌, ◌≢◌, ◌⊎◌, ℕ, zero, suc, ◌+◌, ◌*◌, ◌≤◌, ◌<◌, Bool, true, false, List, length, refl, sym, ap, ◌∙◌, subst, inl, inr, ⊎_elim, ℤ, arith}
+use Rattle.std.proofs.Common.{◌≡◌, ◌≢◌, ◌⊎◌, ℕ, zero, suc, ◌+◌, ◌*◌, ◌≤◌, ◌<◌, Bool, true, false, List, length, refl, sym, ap, ◌∙◌, subst, inl, inr, ⊎_elim, ℤ, FitsSigned, w64, to_z, of_z, arith}
 use Rattle.std.proofs.Math.Nat.{mul-le-mul_left}
+use Rattle.std.proofs.lemmas.Int.{to_z-of_z}
 use Rattle.order_ints.specs.declared.atom.Atom.{Atom}
 use Rattle.order_ints.specs.declared.atom.Atom.TheVariants.{True}
 use Rattle.order_ints.specs.declared.cnf.Cnf.{Cnf}
@@ -15,6 +16,7 @@ use Rattle.order_ints.specs.View.{resolve}
 use Rattle.order_ints.proofs.PlaceLaws.{AtomBelow-not_atom, AtomBelow-resolve}
 use Rattle.order_ints.proofs.Reaching.{AtomBelow-at_of}
 use Rattle.state_compile.specs.StandsFor.{read_by}
+use Rattle.model_decode.proofs.Ranges.{value-fits}
 use Rattle.learning_solver.specs.Log.{additions}
 use Rattle.learning_solver.specs.Outcome.{Logged, most_learned}
 use Rattle.std.specs.Prelude.{pos, ◌+ℤ◌}
@@ -43,6 +45,16 @@ asked-below s sought best is =
     let n = length sought.view.now + 1 in
     let here = AtomBelow-resolve n sought.view.now is.labels (bound_of sought.direction sought.integer.now best.number) (bound-below n sought.direction sought.integer.now best.number is.objective.below) in
     subst (λ (v : ℕ). AtomBelow (v + 1) (asked_bound sought best)) (sym is.vars) here
+
+-- the value of the best solution has 64 bits, so the bound at its bits is the bound at it
+pub number-fits : (s : Logged) (sought : Sought) (best : Best) → IsSeeking s sought best → FitsSigned w64 best.number
+number-fits s sought best is =
+    subst (FitsSigned w64) (sym is.number) (value-fits (read_by sought.view.now (valuation_of best.values)) sought.integer.now is.objective.least is.objective.greatest)
+
+pub asked-is : (s : Logged) (sought : Sought) (best : Best) → IsSeeking s sought best → (bound resolved : Atom) → bound ≡ bound_of sought.direction sought.integer.now (to_z w64 (of_z w64 best.number))
+    → resolved ≡ resolve sought.view.now bound → resolved ≡ asked_bound sought best
+asked-is s sought best is bound resolved e f =
+    f ∙ ap (resolve sought.view.now) (e ∙ ap (bound_of sought.direction sought.integer.now) (to_z-of_z w64 best.number (number-fits s sought best is)))
 
 -- a search for each value that was left out
 one-less : (i w m x y : ℕ) → i < w → x ≤ y + m → x + i * m ≤ y + w * m
@@ -118,10 +130,10 @@ module _ (old new : Logged) (sought : Sought) (options : Options) (was : Best) (
   -- the budget is spent
   pub spent-turned : additions new.log ≡ options.budget → additions new.log < additions old.log + search_most → IsRound new (asked_bound sought was) round.Spent
       → IsTurned old new sought options was was turn.Spent
-  spent-turned spent early open = (
+  spent-turned spent early untrue = (
     spent,
     ⊎_elim
-    (λ (none : left sought was ≡ 0). absurd (open (left-none none)))
+    (λ (none : left sought was ≡ 0). absurd (untrue (left-none none)))
     (λ (some : 1 ≤ left sought was). fewer-than-one (left sought was) search_most (additions new.log) (additions old.log) some early)
     (some-or-none (left sought was)),
   )

@@ -3,7 +3,7 @@
 use crate::improving::Best;
 use answer_document::Verdict;
 use bee_list::Sequence;
-use model_lower::NameMap;
+use name_map::NameMap;
 use model_meaning::Assignment;
 use order_ints::Atom;
 use proof_check::ProofLine;

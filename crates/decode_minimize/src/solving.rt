@@ -183,6 +183,39 @@ fn with_first(
     Ok(solved)
 }
 
+/// What the rounds of a second objective came to, behind those of a first one, which has this number.
+fn with_two(
+    alloc: Global,
+    names: &Names<'_>,
+    number: i64,
+    proof: Sequence<ProofLine>,
+    progress: Progress,
+    options: Options,
+) -> Result<Solved, AllocError>
+    requires { AreShort names.now.map.now.entries }
+    ensures { IfOk result (IsMadeOf names.now progress.best.values (verdict_on progress.is_best (record { first = number; second = Some progress.best.number }) options) proof (Some progress.proof)) }
+{
+    let Progress {
+        proof: second,
+        best,
+        is_best,
+    } = progress;
+    let bounds = Bounds {
+        first: number,
+        second: Some(best.number),
+    };
+    let verdict = verdict_on(is_best, bounds, options);
+    let solved = with_solution(
+        alloc,
+        names,
+        best.values.as_slice(),
+        verdict,
+        proof,
+        Some(second),
+    )?;
+    Ok(solved)
+}
+
 /// The best value of a second objective where the first one is settled. Its derivation is one over the clauses and that, with
 /// what is left of the budget.
 fn solve_behind(
@@ -212,24 +245,8 @@ fn solve_behind(
         budget: options.budget - additions(proof.as_slice()),
         restart: options.restart,
     };
-    let Progress {
-        proof: second,
-        best: last,
-        is_best,
-    } = rounds_behind(alloc, &cnf, behind, values, left)?;
-    let bounds = Bounds {
-        first: number,
-        second: Some(last.number),
-    };
-    let verdict = verdict_on(is_best, bounds, options);
-    let solved = with_solution(
-        alloc,
-        names,
-        last.values.as_slice(),
-        verdict,
-        proof,
-        Some(second),
-    )?;
+    let last = rounds_behind(alloc, &cnf, behind, values, left)?;
+    let solved = with_two(alloc, names, number, proof, last, options)?;
     Ok(solved)
 }
 

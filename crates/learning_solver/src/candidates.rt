@@ -138,7 +138,10 @@ fn judge(candidate: Candidate, uses: &mut Uses, db: &ClauseDb) -> Candidate
     let id = candidate.id.0;
     let may_go = !uses.is_used(id) && id_to_go(db, uses.base, candidate.clause).is_some();
     uses.mark(id, false);
-    Candidate { may_go, ..candidate }
+    Candidate {
+        may_go,
+        ..candidate
+    }
 }
 
 /// Judges all candidates, and tells how many may go.

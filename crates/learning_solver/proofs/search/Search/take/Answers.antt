@@ -30,7 +30,7 @@ returns-clause-search c =
     let lesson = c.args.lesson in
     let goes = c.push_reserved.ensures.items in
     let made =
-        ap (λ (d : ClauseLists). d.clauses) c.add-clause.ensures.clause ∙ ap (λ (ls : List Lit). slice_set s.db.clauses c.add-clause.result (live_clause lesson.id ls)) c.as_slice.ensures in
+    ap (λ (d : ClauseLists). d.clauses) c.add-clause.ensures.clause ∙ ap (λ (ls : List Lit). slice_set s.db.clauses c.add-clause.result (live_clause lesson.id ls)) c.as_slice.ensures in
     record {
       db = c.add-clause.ensures.db;
       vars = ap (λ (d : ClauseLists). d.trail.vars) c.add-clause.ensures.clause ∙ is.vars;

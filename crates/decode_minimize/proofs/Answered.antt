@@ -301,8 +301,9 @@ module _ (told : Core → Equation → Type 0) (model : Model) (typed : WellType
       -- a budget that suffices isn't spent
       most-is : most_learned options.restart (cnf_of last).vars * most_rounds model.decls model.goal ≤ options.budget
           → most_learned options.restart (cnf_of last).vars * (values_at model.decls place + second_values model.decls second) ≤ options.budget
-      most-is m = subst (λ (k : ℕ). most_learned options.restart (cnf_of last).vars * k ≤ options.budget) (rounds-is d place second model.decls)
-      (subst (λ (g : Goal). most_learned options.restart (cnf_of last).vars * most_rounds model.decls g ≤ options.budget) is m)
+      most-is m =
+          subst (λ (k : ℕ). most_learned options.restart (cnf_of last).vars * k ≤ options.budget) (rounds-is d place second model.decls)
+          (subst (λ (g : Goal). most_learned options.restart (cnf_of last).vars * most_rounds model.decls g ≤ options.budget) is m)
 
       first-count : values_count first_integer ≤ values_at model.decls place
       first-count = count-at ((lowered_of model).vars + 1) 1 model.decls entries typed.decls law.fits.entries place sought-fits.0

@@ -5,80 +5,65 @@ use decode_minimize::Options;
 use std::alloc::{AllocError, Global};
 use std::process::Abort;
 
-/// A model, and the answer up to its ledger.
+/// A model, and what its answer says.
 type Row = (&'static str, &'static str);
 
 /// Rows whose answer is one alone.
 static ANSWERS: [Row; 18] = [
-    ("solve satisfy", "bee 1\nSATISFIABLE\nend\n"),
-    ("bool_array_or([]) solve satisfy", "bee 1\nUNSATISFIABLE\n"),
+    ("solve satisfy", "SATISFIABLE:"),
+    ("bool_array_or([]) solve satisfy", "UNSATISFIABLE"),
     (
         "new_int(x,-2,2) int_times(x,x,4) int_lt(x,0) solve satisfy",
-        "bee 1\nSATISFIABLE\nx = -2\nend\n",
+        "SATISFIABLE: -2",
     ),
     (
         "new_int(x,2,6) new_int(y,2,6) int_times(x,y,12) int_lt(x,y) solve minimize x",
-        "bee 1\nOPTIMUM 2\nx = 2\ny = 6\n",
+        "OPTIMUM 2: 2 6",
     ),
     (
         "new_int(x,2,6) new_int(y,2,6) int_times(x,y,12) int_lt(x,y) solve maximize x",
-        "bee 1\nOPTIMUM 3\nx = 3\ny = 4\n",
+        "OPTIMUM 3: 3 4",
     ),
     (
         "new_bool(x) bool2int(x,i) solve maximize i",
-        "bee 1\nOPTIMUM 1\nx = true\ni = 1\n",
+        "OPTIMUM 1: 1 1",
     ),
     (
         "new_bool(x) bool2int(x,i) solve minimize i",
-        "bee 1\nOPTIMUM 0\nx = false\ni = 0\n",
+        "OPTIMUM 0: 0 0",
     ),
     // One value, negative values, listed values.
-    (
-        "new_int(x,5,5) solve minimize x",
-        "bee 1\nOPTIMUM 5\nx = 5\n",
-    ),
-    (
-        "new_int(x,5,5) solve maximize x",
-        "bee 1\nOPTIMUM 5\nx = 5\n",
-    ),
-    (
-        "new_int(x,-7,-3) solve minimize x",
-        "bee 1\nOPTIMUM -7\nx = -7\n",
-    ),
-    (
-        "new_int(x,-7,-3) solve maximize x",
-        "bee 1\nOPTIMUM -3\nx = -3\n",
-    ),
-    (
-        "new_int(x,[4,9]) solve minimize x",
-        "bee 1\nOPTIMUM 4\nx = 4\n",
-    ),
+    ("new_int(x,5,5) solve minimize x", "OPTIMUM 5: 5"),
+    ("new_int(x,5,5) solve maximize x", "OPTIMUM 5: 5"),
+    ("new_int(x,-7,-3) solve minimize x", "OPTIMUM -7: -7"),
+    ("new_int(x,-7,-3) solve maximize x", "OPTIMUM -3: -3"),
+    ("new_int(x,[4,9]) solve minimize x", "OPTIMUM 4: 4"),
     (
         "new_int(x,[-20,4,9,30]) int_lt(x,30) solve maximize x",
-        "bee 1\nOPTIMUM 9\nx = 9\n",
+        "OPTIMUM 9: 9",
     ),
     // Fixed by equations alone.
     (
         "new_int(x,0,2) int_neq(x,0) int_neq(x,2) solve minimize x",
-        "bee 1\nOPTIMUM 1\nx = 1\n",
+        "OPTIMUM 1: 1",
     ),
     // No solution.
     (
         "new_int(x,0,1) new_int(y,0,1) new_int(z,0,1) int_array_allDiff([x,y,z]) solve minimize x",
-        "bee 1\nUNSATISFIABLE\n",
+        "UNSATISFIABLE",
     ),
     (
         "new_int(x,0,3) int_lt(x,0) solve maximize x then x",
-        "bee 2\nUNSATISFIABLE\n",
+        "UNSATISFIABLE",
     ),
     // Two objectives.
     (
         "new_int(x,0,2) new_int(y,0,2) int_plus(x,y,2) solve minimize x then y",
-        "bee 2\nOPTIMUM 0 2\nx = 0\ny = 2\n",
+        "OPTIMUM 0 2: 0 2",
     ),
     (
         "new_int(x,0,2) new_int(y,0,2) new_int(s,0,4) int_plus(x,y,s) int_leq(s,3) solve maximize s then y",
-        "bee 2\nOPTIMUM 3 2\nx = 1\ny = 2\ns = 3\n",
+        "OPTIMUM 3 2: 1 2 3",
     ),
 ];
 
@@ -88,10 +73,10 @@ static PIGEONS: &str =
 
 /// Budgets, with restarts or without, and the verdict.
 static BUDGETS: [(u64, bool, &str); 4] = [
-    (1, true, "bee 1\nUNKNOWN 1\n"),
-    (1, false, "bee 1\nUNKNOWN 1\n"),
-    (4_096, false, "bee 1\nUNSATISFIABLE\n"),
-    (53_248, true, "bee 1\nUNSATISFIABLE\n"),
+    (1, true, "UNKNOWN 1"),
+    (1, false, "UNKNOWN 1"),
+    (4_096, false, "UNSATISFIABLE"),
+    (53_248, true, "UNSATISFIABLE"),
 ];
 
 /// Asserts the rows.

@@ -180,21 +180,15 @@ cat >"$bench/src/main.rt" <<'RT'
 mod documents;
 mod models;
 
-use answer_document::{Document, write_document};
+use answer_document::write_document;
 use bee_text::{Lines, read_number};
 use documents::{given_up, long};
 use ledger_check::check;
-use model_meaning::Goal;
 use models::model_of;
 use std::alloc::Global;
 use std::io;
 use std::io::Read;
-use std::time::{Duration, Instant};
-
-/// A duration in microseconds.
-fn micros(duration: Duration) -> u128 {
-    duration.as_micros()
-}
+use std::time::Instant;
 
 /// What stands before a line, and behind it.
 fn split_at<'a>(text: &'a [u8], mark: &[u8]) -> (&'a [u8], &'a [u8]) {
@@ -222,16 +216,15 @@ fn measure(
     rt: &HostRuntime,
     model: &[u8],
     document: &[u8],
-    written: Duration,
+    written: u128,
 ) -> io::Result<()> {
     let Some(model) = model_of(rt.alloc(), model) else {
         return Err(io::Error::other("no model"));
     };
-    let start = Instant::now();
+    let start = Instant::now(rt)?;
     let answer = check(rt.alloc(), &model, document);
-    let checked = start.elapsed();
+    let checked = start.elapsed(rt)?.as_micros();
     let (lines, bytes) = (count_lines(document), document.len());
-    let (written, checked) = (micros(written), micros(checked));
     println!(rt; "{lines} {bytes} {written} {checked} {answer:?}")
 }
 
@@ -244,9 +237,9 @@ fn main(rt: HostRuntime) -> io::Result<()> {
         return Ok(());
     };
     let rest = lines.rest();
-    if first.bytes == b"given" {
+    if first.bytes == b"given".as_slice() {
         let (model, document) = split_at(rest, b"document");
-        return measure(&rt, model, document, Duration::ZERO);
+        return measure(&rt, model, document, 0);
     }
     let Some(model) = model_of(alloc, rest) else {
         return Err(io::Error::other("no model"));
@@ -262,9 +255,9 @@ fn main(rt: HostRuntime) -> io::Result<()> {
             None => return Err(io::Error::other("the model is too heavy")),
         },
     };
-    let start = Instant::now();
+    let start = Instant::now(&rt)?;
     let written = write_document(alloc, decls, copy.goal, &document)?;
-    let took = start.elapsed();
+    let took = start.elapsed(&rt)?.as_micros();
     measure(&rt, rest, written.as_slice(), took)
 }
 RT

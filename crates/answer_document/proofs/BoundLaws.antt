@@ -18,7 +18,8 @@ use Rattle.model_meaning.specs.declared.model.Decl.{Decl}
 use Rattle.model_meaning.specs.declared.what.IntTerm.TheVariants.{Of}
 use Rattle.model_meaning.specs.Terms.{value_at}
 use Rattle.model_meaning.specs.WellTyped.{IsNumberAt}
-use Rattle.statement_lower.specs.Entries.{EntriesFit, AreOrdered}
+use Rattle.name_map.specs.Fits.{EntriesFit}
+use Rattle.statement_lower.specs.Entries.{AreOrdered}
 use Rattle.statement_lower.specs.Terms.{integer_at}
 use Rattle.statement_lower.proofs.EntryLaws.{integer_of-small, integer_of-value}
 use Rattle.answer_document.specs.BoundAtoms.{integer_named, at_least, at_most}

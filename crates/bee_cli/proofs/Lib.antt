@@ -1,3 +1,4 @@
 mod DecodedSolutions
 mod RoundTrip
 mod Obeyings
+mod CheckedAnswers

@@ -5,15 +5,17 @@ use Rattle.command_words.specs.Request.{Request, Compile, Solve, Check, Decode, 
 use Rattle.text_modes.specs.Seen.{Seen, Untouched}
 use Rattle.text_modes.specs.declared.ends.End.TheVariants as end
 use Rattle.compile_mode.proofs.Ends as compiling
+use Rattle.solve_mode.proofs.Ends as solving
+use Rattle.check_mode.proofs.Ends as checking
 use Rattle.decode_mode.proofs.Ends as decoding
-use Rattle.bee_cli.specs.Obeyed.{Obeys}
+use Rattle.bee_cli.specs.Obeyed.{search_options, Obeys}
 use Rattle.bee_cli.specs.declared.status.Status.TheVariants.{Memory}
 
 -- memory is wanting for the words
 pub unread : (request : Option Request) (seen : Seen) → Untouched seen → Obeys request Memory seen
 unread None seen same = same
 unread (Some (Compile input)) seen same = (end.Memory, refl, compiling.idle input seen same)
-unread (Some (Solve input options)) seen same = same
-unread (Some (Check input second)) seen same = same
+unread (Some (Solve input options)) seen same = (end.Memory, refl, solving.idle (search_options options) input seen same)
+unread (Some (Check input second)) seen same = (end.Memory, refl, checking.idle input second seen same)
 unread (Some (Decode input second)) seen same = (end.Memory, refl, decoding.idle input second seen same)
 unread (Some (Queens size options)) seen same = same

@@ -13,11 +13,11 @@ use Rattle.model_meaning.specs.declared.model.Kind.{Kind}
 use Rattle.model_meaning.specs.declared.model.Kind.TheVariants as kind
 use Rattle.model_meaning.specs.declared.model.Decl.{Decl}
 use Rattle.value_lists.specs.ValueLists.{first_of, last_of}
-use Rattle.bee_compile.specs.Fits.{ValueFits, ValuesFit}
-use Rattle.dimacs_out.specs.declared.entry.MapEntry.{MapEntry}
+use Rattle.name_map.specs.Fits.{ValueFits, ValuesFit}
+use Rattle.name_map.specs.declared.entries.MapEntry.{MapEntry}
 use Rattle.dimacs_out.specs.declared.text.CnfText.{CnfText}
-use Rattle.name_map.specs.Values.{is_boolean as is_boolean_value}
-use Rattle.name_map.specs.ValueLines.{value_line}
+use Rattle.name_map.specs.Values.{is_boolean, is_boolean_kind}
+use Rattle.name_map.specs.ValueLines.{value_line, declared_line, declared_lines}
 use Rattle.dimacs_out.specs.ValueLines.{number_line, values_text}
 use Rattle.dimacs_out.proofs.TextTells.{text_tells_all}
 use Rattle.dimacs_read.specs.TextLines.{IsInLimit, IsTextOf}
@@ -26,7 +26,7 @@ use Rattle.dimacs_read.proofs.Lawful.{written_is_read, read_is_writable, values_
 use Rattle.model_texts.specs.ModelTexts.{longest_text}
 use Rattle.compile_mode.specs.Compiled.{entries_of, written_of, Compiles}
 use Rattle.decode_mode.specs.Decoded.{IsDecoded}
-use Rattle.bee_cli.specs.DecodeLaws.{is_boolean, solution_line, solution_lines, TellsSolution, CompiledIsRead, DecodedIsSolution}
+use Rattle.bee_cli.specs.DecodeLaws.{TellsSolution, CompiledIsRead, DecodedIsSolution}
 use Rattle.compile_mode.proofs.Headline.{made, well, writable}
 
 -- what the names stand for is in the limit of what is read
@@ -57,7 +57,7 @@ in_limit n (d ∷ decls) (v ∷ values) h = (value_in_limit n d.kind v h.0, in_l
 
 -- the lines of the names are those of the declarations
 
-kind_same : (n : ℕ) (k : Kind) (v : MapValue) → ValueFits n k v → is_boolean_value v ≡ is_boolean k
+kind_same : (n : ℕ) (k : Kind) (v : MapValue) → ValueFits n k v → is_boolean v ≡ is_boolean_kind k
 kind_same n kind.Bool (Bool a) h = refl
 kind_same n kind.Bool (Int a) h = elim h [ ]
 kind_same n (kind.Range low high) (Bool a) h = elim h [ ]
@@ -66,12 +66,12 @@ kind_same n (kind.Listed vs) (Bool a) h = elim h [ ]
 kind_same n (kind.Listed vs) (Int a) h = refl
 
 lines_same : (σ : Valuation) (n : ℕ) (decls : List Decl) (values : List MapValue) → ValuesFit n decls values
-    → map (λ (e : MapEntry). number_line e (number_of σ e.value)) (entries_of decls values) ≡ solution_lines decls (numbers_of σ values)
+    → map (λ (e : MapEntry). number_line e (number_of σ e.value)) (entries_of decls values) ≡ declared_lines decls (numbers_of σ values)
 lines_same σ n [] [] h = refl
 lines_same σ n [] (v ∷ values) h = elim h [ ]
 lines_same σ n (d ∷ decls) [] h = elim h [ ]
 lines_same σ n (d ∷ decls) (v ∷ values) h =
-    let first : value_line d.name (is_boolean_value v) (number_of σ v) ≡ solution_line d (number_of σ v) =
+    let first : value_line d.name (is_boolean v) (number_of σ v) ≡ declared_line d (number_of σ v) =
     ap (λ b. value_line d.name b (number_of σ v)) (kind_same n d.kind v h.0) in
     let rest = lines_same σ n decls values h.1 in
     λ i. first i ∷ rest i
@@ -102,7 +102,7 @@ module _ (text compiled : List ℕ) (short : length text ≤ longest_text) (c : 
         record {
           solution = a;
           solves = (w.solutions a).1 (σ, satisfies, refl);
-          writes = d.tells.writes ∙ ap (λ (y : CnfText). values_text σ y.entries) same ∙ ap join_lines lines ∙ ap (λ ds. join_lines (solution_lines ds a)) c.is.is.decls;
+          writes = d.tells.writes ∙ ap (λ (y : CnfText). values_text σ y.entries) same ∙ ap join_lines lines ∙ ap (λ ds. join_lines (declared_lines ds a)) c.is.is.decls;
         }
 
 pub compiled_is_read : CompiledIsRead

@@ -1,16 +1,14 @@
 -- What decoding makes of the compiled text of a model.
-use Rattle.std.specs.Prelude.{◌≡◌, ◌↔◌, ◌≤◌, List, [], ◌∷◌, ℕ, ℤ, length, true, false}
-use Rattle.std.specs.Prelude.{Bool as Boolean}
+use Rattle.std.specs.Prelude.{◌≡◌, ◌↔◌, ◌≤◌, List, ℕ, ℤ, length}
 use Rattle.bee_text.specs.Lines.{join_lines}
 use Rattle.order_ints.specs.Truth.{Valuation}
-use Rattle.model_meaning.specs.declared.model.Kind.{Kind}
-use Rattle.model_meaning.specs.declared.model.Kind.TheVariants.{Bool, Range, Listed}
-use Rattle.model_meaning.specs.declared.model.Decl.{Decl}
+use Rattle.order_ints.specs.Numbers.{numbers_of}
 use Rattle.model_meaning.specs.declared.model.Model.{Model}
 use Rattle.model_meaning.specs.Solutions.{IsSolution}
 use Rattle.dimacs_out.specs.declared.text.CnfText.{CnfText}
-use Rattle.dimacs_out.specs.TextSolutions.{StandsFor, assignment_of}
-use Rattle.name_map.specs.ValueLines.{value_line}
+use Rattle.dimacs_out.specs.TextSolutions.{StandsFor}
+use Rattle.name_map.specs.Values.{values_of}
+use Rattle.name_map.specs.ValueLines.{declared_lines}
 use Rattle.dimacs_out.specs.ValueLines.{values_text}
 use Rattle.dimacs_read.specs.TextLines.{IsTextOf}
 use Rattle.text_modes.specs.TwoTexts.{Texts}
@@ -23,7 +21,7 @@ pub record TellsAssignment (compiled written : List ℕ) (a : List ℤ) : Type 0
   pub held : CnfText
   pub form : IsTextOf held compiled
   pub valuation : Valuation
-  pub gives : a ≡ assignment_of valuation held.entries
+  pub gives : a ≡ numbers_of valuation (values_of held.entries)
   pub writes : written ≡ values_text valuation held.entries
 
 -- where a text stands for exactly the solutions of a model, as what is written in compile mode does, the values that are
@@ -33,27 +31,11 @@ DecodedSolves =
     (model : Model) (texts : Texts) (written : List ℕ) → ((a : List ℤ) → StandsFor texts.first a ↔ IsSolution model a)
     → IsDecoded texts written → (a : List ℤ) × (IsSolution model a × TellsAssignment texts.first written a)
 
--- whether a declaration is of a Boolean
-abbrev pub is_boolean : Kind → Boolean
-is_boolean Bool = true
-is_boolean (Range low high) = false
-is_boolean (Listed values) = false
-
--- the line of a declared name and its number
-abbrev pub solution_line : Decl → ℤ → List ℕ
-solution_line d z = value_line d.name (is_boolean d.kind) z
-
--- the lines of an assignment to declared names, one for each
-abbrev pub solution_lines : List Decl → List ℤ → List (List ℕ)
-solution_lines [] a = []
-solution_lines (d ∷ decls) [] = []
-solution_lines (d ∷ decls) (z ∷ a) = solution_line d z ∷ solution_lines decls a
-
 -- the text is the lines of a solution
 pub record TellsSolution (model : Model) (written : List ℕ) : Type 0 where
   pub solution : List ℤ
   pub solves : IsSolution model solution
-  pub writes : written ≡ join_lines (solution_lines model.decls solution)
+  pub writes : written ≡ join_lines (declared_lines model.decls solution)
 
 -- what is compiled is in form for decoding
 abbrev pub CompiledIsRead : Type 0

@@ -2,3 +2,4 @@ pub mod Statuses
 pub mod Codes
 pub mod Obeyed
 pub mod DecodeLaws
+pub mod CheckLaws

@@ -8,7 +8,7 @@ mod running;
 mod status;
 
 pub use exit_code::code;
-pub use laws::decoding_law;
+pub use laws::{checking_law, decoding_law};
 pub use model_texts::ModelFault;
 pub use running::run;
 pub use status::Status;

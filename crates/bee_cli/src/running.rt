@@ -2,17 +2,30 @@
 
 ghost use Rattle.std.specs.Prelude.{◌≡◌, ◌≢◌, ◌↔◌, Some, map, string_bytes, IsFalse};
 ghost use Rattle.command_words.specs.Request.{request_of};
+ghost use Rattle.command_words.specs.Limits.{KeepsLimits};
 ghost use Rattle.command_words.specs.Line.{request};
 ghost use Rattle.text_modes.specs.Seen.{seen, shelf_shown, sink_shown};
-ghost use Rattle.bee_cli.specs.Obeyed.{is_built, Obeys};
+ghost use Rattle.bee_cli.specs.Obeyed.{search_options, is_built, Obeys};
 
 use crate::reporting::report;
 use crate::status::{Status, cnf_status, model_status};
 use bee_outside::{Shelf, Sink};
-use command_words::{Command, read_command};
+use check_mode::check;
+use command_words::{Command, Options, read_command};
 use compile_mode::compile;
 use decode_mode::decode;
+use solve_mode::solve;
 use std::alloc::{AllocError, Global};
+
+/// How an answer is sought, as the words say it.
+fn search_options(options: Options) -> decode_minimize::Options
+    ensures { result ≡ search_options options }
+{
+    decode_minimize::Options {
+        budget: options.budget,
+        restart: options.restart,
+    }
+}
 
 /// What comes of a command.
 fn obey<S: Shelf, O: Sink>(
@@ -21,6 +34,7 @@ fn obey<S: Shelf, O: Sink>(
     shelf: &mut S,
     out: &mut O,
 ) -> Status
+    requires { KeepsLimits (request_of command.now) }
     ensures usage { result ≢ Status.Memory →
         (result ≡ Status.Usage) ↔ IsFalse (is_built (Some (request_of command.now))) }
     ensures obeys { Obeys (Some (request_of command.now)) result (seen (shelf_shown S.left S.faults)
@@ -28,8 +42,10 @@ fn obey<S: Shelf, O: Sink>(
 {
     match command {
         Command::Compile { input } => model_status(compile(alloc, input, shelf, out)),
-        Command::Solve { .. } => Status::Usage,
-        Command::Check { .. } => Status::Usage,
+        Command::Solve { input, options } => {
+            model_status(solve(alloc, input, search_options(*options), shelf, out))
+        }
+        Command::Check { input, second } => model_status(check(alloc, input, second, shelf, out)),
         Command::Decode { input, second } => cnf_status(decode(alloc, input, second, shelf, out)),
         Command::Queens { .. } => Status::Usage,
     }

@@ -33,7 +33,7 @@ use Rattle.state_compile.specs.StandsFor.{CnfStandsFor, read_by}
 use Rattle.state_compile.proofs.Answered.{compilation-kept, compilation-models}
 use Rattle.state_compile.proofs.Reading.{read-model}
 use Rattle.bee_compile.specs.declared.compiled.Compiled.{Compiled}
-use Rattle.bee_compile.specs.Trimmed.{trimmed_values}
+use Rattle.name_map.specs.Trimmed.{trimmed_values}
 use Rattle.bee_compile.specs.Fits.{CompiledFits}
 use Rattle.bee_compile.specs.Compiled.{start_of, questions_of, IsGiven, IsCompiledWell, CompilationLaw}
 use Rattle.bee_compile.proofs.Numbers.{numbers-read, numbers-met}

@@ -17,10 +17,10 @@ use Rattle.core_forms.proofs.Tidied.{value-tidied}
 use Rattle.model_meaning.specs.declared.model.Kind.{Kind}
 use Rattle.model_meaning.specs.declared.model.Kind.TheVariants as kind
 use Rattle.model_meaning.specs.declared.model.Decl.{Decl}
-use Rattle.statement_lower.specs.Entries.{EntryFits, EntriesFit}
+use Rattle.name_map.specs.Fits.{EntryFits, EntriesFit}
 use Rattle.state_compile.specs.StandsFor.{read_by}
 use Rattle.state_compile.proofs.Reading.{read-atom}
-use Rattle.bee_compile.specs.Trimmed.{trimmed_value, trimmed_values}
+use Rattle.name_map.specs.Trimmed.{trimmed_value, trimmed_values}
 
 -- A valuation is read by the view.
 module _ (view : List Atom) (σ : Valuation) where
@@ -55,7 +55,7 @@ module _ (view : List Atom) (σ : Valuation) (meets : MeetsView σ view) (n : �
   number-met (kind.Range low high) (values.Bool a) h = absurd h
   number-met (kind.Range low high) (values.Int a) h = value-met a h.below
   number-met (kind.Listed vs) (values.Bool a) h = absurd h
-  number-met (kind.Listed vs) (values.Int a) h = value-met a h.fits.below
+  number-met (kind.Listed vs) (values.Int a) h = value-met a h.below
 
   -- what names have, trimmed, is what they have
   pub numbers-met : (ds : List Decl) (map : List MapValue) → EntriesFit n ds map → numbers_of σ (trimmed_values view map) ≡ numbers_of σ map

@@ -19,7 +19,7 @@ use Rattle.asking_bound.specs.Made.{all_made}
 use Rattle.asking_bound.specs.Questions.{occurrences_of, binary_digits}
 use Rattle.state_compile.specs.Compilation.{IsCompilation}
 use Rattle.bee_compile.specs.declared.compiled.Compiled.{Compiled}
-use Rattle.bee_compile.specs.Trimmed.{trimmed_values}
+use Rattle.name_map.specs.Trimmed.{trimmed_values}
 use Rattle.bee_compile.specs.Fits.{CompiledFits}
 
 -- the state with which the compilation of a lowered model begins

@@ -2,7 +2,7 @@
 
 use bee_list::Sequence;
 use ledger_text::Line;
-use model_lower::NameMap;
+use name_map::NameMap;
 use order_ints::Cnf;
 use typed_model::Decl;
 

@@ -11,9 +11,9 @@ ghost use Rattle.bee_compile.specs.Compiled.{IsCompiled, IsGiven, questions_of};
 ghost use Rattle.bee_compile.specs.Fits.{CompiledFits};
 
 use crate::compiled::Compiled;
-use crate::trimming::trim_map;
 use fixpoint_queue::Oracle;
 use model_lower::{LowerFault, Lowered, LoweredModel, lower_owned};
+use name_map::trim_map;
 use rule_base::Steps;
 use state_compile::compile_state;
 use std::alloc::Global;

@@ -8,7 +8,6 @@
 mod compiled;
 mod compiling;
 pub mod laws;
-mod trimming;
 
 pub use compiled::Compiled;
 pub use compiling::compile;

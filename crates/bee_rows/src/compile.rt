@@ -138,10 +138,9 @@ fn other_words_are_refused(rt: HostRuntime) -> Result<(), Fail> {
     let alloc = rt.alloc();
     let two = ["bee", "solve"];
     let four = ["bee", "compile", "m.bee", "m.bee"];
-    let mode = ["bee", "solve", "m.bee"];
+    let mode = ["bee", "solve"];
     let check = ["bee", "check", "m.bee"];
     let queens = ["bee", "queens", "3"];
-    let checked = ["bee", "check", "m.bee", "m.bee"];
     let board = ["bee", "queens", "8"];
     let budget = ["bee", "solve", "m.bee", "--budget", "0"];
     let nothing = ["bee", "compile", "m.bee", "--budget", "0"];
@@ -152,7 +151,6 @@ fn other_words_are_refused(rt: HostRuntime) -> Result<(), Fail> {
         mode.as_slice(),
         check.as_slice(),
         queens.as_slice(),
-        checked.as_slice(),
         board.as_slice(),
         budget.as_slice(),
         nothing.as_slice(),

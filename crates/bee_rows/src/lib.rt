@@ -29,6 +29,8 @@ mod shelves;
 #[cfg(test)]
 mod solution_sets;
 #[cfg(test)]
+mod solve;
+#[cfg(test)]
 mod texts;
 #[cfg(test)]
 mod words;

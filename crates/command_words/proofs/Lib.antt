@@ -1,3 +1,4 @@
 mod Numerals
 mod Rules
 mod Taken
+pub mod RequestLimits

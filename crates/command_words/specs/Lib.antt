@@ -1,3 +1,4 @@
 pub mod Numeral
 pub mod Request
 pub mod Line
+pub mod Limits

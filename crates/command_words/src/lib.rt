@@ -3,9 +3,11 @@
 
 mod command;
 mod found;
+mod laws;
 mod line;
 mod numbers;
 mod read;
 
 pub use command::{Command, Options};
+pub use laws::limits_law;
 pub use read::read_command;

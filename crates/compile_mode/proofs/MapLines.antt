@@ -7,16 +7,14 @@ use Rattle.std.proofs.lemmas.List.{reverse-append}
 use Rattle.order_ints.specs.declared.atom.Atom.{Atom}
 use Rattle.order_ints.specs.declared.order_int.MapValue.{MapValue}
 use Rattle.order_ints.specs.declared.order_int.MapValue.TheVariants.{Bool, Int}
-use Rattle.order_ints.specs.Truth.{Valuation}
-use Rattle.order_ints.specs.Numbers.{number_of, numbers_of}
 use Rattle.order_ints.specs.OrderRange.{weights, AreRising}
 use Rattle.model_meaning.specs.declared.model.Kind.{Kind}
 use Rattle.model_meaning.specs.declared.model.Kind.TheVariants as kind
 use Rattle.model_meaning.specs.declared.model.Decl.{Decl}
-use Rattle.bee_compile.specs.Fits.{ValueFits, ValuesFit}
-use Rattle.dimacs_out.specs.declared.entry.MapEntry.{MapEntry}
+use Rattle.name_map.specs.Values.{values_of}
+use Rattle.name_map.specs.Fits.{ValueFits, ValuesFit}
+use Rattle.name_map.specs.declared.entries.MapEntry.{MapEntry}
 use Rattle.dimacs_out.specs.CompiledText.{WeightsCount, ValueBelow, EntriesBelow}
-use Rattle.dimacs_out.specs.TextSolutions.{assignment_of}
 use Rattle.compile_mode.specs.Compiled.{entries_of}
 
 -- one entry for each declaration
@@ -26,13 +24,12 @@ as_many n [] (v ∷ values) h = elim h [ ]
 as_many n (d ∷ decls) [] h = elim h [ ]
 as_many n (d ∷ decls) (v ∷ values) h = omega (arith, as_many n decls values h.1)
 
--- the assignment that the map lines give is that of the map
-pub same_assignment : (σ : Valuation) (n : ℕ) (decls : List Decl) (values : List MapValue) → ValuesFit n decls values
-    → assignment_of σ (entries_of decls values) ≡ numbers_of σ values
-same_assignment σ n [] [] h = refl
-same_assignment σ n [] (v ∷ values) h = elim h [ ]
-same_assignment σ n (d ∷ decls) [] h = elim h [ ]
-same_assignment σ n (d ∷ decls) (v ∷ values) h = ap (λ l. number_of σ v ∷ l) (same_assignment σ n decls values h.1)
+-- what the names of the map lines stand for is the map
+pub same_values : (n : ℕ) (decls : List Decl) (values : List MapValue) → ValuesFit n decls values → values_of (entries_of decls values) ≡ values
+same_values n [] [] h = refl
+same_values n [] (v ∷ values) h = elim h [ ]
+same_values n (d ∷ decls) [] h = elim h [ ]
+same_values n (d ∷ decls) (v ∷ values) h = ap (λ l. v ∷ l) (same_values n decls values h.1)
 
 -- the names of the map lines are the declared names
 pub same_names : (n : ℕ) (decls : List Decl) (values : List MapValue) → ValuesFit n decls values

@@ -10,7 +10,7 @@ use Rattle.model_lower.specs.Weighed.{most_weight}
 use Rattle.core_rules.specs.Instances.{is_instance_at}
 use Rattle.bee_compile.specs.declared.compiled.Compiled.{Compiled}
 use Rattle.bee_compile.specs.Compiled.{IsCompiled}
-use Rattle.dimacs_out.specs.declared.entry.MapEntry.{MapEntry}
+use Rattle.name_map.specs.declared.entries.MapEntry.{MapEntry}
 use Rattle.dimacs_out.specs.declared.text.CnfText.{CnfText}
 use Rattle.dimacs_out.specs.CompiledText.{text_of}
 use Rattle.dimacs_out.specs.TextSolutions.{StandsFor}

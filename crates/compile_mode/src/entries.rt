@@ -3,8 +3,8 @@
 ghost use Rattle.std.specs.Prelude.{◌≡◌, length, IfOk};
 ghost use Rattle.compile_mode.specs.Compiled.{entries_of};
 
-use dimacs_out::MapEntry;
 use model_meaning::Decl;
+use name_map::MapEntry;
 use order_ints::MapValue;
 use std::alloc::{AllocError, Global};
 

@@ -3,8 +3,9 @@
 use bee_list::Sequence;
 use bumblebee_reader::Name;
 use core_forms::{Equation, Rule};
-use dimacs_out::{CnfText, MapEntry, write_compiled};
+use dimacs_out::{CnfText, write_compiled};
 use ledger_text::Line;
+use name_map::MapEntry;
 use order_ints::{Atom, Cnf, Lit, MapValue, OrdInt};
 use std::alloc::{AllocError, Global};
 use std::test::Fail;

@@ -13,5 +13,5 @@ mod Steps
 mod Follows
 mod Collects
 mod Works
-mod Accepted
-mod Newness
+pub mod Accepted
+pub mod Newness

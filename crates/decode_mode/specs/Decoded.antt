@@ -1,19 +1,15 @@
 -- What a compiled text and a SAT solver's answer give: the values of the names, or the line of the answer that fails. Of two texts
 -- the compiled one is the first, and the answer the second.
-use Rattle.std.specs.Prelude.{◌≡◌, ℕ, Bool, List, [], ◌∷◌, ◌++◌, codes}
-use Rattle.std.specs.Fmt.{decimal}
+use Rattle.std.specs.Prelude.{◌≡◌, ℕ, Bool, List}
 use Rattle.order_ints.specs.Truth.{valuation_of}
 use Rattle.dimacs_out.specs.declared.text.CnfText.{CnfText}
 use Rattle.dimacs_out.specs.ValueLines.{values_text}
 use Rattle.dimacs_read.specs.TextLines.{IsTextOf}
 use Rattle.dimacs_read.specs.Values.{IsValues, ValuesFail}
+use Rattle.text_modes.specs.Refusal.{refusal_text}
 use Rattle.text_modes.specs.TwoTexts.{Texts, HoldsSome}
 use Rattle.text_modes.specs.declared.ends.Outcome.{Outcome}
 use Rattle.text_modes.specs.declared.ends.Outcome.TheVariants.{Done, Refused, Unknown}
-
--- the text of a refusal
-abbrev pub refusal_text : ℕ → List ℕ
-refusal_text line = codes "REFUSED " ++ decimal line ++ 10 ∷ []
 
 -- the written lines tell what the names have under the answer's values
 pub record TellsValues (held : CnfText) (answer written : List ℕ) : Type 0 where

@@ -1,25 +1,13 @@
 //! From a compiled text and a SAT solver's answer to the values of its names.
 
-ghost use Rattle.std.specs.Prelude.{◌≡◌, IfOk};
+ghost use Rattle.std.specs.Prelude.{IfOk};
 ghost use Rattle.dimacs_read.specs.TextLines.{IsReadable};
-ghost use Rattle.decode_mode.specs.Decoded.{refusal_text, IsDecoding};
+ghost use Rattle.decode_mode.specs.Decoded.{IsDecoding};
 
-use bee_text::{end_line, push_bytes, push_number};
 use dimacs_out::{CnfText, write_values};
 use dimacs_read::{TextFault, read_values};
 use std::alloc::{AllocError, Global};
-use text_modes::Outcome;
-
-/// The line that tells which line of an answer fails.
-fn refusal(alloc: Global, line: u64) -> Result<Vec<u8>, AllocError>
-    ensures { IfOk result (λ text. text.items ≡ refusal_text line) }
-{
-    let mut out = Vec::new(alloc);
-    push_bytes(&mut out, b"REFUSED ")?;
-    push_number(&mut out, u128::from(line))?;
-    end_line(&mut out)?;
-    Ok(out)
-}
+use text_modes::{Outcome, refusal};
 
 /// What is written for a compiled text and an answer: the lines that tell the values of the names, or the line that tells
 /// which line of the answer fails first.

@@ -12,7 +12,7 @@ use Rattle.order_ints.specs.declared.literal.Lit.{Lit}
 use Rattle.order_ints.specs.declared.order_int.MapValue.{MapValue}
 use Rattle.order_ints.specs.declared.order_int.MapValue.TheVariants.{Bool as OfBool, Int as OfInt}
 use Rattle.order_ints.specs.Place.{ClauseBelow, ClausesBelow}
-use Rattle.dimacs_out.specs.declared.entry.MapEntry.{MapEntry}
+use Rattle.name_map.specs.declared.entries.MapEntry.{MapEntry}
 use Rattle.ledger_text.specs.Words.{literal_word}
 use Rattle.ledger_text.proofs.Spelled.{atom_word_tells}
 use Rattle.dimacs_out.specs.CompiledText.{value_words, entry_line, clause_words, clause_line, numbers_line, ValueBelow}

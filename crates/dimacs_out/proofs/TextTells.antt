@@ -8,12 +8,14 @@ use Rattle.bee_text.proofs.LineLemmas.{join_lines_injective}
 use Rattle.bumblebee_reader.specs.Names.{AreDeclared}
 use Rattle.order_ints.specs.Truth.{Valuation}
 use Rattle.order_ints.specs.Satisfies.{Satisfies}
-use Rattle.dimacs_out.specs.declared.entry.MapEntry.{MapEntry}
+use Rattle.order_ints.specs.Numbers.{numbers_of}
+use Rattle.name_map.specs.declared.entries.MapEntry.{MapEntry}
+use Rattle.name_map.specs.Values.{values_of}
 use Rattle.dimacs_out.specs.declared.text.CnfText.{CnfText}
 use Rattle.ledger_text.specs.declared.line.Line.{Line}
 use Rattle.ledger_text.specs.Steps.{LedgerBelow}
 use Rattle.dimacs_out.specs.CompiledText.{entry_line, ledger_line, numbers_line, clause_line, text_lines, text_of, EntriesBelow, IsWritable}
-use Rattle.dimacs_out.specs.TextSolutions.{StandsFor, assignment_of}
+use Rattle.dimacs_out.specs.TextSolutions.{StandsFor}
 use Rattle.dimacs_out.specs.TextLaws.{TextTellsAll, StandsForExactly}
 use Rattle.dimacs_out.proofs.LinesTell.{IsEntry, entry_line_line, entry_line_tells, entry_line_begins, clause_lines_tell, clause_lines_lines, numbers_line_line, numbers_line_tells}
 use Rattle.dimacs_out.proofs.LedgerTells.{ledger_line_tells, ledger_lines_lines}
@@ -122,11 +124,11 @@ text_tells_all x y p q e =
 pub stands_for_exactly : StandsForExactly
 stands_for_exactly x a h = (forth, back)
   where
-    forth : StandsFor (text_of x) a → (σ : Valuation) × Satisfies σ x.cnf × (a ≡ assignment_of σ x.entries)
+    forth : StandsFor (text_of x) a → (σ : Valuation) × Satisfies σ x.cnf × (a ≡ numbers_of σ (values_of x.entries))
     forth s =
         let same = text_tells_all x s.holds h s.writable s.spelled in
         let P : CnfText → Type 0 = λ y. Satisfies s.valuation y.cnf in
-        (s.valuation, subst P (sym same) s.satisfies, s.gives ∙ ap (λ (y : CnfText). assignment_of s.valuation y.entries) (sym same))
+        (s.valuation, subst P (sym same) s.satisfies, s.gives ∙ ap (λ (y : CnfText). numbers_of s.valuation (values_of y.entries)) (sym same))
 
-    back : (σ : Valuation) × Satisfies σ x.cnf × (a ≡ assignment_of σ x.entries) → StandsFor (text_of x) a
+    back : (σ : Valuation) × Satisfies σ x.cnf × (a ≡ numbers_of σ (values_of x.entries)) → StandsFor (text_of x) a
     back t = record { holds = x; writable = h; spelled = refl; valuation = t.0; satisfies = t.1; gives = t.2 }

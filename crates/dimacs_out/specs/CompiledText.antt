@@ -22,7 +22,7 @@ use Rattle.ledger_text.specs.declared.line.Line.{Line}
 use Rattle.ledger_text.specs.Words.{literal_word, atom_word}
 use Rattle.ledger_text.specs.Steps.{step_text, LedgerBelow}
 use Rattle.bumblebee_reader.specs.Names.{AreDeclared}
-use Rattle.dimacs_out.specs.declared.entry.MapEntry.{MapEntry}
+use Rattle.name_map.specs.declared.entries.MapEntry.{MapEntry}
 use Rattle.dimacs_out.specs.declared.text.CnfText.{CnfText}
 
 -- the first line

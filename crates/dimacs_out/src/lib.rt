@@ -2,13 +2,11 @@
 //! steps of the compilation.
 #![tactic(auto)]
 
-mod entry;
 mod laws;
 mod text;
 mod values;
 mod write;
 
-pub use entry::MapEntry;
 pub use laws::text_laws;
 pub use text::CnfText;
 pub use values::write_values;

@@ -1,8 +1,8 @@
 //! What a compiled text holds.
 
-use crate::entry::MapEntry;
 use bee_list::Sequence;
 use ledger_text::Line;
+use name_map::MapEntry;
 use order_ints::Cnf;
 
 /// What a compiled text holds.

@@ -4,12 +4,11 @@ ghost use Rattle.std.specs.Prelude.{◌≡◌, ◌++◌, ◌∷◌, [], map, IfO
 ghost use Rattle.bee_text.specs.Lines.{join_lines};
 ghost use Rattle.order_ints.specs.Truth.{valuation_of};
 ghost use Rattle.order_ints.specs.Numbers.{number_of};
-ghost use Rattle.name_map.specs.Values.{IsBoundedValue};
-ghost use Rattle.dimacs_out.specs.ValueLines.{number_line, values_text, AreBounded};
+ghost use Rattle.name_map.specs.Values.{values_of, IsBoundedValue, AreBounded};
+ghost use Rattle.dimacs_out.specs.ValueLines.{number_line, values_text};
 
-use crate::entry::MapEntry;
 use bee_text::end_line;
-use name_map::{is_boolean, number_under, push_value_line};
+use name_map::{MapEntry, is_boolean, number_under, push_value_line};
 use std::alloc::{AllocError, Global};
 
 /// Writes the line of a name, and its line feed.
@@ -30,7 +29,7 @@ pub fn write_values(
     entries: &[MapEntry],
     values: &[bool],
 ) -> Result<Vec<u8>, AllocError>
-    requires { AreBounded entries.now }
+    requires { AreBounded (values_of entries.now) }
     ensures { IfOk result (λ text. text.items ≡ values_text (valuation_of values.now) entries.now) }
 {
     let mut out = Vec::new(alloc);

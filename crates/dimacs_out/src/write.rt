@@ -8,11 +8,11 @@ ghost use Rattle.ledger_text.specs.Steps.{step_text};
 ghost use Rattle.dimacs_out.specs.CompiledText.{step_word, entry_line, ledger_line, numbers_line, clause_line, text_of};
 ghost use Rattle.dimacs_out.specs.Written.{words_ended};
 
-use crate::entry::MapEntry;
 use crate::text::CnfText;
 use bee_list::Sequence;
 use bee_text::{end_line, push_blank, push_bytes, push_number, push_signed};
 use ledger_text::{Line, push_atom, push_literal, push_step};
+use name_map::MapEntry;
 use order_ints::{Atom, Cnf, Lit, MapValue};
 use std::alloc::{AllocError, Global};
 

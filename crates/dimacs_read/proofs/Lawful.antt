@@ -14,7 +14,7 @@ use Rattle.order_ints.specs.Satisfies.{Satisfies}
 use Rattle.order_ints.specs.Place.{AtomBelow, StepsBelow}
 use Rattle.bee_text.specs.Gaps.{words_of}
 use Rattle.bumblebee_reader.specs.Names.{AreDeclared}
-use Rattle.dimacs_out.specs.declared.entry.MapEntry.{MapEntry}
+use Rattle.name_map.specs.declared.entries.MapEntry.{MapEntry}
 use Rattle.ledger_text.specs.declared.line.Line.{Line}
 use Rattle.ledger_text.specs.declared.line.Line.TheVariants.{Equate, Split, Encode}
 use Rattle.ledger_text.specs.Steps.{IsReadableStep, LineBelow, LedgerBelow}

@@ -8,6 +8,9 @@ mod TextRead
 mod NewNames
 mod TextLeads
 mod Taken
+mod Searches
+mod LinesDecided
+mod ValuesDecided
 pub mod Exact
 pub mod Lawful
 pub mod Answered

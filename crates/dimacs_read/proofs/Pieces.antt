@@ -10,7 +10,7 @@ use Rattle.order_ints.specs.declared.order_int.MapValue.{MapValue}
 use Rattle.order_ints.specs.declared.order_int.MapValue.TheVariants.{Bool as OfBool, Int as OfInt}
 use Rattle.order_ints.specs.Place.{ClauseBelow}
 use Rattle.ledger_text.specs.Words.{literal_word}
-use Rattle.dimacs_out.specs.declared.entry.MapEntry.{MapEntry}
+use Rattle.name_map.specs.declared.entries.MapEntry.{MapEntry}
 use Rattle.dimacs_out.specs.CompiledText.{value_words, entry_line, clause_words, clause_line}
 use Rattle.dimacs_out.proofs.SpelledWords.{value_words_words, clause_words_words, numbers_words, numbers_words_words}
 use Rattle.dimacs_read.specs.declared.entry.Kind.{Kind}

@@ -11,7 +11,7 @@ use Rattle.order_ints.specs.declared.order_int.OrdInt.{OrdInt}
 use Rattle.order_ints.specs.declared.order_int.MapValue.{MapValue}
 use Rattle.order_ints.specs.OrderRange.{weights}
 use Rattle.bumblebee_reader.specs.Names.{IsNew}
-use Rattle.dimacs_out.specs.declared.entry.MapEntry.{MapEntry}
+use Rattle.name_map.specs.declared.entries.MapEntry.{MapEntry}
 use Rattle.dimacs_out.specs.CompiledText.{step_word, entry_line, clause_words}
 use Rattle.order_ints.specs.declared.literal.Lit.{Lit}
 use Rattle.order_ints.specs.Place.{ClauseBelow}

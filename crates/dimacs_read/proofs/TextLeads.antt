@@ -9,7 +9,7 @@ use Rattle.order_ints.specs.declared.literal.Lit.{Lit}
 use Rattle.order_ints.specs.Place.{ClausesBelow}
 use Rattle.ledger_text.specs.declared.line.Line.{Line}
 use Rattle.bumblebee_reader.specs.Names.{IsNew, AreDeclared}
-use Rattle.dimacs_out.specs.declared.entry.MapEntry.{MapEntry}
+use Rattle.name_map.specs.declared.entries.MapEntry.{MapEntry}
 use Rattle.dimacs_out.specs.CompiledText.{entry_line, clause_line, ledger_line, numbers_line, text_lines}
 use Rattle.dimacs_out.proofs.LinesTell.{entry_line_line, clause_lines_lines, numbers_line_line}
 use Rattle.dimacs_out.proofs.LedgerTells.{ledger_line_line}

@@ -7,7 +7,7 @@ use Rattle.order_ints.specs.Place.{ClauseBelow, ClausesBelow}
 use Rattle.ledger_text.specs.declared.line.Line.{Line}
 use Rattle.ledger_text.specs.Steps.{IsReadableStep}
 use Rattle.bumblebee_reader.specs.Names.{IsDeclarable, IsNew, AreDeclared}
-use Rattle.dimacs_out.specs.declared.entry.MapEntry.{MapEntry}
+use Rattle.name_map.specs.declared.entries.MapEntry.{MapEntry}
 use Rattle.dimacs_out.specs.CompiledText.{entry_line, clause_line, heading, ledger_line, numbers_line, text_lines}
 use Rattle.dimacs_read.specs.declared.draft.TextStage.{TextStage}
 use Rattle.dimacs_read.specs.declared.draft.TextStage.TheVariants.{Start, Names, Steps, Clauses}

@@ -4,7 +4,7 @@ use Rattle.order_ints.specs.declared.literal.Lit.{Lit}
 use Rattle.ledger_text.specs.declared.line.Line.{Line}
 use Rattle.ledger_text.specs.declared.line.Line.TheVariants.{Equate, Split, Encode}
 use Rattle.ledger_text.specs.Steps.{IsReadableStep, LineBelow}
-use Rattle.dimacs_out.specs.declared.entry.MapEntry.{MapEntry}
+use Rattle.name_map.specs.declared.entries.MapEntry.{MapEntry}
 use Rattle.dimacs_out.specs.CompiledText.{entry_line, ledger_line, numbers_line}
 use Rattle.dimacs_out.proofs.LinesTell.{IsEntry, entry_line_tells, entry_line_begins, clause_line_tells, SameNumbers, numbers_line_tells}
 use Rattle.dimacs_out.proofs.LedgerTells.{ledger_line_tells}

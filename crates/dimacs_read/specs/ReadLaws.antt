@@ -3,10 +3,12 @@ use Rattle.std.specs.Prelude.{ℕ, ◌^◌, ◌≤◌, Bool, List, [], ◌∷◌
 use Rattle.order_ints.specs.declared.cnf.Cnf.{Cnf}
 use Rattle.order_ints.specs.Truth.{valuation_of}
 use Rattle.order_ints.specs.Satisfies.{Satisfies}
-use Rattle.dimacs_out.specs.declared.entry.MapEntry.{MapEntry}
+use Rattle.order_ints.specs.Numbers.{numbers_of}
+use Rattle.name_map.specs.declared.entries.MapEntry.{MapEntry}
+use Rattle.name_map.specs.Values.{values_of}
 use Rattle.dimacs_out.specs.declared.text.CnfText.{CnfText}
 use Rattle.dimacs_out.specs.CompiledText.{text_of, IsWritable}
-use Rattle.dimacs_out.specs.TextSolutions.{StandsFor, assignment_of}
+use Rattle.dimacs_out.specs.TextSolutions.{StandsFor}
 use Rattle.dimacs_read.specs.TextLines.{IsInLimit, IsReadable, IsTextOf}
 use Rattle.dimacs_read.specs.Values.{IsValues}
 
@@ -31,4 +33,4 @@ ValuesSatisfy = (cnf : Cnf) (text : List ℕ) (values : List Bool) → IsValues 
 abbrev pub ValuesGiveAssignment : Type 0
 ValuesGiveAssignment =
     (x : CnfText) (text : List ℕ) (values : List Bool) → IsWritable x → IsValues x.cnf text values
-    → StandsFor (text_of x) (assignment_of (valuation_of values) x.entries)
+    → StandsFor (text_of x) (numbers_of (valuation_of values) (values_of x.entries))

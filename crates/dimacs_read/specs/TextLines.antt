@@ -11,7 +11,7 @@ use Rattle.ledger_text.specs.declared.line.Line.{Line}
 use Rattle.ledger_text.specs.declared.line.Line.TheVariants.{Equate, Split, Encode}
 use Rattle.ledger_text.specs.Steps.{IsReadableStep}
 use Rattle.bumblebee_reader.specs.Names.{IsDeclarable, AreDeclared}
-use Rattle.dimacs_out.specs.declared.entry.MapEntry.{MapEntry}
+use Rattle.name_map.specs.declared.entries.MapEntry.{MapEntry}
 use Rattle.dimacs_out.specs.CompiledText.{ValueBelow, text_of}
 use Rattle.dimacs_out.specs.declared.text.CnfText.{CnfText}
 

@@ -4,8 +4,8 @@ ghost use Rattle.std.specs.Prelude.{◌≡◌, not, position};
 ghost use Rattle.std.specs.List.{list_all};
 ghost use Rattle.dimacs_read.specs.TextLines.{atom_within, value_within, step_within, first_above};
 
-use dimacs_out::MapEntry;
 use ledger_text::Line;
+use name_map::MapEntry;
 use order_ints::{Atom, MapValue};
 
 /// Whether the variable of an atom is at most `vars`.

@@ -1,9 +1,8 @@
-//! The law that no text is left without an answer. The function does nothing: its contract is the law.
+//! The law that each text has an answer. The function does nothing: its contract is the law.
 
 ghost use Rattle.dimacs_read.specs.AnswerLaws.{TextOrLine, ValuesOrLine};
 
-/// It cannot be that a text is no compiled text and no line of it fails, nor, for a CNF, that it is no values and no line of
-/// it fails.
+/// A text is a compiled text, or a line of it fails; and for a CNF it is in the form of values, or a line of it fails.
 pub fn answer_law()
     ensures text { TextOrLine }
     ensures values { ValuesOrLine }

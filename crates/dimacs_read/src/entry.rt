@@ -8,7 +8,7 @@ ghost use Rattle.order_ints.specs.declared.order_int.MapValue.{MapValue};
 ghost use Rattle.order_ints.specs.Place.{AtomBelow};
 ghost use Rattle.ledger_text.specs.Words.{atom_word};
 ghost use Rattle.bumblebee_reader.specs.Names.{IsDeclarable};
-ghost use Rattle.dimacs_out.specs.declared.entry.MapEntry.{MapEntry};
+ghost use Rattle.name_map.specs.declared.entries.MapEntry.{MapEntry};
 ghost use Rattle.dimacs_out.specs.CompiledText.{step_word, entry_line};
 ghost use Rattle.dimacs_read.specs.declared.entry.Kind.{Kind};
 ghost use Rattle.dimacs_read.specs.Entries.{kind_word, kind_of, tail_words, IsReadableInt, IsReadableValue};
@@ -20,8 +20,8 @@ use crate::steps::{Steps, read_steps};
 use bee_list::Sequence;
 use bee_text::{Words, read_signed, split_words};
 use bumblebee_reader::Name;
-use dimacs_out::MapEntry;
 use ledger_text::read_atom;
+use name_map::MapEntry;
 use order_ints::{Atom, MapValue, OrdInt};
 use std::alloc::{AllocError, Global};
 

@@ -2,7 +2,9 @@
 #![tactic(auto)]
 
 mod adding;
+mod candidates;
 mod deciding;
+mod deleting;
 mod ending;
 mod found;
 mod learning;

@@ -25,7 +25,7 @@ use Rattle.model_meaning.specs.declared.model.Goal.{Goal}
 use Rattle.model_meaning.specs.declared.model.Goal.TheVariants.{Satisfy, Minimize, Maximize}
 use Rattle.model_meaning.specs.declared.model.Model.{Model}
 use Rattle.statement_lower.specs.Terms.{integer_at}
-use Rattle.statement_lower.specs.Entries.{EntryFits, EntriesFit}
+use Rattle.name_map.specs.Fits.{EntryFits, EntriesFit}
 use Rattle.model_lower.specs.declared.state.Lowered.{Lowered}
 use Rattle.step_kernel.specs.Kernel.{Kernel, IsKernel}
 use Rattle.answer_document.specs.BoundAtoms.{integer_named, settled}
@@ -44,7 +44,7 @@ entry-safe n kind.Bool (values.Bool a) h = constant-safe n
 entry-safe n kind.Bool (values.Int a) h = absurd h
 entry-safe n k (values.Bool a) h = constant-safe n
 entry-safe n (kind.Range low high) (values.Int a) h = (h.sound.0, h.below)
-entry-safe n (kind.Listed vs) (values.Int a) h = (h.fits.sound.0, h.fits.below)
+entry-safe n (kind.Listed vs) (values.Int a) h = (h.sound.0, h.below)
 
 pub entries-within : (n : ℕ) (ds : List Decl) (entries : List MapValue) → EntriesFit n ds entries → AreWithin n entries
 entries-within n ds [] h place = constant-safe n

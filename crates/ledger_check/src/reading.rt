@@ -2,7 +2,7 @@
 
 use crate::part::Part;
 use answer_document::Verdict;
-use model_lower::NameMap;
+use name_map::NameMap;
 use proof_check::Checker;
 use step_kernel::State;
 

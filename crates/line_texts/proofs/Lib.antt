@@ -1,3 +1,4 @@
 pub mod Leads
 pub mod ReadTo
 pub mod Fronts
+pub mod WholeOrMisfit

@@ -16,7 +16,7 @@ use Rattle.model_meaning.specs.declared.model.Kind.TheVariants as kind
 use Rattle.model_meaning.specs.declared.model.Decl.{Decl}
 use Rattle.model_meaning.specs.Limits.{InLimit}
 use Rattle.value_lists.specs.ValueLists.{first_of, last_of}
-use Rattle.statement_lower.specs.Entries.{EntryFits, EntriesFit}
+use Rattle.name_map.specs.Fits.{EntryFits, EntriesFit}
 use Rattle.model_decode.specs.Short.{IsShort, AreShort}
 
 -- each value of such an integer is such a number
@@ -50,7 +50,7 @@ entry-short n (kind.Range low high) (values.Int a) h =
     (subst (FitsSigned w64) (sym h.least) (limit-fits low h.low_in_limit), subst (FitsSigned w64) (sym h.greatest) (limit-fits high h.high_in_limit))
 entry-short n (kind.Listed vs) (values.Bool a) h = absurd h
 entry-short n (kind.Listed vs) (values.Int a) h =
-    (subst (FitsSigned w64) (sym h.fits.least) (limit-fits (first_of vs) h.fits.low_in_limit), subst (FitsSigned w64) (sym h.fits.greatest) (limit-fits (last_of vs) h.fits.high_in_limit))
+    (subst (FitsSigned w64) (sym h.least) (limit-fits (first_of vs) h.low_in_limit), subst (FitsSigned w64) (sym h.greatest) (limit-fits (last_of vs) h.high_in_limit))
 
 pub entries-short : (n : ℕ) (ds : List Decl) (map : List MapValue) → EntriesFit n ds map → AreShort map
 entries-short n [] [] h = tt

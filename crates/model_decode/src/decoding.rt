@@ -8,7 +8,7 @@ ghost use Rattle.model_decode.specs.Short.{IsShort, AreShort};
 
 use crate::reading::Reading;
 use bee_list::Sequence;
-use model_lower::NameMap;
+use name_map::NameMap;
 use order_ints::{Atom, MapValue};
 use std::alloc::{AllocError, Global};
 use typed_model::Assignment;

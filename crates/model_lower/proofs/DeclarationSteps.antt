@@ -5,18 +5,25 @@ use Rattle.std.specs.Bool.{Decides}
 use Rattle.std.specs.Ordering.{int_eq}
 use Rattle.std.proofs.lemmas.Bool.{false≢true}
 use Rattle.std.proofs.lemmas.Bool.Decides.{Decides-int_eq}
+use Rattle.std.specs.Int.{IsGcd}
+use Rattle.std.proofs.Math.Nat.{one-dvd}
+use Rattle.std.proofs.lemmas.Nat.Gcd.{dvd_refl}
 use Rattle.std.proofs.lemmas.Int.{ints, by_lt_z}
 use Rattle.std.proofs.lemmas.List.{take_more}
 use Rattle.order_ints.specs.Label.{own_labels, variable}
 use Rattle.order_ints.specs.declared.order_int.OrdInt.{OrdInt}
 use Rattle.order_ints.specs.Truth.{Valuation, Agree, atom_truth}
-use Rattle.order_ints.specs.OrderMade.{unit_range_of, values_from, integer_of_values, AreSmall}
+use Rattle.order_ints.specs.OrderMade.{unit_steps, unit_range_of, values_from, integer_of_values, AreSmall}
 use Rattle.order_ints.specs.OrderRange.{IntBelow}
 use Rattle.order_ints.specs.OrderValue.{value_of}
 use Rattle.order_ints.specs.Numbers.{number_of, numbers_of}
 use Rattle.order_ints.proofs.Gains.{low-le, high-ge}
 use Rattle.order_ints.proofs.Fresh.{weights-unit_steps, atoms-unit_steps, values_of-unit_range_of, AreRising-unit_steps, StepsBelow-vars, IsBounded-unit_range_of, takes_each_value, atoms-integer_of_values, values_of-integer_of_values, IsBounded-integer_of_values, AreRising-integer_of_values}
+use Rattle.core_cost.specs.Divisor.{common_divisor_of}
+use Rattle.core_cost.specs.Sums.{unit_steps as units}
+use Rattle.core_cost.proofs.DivisorLaws.{common_from_IsGcd}
 use Rattle.core_forms.specs.declared.form.Core.TheVariants.{Ladder}
+use Rattle.core_forms.specs.Shapes.{divisor_of, shape_of}
 use Rattle.core_forms.specs.WellFormed.{IsSound}
 use Rattle.core_forms.specs.Cores.{MeetsAll, CoresBelow, AreWellFormed}
 use Rattle.core_forms.proofs.CoreLists.{MeetsAll-one, MeetsAll-append, MeetsAll-agree, CoresBelow-append, CoresBelow-more, AreWellFormed-append}
@@ -34,7 +41,8 @@ use Rattle.model_meaning.specs.WellTyped.{KindFits}
 use Rattle.model_meaning.proofs.DomainLaws.{Decides-domain}
 use Rattle.model_lower.specs.Lowering.{vars_taken, entry_of, entry_cores}
 use Rattle.model_lower.specs.ItemLaws.{DeclarationLaw}
-use Rattle.statement_lower.specs.Entries.{EntryFits, AreOrdered}
+use Rattle.name_map.specs.Fits.{EntryFits}
+use Rattle.statement_lower.specs.Entries.{AreOrdered}
 use Rattle.statement_lower.proofs.FreshAtoms.{set_from, set_from-same, set_from-here}
 use Rattle.statement_lower.proofs.EntryLaws.{EntriesFit-more, EntriesFit-append, numbers_of-append, numbers_of-agree, AreOrdered-append}
 
@@ -92,6 +100,18 @@ gap-at (negsuc n) low high e h = absurd (omega (arith, ints, e, h))
 pub gap-reaches : (low high : ℤ) → low ≤ℤ high → low +ℤ pos (vars_taken (kind.Range low high)) ≡ high
 gap-reaches low high h = gap-at (high -ℤ low) low high refl h
 
+-- The shape of a range.
+
+one-common : (d : ℕ) → common_divisor_of 1 d ≡ 1
+one-common d = sym (common_from_IsGcd 1 d 1 (one-gcd d))
+  where
+    one-gcd : (d : ℕ) → IsGcd 1 d 1
+    one-gcd d = (dvd_refl 1, one-dvd d, λ e p q. p)
+
+length-units : (first count : ℕ) → length (unit_steps first count) ≡ count
+length-units first zero = refl
+length-units first (suc count) = ap suc (length-units (first + 1) count)
+
 Contains-values_from : (count : ℕ) (low v : ℤ) → low ≤ℤ v → v <ℤ (low +ℤ pos count) → Contains (values_from low count) v
 Contains-values_from zero low v h k = absurd (omega (arith, ints, h, k))
 Contains-values_from (suc count) low v h k =
@@ -100,6 +120,17 @@ Contains-values_from (suc count) low v h k =
     let within : c.0 < length (values_from (low +ℤ pos 1) count) = c.1 in
     (suc c.0, omega (arith, within), c.2))
     (λ l. (0, omega arith, (let e : low ≡ v = omega (arith, ints, l, h) in e)))
+
+divisor-units : (first count : ℕ) → divisor_of (unit_steps first (suc count)) ≡ 1
+divisor-units first count = one-common (divisor_of (unit_steps (first + 1) count))
+
+shape-units : (low : ℤ) (first count : ℕ) → shape_of (unit_range_of low first count) ≡ units count
+shape-units low first zero = refl
+shape-units low first (suc count) =
+    let steps = length-units first (suc count) in
+    let span = weights-unit_steps first (suc count) in
+    let divisor = divisor-units first count in
+    λ i. record { steps = steps i; span = span i; divisor = divisor i }
 
 int-laws : (vars : ℕ) (low high : ℤ) → KindFits (kind.Range low high) → KindInLimit (kind.Range low high) → EntryLaws vars (kind.Range low high)
 int-laws vars low high fit small =
@@ -117,6 +148,7 @@ int-laws vars low high fit small =
         sound = sound;
         least = refl;
         greatest = ap (λ (n : ℕ). low +ℤ pos n) (weights-unit_steps first count) ∙ reach;
+        shape = shape-units low first count;
         low_in_limit = small.0;
         high_in_limit = small.1;
       };
@@ -204,15 +236,13 @@ listed-laws vars vs fit small =
     (IsBounded-integer_of_values vs first fit.1 (small-values vs small.0), AreRising-integer_of_values vs first fit.1) in
     record {
       fits = record {
-        fits = record {
-          below = below;
-          sound = sound;
-          least = low-listed vs first;
-          greatest = high-listed vs first fit.1;
-          low_in_limit = first-limit vs small.0;
-          high_in_limit = last-of-limit vs small.0;
-        };
+        below = below;
+        sound = sound;
+        least = low-listed vs first;
+        greatest = high-listed vs first fit.1;
         shape = shape-listed vs first;
+        low_in_limit = first-limit vs small.0;
+        high_in_limit = last-of-limit vs small.0;
       };
       below = ((tt, (below, tt)), tt);
       well_formed = (sound, tt);

@@ -21,10 +21,11 @@ use Rattle.model_meaning.specs.Holds.{Holds}
 use Rattle.model_meaning.specs.WellTyped.{TruthFits}
 use Rattle.model_meaning.proofs.DomainLaws.{Decides-domain}
 use Rattle.statement_lower.specs.Terms.{atom_of}
-use Rattle.statement_lower.specs.Entries.{EntryFits}
+use Rattle.name_map.specs.Fits.{EntryFits}
 use Rattle.statement_lower.proofs.EntryLaws.{EntriesFit-append, AreOrdered-append, numbers_of-append, length-numbers_of, atom_of-laws}
 use Rattle.statement_lower.proofs.WordLines.{bit-value, bit-ordered, small-bit}
 use Rattle.model_lower.specs.declared.state.Lowered.{Lowered}
+use Rattle.weight_laws.proofs.ExactShapes.{shape-bit}
 use Rattle.model_lower.specs.Lowering.{defined_entry, with_definition}
 use Rattle.model_lower.specs.ItemLaws.{Encodes, TakesItsValue, DefinitionLaw}
 
@@ -78,6 +79,7 @@ module _ (l : Lowered) (ds : List Decl) (enc : Encodes l ds) (d : Decl) (x : Boo
         sound = small.sound;
         least = refl;
         greatest = refl;
+        shape = shape-bit a;
         low_in_limit = omega arith;
         high_in_limit = omega arith;
       })

@@ -2,7 +2,7 @@
 use Rattle.std.specs.Prelude.{◌+◌, ◌^◌, ◌≤◌, List}
 use Rattle.core_forms.specs.Cores.{CoresBelow, AreWellFormed}
 use Rattle.model_meaning.specs.declared.model.Decl.{Decl}
-use Rattle.statement_lower.specs.Entries.{EntriesFit}
+use Rattle.name_map.specs.Fits.{EntriesFit}
 use Rattle.model_lower.specs.declared.state.Lowered.{Lowered}
 use Rattle.model_lower.specs.Weighed.{size_of_lowered}
 

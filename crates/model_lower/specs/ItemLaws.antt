@@ -20,7 +20,8 @@ use Rattle.model_meaning.specs.Limits.{KindInLimit, WhatInLimit, InLimits}
 use Rattle.model_meaning.specs.WellTyped.{TruthFits, KindFits, WhatFits, WellTyped}
 use Rattle.model_meaning.specs.Solutions.{IsSolution}
 use Rattle.model_weight.specs.Weight.{weight_of}
-use Rattle.statement_lower.specs.Entries.{EntriesFit, AreOrdered}
+use Rattle.name_map.specs.Fits.{EntriesFit}
+use Rattle.statement_lower.specs.Entries.{AreOrdered}
 use Rattle.model_lower.specs.declared.state.Lowered.{Lowered}
 use Rattle.model_lower.specs.Lowering.{with_declaration, with_statement, with_definition, lowered_of}
 use Rattle.model_lower.specs.Weighed.{most_weight}

@@ -4,9 +4,10 @@ ghost use Rattle.std.specs.Prelude.{◌≡◌};
 ghost use Rattle.model_lower.specs.Lowering.{nothing_lowered};
 ghost use Rattle.model_lower.specs.Drafting.{lowered_so_far};
 
-use crate::state::{Lowered, NameMap};
+use crate::state::Lowered;
 use bee_list::Sequence;
 use core_forms::Core;
+use name_map::NameMap;
 use order_ints::MapValue;
 use std::alloc::Global;
 

@@ -20,4 +20,5 @@ pub use fault::LowerFault;
 pub use laws::{lowering_law, weight_law};
 pub use lowering::lower;
 pub use owned::lower_owned;
-pub use state::{Lowered, LoweredModel, NameMap};
+pub use state::{Lowered, LoweredModel};
+pub use weighing::weigh;

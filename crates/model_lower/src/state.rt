@@ -2,15 +2,8 @@
 
 use bee_list::Sequence;
 use core_forms::Core;
-use order_ints::MapValue;
+use name_map::NameMap;
 use typed_model::Decl;
-
-/// What each declared name stands for.
-#[derive(Debug, Clone, Drop)]
-pub struct NameMap {
-    /// One entry for each declaration, in their order.
-    pub entries: Sequence<MapValue>,
-}
 
 /// A model as cores over Boolean variables.
 #[derive(Debug, Clone, Drop)]

@@ -4,16 +4,17 @@ ghost use Rattle.std.specs.Prelude.{◌≡◌, pos, unsigned_abs};
 ghost use Rattle.std.specs.Ordering.{int_eq};
 ghost use Rattle.model_meaning.specs.Terms.{truth_of, number_of, truths_of, numbers_of, as_number};
 ghost use Rattle.model_meaning.specs.Integers.{relates};
-ghost use Rattle.model_meaning.specs.Holds.{holds, same, truth_or_true, terms_or_none, members_differ, lists_in_order};
+ghost use Rattle.model_meaning.specs.Holds.{holds, same, truth_or_true, members_differ, lists_in_order};
 ghost use Rattle.model_meaning.specs.Limits.{AllInLimit, WhatInLimit};
 
 use crate::booleans::{combine, count_true};
 use crate::integers::{gives, is_aggregate, linear_sum, relates, total, weight_of_true};
 use crate::lists::{all_differ, differ_where, numbers_in_order, truths_in_order};
+use crate::parts::{OrderLists, terms_or_none};
 use crate::statement::{AllDifferent, Order, Relation};
 use crate::terms::{as_number, number_of, truth_of};
 use crate::what::{BoolTerm, IntTerm, What};
-use bee_list::{Apart, Sequence};
+use bee_list::Apart;
 
 /// Whether two truth values are equal.
 fn same(left: bool, right: bool) -> bool
@@ -53,16 +54,6 @@ fn truth_or_true(values: &[i64], truth: &Option<Apart<BoolTerm>>) -> bool
     }
 }
 
-/// The members of a list that may be left out.
-fn terms<T>(list: &Option<Apart<Sequence<T>>>) -> &[T]
-    ensures { result.now ≡ terms_or_none list.now }
-{
-    match list {
-        Some(members) => members.get().as_slice(),
-        None => &[],
-    }
-}
-
 /// Which members differ.
 fn members_differ(
     kind: AllDifferent,
@@ -80,17 +71,8 @@ fn members_differ(
     }
 }
 
-/// Two lists of Booleans, and two of integers, of which an order reads the ones that it names.
-#[derive(Clone, Copy)]
-struct Lists<'a> {
-    left_truths: &'a [BoolTerm],
-    right_truths: &'a [BoolTerm],
-    left_numbers: &'a [IntTerm],
-    right_numbers: &'a [IntTerm],
-}
-
 /// Whether the lists of an order are in it.
-fn lists_in_order(order: Order, values: &[i64], lists: &Lists, truth: bool) -> bool
+fn lists_in_order(order: Order, values: &[i64], lists: &OrderLists<'_>, truth: bool) -> bool
     ensures { result ≡ lists_in_order order (truths_of values.now lists.now.left_truths.now) (truths_of values.now lists.now.right_truths.now) (numbers_of values.now lists.now.left_numbers.now) (numbers_of values.now lists.now.right_numbers.now) truth }
 {
     let in_order = if order.of_booleans {
@@ -232,7 +214,7 @@ pub fn what_holds(values: &[i64], what: &What) -> bool
             values,
             members.as_slice(),
             truth_or_true(values, truth),
-            terms(conditions),
+            terms_or_none(conditions),
         ),
         What::L18 {
             order,
@@ -243,11 +225,11 @@ pub fn what_holds(values: &[i64], what: &What) -> bool
             truth,
             ..
         } => {
-            let lists = Lists {
-                left_truths: terms(left_truths),
-                right_truths: terms(right_truths),
-                left_numbers: terms(left_numbers),
-                right_numbers: terms(right_numbers),
+            let lists = OrderLists {
+                left_truths: terms_or_none(left_truths),
+                right_truths: terms_or_none(right_truths),
+                left_numbers: terms_or_none(left_numbers),
+                right_numbers: terms_or_none(right_numbers),
             };
             lists_in_order(*order, values, &lists, truth_or_true(values, truth))
         }

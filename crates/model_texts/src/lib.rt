@@ -2,7 +2,9 @@
 #![tactic(auto)]
 
 mod fault;
+mod held_models;
 mod model_text;
 
 pub use fault::ModelFault;
+pub use held_models::held_model;
 pub use model_text::{TextFault, model_of};

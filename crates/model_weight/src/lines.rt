@@ -3,29 +3,17 @@
 ghost use Rattle.std.specs.Prelude.{◌≡◌, IfOk};
 ghost use Rattle.core_cost.specs.Saturated.{saturated};
 ghost use Rattle.model_meaning.specs.Limits.{DeclsInLimit, WhatInLimit};
-ghost use Rattle.model_meaning.specs.Holds.{terms_or_none};
 ghost use Rattle.model_weight.specs.Statements.{weight_of_what};
 
 use crate::arrays::{array_weight, reified_array_weight};
 use crate::comparisons::{comparison_weight, count_weight};
 use crate::linear::{numbers_weight, total_weight, truths_weight};
 use crate::operations::{aggregate_weight, all_different_weight, operation_weight};
-use crate::orders::{Lists, order_weight};
+use crate::orders::order_weight;
 use crate::shapes::{domain_of, steps_in};
-use bee_list::{Apart, Sequence};
 use core_cost::{eq_cost, max_cost, parity_cost};
-use model_meaning::{Decl, What};
+use model_meaning::{Decl, OrderLists, What, terms_or_none};
 use std::alloc::{AllocError, Global};
-
-/// The members of a list that may be left out.
-fn terms<T>(list: &Option<Apart<Sequence<T>>>) -> &[T]
-    ensures { result.now ≡ terms_or_none list.now }
-{
-    match list {
-        Some(members) => members.get().as_slice(),
-        None => &[],
-    }
-}
 
 /// The weight of a statement.
 pub fn statement_weight(alloc: Global, decls: &[Decl], what: &What) -> Result<u128, AllocError>
@@ -132,11 +120,11 @@ pub fn statement_weight(alloc: Global, decls: &[Decl], what: &What) -> Result<u1
             right_numbers,
             ..
         } => {
-            let lists = Lists {
-                left_truths: terms(left_truths),
-                right_truths: terms(right_truths),
-                left_numbers: terms(left_numbers),
-                right_numbers: terms(right_numbers),
+            let lists = OrderLists {
+                left_truths: terms_or_none(left_truths),
+                right_truths: terms_or_none(right_truths),
+                left_numbers: terms_or_none(left_numbers),
+                right_numbers: terms_or_none(right_numbers),
             };
             order_weight(alloc, decls, *order, &lists)
         }

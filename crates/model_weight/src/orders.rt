@@ -6,24 +6,15 @@ ghost use Rattle.model_weight.specs.Statements.{weight_of_order};
 
 use crate::lists::{pairs_of_steps, pairs_of_truths};
 use core_cost::lex_cost;
-use model_meaning::{BoolTerm, Decl, IntTerm, Order};
+use model_meaning::{Decl, Order, OrderLists};
 use std::alloc::{AllocError, Global};
-
-/// Two lists of Booleans, and two of integers, of which an order reads the ones that it names.
-#[derive(Clone, Copy)]
-pub struct Lists<'a> {
-    pub left_truths: &'a [BoolTerm],
-    pub right_truths: &'a [BoolTerm],
-    pub left_numbers: &'a [IntTerm],
-    pub right_numbers: &'a [IntTerm],
-}
 
 /// Two lists are in order.
 pub fn order_weight(
     alloc: Global,
     decls: &[Decl],
     order: Order,
-    lists: &Lists,
+    lists: &OrderLists<'_>,
 ) -> Result<u128, AllocError>
     ensures { IfOk result (λ weight. weight ≡ saturated (weight_of_order order decls.now lists.now.left_truths.now lists.now.right_truths.now lists.now.left_numbers.now lists.now.right_numbers.now)) }
 {

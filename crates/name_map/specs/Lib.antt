@@ -1,2 +1,4 @@
 pub mod Values
+pub mod Trimmed
+pub mod Fits
 pub mod ValueLines

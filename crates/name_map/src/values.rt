@@ -3,17 +3,28 @@
 ghost use Rattle.std.specs.Prelude.{◌≡◌};
 ghost use Rattle.order_ints.specs.Truth.{valuation_of};
 ghost use Rattle.order_ints.specs.Numbers.{number_of};
-ghost use Rattle.name_map.specs.Values.{is_boolean, IsBoundedValue};
+ghost use Rattle.name_map.specs.Values.{is_boolean, is_boolean_kind, IsBoundedValue};
 
+use model_meaning::Kind;
 use order_ints::MapValue;
 
-/// Whether a name is a Boolean.
+/// Whether a name is a Boolean, by what it stands for.
 pub fn is_boolean(value: &MapValue) -> bool
     ensures { result ≡ is_boolean value.now }
 {
     match value {
         MapValue::Bool(_) => true,
         MapValue::Int(_) => false,
+    }
+}
+
+/// Whether a declaration is of a Boolean.
+pub fn is_boolean_kind(kind: &Kind) -> bool
+    ensures { result ≡ is_boolean_kind kind.now }
+{
+    match kind {
+        Kind::Bool => true,
+        Kind::Range { .. } | Kind::Listed { .. } => false,
     }
 }
 

@@ -1,6 +1,6 @@
 -- What the entries of a map are worth, and where their variables are.
 use Rattle.std.proofs.Common.{◌≡◌, ℕ, zero, suc, ◌≤◌, ℤ, pos, ◌≤ℤ◌, lit<, Bool, true, false, not, List, [], ◌∷◌, ◌++◌, length, Some, refl, sym, ap, subst, ◌∙◌, arith}
-use Rattle.std.specs.Prelude.{slice_get, unsigned_abs, if◌then◌else◌}
+use Rattle.std.specs.Prelude.{slice_get, unsigned_abs, ◌-ℤ◌, if◌then◌else◌}
 use Rattle.std.specs.Ordering.{int_eq}
 use Rattle.std.proofs.lemmas.Int.{ints}
 use Rattle.order_ints.specs.declared.atom.Atom.{Atom}
@@ -16,6 +16,8 @@ use Rattle.order_ints.specs.OrderRange.{IntBelow, IsBounded, low_of}
 use Rattle.order_ints.specs.Numbers as numbers
 use Rattle.order_ints.proofs.Truths.{atom_truth-not_atom, atom_truth-agree, AtomBelow-not_atom}
 use Rattle.order_ints.proofs.Gains.{value_of-agree, AtomBelow-more, StepsBelow-more}
+use Rattle.core_cost.specs.declared.shape.Shape.{Shape}
+use Rattle.core_cost.specs.Sums.{unit_steps}
 use Rattle.core_forms.specs.Truths.{truths}
 use Rattle.core_forms.specs.Values.{values, all_ordered}
 use Rattle.core_forms.specs.Place.{IntsBelow}
@@ -27,22 +29,25 @@ use Rattle.model_meaning.specs.declared.what.BoolTerm.{BoolTerm}
 use Rattle.model_meaning.specs.declared.what.BoolTerm.TheVariants as bool_term
 use Rattle.model_meaning.specs.declared.what.IntTerm.{IntTerm}
 use Rattle.model_meaning.specs.declared.what.IntTerm.TheVariants as int_term
+use Rattle.model_meaning.specs.Domains.{at_least_zero}
 use Rattle.model_meaning.specs.Terms.{value_at, is_one, truth_of, number_of, truths_of, numbers_of}
 use Rattle.model_meaning.specs.Limits.{TermInLimit, TermsInLimit}
 use Rattle.model_meaning.specs.WellTyped.{IsInt, IsTruthAt, IsNumberAt, TruthFits, NumberFits, TruthsFit, NumbersFit, IsAtLeast}
 use Rattle.model_meaning.specs.Places as scope
 use Rattle.statement_lower.specs.Terms.{atom_at, atom_of, atoms_of, integer_at, integer_of, integers_of}
-use Rattle.value_lists.specs.ValueLists.{first_of, last_of}
-use Rattle.statement_lower.specs.Entries.{IntegerFits, EntryFits, EntriesFit, AreOrdered, AreInLimit}
+use Rattle.value_lists.specs.ValueLists.{first_of, last_of, shape_of as listed_shape}
+use Rattle.name_map.specs.Fits.{IntegerFits, EntryFits, EntriesFit}
+use Rattle.statement_lower.specs.Entries.{AreOrdered, AreInLimit}
 
 -- More variables.
 
-IntegerFits-more : (n m : ℕ) (low high : ℤ) (a : OrdInt) → n ≤ m → IntegerFits n low high a → IntegerFits m low high a
-IntegerFits-more n m low high a le h = record {
+IntegerFits-more : (n m : ℕ) (low high : ℤ) (s : Shape) (a : OrdInt) → n ≤ m → IntegerFits n low high s a → IntegerFits m low high s a
+IntegerFits-more n m low high s a le h = record {
   below = StepsBelow-more n m a.steps le h.below;
   sound = h.sound;
   least = h.least;
   greatest = h.greatest;
+  shape = h.shape;
   low_in_limit = h.low_in_limit;
   high_in_limit = h.high_in_limit;
 }
@@ -51,10 +56,9 @@ EntryFits-more : (n m : ℕ) (k : Kind) (e : MapValue) → n ≤ m → EntryFits
 EntryFits-more n m kind.Bool (entry.Bool a) le h = AtomBelow-more n m a le h
 EntryFits-more n m kind.Bool (entry.Int a) le h = absurd h
 EntryFits-more n m (kind.Range low high) (entry.Bool a) le h = absurd h
-EntryFits-more n m (kind.Range low high) (entry.Int a) le h = IntegerFits-more n m low high a le h
+EntryFits-more n m (kind.Range low high) (entry.Int a) le h = IntegerFits-more n m low high (unit_steps (at_least_zero (high -ℤ low))) a le h
 EntryFits-more n m (kind.Listed vs) (entry.Bool a) le h = absurd h
-EntryFits-more n m (kind.Listed vs) (entry.Int a) le h =
-    record { fits = IntegerFits-more n m (first_of vs) (last_of vs) a le h.fits; shape = h.shape }
+EntryFits-more n m (kind.Listed vs) (entry.Int a) le h = IntegerFits-more n m (first_of vs) (last_of vs) (listed_shape vs) a le h
 
 pub EntriesFit-more : (n m : ℕ) (ds : List Decl) (entries : List MapValue) → n ≤ m → EntriesFit n ds entries → EntriesFit m ds entries
 EntriesFit-more n m [] [] le h = tt
@@ -93,7 +97,7 @@ number_of-agree n σ τ kind.Bool (entry.Int a) same h = absurd h
 number_of-agree n σ τ (kind.Range low high) (entry.Bool a) same h = absurd h
 number_of-agree n σ τ (kind.Range low high) (entry.Int a) same h = value_of-agree n σ τ a same h.below
 number_of-agree n σ τ (kind.Listed vs) (entry.Bool a) same h = absurd h
-number_of-agree n σ τ (kind.Listed vs) (entry.Int a) same h = value_of-agree n σ τ a same h.fits.below
+number_of-agree n σ τ (kind.Listed vs) (entry.Int a) same h = value_of-agree n σ τ a same h.below
 
 pub numbers_of-agree : (n : ℕ) (σ τ : Valuation) (ds : List Decl) (entries : List MapValue) → Agree n σ τ → EntriesFit n ds entries → numbers.numbers_of σ entries ≡ numbers.numbers_of τ entries
 numbers_of-agree n σ τ [] [] same h = refl
@@ -148,15 +152,15 @@ pub record SmallInteger (n : ℕ) (a : OrdInt) : Type 0 where
   pub sound : IsSound a
   pub small : greatest_abs a ≤ 1073741824
 
-small-from : (n : ℕ) (low high : ℤ) (a : OrdInt) → IntegerFits n low high a → SmallInteger n a
-small-from n low high a h = record { below = h.below; sound = h.sound; small = omega (arith, ints, h.least, h.greatest, h.low_in_limit, h.high_in_limit) }
+small-from : (n : ℕ) (low high : ℤ) (s : Shape) (a : OrdInt) → IntegerFits n low high s a → SmallInteger n a
+small-from n low high s a h = record { below = h.below; sound = h.sound; small = omega (arith, ints, h.least, h.greatest, h.low_in_limit, h.high_in_limit) }
 
 number-entry : (n : ℕ) (k : Kind) (e : MapValue) → IsInt k → EntryFits n k e → SmallInteger n (integer_at (Some e)) × ((σ : Valuation) → value_of σ (integer_at (Some e)) ≡ numbers.number_of σ e)
 number-entry n kind.Bool e i h = absurd i
 number-entry n (kind.Range low high) (entry.Bool a) i h = absurd h
-number-entry n (kind.Range low high) (entry.Int a) i h = (small-from n low high a h, λ σ. refl)
+number-entry n (kind.Range low high) (entry.Int a) i h = (small-from n low high (unit_steps (at_least_zero (high -ℤ low))) a h, λ σ. refl)
 number-entry n (kind.Listed vs) (entry.Bool a) i h = absurd h
-number-entry n (kind.Listed vs) (entry.Int a) i h = (small-from n (first_of vs) (last_of vs) a h.fits, λ σ. refl)
+number-entry n (kind.Listed vs) (entry.Int a) i h = (small-from n (first_of vs) (last_of vs) (listed_shape vs) a h, λ σ. refl)
 
 number-at : (n m : ℕ) (ds : List Decl) (entries : List MapValue) (p : ℕ) → EntriesFit n ds entries → IsNumberAt ds m p → SmallInteger n (integer_at (slice_get entries p)) × ((σ : Valuation) → value_of σ (integer_at (slice_get entries p)) ≡ value_at (numbers.numbers_of σ entries) p)
 number-at n m [] entries p h k = absurd k
@@ -197,7 +201,7 @@ least-entry n m kind.Bool e i h l = absurd i
 least-entry n m (kind.Range low high) (entry.Bool a) i h l = absurd h
 least-entry n m (kind.Range low high) (entry.Int a) i h l = omega (arith, ints, h.least, l)
 least-entry n m (kind.Listed vs) (entry.Bool a) i h l = absurd h
-least-entry n m (kind.Listed vs) (entry.Int a) i h l = omega (arith, ints, h.fits.least, l)
+least-entry n m (kind.Listed vs) (entry.Int a) i h l = omega (arith, ints, h.least, l)
 
 least-at : (n k : ℕ) (m : ℤ) (ds : List Decl) (entries : List MapValue) (p : ℕ) → EntriesFit n ds entries → IsNumberAt ds k p → IsAtLeast ds m (int_term.Of p) → m ≤ℤ low_of (integer_at (slice_get entries p))
 least-at n k m [] entries p h i l = absurd i

@@ -21,7 +21,8 @@ use Rattle.model_meaning.specs.Integers.{relates, total, weight_of_true, linear_
 use Rattle.model_meaning.specs.Limits.{AllInLimit, TermInLimit, TermsInLimit}
 use Rattle.model_meaning.specs.WellTyped.{NumberFits, NumbersFit, TruthsFit}
 use Rattle.statement_lower.specs.Terms.{atom_of, atoms_of, integer_of, integers_of}
-use Rattle.statement_lower.specs.Entries.{EntriesFit, AreOrdered}
+use Rattle.name_map.specs.Fits.{EntriesFit}
+use Rattle.statement_lower.specs.Entries.{AreOrdered}
 use Rattle.statement_lower.specs.declared.made.Made.{Made}
 use Rattle.statement_lower.specs.Linear.{scaled_each, with_steps, constant_of_members, linear_members, equal_sum, compared_sum, linear_made, AreSummands}
 use Rattle.statement_lower.specs.Lines.{scaled_truths, scaled_integers}

@@ -44,7 +44,8 @@ use Rattle.model_meaning.specs.Limits.{TermInLimit, TermsInLimit, WhatInLimit}
 use Rattle.model_meaning.specs.WellTyped.{TruthFits, NumberFits, TruthsFit, NumbersFit, HasMember, IsAtLeast, ArgumentFits, ValuesFit, WhatFits}
 use Rattle.model_meaning.proofs.TableLaws.{Decides-holds}
 use Rattle.statement_lower.specs.Terms.{atom_of, atoms_of, integer_of, integers_of}
-use Rattle.statement_lower.specs.Entries.{EntriesFit, AreOrdered}
+use Rattle.name_map.specs.Fits.{EntriesFit}
+use Rattle.statement_lower.specs.Entries.{AreOrdered}
 use Rattle.statement_lower.specs.Comparison.{comparison_core}
 use Rattle.statement_lower.specs.Lines.{bit_core, equal_core, equal_cores, array_cores, operator_made, fresh_range, compared_count, count_made, operation_made, aggregate_made, absolute_core, least_core, made_of}
 use Rattle.statement_lower.specs.Lowers.{Lowers, LineLaw}

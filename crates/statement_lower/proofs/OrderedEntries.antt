@@ -10,12 +10,13 @@ use Rattle.order_ints.proofs.Gains.{IsOrdered-agree}
 use Rattle.model_meaning.specs.declared.model.Decl.{Decl}
 use Rattle.model_meaning.specs.declared.model.Kind.{Kind}
 use Rattle.model_meaning.specs.declared.model.Kind.TheVariants as kind
-use Rattle.statement_lower.specs.Entries.{EntryFits, EntriesFit, AreOrdered}
+use Rattle.name_map.specs.Fits.{EntryFits, EntriesFit}
+use Rattle.statement_lower.specs.Entries.{AreOrdered}
 
 ordered-agree : (n : ℕ) (k : Kind) (a : OrdInt) (σ τ : Valuation) → EntryFits n k (entry.Int a) → Agree n σ τ → IsOrdered σ a → IsOrdered τ a
 ordered-agree n kind.Bool a σ τ fit agree h = absurd fit
 ordered-agree n (kind.Range low high) a σ τ fit agree h = IsOrdered-agree n σ τ a agree fit.below h
-ordered-agree n (kind.Listed vs) a σ τ fit agree h = IsOrdered-agree n σ τ a agree fit.fits.below h
+ordered-agree n (kind.Listed vs) a σ τ fit agree h = IsOrdered-agree n σ τ a agree fit.below h
 
 -- the integers of the map stay ordered under a valuation that agrees on their variables
 pub AreOrdered-depends : (n : ℕ) (ds : List Decl) (entries : List MapValue) → EntriesFit n ds entries → DependsBelow n (λ σ. AreOrdered σ entries)

@@ -33,7 +33,8 @@ use Rattle.model_meaning.specs.Holds.{same, reify, members_differ, truth_or_true
 use Rattle.model_meaning.specs.Limits.{TermsInLimit, ArgumentsInLimit}
 use Rattle.model_meaning.specs.WellTyped.{TruthFits, TruthsFit, NumbersFit, ArgumentsFit, LengthsFit}
 use Rattle.statement_lower.specs.Terms.{atom_of, atoms_of, integer_of, integers_of, atom_or_true, word_of}
-use Rattle.statement_lower.specs.Entries.{EntriesFit, AreOrdered}
+use Rattle.name_map.specs.Fits.{EntriesFit}
+use Rattle.statement_lower.specs.Entries.{AreOrdered}
 use Rattle.statement_lower.specs.Pairs.{difference_made}
 use Rattle.statement_lower.specs.Lines.{different_made}
 use Rattle.statement_lower.specs.Lowers.{Lowers}

@@ -15,37 +15,6 @@ use Rattle.model_meaning.specs.declared.model.Kind.TheVariants as kind
 use Rattle.model_meaning.specs.declared.model.Decl.{Decl}
 use Rattle.model_meaning.specs.Limits.{InLimit}
 
--- an integer of a domain: its variables are below n, it is sound, and its least and greatest values are those of the
--- domain, which are in the limit of numerals
-pub record IntegerFits (n : ℕ) (low high : ℤ) (a : OrdInt) : Type 0 where
-  pub below : IntBelow n a
-  pub sound : IsSound a
-  pub least : low_of a ≡ low
-  pub greatest : high_of a ≡ high
-  pub low_in_limit : InLimit low
-  pub high_in_limit : InLimit high
-
--- an integer of a listed domain, which has its shape
-pub record ListedFits (n : ℕ) (values : List ℤ) (a : OrdInt) : Type 0 where
-  pub fits : IntegerFits n (first_of values) (last_of values) a
-  pub shape : shape_of a ≡ listed_shape values
-
--- a Boolean stands for an atom, an integer for an integer of its domain; variables are below n
-abbrev pub EntryFits : ℕ → Kind → MapValue → Type 0
-EntryFits n kind.Bool (values.Bool a) = AtomBelow n a
-EntryFits n kind.Bool (values.Int a) = ⊥
-EntryFits n (kind.Range low high) (values.Bool a) = ⊥
-EntryFits n (kind.Range low high) (values.Int a) = IntegerFits n low high a
-EntryFits n (kind.Listed vs) (values.Bool a) = ⊥
-EntryFits n (kind.Listed vs) (values.Int a) = ListedFits n vs a
-
--- one entry for each declaration
-abbrev pub EntriesFit : ℕ → List Decl → List MapValue → Type 0
-EntriesFit n [] [] = Unit {0}
-EntriesFit n [] (e ∷ entries) = ⊥
-EntriesFit n (d ∷ ds) [] = ⊥
-EntriesFit n (d ∷ ds) (e ∷ entries) = EntryFits n d.kind e × EntriesFit n ds entries
-
 -- each integer of a map is ordered
 abbrev pub AreOrdered : Valuation → List MapValue → Type 0
 AreOrdered σ [] = Unit {0}

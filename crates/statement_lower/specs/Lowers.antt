@@ -10,7 +10,8 @@ use Rattle.model_meaning.specs.declared.what.What.{What}
 use Rattle.model_meaning.specs.Holds.{Holds}
 use Rattle.model_meaning.specs.Limits.{WhatInLimit}
 use Rattle.model_meaning.specs.WellTyped.{WhatFits}
-use Rattle.statement_lower.specs.Entries.{EntriesFit, AreOrdered}
+use Rattle.name_map.specs.Fits.{EntriesFit}
+use Rattle.statement_lower.specs.Entries.{AreOrdered}
 use Rattle.statement_lower.specs.Lines.{made_of}
 
 -- Cores over m variables, of which those beyond `vars` are fresh, stand for a property of the others, where C holds:

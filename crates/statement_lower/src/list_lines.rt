@@ -3,7 +3,6 @@
 ghost use Rattle.std.specs.Prelude.{◌≡◌, ◌<◌, ◌^◌, ◌∷◌, [], IfOk, map, Option};
 ghost use Rattle.order_ints.specs.declared.atom.Atom.TheVariants.{True};
 ghost use Rattle.order_ints.specs.OrderMade.{integer_of_atom};
-ghost use Rattle.model_meaning.specs.Holds.{terms_or_none};
 ghost use Rattle.statement_lower.specs.Terms.{atoms_of, integers_of, atom_or_true, word_of};
 ghost use Rattle.statement_lower.specs.Lines.{made_here, different_made, order_core};
 
@@ -12,19 +11,9 @@ use crate::pair_lines::difference_made;
 use crate::terms::{atom_of, atoms_of, integers_of};
 use bee_list::{Apart, Sequence};
 use core_forms::Core;
-use model_meaning::{AllDifferent, BoolTerm, IntTerm, Order};
+use model_meaning::{AllDifferent, BoolTerm, IntTerm, Order, OrderLists};
 use order_ints::{Atom, MapValue, OrdInt};
 use std::alloc::{AllocError, Global};
-
-/// The members of a list that may be left out; one that is left out has none.
-pub fn terms<T>(list: &Option<Apart<Sequence<T>>>) -> &[T]
-    ensures { result.now ≡ terms_or_none list.now }
-{
-    match list {
-        Some(list) => list.get().as_slice(),
-        None => &[],
-    }
-}
 
 /// As many conditions as there are integers, all of them True.
 fn true_conditions(alloc: Global, ints: &[OrdInt]) -> Result<Sequence<Atom>, AllocError>
@@ -106,26 +95,13 @@ pub fn atom_or_true(entries: &[MapValue], term: &Option<Apart<BoolTerm>>) -> Ato
     }
 }
 
-/// The lists of a statement on their order, of which either the Booleans or the integers are left out.
-#[derive(Drop)]
-pub struct Lists<'a> {
-    /// The first list, of Booleans.
-    pub left_truths: &'a [BoolTerm],
-    /// The second list, of Booleans.
-    pub right_truths: &'a [BoolTerm],
-    /// The first list, of integers.
-    pub left_numbers: &'a [IntTerm],
-    /// The second list, of integers.
-    pub right_numbers: &'a [IntTerm],
-}
-
 /// An atom is the truth of the order of two lists, or they are in order.
 pub fn order_made(
     alloc: Global,
     entries: &[MapValue],
     vars: u32,
     order: Order,
-    lists: &Lists<'_>,
+    lists: &OrderLists<'_>,
     truth: &Option<Apart<BoolTerm>>,
 ) -> Result<Made, AllocError>
     ensures { IfOk result (λ m. m ≡ made_here vars (order_core entries.now order lists.now.left_truths.now lists.now.right_truths.now lists.now.left_numbers.now lists.now.right_numbers.now truth.now ∷ [])) }

@@ -11,9 +11,9 @@ use crate::integer_lines::{
     reified_made,
 };
 use crate::linear_lines::{multiples_made, sum_made, truths_made};
-use crate::list_lines::{Lists, atom_or_true, different_made, order_made, terms};
+use crate::list_lines::{atom_or_true, different_made, order_made};
 use crate::made::Made;
-use model_meaning::What;
+use model_meaning::{OrderLists, What, terms_or_none};
 use order_ints::{Atom, MapValue};
 use std::alloc::{AllocError, Global};
 
@@ -143,7 +143,7 @@ pub fn made_of(
                 *kind,
                 members,
                 truth,
-                terms(conditions),
+                terms_or_none(conditions),
             )
         }
         What::L18 {
@@ -155,11 +155,11 @@ pub fn made_of(
             truth,
             ..
         } => {
-            let lists = Lists {
-                left_truths: terms(left_truths),
-                right_truths: terms(right_truths),
-                left_numbers: terms(left_numbers),
-                right_numbers: terms(right_numbers),
+            let lists = OrderLists {
+                left_truths: terms_or_none(left_truths),
+                right_truths: terms_or_none(right_truths),
+                left_numbers: terms_or_none(left_numbers),
+                right_numbers: terms_or_none(right_numbers),
             };
             order_made(alloc, entries, vars, *order, &lists, truth)
         }

@@ -4,6 +4,7 @@ use Rattle.bee_outside.specs.Bytes.{in_front, TookPiece}
 use Rattle.text_modes.specs.Seen.{ShelfShown, Seen, Untouched}
 use Rattle.text_modes.specs.Promises.{TookUnder}
 use Rattle.text_modes.specs.OneText.{OneTextRun}
+use Rattle.text_modes.specs.NoText.{NoTextRun}
 use Rattle.text_modes.specs.TwoTexts.{Texts, TwoTextRun}
 use Rattle.text_modes.specs.declared.ends.Outcome.{Outcome}
 use Rattle.text_modes.specs.declared.ends.End.TheVariants.{Memory}
@@ -22,6 +23,14 @@ nothing_taken limit left = record { piece = []; moved = nothing_in_front left; w
 -- nothing is read where nothing is asked for
 pub untouched : (name : List ℕ) (limit : Option ℕ) (s : ShelfShown) → TookUnder name limit s s
 untouched name limit s = record { front = nothing_taken limit (s.left name); others_stay = λ other _. refl }
+
+pub none_idle : {F : Type 0} (Gives : Outcome → List ℕ → Type 0) (seen : Seen) → Untouched seen → NoTextRun {F = F} Gives Memory seen
+none_idle Gives seen same = record {
+  says = tt;
+  silent = λ _. ap (λ s. s.taken) same.out;
+  write_faults = ap (λ s. s.faults) same.out;
+  unasked = same.shelf;
+}
 
 module _ {F : Type 0} (limit : Option ℕ) (HasFault : List ℕ → F → Type 0) (seen : Seen) (same : Untouched seen) where
   pub one_idle : (Gives : List ℕ → Outcome → List ℕ → Type 0) (input : List ℕ) → OneTextRun limit Gives HasFault input Memory seen

@@ -3,4 +3,6 @@ mod FirstEnds
 mod TwoEnds
 mod Answering
 pub mod OneAnswer
+pub mod NoAnswer
 pub mod TwoAnswers
+pub mod OneFree

@@ -54,6 +54,12 @@ pub record Answers {Texts F : Type 0} (AreTold : Texts → Type 0) (HaveEnd : Te
   pub complete : (texts : Texts) (answer : End F) → AreTold texts → HaveEnd texts answer → (ReadFails → ⊥) → (WriteFailed seen → ⊥) →
       (end ≡ answer) ⊎ (end ≡ Memory)
 
+-- A run over told texts that are fit ends by writing some text whole, unless memory is wanting or a fault of the outside ends
+-- it. So a mode says it whose text for the same texts may differ from run to run.
+pub record Finishes {Texts F : Type 0} (AreTold : Texts → Type 0) (AreFit : Texts → Type 0) (ReadFails : Type 0) (end : End F) (seen : Seen) : Type 0 where
+  pub complete : (texts : Texts) → AreTold texts → AreFit texts → (ReadFails → ⊥) → (WriteFailed seen → ⊥) →
+      ((outcome : Outcome) × (end ≡ Wrote outcome)) ⊎ (end ≡ Memory)
+
 -- a reading under a name takes from the front of what is left there, so many bytes as the limit says at most, and from
 -- nothing else
 pub record TookUnder (name : List ℕ) (limit : Option ℕ) (before after : ShelfShown) : Type 0 where

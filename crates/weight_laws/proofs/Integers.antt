@@ -29,7 +29,7 @@ use Rattle.model_meaning.specs.declared.what.IntTerm.TheVariants as int_term
 use Rattle.model_meaning.specs.Domains.{at_least_zero}
 use Rattle.model_meaning.specs.WellTyped.{IsInt, IsNumberAt, NumberFits}
 use Rattle.statement_lower.specs.Terms.{integer_at, integer_of}
-use Rattle.statement_lower.specs.Entries.{EntryFits, EntriesFit}
+use Rattle.name_map.specs.Fits.{EntryFits, EntriesFit}
 use Rattle.model_weight.specs.Shapes as counted
 use Rattle.model_weight.specs.Linear.{scaled}
 use Rattle.std.proofs.lemmas.Nat.Gcd.{dvd_refl, dvd-zero}
@@ -38,25 +38,21 @@ use Rattle.value_lists.specs.ValueLists.{first_of, last_of, shape_of as listed_s
 use Rattle.model_weight.proofs.Spans.{units-span, units-steps, kind-steps}
 use Rattle.weight_laws.proofs.Divisors.{divides-negated, divides-multiplied, divides-units, steps-few}
 
--- An integer of a domain: its steps rise, and its least and greatest value are the domain's.
-pub record IsOf (low high : ℤ) (a : OrdInt) : Type 0 where
+-- An integer of a domain: its steps rise, and its least and greatest value and its shape are the domain's.
+pub record IsOf (low high : ℤ) (s : Shape) (a : OrdInt) : Type 0 where
   pub rising : AreRising a.steps
   pub least : low_of a ≡ low
   pub greatest : high_of a ≡ high
-
--- an integer of a listed domain, which has its shape
-pub record IsListed (vs : List ℤ) (a : OrdInt) : Type 0 where
-  pub of : IsOf (first_of vs) (last_of vs) a
-  pub shape : shape_of a ≡ listed_shape vs
+  pub shape : shape_of a ≡ s
 
 -- a Boolean has an atom, an integer an integer of its domain
 abbrev pub EntryIs : Kind → MapValue → Type 0
 EntryIs kind.Bool (entry.Bool a) = Unit {0}
 EntryIs kind.Bool (entry.Int a) = ⊥
 EntryIs (kind.Range low high) (entry.Bool a) = ⊥
-EntryIs (kind.Range low high) (entry.Int a) = IsOf low high a
+EntryIs (kind.Range low high) (entry.Int a) = IsOf low high (unit_steps (at_least_zero (high -ℤ low))) a
 EntryIs (kind.Listed vs) (entry.Bool a) = ⊥
-EntryIs (kind.Listed vs) (entry.Int a) = IsListed vs a
+EntryIs (kind.Listed vs) (entry.Int a) = IsOf (first_of vs) (last_of vs) (listed_shape vs) a
 
 -- one entry for each declaration
 abbrev pub EntriesAre : List Decl → List MapValue → Type 0
@@ -69,10 +65,9 @@ entry-fits : (n : ℕ) (k : Kind) (e : MapValue) → EntryFits n k e → EntryIs
 entry-fits n kind.Bool (entry.Bool a) h = tt
 entry-fits n kind.Bool (entry.Int a) h = absurd h
 entry-fits n (kind.Range low high) (entry.Bool a) h = absurd h
-entry-fits n (kind.Range low high) (entry.Int a) h = record { rising = h.sound.1; least = h.least; greatest = h.greatest }
+entry-fits n (kind.Range low high) (entry.Int a) h = record { rising = h.sound.1; least = h.least; greatest = h.greatest; shape = h.shape }
 entry-fits n (kind.Listed vs) (entry.Bool a) h = absurd h
-entry-fits n (kind.Listed vs) (entry.Int a) h =
-    record { of = record { rising = h.fits.sound.1; least = h.fits.least; greatest = h.fits.greatest }; shape = h.shape }
+entry-fits n (kind.Listed vs) (entry.Int a) h = record { rising = h.sound.1; least = h.least; greatest = h.greatest; shape = h.shape }
 
 pub entries-fit : (n : ℕ) (ds : List Decl) (entries : List MapValue) → EntriesFit n ds entries → EntriesAre ds entries
 entries-fit n [] [] h = tt
@@ -128,10 +123,10 @@ entry-in (kind.Range low high) (entry.Int a) h =
     }
 entry-in (kind.Listed vs) (entry.Bool a) h = absurd h
 entry-in (kind.Listed vs) (entry.Int a) h = record {
-  rising = h.of.rising;
+  rising = h.rising;
   within = within-itself (shape_of a) (listed_shape vs) h.shape;
-  least = inl (ap at_least_zero h.of.least);
-  greatest = rw (h.of.greatest) (omega arith);
+  least = inl (ap at_least_zero h.least);
+  greatest = rw h.greatest (omega arith);
 }
 
 at-in : (ds more : List Decl) (entries : List MapValue) (p : ℕ) → EntriesAre ds entries → IsIn (counted.domain_at (slice_get (ds ++ more) p)) (integer_at (slice_get entries p))
@@ -183,7 +178,7 @@ like-entry (kind.Range low high) (entry.Int a) h i =
     like-units (at_least_zero (high -ℤ low)) a h.rising (rw span refl)
 like-entry (kind.Listed vs) (entry.Bool a) h i = absurd h
 like-entry (kind.Listed vs) (entry.Int a) h i = record {
-  rising = h.of.rising;
+  rising = h.rising;
   within = within-itself (shape_of a) (listed_shape vs) h.shape;
   some = λ some. let same : length a.steps ≡ (listed_shape vs).steps = ap (λ (s : Shape). s.steps) h.shape in omega (arith, same, some);
 }
@@ -218,7 +213,7 @@ like-negated a s h = record {
   some = λ k. omega (arith, length-negated a.steps, h.some k);
 }
 
-length-multiplied : (n : ℕ) (steps : List (Atom × ℕ)) → length (multiplied_steps n steps) ≡ length steps
+pub length-multiplied : (n : ℕ) (steps : List (Atom × ℕ)) → length (multiplied_steps n steps) ≡ length steps
 length-multiplied n [] = refl
 length-multiplied n (s ∷ steps) = ap suc (length-multiplied n steps)
 
@@ -239,7 +234,7 @@ nonzero : (r : Bool) (c : ℤ) → Decides r (c ≡ pos 0) → (c ≡ pos 0 → 
 nonzero true c d nz = absurd (nz (d.0 refl))
 nonzero false c d nz = refl
 
-not-nothing : (c : ℤ) → (c ≡ pos 0 → ⊥) → int_eq c (pos 0) ≡ false
+pub not-nothing : (c : ℤ) → (c ≡ pos 0 → ⊥) → int_eq c (pos 0) ≡ false
 not-nothing c nz = nonzero (int_eq c (pos 0)) c (Decides-int_eq c (pos 0)) nz
 
 pub like-scaled : (c : ℤ) (a : OrdInt) (s : Shape) → IsLike a s → IsLike (scaled_of a c) (scaled c s)

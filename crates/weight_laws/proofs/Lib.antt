@@ -10,4 +10,6 @@ pub mod FreshSums
 pub mod QueueSteps
 pub mod LinearCosts
 pub mod Statements
+pub mod ExactShapes
+pub mod ExactStatements
 pub mod StatementLaws

@@ -20,7 +20,7 @@ one-core vars core w h = omega (arith, h)
 
 -- Equal neighbours.
 
-equal-costs : (x : Atom) (atoms : List Atom) → costs_of (map (equal_core x) atoms) ≡ length atoms * cost_of_parity 2
+pub equal-costs : (x : Atom) (atoms : List Atom) → costs_of (map (equal_core x) atoms) ≡ length atoms * cost_of_parity 2
 equal-costs x [] = refl
 equal-costs x (y ∷ atoms) = omega (arith, equal-costs x atoms)
 

@@ -3,7 +3,7 @@ use Rattle.std.specs.List.{list_any}
 use Rattle.std.specs.Str.{bytes_eq}
 use Rattle.std.proofs.lemmas.Bool.{not-true, not-false}
 use Rattle.bumblebee_reader.specs.Names.{IsNew}
-use Rattle.dimacs_out.specs.declared.entry.MapEntry.{MapEntry}
+use Rattle.name_map.specs.declared.entries.MapEntry.{MapEntry}
 use Rattle.dimacs_read.specs.declared.draft.TextStage.TheVariants.{Names}
 use Rattle.dimacs_read.specs.TextSteps.{Draft}
 use Rattle.dimacs_read.proofs.NewNames.{known_not_new, unknown_new}

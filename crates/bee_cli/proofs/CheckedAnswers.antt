@@ -1,0 +1,39 @@
+-- What checking makes of answers.
+use Rattle.std.proofs.Common.{◌≡◌, ℕ, List, [], ℤ, Option, refl, sym, subst, inr, map}
+use Rattle.model_meaning.specs.declared.model.Decl.{Decl}
+use Rattle.model_meaning.specs.declared.model.Model.{Model}
+use Rattle.answer_document.specs.Valid.{IsValid, numbers_given}
+use Rattle.model_texts.proofs.ModelShapes.{names}
+use Rattle.ledger_check.specs.declared.fault.Why.TheVariants.{Shape}
+use Rattle.ledger_check.specs.declared.part.Part.{Part}
+use Rattle.ledger_check.specs.declared.part.Part.TheVariants.{Version, End}
+use Rattle.ledger_check.specs.Tests.{start_standing}
+use Rattle.ledger_check.specs.Checked.{IsFirstFault, IsRefused}
+use Rattle.ledger_check.proofs.DocumentLines.{declared-lines}
+use Rattle.check_mode.proofs.Refusals.{first_fault_refused}
+use Rattle.bee_cli.specs.CheckLaws.{SolvedIsAccepted, EmptyIsRefused}
+
+pub solved_is_accepted : SolvedIsAccepted
+solved_is_accepted options outcome texts h =
+    let answer = h.answer in
+    let d = answer.is.document in
+    record {
+      model = answer.model;
+      held = answer.held;
+      verdict = d.verdict;
+      assignment = numbers_given d.assignment;
+      valid = subst (λ (t : List ℕ). IsValid answer.model t d.verdict (numbers_given d.assignment)) (sym answer.is.writes) answer.is.is.valid;
+    }
+
+version_not_end : Version ≡ End → ⊥
+version_not_end e = cc
+
+first_missing : (model : Model) → IsFirstFault model [] 1 Shape
+first_missing model = inr (record { number_is = refl; stands = start_standing model; lead = refl; early = λ none ended. version_not_end ended }, refl)
+
+pub empty_is_refused : EmptyIsRefused
+empty_is_refused texts h e =
+    let model = h.0 in
+    let lines = declared-lines (map (λ (d : Decl). d.name) model.decls) (names texts.first model h.1.says) in
+    let P : List ℕ → Type 0 = λ t. IsRefused model t 1 Shape in
+    record { model = model; held = h.1; why = Shape; refused = subst P (sym e) (first_fault_refused model lines [] 1 Shape (first_missing model)) }

@@ -1,0 +1,18 @@
+-- What checking makes of answers.
+use Rattle.std.specs.Prelude.{◌≡◌, List, [], ℕ}
+use Rattle.text_modes.specs.TwoTexts.{Texts}
+use Rattle.text_modes.specs.declared.ends.Outcome.{Outcome}
+use Rattle.text_modes.specs.declared.ends.Outcome.TheVariants.{Done, Refused}
+use Rattle.text_modes.specs.declared.ends.End.TheVariants.{Wrote}
+use Rattle.decode_minimize.specs.declared.options.Options.{Options}
+use Rattle.solve_mode.specs.Solved.{IsSolved}
+use Rattle.check_mode.specs.CheckMode.{HasModel, HaveEnd}
+
+-- what is written for a model in solve mode is accepted in check mode, whatever the options and the outcome were
+abbrev pub SolvedIsAccepted : Type 0
+SolvedIsAccepted =
+    (options : Options) (outcome : Outcome) (texts : Texts) → IsSolved options texts.first outcome texts.second → HaveEnd texts (Wrote Done)
+
+-- a text without a line is refused at line 1, as the second text is where it has the name of the first
+abbrev pub EmptyIsRefused : Type 0
+EmptyIsRefused = (texts : Texts) → HasModel texts.first → texts.second ≡ [] → HaveEnd texts (Wrote (Refused 1))

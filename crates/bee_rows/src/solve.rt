@@ -1,0 +1,249 @@
+//! Solve mode, and check mode over what it writes.
+
+use crate::outside::{AMPLE, Shown, run_files, run_over};
+use std::alloc::{AllocError, Global};
+use std::process::Abort;
+use std::test::Fail;
+
+/// A model with what its answer begins with, and the words of the verdict by which that is accepted.
+type Row = (&'static str, &'static str, &'static str);
+
+static ANSWERS: [Row; 17] = [
+    ("solve satisfy", "bee 1\nSATISFIABLE\nend\n", "SATISFIABLE"),
+    (
+        "bool_array_or([]) solve satisfy",
+        "bee 1\nUNSATISFIABLE\nledger\neq 1 form T F\nproof\nend\n",
+        "UNSATISFIABLE",
+    ),
+    // Three values that differ, of two.
+    (
+        "new_int(x,0,1) new_int(y,0,1) new_int(z,0,1) int_array_allDiff([x,y,z]) solve satisfy",
+        "bee 1\nUNSATISFIABLE\nledger\n",
+        "UNSATISFIABLE",
+    ),
+    (
+        "new_int(x,2,6) new_int(y,2,6) int_times(x,y,12) int_lt(x,y) solve minimize x",
+        "bee 1\nOPTIMUM 2\nx = 2\ny = 6\nledger\n",
+        "OPTIMUM 2",
+    ),
+    (
+        "new_int(x,2,6) new_int(y,2,6) int_times(x,y,12) solve maximize x",
+        "bee 1\nOPTIMUM 6\nx = 6\ny = 2\nledger\n",
+        "OPTIMUM 6",
+    ),
+    (
+        "new_int(x,-2,2) int_times(x,x,4) int_lt(x,0) solve satisfy",
+        "bee 1\nSATISFIABLE\nx = -2\nend\n",
+        "SATISFIABLE",
+    ),
+    (
+        "new_int(s,1,9) new_int(e,0,9) new_int(n,0,9) new_int(d,0,9) new_int(m,1,9) new_int(o,0,9) new_int(r,0,9) new_int(y,0,9) int_array_allDiff([s,e,n,d,m,o,r,y]) int_array_lin_eq([1000,91,-90,1,-9000,-900,10,-1],[s,e,n,d,m,o,r,y],0) solve satisfy",
+        "bee 1\nSATISFIABLE\ns = 9\ne = 5\nn = 6\nd = 7\nm = 1\no = 0\nr = 8\ny = 2\nend\n",
+        "SATISFIABLE",
+    ),
+    // A ruler with four marks, the first at 0.
+    (
+        "new_int(a,1,10) new_int(b,1,10) new_int(c,1,10) new_int(p,1,10) new_int(q,1,10) new_int(r,1,10) int_plus(a,p,b) int_plus(a,q,c) int_plus(b,r,c) int_array_allDiff([a,b,c,p,q,r]) solve minimize(c)",
+        "bee 1\nOPTIMUM 6\n",
+        "OPTIMUM 6",
+    ),
+    // Three queens on a board of three rows.
+    (
+        "new_int(q1,1,3) new_int(q2,1,3) new_int(q3,1,3) new_int(a1,0,2) new_int(a2,-1,1) new_int(a3,-2,0) new_int(d1,2,4) new_int(d2,3,5) new_int(d3,4,6) int_plus(a1,1,q1) int_plus(a2,2,q2) int_plus(a3,3,q3) int_plus(q1,1,d1) int_plus(q2,2,d2) int_plus(q3,3,d3) int_array_allDiff([q1,q2,q3]) int_array_allDiff([a1,a2,a3]) int_array_allDiff([d1,d2,d3]) solve satisfy",
+        "bee 1\nUNSATISFIABLE\nledger\n",
+        "UNSATISFIABLE",
+    ),
+    (
+        "new_int(a,0,5) new_int(b,1,3) new_int(c,0,5) int_div(a,b,c) int_eq(a,5) int_eq(b,2) solve satisfy",
+        "bee 1\nSATISFIABLE\na = 5\nb = 2\nc = 2\nend\n",
+        "SATISFIABLE",
+    ),
+    (
+        "new_bool(x) bool2int(x,i) solve maximize i",
+        "bee 1\nOPTIMUM 1\nx = true\ni = 1\nledger\n",
+        "OPTIMUM 1",
+    ),
+    (
+        "new_int(x,0,2) int_neq(x,0) solve minimize x",
+        "bee 1\nOPTIMUM 1\nx = 1\nledger\n",
+        "OPTIMUM 1",
+    ),
+    (
+        "new_int(x,[4,9]) solve minimize x",
+        "bee 1\nOPTIMUM 4\nx = 4\nledger\n",
+        "OPTIMUM 4",
+    ),
+    (
+        "new_int(x,[9,-7,4]) int_neq(x,9) solve maximize x",
+        "bee 1\nOPTIMUM 4\nx = 4\nledger\n",
+        "OPTIMUM 4",
+    ),
+    (
+        "new_int(x,0,2) new_int(y,0,2) int_plus(x,y,2) solve minimize x then y",
+        "bee 2\nOPTIMUM 0 2\nx = 0\ny = 2\nledger\n",
+        "OPTIMUM 0 2",
+    ),
+    (
+        "new_int(x,0,3) new_int(y,0,3) new_int(z,-3,0) int_plus(x,y,3) int_plus(y,z,1) solve maximize z then x",
+        "bee 2\nOPTIMUM 0 2\nx = 2\ny = 1\nz = 0\nledger\n",
+        "OPTIMUM 0 2",
+    ),
+    // An objective, and no solution.
+    (
+        "new_int(x,3,3) int_lt(x,3) solve minimize x",
+        "bee 1\nUNSATISFIABLE\nledger\n",
+        "UNSATISFIABLE",
+    ),
+];
+
+/// Four pigeons, of which each sits in one of three holes, and no two in one.
+const PIGEONS: &str =
+    "new_bool(p11) new_bool(p12) new_bool(p13) new_bool(p21) new_bool(p22) new_bool(p23) new_bool(p31) new_bool(p32) new_bool(p33) new_bool(p41) new_bool(p42) new_bool(p43)
+bool_array_or([p11,p12,p13]) bool_array_or([p21,p22,p23]) bool_array_or([p31,p32,p33]) bool_array_or([p41,p42,p43])
+bool_array_or([-p11,-p21]) bool_array_or([-p11,-p31]) bool_array_or([-p11,-p41]) bool_array_or([-p21,-p31]) bool_array_or([-p21,-p41]) bool_array_or([-p31,-p41])
+bool_array_or([-p12,-p22]) bool_array_or([-p12,-p32]) bool_array_or([-p12,-p42]) bool_array_or([-p22,-p32]) bool_array_or([-p22,-p42]) bool_array_or([-p32,-p42])
+bool_array_or([-p13,-p23]) bool_array_or([-p13,-p33]) bool_array_or([-p13,-p43]) bool_array_or([-p23,-p33]) bool_array_or([-p23,-p43]) bool_array_or([-p33,-p43])
+solve satisfy
+";
+
+/// The words, the status, its number, and the words of the verdict.
+static BUDGETS: [(&[&str], &str, u128, &str); 4] = [
+    (&["bee", "solve", "m.bee", "--budget", "1"], "unknown", 1, "UNKNOWN 1"),
+    (
+        &["bee", "solve", "m.bee", "--no-restart", "--budget", "4096"],
+        "done",
+        0,
+        "UNSATISFIABLE",
+    ),
+    (
+        &["bee", "solve", "m.bee", "--budget", "53248"],
+        "done",
+        0,
+        "UNSATISFIABLE",
+    ),
+    (&["bee", "solve", "m.bee"], "done", 0, "UNSATISFIABLE"),
+];
+
+/// Two Booleans of which each pair of values is excluded.
+const PAIRS: &str =
+    "new_bool(a) new_bool(b) bool_array_or([a,b]) bool_array_or([a,-b]) bool_array_or([-a,b]) bool_array_or([-a,-b]) solve satisfy";
+
+/// A model, a document, the status of its check, and its number.
+static DOCUMENTS: [(&str, &str, &str, u128); 8] = [
+    (
+        PAIRS,
+        "bee 1\nUNSATISFIABLE\nledger\nenc 1\nenc 2\nenc 3\nenc 4\nproof\n5 1 0 1 2 0\n6 0 5 3 4 0\nend\n",
+        "done",
+        0,
+    ),
+    (
+        PAIRS,
+        "bee 1\nUNSATISFIABLE\nledger\nenc 1\nenc 2\nenc 3\nenc 4\nproof\n5 1 0 1 0\n6 0 5 3 4 0\nend\n",
+        "refused",
+        9,
+    ),
+    (
+        PAIRS,
+        "bee 1\nUNSATISFIABLE\nledger\nenc 1\nenc 2\nenc 3\nenc 4\nproof\n5 1 0 1 2 0\n6 0 5 3 4 0\n",
+        "refused",
+        11,
+    ),
+    (PAIRS, "", "refused", 1),
+    (
+        "bool_array_or([]) solve satisfy",
+        "bee 1\nUNSATISFIABLE\nledger\neq 1 form F F\nproof\nend\n",
+        "refused",
+        4,
+    ),
+    (
+        "new_int(x,0,2) int_neq(x,0) solve minimize x",
+        "bee 1\nOPTIMUM 2\nx = 2\nledger\neq 2 form T 1\nproof\nend\n",
+        "refused",
+        7,
+    ),
+    ("new_int(x,3,2) solve satisfy", "bee 1\n", "empty domain", 1),
+    ("solve satisfy", "bee 1\nSATISFIABLE\nend\n", "done", 0),
+];
+
+/// Checks a document for a model.
+fn checked(alloc: Global, model: &str, document: &[u8]) -> Result<Shown, AllocError> {
+    let model = (
+        String::from_str(alloc, "m.bee")?,
+        Vec::from_slice(alloc, model.as_bytes())?,
+    );
+    let document = (
+        String::from_str(alloc, "a.txt")?,
+        Vec::from_slice(alloc, document)?,
+    );
+    run_files(
+        alloc,
+        &["bee", "check", "m.bee", "a.txt"],
+        vec![in alloc; model, document]?,
+        AMPLE,
+    )
+}
+
+/// Asserts that what was written is accepted for a model, by the words of a verdict.
+fn accepted(
+    rt: &impl Abort,
+    alloc: Global,
+    model: &str,
+    written: &[u8],
+    verdict: &str,
+) -> Result<(), Fail> {
+    let run = checked(alloc, model, written)?;
+    let told = format!(in alloc; "ACCEPTED {verdict}\n")?;
+    assert_eq!(rt; run.out.taken(), told.as_bytes(), "{model}");
+    assert_eq!(rt; run.status, ("done", 0), "{model}");
+    Ok(())
+}
+
+/// Solves a model.
+fn solved(alloc: Global, words: &[&str], model: &str) -> Result<Shown, AllocError> {
+    run_over(alloc, words, Vec::from_slice(alloc, model.as_bytes())?, AMPLE)
+}
+
+#[test]
+fn answers_are_written_and_accepted(rt: HostRuntime) -> Result<(), Fail> {
+    let alloc = rt.alloc();
+    for (model, begins, verdict) in &ANSWERS {
+        let run = solved(alloc, &["bee", "solve", "m.bee"], model)?;
+        assert_eq!(rt; run.status, ("done", 0), "{model}");
+        assert_eq!(rt; run.code, 0, "{model}");
+        assert!(rt; run.out.taken().starts_with(begins.as_bytes()), "{model}");
+        assert_eq!(rt; run.err.taken(), b"".as_slice(), "{model}");
+        accepted(&rt, alloc, model, run.out.taken(), verdict)?;
+    }
+    Ok(())
+}
+
+#[test]
+fn budgets_are_spent(rt: HostRuntime) -> Result<(), Fail> {
+    let alloc = rt.alloc();
+    for (words, status, number, verdict) in &BUDGETS {
+        let run = solved(alloc, words, PIGEONS)?;
+        assert_eq!(rt; run.status, (*status, *number), "{verdict}");
+        accepted(&rt, alloc, PIGEONS, run.out.taken(), verdict)?;
+    }
+    Ok(())
+}
+
+#[test]
+fn documents_are_checked(rt: HostRuntime) -> Result<(), Fail> {
+    let alloc = rt.alloc();
+    for (model, document, status, number) in &DOCUMENTS {
+        let run = checked(alloc, model, document.as_bytes())?;
+        assert_eq!(rt; run.status, (*status, *number), "{document}");
+    }
+    Ok(())
+}
+
+#[test]
+fn one_name_for_both_is_refused(rt: HostRuntime) -> Result<(), Fail> {
+    let alloc = rt.alloc();
+    let run = solved(alloc, &["bee", "check", "m.bee", "m.bee"], PAIRS)?;
+    assert_eq!(rt; run.status, ("refused", 1));
+    assert_eq!(rt; run.code, 1);
+    assert_eq!(rt; run.out.taken(), b"REFUSED 1\n".as_slice());
+    Ok(())
+}

@@ -1,0 +1,3 @@
+pub mod Checked
+pub mod CheckMode
+pub mod AnswerLaw

@@ -1,0 +1,47 @@
+//! From a model and the text of an answer to what the check says.
+
+ghost use Rattle.std.specs.Prelude.{◌≡◌, ◌≤◌, List, ℕ, IfOk};
+ghost use Rattle.model_texts.specs.HeldModels.{HoldsModel};
+ghost use Rattle.check_mode.specs.Checked.{accepted_text, IsChecking};
+
+use answer_document::{Verdict, push_verdict};
+use bee_text::{end_line, push_bytes};
+use ledger_check::CheckFault;
+use model_meaning::Model;
+use std::alloc::{AllocError, Global};
+use text_modes::{Outcome, refusal};
+
+/// The line that tells that an answer is valid, with its verdict's words.
+fn acceptance(alloc: Global, verdict: Verdict) -> Result<Vec<u8>, AllocError>
+    ensures { IfOk result (λ text. text.items ≡ accepted_text verdict) }
+{
+    let mut out = Vec::new(alloc);
+    push_bytes(&mut out, b"ACCEPTED ")?;
+    push_verdict(&mut out, verdict)?;
+    end_line(&mut out)?;
+    Ok(out)
+}
+
+/// What is written for a model and an answer: the line that tells its verdict, or the line that tells which line of it fails first.
+pub(crate) fn check_text(
+    alloc: Global,
+    model: &Model,
+    answer: &[u8],
+) -> Result<(Outcome, Vec<u8>), AllocError>
+    requires { (text : List ℕ) × HoldsModel text model.now }
+    ensures { IfOk result (λ checked. IsChecking model.now answer.now checked.0 checked.1.items) }
+{
+    match ledger_check::check(alloc, model, answer) {
+        Ok(verdict) => {
+            let text = acceptance(alloc, verdict)?;
+            Ok((Outcome::Done, text))
+        }
+        Err(CheckFault::Refused { line, .. }) => {
+            let text = refusal(alloc, line)?;
+            Ok((Outcome::Refused(line), text))
+        }
+        // The model was weighed before.
+        Err(CheckFault::TooHeavy(_)) => unreachable!(),
+        Err(CheckFault::Memory) => Err(AllocError),
+    }
+}

@@ -1,0 +1,79 @@
+//! The mode `check`.
+
+ghost use Rattle.text_modes.specs.Seen.{seen, shelf_shown, sink_shown};
+ghost use Rattle.check_mode.specs.CheckMode.{CheckMode};
+
+use crate::making::check_text;
+use bee_outside::{Shelf, Sink};
+use model_meaning::Model;
+use model_texts::{ModelFault, TextFault, held_model};
+use std::alloc::{AllocError, Global};
+use text_modes::{End, Outcome, TwoTexts, run_two};
+
+/// The greatest number of bytes of a model's text.
+const LONGEST_TEXT: usize = 16_777_216;
+
+/// The text of a model is read first, and then that of an answer. Its fault is that of the model.
+struct Checking;
+
+impl TwoTexts for Checking {
+    ghost use Rattle.std.specs.Prelude.{◌+◌, Some};
+    ghost use Rattle.model_texts.specs.ModelTexts.{longest_text, HasFault};
+    ghost use Rattle.model_texts.specs.HeldModels.{HoldsModel};
+    ghost use Rattle.check_mode.specs.Checked.{Gives};
+
+    type Held = Model;
+
+    type Fault = ModelFault;
+
+    ghost most = { λ _. Some (longest_text + 1) };
+
+    ghost holds = { λ _. HoldsModel };
+
+    ghost has_fault = { λ _. HasFault };
+
+    ghost gives = { λ _. Gives };
+
+    fn limit(&self) -> Option<usize> {
+        Some(LONGEST_TEXT + 1)
+    }
+
+    fn too_long(&self) -> ModelFault {
+        ModelFault::TooLong
+    }
+
+    #[tactic(auto, using(crate::proofs::Ends::had_fault, crate::proofs::Ends::within_limit))]
+    fn judge(&self, alloc: Global, first: &[u8]) -> Result<Result<Model, ModelFault>, AllocError> {
+        match held_model(alloc, first) {
+            Ok(model) => Ok(Ok(model)),
+            Err(TextFault::Model(fault)) => Ok(Err(fault)),
+            Err(TextFault::Memory) => Err(AllocError),
+        }
+    }
+
+    #[tactic(auto, using(crate::proofs::Ends::given_text))]
+    fn make(
+        &self,
+        alloc: Global,
+        held: &Model,
+        answer: &[u8],
+    ) -> Result<(Outcome, Vec<u8>), AllocError> {
+        check_text(alloc, held, answer)
+    }
+}
+
+/// Reads the text of a model and judges it, and then reads the text of an answer and checks it; makes the line that tells what came of that, and
+/// then writes it. Where both have one name, the answer is what the reading of the model left: on a shelf that tells its
+/// bytes, nothing, which is refused at line 1.
+pub fn check<S: Shelf, O: Sink>(
+    alloc: Global,
+    input: &str,
+    second: &str,
+    shelf: &mut S,
+    out: &mut O,
+) -> End<ModelFault>
+    ensures { CheckMode input.now second.now result (seen (shelf_shown S.left S.faults)
+        (sink_shown O.taken O.flushed O.faults) shelf.old shelf.new out.old out.new) }
+{
+    run_two(alloc, &Checking, input, second, shelf, out)
+}

@@ -1,0 +1,95 @@
+-- The numbers of a command that the words ask for are in their limits.
+use Rattle.std.proofs.Common.{arith, ◌≡◌, ℕ, ◌≤◌, ◌<◌, ◌^◌, Bool, true, false, List, refl, sym, subst, Option, Some, None}
+use Rattle.std.specs.Prelude.{◌&&◌, nat_le, codes, not, option_map, option_and_then, if◌then◌else◌}
+use Rattle.std.proofs.lemmas.Bool.{and_parts}
+use Rattle.std.proofs.lemmas.Bool.Decides.{nat_tests}
+use Rattle.clap.specs.Words.{Text}
+use Rattle.command_words.specs.declared.command.Options.{Options}
+use Rattle.command_words.specs.Numeral.{is_numeral, is_within, read_on, number_within}
+use Rattle.command_words.specs.Request.{Request, Compile, Solve, Check, Decode, Queens, is_word, budget_of, size_of, options_of, lone_input, both_inputs, queens_size, mode_requested, requested}
+use Rattle.command_words.specs.Line.{is_taken, value_of, request}
+use Rattle.command_words.specs.Limits.{IsBudget, KeepsLimits, RequestsKeepLimits}
+
+-- what is mapped from a value has what each image has
+mapped : {A B : Type 0} (f : A → B) (P : B → Type 0) → ((a : A) → P (f a)) → (x : Option A) (b : B) → option_map f x ≡ Some b → P b
+mapped f P all (Some a) b e = let same : f a ≡ b = cc in subst P same (all a)
+mapped f P all None b e = absurd (let c = e in cc)
+
+within : (least greatest n : ℕ) → is_within least greatest n ≡ true → (least ≤ n) × (n ≤ greatest)
+within least greatest n e =
+    let parts = and_parts (nat_le least n) (nat_le n greatest) e in
+    let low = parts.0 in
+    let high = parts.1 in
+    (grind (arith, nat_tests, low), grind (arith, nat_tests, high))
+
+number : (least greatest : ℕ) (text : List ℕ) (n : ℕ) → number_within least greatest text ≡ Some n → (least ≤ n) × (n ≤ greatest)
+number least greatest text n e = by (is_numeral text && is_within least greatest (read_on 0 text)) refl e
+  where
+    by : (t : Bool) → (is_numeral text && is_within least greatest (read_on 0 text)) ≡ t → (if t then Some (read_on 0 text) else None) ≡ Some n → (least ≤ n) × (n ≤ greatest)
+    by true is f =
+        let same : read_on 0 text ≡ n = cc in
+        let P : ℕ → Type 0 = λ m. (least ≤ m) × (m ≤ greatest) in
+        subst P same (within least greatest (read_on 0 text) (and_parts (is_numeral text) (is_within least greatest (read_on 0 text)) is).1)
+    by false is f = absurd (let c = f in cc)
+
+budget : (word : Option Text) (n : ℕ) → budget_of word ≡ Some n → IsBudget n
+budget None n e = let same : 1000000 ≡ n = cc in (omega (arith, same), omega (arith, same))
+budget (Some word) n e =
+    let p = number 1 9223372036854775807 word n e in
+    (p.0, omega (arith, p.1))
+
+-- the options that words give have a budget
+options : (value : Text → Option Text) (o : Options) → options_of value ≡ Some o → IsBudget o.budget
+options value o e = by (budget_of (value (codes "budget"))) refl e
+  where
+    made : ℕ → Options
+    made n = record { budget = n; restart = not (is_word (codes "true") (value (codes "no-restart"))) }
+
+    by : (b : Option ℕ) → budget_of (value (codes "budget")) ≡ b → option_map made b ≡ Some o → IsBudget o.budget
+    by (Some n) is f =
+        let same : made n ≡ o = cc in
+        subst (λ (x : Options). IsBudget x.budget) same (budget (value (codes "budget")) n is)
+    by None is f = absurd (let c = f in cc)
+
+size : (value : Text → Option Text) (n : ℕ) → queens_size value ≡ Some n → (4 ≤ n) × (n ≤ 24)
+size value n e = by (lone_input value) e
+  where
+    by : (word : Option Text) → option_and_then size_of word ≡ Some n → (4 ≤ n) × (n ≤ 24)
+    by (Some word) f = number 4 24 word n f
+    by None f = absurd (let c = f in cc)
+
+module _ (value : Text → Option Text) (o : Options) (given : IsBudget o.budget) (asked : Request) where
+  queens : (n : Option ℕ) → queens_size value ≡ n → option_map (λ size. Queens size o) n ≡ Some asked → KeepsLimits asked
+  queens (Some n) is e =
+      let same : Queens n o ≡ asked = cc in
+      let s = size value n is in
+      subst KeepsLimits same (s.0, s.1, given)
+  queens None is e = absurd (let c = e in cc)
+
+  choose : (t : Bool) (first other : Option Request) → (first ≡ Some asked → KeepsLimits asked) → (other ≡ Some asked → KeepsLimits asked)
+      → (if t then first else other) ≡ Some asked → KeepsLimits asked
+  choose true first other p q e = p e
+  choose false first other p q e = q e
+
+  mode : (word : Option Text) → mode_requested word value o ≡ Some asked → KeepsLimits asked
+  mode word =
+      choose (is_word (codes "compile") word) (option_map Compile (lone_input value)) _ (mapped Compile KeepsLimits (λ _. tt) (lone_input value) asked)
+      (choose (is_word (codes "solve") word) (option_map (λ input. Solve input o) (lone_input value)) _ (mapped (λ input. Solve input o) KeepsLimits (λ _. given) (lone_input value) asked)
+      (choose (is_word (codes "check") word) (option_map (λ names. Check names.0 names.1) (both_inputs value)) _ (mapped (λ names. Check names.0 names.1) KeepsLimits (λ _. tt) (both_inputs value) asked)
+      (choose (is_word (codes "decode") word) (option_map (λ names. Decode names.0 names.1) (both_inputs value)) _ (mapped (λ names. Decode names.0 names.1) KeepsLimits (λ _. tt) (both_inputs value) asked)
+      (choose (is_word (codes "queens") word) (option_map (λ size. Queens size o) (queens_size value)) None (queens (queens_size value) refl)
+      (λ e. absurd (let c = e in cc))))))
+
+values : (value : Text → Option Text) (asked : Request) → requested value ≡ Some asked → KeepsLimits asked
+values value asked e = by (options_of value) refl e
+  where
+    by : (o : Option Options) → options_of value ≡ o → option_and_then (mode_requested (value (codes "mode")) value) o ≡ Some asked → KeepsLimits asked
+    by (Some o) is f = mode value o (options value o is) asked (value (codes "mode")) f
+    by None is f = absurd (let c = f in cc)
+
+pub requests_keep_limits : RequestsKeepLimits
+requests_keep_limits words asked e = by (is_taken words) e
+  where
+    by : (t : Bool) → (if t then requested (value_of words) else None) ≡ Some asked → KeepsLimits asked
+    by true f = values (value_of words) asked f
+    by false f = absurd (let c = f in cc)

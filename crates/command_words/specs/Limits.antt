@@ -1,0 +1,22 @@
+-- What a command that the words ask for keeps to.
+use Rattle.std.specs.Prelude.{◌≡◌, ℕ, ◌≤◌, ◌<◌, ◌^◌, List, Option, Some}
+use Rattle.clap.specs.Words.{Text}
+use Rattle.command_words.specs.declared.command.Options.{Options}
+use Rattle.command_words.specs.Request.{Request, Compile, Solve, Check, Decode, Queens}
+use Rattle.command_words.specs.Line.{request}
+
+-- a budget is from 1 and below 2 ^ 63
+abbrev pub IsBudget : ℕ → Type 0
+IsBudget budget = (1 ≤ budget) × (budget < 2 ^ 63)
+
+-- the numbers of a command are in their limits
+abbrev pub KeepsLimits : Request → Type 0
+KeepsLimits (Compile input) = Unit {0}
+KeepsLimits (Solve input options) = IsBudget options.budget
+KeepsLimits (Check input second) = Unit {0}
+KeepsLimits (Decode input second) = Unit {0}
+KeepsLimits (Queens size options) = (4 ≤ size) × (size ≤ 24) × IsBudget options.budget
+
+-- the words ask for no other command
+abbrev pub RequestsKeepLimits : Type 0
+RequestsKeepLimits = (words : List Text) (asked : Request) → request words ≡ Some asked → KeepsLimits asked

@@ -1,0 +1,11 @@
+mod Better
+mod Refuting
+mod Turning
+mod Ready
+mod Sound
+mod Rounding
+mod Makings
+mod Entries
+mod AnswerParts
+mod Answered
+mod Lowerings

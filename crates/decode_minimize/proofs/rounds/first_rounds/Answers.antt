@@ -1,0 +1,22 @@
+use Rattle.std.proofs.Common.{Ok, ap, ◌∙◌, subst}
+use Rattle.order_ints.specs.declared.atom.Atom.TheVariants.{False}
+use Rattle.decode_minimize.specs.declared.asking.Round.{Round}
+use Rattle.decode_minimize.specs.Rounds.{IsRound}
+use Rattle.decode_minimize.proofs.Ready.{solvable-apart}
+use Rattle.decode_minimize.proofs.Rounding.{first-refuted, first-given_up}
+use Rattle.decode_minimize.proofs.rounds.first_rounds.Goals as goal
+
+pub with-requires-clause-differ : goal.with-requires-clause-differ
+with-requires-clause-differ c = solvable-apart c.args.cnf.now c.requires.solvable
+
+pub returns-in-Shown : goal.returns-in-Shown
+returns-in-Shown c =
+    let shown = subst (λ (r : Round). IsRound c.ask_bound.new.solver False r) c.in-Shown.is c.in_ok-ask_bound.ensures.round in
+    first-refuted c.args.cnf.now c.in_ok-solver.solver c.ask_bound.new.solver c.args.options c.in_ok-solver.ensures c.ask_bound.ensures.cnf c.into_log.result c.into_log.ensures.log c.into_log.ensures.accepted
+    c.into_log.ensures.fresh c.ask_bound.ensures.within shown
+
+pub returns-in-Spent : goal.returns-in-Spent
+returns-in-Spent c =
+    let was = c.in_ok-ask_bound.was ∙ ap Ok c.in-Spent.is in
+    first-given_up c.args.cnf.now c.in_ok-solver.solver c.ask_bound.new.solver c.args.options c.in_ok-solver.ensures c.ask_bound.ensures.cnf c.into_log-in-Spent.result c.into_log-in-Spent.ensures.log
+    c.into_log-in-Spent.ensures.accepted c.into_log-in-Spent.ensures.fresh (c.ask_bound.ensures.spent was) (c.ask_bound.ensures.spent_early was)

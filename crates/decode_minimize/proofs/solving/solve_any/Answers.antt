@@ -1,0 +1,38 @@
+use Rattle.std.proofs.Common.{◌≡◌, ◌≤◌, None, Ok, sym, ap, ◌∙◌, subst, arith, List, Bool}
+use Rattle.order_ints.specs.declared.atom.Atom.TheVariants.{False}
+use Rattle.learning_solver.specs.Log.{additions}
+use Rattle.answer_document.specs.declared.verdict.Verdict.TheVariants.{Satisfiable}
+use Rattle.decode_minimize.specs.declared.asking.Round.{Round}
+use Rattle.decode_minimize.specs.Rounds.{IsRound}
+use Rattle.decode_minimize.specs.Solved.{problem_of, IsMadeOf}
+use Rattle.decode_minimize.proofs.Ready.{solvable-apart}
+use Rattle.decode_minimize.proofs.Rounding.{first-refuted, first-given_up, first-derivation, first-satisfying}
+use Rattle.decode_minimize.proofs.Makings.{any-refuted, any-given_up, any-solution}
+use Rattle.decode_minimize.proofs.solving.solve_any.Goals as goal
+
+pub with-requires-clause-differ : goal.with-requires-clause-differ
+with-requires-clause-differ c = solvable-apart c.args.cnf.now c.requires.solvable
+
+pub returns-in-Shown : goal.returns-in-Shown
+returns-in-Shown c =
+    let shown = subst (λ (r : Round). IsRound c.ask_bound.new.solver False r) c.in-Shown.is c.in_ok-ask_bound.ensures.round in
+    any-refuted (problem_of c.args.names.now c.args.cnf.now) c.args.options c.refuted.result c.into_log.result c.refuted.ensures
+    (first-refuted c.args.cnf.now c.in_ok-solver.solver c.ask_bound.new.solver c.args.options c.in_ok-solver.ensures c.ask_bound.ensures.cnf c.into_log.result c.into_log.ensures.log c.into_log.ensures.accepted
+    c.into_log.ensures.fresh c.ask_bound.ensures.within shown)
+
+pub returns-in-Spent : goal.returns-in-Spent
+returns-in-Spent c =
+    let was = c.in_ok-ask_bound.was ∙ ap Ok c.in-Spent.is in
+    any-given_up (problem_of c.args.names.now c.args.cnf.now) c.args.options c.given_up.result c.into_log-in-Spent.result c.given_up.ensures
+    (first-given_up c.args.cnf.now c.in_ok-solver.solver c.ask_bound.new.solver c.args.options c.in_ok-solver.ensures c.ask_bound.ensures.cnf c.into_log-in-Spent.result c.into_log-in-Spent.ensures.log
+    c.into_log-in-Spent.ensures.accepted c.into_log-in-Spent.ensures.fresh (c.ask_bound.ensures.spent was) (c.ask_bound.ensures.spent_early was))
+
+pub returns-in_ok-solved-in-Better : goal.returns-in_ok-solved-in-Better
+returns-in_ok-solved-in-Better c =
+    let found = subst (λ (r : Round). IsRound c.ask_bound.new.solver False r) c.in-Better.is c.in_ok-ask_bound.ensures.round in
+    let made = subst (λ (v : List Bool). IsMadeOf c.args.names.now v Satisfiable c.into_log-proof.result None c.in_ok-solved-in-Better.solved) c.as_slice.ensures c.in_ok-solved-in-Better.ensures in
+    let within : additions c.into_log-proof.result ≤ c.args.options.budget = omega (arith, ap additions c.into_log-proof.ensures.log, c.ask_bound.ensures.within) in
+    any-solution c.args.names.now c.args.cnf.now c.args.options c.in-Better.values c.into_log-proof.result c.in_ok-solved-in-Better.solved made
+    (first-satisfying c.args.cnf.now c.in_ok-solver.solver c.ask_bound.new.solver c.args.options c.in_ok-solver.ensures c.ask_bound.ensures.cnf c.in-Better.values found)
+    (first-derivation c.args.cnf.now c.in_ok-solver.solver c.ask_bound.new.solver c.args.options c.in_ok-solver.ensures c.ask_bound.ensures.cnf c.into_log-proof.result c.into_log-proof.ensures.log
+    c.into_log-proof.ensures.accepted c.into_log-proof.ensures.fresh) within

@@ -1,0 +1,96 @@
+-- What an answer to a model is, beside being valid: where its parts come from, and what it may have cost.
+use Rattle.std.specs.Prelude.{◌≡◌, ◌↔◌, ℕ, ◌+◌, ◌*◌, ◌≤◌, ◌<◌, ◌^◌, List, length, ℤ, slice_get, Option, Some, None, IfSome}
+use Rattle.order_ints.specs.Truth.{Valuation}
+use Rattle.order_ints.specs.Satisfies.{Satisfies}
+use Rattle.core_forms.specs.declared.equation.Equation.{Equation}
+use Rattle.core_forms.specs.declared.form.Core.{Core}
+use Rattle.model_meaning.specs.declared.model.Decl.{Decl}
+use Rattle.model_meaning.specs.declared.model.Goal.{Goal}
+use Rattle.model_meaning.specs.declared.model.Goal.TheVariants.{Satisfy, Minimize, Maximize}
+use Rattle.model_meaning.specs.declared.model.Model.{Model}
+use Rattle.model_meaning.specs.declared.model.Assignment.{Assignment}
+use Rattle.model_meaning.specs.Domains.{domain}
+use Rattle.model_meaning.specs.Solutions.{IsSolution}
+use Rattle.step_kernel.specs.Kernel.{Kernel}
+use Rattle.step_kernel.specs.CnfOf.{cnf_of}
+use Rattle.asking_bound.specs.Questions.{most_questions}
+use Rattle.state_compile.specs.Compilation.{IsCompilation}
+use Rattle.model_decode.specs.Decoding.{numbers_at}
+use Rattle.proof_check.specs.declared.line.ProofLine.{ProofLine}
+use Rattle.learning_solver.specs.Log.{additions, IsFreshLog}
+use Rattle.learning_solver.specs.Outcome.{most_learned}
+use Rattle.answer_document.specs.declared.verdict.Bounds.{Bounds}
+use Rattle.answer_document.specs.declared.verdict.Verdict.{Verdict}
+use Rattle.answer_document.specs.declared.verdict.Verdict.TheVariants.{Satisfiable, Unsatisfiable, Optimum, Unknown}
+use Rattle.answer_document.specs.declared.document.Document.{Document}
+use Rattle.answer_document.specs.DocumentText.{document_text}
+use Rattle.answer_document.specs.Valid.{start_of, second_cnf, numbers_given, stated, IsValid}
+use Rattle.decode_minimize.specs.declared.options.Options.{Options}
+use Rattle.decode_minimize.specs.Solved.{second_added}
+
+-- the budget is one that a document can state
+abbrev pub IsBudget : ℕ → Type 0
+IsBudget budget = (1 ≤ budget) × (budget < 2 ^ 63)
+
+-- how many values the name at a place may have
+abbrev pub values_of_decl : Option Decl → ℕ
+values_of_decl None = 0
+values_of_decl (Some d) = length (domain d.kind)
+
+abbrev pub values_at : List Decl → ℕ → ℕ
+values_at decls place = values_of_decl (slice_get decls place)
+
+abbrev pub second_values : List Decl → Option ℕ → ℕ
+second_values decls None = 0
+second_values decls (Some place) = values_at decls place
+
+-- The most rounds that a goal takes, each one search: one where any solution serves, and else one for each value of an
+-- objective's domain.
+abbrev pub most_rounds : List Decl → Goal → ℕ
+most_rounds decls Satisfy = 1
+most_rounds decls (Minimize place second) = values_at decls place + second_values decls second
+most_rounds decls (Maximize place second) = values_at decls place + second_values decls second
+
+-- how many clauses both derivations add together
+abbrev pub all_additions : Document → ℕ
+all_additions d = additions d.proof + second_added d.second
+
+-- the search was not given up
+abbrev pub IsDecided : Verdict → Type 0
+IsDecided Satisfiable = Unit {0}
+IsDecided Unsatisfiable = Unit {0}
+IsDecided (Optimum b) = Unit {0}
+IsDecided (Unknown n best) = ⊥
+
+-- or it was, and the budget is its number, and so many clauses were added
+abbrev pub IsSpent : ℕ → ℕ → Verdict → Type 0
+IsSpent budget added Satisfiable = Unit {0}
+IsSpent budget added Unsatisfiable = Unit {0}
+IsSpent budget added (Optimum b) = Unit {0}
+IsSpent budget added (Unknown n best) = (n ≡ budget) × (added ≡ budget)
+
+-- a second derivation is fresh, too, over the CNF in which the first objective is no worse than its number
+abbrev pub IsFreshSecond : Model → Kernel → Option Bounds → Option (List ProofLine) → Type 0
+IsFreshSecond model last bounds None = Unit {0}
+IsFreshSecond model last None (Some lines) = ⊥
+IsFreshSecond model last (Some b) (Some lines) = IsFreshLog (second_cnf model last b.first) lines
+
+-- An answer to a model, where a counter has risen from one number to another. Its ledger is that of a whole compilation, whatever
+-- the verdict, and the last state's CNF stands for exactly the solutions.
+pub record IsAnswer (told : Core → Equation → Type 0) (model : Model) (options : Options) (d : Document) (counter now : ℕ) : Type 0 where
+  pub last : Kernel
+  pub compilation : IsCompilation told (start_of model) d.ledger last
+  pub solutions : (a : List ℤ) → IsSolution model a ↔ ((σ : Valuation) × Satisfies σ (cnf_of last) × (a ≡ numbers_at model last σ))
+  -- its text is a valid answer, with its verdict and its assignment
+  pub valid : IsValid model (document_text model.decls model.goal d) d.verdict (numbers_given d.assignment)
+  pub count : IfSome d.assignment (λ (a : Assignment). length model.decls ≡ length a.values)
+  -- each addition of a derivation is new among the clauses that live before it, and deletions name additions alone
+  pub fresh : IsFreshLog (cnf_of last) d.proof
+  pub second : IsFreshSecond model last (stated d.verdict) d.second
+  -- no more clauses are added than the budget has, exactly as many where the search was given up, which it never is where the
+  -- budget is as great as the most that the rounds may need
+  pub within : all_additions d ≤ options.budget
+  pub spent : IsSpent options.budget (all_additions d) d.verdict
+  pub enough : most_learned options.restart (cnf_of last).vars * most_rounds model.decls model.goal ≤ options.budget → IsDecided d.verdict
+  -- the counter rose by three at most for each question that the compilation may have asked
+  pub asked : now ≤ counter + 3 * most_questions (start_of model) d.ledger last

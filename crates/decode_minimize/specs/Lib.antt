@@ -1,0 +1,7 @@
+pub mod Objectives
+pub mod Rounds
+pub mod Seeking
+pub mod Settling
+pub mod Solved
+pub mod Answers
+pub mod Answering

@@ -1,0 +1,52 @@
+-- The rounds of one objective.
+use Rattle.std.specs.Prelude.{◌≡◌, ◌+◌, ◌*◌, ◌<◌, ◌≤◌, ℕ, Bool, true, false, length}
+use Rattle.order_ints.specs.Place.{AtomsBelow}
+use Rattle.order_ints.specs.OrderValue.{value_of, IsOrdered}
+use Rattle.order_ints.specs.Truth.{Valuation, valuation_of}
+use Rattle.order_ints.specs.Satisfies.{Satisfies}
+use Rattle.order_ints.specs.View.{resolve}
+use Rattle.state_compile.specs.StandsFor.{read_by}
+use Rattle.learning_solver.specs.Log.{additions, proof_behind}
+use Rattle.learning_solver.specs.Outcome.{Logged, most_learned}
+use Rattle.answer_document.specs.Valid.{IsShown}
+use Rattle.decode_minimize.specs.declared.options.Options.{Options}
+use Rattle.decode_minimize.specs.declared.improving.Sought.{Sought}
+use Rattle.decode_minimize.specs.declared.improving.Best.{Best}
+use Rattle.decode_minimize.specs.declared.improving.Turn.{Turn}
+use Rattle.decode_minimize.specs.declared.improving.Turn.TheVariants.{Better, Shown, Spent}
+use Rattle.decode_minimize.specs.Objectives.{better_left, bound_of, IsObjective}
+use Rattle.decode_minimize.specs.Rounds.{AreSatisfying}
+
+-- what a solver seeks is an integer over its variables, ordered as a view reads a valuation that satisfies its CNF; and the best
+-- solution so far is one
+pub record IsSeeking (s : Logged) (sought : Sought) (best : Best) : Type 0 where
+  pub vars : s.cnf.vars ≡ length sought.view.now
+  pub labels : AtomsBelow (length sought.view.now + 1) sought.view.now
+  pub objective : IsObjective (length sought.view.now + 1) sought.integer.now
+  pub ordered : (σ : Valuation) → Satisfies σ s.cnf → IsOrdered (read_by sought.view.now σ) sought.integer.now
+  pub values : AreSatisfying s.cnf best.values
+  pub number : best.number ≡ value_of (read_by sought.view.now (valuation_of best.values)) sought.integer.now
+
+-- how many values are better than the best one so far
+abbrev pub left : Sought → Best → ℕ
+left sought best = better_left sought.direction sought.integer.now best.number
+
+-- the log shows that no value is better
+abbrev pub IsBestShown : Logged → Sought → Best → Type 0
+IsBestShown s sought best = IsShown (proof_behind s.cnf s.log) (resolve sought.view.now (bound_of sought.direction sought.integer.now best.number))
+
+-- What a round costs is at most a search for each value that it leaves out; so many clauses are fewer where the budget was spent.
+abbrev pub IsTurned : Logged → Logged → Sought → Options → Best → Best → Turn → Type 0
+IsTurned old new sought options was is Better =
+    (left sought is < left sought was)
+    × (additions new.log + left sought is * most_learned options.restart old.cnf.vars ≤ additions old.log + left sought was * most_learned options.restart old.cnf.vars)
+IsTurned old new sought options was is Shown =
+    IsBestShown new sought is × (additions new.log ≤ additions old.log + left sought was * most_learned options.restart old.cnf.vars)
+IsTurned old new sought options was is Spent =
+    (additions new.log ≡ options.budget) × (additions new.log < additions old.log + left sought was * most_learned options.restart old.cnf.vars)
+
+-- rounds to their end
+pub record IsImproved (old new : Logged) (sought : Sought) (options : Options) (was is : Best) (shown : Bool) : Type 0 where
+  pub best : shown ≡ true → IsBestShown new sought is
+  pub most : additions new.log ≤ additions old.log + left sought was * most_learned options.restart old.cnf.vars
+  pub spent : shown ≡ false → (additions new.log ≡ options.budget) × (additions new.log < additions old.log + left sought was * most_learned options.restart old.cnf.vars)

@@ -1,0 +1,143 @@
+//! The answer to a model.
+
+ghost use Rattle.std.specs.Prelude.{◌≡◌, ◌+◌, ◌<◌, ◌≤◌, ◌^◌, IfOk, IfErr, length};
+ghost use Rattle.model_meaning.specs.WellTyped.{WellTyped};
+ghost use Rattle.model_meaning.specs.Limits.{InLimits};
+ghost use Rattle.model_weight.specs.Weight.{weight_of};
+ghost use Rattle.model_lower.specs.Weighed.{most_weight};
+ghost use Rattle.model_lower.specs.Faults.{IsFaultOf};
+ghost use Rattle.decode_minimize.specs.Solved.{IsProblem, IsSolvedFor};
+ghost use Rattle.decode_minimize.specs.Answers.{IsBudget, IsAnswer};
+ghost use Rattle.decode_minimize.specs.Answering.{IsReady, IsAnswerOf, problem_at};
+
+use crate::options::Options;
+use crate::readable::are_derivations_readable;
+use crate::solved::{Names, Solved};
+use crate::solving::{refuted, solve};
+use answer_document::Document;
+use bee_list::Sequence;
+use fixpoint_queue::Oracle;
+use model_lower::{LowerFault, Lowered, LoweredModel, lower, lower_owned};
+use model_meaning::{Decl, Goal, Model};
+use name_map::NameMap;
+use rule_base::Steps;
+use state_compile::{Compiled, compile_state};
+use std::alloc::{AllocError, Global};
+use std::sync::ledger::Ledger;
+use step_kernel::State;
+
+/// An answer to a model that was used up, and the model's declarations.
+#[derive(Debug, Drop)]
+pub struct AnsweredModel {
+    /// The answer.
+    pub document: Document,
+    /// The declared names, as the model has them.
+    pub decls: Sequence<Decl>,
+}
+
+/// Solves the clauses of the last state of a compilation. At bottom there is no solution, and nothing is to be derived.
+fn solve_state(
+    alloc: Global,
+    state: &State,
+    map: &NameMap,
+    goal: Goal,
+    options: Options,
+) -> Result<Solved, AllocError>
+    requires { IsProblem (problem_at map.now.entries state.now) }
+    ensures { IfOk result (IsSolvedFor (problem_at map.now.entries state.now) options goal) }
+{
+    if state.bottom() {
+        return Ok(refuted(Sequence::from_vec(Vec::new(alloc))));
+    }
+    let cnf = state.cnf()?;
+    let names = Names {
+        map,
+        view: state.view(),
+    };
+    let solved = solve(alloc, cnf, &names, goal, options)?;
+    Ok(solved)
+}
+
+/// The answer to a model that is lowered.
+fn answer_lowered<F: Oracle<L>, L: Ledger>(
+    alloc: Global,
+    lowered: Lowered,
+    goal: Goal,
+    options: Options,
+    oracle: F,
+    steps: &mut Steps<L>,
+) -> Result<Document, AllocError>
+    requires ready { IsReady lowered }
+    requires budget { IsBudget options.budget }
+    ensures { IfOk result (λ d. IsAnswerOf F.told lowered goal options d steps.old steps.new) }
+{
+    let Lowered { vars, map, cores } = lowered;
+    let state = State::start(alloc, vars, cores.into_vec())?;
+    let Compiled { state, ledger } = compile_state(alloc, state, oracle, steps)?;
+    let _ids = state.ids();
+    let Solved {
+        verdict,
+        assignment,
+        proof,
+        second,
+    } = solve_state(alloc, &state, &map, goal, options)?;
+    if !are_derivations_readable(&proof, &second) {
+        return Err(AllocError);
+    }
+    Ok(Document {
+        verdict,
+        assignment,
+        ledger,
+        proof,
+        second,
+    })
+}
+
+/// The answer to a model: whether it has a solution, or which is a best one, with a certificate. The model is compiled
+/// as by `compile`, and the clauses are solved. An objective is sought in rounds, each of which asks for a
+/// better value than the best one so far, by the same solver; a second objective by a new solver, over the clauses and that the
+/// first one is settled, with what the first one left of the budget. No round is made where the store
+/// already excludes a better value.
+///
+/// It fails with the model's weight where that is above 67,108,864, and for want of memory.
+pub fn answer<F: Oracle<L>, L: Ledger>(
+    alloc: Global,
+    model: &Model,
+    options: Options,
+    oracle: F,
+    steps: &mut Steps<L>,
+) -> Result<Document, LowerFault>
+    requires typed { WellTyped model.now }
+    requires limits { InLimits model.now }
+    requires budget { IsBudget options.budget }
+    ensures light { IfOk result (λ d. weight_of model.now ≤ most_weight) }
+    ensures answer { IfOk result (λ d. IsAnswer F.told model.now options d steps.old steps.new) }
+    ensures heavy { IfErr result (λ e. IsFaultOf e model.now) }
+{
+    let lowered = lower(alloc, model)?;
+    let document = answer_lowered(alloc, lowered, model.goal, options, oracle, steps)?;
+    Ok(document)
+}
+
+/// The answer to a model that is used up: each statement is let go as soon as it is lowered, and the declarations are given
+/// back. Else it is as `answer`.
+pub fn answer_owned<F: Oracle<L>, L: Ledger>(
+    alloc: Global,
+    model: Model,
+    options: Options,
+    oracle: F,
+    steps: &mut Steps<L>,
+) -> Result<AnsweredModel, LowerFault>
+    requires typed { WellTyped model }
+    requires limits { InLimits model }
+    requires budget { IsBudget options.budget }
+    ensures light { IfOk result (λ a. weight_of model ≤ most_weight) }
+    ensures answer { IfOk result (λ a. IsAnswer F.told model options a.document steps.old steps.new) }
+    ensures decls { IfOk result (λ a. a.decls ≡ model.decls) }
+    ensures heavy { IfErr result (λ e. IsFaultOf e model) }
+{
+    let goal = model.goal;
+    let LoweredModel { lowered, decls } = lower_owned(alloc, model)?;
+    let document = answer_lowered(alloc, lowered, goal, options, oracle, steps)?;
+    Ok(AnsweredModel { document, decls })
+}

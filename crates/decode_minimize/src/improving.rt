@@ -1,0 +1,107 @@
+//! The rounds of one objective.
+
+ghost use Rattle.std.specs.Prelude.{◌≡◌, ◌+◌, ◌≤◌, IfOk, length};
+ghost use Rattle.order_ints.specs.OrderValue.{value_of};
+ghost use Rattle.order_ints.specs.Truth.{valuation_of};
+ghost use Rattle.state_compile.specs.StandsFor.{read_by};
+ghost use Rattle.decode_minimize.specs.Objectives.{IsObjective};
+ghost use Rattle.learning_solver.specs.Log.{additions};
+ghost use Rattle.decode_minimize.specs.Seeking.{IsSeeking, IsTurned, IsImproved};
+
+use crate::asking::{Round, ask_bound};
+use crate::objective::{Direction, bound_of, value_under};
+use crate::options::Options;
+use bee_list::Sequence;
+use learning_solver::Solver;
+use order_ints::{Atom, OrdInt, resolve};
+use std::alloc::AllocError;
+
+/// What is sought: the best value of an integer, whose variables a view reads.
+#[derive(Clone, Copy, Debug)]
+pub struct Sought<'a> {
+    /// The integer.
+    pub integer: &'a OrdInt,
+    /// The label of each variable, that of variable 1 first.
+    pub view: &'a [Atom],
+    /// Which of its values is best.
+    pub direction: Direction,
+}
+
+/// The best solution so far.
+#[derive(Debug, Drop)]
+pub struct Best {
+    /// Truth values of all variables.
+    pub values: Sequence<bool>,
+    /// The value of what is sought under these.
+    pub number: i64,
+}
+
+/// What came of a round.
+#[derive(Clone, Copy, Debug, PartialEq, Eq)]
+pub enum Turn {
+    /// A better solution was found.
+    Better,
+    /// There is none.
+    Shown,
+    /// The budget is spent.
+    Spent,
+}
+
+/// Takes truth values that are better.
+fn take(sought: &Sought<'_>, best: &mut Best, values: Sequence<bool>)
+    requires { IsObjective (length sought.now.view.now + 1) sought.now.integer.now }
+    ensures values { best.new.values ≡ values }
+    ensures number { best.new.number ≡ value_of (read_by sought.now.view.now (valuation_of values)) sought.now.integer.now }
+{
+    let number = value_under(sought.integer, sought.view, values.as_slice());
+    *best = Best { values, number };
+}
+
+/// One round: asks for a better value than the best one so far.
+fn improve_once(
+    solver: &mut Solver<'_>,
+    sought: &Sought<'_>,
+    best: &mut Best,
+    options: Options,
+) -> Result<Turn, AllocError>
+    requires seeking { IsSeeking solver.old sought.now best.old }
+    requires budget { additions solver.old.log ≤ options.budget }
+    ensures cnf { solver.new.cnf ≡ solver.old.cnf }
+    ensures within { additions solver.new.log ≤ options.budget }
+    ensures seeking { IfOk result (λ t. IsSeeking solver.new sought.now best.new) }
+    ensures turned { IfOk result (λ t. IsTurned solver.old solver.new sought.now options best.old best.new t) }
+{
+    let bound = resolve(sought.view, bound_of(sought.direction, sought.integer, best.number));
+    match ask_bound(solver, bound, options)? {
+        Round::Better(values) => {
+            take(sought, best, values);
+            Ok(Turn::Better)
+        }
+        Round::Shown => Ok(Turn::Shown),
+        Round::Spent => Ok(Turn::Spent),
+    }
+}
+
+/// Rounds until no better value is there, or the budget is spent; whether the former. Each round takes one search, and each but
+/// the last finds a better value.
+pub fn improve(
+    solver: &mut Solver<'_>,
+    sought: &Sought<'_>,
+    best: &mut Best,
+    options: Options,
+) -> Result<bool, AllocError>
+    requires seeking { IsSeeking solver.old sought.now best.old }
+    requires budget { additions solver.old.log ≤ options.budget }
+    ensures cnf { solver.new.cnf ≡ solver.old.cnf }
+    ensures within { additions solver.new.log ≤ options.budget }
+    ensures seeking { IfOk result (λ shown. IsSeeking solver.new sought.now best.new) }
+    ensures improved { IfOk result (IsImproved solver.old solver.new sought.now options best.old best.new) }
+{
+    loop {
+        match improve_once(solver, sought, best, options)? {
+            Turn::Better => {}
+            Turn::Shown => return Ok(true),
+            Turn::Spent => return Ok(false),
+        }
+    }
+}

@@ -1,0 +1,67 @@
+//! Clauses, and that an objective is settled.
+
+ghost use Rattle.std.specs.Prelude.{◌≡◌, ◌+◌, ◌++◌, ◌≤◌, IfOk};
+ghost use Rattle.answer_document.specs.Valid.{atom_clauses};
+ghost use Rattle.learning_solver.specs.Log.{additions};
+ghost use Rattle.decode_minimize.specs.Settling.{adds_clause};
+
+use bee_list::Sequence;
+use order_ints::{Atom, Cnf, Lit};
+use proof_check::ProofLine;
+use std::alloc::{AllocError, Global};
+
+/// Clauses, and behind them that of an atom.
+fn with_atom(
+    alloc: Global,
+    clauses: Sequence<Sequence<Lit>>,
+    atom: Atom,
+) -> Result<Sequence<Sequence<Lit>>, AllocError>
+    ensures { IfOk result (λ all. all ≡ clauses ++ atom_clauses atom) }
+{
+    let mut all = clauses.into_vec();
+    match atom {
+        Atom::True => Ok(Sequence::from_vec(all)),
+        Atom::False => {
+            all.push(Sequence::from_vec(Vec::new(alloc)))?;
+            Ok(Sequence::from_vec(all))
+        }
+        Atom::Of(literal) => {
+            all.push(Sequence::from_vec(vec![in alloc; literal]?))?;
+            Ok(Sequence::from_vec(all))
+        }
+    }
+}
+
+/// The CNF with the clause of an atom behind its own: none of True, and the empty one of False.
+pub fn settle(alloc: Global, cnf: Cnf, atom: Atom) -> Result<Cnf, AllocError>
+    ensures { IfOk result (λ all. all ≡ record { vars = cnf.vars; clauses = cnf.clauses ++ atom_clauses atom }) }
+{
+    let Cnf { vars, clauses } = cnf;
+    Ok(Cnf {
+        vars,
+        clauses: with_atom(alloc, clauses, atom)?,
+    })
+}
+
+/// Whether a line adds a clause.
+fn adds(line: &ProofLine) -> bool
+    ensures { result ≡ adds_clause line.now }
+{
+    match line {
+        ProofLine::Add { .. } => true,
+        ProofLine::Delete { .. } => false,
+    }
+}
+
+/// How many lines add a clause.
+pub fn additions(lines: &[ProofLine]) -> u64
+    ensures { result ≡ additions lines.now }
+{
+    let mut count: u64 = 0;
+    for line in lines {
+        if adds(line) {
+            count += 1;
+        }
+    }
+    count
+}

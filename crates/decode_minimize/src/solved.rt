@@ -1,0 +1,53 @@
+//! What solving gives.
+
+use crate::improving::Best;
+use answer_document::Verdict;
+use bee_list::Sequence;
+use name_map::NameMap;
+use model_meaning::Assignment;
+use order_ints::Atom;
+use proof_check::ProofLine;
+
+/// What the names of a model stand for, and the store by which that is read.
+#[derive(Clone, Copy, Debug)]
+pub struct Names<'a> {
+    /// What each declared name stands for.
+    pub map: &'a NameMap,
+    /// The label of each variable, that of variable 1 first.
+    pub view: &'a [Atom],
+}
+
+/// An answer without its ledger.
+#[derive(Debug, Drop)]
+pub struct Solved {
+    /// What is answered.
+    pub verdict: Verdict,
+    /// A solution, where the verdict gives one.
+    pub assignment: Option<Assignment>,
+    /// The derivation over the clauses.
+    pub proof: Sequence<ProofLine>,
+    /// The derivation over the clauses and that the first objective is settled.
+    pub second: Option<Sequence<ProofLine>>,
+}
+
+/// What came of the rounds of an objective, of which a solution is known.
+#[derive(Debug, Drop)]
+pub struct Progress {
+    /// The derivation.
+    pub proof: Sequence<ProofLine>,
+    /// The best solution that was found.
+    pub best: Best,
+    /// Whether the derivation shows that none is better; else the budget is spent.
+    pub is_best: bool,
+}
+
+/// What came of the rounds of a first objective.
+#[derive(Debug, Drop)]
+pub enum First {
+    /// There is no solution.
+    Refuted(Sequence<ProofLine>),
+    /// The budget was spent before a solution was found.
+    GivenUp(Sequence<ProofLine>),
+    /// A solution was found.
+    Found(Progress),
+}

@@ -1,0 +1,3 @@
+pub mod Checked
+pub mod DrupMode
+pub mod DrupLaws

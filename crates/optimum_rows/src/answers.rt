@@ -1,0 +1,89 @@
+//! The answer to a model, in words.
+
+ghost use Rattle.std.specs.Prelude.{◌≡◌, ◌<◌};
+ghost use Rattle.model_meaning.specs.WellTyped.{WellTyped};
+ghost use Rattle.model_meaning.specs.Limits.{InLimits};
+ghost use Rattle.decode_minimize.specs.Answers.{IsBudget};
+
+use answer_document::{Document, write_document};
+use bumblebee_reader::read_model;
+use decode_minimize::{Options, answer};
+use fixpoint_queue::{Silent, TableP};
+use model_lower::LowerFault;
+use model_meaning::{Model, in_limits};
+use rule_base::Steps;
+use std::alloc::{AllocError, Global};
+use std::marker::Brand;
+use std::sync::ledger::{Blank, Ledger};
+use typed_model::check_types;
+
+/// Who is asked for equations.
+#[derive(Clone, Copy, Debug)]
+pub(super) enum Asked {
+    AllRules,
+    Silence,
+}
+
+/// The answer to a model, with a counter of its own.
+fn answer_with<L: Ledger>(
+    alloc: Global,
+    blank: Blank,
+    model: &Model,
+    options: Options,
+    asked: Asked,
+) -> Result<Document, LowerFault>
+    requires typed { WellTyped model.now }
+    requires limits { InLimits model.now }
+    requires budget { IsBudget options.budget }
+    requires name { blank.name ≡ L.name }
+    requires parts { blank.parts ≡ L.parts }
+    requires some { 0 < L.parts }
+{
+    let mut steps = Steps::<L>::open(blank);
+    match asked {
+        Asked::AllRules => answer(alloc, model, options, TableP, &mut steps),
+        Asked::Silence => answer(alloc, model, options, Silent, &mut steps),
+    }
+}
+
+/// The text of a document up to the ledger.
+fn head(text: &[u8]) -> &[u8] {
+    let mut from = 0;
+    while from < text.len() {
+        if text[from..].starts_with(b"ledger\n") {
+            return &text[..from];
+        }
+        from += 1;
+    }
+    text
+}
+
+/// What the answer to a model says, up to its ledger.
+pub(super) fn answered(
+    alloc: Global,
+    text: &str,
+    options: Options,
+    asked: Asked,
+) -> Result<Vec<u8>, AllocError>
+    requires { IsBudget options.budget }
+{
+    let Ok(syntax) = read_model(alloc, text.as_bytes()) else {
+        return Vec::from_slice(alloc, b"no text");
+    };
+    let Ok(model) = check_types(alloc, &syntax) else {
+        return Vec::from_slice(alloc, b"no model");
+    };
+    if !in_limits(&model) {
+        return Vec::from_slice(alloc, b"too great a numeral");
+    }
+    match answer_with::<Brand>(alloc, Blank::new(1), &model, options, asked) {
+        Ok(document) => {
+            let written = write_document(alloc, model.decls.as_slice(), model.goal, &document)?;
+            Vec::from_slice(alloc, head(written.as_slice()))
+        }
+        Err(fault) => {
+            let told = format!(in alloc; "{fault}")?;
+            Vec::from_slice(alloc, told.as_bytes())
+        }
+    }
+}

@@ -1,0 +1,10 @@
+pub mod TextLines
+pub mod Clauses
+pub mod CnfText
+pub mod Rup
+pub mod DrupText
+pub mod Faults
+pub mod Inputs
+pub mod Laws
+pub mod Store
+pub mod Checking

@@ -1,0 +1,3 @@
+mod Logs
+mod Findings
+pub mod Ends

@@ -1,0 +1,4 @@
+pub mod Written
+pub mod Solved
+pub mod SatMode
+pub mod AnswerLaw

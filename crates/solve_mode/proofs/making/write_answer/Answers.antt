@@ -1,0 +1,1 @@
+use Rattle.solve_mode.proofs.making.write_answer.Goals as goal

@@ -1,0 +1,49 @@
+-- The answer to the model that a text says.
+use Rattle.std.specs.Prelude.{◌≡◌, ℕ, ◌≤◌, true, List, length, Option}
+use Rattle.core_forms.specs.declared.equation.Equation.{Equation}
+use Rattle.core_forms.specs.declared.form.Core.{Core}
+use Rattle.core_rules.specs.Instances.{is_instance_at}
+use Rattle.model_meaning.specs.declared.model.Model.{Model}
+use Rattle.model_texts.specs.HeldModels.{HoldsModel}
+use Rattle.answer_document.specs.declared.verdict.Verdict.{Verdict}
+use Rattle.answer_document.specs.declared.verdict.Verdict.TheVariants as verdict
+use Rattle.answer_document.specs.declared.document.Document.{Document}
+use Rattle.answer_document.specs.DocumentText.{document_text}
+use Rattle.answer_document.specs.Valid.{numbers_given}
+use Rattle.answer_document.specs.Claims.{Claims}
+use Rattle.decode_minimize.specs.declared.options.Options.{Options}
+use Rattle.decode_minimize.specs.Answers.{IsAnswer}
+use Rattle.text_modes.specs.declared.ends.Outcome.{Outcome}
+use Rattle.text_modes.specs.declared.ends.Outcome.TheVariants.{Done, Unknown}
+
+-- each instance of each rule is told
+abbrev pub IsInstance : Core → Equation → Type 0
+IsInstance core e = is_instance_at core e ≡ true
+
+-- what a verdict says of the run: a search that was given up tells its budget
+abbrev pub outcome_of : Verdict → Outcome
+outcome_of verdict.Satisfiable = Done
+outcome_of verdict.Unsatisfiable = Done
+outcome_of (verdict.Optimum b) = Done
+outcome_of (verdict.Unknown n best) = Unknown n
+
+-- the text of an answer to a model, by all rules, with what its verdict says of the run
+pub record IsAnswerText (options : Options) (model : Model) (outcome : Outcome) (written : List ℕ) : Type 0 where
+  pub document : Document
+  pub before : ℕ
+  pub after : ℕ
+  pub is : IsAnswer IsInstance model options document before after
+  pub writes : written ≡ document_text model.decls model.goal document
+  pub outcome_is : outcome ≡ outcome_of document.verdict
+
+-- the text of an answer to the model that a text says
+pub record Answers (options : Options) (text : List ℕ) (outcome : Outcome) (written : List ℕ) : Type 0 where
+  pub model : Model
+  pub held : HoldsModel text model
+  pub is : IsAnswerText options model outcome written
+
+-- The text that was read is within the limit and says a model without fault, and the written text is that of an answer to the model: it is
+-- valid (`is.is.valid`), and what it says is true.
+pub record IsSolved (options : Options) (text : List ℕ) (outcome : Outcome) (written : List ℕ) : Type 0 where
+  pub answer : Answers options text outcome written
+  pub true_claims : Claims answer.model answer.is.document.verdict (numbers_given answer.is.document.assignment)

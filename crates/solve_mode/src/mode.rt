@@ -1,0 +1,79 @@
+//! The mode `solve`.
+
+ghost use Rattle.text_modes.specs.Seen.{seen, shelf_shown, sink_shown};
+ghost use Rattle.decode_minimize.specs.Answers.{IsBudget};
+ghost use Rattle.solve_mode.specs.SolveMode.{SolveMode};
+
+use crate::making::solve_text;
+use bee_outside::{Shelf, Sink};
+use decode_minimize::Options;
+use model_texts::{ModelFault, TextFault};
+use std::alloc::{AllocError, Global};
+use std::marker::Model;
+use text_modes::{End, Made, OneText, run_one};
+
+/// The greatest number of bytes of a model's text.
+const LONGEST_TEXT: usize = 16_777_216;
+
+/// The text of a model is read, and that of its answer is written.
+#[derive(Drop)]
+struct Solving {
+    options: Options,
+}
+
+impl Model for Solving {
+    ghost use Rattle.decode_minimize.specs.declared.options.Options.{Options};
+
+    ghost Value = { Options };
+
+    ghost view = { λ s. s.options };
+
+    ghost invariant = { λ s. IsBudget s.options.budget };
+}
+
+impl OneText for Solving {
+    ghost use Rattle.std.specs.Prelude.{◌+◌, Some};
+    ghost use Rattle.model_texts.specs.ModelTexts.{longest_text, HasFault};
+    ghost use Rattle.solve_mode.specs.Solved.{IsSolved};
+
+    type Fault = ModelFault;
+
+    ghost most = { λ _. Some (longest_text + 1) };
+
+    ghost gives = { λ options. IsSolved options };
+
+    ghost has_fault = { λ _. HasFault };
+
+    fn limit(&self) -> Option<usize> {
+        Some(LONGEST_TEXT + 1)
+    }
+
+    fn too_long(&self) -> ModelFault {
+        ModelFault::TooLong
+    }
+
+    #[tactic(auto, using(crate::proofs::Ends::given_text, crate::proofs::Ends::had_fault, crate::proofs::Ends::within_limit))]
+    fn make(&self, alloc: Global, text: &[u8]) -> Result<Made<ModelFault>, AllocError> {
+        match solve_text(alloc, text, self.options) {
+            Ok((outcome, written)) => Ok(Made::Text(outcome, written)),
+            Err(TextFault::Model(fault)) => Ok(Made::Fault(fault)),
+            Err(TextFault::Memory) => Err(AllocError),
+        }
+    }
+}
+
+/// Reads the text of a model, seeks an answer to it, makes the whole text of that, and then writes it. The end tells whether the
+/// budget was spent.
+pub fn solve<S: Shelf, O: Sink>(
+    alloc: Global,
+    input: &str,
+    options: Options,
+    shelf: &mut S,
+    out: &mut O,
+) -> End<ModelFault>
+    requires { IsBudget options.budget }
+    ensures { SolveMode options input.now result (seen (shelf_shown S.left S.faults)
+        (sink_shown O.taken O.flushed O.faults) shelf.old shelf.new out.old out.new) }
+{
+    run_one(alloc, &Solving { options }, input, shelf, out)
+}

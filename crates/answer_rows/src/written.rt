@@ -1,11 +1,13 @@
 //! Documents that are written from values, each with its whole text, and with what comes of that text.
 
+ghost use Rattle.std.specs.Prelude.{◌≡◌, IsTrue, IfSome, length};
+
 use crate::checked::{answer, small_model};
 use answer_document::{Bounds, Document, Verdict, write_document};
 use bee_list::Sequence;
 use core_forms::{Equation, Rule};
 use ledger_text::Line;
-use model_meaning::Assignment;
+use model_meaning::{Assignment, Decl};
 use order_ints::{Atom, Lit};
 use proof_check::ProofLine;
 use std::alloc::{AllocError, Global};
@@ -329,16 +331,24 @@ fn document(alloc: Global, row: &Row) -> Result<Document, AllocError> {
     })
 }
 
+/// Whether an assignment has a value for each name, where there is one.
+fn has_values(decls: &[Decl], assignment: &Option<Assignment>) -> bool
+    ensures { IsTrue result → IfSome assignment.now (λ a. length decls.now ≡ length a.values) }
+{
+    match assignment {
+        Some(given) => decls.len() == given.values.as_slice().len(),
+        None => true,
+    }
+}
+
 /// Asserts that documents are written as these texts, and what comes of the texts.
 fn are_written(rt: &impl Abort, alloc: Global, rows: &[Row]) -> Result<(), Fail> {
     for row in rows {
         let model = small_model(alloc, row.model)?;
         let document = document(alloc, row)?;
         let decls = model.decls.as_slice();
-        if let Some(given) = &document.assignment {
-            if given.values.as_slice().len() != decls.len() {
-                return Err(Fail::from("as many values as names"));
-            }
+        if !has_values(decls, &document.assignment) {
+            return Err(Fail::from("a value for each name"));
         }
         let text = write_document(alloc, decls, model.goal, &document)?;
         assert_eq!(rt; text.as_slice(), row.text.as_bytes(), "{}", row.text);

@@ -20,6 +20,7 @@ use Rattle.model_meaning.specs.declared.model.Kind.TheVariants as kind
 use Rattle.model_meaning.specs.declared.what.What.{What}
 use Rattle.model_meaning.specs.WellTyped.{KindFits, WhatFits}
 use Rattle.statement_lower.specs.Lines.{made_of}
+use Rattle.statement_lower.specs.Terms.{atom_of}
 use Rattle.model_weight.specs.Statements.{weight_of_what}
 use Rattle.model_weight.specs.Weight.{weight_of_declaration, weight_of_items}
 use Rattle.model_lower.specs.declared.state.Lowered.{Lowered}
@@ -60,7 +61,7 @@ entries-more (c ∷ ds) (x ∷ entries) d e h k = (h.0, entries-more ds entries 
 -- the name that a `bool2int` declares has its Boolean, as an integer of 0 and 1
 defined-is : (ds : List Decl) (entries : List MapValue) (d : Decl) (s : Stmt) → IsDefinition ds d s → EntryIs d.kind (defined_entry entries s.what)
 defined-is ds entries d s h =
-    rw (h.kind, h.what) (record { rising = (omega arith, tt); least = refl; greatest = omega (arith, ints); shape = shape-bit _ })
+    rw (h.kind, h.what) (record { rising = (omega arith, tt); least = refl; greatest = omega (arith, ints); shape = shape-bit (atom_of entries h.truth) })
 
 -- A declaration.
 

@@ -209,7 +209,7 @@ fn told_examples_are_compiled(rt: HostRuntime) -> Result<(), Fail> {
     let rows = [
         (GOLOMB_RULER, "\np cnf 94 375\n", "OPTIMUM 6"),
         (JOB_SHOP, "\np cnf 193 223\n", "OPTIMUM 11"),
-        (KNAPSACK, "\np cnf 0 0\n", "OPTIMUM 44"),
+        (KNAPSACK, "\np cnf 234 1071\n", "OPTIMUM 44"),
         (SEND_MORE_MONEY, "\np cnf 162 475\n", "SATISFIABLE"),
     ];
     check(&rt, rt.alloc(), &rows)

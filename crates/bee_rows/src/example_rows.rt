@@ -1,12 +1,13 @@
-//! Rows of examples: what a compiled text says of its variables and clauses.
+//! Rows of examples: what a compiled text says of its variables and clauses, and the verdict of an answer.
 
+use crate::answering::{accepted, solved};
 use crate::outside::{AMPLE, compile_over};
 use std::alloc::Global;
 use std::process::Abort;
 use std::test::Fail;
 
-/// An example's text, and the line with the variables and clauses of its compiled text.
-pub(super) type Row = (&'static str, &'static str);
+/// An example's text, the line with the variables and clauses of its compiled text, and the words of its verdict.
+pub(super) type Row = (&'static str, &'static str, &'static str);
 
 /// Whether a text has this line.
 pub(super) fn has_line(text: &[u8], line: &str) -> bool {
@@ -18,13 +19,16 @@ pub(super) fn has_line(text: &[u8], line: &str) -> bool {
     false
 }
 
-/// Asserts that each example is compiled with its line, and that nothing is on the sink for errors.
+/// Asserts that each example is compiled with its line, that nothing is on the sink for errors, and that it is solved with its
+/// verdict, by an answer that is accepted.
 pub(super) fn check(rt: &impl Abort, alloc: Global, rows: &[Row]) -> Result<(), Fail> {
-    for (text, line) in rows {
+    for (text, line, verdict) in rows {
         let run = compile_over(alloc, text, AMPLE)?;
         assert_eq!(rt; run.status, ("done", 0), "{line}");
         assert_eq!(rt; run.err.taken(), b"".as_slice(), "{line}");
         assert!(rt; has_line(run.out.taken(), line), "{line}");
+        let run = solved(alloc, &["bee", "solve", "m.bee"], text)?;
+        accepted(rt, alloc, text, run.out.taken(), verdict)?;
     }
     Ok(())
 }

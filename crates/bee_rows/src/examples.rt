@@ -280,11 +280,11 @@ solve satisfy
 #[test]
 fn examples_are_compiled(rt: HostRuntime) -> Result<(), Fail> {
     let rows = [
-        (GRAPH_COLOURING, "\np cnf 20 36\n"),
-        (SCHEDULE, "\np cnf 25 54\n"),
-        (PIGEONHOLE, "\np cnf 20 45\n"),
-        (SEATING, "\np cnf 16 51\n"),
-        (MAP_COLOURING, "\np cnf 21 55\n"),
+        (GRAPH_COLOURING, "\np cnf 20 36\n", "SATISFIABLE"),
+        (SCHEDULE, "\np cnf 25 54\n", "OPTIMUM 5"),
+        (PIGEONHOLE, "\np cnf 20 45\n", "UNSATISFIABLE"),
+        (SEATING, "\np cnf 16 51\n", "SATISFIABLE"),
+        (MAP_COLOURING, "\np cnf 21 55\n", "SATISFIABLE"),
     ];
     check(&rt, rt.alloc(), &rows)
 }

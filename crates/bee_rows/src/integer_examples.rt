@@ -4,31 +4,31 @@ use crate::example_rows::check;
 use std::test::Fail;
 
 static GOLOMB_RULER: &str =
-    "% A Golomb ruler with four marks and a length of at most six: no two pairs of marks are equally far apart. The first
+    "% A Golomb ruler with four marks, as short as there is one: no two pairs of marks are equally far apart. The first
 % mark stands at 0.
-new_int(second,1,6) new_int(third,1,6) new_int(fourth,1,6)
+new_int(second,1,9) new_int(third,1,9) new_int(fourth,1,9)
 int_lt(second,third) int_lt(third,fourth)
 % The distances between the marks behind the first one.
-new_int(second_third,1,5) int_plus(second,second_third,third)
-new_int(second_fourth,1,5) int_plus(second,second_fourth,fourth)
-new_int(third_fourth,1,5) int_plus(third,third_fourth,fourth)
+new_int(second_third,1,8) int_plus(second,second_third,third)
+new_int(second_fourth,1,8) int_plus(second,second_fourth,fourth)
+new_int(third_fourth,1,8) int_plus(third,third_fourth,fourth)
 int_array_allDiff([second,third,fourth,second_third,second_fourth,third_fourth])
-solve satisfy
+solve minimize fourth
 ";
 
 static KNAPSACK: &str =
-    "% A hiker packs at most fifteen kilograms, and wants a use of at least forty: how many of each thing, of which there are
-% three at most, and one tent.
+    "% A hiker packs at most fifteen kilograms, as useful as they can be: how many of each thing, of which there are three at most, and one tent.
 new_int(tent,0,1)       % four kilograms, a use of twelve
 new_int(water,0,3)      % two kilograms, a use of five
 new_int(food,0,3)       % three kilograms, a use of nine
 new_int(books,0,3)      % one kilogram, a use of two
 new_int(blankets,0,3)   % two kilograms, a use of six
 int_array_lin_leq([4,2,3,1,2],[tent,water,food,books,blankets],15)
-int_array_lin_geq([12,5,9,2,6],[tent,water,food,books,blankets],40)
+new_int(use,0,78)
+int_array_lin_eq([12,5,9,2,6],[tent,water,food,books,blankets],use)
 % No food without water.
 int_leq(food,water)
-solve satisfy
+solve maximize use
 ";
 
 static QUEENS: &str =
@@ -68,24 +68,24 @@ solve satisfy
 ";
 
 static JOB_SHOP: &str =
-    "% Three jobs on three machines, done within eleven hours. A task is named by its job and its machine, and its number is the
-% hour at which it begins; a machine does one task at a time.
+    "% Three jobs on three machines, done as early as they can be. A task is named by its job and its machine, and its number is the
+% hour at which it begins; a machine does one task at a time, and the shop closes after thirteen hours.
 % Job a: three hours on machine 1, then two on machine 2, then two on machine 3.
-new_int(a1,0,8) new_int(a2,0,9) new_int(a3,0,9)
+new_int(a1,0,10) new_int(a2,0,11) new_int(a3,0,11)
 int_array_lin_leq([1,-1],[a1,a2],-3)
 int_array_lin_leq([1,-1],[a2,a3],-2)
 % Job b: two hours on machine 1, then one on machine 3, then four on machine 2.
-new_int(b1,0,9) new_int(b3,0,10) new_int(b2,0,7)
+new_int(b1,0,11) new_int(b3,0,12) new_int(b2,0,9)
 int_array_lin_leq([1,-1],[b1,b3],-2)
 int_array_lin_leq([1,-1],[b3,b2],-1)
 % Job c: four hours on machine 2, then three on machine 3.
-new_int(c2,0,7) new_int(c3,0,8)
+new_int(c2,0,9) new_int(c3,0,10)
 int_array_lin_leq([1,-1],[c2,c3],-4)
 % The hours at which tasks end, where another one waits for the machine.
-new_int(a1_end,3,11) int_plus(a1,3,a1_end) new_int(b1_end,2,11) int_plus(b1,2,b1_end)
-new_int(a2_end,2,11) int_plus(a2,2,a2_end) new_int(b2_end,4,11) int_plus(b2,4,b2_end)
-new_int(c2_end,4,11) int_plus(c2,4,c2_end) new_int(a3_end,2,11) int_plus(a3,2,a3_end)
-new_int(b3_end,1,11) int_plus(b3,1,b3_end) new_int(c3_end,3,11) int_plus(c3,3,c3_end)
+new_int(a1_end,3,13) int_plus(a1,3,a1_end) new_int(b1_end,2,13) int_plus(b1,2,b1_end)
+new_int(a2_end,2,13) int_plus(a2,2,a2_end) new_int(b2_end,4,13) int_plus(b2,4,b2_end)
+new_int(c2_end,4,13) int_plus(c2,4,c2_end) new_int(a3_end,2,13) int_plus(a3,2,a3_end)
+new_int(b3_end,1,13) int_plus(b3,1,b3_end) new_int(c3_end,3,13) int_plus(c3,3,c3_end)
 % Of two tasks on one machine, one ends before the other begins.
 new_bool(a1_b1) int_leq_reif(a1_end,b1,a1_b1) new_bool(b1_a1) int_leq_reif(b1_end,a1,b1_a1) bool_array_or([a1_b1,b1_a1])
 new_bool(a2_b2) int_leq_reif(a2_end,b2,a2_b2) new_bool(b2_a2) int_leq_reif(b2_end,a2,b2_a2) bool_array_or([a2_b2,b2_a2])
@@ -94,7 +94,9 @@ new_bool(b2_c2) int_leq_reif(b2_end,c2,b2_c2) new_bool(c2_b2) int_leq_reif(c2_en
 new_bool(a3_b3) int_leq_reif(a3_end,b3,a3_b3) new_bool(b3_a3) int_leq_reif(b3_end,a3,b3_a3) bool_array_or([a3_b3,b3_a3])
 new_bool(a3_c3) int_leq_reif(a3_end,c3,a3_c3) new_bool(c3_a3) int_leq_reif(c3_end,a3,c3_a3) bool_array_or([a3_c3,c3_a3])
 new_bool(b3_c3) int_leq_reif(b3_end,c3,b3_c3) new_bool(c3_b3) int_leq_reif(c3_end,b3,c3_b3) bool_array_or([b3_c3,c3_b3])
-solve satisfy
+% The hour at which all is done.
+new_int(done,0,13) int_leq(a3_end,done) int_leq(b2_end,done) int_leq(c3_end,done)
+solve minimize done
 ";
 
 static QUASIGROUP: &str =
@@ -194,21 +196,21 @@ solve satisfy
 #[test]
 fn counted_examples_are_compiled(rt: HostRuntime) -> Result<(), Fail> {
     let rows = [
-        (GOLOMB_RULER, "\np cnf 51 89\n"),
-        (JOB_SHOP, "\np cnf 148 52\n"),
-        (QUASIGROUP, "\np cnf 150 0\n"),
-        (QUEENS, "\np cnf 396 852\n"),
-        (SUDOKU, "\np cnf 891 0\n"),
+        (QUASIGROUP, "\np cnf 150 0\n", "SATISFIABLE"),
+        (QUEENS, "\np cnf 396 852\n", "SATISFIABLE"),
+        (SUDOKU, "\np cnf 891 0\n", "SATISFIABLE"),
     ];
     check(&rt, rt.alloc(), &rows)
 }
 
 /// These are what the program told, with no count beside it.
 #[test]
-fn examples_with_long_sums_are_compiled(rt: HostRuntime) -> Result<(), Fail> {
+fn told_examples_are_compiled(rt: HostRuntime) -> Result<(), Fail> {
     let rows = [
-        (KNAPSACK, "\np cnf 83 291\n"),
-        (SEND_MORE_MONEY, "\np cnf 162 475\n"),
+        (GOLOMB_RULER, "\np cnf 94 375\n", "OPTIMUM 6"),
+        (JOB_SHOP, "\np cnf 193 223\n", "OPTIMUM 11"),
+        (KNAPSACK, "\np cnf 0 0\n", "OPTIMUM 44"),
+        (SEND_MORE_MONEY, "\np cnf 162 475\n", "SATISFIABLE"),
     ];
     check(&rt, rt.alloc(), &rows)
 }

@@ -212,8 +212,8 @@ solve satisfy
 #[test]
 fn matrices_of_the_examples_are_compiled(rt: HostRuntime) -> Result<(), Fail> {
     let rows = [
-        (BLOCK_DESIGN, "\np cnf 939 2335\n"),
-        (ROUND_ROBIN, "\np cnf 294 648\n"),
+        (BLOCK_DESIGN, "\np cnf 939 2335\n", "SATISFIABLE"),
+        (ROUND_ROBIN, "\np cnf 294 648\n", "SATISFIABLE"),
     ];
     check(&rt, rt.alloc(), &rows)
 }

@@ -1,8 +1,6 @@
 //! Solve mode, and check mode over what it writes.
 
-use crate::outside::{AMPLE, Shown, run_files, run_over};
-use std::alloc::{AllocError, Global};
-use std::process::Abort;
+use crate::answering::{accepted, checked, solved};
 use std::test::Fail;
 
 /// A model with what its answer begins with, and the words of the verdict by which that is accepted.
@@ -169,49 +167,6 @@ static DOCUMENTS: [(&str, &str, &str, u128); 8] = [
     ("new_int(x,3,2) solve satisfy", "bee 1\n", "empty domain", 1),
     ("solve satisfy", "bee 1\nSATISFIABLE\nend\n", "done", 0),
 ];
-
-/// Checks a document for a model.
-fn checked(alloc: Global, model: &str, document: &[u8]) -> Result<Shown, AllocError> {
-    let model = (
-        String::from_str(alloc, "m.bee")?,
-        Vec::from_slice(alloc, model.as_bytes())?,
-    );
-    let document = (
-        String::from_str(alloc, "a.txt")?,
-        Vec::from_slice(alloc, document)?,
-    );
-    run_files(
-        alloc,
-        &["bee", "check", "m.bee", "a.txt"],
-        vec![in alloc; model, document]?,
-        AMPLE,
-    )
-}
-
-/// Asserts that what was written is accepted for a model, by the words of a verdict.
-fn accepted(
-    rt: &impl Abort,
-    alloc: Global,
-    model: &str,
-    written: &[u8],
-    verdict: &str,
-) -> Result<(), Fail> {
-    let run = checked(alloc, model, written)?;
-    let told = format!(in alloc; "ACCEPTED {verdict}\n")?;
-    assert_eq!(rt; run.out.taken(), told.as_bytes(), "{model}");
-    assert_eq!(rt; run.status, ("done", 0), "{model}");
-    Ok(())
-}
-
-/// Solves a model.
-fn solved(alloc: Global, words: &[&str], model: &str) -> Result<Shown, AllocError> {
-    run_over(
-        alloc,
-        words,
-        Vec::from_slice(alloc, model.as_bytes())?,
-        AMPLE,
-    )
-}
 
 #[test]
 fn answers_are_written_and_accepted(rt: HostRuntime) -> Result<(), Fail> {

@@ -17,7 +17,7 @@ use crate::solving::{refuted, solve};
 use answer_document::Document;
 use bee_list::Sequence;
 use fixpoint_queue::Oracle;
-use model_lower::{LowerFault, Lowered, LoweredModel, lower, lower_owned};
+use model_lower::{LowerFault, Lowered, lower, lower_owned};
 use model_meaning::{Decl, Goal, Model};
 use name_map::NameMap;
 use rule_base::Steps;
@@ -134,7 +134,10 @@ pub fn answer_owned<F: Oracle<L>, L: Ledger>(
     ensures heavy { IfErr result (λ e. IsFaultOf e model) }
 {
     let goal = model.goal;
-    let LoweredModel { lowered, decls } = lower_owned(alloc, model)?;
-    let document = answer_lowered(alloc, lowered, goal, options, oracle, steps)?;
-    Ok(AnsweredModel { document, decls })
+    let held = lower_owned(alloc, model)?;
+    let document = answer_lowered(alloc, held.lowered, goal, options, oracle, steps)?;
+    Ok(AnsweredModel {
+        document,
+        decls: held.decls,
+    })
 }

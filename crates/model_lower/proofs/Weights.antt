@@ -21,6 +21,7 @@ use Rattle.model_meaning.specs.declared.what.What.{What}
 use Rattle.model_meaning.specs.WellTyped.{KindFits, WhatFits}
 use Rattle.statement_lower.specs.Terms.{atom_of}
 use Rattle.statement_lower.specs.Lines.{made_of}
+use Rattle.statement_lower.specs.Terms.{atom_of}
 use Rattle.model_weight.specs.Statements.{weight_of_what}
 use Rattle.model_weight.specs.Weight.{weight_of_declaration, weight_of_items}
 use Rattle.model_lower.specs.declared.state.Lowered.{Lowered}

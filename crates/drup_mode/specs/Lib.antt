@@ -1,3 +1,0 @@
-pub mod Checked
-pub mod DrupMode
-pub mod DrupLaws

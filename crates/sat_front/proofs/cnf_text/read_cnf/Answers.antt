@@ -1,8 +1,0 @@
-use Rattle.sat_front.proofs.CnfExact.{cnf_complete, cnf_exact}
-use Rattle.sat_front.proofs.cnf_text.read_cnf.Goals as goal
-
-pub returns-clause-complete : goal.returns-clause-complete
-returns-clause-complete c = cnf_complete c.args.text.now c.read_text.result c.read_text.ensures.read c.read_text.ensures.fault
-
-pub returns-clause-exact : goal.returns-clause-exact
-returns-clause-exact c = cnf_exact c.args.text.now c.read_text.result c.read_text.ensures.read c.read_text.ensures.fault

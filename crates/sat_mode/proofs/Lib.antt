@@ -1,3 +1,0 @@
-mod Logs
-mod Findings
-pub mod Ends

@@ -1,4 +1,0 @@
-pub mod Written
-pub mod Solved
-pub mod SatMode
-pub mod AnswerLaw

@@ -13,7 +13,7 @@ use Rattle.text_modes.specs.declared.ends.Outcome.{Outcome}
 use Rattle.text_modes.specs.declared.ends.Outcome.TheVariants.{Done, Refused, Unknown}
 use Rattle.text_modes.specs.declared.ends.End.{End}
 use Rattle.text_modes.specs.declared.ends.End.TheVariants.{Wrote, Memory}
-use Rattle.std.specs.Prelude.{None}
+use Rattle.std.specs.Prelude.{None, Some}
 use Rattle.decode_mode.specs.Decoded.{HasForm, Gives, InForm, FailsBehind}
 use Rattle.decode_mode.specs.DecodeMode.{HaveEnd, DecodeMode}
 
@@ -65,3 +65,7 @@ mode input second end seen r = record {
 -- where memory is wanting before the mode begins
 pub idle : (input second : List ℕ) (seen : Seen) → Untouched seen → DecodeMode input second Memory seen
 idle input second seen same = mode input second Memory seen (two_idle None TextFails seen same HasForm Gives input second)
+
+-- where there is no limit, no text reaches it
+pub never_too_long : (text : List ℕ) (n line : ℕ) → None ≡ Some n → TextFails text line
+never_too_long text n line e = absurd (let c = e in cc)

@@ -1,6 +1,6 @@
 //! A mode that reads one text.
 
-ghost use Rattle.std.specs.Prelude.{◌≡◌, ◌<◌, ◌≤◌, ℕ, List, length, Some, IsSome, IfOk, IfSome};
+ghost use Rattle.std.specs.Prelude.{◌≡◌, ◌<◌, ◌≤◌, ℕ, List, length, Some, IfOk, IfSome};
 ghost use Rattle.text_modes.specs.Seen.{seen, shelf_shown, sink_shown};
 ghost use Rattle.text_modes.specs.Ends.{IsMade};
 ghost use Rattle.text_modes.specs.Promises.{Writes};
@@ -29,9 +29,8 @@ pub trait OneText {
     fn limit(&self) -> Option<usize>
         ensures { result ≡ most self.now };
 
-    /// The fault of a text that has so many bytes.
+    /// The fault of a text that has so many bytes; where there is no limit, any.
     fn too_long(&self) -> Self::Fault
-        requires { IsSome (most self.now) }
         ensures { (n : ℕ) (text : List ℕ) → most self.now ≡ Some n → n ≤ length text → has_fault self.now text result };
 
     /// The text that is written for one, or its fault.

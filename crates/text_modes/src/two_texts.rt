@@ -1,6 +1,6 @@
 //! A mode that reads two texts.
 
-ghost use Rattle.std.specs.Prelude.{◌≡◌, ◌<◌, ◌≤◌, ℕ, List, length, None, Some, IsSome, IfOk, IfSome};
+ghost use Rattle.std.specs.Prelude.{◌≡◌, ◌<◌, ◌≤◌, ℕ, List, length, None, Some, IfOk, IfSome};
 ghost use Rattle.text_modes.specs.Seen.{seen, shelf_shown, sink_shown};
 ghost use Rattle.text_modes.specs.Promises.{Writes, TookUnder};
 ghost use Rattle.text_modes.specs.TwoTexts.{FirstRead, IsJudged, HoldsSome, GivesBehind, TwoTextRun};
@@ -36,9 +36,8 @@ pub trait TwoTexts {
     fn limit(&self) -> Option<usize>
         ensures { result ≡ most self.now };
 
-    /// The fault of a text that has so many bytes.
+    /// The fault of a text that has so many bytes; where there is no limit, any.
     fn too_long(&self) -> Self::Fault
-        requires { IsSome (most self.now) }
         ensures { (n : ℕ) (text : List ℕ) → most self.now ≡ Some n → n ≤ length text → has_fault self.now text result };
 
     /// What the first text holds, or its fault.

@@ -19,7 +19,6 @@ use Rattle.model_meaning.specs.declared.model.Kind.{Kind}
 use Rattle.model_meaning.specs.declared.model.Kind.TheVariants as kind
 use Rattle.model_meaning.specs.declared.what.What.{What}
 use Rattle.model_meaning.specs.WellTyped.{KindFits, WhatFits}
-use Rattle.statement_lower.specs.Terms.{atom_of}
 use Rattle.statement_lower.specs.Lines.{made_of}
 use Rattle.statement_lower.specs.Terms.{atom_of}
 use Rattle.model_weight.specs.Statements.{weight_of_what}

@@ -3,9 +3,9 @@ mod Answers
 mod Stepping
 mod Certificates
 mod Endings
-mod Onward
+pub mod Onward
 mod Backward
-mod ValidWhole
+pub mod ValidWhole
 mod WordLaws
 mod Takings
 mod OpeningLaws

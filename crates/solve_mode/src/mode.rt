@@ -22,6 +22,7 @@ struct Solving {
 }
 
 impl Model for Solving {
+    ghost use Rattle.decode_minimize.specs.Answers.{IsBudget};
     ghost use Rattle.decode_minimize.specs.declared.options.Options.{Options};
 
     ghost Value = { Options };

@@ -1,7 +1,11 @@
--- What a run promises where its mode never began.
-use Rattle.std.proofs.Common.{Some, None, refl}
-use Rattle.std.specs.Prelude.{Option}
-use Rattle.command_words.specs.Request.{Request, Compile, Solve, Check, Decode, Queens}
+-- What a run promises where its mode never began, and what a command keeps to.
+use Rattle.std.proofs.Common.{◌≡◌, ℕ, List, Some, None, refl, sym}
+use Rattle.std.specs.Prelude.{Option, option_map}
+use Rattle.command_words.specs.declared.command.Command.{Command}
+use Rattle.command_words.specs.Request.{Request, Compile, Solve, Check, Decode, Queens, request_of}
+use Rattle.command_words.specs.Line.{request}
+use Rattle.command_words.specs.Limits.{KeepsLimits}
+use Rattle.command_words.proofs.RequestLimits.{requests_keep_limits}
 use Rattle.text_modes.specs.Seen.{Seen, Untouched}
 use Rattle.text_modes.specs.declared.ends.End.TheVariants as end
 use Rattle.compile_mode.proofs.Ends as compiling
@@ -19,3 +23,7 @@ unread (Some (Solve input options)) seen same = (end.Memory, refl, solving.idle 
 unread (Some (Check input second)) seen same = (end.Memory, refl, checking.idle input second seen same)
 unread (Some (Decode input second)) seen same = (end.Memory, refl, decoding.idle input second seen same)
 unread (Some (Queens size options)) seen same = same
+
+-- the command that the words give keeps to its limits
+pub keeps : (words : List (List ℕ)) (command : Command) → option_map request_of (Some command) ≡ request words → KeepsLimits (request_of command)
+keeps words command e = requests_keep_limits words (request_of command) (sym e)

@@ -52,6 +52,7 @@ fn obey<S: Shelf, O: Sink>(
 }
 
 /// What comes of the words.
+#[tactic(auto, using(crate::proofs::Obeyings::keeps))]
 fn follow<S: Shelf, O: Sink>(alloc: Global, words: &[String], shelf: &mut S, out: &mut O) -> Status
     ensures usage { result ≢ Status.Memory →
         (result ≡ Status.Usage) ↔ IsFalse (is_built (request (map string_bytes words.now))) }

@@ -108,7 +108,12 @@ solve satisfy
 
 /// The words, the status, its number, and the words of the verdict.
 static BUDGETS: [(&[&str], &str, u128, &str); 4] = [
-    (&["bee", "solve", "m.bee", "--budget", "1"], "unknown", 1, "UNKNOWN 1"),
+    (
+        &["bee", "solve", "m.bee", "--budget", "1"],
+        "unknown",
+        1,
+        "UNKNOWN 1",
+    ),
     (
         &["bee", "solve", "m.bee", "--no-restart", "--budget", "4096"],
         "done",
@@ -200,7 +205,12 @@ fn accepted(
 
 /// Solves a model.
 fn solved(alloc: Global, words: &[&str], model: &str) -> Result<Shown, AllocError> {
-    run_over(alloc, words, Vec::from_slice(alloc, model.as_bytes())?, AMPLE)
+    run_over(
+        alloc,
+        words,
+        Vec::from_slice(alloc, model.as_bytes())?,
+        AMPLE,
+    )
 }
 
 #[test]

@@ -20,7 +20,7 @@ use dimacs_out::{CnfText, write_compiled};
 use fixpoint_queue::TableP;
 use model_lower::LowerFault;
 use model_meaning::Model;
-use model_texts::{TextFault, model_of};
+use model_texts::{TextFault, lower_fault, model_of};
 use rule_base::Steps;
 use std::alloc::{AllocError, Global};
 use std::marker::Brand;
@@ -87,5 +87,8 @@ pub(crate) fn compile_text(alloc: Global, text: &[u8]) -> Result<Vec<u8>, TextFa
     ensures fault { IfErr result (λ e. IsCauseOf e text.now) }
 {
     let model = model_of(alloc, text)?;
-    Ok(write_model(alloc, model)?)
+    match write_model(alloc, model) {
+        Ok(written) => Ok(written),
+        Err(fault) => Err(lower_fault(fault)),
+    }
 }

@@ -13,5 +13,5 @@ mod Steps
 mod Follows
 mod Collects
 mod Works
-pub mod Accepted
-pub mod Newness
+mod Accepted
+mod Newness

@@ -130,13 +130,13 @@ readable-steps n (Encode id ∷ lines) h below = (below.0, readable-steps n line
 
 -- a derivation adds as many clauses as it has additions
 added-many : (p : Proof) (lines : List ProofLine) → length (after_lines p lines).added ≡ length p.added + additions lines
-added-many p [] = refl
+added-many p [] = omega arith
 added-many p (Add id lits hints ∷ lines) =
     omega (arith, added-many (after_line p (Add id lits hints)) lines, length-append p.added (record { id = id; lits = lits } ∷ []))
 added-many p (Delete at ids ∷ lines) = added-many (after_line p (Delete at ids)) lines
 
 pub added-behind : (cnf : Cnf) (lines : List ProofLine) → length (proof_behind cnf lines).added ≡ additions lines
-added-behind cnf lines = added-many (proof_of cnf) lines
+added-behind cnf lines = omega (arith, added-many (proof_of cnf) lines)
 
 -- of what is given, an assignment or none
 pub given-length : (o : Option Assignment) (xs : List ℤ) (n : ℕ) → numbers_given o ≡ Some xs → length xs ≡ n → IfSome o (λ (a : Assignment). n ≡ length a.values)

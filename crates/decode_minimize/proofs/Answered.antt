@@ -111,7 +111,7 @@ module _ (told : Core → Equation → Type 0) (model : Model) (typed : WellType
   solutions a = (λ h. decodes.each a h, λ g. subst (IsSolution model) (sym g.2) (decodes.solution g.0 g.1))
 
   module _ (s : Solved) (derivation : IsDerivation (cnf_of last) s.proof) where
-    derived : IsDerived model (document_of s ledger)
+    abbrev derived : IsDerived model (document_of s ledger)
     derived = record { last = last; leads = leads; proof = proof_behind (cnf_of last) s.proof; accepted = derivation.accepted }
 
     -- of a solution that is given
@@ -216,7 +216,7 @@ module _ (told : Core → Equation → Type 0) (model : Model) (typed : WellType
       first-derived : (b : Bounds) → IsFirstShown problem d first_integer s b → IsShown (proof_behind (cnf_of last) s.proof) (first_shown model last b.first)
       first-derived b h = subst (IsShown (proof_behind (cnf_of last) s.proof)) (sym (first-is b.first)) h
 
-      second-derived : (b : Bounds) (lines : List ProofLine) → HasSecond problem d first_integer s b lines → IsSecond model last (proof_behind (cnf_of last) s.proof) b lines
+      abbrev second-derived : (b : Bounds) (lines : List ProofLine) → HasSecond problem d first_integer s b lines → IsSecond model last (proof_behind (cnf_of last) s.proof) b lines
       second-derived b lines h = record {
         bound = first-derived b h.first;
         proof = proof_behind (settled_cnf problem d first_integer b.first) lines;
@@ -257,7 +257,7 @@ module _ (told : Core → Equation → Type 0) (model : Model) (typed : WellType
             → AreShown model last (proof_behind (cnf_of last) s.proof) b b.second s.second × IsFreshSecond model last (Some b) s.second
         shown-by None goal e h = (
           subst (λ (x : Option ℤ). AreShown model last (proof_behind (cnf_of last) s.proof) b x s.second) (sym e)
-          (subst (λ (y : Option (List ProofLine)). AreShown model last (proof_behind (cnf_of last) s.proof) b None y) (sym h.0) (first-derived b h.1)),
+              (subst (λ (y : Option (List ProofLine)). AreShown model last (proof_behind (cnf_of last) s.proof) b None y) (sym h.0) (first-derived b h.1)),
           alone-fresh (Some b) h.0,
         )
         shown-by (Some other) goal e h =
@@ -266,11 +266,10 @@ module _ (told : Core → Equation → Type 0) (model : Model) (typed : WellType
             let one = second-derived b lines h.1 in
             let shown : IsShown one.proof (resolve last.view (bound_of d (integer_named entries other) n)) = h.2 n e in
             let here : second_shown model last n ≡ resolve last.view (bound_of d (integer_named entries other) n) =
-            ap (λ (g : Goal). resolve last.view (second_bound g entries n)) goal ∙ ap (resolve last.view) (second-bound-is d place other entries n) in
-            (
+            ap (λ (g : Goal). resolve last.view (second_bound g entries n)) goal ∙ ap (resolve last.view) (second-bound-is d place other entries n) in (
               subst (λ (x : Option ℤ). AreShown model last (proof_behind (cnf_of last) s.proof) b x s.second) (sym e)
-              (subst (λ (y : Option (List ProofLine)). AreShown model last (proof_behind (cnf_of last) s.proof) b (Some n) y) (sym h.1.is)
-              (one, subst (IsShown one.proof) (sym here) shown)),
+                  (subst (λ (y : Option (List ProofLine)). AreShown model last (proof_behind (cnf_of last) s.proof) b (Some n) y) (sym h.1.is)
+                  (one, subst (IsShown one.proof) (sym here) shown)),
               second-fresh b lines h.1,
             )
 
@@ -301,8 +300,9 @@ module _ (told : Core → Equation → Type 0) (model : Model) (typed : WellType
       -- a budget that suffices isn't spent
       most-is : most_learned options.restart (cnf_of last).vars * most_rounds model.decls model.goal ≤ options.budget
           → most_learned options.restart (cnf_of last).vars * (values_at model.decls place + second_values model.decls second) ≤ options.budget
-      most-is m = subst (λ (k : ℕ). most_learned options.restart (cnf_of last).vars * k ≤ options.budget) (rounds-is d place second model.decls)
-      (subst (λ (g : Goal). most_learned options.restart (cnf_of last).vars * most_rounds model.decls g ≤ options.budget) is m)
+      most-is m =
+          subst (λ (k : ℕ). most_learned options.restart (cnf_of last).vars * k ≤ options.budget) (rounds-is d place second model.decls)
+          (subst (λ (g : Goal). most_learned options.restart (cnf_of last).vars * most_rounds model.decls g ≤ options.budget) is m)
 
       first-count : values_count first_integer ≤ values_at model.decls place
       first-count = count-at ((lowered_of model).vars + 1) 1 model.decls entries typed.decls law.fits.entries place sought-fits.0
@@ -375,9 +375,9 @@ module _ (told : Core → Equation → Type 0) (model : Model) (typed : WellType
         certificate = (
           derived,
           ⊎_elim
-          (λ (f : IsSpentFirst problem options first_integer s). first-added h.0 h.1 b h.2 n h.3 second h.2.second f)
-          (λ (f : IsSpentSecond problem options d first_integer (second_named entries second) s b). both-added h.0 h.1 b h.2 n h.3 second h.2.second f)
-          h.4,
+              (λ (f : IsSpentFirst problem options first_integer s). first-added h.0 h.1 b h.2 n h.3 second h.2.second f)
+              (λ (f : IsSpentSecond problem options d first_integer (second_named entries second) s b). both-added h.0 h.1 b h.2 n h.3 second h.2.second f)
+              h.4,
         );
         numbers = numbers-in h.0 h.1 b h.2;
         assignment = fit h.0 h.1;

@@ -120,9 +120,13 @@ module _ (names : Names) (cnf : Cnf) (sought : Sought) (options : Options) (view
       record {
         derivation = made-derivation names r.best.values v r.proof None s cnf made progress.derivation;
         within = made-within names r.best.values v r.proof None s options.budget made (omega (arith, progress.within));
-        says = subst (IsSolvedBest solving options sought.direction sought.integer.now None s) (sym made.verdict)
-            (r.best.values, made-read names cnf r.best.values v r.proof None s made progress.values, record { first = own-number; second = refl }, refl,
-            inl (record { alone = made.second; spent = count ∙ spent.0; early = omega (arith, spent) }));
+        says = subst (IsSolvedBest solving options sought.direction sought.integer.now None s) (sym made.verdict) (
+          r.best.values,
+          made-read names cnf r.best.values v r.proof None s made progress.values,
+          record { first = own-number; second = refl },
+          refl,
+          inl (record { alone = made.second; spent = count ∙ spent.0; early = omega (arith, spent) }),
+        );
       }
 
   pub one-solved : (s : Solved) → IsMadeOf names r.best.values (verdict_on r.is_best one_bounds options) r.proof None s → IsBestSolved solving options sought.direction sought.integer.now None s
@@ -140,10 +144,13 @@ module _ (names : Names) (cnf : Cnf) (sought : Sought) (options : Options) (view
       record {
         derivation = made-derivation names r.best.values v r.proof None s cnf made progress.derivation;
         within = made-within names r.best.values v r.proof None s options.budget made (omega (arith, progress.within));
-        says = subst (IsSolvedBest solving options sought.direction sought.integer.now (Some other) s) (sym made.verdict)
-            (r.best.values, made-read names cnf r.best.values v r.proof None s made progress.values,
-            record { first = own-number; second = ap (λ (w : List Atom). Some (value_of (read_by w (valuation_of r.best.values)) other)) same }, refl,
-            inl (record { alone = made.second; spent = count ∙ spent.0; early = omega (arith, spent) }));
+        says = subst (IsSolvedBest solving options sought.direction sought.integer.now (Some other) s) (sym made.verdict) (
+          r.best.values,
+          made-read names cnf r.best.values v r.proof None s made progress.values,
+          record { first = own-number; second = ap (λ (w : List Atom). Some (value_of (read_by w (valuation_of r.best.values)) other)) same },
+          refl,
+          inl (record { alone = made.second; spent = count ∙ spent.0; early = omega (arith, spent) }),
+        );
       }
 
 no-worse-below : (n : ℕ) (d : Direction) (a : OrdInt) (m : ℤ) → IntBelow n a → AtomBelow n (no_worse_of d a m)
@@ -283,17 +290,21 @@ module _ (names : Names) (cnf : Cnf) (sought behind : Sought) (options left : Op
         record {
           derivation = made-derivation names last.best.values v r.proof (Some last.proof) s cnf made progress.derivation;
           within = both-within v made;
-          says = subst (IsSolvedBest both_problem options sought.direction sought.integer.now (Some behind.integer.now) s) (sym made.verdict)
-              (last.best.values, has-read v made, has-bounds, refl,
-              inr (record {
-                other = behind.integer.now;
-                is = refl;
-                lines = last.proof;
-                has = has-second v made;
-                spent = omega (arith, count, spent.0, budget, progress.within);
-                early = both-searches (values_count sought.integer.now) (values_count behind.integer.now) (most_learned options.restart cnf.vars) (additions r.proof) (additions last.proof) options.budget
-                    progress.most (spent.0 ∙ budget) progress.within (subst (λ (m : ℕ). additions last.proof < values_count behind.integer.now * m) most spent.1);
-              }));
+          says = subst (IsSolvedBest both_problem options sought.direction sought.integer.now (Some behind.integer.now) s) (sym made.verdict) (
+            last.best.values,
+            has-read v made,
+            has-bounds,
+            refl,
+            inr (record {
+              other = behind.integer.now;
+              is = refl;
+              lines = last.proof;
+              has = has-second v made;
+              spent = omega (arith, count, spent.0, budget, progress.within);
+              early = both-searches (values_count sought.integer.now) (values_count behind.integer.now) (most_learned options.restart cnf.vars) (additions r.proof) (additions last.proof) options.budget
+                  progress.most (spent.0 ∙ budget) progress.within (subst (λ (m : ℕ). additions last.proof < values_count behind.integer.now * m) most spent.1);
+            }),
+          );
         }
 
     pub both-solved : IsMadeOf names last.best.values (verdict_on last.is_best both_bounds options) r.proof (Some last.proof) s

@@ -122,9 +122,9 @@ module _ (old new : Logged) (sought : Sought) (options : Options) (was : Best) (
   shown-turned most unasked shown = (
     shown,
     ⊎_elim
-    (λ (none : left sought was ≡ 0). let same = unasked (left-none none) in omega (arith, same))
-    (λ (some : 1 ≤ left sought was). at-least-one (left sought was) search_most (additions new.log) (additions old.log) some most)
-    (some-or-none (left sought was)),
+        (λ (none : left sought was ≡ 0). let same = unasked (left-none none) in omega (arith, same))
+        (λ (some : 1 ≤ left sought was). at-least-one (left sought was) search_most (additions new.log) (additions old.log) some most)
+        (some-or-none (left sought was)),
   )
 
   -- the budget is spent
@@ -133,9 +133,9 @@ module _ (old new : Logged) (sought : Sought) (options : Options) (was : Best) (
   spent-turned spent early untrue = (
     spent,
     ⊎_elim
-    (λ (none : left sought was ≡ 0). absurd (untrue (left-none none)))
-    (λ (some : 1 ≤ left sought was). fewer-than-one (left sought was) search_most (additions new.log) (additions old.log) some early)
-    (some-or-none (left sought was)),
+        (λ (none : left sought was ≡ 0). absurd (untrue (left-none none)))
+        (λ (some : 1 ≤ left sought was). fewer-than-one (left sought was) search_most (additions new.log) (additions old.log) some early)
+        (some-or-none (left sought was)),
   )
 
 -- one turn after another

@@ -17,11 +17,11 @@ use crate::solving::{refuted, solve};
 use answer_document::Document;
 use bee_list::Sequence;
 use fixpoint_queue::Oracle;
-use model_lower::{LowerFault, Lowered, LoweredModel, lower, lower_owned};
+use model_lower::{LowerFault, Lowered, lower, lower_owned};
 use model_meaning::{Decl, Goal, Model};
 use name_map::NameMap;
 use rule_base::Steps;
-use state_compile::{Compiled, compile_state};
+use state_compile::compile_state;
 use std::alloc::{AllocError, Global};
 use std::sync::ledger::Ledger;
 use step_kernel::State;
@@ -73,24 +73,21 @@ fn answer_lowered<F: Oracle<L>, L: Ledger>(
 {
     let Lowered { vars, map, cores } = lowered;
     let state = State::start(alloc, vars, cores.into_vec())?;
-    let Compiled { state, ledger } = compile_state(alloc, state, oracle, steps)?;
-    let _ids = state.ids();
-    let Solved {
-        verdict,
-        assignment,
-        proof,
-        second,
-    } = solve_state(alloc, &state, &map, goal, options)?;
-    if !are_derivations_readable(&proof, &second) {
-        return Err(AllocError);
+    let compilation = compile_state(alloc, state, oracle, steps)?;
+    let _ids = compilation.state.ids();
+    let solved = solve_state(alloc, &compilation.state, &map, goal, options)?;
+    let readable = are_derivations_readable(&solved.proof, &solved.second);
+    if readable {
+        Ok(Document {
+            verdict: solved.verdict,
+            assignment: solved.assignment,
+            ledger: compilation.ledger,
+            proof: solved.proof,
+            second: solved.second,
+        })
+    } else {
+        Err(AllocError)
     }
-    Ok(Document {
-        verdict,
-        assignment,
-        ledger,
-        proof,
-        second,
-    })
 }
 
 /// The answer to a model: whether it has a solution, or which is a best one, with a certificate. The model is compiled
@@ -137,7 +134,10 @@ pub fn answer_owned<F: Oracle<L>, L: Ledger>(
     ensures heavy { IfErr result (λ e. IsFaultOf e model) }
 {
     let goal = model.goal;
-    let LoweredModel { lowered, decls } = lower_owned(alloc, model)?;
-    let document = answer_lowered(alloc, lowered, goal, options, oracle, steps)?;
-    Ok(AnsweredModel { document, decls })
+    let held = lower_owned(alloc, model)?;
+    let document = answer_lowered(alloc, held.lowered, goal, options, oracle, steps)?;
+    Ok(AnsweredModel {
+        document,
+        decls: held.decls,
+    })
 }

@@ -25,11 +25,7 @@ pub enum Round {
 }
 
 /// Asks for truth values under an assumption, if any.
-fn ask(
-    solver: &mut Solver<'_>,
-    assumed: Option<Lit>,
-    options: Options,
-) -> Result<Round, AllocError>
+fn ask(solver: &mut Solver<'_>, assumed: Option<Lit>, options: Options) -> Result<Round, AllocError>
     requires in_range { ForSome assumed (LitBelow (solver.old.cnf.vars + 1)) }
     requires budget { additions solver.old.log ≤ options.budget }
     ensures cnf { solver.new.cnf ≡ solver.old.cnf }

@@ -71,7 +71,10 @@ fn improve_once(
     ensures seeking { IfOk result (λ t. IsSeeking solver.new sought.now best.new) }
     ensures turned { IfOk result (λ t. IsTurned solver.old solver.new sought.now options best.old best.new t) }
 {
-    let bound = resolve(sought.view, bound_of(sought.direction, sought.integer, best.number));
+    let bound = resolve(
+        sought.view,
+        bound_of(sought.direction, sought.integer, best.number),
+    );
     match ask_bound(solver, bound, options)? {
         Round::Better(values) => {
             take(sought, best, values);

@@ -50,7 +50,9 @@ fn is_readable(line: &ProofLine) -> bool
 {
     match line {
         ProofLine::Add { id, lits, hints } => {
-            *id > 0 && are_readable_literals(lits.as_slice()) && are_readable_hints(hints.as_slice())
+            *id > 0
+                && are_readable_literals(lits.as_slice())
+                && are_readable_hints(hints.as_slice())
         }
         ProofLine::Delete { at, ids } => *at > 0 && are_readable_ids(ids.as_slice()),
     }

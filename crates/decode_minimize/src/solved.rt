@@ -3,8 +3,8 @@
 use crate::improving::Best;
 use answer_document::Verdict;
 use bee_list::Sequence;
-use name_map::NameMap;
 use model_meaning::Assignment;
+use name_map::NameMap;
 use order_ints::Atom;
 use proof_check::ProofLine;
 

@@ -336,15 +336,7 @@ pub fn solve(
             Ok(solved)
         }
         Goal::Minimize(place, second) => {
-            let solved = solve_best(
-                alloc,
-                cnf,
-                names,
-                Direction::Least,
-                place,
-                second,
-                options,
-            )?;
+            let solved = solve_best(alloc, cnf, names, Direction::Least, place, second, options)?;
             Ok(solved)
         }
         Goal::Maximize(place, second) => {

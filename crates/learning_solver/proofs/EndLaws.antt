@@ -1,25 +1,28 @@
 -- The last clause of a refutation: found among the live ones, or new.
-use Rattle.std.proofs.Common.{◌≡◌, ◌≢◌, ℕ, List, [], ◌∷◌, length, Option, Some, None, Bor, refl, ap, sym, ◌∙◌, subst, arith, ⊎_elim, inl, inr}
+use Rattle.std.proofs.Common.{◌≡◌, ◌≢◌, ℕ, true, false, List, [], ◌∷◌, length, Option, Some, None, Bor, refl, ap, sym, ◌∙◌, subst, arith, ⊎_elim, ◌⊎◌, inl, inr}
 use Rattle.std.specs.Prelude.{Contains, IsPermutation}
+use Rattle.std.specs.List.{list_any}
+use Rattle.std.proofs.lemmas.Bool.{cases_Bool, and_parts, or_cases}
 use Rattle.std.proofs.lemmas.List.Sorted.{Contains-permutation, IsPermutation-sym, length_permutation}
 use Rattle.order_ints.specs.declared.literal.Lit.{Lit}
 use Rattle.order_ints.specs.declared.cnf.Cnf.{Cnf}
 use Rattle.order_ints.specs.Truth.{not_lit}
+use Rattle.order_ints.specs.OrderedClauses.{same_lit, has_lit}
+use Rattle.order_ints.proofs.LitOrder.{same_lit-true}
 use Rattle.literal_trail.specs.declared.entry.Entry.{Entry}
 use Rattle.literal_trail.specs.Trail.{Trail}
 use Rattle.clause_arena.specs.Clauses.{Clause, IsLive, lits_of}
-use Rattle.clause_rings.specs.Clauses.{IsComplete, IsApart}
+use Rattle.clause_rings.specs.Clauses.{IsComplete, IsApart, AreApart}
 use Rattle.proof_check.specs.declared.line.ProofLine.{ProofLine}
-use Rattle.proof_check.specs.Named.{Named, clause_at, Lives}
-use Rattle.proof_check.specs.New.{New}
-use Rattle.conflict_analysis.proofs.Newness.{empty-new, unit-new}
+use Rattle.proof_check.specs.Named.{Named, clause_at}
+use Rattle.proof_check.specs.New.{New, lies_within}
 use Rattle.learning_solver.specs.Log.{proof_behind, all_named, IsLog}
 use Rattle.learning_solver.specs.Kept.{IsKept}
 use Rattle.learning_solver.specs.Outcome.{Refutes, IsRefutation}
 use Rattle.learning_solver.specs.declared.search.Search.{Search}
 use Rattle.learning_solver.specs.Searching.{Stays}
 use Rattle.learning_solver.specs.Ending.{last_lits, IsNamedBy, IsDenied}
-use Rattle.learning_solver.proofs.ReasonLaws.{member-first, member-cases}
+use Rattle.learning_solver.proofs.ReasonLaws.{member-first, member-more, member-cases}
 
 no-member : (l : Lit) → Contains [] l → ⊥
 no-member l has = omega (arith, has.1)
@@ -35,13 +38,6 @@ perm-last (Some l) (x ∷ []) perm =
     (λ (has : Contains [] x). absurd (no-member x has))
     (member-cases l [] x (Contains-permutation (x ∷ []) (l ∷ []) x perm (member-first x [])))
 perm-last (Some l) (x ∷ y ∷ xs) perm = absurd (omega (arith, length_permutation (x ∷ y ∷ xs) (l ∷ []) perm))
-
--- what no stored clause is, no live one is
-none-stored : (live : List Named) (cs : List Clause) → IsKept live cs → (last : Option Lit) → ((c : ℕ) → IsLive cs c → lits_of cs c ≢ last_lits last) → (d : Named) → Lives live d → d.lits ≢ last_lits last
-none-stored live cs kept last none d lives e =
-    let st = kept.stored d lives in
-    let P : List Lit → Type 0 = IsPermutation (lits_of cs st.0) in
-    none st.0 st.1.live (perm-last last (lits_of cs st.0) (subst P e (IsPermutation-sym d.lits (lits_of cs st.0) st.1.lits)))
 
 -- a live clause that is the last one wanted
 pub refutation-named : (cnf : Cnf) (log : List ProofLine) (cs : List Clause) → IsLog cnf log → IsKept (proof_behind cnf log).live cs → (assumption last : Option Lit) (id : ℕ) → Refutes assumption (last_lits last) → IsNamedBy cs (last_lits last) id → IsRefutation cnf log assumption id
@@ -69,15 +65,59 @@ refutes-denied t assumption denied reason is =
     subst P (sym is.is) here
 
 -- the empty clause is new where no live clause is empty
+new-of-empty : (live : List Named) (d : Named) → (d.lits ≡ [] → ⊥) → (ls : List Lit) → d.lits ≡ ls → lies_within ls [] ≡ false
+new-of-empty live d some [] e = absurd (some e)
+new-of-empty live d some (l ∷ ls) e = refl
+
+empty-perm : (xs ys : List Lit) → IsPermutation xs ys → xs ≡ [] → ys ≡ []
+empty-perm xs [] perm e = refl
+empty-perm xs (y ∷ ys) perm e = absurd (omega (arith, length_permutation xs (y ∷ ys) perm, ap (λ (l : List Lit). length l) e))
+
 pub new-empty : (live : List Named) (cs : List Clause) → IsKept live cs → ((c : ℕ) → IsLive cs c → lits_of cs c ≢ []) → New live []
-new-empty live cs kept none = empty-new live (λ d lives e. none-stored live cs kept None none d lives e)
+new-empty live cs kept none d lives =
+    let st = kept.stored d lives in
+    new-of-empty live d (λ e. none st.0 st.1.live (empty-perm d.lits (lits_of cs st.0) st.1.lits e)) d.lits refl
+
+-- the members of a list that lies within one literal
+within-one : (l : Lit) (xs : List Lit) → lies_within xs (l ∷ []) ≡ true → (x : Lit) → Contains xs x → x ≡ l
+within-one l [] e x has = absurd (no-member x has)
+within-one l (y ∷ ys) e x has =
+    let both = and_parts (has_lit y (l ∷ [])) (lies_within ys (l ∷ [])) e in
+    ⊎_elim
+    (λ (same : y ≡ x).
+    sym same ∙ ⊎_elim (λ (t : same_lit y l ≡ true). same_lit-true y l t) (λ (f : list_any (same_lit y) [] ≡ true). nothing y f) (or_cases (same_lit y l) (list_any (same_lit y) []) both.0))
+    (λ (there : Contains ys x). within-one l ys both.1 x there)
+    (member-cases y ys x has)
+  where
+    nothing : (y : Lit) → list_any (same_lit y) [] ≡ true → y ≡ l
+    nothing y f = cc
+
+-- where all literals are one, and variables differ, there is one literal at most
+one-at-most : (l : Lit) (ls : List Lit) → ((x : Lit) → Contains ls x → x ≡ l) → IsApart ls → (ls ≡ []) ⊎ (ls ≡ l ∷ [])
+one-at-most l [] all apart = inl refl
+one-at-most l (x ∷ []) all apart = inr (ap (λ (y : Lit). y ∷ []) (all x (member-first x [])))
+one-at-most l (x ∷ y ∷ ls) all apart =
+    let first = all x (member-first x (y ∷ ls)) in
+    let second = all y (member-more x (y ∷ ls) y (member-first y ls)) in
+    let vars : x.var ≡ y.var = ap (λ (z : Lit). z.var) (first ∙ sym second) in
+    absurd (omega (arith, apart 0 1 (omega arith) (omega arith) vars))
 
 -- one literal alone is new where neither it nor the empty clause lives
-pub new-unit : (live : List Named) (cs : List Clause) (entries : List Entry) (l : Lit) → IsKept live cs → IsComplete entries cs → ((d : Named) → Lives live d → IsApart d.lits) → ((c : ℕ) → IsLive cs c → lits_of cs c ≢ l ∷ []) → New live (l ∷ [])
-new-unit live cs entries l kept complete apart none =
-    let not-empty : (c : ℕ) → IsLive cs c → lits_of cs c ≢ [] =
-    λ c there e. (complete c there).not_false (λ x has. absurd (let P : List Lit → Type 0 = λ xs. Contains xs x in no-member x (subst P e has))) in
-    unit-new live l apart (λ d lives. ((λ e. none-stored live cs kept None not-empty d lives e), (λ e. none-stored live cs kept (Some l) none d lives e)))
+pub new-unit : (live : List Named) (cs : List Clause) (entries : List Entry) (l : Lit) → IsKept live cs → IsComplete entries cs → AreApart cs → ((c : ℕ) → IsLive cs c → lits_of cs c ≢ l ∷ []) → New live (l ∷ [])
+new-unit live cs entries l kept complete apart none d lives =
+    ⊎_elim
+    (λ (within : lies_within d.lits (l ∷ []) ≡ true). absurd (never within))
+    (λ (outside : lies_within d.lits (l ∷ []) ≡ false). outside)
+    (cases_Bool (lies_within d.lits (l ∷ [])))
+  where
+    never : lies_within d.lits (l ∷ []) ≡ true → ⊥
+    never within =
+        let st = kept.stored d lives in
+        let ls = lits_of cs st.0 in
+        ⊎_elim
+        (λ (empty : ls ≡ []). (complete st.0 st.1.live).not_false (λ x has. absurd (let P : List Lit → Type 0 = λ xs. Contains xs x in no-member x (subst P empty has))))
+        (λ (one : ls ≡ l ∷ []). none st.0 st.1.live one)
+        (one-at-most l ls (λ x has. within-one l d.lits within x (Contains-permutation ls d.lits x (IsPermutation-sym d.lits ls st.1.lits) has)) (apart st.0 st.1.live))
 
 -- a log that stays
 pub new-stays : (old new : Search) → Stays old new → (ls lits : List Lit) → lits ≡ ls → New (proof_behind old.cnf.now old.lines.items).live ls → New (proof_behind new.cnf.now new.lines.items).live lits

@@ -15,4 +15,3 @@ mod MoveLaws
 mod AcceptLaws
 mod TeachLaws
 mod StartLaws
-mod DeleteLaws

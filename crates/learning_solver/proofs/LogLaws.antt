@@ -162,12 +162,12 @@ module _ (cnf : Cnf) (log : List ProofLine) (is : IsLog cnf log) (id : ℕ) (lit
         apart = added-apart;
       }))
 
-pub still-known : (ids : List ℕ) (cs : List Named) (d : Named) → Lives (without_all ids cs) d → Lives cs d
-still-known [] cs d lives = lives
-still-known (x ∷ ids) cs d lives = (lives-without x cs d (still-known ids (without x cs) d lives)).1
-
 -- what a deletion makes of it
 module _ (cnf : Cnf) (log : List ProofLine) (is : IsLog cnf log) where
+  still-known : (ids : List ℕ) (cs : List Named) (d : Named) → Lives (without_all ids cs) d → Lives cs d
+  still-known [] cs d lives = lives
+  still-known (x ∷ ids) cs d lives = (lives-without x cs d (still-known ids (without x cs) d lives)).1
+
   still-lives : (ids : List ℕ) (cs : List Named) (d : Named) → AreAdded (proof_behind cnf log) ids → Lives (numbered 1 cnf.clauses) d → Lives cs d → Lives (without_all ids cs) d
   still-lives [] cs d added of_cnf lives = lives
   still-lives (x ∷ ids) cs d added of_cnf lives =

@@ -23,18 +23,18 @@ use Rattle.learning_solver.specs.declared.task.Task.{Task}
 use Rattle.learning_solver.specs.declared.found.Found.{Found}
 use Rattle.learning_solver.specs.Height.{height}
 use Rattle.learning_solver.specs.Log.{proof_behind}
-use Rattle.learning_solver.specs.Kept.{IsKept, AreOnce}
+use Rattle.learning_solver.specs.Kept.{IsKept}
 use Rattle.learning_solver.specs.Deciding.{IsTrueIn}
 use Rattle.learning_solver.specs.Order.{IsFreeIn}
 use Rattle.learning_solver.specs.Searching.{IsSearch, IsAssumed, IsRunning, IsTurned, IsLeft, left_to_do, JumpsBack}
 use Rattle.learning_solver.proofs.HeightLaws.{height-below, height-chosen, height-follows}
-use Rattle.learning_solver.proofs.KeptLaws.{kept-same, once-same}
+use Rattle.learning_solver.proofs.KeptLaws.{kept-same}
 use Rattle.learning_solver.proofs.PaceLaws.{paced-lower, paced-start, less-assigned}
 use Rattle.learning_solver.proofs.TurnLaws.{assumed-more}
 
 -- another clause store that fits
-pub search-db : (s : Search) (d : ClauseLists) → IsSearch s → IsDb d.clauses d.trail → d.trail.vars ≡ s.db.trail.vars → IsKept (proof_behind s.cnf.now s.lines.items).live d.clauses → AreOnce s.base d.clauses → IsSearch (record s { db = d })
-search-db s d is db vars kept once = record {
+pub search-db : (s : Search) (d : ClauseLists) → IsSearch s → IsDb d.clauses d.trail → d.trail.vars ≡ s.db.trail.vars → IsKept (proof_behind s.cnf.now s.lines.items).live d.clauses → IsSearch (record s { db = d })
+search-db s d is db vars kept = record {
   db = db;
   vars = vars ∙ is.vars;
   few = is.few;
@@ -42,7 +42,6 @@ search-db s d is db vars kept once = record {
   base = is.base;
   added = is.added;
   kept = kept;
-  once = once;
   order = is.order;
   walker = is.walker;
 }
@@ -66,7 +65,7 @@ module _ (task : Task) (p : Pace) (s : Search) (d : ClauseLists) (is : IsRunning
       let w = follows-more d.clauses s.db.trail d.trail follows in
       let vars = follows-vars d.clauses s.db.trail d.trail follows in
       record {
-        search = search-db s d is.search db vars.0 (kept-same (proof_behind s.cnf.now s.lines.items).live s.db.clauses d.clauses is.search.kept same-clauses) (once-same s.base s.db.clauses d.clauses is.search.once same-clauses);
+        search = search-db s d is.search db vars.0 (kept-same (proof_behind s.cnf.now s.lines.items).live s.db.clauses d.clauses is.search.kept same-clauses);
         within = is.within;
         paced = paced-lower s.cnf.now.vars s.added (height s.db.trail) (height d.trail) p is.paced (height-follows d.clauses s.db.trail d.trail follows);
         assumed = λ above. assumed-more s.db.trail d.trail w.0 task.assumption w.1 (is.assumed (omega (arith, above, vars.1)));
@@ -145,7 +144,7 @@ running-decided task p s d l is clauses trail db free stands =
     let next = subst Q trail db.trail in
     let long = ap (λ (t : Trail). length t.entries) trail in (
       record {
-        search = search-db s d is.search db (ap (λ (t : Trail). t.vars) trail) (subst P (sym clauses) is.search.kept) (let O : List Clause → Type 0 = AreOnce s.base in subst O (sym clauses) is.search.once);
+        search = search-db s d is.search db (ap (λ (t : Trail). t.vars) trail) (subst P (sym clauses) is.search.kept);
         within = is.within;
         paced = paced-lower s.cnf.now.vars s.added (height s.db.trail) (height d.trail) p is.paced (omega (arith, ap height trail, height-chosen s.db.trail l));
         assumed = λ above. subst R (sym trail) (assumed-chosen s.db.trail is.search.db.trail l free.free next task.assumption is.assumed stands);

@@ -9,9 +9,9 @@ use Rattle.proof_check.specs.declared.line.ProofLine.TheVariants.{Add}
 use Rattle.proof_check.specs.Lrat.{Proof, proof_of, after_line, addition_fault}
 use Rattle.proof_check.specs.New.{New}
 use Rattle.learning_solver.specs.Log.{proof_behind, additions, IsLog}
-use Rattle.learning_solver.specs.Kept.{IsKept, AreOnce}
+use Rattle.learning_solver.specs.Kept.{IsKept}
 use Rattle.learning_solver.proofs.LogLaws.{log-added, after-more, none-lives-above, additions-add}
-use Rattle.learning_solver.proofs.KeptLaws.{kept-added, once-added}
+use Rattle.learning_solver.proofs.KeptLaws.{kept-added}
 
 -- a clause is added
 module _ (cnf : Cnf) (log : List ProofLine) (is : IsLog cnf log) (id : ℕ) (lits : List Lit) (hints : List ℤ) (items : List ProofLine) (goes : items ≡ log ++ Add id lits hints ∷ []) (next : id ≡ (proof_behind cnf log).last + 1) where
@@ -31,8 +31,3 @@ module _ (cnf : Cnf) (log : List ProofLine) (is : IsLog cnf log) (id : ℕ) (lit
       let Q : Proof → Type 0 = λ p. IsKept p.live now in
       subst Q (sym behind-taken)
       (subst P (sym made) (kept-added live cs kept c id lits inside unused (none-lives-above cnf log is id (omega (arith, next)))))
-
-  pub once-taken : (cs : List Clause) (c : ℕ) (now : List Clause) → IsKept (proof_behind cnf log).live cs → c < length cs → (stored_at cs c).live ≡ false → now ≡ slice_set cs c (live_clause id lits) → (base : ℕ) → AreOnce base cs → AreOnce base now
-  once-taken cs c now kept inside unused made base once =
-      let P : List Clause → Type 0 = AreOnce base in
-      subst P (sym made) (once-added (proof_behind cnf log).live cs kept c id lits inside unused (none-lives-above cnf log is id (omega (arith, next))) base once)

@@ -11,7 +11,7 @@ use Rattle.clause_rings.specs.Clauses.{IsApart, AreApartIn, HoldsCnf}
 use Rattle.proof_check.specs.declared.line.ProofLine.{ProofLine}
 use Rattle.proof_check.specs.Named.{Named, numbered, clause_at}
 use Rattle.learning_solver.specs.Log.{proof_behind, IsLog}
-use Rattle.learning_solver.specs.Kept.{IsStored, IsKept, AreOnce}
+use Rattle.learning_solver.specs.Kept.{IsStored, IsKept}
 use Rattle.learning_solver.proofs.NamedLaws.{at-first, at-others, numbered-range}
 
 -- the clause of a number, by its place
@@ -93,8 +93,3 @@ log-of-none cnf lines e apart = let P : List ProofLine → Type 0 = IsLog cnf in
 
 pub kept-of-none : (cnf : Cnf) (lines : List ProofLine) (cs : List Clause) → lines ≡ [] → HoldsCnf cnf cs → IsKept (proof_behind cnf lines).live cs
 kept-of-none cnf lines cs e holds = let P : List ProofLine → Type 0 = λ ls. IsKept (proof_behind cnf ls).live cs in subst P (sym e) (kept-start cnf cs holds)
-
--- which are no additions
-pub once-start : (cnf : Cnf) (cs : List Clause) (base : ℕ) → base ≡ length cnf.clauses → HoldsCnf cnf cs → AreOnce base cs
-once-start cnf cs base e holds c d live other high ids =
-    let w = holds.alone c live in absurd (omega (arith, high, e, w.1, ap (λ (x : Clause). x.id) w.2))

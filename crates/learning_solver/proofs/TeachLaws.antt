@@ -1,50 +1,110 @@
 -- What is learned has no fault and is new.
-use Rattle.std.proofs.Common.{◌≡◌, ℕ, ◌+◌, ◌-◌, List, [], ◌∷◌, map, pos, Option, Some, None, Bor, ap, sym, ◌∙◌, subst, arith, ⊎_elim}
-use Rattle.std.specs.Prelude.{Contains, IsPermutation, ℤ, option_map}
+use Rattle.std.proofs.Common.{◌≡◌, ℕ, ◌+◌, ◌-◌, true, false, List, [], ◌∷◌, map, pos, Option, Some, None, Bor, ap, sym, ◌∙◌, subst, arith, ⊎_elim, ◌⊎◌, inl, inr}
+use Rattle.std.specs.Prelude.{Contains, ℤ, option_map}
+use Rattle.std.proofs.lemmas.Bool.{cases_Bool, and_parts, or_cases}
 use Rattle.std.proofs.lemmas.List.Sorted.{Contains-permutation, IsPermutation-sym}
 use Rattle.order_ints.specs.declared.literal.Lit.{Lit}
 use Rattle.order_ints.specs.declared.cnf.Cnf.{Cnf}
 use Rattle.order_ints.specs.Place.{LitBelow}
+use Rattle.order_ints.specs.OrderedClauses.{same_lit, has_lit}
+use Rattle.order_ints.proofs.LitOrder.{same_lit-true, same_lit-refl}
 use Rattle.literal_trail.specs.declared.entry.Entry.{Entry}
-use Rattle.literal_trail.specs.Trail.{Trail, IsTrail, entry_of, level_in, up_to}
-use Rattle.literal_trail.specs.Standing.{IsQuiet}
-use Rattle.literal_trail.proofs.Entries.{entry_of-found}
+use Rattle.literal_trail.specs.Trail.{Trail, IsTrail, entry_of, truth_in, level_in, up_to}
+use Rattle.literal_trail.proofs.Entries.{entry_of-found, truth_in-none, truth_in-same}
+use Rattle.literal_trail.proofs.Levels.{entry_of-up_to, entry_of-above}
 use Rattle.clause_arena.specs.Clauses.{Clause, IsLive, lits_of}
 use Rattle.clause_rings.specs.Clauses.{IsDb}
 use Rattle.proof_check.specs.declared.line.ProofLine.{ProofLine}
-use Rattle.proof_check.specs.Named.{Named}
-use Rattle.proof_check.specs.New.{New}
+use Rattle.proof_check.specs.Named.{Named, Lives}
+use Rattle.proof_check.specs.New.{New, lies_within}
 use Rattle.proof_check.specs.Lrat.{Proof, addition_fault}
 use Rattle.conflict_analysis.specs.Learned.{IsLearned, AreKept, hints_of}
 use Rattle.conflict_analysis.specs.Analysis.{IsAnalysed, IsRefuted, IsForced}
-use Rattle.conflict_analysis.proofs.Newness.{learned-new, learned-range}
 use Rattle.learning_solver.specs.declared.search.Search.{Search}
 use Rattle.learning_solver.specs.declared.lesson.Lesson.{Lesson}
 use Rattle.learning_solver.specs.Sight.{named_in}
 use Rattle.learning_solver.specs.Log.{proof_behind}
 use Rattle.learning_solver.specs.Kept.{IsKept}
 use Rattle.learning_solver.specs.Searching.{IsSearch, Stays, IsReady, Teaches}
-use Rattle.learning_solver.proofs.ReasonLaws.{reasons-there, level-entry, member-cases}
+use Rattle.learning_solver.proofs.ReasonLaws.{reasons-there, level-entry, member-first, member-more, member-cases}
 use Rattle.learning_solver.proofs.AcceptLaws.{learned-accepted}
 use Rattle.learning_solver.proofs.EndLaws.{new-stays}
 
--- a clause that is neither false nor unit, its literals in another order
-quiet-alike : (es : List Entry) (ds ls : List Lit) → IsPermutation ds ls → IsQuiet es ls → IsQuiet es ds
-quiet-alike es ds ls perm quiet =
-    let back : (l : Lit) → Contains ls l → Contains ds l = λ l has. Contains-permutation ls ds l (IsPermutation-sym ds ls perm) has in
-    record {
-      not_false = λ fails. quiet.not_false (λ l has. fails l (back l has));
-      not_unit = λ u unit.
-          quiet.not_unit u (record { is_in = Contains-permutation ds ls u perm unit.is_in; free = unit.free; others = λ l has ne. unit.others l (back l has) ne });
-    }
+-- what is among literals
+has-told : (x : Lit) (ys : List Lit) → has_lit x ys ≡ true → Contains ys x
+has-told x [] e = cc
+has-told x (y ∷ ys) e =
+    ⊎_elim
+    (λ (here : same_lit x y ≡ true). let same = same_lit-true x y here in let P : Lit → Type 0 = λ z. Contains (y ∷ ys) z in subst P (sym same) (member-first y ys))
+    (λ (there : has_lit x ys ≡ true). member-more y ys x (has-told x ys there))
+    (or_cases (same_lit x y) (has_lit x ys) e)
 
--- what is learned is new
-new-learned : (live : List Named) (cs : List Clause) (t : Trail) (first : Lit) (others : List Lit) (jump : ℕ) → IsKept live cs → IsDb cs t → AreKept t.entries t.level first others jump → New live (first ∷ others)
-new-learned live cs t first others jump kept db are =
-    learned-new live t first others jump db.trail are
-    (λ d lives.
-    let st = kept.stored d lives in
-    quiet-alike (up_to (t.level - 1) t.entries) d.lits (lits_of cs st.0) st.1.lits (db.below (t.level - 1) (omega (arith, are.below)) st.0 st.1.live))
+within-told : (xs ys : List Lit) → lies_within xs ys ≡ true → (x : Lit) → Contains xs x → Contains ys x
+within-told [] ys e x has = absurd (omega (arith, has.1))
+within-told (z ∷ zs) ys e x has =
+    let both = and_parts (has_lit z ys) (lies_within zs ys) e in
+    ⊎_elim
+    (λ (first : z ≡ x). let P : Lit → Type 0 = Contains ys in subst P first (has-told z ys both.0))
+    (λ (there : Contains zs x). within-told zs ys both.1 x there)
+    (member-cases z zs x has)
+
+-- a literal of a list, or none of them is it
+find-lit : (u : Lit) (ls : List Lit) → (Contains ls u) ⊎ ((l : Lit) → Contains ls l → l ≡ u → ⊥)
+find-lit u [] = inr (λ l has same. omega (arith, has.1))
+find-lit u (m ∷ ms) =
+    ⊎_elim
+    (λ (here : same_lit m u ≡ true). let P : Lit → Type 0 = λ z. Contains (m ∷ ms) z in inl (subst P (same_lit-true m u here) (member-first m ms)))
+    (λ (other : same_lit m u ≡ false).
+    ⊎_elim
+    (λ (there : Contains ms u). inl (member-more m ms u there))
+    (λ (none : (l : Lit) → Contains ms l → l ≡ u → ⊥).
+    inr (λ l has same.
+    ⊎_elim
+    (λ (first : m ≡ l). differs m u other (first ∙ same))
+    (λ (there : Contains ms l). none l there same)
+    (member-cases m ms l has)))
+    (find-lit u ms))
+    (cases_Bool (same_lit m u))
+  where
+    differs : (m u : Lit) → same_lit m u ≡ false → m ≡ u → ⊥
+    differs m u other same = let whole = same_lit-refl u in let e : same_lit u u ≡ false = sym (ap (λ (x : Lit). same_lit x u) same) ∙ other in cc
+
+-- no live clause lies within a clause that is false by one literal of the current level
+module _ (live : List Named) (cs : List Clause) (t : Trail) (first : Lit) (others : List Lit) (jump : ℕ) (kept : IsKept live cs) (db : IsDb cs t) (are : AreKept t.entries t.level first others jump) where
+  before-first : truth_in (up_to (t.level - 1) t.entries) first ≡ None
+  before-first =
+      let w = level-entry t.entries first.var t.level are.now.of_level in
+      truth_in-none (up_to (t.level - 1) t.entries) first (entry_of-above (t.level - 1) t.entries first.var w.0 w.1 (omega (arith, w.2, are.below)))
+
+  before-others : (l : Lit) → Contains others l → truth_in (up_to (t.level - 1) t.entries) l ≡ Some false
+  before-others l has =
+      let low = are.lower l has in
+      let w = level-entry t.entries l.var low.level low.at.of_level in
+      truth_in-same (up_to (t.level - 1) t.entries) t.entries l
+      (entry_of-up_to (t.level - 1) t.entries 0 t.level l.var w.0 db.trail.levelled w.1 (omega (arith, w.2, low.up_to, are.below)) ∙ sym w.1)
+      ∙ low.at.is_false
+
+  not-within : (d : Named) → Lives live d → lies_within d.lits (first ∷ others) ≡ true → ⊥
+  not-within d lives within =
+      let st = kept.stored d lives in
+      let ls = lits_of cs st.0 in
+      let k = t.level - 1 in
+      let quiet = db.below k (omega (arith, are.below)) st.0 st.1.live in
+      let among : (l : Lit) → Contains ls l → Contains (first ∷ others) l
+      = λ l has. within-told d.lits (first ∷ others) within l (Contains-permutation ls d.lits l (IsPermutation-sym d.lits ls st.1.lits) has) in
+      let other-false : (l : Lit) → Contains ls l → (l ≡ first → ⊥) → truth_in (up_to k t.entries) l ≡ Some false
+      = λ l has ne. ⊎_elim (λ (e : first ≡ l). absurd (ne (sym e))) (λ (there : Contains others l). before-others l there) (member-cases first others l (among l has)) in
+      ⊎_elim
+      (λ (has : Contains ls first). quiet.not_unit first (record { is_in = has; free = before-first; others = other-false }))
+      (λ (none : (l : Lit) → Contains ls l → l ≡ first → ⊥). quiet.not_false (λ l has. other-false l has (none l has)))
+      (find-lit first ls)
+
+  pub new-learned : New live (first ∷ others)
+  new-learned d lives =
+      ⊎_elim
+      (λ (within : lies_within d.lits (first ∷ others) ≡ true). absurd (not-within d lives within))
+      (λ (outside : lies_within d.lits (first ∷ others) ≡ false). outside)
+      (cases_Bool (lies_within d.lits (first ∷ others)))
 
 -- a literal that has a level is in range
 level-range : (t : Trail) → IsTrail t → (vars : ℕ) → t.vars ≡ vars → (l : Lit) (n : ℕ) → level_in t.entries l.var ≡ Some n → LitBelow (vars + 1) l
@@ -57,7 +117,10 @@ level-range t is vars same l n at-level =
 
 kept-range : (t : Trail) → IsTrail t → (vars : ℕ) → t.vars ≡ vars → (first : Lit) (others : List Lit) (jump : ℕ) → AreKept t.entries t.level first others jump → (l : Lit) → Contains (first ∷ others) l → LitBelow (vars + 1) l
 kept-range t is vars same first others jump are l has =
-    let P : ℕ → Type 0 = λ n. LitBelow (n + 1) l in subst P same (learned-range t first others jump is are l has)
+    ⊎_elim
+    (λ (e : first ≡ l). let P : Lit → Type 0 = LitBelow (vars + 1) in subst P e (level-range t is vars same first t.level are.now.of_level))
+    (λ (there : Contains others l). let low = are.lower l there in level-range t is vars same l low.level low.at.of_level)
+    (member-cases first others l has)
 
 -- a log that stays, an id, literals and hints that are these
 pub fault-stays : (old new : Search) (lesson : Lesson) (lits : List Lit) (hints : List ℕ) → Stays old new → lesson.id ≡ (proof_behind new.cnf.now new.lines.items).last + 1 → lesson.lits ≡ lits → lesson.hints ≡ map pos hints → addition_fault (proof_behind old.cnf.now old.lines.items) ((proof_behind old.cnf.now old.lines.items).last + 1) lits (map pos hints) ≡ None → addition_fault (proof_behind new.cnf.now new.lines.items) lesson.id lesson.lits lesson.hints ≡ None

@@ -6,7 +6,6 @@ pub mod Height
 pub mod Pacing
 pub mod Sight
 pub mod Searching
-pub mod Deleting
 pub mod Ending
 pub mod Deciding
 pub mod Solving

@@ -16,7 +16,7 @@ use Rattle.learning_solver.specs.declared.pace.Pace.{Pace}
 use Rattle.learning_solver.specs.declared.task.Task.{Task}
 use Rattle.learning_solver.specs.declared.lesson.Lesson.{Lesson}
 use Rattle.learning_solver.specs.Log.{additions, proof_behind, IsLog, GoesOn}
-use Rattle.learning_solver.specs.Kept.{IsKept, AreOnce}
+use Rattle.learning_solver.specs.Kept.{IsKept}
 use Rattle.learning_solver.specs.Height.{height}
 use Rattle.learning_solver.specs.Outcome.{IsSolution, IsRefutation, most_learned}
 use Rattle.learning_solver.specs.Pacing.{IsPaced}
@@ -30,7 +30,6 @@ pub record IsSearch (s : Search) : Type 0 where
   pub base : s.base ≡ length s.cnf.now.clauses
   pub added : s.added ≡ additions s.lines.items
   pub kept : IsKept (proof_behind s.cnf.now s.lines.items).live s.db.clauses
-  pub once : AreOnce s.base s.db.clauses
   pub order : s.order ≡ s.cnf.now.vars
   pub walker : s.walker.vars ≡ s.cnf.now.vars
 

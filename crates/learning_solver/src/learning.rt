@@ -47,25 +47,18 @@ impl Search<'_> {
     {
         let first = lesson.first();
         let jump = self.walker.jump();
-        let id = lesson.id;
         self.jump_back(jump);
         let clause = self.take(lesson);
         self.db.assign(first, Some(clause));
-        self.candidates.count(self.walker.hints());
-        self.candidates
-            .take(clause, id, self.walker.lits().len(), self.walker.glue());
     }
 
-    /// Begins anew, from the end of level 0, and deletes clauses if that is due.
+    /// Begins anew, from the end of level 0.
     fn begin_anew(&mut self)
         requires { IsSearch self.old }
         ensures anew { BeginsAnew self.old self.new }
         ensures search { IsSearch self.new }
     {
         self.jump_back(0);
-        if self.candidates.is_due() {
-            self.delete_half();
-        }
     }
 
     /// Learns from a conflict above level 0, unless the budget is spent.

@@ -2,9 +2,7 @@
 #![tactic(auto)]
 
 mod adding;
-mod candidates;
 mod deciding;
-mod deleting;
 mod ending;
 mod found;
 mod learning;

@@ -41,8 +41,6 @@ pub struct Order {
     gain: u64,
     /// No variable before this one is free, as far as is known; 0 for the front.
     start: u32,
-    /// How many literals were taken back.
-    taken_back: u64,
 }
 
 impl Model for Order {
@@ -161,7 +159,6 @@ impl Order {
             signs,
             gain: FIRST_GAIN,
             start: 0,
-            taken_back: 0,
         })
     }
 
@@ -205,12 +202,6 @@ impl Order {
         ensures { self.new ≡ self.old }
     {
         self.signs[l.var as usize] = l.positive;
-        self.taken_back = self.taken_back.saturating_add(1);
-    }
-
-    /// How many literals were taken back so far.
-    pub fn taken_back(&self) -> u64 {
-        self.taken_back
     }
 
     /// Raises the variables of a conflict, and puts them in front, the most active one first. It sorts them.

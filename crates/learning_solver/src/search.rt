@@ -4,7 +4,6 @@ ghost use Rattle.std.specs.Prelude.{◌≡◌, ◌≤◌, ◌^◌, [], IfOk};
 ghost use Rattle.order_ints.specs.Place.{InRange};
 ghost use Rattle.clause_rings.specs.Clauses.{AreApartIn};
 
-use crate::candidates::Candidates;
 use crate::order::Order;
 use bee_list::Sequence;
 use clause_rings::ClauseDb;
@@ -24,8 +23,6 @@ pub struct Search<'a> {
     pub walker: Walker,
     /// The order of decisions.
     pub order: Order,
-    /// The learned clauses that may be deleted.
-    pub candidates: Candidates,
     /// The log.
     pub lines: Vec<ProofLine>,
     /// How many clauses the CNF has.
@@ -56,7 +53,6 @@ impl<'a> Search<'a> {
             db,
             walker,
             order,
-            candidates: Candidates::new(alloc, base),
             lines,
             base,
             added: 0,

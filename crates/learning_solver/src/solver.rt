@@ -87,12 +87,6 @@ impl<'a> Solver<'a> {
         self.search.lines.as_slice()
     }
 
-    /// How many literals were made true, decided or propagated, and taken back so far: a figure for measurements, of which
-    /// nothing is promised.
-    pub fn taken_back(&self) -> u64 {
-        self.search.order.taken_back()
-    }
-
     /// The log, without memory.
     pub fn into_log(self) -> Sequence<ProofLine>
         ensures log { result ≡ self.entry.log }

@@ -124,7 +124,7 @@ Contains-values_from (suc count) low v h k =
 divisor-units : (first count : ℕ) → divisor_of (unit_steps first (suc count)) ≡ 1
 divisor-units first count = one-common (divisor_of (unit_steps (first + 1) count))
 
-shape-units : (low : ℤ) (first count : ℕ) → shape_of (unit_range_of low first count) ≡ units count
+pub shape-units : (low : ℤ) (first count : ℕ) → shape_of (unit_range_of low first count) ≡ units count
 shape-units low first zero = refl
 shape-units low first (suc count) =
     let steps = length-units first (suc count) in

@@ -26,11 +26,12 @@ use Rattle.model_lower.specs.declared.state.Lowered.{Lowered}
 use Rattle.model_items.specs.Items.{ModelItem, Declaration, Statement, Definition, stmts_before, stmts_from, declared_item, behind_declared, items_of}
 use Rattle.model_lower.specs.ItemLaws.{IsDefinition}
 use Rattle.model_lower.specs.Lowering.{vars_taken, entry_of, entry_cores, with_declaration, with_statement, defined_entry, with_definition, lowered_items, nothing_lowered}
-use Rattle.model_lower.proofs.DeclarationSteps.{gap-reaches}
+use Rattle.model_lower.proofs.DeclarationSteps.{gap-reaches, shape-units}
 use Rattle.model_lower.proofs.Standing.{ItemsFit, decls_in}
 use Rattle.model_lower.specs.Weighed.{size_of_lowered}
 use Rattle.weight_laws.proofs.Integers.{EntryIs, EntriesAre}
 use Rattle.weight_laws.proofs.ComparisonCosts.{length-units}
+use Rattle.weight_laws.proofs.ExactShapes.{shape-bit}
 use Rattle.weight_laws.proofs.Statements.{statement-size, statement-count}
 
 -- Entries.
@@ -41,13 +42,12 @@ entry-is vars (kind.Range low high) fit = record {
   rising = AreRising-unit_steps (vars + 1) (vars_taken (kind.Range low high));
   least = refl;
   greatest = ap (λ (n : ℕ). low +ℤ pos n) (weights-unit_steps (vars + 1) (vars_taken (kind.Range low high))) ∙ gap-reaches low high fit;
+  shape = shape-units low (vars + 1) (vars_taken (kind.Range low high));
 }
 entry-is vars (kind.Listed vs) fit = record {
-  of = record {
-    rising = AreRising-integer_of_values vs (vars + 1) fit.1;
-    least = low-listed vs (vars + 1);
-    greatest = high-listed vs (vars + 1) fit.1;
-  };
+  rising = AreRising-integer_of_values vs (vars + 1) fit.1;
+  least = low-listed vs (vars + 1);
+  greatest = high-listed vs (vars + 1) fit.1;
   shape = shape-listed vs (vars + 1);
 }
 
@@ -60,7 +60,7 @@ entries-more (c ∷ ds) (x ∷ entries) d e h k = (h.0, entries-more ds entries 
 -- the name that a `bool2int` declares has its Boolean, as an integer of 0 and 1
 defined-is : (ds : List Decl) (entries : List MapValue) (d : Decl) (s : Stmt) → IsDefinition ds d s → EntryIs d.kind (defined_entry entries s.what)
 defined-is ds entries d s h =
-    rw (h.kind, h.what) (record { rising = (omega arith, tt); least = refl; greatest = omega (arith, ints) })
+    rw (h.kind, h.what) (record { rising = (omega arith, tt); least = refl; greatest = omega (arith, ints); shape = shape-bit _ })
 
 -- A declaration.
 

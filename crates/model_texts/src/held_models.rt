@@ -1,6 +1,6 @@
 //! The model that a text says, where it is not too heavy.
 
-ghost use Rattle.std.specs.Prelude.{◌≤◌, length, IfOk, IfErr};
+ghost use Rattle.std.specs.Prelude.{◌≡◌, ◌≤◌, length, IfOk, IfErr};
 ghost use Rattle.model_texts.specs.ModelTexts.{longest_text, IsCauseOf};
 ghost use Rattle.model_texts.specs.HeldModels.{HoldsModel, lower_fault_of};
 
@@ -10,16 +10,13 @@ use model_lower::{LowerFault, weigh};
 use std::alloc::Global;
 use typed_model::Model;
 
-impl From<LowerFault> for TextFault {
-    ghost use Rattle.std.specs.Prelude.{◌≡◌};
-
-    ghost from_gives = { λ fault text. text ≡ lower_fault_of fault };
-
-    fn from(fault: LowerFault) -> TextFault {
-        match fault {
-            LowerFault::TooHeavy(weight) => TextFault::Model(ModelFault::TooHeavy(weight)),
-            LowerFault::Memory => TextFault::Memory,
-        }
+/// What a fault of the lowering makes of a text.
+pub fn lower_fault(fault: LowerFault) -> TextFault
+    ensures { result ≡ lower_fault_of fault }
+{
+    match fault {
+        LowerFault::TooHeavy(weight) => TextFault::Model(ModelFault::TooHeavy(weight)),
+        LowerFault::Memory => TextFault::Memory,
     }
 }
 
@@ -30,6 +27,8 @@ pub fn held_model(alloc: Global, text: &[u8]) -> Result<Model, TextFault>
     ensures fault { IfErr result (λ e. IsCauseOf e text.now) }
 {
     let model = model_of(alloc, text)?;
-    weigh(alloc, &model)?;
-    Ok(model)
+    match weigh(alloc, &model) {
+        Ok(()) => Ok(model),
+        Err(fault) => Err(lower_fault(fault)),
+    }
 }

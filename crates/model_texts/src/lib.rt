@@ -6,5 +6,5 @@ mod held_models;
 mod model_text;
 
 pub use fault::ModelFault;
-pub use held_models::held_model;
+pub use held_models::{held_model, lower_fault};
 pub use model_text::{TextFault, model_of};

@@ -5,7 +5,7 @@ ghost use Rattle.model_meaning.specs.WellTyped.{WellTyped};
 ghost use Rattle.model_meaning.specs.Limits.{InLimits};
 ghost use Rattle.decode_minimize.specs.Answers.{IsBudget};
 
-use answer_document::{Document, write_document};
+use answer_document::{Document, push_verdict};
 use bumblebee_reader::read_model;
 use decode_minimize::{Options, answer};
 use fixpoint_queue::{Silent, TableP};
@@ -46,19 +46,21 @@ fn answer_with<L: Ledger>(
     }
 }
 
-/// The text of a document up to the ledger.
-fn head(text: &[u8]) -> &[u8] {
-    let mut from = 0;
-    while from < text.len() {
-        if text[from..].starts_with(b"ledger\n") {
-            return &text[..from];
+/// What a document says: its verdict, and behind it the values, where it gives some.
+fn show(alloc: Global, document: &Document) -> Result<Vec<u8>, AllocError> {
+    let mut text = Vec::new(alloc);
+    push_verdict(&mut text, document.verdict)?;
+    if let Some(given) = &document.assignment {
+        text.extend_from_slice(b":")?;
+        for value in given.values.as_slice() {
+            let word = format!(in alloc; " {value}")?;
+            text.extend_from_slice(word.as_bytes())?;
         }
-        from += 1;
     }
-    text
+    Ok(text)
 }
 
-/// What the answer to a model says, up to its ledger.
+/// What the answer to a model says.
 pub(super) fn answered(
     alloc: Global,
     text: &str,
@@ -77,10 +79,7 @@ pub(super) fn answered(
         return Vec::from_slice(alloc, b"too great a numeral");
     }
     match answer_with::<Brand>(alloc, Blank::new(1), &model, options, asked) {
-        Ok(document) => {
-            let written = write_document(alloc, model.decls.as_slice(), model.goal, &document)?;
-            Vec::from_slice(alloc, head(written.as_slice()))
-        }
+        Ok(document) => show(alloc, &document),
         Err(fault) => {
             let told = format!(in alloc; "{fault}")?;
             Vec::from_slice(alloc, told.as_bytes())

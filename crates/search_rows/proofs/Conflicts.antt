@@ -13,6 +13,7 @@ use Rattle.clause_arena.specs.Clauses.{Clause, IsLive, lits_of}
 use Rattle.clause_rings.specs.Clauses.{IsDb, HaveReasons}
 use Rattle.conflict_analysis.specs.Reasons.{AreReasons}
 use Rattle.conflict_analysis.specs.Learned.{IsConflict}
+use Rattle.conflict_analysis.specs.Analysis.{IsFalseAtBottom}
 use Rattle.learning_solver.specs.Sight.{named_in}
 
 -- a place of a list, with what is before and behind it
@@ -88,3 +89,13 @@ conflict-there cs t c is live fails above =
     (λ (w : (l : Lit) × Contains (lits_of cs c) l × (level_in t.entries l.var ≡ Some t.level)).
     record { is_false = fails; here = w.0; has = w.1; now = w.2 })
     (all-by t is.trail k last (lits_of cs c) fails)
+
+-- a clause that is false at level 0
+pub bottom-false : (t : Trail) → IsTrail t → t.level ≡ 0 → (lits : List Lit) → IsFalse t.entries lits → IsFalseAtBottom t.entries lits
+bottom-false t is bottom lits fails l has = record {
+  is_false = fails l has;
+  of_level =
+      by_entry t.entries l.var
+      (λ none. let e : None ≡ Some false = sym (truth_in-none t.entries l none) ∙ fails l has in cc)
+      (λ e found. ap (λ (o : Option Entry). option_map (λ (x : Entry). x.level) o) found ∙ ap (λ (n : ℕ). Some n) (omega (arith, entry-top t is l.var e found, bottom)));
+}

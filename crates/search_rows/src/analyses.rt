@@ -1,9 +1,10 @@
 //! What is learned at a conflict: clauses, hints and levels worked out by hand, and taken by the checker.
 
-ghost use Rattle.std.specs.Prelude.{◌≡◌, ◌<◌, ◌≤◌, ◌^◌};
+ghost use Rattle.std.specs.Prelude.{◌≡◌, ◌≤◌, ◌^◌};
 ghost use Rattle.order_ints.specs.Place.{InRange};
 ghost use Rattle.clause_arena.specs.Clauses.{IsLive, lits_of};
 ghost use Rattle.literal_trail.specs.Standing.{IsFalse};
+ghost use Rattle.clause_rings.specs.Clauses.{IsDb};
 
 use crate::clauses::{cnf, literal};
 use crate::store_texts::{push_literal, push_sorted};
@@ -59,6 +60,20 @@ impl Reasons for Lent<'_> {
     }
 }
 
+/// Learns at a conflict above level 0.
+fn analyse_at(walker: &mut Walker, db: &ClauseDb, conflict: u32) -> Result<(), AllocError>
+    requires db { IsDb db.now.clauses db.now.trail }
+    requires live { IsLive db.now.clauses conflict }
+    requires is_false { IsFalse db.now.trail.entries (lits_of db.now.clauses conflict) }
+    requires above { 1 ≤ db.now.trail.level }
+    requires vars { walker.old.vars ≡ db.now.trail.vars }
+    ensures vars { walker.new.vars ≡ walker.old.vars }
+{
+    let level = db.level();
+    walker.analyse(&Lent { db }, conflict, level)?;
+    Ok(())
+}
+
 /// Learns at a conflict above level 0, twice by one walker.
 fn learned<R: Abort>(
     rt: &R,
@@ -69,12 +84,24 @@ fn learned<R: Abort>(
     requires live { IsLive db.now.clauses conflict }
     requires is_false { IsFalse db.now.trail.entries (lits_of db.now.clauses conflict) }
 {
-    let level = db.level();
-    assert!(rt; 0 < level);
+    assert!(rt; 1 <= db.level());
     let mut walker = Walker::with(alloc, db.vars())?;
-    walker.analyse(&Lent { db }, conflict, level)?;
-    walker.analyse(&Lent { db }, conflict, level)?;
+    analyse_at(&mut walker, db, conflict)?;
+    analyse_at(&mut walker, db, conflict)?;
     Ok(walker)
+}
+
+/// Refutes at a conflict at level 0.
+fn refute_at(walker: &mut Walker, db: &ClauseDb, conflict: u32) -> Result<(), AllocError>
+    requires db { IsDb db.now.clauses db.now.trail }
+    requires live { IsLive db.now.clauses conflict }
+    requires is_false { IsFalse db.now.trail.entries (lits_of db.now.clauses conflict) }
+    requires bottom { db.now.trail.level ≡ 0 }
+    requires vars { walker.old.vars ≡ db.now.trail.vars }
+    ensures vars { walker.new.vars ≡ walker.old.vars }
+{
+    walker.refute(&Lent { db }, conflict)?;
+    Ok(())
 }
 
 /// Refutes at a conflict at level 0, twice by one walker.
@@ -89,21 +116,29 @@ fn refuted<R: Abort>(
 {
     assert!(rt; db.level() == 0);
     let mut walker = Walker::with(alloc, db.vars())?;
-    walker.refute(&Lent { db }, conflict)?;
-    walker.refute(&Lent { db }, conflict)?;
+    refute_at(&mut walker, db, conflict)?;
+    refute_at(&mut walker, db, conflict)?;
     Ok(walker)
 }
 
-/// Confirms the last literal of a trail, which is one of level 0 and has a reason.
-fn confirmed<R: Abort>(rt: &R, alloc: Global, db: &ClauseDb) -> Result<Walker, AllocError> {
-    let Some(entry) = db.trail().last() else {
-        panic!(rt; "no entry");
+/// Confirms a literal that a clause made true at level 0.
+fn confirmed<R: Abort>(
+    rt: &R,
+    alloc: Global,
+    db: &ClauseDb,
+    literal: Lit,
+) -> Result<Walker, AllocError> {
+    assert!(rt; literal.var <= db.vars());
+    let Some(entry) = db.entry_of(literal.var) else {
+        panic!(rt; "it is free");
     };
+    let Some(reason) = entry.reason else {
+        panic!(rt; "it was decided");
+    };
+    assert!(rt; entry.level == 0);
+    assert!(rt; entry.lit == literal);
     let mut walker = Walker::with(alloc, db.vars())?;
-    match (db.level_of(entry.lit.var), entry.reason) {
-        (Some(0), Some(reason)) => walker.confirm(&Lent { db }, entry.lit, reason)?,
-        _ => panic!(rt; "a decision, or above level 0"),
-    }
+    walker.confirm(&Lent { db }, literal, reason)?;
     Ok(walker)
 }
 
@@ -229,7 +264,7 @@ fn learned_clauses(rt: HostRuntime) -> Result<(), Fail> {
     Ok(())
 }
 
-/// Tests what is found at level 0: the empty clause where there is a conflict, and else the last literal.
+/// Tests what is found at level 0: the empty clause where there is a conflict, and else the literal of the wanted clause.
 fn bottom_row<R: Abort>(
     rt: &R,
     alloc: Global,
@@ -241,7 +276,12 @@ fn bottom_row<R: Abort>(
     let mut db = ClauseDb::with(alloc, &cnf)?;
     let walker = match db.propagate() {
         Some(conflict) => refuted(rt, alloc, &db, conflict)?,
-        None => confirmed(rt, alloc, &db)?,
+        None => {
+            let Some((word, _)) = want.split_once(' ') else {
+                panic!(rt; "no clause: {want}");
+            };
+            confirmed(rt, alloc, &db, literal(rt, word))?
+        }
     };
     let found = show(alloc, &walker)?;
     assert_eq!(rt; found.as_slice(), want.as_bytes(), "{clauses}");

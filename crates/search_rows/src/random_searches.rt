@@ -17,7 +17,7 @@ use std::test::Fail;
 
 /// A literal in no order.
 pub(super) fn any_literal(numbers: &mut Numbers, vars: u32) -> Lit {
-    let var = numbers.below(vars.max(1)).saturating_add(1);
+    let var = numbers.below(vars).saturating_add(1);
     Lit::of(var, numbers.below(2) == 0)
 }
 
@@ -52,7 +52,7 @@ pub(super) fn any_cnf<R: Abort>(
     let mut clauses = Vec::new(alloc);
     let count = vars
         .saturating_mul(3)
-        .saturating_add(numbers.below(vars.saturating_mul(3).max(1)));
+        .saturating_add(numbers.below(vars.saturating_mul(3)));
     for _ in 0..count {
         let width = if numbers.below(20) == 0 { 2 } else { 3 };
         clauses.push(any_clause(alloc, numbers, vars, width)?)?;

@@ -153,7 +153,7 @@ fn go(rt: &impl Abort, numbers: &mut Numbers, pair: &mut Pair) {
     let Ok(count) = u32::try_from(pair.plain.clauses.len()) else {
         return;
     };
-    let place = numbers.below(count.max(1)) as usize;
+    let place = numbers.below(count) as usize;
     if let Some((id, _)) = pair.plain.clauses.get(place).copied() {
         if delete(rt, &mut pair.db, id) {
             pair.plain.clauses.retain(|(other, _)| *other != id);

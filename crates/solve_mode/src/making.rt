@@ -15,7 +15,7 @@ use decode_minimize::{AnsweredModel, Options, answer_owned};
 use fixpoint_queue::TableP;
 use model_lower::LowerFault;
 use model_meaning::Model;
-use model_texts::{TextFault, model_of};
+use model_texts::{TextFault, lower_fault, model_of};
 use rule_base::Steps;
 use std::alloc::{AllocError, Global};
 use std::marker::Brand;
@@ -68,9 +68,10 @@ fn write_answer(
     ensures heavy { IfErr result (λ e. IsFaultOf e model) }
 {
     let goal = model.goal;
-    let AnsweredModel { document, decls } = answer_with::<Brand>(alloc, Blank::new(1), model, options)?;
-    let text = write_document(alloc, decls.as_slice(), goal, &document)?;
-    Ok((outcome_of(document.verdict), text))
+    let answered = answer_with::<Brand>(alloc, Blank::new(1), model, options)?;
+    let decls = answered.decls.as_slice();
+    let text = write_document(alloc, decls, goal, &answered.document)?;
+    Ok((outcome_of(answered.document.verdict), text))
 }
 
 /// The text of the answer to the model that a text says.
@@ -85,5 +86,8 @@ pub(crate) fn solve_text(
     ensures fault { IfErr result (λ e. IsCauseOf e text.now) }
 {
     let model = model_of(alloc, text)?;
-    Ok(write_answer(alloc, model, options)?)
+    match write_answer(alloc, model, options) {
+        Ok(written) => Ok(written),
+        Err(fault) => Err(lower_fault(fault)),
+    }
 }

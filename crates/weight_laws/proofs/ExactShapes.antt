@@ -2,7 +2,7 @@
 use Rattle.std.proofs.Common.{◌≡◌, ℕ, zero, suc, ◌+◌, ◌*◌, ◌<◌, ℤ, pos, negsuc, Bool, true, false, not, List, [], ◌∷◌, ◌++◌, length, map, Some, refl, sym, ap, ap₂, ◌∙◌, arith}
 use Rattle.std.specs.Prelude.{slice_get, ◌-ℤ◌, ◌==◌, if◌then◌else◌}
 use Rattle.std.specs.List.{zip}
-use Rattle.std.proofs.lemmas.Bool.{false≢true}
+use Rattle.std.proofs.lemmas.Bool.{false≢true, eqb-true}
 use Rattle.std.proofs.lemmas.Int.{ints}
 use Rattle.order_ints.specs.declared.atom.Atom.{Atom}
 use Rattle.order_ints.specs.declared.order_int.OrdInt.{OrdInt}
@@ -155,9 +155,13 @@ shapes-append : (xs ys : List OrdInt) → shapes_of (xs ++ ys) ≡ shapes_of xs 
 shapes-append [] ys = refl
 shapes-append (x ∷ xs) ys = ap (λ (ss : List Shape). shape_of x ∷ ss) (shapes-append xs ys)
 
+never-zero : (n : ℕ) (b : Bool) → (suc n == 0) ≡ b → b ≡ false
+never-zero n true e = absurd (omega (arith, eqb-true (suc n) 0 e))
+never-zero n false e = refl
+
 some-steps : (steps : List (Atom × ℕ)) → has_steps steps ≡ not (length steps == 0)
 some-steps [] = refl
-some-steps (s ∷ steps) = refl
+some-steps (s ∷ steps) = ap not (sym (never-zero (length steps) (suc (length steps) == 0) refl))
 
 with_steps-same : (ints : List OrdInt) → shapes_of (with_steps ints) ≡ linear.with_steps (shapes_of ints)
 with_steps-same [] = refl

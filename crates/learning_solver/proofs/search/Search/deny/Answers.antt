@@ -40,7 +40,7 @@ take-clause-requires-clause-new c =
     let is = c.requires.running.search in
     let lits = c.in-Ok.ensures.ready.lits ∙ c.in-Ok.ensures.refuted.same in
     new-stays s c.lesson_of_denial.new.self c.lesson_of_denial.ensures.stays (c.args.denied ∷ []) c.in-Ok.lesson.lits lits
-    (new-unit _ s.db.clauses s.db.trail.entries c.args.denied is.kept c.requires.complete is.log.differ (c.in_default.ensures.none refl))
+    (new-unit _ s.db.clauses s.db.trail.entries c.args.denied is.kept c.requires.complete is.db.apart (c.in_default.ensures.none refl))
 
 pub returns-clause-turned : goal.returns-clause-turned
 returns-clause-turned c =

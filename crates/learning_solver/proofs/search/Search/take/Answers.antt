@@ -4,7 +4,7 @@ use Rattle.order_ints.specs.declared.literal.Lit.{Lit}
 use Rattle.clause_arena.specs.Clauses.{live_clause}
 use Rattle.clause_rings.specs.Clauses.{ClauseLists}
 use Rattle.learning_solver.proofs.LitLaws.{lits-of-addition}
-use Rattle.learning_solver.proofs.SearchLaws.{log-taken, additions-taken, kept-taken, once-taken}
+use Rattle.learning_solver.proofs.SearchLaws.{log-taken, additions-taken, kept-taken}
 use Rattle.learning_solver.proofs.search.Search.take.Goals as goal
 
 pub add-clause-requires-clause-in_range : goal.add-clause-requires-clause-in_range
@@ -29,8 +29,6 @@ returns-clause-search c =
     let log = s.lines.items in
     let lesson = c.args.lesson in
     let goes = c.push_reserved.ensures.items in
-    let made =
-    ap (λ (d : ClauseLists). d.clauses) c.add-clause.ensures.clause ∙ ap (λ (ls : List Lit). slice_set s.db.clauses c.add-clause.result (live_clause lesson.id ls)) c.as_slice.ensures in
     record {
       db = c.add-clause.ensures.db;
       vars = ap (λ (d : ClauseLists). d.trail.vars) c.add-clause.ensures.clause ∙ is.vars;
@@ -38,8 +36,8 @@ returns-clause-search c =
       log = log-taken cnf log is.log lesson.id lesson.lits lesson.hints _ goes c.requires.next c.requires.fault c.requires.new;
       base = is.base;
       added = ap (λ (n : ℕ). n + 1) is.added ∙ sym (additions-taken cnf log is.log lesson.id lesson.lits lesson.hints _ goes c.requires.next);
-      kept = kept-taken cnf log is.log lesson.id lesson.lits lesson.hints _ goes c.requires.next s.db.clauses c.add-clause.result _ is.kept c.add-clause.ensures.inside c.add-clause.ensures.fresh made;
-      once = once-taken cnf log is.log lesson.id lesson.lits lesson.hints _ goes c.requires.next s.db.clauses c.add-clause.result _ is.kept c.add-clause.ensures.inside c.add-clause.ensures.fresh made s.base is.once;
+      kept = kept-taken cnf log is.log lesson.id lesson.lits lesson.hints _ goes c.requires.next s.db.clauses c.add-clause.result _ is.kept c.add-clause.ensures.inside c.add-clause.ensures.fresh
+          (ap (λ (d : ClauseLists). d.clauses) c.add-clause.ensures.clause ∙ ap (λ (ls : List Lit). slice_set s.db.clauses c.add-clause.result (live_clause lesson.id ls)) c.as_slice.ensures);
       order = is.order;
       walker = is.walker;
     }

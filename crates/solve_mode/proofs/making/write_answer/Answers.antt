@@ -1,1 +1,0 @@
-use Rattle.solve_mode.proofs.making.write_answer.Goals as goal

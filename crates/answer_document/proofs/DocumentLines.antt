@@ -1,5 +1,5 @@
 -- The lines of a document are lines: no line feed stands inside of one.
-use Rattle.std.proofs.Common.{ℕ, Bool, true, false, not, ◌==◌, List, [], ◌∷◌, ◌++◌, map, codes, Option, None, Some, refl, ◌∙◌, ℤ, pos}
+use Rattle.std.proofs.Common.{◌≡◌, ℕ, Bool, true, false, not, ◌==◌, List, [], ◌∷◌, ◌++◌, map, codes, Option, None, Some, refl, ◌∙◌, ℤ, pos, cond}
 use Rattle.std.specs.Prelude.{FitsSigned, if◌then◌else◌}
 use Rattle.std.specs.Int.{w64}
 use Rattle.std.specs.Ordering.{int_eq}

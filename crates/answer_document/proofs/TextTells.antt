@@ -1,8 +1,9 @@
 -- The text of a document tells its answer.
-use Rattle.std.proofs.Common.{◌≡◌, ◌⊎◌, ℕ, ◌+◌, Bool, true, false, List, [], ◌∷◌, ◌++◌, map, get_or, drop, codes, append_assoc, Option, None, Some, refl, sym, ap, ◌∙◌, subst, inl, inr, ℤ, pos, arith}
-use Rattle.std.specs.Prelude.{◌||◌, if◌then◌else◌}
+use Rattle.std.proofs.Common.{◌≡◌, ◌⊎◌, ℕ, ◌+◌, ◌<◌, ◌≤◌, ◌^◌, Bool, true, false, List, [], ◌∷◌, ◌++◌, map, get_or, drop, codes, append_assoc, Option, None, Some, refl, sym, ap, ◌∙◌, subst, inl, inr, ℤ, pos, arith}
+use Rattle.std.specs.Prelude.{IsTrue, ◌&&◌, ◌||◌, if◌then◌else◌}
 use Rattle.std.specs.Ordering.{int_eq}
-use Rattle.std.proofs.lemmas.Bool.{and_parts, false≢true}
+use Rattle.std.specs.Option.{option_map}
+use Rattle.std.proofs.lemmas.Bool.{and_parts, or_cases, false≢true}
 use Rattle.std.proofs.lemmas.Int.{ints}
 use Rattle.bee_text.proofs.LineLemmas.{join_lines_injective}
 use Rattle.model_meaning.specs.declared.model.Assignment.{Assignment}
@@ -19,10 +20,10 @@ use Rattle.answer_document.specs.declared.verdict.Bounds.{Bounds}
 use Rattle.answer_document.specs.declared.verdict.Verdict.{Verdict}
 use Rattle.answer_document.specs.declared.verdict.Verdict.TheVariants.{Satisfiable, Unsatisfiable, Optimum, Unknown}
 use Rattle.answer_document.specs.declared.document.Document.{Document}
-use Rattle.answer_document.specs.Verdicts.{is_certified, VerdictFits}
+use Rattle.answer_document.specs.Verdicts.{verdict_text, is_certified, VerdictFits}
 use Rattle.answer_document.specs.DocumentText.{best_line, best_lines, assignment_lines, second_lines, certificate_lines, certificate_of, document_lines}
 use Rattle.answer_document.specs.Valid.{stated, FitNumbers, FitAssignment, IsReadableSecond, IsReadableDocument, AnswerHolds, numbers_given, IsValid}
-use Rattle.answer_document.specs.Told.{FitsCount, IsValueOf, AreValues, HasValues, IsWritable, SameCertificate, TextTellsAnswer, ValidTellsAnswer}
+use Rattle.answer_document.specs.Told.{AreNames, FitsCount, IsValueOf, AreValues, HasValues, IsWritable, SameCertificate, SameAnswer, TextTellsAnswer, ValidTellsAnswer}
 use Rattle.answer_document.proofs.DocumentLines.{document-are-lines}
 use Rattle.answer_document.proofs.LinesTell.{best-tells, verdict_told, verdict-tells, values-tell, ledger-tells}
 use Rattle.answer_document.proofs.ProofLinesTell.{BeginBehind, proof-tells}

@@ -2,4 +2,4 @@ use Rattle.compile_rows.proofs.models.compiled.Given as goal
 
 -- the counter is that of the new ledger
 abbrev pub ghosts-compile_with : goal.ghosts-compile_with
-ghosts-compile_with g a = record { name = a.blank.name; parts = a.blank.parts }
+ghosts-compile_with a = record { name = a.blank.name; parts = a.blank.parts }

@@ -1,4 +1,4 @@
--- Words of a text with any run of blanks, tabs, carriage returns and line feeds between them.
+-- Words of a text with any blanks, tabs, carriage returns and line feeds between them.
 use Rattle.std.specs.Prelude.{ℕ, Bool, true, false, List, [], ◌∷◌, if◌then◌else◌}
 use Rattle.bee_text.specs.Words.{is_gap, before_first}
 

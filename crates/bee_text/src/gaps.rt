@@ -1,4 +1,4 @@
-//! The words of a text that stand apart by any run of blanks, tabs, carriage returns and line feeds.
+//! The words of a text that stand apart by any blanks, tabs, carriage returns and line feeds.
 
 ghost use Rattle.std.specs.Prelude.{◌≡◌, ◌∷◌, ◌++◌, [], not, MatchOption, IfSome, position};
 ghost use Rattle.bee_text.specs.Words.{is_gap, IsWord};

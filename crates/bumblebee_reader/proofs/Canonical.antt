@@ -74,7 +74,7 @@ prefix_all p (x ∷ xs) bs h s =
     let first = and-left (p x) (list_all p xs) h in
     rw (first, rest, one-add) refl
 
--- a run of bytes of one kind, and what stands behind it
+-- bytes of one kind in a row, and what stands behind it
 scan_word : (b : ℕ) (xs bs : List ℕ) → is_letter b ≡ true → list_all is_word xs ≡ true → stops is_word bs ≡ true → scan (b ∷ (xs ++ bs)) ≡ Word (b ∷ xs) ∷ scan bs
 scan_word b xs bs letter words s =
     let n = prefix_all is_word xs bs words s in

@@ -1,4 +1,4 @@
--- The first fault of tokens, and what a run says of it.
+-- The first fault of tokens, and what an outcome says of it.
 use Rattle.std.proofs.Common.{◌≡◌, ◌⊎◌, ℕ, Bool, true, false, cond, Option, Some, None, Ok, Err, List, [], ◌∷◌, ◌++◌, refl, sym, ap, ◌∙◌, inl, inr, ⊎_elim, subst, ◌&&◌, not, is_none}
 use Rattle.std.specs.Option.{option_map}
 use Rattle.std.proofs.lemmas.Bool.{false≢true}
@@ -8,7 +8,7 @@ use Rattle.bumblebee_reader.specs.declared.fault.ReadFault.TheVariants as fault
 use Rattle.bumblebee_reader.specs.Tokens.{Token, TokenAt}
 use Rattle.bumblebee_reader.specs.Numeral.{is_too_great}
 use Rattle.bumblebee_reader.specs.Grammar.{AllWithin, kinds}
-use Rattle.bumblebee_reader.specs.Reading.{Place, AtItem, BehindObjective, Move, Misfit, Go, Done, Outcome, move, turn, with_item, ended, run}
+use Rattle.bumblebee_reader.specs.Reading.{Place, AtItem, BehindObjective, Move, Misfit, Go, Done, Outcome, move, turn, with_item, ended, outcome_from}
 use Rattle.bumblebee_reader.proofs.Machine.{accepts, accept_turn, accept_end, lives, live_turn}
 
 -- from a place, a token on this line is the first that does not fit
@@ -95,7 +95,7 @@ number_here p q t ts leads great = record {
   line_is = refl;
 }
 
--- what a run's fault says
+-- what an outcome's fault says
 abbrev FaultFrom : Place → ℕ → List TokenAt → ReadFault → Type 0
 FaultFrom p end ts (fault.Syntax line) = MisfitFrom p ts line ⊎ EndsFrom p end ts line
 FaultFrom p end ts (fault.Number line) = NumberFrom p ts line
@@ -132,13 +132,13 @@ misfit_here p end t ts e = inl (record {
   line_is = refl;
 })
 
-run_fault-turn : (p : Place) (end : ℕ) (t : TokenAt) (ts : List TokenAt) (f : ReadFault) (m : Move) → move p t.token ≡ m → turn m t (λ q. run q end ts) ≡ Err f → ((q : Place) → run q end ts ≡ Err f → FaultFrom q end ts f) → FaultFrom p end (t ∷ ts) f
-run_fault-turn p end t ts f Misfit e h rest =
+outcome_fault-turn : (p : Place) (end : ℕ) (t : TokenAt) (ts : List TokenAt) (f : ReadFault) (m : Move) → move p t.token ≡ m → turn m t (λ q. outcome_from q end ts) ≡ Err f → ((q : Place) → outcome_from q end ts ≡ Err f → FaultFrom q end ts f) → FaultFrom p end (t ∷ ts) f
+outcome_fault-turn p end t ts f Misfit e h rest =
     subst (λ g. FaultFrom p end (t ∷ ts) g) (err_is (fault.Syntax t.line) f h) (misfit_here p end t ts e)
-run_fault-turn p end t ts f (Go q) e h rest =
-    fault_bounded p q end t ts f (is_too_great t.token) (run q end ts) (leads_go p t.token q e) refl h (rest q)
-run_fault-turn p end t ts f (Done i q) e h rest =
-    fault_bounded p q end t ts f (is_too_great t.token) (with_item i (run q end ts)) (leads_done p t.token i q e) refl h (λ o. rest q (with_item_err i (run q end ts) f o))
+outcome_fault-turn p end t ts f (Go q) e h rest =
+    fault_bounded p q end t ts f (is_too_great t.token) (outcome_from q end ts) (leads_go p t.token q e) refl h (rest q)
+outcome_fault-turn p end t ts f (Done i q) e h rest =
+    fault_bounded p q end t ts f (is_too_great t.token) (with_item i (outcome_from q end ts)) (leads_done p t.token i q e) refl h (λ o. rest q (with_item_err i (outcome_from q end ts) f o))
 
 early_here : (p : Place) (end : ℕ) → accept_end p ≡ None → FaultFrom p end [] (fault.Syntax end)
 early_here p end e = inr (record { fits = refl; early = e; within = tt; line_is = refl })
@@ -157,16 +157,16 @@ whole_or_early _ end = inr refl
 not_ok : (o : Outcome) (items : List Item) (f : ReadFault) → o ≡ Ok items → o ≡ Err f → ⊥
 not_ok o items f a b = cc
 
-run_fault-end : (p : Place) (end : ℕ) (f : ReadFault) → ended p end ≡ Err f → FaultFrom p end [] f
-run_fault-end p end f h =
+outcome_fault-end : (p : Place) (end : ℕ) (f : ReadFault) → ended p end ≡ Err f → FaultFrom p end [] f
+outcome_fault-end p end f h =
     ⊎_elim (λ e. absurd (not_ok (ended p end) e.0 f e.1 h)) (λ e. subst (λ g. FaultFrom p end [] g) (err_is (fault.Syntax end) f (sym (early_end p end e) ∙ h)) (early_here p end e)) (whole_or_early p end)
 
-pub run_fault : (ts : List TokenAt) (p : Place) (end : ℕ) (f : ReadFault) → run p end ts ≡ Err f → FaultFrom p end ts f
-run_fault [] p end f h = run_fault-end p end f h
-run_fault (t ∷ ts) p end f h =
-    run_fault-turn p end t ts f (move p t.token) refl h (λ q e. run_fault ts q end f e)
+pub outcome_fault : (ts : List TokenAt) (p : Place) (end : ℕ) (f : ReadFault) → outcome_from p end ts ≡ Err f → FaultFrom p end ts f
+outcome_fault [] p end f h = outcome_fault-end p end f h
+outcome_fault (t ∷ ts) p end f h =
+    outcome_fault-turn p end t ts f (move p t.token) refl h (λ q e. outcome_fault ts q end f e)
 
--- the other way: each of the three decides the run
+-- the other way: each of the three decides the outcome
 
 pass : (t : TokenAt) (o : Outcome) (f : ReadFault) → is_too_great t.token ≡ false → o ≡ Err f → cond (is_too_great t.token) (Err (fault.Number t.line)) o ≡ Err f
 pass t o f small e = rw small e
@@ -198,17 +198,17 @@ both_are true true h = absurd (false≢true h)
 both_are true false h = (refl, refl)
 both_are false y h = absurd (false≢true h)
 
-pub misfit_run : (before : List TokenAt) (t : TokenAt) (behind : List TokenAt) (p : Place) (end : ℕ) → lives p (kinds before) ≡ true → lives p (kinds (before ++ t ∷ [])) ≡ false → AllWithin (kinds before) → run p end (before ++ t ∷ behind) ≡ Err (fault.Syntax t.line)
-misfit_run [] t behind p end fits misfit within = dead-turn (move p t.token) t (λ q. run q end behind) misfit
-misfit_run (u ∷ before) t behind p end fits misfit within =
-    behind-turn (move p u.token) u (λ q. lives q (kinds before) && not (lives q (kinds (before ++ t ∷ [])))) (λ q. run q end (before ++ t ∷ behind)) (fault.Syntax t.line) (both-turn (move p u.token) (λ q. lives q (kinds before)) (λ q. lives q (kinds (before ++ t ∷ []))) fits misfit) within.0 (λ q h.
+pub misfit_outcome : (before : List TokenAt) (t : TokenAt) (behind : List TokenAt) (p : Place) (end : ℕ) → lives p (kinds before) ≡ true → lives p (kinds (before ++ t ∷ [])) ≡ false → AllWithin (kinds before) → outcome_from p end (before ++ t ∷ behind) ≡ Err (fault.Syntax t.line)
+misfit_outcome [] t behind p end fits misfit within = dead-turn (move p t.token) t (λ q. outcome_from q end behind) misfit
+misfit_outcome (u ∷ before) t behind p end fits misfit within =
+    behind-turn (move p u.token) u (λ q. lives q (kinds before) && not (lives q (kinds (before ++ t ∷ [])))) (λ q. outcome_from q end (before ++ t ∷ behind)) (fault.Syntax t.line) (both-turn (move p u.token) (λ q. lives q (kinds before)) (λ q. lives q (kinds (before ++ t ∷ []))) fits misfit) within.0 (λ q h.
     let d = both_are (lives q (kinds before)) (lives q (kinds (before ++ t ∷ []))) h in
-    misfit_run before t behind q end d.0 d.1 within.1)
+    misfit_outcome before t behind q end d.0 d.1 within.1)
 
-pub number_run : (before : List TokenAt) (t : TokenAt) (behind : List TokenAt) (p : Place) (end : ℕ) → lives p (kinds (before ++ t ∷ [])) ≡ true → AllWithin (kinds before) → is_too_great t.token ≡ true → run p end (before ++ t ∷ behind) ≡ Err (fault.Number t.line)
-number_run [] t behind p end fits within great = great-turn (move p t.token) t (λ q. run q end behind) fits great
-number_run (u ∷ before) t behind p end fits within great =
-    behind-turn (move p u.token) u (λ q. lives q (kinds (before ++ t ∷ []))) (λ q. run q end (before ++ t ∷ behind)) (fault.Number t.line) fits within.0 (λ q h. number_run before t behind q end h within.1 great)
+pub number_outcome : (before : List TokenAt) (t : TokenAt) (behind : List TokenAt) (p : Place) (end : ℕ) → lives p (kinds (before ++ t ∷ [])) ≡ true → AllWithin (kinds before) → is_too_great t.token ≡ true → outcome_from p end (before ++ t ∷ behind) ≡ Err (fault.Number t.line)
+number_outcome [] t behind p end fits within great = great-turn (move p t.token) t (λ q. outcome_from q end behind) fits great
+number_outcome (u ∷ before) t behind p end fits within great =
+    behind-turn (move p u.token) u (λ q. lives q (kinds (before ++ t ∷ []))) (λ q. outcome_from q end (before ++ t ∷ behind)) (fault.Number t.line) fits within.0 (λ q h. number_outcome before t behind q end h within.1 great)
 
 option_map_none : (i : Item) (o : Option (List Item)) → option_map (λ is. i ∷ is) o ≡ None → o ≡ None
 option_map_none i None h = refl
@@ -224,9 +224,9 @@ none_are true None h = (refl, refl)
 none_are true (Some is) h = absurd (false≢true h)
 none_are false o h = absurd (false≢true h)
 
-pub ends_run : (ts : List TokenAt) (p : Place) (end : ℕ) → lives p (kinds ts) ≡ true → accepts p (kinds ts) ≡ None → AllWithin (kinds ts) → run p end ts ≡ Err (fault.Syntax end)
-ends_run [] p end fits early within = early_end p end early
-ends_run (t ∷ ts) p end fits early within =
-    behind-turn (move p t.token) t (λ q. lives q (kinds ts) && is_none (accepts q (kinds ts))) (λ q. run q end ts) (fault.Syntax end) (none-turn (move p t.token) (kinds ts) fits early) within.0 (λ q h.
+pub ends_outcome : (ts : List TokenAt) (p : Place) (end : ℕ) → lives p (kinds ts) ≡ true → accepts p (kinds ts) ≡ None → AllWithin (kinds ts) → outcome_from p end ts ≡ Err (fault.Syntax end)
+ends_outcome [] p end fits early within = early_end p end early
+ends_outcome (t ∷ ts) p end fits early within =
+    behind-turn (move p t.token) t (λ q. lives q (kinds ts) && is_none (accepts q (kinds ts))) (λ q. outcome_from q end ts) (fault.Syntax end) (none-turn (move p t.token) (kinds ts) fits early) within.0 (λ q h.
     let d = none_are (lives q (kinds ts)) (accepts q (kinds ts)) h in
-    ends_run ts q end d.0 d.1 within.1)
+    ends_outcome ts q end d.0 d.1 within.1)

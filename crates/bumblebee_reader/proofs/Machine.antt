@@ -7,7 +7,7 @@ use Rattle.bumblebee_reader.specs.declared.fault.ReadFault.TheVariants as fault
 use Rattle.bumblebee_reader.specs.Tokens.{Token, TokenAt}
 use Rattle.bumblebee_reader.specs.Numeral.{is_too_great}
 use Rattle.bumblebee_reader.specs.Grammar.{AllWithin, kinds}
-use Rattle.bumblebee_reader.specs.Reading.{Place, AtItem, BehindObjective, Move, Misfit, Go, Done, Outcome, move, turn, with_item, ended, run}
+use Rattle.bumblebee_reader.specs.Reading.{Place, AtItem, BehindObjective, Move, Misfit, Go, Done, Outcome, move, turn, with_item, ended, outcome_from}
 
 abbrev pub accept_turn : Move → (Place → Option (List Item)) → Option (List Item)
 accept_turn Misfit next = None
@@ -47,27 +47,27 @@ with_item_ok : (i : Item) (o : Outcome) (items : List Item) → with_item i o �
 with_item_ok i (Ok is) items h = (is, refl, cc)
 with_item_ok i (Err f) items h = cc
 
--- what a run that has items accepts
-RunOk : Place → ℕ → List TokenAt → Type 0
-RunOk p end ts = (items : List Item) → run p end ts ≡ Ok items → (accepts p (kinds ts) ≡ Some items) × AllWithin (kinds ts)
+-- what an outcome that has items accepts
+OutcomeOk : Place → ℕ → List TokenAt → Type 0
+OutcomeOk p end ts = (items : List Item) → outcome_from p end ts ≡ Ok items → (accepts p (kinds ts) ≡ Some items) × AllWithin (kinds ts)
 
-run_ok-turn : (m : Move) (t : TokenAt) (end : ℕ) (ts : List TokenAt) (items : List Item) → turn m t (λ q. run q end ts) ≡ Ok items → ((q : Place) → RunOk q end ts) → (accept_turn m (λ q. accepts q (kinds ts)) ≡ Some items) × ((is_too_great t.token ≡ false) × AllWithin (kinds ts))
-unfolding RunOk
-run_ok-turn Misfit t end ts items h rest = cc
-run_ok-turn (Go q) t end ts items h rest =
-    let b = bounded_ok t (is_too_great t.token) (run q end ts) items h in
+outcome_ok-turn : (m : Move) (t : TokenAt) (end : ℕ) (ts : List TokenAt) (items : List Item) → turn m t (λ q. outcome_from q end ts) ≡ Ok items → ((q : Place) → OutcomeOk q end ts) → (accept_turn m (λ q. accepts q (kinds ts)) ≡ Some items) × ((is_too_great t.token ≡ false) × AllWithin (kinds ts))
+unfolding OutcomeOk
+outcome_ok-turn Misfit t end ts items h rest = cc
+outcome_ok-turn (Go q) t end ts items h rest =
+    let b = bounded_ok t (is_too_great t.token) (outcome_from q end ts) items h in
     let r = rest q items b.1 in
     (r.0, (b.0, r.1))
-run_ok-turn (Done i q) t end ts items h rest =
-    let b = bounded_ok t (is_too_great t.token) (with_item i (run q end ts)) items h in
-    let w = with_item_ok i (run q end ts) items b.1 in
+outcome_ok-turn (Done i q) t end ts items h rest =
+    let b = bounded_ok t (is_too_great t.token) (with_item i (outcome_from q end ts)) items h in
+    let w = with_item_ok i (outcome_from q end ts) items b.1 in
     let r = rest q w.0 w.1 in
     (ap (option_map (λ is. i ∷ is)) r.0 ∙ ap Some (sym w.2), (b.0, r.1))
 
-pub run_ok : (p : Place) (end : ℕ) (ts : List TokenAt) (items : List Item) → run p end ts ≡ Ok items → (accepts p (kinds ts) ≡ Some items) × AllWithin (kinds ts)
-unfolding RunOk
-run_ok p end [] items h = (ended_ok p end items h, tt)
-run_ok p end (t ∷ ts) items h = run_ok-turn (move p t.token) t end ts items h (λ q. run_ok q end ts)
+pub outcome_ok : (p : Place) (end : ℕ) (ts : List TokenAt) (items : List Item) → outcome_from p end ts ≡ Ok items → (accepts p (kinds ts) ≡ Some items) × AllWithin (kinds ts)
+unfolding OutcomeOk
+outcome_ok p end [] items h = (ended_ok p end items h, tt)
+outcome_ok p end (t ∷ ts) items h = outcome_ok-turn (move p t.token) t end ts items h (λ q. outcome_ok q end ts)
 
 ok_from_accept_end : (p : Place) (end : ℕ) (items : List Item) → accept_end p ≡ Some items → ended p end ≡ Ok items
 ok_from_accept_end AtItem end items h = cc
@@ -78,17 +78,17 @@ pub option_map_cons : (i : Item) (o : Option (List Item)) (items : List Item) �
 option_map_cons i (Some is) items h = (is, refl, cc)
 option_map_cons i None items h = cc
 
-accepts_run-turn : (m : Move) (t : TokenAt) (end : ℕ) (ts : List TokenAt) (items : List Item) → accept_turn m (λ q. accepts q (kinds ts)) ≡ Some items → is_too_great t.token ≡ false → ((q : Place) (is : List Item) → accepts q (kinds ts) ≡ Some is → run q end ts ≡ Ok is) → turn m t (λ q. run q end ts) ≡ Ok items
-accepts_run-turn Misfit t end ts items h small rest = cc
-accepts_run-turn (Go q) t end ts items h small rest = rw small (rest q items h)
-accepts_run-turn (Done i q) t end ts items h small rest =
+accepts_outcome-turn : (m : Move) (t : TokenAt) (end : ℕ) (ts : List TokenAt) (items : List Item) → accept_turn m (λ q. accepts q (kinds ts)) ≡ Some items → is_too_great t.token ≡ false → ((q : Place) (is : List Item) → accepts q (kinds ts) ≡ Some is → outcome_from q end ts ≡ Ok is) → turn m t (λ q. outcome_from q end ts) ≡ Ok items
+accepts_outcome-turn Misfit t end ts items h small rest = cc
+accepts_outcome-turn (Go q) t end ts items h small rest = rw small (rest q items h)
+accepts_outcome-turn (Done i q) t end ts items h small rest =
     let w = option_map_cons i (accepts q (kinds ts)) items h in
     rw (small, rest q w.0 w.1) (ap Ok (sym w.2))
 
-pub accepts_run : (p : Place) (end : ℕ) (ts : List TokenAt) (items : List Item) → accepts p (kinds ts) ≡ Some items → AllWithin (kinds ts) → run p end ts ≡ Ok items
-accepts_run p end [] items h small = ok_from_accept_end p end items h
-accepts_run p end (t ∷ ts) items h small =
-    accepts_run-turn (move p t.token) t end ts items h small.0 (λ q is e. accepts_run q end ts is e small.1)
+pub accepts_outcome : (p : Place) (end : ℕ) (ts : List TokenAt) (items : List Item) → accepts p (kinds ts) ≡ Some items → AllWithin (kinds ts) → outcome_from p end ts ≡ Ok items
+accepts_outcome p end [] items h small = ok_from_accept_end p end items h
+accepts_outcome p end (t ∷ ts) items h small =
+    accepts_outcome-turn (move p t.token) t end ts items h small.0 (λ q is e. accepts_outcome q end ts is e small.1)
 
 -- tokens that are accepted fit, also the first of them
 lives_front-turn : (m : Move) (ts us : List Token) (items : List Item) → accept_turn m (λ q. accepts q (ts ++ us)) ≡ Some items → ((q : Place) (is : List Item) → accepts q (ts ++ us) ≡ Some is → lives q ts ≡ true) → live_turn m (λ q. lives q ts) ≡ true

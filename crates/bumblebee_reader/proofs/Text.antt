@@ -9,22 +9,22 @@ use Rattle.bumblebee_reader.specs.Tokens.{Token, tokens, last_line}
 use Rattle.bumblebee_reader.specs.Grammar.{Spells, Begins, kinds, IsText}
 use Rattle.bumblebee_reader.specs.Faults.{Misfits, EndsEarly, IsSyntaxFault, IsNumberFault, MemoryFound}
 use Rattle.bumblebee_reader.specs.Laws.{OneSyntax, TextOrFault}
-use Rattle.bumblebee_reader.specs.Reading.{AtItem, Outcome, reading, run, Gives}
-use Rattle.bumblebee_reader.proofs.Machine.{accepts, lives, run_ok, accepts_run}
+use Rattle.bumblebee_reader.specs.Reading.{AtItem, Outcome, reading, outcome_from, Gives}
+use Rattle.bumblebee_reader.proofs.Machine.{accepts, lives, outcome_ok, accepts_outcome}
 use Rattle.bumblebee_reader.proofs.Complete.{accepts_spelled}
 use Rattle.bumblebee_reader.proofs.Sound.{spelled_accepted}
 use Rattle.bumblebee_reader.proofs.Begin.{begins_lives, lives_begins}
-use Rattle.bumblebee_reader.proofs.Faults.{MisfitFrom, EndsFrom, NumberFrom, run_fault, misfit_run, number_run, ends_run}
+use Rattle.bumblebee_reader.proofs.Faults.{MisfitFrom, EndsFrom, NumberFrom, outcome_fault, misfit_outcome, number_outcome, ends_outcome}
 
 -- a text and its syntax
 pub text_from_reading : (text : List ℕ) (s : Syntax) → reading AtItem 1 text ≡ Ok s.items → IsText text s
 text_from_reading text s h =
-    let r = run_ok AtItem (last_line text) (tokens text) s.items h in
+    let r = outcome_ok AtItem (last_line text) (tokens text) s.items h in
     record { spelled = spelled_accepted (kinds (tokens text)) s.items r.0; within = r.1 }
 
 pub reading_from_text : (text : List ℕ) (s : Syntax) → IsText text s → reading AtItem 1 text ≡ Ok s.items
 reading_from_text text s h =
-    accepts_run AtItem (last_line text) (tokens text) s.items (accepts_spelled (kinds (tokens text)) s.items h.spelled) h.within
+    accepts_outcome AtItem (last_line text) (tokens text) s.items (accepts_spelled (kinds (tokens text)) s.items h.spelled) h.within
 
 -- tokens that do not fit begin no text
 dead_begins : (ts : List Token) → lives AtItem ts ≡ false → Begins ts → ⊥
@@ -66,17 +66,17 @@ ends_early text line f = record {
 
 pub syntax_fault_from_reading : (text : List ℕ) (line : ℕ) → reading AtItem 1 text ≡ Err (fault.Syntax line) → IsSyntaxFault text line
 syntax_fault_from_reading text line h =
-    ⊎_elim (λ f. inl (misfits text line f)) (λ f. inr (ends_early text line f)) (run_fault (tokens text) AtItem (last_line text) (fault.Syntax line) h)
+    ⊎_elim (λ f. inl (misfits text line f)) (λ f. inr (ends_early text line f)) (outcome_fault (tokens text) AtItem (last_line text) (fault.Syntax line) h)
 
 reading_from_misfits : (text : List ℕ) (line : ℕ) → Misfits text line → reading AtItem 1 text ≡ Err (fault.Syntax line)
 reading_from_misfits text line f =
-    ap (run AtItem (last_line text)) f.whole
-    ∙ misfit_run f.before f.token f.behind AtItem (last_line text) (lives_begins (kinds f.before) f.begins) (dead_from (kinds (f.before ++ f.token ∷ [])) (lives AtItem (kinds (f.before ++ f.token ∷ []))) refl f.misfit) f.within
+    ap (outcome_from AtItem (last_line text)) f.whole
+    ∙ misfit_outcome f.before f.token f.behind AtItem (last_line text) (lives_begins (kinds f.before) f.begins) (dead_from (kinds (f.before ++ f.token ∷ [])) (lives AtItem (kinds (f.before ++ f.token ∷ []))) refl f.misfit) f.within
     ∙ ap (λ l. Err (fault.Syntax l)) (sym f.line_is)
 
 reading_from_ends : (text : List ℕ) (line : ℕ) → EndsEarly text line → reading AtItem 1 text ≡ Err (fault.Syntax line)
 reading_from_ends text line f =
-    ends_run (tokens text) AtItem (last_line text) (lives_begins (kinds (tokens text)) f.begins) (none_from (kinds (tokens text)) (accepts AtItem (kinds (tokens text))) refl f.early) f.within
+    ends_outcome (tokens text) AtItem (last_line text) (lives_begins (kinds (tokens text)) f.begins) (none_from (kinds (tokens text)) (accepts AtItem (kinds (tokens text))) refl f.early) f.within
     ∙ ap (λ l. Err (fault.Syntax l)) (sym f.line_is)
 
 pub reading_from_syntax_fault : (text : List ℕ) (line : ℕ) → IsSyntaxFault text line → reading AtItem 1 text ≡ Err (fault.Syntax line)
@@ -97,16 +97,16 @@ number_fault text line f = record {
 
 pub number_fault_from_reading : (text : List ℕ) (line : ℕ) → reading AtItem 1 text ≡ Err (fault.Number line) → IsNumberFault text line
 number_fault_from_reading text line h =
-    number_fault text line (run_fault (tokens text) AtItem (last_line text) (fault.Number line) h)
+    number_fault text line (outcome_fault (tokens text) AtItem (last_line text) (fault.Number line) h)
 
 pub reading_from_number_fault : (text : List ℕ) (line : ℕ) → IsNumberFault text line → reading AtItem 1 text ≡ Err (fault.Number line)
 reading_from_number_fault text line f =
-    ap (run AtItem (last_line text)) f.whole
-    ∙ number_run f.before f.token f.behind AtItem (last_line text) (lives_begins (kinds (f.before ++ f.token ∷ [])) f.begins) f.within f.too_great
+    ap (outcome_from AtItem (last_line text)) f.whole
+    ∙ number_outcome f.before f.token f.behind AtItem (last_line text) (lives_begins (kinds (f.before ++ f.token ∷ [])) f.begins) f.within f.too_great
     ∙ ap (λ l. Err (fault.Number l)) (sym f.line_is)
 
 pub no_memory_fault : (text : List ℕ) → reading AtItem 1 text ≡ Err fault.Memory → ⊥
-no_memory_fault text h = run_fault (tokens text) AtItem (last_line text) fault.Memory h
+no_memory_fault text h = outcome_fault (tokens text) AtItem (last_line text) fault.Memory h
 
 -- what `read_model` answers, from what the reading gives
 

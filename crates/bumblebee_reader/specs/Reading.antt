@@ -256,13 +256,13 @@ ended (AtClose seeking name) line = Err (fault.Syntax line)
 ended (BehindObjective kind name) line = Ok (Goal kind (Some name) None ∷ [])
 
 -- what tokens give from a place, where the text ends on the line `end`
-abbrev pub run : Place → ℕ → List TokenAt → Outcome
-run place end [] = ended place end
-run place end (t ∷ ts) = turn (move place t.token) t (λ next. run next end ts)
+abbrev pub outcome_from : Place → ℕ → List TokenAt → Outcome
+outcome_from place end [] = ended place end
+outcome_from place end (t ∷ ts) = turn (move place t.token) t (λ next. outcome_from next end ts)
 
 -- what bytes give from a place, where the first of them stand on this line
 abbrev pub reading : Place → ℕ → List ℕ → Outcome
-reading place line bytes = run place (last_line_at line bytes) (tokens_at line bytes)
+reading place line bytes = outcome_from place (last_line_at line bytes) (tokens_at line bytes)
 
 -- what a token gives with the bytes behind it, or the end on this line
 abbrev pub turn_at : Move → Token → ℕ → List ℕ → Outcome

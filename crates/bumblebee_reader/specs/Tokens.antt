@@ -7,7 +7,7 @@ use Rattle.bumblebee_reader.specs.declared.lexeme.Sign.TheVariants.{OpenCall, Cl
 use Rattle.bumblebee_reader.specs.declared.lexeme.Lexeme.{Lexeme}
 use Rattle.bumblebee_reader.specs.declared.lexeme.Lexeme.TheVariants as lent
 
--- a name, a run of digits, one of the six signs, or any other byte
+-- a name, digits in a row, one of the six signs, or any other byte
 pub data Token : Type 0 where
   Word : (name : List ℕ) → Token
   Digits : (digits : List ℕ) → Token
@@ -27,7 +27,7 @@ lone_token b =
 abbrev pub begins_gap : ℕ → Bool
 begins_gap b = nat_eq b 32 || nat_eq b 9 || nat_eq b 13 || nat_eq b 10 || nat_eq b 37
 
--- the token that begins with the byte b before the bytes bs: the longest name, the longest run of digits,
+-- the token that begins with the byte b before the bytes bs: the longest name, the most digits in a row,
 -- or the byte alone; none where a gap begins there
 abbrev pub token_from : ℕ → List ℕ → Option Token
 token_from b bs =

@@ -25,7 +25,7 @@ pub enum Sign {
 pub enum Lexeme<'a> {
     /// A name.
     Word(&'a [u8]),
-    /// A run of digits.
+    /// Digits in a row.
     Digits(&'a [u8]),
     /// One of the six signs.
     Sign(Sign),

@@ -120,7 +120,7 @@ fn word_length(bytes: &[u8]) -> usize
     bytes.iter().take_while(|byte| is_word(**byte)).count()
 }
 
-/// How many of the first bytes go on with a run of digits.
+/// How many of the first bytes are digits.
 fn digits_length(bytes: &[u8]) -> usize
     ensures count { result ≡ prefix_len is_digit bytes.now }
     ensures within { result ≤ length bytes.now }

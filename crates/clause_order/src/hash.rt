@@ -9,12 +9,12 @@ use std::hash::Hasher;
 const MULTIPLIER: u64 = 11_400_714_819_323_198_485;
 
 /// How many first variables that follow each other keep their clauses together.
-const RUN: u64 = 32;
+const BLOCK: u64 = 32;
 
 /// Hashes the literals of a clause by its first variable and the distances of the others from it. Clauses that
 /// come one after another over variables one after another, as those of an integer's order do, so lie side by
-/// side in a table, in runs of 32; by a hash that spreads them, each would wait for a place of its own in memory. The
-/// runs are spread, so that no part of the table gets much more than the others.
+/// side in a table, in blocks of 32; by a hash that spreads them, each would wait for a place of its own in memory. The
+/// blocks are spread, so that no part of the table gets much more than the others.
 #[derive(Clone, Copy)]
 pub struct ClauseHasher {
     first: u64,
@@ -66,8 +66,8 @@ impl Hasher for ClauseHasher {
 
     fn finish(&self) -> u64 {
         let both = self.first.wrapping_mul(MULTIPLIER).wrapping_add(self.rest);
-        let run = mixed(self.rest, self.first / RUN) / (1 << 40);
-        let place = (run + self.first % RUN) % (1 << 24);
+        let block = mixed(self.rest, self.first / BLOCK) / (1 << 40);
+        let place = (block + self.first % BLOCK) % (1 << 24);
         both / (1 << 56) * (1 << 24) + place
     }
 

@@ -15,7 +15,8 @@ use Rattle.index_ring.proofs.Times.{times-same, times-other, times-append, all-g
 use Rattle.index_ring.proofs.Seen.{after_in-cut}
 use Rattle.clause_rings.specs.Clauses.{Follows}
 use Rattle.clause_rings.specs.Clauses.Follows.{same, more}
-use Rattle.clause_rings.specs.Keeping.{Keeps, seen, Advances, head_ring, IsMet, AreMet, IsBlocker, IsVisited, list_from}
+use Rattle.clause_rings.specs.Keeping.{Keeps, seen, Advances, head_ring, IsMet, AreMet, IsBlocker, IsVisited}
+use Rattle.index_ring.specs.Lists.{rest_from}
 use Rattle.clause_rings.specs.declared.watches.Watches.{Watches}
 use Rattle.clause_rings.proofs.Literals.{true-append, true-permuted}
 use Rattle.clause_rings.proofs.Looked.{advances-none, advances-both}
@@ -56,13 +57,13 @@ pub ring-advances : (a b : Watches) → Advances (seen a) (seen b) → b.head �
 ring-advances a b f head lt = ap (λ (e : Entry). code_of (not_lit e.lit)) (ap (entry_at b.trail.entries) head ∙ longer-entry a.trail b.trail a.head (follows-longer b.arena.clauses a.trail b.trail f.trail) lt)
 
 -- a list from its first node on that is to come
-pub from-first : (front rest : List ℕ) (at : Option ℕ) → at ≡ first_in rest → ((v : ℕ) → times v (front ++ rest) ≤ 1) → list_from at (front ++ rest) ≡ rest
-from-first [] [] at e once = ap (λ (o : Option ℕ). list_from o []) e
-from-first [] (v ∷ rest) at e once = ap (λ (o : Option ℕ). list_from o (v ∷ rest)) e ∙ cond-true {A = List ℕ} (v == v) (v ∷ rest) (list_from (Some v) rest) (eq-eqb v v refl)
-from-first (w ∷ front) [] at e once = ap (λ (o : Option ℕ). list_from o ((w ∷ front) ++ [])) e
+pub from-first : (front rest : List ℕ) (at : Option ℕ) → at ≡ first_in rest → ((v : ℕ) → times v (front ++ rest) ≤ 1) → rest_from at (front ++ rest) ≡ rest
+from-first [] [] at e once = ap (λ (o : Option ℕ). rest_from o []) e
+from-first [] (v ∷ rest) at e once = ap (λ (o : Option ℕ). rest_from o (v ∷ rest)) e ∙ cond-true {A = List ℕ} (v == v) (v ∷ rest) (rest_from (Some v) rest) (eq-eqb v v refl)
+from-first (w ∷ front) [] at e once = ap (λ (o : Option ℕ). rest_from o ((w ∷ front) ++ [])) e
 from-first (w ∷ front) (v ∷ rest) at e once =
     let ne : w ≢ v = λ s. absurd (omega (arith, once v, times-same v w (front ++ v ∷ rest) s, times-append v front (v ∷ rest), times-same v v rest refl)) in
-    ap (λ (o : Option ℕ). list_from o ((w ∷ front) ++ v ∷ rest)) e ∙ (cond-false {A = List ℕ} (w == v) (w ∷ (front ++ v ∷ rest)) (list_from (Some v) (front ++ v ∷ rest)) (ne_eqb w v ne) ∙ from-first front (v ∷ rest) (Some v) refl (λ u. omega (arith, once u, times-grows u w (front ++ v ∷ rest))))
+    ap (λ (o : Option ℕ). rest_from o ((w ∷ front) ++ v ∷ rest)) e ∙ (cond-false {A = List ℕ} (w == v) (w ∷ (front ++ v ∷ rest)) (rest_from (Some v) (front ++ v ∷ rest)) (ne_eqb w v ne) ∙ from-first front (v ∷ rest) (Some v) refl (λ u. omega (arith, once u, times-grows u w (front ++ v ∷ rest))))
 
 -- the nodes that have been looked at and stay, and those to come
 pub record IsSplit (list : List ℕ) (at : Option ℕ) : Type 0 where
@@ -86,8 +87,8 @@ pub list-once : (rings : RingLists) (r v : ℕ) → IsRings rings → times v (l
 list-once rings r v made = omega (arith, all-get v rings.lists r, made.once v)
 
 -- what is left of the walk
-pub left-is : (rings : RingLists) (r : ℕ) (at : Option ℕ) → IsRings rings → (s : IsSplit (list_of rings r) at) → list_from at (list_of rings r) ≡ s.rest
-left-is rings r at made s = ap (list_from at) s.list_is ∙ from-first s.front s.rest at s.at_is (λ v. subst (λ (l : List ℕ). times v l ≤ 1) s.list_is (list-once rings r v made))
+pub left-is : (rings : RingLists) (r : ℕ) (at : Option ℕ) → IsRings rings → (s : IsSplit (list_of rings r) at) → rest_from at (list_of rings r) ≡ s.rest
+left-is rings r at made s = ap (rest_from at) s.list_is ∙ from-first s.front s.rest at s.at_is (λ v. subst (λ (l : List ℕ). times v l ≤ 1) s.list_is (list-once rings r v made))
 
 pub walked-start : (a : Watches) (ring : ℕ) (at : Option ℕ) (blocker : ℕ) → Keeps a → a.head < length a.trail.entries → head_ring a ≡ ring → at ≡ first_in (list_of a.rings ring) → IsBlocker a at blocker → IsWalked a a ring at blocker
 walked-start a ring at blocker kept lt is first blocked = record {
@@ -142,13 +143,13 @@ if-some None P h = tt
 if-some (Some v) P h = h v refl
 
 -- one node on
-pub walked-next : (a w n : Watches) (ring : ℕ) (at next : Option ℕ) (blocker ahead node : ℕ) → (h : IsWalked a w ring at blocker) → at ≡ Some node → next ≡ after_in node (list_of w.rings ring) → IsBlocker w next ahead → Keeps n → Advances (seen w) (seen n) → n.head ≡ w.head → IsVisited w n node → IsWalked a n ring next ahead × (length (list_from next (list_of n.rings ring)) < length (list_from at (list_of w.rings ring)))
+pub walked-next : (a w n : Watches) (ring : ℕ) (at next : Option ℕ) (blocker ahead node : ℕ) → (h : IsWalked a w ring at blocker) → at ≡ Some node → next ≡ after_in node (list_of w.rings ring) → IsBlocker w next ahead → Keeps n → Advances (seen w) (seen n) → n.head ≡ w.head → IsVisited w n node → IsWalked a n ring next ahead × (length (rest_from next (list_of n.rings ring)) < length (rest_from at (list_of w.rings ring)))
 walked-next a w n ring at next blocker ahead node h is next_is blocked kept adv head visited = ⊎_elim stays leaves visited
   where
     there : IsAtNode w ring h.split.front node
     there = at-node a w ring at blocker node h is
 
-    was_left : length (list_from at (list_of w.rings ring)) ≡ length h.split.rest
+    was_left : length (rest_from at (list_of w.rings ring)) ≡ length h.split.rest
     was_left = ap length (left-is w.rings ring at h.kept.watching.made h.split)
 
     rest_is : h.split.rest ≡ node ∷ there.back
@@ -169,7 +170,7 @@ walked-next a w n ring at next blocker ahead node h is next_is blocked kept adv 
     still_met : (m : ℕ) → 1 ≤ times m h.split.front → IsMet n (m / 2)
     still_met m k = met-advances w n (m / 2) adv head h.in_trail (h.met m k)
 
-    on : (s : IsSplit (list_of n.rings ring) next) → ((m : ℕ) → 1 ≤ times m s.front → IsMet n (m / 2)) → length s.rest + 1 ≡ length h.split.rest → IsWalked a n ring next ahead × (length (list_from next (list_of n.rings ring)) < length (list_from at (list_of w.rings ring)))
+    on : (s : IsSplit (list_of n.rings ring) next) → ((m : ℕ) → 1 ≤ times m s.front → IsMet n (m / 2)) → length s.rest + 1 ≡ length h.split.rest → IsWalked a n ring next ahead × (length (rest_from next (list_of n.rings ring)) < length (rest_from at (list_of w.rings ring)))
     on s met less = (
       record {
         kept = kept;
@@ -187,12 +188,12 @@ walked-next a w n ring at next blocker ahead node h is next_is blocked kept adv 
     met_here : IsMet n (node / 2) → (m : ℕ) → 1 ≤ times m (h.split.front ++ node ∷ []) → IsMet n (m / 2)
     met_here now m k = ⊎_elim (λ (e : node ≡ m). subst (λ (x : ℕ). IsMet n (x / 2)) e now) (λ (ne : node ≡ m → ⊥). still_met m (omega (arith, times-append m h.split.front (node ∷ []), times-other m node [] ne))) (cases_eq node m)
 
-    stays : (list_of n.rings (head_ring w) ≡ list_of w.rings (head_ring w)) × IsMet n (node / 2) → IsWalked a n ring next ahead × (length (list_from next (list_of n.rings ring)) < length (list_from at (list_of w.rings ring)))
+    stays : (list_of n.rings (head_ring w) ≡ list_of w.rings (head_ring w)) × IsMet n (node / 2) → IsWalked a n ring next ahead × (length (rest_from next (list_of n.rings ring)) < length (rest_from at (list_of w.rings ring)))
     stays (same_list, now) =
         let list : list_of n.rings ring ≡ list_of w.rings ring = subst (λ (r : ℕ). list_of n.rings r ≡ list_of w.rings r) h.ring_is same_list in
         on (record { front = h.split.front ++ node ∷ []; rest = there.back; list_is = list ∙ (there.list_is ∙ sym (append_assoc h.split.front (node ∷ []) there.back)); at_is = next_is ∙ there.follows }) (met_here now) (omega (arith, ap length rest_is))
 
-    leaves : list_of n.rings (head_ring w) ≡ without node (list_of w.rings (head_ring w)) → IsWalked a n ring next ahead × (length (list_from next (list_of n.rings ring)) < length (list_from at (list_of w.rings ring)))
+    leaves : list_of n.rings (head_ring w) ≡ without node (list_of w.rings (head_ring w)) → IsWalked a n ring next ahead × (length (rest_from next (list_of n.rings ring)) < length (rest_from at (list_of w.rings ring)))
     leaves gone =
         let list : list_of n.rings ring ≡ without node (list_of w.rings ring) = subst (λ (r : ℕ). list_of n.rings r ≡ without node (list_of w.rings r)) h.ring_is gone in
         on (record { front = h.split.front; rest = there.back; list_is = list ∙ (ap (without node) there.list_is ∙ without-cut node h.split.front there.back there.front_clear there.back_clear); at_is = next_is ∙ there.follows }) still_met (omega (arith, ap length rest_is))

@@ -42,12 +42,6 @@ IsMet w c = HasTrue w.trail.entries (lits_of w.arena.clauses c) (entry_at w.trai
 abbrev pub IsVisited : Watches → Watches → ℕ → Type 0
 IsVisited old new node = ((list_of new.rings (head_ring old) ≡ list_of old.rings (head_ring old)) × IsMet new (node / 2)) ⊎ (list_of new.rings (head_ring old) ≡ without node (list_of old.rings (head_ring old)))
 
--- a list from a node on, and nothing from no node on
-abbrev pub list_from : Option ℕ → List ℕ → List ℕ
-list_from None list = []
-list_from (Some v) [] = []
-list_from (Some v) (w ∷ list) = if w == v then w ∷ list else list_from (Some v) list
-
 -- each clause that watches the literal which the entry at the head makes false has a true literal
 abbrev pub AreMet : Watches → Type 0
 AreMet w = (c i : ℕ) → i < 2 → Stands w.rings (head_ring w) (2 * c + i) → IsMet w c

@@ -1,5 +1,5 @@
 -- Lists of numbers in ascending order: a number put at its place, and that such lists are told by their members.
-use Rattle.std.proofs.Common.{◌≡◌, ℕ, ◌<◌, ◌≤◌, zero, suc, Bool, true, false, cond, List, [], ◌∷◌, ◌⊎◌, inl, inr, length, get_or, Contains, ℤ, ◌<ℤ◌, ◌≤ℤ◌, refl, sym, ap, ◌∙◌, subst, arith, Less, IsPermutation, IsSorted}
+use Rattle.std.proofs.Common.{◌≡◌, ℕ, ◌<◌, ◌≤◌, zero, suc, true, false, List, [], ◌∷◌, ◌⊎◌, inl, inr, length, get_or, Contains, ℤ, ◌<ℤ◌, ◌≤ℤ◌, refl, sym, ap, ◌∙◌, subst, arith, Less, IsPermutation, IsSorted}
 use Rattle.std.specs.Prelude.{int_lt}
 use Rattle.std.specs.List.{dedup}
 use Rattle.std.specs.List.Sorted.{IsStrictlySortedBy}
@@ -10,6 +10,7 @@ use Rattle.std.proofs.lemmas.Cmp.{int_cmp_total, int_eq_equiv, int_ranked, by_ra
 use Rattle.std.proofs.lemmas.List.Kept.{IsStrictlySortedBy-dedup, Contains-dedup, Contains-from_dedup}
 use Rattle.std.proofs.lemmas.List.Sorted.{Contains-permutation, IsPermutation-sym}
 use Rattle.order_ints.specs.OrderMade.{AscendFrom, AreAscending}
+use Rattle.order_ints.proofs.Placing.{Stand, as_one, in_front, behind, PutBy, here, before, after, put_by}
 use Rattle.core_forms.specs.Sums.{placed, ascending}
 
 pub cases_int : (x y : ℤ) → (x ≡ y) ⊎ ((x <ℤ y) ⊎ (y <ℤ x))
@@ -28,27 +29,27 @@ lt-true x y h = grind (arith, ints)
 lt-false : (x y : ℤ) → y <ℤ x → int_lt x y ≡ false
 lt-false x y h = grind (arith, ints)
 
+-- two numbers are one, or one of them is the lesser
+abbrev Same : ℤ → ℤ → Type 0
+Same x y = x ≡ y
+
+abbrev Lesser : ℤ → ℤ → Type 0
+Lesser x y = x <ℤ y
+
+stand : (v w : ℤ) → Stand int_eq int_lt Same Lesser v w
+stand v w = by (cases_int v w)
+  where
+    by : ((v ≡ w) ⊎ ((v <ℤ w) ⊎ (w <ℤ v))) → Stand int_eq int_lt Same Lesser v w
+    by (inl e) = as_one e (eq-true v w e)
+    by (inr (inl h)) = in_front h (eq-false v w (λ e. omega (arith, ints, e, h))) (lt-true v w h)
+    by (inr (inr h)) = behind h (eq-false v w (λ e. omega (arith, ints, e, h))) (lt-false v w h)
+
 -- where a number is put
-data Put (v w : ℤ) (ws : List ℤ) : Type 0 where
-  here : v ≡ w → placed v (w ∷ ws) ≡ w ∷ ws → Put v w ws
-  before : v <ℤ w → placed v (w ∷ ws) ≡ v ∷ w ∷ ws → Put v w ws
-  after : w <ℤ v → placed v (w ∷ ws) ≡ w ∷ placed v ws → Put v w ws
+abbrev Put : ℤ → ℤ → List ℤ → Type 0
+Put v w ws = PutBy int_eq int_lt Same Lesser v w ws
 
 put : (v w : ℤ) (ws : List ℤ) → Put v w ws
-put v w ws = by (cases_int v w)
-  where
-    yes : (a b : List ℤ) (t : Bool) → t ≡ true → cond t a b ≡ a
-    yes a b t e = ap (λ x. cond x a b) e
-
-    no : (a b : List ℤ) (t : Bool) → t ≡ false → cond t a b ≡ b
-    no a b t e = ap (λ x. cond x a b) e
-
-    by : ((v ≡ w) ⊎ ((v <ℤ w) ⊎ (w <ℤ v))) → Put v w ws
-    by (inl e) = here e (yes (w ∷ ws) _ (int_eq v w) (eq-true v w e))
-    by (inr (inl h)) =
-        before h (no (w ∷ ws) _ (int_eq v w) (eq-false v w (λ e. omega (arith, ints, e, h))) ∙ yes (v ∷ w ∷ ws) (w ∷ placed v ws) (int_lt v w) (lt-true v w h))
-    by (inr (inr h)) =
-        after h (no (w ∷ ws) _ (int_eq v w) (eq-false v w (λ e. omega (arith, ints, e, h))) ∙ no (v ∷ w ∷ ws) (w ∷ placed v ws) (int_lt v w) (lt-false v w h))
+put v w ws = put_by int_eq int_lt Same Lesser v w ws (stand v w)
 
 AscendFrom-placed : (k v : ℤ) (ws : List ℤ) → k <ℤ v → AscendFrom k ws → AscendFrom k (placed v ws)
 AscendFrom-placed k v [] h a = (h, tt)

@@ -1,8 +1,10 @@
 -- Variables put among ascending ones: how many there are, which ones, and that they ascend.
-use Rattle.std.proofs.Common.{◌≡◌, ◌↔◌, ℕ, zero, suc, ◌+◌, ◌<◌, ◌≤◌, ◌⊎◌, inl, inr, Bool, true, false, cond, eqb, ltb, get_or, length, List, [], ◌∷◌, ◌++◌, Contains, refl, sym, ap, ◌∙◌, arith}
-use Rattle.std.specs.Prelude.{Option, None, Some, IfNone}
+use Rattle.std.proofs.Common.{◌≡◌, ◌↔◌, ℕ, zero, suc, ◌+◌, ◌<◌, ◌≤◌, ◌⊎◌, inl, inr, Bool, true, false, cond, eqb, ltb, get_or, length, take, drop, List, [], ◌∷◌, ◌++◌, Contains, refl, sym, ap, subst, ◌∙◌, arith}
+use Rattle.std.specs.Prelude.{Option, None, Some, IfNone, nat_eq, nat_lt}
+use Rattle.std.specs.List.{prefix_len}
 use Rattle.std.specs.List.Sorted.{IsStrictlyIncreasing}
-use Rattle.std.proofs.lemmas.Bool.{eqb-true, eqb-false, ltb-true, ltb-false, le-leb, lt-leb}
+use Rattle.std.proofs.lemmas.Bool.{cases_order, eqb-true, eqb-false, eq-eqb, ne_eqb, ltb-true, ltb-false, lt-ltb, le-ltb, le-leb, lt-leb}
+use Rattle.order_ints.proofs.Placing.{Stand, as_one, in_front, behind, PutBy, here, before, after, put_by}
 use Rattle.core_forms.specs.declared.form.Core.{Core}
 use Rattle.core_forms.specs.Variables.{core_vars}
 use Rattle.core_forms.specs.OwnVars.{with_var, with_vars, own_vars, if_few}
@@ -10,12 +12,80 @@ use Rattle.core_forms.specs.OwnVars.{with_var, with_vars, own_vars, if_few}
 -- there are no fewer with one more
 pub with_var-longer : (v : ℕ) (vars : List ℕ) → length vars ≤ length (with_var v vars)
 with_var-longer v [] = omega arith
-with_var-longer v (w ∷ vars) = by (eqb w v) (ltb v w) (with_var-longer w vars) (with_var-longer v vars)
+with_var-longer v (w ∷ vars) = by (eqb v w) (ltb v w) (with_var-longer v vars)
   where
-    by : (b c : Bool) → length vars ≤ length (with_var w vars) → length vars ≤ length (with_var v vars) → length (w ∷ vars) ≤ length (cond b (w ∷ vars) (cond c (v ∷ with_var w vars) (w ∷ with_var v vars)))
-    by true c h k = omega arith
-    by false true h k = omega arith
-    by false false h k = omega arith
+    by : (b c : Bool) → length vars ≤ length (with_var v vars) → length (w ∷ vars) ≤ length (cond b (w ∷ vars) (cond c (v ∷ w ∷ vars) (w ∷ with_var v vars)))
+    by true c h = omega arith
+    by false true h = omega arith
+    by false false h = omega arith
+
+-- where a variable is put
+abbrev SameVar : ℕ → ℕ → Type 0
+SameVar v w = v ≡ w
+
+abbrev LesserVar : ℕ → ℕ → Type 0
+LesserVar v w = v < w
+
+abbrev PutVar : ℕ → ℕ → List ℕ → Type 0
+PutVar v w vars = PutBy nat_eq nat_lt SameVar LesserVar v w vars
+
+put_var : (v w : ℕ) (vars : List ℕ) → PutVar v w vars
+put_var v w vars = put_by nat_eq nat_lt SameVar LesserVar v w vars (by (cases_order v w))
+  where
+    by : ((v ≡ w) ⊎ ((v < w) ⊎ (w < v))) → Stand nat_eq nat_lt SameVar LesserVar v w
+    by (inl e) = as_one e (eq-eqb v w e)
+    by (inr (inl h)) = in_front h (ne_eqb v w (λ e. omega (arith, e, h))) (lt-ltb v w h)
+    by (inr (inr h)) = behind h (ne_eqb v w (λ e. omega (arith, e, h))) (le-ltb v w (omega (arith, h)))
+
+-- how many of the first ones are below a variable
+abbrev pub below : ℕ → List ℕ → ℕ
+below v vars = prefix_len (λ w. nat_lt w v) vars
+
+one_more : (v : ℕ) (vars : List ℕ) → 1 + below v vars ≡ suc (below v vars)
+one_more v vars = omega arith
+
+-- it passes the one that is below it
+passes : (v w : ℕ) (vars : List ℕ) → w < v → with_var v (w ∷ vars) ≡ w ∷ with_var v vars
+passes v w vars h = by (put_var v w vars)
+  where
+    by : PutVar v w vars → with_var v (w ∷ vars) ≡ w ∷ with_var v vars
+    by (here e p) = absurd (omega (arith, e, h))
+    by (before l p) = absurd (omega (arith, l, h))
+    by (after l p) = p
+
+-- where the first one that is not below a variable is that variable, all stays
+pub with_var-there : (v : ℕ) (vars : List ℕ) → below v vars < length vars → get_or vars (below v vars) 0 ≡ v → with_var v vars ≡ vars
+with_var-there v [] h e = absurd (omega (arith, h))
+with_var-there v (w ∷ vars) h e = by (ltb w v) refl h e (with_var-there v vars)
+  where
+    by : (b : Bool) → ltb w v ≡ b → cond b (1 + below v vars) 0 < suc (length vars) → get_or (w ∷ vars) (cond b (1 + below v vars) 0) 0 ≡ v
+        → (below v vars < length vars → get_or vars (below v vars) 0 ≡ v → with_var v vars ≡ vars) → with_var v (w ∷ vars) ≡ w ∷ vars
+    by true t h e r = passes v w vars (ltb-true w v t) ∙ ap (λ xs. w ∷ xs) (r (omega (arith, h)) (subst (λ (i : ℕ). get_or (w ∷ vars) i 0 ≡ v) (one_more v vars) e))
+    by false t h e r = at (put_var v w vars)
+      where
+        at : PutVar v w vars → with_var v (w ∷ vars) ≡ w ∷ vars
+        at (here f p) = p
+        at (before l p) = absurd (omega (arith, l, e))
+        at (after l p) = absurd (omega (arith, l, e))
+
+-- and else it goes behind those that are below it
+pub with_var-between : (v : ℕ) (vars : List ℕ) → (below v vars < length vars → get_or vars (below v vars) 0 ≡ v → ⊥)
+    → take (below v vars) vars ++ v ∷ drop (below v vars) vars ≡ with_var v vars
+with_var-between v [] n = refl
+with_var-between v (w ∷ vars) n = by (ltb w v) refl n (with_var-between v vars)
+  where
+    by : (b : Bool) → ltb w v ≡ b → (cond b (1 + below v vars) 0 < suc (length vars) → get_or (w ∷ vars) (cond b (1 + below v vars) 0) 0 ≡ v → ⊥)
+        → ((below v vars < length vars → get_or vars (below v vars) 0 ≡ v → ⊥) → take (below v vars) vars ++ v ∷ drop (below v vars) vars ≡ with_var v vars)
+        → take (cond b (1 + below v vars) 0) (w ∷ vars) ++ v ∷ drop (cond b (1 + below v vars) 0) (w ∷ vars) ≡ with_var v (w ∷ vars)
+    by true t n r =
+        let behind : (below v vars < length vars → get_or vars (below v vars) 0 ≡ v → ⊥) = λ h e. n (omega (arith, h)) (subst (λ (i : ℕ). get_or (w ∷ vars) i 0 ≡ v) (sym (one_more v vars)) e) in
+        ap (λ i. take i (w ∷ vars) ++ v ∷ drop i (w ∷ vars)) (one_more v vars) ∙ ap (λ xs. w ∷ xs) (r behind) ∙ sym (passes v w vars (ltb-true w v t))
+    by false t n r = at (put_var v w vars)
+      where
+        at : PutVar v w vars → v ∷ w ∷ vars ≡ with_var v (w ∷ vars)
+        at (here f p) = absurd (n (omega arith) (sym f))
+        at (before l p) = sym p
+        at (after l p) = absurd (omega (arith, l, ltb-false w v t))
 
 pub with_vars-longer : (more vars : List ℕ) → length vars ≤ length (with_vars more vars)
 with_vars-longer [] vars = omega arith
@@ -68,30 +138,21 @@ with_var-members v [] z = (which v z [], put)
     put : ((z ≡ v) ⊎ Contains [] z) → Contains (v ∷ []) z
     put (inl e) = rw e (first v [])
     put (inr c) = later v z [] c
-with_var-members v (w ∷ vars) z = by (eqb w v) refl (ltb v w) (with_var-members w vars z) (with_var-members v vars z)
+with_var-members v (w ∷ vars) z = by (eqb v w) refl (ltb v w) (with_var-members v vars z)
   where
-    by : (b : Bool) → eqb w v ≡ b → (c : Bool)
-        → (Contains (with_var w vars) z ↔ ((z ≡ w) ⊎ Contains vars z)) → (Contains (with_var v vars) z ↔ ((z ≡ v) ⊎ Contains vars z))
-        → Contains (cond b (w ∷ vars) (cond c (v ∷ with_var w vars) (w ∷ with_var v vars))) z ↔ ((z ≡ v) ⊎ Contains (w ∷ vars) z)
-    by true t c h k = (inr, put)
+    by : (b : Bool) → eqb v w ≡ b → (c : Bool) → (Contains (with_var v vars) z ↔ ((z ≡ v) ⊎ Contains vars z))
+        → Contains (cond b (w ∷ vars) (cond c (v ∷ w ∷ vars) (w ∷ with_var v vars))) z ↔ ((z ≡ v) ⊎ Contains (w ∷ vars) z)
+    by true t c k = (inr, put)
       where
         put : ((z ≡ v) ⊎ Contains (w ∷ vars) z) → Contains (w ∷ vars) z
-        put (inl e) = rw (e ∙ sym (eqb-true w v t)) (first w vars)
+        put (inl e) = rw (e ∙ eqb-true v w t) (first w vars)
         put (inr d) = d
-    by false t true h k = (λ d. take (which v z (with_var w vars) d), put)
+    by false t true k = (which v z (w ∷ vars), put)
       where
-        take : ((z ≡ v) ⊎ Contains (with_var w vars) z) → (z ≡ v) ⊎ Contains (w ∷ vars) z
-        take (inl e) = inl e
-        take (inr d) = inr (held (h.0 d))
-          where
-            held : ((z ≡ w) ⊎ Contains vars z) → Contains (w ∷ vars) z
-            held (inl e) = rw e (first w vars)
-            held (inr d) = later w z vars d
-
-        put : ((z ≡ v) ⊎ Contains (w ∷ vars) z) → Contains (v ∷ with_var w vars) z
-        put (inl e) = rw e (first v (with_var w vars))
-        put (inr d) = later v z (with_var w vars) (h.1 (which w z vars d))
-    by false t false h k = (λ d. take (which w z (with_var v vars) d), put)
+        put : ((z ≡ v) ⊎ Contains (w ∷ vars) z) → Contains (v ∷ w ∷ vars) z
+        put (inl e) = rw e (first v (w ∷ vars))
+        put (inr d) = later v z (w ∷ vars) d
+    by false t false k = (λ d. take (which w z (with_var v vars) d), put)
       where
         take : ((z ≡ w) ⊎ Contains (with_var v vars) z) → (z ≡ v) ⊎ Contains (w ∷ vars) z
         take (inl e) = inr (rw e (first w vars))
@@ -157,32 +218,22 @@ Up (x ∷ xs) = UpFrom x xs
 
 up-with_var : (k v : ℕ) (vars : List ℕ) → k < v → UpFrom k vars → UpFrom k (with_var v vars)
 up-with_var k v [] h u = (h, tt)
-up-with_var k v (w ∷ vars) h u = by (eqb w v) refl (ltb v w) refl (λ l. up-with_var v w vars l) (λ l. up-with_var w v vars l)
+up-with_var k v (w ∷ vars) h u = by (eqb v w) refl (ltb v w) refl (up-with_var w v vars)
   where
-    by : (b : Bool) → eqb w v ≡ b → (c : Bool) → ltb v w ≡ c
-        → (v < w → UpFrom v vars → UpFrom v (with_var w vars)) → (w < v → UpFrom w vars → UpFrom w (with_var v vars))
-        → UpFrom k (cond b (w ∷ vars) (cond c (v ∷ with_var w vars) (w ∷ with_var v vars)))
-    by true t c s f g = u
-    by false t true s f g = (h, f (ltb-true v w s) (lower w v vars (ltb-true v w s) u.1))
-      where
-        lower : (x y : ℕ) (xs : List ℕ) → y < x → UpFrom x xs → UpFrom y xs
-        lower x y [] l a = tt
-        lower x y (z ∷ xs) l a = (omega (arith, a.0), a.1)
-    by false t false s f g = (u.0, g (omega (arith, ltb-false v w s, eqb-false w v t)) u.1)
+    by : (b : Bool) → eqb v w ≡ b → (c : Bool) → ltb v w ≡ c → (w < v → UpFrom w vars → UpFrom w (with_var v vars))
+        → UpFrom k (cond b (w ∷ vars) (cond c (v ∷ w ∷ vars) (w ∷ with_var v vars)))
+    by true t c s g = u
+    by false t true s g = (h, (ltb-true v w s, u.1))
+    by false t false s g = (u.0, g (omega (arith, ltb-false v w s, eqb-false v w t)) u.1)
 
 up-first : (v : ℕ) (vars : List ℕ) → Up vars → Up (with_var v vars)
 up-first v [] u = tt
-up-first v (w ∷ vars) u = by (eqb w v) refl (ltb v w) refl
+up-first v (w ∷ vars) u = by (eqb v w) refl (ltb v w) refl
   where
-    lower : (x y : ℕ) (xs : List ℕ) → y < x → UpFrom x xs → UpFrom y xs
-    lower x y [] l a = tt
-    lower x y (z ∷ xs) l a = (omega (arith, a.0), a.1)
-
-    by : (b : Bool) → eqb w v ≡ b → (c : Bool) → ltb v w ≡ c
-        → Up (cond b (w ∷ vars) (cond c (v ∷ with_var w vars) (w ∷ with_var v vars)))
+    by : (b : Bool) → eqb v w ≡ b → (c : Bool) → ltb v w ≡ c → Up (cond b (w ∷ vars) (cond c (v ∷ w ∷ vars) (w ∷ with_var v vars)))
     by true t c s = u
-    by false t true s = up-with_var v w vars (ltb-true v w s) (lower w v vars (ltb-true v w s) u)
-    by false t false s = up-with_var w v vars (omega (arith, ltb-false v w s, eqb-false w v t)) u
+    by false t true s = (ltb-true v w s, u)
+    by false t false s = up-with_var w v vars (omega (arith, ltb-false v w s, eqb-false v w t)) u
 
 up-with_vars : (more vars : List ℕ) → Up vars → Up (with_vars more vars)
 up-with_vars [] vars u = u

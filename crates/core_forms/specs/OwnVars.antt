@@ -1,14 +1,12 @@
 -- The different variables of a core, ascending, and whether they are few.
 use Rattle.std.specs.Prelude.{ℕ, nat_eq, nat_lt, nat_le, length, List, [], ◌∷◌, Option, Some, None, if◌then◌else◌}
+use Rattle.order_ints.specs.Placing.{placed_by}
 use Rattle.core_forms.specs.declared.form.Core.{Core}
 use Rattle.core_forms.specs.Variables.{core_vars}
 
--- ascending variables with one more in its place, unless it is there already: the lesser one of two stands first, and
--- the other one goes on
+-- ascending variables with one more at its place, unless it is there
 abbrev pub with_var : ℕ → List ℕ → List ℕ
-with_var v [] = v ∷ []
-with_var v (w ∷ vars) =
-    if nat_eq w v then w ∷ vars else (if nat_lt v w then v ∷ with_var w vars else w ∷ with_var v vars)
+with_var v vars = placed_by nat_eq nat_lt v vars
 
 -- with each of the listed ones
 abbrev pub with_vars : List ℕ → List ℕ → List ℕ

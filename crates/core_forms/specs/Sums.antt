@@ -4,19 +4,18 @@ use Rattle.std.specs.Ordering.{int_eq}
 use Rattle.order_ints.specs.declared.order_int.OrdInt.{OrdInt}
 use Rattle.order_ints.specs.OrderRange.{low_of, weights}
 use Rattle.order_ints.specs.OrderLevels.{values_of}
+use Rattle.order_ints.specs.Placing.{placed_by, in_order_by}
 use Rattle.core_cost.specs.Divisor.{common_divisor_of}
 use Rattle.core_cost.specs.Arithmetic.{pairs_of_values}
 use Rattle.core_forms.specs.Shapes.{steps_of, divisor_of}
 
 -- ascending numbers with one more at its place, unless it is there
 abbrev pub placed : ℤ → List ℤ → List ℤ
-placed v [] = v ∷ []
-placed v (w ∷ ws) = if int_eq v w then w ∷ ws else (if int_lt v w then v ∷ w ∷ ws else w ∷ placed v ws)
+placed v ws = placed_by int_eq int_lt v ws
 
 -- the different numbers of a list, ascending
 abbrev pub ascending : List ℤ → List ℤ
-ascending [] = []
-ascending (v ∷ vs) = placed v (ascending vs)
+ascending vs = in_order_by int_eq int_lt vs
 
 -- each of the first numbers and each of the second ones, added up
 abbrev pub pair_sums : List ℤ → List ℤ → List ℤ

@@ -1,6 +1,7 @@
 //! A core of few variables.
 
-ghost use Rattle.std.specs.Prelude.{◌≡◌, ◌<◌, ◌≤◌, ◌++◌, length, [], ◌∷◌, IfSome, IfNone};
+ghost use Rattle.std.specs.Prelude.{◌≡◌, ◌<◌, ◌≤◌, ◌-◌, ◌++◌, length, take, drop, nat_lt, [], ◌∷◌, IfSome, IfNone};
+ghost use Rattle.std.specs.List.{prefix_len};
 ghost use Rattle.core_forms.specs.Contents.{ints_of, atoms_of};
 ghost use Rattle.core_forms.specs.Variables.{atom_vars, atoms_vars, int_vars, ints_vars, core_vars};
 ghost use Rattle.core_forms.specs.OwnVars.{with_var, with_vars, own_vars, if_few};
@@ -8,7 +9,6 @@ ghost use Rattle.core_forms.specs.OwnVars.{with_var, with_vars, own_vars, if_few
 use crate::form::Core;
 use order_ints::{Atom, OrdInt};
 use std::marker::Model;
-use std::mem::swap;
 
 /// At most eight variables, ascending. They take no memory, and a clause sees them as a list.
 #[derive(Debug, Drop)]
@@ -27,22 +27,35 @@ impl Model for FewVars {
     ghost invariant = { λ few. few.count ≤ 8 };
 }
 
-/// Puts a variable in its place among ascending ones, each one behind it a place further, and gives the
-/// last one, which has no place; nothing changes where the variable is there already.
-fn moved_up(vars: &mut [u32], var: u32) -> Option<u32>
-    ensures moved { IfSome result (λ last. vars.new ++ last ∷ [] ≡ with_var var vars.old) }
-    ensures there { IfNone result (vars.new ≡ with_var var vars.old) }
+/// How many of the first variables are below another one.
+fn count_below(vars: &[u32], var: u32) -> usize
+    ensures { result ≡ prefix_len (λ other. nat_lt other var) vars.now }
 {
-    let mut last = var;
-    for other in vars.iter_mut() {
-        if *other == last {
-            return None;
-        }
-        if last < *other {
-            swap(other, &mut last);
-        }
+    vars.iter().take_while(|other| **other < var).count()
+}
+
+/// The place of a variable among ascending ones; `None` where it is there.
+fn place_for(vars: &[u32], var: u32) -> Option<usize>
+    ensures range { IfSome result (λ place. place ≤ length vars.now) }
+    ensures place { IfSome result (λ place. take place vars.now ++ var ∷ drop place vars.now ≡ with_var var vars.now) }
+    ensures there { IfNone result (vars.now ≡ with_var var vars.now) }
+{
+    let place = count_below(vars, var);
+    if place < vars.len() && vars[place] == var {
+        None
+    } else {
+        Some(place)
     }
-    Some(last)
+}
+
+/// Puts a variable at a place, each one behind it a place further; the last one leaves.
+fn put_between(vars: &mut [u32], place: usize, var: u32)
+    requires { place < length vars.old }
+    ensures { vars.new ≡ take place vars.old ++ var ∷ drop place (take (length vars.old - 1) vars.old) }
+{
+    let last = vars.len() - 1;
+    vars[last] = var;
+    vars[place..].rotate_right(1);
 }
 
 impl FewVars {
@@ -64,19 +77,29 @@ impl FewVars {
         &self.vars[..self.count]
     }
 
+    /// Puts a variable at a place, each one behind it a place further; `None` where it would be the ninth.
+    fn put_at(&mut self, place: usize, var: u32) -> Option<()>
+        requires { place ≤ length self.old }
+        ensures put { IfSome result (λ _. self.new ≡ take place self.old ++ var ∷ drop place self.old) }
+        ensures full { IfNone result (8 ≤ length self.old) }
+    {
+        if self.count == 8 {
+            return None;
+        }
+        self.count += 1;
+        put_between(&mut self.vars[..self.count], place, var);
+        Some(())
+    }
+
     /// Puts a variable among them; `None` where it would be the ninth.
     fn put(&mut self, var: u32) -> Option<()>
         ensures put { IfSome result (λ _. self.new ≡ with_var var self.old) }
         ensures full { IfNone result (8 < length (with_var var self.old)) }
     {
-        if let Some(last) = moved_up(&mut self.vars[..self.count], var) {
-            if self.count == 8 {
-                return None;
-            }
-            self.vars[self.count] = last;
-            self.count += 1;
+        match place_for(self.as_slice(), var) {
+            None => Some(()),
+            Some(place) => self.put_at(place, var),
         }
-        Some(())
     }
 
     /// Puts the variable of an atom among them.

@@ -17,7 +17,7 @@ use Rattle.order_ints.proofs.PlaceLaws.{AtomBelow-up}
 use Rattle.model_meaning.specs.declared.model.Decl.{Decl}
 use Rattle.model_meaning.specs.declared.model.Kind.{Kind}
 use Rattle.model_meaning.specs.declared.model.Kind.TheVariants as kind
-use Rattle.model_meaning.specs.Domains.{run_of, at_least_zero, domain}
+use Rattle.model_meaning.specs.Domains.{numbers_from, at_least_zero, domain}
 use Rattle.model_meaning.specs.Limits.{InLimit}
 use Rattle.model_meaning.specs.WellTyped.{IsInt, KindFits, DeclsFit, ObjectiveFits}
 use Rattle.core_cost.specs.declared.shape.Shape.{Shape}
@@ -76,9 +76,9 @@ steps-most : (steps : List (Atom × ℕ)) → AreRising steps → length steps �
 steps-most [] h = omega arith
 steps-most (s ∷ steps) h = omega (arith, h.0, steps-most steps h.1)
 
-length-run : (n : ℕ) (low : ℤ) → length (run_of n low) ≡ n
-length-run zero low = refl
-length-run (suc n) low = ap suc (length-run n (low +ℤ pos 1))
+length-numbers_from : (n : ℕ) (low : ℤ) → length (numbers_from n low) ≡ n
+length-numbers_from zero low = refl
+length-numbers_from (suc n) low = ap suc (length-numbers_from n (low +ℤ pos 1))
 
 -- so an integer of a range has no more values than the range
 range-size : (low high : ℤ) (n : ℕ) → high ≡ low +ℤ pos n → at_least_zero (high -ℤ low +ℤ pos 1) ≡ n + 1
@@ -94,7 +94,7 @@ range-count : (n : ℕ) (low high : ℤ) (s : Shape) (a : OrdInt) → IntegerFit
 unfolding domain
 range-count n low high s a h =
     let whole : high ≡ low +ℤ pos (weights a.steps) = omega (arith, ints, h.least, h.greatest) in
-    let size = length-run (at_least_zero (high -ℤ low +ℤ pos 1)) low ∙ range-size low high (weights a.steps) whole in
+    let size = length-numbers_from (at_least_zero (high -ℤ low +ℤ pos 1)) low ∙ range-size low high (weights a.steps) whole in
     omega (arith, size, values-length a, steps-most a.steps h.sound.1)
 
 listed-steps : (n : ℕ) (vs : List ℤ) (a : OrdInt) → IntegerFits n (first_of vs) (last_of vs) (shape_of vs) a → 0 < length vs → length a.steps + 1 ≡ length vs

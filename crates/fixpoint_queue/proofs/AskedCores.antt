@@ -37,7 +37,7 @@ use Rattle.core_occurrences.specs.Lists.{OccurrenceLists, Occurs}
 use Rattle.fixpoint_queue.specs.Listed.{IsListed}
 use Rattle.fixpoint_queue.specs.Marks.{mark_of}
 use Rattle.fixpoint_queue.specs.Quiet.{IsQuiet}
-use Rattle.fixpoint_queue.specs.Waits.{IsRun, IsWoken, IsWokenFor, left_to_do}
+use Rattle.fixpoint_queue.specs.Waits.{IsSaturation, IsWoken, IsWokenFor, left_to_do}
 use Rattle.fixpoint_queue.proofs.Ids.{ids-few}
 use Rattle.fixpoint_queue.proofs.Quieter.{quiet-kept, trimmed-kept}
 
@@ -83,42 +83,42 @@ module _ (view : List Atom) (occurs : OccurrenceLists) (e : Equation) (old new :
 
 -- ---- an equation is taken
 
-module _ (told : Core → Equation → Type 0) (k : Kernel) (occurs : OccurrenceLists) (old new : Ids) (marks : List Bool) (run : IsRun told k occurs old marks)
+module _ (told : Core → Equation → Type 0) (k : Kernel) (occurs : OccurrenceLists) (old new : Ids) (marks : List Bool) (saturation : IsSaturation told k occurs old marks)
     (id : ℕ) (core : Core) (there : trimmed_at k id ≡ Some core) (e : Equation) (instance : is_instance_at core e ≡ true)
     (woken : IsWokenFor k.view occurs e old new)
   where
     labels : IsLabel k.view e.a × IsLabel k.view e.b
-    labels = there-labels k id core run.kernel there e instance
+    labels = there-labels k id core saturation.kernel there e instance
 
     same-length : length (merged k.view e.a e.b) ≡ length k.view
-    same-length = (merge_labelled k.view e.a e.b run.kernel.labelled (AtomBelow-label k.view e.a labels.0) (AtomBelow-label k.view e.b labels.1)).0
+    same-length = (merge_labelled k.view e.a e.b saturation.kernel.labelled (AtomBelow-label k.view e.a labels.0) (AtomBelow-label k.view e.b labels.1)).0
 
     -- a core that isn't woken waited for nothing before
     not-woken : (i : ℕ) → times i new.queued ≡ 0 → times i old.queued ≡ 0
     not-woken i none =
-        ⊎_elim (λ (h : times i old.queued < 1). omega (arith, h)) (λ (h : 1 ≤ times i old.queued). absurd (omega (arith, none, woken-stays k.view occurs e old new run.queued (loser_of k.view e.a e.b) woken i h))) (cases_lt (times i old.queued) 1)
+        ⊎_elim (λ (h : times i old.queued < 1). omega (arith, h)) (λ (h : 1 ≤ times i old.queued). absurd (omega (arith, none, woken-stays k.view occurs e old new saturation.queued (loser_of k.view e.a e.b) woken i h))) (cases_lt (times i old.queued) 1)
 
     unwoken : (i : ℕ) → times i new.queued ≡ 0 → (x v : ℕ) → loser_of k.view e.a e.b ≡ Some x → IsMember k.view x v → Occurs occurs v i → ⊥
-    unwoken i none x v loser member stands = absurd (omega (arith, none, woken-has k.view occurs e old new run.queued (loser_of k.view e.a e.b) woken x v i loser member stands))
+    unwoken i none x v loser member stands = absurd (omega (arith, none, woken-has k.view occurs e old new saturation.queued (loser_of k.view e.a e.b) woken x v i loser member stands))
 
     pending-new : (i : ℕ) → 1 ≤ times i new.queued → (c : Core) × (core_at (equated k e).cores i ≡ Some c)
     pending-new i h =
         let there : (c : Core) × (core_at k.cores i ≡ Some c) =
-        ⊎_elim (λ (was : 1 ≤ times i old.queued). run.pending i was)
-        (λ (at : (v : ℕ) × Occurs occurs v i × (1 ≤ v)). let has = (run.listed.there at.0 i at.2).0 at.1 in (has.0, has.1))
-        (woken-only k.view occurs e old new run.queued (loser_of k.view e.a e.b) woken i h) in
+        ⊎_elim (λ (was : 1 ≤ times i old.queued). saturation.pending i was)
+        (λ (at : (v : ℕ) × Occurs occurs v i × (1 ≤ v)). let has = (saturation.listed.there at.0 i at.2).0 at.1 in (has.0, has.1))
+        (woken-only k.view occurs e old new saturation.queued (loser_of k.view e.a e.b) woken i h) in
         (there.0, ap (λ (cs : List (Option Core)). core_at cs i) (same-cores k e) ∙ there.1)
 
-    pub run-equated : IsRun told (equated k e) occurs new marks
-    run-equated = record {
-      kernel = there-equated k id core run.kernel there e instance;
-      listed = listed-equated k e occurs same-length run.listed;
-      places = omega (arith, run.places, ap length (same-cores k e), woken-places k.view occurs e old new run.queued (loser_of k.view e.a e.b) woken);
-      queued = woken-ids k.view occurs e old new run.queued (loser_of k.view e.a e.b) woken;
+    pub saturation-equated : IsSaturation told (equated k e) occurs new marks
+    saturation-equated = record {
+      kernel = there-equated k id core saturation.kernel there e instance;
+      listed = listed-equated k e occurs same-length saturation.listed;
+      places = omega (arith, saturation.places, ap length (same-cores k e), woken-places k.view occurs e old new saturation.queued (loser_of k.view e.a e.b) woken);
+      queued = woken-ids k.view occurs e old new saturation.queued (loser_of k.view e.a e.b) woken;
       pending = pending-new;
-      waits = λ i none. quiet-kept told k run.kernel e labels.0 labels.1 occurs run.listed i (unwoken i none) (run.waits i (not-woken i none));
-      mark_places = omega (arith, run.mark_places, ap length (same-cores k e));
-      marked = λ i none. run.marked i (not-woken i none) ∙ sym (ap is_compound_if (trimmed-kept told k run.kernel e labels.0 labels.1 occurs run.listed i (unwoken i none)));
+      waits = λ i none. quiet-kept told k saturation.kernel e labels.0 labels.1 occurs saturation.listed i (unwoken i none) (saturation.waits i (not-woken i none));
+      mark_places = omega (arith, saturation.mark_places, ap length (same-cores k e));
+      marked = λ i none. saturation.marked i (not-woken i none) ∙ sym (ap is_compound_if (trimmed-kept told k saturation.kernel e labels.0 labels.1 occurs saturation.listed i (unwoken i none)));
     }
 
     -- a class loses, unless the two atoms are opposite
@@ -145,7 +145,7 @@ module _ (told : Core → Equation → Type 0) (k : Kernel) (occurs : Occurrence
     fewer h =
         omega (
           arith,
-          merge_takes_one k.view e.a e.b run.kernel.labelled (AtomBelow-label k.view e.a labels.0) (AtomBelow-label k.view e.b labels.1),
+          merge_takes_one k.view e.a e.b saturation.kernel.labelled (AtomBelow-label k.view e.a labels.0) (AtomBelow-label k.view e.b labels.1),
           ap {B = ℕ} (λ (t : Bool). if t then 1 else 0) (loses h),
         )
 
@@ -153,10 +153,10 @@ module _ (told : Core → Equation → Type 0) (k : Kernel) (occurs : Occurrence
     less-equated running = by (same_atom e.a (not_atom e.b)) refl
       where
         places : new.places ≡ old.places
-        places = woken-places k.view occurs e old new run.queued (loser_of k.view e.a e.b) woken
+        places = woken-places k.view occurs e old new saturation.queued (loser_of k.view e.a e.b) woken
 
         few : length new.queued ≤ new.places
-        few = ids-few new (woken-ids k.view occurs e old new run.queued (loser_of k.view e.a e.b) woken)
+        few = ids-few new (woken-ids k.view occurs e old new saturation.queued (loser_of k.view e.a e.b) woken)
 
         whole : left_to_do k old ≡ number_own k.view * (old.places + 1) + length old.queued + 1
         whole = ap (λ (t : Bool). if t then 0 else number_own k.view * (old.places + 1) + length old.queued + 1) running
@@ -181,7 +181,7 @@ quiet-core told k id core there none other at e tells = none e (subst (λ (c : C
     some-of : (x y : Core) → ◌≡◌ {A = Option Core} (Some x) (Some y) → x ≡ y
     some-of x y h = cc
 
-module _ (told : Core → Equation → Type 0) (k : Kernel) (occurs : OccurrenceLists) (old new : Ids) (marks : List Bool) (run : IsRun told k occurs old marks)
+module _ (told : Core → Equation → Type 0) (k : Kernel) (occurs : OccurrenceLists) (old new : Ids) (marks : List Bool) (saturation : IsSaturation told k occurs old marks)
     (id : ℕ) (core : Core) (there : trimmed_at k id ≡ Some core) (none : (e : Equation) → told core e → ⊥)
     (queued : new.queued ≡ without id old.queued) (places : new.places ≡ old.places) (ids : IsIds new)
   where
@@ -204,24 +204,24 @@ module _ (told : Core → Equation → Type 0) (k : Kernel) (occurs : Occurrence
     own-mark =
         let no : (id == 0) ≡ false = grind (arith, nat_tests, bounds.0) in
         ap (λ (t : Bool). if t then false else get_or (set marks (id - 1) (is_compound_of core)) (id - 1) false) no
-        ∙ get_or-set_same marks (id - 1) (is_compound_of core) false (omega (arith, bounds, run.mark_places))
+        ∙ get_or-set_same marks (id - 1) (is_compound_of core) false (omega (arith, bounds, saturation.mark_places))
 
-    pub run-quiet : IsRun told k occurs new (set marks (id - 1) (is_compound_of core))
-    run-quiet = record {
-      kernel = run.kernel;
-      listed = run.listed;
-      places = omega (arith, run.places, places);
+    pub saturation-quiet : IsSaturation told k occurs new (set marks (id - 1) (is_compound_of core))
+    saturation-quiet = record {
+      kernel = saturation.kernel;
+      listed = saturation.listed;
+      places = omega (arith, saturation.places, places);
       queued = ids;
       pending = λ i h.
           ⊎_elim (λ (e : i ≡ id). let r = is-there k id core there in (r.core, subst (λ (j : ℕ). core_at k.cores j ≡ Some r.core) (sym e) r.at))
-          (λ (n : i ≡ id → ⊥). run.pending i (omega (arith, h, gone i n))) (cases_eq i id);
+          (λ (n : i ≡ id → ⊥). saturation.pending i (omega (arith, h, gone i n))) (cases_eq i id);
       waits = λ i left.
           ⊎_elim (λ (e : i ≡ id). subst (IsQuiet told k) (sym e) (quiet-core told k id core there none))
-          (λ (n : i ≡ id → ⊥). run.waits i (sym (gone i n) ∙ left)) (cases_eq i id);
-      mark_places = omega (arith, run.mark_places, length-set marks (id - 1) (is_compound_of core));
+          (λ (n : i ≡ id → ⊥). saturation.waits i (sym (gone i n) ∙ left)) (cases_eq i id);
+      mark_places = omega (arith, saturation.mark_places, length-set marks (id - 1) (is_compound_of core));
       marked = λ i left.
           ⊎_elim (λ (e : i ≡ id). subst (λ (j : ℕ). mark_of (set marks (id - 1) (is_compound_of core)) j ≡ is_compound_if (trimmed_at k j)) (sym e) (own-mark ∙ sym (ap is_compound_if there)))
-          (λ (n : i ≡ id → ⊥). other-mark i n ∙ run.marked i (sym (gone i n) ∙ left)) (cases_eq i id);
+          (λ (n : i ≡ id → ⊥). other-mark i n ∙ saturation.marked i (sym (gone i n) ∙ left)) (cases_eq i id);
     }
 
     pub less-quiet : k.bottom ≡ false → 1 ≤ times id old.queued → left_to_do k new < left_to_do k old

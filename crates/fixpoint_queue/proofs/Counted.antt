@@ -39,7 +39,7 @@ use Rattle.step_kernel.proofs.There.{is-there, there-labels}
 use Rattle.fixpoint_queue.specs.IdQueue.{Ids}
 use Rattle.fixpoint_queue.specs.Ledgers.{Leads, AddsEquations}
 use Rattle.fixpoint_queue.specs.Pairs.{is_relabelled, relabelled_pairs, pairs_between, pairs_to, pairs_along, IsCounted}
-use Rattle.fixpoint_queue.specs.Waits.{IsRun, IsWoken, IsWokenFor, left_to_ask}
+use Rattle.fixpoint_queue.specs.Waits.{IsSaturation, IsWoken, IsWokenFor, left_to_ask}
 use Rattle.fixpoint_queue.proofs.AskedCores.{loses}
 use Rattle.fixpoint_queue.proofs.Entries.{core-bounds}
 use Rattle.fixpoint_queue.proofs.PairLaws.{sum-le, sum-add, sum-one, one_at, one_at-own, one_at-other, length-sum, counted-var, counted_at, pairs-sum}
@@ -124,12 +124,12 @@ var-of x (Of l) c = at c.0 c.1 c.2
 
 -- ---- an equation that is taken
 
-module _ (told : Core → Equation → Type 0) (k : Kernel) (occurs : OccurrenceLists) (old new : Ids) (marks : List Bool) (run : IsRun told k occurs old marks)
+module _ (told : Core → Equation → Type 0) (k : Kernel) (occurs : OccurrenceLists) (old new : Ids) (marks : List Bool) (saturation : IsSaturation told k occurs old marks)
     (id : ℕ) (core : Core) (there : trimmed_at k id ≡ Some core) (e : Equation) (instance : is_instance_at core e ≡ true)
     (first : 1 ≤ times id old.queued)
   where
     labels : IsLabel k.view e.a × IsLabel k.view e.b
-    labels = there-labels k id core run.kernel there e instance
+    labels = there-labels k id core saturation.kernel there e instance
 
     abbrev next-view : List Atom
     next-view = merged k.view e.a e.b
@@ -146,7 +146,7 @@ module _ (told : Core → Equation → Type 0) (k : Kernel) (occurs : Occurrence
         where
           differs : label_of (merged k.view e.a e.b) v ≢ label_of k.view v
           differs =
-              (merge_changes k.view e.a e.b v run.kernel.labelled (AtomBelow-label k.view e.a labels.0) (AtomBelow-label k.view e.b labels.1) member.0 member.1).1
+              (merge_changes k.view e.a e.b v saturation.kernel.labelled (AtomBelow-label k.view e.a labels.0) (AtomBelow-label k.view e.b labels.1) member.0 member.1).1
               (subst (λ (o : Option ℕ). IsSomeAnd o (λ y. IsMember k.view y v)) (sym loser) member)
 
           relabelled : is_relabelled k.view (merged k.view e.a e.b) v ≡ true
@@ -165,14 +165,14 @@ module _ (told : Core → Equation → Type 0) (k : Kernel) (occurs : Occurrence
           λ w h. vars-trimmed k.view r.core w (subst (λ (t : Core). Contains (core_vars t) w) (sym r.is) h) in
           let both = instance-each (OfVars R) (labels-closed R) core e (each_vars R core in-core) instance in
           let has : R x = ⊎_elim (λ (h : is_of x e.a ≡ true). both.0 x (of-var x e.a h)) (λ (h : is_of x e.b ≡ true). both.1 x (of-var x e.b h)) (loser-of k.view e.a e.b labels x loser) in
-          let range = core-bounds k run.kernel id r.core r.at has.0 has.1 in
+          let range = core-bounds k saturation.kernel id r.core r.at has.0 has.1 in
           counts id has.0 r.core r.at has.1 (range.0, range.1, var-of x (label_of k.view has.0) has.2)
 
       woken-counts : (i : ℕ) → 1 ≤ times i new.queued → (1 ≤ times i old.queued) ⊎ (1 ≤ count i)
       woken-counts i h =
           ⊎_elim (λ (was : 1 ≤ times i old.queued). inl was)
           (λ (at : (v : ℕ) × IsMember k.view x v × Occurs occurs v i).
-          let has = (run.listed.there at.0 i at.1.0).0 at.2 in
+          let has = (saturation.listed.there at.0 i at.1.0).0 at.2 in
           inr (counts i at.0 has.0 has.1 has.2 at.1))
           (woken.only i h)
 
@@ -190,13 +190,13 @@ module _ (told : Core → Equation → Type 0) (k : Kernel) (occurs : Occurrence
           (cases_eq id i)
 
       inside-old : (i : ℕ) → 1 ≤ times i old.queued → (1 ≤ i) × (i ≤ length k.cores)
-      inside-old i h = let p = run.pending i h in there-bounds k.cores i p.0 p.1
+      inside-old i h = let p = saturation.pending i h in there-bounds k.cores i p.0 p.1
 
       inside-new : (i : ℕ) → 1 ≤ times i new.queued → (1 ≤ i) × (i ≤ length k.cores)
       inside-new i h =
           ⊎_elim (λ (was : 1 ≤ times i old.queued). inside-old i was)
           (λ (at : (v : ℕ) × IsMember k.view x v × Occurs occurs v i).
-          let has = (run.listed.there at.0 i at.1.0).0 at.2 in
+          let has = (saturation.listed.there at.0 i at.1.0).0 at.2 in
           there-bounds k.cores i has.0 has.1)
           (woken.only i h)
 
@@ -223,7 +223,7 @@ module _ (told : Core → Equation → Type 0) (k : Kernel) (occurs : Occurrence
         by : (b : Bool) → same_atom e.a (not_atom e.b) ≡ b → (if b then record k { bottom = true } else record k { view = merged k.view e.a e.b }).bottom ≡ false
             → 1 + length new.queued ≤ length old.queued + pairs_between k (if b then record k { bottom = true } else record k { view = merged k.view e.a e.b })
         by true h r = absurd (false≢true (sym r))
-        by false h r = loses-by (loser_of k.view e.a e.b) refl (loses told k occurs old new marks run id core there e instance woken h) woken
+        by false h r = loses-by (loser_of k.view e.a e.b) refl (loses told k occurs old new marks saturation id core there e instance woken h) woken
           where
             loses-by : (o : Option ℕ) → loser_of k.view e.a e.b ≡ o → is_some o ≡ true → MatchOption o (new ≡ old) (λ x. IsWoken k.view occurs x old new)
                 → 1 + length new.queued ≤ length old.queued + relabelled_pairs k.view (merged k.view e.a e.b) (pending k.cores)
@@ -295,11 +295,11 @@ pub counted-silent : (k : Kernel) (before : List Line) (id counter now : ℕ) (o
 counted-silent k before id counter now old new running there is most =
     subst (λ (n : ℕ). IsCounted k before before (length old.queued) counter now n) (sym (left-running k new running)) (counted-quiet k before id counter now old.queued new.queued there is most)
 
-pub counted-taken : (told : Core → Equation → Type 0) (k : Kernel) (occurs : OccurrenceLists) (old queue : Ids) (marks : List Bool) → IsRun told k occurs old marks
+pub counted-taken : (told : Core → Equation → Type 0) (k : Kernel) (occurs : OccurrenceLists) (old queue : Ids) (marks : List Bool) → IsSaturation told k occurs old marks
     → (id : ℕ) (core : Core) → trimmed_at k id ≡ Some core → (e : Equation) → is_instance_at core e ≡ true → 1 ≤ times id old.queued → IsWokenFor k.view occurs e old queue
     → (new : Kernel) → new ≡ equated k e → step k (Equate id e) ≡ Ok new → (before behind : List Line) → behind ≡ before ++ Equate id e ∷ [] → (counter now : ℕ) → now ≤ counter + 3
     → IsCounted k before behind (length old.queued) counter now (left_to_ask new queue)
-counted-taken told k occurs old queue marks run id core there e instance first woken new is stepped before behind line counter now most = by new.bottom refl
+counted-taken told k occurs old queue marks saturation id core there e instance first woken new is stepped before behind line counter now most = by new.bottom refl
   where
     by : (b : Bool) → new.bottom ≡ b → IsCounted k before behind (length old.queued) counter now (left_to_ask new queue)
     by true bottom =
@@ -308,6 +308,6 @@ counted-taken told k occurs old queue marks run id core there e instance first w
     by false running =
         let fewer : 1 + length queue.queued ≤ length old.queued + pairs_between k new =
         subst (λ (kk : Kernel). 1 + length queue.queued ≤ length old.queued + pairs_between k kk) (sym is)
-        (fewer-equated told k occurs old queue marks run id core there e instance first woken (sym (ap (λ (kk : Kernel). kk.bottom) is) ∙ running)) in
+        (fewer-equated told k occurs old queue marks saturation id core there e instance first woken (sym (ap (λ (kk : Kernel). kk.bottom) is) ∙ running)) in
         subst (λ (n : ℕ). IsCounted k before behind (length old.queued) counter now n) (sym (left-running new queue running))
         (counted-equation k new before behind id counter now e old.queued queue.queued line stepped fewer most)

@@ -14,8 +14,8 @@ use Rattle.step_kernel.specs.Kernel.{Kernel, trimmed_at, IsKernel}
 use Rattle.step_kernel.specs.Steps.{step, step_at, unless_fault, encoded}
 use Rattle.step_kernel.proofs.Splits.{at-bounds}
 use Rattle.fixpoint_queue.specs.IdQueue.{Ids, IsIds}
-use Rattle.fixpoint_queue.specs.Waits.{IsRun}
-use Rattle.fixpoint_queue.proofs.NextRun.{run-next, goes-encoded, listed-encoded, queues-gone, marked-gone}
+use Rattle.fixpoint_queue.specs.Waits.{IsSaturation}
+use Rattle.fixpoint_queue.proofs.NextSaturation.{saturation-next, goes-encoded, listed-encoded, queues-gone, marked-gone}
 
 ok-of : (x y : Kernel) → ◌≡◌ {A = Result Kernel StepFault} (Ok x) (Ok y) → x ≡ y
 ok-of x y h = cc
@@ -28,7 +28,7 @@ encoded-is k new id core running there basic is =
     ∙ ap (step_at k (Encode id)) there
     ∙ ap (λ (b : Bool). unless_fault (if b then None else Some NotBasic) (encoded k id core)) basic)
 
-module _ (told : Core → Equation → Type 0) (k new : Kernel) (id : ℕ) (occurs next : OccurrenceLists) (old queue : Ids) (was marks : List Bool) (run : IsRun told k occurs old was)
+module _ (told : Core → Equation → Type 0) (k new : Kernel) (id : ℕ) (occurs next : OccurrenceLists) (old queue : Ids) (was marks : List Bool) (saturation : IsSaturation told k occurs old was)
     (core : Core) (there : trimmed_at k id ≡ Some core) (is : new ≡ encoded k id core) (kernel : IsKernel new) (occurs-is : next ≡ removed occurs id) (occurrences : IsOccurrences next)
     (queued : queue.queued ≡ without id old.queued) (places : queue.places ≡ old.places) (ids : IsIds queue) (marks-are : marks ≡ set was (id - 1) false)
   where
@@ -38,10 +38,10 @@ module _ (told : Core → Equation → Type 0) (k new : Kernel) (id : ℕ) (occu
     same : length k.cores ≡ length new.cores
     same = sym (ap (λ (kk : Kernel). length kk.cores) is ∙ length-set k.cores (id - 1) None)
 
-    pub run-encoded : IsRun told new next queue marks
-    run-encoded =
-        run-next told k new id occurs next old queue was marks run
+    pub saturation-encoded : IsSaturation told new next queue marks
+    saturation-encoded =
+        saturation-next told k new id occurs next old queue was marks saturation
         (goes-encoded k new id low kernel (ap (λ (kk : Kernel). kk.view) is) (ap (λ (kk : Kernel). kk.cores) is))
-        (listed-encoded k new id occurs next low (ap (λ (kk : Kernel). kk.view) is) (ap (λ (kk : Kernel). kk.cores) is) occurs-is occurrences run.listed)
-        (queues-gone k new id old queue queued places ids same (omega (arith, same, run.places)))
-        (marked-gone k new id was was marks low (λ j. refl) marks-are (omega (arith, same, run.mark_places)))
+        (listed-encoded k new id occurs next low (ap (λ (kk : Kernel). kk.view) is) (ap (λ (kk : Kernel). kk.cores) is) occurs-is occurrences saturation.listed)
+        (queues-gone k new id old queue queued places ids same (omega (arith, same, saturation.places)))
+        (marked-gone k new id was was marks low (λ j. refl) marks-are (omega (arith, same, saturation.mark_places)))

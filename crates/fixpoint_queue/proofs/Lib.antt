@@ -1,7 +1,7 @@
 pub mod Ids
-pub mod NextRun
+pub mod NextSaturation
 pub mod Started
-pub mod StartedRun
+pub mod StartedSaturation
 pub mod Quieter
 pub mod Waking
 pub mod AskedCores

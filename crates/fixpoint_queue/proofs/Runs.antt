@@ -33,10 +33,10 @@ use Rattle.step_kernel.proofs.Holes.{below-there}
 use Rattle.step_kernel.proofs.There.{is-there, there-below, there-labels}
 use Rattle.fixpoint_queue.specs.IdQueue.{Ids}
 use Rattle.fixpoint_queue.specs.Taken.{HasTaken}
-use Rattle.fixpoint_queue.specs.Waits.{IsRun, IsWokenFor, left_to_do, left_to_ask}
+use Rattle.fixpoint_queue.specs.Waits.{IsSaturation, IsWokenFor, left_to_do, left_to_ask}
 use Rattle.fixpoint_queue.specs.Ledgers.{AddsEquations}
 use Rattle.fixpoint_queue.specs.Pairs.{IsCounted}
-use Rattle.fixpoint_queue.proofs.AskedCores.{woken-stays, run-equated, less-equated}
+use Rattle.fixpoint_queue.proofs.AskedCores.{woken-stays, saturation-equated, less-equated}
 use Rattle.fixpoint_queue.proofs.Counted.{counted-none, counted-taken, counted-then, left-running}
 use Rattle.fixpoint_queue.proofs.LedgerLaws.{adds-trans}
 
@@ -138,10 +138,10 @@ unless-bottom bottom running (inr t) = t
 -- ---- what was taken
 
 module _ (told : Core → Equation → Type 0) (occurs : OccurrenceLists) (marks : List Bool) (id : ℕ) (core : Core) where
-  pub taken-none : (k : Kernel) (before : List Line) (queue : Ids) → IsRun told k occurs queue marks → 1 ≤ times id queue.queued → trimmed_at k id ≡ Some (trimmed_core k.view core)
+  pub taken-none : (k : Kernel) (before : List Line) (queue : Ids) → IsSaturation told k occurs queue marks → 1 ≤ times id queue.queued → trimmed_at k id ≡ Some (trimmed_core k.view core)
       → HasTaken told occurs marks id core k before queue k before queue
-  taken-none k before queue run queued there = record {
-    run = run;
+  taken-none k before queue saturation queued there = record {
+    saturation = saturation;
     queued = queued;
     there = there;
     vars = refl;
@@ -154,35 +154,35 @@ module _ (told : Core → Equation → Type 0) (occurs : OccurrenceLists) (marks
       append-none [] = refl
       append-none (line ∷ lines) = ap (λ (l : List Line). line ∷ l) (append-none lines)
 
-  module _ (k : Kernel) (old new : Ids) (run : IsRun told k occurs old marks) (below : CoreBelow (length k.view + 1) core) (there : trimmed_at k id ≡ Some (trimmed_core k.view core))
+  module _ (k : Kernel) (old new : Ids) (saturation : IsSaturation told k occurs old marks) (below : CoreBelow (length k.view + 1) core) (there : trimmed_at k id ≡ Some (trimmed_core k.view core))
       (running : k.bottom ≡ false) (first : 1 ≤ times id old.queued) (e : Equation) (tells : told (trimmed_core k.view core) e) (instance : is_instance_at (trimmed_core k.view core) e ≡ true)
       (woken : IsWokenFor k.view occurs e old new) (after : Kernel) (is : after ≡ equated k e) (stepped : step k (Equate id e) ≡ Ok after)
       (before behind : List Line) (line : behind ≡ before ++ Equate id e ∷ [])
     where
       labels : IsLabel k.view e.a × IsLabel k.view e.b
-      labels = there-labels k id (trimmed_core k.view core) run.kernel there e instance
+      labels = there-labels k id (trimmed_core k.view core) saturation.kernel there e instance
 
       pub taken-one : HasTaken told occurs marks id core k before old after behind new
       taken-one = record {
-        run = subst (λ (n : Kernel). IsRun told n occurs new marks) (sym is) (run-equated told k occurs old new marks run id (trimmed_core k.view core) there e instance woken);
-        queued = woken-stays k.view occurs e old new run.queued (loser_of k.view e.a e.b) woken id first;
-        there = subst (λ (n : Kernel). trimmed_at n id ≡ Some (trimmed_core n.view core)) (sym is) (there-later k run.kernel id core below there e labels);
-        vars = ap (λ (n : Kernel). length n.view) is ∙ same-vars k run.kernel e labels;
+        saturation = subst (λ (n : Kernel). IsSaturation told n occurs new marks) (sym is) (saturation-equated told k occurs old new marks saturation id (trimmed_core k.view core) there e instance woken);
+        queued = woken-stays k.view occurs e old new saturation.queued (loser_of k.view e.a e.b) woken id first;
+        there = subst (λ (n : Kernel). trimmed_at n id ≡ Some (trimmed_core n.view core)) (sym is) (there-later k saturation.kernel id core below there e labels);
+        vars = ap (λ (n : Kernel). length n.view) is ∙ same-vars k saturation.kernel e labels;
         adds = record { added = Equate id e ∷ []; is = line; leads = (after, stepped, (trimmed_core k.view core, there, tells), refl); equations = tt };
         counted = subst (λ (n : ℕ). IsCounted k before behind n 0 0 (left_to_ask after new)) (sym (left-running k old running))
-            (counted-taken told k occurs old new marks run id (trimmed_core k.view core) there e instance first woken after is stepped before behind line 0 0 (omega arith));
+            (counted-taken told k occurs old new marks saturation id (trimmed_core k.view core) there e instance first woken after is stepped before behind line 0 0 (omega arith));
         less = omega (arith, fewer);
       }
         where
           fewer : left_to_do after new < left_to_do k old
           fewer =
               subst (λ (n : Kernel). left_to_do n new < left_to_do k old) (sym is)
-              (less-equated told k occurs old new marks run id (trimmed_core k.view core) there e instance woken running)
+              (less-equated told k occurs old new marks saturation id (trimmed_core k.view core) there e instance woken running)
 
   pub taken-then : (k mid new : Kernel) (before behind last : List Line) (from next to : Ids) → HasTaken told occurs marks id core k before from mid behind next
       → HasTaken told occurs marks id core mid behind next new last to → HasTaken told occurs marks id core k before from new last to
   taken-then k mid new before behind last from next to one two = record {
-    run = two.run;
+    saturation = two.saturation;
     queued = two.queued;
     there = two.there;
     vars = two.vars ∙ one.vars;
@@ -199,22 +199,22 @@ there-trimmed k is id core there =
     let r = is-there k id core there in
     ap (trimmed_core k.view) (sym r.is) ∙ trimmed_again k.view r.core is.labelled ∙ r.is
 
-module _ (told : Core → Equation → Type 0) (k : Kernel) (occurs : OccurrenceLists) (old next : Ids) (marks : List Bool) (run : IsRun told k occurs old marks)
+module _ (told : Core → Equation → Type 0) (k : Kernel) (occurs : OccurrenceLists) (old next : Ids) (marks : List Bool) (saturation : IsSaturation told k occurs old marks)
     (id : ℕ) (core : Core) (there : trimmed_at k id ≡ Some core) (running : k.bottom ≡ false) (first : 1 ≤ times id old.queued)
     (e : Equation) (tells : told core e) (instance : is_instance_at core e ≡ true) (woken : IsWokenFor k.view occurs e old next)
     (mid : Kernel) (is : mid ≡ equated k e) (stepped : step k (Equate id e) ≡ Ok mid) (before behind : List Line) (line : behind ≡ before ++ Equate id e ∷ [])
   where
     same : trimmed_core k.view core ≡ core
-    same = there-trimmed k run.kernel id core there
+    same = there-trimmed k saturation.kernel id core there
 
     -- what the first equation makes
     pub asked-first : HasTaken told occurs marks id core k before old mid behind next
     asked-first =
-        taken-one told occurs marks id core k old next run (there-below k id core run.kernel there) (there ∙ ap Some (sym same)) running first e
+        taken-one told occurs marks id core k old next saturation (there-below k id core saturation.kernel there) (there ∙ ap Some (sym same)) running first e
         (subst (λ (c : Core). told c e) (sym same) tells) (subst (λ (c : Core). is_instance_at c e ≡ true) (sym same) instance) woken mid is stepped before behind line
 
     pub asked-core : CoreBelow (length mid.view + 1) core
-    asked-core = subst (λ (n : ℕ). CoreBelow (n + 1) core) (sym asked-first.vars) (there-below k id core run.kernel there)
+    asked-core = subst (λ (n : ℕ). CoreBelow (n + 1) core) (sym asked-first.vars) (there-below k id core saturation.kernel there)
 
     module _ (new : Kernel) (last : List Line) (to : Ids) (taken : HasTaken told occurs marks id core mid behind next new last to) where
       pub asked-adds : AddsEquations told before k last new
@@ -222,7 +222,7 @@ module _ (told : Core → Equation → Type 0) (k : Kernel) (occurs : Occurrence
 
       pub asked-counted : (counter now : ℕ) → now ≤ counter + 3 → IsCounted k before last (length old.queued) counter now (left_to_ask new to)
       asked-counted counter now most =
-          let one = counted-taken told k occurs old next marks run id core there e instance first woken mid is stepped before behind line counter now most in
+          let one = counted-taken told k occurs old next marks saturation id core there e instance first woken mid is stepped before behind line counter now most in
           λ lines added.
           let total = counted-then told k mid new before behind last (length old.queued) counter now (left_to_ask mid next) now (left_to_ask new to) asked-first.adds taken.adds one
           (λ more is_more. omega (arith, taken.counted more is_more)) in
@@ -230,5 +230,5 @@ module _ (told : Core → Equation → Type 0) (k : Kernel) (occurs : Occurrence
 
       pub asked-less : left_to_do new to < left_to_do k old
       asked-less =
-          let fewer = subst (λ (n : Kernel). left_to_do n next < left_to_do k old) (sym is) (less-equated told k occurs old next marks run id core there e instance woken running) in
+          let fewer = subst (λ (n : Kernel). left_to_do n next < left_to_do k old) (sym is) (less-equated told k occurs old next marks saturation id core there e instance woken running) in
           omega (arith, fewer, taken.less)

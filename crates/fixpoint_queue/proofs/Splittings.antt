@@ -31,12 +31,12 @@ use Rattle.step_kernel.proofs.There.{there-divided}
 use Rattle.fixpoint_queue.specs.IdQueue.{Ids, IsIds}
 use Rattle.fixpoint_queue.specs.Listed.{IsListed}
 use Rattle.fixpoint_queue.specs.Standing.{Stand, AreVars, AreAllVars, AreVarsFrom, AreEntered, all_counted}
-use Rattle.fixpoint_queue.specs.Waits.{IsRun}
+use Rattle.fixpoint_queue.specs.Waits.{IsSaturation}
 use Rattle.fixpoint_queue.specs.Wider.{IsWider, HasRoom}
 use Rattle.fixpoint_queue.proofs.QueueSizes.{queue-grows}
-use Rattle.fixpoint_queue.proofs.NextRun.{Goes, Queues, run-next, marked-gone, mapped}
+use Rattle.fixpoint_queue.proofs.NextSaturation.{Goes, Queues, saturation-next, marked-gone, mapped}
 use Rattle.fixpoint_queue.proofs.Stood.{core_at-without, core_at-gone, stand-removed}
-use Rattle.fixpoint_queue.proofs.Widened.{run-wider}
+use Rattle.fixpoint_queue.proofs.Widened.{saturation-wider}
 
 ok-of : (x y : Kernel) → ◌≡◌ {A = Result Kernel StepFault} (Ok x) (Ok y) → x ≡ y
 ok-of x y h = cc
@@ -87,13 +87,13 @@ core_at-left xs ys (suc i) high =
 
 module _ (told : Core → Equation → Type 0) (k new : Kernel) (id : ℕ) (parts : Parts) (lists : List (List ℕ))
     (first wide left : OccurrenceLists) (queue wide-queue left-queue : Ids) (marks wide-marks left-marks : List Bool)
-    (start : IsRun told k first queue marks) (wider : IsWider first wide queue wide-queue marks wide-marks) (room : HasRoom k parts.fresh lists wide wide-queue wide-marks)
+    (start : IsSaturation told k first queue marks) (wider : IsWider first wide queue wide-queue marks wide-marks) (room : HasRoom k parts.fresh lists wide wide-queue wide-marks)
     (at : ArePartsAt k id parts) (are : AreAllVars lists parts.cores) (is : new ≡ divided k id parts)
     (left-is : left ≡ removed wide id) (occurrences : IsOccurrences left) (queued : left-queue.queued ≡ without_id id wide-queue.queued) (places : left-queue.places ≡ wide-queue.places)
     (ids : IsIds left-queue) (marks-are : left-marks ≡ set wide-marks (id - 1) false)
   where
-    pub run : IsRun told k wide wide-queue wide-marks
-    run = run-wider told k first wide queue wide-queue marks wide-marks start wider
+    pub saturation : IsSaturation told k wide wide-queue wide-marks
+    saturation = saturation-wider told k first wide queue wide-queue marks wide-marks start wider
 
     bounds : (1 ≤ id) × (id ≤ length k.cores)
     bounds = at-bounds k id at.core at.there
@@ -124,7 +124,7 @@ module _ (told : Core → Equation → Type 0) (k new : Kernel) (id : ℕ) (part
     pub left-stand : Stand (take (length k.cores) new.cores) left
     left-stand =
         subst (λ (o : OccurrenceLists). Stand (take (length k.cores) new.cores) o) (sym left-is)
-        (subst (λ (cs : List (Option Core)). Stand cs (removed wide id)) (sym taken) (stand-removed k.cores wide id bounds.0 run.listed.there))
+        (subst (λ (cs : List (Option Core)). Stand cs (removed wide id)) (sym taken) (stand-removed k.cores wide id bounds.0 saturation.listed.there))
 
     pub left-before : length k.cores ≤ length new.cores
     left-before = omega (arith, many)
@@ -229,9 +229,9 @@ module _ (told : Core → Equation → Type 0) (k new : Kernel) (id : ℕ) (part
               (entered.only other there);
         }
 
-        pub run-split : IsRun told new next next-queue left-marks
-        run-split =
-            run-next told k new id first next queue next-queue marks left-marks start goes-split listed-split queues-split
+        pub saturation-split : IsSaturation told new next next-queue left-marks
+        saturation-split =
+            saturation-next told k new id first next queue next-queue marks left-marks start goes-split listed-split queues-split
             (marked-gone k new id marks wide-marks left-marks bounds.0 wider.marks.mark marks-are (omega (arith, many, room.marks)))
 
         -- only the parts come into the queue
@@ -247,6 +247,6 @@ module _ (told : Core → Equation → Type 0) (k new : Kernel) (id : ℕ) (part
         no-more =
             queue-grows (length k.cores) (length new.cores) queue.queued next-queue.queued (omega (arith, many))
             (λ other there. let p = start.pending other there in let b = there-bounds k.cores other p.0 p.1 in (b.0, omega (arith, b.1, many)))
-            (λ other there. let p = run-split.pending other there in there-bounds new.cores other p.0 p.1)
+            (λ other there. let p = saturation-split.pending other there in there-bounds new.cores other p.0 p.1)
             entered.queued.once
             only-parts

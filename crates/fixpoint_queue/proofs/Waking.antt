@@ -12,7 +12,7 @@ use Rattle.equation_store.proofs.Walk.{cases_member}
 use Rattle.equation_store.proofs.Counts.{times-count}
 use Rattle.equation_store.specs.Laws.{IsConstant}
 use Rattle.fixpoint_queue.specs.IdQueue.{Ids, with_id}
-use Rattle.fixpoint_queue.specs.Walks.{rest_from}
+use Rattle.index_ring.specs.Lists.{rest_from}
 
 -- the queue has what was put into it, and what it had
 put-by : (ids : Ids) (id j : ℕ) (b : Bool) → nat_le 1 (times id ids.queued) ≡ b → (j ≡ id) ⊎ (1 ≤ times j ids.queued)

@@ -9,7 +9,7 @@ use Rattle.index_ring.specs.Lists.{times}
 use Rattle.step_kernel.specs.Kernel.{Kernel}
 use Rattle.fixpoint_queue.specs.IdQueue.{Ids}
 use Rattle.fixpoint_queue.specs.Listed.{IsListed}
-use Rattle.fixpoint_queue.specs.Waits.{IsRun, Waits}
+use Rattle.fixpoint_queue.specs.Waits.{IsSaturation, Waits}
 use Rattle.fixpoint_queue.specs.Wider.{AreWider, IsWider}
 
 pub wider-same : (occurs : OccurrenceLists) → IsOccurrences occurs → AreWider occurs occurs
@@ -34,16 +34,16 @@ listed-wider k old new wider h = record {
   );
 }
 
-pub run-wider : (told : Core → Equation → Type 0) (k : Kernel) (occurs next : OccurrenceLists) (queue wide : Ids) (marks longer : List Bool) → IsRun told k occurs queue marks → IsWider occurs next queue wide marks longer → IsRun told k next wide longer
-run-wider told k occurs next queue wide marks longer run wider = record {
-  kernel = run.kernel;
-  listed = listed-wider k occurs next wider.occurs run.listed;
-  places = omega (arith, run.places, wider.places);
+pub saturation-wider : (told : Core → Equation → Type 0) (k : Kernel) (occurs next : OccurrenceLists) (queue wide : Ids) (marks longer : List Bool) → IsSaturation told k occurs queue marks → IsWider occurs next queue wide marks longer → IsSaturation told k next wide longer
+saturation-wider told k occurs next queue wide marks longer saturation wider = record {
+  kernel = saturation.kernel;
+  listed = listed-wider k occurs next wider.occurs saturation.listed;
+  places = omega (arith, saturation.places, wider.places);
   queued = wider.is;
-  pending = λ id there. run.pending id (omega (arith, there, same id));
-  waits = subst (Waits told k) (sym wider.queued) run.waits;
-  mark_places = omega (arith, run.mark_places, wider.marks.length);
-  marked = λ id none. wider.marks.mark id ∙ run.marked id (omega (arith, none, same id));
+  pending = λ id there. saturation.pending id (omega (arith, there, same id));
+  waits = subst (Waits told k) (sym wider.queued) saturation.waits;
+  mark_places = omega (arith, saturation.mark_places, wider.marks.length);
+  marked = λ id none. wider.marks.mark id ∙ saturation.marked id (omega (arith, none, same id));
 }
   where
     same : (id : ℕ) → times id wide.queued ≡ times id queue.queued

@@ -3,9 +3,8 @@ pub mod Quiet
 pub mod Ledgers
 pub mod Listed
 pub mod Waits
-pub mod Walks
 pub mod Marks
-pub mod Run
+pub mod Saturation
 pub mod Standing
 pub mod Wider
 pub mod Pairs

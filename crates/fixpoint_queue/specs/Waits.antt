@@ -24,7 +24,7 @@ AreMarked k queued marks = (id : ℕ) → times id queued ≡ 0 → mark_of mark
 
 -- a state whose cores stand at their variables, and a queue with a place for each core, in which each core waits that may
 -- tell something
-pub record IsRun (told : Core → Equation → Type 0) (k : Kernel) (occurs : OccurrenceLists) (queue : Ids) (marks : List Bool) : Type 0 where
+pub record IsSaturation (told : Core → Equation → Type 0) (k : Kernel) (occurs : OccurrenceLists) (queue : Ids) (marks : List Bool) : Type 0 where
   pub kernel : IsKernel k
   pub listed : IsListed k occurs
   pub places : length k.cores < queue.places

@@ -13,7 +13,7 @@ ghost use Rattle.core_occurrences.specs.Lists.{Occurs};
 ghost use Rattle.fixpoint_queue.specs.Ledgers.{AddsEquations};
 ghost use Rattle.fixpoint_queue.specs.Quiet.{IsClosed};
 ghost use Rattle.fixpoint_queue.specs.Pairs.{IsCounted};
-ghost use Rattle.fixpoint_queue.specs.Waits.{IsRun, IsWokenFor, left_to_do, left_to_ask};
+ghost use Rattle.fixpoint_queue.specs.Waits.{IsSaturation, IsWokenFor, left_to_do, left_to_ask};
 
 use crate::id_queue::IdQueue;
 use crate::marks::Marks;
@@ -41,11 +41,11 @@ fn ask_core<F: Oracle<L>, L: Ledger>(
     id: u32,
     core: &Core,
 ) -> Result<(), AllocError>
-    requires run { IsRun F.told state.old occurs.now queue.old marks.old }
+    requires saturation { IsSaturation F.told state.old occurs.now queue.old marks.old }
     requires running { state.old.bottom ≡ false }
     requires first { 1 ≤ times id queue.old.queued }
     requires there { trimmed_at state.old id ≡ Some core.now }
-    ensures run { IsRun F.told state.new occurs.now queue.new marks.new }
+    ensures saturation { IsSaturation F.told state.new occurs.now queue.new marks.new }
     ensures adds { AddsEquations F.told ledger.old.items state.old ledger.new.items state.new }
     ensures counted { OnOk result (IsCounted state.old ledger.old.items ledger.new.items
         (length queue.old.queued) steps.old steps.new (left_to_ask state.new queue.new)) }
@@ -89,10 +89,10 @@ fn ask_first<F: Oracle<L>, L: Ledger>(
     steps: &mut Steps<L>,
     id: u32,
 ) -> Result<(), AllocError>
-    requires run { IsRun F.told state.old occurs.now queue.old marks.old }
+    requires saturation { IsSaturation F.told state.old occurs.now queue.old marks.old }
     requires running { state.old.bottom ≡ false }
     requires first { 1 ≤ times id queue.old.queued }
-    ensures run { IsRun F.told state.new occurs.now queue.new marks.new }
+    ensures saturation { IsSaturation F.told state.new occurs.now queue.new marks.new }
     ensures adds { AddsEquations F.told ledger.old.items state.old ledger.new.items state.new }
     ensures counted { OnOk result (IsCounted state.old ledger.old.items ledger.new.items
         (length queue.old.queued) steps.old steps.new (left_to_ask state.new queue.new)) }
@@ -120,8 +120,8 @@ pub fn ask_all<F: Oracle<L>, L: Ledger>(
     ledger: &mut Vec<Line>,
     steps: &mut Steps<L>,
 ) -> Result<(), AllocError>
-    requires run { IsRun F.told state.old occurs.now queue.old marks.old }
-    ensures run { IsRun F.told state.new occurs.now queue.new marks.new }
+    requires saturation { IsSaturation F.told state.old occurs.now queue.old marks.old }
+    ensures saturation { IsSaturation F.told state.new occurs.now queue.new marks.new }
     ensures adds { AddsEquations F.told ledger.old.items state.old ledger.new.items state.new }
     ensures counted { IsCounted state.old ledger.old.items ledger.new.items
         (length queue.old.queued) steps.old steps.new 0 }

@@ -38,14 +38,14 @@ pub struct Runner<F: Oracle<L>, L: Ledger> {
 }
 
 impl<F: Oracle<L>, L: Ledger> Model for Runner<F, L> {
-    ghost use Rattle.fixpoint_queue.specs.Run.{Run};
-    ghost use Rattle.fixpoint_queue.specs.Waits.{IsRun};
+    ghost use Rattle.fixpoint_queue.specs.Saturation.{Saturation};
+    ghost use Rattle.fixpoint_queue.specs.Waits.{IsSaturation};
 
-    ghost Value = { Run };
+    ghost Value = { Saturation };
 
     ghost view = { λ s. record { kernel = s.state; ledger = s.ledger.items; queued = s.queue.queued } };
 
-    ghost invariant = { λ s. IsRun F.told s.state s.occurs s.queue s.marks };
+    ghost invariant = { λ s. IsSaturation F.told s.state s.occurs s.queue s.marks };
 }
 
 impl<F: Oracle<L>, L: Ledger> Runner<F, L> {

@@ -15,7 +15,7 @@ ghost use Rattle.step_kernel.specs.Instances.{IsInstanceAt};
 ghost use Rattle.step_kernel.specs.Steps.{step, equated};
 ghost use Rattle.fixpoint_queue.specs.IdQueue.{IsIds};
 ghost use Rattle.fixpoint_queue.specs.Taken.{HasTaken};
-ghost use Rattle.fixpoint_queue.specs.Waits.{IsRun, IsWokenFor};
+ghost use Rattle.fixpoint_queue.specs.Waits.{IsSaturation, IsWokenFor};
 
 use crate::id_queue::IdQueue;
 use crate::marks::Marks;
@@ -94,7 +94,7 @@ fn take_next<F: Oracle<L>, L: Ledger>(
     core: &Core,
     e: &Equation,
 )
-    requires run { IsRun F.told state.old occurs.now queue.old marks.now }
+    requires saturation { IsSaturation F.told state.old occurs.now queue.old marks.now }
     requires running { state.old.bottom ≡ false }
     requires queued { 1 ≤ times id queue.old.queued }
     requires there { trimmed_at state.old id ≡ Some (trimmed_core state.old.view core.now) }
@@ -126,7 +126,7 @@ pub fn take_run<F: Oracle<L>, L: Ledger>(
     core: &Core,
     run: &[Equation],
 )
-    requires run { IsRun F.told state.old occurs.now queue.old marks.now }
+    requires saturation { IsSaturation F.told state.old occurs.now queue.old marks.now }
     requires queued { 1 ≤ times id queue.old.queued }
     requires there { trimmed_at state.old id ≡ Some (trimmed_core state.old.view core.now) }
     requires core { CoreBelow (length state.old.view + 1) core.now }

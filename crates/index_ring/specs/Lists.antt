@@ -67,6 +67,12 @@ unlinked rings v = record { lists = map (without v) rings.lists; nodes = rings.n
 abbrev pub spliced : RingLists → ℕ → ℕ → RingLists
 spliced rings from into = with_list (with_list rings into (list_of rings into ++ list_of rings from)) from []
 
+-- a list from a node on, and nothing from no node on
+abbrev pub rest_from : Option ℕ → List ℕ → List ℕ
+rest_from None list = []
+rest_from (Some v) [] = []
+rest_from (Some v) (w ∷ list) = if w == v then w ∷ list else rest_from (Some v) list
+
 -- the first node of a list
 abbrev pub first_in : List ℕ → Option ℕ
 first_in [] = None

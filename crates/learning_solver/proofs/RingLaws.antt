@@ -10,7 +10,8 @@ use Rattle.index_ring.proofs.Times.{times-same, times-other, times-append, times
 use Rattle.index_ring.proofs.Seen.{after_in-cut}
 use Rattle.literal_trail.specs.declared.entry.Entry.{Entry}
 use Rattle.literal_trail.specs.Trail.{Trail, entry_of, value_in}
-use Rattle.learning_solver.specs.Order.{IsRing, IsFreeIn, rest_from}
+use Rattle.learning_solver.specs.Order.{IsRing, IsFreeIn}
+use Rattle.index_ring.specs.Lists.{rest_from}
 
 -- what stands is not free
 pub stands-taken : (ring : RingLists) (v : ℕ) → Stands ring 0 v → ¬ IsFree ring v

@@ -1,5 +1,5 @@
 -- What the order of decisions keeps: a ring with each variable.
-use Rattle.std.specs.Prelude.{◌≡◌, ◌≢◌, ◌==◌, ℕ, ◌+◌, ◌≤◌, Bool, List, [], ◌∷◌, length, Option, None, Some, if◌then◌else◌}
+use Rattle.std.specs.Prelude.{◌≡◌, ◌≢◌, ℕ, ◌+◌, ◌≤◌, Bool, List, length, None}
 use Rattle.index_ring.specs.Lists.{RingLists, IsRings, IsFree, Stands}
 use Rattle.literal_trail.specs.Trail.{Trail, entry_of}
 
@@ -27,9 +27,3 @@ pub record IsFreeIn (t : Trail) (v : ℕ) : Type 0 where
 -- each variable has an entry
 abbrev pub AllGiven : Trail → Type 0
 AllGiven t = (v : ℕ) → 1 ≤ v → v ≤ t.vars → entry_of t.entries v ≢ None
-
--- the list from a member on
-abbrev pub rest_from : Option ℕ → List ℕ → List ℕ
-rest_from None list = []
-rest_from (Some v) [] = []
-rest_from (Some v) (w ∷ list) = if w == v then w ∷ list else rest_from (Some v) list

@@ -8,7 +8,7 @@ use Rattle.std.proofs.lemmas.Bool.{false≢true, and_parts}
 use Rattle.std.proofs.lemmas.Bool.Decides.{nat_tests, Decides-int_eq, Decides-or, Decides-and, Decides-like, same_from_decides}
 use Rattle.std.proofs.lemmas.Int.{ints, by_lt_z}
 use Rattle.model_meaning.specs.Integers.{is_member}
-use Rattle.model_meaning.specs.Domains.{run_of, at_least_zero, domain, in_domains}
+use Rattle.model_meaning.specs.Domains.{numbers_from, at_least_zero, domain, in_domains}
 use Rattle.model_meaning.specs.Limits.{InLimit, AllInLimit, KindInLimit, DeclsInLimit}
 use Rattle.model_meaning.specs.declared.model.Decl.{Decl}
 use Rattle.model_meaning.specs.declared.model.Kind.{Kind}
@@ -27,10 +27,10 @@ to_range low v n (inr h) = (omega (arith, ints, h.0), omega (arith, ints, h.1))
 from_range : (low v : ℤ) (n : ℕ) → (low ≤ℤ v) × (v <ℤ (low +ℤ pos (suc n))) → (low ≡ v) ⊎ (((low +ℤ pos 1) ≤ℤ v) × (v <ℤ (low +ℤ pos 1 +ℤ pos n)))
 from_range low v n h = by_lt_z low v (λ l. inr (omega (arith, ints, l), omega (arith, ints, h.1))) (λ l. inl (omega (arith, ints, l, h.0)))
 
-pub is_member-run_of : (n : ℕ) (low v : ℤ) → Decides (is_member v (run_of n low)) ((low ≤ℤ v) × (v <ℤ (low +ℤ pos n)))
-is_member-run_of zero low v = (λ e. absurd (false≢true e), λ h. absurd (omega (arith, ints, h.0, h.1)))
-is_member-run_of (suc n) low v =
-    Decides-like _ (to_range low v n) (from_range low v n) (Decides-or (int_eq low v) _ (Decides-int_eq low v) (is_member-run_of n (low +ℤ pos 1) v))
+pub is_member-numbers_from : (n : ℕ) (low v : ℤ) → Decides (is_member v (numbers_from n low)) ((low ≤ℤ v) × (v <ℤ (low +ℤ pos n)))
+is_member-numbers_from zero low v = (λ e. absurd (false≢true e), λ h. absurd (omega (arith, ints, h.0, h.1)))
+is_member-numbers_from (suc n) low v =
+    Decides-like _ (to_range low v n) (from_range low v n) (Decides-or (int_eq low v) _ (Decides-int_eq low v) (is_member-numbers_from n (low +ℤ pos 1) v))
 
 to_bounds : (z low high v : ℤ) → z ≡ high -ℤ low +ℤ pos 1 → (low ≤ℤ v) × (v <ℤ (low +ℤ pos (at_least_zero z))) → (low ≤ℤ v) × (v ≤ℤ high)
 to_bounds (pos n) low high v e h = (h.0, omega (arith, ints, e, h.1))
@@ -43,14 +43,14 @@ from_bounds (negsuc n) low high v e h = (h.0, absurd (omega (arith, ints, e, h.0
 -- a number is from low to high where it is in that domain
 pub Decides-domain : (low high v : ℤ) → Decides (is_member v (domain (kind.Range low high))) ((low ≤ℤ v) × (v ≤ℤ high))
 unfolding domain
-Decides-domain low high v = Decides-like _ (to_bounds _ low high v refl) (from_bounds _ low high v refl) (is_member-run_of _ low v)
+Decides-domain low high v = Decides-like _ (to_bounds _ low high v refl) (from_bounds _ low high v refl) (is_member-numbers_from _ low v)
 
 pub is_member-int : (low high v : ℤ) → (int_le low v && int_le v high) ≡ is_member v (domain (kind.Range low high))
 is_member-int low high v = same_from_decides _ _ (Decides-and _ _ (Decides-int_le low v) (Decides-int_le v high)) (Decides-domain low high v)
 
 pub is_member-bool : (v : ℤ) → (int_le (pos 0) v && int_le v (pos 1)) ≡ is_member v (domain kind.Bool)
 unfolding domain
-is_member-bool v = same_from_decides _ _ (Decides-and _ _ (Decides-int_le (pos 0) v) (Decides-int_le v (pos 1))) (Decides-like _ (λ h. (h.0, omega (arith, ints, h.1))) (λ h. (h.0, omega (arith, ints, h.1))) (is_member-run_of 2 (pos 0) v))
+is_member-bool v = same_from_decides _ _ (Decides-and _ _ (Decides-int_le (pos 0) v) (Decides-int_le v (pos 1))) (Decides-like _ (λ h. (h.0, omega (arith, ints, h.1))) (λ h. (h.0, omega (arith, ints, h.1))) (is_member-numbers_from 2 (pos 0) v))
 
 -- a listed domain has the values that some test of the list finds
 pub is_member-listed : (vs : List ℤ) (v : ℤ) → list_any (λ w. int_eq w v) vs ≡ is_member v (domain (kind.Listed vs))

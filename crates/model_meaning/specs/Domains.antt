@@ -7,9 +7,9 @@ use Rattle.model_meaning.specs.Integers.{is_member}
 use Rattle.value_lists.specs.ValueLists.{first_of, last_of}
 
 -- the n whole numbers from low upwards
-abbrev pub run_of : ℕ → ℤ → List ℤ
-run_of zero low = []
-run_of (suc n) low = low ∷ run_of n (low +ℤ pos 1)
+abbrev pub numbers_from : ℕ → ℤ → List ℤ
+numbers_from zero low = []
+numbers_from (suc n) low = low ∷ numbers_from n (low +ℤ pos 1)
 
 -- a number, or 0 where it is negative
 abbrev pub at_least_zero : ℤ → ℕ
@@ -31,7 +31,7 @@ greatest (kind.Listed values) = last_of values
 -- the listed ones
 unfoldable pub domain : Kind → List ℤ
 domain kind.Bool = pos 0 ∷ pos 1 ∷ []
-domain (kind.Range low high) = run_of (at_least_zero (high -ℤ low +ℤ pos 1)) low
+domain (kind.Range low high) = numbers_from (at_least_zero (high -ℤ low +ℤ pos 1)) low
 domain (kind.Listed values) = values
 
 -- each declaration has a value, and the value is in its domain

@@ -150,7 +150,7 @@ weighted-append : (w : ℕ) (ls ms : List Atom) → weighted w (ls ++ ms) ≡ we
 weighted-append w [] ms = refl
 weighted-append w (l ∷ ls) ms = ap (λ rest. (l, w) ∷ rest) (weighted-append w ls ms)
 
--- what four runs of variables make together
+-- what four rows of variables make together
 pub wires-made : (none one two three four : List (Atom × ℕ)) (w next odd even p : ℕ) → none ≡ [] → p ≡ min (odd - 1) even → one ≡ none ++ weighted w (own_labels next 1) → two ≡ one ++ weighted w (own_labels (next + odd + even) (2 * p)) → three ≡ two ++ weighted w (own_labels (next + 1 + p) (odd - 1 - p)) → four ≡ three ++ weighted w (own_labels (next + odd + p) (even - p)) → four ≡ weighted w (wires next odd even)
 wires-made none one two three four w next odd even p is_none is_p e1 e2 e3 e4 =
     let start : one ≡ (variable next, w) ∷ [] = e1 ∙ ap (λ xs. xs ++ weighted w (own_labels next 1)) is_none in

@@ -1,3 +1,4 @@
+pub mod Placing
 pub mod LitOrder
 pub mod Opposites
 pub mod ClauseSteps

@@ -11,6 +11,7 @@ use Rattle.std.proofs.lemmas.Cmp.{then_total, on_total, nat_cmp_total}
 use Rattle.std.proofs.lemmas.List.Kept.{IsStrictlySortedBy-dedup}
 use Rattle.std.proofs.lemmas.List.Sorted.{list_any-IsPermutation}
 use Rattle.order_ints.specs.declared.literal.Lit.{Lit}
+use Rattle.order_ints.proofs.Placing.{Stand, as_one, in_front, behind, PutBy, here, before, after, put_by}
 use Rattle.order_ints.specs.OrderedClauses.{same_lit, stands_before, has_lit, place_lit, by_variable}
 
 -- the number of a sign
@@ -93,25 +94,27 @@ pub Above-lower : (j k : ℕ) (ls : List Lit) → j ≤ k → Above k ls → Abo
 Above-lower j k [] h a = tt
 Above-lower j k (l ∷ ls) h a = (omega (arith, a.0), Above-lower j k ls h a.1)
 
+-- two literals have one number, or one of them the lesser
+abbrev SameKey : Lit → Lit → Type 0
+SameKey l m = key l ≡ key m
+
+abbrev LessKey : Lit → Lit → Type 0
+LessKey l m = key l < key m
+
+stand : (l m : Lit) → Stand same_lit stands_before SameKey LessKey l m
+stand l m = by (cases_order (key l) (key m))
+  where
+    by : ((key l ≡ key m) ⊎ ((key l < key m) ⊎ (key m < key l))) → Stand same_lit stands_before SameKey LessKey l m
+    by (inl e) = as_one e (same_lit_key l m ∙ eq-eqb (key l) (key m) e)
+    by (inr (inl h)) = in_front h (same_lit_key l m ∙ ne_eqb (key l) (key m) (λ e. omega (arith, e, h))) (stands_before_key l m ∙ lt-ltb (key l) (key m) h)
+    by (inr (inr h)) = behind h (same_lit_key l m ∙ ne_eqb (key l) (key m) (λ e. omega (arith, e, h))) (stands_before_key l m ∙ le-ltb (key l) (key m) (omega (arith, h)))
+
 -- where a literal is put
-pub data Put (l m : Lit) (ms : List Lit) : Type 0 where
-  here : key l ≡ key m → place_lit l (m ∷ ms) ≡ m ∷ ms → Put l m ms
-  before : key l < key m → place_lit l (m ∷ ms) ≡ l ∷ m ∷ ms → Put l m ms
-  after : key m < key l → place_lit l (m ∷ ms) ≡ m ∷ place_lit l ms → Put l m ms
+abbrev pub Put : Lit → Lit → List Lit → Type 0
+Put l m ms = PutBy same_lit stands_before SameKey LessKey l m ms
 
 pub put : (l m : Lit) (ms : List Lit) → Put l m ms
-put l m ms = by (cases_order (key l) (key m))
-  where
-    yes : (a b : List Lit) (t : Bool) → t ≡ true → cond t a b ≡ a
-    yes a b t e = ap (λ x. cond x a b) e
-
-    no : (a b : List Lit) (t : Bool) → t ≡ false → cond t a b ≡ b
-    no a b t e = ap (λ x. cond x a b) e
-
-    by : ((key l ≡ key m) ⊎ ((key l < key m) ⊎ (key m < key l))) → Put l m ms
-    by (inl e) = here e (yes (m ∷ ms) _ (same_lit l m) (same_lit_key l m ∙ eq-eqb (key l) (key m) e))
-    by (inr (inl h)) = before h (no (m ∷ ms) _ (same_lit l m) (same_lit_key l m ∙ ne_eqb (key l) (key m) (λ e. omega (arith, e, h))) ∙ yes (l ∷ m ∷ ms) (m ∷ place_lit l ms) (stands_before l m) (stands_before_key l m ∙ lt-ltb (key l) (key m) h))
-    by (inr (inr h)) = after h (no (m ∷ ms) _ (same_lit l m) (same_lit_key l m ∙ ne_eqb (key l) (key m) (λ e. omega (arith, e, h))) ∙ no (l ∷ m ∷ ms) (m ∷ place_lit l ms) (stands_before l m) (stands_before_key l m ∙ le-ltb (key l) (key m) (omega (arith, h))))
+put l m ms = put_by same_lit stands_before SameKey LessKey l m ms (stand l m)
 
 pub Above-place_lit : (k : ℕ) (l : Lit) (ms : List Lit) → k < key l → Above k ms → Above k (place_lit l ms)
 Above-place_lit k l [] h a = (h, tt)

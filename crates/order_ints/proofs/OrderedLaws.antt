@@ -12,7 +12,8 @@ use Rattle.order_ints.specs.AtomClauses.{atom_clause_truth, atom_clauses_truth}
 use Rattle.order_ints.specs.Place.{LitBelow, AtomBelow, ClauseBelow, ClausesBelow, AtomsBelow, AtomClausesBelow}
 use Rattle.order_ints.specs.View.{resolve, MeetsView}
 use Rattle.order_ints.specs.OrderedClauses.{same_lit, has_lit, has_opposites, place_lit, by_variable, with_atom, resolved_lits, unless_opposites, ordered_clause, same_clause, distinct, ordered_clauses, VarsAscend, ClausesAscend, ClausesDiffer}
-use Rattle.order_ints.proofs.LitOrder.{Put, here, before, after, put, key, same_lit-true, same_lit_key, LitsAscend-by_variable}
+use Rattle.order_ints.proofs.Placing.{here, before, after}
+use Rattle.order_ints.proofs.LitOrder.{Put, put, key, same_lit-true, same_lit_key, LitsAscend-by_variable}
 use Rattle.order_ints.proofs.Opposites.{VarsAscend-from_opposites}
 use Rattle.order_ints.proofs.ClauseSteps.{same_clause-decides, is_other}
 use Rattle.order_ints.proofs.TruthLaws.{lit_truth-not_lit, atom_truth-resolve}

@@ -15,6 +15,7 @@ pub mod Label
 pub mod Place
 pub mod Numbers
 pub mod AtomClauses
+pub mod Placing
 pub mod OrderedClauses
 pub mod FirstFalse
 pub mod CnfLaws

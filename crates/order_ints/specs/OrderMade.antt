@@ -1,8 +1,7 @@
 -- The integers that are made of a value, of an atom, and of values with fresh variables.
-use Rattle.std.specs.Prelude.{ℕ, zero, suc, ◌+◌, ◌^◌, ◌<◌, ◌≤◌, true, ℤ, pos, ◌-ℤ◌, ◌+ℤ◌, ◌<ℤ◌, unsigned_abs, List, [], ◌∷◌}
-use Rattle.order_ints.specs.Label.{own_labels, variable}
+use Rattle.std.specs.Prelude.{ℕ, zero, suc, ◌+◌, ◌^◌, ◌<◌, ◌≤◌, ℤ, pos, ◌-ℤ◌, ◌+ℤ◌, ◌<ℤ◌, unsigned_abs, List, [], ◌∷◌}
+use Rattle.order_ints.specs.Label.{variable}
 use Rattle.order_ints.specs.declared.atom.Atom.{Atom}
-use Rattle.order_ints.specs.declared.atom.Atom.TheVariants.{Of}
 use Rattle.order_ints.specs.declared.order_int.OrdInt.{OrdInt}
 
 -- the integer that is always the value

@@ -9,6 +9,7 @@ use Rattle.order_ints.specs.declared.atom.Atom.{Atom}
 use Rattle.order_ints.specs.declared.atom.Atom.TheVariants.{True, False, Of}
 use Rattle.order_ints.specs.Truth.{not_lit}
 use Rattle.order_ints.specs.View.{resolve}
+use Rattle.order_ints.specs.Placing.{placed_by, in_order_by}
 
 -- the literals have the same variable and the same sign
 abbrev pub same_lit : Lit → Lit → Bool
@@ -29,13 +30,11 @@ has_opposites (l ∷ ls) = has_lit (not_lit l) ls || has_opposites ls
 
 -- literals in order with one more at its place, unless it is there
 abbrev pub place_lit : Lit → List Lit → List Lit
-place_lit l [] = l ∷ []
-place_lit l (m ∷ ms) = if same_lit l m then m ∷ ms else (if stands_before l m then l ∷ m ∷ ms else m ∷ place_lit l ms)
+place_lit l ms = placed_by same_lit stands_before l ms
 
 -- literals by variable, each once
 abbrev pub by_variable : List Lit → List Lit
-by_variable [] = []
-by_variable (l ∷ ls) = place_lit l (by_variable ls)
+by_variable ls = in_order_by same_lit stands_before ls
 
 -- the literals of a clause with one more atom: True makes it true, False adds nothing
 abbrev pub with_atom : Atom → Option (List Lit) → Option (List Lit)

@@ -174,7 +174,7 @@ impl State {
     }
 
     /// The step of a line.
-    fn run(&mut self, line: &Line) -> Result<(), ApplyFault>
+    fn make_step(&mut self, line: &Line) -> Result<(), ApplyFault>
         ensures step { OnOk result (step self.old line.now ≡ Ok self.new) }
         ensures fault { IfErr result (IsFaultOf (step self.old line.now)) }
         ensures stays { OnErr result (self.new ≡ self.old) }
@@ -204,7 +204,7 @@ impl State {
         ensures models { OnOk result (Keeps self.old self.new) }
         ensures kernel { IsKernel self.new }
     {
-        self.run(line)
+        self.make_step(line)
     }
 
     /// Makes the step of an equation that is known to be an instance at its core, as the store has it. It

@@ -12,7 +12,7 @@ loop-alloc-preserved g c =
     subst (λ (n : ℕ). IsCounted c.args.state.now c.args.ledger.now.items c.loop-alloc.ledger.items (length c.args.queue.now.queued) c.args.steps.now c.loop-alloc.steps n)
     (left-running c.loop-alloc.state c.loop-alloc.queue running) c.loop-alloc.invariant.counted in
     record {
-      run = c.ask_first.ensures.run;
+      saturation = c.ask_first.ensures.saturation;
       adds = adds-trans g.F.Oracle.told c.args.ledger.now.items c.loop-alloc.ledger.items c.ask_first.new.ledger.items c.args.state.now c.loop-alloc.state c.ask_first.new.state
           c.loop-alloc.invariant.adds c.ask_first.ensures.adds;
       counted = counted-then g.F.Oracle.told c.args.state.now c.loop-alloc.state c.ask_first.new.state c.args.ledger.now.items c.loop-alloc.ledger.items c.ask_first.new.ledger.items (length c.args.queue.now.queued)
@@ -36,7 +36,7 @@ returns-in_err-ask_first-in-Some-clause-adds g c =
     c.loop-alloc.invariant.adds c.ask_first.ensures.adds
 
 pub returns-in-None-clause-closed : goal.returns-in-None-clause-closed
-returns-in-None-clause-closed g c = inr (closed-none g.F.Oracle.told c.loop-alloc.state c.loop-alloc.queue.queued c.in-None.ensures.first c.loop-alloc.invariant.run.waits)
+returns-in-None-clause-closed g c = inr (closed-none g.F.Oracle.told c.loop-alloc.state c.loop-alloc.queue.queued c.in-None.ensures.first c.loop-alloc.invariant.saturation.waits)
 
 pub returns-in-None-clause-empty : goal.returns-in-None-clause-empty
 returns-in-None-clause-empty g c = inr (empty-queue c.loop-alloc.queue.queued c.in-None.ensures.first)

@@ -1,12 +1,12 @@
 use Rattle.std.proofs.Common.{length}
 use Rattle.fixpoint_queue.specs.Ledgers.{AddsEquations}
 use Rattle.fixpoint_queue.specs.Pairs.{IsCounted}
-use Rattle.fixpoint_queue.specs.Waits.{IsRun, left_to_do, left_to_ask}
+use Rattle.fixpoint_queue.specs.Waits.{IsSaturation, left_to_do, left_to_ask}
 use Rattle.fixpoint_queue.proofs.asking.ask_all.Given as goal
 
 abbrev pub invariant-loop-alloc : goal.invariant-loop-alloc
 invariant-loop-alloc g l = record {
-  run : IsRun g.F.Oracle.told l.state l.occurs l.queue l.marks;
+  saturation : IsSaturation g.F.Oracle.told l.state l.occurs l.queue l.marks;
   adds : AddsEquations g.F.Oracle.told l.fn.ledger.items l.fn.state l.ledger.items l.state;
   counted : IsCounted l.fn.state l.fn.ledger.items l.ledger.items (length l.fn.queue.queued) l.fn.steps l.steps (left_to_ask l.state l.queue);
 }

@@ -6,8 +6,8 @@ use Rattle.step_kernel.specs.Kernel.{trimmed_at}
 use Rattle.core_parts.specs.Parts.{is_compound_of}
 use Rattle.step_kernel.proofs.There.{there-formed}
 use Rattle.step_kernel.proofs.Splits.{there-bounds}
-use Rattle.fixpoint_queue.specs.Waits.{IsRun}
-use Rattle.fixpoint_queue.proofs.AskedCores.{run-quiet, less-quiet}
+use Rattle.fixpoint_queue.specs.Waits.{IsSaturation}
+use Rattle.fixpoint_queue.proofs.AskedCores.{saturation-quiet, less-quiet}
 use Rattle.fixpoint_queue.proofs.Counted.{counted-silent}
 use Rattle.fixpoint_queue.proofs.asking.ask_core.Goals as goal
 use Rattle.fixpoint_queue.proofs.asking.ask_core.Goals.{After-as_slice}
@@ -21,30 +21,30 @@ use Rattle.equation_runs.specs.Turns.{EquationsBelow}
 use Rattle.ledger_text.specs.declared.line.Line.{Line}
 
 pub ask-requires : goal.ask-requires
-ask-requires g c = there-formed c.args.state.now c.args.id c.args.core.now c.requires.run.kernel c.requires.there
+ask-requires g c = there-formed c.args.state.now c.args.id c.args.core.now c.requires.saturation.kernel c.requires.there
 
-pub returns-in-None-clause-run : goal.returns-in-None-clause-run
-returns-in-None-clause-run g c =
+pub returns-in-None-clause-saturation : goal.returns-in-None-clause-saturation
+returns-in-None-clause-saturation g c =
     let marks : c.set.new.self ≡ slice_set c.args.marks.now (c.args.id - 1) (is_compound_of c.args.core.now) =
     c.set.ensures ∙ ap (slice_set c.args.marks.now (c.args.id - 1)) c.is_compound.ensures in
-    subst (IsRun g.F.Oracle.told c.args.state.now c.args.occurs.now c.take.new.self) (sym marks)
-    (run-quiet g.F.Oracle.told c.args.state.now c.args.occurs.now c.args.queue.now c.take.new.self c.args.marks.now c.requires.run c.args.id c.args.core.now c.requires.there
+    subst (IsSaturation g.F.Oracle.told c.args.state.now c.args.occurs.now c.take.new.self) (sym marks)
+    (saturation-quiet g.F.Oracle.told c.args.state.now c.args.occurs.now c.args.queue.now c.take.new.self c.args.marks.now c.requires.saturation c.args.id c.args.core.now c.requires.there
     (subst (λ (o : Option FoundRun). IfNone o ((e : Equation) → g.F.Oracle.told c.args.core.now e → ⊥)) c.in-None.is c.in_ok-found.ensures.none)
     c.take.ensures.queued c.take.ensures.places c.take.ensures.ids)
 
 pub returns-in-None-clause-less : goal.returns-in-None-clause-less
 returns-in-None-clause-less g c =
-    less-quiet g.F.Oracle.told c.args.state.now c.args.occurs.now c.args.queue.now c.take.new.self c.args.marks.now c.requires.run c.args.id c.args.core.now c.requires.there
+    less-quiet g.F.Oracle.told c.args.state.now c.args.occurs.now c.args.queue.now c.take.new.self c.args.marks.now c.requires.saturation c.args.id c.args.core.now c.requires.there
     (subst (λ (o : Option FoundRun). IfNone o ((e : Equation) → g.F.Oracle.told c.args.core.now e → ⊥)) c.in-None.is c.in_ok-found.ensures.none)
     c.take.ensures.queued c.take.ensures.places c.take.ensures.ids c.requires.running c.requires.first
 
 pub is_compound-requires : goal.is_compound-requires
-is_compound-requires g c = there-formed c.args.state.now c.args.id c.args.core.now c.requires.run.kernel c.requires.there
+is_compound-requires g c = there-formed c.args.state.now c.args.id c.args.core.now c.requires.saturation.kernel c.requires.there
 
 pub take_equation-requires-clause-places : goal.take_equation-requires-clause-places
 take_equation-requires-clause-places g c = λ v id low o.
-    let has = (c.requires.run.listed.there v id low).0 o in
-    omega (arith, (there-bounds c.args.state.now.cores id has.0 has.1).1, c.requires.run.places)
+    let has = (c.requires.saturation.listed.there v id low).0 o in
+    omega (arith, (there-bounds c.args.state.now.cores id has.0 has.1).1, c.requires.saturation.places)
 
 pub returns-in-None-clause-counted : goal.returns-in-None-clause-counted
 returns-in-None-clause-counted g c =
@@ -67,12 +67,12 @@ first-taken g c =
     subst (λ (i : ℕ). step c.args.state.now (Equate i c.in-Some.found.equation) ≡ Ok c.take_equation.new.state) same c.take_equation.ensures.step in
     let line : c.take_equation.new.ledger.items ≡ c.args.ledger.now.items ++ Equate c.args.id c.in-Some.found.equation ∷ [] =
     c.take_equation.ensures.ledger ∙ ap (λ (l : List Line). l ++ Equate c.from.result c.in-Some.found.equation ∷ []) c.in_ok-reserve-in-Some.ensures.items ∙ ap (λ (i : ℕ). c.args.ledger.now.items ++ Equate i c.in-Some.found.equation ∷ []) same in
-    asked-first g.F.Oracle.told c.args.state.now c.args.occurs.now c.args.queue.now c.take_equation.new.queue c.args.marks.now c.requires.run c.args.id c.args.core.now c.requires.there c.requires.running c.requires.first
+    asked-first g.F.Oracle.told c.args.state.now c.args.occurs.now c.args.queue.now c.take_equation.new.queue c.args.marks.now c.requires.saturation c.args.id c.args.core.now c.requires.there c.requires.running c.requires.first
     c.in-Some.found.equation tells (g.F.Oracle.told_is_instance c.args.core.now c.in-Some.found.equation tells) c.take_equation.ensures.woken c.take_equation.new.state c.take_equation.ensures.equated stepped
     c.args.ledger.now.items c.take_equation.new.ledger.items line
 
-pub take_run-requires-clause-run : goal.take_run-requires-clause-run
-take_run-requires-clause-run g c = (first-taken g c).run
+pub take_run-requires-clause-saturation : goal.take_run-requires-clause-saturation
+take_run-requires-clause-saturation g c = (first-taken g c).saturation
 
 pub take_run-requires-clause-queued : goal.take_run-requires-clause-queued
 take_run-requires-clause-queued g c = (first-taken g c).queued
@@ -88,7 +88,7 @@ take_run-requires-clause-core g c =
     subst (λ (i : ℕ). step c.args.state.now (Equate i c.in-Some.found.equation) ≡ Ok c.take_equation.new.state) same c.take_equation.ensures.step in
     let line : c.take_equation.new.ledger.items ≡ c.args.ledger.now.items ++ Equate c.args.id c.in-Some.found.equation ∷ [] =
     c.take_equation.ensures.ledger ∙ ap (λ (l : List Line). l ++ Equate c.from.result c.in-Some.found.equation ∷ []) c.in_ok-reserve-in-Some.ensures.items ∙ ap (λ (i : ℕ). c.args.ledger.now.items ++ Equate i c.in-Some.found.equation ∷ []) same in
-    asked-core g.F.Oracle.told c.args.state.now c.args.occurs.now c.args.queue.now c.take_equation.new.queue c.args.marks.now c.requires.run c.args.id c.args.core.now c.requires.there c.requires.running c.requires.first
+    asked-core g.F.Oracle.told c.args.state.now c.args.occurs.now c.args.queue.now c.take_equation.new.queue c.args.marks.now c.requires.saturation c.args.id c.args.core.now c.requires.there c.requires.running c.requires.first
     c.in-Some.found.equation tells (g.F.Oracle.told_is_instance c.args.core.now c.in-Some.found.equation tells) c.take_equation.ensures.woken c.take_equation.new.state c.take_equation.ensures.equated stepped
     c.args.ledger.now.items c.take_equation.new.ledger.items line
 
@@ -106,7 +106,7 @@ returns-in_ok-reserve-in-Some-clause-adds g c =
     subst (λ (i : ℕ). step c.args.state.now (Equate i c.in-Some.found.equation) ≡ Ok c.take_equation.new.state) same c.take_equation.ensures.step in
     let line : c.take_equation.new.ledger.items ≡ c.args.ledger.now.items ++ Equate c.args.id c.in-Some.found.equation ∷ [] =
     c.take_equation.ensures.ledger ∙ ap (λ (l : List Line). l ++ Equate c.from.result c.in-Some.found.equation ∷ []) c.in_ok-reserve-in-Some.ensures.items ∙ ap (λ (i : ℕ). c.args.ledger.now.items ++ Equate i c.in-Some.found.equation ∷ []) same in
-    asked-adds g.F.Oracle.told c.args.state.now c.args.occurs.now c.args.queue.now c.take_equation.new.queue c.args.marks.now c.requires.run c.args.id c.args.core.now c.requires.there c.requires.running c.requires.first
+    asked-adds g.F.Oracle.told c.args.state.now c.args.occurs.now c.args.queue.now c.take_equation.new.queue c.args.marks.now c.requires.saturation c.args.id c.args.core.now c.requires.there c.requires.running c.requires.first
     c.in-Some.found.equation tells (g.F.Oracle.told_is_instance c.args.core.now c.in-Some.found.equation tells) c.take_equation.ensures.woken c.take_equation.new.state c.take_equation.ensures.equated stepped
     c.args.ledger.now.items c.take_equation.new.ledger.items line
     c.take_run.new.state c.take_run.new.ledger.items c.take_run.new.queue c.take_run.ensures
@@ -119,7 +119,7 @@ returns-in_ok-reserve-in-Some-clause-counted g c =
     subst (λ (i : ℕ). step c.args.state.now (Equate i c.in-Some.found.equation) ≡ Ok c.take_equation.new.state) same c.take_equation.ensures.step in
     let line : c.take_equation.new.ledger.items ≡ c.args.ledger.now.items ++ Equate c.args.id c.in-Some.found.equation ∷ [] =
     c.take_equation.ensures.ledger ∙ ap (λ (l : List Line). l ++ Equate c.from.result c.in-Some.found.equation ∷ []) c.in_ok-reserve-in-Some.ensures.items ∙ ap (λ (i : ℕ). c.args.ledger.now.items ++ Equate i c.in-Some.found.equation ∷ []) same in
-    asked-counted g.F.Oracle.told c.args.state.now c.args.occurs.now c.args.queue.now c.take_equation.new.queue c.args.marks.now c.requires.run c.args.id c.args.core.now c.requires.there c.requires.running c.requires.first
+    asked-counted g.F.Oracle.told c.args.state.now c.args.occurs.now c.args.queue.now c.take_equation.new.queue c.args.marks.now c.requires.saturation c.args.id c.args.core.now c.requires.there c.requires.running c.requires.first
     c.in-Some.found.equation tells (g.F.Oracle.told_is_instance c.args.core.now c.in-Some.found.equation tells) c.take_equation.ensures.woken c.take_equation.new.state c.take_equation.ensures.equated stepped
     c.args.ledger.now.items c.take_equation.new.ledger.items line
     c.take_run.new.state c.take_run.new.ledger.items c.take_run.new.queue c.take_run.ensures c.args.steps.now c.ask.new.steps c.in_ok-found.ensures.most
@@ -132,7 +132,7 @@ returns-in_ok-reserve-in-Some-clause-less g c =
     subst (λ (i : ℕ). step c.args.state.now (Equate i c.in-Some.found.equation) ≡ Ok c.take_equation.new.state) same c.take_equation.ensures.step in
     let line : c.take_equation.new.ledger.items ≡ c.args.ledger.now.items ++ Equate c.args.id c.in-Some.found.equation ∷ [] =
     c.take_equation.ensures.ledger ∙ ap (λ (l : List Line). l ++ Equate c.from.result c.in-Some.found.equation ∷ []) c.in_ok-reserve-in-Some.ensures.items ∙ ap (λ (i : ℕ). c.args.ledger.now.items ++ Equate i c.in-Some.found.equation ∷ []) same in
-    asked-less g.F.Oracle.told c.args.state.now c.args.occurs.now c.args.queue.now c.take_equation.new.queue c.args.marks.now c.requires.run c.args.id c.args.core.now c.requires.there c.requires.running c.requires.first
+    asked-less g.F.Oracle.told c.args.state.now c.args.occurs.now c.args.queue.now c.take_equation.new.queue c.args.marks.now c.requires.saturation c.args.id c.args.core.now c.requires.there c.requires.running c.requires.first
     c.in-Some.found.equation tells (g.F.Oracle.told_is_instance c.args.core.now c.in-Some.found.equation tells) c.take_equation.ensures.woken c.take_equation.new.state c.take_equation.ensures.equated stepped
     c.args.ledger.now.items c.take_equation.new.ledger.items line
     c.take_run.new.state c.take_run.new.ledger.items c.take_run.new.queue c.take_run.ensures

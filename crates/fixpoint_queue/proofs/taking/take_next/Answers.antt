@@ -21,8 +21,8 @@ take_equation-requires-clause-instance g c =
 
 pub take_equation-requires-clause-places : goal.take_equation-requires-clause-places
 take_equation-requires-clause-places g c = λ v id low o.
-    let has = (c.requires.run.listed.there v id low).0 o in
-    omega (arith, (there-bounds c.args.state.now.cores id has.0 has.1).1, c.requires.run.places)
+    let has = (c.requires.saturation.listed.there v id low).0 o in
+    omega (arith, (there-bounds c.args.state.now.cores id has.0 has.1).1, c.requires.saturation.places)
 
 pub returns-then-ne-clause-taken : goal.returns-then-ne-clause-taken
 returns-then-ne-clause-taken g c =
@@ -35,7 +35,7 @@ returns-then-ne-clause-taken g c =
     (λ (i : ℕ). HasTaken g.F.Oracle.told c.args.occurs.now c.args.marks.now i c.args.core.now k c.args.ledger.now.items c.args.queue.now
     c.take_equation.new.state c.take_equation.new.ledger.items c.take_equation.new.queue)
     c.from.ensures
-    (taken-one g.F.Oracle.told c.args.occurs.now c.args.marks.now c.from.result c.args.core.now k c.args.queue.now c.take_equation.new.queue c.requires.run c.requires.core
+    (taken-one g.F.Oracle.told c.args.occurs.now c.args.marks.now c.from.result c.args.core.now k c.args.queue.now c.take_equation.new.queue c.requires.saturation c.requires.core
     (ap (trimmed_at k) c.from.ensures ∙ c.requires.there) c.requires.running (subst (λ (i : ℕ). 1 ≤ times i c.args.queue.now.queued) (sym c.from.ensures) c.requires.queued)
     c.resolved-e.result tells (g.F.Oracle.told_is_instance core c.resolved-e.result tells) c.take_equation.ensures.woken c.take_equation.new.state c.take_equation.ensures.equated
     c.take_equation.ensures.step c.args.ledger.now.items c.take_equation.new.ledger.items c.take_equation.ensures.ledger)
@@ -46,4 +46,4 @@ returns-then-ne-clause-made g c =
     let apart = not-made k.view c.args.e.now c.resolved-e.result c.ne.result c.ne.ensures c.if-ne.true c.resolved-e.ensures in
     let is : c.take_equation.new.state ≡ equated k (resolved_equation k.view c.args.e.now) = c.take_equation.ensures.equated ∙ ap (equated k) c.resolved-e.ensures in
     subst (λ (n : Kernel). (n.bottom ≡ true) ⊎ IsMade n.view c.args.e.now) (sym is)
-    (made-equated k c.requires.run.kernel c.args.e.now c.requires.first c.requires.second apart)
+    (made-equated k c.requires.saturation.kernel c.args.e.now c.requires.first c.requires.second apart)

@@ -7,7 +7,7 @@ use Rattle.fixpoint_queue.proofs.taking.take_run.Goals as goal
 
 pub loop-e-init : goal.loop-e-init
 loop-e-init g c = record {
-  taken = taken-none g.F.Oracle.told c.args.occurs.now c.args.marks.now c.args.id c.args.core.now c.args.state.now c.args.ledger.now.items c.args.queue.now c.requires.run c.requires.queued c.requires.there;
+  taken = taken-none g.F.Oracle.told c.args.occurs.now c.args.marks.now c.args.id c.args.core.now c.args.state.now c.args.ledger.now.items c.args.queue.now c.requires.saturation c.requires.queued c.requires.there;
   turn = inr (made_equation, refl, c.requires.told);
   below = c.requires.below;
   room = omega (arith, c.requires.room);

@@ -6,7 +6,7 @@ use Rattle.index_ring.proofs.Times.{times-other}
 use Rattle.equation_store.specs.Class.{IsMember, IsWalk}
 use Rattle.equation_store.specs.Store.{class_walk}
 use Rattle.core_occurrences.specs.Lists.{Occurs}
-use Rattle.fixpoint_queue.specs.Walks.{rest_from}
+use Rattle.index_ring.specs.Lists.{rest_from}
 use Rattle.fixpoint_queue.proofs.Waking.{rest-first, rest-after, rest-none, walk-has, walk-once}
 use Rattle.fixpoint_queue.proofs.wake.wake.Goals as goal
 use Rattle.fixpoint_queue.proofs.wake.wake.Goals.{After-after-next}

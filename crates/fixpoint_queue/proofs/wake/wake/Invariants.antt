@@ -5,7 +5,7 @@ use Rattle.equation_store.specs.Class.{IsMember}
 use Rattle.equation_store.specs.Store.{class_walk}
 use Rattle.fixpoint_queue.specs.IdQueue.{IsIds}
 use Rattle.core_occurrences.specs.Lists.{Occurs}
-use Rattle.fixpoint_queue.specs.Walks.{rest_from}
+use Rattle.index_ring.specs.Lists.{rest_from}
 use Rattle.fixpoint_queue.proofs.wake.wake.Given as goal
 
 abbrev pub invariant-loop-next : goal.invariant-loop-next

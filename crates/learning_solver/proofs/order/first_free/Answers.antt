@@ -1,7 +1,7 @@
 use Rattle.std.proofs.Common.{◌≡◌, ◌≤◌, ℕ, List, [], ◌∷◌, length, Option, None, ap, subst, sym, ◌∙◌, arith}
 use Rattle.index_ring.specs.Lists.{list_of, times}
 use Rattle.literal_trail.specs.Trail.{entry_of}
-use Rattle.learning_solver.specs.Order.{rest_from}
+use Rattle.index_ring.specs.Lists.{rest_from}
 use Rattle.learning_solver.proofs.RingLaws.{free-there, stands-variable, behind-stands, left-there, still-ahead, rest-first, false-told}
 use Rattle.learning_solver.proofs.order.first_free.Goals as goal
 

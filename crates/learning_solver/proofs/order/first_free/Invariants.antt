@@ -1,7 +1,7 @@
 use Rattle.std.proofs.Common.{◌≡◌, ℕ, ◌≤◌, length, Some, None}
 use Rattle.index_ring.specs.Lists.{Stands, list_of, first_in, times}
 use Rattle.literal_trail.specs.Trail.{entry_of}
-use Rattle.learning_solver.specs.Order.{rest_from}
+use Rattle.index_ring.specs.Lists.{rest_from}
 use Rattle.learning_solver.proofs.order.first_free.Given as goal
 
 abbrev pub invariant-loop-at : goal.invariant-loop-at

@@ -3,7 +3,7 @@ use Rattle.std.proofs.lemmas.List.{append-nil, length-replicate}
 use Rattle.core_occurrences.specs.Lists.{OccurrenceLists, grown}
 use Rattle.fixpoint_queue.proofs.runner.Runner.with.Given
 use Rattle.fixpoint_queue.proofs.Started.{pending-start}
-use Rattle.fixpoint_queue.proofs.StartedRun.{none-stands, exactly-queued, run-started}
+use Rattle.fixpoint_queue.proofs.StartedSaturation.{none-stands, exactly-queued, saturation-started}
 use Rattle.fixpoint_queue.proofs.runner.Runner.with.Goals as goal
 
 pub enter_state-requires-clause-none : goal.enter_state-requires-clause-none
@@ -18,7 +18,7 @@ wide g c =
     ∙ ap (λ (o : OccurrenceLists). length o.lists) c.in_ok-occurs.ensures.lists ∙ length-replicate {A = List ℕ} c.vars.result []
 
 pub invariant_of-result : goal.invariant_of-result
-invariant_of-result g c = run-started g.F.Oracle.told c.args.state c.enter_state.new.occurs c.enter_state.new.queue c.in_ok-enter_state.ensures.pending c.grow-2.new.self c.ids-ids.result
+invariant_of-result g c = saturation-started g.F.Oracle.told c.args.state c.enter_state.new.occurs c.enter_state.new.queue c.in_ok-enter_state.ensures.pending c.grow-2.new.self c.ids-ids.result
     (c.in_ok-grow-2.ensures.marks ∙ ap (λ (l : List Bool). l ++ replicate c.ids-ids.result false) c.new-marks.ensures) c.ids-ids.ensures.ids c.ids-ids.ensures.kernel
     (omega (arith, c.vars.ensures.vars, c.in_ok-enter_state.ensures.lists, wide g c))
     (omega (arith, c.ids-ids.ensures.ids, c.in_ok-enter_state.ensures.ids, ap (λ (o : OccurrenceLists). o.ids) c.in_ok-grow.ensures.lists, ap (λ (o : OccurrenceLists). o.ids) c.in_ok-occurs.ensures.lists))

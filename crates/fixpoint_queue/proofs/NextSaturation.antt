@@ -18,7 +18,7 @@ use Rattle.step_kernel.proofs.Splits.{there-bounds}
 use Rattle.fixpoint_queue.specs.IdQueue.{Ids, IsIds}
 use Rattle.fixpoint_queue.specs.Listed.{IsListed}
 use Rattle.fixpoint_queue.specs.Marks.{mark_of}
-use Rattle.fixpoint_queue.specs.Waits.{IsRun, Waits, AreMarked}
+use Rattle.fixpoint_queue.specs.Waits.{IsSaturation, Waits, AreMarked}
 use Rattle.step_kernel.specs.Steps.{without as cleared}
 use Rattle.fixpoint_queue.specs.Standing.{Stand}
 use Rattle.fixpoint_queue.proofs.Stood.{core_at-past, core_at-gone, core_at-without, stand-removed}
@@ -46,10 +46,10 @@ pub record Marked (k new : Kernel) (gone : ℕ) (old marks : List Bool) : Type 0
   pub at : (id : ℕ) → (id ≡ gone → ⊥) → mark_of marks id ≡ mark_of old id
 
 module _ (told : Core → Equation → Type 0) (k new : Kernel) (gone : ℕ) (occurs next : OccurrenceLists) (old queue : Ids) (was marks : List Bool)
-    (run : IsRun told k occurs old was) (goes : Goes k new gone) (listed : IsListed new next) (queues : Queues k new gone old queue) (marked : Marked k new gone was marks)
+    (saturation : IsSaturation told k occurs old was) (goes : Goes k new gone) (listed : IsListed new next) (queues : Queues k new gone old queue) (marked : Marked k new gone was marks)
   where
     inside : (id : ℕ) → 1 ≤ times id old.queued → id ≤ length k.cores
-    inside id there = let p = run.pending id there in (there-bounds k.cores id p.0 p.1).1
+    inside id there = let p = saturation.pending id there in (there-bounds k.cores id p.0 p.1).1
 
     not-old : (id : ℕ) → (id ≡ gone → ⊥) → times id queue.queued ≡ 0 → times id old.queued ≡ 0
     not-old id other none =
@@ -77,12 +77,12 @@ module _ (told : Core → Equation → Type 0) (k new : Kernel) (gone : ℕ) (oc
         (λ (other : id ≡ gone → ⊥).
         ⊎_elim
         (λ (past : length k.cores < id). absurd (none-some core (sym (no-trimmed new id (none-there id past none)) ∙ is)))
-        (λ (within : id ≤ length k.cores). run.waits id (not-old id other none) core (sym (goes.trimmed id within other) ∙ is))
+        (λ (within : id ≤ length k.cores). saturation.waits id (not-old id other none) core (sym (goes.trimmed id within other) ∙ is))
         (cases_lt (length k.cores) id))
         (cases_eq id gone)
 
     marks-past : (id : ℕ) → length k.cores < id → mark_of was id ≡ false
-    marks-past id past = run.marked id (not-queued id past) ∙ ap is_compound_if (no-trimmed k id (core_at-past k.cores id past))
+    marks-past id past = saturation.marked id (not-queued id past) ∙ ap is_compound_if (no-trimmed k id (core_at-past k.cores id past))
 
     marked-new : AreMarked new queue.queued marks
     marked-new id none =
@@ -92,19 +92,19 @@ module _ (told : Core → Equation → Type 0) (k new : Kernel) (gone : ℕ) (oc
         marked.at id other
         ∙ ⊎_elim
         (λ (past : length k.cores < id). marks-past id past ∙ sym (ap is_compound_if (no-trimmed new id (none-there id past none))))
-        (λ (within : id ≤ length k.cores). run.marked id (not-old id other none) ∙ ap is_compound_if (sym (goes.trimmed id within other)))
+        (λ (within : id ≤ length k.cores). saturation.marked id (not-old id other none) ∙ ap is_compound_if (sym (goes.trimmed id within other)))
         (cases_lt (length k.cores) id))
         (cases_eq id gone)
 
     pending-new : (id : ℕ) → 1 ≤ times id queue.queued → (core : Core) × (core_at new.cores id ≡ Some core)
     pending-new id there =
         ⊎_elim
-        (λ (h : (id ≡ gone → ⊥) × (1 ≤ times id old.queued)). let p = run.pending id h.1 in (p.0, goes.at id (inside id h.1) h.0 ∙ p.1))
+        (λ (h : (id ≡ gone → ⊥) × (1 ≤ times id old.queued)). let p = saturation.pending id h.1 in (p.0, goes.at id (inside id h.1) h.0 ∙ p.1))
         (λ (h : (core : Core) × (core_at new.cores id ≡ Some core)). h)
         (queues.only id there)
 
-    pub run-next : IsRun told new next queue marks
-    run-next = record {
+    pub saturation-next : IsSaturation told new next queue marks
+    saturation-next = record {
       kernel = goes.kernel;
       listed = listed;
       places = queues.places;

@@ -1,4 +1,4 @@
--- The run of a state whose pending cores are all queued.
+-- A state whose pending cores are all queued, as it is at first.
 use Rattle.std.proofs.Common.{◌≡◌, ℕ, ◌-◌, ◌≤◌, ◌<◌, ◌==◌, Bool, true, false, List, [], length, get_or, take, replicate, refl, sym, ap, ◌∙◌, subst, arith, ⊎_elim, Option, Some, None}
 use Rattle.std.specs.Prelude.{Contains, option_map, if◌then◌else◌}
 use Rattle.std.proofs.lemmas.Option.{none-some}
@@ -14,7 +14,7 @@ use Rattle.step_kernel.specs.Least.{is_compound_if}
 use Rattle.fixpoint_queue.specs.IdQueue.{Ids}
 use Rattle.fixpoint_queue.specs.Marks.{mark_of}
 use Rattle.fixpoint_queue.specs.Standing.{Stand, ArePending}
-use Rattle.fixpoint_queue.specs.Waits.{IsRun, Waits}
+use Rattle.fixpoint_queue.specs.Waits.{IsSaturation, Waits}
 use Rattle.fixpoint_queue.proofs.PairLaws.{one_there}
 
 -- no core stands at variables that have just come
@@ -78,9 +78,9 @@ module _ (told : Core → Equation → Type 0) (k : Kernel) (occurs : Occurrence
   waiting : Waits told k queue.queued
   waiting id none core is = absurd (none-some core (sym (no-trimmed id none) ∙ is))
 
-  pub run-started : (marks : List Bool) (n : ℕ) → marks ≡ replicate n false → n ≡ length k.cores → IsKernel k
-      → length k.view ≤ length occurs.lists → length k.cores ≤ occurs.ids → length k.cores < queue.places → IsRun told k occurs queue marks
-  run-started marks n marks-are n-is kernel vars ids places = record {
+  pub saturation-started : (marks : List Bool) (n : ℕ) → marks ≡ replicate n false → n ≡ length k.cores → IsKernel k
+      → length k.view ≤ length occurs.lists → length k.cores ≤ occurs.ids → length k.cores < queue.places → IsSaturation told k occurs queue marks
+  saturation-started marks n marks-are n-is kernel vars ids places = record {
     kernel = kernel;
     listed = record {
       occurrences = h.occurrences;

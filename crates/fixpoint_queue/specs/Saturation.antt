@@ -3,7 +3,7 @@ use Rattle.std.specs.Prelude.{ℕ, List}
 use Rattle.ledger_text.specs.declared.line.Line.{Line}
 use Rattle.step_kernel.specs.Kernel.{Kernel}
 
-pub record Run : Type 0 where
+pub record Saturation : Type 0 where
   pub kernel : Kernel
   pub ledger : List Line
   pub queued : List ℕ

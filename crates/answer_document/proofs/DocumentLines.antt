@@ -20,11 +20,12 @@ use Rattle.ledger_text.specs.declared.line.Line.{Line}
 use Rattle.ledger_text.specs.Steps.{step_words, step_text}
 use Rattle.proof_check.specs.declared.line.ProofLine.{ProofLine}
 use Rattle.proof_check.specs.Lines.{line_words, line_bytes}
+use Rattle.name_map.specs.ValueLines.{declared_word, declared_line, declared_lines}
 use Rattle.answer_document.specs.declared.verdict.Verdict.{Verdict}
 use Rattle.answer_document.specs.declared.verdict.Verdict.TheVariants.{Satisfiable, Unsatisfiable, Optimum, Unknown}
 use Rattle.answer_document.specs.declared.document.Document.{Document}
 use Rattle.answer_document.specs.Verdicts.{bound_words, verdict_words, verdict_text, is_certified}
-use Rattle.answer_document.specs.DocumentText.{has_second, version_line, best_line, best_lines, value_word, value_line, value_lines, assignment_lines, second_lines, certificate_lines, certificate_of, document_lines}
+use Rattle.answer_document.specs.DocumentText.{has_second, version_line, best_line, best_lines, assignment_lines, second_lines, certificate_lines, certificate_of, document_lines}
 use Rattle.answer_document.specs.Valid.{stated, FitNumbers, FitValues, FitAssignment, AreReadableSteps, AreReadableLines, IsReadableSecond, IsReadableDocument}
 use Rattle.answer_document.specs.Told.{AreNames, FitsCount}
 use Rattle.answer_document.proofs.SpelledWords.{signed-word, bounds-words, verdict-are-words, step-are-words, line-are-words}
@@ -58,21 +59,22 @@ best-are-lines (Unknown n None) h = refl
 best-are-lines (Unknown n (Some b)) h = line-more (best_line b) [] (words-text (codes "best" ∷ bound_words b) (bounds-words b h.0 h.1)) refl
 
 -- the values
-value-is-line : (k : Kind) (z : ℤ) → FitsSigned w64 z → IsLine (value_word k z)
+value-is-line : (k : Kind) (z : ℤ) → FitsSigned w64 z → IsLine (declared_word k z)
 value-is-line kind.Bool z h = by (int_eq z (pos 0))
   where
     by : (b : Bool) → IsLine (if b then codes "false" else codes "true")
     by true = refl
     by false = refl
-value-is-line k z h = word_line (signed_decimal z) (signed-word z h)
+value-is-line (kind.Range low high) z h = word_line (signed_decimal z) (signed-word z h)
+value-is-line (kind.Listed values) z h = word_line (signed_decimal z) (signed-word z h)
 
-values-are-lines : (ds : List Decl) (zs : List ℤ) → AreNames ds → FitValues zs → AreLines (value_lines ds zs)
+values-are-lines : (ds : List Decl) (zs : List ℤ) → AreNames ds → FitValues zs → AreLines (declared_lines ds zs)
 values-are-lines [] zs names h = refl
 values-are-lines (d ∷ ds) [] names h = refl
 values-are-lines (d ∷ ds) (z ∷ zs) names h =
     let parts = and_parts (lacks 10 d.name) (list_all (lacks 10) (map (λ (d : Decl). d.name) ds)) names in
-    line-more (value_line d z) (value_lines ds zs)
-    (text-append d.name (codes " = " ++ value_word d.kind z) parts.0 (text-append (codes " = ") (value_word d.kind z) refl (value-is-line d.kind z h.0)))
+    line-more (declared_line d z) (declared_lines ds zs)
+    (text-append d.name (codes " = " ++ declared_word d.kind z) parts.0 (text-append (codes " = ") (declared_word d.kind z) refl (value-is-line d.kind z h.0)))
     (values-are-lines ds zs parts.1 h.1)
 
 assignment-are-lines : (ds : List Decl) (a : Option Assignment) → AreNames ds → FitAssignment a → AreLines (assignment_lines ds a)

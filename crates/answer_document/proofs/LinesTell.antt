@@ -3,15 +3,17 @@ use Rattle.std.proofs.Common.{◌≡◌, ◌⊎◌, ℕ, ◌+◌, ◌<◌, ◌�
 use Rattle.std.specs.Prelude.{FitsSigned, IfSome, if◌then◌else◌}
 use Rattle.std.specs.Int.{w64}
 use Rattle.std.specs.Int.Signed.{mag}
-use Rattle.std.specs.Ordering.{int_eq}
 use Rattle.std.specs.Fmt.{decimal, signed_decimal}
 use Rattle.std.proofs.lemmas.Int.{ints}
-use Rattle.std.proofs.lemmas.List.{append_cancel_left}
 use Rattle.bee_text.proofs.NumberLemmas.{decimal_injective_wide, signed_decimal_injective_wide}
 use Rattle.bee_text.proofs.GapLemmas.{join_words_injective}
 use Rattle.model_meaning.specs.declared.model.Decl.{Decl}
 use Rattle.model_meaning.specs.declared.model.Kind.{Kind}
 use Rattle.model_meaning.specs.declared.model.Kind.TheVariants as kind
+use Rattle.model_meaning.proofs.Wide.{abs_most, fits_wide}
+use Rattle.name_map.specs.Values.{is_boolean_kind}
+use Rattle.name_map.specs.ValueLines.{declared_line, declared_lines, IsTellable}
+use Rattle.name_map.proofs.LinesTell.{line_tells_number}
 use Rattle.core_forms.specs.declared.equation.Rule.{Rule}
 use Rattle.core_forms.specs.declared.equation.Rule.TheVariants.{Order, Form, Table}
 use Rattle.ledger_text.specs.declared.line.Line.{Line}
@@ -22,7 +24,7 @@ use Rattle.answer_document.specs.declared.verdict.Bounds.{Bounds}
 use Rattle.answer_document.specs.declared.verdict.Verdict.{Verdict}
 use Rattle.answer_document.specs.declared.verdict.Verdict.TheVariants.{Satisfiable, Unsatisfiable, Optimum, Unknown}
 use Rattle.answer_document.specs.Verdicts.{words_with, bound_words, verdict_words, verdict_text}
-use Rattle.answer_document.specs.DocumentText.{best_line, value_word, value_line, value_lines}
+use Rattle.answer_document.specs.DocumentText.{best_line}
 use Rattle.answer_document.specs.Valid.{stated, FitNumbers, FitValues, AreReadableSteps}
 use Rattle.answer_document.specs.Told.{FitsCount, IsValueOf, AreValues}
 use Rattle.answer_document.proofs.SpelledWords.{bounds-words, verdict-are-words, step-are-words}
@@ -91,31 +93,18 @@ verdict-tells (Unknown i v) Unsatisfiable p q m n e = other 75 83 (omega arith) 
 verdict-tells (Unknown i v) (Optimum c) p q m n e = other 79 85 (omega arith) (sym (ap (byte 0) e))
 
 -- values
-zero-word : (z : ℤ) → z ≡ pos 0 → value_word kind.Bool z ≡ codes "false"
-zero-word z e = ap (value_word kind.Bool) e
+tellable : (k : Kind) (z : ℤ) → IsValueOf k z → FitsSigned w64 z → IsTellable (is_boolean_kind k) (2 ^ 63) z
+tellable kind.Bool z p f = p
+tellable (kind.Range low high) z p f = (abs_most z f, fits_wide z f)
+tellable (kind.Listed values) z p f = (abs_most z f, fits_wide z f)
 
-one-word : (z : ℤ) → z ≡ pos 1 → value_word kind.Bool z ≡ codes "true"
-one-word z e = ap (value_word kind.Bool) e
-
-words-differ : codes "false" ≡ codes "true" → ⊥
-words-differ e = let first : 102 ≡ 116 = ap (λ w. get_or w 0 0) e in omega (arith, first)
-
-truth-tells : (y z : ℤ) → IsValueOf kind.Bool y → IsValueOf kind.Bool z → value_word kind.Bool y ≡ value_word kind.Bool z → y ≡ z
-truth-tells y z p q e = ⊎_elim (λ a. ⊎_elim (λ b. a ∙ sym b) (λ b. absurd (words-differ (sym (zero-word y a) ∙ e ∙ one-word z b))) q)
-    (λ a. ⊎_elim (λ b. absurd (words-differ (sym (zero-word z b) ∙ sym e ∙ one-word y a))) (λ b. a ∙ sym b) q) p
-
-value-tells : (k : Kind) (y z : ℤ) → IsValueOf k y → IsValueOf k z → FitsSigned w64 y → FitsSigned w64 z → value_word k y ≡ value_word k z → y ≡ z
-value-tells kind.Bool y z p q f g e = truth-tells y z p q e
-value-tells (kind.Range low high) y z p q f g e = signed-tells y z f g e
-value-tells (kind.Listed values) y z p q f g e = signed-tells y z f g e
-
-value-line-tells : (d : Decl) (y z : ℤ) → IsValueOf d.kind y → IsValueOf d.kind z → FitsSigned w64 y → FitsSigned w64 z → value_line d y ≡ value_line d z → y ≡ z
+value-line-tells : (d : Decl) (y z : ℤ) → IsValueOf d.kind y → IsValueOf d.kind z → FitsSigned w64 y → FitsSigned w64 z → declared_line d y ≡ declared_line d z → y ≡ z
 value-line-tells d y z p q f g e =
-    value-tells d.kind y z p q f g (ap (drop 3) (append_cancel_left d.name (codes " = " ++ value_word d.kind y) (codes " = " ++ value_word d.kind z) e))
+    line_tells_number d.name (is_boolean_kind d.kind) (2 ^ 63) y z (tellable d.kind y p f) (tellable d.kind z q g) e
 
 -- the lines of values tell them and what stands behind
 pub values-tell : (ds : List Decl) (ys zs : List ℤ) (xs ws : List (List ℕ)) → AreValues ds ys → AreValues ds zs → FitValues ys → FitValues zs
-    → value_lines ds ys ++ xs ≡ value_lines ds zs ++ ws → (ys ≡ zs) × (xs ≡ ws)
+    → declared_lines ds ys ++ xs ≡ declared_lines ds zs ++ ws → (ys ≡ zs) × (xs ≡ ws)
 values-tell [] [] [] xs ws p q f g e = (refl, e)
 values-tell [] [] (z ∷ zs) xs ws p q f g e = absurd q
 values-tell [] (y ∷ ys) zs xs ws p q f g e = absurd p

@@ -13,17 +13,14 @@
 --     end
 --
 -- NUMBER .. is one number for each objective. After SATISFIABLE the lines from `ledger` to those before `end` are left out.
-use Rattle.std.specs.Prelude.{ℕ, Bool, true, false, List, [], ◌∷◌, ◌++◌, codes, map, ℤ, pos, Option, Some, None, if◌then◌else◌}
-use Rattle.std.specs.Fmt.{signed_decimal}
-use Rattle.std.specs.Ordering.{int_eq}
+use Rattle.std.specs.Prelude.{ℕ, Bool, true, false, List, [], ◌∷◌, ◌++◌, codes, map, Option, Some, None, if◌then◌else◌}
 use Rattle.bee_text.specs.Lines.{join_lines}
 use Rattle.bee_text.specs.Words.{join_words}
-use Rattle.model_meaning.specs.declared.model.Kind.{Kind}
-use Rattle.model_meaning.specs.declared.model.Kind.TheVariants as kind
 use Rattle.model_meaning.specs.declared.model.Decl.{Decl}
 use Rattle.model_meaning.specs.declared.model.Goal.{Goal}
 use Rattle.model_meaning.specs.declared.model.Goal.TheVariants.{Satisfy, Minimize, Maximize}
 use Rattle.model_meaning.specs.declared.model.Assignment.{Assignment}
+use Rattle.name_map.specs.ValueLines.{declared_lines}
 use Rattle.ledger_text.specs.declared.line.Line.{Line}
 use Rattle.ledger_text.specs.Steps.{step_text}
 use Rattle.proof_check.specs.declared.line.ProofLine.{ProofLine}
@@ -59,23 +56,10 @@ best_lines (Optimum b) = []
 best_lines (Unknown n None) = []
 best_lines (Unknown n (Some b)) = best_line b ∷ []
 
--- the value of a name: `true` or `false` for a Boolean, and a number for an integer
-abbrev pub value_word : Kind → ℤ → List ℕ
-value_word kind.Bool z = if int_eq z (pos 0) then codes "false" else codes "true"
-value_word k z = signed_decimal z
-
-abbrev pub value_line : Decl → ℤ → List ℕ
-value_line d z = d.name ++ (codes " = " ++ value_word d.kind z)
-
-abbrev pub value_lines : List Decl → List ℤ → List (List ℕ)
-value_lines [] values = []
-value_lines (d ∷ ds) [] = []
-value_lines (d ∷ ds) (z ∷ zs) = value_line d z ∷ value_lines ds zs
-
 -- the lines of an assignment
 abbrev pub assignment_lines : List Decl → Option Assignment → List (List ℕ)
 assignment_lines decls None = []
-assignment_lines decls (Some a) = value_lines decls a.values
+assignment_lines decls (Some a) = declared_lines decls a.values
 
 -- the lines of a second derivation
 abbrev pub second_lines : Option (List ProofLine) → List (List ℕ)

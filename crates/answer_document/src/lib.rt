@@ -2,11 +2,13 @@
 //! what a valid one says is true.
 #![tactic(auto)]
 
+mod atom_clause;
 mod document;
 mod laws;
 mod verdict;
 mod write;
 
+pub use atom_clause::with_atom;
 pub use document::Document;
 pub use laws::{agreement_law, claim_law, text_law};
 pub use verdict::{Bounds, Verdict};

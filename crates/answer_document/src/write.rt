@@ -5,15 +5,17 @@ ghost use Rattle.bee_text.specs.Lines.{join_lines};
 ghost use Rattle.bee_text.specs.Words.{words_behind};
 ghost use Rattle.ledger_text.specs.Steps.{step_text};
 ghost use Rattle.proof_check.specs.Lines.{line_bytes};
+ghost use Rattle.name_map.specs.ValueLines.{declared_line, declared_lines};
 ghost use Rattle.answer_document.specs.Verdicts.{bound_words, verdict_text};
-ghost use Rattle.answer_document.specs.DocumentText.{version_line, best_lines, value_word, value_line, value_lines, assignment_lines, second_lines, certificate_lines, certificate_of, document_text};
+ghost use Rattle.answer_document.specs.DocumentText.{version_line, best_lines, assignment_lines, second_lines, certificate_lines, certificate_of, document_text};
 
 use crate::document::Document;
 use crate::verdict::{Bounds, Verdict};
 use bee_list::Sequence;
 use bee_text::{end_line, push_blank, push_bytes, push_number, push_signed};
 use ledger_text::{Line, push_step};
-use model_meaning::{Assignment, Decl, Goal, Kind};
+use model_meaning::{Assignment, Decl, Goal};
+use name_map::{is_boolean_kind, push_value_line};
 use proof_check::{ProofLine, push_line};
 use std::alloc::{AllocError, Global};
 
@@ -70,39 +72,22 @@ fn push_best(out: &mut Vec<u8>, verdict: Verdict) -> Result<(), AllocError>
     Ok(())
 }
 
-/// Writes the value of a name.
-fn push_value(out: &mut Vec<u8>, kind: &Kind, value: i64) -> Result<(), AllocError>
-    ensures { OnOk result (out.new.items ≡ out.old.items ++ value_word kind.now value) }
-{
-    match kind {
-        Kind::Bool => {
-            if value == 0 {
-                push_bytes(out, b"false")
-            } else {
-                push_bytes(out, b"true")
-            }
-        }
-        _ => push_signed(out, i128::from(value)),
-    }
-}
-
 /// Writes the line of a name, and its line feed.
-fn push_value_line(out: &mut Vec<u8>, decl: &Decl, value: i64) -> Result<(), AllocError>
-    ensures { OnOk result (out.new.items ≡ out.old.items ++ value_line decl.now value ++ 10 ∷ []) }
+fn push_declared(out: &mut Vec<u8>, decl: &Decl, value: i64) -> Result<(), AllocError>
+    ensures { OnOk result (out.new.items ≡ out.old.items ++ declared_line decl.now value ++ 10 ∷ []) }
 {
-    push_bytes(out, decl.name.as_bytes())?;
-    push_bytes(out, b" = ")?;
-    push_value(out, &decl.kind, value)?;
+    let is_boolean = is_boolean_kind(&decl.kind);
+    push_value_line(out, decl.name.as_bytes(), is_boolean, i128::from(value))?;
     end_line(out)
 }
 
 /// Writes the lines of the names.
 fn push_values(out: &mut Vec<u8>, decls: &[Decl], values: &[i64]) -> Result<(), AllocError>
     requires { length decls.now ≡ length values.now }
-    ensures { OnOk result (out.new.items ≡ out.old.items ++ join_lines (value_lines decls.now values.now)) }
+    ensures { OnOk result (out.new.items ≡ out.old.items ++ join_lines (declared_lines decls.now values.now)) }
 {
     for i in 0..decls.len() {
-        push_value_line(out, &decls[i], values[i])?;
+        push_declared(out, &decls[i], values[i])?;
     }
     Ok(())
 }

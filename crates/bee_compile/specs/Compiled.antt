@@ -1,10 +1,11 @@
 -- What a model is compiled to, and which assignments that gives.
-use Rattle.std.specs.Prelude.{◌≡◌, ◌↔◌, ℕ, ◌+◌, ◌*◌, ◌≤◌, ◌<◌, ◌^◌, List, length, ℤ}
+use Rattle.std.specs.Prelude.{◌≡◌, ◌↔◌, ℕ, ◌+◌, ◌*◌, ◌≤◌, ◌<◌, ◌^◌, true, List, length, ℤ}
 use Rattle.order_ints.specs.Truth.{Valuation}
 use Rattle.order_ints.specs.Satisfies.{Satisfies}
 use Rattle.order_ints.specs.Numbers.{numbers_of}
 use Rattle.core_forms.specs.declared.equation.Equation.{Equation}
 use Rattle.core_forms.specs.declared.form.Core.{Core}
+use Rattle.core_rules.specs.Instances.{is_instance_at}
 use Rattle.model_meaning.specs.declared.model.Model.{Model}
 use Rattle.model_meaning.specs.WellTyped.{WellTyped}
 use Rattle.model_meaning.specs.Limits.{InLimits}
@@ -21,6 +22,10 @@ use Rattle.state_compile.specs.Compilation.{IsCompilation}
 use Rattle.bee_compile.specs.declared.compiled.Compiled.{Compiled}
 use Rattle.name_map.specs.Trimmed.{trimmed_values}
 use Rattle.bee_compile.specs.Fits.{CompiledFits}
+
+-- each instance of each rule is told
+abbrev pub IsInstance : Core → Equation → Type 0
+IsInstance core e = is_instance_at core e ≡ true
 
 -- the state with which the compilation of a lowered model begins
 abbrev pub start_of : Lowered → Kernel

@@ -6,12 +6,9 @@ ghost use Rattle.check_mode.specs.CheckMode.{CheckMode};
 use crate::making::check_text;
 use bee_outside::{Shelf, Sink};
 use model_meaning::Model;
-use model_texts::{ModelFault, TextFault, held_model};
+use model_texts::{LONGEST_TEXT, ModelFault, TextFault, held_model};
 use std::alloc::{AllocError, Global};
 use text_modes::{End, Outcome, TwoTexts, run_two};
-
-/// The greatest number of bytes of a model's text.
-const LONGEST_TEXT: usize = 16_777_216;
 
 /// The text of a model is read first, and then that of an answer. Its fault is that of the model.
 struct Checking;

@@ -8,12 +8,12 @@ use Rattle.model_meaning.specs.declared.model.Decl.{Decl}
 use Rattle.model_meaning.specs.Solutions.{IsSolution}
 use Rattle.name_map.specs.Values.{values_of}
 use Rattle.bee_compile.specs.declared.compiled.Compiled.{Compiled}
-use Rattle.bee_compile.specs.Compiled.{IsCompiledWell}
+use Rattle.bee_compile.specs.Compiled.{IsInstance, IsCompiledWell}
 use Rattle.bee_compile.proofs.Compilation.{compilation}
 use Rattle.dimacs_out.specs.CompiledText.{IsWritable}
 use Rattle.dimacs_out.specs.TextSolutions.{StandsFor}
 use Rattle.dimacs_out.proofs.TextTells.{stands_for_exactly}
-use Rattle.compile_mode.specs.Compiled.{written_of, IsInstance, Compiles}
+use Rattle.compile_mode.specs.Compiled.{written_of, Compiles}
 use Rattle.model_texts.specs.ModelTexts.{longest_text}
 use Rattle.compile_mode.specs.Compiled.{IsHeadline}
 use Rattle.compile_mode.proofs.MapLines.{same_values, same_names, entries_below}

@@ -1,15 +1,12 @@
 -- The compiled text of the model that a text says.
-use Rattle.std.specs.Prelude.{◌≡◌, ◌↔◌, ℕ, ℤ, ◌≤◌, ◌<◌, ◌^◌, true, List, [], ◌∷◌, length}
+use Rattle.std.specs.Prelude.{◌≡◌, ◌↔◌, ℕ, ℤ, ◌≤◌, ◌<◌, ◌^◌, List, [], ◌∷◌, length}
 use Rattle.order_ints.specs.declared.order_int.MapValue.{MapValue}
-use Rattle.core_forms.specs.declared.equation.Equation.{Equation}
-use Rattle.core_forms.specs.declared.form.Core.{Core}
 use Rattle.model_meaning.specs.declared.model.Decl.{Decl}
 use Rattle.model_meaning.specs.declared.model.Model.{Model}
 use Rattle.model_weight.specs.Weight.{weight_of}
 use Rattle.model_lower.specs.Weighed.{most_weight}
-use Rattle.core_rules.specs.Instances.{is_instance_at}
 use Rattle.bee_compile.specs.declared.compiled.Compiled.{Compiled}
-use Rattle.bee_compile.specs.Compiled.{IsCompiled}
+use Rattle.bee_compile.specs.Compiled.{IsInstance, IsCompiled}
 use Rattle.name_map.specs.declared.entries.MapEntry.{MapEntry}
 use Rattle.dimacs_out.specs.declared.text.CnfText.{CnfText}
 use Rattle.dimacs_out.specs.CompiledText.{text_of}
@@ -28,10 +25,6 @@ entries_of (d ∷ decls) (v ∷ values) = record { name = d.name; value = v } �
 -- what is written of what a model is compiled to
 abbrev pub written_of : Compiled → CnfText
 written_of c = record { entries = entries_of c.decls c.map.entries; ledger = c.ledger; cnf = c.cnf }
-
--- each instance of each rule is told
-abbrev pub IsInstance : Core → Equation → Type 0
-IsInstance core e = is_instance_at core e ≡ true
 
 -- the compiled text of a model: of names as the last store has them, of a ledger that leads through a whole compilation from
 -- the lowered model to a last state, and of the CNF of that

@@ -6,10 +6,10 @@ ghost use Rattle.model_meaning.specs.Limits.{InLimits};
 ghost use Rattle.model_weight.specs.Weight.{weight_of};
 ghost use Rattle.model_lower.specs.Weighed.{most_weight};
 ghost use Rattle.model_lower.specs.Faults.{IsFaultOf};
-ghost use Rattle.bee_compile.specs.Compiled.{IsCompiled};
+ghost use Rattle.bee_compile.specs.Compiled.{IsInstance, IsCompiled};
 ghost use Rattle.bee_compile.specs.Fits.{CompiledFits};
 ghost use Rattle.dimacs_out.specs.CompiledText.{text_of};
-ghost use Rattle.compile_mode.specs.Compiled.{written_of, IsInstance, IsCompiledText, Compiles};
+ghost use Rattle.compile_mode.specs.Compiled.{written_of, IsCompiledText, Compiles};
 ghost use Rattle.model_texts.specs.ModelTexts.{IsCauseOf};
 ghost use Rattle.model_texts.specs.ModelTexts.{longest_text};
 

@@ -5,12 +5,9 @@ ghost use Rattle.compile_mode.specs.CompileMode.{CompileMode};
 
 use crate::making::compile_text;
 use bee_outside::{Shelf, Sink};
-use model_texts::{ModelFault, TextFault};
+use model_texts::{LONGEST_TEXT, ModelFault, TextFault};
 use std::alloc::{AllocError, Global};
 use text_modes::{End, Made, OneText, Outcome, run_one};
-
-/// The greatest number of bytes of a model's text.
-const LONGEST_TEXT: usize = 16_777_216;
 
 /// The text of a model is read, and its compiled text is written.
 struct Compiling;

@@ -5,32 +5,10 @@ ghost use Rattle.answer_document.specs.Valid.{atom_clauses};
 ghost use Rattle.learning_solver.specs.Log.{additions};
 ghost use Rattle.decode_minimize.specs.Settling.{adds_clause};
 
-use bee_list::Sequence;
-use order_ints::{Atom, Cnf, Lit};
+use answer_document::with_atom;
+use order_ints::{Atom, Cnf};
 use proof_check::ProofLine;
 use std::alloc::{AllocError, Global};
-
-/// Clauses, and behind them that of an atom.
-fn with_atom(
-    alloc: Global,
-    clauses: Sequence<Sequence<Lit>>,
-    atom: Atom,
-) -> Result<Sequence<Sequence<Lit>>, AllocError>
-    ensures { IfOk result (λ all. all ≡ clauses ++ atom_clauses atom) }
-{
-    let mut all = clauses.into_vec();
-    match atom {
-        Atom::True => Ok(Sequence::from_vec(all)),
-        Atom::False => {
-            all.push(Sequence::from_vec(Vec::new(alloc)))?;
-            Ok(Sequence::from_vec(all))
-        }
-        Atom::Of(literal) => {
-            all.push(Sequence::from_vec(vec![in alloc; literal]?))?;
-            Ok(Sequence::from_vec(all))
-        }
-    }
-}
 
 /// The CNF with the clause of an atom behind its own: none of True, and the empty one of False.
 pub fn settle(alloc: Global, cnf: Cnf, atom: Atom) -> Result<Cnf, AllocError>

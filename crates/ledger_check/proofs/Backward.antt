@@ -26,7 +26,7 @@ use Rattle.proof_check.specs.declared.fault.ProofFault.{ProofFault}
 use Rattle.proof_check.specs.Lines.{line_bytes}
 use Rattle.proof_check.specs.Lrat.{Proof, take_line, take_lines, behind}
 use Rattle.answer_document.specs.declared.verdict.Verdict.{Verdict}
-use Rattle.answer_document.specs.DocumentText.{value_word, value_line, value_lines}
+use Rattle.name_map.specs.ValueLines.{declared_word, declared_line, declared_lines}
 use Rattle.answer_document.specs.Valid.{FitValues, AreReadableSteps, AreReadableLines}
 use Rattle.line_texts.specs.LineByLine.{Lead}
 use Rattle.ledger_check.specs.declared.part.Part.{Part}
@@ -45,7 +45,7 @@ told_as k z = Number z
 
 record IsTold (k : Kind) (z : ℤ) : Type 0 where
   number : told_number k (told_as k z) ≡ Some z
-  word : value_word k z ≡ told_word (told_as k z)
+  word : declared_word k z ≡ told_word (told_as k z)
   form : IsToldValue (told_as k z)
 
 by-truth : (b : Bool) (z : ℤ) → int_eq z (pos 0) ≡ b → (z ≡ pos 0) ⊎ (z ≡ pos 1) → IsTold kind.Bool z
@@ -101,7 +101,7 @@ module _ (model : Model) where
     at_values values = standing part.Values v values k None None
 
     value-next : (front : List ℤ) (d : Decl) (z : ℤ) → slice_get model.decls (length front) ≡ Some d → length front < length model.decls
-        → IsTrue (is_member z (domain d.kind)) → FitsSigned w64 z → IsNext model (at_values front) (value_line d z) (at_values (front ++ z ∷ []))
+        → IsTrue (is_member z (domain d.kind)) → FitsSigned w64 z → IsNext model (at_values front) (declared_line d z) (at_values (front ++ z ∷ []))
     value-next front d z turn left member fits =
         let told = is-told d.kind z member fits in
         record {
@@ -112,7 +112,7 @@ module _ (model : Model) where
 
     -- the values of the names that are left
     pub values-lead : (before ds : List Decl) (front zs : List ℤ) → model.decls ≡ before ++ ds → length front ≡ length before → in_domains ds zs ≡ true → FitValues zs
-        → Lead (IsNext model) (at_values front) (value_lines ds zs) (at_values (front ++ zs))
+        → Lead (IsNext model) (at_values front) (declared_lines ds zs) (at_values (front ++ zs))
     values-lead before [] front [] all same inside fits = ap at_values (sym (append-nil front))
     values-lead before [] front (z ∷ zs) all same inside fits = absurd (false≢true inside)
     values-lead before (d ∷ ds) front [] all same inside fits = absurd (false≢true inside)
@@ -122,7 +122,7 @@ module _ (model : Model) where
         let left : length front < length model.decls = omega (arith, same, ap length all, length-append before (d ∷ ds)) in (
           at_values (front ++ z ∷ []),
           value-next front d z turn left both.0 fits.0,
-          subst (λ xs. Lead (IsNext model) (at_values (front ++ z ∷ [])) (value_lines ds zs) (at_values xs)) (append_assoc front (z ∷ []) zs)
+          subst (λ xs. Lead (IsNext model) (at_values (front ++ z ∷ [])) (declared_lines ds zs) (at_values xs)) (append_assoc front (z ∷ []) zs)
               (values-lead (before ++ d ∷ []) ds (front ++ z ∷ []) zs (all ∙ sym (append_assoc before (d ∷ []) ds)) (omega (arith, same, length-append front (z ∷ []), length-append before (d ∷ []))) both.1 fits.1),
         )
       where

@@ -18,7 +18,8 @@ use Rattle.answer_document.specs.declared.verdict.Verdict.{Verdict}
 use Rattle.answer_document.specs.declared.verdict.Verdict.TheVariants.{Satisfiable, Unsatisfiable, Optimum, Unknown}
 use Rattle.answer_document.specs.declared.document.Document.{Document}
 use Rattle.answer_document.specs.Verdicts.{verdict_text, is_certified, VerdictFits}
-use Rattle.answer_document.specs.DocumentText.{version_line, best_lines, value_lines, assignment_lines, certificate_lines, document_lines}
+use Rattle.answer_document.specs.DocumentText.{version_line, best_lines, assignment_lines, certificate_lines, document_lines}
+use Rattle.name_map.specs.ValueLines.{declared_lines}
 use Rattle.answer_document.specs.BoundAtoms.{first_bound, second_bound, settled}
 use Rattle.answer_document.specs.Valid.{stated, IsShown, first_shown, second_shown, second_cnf, atom_clauses, IsDerived, IsSecond, AreShown, AreAdded, IsCertified, AnswerHolds, numbers_given, FitNumbers, FitValues, FitAssignment}
 use Rattle.ledger_check.specs.declared.part.Part.TheVariants as part
@@ -26,7 +27,7 @@ use Rattle.ledger_check.specs.Items.{Standing, may_have_second, must_have_second
 use Rattle.ledger_check.specs.Tests.{is_shown, is_first_shown, is_second_shown, is_optimal, is_concluded, additions_in, is_refuted, settled_cnf, values_fault}
 use Rattle.ledger_check.specs.Fronts.{head_lines, ledger_lines, proof_lines, more_lines, answer_of, assignment_of, IsAnswered, AtValues, AtProof, AtSecond, AtEnd}
 use Rattle.ledger_check.proofs.Answers.{answered-alone}
-use Rattle.ledger_check.proofs.Heads.{value_lines-nil}
+use Rattle.ledger_check.proofs.Heads.{declared_lines-nil}
 use Rattle.ledger_check.proofs.Certificates.{one-more, shown-is, equal-count}
 
 -- The lines of a document.
@@ -45,10 +46,10 @@ fit-assignment (Optimum b) values h = h
 fit-assignment (Unknown n None) values h = tt
 fit-assignment (Unknown n (Some b)) values h = h
 
-none-lines : (decls : List Decl) (values : List ℤ) → values ≡ [] → value_lines decls values ≡ []
-none-lines decls values e = ap (value_lines decls) e ∙ value_lines-nil decls
+none-lines : (decls : List Decl) (values : List ℤ) → values ≡ [] → declared_lines decls values ≡ []
+none-lines decls values e = ap (declared_lines decls) e ∙ declared_lines-nil decls
 
-assignment-given : (decls : List Decl) (v : Verdict) (values : List ℤ) → (answer_of v values ≡ None → values ≡ []) → value_lines decls values ≡ assignment_lines decls (assignment_of v values)
+assignment-given : (decls : List Decl) (v : Verdict) (values : List ℤ) → (answer_of v values ≡ None → values ≡ []) → declared_lines decls values ≡ assignment_lines decls (assignment_of v values)
 assignment-given decls Satisfiable values h = refl
 assignment-given decls Unsatisfiable values h = none-lines decls values (h refl)
 assignment-given decls (Optimum b) values h = refl
@@ -60,7 +61,7 @@ head-document : (model : Model) (v : Verdict) (values : List ℤ) → (answer_of
     → head_lines model v values ++ rest ≡ version_line model.goal ∷ verdict_text v ∷ (best_lines v ++ (assignment_lines model.decls (assignment_of v values) ++ rest))
 head-document model v values h rest =
     ap (λ x. version_line model.goal ∷ verdict_text v ∷ x)
-    (append_assoc (best_lines v) (value_lines model.decls values) rest ∙ ap (λ x. best_lines v ++ (x ++ rest)) (assignment-given model.decls v values h))
+    (append_assoc (best_lines v) (declared_lines model.decls values) rest ∙ ap (λ x. best_lines v ++ (x ++ rest)) (assignment-given model.decls v values h))
 
 -- with a certificate
 certified-lines : (model : Model) (d : Document) → is_certified d.verdict ≡ true

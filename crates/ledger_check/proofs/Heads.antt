@@ -19,7 +19,8 @@ use Rattle.answer_document.specs.declared.verdict.Bounds.{Bounds}
 use Rattle.answer_document.specs.declared.verdict.Verdict.{Verdict}
 use Rattle.answer_document.specs.declared.verdict.Verdict.TheVariants.{Satisfiable, Unsatisfiable, Optimum, Unknown}
 use Rattle.answer_document.specs.Verdicts.{verdict_text, HaveSecond, BoundsFit, VerdictFits}
-use Rattle.answer_document.specs.DocumentText.{is_there, has_second, version_line, best_line, best_lines, value_word, value_line, value_lines}
+use Rattle.answer_document.specs.DocumentText.{is_there, has_second, version_line, best_line, best_lines}
+use Rattle.name_map.specs.ValueLines.{declared_word, declared_line, declared_lines}
 use Rattle.answer_document.specs.Valid.{start_of, stated, FitNumbers, FitValues}
 use Rattle.ledger_check.specs.declared.part.Part.{Part}
 use Rattle.ledger_check.specs.declared.part.Part.TheVariants as part
@@ -61,9 +62,9 @@ count-bounds n e = grind (arith)
 
 -- The values.
 
-pub value_lines-nil : (ds : List Decl) → value_lines ds [] ≡ []
-value_lines-nil [] = refl
-value_lines-nil (d ∷ ds) = refl
+pub declared_lines-nil : (ds : List Decl) → declared_lines ds [] ≡ []
+declared_lines-nil [] = refl
+declared_lines-nil (d ∷ ds) = refl
 
 -- a name is left, so there is one whose turn it is
 turn : (ds : List Decl) (values : List ℤ) → length values < length ds → (d : Decl) × (slice_get ds (length values) ≡ Some d)
@@ -72,17 +73,17 @@ turn [] (z ∷ zs) h = absurd (omega (arith, h))
 turn (d ∷ ds) [] h = (d, refl)
 turn (d ∷ ds) (z ∷ zs) h = turn ds zs (omega (arith, h))
 
-value_lines-more : (ds : List Decl) (values : List ℤ) (d : Decl) (z : ℤ) → AreMembers ds values → slice_get ds (length values) ≡ Some d → value_lines ds (values ++ z ∷ []) ≡ value_lines ds values ++ value_line d z ∷ []
-value_lines-more [] [] d z m e = absurd (none e)
+declared_lines-more : (ds : List Decl) (values : List ℤ) (d : Decl) (z : ℤ) → AreMembers ds values → slice_get ds (length values) ≡ Some d → declared_lines ds (values ++ z ∷ []) ≡ declared_lines ds values ++ declared_line d z ∷ []
+declared_lines-more [] [] d z m e = absurd (none e)
   where
     none : None ≡ Some d → ⊥
     none e = cc
-value_lines-more [] (y ∷ ys) d z m e = absurd m
-value_lines-more (c ∷ ds) [] d z m e = ap (λ x. value_line x z ∷ value_lines ds []) (same e) ∙ ap (λ l. value_line d z ∷ l) (value_lines-nil ds)
+declared_lines-more [] (y ∷ ys) d z m e = absurd m
+declared_lines-more (c ∷ ds) [] d z m e = ap (λ x. declared_line x z ∷ declared_lines ds []) (same e) ∙ ap (λ l. declared_line d z ∷ l) (declared_lines-nil ds)
   where
     same : Some c ≡ Some d → c ≡ d
     same e = cc
-value_lines-more (c ∷ ds) (y ∷ ys) d z m e = ap (λ l. value_line c y ∷ l) (value_lines-more ds ys d z m.1 e)
+declared_lines-more (c ∷ ds) (y ∷ ys) d z m e = ap (λ l. declared_line c y ∷ l) (declared_lines-more ds ys d z m.1 e)
 
 members-more : (ds : List Decl) (values : List ℤ) (d : Decl) (z : ℤ) → AreMembers ds values → slice_get ds (length values) ≡ Some d → IsTrue (is_member z (domain d.kind)) → AreMembers ds (values ++ z ∷ [])
 members-more [] [] d z m e h = absurd (none e)
@@ -107,7 +108,7 @@ unfolding domain
 told-truth true = refl
 told-truth false = refl
 
-truth-word : (b : Bool) → value_word kind.Bool (if b then pos 1 else pos 0) ≡ told_word (Truth b)
+truth-word : (b : Bool) → declared_word kind.Bool (if b then pos 1 else pos 0) ≡ told_word (Truth b)
 truth-word true = refl
 truth-word false = refl
 
@@ -125,10 +126,10 @@ member-told k y z e = by (is_member y (domain k)) refl e
     by false is f = absurd (none-some z f)
 
 -- what a value is told as is its word, and it is in the domain
-told-value : (k : Kind) (t : Told) (z : ℤ) → told_number k t ≡ Some z → IsToldValue t → IsTrue (is_member z (domain k)) × (value_word k z ≡ told_word t) × FitsSigned w64 z
+told-value : (k : Kind) (t : Told) (z : ℤ) → told_number k t ≡ Some z → IsToldValue t → IsTrue (is_member z (domain k)) × (declared_word k z ≡ told_word t) × FitsSigned w64 z
 told-value kind.Bool (Truth b) z e fits =
     let same = some-same (if b then pos 1 else pos 0) z e in
-    (subst (λ x. IsTrue (is_member x (domain kind.Bool))) same (told-truth b), subst (λ x. value_word kind.Bool x ≡ told_word (Truth b)) same (truth-word b), subst (FitsSigned w64) same (small b))
+    (subst (λ x. IsTrue (is_member x (domain kind.Bool))) same (told-truth b), subst (λ x. declared_word kind.Bool x ≡ told_word (Truth b)) same (truth-word b), subst (FitsSigned w64) same (small b))
   where
     small : (b : Bool) → FitsSigned w64 (if b then pos 1 else pos 0)
     small true = record { sfits = lit< tt }
@@ -139,7 +140,7 @@ told-value k (Number y) z e fits =
     let m = member-told k y z e in
     (m.0, ap signed_decimal (sym m.1), subst (FitsSigned w64) m.1 fits)
 
-told-line : (o : Option Decl) (d : Decl) (t : Told) (z : ℤ) → o ≡ Some d → told_of o t ≡ Some z → IsToldValue t → IsTrue (is_member z (domain d.kind)) × (told_line o t ≡ value_line d z) × FitsSigned w64 z
+told-line : (o : Option Decl) (d : Decl) (t : Told) (z : ℤ) → o ≡ Some d → told_of o t ≡ Some z → IsToldValue t → IsTrue (is_member z (domain d.kind)) × (told_line o t ≡ declared_line d z) × FitsSigned w64 z
 told-line None d t z o e fits = absurd (none o)
   where
     none : None ≡ Some d → ⊥
@@ -148,7 +149,7 @@ told-line (Some c) d t z o e fits =
     let same = decl c d o in
     let told = told-value c.kind t z e fits in (
       subst (λ (x : Decl). IsTrue (is_member z (domain x.kind))) same told.0,
-      ap (λ w. c.name ++ (codes " = " ++ w)) (sym told.1) ∙ ap (λ (x : Decl). value_line x z) same,
+      ap (λ w. c.name ++ (codes " = " ++ w)) (sym told.1) ∙ ap (λ (x : Decl). declared_line x z) same,
       told.2,
     )
   where
@@ -175,14 +176,14 @@ module _ (model : Model) (s : Standing) (lines : List (List ℕ)) (line : List �
     read = one-more lines [] line (version_line model.goal) at.read (is ∙ ap (λ b. if b then codes "bee 2" else codes "bee 1") (same-bools two (has_second model.goal) same));
   }
 
-  no-values : (values : List ℤ) → values ≡ [] → value_lines model.decls values ≡ []
-  no-values values e = ap (value_lines model.decls) e ∙ value_lines-nil model.decls
+  no-values : (values : List ℤ) → values ≡ [] → declared_lines model.decls values ≡ []
+  no-values values e = ap (declared_lines model.decls) e ∙ declared_lines-nil model.decls
 
   -- the lines up to a verdict, where no value was read and none stands before
   verdict-lines : AtVerdict model lines s → (v : Verdict) → line ≡ verdict_text v → best_lines v ≡ [] → all ≡ head_lines model v s.values
   verdict-lines at v is none =
       one-more lines (version_line model.goal ∷ []) line (verdict_text v) at.read is
-      ∙ ap (λ l. version_line model.goal ∷ verdict_text v ∷ l) (sym (ap (λ l. l ++ value_lines model.decls s.values) none ∙ no-values s.values at.values))
+      ∙ ap (λ l. version_line model.goal ∷ verdict_text v ∷ l) (sym (ap (λ l. l ++ declared_lines model.decls s.values) none ∙ no-values s.values at.values))
 
   no-members : (values : List ℤ) → values ≡ [] → AreMembers model.decls values × FitValues values
   no-members values e = subst (λ vs. AreMembers model.decls vs × FitValues vs) (sym e) (tt, tt)
@@ -245,9 +246,9 @@ module _ (model : Model) (s : Standing) (lines : List (List ℕ)) (line : List �
       before : (at : AtBest model lines s) → lines ≡ version_line model.goal ∷ verdict_text (Unknown at.count None) ∷ []
       before at = at.read ∙ ap (λ v. head_lines model v s.values) at.verdict ∙ ap (λ l. version_line model.goal ∷ verdict_text (Unknown at.count None) ∷ l) (no-values s.values at.values)
 
-  head-more : (v : Verdict) (values : List ℤ) (l : List ℕ) (vs : List ℤ) → value_lines model.decls vs ≡ value_lines model.decls values ++ l ∷ [] → head_lines model v values ++ l ∷ [] ≡ head_lines model v vs
+  head-more : (v : Verdict) (values : List ℤ) (l : List ℕ) (vs : List ℤ) → declared_lines model.decls vs ≡ declared_lines model.decls values ++ l ∷ [] → head_lines model v values ++ l ∷ [] ≡ head_lines model v vs
   head-more v values l vs e =
-      ap (λ x. version_line model.goal ∷ verdict_text v ∷ x) (append_assoc (best_lines v) (value_lines model.decls values) (l ∷ []) ∙ ap (λ x. best_lines v ++ x) (sym e))
+      ap (λ x. version_line model.goal ∷ verdict_text v ∷ x) (append_assoc (best_lines v) (declared_lines model.decls values) (l ∷ []) ∙ ap (λ x. best_lines v ++ x) (sym e))
 
   pub value-read : AtValues model lines s → (t : Told) (z : ℤ) → IsNameLeft model s.values → IsToldValue t → line ≡ told_line (slice_get model.decls (length s.values)) t
       → told_of (slice_get model.decls (length s.values)) t ≡ Some z → AtValues model all (record s { values = s.values ++ z ∷ [] })
@@ -260,6 +261,6 @@ module _ (model : Model) (s : Standing) (lines : List (List ℕ)) (line : List �
         fitting = record { fits = at.fitting.fits; numbers = at.fitting.numbers };
         members = members-more model.decls s.values next.0 z at.members next.1 value.0;
         values = values-more s.values z at.values value.2;
-        read = one-more lines (head_lines model s.verdict s.values) line (value_line next.0 z) at.read (is ∙ value.1)
-            ∙ head-more s.verdict s.values (value_line next.0 z) (s.values ++ z ∷ []) (value_lines-more model.decls s.values next.0 z at.members next.1);
+        read = one-more lines (head_lines model s.verdict s.values) line (declared_line next.0 z) at.read (is ∙ value.1)
+            ∙ head-more s.verdict s.values (declared_line next.0 z) (s.values ++ z ∷ []) (declared_lines-more model.decls s.values next.0 z at.members next.1);
       }

@@ -31,7 +31,8 @@ use Rattle.answer_document.specs.declared.verdict.Verdict.{Verdict}
 use Rattle.answer_document.specs.declared.verdict.Verdict.TheVariants.{Satisfiable, Unsatisfiable, Optimum, Unknown}
 use Rattle.answer_document.specs.declared.document.Document.{Document}
 use Rattle.answer_document.specs.Verdicts.{numbers_in, verdict_text, is_certified, HaveSecond, BoundsFit, VerdictFits}
-use Rattle.answer_document.specs.DocumentText.{is_there, has_second, version_line, best_line, best_lines, value_lines, assignment_lines, second_lines, certificate_lines, document_lines}
+use Rattle.answer_document.specs.DocumentText.{is_there, has_second, version_line, best_line, best_lines, assignment_lines, second_lines, certificate_lines, document_lines}
+use Rattle.name_map.specs.ValueLines.{declared_lines}
 use Rattle.answer_document.specs.Claims.{IsSolutionAt}
 use Rattle.answer_document.specs.Valid.{start_of, stated, IsShown, IsDerived, IsSecond, AreShown, AreAdded, AreAddedAlone, IsCertified, IsReadableDocument, IsReadableSecond, AnswerHolds, numbers_given, FitNumbers, FitValues, FitAssignment, IsValid}
 use Rattle.line_texts.specs.LineByLine.{Lead, IsWhole}
@@ -266,16 +267,16 @@ module _ (model : Model) where
 
   -- the values, and what stands behind them
   values-end : (v : Verdict) (values : List ℤ) (lines : List (List ℕ)) → in_domains model.decls values ≡ true → FitValues values → EndsFrom (fresh part.Values v values) lines v
-      → EndsFrom (fresh part.Values v []) (value_lines model.decls values ++ lines) v
+      → EndsFrom (fresh part.Values v []) (declared_lines model.decls values ++ lines) v
   values-end v values lines inside fits e =
-      behind-lines (fresh part.Values v []) (fresh part.Values v values) (value_lines model.decls values) lines v
+      behind-lines (fresh part.Values v []) (fresh part.Values v values) (declared_lines model.decls values) lines v
       (values-lead model v (start_of model) [] model.decls [] values refl refl inside fits) e
 
   -- The lines of a document with a verdict and an assignment.
 
   abbrev given_lines : Option (List ℤ) → List (List ℕ)
   given_lines None = []
-  given_lines (Some values) = value_lines model.decls values
+  given_lines (Some values) = declared_lines model.decls values
 
   given-lines : (a : Option Assignment) → assignment_lines model.decls a ≡ given_lines (numbers_given a)
   given-lines None = refl

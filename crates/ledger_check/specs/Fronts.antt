@@ -18,7 +18,8 @@ use Rattle.answer_document.specs.declared.verdict.Verdict.{Verdict}
 use Rattle.answer_document.specs.declared.verdict.Verdict.TheVariants.{Satisfiable, Unsatisfiable, Optimum, Unknown}
 use Rattle.answer_document.specs.declared.document.Document.{Document}
 use Rattle.answer_document.specs.Verdicts.{verdict_text, is_certified, VerdictFits}
-use Rattle.answer_document.specs.DocumentText.{version_line, best_lines, value_lines, document_lines}
+use Rattle.answer_document.specs.DocumentText.{version_line, best_lines, document_lines}
+use Rattle.name_map.specs.ValueLines.{declared_lines}
 use Rattle.answer_document.specs.Valid.{start_of, stated, FitNumbers, FitValues, AreReadableSteps, AreReadableLines, IsReadableDocument, AnswerHolds, IsCertified, numbers_given}
 use Rattle.ledger_check.specs.declared.part.Part.{Part}
 use Rattle.ledger_check.specs.declared.part.Part.TheVariants as part
@@ -27,7 +28,7 @@ use Rattle.ledger_check.specs.Tests.{is_first_shown, settled_cnf}
 
 -- the lines up to the last value
 abbrev pub head_lines : Model → Verdict → List ℤ → List (List ℕ)
-head_lines model v values = version_line model.goal ∷ verdict_text v ∷ (best_lines v ++ value_lines model.decls values)
+head_lines model v values = version_line model.goal ∷ verdict_text v ∷ (best_lines v ++ declared_lines model.decls values)
 
 -- the lines of the derivations, each behind the line that begins it
 abbrev pub ledger_lines : List Line → List (List ℕ)

@@ -10,10 +10,9 @@ ghost use Rattle.answer_document.specs.BoundAtoms.{integer_named, at_least, at_m
 ghost use Rattle.answer_document.specs.Valid.{atom_clauses, stated};
 ghost use Rattle.ledger_check.specs.Tests.{is_shown};
 
-use answer_document::{Bounds, Verdict};
-use bee_list::Sequence;
+use answer_document::{Bounds, Verdict, with_atom};
 use model_meaning::Goal;
-use order_ints::{Atom, Cnf, Lit, MapValue};
+use order_ints::{Atom, Cnf, MapValue};
 use proof_check::Checker;
 use std::alloc::{AllocError, Global};
 use step_kernel::State;
@@ -133,28 +132,6 @@ pub(crate) fn checker_of(alloc: Global, state: &State) -> Result<Checker, AllocE
     let _vars = state.vars();
     let cnf = state.cnf()?;
     Checker::with(alloc, &cnf)
-}
-
-/// Clauses, and behind them that of an atom.
-fn with_atom(
-    alloc: Global,
-    clauses: Sequence<Sequence<Lit>>,
-    atom: Atom,
-) -> Result<Sequence<Sequence<Lit>>, AllocError>
-    ensures { IfOk result (λ all. all ≡ clauses ++ atom_clauses atom) }
-{
-    let mut all = clauses.into_vec();
-    match atom {
-        Atom::True => Ok(Sequence::from_vec(all)),
-        Atom::False => {
-            all.push(Sequence::from_vec(Vec::new(alloc)))?;
-            Ok(Sequence::from_vec(all))
-        }
-        Atom::Of(literal) => {
-            all.push(Sequence::from_vec(vec![in alloc; literal]?))?;
-            Ok(Sequence::from_vec(all))
-        }
-    }
 }
 
 /// The checker of derivations from the CNF of a state and the clause of an atom behind it.

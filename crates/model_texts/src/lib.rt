@@ -7,4 +7,4 @@ mod model_text;
 
 pub use fault::ModelFault;
 pub use held_models::{held_model, lower_fault};
-pub use model_text::{TextFault, model_of};
+pub use model_text::{LONGEST_TEXT, TextFault, model_of};

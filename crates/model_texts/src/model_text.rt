@@ -11,6 +11,9 @@ use bumblebee_reader::{Item, Items, ReadFault};
 use std::alloc::Global;
 use typed_model::{Model, TypeFault, Typing};
 
+/// The greatest number of bytes of a model's text.
+pub const LONGEST_TEXT: usize = 16_777_216;
+
 /// Why nothing comes of a text.
 #[derive(Debug, Drop)]
 pub enum TextFault {

@@ -1,9 +1,7 @@
 -- The answer to the model that a text says.
-use Rattle.std.specs.Prelude.{◌≡◌, ℕ, ◌≤◌, true, List, length, Option}
-use Rattle.core_forms.specs.declared.equation.Equation.{Equation}
-use Rattle.core_forms.specs.declared.form.Core.{Core}
-use Rattle.core_rules.specs.Instances.{is_instance_at}
+use Rattle.std.specs.Prelude.{◌≡◌, ℕ, ◌≤◌, List, length, Option}
 use Rattle.model_meaning.specs.declared.model.Model.{Model}
+use Rattle.bee_compile.specs.Compiled.{IsInstance}
 use Rattle.model_texts.specs.HeldModels.{HoldsModel}
 use Rattle.answer_document.specs.declared.verdict.Verdict.{Verdict}
 use Rattle.answer_document.specs.declared.verdict.Verdict.TheVariants as verdict
@@ -15,10 +13,6 @@ use Rattle.decode_minimize.specs.declared.options.Options.{Options}
 use Rattle.decode_minimize.specs.Answers.{IsAnswer}
 use Rattle.text_modes.specs.declared.ends.Outcome.{Outcome}
 use Rattle.text_modes.specs.declared.ends.Outcome.TheVariants.{Done, Unknown}
-
--- each instance of each rule is told
-abbrev pub IsInstance : Core → Equation → Type 0
-IsInstance core e = is_instance_at core e ≡ true
 
 -- what a verdict says of the run: a search that was given up tells its budget
 abbrev pub outcome_of : Verdict → Outcome

@@ -8,7 +8,8 @@ ghost use Rattle.model_lower.specs.Weighed.{most_weight};
 ghost use Rattle.model_lower.specs.Faults.{IsFaultOf};
 ghost use Rattle.model_texts.specs.ModelTexts.{longest_text, IsCauseOf};
 ghost use Rattle.decode_minimize.specs.Answers.{IsBudget, IsAnswer};
-ghost use Rattle.solve_mode.specs.Solved.{outcome_of, IsInstance, IsAnswerText, Answers};
+ghost use Rattle.bee_compile.specs.Compiled.{IsInstance};
+ghost use Rattle.solve_mode.specs.Solved.{outcome_of, IsAnswerText, Answers};
 
 use answer_document::{Verdict, write_document};
 use decode_minimize::{AnsweredModel, Options, answer_owned};

@@ -7,13 +7,10 @@ ghost use Rattle.solve_mode.specs.SolveMode.{SolveMode};
 use crate::making::solve_text;
 use bee_outside::{Shelf, Sink};
 use decode_minimize::Options;
-use model_texts::{ModelFault, TextFault};
+use model_texts::{LONGEST_TEXT, ModelFault, TextFault};
 use std::alloc::{AllocError, Global};
 use std::marker::Model;
 use text_modes::{End, Made, OneText, run_one};
-
-/// The greatest number of bytes of a model's text.
-const LONGEST_TEXT: usize = 16_777_216;
 
 /// The text of a model is read, and that of its answer is written.
 #[derive(Drop)]

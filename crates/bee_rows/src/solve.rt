@@ -131,8 +131,14 @@ static BUDGETS: [(&[&str], &str, u128, &str); 4] = [
 const PAIRS: &str =
     "new_bool(a) new_bool(b) bool_array_or([a,b]) bool_array_or([a,-b]) bool_array_or([-a,b]) bool_array_or([-a,-b]) solve satisfy";
 
+/// An objective that equations fix at its least value.
+const LEAST: &str = "new_int(x,0,2) int_neq(x,0) solve minimize x";
+
+/// Two objectives, of which the first fixes the second.
+const TWO: &str = "new_int(x,0,2) new_int(y,0,2) int_plus(x,y,2) solve minimize x then y";
+
 /// A model, a document, the status of its check, and its number.
-static DOCUMENTS: [(&str, &str, &str, u128); 8] = [
+static DOCUMENTS: [(&str, &str, &str, u128); 19] = [
     (
         PAIRS,
         "bee 1\nUNSATISFIABLE\nledger\nenc 1\nenc 2\nenc 3\nenc 4\nproof\n5 1 0 1 2 0\n6 0 5 3 4 0\nend\n",
@@ -151,6 +157,25 @@ static DOCUMENTS: [(&str, &str, &str, u128); 8] = [
         "refused",
         11,
     ),
+    // A hint too few, a step that is none, a clause left out.
+    (
+        PAIRS,
+        "bee 1\nUNSATISFIABLE\nledger\nenc 1\nenc 2\nenc 3\nenc 4\nproof\n5 1 0 1 2 0\n6 0 5 3 0\nend\n",
+        "refused",
+        10,
+    ),
+    (
+        PAIRS,
+        "bee 1\nUNSATISFIABLE\nledger\nenc 9\nenc 2\nenc 3\nenc 4\nproof\n5 1 0 1 2 0\n6 0 5 3 4 0\nend\n",
+        "refused",
+        4,
+    ),
+    (
+        PAIRS,
+        "bee 1\nUNSATISFIABLE\nledger\nenc 1\nenc 2\nenc 3\nenc 4\nproof\n5 1 0 1 2 0\nend\n",
+        "refused",
+        10,
+    ),
     (PAIRS, "", "refused", 1),
     (
         "bool_array_or([]) solve satisfy",
@@ -158,11 +183,61 @@ static DOCUMENTS: [(&str, &str, &str, u128); 8] = [
         "refused",
         4,
     ),
+    // An optimum, without what shows it, with another number, and with a value that breaks a statement.
     (
-        "new_int(x,0,2) int_neq(x,0) solve minimize x",
+        LEAST,
+        "bee 1\nOPTIMUM 1\nx = 1\nledger\neq 2 form T 1\nproof\nend\n",
+        "done",
+        0,
+    ),
+    (
+        LEAST,
+        "bee 1\nOPTIMUM 1\nx = 1\nledger\nproof\nend\n",
+        "refused",
+        6,
+    ),
+    (
+        LEAST,
+        "bee 1\nOPTIMUM 2\nx = 1\nledger\neq 2 form T 1\nproof\nend\n",
+        "refused",
+        4,
+    ),
+    (
+        LEAST,
+        "bee 1\nOPTIMUM 1\nx = 0\nledger\neq 2 form T 1\nproof\nend\n",
+        "refused",
+        4,
+    ),
+    (
+        LEAST,
         "bee 1\nOPTIMUM 2\nx = 2\nledger\neq 2 form T 1\nproof\nend\n",
         "refused",
         7,
+    ),
+    // Two objectives, without the second derivation, without the step, and in the form of one objective.
+    (
+        TWO,
+        "bee 2\nOPTIMUM 0 2\nx = 0\ny = 2\nledger\neq 3 form 1 -4\nproof\nsecond\nend\n",
+        "done",
+        0,
+    ),
+    (
+        TWO,
+        "bee 2\nOPTIMUM 0 2\nx = 0\ny = 2\nledger\neq 3 form 1 -4\nproof\nend\n",
+        "refused",
+        8,
+    ),
+    (
+        TWO,
+        "bee 2\nOPTIMUM 0 2\nx = 0\ny = 2\nledger\nproof\nsecond\nend\n",
+        "refused",
+        8,
+    ),
+    (
+        TWO,
+        "bee 1\nOPTIMUM 0 2\nx = 0\ny = 2\nledger\neq 3 form 1 -4\nproof\nsecond\nend\n",
+        "refused",
+        1,
     ),
     ("new_int(x,3,2) solve satisfy", "bee 1\n", "empty domain", 1),
     ("solve satisfy", "bee 1\nSATISFIABLE\nend\n", "done", 0),
@@ -201,6 +276,31 @@ fn documents_are_checked(rt: HostRuntime) -> Result<(), Fail> {
         assert_eq!(rt; run.status, (*status, *number), "{document}");
     }
     Ok(())
+}
+
+/// How many lines of a text end in certain bytes.
+fn lines_ending(text: &[u8], end: &[u8]) -> usize {
+    text.split(|b| *b == b'\n')
+        .filter(|line| line.ends_with(end))
+        .count()
+}
+
+#[test]
+fn half_of_forty_are_true(rt: HostRuntime) -> Result<(), Fail> {
+    let alloc = rt.alloc();
+    let mut model = String::new(alloc);
+    for i in 1..41 {
+        model.push_str(&format!(in alloc; "new_bool(b{i}) ")?)?;
+    }
+    model.push_str("bool_array_sum_eq([b1")?;
+    for i in 2..41 {
+        model.push_str(&format!(in alloc; ",b{i}")?)?;
+    }
+    model.push_str("],20) solve satisfy")?;
+    let run = solved(alloc, &["bee", "solve", "m.bee"], &model)?;
+    assert_eq!(rt; run.status, ("done", 0));
+    assert_eq!(rt; lines_ending(run.out.taken(), b" = true"), 20);
+    accepted(&rt, alloc, &model, run.out.taken(), "SATISFIABLE")
 }
 
 #[test]

@@ -5,7 +5,7 @@ ghost use Rattle.model_meaning.specs.WellTyped.{WellTyped};
 ghost use Rattle.model_meaning.specs.Limits.{InLimits};
 ghost use Rattle.decode_minimize.specs.Answers.{IsBudget};
 
-use answer_document::{Document, push_verdict};
+use answer_document::{Document, Verdict, push_verdict};
 use bumblebee_reader::read_model;
 use decode_minimize::{Options, answer};
 use fixpoint_queue::{Silent, TableP};
@@ -46,11 +46,28 @@ fn answer_with<L: Ledger>(
     }
 }
 
-/// What a document says: its verdict, and behind it the values, where it gives some.
+/// The values of the objectives at the best solution, where a search was given up behind one.
+fn push_best(alloc: Global, text: &mut Vec<u8>, verdict: Verdict) -> Result<(), AllocError> {
+    if let Verdict::Unknown(_, Some(best)) = verdict {
+        let word = format!(in alloc; ", best {}", best.first)?;
+        text.extend_from_slice(word.as_bytes())?;
+        if let Some(second) = best.second {
+            let word = format!(in alloc; " {second}")?;
+            text.extend_from_slice(word.as_bytes())?;
+        }
+    }
+    Ok(())
+}
+
+/// What a document says: its verdict, and behind it the values of a solution, or of the best one's objectives.
 fn show(alloc: Global, document: &Document) -> Result<Vec<u8>, AllocError> {
     let mut text = Vec::new(alloc);
     push_verdict(&mut text, document.verdict)?;
-    if let Some(given) = &document.assignment {
+    push_best(alloc, &mut text, document.verdict)?;
+    if let (Verdict::Satisfiable | Verdict::Optimum(_), Some(given)) = (
+        document.verdict,
+        &document.assignment,
+    ) {
         text.extend_from_slice(b":")?;
         for value in given.values.as_slice() {
             let word = format!(in alloc; " {value}")?;

@@ -68,15 +68,28 @@ static ANSWERS: [Row; 18] = [
 ];
 
 /// Pigeons that find no hole: a search is needed.
-static PIGEONS: &str =
+const PIGEONS: &str =
     "new_bool(p11) new_bool(p12) new_bool(p13) new_bool(p21) new_bool(p22) new_bool(p23) new_bool(p31) new_bool(p32) new_bool(p33) new_bool(p41) new_bool(p42) new_bool(p43) bool_array_or([p11,p12,p13]) bool_array_or([p21,p22,p23]) bool_array_or([p31,p32,p33]) bool_array_or([p41,p42,p43]) bool_array_or([-p11,-p21]) bool_array_or([-p11,-p31]) bool_array_or([-p11,-p41]) bool_array_or([-p21,-p31]) bool_array_or([-p21,-p41]) bool_array_or([-p31,-p41]) bool_array_or([-p12,-p22]) bool_array_or([-p12,-p32]) bool_array_or([-p12,-p42]) bool_array_or([-p22,-p32]) bool_array_or([-p22,-p42]) bool_array_or([-p32,-p42]) bool_array_or([-p13,-p23]) bool_array_or([-p13,-p33]) bool_array_or([-p13,-p43]) bool_array_or([-p23,-p33]) bool_array_or([-p23,-p43]) bool_array_or([-p33,-p43]) solve satisfy";
 
-/// Budgets, with restarts or without, and the verdict.
-static BUDGETS: [(u64, bool, &str); 4] = [
-    (1, true, "UNKNOWN 1"),
-    (1, false, "UNKNOWN 1"),
-    (4_096, false, "UNSATISFIABLE"),
-    (53_248, true, "UNSATISFIABLE"),
+/// A ruler with four marks, the first at 0, as short as there is one.
+const RULER: &str =
+    "new_int(a,1,9) new_int(b,1,9) new_int(c,1,9) int_lt(a,b) int_lt(b,c) new_int(p,1,8) int_plus(a,p,b) new_int(q,1,8) int_plus(a,q,c) new_int(r,1,8) int_plus(b,r,c) int_array_allDiff([a,b,c,p,q,r]) solve minimize c";
+
+/// Two objectives, for each of which a search must learn: three values that differ, and three pigeons in two holes, unless u is 1.
+const TWO_SEARCHES: &str =
+    "new_int(a,0,2) new_int(b,0,2) new_int(c,0,2) new_int(d,0,3) new_int(t,0,9) new_int(u,0,3) int_array_allDiff([a,b,c]) int_array_plus([a,b,c,d],t) new_bool(p11) new_bool(p12) new_bool(p21) new_bool(p22) new_bool(p31) new_bool(p32) new_bool(q) bool_array_or([p11,p12]) bool_array_or([p21,p22]) bool_array_or([p31,p32]) bool_array_or([-p11,-p21,q]) bool_array_or([-p11,-p31,q]) bool_array_or([-p21,-p31,q]) bool_array_or([-p12,-p22,q]) bool_array_or([-p12,-p32,q]) bool_array_or([-p22,-p32,q]) bool2int(q,u) solve minimize t then u";
+
+/// Models and budgets, with restarts or without, and the verdict. The first search of the two takes four clauses, and the second two.
+static BUDGETS: [(&str, u64, bool, &str); 9] = [
+    (PIGEONS, 1, true, "UNKNOWN 1"),
+    (PIGEONS, 1, false, "UNKNOWN 1"),
+    (PIGEONS, 4_096, false, "UNSATISFIABLE"),
+    (PIGEONS, 53_248, true, "UNSATISFIABLE"),
+    (RULER, 1, true, "UNKNOWN 1, best 6"),
+    (TWO_SEARCHES, 1, true, "UNKNOWN 1"),
+    (TWO_SEARCHES, 3, true, "UNKNOWN 3, best 3 1"),
+    (TWO_SEARCHES, 5, true, "UNKNOWN 5, best 3 1"),
+    (TWO_SEARCHES, 1_000, true, "OPTIMUM 3 1"),
 ];
 
 /// Asserts the rows.
@@ -104,11 +117,11 @@ fn answers_need_no_equations(rt: HostRuntime) -> Result<(), AllocError> {
 
 #[test]
 fn budgets_are_spent_or_suffice(rt: HostRuntime) -> Result<(), AllocError> {
-    for (budget, restart, wanted) in BUDGETS {
+    for (model, budget, restart, wanted) in BUDGETS {
         if budget > 0 && budget < 1_000_000 {
             let options = Options { budget, restart };
-            let found = answered(rt.alloc(), PIGEONS, options, Asked::AllRules)?;
-            assert_eq!(rt; found.as_slice(), wanted.as_bytes(), "{budget}");
+            let found = answered(rt.alloc(), model, options, Asked::AllRules)?;
+            assert!(rt; found.as_slice().starts_with(wanted.as_bytes()), "{budget}");
         }
     }
     Ok(())

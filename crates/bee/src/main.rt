@@ -2,8 +2,9 @@
 //! call, and exits with the code of its status.
 #![tactic(auto)]
 
-use bee_cli::{Status, code, run};
-use bee_outside::{HostShelf, HostSink};
+use bee_cli::{Status, code, report, run};
+use bee_outside::{HostShelf, HostSink, Sink};
+use std::alloc::Global;
 use std::process::ExitCode;
 use std::{env, io};
 
@@ -17,18 +18,24 @@ fn refused(error: &io::Error) -> Status {
     }
 }
 
+/// Ends before the call, and says why.
+fn ended<E: Sink>(alloc: Global, status: &Status, err: &mut E) -> ExitCode {
+    report(alloc, status, err);
+    ExitCode::from(code(status))
+}
+
 fn main(rt: HostRuntime) -> ExitCode {
     let alloc = rt.alloc();
+    let mut err = HostSink::new(rt.stderr());
     let words = match env::args(&rt) {
         Ok(words) => words.collect(alloc),
-        Err(error) => return ExitCode::from(code(&refused(&error))),
+        Err(error) => return ended(alloc, &refused(&error), &mut err),
     };
     let Ok(words) = words else {
-        return ExitCode::from(code(&Status::Memory));
+        return ended(alloc, &Status::Memory, &mut err);
     };
     let mut shelf = HostShelf::new(alloc, &rt, rt.reader());
     let mut out = HostSink::new(rt.stdout());
-    let mut err = HostSink::new(rt.stderr());
     let status = run(alloc, &words, &mut shelf, &mut out, &mut err);
     ExitCode::from(code(&status))
 }

@@ -10,5 +10,6 @@ mod status;
 pub use exit_code::code;
 pub use laws::{checking_law, decoding_law};
 pub use model_texts::ModelFault;
+pub use reporting::report;
 pub use running::run;
 pub use status::Status;

@@ -11,6 +11,8 @@ mod compile;
 #[cfg(test)]
 mod decode;
 #[cfg(test)]
+mod design_examples;
+#[cfg(test)]
 mod example_rows;
 #[cfg(test)]
 mod examples;
@@ -18,6 +20,10 @@ mod examples;
 mod integer_examples;
 #[cfg(test)]
 mod integer_models;
+#[cfg(test)]
+mod large_shops;
+#[cfg(test)]
+mod large_squares;
 #[cfg(test)]
 mod list_models;
 #[cfg(test)]
@@ -33,6 +39,10 @@ mod solution_sets;
 #[cfg(test)]
 mod solve;
 #[cfg(test)]
+mod square_examples;
+#[cfg(test)]
 mod texts;
+#[cfg(test)]
+mod timetable_examples;
 #[cfg(test)]
 mod words;

@@ -118,19 +118,18 @@ fn answer_lowered<F: Oracle<L>, L: Ledger>(
     let state = State::start(alloc, vars, cores.into_vec())?;
     let compilation = compile_state(alloc, state, oracle, steps)?;
     let _ids = compilation.state.ids();
-    let SolvedState { solved, size } =
-        solve_state(alloc, &compilation.state, &map, goal, options)?;
-    let readable = are_derivations_readable(&solved.proof, &solved.second);
+    let made = solve_state(alloc, &compilation.state, &map, goal, options)?;
+    let readable = are_derivations_readable(&made.solved.proof, &made.solved.second);
     if readable {
         Ok(SizedDocument {
             document: Document {
-                verdict: solved.verdict,
-                assignment: solved.assignment,
+                verdict: made.solved.verdict,
+                assignment: made.solved.assignment,
                 ledger: compilation.ledger,
-                proof: solved.proof,
-                second: solved.second,
+                proof: made.solved.proof,
+                second: made.solved.second,
             },
-            size,
+            size: made.size,
         })
     } else {
         Err(AllocError)

@@ -1,6 +1,5 @@
 //! The mode of queens: what is written for each board against what is compiled for the text of its model.
 
-use crate::answering::{accepted, checked};
 use crate::outside::{AMPLE, Outside, Shown, compile_over, run_files};
 use bee_text::{Lines, push_bytes, push_number, read_number, split_words};
 use bumblebee_reader::read_model;
@@ -68,8 +67,7 @@ fn row_text(alloc: Global, size: u8, row: u8) -> Result<String, AllocError> {
     let (n, i) = (i32::from(size), i32::from(row));
     let (sum, most) = (1 + i, n + i);
     let (least, difference) = (1 - i, n - i);
-    format!(
-        in alloc;
+    format!(in alloc;
         "new_int(q{i},1,{n})\nnew_int(a{i},{sum},{most})\nint_plus(q{i},{i},a{i})\nnew_int(d{i},{least},{difference})\nint_plus(q{i},-{i},d{i})\n"
     )
 }
@@ -250,7 +248,9 @@ fn four_queens_stand_in_one_of_two_ways(rt: HostRuntime) -> Result<(), Fail> {
         let text = run.out.taken();
         assert_eq!(rt; line_of(text, 5), b"SATISFIABLE".as_slice());
         let columns = line_of(text, 6);
-        assert!(rt; columns == b"columns 2 4 1 3" || columns == b"columns 3 1 4 2");
+        assert!(rt;
+            columns == b"columns 2 4 1 3".as_slice() || columns == b"columns 3 1 4 2".as_slice()
+        );
         assert_eq!(rt; line_of(text, 7), b"ledger".as_slice());
         assert!(rt; text.ends_with(b"\nend\n"));
     }

@@ -42,10 +42,11 @@ module _ (test : ℕ → Bool) where
   tested first (suc count) n h least most =
       let parts = and_parts (test first) (tests_from (first + 1) count) h in
       ⊎_elim (λ (e : first ≡ n). subst (λ (k : ℕ). test k ≡ true) e parts.0)
-             (λ (more : first + 1 ≤ n). tested (first + 1) count n parts.1 more (later first count n most)) (cases first n least)
+      (λ (more : first + 1 ≤ n). tested (first + 1) count n parts.1 more (later first count n most)) (cases first n least)
     where
       later : (a b k : ℕ) → k < a + suc b → k < (a + 1) + b
       later a b k q = omega (arith, q)
+
       cases : (a k : ℕ) → a ≤ k → (a ≡ k) ⊎ (a + 1 ≤ k)
       cases a k q = grind (arith, q)
 

@@ -18,12 +18,13 @@ certificate-written old a b c d new first middle xs ys zs e f g h i =
     ∙ ap (λ t. old ++ t) (append_assoc first (10 ∷ []) (join_lines (xs ++ middle ∷ (ys ++ zs))))
 
 -- the first lines, lines, lines, and the last line
-pub document-written : (a b c new last : List ℕ) (v w : List ℕ) (hs xs ys : List (List ℕ)) → a ≡ join_lines (v ∷ w ∷ hs) → b ≡ a ++ join_lines xs → c ≡ b ++ join_lines ys → new ≡ c ++ (last ++ 10 ∷ [])
-    → new ≡ join_lines (v ∷ w ∷ (hs ++ (xs ++ (ys ++ last ∷ []))))
-document-written a b c new last v w hs xs ys e f g h =
+pub document-written : (old a b c new last : List ℕ) (v w : List ℕ) (hs xs ys : List (List ℕ)) → a ≡ old ++ join_lines (v ∷ w ∷ hs) → b ≡ a ++ join_lines xs → c ≡ b ++ join_lines ys → new ≡ c ++ (last ++ 10 ∷ [])
+    → new ≡ old ++ join_lines (v ∷ w ∷ (hs ++ (xs ++ (ys ++ last ∷ []))))
+document-written old a b c new last v w hs xs ys e f g h =
     h ∙ ap (λ t. t ++ (last ++ 10 ∷ [])) (g ∙ ap (λ t. t ++ join_lines ys) (f ∙ ap (λ t. t ++ join_lines xs) e))
-    ∙ append_assoc (join_lines (v ∷ w ∷ hs) ++ join_lines xs) (join_lines ys) (last ++ 10 ∷ [])
-    ∙ ap (λ t. (join_lines (v ∷ w ∷ hs) ++ join_lines xs) ++ t) (sym (join_lines-append ys (last ∷ [])))
-    ∙ append_assoc (join_lines (v ∷ w ∷ hs)) (join_lines xs) (join_lines (ys ++ last ∷ []))
-    ∙ ap (λ t. join_lines (v ∷ w ∷ hs) ++ t) (sym (join_lines-append xs (ys ++ last ∷ [])))
-    ∙ sym (join_lines-append (v ∷ w ∷ hs) (xs ++ (ys ++ last ∷ [])))
+    ∙ append_assoc ((old ++ join_lines (v ∷ w ∷ hs)) ++ join_lines xs) (join_lines ys) (last ++ 10 ∷ [])
+    ∙ ap (λ t. ((old ++ join_lines (v ∷ w ∷ hs)) ++ join_lines xs) ++ t) (sym (join_lines-append ys (last ∷ [])))
+    ∙ append_assoc (old ++ join_lines (v ∷ w ∷ hs)) (join_lines xs) (join_lines (ys ++ last ∷ []))
+    ∙ ap (λ t. (old ++ join_lines (v ∷ w ∷ hs)) ++ t) (sym (join_lines-append xs (ys ++ last ∷ [])))
+    ∙ append_assoc old (join_lines (v ∷ w ∷ hs)) (join_lines (xs ++ (ys ++ last ∷ [])))
+    ∙ ap (λ t. old ++ t) (sym (join_lines-append (v ∷ w ∷ hs) (xs ++ (ys ++ last ∷ []))))

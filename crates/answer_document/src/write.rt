@@ -115,8 +115,8 @@ fn push_step_line(out: &mut Vec<u8>, step: &Line) -> Result<(), AllocError>
     end_line(out)
 }
 
-/// Writes the lines of the ledger.
-fn push_ledger(out: &mut Vec<u8>, ledger: &[Line]) -> Result<(), AllocError>
+/// Writes the lines of a ledger.
+pub fn push_ledger(out: &mut Vec<u8>, ledger: &[Line]) -> Result<(), AllocError>
     ensures { OnOk result (out.new.items ≡ out.old.items ++ join_lines (map step_text ledger.now)) }
 {
     for step in ledger {
@@ -181,8 +181,25 @@ fn push_head(out: &mut Vec<u8>, goal: Goal, verdict: Verdict) -> Result<(), Allo
     push_best(out, verdict)
 }
 
-/// The text of an answer to a model with these declarations and this goal. The statements of the model aren't looked at. One pass
-/// over what is written; the text is held in memory once, and grows as it is written.
+/// Writes the document of an answer to a model with these declarations and this goal. The statements of the model aren't looked at.
+/// One pass over what is written.
+pub fn push_document(
+    out: &mut Vec<u8>,
+    decls: &[Decl],
+    goal: Goal,
+    document: &Document,
+) -> Result<(), AllocError>
+    requires { IfSome document.now.assignment (λ a. length decls.now ≡ length a.values) }
+    ensures { OnOk result (out.new.items ≡ out.old.items ++ document_text decls.now goal document.now) }
+{
+    push_head(out, goal, document.verdict)?;
+    push_assignment(out, decls, &document.assignment)?;
+    push_certified(out, document)?;
+    push_bytes(out, b"end\n")?;
+    Ok(())
+}
+
+/// The text of an answer, as by `push_document`. It is held in memory once, and grows as it is written.
 pub fn write_document(
     alloc: Global,
     decls: &[Decl],
@@ -193,9 +210,6 @@ pub fn write_document(
     ensures { IfOk result (λ text. text.items ≡ document_text decls.now goal document.now) }
 {
     let mut out = Vec::new(alloc);
-    push_head(&mut out, goal, document.verdict)?;
-    push_assignment(&mut out, decls, &document.assignment)?;
-    push_certified(&mut out, document)?;
-    push_bytes(&mut out, b"end\n")?;
+    push_document(&mut out, decls, goal, document)?;
     Ok(out)
 }

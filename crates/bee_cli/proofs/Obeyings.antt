@@ -12,6 +12,7 @@ use Rattle.compile_mode.proofs.Ends as compiling
 use Rattle.solve_mode.proofs.Ends as solving
 use Rattle.check_mode.proofs.Ends as checking
 use Rattle.decode_mode.proofs.Ends as decoding
+use Rattle.queens_mode.proofs.Ends as placing
 use Rattle.bee_cli.specs.Obeyed.{search_options, Obeys}
 use Rattle.bee_cli.specs.declared.status.Status.TheVariants.{Memory}
 
@@ -22,7 +23,7 @@ unread (Some (Compile input)) seen same = (end.Memory, refl, compiling.idle inpu
 unread (Some (Solve input options)) seen same = (end.Memory, refl, solving.idle (search_options options) input seen same)
 unread (Some (Check input second)) seen same = (end.Memory, refl, checking.idle input second seen same)
 unread (Some (Decode input second)) seen same = (end.Memory, refl, decoding.idle input second seen same)
-unread (Some (Queens size options)) seen same = same
+unread (Some (Queens size options)) seen same = (end.Memory, refl, placing.idle (search_options options) size seen same)
 
 -- the command that the words give keeps to its limits
 pub keeps : (words : List (List ℕ)) (command : Command) → option_map request_of (Some command) ≡ request words → KeepsLimits (request_of command)

@@ -1,13 +1,14 @@
 -- What a run promises, by what the words ask for.
 use Rattle.std.specs.Prelude.{◌≡◌, Bool, true, false, Option, Some}
 use Rattle.command_words.specs.declared.command.Options.{Options as Words}
-use Rattle.command_words.specs.Request.{Request, Compile, Solve, Check, Decode}
+use Rattle.command_words.specs.Request.{Request, Compile, Solve, Check, Decode, Queens}
 use Rattle.text_modes.specs.Seen.{Seen, Untouched}
 use Rattle.compile_mode.specs.CompileMode.{CompileMode}
 use Rattle.decode_minimize.specs.declared.options.Options.{Options}
 use Rattle.solve_mode.specs.SolveMode.{SolveMode}
 use Rattle.check_mode.specs.CheckMode.{CheckMode}
 use Rattle.decode_mode.specs.DecodeMode.{DecodeMode}
+use Rattle.queens_mode.specs.QueensMode.{QueensMode}
 use Rattle.bee_cli.specs.Statuses.{model_fault, cnf_fault, Ended}
 use Rattle.bee_cli.specs.declared.status.Status.{Status}
 
@@ -21,6 +22,7 @@ is_built (Some (Compile input)) = true
 is_built (Some (Solve input options)) = true
 is_built (Some (Check input second)) = true
 is_built (Some (Decode input second)) = true
+is_built (Some (Queens size options)) = true
 is_built request = false
 
 -- a mode that is built has one record of clauses, over the end of the run, of which the status tells
@@ -29,4 +31,5 @@ Obeys (Some (Compile input)) status seen = Ended model_fault (λ end. CompileMod
 Obeys (Some (Solve input options)) status seen = Ended model_fault (λ end. SolveMode (search_options options) input end seen) status
 Obeys (Some (Check input second)) status seen = Ended model_fault (λ end. CheckMode input second end seen) status
 Obeys (Some (Decode input second)) status seen = Ended cnf_fault (λ end. DecodeMode input second end seen) status
+Obeys (Some (Queens size options)) status seen = Ended model_fault (λ end. QueensMode (search_options options) size end seen) status
 Obeys request status seen = Untouched seen

@@ -14,6 +14,7 @@ use check_mode::check;
 use command_words::{Command, Options, read_command};
 use compile_mode::compile;
 use decode_mode::decode;
+use queens_mode::queens;
 use solve_mode::solve;
 use std::alloc::{AllocError, Global};
 
@@ -47,7 +48,9 @@ fn obey<S: Shelf, O: Sink>(
         }
         Command::Check { input, second } => model_status(check(alloc, input, second, shelf, out)),
         Command::Decode { input, second } => cnf_status(decode(alloc, input, second, shelf, out)),
-        Command::Queens { .. } => Status::Usage,
+        Command::Queens { size, options } => {
+            model_status(queens(alloc, *size, search_options(*options), out))
+        }
     }
 }
 

@@ -33,6 +33,8 @@ mod matrix_examples;
 #[cfg(test)]
 mod outside;
 #[cfg(test)]
+mod queens;
+#[cfg(test)]
 mod shelves;
 #[cfg(test)]
 mod solution_sets;

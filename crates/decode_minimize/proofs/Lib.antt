@@ -9,3 +9,4 @@ mod Entries
 mod AnswerParts
 mod Answered
 mod Lowerings
+mod Sizes

@@ -1,5 +1,6 @@
 -- Answers to models that are lowered.
-use Rattle.std.specs.Prelude.{◌≡◌, ℕ, ◌+◌, ◌≤◌, List}
+use Rattle.std.specs.Prelude.{◌≡◌, ℕ, ◌+◌, ◌≤◌, List, length}
+use Rattle.order_ints.specs.declared.cnf.Cnf.{Cnf}
 use Rattle.order_ints.specs.declared.order_int.MapValue.{MapValue}
 use Rattle.order_ints.specs.Truth.{Valuation}
 use Rattle.core_forms.specs.declared.equation.Equation.{Equation}
@@ -20,6 +21,7 @@ use Rattle.model_decode.specs.Short.{AreShort}
 use Rattle.answer_document.specs.declared.document.Document.{Document}
 use Rattle.answer_document.specs.BoundAtoms.{integer_named}
 use Rattle.decode_minimize.specs.declared.options.Options.{Options}
+use Rattle.decode_minimize.specs.declared.answering.CnfSize.{CnfSize}
 use Rattle.decode_minimize.specs.Objectives.{IsObjective}
 use Rattle.decode_minimize.specs.Solved.{Problem}
 use Rattle.decode_minimize.specs.Answers.{IsAnswer}
@@ -27,6 +29,10 @@ use Rattle.decode_minimize.specs.Answers.{IsAnswer}
 -- what is to be solved at the end of a compilation
 abbrev pub problem_at : List MapValue → Kernel → Problem
 problem_at entries k = record { entries = entries; view = k.view; cnf = cnf_of k }
+
+-- how large a CNF is
+abbrev pub size_of : Cnf → CnfSize
+size_of cnf = record { variables = cnf.vars; clauses = length cnf.clauses }
 
 -- what is known of a model that is lowered
 pub record IsReady (l : Lowered) : Type 0 where

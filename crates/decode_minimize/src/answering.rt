@@ -8,7 +8,11 @@ ghost use Rattle.model_lower.specs.Weighed.{most_weight};
 ghost use Rattle.model_lower.specs.Faults.{IsFaultOf};
 ghost use Rattle.decode_minimize.specs.Solved.{IsProblem, IsSolvedFor};
 ghost use Rattle.decode_minimize.specs.Answers.{IsBudget, IsAnswer};
-ghost use Rattle.decode_minimize.specs.Answering.{IsReady, IsAnswerOf, problem_at};
+ghost use Rattle.step_kernel.specs.Kernel.{Kernel, started};
+ghost use Rattle.step_kernel.specs.CnfOf.{cnf_of};
+ghost use Rattle.state_compile.specs.Compilation.{IsCompilation};
+ghost use Rattle.answer_document.specs.Valid.{start_of};
+ghost use Rattle.decode_minimize.specs.Answering.{IsReady, IsAnswerOf, problem_at, size_of};
 
 use crate::options::Options;
 use crate::readable::are_derivations_readable;
@@ -26,36 +30,73 @@ use std::alloc::{AllocError, Global};
 use std::sync::ledger::Ledger;
 use step_kernel::State;
 
+/// How large a CNF is.
+#[derive(Clone, Copy, Debug, PartialEq, Eq)]
+pub struct CnfSize {
+    /// The number of its variables.
+    pub variables: u32,
+    /// The number of its clauses.
+    pub clauses: usize,
+}
+
 /// An answer to a model that was used up, and the model's declarations.
 #[derive(Debug, Drop)]
 pub struct AnsweredModel {
     /// The answer.
     pub document: Document,
+    /// The size of the CNF at the end of the compilation.
+    pub size: CnfSize,
     /// The declared names, as the model has them.
     pub decls: Sequence<Decl>,
 }
 
-/// Solves the clauses of the last state of a compilation. At bottom there is no solution, and nothing is to be derived.
+/// What the clauses of a state are solved to, and their size.
+#[derive(Drop)]
+struct SolvedState {
+    solved: Solved,
+    size: CnfSize,
+}
+
+/// A document, and the size of the CNF that it is derived from.
+#[derive(Drop)]
+struct SizedDocument {
+    document: Document,
+    size: CnfSize,
+}
+
+/// Solves the clauses of the last state of a compilation. At bottom there is no solution, and nothing is to be derived: the CNF
+/// is the empty clause alone.
 fn solve_state(
     alloc: Global,
     state: &State,
     map: &NameMap,
     goal: Goal,
     options: Options,
-) -> Result<Solved, AllocError>
+) -> Result<SolvedState, AllocError>
     requires { IsProblem (problem_at map.now.entries state.now) }
-    ensures { IfOk result (IsSolvedFor (problem_at map.now.entries state.now) options goal) }
+    ensures solved { IfOk result (λ s. IsSolvedFor (problem_at map.now.entries state.now) options goal s.solved) }
+    ensures size { IfOk result (λ s. s.size ≡ size_of (cnf_of state.now)) }
 {
     if state.bottom() {
-        return Ok(refuted(Sequence::from_vec(Vec::new(alloc))));
+        return Ok(SolvedState {
+            solved: refuted(Sequence::from_vec(Vec::new(alloc))),
+            size: CnfSize {
+                variables: state.vars(),
+                clauses: 1,
+            },
+        });
     }
     let cnf = state.cnf()?;
+    let size = CnfSize {
+        variables: cnf.vars,
+        clauses: cnf.clauses.len(),
+    };
     let names = Names {
         map,
         view: state.view(),
     };
     let solved = solve(alloc, cnf, &names, goal, options)?;
-    Ok(solved)
+    Ok(SolvedState { solved, size })
 }
 
 /// The answer to a model that is lowered.
@@ -66,24 +107,29 @@ fn answer_lowered<F: Oracle<L>, L: Ledger>(
     options: Options,
     oracle: F,
     steps: &mut Steps<L>,
-) -> Result<Document, AllocError>
+) -> Result<SizedDocument, AllocError>
     requires ready { IsReady lowered }
     requires budget { IsBudget options.budget }
-    ensures { IfOk result (λ d. IsAnswerOf F.told lowered goal options d steps.old steps.new) }
+    ensures answer { IfOk result (λ a. IsAnswerOf F.told lowered goal options a.document steps.old steps.new) }
+    ensures size { IfOk result (λ a. (last : Kernel) → IsCompilation F.told (started lowered.vars lowered.cores) a.document.ledger last
+        → a.size ≡ size_of (cnf_of last)) }
 {
     let Lowered { vars, map, cores } = lowered;
     let state = State::start(alloc, vars, cores.into_vec())?;
     let compilation = compile_state(alloc, state, oracle, steps)?;
     let _ids = compilation.state.ids();
-    let solved = solve_state(alloc, &compilation.state, &map, goal, options)?;
-    let readable = are_derivations_readable(&solved.proof, &solved.second);
+    let made = solve_state(alloc, &compilation.state, &map, goal, options)?;
+    let readable = are_derivations_readable(&made.solved.proof, &made.solved.second);
     if readable {
-        Ok(Document {
-            verdict: solved.verdict,
-            assignment: solved.assignment,
-            ledger: compilation.ledger,
-            proof: solved.proof,
-            second: solved.second,
+        Ok(SizedDocument {
+            document: Document {
+                verdict: made.solved.verdict,
+                assignment: made.solved.assignment,
+                ledger: compilation.ledger,
+                proof: made.solved.proof,
+                second: made.solved.second,
+            },
+            size: made.size,
         })
     } else {
         Err(AllocError)
@@ -112,8 +158,8 @@ pub fn answer<F: Oracle<L>, L: Ledger>(
     ensures heavy { IfErr result (λ e. IsFaultOf e model.now) }
 {
     let lowered = lower(alloc, model)?;
-    let document = answer_lowered(alloc, lowered, model.goal, options, oracle, steps)?;
-    Ok(document)
+    let answered = answer_lowered(alloc, lowered, model.goal, options, oracle, steps)?;
+    Ok(answered.document)
 }
 
 /// The answer to a model that is used up: each statement is let go as soon as it is lowered, and the declarations are given
@@ -131,13 +177,18 @@ pub fn answer_owned<F: Oracle<L>, L: Ledger>(
     ensures light { IfOk result (λ a. weight_of model ≤ most_weight) }
     ensures answer { IfOk result (λ a. IsAnswer F.told model options a.document steps.old steps.new) }
     ensures decls { IfOk result (λ a. a.decls ≡ model.decls) }
+
+    // The size is that of the CNF of the state to which the ledger leads.
+    ensures size { IfOk result (λ a. (last : Kernel) → IsCompilation F.told (start_of model) a.document.ledger last
+        → a.size ≡ size_of (cnf_of last)) }
     ensures heavy { IfErr result (λ e. IsFaultOf e model) }
 {
     let goal = model.goal;
     let held = lower_owned(alloc, model)?;
-    let document = answer_lowered(alloc, held.lowered, goal, options, oracle, steps)?;
+    let answered = answer_lowered(alloc, held.lowered, goal, options, oracle, steps)?;
     Ok(AnsweredModel {
-        document,
+        document: answered.document,
+        size: answered.size,
         decls: held.decls,
     })
 }

@@ -12,5 +12,5 @@ mod settling;
 mod solved;
 mod solving;
 
-pub use answering::{AnsweredModel, answer, answer_owned};
+pub use answering::{AnsweredModel, CnfSize, answer, answer_owned};
 pub use options::Options;

@@ -1,61 +1,25 @@
 //! From the text of a model to the text of its answer.
 
-ghost use Rattle.std.specs.Prelude.{◌≡◌, ◌<◌, ◌≤◌, ℕ, length, IfOk, IfErr};
+ghost use Rattle.std.specs.Prelude.{◌≤◌, length, IfOk, IfErr};
 ghost use Rattle.model_meaning.specs.WellTyped.{WellTyped};
 ghost use Rattle.model_meaning.specs.Limits.{InLimits};
 ghost use Rattle.model_weight.specs.Weight.{weight_of};
 ghost use Rattle.model_lower.specs.Weighed.{most_weight};
 ghost use Rattle.model_lower.specs.Faults.{IsFaultOf};
 ghost use Rattle.model_texts.specs.ModelTexts.{longest_text, IsCauseOf};
-ghost use Rattle.decode_minimize.specs.Answers.{IsBudget, IsAnswer};
-ghost use Rattle.bee_compile.specs.Compiled.{IsInstance};
-ghost use Rattle.solve_mode.specs.Solved.{outcome_of, IsAnswerText, Answers};
+ghost use Rattle.decode_minimize.specs.Answers.{IsBudget};
+ghost use Rattle.solve_mode.specs.Solved.{IsAnswerText, Answers};
 
-use answer_document::{Verdict, write_document};
-use decode_minimize::{AnsweredModel, Options, answer_owned};
-use fixpoint_queue::TableP;
+use crate::answering::{answer_model, outcome_of};
+use answer_document::write_document;
+use decode_minimize::Options;
 use model_lower::LowerFault;
 use model_meaning::Model;
 use model_texts::{TextFault, lower_fault, model_of};
-use rule_base::Steps;
 use std::alloc::{AllocError, Global};
-use std::marker::Brand;
-use std::sync::ledger::{Blank, Ledger};
 use text_modes::Outcome;
 
-/// What a verdict says of the run: a search that was given up tells its budget.
-fn outcome_of(verdict: Verdict) -> Outcome
-    ensures { result ≡ outcome_of verdict }
-{
-    match verdict {
-        Verdict::Satisfiable | Verdict::Unsatisfiable | Verdict::Optimum(_) => Outcome::Done,
-        Verdict::Unknown(count, _) => Outcome::Unknown(count),
-    }
-}
-
-/// The answer to a model, by all rules, with a counter of its own.
-fn answer_with<L: Ledger>(
-    alloc: Global,
-    blank: Blank,
-    model: Model,
-    options: Options,
-) -> Result<AnsweredModel, LowerFault>
-    requires typed { WellTyped model }
-    requires limits { InLimits model }
-    requires budget { IsBudget options.budget }
-    requires name { blank.name ≡ L.name }
-    requires parts { blank.parts ≡ L.parts }
-    requires some { 0 < L.parts }
-    ensures light { IfOk result (λ a. weight_of model ≤ most_weight) }
-    ensures answer { IfOk result (λ a. (before after : ℕ) × IsAnswer IsInstance model options a.document before after) }
-    ensures decls { IfOk result (λ a. a.decls ≡ model.decls) }
-    ensures heavy { IfErr result (λ e. IsFaultOf e model) }
-{
-    let mut steps = Steps::<L>::open(blank);
-    answer_owned(alloc, model, options, TableP, &mut steps)
-}
-
-/// The text of the answer to a model. Each statement is let go when it is lowered.
+/// The text of the answer to a model.
 fn write_answer(
     alloc: Global,
     model: Model,
@@ -69,7 +33,7 @@ fn write_answer(
     ensures heavy { IfErr result (λ e. IsFaultOf e model) }
 {
     let goal = model.goal;
-    let answered = answer_with::<Brand>(alloc, Blank::new(1), model, options)?;
+    let answered = answer_model(alloc, model, options)?;
     let decls = answered.decls.as_slice();
     let text = write_document(alloc, decls, goal, &answered.document)?;
     Ok((outcome_of(answered.document.verdict), text))

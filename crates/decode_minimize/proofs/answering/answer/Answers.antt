@@ -8,4 +8,4 @@ answer_lowered-requires-clause-ready g c =
 
 pub returns-clause-answer : goal.returns-clause-answer
 returns-clause-answer g c =
-    c.in_ok-document.ensures c.args.model.now c.requires.typed c.requires.limits c.in_ok-lowered.ensures.light c.in_ok-lowered.ensures.shape refl
+    c.in_ok-answered.ensures.answer c.args.model.now c.requires.typed c.requires.limits c.in_ok-lowered.ensures.light c.in_ok-lowered.ensures.shape refl

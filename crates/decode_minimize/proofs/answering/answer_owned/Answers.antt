@@ -1,4 +1,7 @@
-use Rattle.std.proofs.Common.{refl}
+use Rattle.std.proofs.Common.{◌≡◌, refl, sym, ap, subst}
+use Rattle.model_lower.specs.declared.state.Lowered.{Lowered}
+use Rattle.step_kernel.specs.Kernel.{Kernel, started}
+use Rattle.state_compile.specs.Compilation.{IsCompilation}
 use Rattle.decode_minimize.proofs.Lowerings.{lowered-ready}
 use Rattle.decode_minimize.proofs.answering.answer_owned.Goals as goal
 
@@ -8,4 +11,9 @@ answer_lowered-requires-clause-ready g c =
 
 pub returns-clause-answer : goal.returns-clause-answer
 returns-clause-answer g c =
-    c.in_ok-document.ensures c.args.model c.requires.typed c.requires.limits c.in_ok-held.ensures.light c.in_ok-held.ensures.shape refl
+    c.in_ok-answered.ensures.answer c.args.model c.requires.typed c.requires.limits c.in_ok-held.ensures.light c.in_ok-held.ensures.shape refl
+
+pub returns-clause-size : goal.returns-clause-size
+returns-clause-size g c = λ last compilation.
+    let start = ap (λ (l : Lowered). started l.vars l.cores) c.in_ok-held.ensures.shape in
+    c.in_ok-answered.ensures.size last (subst (λ (k : Kernel). IsCompilation g.F.Oracle.told k c.in_ok-answered.answered.document.ledger last) (sym start) compilation)

@@ -2,22 +2,29 @@ use Rattle.std.proofs.Common.{◌≡◌, [], List, None, refl, sym, ap, ◌∙�
 use Rattle.proof_check.specs.declared.line.ProofLine.{ProofLine}
 use Rattle.answer_document.specs.declared.verdict.Verdict.TheVariants.{Unsatisfiable}
 use Rattle.decode_minimize.specs.declared.solved.Solved.{Solved}
-use Rattle.decode_minimize.specs.Solved.{Problem, IsProblem, IsSolvedFor}
+use Rattle.decode_minimize.specs.Solved.{Problem, problem_of, IsProblem, IsSolvedFor}
 use Rattle.decode_minimize.proofs.Lowerings.{same-problem, bottom-solved}
+use Rattle.decode_minimize.proofs.Sizes.{size-at-bottom, size-made}
 use Rattle.decode_minimize.proofs.answering.solve_state.Goals as goal
 
-pub returns-then-bottom : goal.returns-then-bottom
-returns-then-bottom c =
+pub returns-then-bottom-clause-solved : goal.returns-then-bottom-clause-solved
+returns-then-bottom-clause-solved c =
     let none : c.from_vec.result ≡ [] = c.from_vec.ensures ∙ c.new.ensures.items in
     bottom-solved c.args.map.now.entries c.args.state.now c.args.options c.args.goal c.refuted.result (sym c.bottom.ensures.bottom ∙ c.if-bottom.true)
     (c.refuted.ensures ∙ ap (λ (l : List ProofLine). record { verdict = Unsatisfiable; assignment = None; proof = l; second = None }) none)
+
+pub returns-then-bottom-clause-size : goal.returns-then-bottom-clause-size
+returns-then-bottom-clause-size c = size-at-bottom c.args.state.now c.vars.result c.vars.ensures.vars (sym c.bottom.ensures.bottom ∙ c.if-bottom.true)
 
 pub solve-requires : goal.solve-requires
 solve-requires c =
     let same = same-problem (record { map = c.args.map; view = c.view.result }) c.in_ok-cnf.cnf c.args.map.now.entries c.args.state.now refl c.view.ensures.view c.in_ok-cnf.ensures.shape in
     subst IsProblem (sym same) c.requires
 
-pub returns : goal.returns
-returns c =
+pub returns-clause-solved : goal.returns-clause-solved
+returns-clause-solved c =
     let same = same-problem (record { map = c.args.map; view = c.view.result }) c.in_ok-cnf.cnf c.args.map.now.entries c.args.state.now refl c.view.ensures.view c.in_ok-cnf.ensures.shape in
     subst (λ (p : Problem). IsSolvedFor p c.args.options c.args.goal c.in_ok-solved.solved) same c.in_ok-solved.ensures
+
+pub returns-clause-size : goal.returns-clause-size
+returns-clause-size c = size-made c.args.state.now c.in_ok-cnf.cnf c.in_ok-cnf.ensures.shape

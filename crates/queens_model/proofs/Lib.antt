@@ -1,0 +1,4 @@
+mod Pushed
+mod ModelTests
+mod StatementTests
+mod Sizes

@@ -3,9 +3,11 @@
 ghost use Rattle.std.specs.Prelude.{IfOk};
 ghost use Rattle.order_ints.specs.OrderRange.{IsBounded, IntBelow};
 
+use core_words::{atom, push_int};
 use order_ints::{Atom, Lit, OrdInt};
 use std::alloc::{AllocError, Global};
 use std::process::Abort;
+use std::test::Fail;
 
 /// An integer of small values over nine variables, multiplied by a small number.
 fn multiple(rt: &impl Abort, a: &OrdInt, by: i128) -> Result<OrdInt, AllocError>
@@ -36,29 +38,6 @@ fn moved(rt: &impl Abort, a: &OrdInt, by: i128) -> Result<OrdInt, AllocError>
     a.shifted(by)
 }
 
-/// The number of a literal's variable, below 0 for a negation; 0 for False, and 99 for True.
-fn numbered(atom: Atom) -> i64 {
-    match atom {
-        Atom::True => 99,
-        Atom::False => 0,
-        Atom::Of(literal) => {
-            let number = i64::from(literal.var);
-            if literal.positive { number } else { -number }
-        }
-    }
-}
-
-/// The base, and then the weight and the literal of each step.
-fn show(alloc: Global, a: &OrdInt) -> Result<String, AllocError> {
-    let base = a.base;
-    let mut text = format!(in alloc; "{base}")?;
-    for (atom, weight) in a.steps.as_slice() {
-        let number = numbered(*atom);
-        text = format!(in alloc; "{text} {weight}*{number}")?;
-    }
-    Ok(text)
-}
-
 /// Asserts which integer was made.
 fn shows(
     rt: &impl Abort,
@@ -66,8 +45,9 @@ fn shows(
     made: Result<OrdInt, AllocError>,
     want: &str,
 ) -> Result<(), AllocError> {
-    let found = show(alloc, &made?)?;
-    assert_eq!(rt; found.as_str(), want);
+    let mut found = Vec::new(alloc);
+    push_int(&mut found, &made?)?;
+    assert_eq!(rt; found.as_slice(), want.as_bytes());
     Ok(())
 }
 
@@ -81,40 +61,43 @@ fn values(rt: &impl Abort, a: &OrdInt, sigma: &[bool; 9], value: i128, ordered: 
 }
 
 #[test]
-fn integers_are_made(rt: HostRuntime) -> Result<(), AllocError> {
+fn integers_are_made(rt: HostRuntime) -> Result<(), Fail> {
     let alloc = rt.alloc();
     let x = Lit::of(3, true);
     assert_eq!(rt; x.negated(), Lit::of(x.var(), !x.positive()));
-    assert_eq!(rt; numbered(Atom::Of(x).not()), -3);
-    shows(&rt, alloc, OrdInt::constant(alloc, -7), "-7")?;
+    let not_x = atom("-3")?;
+    assert_eq!(rt; Atom::Of(x).not(), not_x);
+    shows(&rt, alloc, OrdInt::constant(alloc, -7), "(-7)")?;
     shows(
         &rt,
         alloc,
         OrdInt::of_atom(alloc, Atom::Of(x.negated())),
-        "0 1*-3",
+        "(0 -3)",
     )?;
-    shows(&rt, alloc, OrdInt::from_values(alloc, &[0, 2], 1), "0 2*1")?;
     shows(
         &rt,
         alloc,
-        OrdInt::unit_range(alloc, -1, 4, 2),
-        "-1 1*4 1*5",
-    )
+        OrdInt::from_values(alloc, &[0, 2], 1),
+        "(0 1:2)",
+    )?;
+    shows(&rt, alloc, OrdInt::unit_range(alloc, -1, 4, 2), "(-1 4 5)")?;
+    Ok(())
 }
 
 #[test]
-fn values_are_reached(rt: HostRuntime) -> Result<(), AllocError> {
+fn values_are_reached(rt: HostRuntime) -> Result<(), Fail> {
     let wide = OrdInt::from_values(rt.alloc(), &[-5, -1, 100], 7)?;
-    for (value, number) in [
-        (i128::MIN, 99),
-        (-5, 99),
-        (-4, 7),
-        (-1, 7),
-        (100, 8),
-        (101, 0),
-        (i128::MAX, 0),
+    for (value, word) in [
+        (i128::MIN, "T"),
+        (-5, "T"),
+        (-4, "7"),
+        (-1, "7"),
+        (100, "8"),
+        (101, "F"),
+        (i128::MAX, "F"),
     ] {
-        assert_eq!(rt; numbered(wide.at(value)), number, "at {value}");
+        let wanted = atom(word)?;
+        assert_eq!(rt; wide.at(value), wanted, "at {value}");
     }
     for (value, atom) in wide.levels() {
         assert_eq!(rt; atom, wide.at(value));
@@ -127,7 +110,7 @@ fn values_are_reached(rt: HostRuntime) -> Result<(), AllocError> {
 fn integers_are_turned(rt: HostRuntime) -> Result<(), AllocError> {
     let range = OrdInt::unit_range(rt.alloc(), 0, 4, 3)?;
     let down = range.negated()?;
-    shows(&rt, rt.alloc(), moved(&rt, &down, 3), "0 1*-6 1*-5 1*-4")
+    shows(&rt, rt.alloc(), moved(&rt, &down, 3), "(0 -6 -5 -4)")
 }
 
 /// Asserts the base of a multiple of a digit, and its value where the digit is four.

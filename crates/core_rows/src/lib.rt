@@ -9,10 +9,6 @@ mod clauses;
 #[cfg(test)]
 mod costs;
 #[cfg(test)]
-mod form_words;
-#[cfg(test)]
-mod int_words;
-#[cfg(test)]
 mod integers;
 #[cfg(test)]
 mod lists;
@@ -23,12 +19,8 @@ mod occurring;
 #[cfg(test)]
 mod shape_costs;
 #[cfg(test)]
-mod shown;
-#[cfg(test)]
 mod sums;
 #[cfg(test)]
 mod texts;
 #[cfg(test)]
 mod trimmings;
-#[cfg(test)]
-mod words;

@@ -1,112 +1,102 @@
 //! How a core is trimmed by one view, compared whole.
 
-ghost use Rattle.core_forms.specs.WellFormed.{IsWellFormed};
-
-use crate::form_words::core_of;
-use crate::shown::shown;
-use crate::words::atom;
-use core_forms::{Core, trim};
-use order_ints::Atom;
-use std::alloc::{AllocError, Global};
+use core_forms::trim;
+use core_words::{core_of, core_text};
+use order_ints::{Atom, Lit};
+use std::alloc::Global;
+use std::io;
 use std::process::Abort;
+
+/// A core, and what it is trimmed to.
+type Row = (&'static str, &'static str);
+
+const FOUR: Atom = Atom::Of(Lit {
+    var: 4,
+    positive: true,
+});
+
+const FIVE: Atom = Atom::Of(Lit {
+    var: 5,
+    positive: true,
+});
+
+const NOT_FIVE: Atom = Atom::Of(Lit {
+    var: 5,
+    positive: false,
+});
 
 /// The view in which variables 1 to 8 are True, variable 4 thrice, variable 5, False, the negation of
 /// variable 5, and False.
-fn view(rt: &impl Abort) -> [Atom; 8] {
-    let (four, five) = (atom(rt, "4"), atom(rt, "5"));
-    [
-        Atom::True,
-        four,
-        four,
-        four,
-        five,
-        Atom::False,
-        five.not(),
-        Atom::False,
-    ]
-}
+static VIEW: [Atom; 8] = [
+    Atom::True,
+    FOUR,
+    FOUR,
+    FOUR,
+    FIVE,
+    Atom::False,
+    NOT_FIVE,
+    Atom::False,
+];
 
-/// What a core is trimmed to by the view.
-fn core_trimmed(rt: &impl Abort, alloc: Global, core: &Core) -> Result<String, AllocError>
-    requires { IsWellFormed core.now }
-{
-    let trimmed = trim(alloc, core, &view(rt))?;
-    shown(alloc, &trimmed)
-}
+/// Forms over atoms.
+static ATOMS: [Row; 11] = [
+    ("Clause 2,1,6", "Clause T"),
+    ("Clause 6,2,-1,7,3", "Clause 4 -5 4"),
+    ("Clause 6,-1", "Clause"),
+    ("Parity odd 1,2,6", "Parity even 4"),
+    ("Parity odd -6,7,T", "Parity odd -5"),
+    ("Parity even -7,1,4,3", "Parity odd 5 4 4"),
+    ("Conj -2 1,2,6", "Conj -4 F"),
+    ("Conj 6 1,2,-8,3", "Conj F 4 4"),
+    ("Conj 7 1,-6", "Conj -5"),
+    ("Comp 1 6 7 -3", "Comp T F -5 -4"),
+    ("Amo 1,2,6,7,-1,4", "Amo T 4 -5 4"),
+];
 
-/// What a core in words is trimmed to by the view.
-fn trimmed(rt: &impl Abort, alloc: Global, text: &str) -> Result<String, AllocError> {
-    let core = core_of(rt, alloc, text)?;
-    core_trimmed(rt, alloc, &core)
-}
+/// Forms over a few integers.
+static INTEGERS: [Row; 10] = [
+    ("Ladder 3..9@1", "Ladder (4 4:3 5)"),
+    ("Ladder 0..4@5", "Ladder (0 5 F -5)"),
+    ("Ladder -5..-4@1", "Ladder (-4)"),
+    ("Ladder -5..-4@6", "Ladder (-5)"),
+    ("LeqR 7 0..6@1 -2..1@4", "LeqR -5 (1 4:3 5) (-2 4 5)"),
+    ("EqR -2 0..4@5 7..10@1", "EqR -4 (0 5 F -5) (8 4:2)"),
+    ("Sum3 0..6@1 0..1@6 -5..-1@1", "Sum3 (1 4:3 5) (0) (-4 4:3)"),
+    ("Count 1,2,6,7,-8 0..6@1", "Count 4 -5 (-1 4:3 5)"),
+    ("Prod 0..6@1 2..3@6 0..2@2", "Prod (1 4:3 5) (2) (0 4:2)"),
+    (
+        "DivMod 4..7@1 2..5@4 1..2@1 0..4@5",
+        "DivMod (5 4:2) (2 4 5) (2) (0 5 F -5)",
+    ),
+];
 
-#[test]
-fn forms_over_atoms_are_trimmed(rt: HostRuntime) -> Result<(), AllocError> {
-    for (text, want) in [
-        ("Clause 2,1,6", "Clause [T]"),
-        ("Clause 6,2,-1,7,3", "Clause [4 -5 4]"),
-        ("Clause 6,-1", "Clause []"),
-        ("Parity 1,2,6 true", "Parity [4] false"),
-        ("Parity -6,7,T true", "Parity [-5] true"),
-        ("Parity -7,1,4,3 false", "Parity [5 4 4] true"),
-        ("Conj -2 1,2,6", "Conj -4 [F]"),
-        ("Conj 6 1,2,-8,3", "Conj F [4 4]"),
-        ("Conj 7 1,-6", "Conj -5 []"),
-        ("Comp 1 6 7 -3", "Comp [T F -5 -4]"),
-        ("Amo 1,2,6,7,-1,4", "Amo [T 4 -5 4]"),
-    ] {
-        let found = trimmed(&rt, rt.alloc(), text)?;
-        assert_eq!(rt; found.as_str(), want, "{text}");
-    }
+/// Forms over lists of integers.
+static LISTS: [Row; 5] = [
+    ("Sum 0..6@1;3..4@6 -9", "Sum (1 4:3 5) (3) -9"),
+    ("Max 0..3@1;0..3@4 1..7@1", "Max (1 4:2) (0 4 5) (2 4:3 5)"),
+    ("AllDiff 0..6@1;0..2@2 1,6", "AllDiff T F (1 4:3 5) (0 4:2)"),
+    (
+        "Lex strict 7 0..2@1;0..1@3 0..2@4;0..1@6",
+        "Lex strict -5 (1 4) (0 4) (0 4 5) (0)",
+    ),
+    ("Lex or 1 none none", "Lex or T"),
+];
+
+/// Tests a row.
+fn check(rt: &impl Abort, alloc: Global, row: &Row) -> io::Result<()> {
+    let core = core_of(alloc, row.0)?;
+    let trimmed = trim(alloc, &core, &VIEW)?;
+    let found = core_text(alloc, &trimmed)?;
+    assert_eq!(rt; found.as_slice(), row.1.as_bytes(), "{}", row.0);
     Ok(())
 }
 
 #[test]
-fn forms_over_a_few_integers_are_trimmed(rt: HostRuntime) -> Result<(), AllocError> {
-    for (text, want) in [
-        ("Ladder 3..9@1", "Ladder (4 4:3 5:1)"),
-        ("Ladder 0..4@5", "Ladder (0 5:1 F:1 -5:1)"),
-        ("Ladder -5..-4@1", "Ladder (-4)"),
-        ("Ladder -5..-4@6", "Ladder (-5)"),
-        ("LeqR 7 0..6@1 -2..1@4", "LeqR -5 (1 4:3 5:1) (-2 4:1 5:1)"),
-        ("EqR -2 0..4@5 7..10@1", "EqR -4 (0 5:1 F:1 -5:1) (8 4:2)"),
-        (
-            "Sum3 0..6@1 0..1@6 -5..-1@1",
-            "Sum3 (1 4:3 5:1) (0) (-4 4:3)",
-        ),
-        ("Count 1,2,6,7,-8 0..6@1", "Count [4 -5] (-1 4:3 5:1)"),
-        ("Prod 0..6@1 2..3@6 0..2@2", "Prod (1 4:3 5:1) (2) (0 4:2)"),
-        (
-            "DivMod 4..7@1 2..5@4 1..2@1 0..4@5",
-            "DivMod (5 4:2) (2 4:1 5:1) (2) (0 5:1 F:1 -5:1)",
-        ),
-    ] {
-        let found = trimmed(&rt, rt.alloc(), text)?;
-        assert_eq!(rt; found.as_str(), want, "{text}");
-    }
-    Ok(())
-}
-
-#[test]
-fn forms_over_lists_of_integers_are_trimmed(rt: HostRuntime) -> Result<(), AllocError> {
-    for (text, want) in [
-        ("Sum 0..6@1,3..4@6 -9", "Sum [(1 4:3 5:1) (3)] -9"),
-        (
-            "Max 0..3@1,0..3@4 1..7@1",
-            "Max [(1 4:2) (0 4:1 5:1)] (2 4:3 5:1)",
-        ),
-        (
-            "AllDiff 0..6@1,0..2@2 1,6",
-            "AllDiff [(1 4:3 5:1) (0 4:2)] [T F]",
-        ),
-        (
-            "Lex 7 true 0..2@1,0..1@3 0..2@4,0..1@6",
-            "Lex -5 true [(1 4:1) (0 4:1)] [(0 4:1 5:1) (0)]",
-        ),
-        ("Lex 1 false none none", "Lex T false [] []"),
-    ] {
-        let found = trimmed(&rt, rt.alloc(), text)?;
-        assert_eq!(rt; found.as_str(), want, "{text}");
+fn forms_are_trimmed(rt: HostRuntime) -> io::Result<()> {
+    for rows in [ATOMS.as_slice(), INTEGERS.as_slice(), LISTS.as_slice()] {
+        for row in rows {
+            check(&rt, rt.alloc(), row)?;
+        }
     }
     Ok(())
 }

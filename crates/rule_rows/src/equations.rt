@@ -1,53 +1,127 @@
-//! Equations in words: the rule's name and two atoms.
+//! Equations worked out by hand: what is found at a core, equations that are instances there, and equations that are not.
 
-use crate::words::{atom, word};
-use bee_text::{push_bytes, push_signed};
-use core_forms::{Equation, Rule};
-use order_ints::Atom;
+ghost use Rattle.std.specs.Prelude.{◌≡◌, ◌<◌};
+ghost use Rattle.core_forms.specs.WellFormed.{IsWellFormed};
+
+use crate::difference_rows::{COUNTED, NARROW, ORDERS};
+use crate::form_rows::{ATOMS, COMPARISONS, LADDERS};
+use crate::max_rows::MAXIMA;
+use crate::product_rows::{CONSTANTS, DIVISIONS, RANGES};
+use crate::sum_rows::{COUNTS, SUMS, SUMS_OF_TWO};
+use crate::truth_rows::{FORMS, LIMITS};
+use core_forms::{Core, Equation};
+use core_words::{core_of, equation_of, equation_text};
+use rule_base::Steps;
 use std::alloc::{AllocError, Global};
+use std::marker::Brand;
 use std::process::Abort;
+use std::sync::ledger::{Blank, Ledger};
+use std::test::Fail;
 
-/// An equation.
-pub(super) fn equation_of(rt: &impl Abort, text: &str) -> Equation {
-    let rule = match word(text, 0) {
-        "Order" => Rule::Order,
-        "Form" => Rule::Form,
-        "Table" => Rule::Table,
-        other => panic!(rt; "no rule: {other}"),
-    };
-    Equation {
-        rule,
-        a: atom(rt, word(text, 1)),
-        b: atom(rt, word(text, 2)),
+/// A core, what is found at it, instances, and equations that are none, with a semicolon between them.
+pub(super) type Row = (&'static str, &'static str, &'static str, &'static str);
+
+/// Which rules are asked: those of forms and of orders of integers, those of members that differ, those of sums, counts, maxima
+/// and products, or those of truth tables.
+#[derive(Clone, Copy, Debug)]
+enum Rules {
+    Equality,
+    Difference,
+    Arithmetic,
+    Truth,
+}
+
+/// What rules find at a core, with a counter of its own.
+fn found_with<L: Ledger>(
+    rules: Rules,
+    alloc: Global,
+    blank: Blank,
+    core: &Core,
+) -> Result<Option<Equation>, AllocError>
+    requires name { blank.name ≡ L.name }
+    requires parts { blank.parts ≡ L.parts }
+    requires some { 0 < L.parts }
+    requires core { IsWellFormed core.now }
+{
+    let mut steps = Steps::<L>::open(blank);
+    match rules {
+        Rules::Equality => Ok(equi_rules::find(core, &mut steps)),
+        Rules::Difference => alldiff_rules::find(alloc, core, &mut steps),
+        Rules::Arithmetic => Ok(arith_rules::find(core, &mut steps)),
+        Rules::Truth => table_rules::find(alloc, core, &mut steps),
     }
 }
 
-/// Puts an atom behind a text: `T`, `F`, or the variable's number with the sign.
-pub(super) fn put_atom(text: &mut Vec<u8>, atom: Atom) -> Result<(), AllocError> {
-    match atom {
-        Atom::True => push_bytes(text, b"T"),
-        Atom::False => push_bytes(text, b"F"),
-        Atom::Of(literal) => {
-            let number = i128::from(literal.var);
-            push_signed(text, if literal.positive { number } else { -number })
+/// What rules find at a core.
+fn found(rules: Rules, alloc: Global, core: &Core) -> Result<Option<Equation>, AllocError>
+    requires { IsWellFormed core.now }
+{
+    found_with::<Brand>(rules, alloc, Blank::new(1), core)
+}
+
+/// Whether an equation is an instance of rules at a core.
+fn is_instance(rules: Rules, alloc: Global, core: &Core, e: &Equation) -> Result<bool, AllocError>
+    requires { IsWellFormed core.now }
+{
+    match rules {
+        Rules::Equality => Ok(equi_rules::is_instance(core, e)),
+        Rules::Difference => alldiff_rules::is_instance(alloc, core, e),
+        Rules::Arithmetic => Ok(arith_rules::is_instance(core, e)),
+        Rules::Truth => Ok(table_rules::is_instance(core, e)),
+    }
+}
+
+/// Tests whether each of some equations is an instance at a core, or none is.
+fn check(
+    rt: &impl Abort,
+    alloc: Global,
+    rules: Rules,
+    core: &Core,
+    equations: &str,
+    wanted: bool,
+) -> Result<(), Fail>
+    requires { IsWellFormed core.now }
+{
+    for words in equations.split(';') {
+        if !words.is_empty() {
+            let told = is_instance(rules, alloc, core, &equation_of(words)?)?;
+            assert_eq!(rt; told, wanted, "{words}");
         }
     }
+    Ok(())
 }
 
-/// An equation in words, or `none`.
-pub(super) fn shown(alloc: Global, found: Option<Equation>) -> Result<Vec<u8>, AllocError> {
-    let mut text = Vec::new(alloc);
-    let Some(e) = found else {
-        push_bytes(&mut text, b"none")?;
-        return Ok(text);
-    };
-    match e.rule {
-        Rule::Order => push_bytes(&mut text, b"Order ")?,
-        Rule::Form => push_bytes(&mut text, b"Form ")?,
-        Rule::Table => push_bytes(&mut text, b"Table ")?,
+/// Tests a row.
+fn check_row(rt: &impl Abort, alloc: Global, rules: Rules, row: &Row) -> Result<(), Fail> {
+    let core = core_of(alloc, row.0)?;
+    let found = equation_text(alloc, found(rules, alloc, &core)?)?;
+    assert_eq!(rt; found.as_slice(), row.1.as_bytes(), "{rules:?}: {}", row.0);
+    check(rt, alloc, rules, &core, row.2, true)?;
+    check(rt, alloc, rules, &core, row.3, false)
+}
+
+#[test]
+fn equations_are_those_of_the_rules(rt: HostRuntime) -> Result<(), Fail> {
+    for (rules, rows) in [
+        (Rules::Equality, ATOMS.as_slice()),
+        (Rules::Equality, COMPARISONS.as_slice()),
+        (Rules::Equality, LADDERS.as_slice()),
+        (Rules::Difference, COUNTED.as_slice()),
+        (Rules::Difference, NARROW.as_slice()),
+        (Rules::Difference, ORDERS.as_slice()),
+        (Rules::Arithmetic, SUMS_OF_TWO.as_slice()),
+        (Rules::Arithmetic, COUNTS.as_slice()),
+        (Rules::Arithmetic, SUMS.as_slice()),
+        (Rules::Arithmetic, MAXIMA.as_slice()),
+        (Rules::Arithmetic, RANGES.as_slice()),
+        (Rules::Arithmetic, CONSTANTS.as_slice()),
+        (Rules::Arithmetic, DIVISIONS.as_slice()),
+        (Rules::Truth, FORMS.as_slice()),
+        (Rules::Truth, LIMITS.as_slice()),
+    ] {
+        for row in rows {
+            check_row(&rt, rt.alloc(), rules, row)?;
+        }
     }
-    put_atom(&mut text, e.a)?;
-    push_bytes(&mut text, b" ")?;
-    put_atom(&mut text, e.b)?;
-    Ok(text)
+    Ok(())
 }

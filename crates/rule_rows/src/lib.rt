@@ -1,5 +1,5 @@
-//! Rows worked out by hand, over the public calls of the crates of what one core gives, one file for each of these
-//! crates. They stand apart from those crates, so that proving them proves none of those anew.
+//! Rows worked out by hand, over the public calls of the crates of what one core gives: its equations, its parts and its clauses.
+//! They stand apart from those crates, so that proving them proves none of those anew.
 #![tactic(auto)]
 
 #[cfg(test)]
@@ -9,24 +9,18 @@ mod encodings;
 #[cfg(test)]
 mod equations;
 #[cfg(test)]
-mod form_rules;
-#[cfg(test)]
-mod form_words;
+mod form_rows;
 #[cfg(test)]
 mod max_rows;
 #[cfg(test)]
-mod network_words;
+mod network_rows;
 #[cfg(test)]
-mod networks;
-#[cfg(test)]
-mod part_lists;
+mod part_rows;
 #[cfg(test)]
 mod product_rows;
 #[cfg(test)]
-mod sought_rows;
+mod splits;
 #[cfg(test)]
 mod sum_rows;
 #[cfg(test)]
-mod truth_tables;
-#[cfg(test)]
-mod words;
+mod truth_rows;

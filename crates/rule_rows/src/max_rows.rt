@@ -1,11 +1,10 @@
 //! Equations of greatest members, worked out by hand.
 
-use crate::sought_rows::{Row, check_rows};
-use std::alloc::AllocError;
+use crate::equations::Row;
 
 /// One member, several of which one alone reaches the top, equal ones, values that no member reaches, and ends
 /// that bound the others.
-static MAXIMA: [Row; 17] = [
+pub(super) static MAXIMA: [Row; 17] = [
     // at a value that a member has and the greatest lacks, the atom of the greatest stands first too
     ("Max 0,2,4@2;0 0,4@3", "Form 3 2", "Form 2 3", "Form 2 T"),
     (
@@ -80,8 +79,3 @@ static MAXIMA: [Row; 17] = [
     ("Max 1;2 3", "Form T F", "Form F T", "Form T T"),
     ("Max 1;2 1", "Form F T", "Form T F", "Form T T"),
 ];
-
-#[test]
-fn equations_of_greatest_members(rt: HostRuntime) -> Result<(), AllocError> {
-    check_rows(&rt, rt.alloc(), &MAXIMA)
-}

@@ -1,11 +1,9 @@
-//! Equations of products and of divisions, worked out by hand: what is found at a core, equations that are instances
-//! there, and equations that are not.
+//! Equations of products and of divisions, worked out by hand.
 
-use crate::sought_rows::{Row, check_rows};
-use std::alloc::AllocError;
+use crate::equations::Row;
 
 /// The ranges of a product and of its factors.
-static RANGES: [Row; 8] = [
+pub(super) static RANGES: [Row; 8] = [
     // the corners are 2, -8, -3 and 12
     (
         "Prod -2,3@1 -1,4@2 -9,-8,-3,2,12,13@3",
@@ -54,7 +52,7 @@ static RANGES: [Row; 8] = [
 ];
 
 /// A constant factor of either sign, 1 and 0 too.
-static CONSTANTS: [Row; 13] = [
+pub(super) static CONSTANTS: [Row; 13] = [
     (
         "Prod 2 0,1,3@1 -1,0,1,2,5,6,7@3",
         "Form 3 T",
@@ -124,7 +122,7 @@ static CONSTANTS: [Row; 13] = [
 ];
 
 /// A number by another is a quotient and a rest.
-static DIVISIONS: [Row; 8] = [
+pub(super) static DIVISIONS: [Row; 8] = [
     // 7 by 3 and 9 by 2 are rounded down, and the rest is below the greatest divisor
     (
         "DivMod 7,9@1 2,3@2 1,2,3,4,5@3 -1,0,1,2,3@7",
@@ -169,15 +167,3 @@ static DIVISIONS: [Row; 8] = [
     ("DivMod 7 3 3 0", "Form T F", "Form F T", "Form F F"),
     ("DivMod 7 3 2 1", "none", "", "Form T F"),
 ];
-
-#[test]
-fn products_and_divisions_state_their_equations(rt: HostRuntime) -> Result<(), AllocError> {
-    for rows in [
-        RANGES.as_slice(),
-        CONSTANTS.as_slice(),
-        DIVISIONS.as_slice(),
-    ] {
-        check_rows(&rt, rt.alloc(), rows)?;
-    }
-    Ok(())
-}

@@ -1,11 +1,10 @@
 //! Equations of sums and counts, worked out by hand.
 
-use crate::sought_rows::{Row, check_rows};
-use std::alloc::AllocError;
+use crate::equations::Row;
 
 /// Sums of two integers: bounds of the sum and of each summand, a constant at each place, negative values, and
 /// values that have no partner.
-static SUMS_OF_TWO: [Row; 18] = [
+pub(super) static SUMS_OF_TWO: [Row; 18] = [
     // at a value that the sum has and the summand lacks, the atom of the summand stands first too
     ("Sum3 2 0,4@3 2,4,6@2", "Form 3 2", "Form 2 3", "Form 3 T"),
     ("Sum3 0,1 0,1@2 0,1,2@3", "none", "", "Form 3 T;Form 1 3"),
@@ -98,7 +97,7 @@ static SUMS_OF_TWO: [Row; 18] = [
 ];
 
 /// Counts: none and all of the members true, numbers that no members give, and no members.
-static COUNTS: [Row; 12] = [
+pub(super) static COUNTS: [Row; 12] = [
     (
         "Count 1,2,3 0,1,2,3@4",
         "none",
@@ -149,7 +148,7 @@ static COUNTS: [Row; 12] = [
 ];
 
 /// Sums of listed members: none, one, and what several leave of the number.
-static SUMS: [Row; 10] = [
+pub(super) static SUMS: [Row; 10] = [
     ("Sum none 0", "none", "", "Form T F"),
     ("Sum none 3", "Form T F", "Form F T", "Form T T;Form 1 T"),
     ("Sum none -1", "Form T F", "Form F T", "Form T T"),
@@ -186,10 +185,3 @@ static SUMS: [Row; 10] = [
         "Form 1 F;Form 1 T;Form 2 T",
     ),
 ];
-
-#[test]
-fn equations_of_sums_and_counts(rt: HostRuntime) -> Result<(), AllocError> {
-    check_rows(&rt, rt.alloc(), &SUMS_OF_TWO)?;
-    check_rows(&rt, rt.alloc(), &COUNTS)?;
-    check_rows(&rt, rt.alloc(), &SUMS)
-}

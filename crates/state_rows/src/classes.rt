@@ -5,7 +5,7 @@ ghost use Rattle.order_ints.specs.Place.{AtomBelow};
 ghost use Rattle.equation_store.specs.Laws.{IsConstant};
 
 use crate::numbers::Numbers;
-use crate::words::{atom, word};
+use core_words::{atom, word};
 use equation_store::{EqStore, Merged};
 use order_ints::{Atom, Lit};
 use std::alloc::AllocError;
@@ -55,14 +55,12 @@ static MERGES: [(&str, &str, Option<u32>, Merged, &str); 12] = [
 fn merges(rt: HostRuntime) -> Result<(), Fail> {
     let mut store = EqStore::with(rt.alloc(), 7)?;
     for (a, b, loser, answer, labels) in MERGES {
-        assert_eq!(rt;
-            merge(&rt, &mut store, atom(&rt, a), atom(&rt, b)),
-            (loser, answer),
-            "at {a} and {b}"
-        );
+        let merged = merge(&rt, &mut store, atom(a)?, atom(b)?);
+        assert_eq!(rt; merged, (loser, answer), "at {a} and {b}");
         assert_eq!(rt; store.view().len(), 7);
         for (place, label) in store.view().iter().enumerate() {
-            assert_eq!(rt; *label, atom(&rt, word(labels, place)), "after {a} and {b}");
+            let wanted = atom(word(labels, place))?;
+            assert_eq!(rt; *label, wanted, "after {a} and {b}");
         }
     }
     Ok(())
@@ -101,12 +99,11 @@ fn walks(rt: HostRuntime) -> Result<(), Fail> {
     let mut store = EqStore::with(rt.alloc(), 3)?;
     store.grow(2)?;
     for (a, b, loser) in [("5", "-2", 5), ("4", "5", 4)] {
-        assert_eq!(rt;
-            merge(&rt, &mut store, atom(&rt, a), atom(&rt, b)),
-            (Some(loser), Merged::Changed)
-        );
+        let merged = merge(&rt, &mut store, atom(a)?, atom(b)?);
+        assert_eq!(rt; merged, (Some(loser), Merged::Changed));
     }
-    assert_eq!(rt; resolve(&rt, &store, atom(&rt, "-4")), atom(&rt, "2"));
+    let two = atom("2")?;
+    assert_eq!(rt; resolve(&rt, &store, atom("-4")?), two);
     let mut walk = Vec::new(rt.alloc());
     let mut next = first(&rt, &store, 2);
     for _step in 0..5 {
@@ -258,8 +255,8 @@ fn growth_is_refused(rt: HostRuntime) -> Result<(), Fail> {
         Ok(store) => store,
         Err(_) => EqStore::with(rt.alloc(), 3)?,
     };
-    let labels = [atom(&rt, "1"), atom(&rt, "2"), atom(&rt, "-2")];
-    let merged = merge(&rt, &mut store, atom(&rt, "3"), atom(&rt, "-2"));
+    let labels = [atom("1")?, atom("2")?, atom("-2")?];
+    let merged = merge(&rt, &mut store, atom("3")?, atom("-2")?);
     assert_eq!(rt; merged, (Some(3), Merged::Changed));
     assert_eq!(rt; store.view().len(), 3);
     if store.grow(1_000).is_err() {

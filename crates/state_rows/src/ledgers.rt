@@ -4,6 +4,7 @@ use crate::steps_made::{shown, started};
 use bee_text::push_bytes;
 use ledger_text::{Line, write_step};
 use std::alloc::{AllocError, Global};
+use std::io;
 use std::process::Abort;
 use step_kernel::{ApplyFault, State};
 
@@ -31,7 +32,7 @@ fn shown_ledger(alloc: Global, ledger: &[Line]) -> Result<Vec<u8>, AllocError> {
 }
 
 /// Asserts that a ledger leads from the state at the start to the one in words.
-fn replay(rt: &impl Abort, alloc: Global, row: Row, ledger: &[Line]) -> Result<(), AllocError> {
+fn replay(rt: &impl Abort, alloc: Global, row: Row, ledger: &[Line]) -> io::Result<()> {
     let (vars, cores, _, wanted) = row;
     let mut state = started(rt, alloc, vars, cores)?;
     for line in ledger {
@@ -53,7 +54,7 @@ pub(super) fn compare(
     row: Row,
     state: &State,
     ledger: &[Line],
-) -> Result<(), AllocError> {
+) -> io::Result<()> {
     let (_, _, wanted_ledger, wanted_state) = row;
     let found = shown_ledger(alloc, ledger)?;
     assert_eq!(rt;

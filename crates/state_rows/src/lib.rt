@@ -8,8 +8,6 @@ mod classes;
 #[cfg(test)]
 mod compilations;
 #[cfg(test)]
-mod core_words;
-#[cfg(test)]
 mod ledgers;
 #[cfg(test)]
 mod numbers;
@@ -17,6 +15,8 @@ mod numbers;
 mod occurrence_lists;
 #[cfg(test)]
 mod rings;
+#[cfg(test)]
+mod runs;
 #[cfg(test)]
 mod saturations;
 #[cfg(test)]
@@ -31,5 +31,3 @@ mod steps;
 mod steps_made;
 #[cfg(test)]
 mod told_once;
-#[cfg(test)]
-mod words;

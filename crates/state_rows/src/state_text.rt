@@ -2,64 +2,13 @@
 //! and, where it is another one now, as the store has it; the next id; the least pending id and the least one whose
 //! core is compound; bottom; and the CNF, its number of variables and its clauses.
 
-use bee_text::{push_blank, push_bytes, push_number, push_signed};
+use bee_text::{push_blank, push_bytes, push_number};
 use core_forms::Core;
+use core_words::core_text;
 use ledger_text::{push_atom, push_literal};
-use order_ints::{Atom, Cnf, Lit, OrdInt};
+use order_ints::{Cnf, Lit};
 use std::alloc::{AllocError, Global};
 use step_kernel::State;
-
-/// Puts a step behind a text: its atom, and its weight where that is not 1.
-fn put_step(text: &mut Vec<u8>, atom: Atom, weight: u128) -> Result<(), AllocError> {
-    push_blank(text)?;
-    push_atom(text, atom)?;
-    if weight == 1 {
-        return Ok(());
-    }
-    push_bytes(text, b":")?;
-    push_number(text, weight)
-}
-
-/// Puts an integer behind a text: its base, and its steps.
-fn put_int(text: &mut Vec<u8>, a: &OrdInt) -> Result<(), AllocError> {
-    push_bytes(text, b" (")?;
-    push_signed(text, a.base)?;
-    for step in a.steps.as_slice() {
-        put_step(text, step.0, step.1)?;
-    }
-    push_bytes(text, b")")
-}
-
-/// The name of a form of which cores stand here.
-fn name(core: &Core) -> &'static [u8] {
-    match core {
-        Core::Ladder(_) => b"Ladder",
-        Core::Clause(_) => b"Clause",
-        Core::Parity(_, odd) if *odd => b"Parity odd",
-        Core::Parity(_, _) => b"Parity even",
-        Core::Conj(_, _) => b"Conj",
-        Core::LeqR(_, _, _) => b"LeqR",
-        Core::Sum3(_, _, _) => b"Sum3",
-        Core::Count(_, _) => b"Count",
-        Core::Amo(_) => b"Amo",
-        Core::Lex(_, strict, _, _) if *strict => b"Lex strict",
-        _ => b"other",
-    }
-}
-
-/// A core in words: its form, its atoms and its integers.
-fn core_text(alloc: Global, core: &Core) -> Result<Vec<u8>, AllocError> {
-    let mut text = Vec::new(alloc);
-    push_bytes(&mut text, name(core))?;
-    for atom in core.atoms() {
-        push_blank(&mut text)?;
-        push_atom(&mut text, *atom)?;
-    }
-    for a in core.ints() {
-        put_int(&mut text, a)?;
-    }
-    Ok(text)
-}
 
 /// Puts a pending core behind a text.
 fn put_pending(

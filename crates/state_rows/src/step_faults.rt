@@ -3,6 +3,7 @@
 
 use crate::steps_made::{line_of, shown, started, walk_both};
 use std::alloc::{AllocError, Global};
+use std::io;
 use std::process::Abort;
 use step_kernel::{ApplyFault, State, StepFault};
 
@@ -86,7 +87,7 @@ fn meet_all(
     alloc: Global,
     cores: &[&str],
     rows: &[(&str, Option<StepFault>)],
-) -> Result<(), AllocError> {
+) -> io::Result<()> {
     let mut state = started(rt, alloc, 6, cores)?;
     for (text, fault) in rows {
         meet(rt, alloc, &mut state, text, *fault)?;
@@ -95,12 +96,12 @@ fn meet_all(
 }
 
 #[test]
-fn faults(rt: HostRuntime) -> Result<(), AllocError> {
+fn faults(rt: HostRuntime) -> io::Result<()> {
     let cores = [
-        "Clause 1 2",
-        "Parity odd 1 2 3 4",
-        "Parity even 5 6",
-        "Parity odd 5 6",
+        "Clause 1,2",
+        "Parity odd 1,2,3,4",
+        "Parity even 5,6",
+        "Parity odd 5,6",
     ];
     meet_all(&rt, rt.alloc(), &cores, &FAULTS)
 }
@@ -135,14 +136,14 @@ static CLASH_OF_CONSTANTS: [(&str, &str); 2] = [
 ];
 
 #[test]
-fn clashes(rt: HostRuntime) -> Result<(), AllocError> {
+fn clashes(rt: HostRuntime) -> io::Result<()> {
     let alloc = rt.alloc();
     let cores = [
-        "Parity odd 1 2",
-        "Parity even 1 2",
-        "Amo 1 2 3 4 5",
-        "Clause 3 -1",
+        "Parity odd 1,2",
+        "Parity even 1,2",
+        "Amo 1,2,3,4,5",
+        "Clause 3,-1",
     ];
     walk_both(&rt, alloc, 5, &cores, &CLASH)?;
-    walk_both(&rt, alloc, 1, &["Clause"], &CLASH_OF_CONSTANTS)
+    walk_both(&rt, alloc, 1, &["Clause none"], &CLASH_OF_CONSTANTS)
 }

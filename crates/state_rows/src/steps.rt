@@ -1,7 +1,7 @@
 //! The three kinds of step, worked out by hand: a line, and the whole state after it.
 
 use crate::steps_made::walk_both;
-use std::alloc::AllocError;
+use std::io;
 
 /// Equations by the form of a core. Each is named by the labels of its atoms, in either order.
 static BY_FORM: [(&str, &str); 4] = [
@@ -241,44 +241,47 @@ static SUM_BECOMES_COMPOUND: [(&str, &str); 2] = [
 ];
 
 #[test]
-fn equations(rt: HostRuntime) -> Result<(), AllocError> {
+fn equations(rt: HostRuntime) -> io::Result<()> {
     let alloc = rt.alloc();
-    let by_form = ["Parity even 1 2", "Clause -3", "Parity odd 2 5"];
+    let by_form = ["Parity even 1,2", "Clause -3", "Parity odd 2,5"];
     walk_both(&rt, alloc, 5, &by_form, &BY_FORM)?;
-    let by_order = ["Ladder 2+2", "Parity odd 2 3", "Parity even 1 3"];
+    let by_order = ["Ladder 0..2@2", "Parity odd 2,3", "Parity even 1,3"];
     walk_both(&rt, alloc, 4, &by_order, &BY_ORDER)?;
-    let by_table = ["Conj 1 -1 2", "Sum3 3+1 3+1 4+2", "Clause 6 6"];
+    let by_table = ["Conj 1 -1,2", "Sum3 0..1@3 0..1@3 0..2@4", "Clause 6,6"];
     walk_both(&rt, alloc, 6, &by_table, &BY_TABLE)
 }
 
 #[test]
-fn splits(rt: HostRuntime) -> Result<(), AllocError> {
+fn splits(rt: HostRuntime) -> io::Result<()> {
     let alloc = rt.alloc();
-    let atoms = ["Clause 6", "Parity odd 1 2 3 4 5", "Amo 1 2 3 4 5"];
+    let atoms = ["Clause 6", "Parity odd 1,2,3,4,5", "Amo 1,2,3,4,5"];
     walk_both(&rt, alloc, 6, &atoms, &SPLITS)?;
-    let integers = ["Count 4+3 1 2 3", "Lex strict 7 1+1 2+1 3+1 4+1"];
+    let integers = [
+        "Count 1,2,3 0..3@4",
+        "Lex strict 7 0..1@1;0..1@2 0..1@3;0..1@4",
+    ];
     walk_both(&rt, alloc, 7, &integers, &SPLITS_OF_INTEGERS)?;
-    let stored = ["Clause 1", "Parity odd 1 2 3 4 5", "Parity even 2 6"];
+    let stored = ["Clause 1", "Parity odd 1,2,3,4,5", "Parity even 2,6"];
     walk_both(&rt, alloc, 6, &stored, &SPLIT_AS_THE_STORE_HAS_IT)
 }
 
 #[test]
-fn encodings(rt: HostRuntime) -> Result<(), AllocError> {
+fn encodings(rt: HostRuntime) -> io::Result<()> {
     let alloc = rt.alloc();
-    let cores = ["Clause 2 -1", "Conj 3 1 2", "Ladder 4+2", "Clause -1 2"];
+    let cores = ["Clause 2,-1", "Conj 3 1,2", "Ladder 0..2@4", "Clause -1,2"];
     walk_both(&rt, alloc, 5, &cores, &ENCODINGS)?;
-    let before = ["Conj 3 1 2", "Clause 1 2 4", "Parity even 1 2", "Clause -3"];
+    let before = ["Conj 3 1,2", "Clause 1,2,4", "Parity even 1,2", "Clause -3"];
     walk_both(&rt, alloc, 4, &before, &ENCODINGS_BEFORE_EQUATIONS)?;
-    let stored = ["Parity odd 1 2 3 4", "Clause -4"];
+    let stored = ["Parity odd 1,2,3,4", "Clause -4"];
     walk_both(&rt, alloc, 4, &stored, &ENCODING_AS_THE_STORE_HAS_IT)?;
-    let merged = ["LeqR 1 2+2 4+2", "Parity even 2 3"];
+    let merged = ["LeqR 1 0..2@2 0..2@4", "Parity even 2,3"];
     walk_both(&rt, alloc, 5, &merged, &ENCODING_OF_A_MERGED_INTEGER)
 }
 
 #[test]
-fn least_ids(rt: HostRuntime) -> Result<(), AllocError> {
+fn least_ids(rt: HostRuntime) -> io::Result<()> {
     let alloc = rt.alloc();
     walk_both(&rt, alloc, 0, &[], &NOTHING)?;
-    let cores = ["Clause 25", "Sum3 1+10 11+14 25+1"];
+    let cores = ["Clause 25", "Sum3 0..10@1 0..14@11 0..1@25"];
     walk_both(&rt, alloc, 25, &cores, &SUM_BECOMES_COMPOUND)
 }

@@ -11,6 +11,7 @@ use crate::starts::start;
 use crate::state_text::state_text;
 use core_forms::{Core, Equation};
 use std::alloc::{AllocError, Global};
+use std::io;
 use std::process::Abort;
 use step_kernel::{ApplyFault, Line, State, is_compound, read_step};
 
@@ -28,7 +29,7 @@ pub(super) fn started(
     alloc: Global,
     vars: u32,
     texts: &[&str],
-) -> Result<State, AllocError> {
+) -> io::Result<State> {
     match start(rt, alloc, vars, texts) {
         Ok(state) => Ok(state),
         Err(_) => start(rt, alloc, vars, texts),
@@ -150,7 +151,7 @@ fn walk(
     cores: &[&str],
     rows: &[(&str, &str)],
     told: bool,
-) -> Result<(), AllocError> {
+) -> io::Result<()> {
     let mut state = started(rt, alloc, vars, cores)?;
     let mut before = "";
     for (text, after) in rows {
@@ -170,7 +171,7 @@ pub(super) fn walk_both(
     vars: u32,
     cores: &[&str],
     rows: &[(&str, &str)],
-) -> Result<(), AllocError> {
+) -> io::Result<()> {
     walk(rt, alloc, vars, cores, rows, false)?;
     walk(rt, alloc, vars, cores, rows, true)
 }

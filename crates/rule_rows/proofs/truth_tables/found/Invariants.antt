@@ -1,5 +1,0 @@
-use Rattle.rule_rows.proofs.truth_tables.found.Given as goal
-
--- the counter is that of the new ledger
-abbrev pub ghosts-found_with : goal.ghosts-found_with
-ghosts-found_with a = record { name = a.blank.name; parts = a.blank.parts }

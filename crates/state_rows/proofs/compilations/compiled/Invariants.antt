@@ -1,5 +1,0 @@
-use Rattle.state_rows.proofs.compilations.compiled.Given as goal
-
--- the counter is that of the new ledger
-abbrev pub ghosts-compile_with : goal.ghosts-compile_with
-ghosts-compile_with g a = record { name = a.blank.name; parts = a.blank.parts }

@@ -1,6 +1,0 @@
-use Rattle.core_forms.specs.Cores.{AreWellFormed}
-use Rattle.state_rows.proofs.core_words.cores.Given as goal
-
--- what has been read is well formed
-abbrev pub invariant-loop-text : goal.invariant-loop-text
-invariant-loop-text g l = AreWellFormed l.cores.items

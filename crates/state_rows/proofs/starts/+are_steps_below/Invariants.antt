@@ -1,5 +1,0 @@
-use Rattle.std.proofs.Common.{length}
-use Rattle.state_rows.proofs.starts.+are_steps_below.Given as goal
-
-abbrev pub decreases-are_steps_below : goal.decreases-are_steps_below
-decreases-are_steps_below l = length l.steps.now

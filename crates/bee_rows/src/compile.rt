@@ -141,7 +141,7 @@ fn other_words_are_refused(rt: HostRuntime) -> Result<(), Fail> {
     let mode = ["bee", "solve"];
     let check = ["bee", "check", "m.bee"];
     let queens = ["bee", "queens", "3"];
-    let board = ["bee", "queens", "8"];
+    let board = ["bee", "queens", "25"];
     let budget = ["bee", "solve", "m.bee", "--budget", "0"];
     let nothing = ["bee", "compile", "m.bee", "--budget", "0"];
     let help = ["bee", "compile", "m.bee", "--help"];

@@ -129,7 +129,7 @@ fn texts_that_fail(rt: HostRuntime) -> Result<(), Fail> {
 }
 
 /// One more than the line feeds among the first bytes of a text.
-fn line_of(text: &[u8], length: usize) -> u64 {
+pub(super) fn line_of(text: &[u8], length: usize) -> u64 {
     let mut line = 1;
     for byte in text.iter().take(length) {
         if *byte == b'\n' && line < u64::MAX {

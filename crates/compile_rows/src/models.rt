@@ -5,15 +5,15 @@ ghost use Rattle.model_meaning.specs.WellTyped.{WellTyped};
 ghost use Rattle.model_meaning.specs.Limits.{InLimits};
 
 use bee_compile::{Compiled, compile};
+use bee_text::{push_blank, push_bytes};
 use bumblebee_reader::read_model;
 use fixpoint_queue::{Silent, TableP};
-use ledger_text::write_step;
+use ledger_text::{push_literal, push_step};
 use model_lower::LowerFault;
 use order_ints::Lit;
 use rule_base::Steps;
 use std::alloc::{AllocError, Global};
 use std::marker::Brand;
-use std::process::Abort;
 use std::sync::ledger::{Blank, Ledger};
 use typed_model::{Model, check_types, in_limits};
 
@@ -82,19 +82,13 @@ static BY_NO_RULE: [Row; 5] = [
     ),
 ];
 
-/// The number of a literal's variable, below 0 for a negation.
-fn number(literal: Lit) -> i64 {
-    let number = i64::from(literal.var);
-    if literal.positive { number } else { -number }
-}
-
-fn show_clause(alloc: Global, literals: &[Lit]) -> Result<String, AllocError> {
-    let mut text = String::new(alloc);
+/// Puts a clause behind a text, and 0 behind it.
+fn push_clause(text: &mut Vec<u8>, literals: &[Lit]) -> Result<(), AllocError> {
     for literal in literals {
-        let number = number(*literal);
-        text = format!(in alloc; "{text} {number}")?;
+        push_blank(text)?;
+        push_literal(text, *literal)?;
     }
-    Ok(text)
+    push_bytes(text, b" 0")
 }
 
 /// What is compiled, in the words of a row.
@@ -105,12 +99,11 @@ fn show(alloc: Global, compiled: &Compiled) -> Result<Vec<u8>, AllocError> {
     let head = format!(in alloc; "{names} {vars} {cores}:")?;
     let mut text = Vec::from_slice(alloc, head.as_bytes())?;
     for clause in compiled.cnf.clauses.as_slice() {
-        text.extend_from_slice(show_clause(alloc, clause.as_slice())?.as_bytes())?;
-        text.extend_from_slice(b" 0")?;
+        push_clause(&mut text, clause.as_slice())?;
     }
     for line in compiled.ledger.as_slice() {
-        text.extend_from_slice(b"; ")?;
-        text.extend_from_slice(write_step(alloc, line)?.as_slice())?;
+        push_bytes(&mut text, b"; ")?;
+        push_step(&mut text, line)?;
     }
     Ok(text)
 }
@@ -162,21 +155,16 @@ fn compiled(alloc: Global, text: &str, asked: Asked) -> Result<Vec<u8>, AllocErr
     }
 }
 
-/// Asserts the rows.
-fn check(rt: &impl Abort, alloc: Global, asked: Asked, rows: &[Row]) -> Result<(), AllocError> {
-    for (text, wanted) in rows {
-        let found = compiled(alloc, text, asked)?;
-        assert_eq!(rt; found.as_slice(), wanted.as_bytes(), "{text}");
+#[test]
+fn models_are_compiled(rt: HostRuntime) -> Result<(), AllocError> {
+    for (asked, rows) in [
+        (Asked::AllRules, BY_ALL_RULES.as_slice()),
+        (Asked::Silence, BY_NO_RULE.as_slice()),
+    ] {
+        for (text, wanted) in rows {
+            let found = compiled(rt.alloc(), text, asked)?;
+            assert_eq!(rt; found.as_slice(), wanted.as_bytes(), "{asked:?}: {text}");
+        }
     }
     Ok(())
-}
-
-#[test]
-fn models_are_compiled_by_all_rules(rt: HostRuntime) -> Result<(), AllocError> {
-    check(&rt, rt.alloc(), Asked::AllRules, &BY_ALL_RULES)
-}
-
-#[test]
-fn models_are_compiled_by_no_rule(rt: HostRuntime) -> Result<(), AllocError> {
-    check(&rt, rt.alloc(), Asked::Silence, &BY_NO_RULE)
 }

@@ -1,5 +1,6 @@
 //! Values that solvers answer, worked out by hand.
 
+use crate::compiled_texts::line_of;
 use bee_list::Sequence;
 use dimacs_read::{TextFault, read_values};
 use order_ints::{Cnf, Lit};
@@ -97,17 +98,6 @@ fn values_that_fail(rt: HostRuntime) -> Result<(), Fail> {
         assert_eq!(rt; shown.as_str(), want, "{text}");
     }
     Ok(())
-}
-
-/// One more than the line feeds among the first bytes of a text.
-fn line_of(text: &[u8], length: usize) -> u64 {
-    let mut line = 1;
-    for byte in text.iter().take(length) {
-        if *byte == b'\n' && line < u64::MAX {
-            line += 1;
-        }
-    }
-    line
 }
 
 #[test]

@@ -100,6 +100,8 @@ class Trial:
                 break
         self.counts = collections.Counter()
         self.texts = {}
+        self.runs = []
+        self.awaited = []
 
     def path(self, name, content=None):
         path = os.path.join(self.folder, f"{os.getpid()}.{name}")
@@ -109,12 +111,35 @@ class Trial:
                 sink.write(content)
         return path
 
-    def run(self, *words, codes=(0,)):
-        done = subprocess.run([self.program, *words], capture_output=True, timeout=120)
+    def start(self, *words):
+        """Begins a run, beside others."""
+        number = len(self.runs)
+        with open(self.path(f"{number}.out"), "wb") as out, open(self.path(f"{number}.err"), "wb") as err:
+            self.runs.append(subprocess.Popen([self.program, *words], stdin=subprocess.DEVNULL, stdout=out, stderr=err))
         self.counts["runs"] += 1
-        self.want(done.returncode in codes, f"{words[0]} ended with {done.returncode}: {done.stderr[-300:]!r}")
-        self.want(not done.stderr, f"{words[0]} wrote on standard error: {done.stderr[:300]!r}")
-        return done.stdout
+        return number, words[0]
+
+    def end(self, run, codes=(0,)):
+        """What a run wrote."""
+        number, mode = run
+        code = self.runs[number].wait(timeout=600)
+        out, err = (open(self.path(f"{number}.{end}"), "rb").read() for end in ("out", "err"))
+        self.want(code in codes, f"{mode} ended with {code}: {err[-300:]!r}")
+        self.want(not err, f"{mode} wrote on standard error: {err[:300]!r}")
+        return out
+
+    def stop(self):
+        for run in self.runs:
+            if run.poll() is None:
+                run.kill()
+                run.wait()
+
+    def compare_later(self, run, compare):
+        self.awaited.append((run, compare))
+
+    def compare_all(self):
+        for run, compare in self.awaited:
+            compare(self.end(run, (0, 1)).decode())
 
     @staticmethod
     def want(holds, what):
@@ -123,20 +148,23 @@ class Trial:
 
     def go(self):
         model = self.path("model", self.text.encode())
-        self.best = self.model.best(self.known) if self.model.objectives and self.known else None
-        self.compare_clauses(model)
-        self.compare_answer(model, self.run("solve", model))
         budget = self.chance.randint(1, 4)
         words = ["--budget", str(budget)] + ["--no-restart"] * self.chance.randint(0, 1)
-        spent = self.run("solve", model, *words, codes=(0, 8))
-        if spent.split(b"\n")[1].startswith(b"UNKNOWN"):
+        compiling, solving, giving_up = self.start("compile", model), self.start("solve", model), self.start("solve", model, *words)
+        self.best = self.model.best(self.known) if self.model.objectives and self.known else None
+        self.cnf_text = self.end(compiling)
+        self.compare_clauses()
+        self.compare_answer(model, self.end(solving))
+        spent = self.end(giving_up, (0, 8))
+        self.want((self.runs[giving_up[0]].returncode == 8) == spent.split(b"\n")[1].startswith(b"UNKNOWN"), "the exit code is that of another verdict")
+        if self.runs[giving_up[0]].returncode == 8:
             self.want(spent.split(b"\n")[1] == b"UNKNOWN %d" % budget, "another budget")
         self.compare_answer(model, spent)
+        self.compare_all()
         self.counts["models"] += 1
         return self.counts
 
-    def compare_clauses(self, model):
-        self.cnf_text = self.run("compile", model)
+    def compare_clauses(self):
         self.compiled = Compiled(self.cnf_text)
         self.want(list(self.compiled.names) == list(self.model.domains), "other names")
         found = Search(self.compiled, self.chance).solutions()
@@ -158,7 +186,6 @@ class Trial:
             self.compare_decoding(cnf, change(self.chance, text))
 
     def compare_decoding(self, cnf, text, whole=False):
-        told = self.run("decode", cnf, self.path("values", text), codes=(0, 1)).decode()
         try:
             true = values(self.compiled, text)
             shown = {True: "true", False: "false"}
@@ -168,9 +195,10 @@ class Trial:
             self.want(not whole, "the reading refuses values that it made")
             wanted = f"REFUSED {refused.args[0]}\n"
             self.counts["values refused"] += 1
-        self.want(told == wanted, f"decode: {told!r}, wanted {wanted!r}")
+        run = self.start("decode", cnf, self.path(f"{len(self.runs)}.values", text))
+        self.compare_later(run, lambda told: self.want(told == wanted, f"decode: {told!r}, wanted {wanted!r}"))
 
-    def is_true(self, verdict, text):
+    def is_true(self, verdict):
         """Whether a verdict is that of trying all assignments."""
         kind, *numbers = verdict.split(" ")
         if kind == "UNKNOWN":
@@ -182,7 +210,7 @@ class Trial:
     def compare_answer(self, model, text):
         verdict = self.reading(text)
         self.want(verdict[0] == "ACCEPTED", f"the reading of what solve wrote: {verdict}")
-        self.want(self.is_true(verdict[1], text), f"{verdict[1]} is not true")
+        self.want(self.is_true(verdict[1]), f"{verdict[1]} is not true")
         self.counts[verdict[1].split(" ")[0]] += 1
         self.compare_check(model, text, "")
         for change in CHANGES:
@@ -196,7 +224,10 @@ class Trial:
             return "REFUSED", str(refused.args[0])
 
     def compare_check(self, model, text, changed):
-        told = self.run("check", model, self.path("answer", text), codes=(0, 1)).decode()
+        run = self.start("check", model, self.path(f"{len(self.runs)}.answer", text))
+        self.compare_later(run, lambda told: self.compare_told(told, text, changed))
+
+    def compare_told(self, told, text, changed):
         name, _, rest = told.rstrip("\n").partition(" ")
         self.want(told == f"{name} {rest}\n" and name in ("ACCEPTED", "REFUSED"), f"check wrote {told!r}")
         try:
@@ -204,7 +235,7 @@ class Trial:
             self.want((name, rest) == wanted, f"check: {told!r}, wanted {wanted}")
             what = ""
         except Unread:
-            self.want(name == "REFUSED" or self.is_true(rest, text), f"check: {told!r}, which is not true")
+            self.want(name == "REFUSED" or self.is_true(rest), f"check: {told!r}, which is not true")
             what = " in its ledger"
         if changed:
             self.counts[f"{changed}{what}, {name.lower()}"] += 1
@@ -254,6 +285,14 @@ def attempt(job):
             with open(os.path.join(folder, f"failure-{index}.{name}"), "wb") as sink:
                 sink.write(content)
         return index, trial.counts, f"{type(error).__name__}: {error}"
+    finally:
+        trial.stop()
+
+
+def tell(counts, failures):
+    for name, number in sorted(counts.items()):
+        print(f"{number:9} {name}")
+    print(f"{failures:9} failures", flush=True)
 
 
 def main():
@@ -261,14 +300,16 @@ def main():
     jobs = ((program, folder, seed, index) for index in range(int(count)))
     counts, failures = collections.Counter(), 0
     with multiprocessing.Pool(int(processes[0] if processes else 3)) as pool:
-        for index, one, failure in pool.imap_unordered(attempt, jobs, 8):
+        for done, (index, one, failure) in enumerate(pool.imap_unordered(attempt, jobs, 4), 1):
             counts += one
             if failure:
                 failures += 1
                 print(f"model {index} of seed {seed}: {failure}", flush=True)
-    for name, number in sorted(counts.items()):
-        print(f"{number:9} {name}")
-    print(f"{failures:9} failures")
+            if done % 500 == 0:
+                print(f"after {done} models:")
+                tell(counts, failures)
+    print("in all:")
+    tell(counts, failures)
     sys.exit(1 if failures else 0)
 
 

@@ -1,5 +1,5 @@
 #!/usr/bin/env bash
-# Tries the program on small models, made at random from a seed: fuzz.sh [COUNT [SEED]], 10,000 models of seed 1 without words. Each model has a statement of a given kind, all
+# Tries the program on small models, made at random from a seed: fuzz.sh [COUNT [SEED [PROCESSES]]], 10,000 models of seed 1 by three processes without words. Each model has a statement of a given kind, all
 # kinds in turn, and up to three others; listed domains, constants and negations in places of names, both directions and two objectives come up in all of them. All assignments are tried,
 # and with what they say is compared:
 #   compile    the solutions that the clauses stand for, all of them, found by a search of the clauses
@@ -14,7 +14,7 @@ top=$(cd "$(dirname "${BASH_SOURCE[0]}")/.." && pwd)
 program=${BEE:-$top/crates/bee/out/bee}
 [ -n "${BEE:-}" ] || "$top/bee" compile "$top/examples/pigeonhole.bee" >/dev/null
 folder=$(mktemp -d)
-if python3 "$top/bench/fuzz.py" "$program" "${1:-10000}" "${2:-1}" "$folder"; then
+if python3 "$top/bench/fuzz.py" "$program" "${1:-10000}" "${2:-1}" "$folder" "${3:-3}"; then
   rm -rf "$folder"
 else
   echo "the texts of each failure are in $folder" >&2

@@ -10,8 +10,21 @@
 # the seconds of checking against the lines, from its first size to its last. It stops with an error where an answer isn't taken. It builds a small program over a copy
 # of the crates: `check.sh` proves and builds it, in which time the crates are proved that weren't yet; `check.sh --try` runs it without proof,
 # slower and with checks, so that the sizes are smaller. Wants python3 and rt.
+#
+# `check.sh --solved` times `bee check` beside `bee solve` over what that writes. Words behind it name the families; without words all are taken:
+#   pigeons      seven to nine pigeons in one hole fewer
+#   quasigroup   a Latin square with holes; `spoiled` is the same with two places of a row equal
+#   count        half of 2,000 Booleans are true; `certified` is the same with something to be minimized, so that the ledger stands in the answer
+#   golomb       the shortest ruler of seven marks
+#   queens       sixteen queens, of which two are told to stand in one diagonal; `cornered` are those with too few rows
+# It prints the verdict, the lines of the ledger and of derivations, the bytes, the seconds of both, and the latter beside the former. BEE names another program that is run.
 set -eu
 top=$(cd "$(dirname "${BASH_SOURCE[0]}")/.." && pwd)
+if [ "${1:-}" = --solved ]; then
+  shift
+  [ -n "${BEE:-}" ] || "$top/bee" compile "$top/examples/pigeonhole.bee" >/dev/null
+  exec python3 "$top/bench/solved.py" "${BEE:-$top/crates/bee/out/bee}" "$@"
+fi
 if [ "${1:-}" = --try ]; then
   families=(pigeons:5,6,7 count:125,250,500 two_equal:250,500,1000)
 else

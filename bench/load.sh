@@ -1,0 +1,23 @@
+#!/usr/bin/env bash
+# Runs the program on texts at its limits, each once at a tenth of its size and once whole:
+#   one name, names, integers             16,777,216 bytes of one name, of declared Booleans, of declared integers
+#   one numeral, values, one value        of leading zeros, of a list of values upwards or downwards, of one value again and again
+#   one clause, constants, coefficients   of one list of millions of terms, as a clause, a sum, a linear sum
+#   statements, clauses                   of statements on few names
+#   one comment, comments, gaps           of what says nothing
+#   too long, brackets                    a byte more, and no model
+#   weight below, weight above            an integer whose weight is just below and just above the limit
+#   chain                                 500,000 equal Booleans
+#   half                                  half of 16,000 Booleans true
+#   different                             1,000 members of 1,000 values that differ
+#   document, one line                    a document of 500,000,000 bytes, of a derivation that is accepted, and of one line
+# Words name the loads to be run; without words all are. It prints for each run the exit code, what was written, the processor's seconds, the peak memory as `time` has it, and
+# how many times more that is than at a tenth. It needs 6 GB of memory and 2 GB in the folder for temporary files. BEE names another program that is run. Wants python3 and
+# /usr/bin/time.
+set -eu
+top=$(cd "$(dirname "${BASH_SOURCE[0]}")/.." && pwd)
+program=${BEE:-$top/crates/bee/out/bee}
+[ -n "${BEE:-}" ] || "$top/bee" compile "$top/examples/pigeonhole.bee" >/dev/null
+folder=$(mktemp -d)
+trap 'rm -rf "$folder"' EXIT
+python3 "$top/bench/loads.py" "$program" "$folder" "$@"

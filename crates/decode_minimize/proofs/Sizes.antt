@@ -8,19 +8,20 @@ use Rattle.core_forms.specs.declared.form.Core.{Core}
 use Rattle.ledger_text.specs.declared.line.Line.{Line}
 use Rattle.step_kernel.specs.Kernel.{Kernel}
 use Rattle.step_kernel.specs.CnfOf.{cnf_of}
+use Rattle.step_kernel.specs.Steps.{step}
 use Rattle.state_compile.specs.Compilation.{LeadsInOrder, IsCompilation}
 use Rattle.decode_minimize.specs.declared.answering.CnfSize.{CnfSize}
 use Rattle.decode_minimize.specs.Answering.{size_of}
+
+one-result : {E : Type 0} (a b : Kernel) (r : Result Kernel E) → r ≡ Ok a → r ≡ Ok b → a ≡ b
+one-result a b r e f = cc
 
 -- a ledger leads to one state alone
 one-end : (told : Core → Equation → Type 0) (ledger : List Line) (start last other : Kernel) → LeadsInOrder told start ledger last → LeadsInOrder told start ledger other → last ≡ other
 one-end told [] start last other h k = sym h ∙ k
 one-end told (line ∷ ledger) start last other h k =
-    let same : k.0 ≡ h.0 = inside k.0 h.0 (sym k.1 ∙ h.1) in
+    let same : k.0 ≡ h.0 = one-result k.0 h.0 (step start line) k.1 h.1 in
     one-end told ledger h.0 last other h.3 (subst (λ (mid : Kernel). LeadsInOrder told mid ledger other) same k.3)
-  where
-    inside : {E : Type 0} (a b : Kernel) → Ok {E = E} a ≡ Ok b → a ≡ b
-    inside a b e = cc
 
 -- so the size of its CNF is that of each end
 pub size-there : (told : Core → Equation → Type 0) (ledger : List Line) (start first last other : Kernel) (size : CnfSize) → first ≡ start → size ≡ size_of (cnf_of last)
@@ -41,5 +42,5 @@ size-at-bottom k n vars bottom =
     λ i. record { variables = vars i; clauses = back i }
 
 -- and else the size is that of the clauses that were made
-pub size-made : (k : Kernel) (cnf : Cnf) → cnf ≡ cnf_of k → size_of cnf ≡ size_of (cnf_of k)
-size-made k cnf shape = ap size_of shape
+pub size-made : (k : Kernel) (cnf : Cnf) (n : ℕ) → n ≡ length cnf.clauses → cnf ≡ cnf_of k → record { variables = cnf.vars; clauses = n } ≡ size_of (cnf_of k)
+size-made k cnf n count shape = (λ i. record { variables = cnf.vars; clauses = count i }) ∙ ap size_of shape

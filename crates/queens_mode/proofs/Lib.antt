@@ -1,1 +1,3 @@
 pub mod Ends
+mod Placings
+mod Written

@@ -49,13 +49,10 @@ fn push_head(
     push_count(out, b"queens", u128::from(size))?;
     push_count(out, b"variables", u128::from(cnf.variables))?;
     push_count(out, b"clauses", cnf.clauses as u128)?;
-    push_count(
-        out,
-        b"equations",
-        u128::from(equations(document.ledger.as_slice())),
-    )?;
+    push_count(out, b"equations", u128::from(equations(document.ledger.as_slice())))?;
     push_verdict(out, document.verdict)?;
-    end_line(out)
+    end_line(out)?;
+    Ok(())
 }
 
 /// The value at a place, and 0 past the last one.
@@ -98,7 +95,8 @@ fn push_solution(out: &mut Vec<u8>, size: u64, document: &Document) -> Result<()
         ++ join_lines (solution_lines size (values_of document.now.assignment) document.now.ledger)) }
 {
     push_columns(out, values_of(&document.assignment), size)?;
-    push_bytes(out, b"\nledger\n")?;
+    end_line(out)?;
+    push_bytes(out, b"ledger\n")?;
     push_ledger(out, document.ledger.as_slice())?;
     push_bytes(out, b"end\n")?;
     Ok(())
@@ -136,11 +134,6 @@ pub fn write_summary(
 {
     let mut out = Vec::new(alloc);
     push_head(&mut out, size, answered.size, &answered.document)?;
-    push_rest(
-        &mut out,
-        size,
-        answered.decls.as_slice(),
-        &answered.document,
-    )?;
+    push_rest(&mut out, size, answered.decls.as_slice(), &answered.document)?;
     Ok(out)
 }

@@ -27,4 +27,4 @@ returns-clause-solved c =
     subst (λ (p : Problem). IsSolvedFor p c.args.options c.args.goal c.in_ok-solved.solved) same c.in_ok-solved.ensures
 
 pub returns-clause-size : goal.returns-clause-size
-returns-clause-size c = size-made c.args.state.now c.in_ok-cnf.cnf c.in_ok-cnf.ensures.shape
+returns-clause-size c = size-made c.args.state.now c.in_ok-cnf.cnf c.len.result c.len.ensures c.in_ok-cnf.ensures.shape

@@ -1,0 +1,49 @@
+-- What is written for a board tells an answer to the model of its queens.
+use Rattle.std.proofs.Common.{◌≡◌, ℕ, ◌≤◌, List, ap, ◌∙◌, subst}
+use Rattle.model_meaning.specs.declared.model.Decl.{Decl}
+use Rattle.model_meaning.specs.declared.model.Model.{Model}
+use Rattle.model_meaning.specs.WellTyped.{WellTyped}
+use Rattle.model_meaning.specs.Limits.{InLimits}
+use Rattle.model_weight.specs.Weight.{weight_of}
+use Rattle.model_lower.specs.Weighed.{most_weight}
+use Rattle.text_modes.specs.declared.ends.Outcome.{Outcome}
+use Rattle.step_kernel.specs.Kernel.{Kernel}
+use Rattle.step_kernel.specs.CnfOf.{cnf_of}
+use Rattle.state_compile.specs.Compilation.{IsCompilation}
+use Rattle.answer_document.specs.Valid.{start_of, numbers_given}
+use Rattle.answer_document.proofs.ClaimLaws.{claim_law}
+use Rattle.decode_minimize.specs.declared.answering.AnsweredModel.{AnsweredModel}
+use Rattle.decode_minimize.specs.declared.answering.CnfSize.{CnfSize}
+use Rattle.decode_minimize.specs.declared.options.Options.{Options}
+use Rattle.decode_minimize.specs.Answers.{IsAnswer}
+use Rattle.decode_minimize.specs.Answering.{size_of}
+use Rattle.solve_mode.specs.Solved.{IsInstance, outcome_of}
+use Rattle.queens_model.specs.Queens.{queens}
+use Rattle.queens_mode.specs.Summary.{summary_text}
+use Rattle.queens_mode.specs.QueensMode.{IsPlaced}
+
+-- an answer to a model by all rules, whatever its counter counted
+abbrev IsAnswered : Options → AnsweredModel → Model → Type 0
+IsAnswered options a model = (before : ℕ) × (after : ℕ) × IsAnswer IsInstance model options a.document before after
+
+-- and the size of its CNF
+abbrev IsSized : AnsweredModel → Model → Type 0
+IsSized a model = (last : Kernel) → IsCompilation IsInstance (start_of model) a.document.ledger last → a.size ≡ size_of (cnf_of last)
+
+pub placed : (options : Options) (size : ℕ) (model : Model) (a : AnsweredModel) (outcome : Outcome) (written : List ℕ) → model ≡ queens size → WellTyped model → InLimits model → weight_of model ≤ most_weight
+    → IsAnswered options a model → a.decls ≡ model.decls → IsSized a model → written ≡ summary_text size a.decls a.size a.document → outcome ≡ outcome_of a.document.verdict → IsPlaced options size outcome written
+placed options size model a outcome written same typed limits light answered decls sized writes outcome_is =
+    let here : IsAnswered options a (queens size) = subst (IsAnswered options a) same answered in
+    let size-here : IsSized a (queens size) = subst (IsSized a) same sized in
+    let weighs : weight_of (queens size) ≤ most_weight = subst (λ (m : Model). weight_of m ≤ most_weight) same light in
+    record {
+      document = a.document;
+      before = here.0;
+      after = here.1;
+      is = here.2;
+      true_claims = claim_law (queens size) _ a.document.verdict (numbers_given a.document.assignment) (subst WellTyped same typed) (subst InLimits same limits) weighs here.2.valid;
+      writes = writes
+          ∙ ap (λ (ds : List Decl). summary_text size ds a.size a.document) (decls ∙ ap (λ (m : Model). m.decls) same)
+          ∙ ap (λ (s : CnfSize). summary_text size (queens size).decls s a.document) (size-here here.2.last here.2.compilation);
+      outcome_is = outcome_is;
+    }

@@ -13,11 +13,7 @@ use std::alloc::{AllocError, Global};
 use text_modes::Outcome;
 
 /// The text for a board. The model of each board is light, so that nothing but want of memory refuses it.
-pub fn place(
-    alloc: Global,
-    size: u64,
-    options: Options,
-) -> Result<(Outcome, Vec<u8>), AllocError>
+pub fn place(alloc: Global, size: u64, options: Options) -> Result<(Outcome, Vec<u8>), AllocError>
     requires least { 4 ≤ size }
     requires most { size ≤ 24 }
     requires budget { IsBudget options.budget }

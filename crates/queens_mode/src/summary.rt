@@ -49,7 +49,11 @@ fn push_head(
     push_count(out, b"queens", u128::from(size))?;
     push_count(out, b"variables", u128::from(cnf.variables))?;
     push_count(out, b"clauses", cnf.clauses as u128)?;
-    push_count(out, b"equations", u128::from(equations(document.ledger.as_slice())))?;
+    push_count(
+        out,
+        b"equations",
+        u128::from(equations(document.ledger.as_slice())),
+    )?;
     push_verdict(out, document.verdict)?;
     end_line(out)?;
     Ok(())
@@ -134,6 +138,11 @@ pub fn write_summary(
 {
     let mut out = Vec::new(alloc);
     push_head(&mut out, size, answered.size, &answered.document)?;
-    push_rest(&mut out, size, answered.decls.as_slice(), &answered.document)?;
+    push_rest(
+        &mut out,
+        size,
+        answered.decls.as_slice(),
+        &answered.document,
+    )?;
     Ok(out)
 }

@@ -55,7 +55,8 @@ fn push_head(
         u128::from(equations(document.ledger.as_slice())),
     )?;
     push_verdict(out, document.verdict)?;
-    end_line(out)
+    end_line(out)?;
+    Ok(())
 }
 
 /// The value at a place, and 0 past the last one.
@@ -98,7 +99,8 @@ fn push_solution(out: &mut Vec<u8>, size: u64, document: &Document) -> Result<()
         ++ join_lines (solution_lines size (values_of document.now.assignment) document.now.ledger)) }
 {
     push_columns(out, values_of(&document.assignment), size)?;
-    push_bytes(out, b"\nledger\n")?;
+    end_line(out)?;
+    push_bytes(out, b"ledger\n")?;
     push_ledger(out, document.ledger.as_slice())?;
     push_bytes(out, b"end\n")?;
     Ok(())

@@ -194,7 +194,7 @@ module _ (told : Core → Equation → Type 0) (occurs : OccurrenceLists) (marks
 -- ---- a core that was asked
 
 -- what the store makes of a core that is as it has it
-there-trimmed : (k : Kernel) → IsKernel k → (id : ℕ) (core : Core) → trimmed_at k id ≡ Some core → trimmed_core k.view core ≡ core
+pub there-trimmed : (k : Kernel) → IsKernel k → (id : ℕ) (core : Core) → trimmed_at k id ≡ Some core → trimmed_core k.view core ≡ core
 there-trimmed k is id core there =
     let r = is-there k id core there in
     ap (trimmed_core k.view) (sym r.is) ∙ trimmed_again k.view r.core is.labelled ∙ r.is

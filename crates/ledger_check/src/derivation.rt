@@ -98,7 +98,7 @@ impl Reading {
             None => false,
             Some(proof) => {
                 let bound = first_bound(model.goal, self.map.entries.as_slice(), number);
-                is_shown(proof, resolve(self.state.state().view(), bound))
+                is_shown(proof, resolve(self.state.view(), bound))
             }
         }
     }
@@ -112,7 +112,7 @@ impl Reading {
             None => false,
             Some(proof) => {
                 let bound = second_bound(model.goal, self.map.entries.as_slice(), number);
-                is_shown(proof, resolve(self.state.state().view(), bound))
+                is_shown(proof, resolve(self.state.view(), bound))
             }
         }
     }
@@ -146,7 +146,7 @@ impl Reading {
         ensures took { IfOk result (λ o. Took (with_kernel (standing_of self.old) (step self.old.state line.now)) (standing_of self.new) o) }
         ensures later { IsLater self.old self.new }
     {
-        let _vars = self.state.state().vars();
+        let _vars = self.state.vars();
         match self.state.apply(line) {
             Ok(()) => Ok(None),
             Err(ApplyFault::Step(fault)) => Ok(Some(Why::Step(fault))),
@@ -160,7 +160,7 @@ impl Reading {
         ensures later { IsLater self.old self.new }
     {
         let alloc = *self.values.allocator();
-        let checker = checker_of(alloc, self.state.state())?;
+        let checker = checker_of(alloc, &self.state)?;
         self.first = Some(checker);
         self.part = Part::Proof;
         Ok(None)
@@ -199,7 +199,7 @@ impl Reading {
         }
         let alloc = *self.values.allocator();
         let bound = settled(model.goal, self.map.entries.as_slice(), bounds.first);
-        let checker = settled_checker(alloc, self.state.state(), resolve(self.state.state().view(), bound))?;
+        let checker = settled_checker(alloc, &self.state, resolve(self.state.view(), bound))?;
         self.second = Some(checker);
         self.part = Part::Second;
         Ok(None)

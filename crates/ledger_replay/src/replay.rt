@@ -1,7 +1,9 @@
 //! A state that the lines of a ledger are made at.
 
-ghost use Rattle.std.specs.Prelude.{◌≡◌, Ok, IfErr, OnOk, OnErr, IfSome, IsTrue, true, false};
+ghost use Rattle.std.specs.Prelude.{◌≡◌, length, Ok, IfOk, IfErr, OnOk, OnErr, IfSome, IsTrue, true, false};
+ghost use Rattle.order_ints.specs.Place.{InRange};
 ghost use Rattle.step_kernel.specs.Kernel.{IsKernel};
+ghost use Rattle.step_kernel.specs.CnfOf.{cnf_of};
 ghost use Rattle.step_kernel.specs.Models.{Keeps};
 ghost use Rattle.step_kernel.specs.Steps.{step, IsFaultOf};
 ghost use Rattle.ledger_text.specs.declared.line.Line.TheVariants.{Equate};
@@ -10,7 +12,8 @@ ghost use Rattle.ledger_replay.specs.Due.{IsRunAt};
 use crate::run::{Run, run_at, run_behind};
 use core_forms::{Equation, Rule};
 use ledger_text::Line;
-use std::alloc::Global;
+use order_ints::{Atom, Cnf};
+use std::alloc::{AllocError, Global};
 use std::marker::Model;
 use step_kernel::{ApplyFault, State};
 
@@ -50,13 +53,28 @@ impl Replay {
         }
     }
 
-    /// The state behind the lines that were made.
-    pub fn state(&self) -> &State
-        ensures state { result.now ≡ self.now }
+    /// The label of each variable, that of variable 1 first.
+    pub fn view(&self) -> &[Atom]
+        ensures view { result.now ≡ self.now.view }
         ensures kernel { IsKernel self.now }
     {
-        let _kernel = self.state.bottom();
-        &self.state
+        self.state.view()
+    }
+
+    /// How many variables there are.
+    pub fn vars(&self) -> u32
+        ensures vars { result ≡ length self.now.view }
+        ensures kernel { IsKernel self.now }
+    {
+        self.state.vars()
+    }
+
+    /// The clauses in order, as the store has them now, each once; at bottom the empty clause alone.
+    pub fn cnf(&self) -> Result<Cnf, AllocError>
+        ensures shape { IfOk result (λ cnf. cnf ≡ cnf_of self.now) }
+        ensures in_range { IfOk result InRange }
+    {
+        self.state.cnf()
     }
 
     /// The run that is left, where it is of the core with an id, or else a run of that core, where the line before was
@@ -81,6 +99,7 @@ impl Replay {
     }
 
     /// Makes an equation that is the next one of a run, and tells whether it was.
+    #[tactic(auto, using(crate::proofs::Turns::run_after))]
     fn follow_run(&mut self, id: u64, e: &Equation) -> bool
         ensures made { IsTrue result → (step self.old (Equate id e.now) ≡ Ok self.new) }
         ensures stays { result ≡ false → (self.new ≡ self.old) }
@@ -102,7 +121,9 @@ impl Replay {
     fn follow(&mut self, line: &Line) -> bool
         ensures made { IsTrue result → (step self.old line.now ≡ Ok self.new) }
         ensures stays { result ≡ false → (self.new ≡ self.old) }
+        ensures kernel { IsKernel self.old }
     {
+        let _vars = self.state.vars();
         match line {
             Line::Equate { id, e } => self.follow_run(*id, e),
             Line::Split { .. } | Line::Encode { .. } => {

@@ -4,6 +4,7 @@ ghost use Rattle.std.specs.Prelude.{◌≡◌, ◌↔◌, ◌+◌, ◌<◌, ℕ,
 ghost use Rattle.core_forms.specs.Place.{CoreBelow};
 ghost use Rattle.core_forms.specs.WellFormed.{IsWellFormed};
 ghost use Rattle.equation_runs.specs.Turns.{resolved_equation, IsMade, AreToldInTurn, EquationsBelow, is_stated};
+ghost use Rattle.step_kernel.specs.Kernel.{IsKernel};
 ghost use Rattle.ledger_replay.specs.Due.{AreDue, IsRunAt, IsNext};
 
 use core_forms::{Core, Equation};
@@ -78,12 +79,14 @@ fn stands_as(view: &[Atom], e: &Equation, given: &Equation) -> bool
 }
 
 /// The place of the first equation of a run, from a place on, that is not made.
+#[tactic(auto, using(crate::proofs::Turns::due_behind, crate::proofs::Turns::due_none))]
 fn first_open(state: &State, id: u64, run: &[Equation], place: usize) -> usize
     requires { AreDue state.now id (drop place run.now) }
     ensures { AreDue state.now id (drop result run.now) }
 {
+    let view = state.view();
     for i in place..run.len() {
-        if !is_made(state.view(), &run[i]) {
+        if !is_made(view, &run[i]) {
             return i;
         }
     }
@@ -91,11 +94,17 @@ fn first_open(state: &State, id: u64, run: &[Equation], place: usize) -> usize
 }
 
 /// Whether an equation is the one at a place of a run, as the store has it, and is not made.
+#[tactic(auto, using(crate::proofs::Turns::next_due))]
 fn is_next(state: &State, id: u64, run: &[Equation], place: usize, e: &Equation) -> bool
     requires { AreDue state.now id (drop place run.now) }
-    ensures { IsTrue result → IsNext state.now id e.now (drop (place + 1) run.now) }
+    ensures low { IsTrue result → place < length run.now }
+    ensures next { IsTrue result → IsNext state.now id e.now (drop (place + 1) run.now) }
 {
-    place < run.len() && e.a != e.b && stands_as(state.view(), &run[place], e)
+    let view = state.view();
+    if place >= run.len() || e.a == e.b {
+        return false;
+    }
+    stands_as(view, &run[place], e)
 }
 
 /// What is left of a run behind an equation, where that is the first one of it that is not made, as the store has
@@ -105,7 +114,9 @@ pub(crate) fn run_behind(state: &State, run: Run, e: &Equation) -> Option<Run>
     ensures id { IfSome result (λ behind. behind.id ≡ run.id) }
     ensures next { IfSome result
         (λ behind. IsNext state.now run.id e.now (drop behind.place behind.equations.items)) }
+    ensures kernel { IsKernel state.now }
 {
+    let _vars = state.vars();
     let Run {
         id,
         equations,

@@ -117,7 +117,7 @@ impl Replay {
         true
     }
 
-    /// Makes a line that is the next one of a run, and tells whether it was. A line that is no equation ends the run.
+    /// Makes a line that is the next one of a run, and tells whether it was.
     fn follow(&mut self, line: &Line) -> bool
         ensures made { IsTrue result → (step self.old line.now ≡ Ok self.new) }
         ensures stays { result ≡ false → (self.new ≡ self.old) }
@@ -127,7 +127,6 @@ impl Replay {
         match line {
             Line::Equate { id, e } => self.follow_run(*id, e),
             Line::Split { .. } | Line::Encode { .. } => {
-                self.run = None;
                 self.looked = None;
                 false
             }

@@ -11,6 +11,8 @@ use Rattle.core_forms.specs.Trimmed.{trimmed_core}
 use Rattle.equation_runs.specs.Turns.{resolved_equation, IsMade, AreToldInTurn, made_equation, EquationsBelow, is_stated}
 use Rattle.equi_rules.specs.Instances.{is_instance_of as is_equi_instance}
 use Rattle.arith_rules.specs.Instances.{is_instance_of as is_arith_instance}
+use Rattle.alldiff_rules.specs.Instances.{is_instance_of as is_alldiff_instance}
+use Rattle.table_rules.specs.Instances.{is_instance_of as is_table_instance}
 use Rattle.core_rules.specs.Instances.{is_instance_at}
 use Rattle.step_kernel.specs.Kernel.{Kernel, trimmed_at, IsKernel}
 use Rattle.step_kernel.specs.Steps.{equated}
@@ -25,12 +27,12 @@ told c e = is_stated c e ≡ true
 
 -- it is an instance of a rule
 told-instance : (core : Core) (e : Equation) → told core e → is_instance_at core e ≡ true
-told-instance core e h = by (is_equi_instance core e) (is_arith_instance core e) h
+told-instance core e h = by (is_equi_instance core e) (is_arith_instance core e) (is_alldiff_instance core e || is_table_instance core e) h
   where
-    by : (a b : Bool) {c : Bool} → (a || b) ≡ true → (a || (b || c)) ≡ true
-    by true b h = refl
-    by false true h = refl
-    by false false h = absurd (false≢true h)
+    by : (a b c : Bool) → (a || b) ≡ true → (a || (b || c)) ≡ true
+    by true b c h = refl
+    by false true c h = refl
+    by false false c h = absurd (false≢true h)
 
 module _ (k : Kernel) (is : IsKernel k) (id : ℕ) where
   -- a run that was just made is due

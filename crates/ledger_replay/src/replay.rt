@@ -110,6 +110,7 @@ impl Replay {
         let Some(behind) = run_behind(&self.state, run, e) else {
             return false;
         };
+        self.run = None;
         self.state.equate_told(id, e);
         if !self.state.bottom() {
             self.run = Some(behind);

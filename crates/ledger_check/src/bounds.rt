@@ -11,11 +11,11 @@ ghost use Rattle.answer_document.specs.Valid.{atom_clauses, stated};
 ghost use Rattle.ledger_check.specs.Tests.{is_shown};
 
 use answer_document::{Bounds, Verdict, with_atom};
+use ledger_replay::Replay;
 use model_meaning::Goal;
 use order_ints::{Atom, Cnf, MapValue};
 use proof_check::Checker;
 use std::alloc::{AllocError, Global};
-use step_kernel::State;
 
 /// The atom that is true where what a name stands for is at least a number. A name that stands for no integer is 0.
 fn at_named(entries: &[MapValue], place: usize, number: i128) -> Atom
@@ -126,7 +126,7 @@ pub(crate) fn stated(verdict: Verdict) -> Option<Bounds>
 }
 
 /// The checker of derivations from the CNF of a state.
-pub(crate) fn checker_of(alloc: Global, state: &State) -> Result<Checker, AllocError>
+pub(crate) fn checker_of(alloc: Global, state: &Replay) -> Result<Checker, AllocError>
     ensures { IfOk result (λ c. c ≡ proof_of (cnf_of state.now)) }
 {
     let _vars = state.vars();
@@ -137,7 +137,7 @@ pub(crate) fn checker_of(alloc: Global, state: &State) -> Result<Checker, AllocE
 /// The checker of derivations from the CNF of a state and the clause of an atom behind it.
 pub(crate) fn settled_checker(
     alloc: Global,
-    state: &State,
+    state: &Replay,
     atom: Atom,
 ) -> Result<Checker, AllocError>
     requires { AtomBelow (length state.now.view + 1) atom }

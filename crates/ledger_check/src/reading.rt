@@ -2,9 +2,9 @@
 
 use crate::part::Part;
 use answer_document::Verdict;
+use ledger_replay::Replay;
 use name_map::NameMap;
 use proof_check::Checker;
-use step_kernel::State;
 
 /// What is kept of the lines that were read: the part that comes next, the verdict, the values, the state of the
 /// compilation, what the names stand for in the lowered model, and the checkers of the derivations.
@@ -13,7 +13,7 @@ pub(crate) struct Reading {
     pub(crate) part: Part,
     pub(crate) verdict: Verdict,
     pub(crate) values: Vec<i64>,
-    pub(crate) state: State,
+    pub(crate) state: Replay,
     pub(crate) map: NameMap,
     pub(crate) first: Option<Checker>,
     pub(crate) second: Option<Checker>,

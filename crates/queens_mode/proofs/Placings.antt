@@ -17,7 +17,8 @@ use Rattle.decode_minimize.specs.declared.answering.CnfSize.{CnfSize}
 use Rattle.decode_minimize.specs.declared.options.Options.{Options}
 use Rattle.decode_minimize.specs.Answers.{IsAnswer}
 use Rattle.decode_minimize.specs.Answering.{size_of}
-use Rattle.solve_mode.specs.Solved.{IsInstance, outcome_of}
+use Rattle.bee_compile.specs.Compiled.{IsInstance}
+use Rattle.solve_mode.specs.Solved.{outcome_of}
 use Rattle.queens_model.specs.Queens.{queens}
 use Rattle.queens_mode.specs.Summary.{summary_text}
 use Rattle.queens_mode.specs.QueensMode.{IsPlaced}

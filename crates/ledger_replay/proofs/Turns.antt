@@ -1,0 +1,131 @@
+-- Equations of a run that are due at a core, one after another.
+use Rattle.std.proofs.Common.{◌≡◌, ℕ, ◌+◌, ◌<◌, Bool, true, false, ◌||◌, List, [], length, drop, get_or, refl, sym, ap, ◌∙◌, subst, arith, Some}
+use Rattle.std.proofs.lemmas.Bool.{false≢true}
+use Rattle.std.proofs.lemmas.List.{drop_all, get_or_default}
+use Rattle.order_ints.specs.declared.atom.Atom.{Atom}
+use Rattle.order_ints.specs.Label.{IsLabel}
+use Rattle.core_forms.specs.declared.equation.Equation.{Equation}
+use Rattle.core_forms.specs.declared.form.Core.{Core}
+use Rattle.core_forms.specs.Place.{CoreBelow}
+use Rattle.core_forms.specs.Trimmed.{trimmed_core}
+use Rattle.equation_runs.specs.Turns.{resolved_equation, IsMade, AreToldInTurn, made_equation, EquationsBelow, is_stated}
+use Rattle.equi_rules.specs.Instances.{is_instance_of as is_equi_instance}
+use Rattle.arith_rules.specs.Instances.{is_instance_of as is_arith_instance}
+use Rattle.alldiff_rules.specs.Instances.{is_instance_of as is_alldiff_instance}
+use Rattle.table_rules.specs.Instances.{is_instance_of as is_table_instance}
+use Rattle.core_rules.specs.Instances.{is_instance_at}
+use Rattle.step_kernel.specs.Kernel.{Kernel, trimmed_at, IsKernel}
+use Rattle.step_kernel.specs.Steps.{equated}
+use Rattle.step_kernel.proofs.There.{there-below, there-labels}
+use Rattle.fixpoint_queue.proofs.Runs.{same-vars, there-later, there-trimmed, made-equated, told-of, turn-next, below-next, unless-bottom}
+use Rattle.ledger_replay.specs.declared.run.Run.{Run}
+use Rattle.ledger_replay.specs.Due.{AreDue, IsRunAt, IsNext}
+
+-- what is told of a core in turn
+abbrev told : Core → Equation → Type 0
+told c e = is_stated c e ≡ true
+
+-- it is an instance of a rule
+told-instance : (core : Core) (e : Equation) → told core e → is_instance_at core e ≡ true
+told-instance core e h = by (is_equi_instance core e) (is_arith_instance core e) (is_alldiff_instance core e || is_table_instance core e) h
+  where
+    by : (a b c : Bool) → (a || b) ≡ true → (a || (b || c)) ≡ true
+    by true b c h = refl
+    by false true c h = refl
+    by false false c h = absurd (false≢true h)
+
+module _ (k : Kernel) (is : IsKernel k) (id : ℕ) where
+  -- a run that was just made is due
+  pub due_whole : (core : Core) (run : List Equation) → k.bottom ≡ false → trimmed_at k id ≡ Some core → AreToldInTurn (λ c e. is_stated c e ≡ true) core run
+      → EquationsBelow (length k.view + 1) run → AreDue k id run
+  due_whole core run running there turns places = record {
+    running = running;
+    core = core;
+    there = there ∙ ap Some (sym (there-trimmed k is id core there));
+    below = there-below k id core is there;
+    before = made_equation;
+    made = refl;
+    told = turns;
+    places = places;
+  }
+
+  module _ (run : List Equation) (i : ℕ) (low : i < length run) (due : AreDue k id (drop i run)) where
+    abbrev next : Equation
+    next = get_or run i made_equation
+
+    -- what is behind an equation that is made is due
+    made-behind : IsMade k.view next → AreDue k id (drop (i + 1) run)
+    made-behind made = record {
+      running = due.running;
+      core = due.core;
+      there = due.there;
+      below = due.below;
+      before = next;
+      made = made;
+      told = (turn-next told due.core k.view run i low (due.before, due.made, due.told)).1;
+      places = (below-next (length k.view + 1) run i low due.places).1;
+    }
+
+    module _ (other : IsMade k.view next → ⊥) where
+      abbrev core : Core
+      core = trimmed_core k.view due.core
+
+      abbrev e : Equation
+      e = resolved_equation k.view next
+
+      instance : is_instance_at core e ≡ true
+      instance = told-instance core e (told-of told due.core k.view next (turn-next told due.core k.view run i low (due.before, due.made, due.told)).0 other)
+
+      labels : IsLabel k.view e.a × IsLabel k.view e.b
+      labels = there-labels k id core is due.there e instance
+
+      same : length (equated k e).view ≡ length k.view
+      same = same-vars k is e labels
+
+      behind : (equated k e).bottom ≡ false → AreDue (equated k e) id (drop (i + 1) run)
+      behind running =
+          let places = below-next (length k.view + 1) run i low due.places in
+          record {
+            running = running;
+            core = due.core;
+            there = there-later k is id due.core due.below due.there e labels;
+            below = subst (λ (n : ℕ). CoreBelow (n + 1) due.core) (sym same) due.below;
+            before = next;
+            made = unless-bottom (equated k e).bottom running (made-equated k is next places.0.0 places.0.1 other);
+            told = (turn-next told due.core k.view run i low (due.before, due.made, due.told)).1;
+            places = subst (λ (n : ℕ). EquationsBelow (n + 1) (drop (i + 1) run)) (sym same) places.1;
+          }
+
+      resolved-next : IsNext k id e (drop (i + 1) run)
+      resolved-next = record { running = due.running; instance = (core, due.there, instance); behind = behind }
+
+    -- the equation itself, as the store has it, is an instance, and what is behind it is due once it is made
+    given-next : (e : Equation) → e ≡ resolved_equation k.view next → (e.a ≡ e.b → ⊥) → IsNext k id e (drop (i + 1) run)
+    given-next e is_e apart =
+        subst (λ (f : Equation). IsNext k id f (drop (i + 1) run)) (sym is_e)
+        (resolved-next (λ made. apart (ap (λ (f : Equation). f.a) is_e ∙ made ∙ sym (ap (λ (f : Equation). f.b) is_e))))
+
+  -- the same, of what a call reads
+  pub due_behind : (run : List Equation) (i : ℕ) (default : Equation) (view : List Atom) → i < length run → AreDue k id (drop i run) → view ≡ k.view
+      → IsMade view (get_or run i default) → AreDue k id (drop (i + 1) run)
+  due_behind run i default view low due same made =
+      made-behind run i low due (subst (λ (f : Equation). IsMade k.view f) (get_or_default run i default made_equation low) (subst (λ (v : List Atom). IsMade v (get_or run i default)) same made))
+
+  pub next_due : (run : List Equation) (i : ℕ) (default : Equation) (view : List Atom) (e : Equation) → i < length run → AreDue k id (drop i run) → view ≡ k.view
+      → e ≡ resolved_equation view (get_or run i default) → (e.a ≡ e.b → ⊥) → IsNext k id e (drop (i + 1) run)
+  next_due run i default view e low due same is_e apart =
+      given-next run i low due e
+      (is_e ∙ ap (λ (v : List Atom). resolved_equation v (get_or run i default)) same ∙ ap (resolved_equation k.view) (get_or_default run i default made_equation low)) apart
+
+  -- nothing is due behind the last one
+  pub due_none : (run es : List Equation) → AreDue k id es → AreDue k id (drop (length run) run)
+  due_none run es due = subst (AreDue k id) (sym (drop_all (length run) run (omega arith))) nothing
+    where
+      nothing : AreDue k id []
+      nothing = record { running = due.running; core = due.core; there = due.there; below = due.below; before = due.before; made = due.made; told = tt; places = tt }
+
+-- a run goes on where an equation of it was made, but for a contradiction
+pub run_after : (k new : Kernel) (id : ℕ) (e : Equation) (run : Run) → IsNext k id e (drop run.place run.equations.items) → run.id ≡ id → new ≡ equated k e → new.bottom ≡ false
+    → IsRunAt new run
+run_after k new id e run next named is running =
+    subst (λ (n : Kernel). IsRunAt n run) (sym is) (subst (λ (n : ℕ). AreDue (equated k e) n (drop run.place run.equations.items)) (sym named) (next.behind (sym (ap (λ (n : Kernel). n.bottom) is) ∙ running)))

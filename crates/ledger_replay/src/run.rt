@@ -1,0 +1,134 @@
+//! The run of a pending core, and how far it was made.
+
+ghost use Rattle.std.specs.Prelude.{◌≡◌, ◌↔◌, ◌+◌, ◌<◌, ℕ, true, IsTrue, IfOk, IfSome, length, drop};
+ghost use Rattle.core_forms.specs.Place.{CoreBelow};
+ghost use Rattle.core_forms.specs.WellFormed.{IsWellFormed};
+ghost use Rattle.equation_runs.specs.Turns.{resolved_equation, IsMade, AreToldInTurn, EquationsBelow, is_stated};
+ghost use Rattle.step_kernel.specs.Kernel.{IsKernel};
+ghost use Rattle.ledger_replay.specs.Due.{AreDue, IsRunAt, IsNext};
+
+use core_forms::{Core, Equation};
+use equation_runs::run_of;
+use order_ints::{Atom, resolve};
+use rule_base::Steps;
+use std::alloc::{AllocError, Global};
+use std::marker::Brand;
+use std::sync::ledger::{Blank, Ledger};
+use step_kernel::State;
+
+/// Equations that a pending core tells one after another, with the id of the core and the number of those
+/// that are behind.
+#[derive(Drop)]
+pub(crate) struct Run {
+    pub(crate) id: u64,
+    pub(crate) equations: Vec<Equation>,
+    pub(crate) place: usize,
+}
+
+/// The equations that a core tells one after another, counted by a counter of their own.
+fn equations_of<L: Ledger>(
+    alloc: Global,
+    blank: Blank,
+    core: &Core,
+) -> Result<Vec<Equation>, AllocError>
+    requires name { blank.name ≡ L.name }
+    requires parts { blank.parts ≡ L.parts }
+    requires some { 0 < L.parts }
+    requires formed { IsWellFormed core.now }
+    ensures told { IfOk result (λ run. AreToldInTurn (λ c e. is_stated c e ≡ true) core.now run.items) }
+    ensures below { (n : ℕ) → CoreBelow n core.now → IfOk result (λ run. EquationsBelow n run.items) }
+{
+    let mut steps = Steps::<L>::open(blank);
+    run_of(alloc, core, &mut steps)
+}
+
+/// The run of the pending core with an id, as the store has it. There is none where a contradiction was found, no
+/// pending core has the id, or memory is wanting.
+pub(crate) fn run_at(alloc: Global, state: &State, id: u64) -> Option<Run>
+    ensures id { IfSome result (λ run. run.id ≡ id) }
+    ensures due { IfSome result (IsRunAt state.now) }
+{
+    if state.bottom() {
+        return None;
+    }
+    let Ok(Some(core)) = state.trimmed(alloc, id) else {
+        return None;
+    };
+    match equations_of::<Brand>(alloc, Blank::new(1), &core) {
+        Ok(equations) => Some(Run {
+            id,
+            equations,
+            place: 0,
+        }),
+        Err(_) => None,
+    }
+}
+
+/// Whether an equation is made.
+fn is_made(view: &[Atom], e: &Equation) -> bool
+    ensures { IsTrue result ↔ IsMade view.now e.now }
+{
+    resolve(view, e.a) == resolve(view, e.b)
+}
+
+/// Whether an equation, as the store has it, is one that is given.
+fn stands_as(view: &[Atom], e: &Equation, given: &Equation) -> bool
+    ensures { IsTrue result ↔ (given.now ≡ resolved_equation view.now e.now) }
+{
+    e.rule == given.rule && resolve(view, e.a) == given.a && resolve(view, e.b) == given.b
+}
+
+/// The place of the first equation of a run, from a place on, that is not made.
+#[tactic(auto, using(crate::proofs::Turns::due_behind, crate::proofs::Turns::due_none))]
+fn first_open(state: &State, id: u64, run: &[Equation], place: usize) -> usize
+    requires { AreDue state.now id (drop place run.now) }
+    ensures { AreDue state.now id (drop result run.now) }
+{
+    let view = state.view();
+    for i in place..run.len() {
+        if !is_made(view, &run[i]) {
+            return i;
+        }
+    }
+    run.len()
+}
+
+/// Whether an equation is the one at a place of a run, as the store has it, and is not made.
+#[tactic(auto, using(crate::proofs::Turns::next_due))]
+fn is_next(state: &State, id: u64, run: &[Equation], place: usize, e: &Equation) -> bool
+    requires { AreDue state.now id (drop place run.now) }
+    ensures low { IsTrue result → place < length run.now }
+    ensures next { IsTrue result → IsNext state.now id e.now (drop (place + 1) run.now) }
+{
+    let view = state.view();
+    if place >= run.len() || e.a == e.b {
+        return false;
+    }
+    stands_as(view, &run[place], e)
+}
+
+/// What is left of a run behind an equation, where that is the first one of it that is not made, as the store has
+/// it.
+pub(crate) fn run_behind(state: &State, run: Run, e: &Equation) -> Option<Run>
+    requires { IsRunAt state.now run }
+    ensures id { IfSome result (λ behind. behind.id ≡ run.id) }
+    ensures next { IfSome result
+        (λ behind. IsNext state.now run.id e.now (drop behind.place behind.equations.items)) }
+    ensures kernel { IsKernel state.now }
+{
+    let _vars = state.vars();
+    let Run {
+        id,
+        equations,
+        place,
+    } = run;
+    let place = first_open(state, id, equations.as_slice(), place);
+    if !is_next(state, id, equations.as_slice(), place, e) {
+        return None;
+    }
+    Some(Run {
+        id,
+        equations,
+        place: place + 1,
+    })
+}

@@ -3,4 +3,4 @@ use Rattle.core_words.proofs.cores.cores_of.Given as goal
 
 -- what has been read is well formed
 abbrev pub invariant-loop-text : goal.invariant-loop-text
-invariant-loop-text g l = AreWellFormed l.cores.items
+invariant-loop-text l = AreWellFormed l.cores.items

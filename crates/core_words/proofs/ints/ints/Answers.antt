@@ -15,7 +15,7 @@ small-pushed : (xs ys : List OrdInt) (a : OrdInt) → ys ≡ xs ++ a ∷ [] → 
 small-pushed xs ys a e h k = subst (λ zs. abs_total zs ≤ 1000 * length zs) (sym e) (small-more xs a h k)
 
 pub loop-member-preserved-in_ok-push : goal.loop-member-preserved-in_ok-push
-loop-member-preserved-in_ok-push g c =
+loop-member-preserved-in_ok-push c =
     let read = c.in_ok-int.ensures in
     let before = c.loop-member.invariant in
     let is = c.in_ok-push.ensures.items in

@@ -117,7 +117,7 @@ fn number(word: Option<&[u8]>) -> u128 {
 }
 
 /// Reads a compiled text.
-fn compiled(alloc: Global, text: &[u8]) -> Result<Compiled, AllocError> {
+fn facts_of(alloc: Global, text: &[u8]) -> Result<Compiled, AllocError> {
     let mut found = Compiled {
         variables: 0,
         clauses: 0,
@@ -225,7 +225,7 @@ fn check_board(rt: &impl Abort, alloc: Global, size: u8) -> Result<(), Fail> {
     assert!(rt; stand_apart(numbers.as_slice(), size), "{size}");
     let model = board_text(alloc, size)?;
     let text = compile_over(alloc, model.as_str(), AMPLE)?;
-    let found = compiled(alloc, text.out.taken())?;
+    let found = facts_of(alloc, text.out.taken())?;
     let told = expected(alloc, size, columns, &found)?;
     assert!(rt; run.out.taken() == told.as_slice(), "{size}");
     Ok(())

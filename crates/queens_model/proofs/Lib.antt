@@ -1,4 +1,5 @@
 mod Pushed
+pub mod Placing
 mod ModelTests
 mod StatementTests
 mod Sizes

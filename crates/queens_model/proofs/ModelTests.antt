@@ -1,7 +1,7 @@
 -- What a model of ranges, sums and different members keeps to, as tests that compute.
 use Rattle.std.proofs.Common.{◌≡◌, ℕ, zero, suc, ◌+◌, ◌<◌, ◌≤◌, ◌==◌, Bool, true, false, ◌&&◌, not, List, [], ◌∷◌, length, ℤ, pos, negsuc, ◌-ℤ◌, ◌≤ℤ◌, unsigned_abs, Option, Some, None, is_none, nat_lt, nat_le, slice_get, slice_index_or, codes, bytes_eq, refl, sym, subst, arith, IfSome, IsSomeAnd, IsFalse}
 use Rattle.std.proofs.lemmas.Int.{ints}
-use Rattle.std.proofs.lemmas.Bool.{and_parts, leb-true, ltb-true, not-true, eqb-true}
+use Rattle.std.proofs.lemmas.Bool.{false≢true, and_parts, leb-true, ltb-true, not-true, eqb-true}
 use Rattle.model_meaning.specs.declared.model.Kind.{Kind}
 use Rattle.model_meaning.specs.declared.model.Kind.TheVariants as kind
 use Rattle.model_meaning.specs.declared.model.Decl.{Decl}
@@ -11,9 +11,6 @@ use Rattle.model_meaning.specs.declared.what.IntTerm.TheVariants as int_term
 use Rattle.model_meaning.specs.Places.{is_constant, place_of}
 use Rattle.model_meaning.specs.Limits.{InLimit, TermInLimit, TermsInLimit, KindInLimit, DeclsInLimit}
 use Rattle.model_meaning.specs.WellTyped.{IsInt, IsNumberAt, NumberFits, NumbersFit, KindFits, DeclsFit, DeclaresPlace, SharesFit}
-
-false≢true : false ≡ true → ⊥
-false≢true e = cc
 
 -- declarations
 

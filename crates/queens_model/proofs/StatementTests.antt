@@ -1,6 +1,6 @@
 -- What sums and different members keep to.
 use Rattle.std.proofs.Common.{◌≡◌, ℕ, ◌+◌, ◌<◌, ◌≤◌, Bool, true, false, ◌&&◌, not, List, [], ◌∷◌, length, ℤ, unsigned_abs, Option, Some, None, nat_lt, nat_le, codes, bytes_eq, refl, sym, subst, arith}
-use Rattle.std.proofs.lemmas.Bool.{and_parts, leb-true}
+use Rattle.std.proofs.lemmas.Bool.{false≢true, and_parts, leb-true}
 use Rattle.std.proofs.lemmas.Slice.Eq.{bytes_eq-Decides}
 use Rattle.model_meaning.specs.declared.model.Decl.{Decl}
 use Rattle.model_meaning.specs.declared.model.Stmt.{Stmt}
@@ -16,9 +16,6 @@ use Rattle.model_meaning.specs.Names.{statement_of, lone_statement, operator_sta
 use Rattle.model_meaning.specs.Limits.{TermInLimit, WhatInLimit, StmtsInLimit}
 use Rattle.model_meaning.specs.WellTyped.{NumberFits, WhatFits, StmtsFit}
 use Rattle.queens_model.proofs.ModelTests.{place_test, place_fits, terms_test, terms_fit, terms_in_limit}
-
-false≢true : false ≡ true → ⊥
-false≢true e = cc
 
 same_name : (name other : List ℕ) → bytes_eq name other ≡ true → name ≡ other
 same_name name other h = (bytes_eq-Decides name other).0 h

@@ -1,1 +1,2 @@
 pub mod Queens
+pub mod Placements

@@ -2,7 +2,9 @@
 #![tactic(auto)]
 
 mod integers;
+mod laws;
 mod made;
 mod statements;
 
+pub use laws::placement_law;
 pub use made::queens;

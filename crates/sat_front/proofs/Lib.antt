@@ -1,0 +1,5 @@
+mod Closing
+mod Lists
+mod DraftSame
+pub mod Exact
+pub mod Reading

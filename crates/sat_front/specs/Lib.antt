@@ -1,0 +1,4 @@
+pub mod Closed
+pub mod CnfLines
+pub mod Faults
+pub mod ReadLaws

@@ -1,0 +1,78 @@
+-- What the mode writes for a text, and which fault a text has.
+use Rattle.std.specs.Prelude.{◌≡◌, ◌⊎◌, ℕ, ◌<◌, ◌≤◌, Bool, true, List, [], length, IsTrue}
+use Rattle.order_ints.specs.declared.literal.Lit.{Lit}
+use Rattle.order_ints.specs.declared.cnf.Cnf.{Cnf}
+use Rattle.order_ints.specs.Truth.{Valuation, valuation_of}
+use Rattle.order_ints.specs.Satisfies.{clauses_truth}
+use Rattle.proof_check.specs.declared.line.ProofLine.{ProofLine}
+use Rattle.proof_check.specs.Lrat.{Lrat}
+use Rattle.proof_check.specs.Known.{known}
+use Rattle.learning_solver.specs.Log.{additions, proof_behind, IsFreshLog}
+use Rattle.learning_solver.specs.Outcome.{most_learned}
+use Rattle.text_modes.specs.declared.ends.Outcome.{Outcome}
+use Rattle.text_modes.specs.declared.ends.Outcome.TheVariants.{Done, Refused, Unknown}
+use Rattle.sat_front.specs.CnfLines.{IsCnfText, CnfFails}
+use Rattle.sat_mode.specs.declared.options.SearchOptions.{SearchOptions}
+use Rattle.sat_mode.specs.declared.fault.CnfTextFault.{CnfTextFault}
+use Rattle.sat_mode.specs.declared.fault.CnfTextFault.TheVariants.{TooLong, Form}
+use Rattle.sat_mode.specs.Texts.{values_text, refutation_text, unknown_text}
+
+-- the greatest number of bytes of a text
+abbrev pub longest_text : ℕ
+longest_text = 16777216
+
+-- the written text tells a value for each variable, under which each listed clause is true
+pub record TellsValues (vars : ℕ) (clauses : List (List Lit)) (written : List ℕ) : Type 0 where
+  pub values : List Bool
+  pub count : length values ≡ vars
+  pub satisfies : IsTrue (clauses_truth (valuation_of values) clauses)
+  pub writes : written ≡ values_text values
+
+-- The lines are a proof from the CNF, in the form of LRAT. Each added clause is new among those that live before it, and only added ones
+-- are deleted.
+pub record IsProof (cnf : Cnf) (log : List ProofLine) : Type 0 where
+  pub accepted : Lrat cnf log
+  pub fresh : IsFreshLog cnf log
+
+-- the written text tells a proof of the empty clause from the CNF, and no valuation satisfies the listed clauses
+pub record TellsRefutation (cnf : Cnf) (clauses : List (List Lit)) (written : List ℕ) : Type 0 where
+  pub log : List ProofLine
+  pub proof : IsProof cnf log
+  pub empty : known (proof_behind cnf log) [] ≡ true
+  pub none : (σ : Valuation) → IsTrue (clauses_truth σ clauses) → ⊥
+  pub writes : written ≡ refutation_text log
+
+-- the written text tells a proof of as many added clauses as the budget has, which are fewer than any search needs
+pub record TellsUnknown (options : SearchOptions) (cnf : Cnf) (count : ℕ) (written : List ℕ) : Type 0 where
+  pub log : List ProofLine
+  pub proof : IsProof cnf log
+  pub budget : count ≡ options.budget
+  pub spent : additions log ≡ count
+  pub early : count < most_learned options.restart cnf.vars
+  pub writes : written ≡ unknown_text log
+
+-- what is written for a CNF and the clauses that a text lists for it, by its outcome
+abbrev pub Tells : SearchOptions → Cnf → List (List Lit) → Outcome → List ℕ → Type 0
+Tells options cnf clauses Done written = TellsValues cnf.vars clauses written ⊎ TellsRefutation cnf clauses written
+Tells options cnf clauses (Unknown count) written = TellsUnknown options cnf count written
+Tells options cnf clauses (Refused line) written = ⊥
+
+-- the text is within the limit and lists clauses, whose CNF in order this is
+pub record HoldsCnf (text : List ℕ) (cnf : Cnf) : Type 0 where
+  pub within : length text ≤ longest_text
+  pub is : IsCnfText text cnf
+
+-- what is written for a text
+pub record IsSolved (options : SearchOptions) (text : List ℕ) (outcome : Outcome) (written : List ℕ) : Type 0 where
+  pub cnf : Cnf
+  pub held : HoldsCnf text cnf
+  pub tells : Tells options cnf held.is.draft.listed.clauses outcome written
+
+-- a text lists clauses within the limit
+abbrev pub HasCnf : List ℕ → Type 0
+HasCnf text = (cnf : Cnf) × HoldsCnf text cnf
+
+-- the fault of a text: it is too long, or else this line is the first that doesn't fit
+abbrev pub HasFault : List ℕ → CnfTextFault → Type 0
+HasFault text TooLong = longest_text < length text
+HasFault text (Form line) = (length text ≤ longest_text) × CnfFails text line

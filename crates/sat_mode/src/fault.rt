@@ -1,0 +1,10 @@
+//! The fault of a text.
+
+/// Why no CNF is read from a text.
+#[derive(Clone, Copy, Debug, PartialEq, Eq)]
+pub enum CnfTextFault {
+    /// The text has more than 16,777,216 bytes.
+    TooLong,
+    /// The first line that doesn't fit, counted from 1.
+    Form(u64),
+}

@@ -1,0 +1,61 @@
+//! The mode `sat`.
+
+ghost use Rattle.text_modes.specs.Seen.{seen, shelf_shown, sink_shown};
+ghost use Rattle.sat_mode.specs.SatMode.{SatMode};
+
+use crate::fault::CnfTextFault;
+use crate::making::solve_text;
+use crate::options::SearchOptions;
+use bee_outside::{Shelf, Sink};
+use std::alloc::{AllocError, Global};
+use text_modes::{End, Made, OneText, run_one};
+
+/// The greatest number of bytes of a text.
+const LONGEST_TEXT: usize = 16_777_216;
+
+/// A CNF's text is read, and what was found of it is written.
+#[derive(Drop)]
+struct Searching {
+    options: SearchOptions,
+}
+
+impl OneText for Searching {
+    ghost use Rattle.std.specs.Prelude.{◌+◌, Some};
+    ghost use Rattle.sat_mode.specs.Found.{longest_text, IsSolved, HasFault};
+
+    type Fault = CnfTextFault;
+
+    ghost most = { λ _. Some (longest_text + 1) };
+
+    ghost gives = { λ s. IsSolved s.options };
+
+    ghost has_fault = { λ _. HasFault };
+
+    fn limit(&self) -> Option<usize> {
+        Some(LONGEST_TEXT + 1)
+    }
+
+    fn too_long(&self) -> CnfTextFault {
+        CnfTextFault::TooLong
+    }
+
+    #[tactic(auto, using(crate::proofs::Ends::within_limit))]
+    fn make(&self, alloc: Global, text: &[u8]) -> Result<Made<CnfTextFault>, AllocError> {
+        solve_text(alloc, text, self.options)
+    }
+}
+
+/// Reads a CNF's text, searches for values or a refutation, makes the whole text of what was found, and then writes it. The end
+/// tells whether the budget was spent.
+pub fn sat<S: Shelf, O: Sink>(
+    alloc: Global,
+    input: &str,
+    options: SearchOptions,
+    shelf: &mut S,
+    out: &mut O,
+) -> End<CnfTextFault>
+    ensures { SatMode options input.now result (seen (shelf_shown S.left S.faults)
+        (sink_shown O.taken O.flushed O.faults) shelf.old shelf.new out.old out.new) }
+{
+    run_one(alloc, &Searching { options }, input, shelf, out)
+}

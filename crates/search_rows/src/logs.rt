@@ -12,7 +12,7 @@ use std::process::Abort;
 use std::test::Fail;
 
 /// A clause of the CNF, or one that was added.
-#[derive(Debug, Drop)]
+#[derive(Drop)]
 struct Known {
     id: u64,
     lits: Vec<Lit>,
@@ -20,7 +20,7 @@ struct Known {
 }
 
 /// The clauses of a CNF and of a log, those too that were deleted.
-#[derive(Debug, Drop)]
+#[derive(Drop)]
 pub(super) struct Record {
     clauses: Vec<Known>,
     /// How many clauses were deleted.

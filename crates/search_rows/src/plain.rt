@@ -7,7 +7,7 @@ use std::alloc::AllocError;
 use std::process::Abort;
 
 /// A literal that is true, its level, and the id of its reason, 0 for none.
-#[derive(Clone, Copy, Debug, Drop)]
+#[derive(Clone, Copy, Drop)]
 pub(super) struct Given {
     pub lit: Lit,
     pub level: u32,
@@ -15,14 +15,14 @@ pub(super) struct Given {
 }
 
 /// A clause under its id.
-#[derive(Debug, Drop)]
+#[derive(Drop)]
 pub(super) struct Known {
     pub id: u64,
     pub lits: Vec<Lit>,
 }
 
 /// Clauses and literals that are true.
-#[derive(Debug, Drop)]
+#[derive(Drop)]
 pub(super) struct Plain {
     pub clauses: Vec<Known>,
     pub given: Vec<Given>,

@@ -165,7 +165,7 @@ fn sequence<R: Abort>(rt: &R, alloc: Global, numbers: &mut Numbers) -> Result<()
 #[test]
 fn random_sequences(rt: HostRuntime) -> Result<(), Fail> {
     let mut numbers = Numbers::from(45);
-    for _ in 0..1_000 {
+    for _ in 0..10_000 {
         sequence(&rt, rt.alloc(), &mut numbers)?;
     }
     Ok(())

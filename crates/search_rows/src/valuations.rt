@@ -21,14 +21,14 @@ fn digit(var: u32) -> u32 {
 }
 
 /// The variables of a clause that stand in it as they are, and those that are negated, a digit each.
-#[derive(Clone, Copy, Debug)]
+#[derive(Clone, Copy)]
 struct Digits {
     positive: u32,
     negative: u32,
 }
 
 /// What is satisfied: whether any valuation satisfies the clauses, and which variables are true in one, or false in one.
-#[derive(Clone, Copy, Debug)]
+#[derive(Clone, Copy)]
 struct Tried {
     any: bool,
     true_in: u32,
@@ -174,7 +174,7 @@ fn valuations_row<R: Abort>(
 #[test]
 fn answers_are_those_of_all_valuations(rt: HostRuntime) -> Result<(), Fail> {
     let mut numbers = Numbers::from(47);
-    for _ in 0..200 {
+    for _ in 0..10_000 {
         valuations_row(&rt, rt.alloc(), &mut numbers)?;
     }
     Ok(())

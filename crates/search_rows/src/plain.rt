@@ -7,7 +7,7 @@ use std::alloc::AllocError;
 use std::process::Abort;
 
 /// A literal that is true, its level, and the id of its reason, 0 for none.
-#[derive(Clone, Copy, Drop)]
+#[derive(Clone, Copy)]
 pub(super) struct Given {
     pub lit: Lit,
     pub level: u32,

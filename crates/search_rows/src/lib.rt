@@ -1,0 +1,30 @@
+//! Rows worked out by hand and random ones, over the public calls of the clause store, the analysis of conflicts and the
+//! search. They stand apart from those crates, so that proving them proves none of those crates anew.
+#![tactic(auto)]
+
+#[cfg(test)]
+mod clauses;
+#[cfg(test)]
+mod conflicts;
+#[cfg(test)]
+mod logs;
+#[cfg(test)]
+mod moves;
+#[cfg(test)]
+mod numbers;
+#[cfg(test)]
+mod plain;
+#[cfg(test)]
+mod random_moves;
+#[cfg(test)]
+mod refusals;
+#[cfg(test)]
+mod searches;
+#[cfg(test)]
+mod standings;
+#[cfg(test)]
+mod stores;
+#[cfg(test)]
+mod valuations;
+#[cfg(test)]
+mod words;

@@ -6,6 +6,6 @@ pub returns-in-Queens-clause-obeys : goal.returns-in-Queens-clause-obeys
 returns-in-Queens-clause-obeys g c =
     let shown = shelf_shown g.S.Shelf.left g.S.Shelf.faults in
     rw c.in-Queens.is
-    (queens_obeyed c.in-Queens.options c.search_options.result c.in-Queens.size c.queens.result c.model_status.result
+    (queens_obeyed c.in-Queens.options c.search_options-in-Queens.result c.in-Queens.size c.queens.result c.model_status-in-Queens.result
     (seen shown (sink_shown g.O.Sink.taken g.O.Sink.flushed g.O.Sink.faults) c.args.shelf.now c.args.shelf.now c.args.out.now c.queens.new.out)
-    c.search_options.ensures (c.queens.ensures (shown c.args.shelf.now)) c.model_status.ensures.status)
+    c.search_options-in-Queens.ensures (c.queens.ensures (shown c.args.shelf.now)) c.model_status-in-Queens.ensures.status)

@@ -1,5 +1,7 @@
 //! The mode of queens: what is written for each board against what is compiled for the text of its model.
 
+ghost use Rattle.std.specs.Prelude.{◌≤◌};
+
 use crate::outside::{AMPLE, Outside, Shown, compile_over, run_files};
 use bee_text::{Lines, push_bytes, push_number, read_number, split_words};
 use bumblebee_reader::read_model;

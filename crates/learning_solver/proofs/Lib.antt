@@ -15,3 +15,4 @@ mod MoveLaws
 mod AcceptLaws
 mod TeachLaws
 mod StartLaws
+mod DeleteLaws

@@ -17,24 +17,26 @@ use Rattle.literal_trail.proofs.Levels.{up_to-push, up_to-whole, take-up_to, lev
 use Rattle.clause_arena.specs.Clauses.{Clause}
 use Rattle.clause_rings.specs.Clauses.{ClauseLists, IsDb, SameClauses, Follows}
 use Rattle.clause_rings.specs.Clauses.Follows.{same, more}
+use Rattle.learning_solver.specs.declared.candidates.Candidates.{Candidates}
 use Rattle.learning_solver.specs.declared.search.Search.{Search}
 use Rattle.learning_solver.specs.declared.pace.Pace.{Pace}
 use Rattle.learning_solver.specs.declared.task.Task.{Task}
 use Rattle.learning_solver.specs.declared.found.Found.{Found}
 use Rattle.learning_solver.specs.Height.{height}
 use Rattle.learning_solver.specs.Log.{proof_behind}
-use Rattle.learning_solver.specs.Kept.{IsKept}
+use Rattle.learning_solver.specs.Kept.{IsKept, AreOnce}
 use Rattle.learning_solver.specs.Deciding.{IsTrueIn}
 use Rattle.learning_solver.specs.Order.{IsFreeIn}
 use Rattle.learning_solver.specs.Searching.{IsSearch, IsAssumed, IsRunning, IsTurned, IsLeft, left_to_do, JumpsBack}
 use Rattle.learning_solver.proofs.HeightLaws.{height-below, height-chosen, height-follows}
 use Rattle.learning_solver.proofs.KeptLaws.{kept-same}
+use Rattle.learning_solver.proofs.DeleteLaws.{once-same}
 use Rattle.learning_solver.proofs.PaceLaws.{paced-lower, paced-start, less-assigned}
 use Rattle.learning_solver.proofs.TurnLaws.{assumed-more}
 
 -- another clause store that fits
-pub search-db : (s : Search) (d : ClauseLists) → IsSearch s → IsDb d.clauses d.trail → d.trail.vars ≡ s.db.trail.vars → IsKept (proof_behind s.cnf.now s.lines.items).live d.clauses → IsSearch (record s { db = d })
-search-db s d is db vars kept = record {
+pub search-db : (s : Search) (d : ClauseLists) → IsSearch s → IsDb d.clauses d.trail → d.trail.vars ≡ s.db.trail.vars → IsKept (proof_behind s.cnf.now s.lines.items).live d.clauses → AreOnce s.base d.clauses → IsSearch (record s { db = d })
+search-db s d is db vars kept once = record {
   db = db;
   vars = vars ∙ is.vars;
   few = is.few;
@@ -42,6 +44,22 @@ search-db s d is db vars kept = record {
   base = is.base;
   added = is.added;
   kept = kept;
+  once = once;
+  order = is.order;
+  walker = is.walker;
+}
+
+-- another table of candidates
+pub search-candidates : (s : Search) (k : Candidates) → IsSearch s → IsSearch (record s { candidates = k })
+search-candidates s k is = record {
+  db = is.db;
+  vars = is.vars;
+  few = is.few;
+  log = is.log;
+  base = is.base;
+  added = is.added;
+  kept = is.kept;
+  once = is.once;
   order = is.order;
   walker = is.walker;
 }
@@ -65,7 +83,9 @@ module _ (task : Task) (p : Pace) (s : Search) (d : ClauseLists) (is : IsRunning
       let w = follows-more d.clauses s.db.trail d.trail follows in
       let vars = follows-vars d.clauses s.db.trail d.trail follows in
       record {
-        search = search-db s d is.search db vars.0 (kept-same (proof_behind s.cnf.now s.lines.items).live s.db.clauses d.clauses is.search.kept same-clauses);
+        search =
+            search-db s d is.search db vars.0 (kept-same (proof_behind s.cnf.now s.lines.items).live s.db.clauses d.clauses is.search.kept same-clauses)
+            (once-same s.base s.db.clauses d.clauses is.search.once same-clauses);
         within = is.within;
         paced = paced-lower s.cnf.now.vars s.added (height s.db.trail) (height d.trail) p is.paced (height-follows d.clauses s.db.trail d.trail follows);
         assumed = λ above. assumed-more s.db.trail d.trail w.0 task.assumption w.1 (is.assumed (omega (arith, above, vars.1)));
@@ -139,12 +159,13 @@ module _ (t : Trail) (is : IsTrail t) (l : Lit) (free : entry_of t.entries l.var
 pub running-decided : (task : Task) (p : Pace) (s : Search) (d : ClauseLists) (l : Lit) → IsRunning task p s → d.clauses ≡ s.db.clauses → d.trail ≡ chosen s.db.trail l → IsDb d.clauses d.trail → IsFreeIn s.db.trail l.var → (IsTrueIn s.db.trail task.assumption) ⊎ (task.assumption ≡ Some l) → IsRunning task p (record s { db = d }) × (left_to_do task (record s { db = d }) < left_to_do task s)
 running-decided task p s d l is clauses trail db free stands =
     let P : List Clause → Type 0 = IsKept (proof_behind s.cnf.now s.lines.items).live in
+    let O : List Clause → Type 0 = AreOnce s.base in
     let Q : Trail → Type 0 = IsTrail in
     let R : Trail → Type 0 = λ t. IsAssumed t task.assumption in
     let next = subst Q trail db.trail in
     let long = ap (λ (t : Trail). length t.entries) trail in (
       record {
-        search = search-db s d is.search db (ap (λ (t : Trail). t.vars) trail) (subst P (sym clauses) is.search.kept);
+        search = search-db s d is.search db (ap (λ (t : Trail). t.vars) trail) (subst P (sym clauses) is.search.kept) (subst O (sym clauses) is.search.once);
         within = is.within;
         paced = paced-lower s.cnf.now.vars s.added (height s.db.trail) (height d.trail) p is.paced (omega (arith, ap height trail, height-chosen s.db.trail l));
         assumed = λ above. subst R (sym trail) (assumed-chosen s.db.trail is.search.db.trail l free.free next task.assumption is.assumed stands);
@@ -216,6 +237,7 @@ left-order task p s o is alike = record {
     base = is.search.base;
     added = is.search.added;
     kept = is.search.kept;
+    once = is.search.once;
     order = alike ∙ is.search.order;
     walker = is.search.walker;
   };

@@ -5,6 +5,7 @@ use Rattle.order_ints.specs.declared.cnf.Cnf.{Cnf}
 use Rattle.literal_trail.specs.Trail.{Trail}
 use Rattle.proof_check.specs.declared.line.ProofLine.{ProofLine}
 use Rattle.proof_check.specs.declared.line.ProofLine.TheVariants.{Add}
+use Rattle.learning_solver.specs.declared.candidates.Candidates.{Candidates}
 use Rattle.learning_solver.specs.declared.search.Search.{Search}
 use Rattle.learning_solver.specs.declared.lesson.Lesson.{Lesson}
 use Rattle.learning_solver.specs.declared.pace.Pace.{Pace}
@@ -13,7 +14,7 @@ use Rattle.learning_solver.specs.Height.{height}
 use Rattle.learning_solver.specs.Log.{GoesOn}
 use Rattle.learning_solver.specs.Outcome.{most_learned}
 use Rattle.learning_solver.specs.Pacing.{IsPaced, Counts}
-use Rattle.learning_solver.specs.Searching.{IsSearch, GoesForward, IsAssumed, IsRunning, IsLeft, left_to_do, Stays, TurnsBack, BeginsAnew, Takes}
+use Rattle.learning_solver.specs.Searching.{IsSearch, GoesForward, IsAssumed, IsRunning, IsLeft, left_to_do, Stays, TurnsBack, BeginsAnew, Takes, JumpsBack, Forgets}
 use Rattle.learning_solver.proofs.HeightLaws.{height-below}
 use Rattle.learning_solver.proofs.PaceLaws.{one-more, paced-learned, paced-anew, less-learned}
 
@@ -40,6 +41,32 @@ forward-takes old new lesson c takes = record { cnf = takes.cnf; log = (Add less
 
 pub forward-anew : (old new : Search) → BeginsAnew old new → GoesForward old new
 forward-anew old new anew = record { cnf = anew.cnf; log = anew.log }
+
+-- nothing goes, or some goes and then more
+pub forgets-same : (old new : Search) → new.cnf ≡ old.cnf → new.lines.items ≡ old.lines.items → new.added ≡ old.added → new.db.trail ≡ old.db.trail → Forgets old new
+forgets-same old new cnf lines added trail = record { cnf = cnf; log = goes-on-same old.lines.items new.lines.items lines; added = added; trail = trail }
+
+pub forgets-then : (a b c : Search) → Forgets a b → Forgets b c → Forgets a c
+forgets-then a b c first second = record {
+  cnf = second.cnf ∙ first.cnf;
+  log = goes-on-then a.lines.items b.lines.items c.lines.items first.log second.log;
+  added = second.added ∙ first.added;
+  trail = second.trail ∙ first.trail;
+}
+
+pub forgets-candidates : (old new : Search) (k : Candidates) → Forgets old new → Forgets old (record new { candidates = k })
+forgets-candidates old new k forgets = record { cnf = forgets.cnf; log = forgets.log; added = forgets.added; trail = forgets.trail }
+
+-- the jump to level 0, and what goes behind it
+pub anew-forgets : (s0 s1 s2 : Search) → JumpsBack s0 s1 0 → Forgets s1 s2 → BeginsAnew s0 s2
+anew-forgets s0 s1 s2 jumped forgets =
+    let same = jumped.same in
+    record {
+      cnf = forgets.cnf ∙ ap (λ (x : Search). x.cnf) same;
+      log = goes-on-then s0.lines.items s1.lines.items s2.lines.items (goes-on-same s0.lines.items s1.lines.items (ap (λ (x : Search). x.lines.items) same)) forgets.log;
+      added = forgets.added ∙ ap (λ (x : Search). x.added) same;
+      level = ap (λ (t : Trail). t.level) (forgets.trail ∙ jumped.trail);
+    }
 
 pub same-vars : (old new : Search) → new.cnf ≡ old.cnf → new.cnf.now.vars ≡ old.cnf.now.vars
 same-vars old new e = ap (λ (x : Bor Cnf). x.now.vars) e

@@ -8,4 +8,5 @@ pub mod Sight
 pub mod Searching
 pub mod Ending
 pub mod Deciding
+pub mod Deleting
 pub mod Solving

@@ -16,7 +16,7 @@ use Rattle.learning_solver.specs.declared.pace.Pace.{Pace}
 use Rattle.learning_solver.specs.declared.task.Task.{Task}
 use Rattle.learning_solver.specs.declared.lesson.Lesson.{Lesson}
 use Rattle.learning_solver.specs.Log.{additions, proof_behind, IsLog, GoesOn}
-use Rattle.learning_solver.specs.Kept.{IsKept}
+use Rattle.learning_solver.specs.Kept.{IsKept, AreOnce}
 use Rattle.learning_solver.specs.Height.{height}
 use Rattle.learning_solver.specs.Outcome.{IsSolution, IsRefutation, most_learned}
 use Rattle.learning_solver.specs.Pacing.{IsPaced}
@@ -30,6 +30,7 @@ pub record IsSearch (s : Search) : Type 0 where
   pub base : s.base ≡ length s.cnf.now.clauses
   pub added : s.added ≡ additions s.lines.items
   pub kept : IsKept (proof_behind s.cnf.now s.lines.items).live s.db.clauses
+  pub once : AreOnce s.base s.db.clauses
   pub order : s.order ≡ s.cnf.now.vars
   pub walker : s.walker.vars ≡ s.cnf.now.vars
 
@@ -129,7 +130,14 @@ pub record TurnsBack (old new : Search) (lesson : Lesson) : Type 0 where
   pub falls : height new.db.trail < height old.db.trail
   pub assumed : (a : Option Lit) → (1 ≤ old.db.trail.level → IsAssumed old.db.trail a) → 1 ≤ new.db.trail.level → IsAssumed new.db.trail a
 
--- the search is at level 0, and its log may have lost clauses
+-- clauses that were learned may have gone from store and log
+pub record Forgets (old new : Search) : Type 0 where
+  pub cnf : new.cnf ≡ old.cnf
+  pub log : GoesOn old.lines.items new.lines.items
+  pub added : new.added ≡ old.added
+  pub trail : new.db.trail ≡ old.db.trail
+
+-- the search is at level 0, and clauses that were learned may have gone
 pub record BeginsAnew (old new : Search) : Type 0 where
   pub cnf : new.cnf ≡ old.cnf
   pub log : GoesOn old.lines.items new.lines.items
@@ -137,6 +145,6 @@ pub record BeginsAnew (old new : Search) : Type 0 where
   pub level : new.db.trail.level ≡ 0
 
 -- the outcome of a whole call
-abbrev pub IsRun : Task → Bool → Search → Search → Result Found AllocError → Type 0
-IsRun task restart old new (Ok found) = IsOutcome task (record { start = old.added; restart = restart; stretches = 0; learned = 0 }) new found
-IsRun task restart old new (Err e) = IsLeft task (record { start = old.added; restart = restart; stretches = 0; learned = 0 }) new
+abbrev pub IsAnswered : Task → Bool → Search → Search → Result Found AllocError → Type 0
+IsAnswered task restart old new (Ok found) = IsOutcome task (record { start = old.added; restart = restart; stretches = 0; learned = 0 }) new found
+IsAnswered task restart old new (Err e) = IsLeft task (record { start = old.added; restart = restart; stretches = 0; learned = 0 }) new

@@ -34,6 +34,7 @@ impl Search<'_> {
         self.walker
             .analyse(&Sight { db: &self.db }, conflict, level)?;
         self.order.raise(self.walker.seen())?;
+        self.candidates.uses.use_all(self.walker.hints());
         self.lesson()
     }
 
@@ -47,18 +48,25 @@ impl Search<'_> {
     {
         let first = lesson.first();
         let jump = self.walker.jump();
+        let id = lesson.id;
+        let size = lesson.lits.len();
         self.jump_back(jump);
         let clause = self.take(lesson);
         self.db.assign(first, Some(clause));
+        self.candidates.note(clause, id, size, self.walker.glue());
     }
 
-    /// Begins anew, from the end of level 0.
+    /// Begins anew, from the end of level 0, and at times without some of the clauses that were learned.
     fn begin_anew(&mut self)
         requires { IsSearch self.old }
         ensures anew { BeginsAnew self.old self.new }
         ensures search { IsSearch self.new }
     {
         self.jump_back(0);
+        if !self.candidates.are_due() {
+            return;
+        }
+        self.delete_half();
     }
 
     /// Learns from a conflict above level 0, unless the budget is spent.

@@ -2,7 +2,10 @@
 #![tactic(auto)]
 
 mod adding;
+mod candidates;
 mod deciding;
+mod deletable;
+mod deleting;
 mod ending;
 mod found;
 mod learning;

@@ -4,7 +4,7 @@ ghost use Rattle.std.specs.Prelude.{◌≡◌, ◌+◌, ◌≤◌, MatchResult};
 ghost use Rattle.std.specs.Option.{ForSome};
 ghost use Rattle.order_ints.specs.Place.{LitBelow};
 ghost use Rattle.learning_solver.specs.Pacing.{SameCall};
-ghost use Rattle.learning_solver.specs.Searching.{IsSearch, IsRunning, IsTurned, GoesForward, IsRun};
+ghost use Rattle.learning_solver.specs.Searching.{IsSearch, IsRunning, IsTurned, GoesForward, IsAnswered};
 
 use crate::found::Found;
 use crate::pace::Pace;
@@ -29,11 +29,11 @@ impl Search<'_> {
     }
 
     /// Searches until there is an answer.
-    pub fn run(&mut self, task: Task, restart: bool) -> Result<Found, AllocError>
+    pub fn find_answer(&mut self, task: Task, restart: bool) -> Result<Found, AllocError>
         requires search { IsSearch self.old }
         requires budget { self.old.added ≤ task.budget }
         requires in_range { ForSome task.assumption (LitBelow (self.old.cnf.now.vars + 1)) }
-        ensures run { IsRun task restart self.old self.new result }
+        ensures answered { IsAnswered task restart self.old self.new result }
         ensures forward { GoesForward self.old self.new }
     {
         self.jump_back(0);

@@ -4,6 +4,7 @@ ghost use Rattle.std.specs.Prelude.{◌≡◌, ◌≤◌, ◌^◌, [], IfOk};
 ghost use Rattle.order_ints.specs.Place.{InRange};
 ghost use Rattle.clause_rings.specs.Clauses.{AreApartIn};
 
+use crate::candidates::Candidates;
 use crate::order::Order;
 use bee_list::Sequence;
 use clause_rings::ClauseDb;
@@ -23,6 +24,8 @@ pub struct Search<'a> {
     pub walker: Walker,
     /// The order of decisions.
     pub order: Order,
+    /// The learned clauses that may be deleted.
+    pub candidates: Candidates,
     /// The log.
     pub lines: Vec<ProofLine>,
     /// How many clauses the CNF has.
@@ -53,6 +56,7 @@ impl<'a> Search<'a> {
             db,
             walker,
             order,
+            candidates: Candidates::new(alloc, base),
             lines,
             base,
             added: 0,

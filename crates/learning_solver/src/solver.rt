@@ -75,7 +75,7 @@ impl<'a> Solver<'a> {
             ≤ additions self.old.log + most_learned restart self.old.cnf.vars }
     {
         let task = Task { assumption, budget };
-        self.search.run(task, restart)
+        self.search.find_answer(task, restart)
     }
 
     /// The log: each line follows from the CNF and those before it.

@@ -4,6 +4,7 @@ use Rattle.proof_check.specs.declared.line.ProofLine.{ProofLine}
 use Rattle.learning_solver.specs.Log.{proof_behind, additions, IsLog}
 use Rattle.learning_solver.specs.Kept.{IsKept}
 use Rattle.learning_solver.proofs.KeptLaws.{kept-more}
+use Rattle.learning_solver.proofs.DeleteLaws.{once-more}
 use Rattle.learning_solver.proofs.search.Search.lesson.Goals as goal
 
 pub returns-clause-search : goal.returns-clause-search
@@ -23,6 +24,7 @@ returns-clause-search c =
       base = is.base;
       added = is.added ∙ ap additions (sym lines);
       kept = subst Q (sym lines) (kept-more (proof_behind cnf s.lines.items).live s.db.clauses c.reserve-2.new.self.clauses room.more is.kept room.clauses);
+      once = once-more s.base s.db.clauses c.reserve-2.new.self.clauses room.more is.once room.clauses;
       order = is.order;
       walker = is.walker;
     }

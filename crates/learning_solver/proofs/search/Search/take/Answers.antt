@@ -1,8 +1,12 @@
-use Rattle.std.proofs.Common.{ap, sym, ◌∙◌, List, ◌+◌, ℕ}
+use Rattle.std.proofs.Common.{ap, sym, ◌∙◌, List, ◌+◌, ℕ, subst, arith}
 use Rattle.std.specs.Prelude.{slice_set}
 use Rattle.order_ints.specs.declared.literal.Lit.{Lit}
-use Rattle.clause_arena.specs.Clauses.{live_clause}
+use Rattle.clause_arena.specs.Clauses.{Clause, live_clause}
 use Rattle.clause_rings.specs.Clauses.{ClauseLists}
+use Rattle.learning_solver.specs.Log.{proof_behind}
+use Rattle.learning_solver.specs.Kept.{AreOnce}
+use Rattle.learning_solver.proofs.LogLaws.{none-lives-above}
+use Rattle.learning_solver.proofs.DeleteLaws.{once-added}
 use Rattle.learning_solver.proofs.LitLaws.{lits-of-addition}
 use Rattle.learning_solver.proofs.SearchLaws.{log-taken, additions-taken, kept-taken}
 use Rattle.learning_solver.proofs.search.Search.take.Goals as goal
@@ -38,6 +42,10 @@ returns-clause-search c =
       added = ap (λ (n : ℕ). n + 1) is.added ∙ sym (additions-taken cnf log is.log lesson.id lesson.lits lesson.hints _ goes c.requires.next);
       kept = kept-taken cnf log is.log lesson.id lesson.lits lesson.hints _ goes c.requires.next s.db.clauses c.add-clause.result _ is.kept c.add-clause.ensures.inside c.add-clause.ensures.fresh
           (ap (λ (d : ClauseLists). d.clauses) c.add-clause.ensures.clause ∙ ap (λ (ls : List Lit). slice_set s.db.clauses c.add-clause.result (live_clause lesson.id ls)) c.as_slice.ensures);
+      once =
+          let P : List Clause → Type 0 = AreOnce s.base in
+          subst P (sym (ap (λ (d : ClauseLists). d.clauses) c.add-clause.ensures.clause ∙ ap (λ (ls : List Lit). slice_set s.db.clauses c.add-clause.result (live_clause lesson.id ls)) c.as_slice.ensures))
+          (once-added (proof_behind cnf log).live s.db.clauses s.base c.add-clause.result lesson.id lesson.lits is.kept is.once c.add-clause.ensures.inside (none-lives-above cnf log is.log lesson.id (omega (arith, c.requires.next))));
       order = is.order;
       walker = is.walker;
     }

@@ -2,6 +2,7 @@ use Rattle.std.proofs.Common.{◌≡◌, [], ap, sym}
 use Rattle.literal_trail.specs.Trail.{Trail}
 use Rattle.learning_solver.specs.Log.{additions}
 use Rattle.learning_solver.proofs.StartLaws.{log-of-none, kept-of-none}
+use Rattle.learning_solver.proofs.DeleteLaws.{once-start}
 use Rattle.learning_solver.proofs.search.Search.with.Goals as goal
 
 pub returns-clause-search : goal.returns-clause-search
@@ -16,6 +17,7 @@ returns-clause-search c =
       base = c.len-base.ensures;
       added = sym (ap additions none);
       kept = kept-of-none cnf c.new-lines.result.items c.in_ok-db.db.clauses none c.in_ok-db.ensures.clauses;
+      once = once-start cnf c.in_ok-db.db.clauses c.len-base.result c.len-base.ensures c.in_ok-db.ensures.clauses;
       order = c.in_ok-order.ensures;
       walker = c.in_ok-walker.ensures;
     }

@@ -5,7 +5,9 @@ use Rattle.text_modes.specs.declared.ends.Outcome.TheVariants as outcome
 use Rattle.text_modes.specs.declared.ends.End.{End}
 use Rattle.text_modes.specs.declared.ends.End.TheVariants as end
 use Rattle.model_texts.specs.declared.fault.ModelFault.{ModelFault}
-use Rattle.model_texts.specs.declared.fault.ModelFault.TheVariants.{Cnf}
+use Rattle.model_texts.specs.declared.fault.ModelFault.TheVariants.{TooLong, Cnf}
+use Rattle.sat_mode.specs.declared.fault.CnfTextFault.{CnfTextFault}
+use Rattle.sat_mode.specs.declared.fault.CnfTextFault.TheVariants as clauses
 use Rattle.bee_cli.specs.declared.status.Status.{Status}
 use Rattle.bee_cli.specs.declared.status.Status.TheVariants.{Done, Refused, Model, Read, Write, Memory, Unknown}
 
@@ -29,6 +31,11 @@ model_fault fault = fault
 
 abbrev pub cnf_fault : ℕ → ModelFault
 cnf_fault line = Cnf line
+
+-- the fault of the text of a plain CNF
+abbrev pub clauses_fault : CnfTextFault → ModelFault
+clauses_fault clauses.TooLong = TooLong
+clauses_fault (clauses.Form line) = Cnf line
 
 -- a run had an end of which this holds, and this is its status
 abbrev pub Ended : {F : Type 0} → (F → ModelFault) → (End F → Type 0) → Status → Type 0

@@ -5,16 +5,17 @@ ghost use Rattle.command_words.specs.Request.{request_of};
 ghost use Rattle.command_words.specs.Limits.{KeepsLimits};
 ghost use Rattle.command_words.specs.Line.{request};
 ghost use Rattle.text_modes.specs.Seen.{seen, shelf_shown, sink_shown};
-ghost use Rattle.bee_cli.specs.Obeyed.{search_options, is_built, Obeys};
+ghost use Rattle.bee_cli.specs.Obeyed.{search_options, clause_options, is_built, Obeys};
 
 use crate::reporting::report;
-use crate::status::{Status, cnf_status, model_status};
+use crate::status::{Status, clauses_status, cnf_status, model_status};
 use bee_outside::{Shelf, Sink};
 use check_mode::check;
 use command_words::{Command, Options, read_command};
 use compile_mode::compile;
 use decode_mode::decode;
 use queens_mode::queens;
+use sat_mode::{SearchOptions, sat};
 use solve_mode::solve;
 use std::alloc::{AllocError, Global};
 
@@ -23,6 +24,16 @@ fn search_options(options: Options) -> decode_minimize::Options
     ensures { result ≡ search_options options }
 {
     decode_minimize::Options {
+        budget: options.budget,
+        restart: options.restart,
+    }
+}
+
+/// How clauses are searched, as the words say it.
+fn clause_options(options: Options) -> SearchOptions
+    ensures { result ≡ clause_options options }
+{
+    SearchOptions {
         budget: options.budget,
         restart: options.restart,
     }
@@ -50,6 +61,9 @@ fn obey<S: Shelf, O: Sink>(
         Command::Decode { input, second } => cnf_status(decode(alloc, input, second, shelf, out)),
         Command::Queens { size, options } => {
             model_status(queens(alloc, *size, search_options(*options), out))
+        }
+        Command::Sat { input, options } => {
+            clauses_status(sat(alloc, input, clause_options(*options), shelf, out))
         }
     }
 }

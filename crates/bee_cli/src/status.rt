@@ -1,9 +1,10 @@
 //! How a run ends.
 
 ghost use Rattle.std.specs.Prelude.{◌≡◌, ◌≢◌};
-ghost use Rattle.bee_cli.specs.Statuses.{status_of, outcome_status, model_fault, cnf_fault};
+ghost use Rattle.bee_cli.specs.Statuses.{status_of, outcome_status, model_fault, cnf_fault, clauses_fault};
 
 use model_texts::ModelFault;
+use sat_mode::CnfTextFault;
 use text_modes::{End, Outcome};
 
 /// How a run ends.
@@ -15,7 +16,7 @@ pub enum Status {
     Refused(u64),
     /// The words aren't the command's.
     Usage,
-    /// The input was read and is no model that is compiled, or no compiled text.
+    /// The input was read and is no model that is compiled, no compiled text, or no text of a CNF.
     Model(ModelFault),
     /// The input could not be read.
     Read,
@@ -61,6 +62,30 @@ pub(crate) fn cnf_status(end: End<u64>) -> Status
     match end {
         End::Wrote(outcome) => outcome_status(outcome),
         End::Fault(line) => Status::Model(ModelFault::Cnf(line)),
+        End::Read => Status::Read,
+        End::Write => Status::Write,
+        End::Memory => Status::Memory,
+    }
+}
+
+/// What a fault of the text of a plain CNF is called.
+fn clauses_fault(fault: CnfTextFault) -> ModelFault
+    ensures { result ≡ clauses_fault fault }
+{
+    match fault {
+        CnfTextFault::TooLong => ModelFault::TooLong,
+        CnfTextFault::Form(line) => ModelFault::Cnf(line),
+    }
+}
+
+/// The status of a run over the text of a plain CNF.
+pub(crate) fn clauses_status(end: End<CnfTextFault>) -> Status
+    ensures status { result ≡ status_of clauses_fault end }
+    ensures built { result ≢ Status.Usage }
+{
+    match end {
+        End::Wrote(outcome) => outcome_status(outcome),
+        End::Fault(fault) => Status::Model(clauses_fault(fault)),
         End::Read => Status::Read,
         End::Write => Status::Write,
         End::Memory => Status::Memory,

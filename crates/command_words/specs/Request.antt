@@ -14,6 +14,7 @@ pub data Request : Type 0 where
   Check : (input second : Text) → Request
   Decode : (input second : Text) → Request
   Queens : (size : ℕ) (options : Options) → Request
+  Sat : (input : Text) (options : Options) → Request
 
 abbrev pub request_of : Command → Request
 request_of (command.Compile input) = Compile input.now
@@ -21,6 +22,7 @@ request_of (command.Solve input options) = Solve input.now options
 request_of (command.Check input second) = Check input.now second.now
 request_of (command.Decode input second) = Decode input.now second.now
 request_of (command.Queens size options) = Queens size options
+request_of (command.Sat input options) = Sat input.now options
 
 -- a word stands and is this one
 abbrev pub is_word : Text → Option Text → Bool
@@ -62,9 +64,10 @@ mode_requested mode value options =
     else if is_word (codes "check") mode then option_map (λ names. Check names.0 names.1) (both_inputs value)
     else if is_word (codes "decode") mode then option_map (λ names. Decode names.0 names.1) (both_inputs value)
     else if is_word (codes "queens") mode then option_map (λ size. Queens size options) (queens_size value)
+    else if is_word (codes "sat") mode then option_map (λ input. Sat input options) (lone_input value)
     else None
 
--- what the words ask for, by the values of words and options: `compile`, `solve` and `queens` with one name or number,
+-- what the words ask for, by the values of words and options: `compile`, `solve`, `queens` and `sat` with one name or number,
 -- `check` and `decode` with two names
 abbrev pub requested : (Text → Option Text) → Option Request
 requested value = option_and_then (mode_requested (value (codes "mode")) value) (options_of value)

@@ -46,4 +46,11 @@ pub enum Command<'a> {
         /// How.
         options: Options,
     },
+    /// Values are sought that satisfy a CNF.
+    Sat {
+        /// The name of the CNF's text.
+        input: &'a str,
+        /// How.
+        options: Options,
+    },
 }

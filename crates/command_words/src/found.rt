@@ -79,6 +79,9 @@ pub fn found_command<'a>(matches: &ArgMatches<'a>) -> Option<Command<'a>>
     } else if is_word("queens", mode) {
         let size = queens_size(matches)?;
         Some(Command::Queens { size, options })
+    } else if is_word("sat", mode) {
+        let input = lone_input(matches)?;
+        Some(Command::Sat { input, options })
     } else {
         None
     }

@@ -35,6 +35,8 @@ mod outside;
 #[cfg(test)]
 mod queens;
 #[cfg(test)]
+mod sat;
+#[cfg(test)]
 mod shelves;
 #[cfg(test)]
 mod solution_sets;

@@ -20,6 +20,7 @@ fn mode_of<'a>(command: &Command<'a>) -> (&'static str, &'a str) {
         Command::Check { input, .. } => ("check", input),
         Command::Decode { input, .. } => ("decode", input),
         Command::Queens { .. } => ("queens", ""),
+        Command::Sat { input, .. } => ("sat", input),
     }
 }
 
@@ -42,9 +43,9 @@ fn size_of(command: &Command<'_>) -> Option<u64> {
 /// The budget of a command that solves, and whether the search may begin again.
 fn options_of(command: &Command<'_>) -> Option<(u64, bool)> {
     match *command {
-        Command::Solve { options, .. } | Command::Queens { options, .. } => {
-            Some((options.budget, options.restart))
-        }
+        Command::Solve { options, .. }
+        | Command::Queens { options, .. }
+        | Command::Sat { options, .. } => Some((options.budget, options.restart)),
         _ => None,
     }
 }
@@ -71,6 +72,7 @@ fn commands_of_words(rt: HostRuntime) {
             None,
         ),
         ("bee solve m.bee", "solve", "m.bee", None),
+        ("bee sat m.cnf", "sat", "m.cnf", None),
         ("bee check m.bee a.txt", "check", "m.bee", Some("a.txt")),
         ("bee check m.bee m.bee", "check", "m.bee", Some("m.bee")),
         (
@@ -95,6 +97,8 @@ fn options_of_words(rt: HostRuntime) {
         ("bee solve m.bee", USUAL, true, None),
         ("bee solve m.bee --budget 007", 7, true, None),
         ("bee solve --no-restart m.bee", USUAL, false, None),
+        ("bee sat m.cnf", USUAL, true, None),
+        ("bee sat --no-restart m.cnf --budget=9", 9, false, None),
         ("bee queens 4", USUAL, true, Some(4)),
         ("bee queens 024 --budget=2 --no-restart", 2, false, Some(24)),
     ] {
@@ -118,6 +122,10 @@ fn words_that_give_no_command(rt: HostRuntime) {
         "bee decode m.cnf",
         "bee check m.bee a.txt b.txt",
         "bee solve m.bee n.bee",
+        "bee sat",
+        "bee sat m.cnf n.cnf",
+        "bee sat m.cnf --budget 0",
+        "bee SAT m.cnf",
         "bee compile m.bee n.bee",
         "bee compile m.bee n.bee o.bee",
         "bee queens 3",

@@ -3,8 +3,9 @@
 use thiserror::Error;
 use typed_model::TypeFault;
 
-/// Why an input is no model that is compiled, or no compiled text. The first of these that it has, in this order, is
-/// its fault; of `Syntax` and `Number` the one that stands first in the text. `Cnf` is a compiled text's alone.
+/// Why an input is no model that is compiled, no compiled text, or no plain CNF. The first of these that it has, in
+/// this order, is its fault; of `Syntax` and `Number` the one that stands first in the text. `Cnf` is that of a compiled
+/// text and of a plain CNF.
 #[derive(Debug, Drop, Error)]
 pub enum ModelFault {
     /// Its text has more than 16,777,216 bytes.
@@ -22,7 +23,7 @@ pub enum ModelFault {
     /// The model's weight is this, and above 67,108,864.
     #[error("model: weight {0}")]
     TooHeavy(u128),
-    /// It is no compiled text; the first line that fails, counted from 1.
+    /// It is no compiled text, or no plain CNF; the first line that fails, counted from 1.
     #[error("cnf: line {0}")]
     Cnf(u64),
 }

@@ -1,0 +1,6 @@
+pub mod Members
+pub mod Implied
+pub mod Trails
+pub mod Permuted
+pub mod Denials
+pub mod Rups

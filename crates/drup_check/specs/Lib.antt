@@ -1,0 +1,4 @@
+pub mod Rup
+pub mod Stored
+pub mod Laws
+pub mod Denying

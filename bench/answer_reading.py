@@ -1,15 +1,14 @@
-"""Reads the texts of `docs/FORMATS.md` with code of its own: compiled texts, values of a solver, and answers to a model of `small_models.py`."""
+"""Reads the texts of `docs/FORMATS.md` with code of its own: compiled texts, values of a solver, and answers to a model of `small_models.py`, whose ledger lines
+`ledger_reading.py` takes."""
 import re
+
+from integers import Integer, is_true, opposite
 
 MOST = 2**63
 
 
 class Refused(Exception):
     """A text isn't valid: its first line that fails."""
-
-
-class Unread(Exception):
-    """The ledger is another one than that of the compilation, so its CNF isn't known."""
 
 
 def lines_of(text):
@@ -25,35 +24,6 @@ def number(word, low=-MOST, high=MOST - 1):
     return told if low <= told <= high else None
 
 
-def opposite(atom):
-    return {"T": "F", "F": "T"}[atom] if isinstance(atom, str) else -atom
-
-
-class Integer:
-    """A base, and steps upwards, each an atom with its weight."""
-
-    def __init__(self, base, steps):
-        self.base, self.steps = base, steps
-
-    def at(self, value):
-        """The atom that says that the integer is at least so much."""
-        reached = self.base
-        if value <= reached:
-            return "T"
-        for atom, weight in self.steps:
-            reached += weight
-            if value <= reached:
-                return atom
-        return "F"
-
-    def value(self, true):
-        return self.base + sum(weight for atom, weight in self.steps if is_true(atom, true))
-
-
-def is_true(atom, true):
-    return atom == "T" or (atom != "F" and (atom in true))
-
-
 class Compiled:
     """A compiled text, with what each name stands for: an atom or an Integer."""
 
@@ -65,7 +35,7 @@ class Compiled:
                 self.names[words[2]] = self.atom(words[3])
             elif words[:2] == ["c", "int"]:
                 steps = [word.rsplit(":", 1) for word in words[4:]]
-                self.names[words[2]] = Integer(int(words[3]), [(self.atom(a), int(w)) for a, w in steps])
+                self.names[words[2]] = Integer(int(words[3]), tuple((self.atom(a), int(w)) for a, w in steps))
             elif words[:2] == ["c", "led"]:
                 self.ledger.append(line[len(b"c led ") :])
             elif words[0] == "p":
@@ -81,27 +51,6 @@ class Compiled:
         """What each name has where these literals are true."""
         for name, entry in self.names.items():
             yield name, entry.value(true) if isinstance(entry, Integer) else is_true(entry, true)
-
-
-class Ledger:
-    """Follows the ledger of a compiled text, and knows no other one."""
-
-    def __init__(self, compiled):
-        self.compiled, self.place = compiled, 0
-
-    def apply(self, line):
-        if self.place == len(self.compiled.ledger) or line != self.compiled.ledger[self.place]:
-            raise Unread
-        self.place += 1
-        return True
-
-    def cnf(self):
-        if self.place < len(self.compiled.ledger):
-            raise Unread
-        return self.compiled.vars, self.compiled.clauses
-
-    def entry(self, name):
-        return self.compiled.names[name]
 
 
 class Proof:

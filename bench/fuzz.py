@@ -1,88 +1,19 @@
 #!/usr/bin/env python3
-"""Tries the program on small models, made at random: fuzz.py PROGRAM COUNT SEED FOLDER [PROCESSES]. What is compared with what stands in
+"""Tries the program on small models, made at random: fuzz.py PROGRAM COUNT SEED FOLDER [PROCESSES [FIRST]]. What is compared with what stands in
 `fuzz.sh`. Each failure is told at once, and its texts are kept in FOLDER."""
-import collections, multiprocessing, os, random, re, subprocess, sys
+import collections, multiprocessing, os, random, subprocess, sys
 
 sys.path.insert(0, os.path.dirname(os.path.abspath(__file__)))
-from answer_reading import Answer, Compiled, Ledger, Refused, Unread, values
+from answer_reading import Answer, Compiled, Refused, values
+from clause_search import Search
+from fuzz_changes import CHANGES, atom_words, document, one_step, wandered
+from ledger_reading import Compilation, Steps
+from rule_reading import is_implied
 from small_models import KINDS, Maker
 
 
 class Difference(Exception):
     """The program says one thing, and the reading another."""
-
-
-class Search:
-    """All solutions of a compiled text, as its names have them, by trying the literals of the names first."""
-
-    def __init__(self, compiled, chance):
-        self.compiled = compiled
-        self.places = collections.defaultdict(list)
-        for clause in compiled.clauses:
-            for literal in clause:
-                self.places[literal].append(clause)
-        named = [a for entry in compiled.names.values() for a in ([s for s, _ in entry.steps] if hasattr(entry, "steps") else [entry])]
-        self.named = list(dict.fromkeys(abs(a) for a in named if not isinstance(a, str)))
-        inside = sorted({abs(l) for clause in compiled.clauses for l in clause} - set(self.named))
-        self.order = self.named + inside
-        self.free = sorted(set(range(1, compiled.vars + 1)) - set(self.order))
-        self.true, self.chance, self.found = set(), chance, {}
-
-    def assume(self, literals):
-        """Makes literals true, with what follows; gives those that it made true, and whether no clause is false."""
-        made, todo = [], list(literals)
-        while todo:
-            literal = todo.pop()
-            if literal in self.true:
-                continue
-            if -literal in self.true:
-                return made, False
-            self.true.add(literal)
-            made.append(literal)
-            for clause in self.places[-literal]:
-                if any(l in self.true for l in clause):
-                    continue
-                left = [l for l in clause if -l not in self.true]
-                if not left:
-                    return made, False
-                if len(left) == 1:
-                    todo.append(left[0])
-        return made, True
-
-    def undo(self, made):
-        self.true.difference_update(made)
-
-    def go(self, place):
-        """Takes the variables from a place of the order on; true where what is left was one solution, so that no other is wanted."""
-        while place < len(self.order) and (self.order[place] in self.true or -self.order[place] in self.true):
-            place += 1
-        if place == len(self.order):
-            self.keep()
-            return True
-        variable, any_found = self.order[place], False
-        for literal in (variable, -variable):
-            made, fits = self.assume([literal])
-            done = fits and self.go(place + 1)
-            self.undo(made)
-            if done and place >= len(self.named):
-                return True
-            any_found = any_found or done
-        return any_found
-
-    def keep(self):
-        rest = {self.chance.choice((v, -v)) for v in self.free}
-        true = self.true | rest
-        told = tuple(value for _, value in self.compiled.told(true))
-        self.found.setdefault(told, true)
-
-    def solutions(self):
-        if [] in self.compiled.clauses:
-            return {}
-        made, fits = self.assume([c[0] for c in self.compiled.clauses if len(c) == 1])
-        if fits:
-            self.go(0)
-        self.undo(made)
-        return self.found
 
 
 class Trial:
@@ -98,6 +29,7 @@ class Trial:
             self.known = list(self.model.solutions())
             if self.known:
                 break
+        self.compilation = Compilation(self.model)
         self.counts = collections.Counter()
         self.texts = {}
         self.runs = []
@@ -154,15 +86,26 @@ class Trial:
         self.best = self.model.best(self.known) if self.model.objectives and self.known else None
         self.cnf_text = self.end(compiling)
         self.compare_clauses()
+        self.compare_ledger()
         self.compare_answer(model, self.end(solving))
         spent = self.end(giving_up, (0, 8))
         self.want((self.runs[giving_up[0]].returncode == 8) == spent.split(b"\n")[1].startswith(b"UNKNOWN"), "the exit code is that of another verdict")
         if self.runs[giving_up[0]].returncode == 8:
             self.want(spent.split(b"\n")[1] == b"UNKNOWN %d" % budget, "another budget")
         self.compare_answer(model, spent)
+        self.compare_documents(model)
         self.compare_all()
-        self.counts["models"] += 1
+        self.count_model()
         return self.counts
+
+    def count_model(self):
+        """What the model has: its statements, domains and goal."""
+        self.counts["models"] += 1
+        for name, args in self.model.items:
+            listed = name == "new_int" and isinstance(args[1], list)
+            self.counts[f"statement {name}{' with a list' if listed else ''}"] += 1
+        then = " then" * (len(self.model.objectives) == 2)
+        self.counts[f"goal {self.model.direction or 'satisfy'}{then}"] += 1
 
     def compare_clauses(self):
         self.compiled = Compiled(self.cnf_text)
@@ -207,72 +150,66 @@ class Trial:
             return self.best is not None and [int(n) for n in numbers] == self.best
         return (kind == "SATISFIABLE") == bool(self.known)
 
+    def compare_ledger(self):
+        """Makes the steps of the compiled text's ledger, which lead to its clauses and its names."""
+        steps = Steps(self.compilation)
+        for place, line in enumerate(self.compiled.ledger, 1):
+            state = steps.state
+            self.want(steps.apply(line), f"line {place} of the ledger is no step: {line!r}")
+            words = line.decode().split(" ")
+            core = state.core(int(words[1]))
+            self.counts[f"step {' '.join(words[:1] + words[2:3])} {core[0]}"] += 1
+            if words[0] == "eq":
+                self.want(is_implied(core, *atom_words(words[3:])) is not False, f"line {place} of the ledger is not implied: {line!r}")
+        self.want(steps.cnf() == (self.compiled.vars, self.compiled.clauses), f"the clauses of the ledger are {steps.cnf()}")
+        self.want(all(steps.entry(name) == entry for name, entry in self.compiled.names.items()), "names stand for something else at the ledger's end")
+
     def compare_answer(self, model, text):
+        """A document of `solve`, as it stands and with changes."""
         verdict = self.reading(text)
         self.want(verdict[0] == "ACCEPTED", f"the reading of what solve wrote: {verdict}")
-        self.want(self.is_true(verdict[1]), f"{verdict[1]} is not true")
         self.counts[verdict[1].split(" ")[0]] += 1
-        self.compare_check(model, text, "")
+        self.compare_changes(model, text, 2)
+
+    def compare_documents(self, model):
+        """Documents that `solve` does not write: one behind the whole ledger of the compilation, and one behind a ledger of any steps."""
+        wander = wandered(self.chance, self.compilation, self.chance.choice((2, 10, 40)))
+        for kind, ledger in (("compiled", self.compiled.ledger), ("wandering", wander)):
+            text = document(self.chance, self.compilation, self.model, ledger)
+            if text is not None:
+                verdict = self.reading(text)
+                self.want(verdict[0] == "ACCEPTED", f"the reading of a document that was made: {verdict}")
+                self.counts[f"document of a {kind} ledger"] += 1
+                self.compare_changes(model, text, 1)
+
+    def compare_changes(self, model, text, times):
+        self.compare_check(model, text, "nothing")
         for change in CHANGES:
-            for _ in range(2):
+            for _ in range(times):
                 self.compare_check(model, change(self.chance, text), change.__name__)
+        for _ in range(times):
+            changed, place = one_step(self.chance, text, self.compilation)
+            if changed is not None:
+                self.compare_check(model, changed, "one_step", place)
 
     def reading(self, text):
         try:
-            return "ACCEPTED", Answer(self.model, Ledger(self.compiled), text).verdict()
+            return "ACCEPTED", Answer(self.model, Steps(self.compilation), text).verdict()
         except Refused as refused:
             return "REFUSED", str(refused.args[0])
 
-    def compare_check(self, model, text, changed):
+    def compare_check(self, model, text, changed, place=0):
         run = self.start("check", model, self.path(f"{len(self.runs)}.answer", text))
-        self.compare_later(run, lambda told: self.compare_told(told, text, changed))
+        self.compare_later(run, lambda told: self.compare_told(told, text, changed, place))
 
-    def compare_told(self, told, text, changed):
-        name, _, rest = told.rstrip("\n").partition(" ")
-        self.want(told == f"{name} {rest}\n" and name in ("ACCEPTED", "REFUSED"), f"check wrote {told!r}")
-        try:
-            wanted = self.reading(text)
-            self.want((name, rest) == wanted, f"check: {told!r}, wanted {wanted}")
-            what = ""
-        except Unread:
-            self.want(name == "REFUSED" or self.is_true(rest), f"check: {told!r}, which is not true")
-            what = " in its ledger"
-        if changed:
-            self.counts[f"{changed}{what}, {name.lower()}"] += 1
-
-
-def one_byte(chance, text):
-    place = chance.randrange(len(text) + 1)
-    more = bytes([chance.choice(b"0123456789 \n-=TFdevs\0\xff" + bytes([chance.randrange(256)]))])
-    return text[:place] + chance.choice((b"", more, more)) + text[place + chance.choice((0, 1)) :]
-
-
-def one_line(chance, text):
-    lines = text.split(b"\n")
-    place, other = (chance.randrange(len(lines) - 1) for _ in range(2))
-    way = chance.randrange(4)
-    if way == 0:
-        del lines[place]
-    elif way == 1:
-        lines.insert(other, lines[place])
-    elif way == 2:
-        lines[place], lines[other] = lines[other], lines[place]
-    else:
-        lines[place] = lines[other]
-    return b"\n".join(lines)
-
-
-def one_number(chance, text):
-    numerals = list(re.finditer(rb"-?[0-9]+", text))
-    if not numerals:
-        return one_byte(chance, text)
-    told = chance.choice(numerals)
-    value = int(told[0])
-    other = chance.choice((value + 1, value - 1, -value, chance.randint(-9, 30), int(chance.choice(numerals)[0]), 2**63, 99999999999999999999))
-    return text[: told.start()] + b"%d" % other + text[told.end() :]
-
-
-CHANGES = (one_byte, one_line, one_number)
+    def compare_told(self, told, text, changed, place):
+        wanted = self.reading(text)
+        self.want(told == f"{wanted[0]} {wanted[1]}\n", f"check: {told!r}, wanted {wanted}")
+        self.want(wanted[0] == "REFUSED" or self.is_true(wanted[1]), f"{wanted[1]} is not true")
+        self.counts[f"check, {changed.replace('_', ' ')} changed, {wanted[0].lower()}"] += 1
+        if changed == "one_step":
+            line = wanted[0] == "ACCEPTED" or int(wanted[1]) > place
+            self.counts[f"check, one step changed, which is {'one' if line else 'none'}"] += 1
 
 
 def attempt(job):
@@ -290,24 +227,33 @@ def attempt(job):
 
 
 def tell(counts, failures):
+    """The counts, those of statements and of steps several in a row."""
+    short = {}
     for name, number in sorted(counts.items()):
-        print(f"{number:9} {name}")
-    print(f"{failures:9} failures", flush=True)
+        kind, _, rest = name.partition(" ")
+        if kind in ("statement", "step"):
+            short.setdefault(kind, []).append(f"{rest} {number}")
+        else:
+            print(f"{number:9} {name}")
+    for kind, each in short.items():
+        print(f"of each {kind}: {', '.join(each)}")
+    missing = [f"statement {name}" for name in KINDS if not counts[f"statement {name}"]]
+    print(f"{failures:9} differences" + (f"; missing: {', '.join(missing)}" if missing else ""), flush=True)
 
 
 def main():
-    program, count, seed, folder, *processes = sys.argv[1:]
-    jobs = ((program, folder, seed, index) for index in range(int(count)))
+    program, count, seed, folder, *more = sys.argv[1:]
+    processes, first = (int(word) for word in (more + ["3", "0"][len(more) :]))
+    jobs = ((program, folder, seed, index) for index in range(first, first + int(count)))
     counts, failures = collections.Counter(), 0
-    with multiprocessing.Pool(int(processes[0] if processes else 3)) as pool:
+    with multiprocessing.Pool(processes, maxtasksperchild=200) as pool:
         for done, (index, one, failure) in enumerate(pool.imap_unordered(attempt, jobs, 4), 1):
             counts += one
             if failure:
                 failures += 1
-                print(f"model {index} of seed {seed}: {failure}", flush=True)
+                print(f"model {index} of seed {seed}: {failure[:2000]}", flush=True)
             if done % 500 == 0:
-                print(f"after {done} models:")
-                tell(counts, failures)
+                print(f"after {done} models: {counts['runs']} runs, {failures} differences", flush=True)
     print("in all:")
     tell(counts, failures)
     sys.exit(1 if failures else 0)

@@ -9,10 +9,11 @@
 #   weight below, weight above            an integer whose weight is just below and just above the limit
 #   chain                                 500,000 equal Booleans
 #   half                                  half of 16,000 Booleans true
+#   sum                                   16,000 integers of two values, added up
 #   different                             1,000 members of 1,000 values that differ
 #   document, one line                    a document of 500,000,000 bytes, of a derivation that is accepted, and of one line
 # Words name the loads to be run; without words all are. It prints for each run the exit code, what was written, the processor's seconds, the peak memory as `time` has it, and
-# how many times more that is than at a tenth. It needs 6 GB of memory and 2 GB in the folder for temporary files. BEE names another program that is run. Wants python3 and
+# how many times more that is than at a tenth. A run is stopped after ten minutes, and has no more than 8 GB of memory. It needs 6 GB of memory and 2 GB in the folder for temporary files. BEE names another program that is run. Wants python3 and
 # /usr/bin/time.
 set -eu
 top=$(cd "$(dirname "${BASH_SOURCE[0]}")/.." && pwd)

@@ -2,12 +2,15 @@
 """Runs the program on the largest texts that it takes, and on the same at a tenth of their size: loads.py PROGRAM FOLDER [LOAD ..]. What the loads are
 stands in `load.sh`. A line for each run: the load and the mode, the bytes of the text, the exit code with the line on standard error, the bytes written, the processor's seconds and the peak memory, and
 behind the second run how many times more seconds and memory that took."""
-import os, subprocess, sys
+import os, resource, subprocess, sys
 
 sys.path.insert(0, os.path.dirname(os.path.abspath(__file__)))
 import models
 
 MOST = 16_777_216
+# A run is stopped after so many seconds, and has so many bytes of memory.
+SECONDS = 600
+MEMORY = 8 * 2**30
 GOAL = "\nsolve satisfy\n"
 
 
@@ -52,6 +55,11 @@ def chain(size):
 def half(size):
     yield from (f"new_bool(b{n})" for n in range(size))
     yield f"bool_array_sum_eq([{','.join(f'b{n}' for n in range(size))}],{size // 2})"
+
+
+def added(size):
+    yield from (f"new_int(x{n},0,1)" for n in range(size))
+    yield f"int_array_sum_eq([{','.join(f'x{n}' for n in range(size))}],{size // 2})"
 
 
 def different(size):
@@ -100,6 +108,7 @@ LOADS = {
     "weight above": (lines(lambda size: [f"new_int(i,0,{size})"]), 22_369_623, ["compile"]),
     "chain": (lines(chain), 500_000, ["compile", "solve"]),
     "half": (lines(half), 16_000, ["compile", "solve"]),
+    "sum": (lines(added), 16_000, ["compile"]),
     "different": (lines(different), 1_000, ["compile"]),
     "document": (copies, 500_000_000, ["check"]),
     "one line": (one_line, 500_000_000, ["check"]),
@@ -114,10 +123,12 @@ def pairs_of_lists(size):
 
 def measure(program, words, sink):
     """A run under `time`, which is small: the peak of a process counts from what its parent had."""
+    timed = ["/usr/bin/time", "-q", "-o", sink + ".time", "-f", "%U %S %M", "timeout", str(SECONDS), program, *words]
     with open(sink, "wb") as out, open(sink + ".err", "wb") as err:
-        code = subprocess.call(["/usr/bin/time", "-q", "-o", sink + ".time", "-f", "%U %S %M", program, *words], stdout=out, stderr=err)
+        code = subprocess.call(timed, stdout=out, stderr=err, preexec_fn=lambda: resource.setrlimit(resource.RLIMIT_AS, (MEMORY, MEMORY)))
     with open(sink + ".err", "rb") as told:
         line = told.read(200).decode(errors="replace").strip()
+    line = line or ("stopped" if code == 124 else "")
     user, system, peak = open(sink + ".time").read().split()
     return code, line, os.path.getsize(sink), float(user) + float(system), int(peak) / 1024
 

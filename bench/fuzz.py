@@ -254,6 +254,8 @@ def main():
                 print(f"model {index} of seed {seed}: {failure[:2000]}", flush=True)
             if done % 500 == 0:
                 print(f"after {done} models: {counts['runs']} runs, {failures} differences", flush=True)
+            if done % 2000 == 0:
+                tell(counts, failures)
     print("in all:")
     tell(counts, failures)
     sys.exit(1 if failures else 0)

@@ -10,8 +10,8 @@
 #   half      solve of the same
 #   two       solve, two objectives
 #   sum       decode, two integers from the values of their clauses
-# What is refused is `malloc` and `realloc` of the C library, by a small library that is put before it. BEE names another program that is tried. Wants cc and
-# python3.
+# What is refused is `malloc` and `realloc` of the C library, by a small library that is put before it. BEE names another program that is tried, and PROCESSES how many runs go on at a time, three without
+# it. Wants cc and python3.
 set -eu
 top=$(cd "$(dirname "${BASH_SOURCE[0]}")/.." && pwd)
 program=${BEE:-$top/crates/bee/out/bee}
@@ -119,7 +119,7 @@ for name, words in RUNS:
     openings = 3 if words[0] in ("check", "decode") else 2
     shown, others = [], {}
     for forever in (False, True):
-        with ThreadPool(8) as pool:
+        with ThreadPool(int(os.environ.get("PROCESSES", 3))) as pool:
             ends = pool.map(lambda n: run(words, REFUSED_FIRST=str(n), REFUSED_LAST=str(asked if forever else n)), range(1, asked + 1))
         for n, end in enumerate(ends, 1):
             if end not in (ample, TOLD, UNTOLD) and (end != OPENING or ends.count(OPENING) > openings):

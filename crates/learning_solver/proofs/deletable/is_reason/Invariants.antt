@@ -1,4 +1,4 @@
-use Rattle.std.proofs.Common.{◌≡◌, ◌≢◌, ℕ, ◌<◌, Some}
+use Rattle.std.proofs.Common.{◌≢◌, ℕ, ◌<◌, Some}
 use Rattle.literal_trail.specs.Trail.{reason_in}
 use Rattle.clause_arena.specs.Clauses.{lits_of, lit_in}
 use Rattle.learning_solver.proofs.deletable.is_reason.Given as goal

@@ -1,6 +1,5 @@
-use Rattle.std.proofs.Common.{◌≡◌, ◌<◌, ◌∙◌, ◌++◌, ℕ, List, [], ◌∷◌, length, refl, ap, sym, subst, arith}
-use Rattle.std.specs.Prelude.{slice_set}
-use Rattle.clause_arena.specs.Clauses.{Clause, clause_at, no_clause}
+use Rattle.std.proofs.Common.{◌<◌, ◌∙◌, ◌++◌, ℕ, List, [], ◌∷◌, length, refl, ap, sym, subst, arith}
+use Rattle.clause_arena.specs.Clauses.{Clause, clause_at}
 use Rattle.clause_rings.specs.Clauses.{ClauseLists}
 use Rattle.proof_check.specs.declared.line.ProofLine.{ProofLine}
 use Rattle.proof_check.specs.declared.line.ProofLine.TheVariants.{Delete}

@@ -165,6 +165,20 @@ static HEADS: [(&str, &str, &str); 22] = [
     ),
 ];
 
+/// Documents of each verdict.
+static WHOLES: [(&str, &str); 4] = [
+    (PAIRS, REFUTED),
+    (TRUTH, "bee 1\nSATISFIABLE\nx = true\nend\n"),
+    (
+        TWO,
+        "bee 2\nOPTIMUM 0 2\nx = 0\ny = 2\nledger\neq 3 form 1 -4\nproof\nsecond\nend\n",
+    ),
+    (
+        TWO,
+        "bee 2\nUNKNOWN 1\nbest 0 2\nx = 0\ny = 2\nledger\nenc 1\nenc 2\nproof\n3 1 -2 0 1 0\nend\n",
+    ),
+];
+
 /// Asserts what comes of documents.
 fn says(
     rt: &impl std::process::Abort,
@@ -198,15 +212,27 @@ fn line_feeds(text: &[u8]) -> usize {
     text.iter().filter(|byte| **byte == b'\n').count()
 }
 
-#[test]
-fn cut_at_each_byte(rt: HostRuntime) -> Result<(), Fail> {
-    let whole = REFUTED.as_bytes();
+/// Asserts that a document which is cut fails at the line that isn't whole, wherever it is cut.
+fn fails_where_cut(
+    rt: &impl std::process::Abort,
+    alloc: std::alloc::Global,
+    model: &str,
+    whole: &[u8],
+) -> Result<(), Fail> {
     for end in 0..whole.len() {
         let front = &whole[..end];
-        let found = answer(rt.alloc(), PAIRS, front)?;
+        let found = answer(alloc, model, front)?;
         let line = line_feeds(front);
-        let want = format!(in rt.alloc(); "{} Shape", line.saturating_add(1))?;
+        let want = format!(in alloc; "{} Shape", line.saturating_add(1))?;
         assert_eq!(rt; found.as_str(), want.as_str(), "{end}");
+    }
+    Ok(())
+}
+
+#[test]
+fn cut_at_each_byte(rt: HostRuntime) -> Result<(), Fail> {
+    for (model, whole) in &WHOLES {
+        fails_where_cut(&rt, rt.alloc(), model, whole.as_bytes())?;
     }
     Ok(())
 }

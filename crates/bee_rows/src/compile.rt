@@ -178,9 +178,11 @@ fn other_words_are_refused(rt: HostRuntime) -> Result<(), Fail> {
 fn options_mean_nothing_to_compile(rt: HostRuntime) -> Result<(), Fail> {
     let alloc = rt.alloc();
     let words = ["bee", "--no-restart", "compile", "m.bee", "--budget", "007"];
-    let run = run_over(alloc, words.as_slice(), bytes(alloc, ONE)?, AMPLE)?;
-    assert_eq!(rt; run.status.0, "done");
-    assert_eq!(rt; run.out.taken(), ONE_COMPILED.as_bytes());
+    for (text, compiled) in [(ONE, ONE_COMPILED), (SUM, SUM_COMPILED)] {
+        let run = run_over(alloc, words.as_slice(), bytes(alloc, text)?, AMPLE)?;
+        assert_eq!(rt; run.status.0, "done");
+        assert_eq!(rt; run.out.taken(), compiled.as_bytes());
+    }
     Ok(())
 }
 
@@ -208,45 +210,10 @@ fn longer_text_is_refused(rt: HostRuntime) -> Result<(), Fail> {
     Ok(())
 }
 
+/// A sink that is full, and one for errors that always fails.
 #[test]
-fn faults_at_each_call(rt: HostRuntime) -> Result<(), Fail> {
+fn faults_of_the_sinks(rt: HostRuntime) -> Result<(), Fail> {
     let alloc = rt.alloc();
-    let whole = ONE_COMPILED.as_bytes();
-    // The model has 26 bytes, which take seven calls of four, and one more sees the end.
-    for number in 1..10u64 {
-        let outside = Outside {
-            step: 4,
-            shelf_failing: &[number],
-            ..AMPLE
-        };
-        let run = compile_over(alloc, ONE, outside)?;
-        let word = if number <= 8 { "read" } else { "done" };
-        assert_eq!(rt; run.status.0, word, "failing call {number} of the shelf");
-        let wanted: &[u8] = if number <= 8 { b"" } else { whole };
-        assert_eq!(rt;
-            run.out.taken(),
-            wanted,
-            "failing call {number} of the shelf"
-        );
-    }
-    // The text has 30 bytes, which take four calls of eight, and then it is flushed.
-    for number in 1..7u64 {
-        let outside = Outside {
-            step: 8,
-            sink_failing: &[number],
-            ..AMPLE
-        };
-        let run = compile_over(alloc, ONE, outside)?;
-        let word = if number <= 5 { "write" } else { "done" };
-        assert_eq!(rt; run.status.0, word, "failing call {number} of the sink");
-        let taken = run.out.taken();
-        assert!(rt;
-            whole.starts_with(taken),
-            "failing call {number} of the sink"
-        );
-        assert_eq!(rt; taken.len(), whole.len().min(8 * (number as usize - 1)));
-    }
-    // A sink that is full, and one for errors that always fails.
     let full = Outside { room: 20, ..AMPLE };
     let run = compile_over(alloc, ONE, full)?;
     assert_eq!(rt; run.status.0, "write");
@@ -258,33 +225,5 @@ fn faults_at_each_call(rt: HostRuntime) -> Result<(), Fail> {
     let run = compile_over(alloc, "solve", mute)?;
     assert_eq!(rt; run.status, ("syntax", 1));
     assert_eq!(rt; run.err.taken(), b"".as_slice());
-    Ok(())
-}
-
-#[test]
-fn faults_at_the_second_part(rt: HostRuntime) -> Result<(), Fail> {
-    let alloc = rt.alloc();
-    let outside = Outside {
-        step: 8,
-        shelf_failing: &[2],
-        ..AMPLE
-    };
-    let run = compile_over(alloc, SUM, outside)?;
-    assert_eq!(rt; run.status, ("read", 0));
-    assert_eq!(rt; run.code, 4);
-    assert_eq!(rt; run.out.taken(), b"".as_slice());
-    let outside = Outside {
-        step: 40,
-        sink_failing: &[2],
-        ..AMPLE
-    };
-    let run = compile_over(alloc, SUM, outside)?;
-    assert_eq!(rt; run.status, ("write", 0));
-    assert_eq!(rt; run.code, 5);
-    assert_eq!(rt; run.out.taken().len(), 40);
-    assert!(rt; SUM_COMPILED.as_bytes().starts_with(run.out.taken()));
-    let run = compile_over(alloc, SUM, AMPLE)?;
-    assert_eq!(rt; run.status, ("done", 0));
-    assert_eq!(rt; run.out.taken(), SUM_COMPILED.as_bytes());
     Ok(())
 }

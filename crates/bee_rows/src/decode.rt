@@ -183,63 +183,6 @@ fn names_of_the_texts(rt: HostRuntime) -> Result<(), Fail> {
 }
 
 #[test]
-fn decoding_with_faults_at_each_call(rt: HostRuntime) -> Result<(), Fail> {
-    let alloc = rt.alloc();
-    // A call gives each text, and one more sees its end.
-    for number in 1..6u64 {
-        let outside = Outside {
-            shelf_failing: &[number],
-            ..AMPLE
-        };
-        let run = decoded(
-            alloc,
-            DECODE.as_slice(),
-            SUM.as_bytes(),
-            FOUND.as_bytes(),
-            outside,
-        )?;
-        let (word, lines) = if number <= 4 {
-            ("read", "")
-        } else {
-            ("done", FOUND_DECODED)
-        };
-        assert_eq!(rt; run.status.0, word, "failing call {number} of the shelf");
-        assert_eq!(rt;
-            run.out.taken(),
-            lines.as_bytes(),
-            "failing call {number} of the shelf"
-        );
-    }
-    // The lines have 12 bytes, which take three calls of five, and then they are flushed.
-    for number in 1..6u64 {
-        let outside = Outside {
-            step: 5,
-            sink_failing: &[number],
-            ..AMPLE
-        };
-        let run = decoded(
-            alloc,
-            DECODE.as_slice(),
-            SUM.as_bytes(),
-            FOUND.as_bytes(),
-            outside,
-        )?;
-        let word = if number <= 4 { "write" } else { "done" };
-        assert_eq!(rt; run.status.0, word, "failing call {number} of the sink");
-        let taken = run.out.taken();
-        assert!(rt;
-            FOUND_DECODED.as_bytes().starts_with(taken),
-            "failing call {number} of the sink"
-        );
-        assert_eq!(rt;
-            taken.len(),
-            FOUND_DECODED.len().min(5 * (number as usize - 1))
-        );
-    }
-    Ok(())
-}
-
-#[test]
 fn model_is_compiled_and_decoded(rt: HostRuntime) -> Result<(), Fail> {
     let alloc = rt.alloc();
     let model = "new_bool(a)\nnew_bool(b)\nbool_array_or([a,-b])\nsolve satisfy\n";

@@ -9,6 +9,8 @@ mod boolean_models;
 #[cfg(test)]
 mod compile;
 #[cfg(test)]
+mod damage;
+#[cfg(test)]
 mod decode;
 #[cfg(test)]
 mod design_examples;

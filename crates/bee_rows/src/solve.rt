@@ -95,7 +95,7 @@ static ANSWERS: [Row; 17] = [
 ];
 
 /// Four pigeons, of which each sits in one of three holes, and no two in one.
-const PIGEONS: &str =
+pub(super) const PIGEONS: &str =
     "new_bool(p11) new_bool(p12) new_bool(p13) new_bool(p21) new_bool(p22) new_bool(p23) new_bool(p31) new_bool(p32) new_bool(p33) new_bool(p41) new_bool(p42) new_bool(p43)
 bool_array_or([p11,p12,p13]) bool_array_or([p21,p22,p23]) bool_array_or([p31,p32,p33]) bool_array_or([p41,p42,p43])
 bool_array_or([-p11,-p21]) bool_array_or([-p11,-p31]) bool_array_or([-p11,-p41]) bool_array_or([-p21,-p31]) bool_array_or([-p21,-p41]) bool_array_or([-p31,-p41])
@@ -138,7 +138,7 @@ const LEAST: &str = "new_int(x,0,2) int_neq(x,0) solve minimize x";
 const TWO: &str = "new_int(x,0,2) new_int(y,0,2) int_plus(x,y,2) solve minimize x then y";
 
 /// A model, a document, the status of its check, and its number.
-static DOCUMENTS: [(&str, &str, &str, u128); 19] = [
+static DOCUMENTS: [(&str, &str, &str, u128); 22] = [
     (
         PAIRS,
         "bee 1\nUNSATISFIABLE\nledger\nenc 1\nenc 2\nenc 3\nenc 4\nproof\n5 1 0 1 2 0\n6 0 5 3 4 0\nend\n",
@@ -177,6 +177,25 @@ static DOCUMENTS: [(&str, &str, &str, u128); 19] = [
         10,
     ),
     (PAIRS, "", "refused", 1),
+    // A second end, a number past its range, and the document of another model.
+    (
+        PAIRS,
+        "bee 1\nUNSATISFIABLE\nledger\nenc 1\nenc 2\nenc 3\nenc 4\nproof\n5 1 0 1 2 0\n6 0 5 3 4 0\nend\nend\n",
+        "refused",
+        12,
+    ),
+    (
+        PAIRS,
+        "bee 1\nUNSATISFIABLE\nledger\nenc 99999999999999999999\nenc 2\nenc 3\nenc 4\nproof\n5 1 0 1 2 0\n6 0 5 3 4 0\nend\n",
+        "refused",
+        4,
+    ),
+    (
+        "bool_array_or([]) solve satisfy",
+        "bee 1\nUNSATISFIABLE\nledger\nenc 1\nenc 2\nenc 3\nenc 4\nproof\n5 1 0 1 2 0\n6 0 5 3 4 0\nend\n",
+        "refused",
+        5,
+    ),
     (
         "bool_array_or([]) solve satisfy",
         "bee 1\nUNSATISFIABLE\nledger\neq 1 form F F\nproof\nend\n",

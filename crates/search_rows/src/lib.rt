@@ -1,0 +1,18 @@
+//! Rows worked out by hand and random ones, over the public calls of the clause store, the analysis of conflicts and the
+//! search. They stand apart from those crates, so that proving them proves none of those crates anew.
+#![tactic(auto)]
+
+#[cfg(test)]
+mod bench;
+#[cfg(test)]
+mod moves;
+#[cfg(test)]
+mod numbers;
+#[cfg(test)]
+mod plain;
+#[cfg(test)]
+mod random_moves;
+#[cfg(test)]
+mod stores;
+#[cfg(test)]
+mod words;

@@ -1,5 +1,5 @@
-//! Rows worked out by hand and random ones, over the public calls of the clause store, the analysis of conflicts and the
-//! search. They stand apart from those crates, so that proving them proves none of those crates anew.
+//! Rows worked out by hand and random ones, over the public calls of the clause store. They stand apart from its crates, so
+//! that proving them proves none of those crates anew.
 #![tactic(auto)]
 
 #[cfg(test)]

@@ -4,3 +4,4 @@ pub mod Trails
 pub mod Permuted
 pub mod Denials
 pub mod Rups
+pub mod Additions

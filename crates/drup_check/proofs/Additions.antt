@@ -1,0 +1,191 @@
+-- A clause more in a store.
+use Rattle.std.proofs.Common.{◌≡◌, ◌≢◌, ℕ, zero, suc, ◌-◌, ◌<◌, ◌≤◌, Bool, true, false, List, [], ◌∷◌, ◌++◌, length, set, map, refl, sym, ap, ◌∙◌, subst, ◌⊎◌, inl, inr, ⊎_elim, arith, Option, Some, None}
+use Rattle.std.specs.Prelude.{Contains, IfSome, IfNone, is_some, option_and_then, option_map, if◌then◌else◌}
+use Rattle.std.proofs.lemmas.Bool.{or_cases, or_left, or_right, false≢true, cases_eq}
+use Rattle.std.proofs.lemmas.Bool.{cases_lt}
+use Rattle.std.proofs.lemmas.List.{get_or-set_other, get_or-set_same, get_or_past, get_or_append_left, get_or-append_right, get_or-replicate, length-replicate}
+use Rattle.std.proofs.Math.ListN.{replicate}
+use Rattle.std.proofs.lemmas.List.Elements.{Contains-append_left, Contains-append_right, Contains-append_cases}
+use Rattle.order_ints.specs.declared.literal.Lit.{Lit}
+use Rattle.order_ints.specs.declared.atom.Atom.{Atom}
+use Rattle.order_ints.specs.declared.atom.Atom.TheVariants.{Of}
+use Rattle.order_ints.specs.Truth.{not_lit}
+use Rattle.order_ints.specs.View.{resolve}
+use Rattle.order_ints.specs.OrderedClauses.{same_lit, has_lit, has_opposites, by_variable, with_atom, resolved_lits, unless_opposites, ordered_clause, VarsAbove, VarsAscend}
+use Rattle.order_ints.proofs.LitOrder.{same_lit-true, same_lit-refl, has_lit-by_variable, LitsAscend-by_variable}
+use Rattle.order_ints.proofs.Opposites.{VarsAscend-from_opposites}
+use Rattle.literal_trail.specs.Trail.{Trail}
+use Rattle.literal_trail.specs.Standing.{IsFalse}
+use Rattle.clause_arena.specs.Clauses.{Clause, no_clause, live_clause, clause_at, IsLive, lits_of, lit_in}
+use Rattle.clause_rings.specs.Clauses.{ClauseLists, SameClauses, Follows, IsApart, IsComplete, IsDb, HasRoomMore, with_clause}
+use Rattle.drup_check.specs.Stored.{SameSet, HasOpposites, IsStored, IsListed, Holds, IsOrderedAs, StandsAs}
+use Rattle.drup_check.proofs.Members.{member-cases, member-first, member-more, no-member}
+use Rattle.drup_check.proofs.Permuted.{holds-same}
+use Rattle.drup_check.proofs.Denials.{denying-none}
+use Rattle.drup_check.proofs.Trails.{follows-same}
+use Rattle.drup_check.proofs.Rups.{shown-by}
+
+-- what is among literals
+has-told : (x : Lit) (ys : List Lit) → has_lit x ys ≡ true → Contains ys x
+has-told x [] e = absurd (false≢true e)
+has-told x (y ∷ ys) e =
+    ⊎_elim
+    (λ (here : same_lit x y ≡ true). let P : Lit → Type 0 = λ z. Contains (y ∷ ys) z in subst P (sym (same_lit-true x y here)) (member-first y ys))
+    (λ (there : has_lit x ys ≡ true). member-more y ys x (has-told x ys there))
+    (or_cases (same_lit x y) (has_lit x ys) e)
+
+told-has : (x : Lit) (ys : List Lit) → Contains ys x → has_lit x ys ≡ true
+told-has x [] has = absurd (no-member x has)
+told-has x (y ∷ ys) has =
+    ⊎_elim
+    (λ (here : y ≡ x). or_left (same_lit x y) (has_lit x ys) (ap (λ (z : Lit). same_lit x z) here ∙ same_lit-refl x))
+    (λ (there : Contains ys x). or_right (same_lit x y) (has_lit x ys) (told-has x ys there))
+    (member-cases y ys x has)
+
+ordered-same : (ls : List Lit) → SameSet (by_variable ls) ls
+ordered-same ls l = (
+  (λ has. has-told l ls (sym (has_lit-by_variable l ls) ∙ told-has l (by_variable ls) has)),
+  (λ has. has-told l (by_variable ls) (has_lit-by_variable l ls ∙ told-has l ls has)),
+)
+
+opposites-told : (ls : List Lit) → has_opposites ls ≡ true → HasOpposites ls
+opposites-told [] e = absurd (false≢true e)
+opposites-told (l ∷ ls) e =
+    ⊎_elim
+    (λ (here : has_lit (not_lit l) ls ≡ true). record { lit = l; is_in = member-first l ls; negated_in = member-more l ls (not_lit l) (has-told (not_lit l) ls here) })
+    (λ (there : has_opposites ls ≡ true).
+    let o = opposites-told ls there in
+    record { lit = o.lit; is_in = member-more l ls o.lit o.is_in; negated_in = member-more l ls (not_lit o.lit) o.negated_in })
+    (or_cases (has_lit (not_lit l) ls) (has_opposites ls) e)
+
+-- variables that ascend differ
+above-all : (v : ℕ) (ls : List Lit) (i : ℕ) → VarsAbove v ls → i < length ls → v < (lit_in ls i).var
+above-all v [] i h low = absurd (omega (arith, low))
+above-all v (l ∷ ls) zero h low = h.0
+above-all v (l ∷ ls) (suc i) h low = above-all v ls i h.1 (omega (arith, low))
+
+ascend-apart : (ls : List Lit) → VarsAscend ls → IsApart ls
+ascend-apart [] h i j low_i low_j e = absurd (omega (arith, low_i))
+ascend-apart (l ∷ ls) h zero zero low_i low_j e = refl
+ascend-apart (l ∷ ls) h zero (suc j) low_i low_j e = absurd (omega (arith, above-all l.var ls j h.0 (omega (arith, low_j)), e))
+ascend-apart (l ∷ ls) h (suc i) zero low_i low_j e = absurd (omega (arith, above-all l.var ls i h.0 (omega (arith, low_i)), e))
+ascend-apart (l ∷ ls) h (suc i) (suc j) low_i low_j e = ap suc (ascend-apart ls h.1 i j (omega (arith, low_i)) (omega (arith, low_j)) e)
+
+itself : (v : ℕ) (b : Bool) → resolve [] (Of (record { var = v; positive = b })) ≡ Of (record { var = v; positive = b })
+itself v true = refl
+itself v false = refl
+
+resolved-same : (ls : List Lit) → resolved_lits [] (map Of ls) ≡ Some ls
+resolved-same [] = refl
+resolved-same (l ∷ ls) =
+    ap (λ (a : Atom). with_atom a (resolved_lits [] (map Of ls))) (itself l.var l.positive)
+    ∙ ap (λ (o : Option (List Lit)). option_map (λ xs. l ∷ xs) o) (resolved-same ls)
+
+ordered-by : (ls : List Lit) (b : Bool) → has_opposites (by_variable ls) ≡ b → IsOrderedAs ls (if b then None else Some (by_variable ls))
+ordered-by ls true e =
+    let o = opposites-told (by_variable ls) e in
+    record { lit = o.lit; is_in = (ordered-same ls o.lit).0 o.is_in; negated_in = (ordered-same ls (not_lit o.lit)).0 o.negated_in }
+ordered-by ls false e = (ascend-apart (by_variable ls) (VarsAscend-from_opposites (by_variable ls) (LitsAscend-by_variable ls) e), ordered-same ls)
+
+pub ordered-as : (ls : List Lit) (kept : Option (List Lit)) → kept ≡ ordered_clause [] (map Of ls) → IsOrderedAs ls kept
+ordered-as ls kept e =
+    let whole : kept ≡ unless_opposites (by_variable ls) = e ∙ ap (λ (o : Option (List Lit)). option_and_then (λ xs. unless_opposites (by_variable xs)) o) (resolved-same ls) in
+    let P : Option (List Lit) → Type 0 = IsOrderedAs ls in
+    subst P (sym whole) (ordered-by ls (has_opposites (by_variable ls)) refl)
+
+-- more references, all of them free
+same-more : (cs : List Clause) (more c : ℕ) → clause_at (cs ++ replicate more no_clause) c ≡ clause_at cs c
+same-more cs more c =
+    ⊎_elim
+    (λ (low : c < length cs). get_or_append_left cs (replicate more no_clause) no_clause c low)
+    (λ (high : length cs ≤ c).
+    get_or-append_right cs (replicate more no_clause) (length cs) c no_clause refl high ∙ nothing more (c - length cs) ∙ sym (get_or_past cs c no_clause high))
+    (cases_lt c (length cs))
+  where
+    nothing : (more k : ℕ) → clause_at (replicate more no_clause) k ≡ no_clause
+    nothing more k =
+        ⊎_elim
+        (λ (low : k < more). get_or-replicate more k no_clause no_clause low)
+        (λ (high : more ≤ k). get_or_past (replicate more no_clause) k no_clause (omega (arith, length-replicate more no_clause)))
+        (cases_lt k more)
+
+-- a store with one clause more holds it
+module _ (old new : List Clause) (r id : ℕ) (lits d : List Lit) (cs : List (List Lit)) (dead : (clause_at old r).live ≡ false) (here : clause_at new r ≡ live_clause id lits) (others : (c : ℕ) → c ≢ r → clause_at new c ≡ clause_at old c) (same : SameSet lits d) (holds : Holds old cs) where
+  add-stored : (x : List Lit) → IsStored old x → IsStored new x
+  add-stored x st =
+      let differs : st.reference ≢ r = λ e. false≢true (sym dead ∙ (let P : ℕ → Type 0 = λ c. (clause_at old c).live ≡ true in subst P e st.live)) in
+      let stays = others st.reference differs in
+      record {
+        reference = st.reference;
+        live = ap (λ (y : Clause). y.live) stays ∙ st.live;
+        same = (let P : List Lit → Type 0 = λ ls. SameSet ls x in subst P (sym (ap (λ (y : Clause). y.lits) stays)) st.same);
+      }
+
+  add-here : IsStored new d
+  add-here = record { reference = r; live = ap (λ (y : Clause). y.live) here; same = (let P : List Lit → Type 0 = λ ls. SameSet ls d in subst P (sym (ap (λ (y : Clause). y.lits) here)) same) }
+
+  add-listed : (c : ℕ) → IsLive new c → (c ≡ r) ⊎ (c ≢ r) → IsListed (cs ++ d ∷ []) (lits_of new c)
+  add-listed c live (inl e) =
+      let whole : clause_at new c ≡ live_clause id lits = (let P : ℕ → Type 0 = λ n. clause_at new n ≡ live_clause id lits in subst P (sym e) here) in
+      record { clause = d; is_in = Contains-append_right cs (d ∷ []) d (member-first d []); same = (let P : List Lit → Type 0 = λ ls. SameSet ls d in subst P (sym (ap (λ (y : Clause). y.lits) whole)) same) }
+  add-listed c live (inr ne) =
+      let stays = others c ne in
+      let is = holds.listed c (sym (ap (λ (y : Clause). y.live) stays) ∙ live) in
+      record { clause = is.clause; is_in = Contains-append_left cs (d ∷ []) is.clause is.is_in; same = (let P : List Lit → Type 0 = λ ls. SameSet ls is.clause in subst P (sym (ap (λ (y : Clause). y.lits) stays)) is.same) }
+
+  pub add-holds : Holds new (cs ++ d ∷ [])
+  add-holds = record {
+    stored = λ x has.
+        ⊎_elim
+        (λ (before : Contains cs x). ⊎_elim (λ (st : IsStored old x). inl (add-stored x st)) (λ (o : HasOpposites x). inr o) (holds.stored x before))
+        (λ (last : Contains (d ∷ []) x).
+        ⊎_elim (λ (e : d ≡ x). inl (let P : List Lit → Type 0 = IsStored new in subst P e add-here)) (λ (nowhere : Contains [] x). absurd (no-member x nowhere)) (member-cases d [] x last))
+        (Contains-append_cases cs (d ∷ []) x has);
+    listed = λ c live. add-listed c live (cases_eq c r);
+  }
+
+-- a clause with a literal and its negation need not be stored
+pub drop-holds : (clauses : List Clause) (cs : List (List Lit)) (d : List Lit) → HasOpposites d → Holds clauses cs → Holds clauses (cs ++ d ∷ [])
+drop-holds clauses cs d o holds = record {
+  stored = λ x has.
+      ⊎_elim
+      (λ (before : Contains cs x). holds.stored x before)
+      (λ (last : Contains (d ∷ []) x).
+      ⊎_elim (λ (e : d ≡ x). inr (let P : List Lit → Type 0 = HasOpposites in subst P e o)) (λ (nowhere : Contains [] x). absurd (no-member x nowhere)) (member-cases d [] x last))
+      (Contains-append_cases cs (d ∷ []) x has);
+  listed = λ c live. let is = holds.listed c live in record { clause = is.clause; is_in = Contains-append_left cs (d ∷ []) is.clause is.is_in; same = is.same };
+}
+
+-- the moves that store a clause
+module _ (old mid next new : ClauseLists) (r : ℕ) (lits : List Lit) (bottom : old.trail.level ≡ 0) (room : HasRoomMore old mid) (inside : r < length mid.clauses) (dead : (clause_at mid.clauses r).live ≡ false) (comes : next ≡ with_clause mid r 0 lits) (clauses : SameClauses next.clauses new.clauses) (follows : Follows new.clauses next.trail new.trail) (db : IsDb new.clauses new.trail) where
+  same_trail : next.trail ≡ old.trail
+  same_trail = ap (λ (s : ClauseLists). s.trail) comes ∙ room.trail
+
+  pub same_vars : new.trail.vars ≡ old.trail.vars
+  same_vars = (follows-same new.clauses next.trail new.trail follows).0 ∙ ap (λ (t : Trail). t.vars) same_trail
+
+  low : new.trail.level ≡ 0
+  low = (follows-same new.clauses next.trail new.trail follows).1 ∙ ap (λ (t : Trail). t.level) same_trail ∙ bottom
+
+  mid-at : (c : ℕ) → clause_at mid.clauses c ≡ clause_at old.clauses c
+  mid-at c = ap (λ (cs : List Clause). clause_at cs c) room.clauses ∙ same-more old.clauses room.more c
+
+  set-at : next.clauses ≡ set mid.clauses r (live_clause 0 lits)
+  set-at = ap (λ (s : ClauseLists). s.clauses) comes
+
+  pub stored-holds : (cs : List (List Lit)) (d : List Lit) → Holds old.clauses cs → SameSet lits d → Holds new.clauses (cs ++ d ∷ [])
+  stored-holds cs d holds same =
+      holds-same next.clauses new.clauses clauses (cs ++ d ∷ [])
+      (add-holds old.clauses next.clauses r 0 lits d cs (sym (ap (λ (y : Clause). y.live) (mid-at r)) ∙ dead)
+      (ap (λ (ks : List Clause). clause_at ks r) set-at ∙ get_or-set_same mid.clauses r (live_clause 0 lits) no_clause inside)
+      (λ c ne. ap (λ (ks : List Clause). clause_at ks c) set-at ∙ get_or-set_other mid.clauses r c (live_clause 0 lits) no_clause ne ∙ mid-at c) same holds)
+
+  pub stored-stands : (found : Option ℕ) → IfSome found (λ c. IsLive new.clauses c × IsFalse new.trail.entries (lits_of new.clauses c)) → IfNone found (IsComplete new.trail.entries new.clauses)
+      → (b : Bool) → b ≡ is_some found → (cs : List (List Lit)) (d : List Lit) → Holds old.clauses cs → SameSet lits d → StandsAs b new (cs ++ d ∷ [])
+  stored-stands (Some c) some none b is cs d holds same =
+      let P : Bool → Type 0 = λ x. StandsAs x new (cs ++ d ∷ []) in
+      subst P (sym is)
+      ((shown-by new new [] low db (denying-none [] new) db true (inr (record { reference = c; live = some.0; is_false = some.1 })) (cs ++ d ∷ []) (stored-holds cs d holds same)).0 refl)
+  stored-stands None some none b is cs d holds same =
+      let P : Bool → Type 0 = λ x. StandsAs x new (cs ++ d ∷ []) in
+      subst P (sym is) (record { holds = stored-holds cs d holds same; bottom = low; complete = none })

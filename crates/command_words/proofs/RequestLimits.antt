@@ -1,5 +1,5 @@
 -- The numbers of a command that the words ask for are in their limits.
-use Rattle.std.proofs.Common.{arith, ◌≡◌, ℕ, ◌≤◌, ◌<◌, ◌^◌, Bool, true, false, List, refl, sym, subst, Option, Some, None}
+use Rattle.std.proofs.Common.{arith, ◌≡◌, ℕ, ◌≤◌, Bool, true, false, List, refl, subst, Option, Some, None}
 use Rattle.std.specs.Prelude.{◌&&◌, nat_le, codes, not, option_map, option_and_then, if◌then◌else◌}
 use Rattle.std.proofs.lemmas.Bool.{and_parts}
 use Rattle.std.proofs.lemmas.Bool.Decides.{nat_tests}
@@ -7,7 +7,7 @@ use Rattle.clap.specs.Words.{Text}
 use Rattle.command_words.specs.declared.command.Options.{Options}
 use Rattle.command_words.specs.Numeral.{is_numeral, is_within, read_on, number_within}
 use Rattle.command_words.specs.Request.{Request, Compile, Solve, Check, Decode, Queens, Sat, is_word, budget_of, size_of, options_of, lone_input, both_inputs, queens_size, mode_requested, requested}
-use Rattle.command_words.specs.Line.{is_taken, value_of, request}
+use Rattle.command_words.specs.Line.{is_taken, value_of}
 use Rattle.command_words.specs.Limits.{IsBudget, KeepsLimits, RequestsKeepLimits}
 
 -- what is mapped from a value has what each image has

@@ -1,7 +1,6 @@
 -- What a command that the words ask for keeps to.
-use Rattle.std.specs.Prelude.{◌≡◌, ℕ, ◌≤◌, ◌<◌, ◌^◌, List, Option, Some}
+use Rattle.std.specs.Prelude.{◌≡◌, ℕ, ◌≤◌, ◌<◌, ◌^◌, List, Some}
 use Rattle.clap.specs.Words.{Text}
-use Rattle.command_words.specs.declared.command.Options.{Options}
 use Rattle.command_words.specs.Request.{Request, Compile, Solve, Check, Decode, Queens, Sat}
 use Rattle.command_words.specs.Line.{request}
 

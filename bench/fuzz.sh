@@ -8,8 +8,8 @@
 #   check      each answer, and each twice with a byte, a line, a number and a line of its ledger changed: the verdict, or the line that is refused; and so, once, a document behind
 #              the whole ledger of the compilation, and one behind a ledger of steps in any order
 # What a text says, which line of it fails, and what a ledger leads to has the script from its own reading of `docs/FORMATS.md` and `docs/CORES.md`: `answer_reading.py`, `ledger_reading.py`
-# (lowering and steps), `core_reading.py` (parts and clauses) and `rule_reading.py` (equations). An accepted verdict is compared with all assignments besides, and each equation of a compilation at a core of at most
-# eight variables with all their values.
+# (lowering and steps), `core_reading.py`, `part_reading.py`, `clause_reading.py` and `rule_reading.py` (equations). An accepted verdict is compared with all assignments besides, and each equation of a compilation at a core of at most
+# eight variables with all their values. Before these, sums of two integers are tried by which a `split` is a step or just not, whose costs are near each other (`sum_bounds.py`).
 # It prints how many models, runs and differences there were, how often each statement and each step came, and each difference with the number of its model; the texts of such a model are kept. BEE names
 # another program that is tried. Wants python3.
 set -eu
@@ -17,7 +17,10 @@ top=$(cd "$(dirname "${BASH_SOURCE[0]}")/.." && pwd)
 program=${BEE:-$top/crates/bee/out/bee}
 [ -n "${BEE:-}" ] || "$top/bee" compile "$top/examples/pigeonhole.bee" >/dev/null
 folder=$(mktemp -d)
-if python3 "$top/bench/fuzz.py" "$program" "${1:-10000}" "${2:-1}" "$folder" "${3:-3}" "${4:-0}"; then
+failed=0
+python3 "$top/bench/sum_bounds.py" "$program" "$folder" || failed=1
+python3 "$top/bench/fuzz.py" "$program" "${1:-10000}" "${2:-1}" "$folder" "${3:-3}" "${4:-0}" || failed=1
+if [ $failed = 0 ]; then
   rm -rf "$folder"
 else
   echo "the texts of each difference are in $folder" >&2

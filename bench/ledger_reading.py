@@ -1,8 +1,10 @@
 """Lowers a model of `small_models.py`, and makes the steps of ledger lines, as `docs/CORES.md` has both, with code of its own."""
 import re, typing
 
-from core_reading import Parts, clauses, in_order, is_basic, resolved, sums, trimmed
+from clause_reading import clauses, in_order
+from core_reading import resolved, trimmed
 from integers import Integer, boolean, fresh, opposite
+from part_reading import Parts, is_basic, sums
 from rule_reading import is_instance
 from small_models import is_numeral
 

@@ -3,7 +3,7 @@ use Rattle.order_ints.specs.declared.atom.Atom.TheVariants.{False}
 use Rattle.decode_minimize.specs.declared.asking.Round.{Round}
 use Rattle.decode_minimize.specs.Rounds.{IsRound}
 use Rattle.decode_minimize.proofs.Ready.{solvable-apart}
-use Rattle.decode_minimize.proofs.Rounding.{first-refuted, first-given_up}
+use Rattle.decode_minimize.proofs.Rounding.{first-refuted, first-given_up, first-seeking}
 use Rattle.decode_minimize.proofs.rounds.first_rounds.Goals as goal
 
 pub with-requires-clause-differ : goal.with-requires-clause-differ
@@ -20,3 +20,9 @@ returns-in-Spent c =
     let was = c.in_ok-ask_bound.was ∙ ap Ok c.in-Spent.is in
     first-given_up c.args.cnf.now c.in_ok-solver.solver c.ask_bound.new.solver c.args.options c.in_ok-solver.ensures c.ask_bound.ensures.cnf c.into_log-in-Spent.result c.into_log-in-Spent.ensures.log
     c.into_log-in-Spent.ensures.accepted c.into_log-in-Spent.ensures.fresh (c.ask_bound.ensures.spent was) (c.ask_bound.ensures.spent_early was)
+
+pub rounds_from-requires-clause-seeking : goal.rounds_from-requires-clause-seeking
+rounds_from-requires-clause-seeking c =
+    let found = subst (λ (r : Round). IsRound c.ask_bound.new.solver False r) c.in-Better.is c.in_ok-ask_bound.ensures.round in
+    first-seeking c.args.cnf.now c.in_ok-solver.solver c.ask_bound.new.solver c.args.options c.in_ok-solver.ensures c.ask_bound.ensures.cnf c.args.sought.now c.in-Better.values c.best_of-best.result
+    c.requires.seekable found c.best_of-best.ensures.values c.best_of-best.ensures.number

@@ -1,0 +1,171 @@
+#!/usr/bin/env python3
+"""Writes a CNF as DIMACS, or a model that is to be compiled: cnfs.py FAMILY SIZE SEED FILE.
+  random      three literals a clause over SIZE variables, 4.26 clauses a variable (Crawford and Auton, 1996)
+  pigeons     SIZE pigeons, of which each has one of the holes, one fewer, and no two share one
+  parity      two chains of exclusive ors over the same SIZE variables, in two orders, one of which says that an even number of them is
+              true, the other an odd one (Chew and Sinz, 2020)
+  mitre       two array multipliers of SIZE bits with the factors interchanged, and some bit of their products differs
+  pebbling    a pyramid of SIZE rows: each place needs the two below it, and has two variables of which one or both are true
+  implications  a chain of SIZE clauses, each the first variable or the negation of the next one
+  sparse      three literals a clause, SIZE clauses over two fifths as many variables
+The models are quasigroup (a Latin square of which two fifths are holes), spoiled (two places of a row have one value), golomb (a ruler of
+SIZE marks, not longer than SEED) and jobs (the job shop of six by six, done within SEED)."""
+import itertools, os, random, sys
+
+sys.path.insert(0, os.path.dirname(os.path.abspath(__file__)))
+import models, optima
+
+
+class Clauses:
+    """Clauses, and variables that come one by one."""
+
+    def __init__(self, count=0):
+        self.count, self.list = count, []
+
+    def new(self):
+        self.count += 1
+        return self.count
+
+    def add(self, *literals):
+        self.list.append(literals)
+
+    def exclusive_or(self, *literals):
+        """An even number of the literals is true."""
+        for signs in itertools.product((1, -1), repeat=len(literals)):
+            if signs.count(-1) % 2:
+                self.add(*(sign * literal for sign, literal in zip(signs, literals)))
+
+    def both(self, a, b):
+        c = self.new()
+        self.list += [(-a, -b, c), (a, -c), (b, -c)]
+        return c
+
+    def differ(self, a, b):
+        c = self.new()
+        self.exclusive_or(a, b, c)
+        return c
+
+    def either(self, a, b):
+        return -self.both(-a, -b)
+
+
+def random_clauses(cnf, size, count, seed):
+    chance = random.Random(seed * 1_000_003 + size)
+    cnf.count = size
+    for _ in range(count):
+        cnf.add(*(chance.choice((v, -v)) for v in chance.sample(range(1, size + 1), 3)))
+
+
+def random_(cnf, size, seed):
+    random_clauses(cnf, size, round(4.26 * size), seed)
+
+
+def sparse(cnf, size, seed):
+    random_clauses(cnf, size * 2 // 5, size, seed)
+
+
+def implications(cnf, size, seed):
+    cnf.count = size + 1
+    for v in range(1, size + 1):
+        cnf.add(v, -v - 1)
+
+
+def pigeons(cnf, size, seed):
+    at = [[cnf.new() for _ in range(size - 1)] for _ in range(size)]
+    for row in at:
+        cnf.add(*row)
+    for column in zip(*at):
+        for one, other in itertools.combinations(column, 2):
+            cnf.add(-one, -other)
+
+
+def parity(cnf, size, seed):
+    places = [cnf.new() for _ in range(size)]
+    for odd in (False, True):
+        before = places[0]
+        for place in places[1:-1]:
+            before = cnf.differ(before, place)
+        cnf.exclusive_or(before, -places[-1] if odd else places[-1])
+        random.Random(seed * 1_000_003 + size).shuffle(places)
+
+
+def product(cnf, a, b):
+    """The bits of a product, the least first: rows of carry-save adders."""
+    total = [cnf.both(x, b[0]) for x in a]
+    bits = [total.pop(0)]
+    for y in b[1:]:
+        row, carry, sums = [cnf.both(x, y) for x in a], None, []
+        for place, one in enumerate(row):
+            other = total[place] if place < len(total) else None
+            here = [x for x in (one, other, carry) if x is not None]
+            carry = None
+            if len(here) == 1:
+                sums.append(here[0])
+            elif len(here) == 2:
+                sums.append(cnf.differ(*here))
+                carry = cnf.both(*here)
+            else:
+                half = cnf.differ(here[0], here[1])
+                sums.append(cnf.differ(half, here[2]))
+                carry = cnf.either(cnf.both(here[0], here[1]), cnf.both(half, here[2]))
+        total = sums + ([carry] if carry is not None else [])
+        bits.append(total.pop(0))
+    return bits + total
+
+
+def mitre(cnf, size, seed):
+    a, b = ([cnf.new() for _ in range(size)] for _ in range(2))
+    cnf.add(*(cnf.differ(x, y) for x, y in zip(product(cnf, a, b), product(cnf, b, a))))
+
+
+def pebbling(cnf, size, seed):
+    row = [(cnf.new(), cnf.new()) for _ in range(size)]
+    for place in row:
+        cnf.add(*place)
+    while len(row) > 1:
+        above = [(cnf.new(), cnf.new()) for _ in row[1:]]
+        for left, right, place in zip(row, row[1:], above):
+            for one, other in itertools.product(left, right):
+                cnf.add(-one, -other, *place)
+        row = above
+    for literal in row[0]:
+        cnf.add(-literal)
+
+
+def quasigroup(size, seed):
+    yield from models.quasigroup(size)
+
+
+def spoiled(size, seed):
+    yield from models.quasigroup(size)
+    yield "int_eq(x0_0,x0_1)"
+
+
+def golomb(marks, length):
+    yield from optima.golomb(marks)[:-1]
+    yield f"int_leq(m{marks - 1},{length})"
+
+
+def jobs(size, hours):
+    yield from optima.jobs(size)[:-1]
+    yield f"int_leq(end,{hours})"
+
+
+MODELS = {family.__name__: family for family in (quasigroup, spoiled, golomb, jobs)}
+FAMILIES = {family.__name__.rstrip("_"): family for family in (random_, pigeons, parity, mitre, pebbling, implications, sparse)}
+
+
+def main():
+    family, size, seed, path = sys.argv[1:]
+    with open(path, "w") as sink:
+        if family in MODELS:
+            sink.writelines(f"{line}\n" for line in [*MODELS[family](int(size), int(seed)), "solve satisfy"])
+        else:
+            cnf = Clauses()
+            FAMILIES[family](cnf, int(size), int(seed))
+            sink.write(f"p cnf {cnf.count} {len(cnf.list)}\n")
+            sink.writelines(" ".join(map(str, clause)) + " 0\n" for clause in cnf.list)
+
+
+if __name__ == "__main__":
+    main()

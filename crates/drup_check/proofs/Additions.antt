@@ -64,7 +64,7 @@ above-all v [] i h low = absurd (omega (arith, low))
 above-all v (l ∷ ls) zero h low = h.0
 above-all v (l ∷ ls) (suc i) h low = above-all v ls i h.1 (omega (arith, low))
 
-ascend-apart : (ls : List Lit) → VarsAscend ls → IsApart ls
+pub ascend-apart : (ls : List Lit) → VarsAscend ls → IsApart ls
 ascend-apart [] h i j low_i low_j e = absurd (omega (arith, low_i))
 ascend-apart (l ∷ ls) h zero zero low_i low_j e = refl
 ascend-apart (l ∷ ls) h zero (suc j) low_i low_j e = absurd (omega (arith, above-all l.var ls j h.0 (omega (arith, low_j)), e))

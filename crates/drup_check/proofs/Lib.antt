@@ -5,3 +5,10 @@ pub mod Permuted
 pub mod Denials
 pub mod Rups
 pub mod Additions
+mod Started
+mod Spelled
+mod Taking
+mod Taken
+mod Checked
+pub mod Exact
+pub mod Proved

@@ -1,0 +1,20 @@
+use Rattle.std.proofs.Common.{sym, ◌∙◌}
+use Rattle.std.proofs.lemmas.Bool.{true≢false}
+use Rattle.std.proofs.lemmas.Result.{IfOk-weaker}
+use Rattle.bee_text.specs.Gaps.{words_of}
+use Rattle.drup_check.proofs.Taken.{spelled-below, said-taken}
+use Rattle.drup_check.proofs.store.ProofStore.take_said.Goals as goal
+
+pub take_clause-requires-clause-lits : goal.take_clause-requires-clause-lits
+take_clause-requires-clause-lits c =
+    spelled-below c.args.self.now.db.trail.vars c.vars-vars.result (words_of c.args.line.now) c.in-Some.lits.items c.as_slice.result.now c.vars-vars.ensures.count c.as_slice.ensures.value
+    (rw c.in-Some.is at c.in_ok-lits.ensures)
+
+pub returns-in-Some-clause-taken : goal.returns-in-Some-clause-taken
+returns-in-Some-clause-taken c =
+    IfOk-weaker c.take_clause.result _ _
+    (λ taken h.
+    said-taken c.args.self.now.db.trail.vars c.vars-vars.result (words_of c.args.line.now) c.in-Some.lits.items c.as_slice.result.now c.vars-vars.ensures.count c.as_slice.ensures.value
+    (rw c.in-Some.is at c.in_ok-lits.ensures) c.requires.few c.args.first.now (words_of c.args.behind.now) c.requires.words (λ e. true≢false (sym (c.is.ensures.1 e) ∙ c.if-is.false))
+    c.args.self.now.refuted c.args.self.now.db c.take_clause.new.self.refuted c.take_clause.new.self.db taken h)
+    c.take_clause.ensures.taken

@@ -1,7 +1,9 @@
-//! Rows worked out by hand and random ones, over the public calls of the clause store. They stand apart from its crates, so
-//! that proving them proves none of those crates anew.
+//! Rows worked out by hand and random ones, over the public calls of the clause store, and over those of a search under an assumption.
+//! They stand apart from its crates, so that proving them proves none of those crates anew.
 #![tactic(auto)]
 
+#[cfg(test)]
+mod assuming;
 #[cfg(test)]
 mod bench;
 #[cfg(test)]

@@ -17,4 +17,6 @@ mod random_moves;
 #[cfg(test)]
 mod stores;
 #[cfg(test)]
+mod valuations;
+#[cfg(test)]
 mod words;

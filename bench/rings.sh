@@ -108,7 +108,7 @@ clauses() {
   mkdir "$folder/clauses"
   git init -q "$folder/clauses"
   tar -C "$top" --exclude=out -c crates crates.txt | tar -C "$folder/clauses" -x
-  echo 'watching: bee_text order_ints literal_trail clause_arena clause_rings sat_front sat_mode' >>"$folder/clauses/crates.txt"
+  echo 'watching: bee_text order_ints literal_trail clause_arena clause_rings sat_front drup_check' >>"$folder/clauses/crates.txt"
   local bench=$folder/clauses/crates/watching rows=$top/crates/search_rows
   mkdir -p "$bench/src" "$bench/specs" "$bench/proofs/stores" "$bench/proofs/store" "$bench/proofs/read_store"
   cp -r "$rows/specs/." "$bench/specs/"
@@ -333,11 +333,20 @@ fn main(rt: HostRuntime) -> io::Result<()> {
 }
 RT
   cat >"$bench/proofs/store/Answers.antt" <<'ANTT'
-use Rattle.sat_mode.proofs.Telling.{apart}
+use Rattle.std.proofs.Common.{ℕ, zero, suc, ◌<◌, List, [], ◌∷◌, length, get_or, arith}
+use Rattle.order_ints.specs.declared.literal.Lit.{Lit}
+use Rattle.order_ints.specs.OrderedClauses.{ClausesAscend}
+use Rattle.clause_rings.specs.Clauses.{IsApart}
+use Rattle.drup_check.proofs.Additions.{ascend-apart}
 use Rattle.watching.proofs.store.Goals as goal
 
+clauses-apart : (cs : List (List Lit)) → ClausesAscend cs → (k : ℕ) → k < length cs → IsApart (get_or cs k [])
+clauses-apart [] h k low = absurd (omega (arith, low))
+clauses-apart (c ∷ cs) h zero low = ascend-apart c h.0
+clauses-apart (c ∷ cs) h (suc k) low = clauses-apart cs h.1 k (omega (arith, low))
+
 pub with-requires-clause-apart : goal.with-requires-clause-apart
-with-requires-clause-apart c = apart c.args.cnf.now c.requires.ascend
+with-requires-clause-apart c = clauses-apart c.args.cnf.now.clauses c.requires.ascend
 ANTT
   cat >"$bench/proofs/read_store/Answers.antt" <<'ANTT'
 use Rattle.sat_front.proofs.Reading.{read_in_range, read_in_order}

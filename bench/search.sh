@@ -14,7 +14,7 @@ folder=$(mktemp -d)
 trap 'rm -rf "$folder"' EXIT
 git init -q "$folder"
 tar -C "$top" --exclude=out -c crates crates.txt | tar -C "$folder" -x
-echo 'searching: order_ints proof_check learning_solver sat_front sat_mode' >>"$folder/crates.txt"
+echo 'searching: order_ints proof_check clause_rings learning_solver sat_front drup_check' >>"$folder/crates.txt"
 bench=$folder/crates/searching
 mkdir -p "$bench/src" "$bench/proofs/search" "$bench/proofs/search_text"
 cat >"$bench/src/main.rt" <<'RT'
@@ -85,11 +85,20 @@ fn main(rt: HostRuntime) -> io::Result<()> {
 }
 RT
 cat >"$bench/proofs/search/Answers.antt" <<'ANTT'
-use Rattle.sat_mode.proofs.Telling.{apart}
+use Rattle.std.proofs.Common.{ℕ, zero, suc, ◌<◌, List, [], ◌∷◌, length, get_or, arith}
+use Rattle.order_ints.specs.declared.literal.Lit.{Lit}
+use Rattle.order_ints.specs.OrderedClauses.{ClausesAscend}
+use Rattle.clause_rings.specs.Clauses.{IsApart}
+use Rattle.drup_check.proofs.Additions.{ascend-apart}
 use Rattle.searching.proofs.search.Goals as goal
 
+clauses-apart : (cs : List (List Lit)) → ClausesAscend cs → (k : ℕ) → k < length cs → IsApart (get_or cs k [])
+clauses-apart [] h k low = absurd (omega (arith, low))
+clauses-apart (c ∷ cs) h zero low = ascend-apart c h.0
+clauses-apart (c ∷ cs) h (suc k) low = clauses-apart cs h.1 k (omega (arith, low))
+
 pub with-requires-clause-differ : goal.with-requires-clause-differ
-with-requires-clause-differ c = apart c.args.cnf.now c.requires.ascend
+with-requires-clause-differ c = clauses-apart c.args.cnf.now.clauses c.requires.ascend
 ANTT
 cat >"$bench/proofs/search_text/Answers.antt" <<'ANTT'
 use Rattle.sat_front.proofs.Reading.{read_in_range, read_in_order}

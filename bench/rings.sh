@@ -114,7 +114,7 @@ clauses() {
   cp -r "$rows/specs/." "$bench/specs/"
   cp "$rows/proofs/Lib.antt" "$rows/proofs/Clauses.antt" "$bench/proofs/"
   cp -r "$rows/proofs/stores/add" "$rows/proofs/stores/is_unused" "$rows/proofs/words/is_clause" "$bench/proofs/stores/"
-  find "$bench/specs" "$bench/proofs" -name '*.antt' -exec sed -i 's/search_rows/watching/; s/proofs\.words/proofs.stores/' {} +
+  find "$bench/specs" "$bench/proofs" -name '*.antt' -exec sed -i 's/search_rows/watching/; s/proofs\.words/proofs.stores/; s/add-requires-clause/add-clause-requires-clause/g' {} +
   cat >"$bench/src/stores.rt" <<'RT'
 //! What may be done to a clause store: each condition of a call is tested.
 

@@ -3,6 +3,10 @@
 #![tactic(auto)]
 
 #[cfg(test)]
+mod analysing;
+#[cfg(test)]
+mod asking_again;
+#[cfg(test)]
 mod assuming;
 #[cfg(test)]
 mod bench;
@@ -14,6 +18,8 @@ mod numbers;
 mod plain;
 #[cfg(test)]
 mod random_moves;
+#[cfg(test)]
+mod pieces;
 #[cfg(test)]
 mod stores;
 #[cfg(test)]

@@ -1,0 +1,133 @@
+//! One long search in pieces: a solver whose budget is met again and again. Where its log first deletes clauses is counted by hand.
+
+ghost use Rattle.std.specs.Prelude.{◌≡◌, ◌≤◌, ◌^◌, IfOk};
+ghost use Rattle.order_ints.specs.Place.{InRange};
+ghost use Rattle.clause_rings.specs.Clauses.{AreApartIn};
+
+use crate::asking_again::{are_taken, asked};
+use crate::words::{cnf_of, literal, literals};
+use bee_list::Sequence;
+use learning_solver::{Found, Solver};
+use order_ints::{Cnf, Lit};
+use proof_check::ProofLine;
+use std::alloc::{AllocError, Global};
+use std::test::Fail;
+
+/// How many holes there are; of the pigeons there is one more.
+const HOLES: i32 = 6;
+
+/// The number of the variable of a pigeon in a hole, both counted from 0.
+fn seat(pigeon: i32, hole: i32) -> i32 {
+    pigeon
+        .wrapping_mul(HOLES)
+        .wrapping_add(hole)
+        .wrapping_add(1)
+}
+
+/// Each pigeon sits in a hole.
+fn seated(alloc: Global) -> Result<Vec<Sequence<Lit>>, AllocError> {
+    let mut clauses = Vec::new(alloc);
+    for pigeon in 0..HOLES + 1 {
+        let mut numbers = Vec::new(alloc);
+        for hole in 0..HOLES {
+            numbers.push(seat(pigeon, hole))?;
+        }
+        clauses.push(Sequence::from_vec(literals(alloc, &numbers)?))?;
+    }
+    Ok(clauses)
+}
+
+/// No two sit in one.
+fn push_rivals(alloc: Global, clauses: &mut Vec<Sequence<Lit>>, hole: i32) -> Result<(), AllocError> {
+    for pigeon in 0..HOLES {
+        for rival in pigeon + 1..HOLES + 1 {
+            let pair = [0 - seat(pigeon, hole), 0 - seat(rival, hole)];
+            clauses.push(Sequence::from_vec(literals(alloc, &pair)?))?;
+        }
+    }
+    Ok(())
+}
+
+/// The CNF of the pigeons, which has no solution.
+fn pigeons(alloc: Global) -> Result<Cnf, Fail>
+    ensures vars { IfOk result (λ cnf. cnf.vars ≡ 42) }
+    ensures in_range { IfOk result InRange }
+    ensures apart { IfOk result AreApartIn }
+{
+    let mut clauses = seated(alloc)?;
+    for hole in 0..HOLES {
+        push_rivals(alloc, &mut clauses, hole)?;
+    }
+    cnf_of(42, clauses)
+}
+
+/// How many calls there are one after another, and how many clauses each one may add.
+type Pieces = (u64, u64);
+
+/// Calls, the number of an assumption, 0 for none, and behind how many additions the first clause is deleted. A call restarts behind 64
+/// additions of its own, and then behind 64, 128, 64, 64 and 128 more; at the first restart behind 300 conflicts some clauses go.
+type Row = (&'static [Pieces], i32, Option<usize>);
+
+static ROWS: [Row; 7] = [
+    (&[(1, 330)], 0, Some(320)),
+    (&[(1, 319)], 0, None),
+    // A call of 63 never restarts, however many there are; the next one does behind 64.
+    (&[(6, 63)], 0, None),
+    (&[(5, 63), (1, 70)], 0, Some(379)),
+    (&[(5, 64)], 0, Some(320)),
+    (&[(4, 90)], 0, Some(334)),
+    (&[(4, 90)], -1, Some(334)),
+];
+
+/// Asks in pieces. The answer is whether each piece met its budget.
+fn asked_in_pieces(
+    solver: &mut Solver<'_>,
+    pieces: &[Pieces],
+    assumption: i32,
+) -> Result<bool, AllocError>
+    requires { solver.old.cnf.vars ≡ 42 }
+    ensures { solver.new.cnf ≡ solver.old.cnf }
+{
+    for (count, size) in pieces {
+        for _ in 0..*count {
+            let budget = solver.added().saturating_add(*size);
+            let found = asked(solver, 42, literal(assumption), budget, true)?;
+            if !matches!(found, Some(Found::Spent)) || solver.added() != budget {
+                return Ok(false);
+            }
+        }
+    }
+    Ok(true)
+}
+
+/// Asks in pieces, and then to the end. The answer is behind how many lines the log first deletes, where it does so in the pieces.
+fn pieces_row(alloc: Global, cnf: &Cnf, row: Row) -> Result<Option<usize>, Fail>
+    requires vars { cnf.now.vars ≡ 42 }
+    requires in_range { InRange cnf.now }
+    requires apart { AreApartIn cnf.now }
+{
+    let (pieces, assumption, _) = row;
+    let mut solver = Solver::with(alloc, cnf)?;
+    if !asked_in_pieces(&mut solver, pieces, assumption)? {
+        return Err(Fail::new("a budget wasn't met"));
+    }
+    let first = solver
+        .log()
+        .iter()
+        .position(|line| matches!(line, ProofLine::Delete { .. }));
+    let last = asked(&mut solver, 42, literal(0), u64::MAX, true)?;
+    if !matches!(last, Some(Found::Refuted(_))) || !are_taken(alloc, cnf, solver.log())? {
+        return Err(Fail::new("no refutation"));
+    }
+    Ok(first)
+}
+
+#[test]
+fn clauses_go_at_restarts(rt: HostRuntime) -> Result<(), Fail> {
+    let cnf = pigeons(rt.alloc())?;
+    for row in &ROWS {
+        let first = pieces_row(rt.alloc(), &cnf, *row)?;
+        assert_eq!(rt; first, row.2, "{:?} {}", row.0, row.1);
+    }
+    Ok(())
+}

@@ -104,7 +104,14 @@ static ROWS: [Row; 14] = [
         seen: &[1, 2, 3, 4, 5, 6],
     },
     Row {
-        clauses: &[&[-1, 3], &[-3, 4], &[-4, 5], &[-1, -2, 6], &[-2, 7], &[-5, -6, -7]],
+        clauses: &[
+            &[-1, 3],
+            &[-3, 4],
+            &[-4, 5],
+            &[-1, -2, 6],
+            &[-2, 7],
+            &[-5, -6, -7],
+        ],
         decisions: &[1, 2],
         lits: &[-2, -1],
         hints: &[1, 2, 3, 4, 5, 6],
@@ -192,13 +199,28 @@ fn analysed(walker: &mut Walker, db: &mut ClauseDb) -> Result<bool, AllocError>
 fn compare<R: Abort>(rt: &R, walker: &Walker, row: &Row) {
     let lits = walker.lits();
     assert_eq!(rt; lits.len(), row.lits.len(), "{:?}", row.clauses);
-    assert_eq!(rt; lits.first().copied(), row.lits.first().map(|number| literal(*number)), "{:?}", row.clauses);
-    assert!(rt; row.lits.iter().all(|number| lits.contains(&literal(*number))), "{:?}", row.clauses);
+    assert_eq!(rt;
+        lits.first().copied(),
+        row.lits.first().map(|number| literal(*number)),
+        "{:?}",
+        row.clauses
+    );
+    assert!(rt;
+        row.lits
+            .iter()
+            .all(|number| lits.contains(&literal(*number))),
+        "{:?}",
+        row.clauses
+    );
     assert_eq!(rt; walker.hints(), row.hints, "{:?}", row.clauses);
     assert_eq!(rt; walker.jump(), row.jump, "{:?}", row.clauses);
     assert_eq!(rt; walker.glue(), row.glue, "{:?}", row.clauses);
     assert_eq!(rt; walker.seen().len(), row.seen.len(), "{:?}", row.clauses);
-    assert!(rt; row.seen.iter().all(|var| walker.seen().contains(var)), "{:?}", row.clauses);
+    assert!(rt;
+        row.seen.iter().all(|var| walker.seen().contains(var)),
+        "{:?}",
+        row.clauses
+    );
 }
 
 /// Whether the second literal of a clause, where there is one, is of a level.
@@ -210,12 +232,7 @@ fn has_second(walker: &Walker, db: &ClauseDb, level: u32) -> bool {
 }
 
 /// Decides, learns at the conflict twice, and compares each time.
-fn analysed_row<R: Abort>(
-    rt: &R,
-    alloc: Global,
-    walker: &mut Walker,
-    row: &Row,
-) -> Result<(), Fail>
+fn analysed_row<R: Abort>(rt: &R, alloc: Global, walker: &mut Walker, row: &Row) -> Result<(), Fail>
     requires { walker.old.vars ≡ 9 }
     ensures { walker.new.vars ≡ 9 }
 {

@@ -150,8 +150,15 @@ fn asked_row<R: Abort>(rt: &R, alloc: Global, row: &Row, restart: bool) -> Resul
         let text = told(alloc, &found)?;
         assert_eq!(rt; text.as_str(), *answer, "{clauses:?} {number} {budget}");
         let behind = text_behind(alloc, solver.log(), before)?;
-        assert_eq!(rt; behind.as_slice(), lines.as_bytes(), "{clauses:?} {number} {budget}");
-        assert!(rt; are_taken(alloc, &cnf, solver.log())?, "{clauses:?} {number} {budget}");
+        assert_eq!(rt;
+            behind.as_slice(),
+            lines.as_bytes(),
+            "{clauses:?} {number} {budget}"
+        );
+        assert!(rt;
+            are_taken(alloc, &cnf, solver.log())?,
+            "{clauses:?} {number} {budget}"
+        );
     }
     Ok(())
 }

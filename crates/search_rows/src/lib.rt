@@ -15,11 +15,11 @@ mod moves;
 #[cfg(test)]
 mod numbers;
 #[cfg(test)]
+mod pieces;
+#[cfg(test)]
 mod plain;
 #[cfg(test)]
 mod random_moves;
-#[cfg(test)]
-mod pieces;
 #[cfg(test)]
 mod stores;
 #[cfg(test)]

@@ -38,7 +38,11 @@ fn seated(alloc: Global) -> Result<Vec<Sequence<Lit>>, AllocError> {
 }
 
 /// No two sit in one.
-fn push_rivals(alloc: Global, clauses: &mut Vec<Sequence<Lit>>, hole: i32) -> Result<(), AllocError> {
+fn push_rivals(
+    alloc: Global,
+    clauses: &mut Vec<Sequence<Lit>>,
+    hole: i32,
+) -> Result<(), AllocError> {
     for pigeon in 0..HOLES {
         for rival in pigeon + 1..HOLES + 1 {
             let pair = [0 - seat(pigeon, hole), 0 - seat(rival, hole)];

@@ -275,20 +275,28 @@ fn are_taken(alloc: Global, cnf: &Cnf, lines: &[ProofLine]) -> Result<bool, Allo
     Ok(true)
 }
 
+/// Asks all questions, and tells the answers.
+fn answers(alloc: Global, solver: &mut Solver<'_>, vars: u32, refused: &mut u32) -> Result<String, AllocError>
+    requires { solver.old.cnf.vars ≡ vars }
+    ensures { solver.new.cnf ≡ solver.old.cnf }
+{
+    let mut text = String::new(alloc);
+    for (number, budget) in &QUESTIONS {
+        let found = ask(solver, vars, literal(*number), *budget, refused)?;
+        text.push_str(word(found))?;
+    }
+    Ok(text)
+}
+
 /// What is printed.
 fn told(alloc: Global, cnf: &Cnf) -> Result<String, AllocError>
     requires vars { cnf.now.vars ≤ 2 ^ 27 }
     requires in_range { InRange cnf.now }
     requires apart { AreApartIn cnf.now }
 {
-    let vars = cnf.vars;
     let mut solver = Solver::with(alloc, cnf)?;
     let mut refused = 0;
-    let mut answers = String::new(alloc);
-    for (number, budget) in &QUESTIONS {
-        let found = ask(&mut solver, vars, literal(*number), *budget, &mut refused)?;
-        answers.push_str(word(found))?;
-    }
+    let answers = answers(alloc, &mut solver, cnf.vars, &mut refused)?;
     let taken = are_taken(alloc, cnf, solver.log())?;
     let deleted = solver.log().iter().any(|line| matches!(line, ProofLine::Delete { .. }));
     format!(in alloc; "{refused}{answers} taken={taken} deleted={deleted}")

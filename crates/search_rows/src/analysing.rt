@@ -9,7 +9,6 @@ use clause_rings::ClauseDb;
 use conflict_analysis::Walker;
 use learning_solver::analyse;
 use std::alloc::{AllocError, Global};
-use std::process::Abort;
 use std::test::Fail;
 
 /// Clauses, of which the last one becomes false behind decisions, and what is learned then.
@@ -194,33 +193,25 @@ fn analysed(walker: &mut Walker, db: &mut ClauseDb) -> Result<bool, AllocError>
     Ok(true)
 }
 
-/// Compares what a walker shows: the first literal is in its place, the second one of the level to jump back to, and the others in
-/// any order.
-fn compare<R: Abort>(rt: &R, walker: &Walker, row: &Row) {
+/// Whether a walker shows these literals, the first one in its place and the others in any order.
+fn has_lits(walker: &Walker, row: &Row) -> bool {
     let lits = walker.lits();
-    assert_eq!(rt; lits.len(), row.lits.len(), "{:?}", row.clauses);
-    assert_eq!(rt;
-        lits.first().copied(),
-        row.lits.first().map(|number| literal(*number)),
-        "{:?}",
-        row.clauses
-    );
-    assert!(rt;
-        row.lits
+    lits.len() == row.lits.len()
+        && lits.first().copied() == row.lits.first().map(|number| literal(*number))
+        && row
+            .lits
             .iter()
-            .all(|number| lits.contains(&literal(*number))),
-        "{:?}",
-        row.clauses
-    );
-    assert_eq!(rt; walker.hints(), row.hints, "{:?}", row.clauses);
-    assert_eq!(rt; walker.jump(), row.jump, "{:?}", row.clauses);
-    assert_eq!(rt; walker.glue(), row.glue, "{:?}", row.clauses);
-    assert_eq!(rt; walker.seen().len(), row.seen.len(), "{:?}", row.clauses);
-    assert!(rt;
-        row.seen.iter().all(|var| walker.seen().contains(var)),
-        "{:?}",
-        row.clauses
-    );
+            .all(|number| lits.contains(&literal(*number)))
+}
+
+/// Whether it shows the rest of a row.
+fn has_rest(walker: &Walker, row: &Row) -> bool {
+    let seen = walker.seen();
+    walker.hints() == row.hints
+        && walker.jump() == row.jump
+        && walker.glue() == row.glue
+        && seen.len() == row.seen.len()
+        && row.seen.iter().all(|var| seen.contains(var))
 }
 
 /// Whether the second literal of a clause, where there is one, is of a level.
@@ -231,27 +222,45 @@ fn has_second(walker: &Walker, db: &ClauseDb, level: u32) -> bool {
     }
 }
 
-/// Decides, learns at the conflict twice, and compares each time.
-fn analysed_row<R: Abort>(rt: &R, alloc: Global, walker: &mut Walker, row: &Row) -> Result<(), Fail>
+/// Learns at the conflict. The answer is whether that is what a row has.
+fn is_learned(walker: &mut Walker, db: &mut ClauseDb, row: &Row) -> Result<bool, AllocError>
+    requires { walker.old.vars ≡ 9 }
+    ensures { walker.new.vars ≡ 9 }
+{
+    if !analysed(walker, db)? {
+        return Ok(false);
+    }
+    Ok(has_lits(walker, row) && has_rest(walker, row) && has_second(walker, db, row.jump))
+}
+
+/// Decides, and learns at the conflict twice.
+fn analysed_row(alloc: Global, walker: &mut Walker, row: &Row) -> Result<bool, Fail>
     requires { walker.old.vars ≡ 9 }
     ensures { walker.new.vars ≡ 9 }
 {
     let cnf = cnf(alloc, 9, row.clauses)?;
     let mut db = ClauseDb::with(alloc, &cnf)?;
     decide(&mut db, row.decisions)?;
-    for _ in 0..2 {
-        assert!(rt; analysed(walker, &mut db)?, "{:?}", row.clauses);
-        compare(rt, walker, row);
-        assert!(rt; has_second(walker, &db, row.jump), "{:?}", row.clauses);
+    let once = is_learned(walker, &mut db, row)?;
+    let twice = is_learned(walker, &mut db, row)?;
+    Ok(once && twice)
+}
+
+/// How many rows are right before the first one that isn't.
+fn right_rows(alloc: Global, walker: &mut Walker, rows: &[Row]) -> Result<usize, Fail>
+    requires { walker.old.vars ≡ 9 }
+{
+    for k in 0..rows.len() {
+        if !analysed_row(alloc, walker, &rows[k])? {
+            return Ok(k);
+        }
     }
-    Ok(())
+    Ok(rows.len())
 }
 
 #[test]
 fn conflicts_are_analysed(rt: HostRuntime) -> Result<(), Fail> {
     let mut walker = Walker::with(rt.alloc(), 9)?;
-    for row in &ROWS {
-        analysed_row(&rt, rt.alloc(), &mut walker, row)?;
-    }
+    assert_eq!(rt; right_rows(rt.alloc(), &mut walker, &ROWS)?, ROWS.len());
     Ok(())
 }

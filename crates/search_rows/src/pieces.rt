@@ -65,43 +65,65 @@ fn pigeons(alloc: Global) -> Result<Cnf, Fail>
     cnf_of(42, clauses)
 }
 
-/// How many calls there are one after another, and how many clauses each one may add.
-type Pieces = (u64, u64);
-
-/// Calls, the number of an assumption, 0 for none, and behind how many additions the first clause is deleted. A call restarts behind 64
-/// additions of its own, and then behind 64, 128, 64, 64 and 128 more; at the first restart behind 300 conflicts some clauses go.
-type Row = (&'static [Pieces], i32, Option<usize>);
+/// How many calls there are and how many clauses each one may add, how many one more call may, the number of an assumption, 0 for none,
+/// and behind how many additions the first clause is deleted. A call restarts behind 64 additions of its own, and then behind 64, 128, 64,
+/// 64 and 128 more; at the first restart behind 300 conflicts some clauses go.
+type Row = (u64, u64, u64, i32, Option<usize>);
 
 static ROWS: [Row; 7] = [
-    (&[(1, 330)], 0, Some(320)),
-    (&[(1, 319)], 0, None),
+    (1, 330, 0, 0, Some(320)),
+    (1, 319, 0, 0, None),
     // A call of 63 never restarts, however many there are; the next one does behind 64.
-    (&[(6, 63)], 0, None),
-    (&[(5, 63), (1, 70)], 0, Some(379)),
-    (&[(5, 64)], 0, Some(320)),
-    (&[(4, 90)], 0, Some(334)),
-    (&[(4, 90)], -1, Some(334)),
+    (6, 63, 0, 0, None),
+    (5, 63, 70, 0, Some(379)),
+    (5, 64, 0, 0, Some(320)),
+    (4, 90, 0, 0, Some(334)),
+    (4, 90, 0, -1, Some(334)),
 ];
 
-/// Asks in pieces. The answer is whether each piece met its budget.
-fn asked_in_pieces(
+/// Asks for so many more clauses. The answer is whether the budget was met.
+fn is_met(solver: &mut Solver<'_>, size: u64, assumption: i32) -> Result<bool, AllocError>
+    requires { solver.old.cnf.vars ≡ 42 }
+    ensures { solver.new.cnf ≡ solver.old.cnf }
+{
+    let budget = solver.added().saturating_add(size);
+    let found = asked(solver, 42, literal(assumption), budget, true)?;
+    Ok(matches!(found, Some(Found::Spent)) && solver.added() == budget)
+}
+
+/// Asks so often. The answer is whether each budget was met.
+fn are_met(
     solver: &mut Solver<'_>,
-    pieces: &[Pieces],
+    count: u64,
+    size: u64,
     assumption: i32,
 ) -> Result<bool, AllocError>
     requires { solver.old.cnf.vars ≡ 42 }
     ensures { solver.new.cnf ≡ solver.old.cnf }
 {
-    for (count, size) in pieces {
-        for _ in 0..*count {
-            let budget = solver.added().saturating_add(*size);
-            let found = asked(solver, 42, literal(assumption), budget, true)?;
-            if !matches!(found, Some(Found::Spent)) || solver.added() != budget {
-                return Ok(false);
-            }
+    for _ in 0..count {
+        if !is_met(solver, size, assumption)? {
+            return Ok(false);
         }
     }
     Ok(true)
+}
+
+/// Behind how many lines a log first deletes.
+fn first_deletion(lines: &[ProofLine]) -> Option<usize> {
+    lines
+        .iter()
+        .position(|line| matches!(line, ProofLine::Delete { .. }))
+}
+
+/// Asks to the end. The answer is whether there is a refutation, and a checker takes the log.
+fn is_refuted(alloc: Global, cnf: &Cnf, solver: &mut Solver<'_>) -> Result<bool, AllocError>
+    requires vars { cnf.now.vars ≡ 42 }
+    requires in_range { InRange cnf.now }
+    requires solver { solver.old.cnf.vars ≡ 42 }
+{
+    let last = asked(solver, 42, literal(0), u64::MAX, true)?;
+    Ok(matches!(last, Some(Found::Refuted(_))) && are_taken(alloc, cnf, solver.log())?)
 }
 
 /// Asks in pieces, and then to the end. The answer is behind how many lines the log first deletes, where it does so in the pieces.
@@ -110,17 +132,12 @@ fn pieces_row(alloc: Global, cnf: &Cnf, row: Row) -> Result<Option<usize>, Fail>
     requires in_range { InRange cnf.now }
     requires apart { AreApartIn cnf.now }
 {
-    let (pieces, assumption, _) = row;
     let mut solver = Solver::with(alloc, cnf)?;
-    if !asked_in_pieces(&mut solver, pieces, assumption)? {
+    if !are_met(&mut solver, row.0, row.1, row.3)? || !is_met(&mut solver, row.2, row.3)? {
         return Err(Fail::new("a budget wasn't met"));
     }
-    let first = solver
-        .log()
-        .iter()
-        .position(|line| matches!(line, ProofLine::Delete { .. }));
-    let last = asked(&mut solver, 42, literal(0), u64::MAX, true)?;
-    if !matches!(last, Some(Found::Refuted(_))) || !are_taken(alloc, cnf, solver.log())? {
+    let first = first_deletion(solver.log());
+    if !is_refuted(alloc, cnf, &mut solver)? {
         return Err(Fail::new("no refutation"));
     }
     Ok(first)
@@ -131,7 +148,7 @@ fn clauses_go_at_restarts(rt: HostRuntime) -> Result<(), Fail> {
     let cnf = pigeons(rt.alloc())?;
     for row in &ROWS {
         let first = pieces_row(rt.alloc(), &cnf, *row)?;
-        assert_eq!(rt; first, row.2, "{:?} {}", row.0, row.1);
+        assert_eq!(rt; first, row.4, "{row:?}");
     }
     Ok(())
 }

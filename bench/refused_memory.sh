@@ -208,7 +208,7 @@ fn seated(alloc: Global) -> Result<Vec<Sequence<Lit>>, AllocError> {
 fn push_rivals(alloc: Global, clauses: &mut Vec<Sequence<Lit>>, hole: i32) -> Result<(), AllocError> {
     for pigeon in 0..HOLES {
         for rival in pigeon + 1..HOLES + 1 {
-            let pair = [0 - seat(pigeon, hole), 0 - seat(rival, hole)];
+            let pair = [seat(pigeon, hole).wrapping_neg(), seat(rival, hole).wrapping_neg()];
             clauses.push(Sequence::from_vec(literals(alloc, &pair)?))?;
         }
     }

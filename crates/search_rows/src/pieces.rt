@@ -45,7 +45,10 @@ fn push_rivals(
 ) -> Result<(), AllocError> {
     for pigeon in 0..HOLES {
         for rival in pigeon + 1..HOLES + 1 {
-            let pair = [0 - seat(pigeon, hole), 0 - seat(rival, hole)];
+            let pair = [
+                seat(pigeon, hole).wrapping_neg(),
+                seat(rival, hole).wrapping_neg(),
+            ];
             clauses.push(Sequence::from_vec(literals(alloc, &pair)?))?;
         }
     }

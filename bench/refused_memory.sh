@@ -141,7 +141,7 @@ PY
 }
 
 asked() {
-  local program=${ASKING:-} crates=$folder/crates rows=$top/crates/search_rows bench=$folder/crates/asking
+  local program=${ASKING:-} rows=$top/crates/search_rows bench=$folder/crates/asking
   if [ -z "$program" ]; then
     git init -q "$folder"
     tar -C "$top" --exclude=out -c crates crates.txt | tar -C "$folder" -x
@@ -241,10 +241,10 @@ fn ask(solver: &mut Solver<'_>, vars: u32, assumption: Lit, budget: u64, refused
     ensures { solver.new.cnf ≡ solver.old.cnf }
 {
     for _ in 0..TIMES {
-        if let Ok(found) = asked(solver, vars, assumption, budget) {
-            return Ok(found);
+        match asked(solver, vars, assumption, budget) {
+            Ok(found) => return Ok(found),
+            Err(AllocError) => *refused = refused.saturating_add(1),
         }
-        *refused = refused.saturating_add(1);
     }
     Err(AllocError)
 }
@@ -281,8 +281,8 @@ fn answers(alloc: Global, solver: &mut Solver<'_>, vars: u32, refused: &mut u32)
     ensures { solver.new.cnf ≡ solver.old.cnf }
 {
     let mut text = String::new(alloc);
-    for (number, budget) in &QUESTIONS {
-        let found = ask(solver, vars, literal(*number), *budget, refused)?;
+    for question in &QUESTIONS {
+        let found = ask(solver, vars, literal(question.0), question.1, refused)?;
         text.push_str(word(found))?;
     }
     Ok(text)
@@ -309,6 +309,21 @@ fn main(rt: HostRuntime) -> io::Result<()> {
     println!(rt; "{text}")
 }
 RT
+    mkdir -p "$bench/proofs/ask" "$bench/proofs/answers"
+    cat >"$bench/proofs/ask/Invariants.antt" <<'ANTT'
+use Rattle.std.proofs.Common.{◌≡◌}
+use Rattle.asking.proofs.ask.Given as goal
+
+abbrev pub invariant-loop : goal.invariant-loop
+invariant-loop l = l.solver.cnf ≡ l.fn.solver.cnf
+ANTT
+    cat >"$bench/proofs/answers/Invariants.antt" <<'ANTT'
+use Rattle.std.proofs.Common.{◌≡◌}
+use Rattle.asking.proofs.answers.Given as goal
+
+abbrev pub invariant-loop-question : goal.invariant-loop-question
+invariant-loop-question l = l.solver.cnf ≡ l.fn.solver.cnf
+ANTT
     (cd "$bench" && rt run >"$folder/log" 2>&1) || { tail -n 20 "$folder/log" >&2; return 1; }
     program=$bench/out/asking
   fi

@@ -1,4 +1,4 @@
-//! Rows worked out by hand and random ones, over the public calls of the clause store, and over those of a search under an assumption.
+//! Rows worked out by hand and random ones, over the public calls of the clause store, of the analysis of conflicts, and of a search that is asked once or again.
 //! They stand apart from its crates, so that proving them proves none of those crates anew.
 #![tactic(auto)]
 

@@ -1,8 +1,13 @@
 #!/usr/bin/env bash
-# Refuses the program memory: for each run below it counts how often memory is asked for, and runs it so often again, each time with another one of these refused; and so often once more, with
-# each one refused from there on. A run has to end as it does with ample memory, or with code 6 and nothing on standard output. It prints
-# how many ended so and so, and of the latter how many told it on standard error, which those that could not even read their words need not. The shelf counts an opening that finds no memory as a fault of
-# reading, so at an opening a run may end with code 4 as well; those ends are counted apart. It stops with an error at another end. The runs are
+# Refuses the program memory. Words name the parts; without words both are taken:
+#   runs      for each run below it counts how often memory is asked for, and runs it so often again, each time with another one of these refused; and so often once more, with
+#             each one refused from there on. A run has to end as it does with ample memory, or with code 6 and nothing on standard output. It prints
+#             how many ended so and so, and of the latter how many told it on standard error, which those that could not even read their words need not. The shelf counts an opening that finds no memory as a fault of
+#             reading, so at an opening a run may end with code 4 as well; those ends are counted apart. It stops with an error at another end.
+#   asked     the same for a small program over the crate `learning_solver`, which asks one solver five times about seven pigeons in six holes, under two assumptions and with three budgets, and asks once more, and
+#             once more again, where memory is refused in a call. It has to give the answers that it gives with ample memory and a log that a checker takes, or to end with code 1 and nothing on
+#             standard output, where memory is refused outside the calls or in three of them. It prints how many ended so and so, and in how many a call was refused memory and asked again.
+# The runs are
 #   times     solve, an optimum of a product of two integers
 #   pigeons   solve --no-restart --budget 4096, four pigeons in three holes
 #   pairs     check of a refutation of four clauses
@@ -10,12 +15,10 @@
 #   half      solve of the same
 #   two       solve, two objectives
 #   sum       decode, two integers from the values of their clauses
-# What is refused is `malloc` and `realloc` of the C library, by a small library that is put before it. BEE names another program that is tried, and PROCESSES how many runs go on at a time, three without
-# it. Wants cc and python3.
+# What is refused is `malloc` and `realloc` of the C library, by a small library that is put before it. BEE names another program that is tried, ASKING another program of the second part, which else is proved and built
+# over a copy of the crates, and PROCESSES how many runs go on at a time, three without it. Wants cc and python3, and rt.
 set -eu
 top=$(cd "$(dirname "${BASH_SOURCE[0]}")/.." && pwd)
-program=${BEE:-$top/crates/bee/out/bee}
-[ -n "${BEE:-}" ] || "$top/bee" compile "$top/examples/pigeonhole.bee" >/dev/null
 folder=$(mktemp -d)
 trap 'rm -rf "$folder"' EXIT
 cat >"$folder/refusing.c" <<'C'
@@ -59,7 +62,11 @@ __attribute__((destructor)) static void end(void) {
 }
 C
 cc -O2 -shared -fPIC -o "$folder/refusing.so" "$folder/refusing.c"
-python3 - "$program" "$folder" <<'PY'
+
+runs() {
+  local program=${BEE:-$top/crates/bee/out/bee}
+  [ -n "${BEE:-}" ] || "$top/bee" compile "$top/examples/pigeonhole.bee" >/dev/null
+  python3 - "$program" "$folder" <<'PY'
 import os, subprocess, sys
 from multiprocessing.pool import ThreadPool
 
@@ -131,3 +138,241 @@ for name, words in RUNS:
         print(f"  another end, code {code}, {len(out)} bytes, {err[-200:]!r}: {', '.join(numbers)}", flush=True)
 sys.exit(failed)
 PY
+}
+
+asked() {
+  local program=${ASKING:-} rows=$top/crates/search_rows bench=$folder/crates/asking
+  if [ -z "$program" ]; then
+    git init -q "$folder"
+    tar -C "$top" --exclude=out -c crates crates.txt | tar -C "$folder" -x
+    echo 'asking: bee_list order_ints proof_check clause_arena clause_rings learning_solver' >>"$folder/crates.txt"
+    mkdir -p "$bench/src" "$bench/proofs"
+    cp "$rows/src/words.rt" "$bench/src/"
+    cp -r "$rows/specs" "$bench/"
+    cp -r "$rows/proofs/words" "$rows/proofs/Clauses.antt" "$rows/proofs/Lib.antt" "$bench/proofs/"
+    find "$bench" -type f -exec sed -i 's/search_rows/asking/' {} +
+    sed -i 's/Result<Cnf, Fail>/Result<Cnf, AllocError>/; s/Fail::new("no CNF")/AllocError/; /^use std::test::Fail;/d; s/pub(super) fn/pub(crate) fn/' "$bench/src/words.rt"
+    cat >"$bench/src/main.rt" <<'RT'
+//! Asks one solver five times about pigeons in one hole fewer, where variable 1 gives leave to stay outside. Where memory is refused in
+//! a call, it asks again. Prints how often that was, what was answered, and whether a checker took the log.
+#![tactic(auto)]
+
+mod words;
+
+ghost use Rattle.std.specs.Prelude.{◌≡◌, ◌≤◌, ◌^◌};
+ghost use Rattle.order_ints.specs.Place.{InRange};
+ghost use Rattle.clause_rings.specs.Clauses.{AreApartIn};
+
+use bee_list::Sequence;
+use learning_solver::{Found, Solver};
+use order_ints::{Cnf, Lit};
+use proof_check::{Checker, ProofLine, TakeFault};
+use std::alloc::{AllocError, Global};
+use std::io;
+use words::{cnf_of, literal, literals};
+
+/// How many holes there are.
+const HOLES: i32 = 6;
+
+/// How often one thing is asked.
+const TIMES: u32 = 3;
+
+/// The number of a literal that is to be true, and the budget.
+static QUESTIONS: [(i32, u64); 5] = [
+    (-1, 330),
+    (1, 330),
+    (-1, u64::MAX),
+    (1, u64::MAX),
+    (-2, u64::MAX),
+];
+
+/// The number of the variable of a pigeon in a hole, both counted from 0.
+fn seat(pigeon: i32, hole: i32) -> i32 {
+    pigeon.wrapping_mul(HOLES).wrapping_add(hole).wrapping_add(2)
+}
+
+/// Each pigeon sits in a hole, or may stay outside.
+fn seated(alloc: Global) -> Result<Vec<Sequence<Lit>>, AllocError> {
+    let mut clauses = Vec::new(alloc);
+    for pigeon in 0..HOLES + 1 {
+        let mut numbers = vec![in alloc; 1]?;
+        for hole in 0..HOLES {
+            numbers.push(seat(pigeon, hole))?;
+        }
+        clauses.push(Sequence::from_vec(literals(alloc, &numbers)?))?;
+    }
+    Ok(clauses)
+}
+
+/// No two sit in one.
+fn push_rivals(alloc: Global, clauses: &mut Vec<Sequence<Lit>>, hole: i32) -> Result<(), AllocError> {
+    for pigeon in 0..HOLES {
+        for rival in pigeon + 1..HOLES + 1 {
+            let pair = [seat(pigeon, hole).wrapping_neg(), seat(rival, hole).wrapping_neg()];
+            clauses.push(Sequence::from_vec(literals(alloc, &pair)?))?;
+        }
+    }
+    Ok(())
+}
+
+/// The clauses of the pigeons.
+fn pigeons(alloc: Global) -> Result<Vec<Sequence<Lit>>, AllocError> {
+    let mut clauses = seated(alloc)?;
+    for hole in 0..HOLES {
+        push_rivals(alloc, &mut clauses, hole)?;
+    }
+    Ok(clauses)
+}
+
+/// Asks a solver of so many variables.
+fn asked(solver: &mut Solver<'_>, vars: u32, assumption: Lit, budget: u64) -> Result<Option<Found>, AllocError>
+    requires { solver.old.cnf.vars ≡ vars }
+    ensures { solver.new.cnf ≡ solver.old.cnf }
+{
+    if assumption.var < 1 || assumption.var > vars || solver.added() > budget {
+        return Ok(None);
+    }
+    Ok(Some(solver.solve(Some(assumption), budget, true)?))
+}
+
+/// Asks until memory isn't refused, and counts how often it was.
+fn ask(solver: &mut Solver<'_>, vars: u32, assumption: Lit, budget: u64, refused: &mut u32) -> Result<Option<Found>, AllocError>
+    requires { solver.old.cnf.vars ≡ vars }
+    ensures { solver.new.cnf ≡ solver.old.cnf }
+{
+    for _ in 0..TIMES {
+        match asked(solver, vars, assumption, budget) {
+            Ok(found) => return Ok(found),
+            Err(AllocError) => *refused = refused.saturating_add(1),
+        }
+    }
+    Err(AllocError)
+}
+
+/// An answer in a word.
+fn word(found: Option<Found>) -> &'static str {
+    match found {
+        Some(Found::Sat(_)) => " true",
+        Some(Found::Refuted(_)) => " refuted",
+        Some(Found::Spent) => " spent",
+        None => " unasked",
+    }
+}
+
+/// Whether a checker takes all lines.
+fn are_taken(alloc: Global, cnf: &Cnf, lines: &[ProofLine]) -> Result<bool, AllocError>
+    requires vars { cnf.now.vars ≤ 2 ^ 27 }
+    requires in_range { InRange cnf.now }
+{
+    let mut checker = Checker::with(alloc, cnf)?;
+    for line in lines {
+        match checker.take(line) {
+            Ok(()) => {}
+            Err(TakeFault::Memory) => return Err(AllocError),
+            Err(TakeFault::Proof(_)) => return Ok(false),
+        }
+    }
+    Ok(true)
+}
+
+/// Asks all questions, and tells the answers.
+fn answers(alloc: Global, solver: &mut Solver<'_>, vars: u32, refused: &mut u32) -> Result<String, AllocError>
+    requires { solver.old.cnf.vars ≡ vars }
+    ensures { solver.new.cnf ≡ solver.old.cnf }
+{
+    let mut text = String::new(alloc);
+    for question in &QUESTIONS {
+        let found = ask(solver, vars, literal(question.0), question.1, refused)?;
+        text.push_str(word(found))?;
+    }
+    Ok(text)
+}
+
+/// What is printed.
+fn told(alloc: Global, cnf: &Cnf) -> Result<String, AllocError>
+    requires vars { cnf.now.vars ≤ 2 ^ 27 }
+    requires in_range { InRange cnf.now }
+    requires apart { AreApartIn cnf.now }
+{
+    let mut solver = Solver::with(alloc, cnf)?;
+    let mut refused = 0;
+    let answers = answers(alloc, &mut solver, cnf.vars, &mut refused)?;
+    let taken = are_taken(alloc, cnf, solver.log())?;
+    let deleted = solver.log().iter().any(|line| matches!(line, ProofLine::Delete { .. }));
+    format!(in alloc; "{refused}{answers} taken={taken} deleted={deleted}")
+}
+
+fn main(rt: HostRuntime) -> io::Result<()> {
+    let alloc = rt.alloc();
+    let cnf = cnf_of(43, pigeons(alloc)?)?;
+    let text = told(alloc, &cnf)?;
+    println!(rt; "{text}")
+}
+RT
+    mkdir -p "$bench/proofs/ask" "$bench/proofs/answers"
+    cat >"$bench/proofs/ask/Invariants.antt" <<'ANTT'
+use Rattle.std.proofs.Common.{◌≡◌}
+use Rattle.asking.proofs.ask.Given as goal
+
+abbrev pub invariant-loop : goal.invariant-loop
+invariant-loop l = l.solver.cnf ≡ l.fn.solver.cnf
+ANTT
+    cat >"$bench/proofs/answers/Invariants.antt" <<'ANTT'
+use Rattle.std.proofs.Common.{◌≡◌}
+use Rattle.asking.proofs.answers.Given as goal
+
+abbrev pub invariant-loop-question : goal.invariant-loop-question
+invariant-loop-question l = l.solver.cnf ≡ l.fn.solver.cnf
+ANTT
+    (cd "$bench" && rt run >"$folder/log" 2>&1) || { tail -n 20 "$folder/log" >&2; return 1; }
+    program=$bench/out/asking
+  fi
+  python3 - "$program" "$folder" <<'PY'
+import os, subprocess, sys
+from collections import Counter
+from multiprocessing.pool import ThreadPool
+
+program, folder = sys.argv[1:]
+AMPLE = b"0 spent true refuted true true taken=true deleted=true\n"
+
+
+def run(**given):
+    env = dict(os.environ, LD_PRELOAD=os.path.join(folder, "refusing.so"), **given)
+    done = subprocess.run([program], env=env, capture_output=True, timeout=120)
+    return done.returncode, done.stdout
+
+
+def ending(end):
+    """What an end comes to: whether a call was refused memory, where it answers as with ample memory, and else whether it gave up."""
+    code, out = end
+    refused, *told = out.split()
+    return ("asked again" if int(refused) else "not asked again") if code == 0 and told[:-1] == AMPLE.split()[1:-1] else None
+
+
+count = os.path.join(folder, "asked")
+if run(ASKED=count) != (0, AMPLE):
+    sys.exit("with ample memory the answers are others")
+asked = int(open(count).read())
+failed = False
+print(f"memory is asked for {asked} times")
+for forever in (False, True):
+    with ThreadPool(int(os.environ.get("PROCESSES", 3))) as pool:
+        ends = pool.map(lambda n: run(REFUSED_FIRST=str(n), REFUSED_LAST=str(10 * asked if forever else n)), range(1, asked + 1))
+    told = ["gave up" if end == (1, b"") else ending(end) if end[1] else None for end in ends]
+    failed = failed or None in told
+    shown = ", ".join(f"{number} {what}" for what, number in sorted(Counter(what or "otherwise" for what in told).items()))
+    print(f"{'each refused from there on' if forever else 'one refused'}: {shown}", flush=True)
+    for n, (end, what) in enumerate(zip(ends, told), 1):
+        if what is None:
+            print(f"  another end, refused at {n}: {end}", flush=True)
+sys.exit(failed)
+PY
+}
+
+[ $# -gt 0 ] || set -- runs asked
+for part in "$@"; do
+  case $part in
+    runs | asked) "$part" ;;
+    *) echo "no part: $part" >&2; exit 1 ;;
+  esac
+done

@@ -14,7 +14,7 @@ use crate::found::Found;
 use crate::lesson::Lesson;
 use crate::pace::Pace;
 use crate::search::Search;
-use crate::sight::Sight;
+use crate::sight::analyse;
 use crate::task::Task;
 use std::alloc::AllocError;
 
@@ -30,9 +30,7 @@ impl Search<'_> {
         ensures stays { Stays self.old self.new }
         ensures search { IsSearch self.new }
     {
-        let level = self.db.level();
-        self.walker
-            .analyse(&Sight { db: &self.db }, conflict, level)?;
+        analyse(&mut self.walker, &self.db, conflict)?;
         self.order.raise(self.walker.seen())?;
         self.candidates.uses.use_all(self.walker.hints());
         self.lesson()

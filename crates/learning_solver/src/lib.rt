@@ -19,4 +19,5 @@ mod solver;
 mod task;
 
 pub use found::Found;
+pub use sight::analyse;
 pub use solver::Solver;

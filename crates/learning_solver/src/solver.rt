@@ -78,6 +78,13 @@ impl<'a> Solver<'a> {
         self.search.find_answer(task, restart)
     }
 
+    /// How many clauses the log adds. It takes constant time.
+    pub fn added(&self) -> u64
+        ensures { result ≡ additions self.now.log }
+    {
+        self.search.added
+    }
+
     /// The log: each line follows from the CNF and those before it.
     pub fn log(&self) -> &[ProofLine]
         ensures log { result.now ≡ self.now.log }

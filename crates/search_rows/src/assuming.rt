@@ -13,7 +13,7 @@ use std::process::Abort;
 use std::test::Fail;
 
 /// An answer in words.
-fn told(alloc: Global, found: &Found) -> Result<String, AllocError> {
+pub(super) fn told(alloc: Global, found: &Found) -> Result<String, AllocError> {
     match found {
         Found::Sat(_) => format!(in alloc; "true\n"),
         Found::Refuted(id) => format!(in alloc; "refuted by {id}\n"),

@@ -1,7 +1,11 @@
-//! Rows worked out by hand and random ones, over the public calls of the clause store, and over those of a search under an assumption.
+//! Rows worked out by hand and random ones, over the public calls of the clause store, of the analysis of conflicts, and of a search that is asked once or again.
 //! They stand apart from its crates, so that proving them proves none of those crates anew.
 #![tactic(auto)]
 
+#[cfg(test)]
+mod analysing;
+#[cfg(test)]
+mod asking_again;
 #[cfg(test)]
 mod assuming;
 #[cfg(test)]
@@ -10,6 +14,8 @@ mod bench;
 mod moves;
 #[cfg(test)]
 mod numbers;
+#[cfg(test)]
+mod pieces;
 #[cfg(test)]
 mod plain;
 #[cfg(test)]

@@ -65,12 +65,14 @@ fn put_ints(vars: &mut Vec<u32>, core: &Core) -> Result<(), AllocError>
     Ok(())
 }
 
-/// Puts the variables of a core behind those of a list.
+/// Puts the variables of a core's integers behind those of a list, and then those of its atoms: the one atom of a
+/// split's rest is a fresh variable, which so stands at the end.
 fn put_core(vars: &mut Vec<u32>, core: &Core) -> Result<(), AllocError>
-    ensures { OnOk result (vars.new.items ≡ vars.old.items ++ core_vars core.now) }
+    ensures { OnOk result (vars.new.items
+        ≡ (vars.old.items ++ ints_vars (ints_of core.now)) ++ atoms_vars (atoms_of core.now)) }
 {
-    put_atoms(vars, core)?;
-    put_ints(vars, core)
+    put_ints(vars, core)?;
+    put_atoms(vars, core)
 }
 
 /// Whether each number is less than the next one.

@@ -1,6 +1,6 @@
 //! The variables of a core.
 
-ghost use Rattle.std.specs.Prelude.{◌≡◌, ◌↔◌, ℕ, ◌++◌, IfOk, OnOk, Contains};
+ghost use Rattle.std.specs.Prelude.{◌≡◌, ◌↔◌, ℕ, ◌++◌, IfOk, OnOk, IsTrue, Contains};
 ghost use Rattle.std.specs.List.Sorted.{IsStrictlyIncreasing};
 ghost use Rattle.core_forms.specs.Contents.{ints_of, atoms_of};
 ghost use Rattle.core_forms.specs.Variables.{atom_vars, atoms_vars, int_vars, ints_vars, core_vars};
@@ -19,6 +19,19 @@ fn put_atom(vars: &mut Vec<u32>, atom: Atom) -> Result<(), AllocError>
     Ok(())
 }
 
+/// Puts the variables of listed atoms behind those of a list.
+fn put_listed(vars: &mut Vec<u32>, atoms: &[Atom]) -> Result<(), AllocError>
+    ensures { OnOk result (vars.new.items ≡ vars.old.items ++ atoms_vars atoms.now) }
+{
+    vars.reserve(atoms.len())?;
+    for atom in atoms {
+        if let Atom::Of(literal) = atom {
+            vars.push(literal.var())?;
+        }
+    }
+    Ok(())
+}
+
 /// Puts the variables of an integer behind those of a list.
 fn put_int(vars: &mut Vec<u32>, a: &OrdInt) -> Result<(), AllocError>
     ensures { OnOk result (vars.new.items ≡ vars.old.items ++ int_vars a.now) }
@@ -33,6 +46,9 @@ fn put_int(vars: &mut Vec<u32>, a: &OrdInt) -> Result<(), AllocError>
 fn put_atoms(vars: &mut Vec<u32>, core: &Core) -> Result<(), AllocError>
     ensures { OnOk result (vars.new.items ≡ vars.old.items ++ atoms_vars (atoms_of core.now)) }
 {
+    if let Core::Parity(atoms, _) | Core::Amo(atoms) | Core::Clause(atoms) = core {
+        return put_listed(vars, atoms.as_slice());
+    }
     for atom in core.atoms() {
         put_atom(vars, *atom)?;
     }
@@ -49,23 +65,48 @@ fn put_ints(vars: &mut Vec<u32>, core: &Core) -> Result<(), AllocError>
     Ok(())
 }
 
-/// Puts the variables of a core behind those of a list.
+/// Puts the variables of a core's integers behind those of a list, and then those of its atoms: the one atom of a
+/// split's rest is a fresh variable, which so stands at the end.
 fn put_core(vars: &mut Vec<u32>, core: &Core) -> Result<(), AllocError>
-    ensures { OnOk result (vars.new.items ≡ vars.old.items ++ core_vars core.now) }
+    ensures { OnOk result (vars.new.items
+        ≡ (vars.old.items ++ ints_vars (ints_of core.now)) ++ atoms_vars (atoms_of core.now)) }
 {
-    put_atoms(vars, core)?;
-    put_ints(vars, core)
+    put_ints(vars, core)?;
+    put_atoms(vars, core)
+}
+
+/// Whether each number is less than the next one.
+fn is_increasing(numbers: &[u32]) -> bool
+    ensures { IsTrue result → IsStrictlyIncreasing numbers.now }
+{
+    for i in 1..numbers.len() {
+        if numbers[i - 1] >= numbers[i] {
+            return false;
+        }
+    }
+    true
+}
+
+/// Puts numbers in ascending order, each once.
+fn put_in_order(numbers: &mut Vec<u32>)
+    ensures ascending { IsStrictlyIncreasing numbers.new.items }
+    ensures same { (v : ℕ) → Contains numbers.new.items v ↔ Contains numbers.old.items v }
+{
+    if is_increasing(numbers.as_slice()) {
+        return;
+    }
+    numbers.sort_unstable();
+    numbers.dedup();
 }
 
 /// The variables that occur in a core, in ascending order, each once. It takes the time of one sort of
-/// all occurrences, and memory for them.
+/// all occurrences, of one pass where they stand in that order, and memory for them.
 pub fn variables(alloc: Global, core: &Core) -> Result<Vec<u32>, AllocError>
     ensures ascending { IfOk result (λ vars. IsStrictlyIncreasing vars.items) }
     ensures exact { IfOk result (λ vars. (v : ℕ) → Contains vars.items v ↔ Contains (core_vars core.now) v) }
 {
     let mut vars = Vec::new(alloc);
     put_core(&mut vars, core)?;
-    vars.sort_unstable();
-    vars.dedup();
+    put_in_order(&mut vars);
     Ok(vars)
 }

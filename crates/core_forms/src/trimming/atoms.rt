@@ -1,11 +1,12 @@
 //! Trimming of lists of atoms.
 
-ghost use Rattle.std.specs.Prelude.{◌≡◌, ◌≤◌, IfOk, map, length};
+ghost use Rattle.std.specs.Prelude.{◌≡◌, ◌≤◌, IfOk, IsTrue, map, length};
 ghost use Rattle.order_ints.specs.View.{resolve};
+ghost use Rattle.core_forms.specs.Settled.{IsSettled, AreSettled};
 ghost use Rattle.core_forms.specs.Trimmed.{without_false, without_constants, constant_trues, turned, tidied_clause, tidied_members};
 
 use bee_list::Sequence;
-use order_ints::{Atom, resolve};
+use order_ints::{Atom, label_of, resolve};
 use std::alloc::{AllocError, Global};
 
 /// The atoms as the view has them.
@@ -70,6 +71,32 @@ pub(super) fn trimmed_members(
     Ok(Sequence::from_vec(kept))
 }
 
+/// Whether the view has an atom as it is, and that is no constant.
+fn is_settled(view: &[Atom], atom: Atom) -> bool
+    ensures { IsTrue result → IsSettled view.now atom }
+{
+    let Atom::Of(literal) = atom else {
+        return false;
+    };
+    match label_of(view, literal.var()) {
+        Atom::Of(label) => label.positive() && label.var() == literal.var(),
+        _ => false,
+    }
+}
+
+/// Whether the view has all these atoms as they are, and none is a constant, so that they stay as they are.
+fn are_settled(atoms: &[Atom], view: &[Atom]) -> bool
+    ensures { IsTrue result → AreSettled view.now atoms.now }
+{
+    for atom in atoms {
+        if !is_settled(view, *atom) {
+            return false;
+        }
+    }
+    true
+}
+
+#[tactic(auto, using(crate::proofs::Settling::settled_false))]
 /// The atoms that are not False.
 pub(super) fn without_false(
     alloc: Global,
@@ -79,6 +106,10 @@ pub(super) fn without_false(
     ensures { IfOk result (λ kept. kept ≡ without_false (map (resolve view.now) atoms.now)) }
 {
     let mut kept = Vec::with_capacity(alloc, atoms.len())?;
+    if are_settled(atoms, view) {
+        kept.extend_from_slice(atoms)?;
+        return Ok(Sequence::from_vec(kept));
+    }
     for atom in atoms {
         match resolve(view, *atom) {
             Atom::True => kept.push(Atom::True)?,
@@ -89,6 +120,7 @@ pub(super) fn without_false(
     Ok(Sequence::from_vec(kept))
 }
 
+#[tactic(auto, using(crate::proofs::Settling::settled_constants, crate::proofs::Settling::settled_trues))]
 /// The atoms that are no constants, and how many are True.
 pub(super) fn only_literals(
     alloc: Global,
@@ -100,6 +132,10 @@ pub(super) fn only_literals(
     ensures range { IfOk result (λ kept. kept.1 ≤ length atoms.now) }
 {
     let mut kept = Vec::with_capacity(alloc, atoms.len())?;
+    if are_settled(atoms, view) {
+        kept.extend_from_slice(atoms)?;
+        return Ok((Sequence::from_vec(kept), 0));
+    }
     let mut trues: usize = 0;
     for atom in atoms {
         match resolve(view, *atom) {

@@ -14,10 +14,12 @@ const PAIRS: &str = "p cnf 2 4\n1 2 0\n1 -2 0\n-1 2 0\n-1 -2 0\n";
 const WIDER: &str = "p cnf 3 4\n1 2 0\n1 -2 0\n-1 2 0\n-1 -2 0\n";
 
 /// Four pigeons, of which each sits in one of three holes, and no two in one.
-const PIGEONS: &str = "p cnf 12 22\n1 2 3 0\n4 5 6 0\n7 8 9 0\n10 11 12 0\n-1 -4 0\n-1 -7 0\n-4 -7 0\n-1 -10 0\n-4 -10 0\n-7 -10 0\n-2 -5 0\n-2 -8 0\n-5 -8 0\n-2 -11 0\n-5 -11 0\n-8 -11 0\n-3 -6 0\n-3 -9 0\n-6 -9 0\n-3 -12 0\n-6 -12 0\n-9 -12 0\n";
+const PIGEONS: &str =
+    "p cnf 12 22\n1 2 3 0\n4 5 6 0\n7 8 9 0\n10 11 12 0\n-1 -4 0\n-1 -7 0\n-4 -7 0\n-1 -10 0\n-4 -10 0\n-7 -10 0\n-2 -5 0\n-2 -8 0\n-5 -8 0\n-2 -11 0\n-5 -11 0\n-8 -11 0\n-3 -6 0\n-3 -9 0\n-6 -9 0\n-3 -12 0\n-6 -12 0\n-9 -12 0\n";
 
 /// What cadical 1.5.3 writes for them with `--plain --no-binary`.
-const PIGEONS_REFUTED: &str = "-11 -12 0\n-7 -12 0\n-12 0\n-8 0\n-7 0\n9 0\n-3 0\n-6 0\n-1 0\n2 0\n-5 0\n-11 0\n4 0\n10 0\n0\n";
+const PIGEONS_REFUTED: &str =
+    "-11 -12 0\n-7 -12 0\n-12 0\n-8 0\n-7 0\n9 0\n-3 0\n-6 0\n-1 0\n2 0\n-5 0\n-11 0\n4 0\n10 0\n0\n";
 
 /// A text that lists the empty clause.
 const EMPTY: &str = "p cnf 2 1\n0\n";
@@ -269,8 +271,16 @@ fn drup_row<R: Abort>(rt: &R, alloc: Global, row: &Row) -> Result<(), Fail> {
     let run = checked(alloc, words, text, proof, AMPLE)?;
     assert_eq!(rt; run.status, *status, "{words:?} {listed} {proof}");
     assert_eq!(rt; run.code, *code, "{words:?} {listed} {proof}");
-    assert_eq!(rt; run.out.taken(), written.as_bytes(), "{words:?} {listed} {proof}");
-    assert_eq!(rt; run.err.taken(), told.as_bytes(), "{words:?} {listed} {proof}");
+    assert_eq!(rt;
+        run.out.taken(),
+        written.as_bytes(),
+        "{words:?} {listed} {proof}"
+    );
+    assert_eq!(rt;
+        run.err.taken(),
+        told.as_bytes(),
+        "{words:?} {listed} {proof}"
+    );
     Ok(())
 }
 

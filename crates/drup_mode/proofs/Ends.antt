@@ -1,5 +1,5 @@
 -- Two texts have one end in drup mode.
-use Rattle.std.proofs.Common.{◌≡◌, ◌⊎◌, ℕ, ◌+◌, ◌<◌, ◌≤◌, List, Option, length, refl, ap, subst, inl, inr}
+use Rattle.std.proofs.Common.{◌≡◌, ℕ, ◌+◌, ◌<◌, ◌≤◌, List, length, refl, ap, subst}
 use Rattle.std.specs.Prelude.{Some}
 use Rattle.order_ints.specs.declared.cnf.Cnf.{Cnf}
 use Rattle.sat_front.specs.declared.text_fault.CnfTextFault.{CnfTextFault}
@@ -12,17 +12,16 @@ use Rattle.sat_front.proofs.TextFaults.{fit_or_fault, one_fault, within_limit}
 use Rattle.drup_check.specs.DrupLines.{DrupFails}
 use Rattle.drup_check.proofs.Exact.{proof_fits, line_same}
 use Rattle.drup_check.proofs.Proved.{none_of_text}
-use Rattle.text_modes.specs.Seen.{ShelfShown, Seen, Untouched}
-use Rattle.text_modes.specs.Promises.{Finishes}
-use Rattle.text_modes.specs.TwoTexts.{Texts, ToldBoth, EitherFailed, Says, TwoTextRun}
+use Rattle.text_modes.specs.Seen.{Seen, Untouched}
+use Rattle.text_modes.specs.TwoTexts.{Texts, TwoTextRun}
 use Rattle.text_modes.specs.declared.ends.Outcome.{Outcome}
 use Rattle.text_modes.specs.declared.ends.Outcome.TheVariants.{Done, Refused, Unknown}
 use Rattle.text_modes.specs.declared.ends.End.{End}
-use Rattle.text_modes.specs.declared.ends.End.TheVariants.{Wrote, Fault, Read, Write, Memory}
+use Rattle.text_modes.specs.declared.ends.End.TheVariants.{Wrote, Memory}
 use Rattle.text_modes.proofs.Idle.{two_idle}
-use Rattle.text_modes.proofs.TwoAnswers.{faulty, answers, told_fault}
+use Rattle.text_modes.proofs.TwoAnswers.{faulty, answers, finishes}
 use Rattle.drup_mode.specs.Proved.{IsCheck, Gives, IsProved, FailsBehind}
-use Rattle.drup_mode.specs.DrupMode.{HaveEnd, AreFit, DrupMode}
+use Rattle.drup_mode.specs.DrupMode.{HaveEnd, DrupMode}
 
 same_cnf : (text : List ℕ) (x y : Cnf) → HoldsCnf text x → HoldsCnf text y → x ≡ y
 same_cnf text x y h k = text_same text x y h.is k.is
@@ -61,36 +60,18 @@ fit texts (Wrote Done) h = (h.cnf, h.held)
 fit texts (Wrote (Refused line)) h = (h.cnf, h.held)
 fit texts end h = absurd h
 
-module _ (input second : List ℕ) (seen : Seen) where
-  abbrev limit : Option ℕ
-  limit = Some (longest_text + 1)
+-- what is said of each end decides which end told texts have
+pub mode : (input second : List ℕ) (end : End CnfTextFault) (seen : Seen) → TwoTextRun (Some (longest_text + 1)) HasCnf Gives HasFault input second end seen → DrupMode input second end seen
+mode input second end seen r = record {
+  run = r;
+  faulty = faulty (Some (longest_text + 1)) HasCnf Gives HasFault HaveEnd fit_or_fault one_fault given fit one_end input second seen r.between end r.says;
+  answers = answers (Some (longest_text + 1)) HasCnf Gives HasFault HaveEnd fit_or_fault one_fault given fit one_end input second seen r.between r.first_taken.others_stay end r.says;
+  finishes = finishes (Some (longest_text + 1)) HasCnf Gives HasFault HaveEnd fit_or_fault one_fault given fit one_end input second seen r.between end r.says;
+}
 
-  -- told texts of which the first is fit end by a text
-  finishes : (between : ShelfShown) (end : End CnfTextFault) → Says limit HasCnf Gives HasFault input second between end seen
-      → Finishes (ToldBoth input second seen) AreFit (EitherFailed input second seen) end seen
-  finishes between (Wrote outcome) s = record { complete = λ texts told is read write. inl (outcome, refl) }
-  finishes between (Fault fault) s = record {
-    complete = λ texts told is read write.
-        absurd (fit_or_fault texts.first fault is
-        (told_fault limit HasCnf Gives HasFault HaveEnd fit_or_fault one_fault given fit one_end input second seen between texts.first fault told.first_told s.faulty));
-  }
-  finishes between Read (inl s) = record { complete = λ texts told is read write. absurd (read (inl s)) }
-  finishes between Read (inr s) = record { complete = λ texts told is read write. absurd (read (inr s.failed)) }
-  finishes between Write s = record { complete = λ texts told is read write. absurd (write s.1) }
-  finishes between Memory s = record { complete = λ texts told is read write. inr refl }
-
-  -- what is said of each end decides which end told texts have
-  pub mode : (end : End CnfTextFault) → TwoTextRun limit HasCnf Gives HasFault input second end seen → DrupMode input second end seen
-  mode end r = record {
-    run = r;
-    faulty = faulty limit HasCnf Gives HasFault HaveEnd fit_or_fault one_fault given fit one_end input second seen r.between end r.says;
-    answers = answers limit HasCnf Gives HasFault HaveEnd fit_or_fault one_fault given fit one_end input second seen r.between r.first_taken.others_stay end r.says;
-    finishes = finishes r.between end r.says;
-  }
-
-  -- where memory is wanting before the mode begins
-  pub idle : Untouched seen → DrupMode input second Memory seen
-  idle same = mode Memory (two_idle limit HasFault seen same HasCnf Gives input second)
+-- where memory is wanting before the mode begins
+pub idle : (input second : List ℕ) (seen : Seen) → Untouched seen → DrupMode input second Memory seen
+idle input second seen same = mode input second Memory seen (two_idle (Some (longest_text + 1)) HasFault seen same HasCnf Gives input second)
 
 -- the CNF, or the fault, of a text below the limit and one byte
 pub held_within : (text : List ℕ) (cnf : Cnf) → length text < 16777217 → IsCnfText text cnf → HoldsCnf text cnf

@@ -10,7 +10,7 @@ HERE = os.path.dirname(os.path.abspath(__file__))
 
 # The files of each family: SIZE and SEED of `cnfs.py`; the implications and the lines of a chain.
 FAMILIES = {
-    "random": [(100, 1), (150, 1), (200, 1), (200, 3)],
+    "random": [(100, 1), (150, 2), (200, 1), (200, 3)],
     "pigeons": [(7, 0), (8, 0), (9, 0)],
     "parity": [(20, 1), (24, 1)],
     "mitre": [(4, 0), (5, 0), (6, 0)],

@@ -305,7 +305,8 @@ fn texts_and_names_have_these_ends(rt: HostRuntime) -> Result<(), Fail> {
 /// The text of a CNF with the empty clause, of this length: blanks stand behind it.
 fn padded(alloc: Global, length: usize) -> Result<Vec<u8>, AllocError> {
     let mut text = Vec::from_slice(alloc, EMPTY.as_bytes())?;
-    text.resize(length, b' ')?;
+    let blanks = vec![in alloc; b' '; length.saturating_sub(EMPTY.len())]?;
+    text.extend_from_slice(blanks.as_slice())?;
     Ok(text)
 }
 

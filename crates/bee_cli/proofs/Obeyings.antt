@@ -3,7 +3,7 @@ use Rattle.std.proofs.Common.{◌≡◌, ℕ, List, Some, None, refl, sym, subst
 use Rattle.std.specs.Prelude.{Option, option_map}
 use Rattle.command_words.specs.declared.command.Command.{Command}
 use Rattle.command_words.specs.declared.command.Options.{Options as Words}
-use Rattle.command_words.specs.Request.{Request, Compile, Solve, Check, Decode, Queens, Sat, request_of}
+use Rattle.command_words.specs.Request.{Request, Compile, Solve, Check, Decode, Queens, Sat, Drup, request_of}
 use Rattle.command_words.specs.Line.{request}
 use Rattle.command_words.specs.Limits.{KeepsLimits}
 use Rattle.command_words.proofs.RequestLimits.{requests_keep_limits}
@@ -17,6 +17,7 @@ use Rattle.decode_mode.proofs.Ends as decoding
 use Rattle.queens_mode.specs.QueensMode.{QueensMode}
 use Rattle.queens_mode.proofs.Ends as placing
 use Rattle.sat_mode.proofs.Ends as searching
+use Rattle.drup_mode.proofs.Ends as proving
 use Rattle.model_texts.specs.declared.fault.ModelFault.{ModelFault}
 use Rattle.decode_minimize.specs.declared.options.Options.{Options}
 use Rattle.bee_cli.specs.Statuses.{model_fault, status_of}
@@ -33,6 +34,7 @@ unread (Some (Check input second)) seen same = (end.Memory, refl, checking.idle 
 unread (Some (Decode input second)) seen same = (end.Memory, refl, decoding.idle input second seen same)
 unread (Some (Queens size options)) seen same = (end.Memory, refl, placing.idle (search_options options) size seen same)
 unread (Some (Sat input options)) seen same = (end.Memory, refl, searching.idle (clause_options options) input seen same)
+unread (Some (Drup input second)) seen same = (end.Memory, refl, proving.idle input second seen same)
 
 -- queens are placed, by the options that the words say
 pub queens_obeyed : (words : Words) (options : Options) (size : ℕ) (ending : End ModelFault) (status : Status) (seen : Seen) → options ≡ search_options words → QueensMode options size ending seen → status ≡ status_of model_fault ending

@@ -1,7 +1,7 @@
 -- What a run promises, by what the words ask for.
 use Rattle.std.specs.Prelude.{◌≡◌, Bool, true, false, Option, Some}
 use Rattle.command_words.specs.declared.command.Options.{Options as Words}
-use Rattle.command_words.specs.Request.{Request, Compile, Solve, Check, Decode, Queens, Sat}
+use Rattle.command_words.specs.Request.{Request, Compile, Solve, Check, Decode, Queens, Sat, Drup}
 use Rattle.text_modes.specs.Seen.{Seen, Untouched}
 use Rattle.compile_mode.specs.CompileMode.{CompileMode}
 use Rattle.decode_minimize.specs.declared.options.Options.{Options}
@@ -11,6 +11,7 @@ use Rattle.decode_mode.specs.DecodeMode.{DecodeMode}
 use Rattle.queens_mode.specs.QueensMode.{QueensMode}
 use Rattle.sat_mode.specs.declared.options.SearchOptions.{SearchOptions}
 use Rattle.sat_mode.specs.SatMode.{SatMode}
+use Rattle.drup_mode.specs.DrupMode.{DrupMode}
 use Rattle.bee_cli.specs.Statuses.{model_fault, cnf_fault, clauses_fault, Ended}
 use Rattle.bee_cli.specs.declared.status.Status.{Status}
 
@@ -30,6 +31,7 @@ is_built (Some (Check input second)) = true
 is_built (Some (Decode input second)) = true
 is_built (Some (Queens size options)) = true
 is_built (Some (Sat input options)) = true
+is_built (Some (Drup input second)) = true
 is_built request = false
 
 -- a mode that is built has one record of clauses, over the end of the run, of which the status tells
@@ -40,4 +42,5 @@ Obeys (Some (Check input second)) status seen = Ended model_fault (λ end. Check
 Obeys (Some (Decode input second)) status seen = Ended cnf_fault (λ end. DecodeMode input second end seen) status
 Obeys (Some (Queens size options)) status seen = Ended model_fault (λ end. QueensMode (search_options options) size end seen) status
 Obeys (Some (Sat input options)) status seen = Ended clauses_fault (λ end. SatMode (clause_options options) input end seen) status
+Obeys (Some (Drup input second)) status seen = Ended clauses_fault (λ end. DrupMode input second end seen) status
 Obeys request status seen = Untouched seen

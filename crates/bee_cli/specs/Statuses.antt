@@ -6,8 +6,8 @@ use Rattle.text_modes.specs.declared.ends.End.{End}
 use Rattle.text_modes.specs.declared.ends.End.TheVariants as end
 use Rattle.model_texts.specs.declared.fault.ModelFault.{ModelFault}
 use Rattle.model_texts.specs.declared.fault.ModelFault.TheVariants.{TooLong, Cnf}
-use Rattle.sat_mode.specs.declared.fault.CnfTextFault.{CnfTextFault}
-use Rattle.sat_mode.specs.declared.fault.CnfTextFault.TheVariants as clauses
+use Rattle.sat_front.specs.declared.text_fault.CnfTextFault.{CnfTextFault}
+use Rattle.sat_front.specs.declared.text_fault.CnfTextFault.TheVariants as clauses
 use Rattle.bee_cli.specs.declared.status.Status.{Status}
 use Rattle.bee_cli.specs.declared.status.Status.TheVariants.{Done, Refused, Model, Read, Write, Memory, Unknown}
 

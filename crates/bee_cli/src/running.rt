@@ -14,6 +14,7 @@ use check_mode::check;
 use command_words::{Command, Options, read_command};
 use compile_mode::compile;
 use decode_mode::decode;
+use drup_mode::drup;
 use queens_mode::queens;
 use sat_mode::{SearchOptions, sat};
 use solve_mode::solve;
@@ -65,6 +66,7 @@ fn obey<S: Shelf, O: Sink>(
         Command::Sat { input, options } => {
             clauses_status(sat(alloc, input, clause_options(*options), shelf, out))
         }
+        Command::Drup { input, second } => clauses_status(drup(alloc, input, second, shelf, out)),
     }
 }
 

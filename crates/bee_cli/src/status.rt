@@ -4,7 +4,7 @@ ghost use Rattle.std.specs.Prelude.{◌≡◌, ◌≢◌};
 ghost use Rattle.bee_cli.specs.Statuses.{status_of, outcome_status, model_fault, cnf_fault, clauses_fault};
 
 use model_texts::ModelFault;
-use sat_mode::CnfTextFault;
+use sat_front::CnfTextFault;
 use text_modes::{End, Outcome};
 
 /// How a run ends.

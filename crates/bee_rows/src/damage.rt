@@ -16,7 +16,7 @@ struct Row {
 }
 
 /// A run of each mode.
-static RUNS: [Row; 5] = [
+static RUNS: [Row; 6] = [
     Row {
         words: &["bee", "compile", "m.bee"],
         files: &[(
@@ -59,6 +59,14 @@ static RUNS: [Row; 5] = [
         words: &["bee", "queens", "4"],
         files: &[],
         step: 64,
+    },
+    Row {
+        words: &["bee", "drup", "m.cnf", "m.drup"],
+        files: &[
+            ("m.cnf", "p cnf 2 4\n1 2 0\n1 -2 0\n-1 2 0\n-1 -2 0\n"),
+            ("m.drup", "d 1 2 0\n1 0\n0\n"),
+        ],
+        step: 4,
     },
 ];
 

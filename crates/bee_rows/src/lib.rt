@@ -15,6 +15,8 @@ mod decode;
 #[cfg(test)]
 mod design_examples;
 #[cfg(test)]
+mod drup;
+#[cfg(test)]
 mod example_rows;
 #[cfg(test)]
 mod examples;

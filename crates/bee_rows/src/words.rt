@@ -21,13 +21,16 @@ fn mode_of<'a>(command: &Command<'a>) -> (&'static str, &'a str) {
         Command::Decode { input, .. } => ("decode", input),
         Command::Queens { .. } => ("queens", ""),
         Command::Sat { input, .. } => ("sat", input),
+        Command::Drup { input, .. } => ("drup", input),
     }
 }
 
 /// The second name of a command.
 fn second_of<'a>(command: &Command<'a>) -> Option<&'a str> {
     match *command {
-        Command::Check { second, .. } | Command::Decode { second, .. } => Some(second),
+        Command::Check { second, .. }
+        | Command::Decode { second, .. }
+        | Command::Drup { second, .. } => Some(second),
         _ => None,
     }
 }
@@ -81,6 +84,13 @@ fn commands_of_words(rt: HostRuntime) {
             "m.cnf",
             Some("values"),
         ),
+        ("bee drup m.cnf m.drup", "drup", "m.cnf", Some("m.drup")),
+        (
+            "bee --budget 1 drup m.cnf --no-restart m.cnf",
+            "drup",
+            "m.cnf",
+            Some("m.cnf"),
+        ),
     ] {
         let words = words_of(rt.alloc(), line).expect(&rt, "memory");
         let command = read_command(rt.alloc(), words.as_slice()).expect(&rt, "memory");
@@ -126,6 +136,11 @@ fn words_that_give_no_command(rt: HostRuntime) {
         "bee sat m.cnf n.cnf",
         "bee sat m.cnf --budget 0",
         "bee SAT m.cnf",
+        "bee drup",
+        "bee drup m.cnf",
+        "bee drup m.cnf m.drup n.drup",
+        "bee drup m.cnf m.drup --budget 0",
+        "bee drat m.cnf m.drup",
         "bee compile m.bee n.bee",
         "bee compile m.bee n.bee o.bee",
         "bee queens 3",

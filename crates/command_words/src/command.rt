@@ -53,4 +53,11 @@ pub enum Command<'a> {
         /// How.
         options: Options,
     },
+    /// A proof that no values satisfy a CNF is checked.
+    Drup {
+        /// The name of the CNF's text.
+        input: &'a str,
+        /// The name of the proof's text.
+        second: &'a str,
+    },
 }

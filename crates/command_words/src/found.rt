@@ -82,6 +82,9 @@ pub fn found_command<'a>(matches: &ArgMatches<'a>) -> Option<Command<'a>>
     } else if is_word("sat", mode) {
         let input = lone_input(matches)?;
         Some(Command::Sat { input, options })
+    } else if is_word("drup", mode) {
+        let (input, second) = both_inputs(matches)?;
+        Some(Command::Drup { input, second })
     } else {
         None
     }

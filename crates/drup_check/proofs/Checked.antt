@@ -1,38 +1,19 @@
 -- A proof that is read up to a line, with the clauses so far.
-use Rattle.std.proofs.Common.{◌≡◌, ℕ, ◌+◌, ◌≤◌, Bool, true, false, List, [], ◌∷◌, ◌++◌, length, refl, sym, ap, subst, ◌∙◌, arith, append_assoc, length-append}
+use Rattle.std.proofs.Common.{◌≡◌, ℕ, ◌+◌, Bool, true, false, List, [], ◌∷◌, ◌++◌, refl, sym, ap, subst, ◌∙◌}
 use Rattle.std.specs.Prelude.{MatchBool}
-use Rattle.std.proofs.lemmas.Bool.{and_from, false≢true}
+use Rattle.std.proofs.lemmas.Bool.{false≢true}
 use Rattle.std.proofs.lemmas.List.{append-nil}
-use Rattle.bee_text.specs.Lines.{lacks, IsLine, AreLines, join_lines, lines_of, unfinished}
-use Rattle.bee_text.proofs.LineLemmas.{lines_of-cut, unfinished-join_lines}
+use Rattle.bee_text.specs.Lines.{IsLine, join_lines, lines_of}
+use Rattle.bee_text.proofs.LineLemmas.{lines_of-cut}
 use Rattle.order_ints.specs.declared.literal.Lit.{Lit}
 use Rattle.order_ints.specs.declared.cnf.Cnf.{Cnf}
 use Rattle.clause_rings.specs.Clauses.{ClauseLists}
-use Rattle.line_texts.proofs.ReadTo.{ReadTo, nothing_read, line_read, line_fails, end_fails, lines_behind}
+use Rattle.line_texts.proofs.ReadTo.{ReadTo, nothing_read, line_read, line_fails, end_fails}
 use Rattle.line_texts.proofs.Fronts.{misfit_first, missing_first}
-use Rattle.sat_front.specs.Closed.{closing, closed}
+use Rattle.sat_front.specs.Closed.{closed}
 use Rattle.drup_check.specs.Stored.{StandsAs}
 use Rattle.drup_check.specs.DrupLines.{NextClauses, ShowEmpty, IsDrup, DrupFails}
 use Rattle.drup_check.specs.Taken.{GoesOn, Misfits}
-
--- texts whose last line is closed
-
-one_line : (line : List ℕ) → IsLine line → AreLines (line ∷ [])
-one_line line is = and_from (lacks 10 line) true is refl
-
-pub closed_line : (text line rest : List ℕ) → IsLine line → text ≡ line ++ 10 ∷ rest → closed text ≡ line ++ 10 ∷ closed rest
-closed_line text line rest is cut =
-    let end : unfinished text ≡ unfinished rest =
-    (lines_behind text rest (line ∷ []) (one_line line is) (cut ∙ sym (append_assoc line (10 ∷ []) rest))).end in
-    ap (λ u. text ++ closing u) end ∙ ap (λ t. t ++ closing (unfinished rest)) cut ∙ append_assoc line (10 ∷ rest) (closing (unfinished rest))
-
-pub closed_last : (text : List ℕ) → IsLine text → (text ≡ [] → ⊥) → closed text ≡ text ++ 10 ∷ closed []
-closed_last [] is some = absurd (some refl)
-closed_last (b ∷ bs) is some = ap (λ u. (b ∷ bs) ++ closing u) (unfinished-join_lines [] (b ∷ bs) is)
-
-closing_short : (bs : List ℕ) → length (closing bs) ≤ 1
-closing_short [] = omega arith
-closing_short (b ∷ bs) = omega arith
 
 -- so many lines are read, the rest is left, and the store stands for the clauses so far
 pub record Checked (cnf : Cnf) (text rest : List ℕ) (read : ℕ) (refuted : Bool) (s : ClauseLists) : Type 0 where
@@ -45,9 +26,6 @@ pub checked_none : (cnf : Cnf) (text : List ℕ) (refuted : Bool) (s : ClauseLis
 checked_none cnf text refuted s st vars = record { clauses = cnf.clauses; lead = nothing_read (NextClauses cnf.vars) cnf.clauses (closed text); stands = st; vars = vars }
 
 module _ (cnf : Cnf) (text rest : List ℕ) (read : ℕ) (refuted : Bool) (s : ClauseLists) (h : Checked cnf text rest read refuted s) where
-  pub few_lines : read ≤ length text + 1
-  few_lines = omega (arith, h.lead.most, length-append text (closing (unfinished text)), closing_short (unfinished text))
-
   -- nothing is left
   pub is_whole : closed rest ≡ [] → ((cs : List (List Lit)) → StandsAs refuted s cs → ShowEmpty cs) → IsDrup cnf text
   is_whole none empty = (

@@ -8,9 +8,9 @@ ghost use Rattle.drup_check.specs.Taken.{DrupFaultOf, IsRefusalAt};
 ghost use Rattle.drup_check.specs.declared.fault.DrupFault.TheVariants.{Memory};
 
 use crate::fault::DrupFault;
-use crate::lines::cut_line;
 use crate::store::ProofStore;
 use order_ints::Cnf;
+use sat_front::cut_line;
 use std::alloc::{AllocError, Global};
 
 /// The first line of a text that fails, none where the text is a proof from a CNF.

@@ -1,27 +1,16 @@
 //! Clauses that are added to a store.
 
-ghost use Rattle.std.specs.Prelude.{◌≡◌, ◌+◌, ◌++◌, ◌∷◌, [], List, Contains, IfOk, map};
+ghost use Rattle.std.specs.Prelude.{◌≡◌, ◌+◌, ◌++◌, ◌∷◌, [], List, Contains, IfOk};
 ghost use Rattle.order_ints.specs.declared.literal.Lit.{Lit};
-ghost use Rattle.order_ints.specs.declared.atom.Atom.TheVariants.{Of};
 ghost use Rattle.order_ints.specs.Place.{LitBelow};
 ghost use Rattle.clause_rings.specs.Clauses.{IsApart};
 ghost use Rattle.drup_check.specs.Stored.{Holds, SameSet, IsOrderedAs, Stands, StandsAs};
 
 use bee_list::Sequence;
 use clause_rings::ClauseDb;
-use order_ints::{Atom, Lit, ordered_clause};
+use order_ints::{Lit, ordered_clause};
+use sat_front::atoms_of;
 use std::alloc::{AllocError, Global};
-
-/// The atoms of literals.
-fn atoms_of(alloc: Global, literals: &[Lit]) -> Result<Vec<Atom>, AllocError>
-    ensures { IfOk result (λ atoms. atoms.items ≡ map Of literals.now) }
-{
-    let mut atoms = Vec::with_capacity(alloc, literals.len())?;
-    for literal in literals {
-        atoms.push(Atom::Of(*literal))?;
-    }
-    Ok(atoms)
-}
 
 /// A clause with each literal once; none where it has a literal and its negation.
 fn ordered(alloc: Global, lits: &[Lit]) -> Result<Option<Sequence<Lit>>, AllocError>

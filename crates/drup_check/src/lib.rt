@@ -5,7 +5,6 @@ mod check;
 mod fault;
 mod keeping;
 mod laws;
-mod lines;
 mod shown;
 mod store;
 mod words;

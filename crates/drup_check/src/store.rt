@@ -12,10 +12,11 @@ ghost use Rattle.drup_check.specs.Taken.{SaysOn, GoesOn, Misfits};
 
 use crate::keeping::keep;
 use crate::shown::is_shown;
-use crate::words::{is, read_clause};
+use crate::words::read_clause;
 use bee_text::next_word;
 use clause_rings::ClauseDb;
 use order_ints::{Cnf, Lit};
+use sat_front::is_word;
 use std::alloc::{AllocError, Global};
 
 /// Clauses that a proof has so far. Once they show the empty one, no more are stored.
@@ -82,7 +83,7 @@ impl ProofStore {
         ensures vars { IfOk result (λ _. self.new.db.trail.vars ≡ self.old.db.trail.vars) }
     {
         let vars = self.db.vars();
-        if is(first, b"d") {
+        if is_word(first, b"d") {
             return Ok(read_clause(alloc, vars, behind)?.is_some());
         }
         match read_clause(alloc, vars, line)? {
@@ -103,7 +104,7 @@ impl ProofStore {
         match next_word(line) {
             None => Ok(true),
             Some((first, behind)) => {
-                if is(first, b"c") {
+                if is_word(first, b"c") {
                     Ok(true)
                 } else {
                     self.take_said(alloc, line, first, behind)

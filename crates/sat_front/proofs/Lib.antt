@@ -1,5 +1,6 @@
-mod Closing
+pub mod Closing
 mod Lists
 mod DraftSame
 pub mod Exact
 pub mod Reading
+pub mod TextFaults

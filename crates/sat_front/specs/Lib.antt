@@ -1,4 +1,5 @@
 pub mod Closed
 pub mod CnfLines
 pub mod Faults
+pub mod HeldCnfs
 pub mod ReadLaws

@@ -9,23 +9,13 @@ ghost use Rattle.sat_front.specs.Faults.{CnfFaultOf, IsReadAs, FailsAt};
 
 use crate::draft::CnfDraft;
 use crate::fault::CnfFault;
+use crate::literals::atoms_of;
 use crate::open_lines::read_open_lines;
 use bee_list::Sequence;
 use clause_order::OrderedClauses;
 use line_texts::TextEnd;
-use order_ints::{Atom, Cnf, Lit};
+use order_ints::{Cnf, Lit};
 use std::alloc::{AllocError, Global};
-
-/// The atoms of literals.
-fn atoms_of(alloc: Global, literals: &[Lit]) -> Result<Vec<Atom>, AllocError>
-    ensures { IfOk result (λ atoms. atoms.items ≡ map Of literals.now) }
-{
-    let mut atoms = Vec::with_capacity(alloc, literals.len())?;
-    for literal in literals {
-        atoms.push(Atom::Of(*literal))?;
-    }
-    Ok(atoms)
-}
 
 /// The clauses, each put in order.
 fn ordered(alloc: Global, clauses: Vec<Sequence<Lit>>) -> Result<OrderedClauses, AllocError>

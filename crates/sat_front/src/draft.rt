@@ -4,7 +4,8 @@ ghost use Rattle.std.specs.Prelude.{◌≡◌, ◌≤◌, ◌↔◌, ◌∷◌, 
 ghost use Rattle.bee_text.specs.Gaps.{words_of};
 ghost use Rattle.sat_front.specs.CnfLines.{Listed, nothing_listed, with_literal, with_end, Lists, Draft, nothing_read, Says, IsComplete, NextLine};
 
-use crate::words::{is, literal_within, read_header};
+use crate::literals::literal_within;
+use crate::words::{is_word, read_header};
 use bee_list::Sequence;
 use bee_text::next_word;
 use line_texts::{LineTaken, LineTaker};
@@ -72,7 +73,7 @@ impl ListedClauses {
     {
         let mut rest = text;
         while let Some((word, behind)) = next_word(rest) {
-            if is(word, b"0") {
+            if is_word(word, b"0") {
                 self.end()?;
             } else {
                 let Some(literal) = literal_within(word, vars) else {
@@ -148,7 +149,7 @@ impl CnfDraft {
             (λ taken. MatchBool taken (Says self.old (words_of line.now) self.new)
             ((t : Draft) → Says self.old (words_of line.now) t → ⊥)) }
     {
-        if is(first, b"%") {
+        if is_word(first, b"%") {
             self.ended = true;
             return Ok(true);
         }
@@ -176,7 +177,7 @@ impl CnfDraft {
         match next_word(line) {
             None => Ok(true),
             Some((first, behind)) => {
-                if is(first, b"c") {
+                if is_word(first, b"c") {
                     Ok(true)
                 } else {
                     let taken = self.take_said(line, first, behind)?;

@@ -1,5 +1,5 @@
--- What the mode writes for a text, and which fault a text has.
-use Rattle.std.specs.Prelude.{◌≡◌, ◌⊎◌, ℕ, ◌<◌, ◌≤◌, Bool, true, List, [], length, IsTrue}
+-- What the mode writes for a text.
+use Rattle.std.specs.Prelude.{◌≡◌, ◌⊎◌, ℕ, ◌<◌, Bool, true, List, [], length, IsTrue}
 use Rattle.order_ints.specs.declared.literal.Lit.{Lit}
 use Rattle.order_ints.specs.declared.cnf.Cnf.{Cnf}
 use Rattle.order_ints.specs.Truth.{Valuation, valuation_of}
@@ -11,15 +11,9 @@ use Rattle.learning_solver.specs.Log.{additions, proof_behind, IsFreshLog}
 use Rattle.learning_solver.specs.Outcome.{most_learned}
 use Rattle.text_modes.specs.declared.ends.Outcome.{Outcome}
 use Rattle.text_modes.specs.declared.ends.Outcome.TheVariants.{Done, Refused, Unknown}
-use Rattle.sat_front.specs.CnfLines.{IsCnfText, CnfFails}
+use Rattle.sat_front.specs.HeldCnfs.{HoldsCnf}
 use Rattle.sat_mode.specs.declared.options.SearchOptions.{SearchOptions}
-use Rattle.sat_mode.specs.declared.fault.CnfTextFault.{CnfTextFault}
-use Rattle.sat_mode.specs.declared.fault.CnfTextFault.TheVariants.{TooLong, Form}
 use Rattle.sat_mode.specs.Texts.{values_text, refutation_text, unknown_text}
-
--- the greatest number of bytes of a text
-abbrev pub longest_text : ℕ
-longest_text = 16777216
 
 -- the written text tells a value for each variable, under which each listed clause is true
 pub record TellsValues (vars : ℕ) (clauses : List (List Lit)) (written : List ℕ) : Type 0 where
@@ -57,22 +51,8 @@ Tells options cnf clauses Done written = TellsValues cnf.vars clauses written �
 Tells options cnf clauses (Unknown count) written = TellsUnknown options cnf count written
 Tells options cnf clauses (Refused line) written = ⊥
 
--- the text is within the limit and lists clauses, whose CNF in order this is
-pub record HoldsCnf (text : List ℕ) (cnf : Cnf) : Type 0 where
-  pub within : length text ≤ longest_text
-  pub is : IsCnfText text cnf
-
 -- what is written for a text
 pub record IsSolved (options : SearchOptions) (text : List ℕ) (outcome : Outcome) (written : List ℕ) : Type 0 where
   pub cnf : Cnf
   pub held : HoldsCnf text cnf
   pub tells : Tells options cnf held.is.draft.listed.clauses outcome written
-
--- a text lists clauses within the limit
-abbrev pub HasCnf : List ℕ → Type 0
-HasCnf text = (cnf : Cnf) × HoldsCnf text cnf
-
--- the fault of a text: it is too long, or else this line is the first that doesn't fit
-abbrev pub HasFault : List ℕ → CnfTextFault → Type 0
-HasFault text TooLong = longest_text < length text
-HasFault text (Form line) = (length text ≤ longest_text) × CnfFails text line

@@ -5,9 +5,10 @@ use Rattle.text_modes.specs.Ends.{IsFaultEnd}
 use Rattle.text_modes.specs.Promises.{ToldUnder, ReadFailed, Answers, Finishes}
 use Rattle.text_modes.specs.OneText.{OneTextRun}
 use Rattle.text_modes.specs.declared.ends.End.{End}
+use Rattle.sat_front.specs.declared.text_fault.CnfTextFault.{CnfTextFault}
+use Rattle.sat_front.specs.HeldCnfs.{longest_text, HasCnf, HasFault}
 use Rattle.sat_mode.specs.declared.options.SearchOptions.{SearchOptions}
-use Rattle.sat_mode.specs.declared.fault.CnfTextFault.{CnfTextFault}
-use Rattle.sat_mode.specs.Found.{longest_text, IsSolved, HasCnf, HasFault}
+use Rattle.sat_mode.specs.Found.{IsSolved}
 
 -- A run in sat mode, with how the clauses are searched and the name of the text, of which one byte more than the limit is read at most.
 -- What is written for it tells what was found of its clauses (`IsSolved`), and its fault is the first that it has. A text that lists

@@ -4,14 +4,14 @@ ghost use Rattle.std.specs.Prelude.{◌≤◌, length, IfOk};
 ghost use Rattle.order_ints.specs.Place.{InRange};
 ghost use Rattle.order_ints.specs.OrderedClauses.{ClausesAscend};
 ghost use Rattle.text_modes.specs.Ends.{IsMade};
-ghost use Rattle.sat_mode.specs.Found.{longest_text, Tells, IsSolved, HasFault};
+ghost use Rattle.sat_front.specs.HeldCnfs.{longest_text, HasFault};
+ghost use Rattle.sat_mode.specs.Found.{Tells, IsSolved};
 
-use crate::fault::CnfTextFault;
 use crate::options::SearchOptions;
 use crate::writing::{write_refutation, write_unknown, write_values};
 use learning_solver::{Found, Solver};
 use order_ints::Cnf;
-use sat_front::{CnfFault, read_cnf};
+use sat_front::{CnfFault, CnfTextFault, read_cnf};
 use std::alloc::{AllocError, Global};
 use text_modes::{Made, Outcome};
 

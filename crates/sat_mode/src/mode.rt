@@ -3,15 +3,12 @@
 ghost use Rattle.text_modes.specs.Seen.{seen, shelf_shown, sink_shown};
 ghost use Rattle.sat_mode.specs.SatMode.{SatMode};
 
-use crate::fault::CnfTextFault;
 use crate::making::solve_text;
 use crate::options::SearchOptions;
 use bee_outside::{Shelf, Sink};
+use sat_front::{CnfTextFault, LONGEST_TEXT};
 use std::alloc::{AllocError, Global};
 use text_modes::{End, Made, OneText, run_one};
-
-/// The greatest number of bytes of a text.
-const LONGEST_TEXT: usize = 16_777_216;
 
 /// A CNF's text is read, and what was found of it is written.
 #[derive(Drop)]
@@ -21,7 +18,8 @@ struct Searching {
 
 impl OneText for Searching {
     ghost use Rattle.std.specs.Prelude.{◌+◌, Some};
-    ghost use Rattle.sat_mode.specs.Found.{longest_text, IsSolved, HasFault};
+    ghost use Rattle.sat_front.specs.HeldCnfs.{longest_text, HasFault};
+    ghost use Rattle.sat_mode.specs.Found.{IsSolved};
 
     type Fault = CnfTextFault;
 
@@ -39,7 +37,7 @@ impl OneText for Searching {
         CnfTextFault::TooLong
     }
 
-    #[tactic(auto, using(crate::proofs::Ends::within_limit))]
+    #[tactic(auto, using(sat_front::proofs::TextFaults::within_limit))]
     fn make(&self, alloc: Global, text: &[u8]) -> Result<Made<CnfTextFault>, AllocError> {
         solve_text(alloc, text, self.options)
     }

@@ -1,8 +1,8 @@
--- What each end of a run over two texts says decides which end told texts have.
+-- What each end of a run over two texts says decides which end told texts have, and that they end in a text where the first is fit.
 use Rattle.std.proofs.Common.{◌≡◌, ◌≢◌, ◌⊎◌, ℕ, List, [], Option, Some, None, refl, sym, ap, subst, ◌∙◌, inl, inr}
 use Rattle.text_modes.specs.Seen.{ShelfShown, Seen}
 use Rattle.text_modes.specs.Ends.{IsFaultEnd}
-use Rattle.text_modes.specs.Promises.{ReadWhole, ReadWithin, ToldUnder, ReadFailed, ReadFaulty, Answers}
+use Rattle.text_modes.specs.Promises.{ReadWhole, ReadWithin, ToldUnder, ReadFailed, ReadFaulty, Answers, Finishes}
 use Rattle.text_modes.specs.TwoTexts.{Texts, ReadBoth, ToldBoth, EitherFailed, Says}
 use Rattle.text_modes.specs.declared.ends.Outcome.{Outcome}
 use Rattle.text_modes.specs.declared.ends.End.{End}
@@ -94,3 +94,14 @@ module _ {F : Type 0} (limit : Option ℕ) (IsFit : List ℕ → Type 0) (Gives 
         met (ToldBoth input second seen) HaveEnd (EitherFailed input second seen) Write seen one
         (λ told h. (Wrote s.0.gives.0, told_end s.0.texts told s.0.gives.0 s.0.written h s.0.read s.0.gives.1, inr (λ quiet. quiet, s.1)))
     answers Memory s = wanting (ToldBoth input second seen) HaveEnd (EitherFailed input second seen) seen
+
+  -- told texts of which the first is fit end by a text
+  pub finishes : (between : ShelfShown) (end : End F) → Says limit IsFit Gives HasFault input second between end seen
+      → Finishes (ToldBoth input second seen) (λ texts. IsFit texts.first) (EitherFailed input second seen) end seen
+  finishes between (Wrote outcome) s = record { complete = λ texts told is read write. inl (outcome, refl) }
+  finishes between (Fault fault) s =
+      record { complete = λ texts told is read write. absurd (fit_or_fault texts.first fault is (told_fault between texts.first fault told.first_told s.faulty)) }
+  finishes between Read (inl s) = record { complete = λ texts told is read write. absurd (read (inl s)) }
+  finishes between Read (inr s) = record { complete = λ texts told is read write. absurd (read (inr s.failed)) }
+  finishes between Write s = record { complete = λ texts told is read write. absurd (write s.1) }
+  finishes between Memory s = record { complete = λ texts told is read write. inr refl }

@@ -15,6 +15,6 @@ returns-in-Some-clause-taken c =
     IfOk-weaker c.take_clause.result _ _
     (λ taken h.
     said-taken c.args.self.now.db.trail.vars c.vars-vars.result (words_of c.args.line.now) c.in-Some.lits.items c.as_slice.result.now c.vars-vars.ensures.count c.as_slice.ensures.value
-    (rw c.in-Some.is at c.in_ok-lits.ensures) c.requires.few c.args.first.now (words_of c.args.behind.now) c.requires.words (λ e. true≢false (sym (c.is.ensures.1 e) ∙ c.if-is.false))
+    (rw c.in-Some.is at c.in_ok-lits.ensures) c.requires.few c.args.first.now (words_of c.args.behind.now) c.requires.words (λ e. true≢false (sym (c.is_word.ensures.1 e) ∙ c.if-is_word.false))
     c.args.self.now.refuted c.args.self.now.db c.take_clause.new.self.refuted c.take_clause.new.self.db taken h)
     c.take_clause.ensures.taken

@@ -1,4 +1,7 @@
-//! The fault of a text.
+//! The fault of a whole text.
+
+/// The greatest number of bytes of a text.
+pub const LONGEST_TEXT: usize = 16_777_216;
 
 /// Why no CNF is read from a text.
 #[derive(Clone, Copy, Debug, PartialEq, Eq)]

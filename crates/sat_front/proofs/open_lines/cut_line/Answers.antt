@@ -1,8 +1,8 @@
 use Rattle.std.proofs.Common.{◌≡◌, ℕ, ◌==◌, List, ◌∷◌, ◌++◌, length, sym, ap, subst, ◌∙◌}
 use Rattle.std.proofs.lemmas.Bool.{true≢false}
 use Rattle.bee_text.specs.Lines.{IsLine}
-use Rattle.drup_check.proofs.Checked.{closed_line, closed_last}
-use Rattle.drup_check.proofs.lines.cut_line.Goals as goal
+use Rattle.sat_front.proofs.Closing.{closed_line, closed_last}
+use Rattle.sat_front.proofs.open_lines.cut_line.Goals as goal
 
 pub returns-in-Some : goal.returns-in-Some
 returns-in-Some c =

@@ -3,6 +3,7 @@
 use crate::plain::{Known, clause, follow, has_clauses, has_trail, is_complete, open};
 use crate::stores::{add, back, delete, id_of, propagate};
 use crate::words::{literal, literals};
+use clause_arena::Literals;
 use clause_rings::ClauseDb;
 use literal_trail::Entry;
 use order_ints::Lit;
@@ -33,23 +34,32 @@ pub(super) struct Bench {
     level: u32,
 }
 
+/// The literals of a clause, as a list that is owned.
+fn owned(alloc: Global, lent: Literals<'_>) -> Result<Vec<Lit>, AllocError> {
+    let mut lits = Vec::new(alloc);
+    for l in lent {
+        lits.push(l)?;
+    }
+    Ok(lits)
+}
+
+/// The clauses of a store.
+fn known_of(alloc: Global, db: &ClauseDb) -> Result<Vec<Known>, AllocError> {
+    let mut known = Vec::new(alloc);
+    for at in 0..db.references() {
+        if db.is_live(at) {
+            let lits = owned(alloc, db.lits(at))?;
+            let id = db.id(at);
+            known.push(Known { at, id, lits })?;
+        }
+    }
+    Ok(known)
+}
+
 impl Bench {
     /// Beside a store in which nothing was done yet.
     pub(super) fn of(alloc: Global, db: ClauseDb) -> Result<Bench, AllocError> {
-        let mut known = Vec::new(alloc);
-        for at in 0..db.references() {
-            if db.is_live(at) {
-                let mut lits = Vec::new(alloc);
-                for l in db.lits(at) {
-                    lits.push(l)?;
-                }
-                known.push(Known {
-                    at,
-                    id: db.id(at),
-                    lits,
-                })?;
-            }
-        }
+        let known = known_of(alloc, &db)?;
         Ok(Bench {
             db,
             known,

@@ -179,22 +179,43 @@ fn add_many(db: &mut ClauseDb, ids: std::ops::Range<u64>) -> Result<bool, AllocE
     Ok(true)
 }
 
+/// Clauses come, and none is false then.
+fn come(db: &mut ClauseDb, ids: std::ops::Range<u64>) -> Result<(), Fail> {
+    if !add_many(db, ids)? {
+        return Err(Fail::new("a clause may not come"));
+    }
+    if db.propagate().is_some() {
+        return Err(Fail::new("a clause is false"));
+    }
+    Ok(())
+}
+
+/// The clauses of even ids go.
+fn delete_half(db: &mut ClauseDb) {
+    for c in 0..db.references() {
+        if id_of(db, Some(c)) % 2 == 0 {
+            let _went = delete(db, c);
+        }
+    }
+}
+
+/// Many clauses come, half of them go, and half as many come. The answer is the references before and after, and the room in between.
+fn references_and_room(db: &mut ClauseDb) -> Result<(u32, u32, u32), Fail> {
+    come(db, 1..MANY + 1)?;
+    let before = db.references();
+    delete_half(db);
+    let room = db.spare_clauses();
+    come(db, MANY + 1..MANY + 1 + MANY / 2)?;
+    Ok((before, db.references(), room))
+}
+
 // Where half of the clauses go, as many come under the same references.
 #[test]
 fn deleted_clauses_give_room(rt: HostRuntime) -> Result<(), Fail> {
     let cnf = cnf(rt.alloc(), 1_002, &[])?;
     let mut db = ClauseDb::with(rt.alloc(), &cnf)?;
-    assert!(rt; add_many(&mut db, 1..MANY + 1)?);
-    assert_eq!(rt; db.propagate(), None);
-    let references = db.references();
-    for c in 0..references {
-        if id_of(&db, Some(c)) % 2 == 0 {
-            let _went = delete(&mut db, c);
-        }
-    }
-    assert!(rt; u64::from(db.spare_clauses()) >= MANY / 2);
-    assert!(rt; add_many(&mut db, MANY + 1..MANY + 1 + MANY / 2)?);
-    assert_eq!(rt; db.references(), references);
-    assert_eq!(rt; db.propagate(), None);
+    let (before, after, room) = references_and_room(&mut db)?;
+    assert!(rt; u64::from(room) >= MANY / 2);
+    assert_eq!(rt; after, before);
     Ok(())
 }

@@ -1,6 +1,7 @@
 //! Searches over CNFs in no order, beside the trying of all valuations.
 
 ghost use Rattle.std.specs.Prelude.{◌≤◌, ◌^◌, ◌+◌};
+ghost use Rattle.std.specs.Option.{ForSome};
 ghost use Rattle.order_ints.specs.Place.{InRange, LitBelow};
 ghost use Rattle.clause_rings.specs.Clauses.{AreApartIn};
 
@@ -25,30 +26,20 @@ fn is_model(clauses: &[Vec<i32>], values: u32, assumption: i32) -> bool {
             .all(|clause| clause.iter().any(|number| holds(*number)))
 }
 
-/// What a new solver finds.
-fn found_alone(alloc: Global, cnf: &Cnf, restart: bool) -> Result<Found, AllocError>
-    requires vars { cnf.now.vars ≤ 2 ^ 27 }
-    requires in_range { InRange cnf.now }
-    requires apart { AreApartIn cnf.now }
-{
-    let mut solver = Solver::with(alloc, cnf)?;
-    solver.solve(None, u64::MAX, restart)
-}
-
-/// What a new solver finds under an assumption.
-fn found_under(
+/// What a new solver finds, under an assumption where one is given.
+fn found(
     alloc: Global,
     cnf: &Cnf,
-    assumption: Lit,
+    assumption: Option<Lit>,
     restart: bool,
 ) -> Result<Found, AllocError>
     requires vars { cnf.now.vars ≤ 2 ^ 27 }
     requires in_range { InRange cnf.now }
     requires apart { AreApartIn cnf.now }
-    requires below { LitBelow (cnf.now.vars + 1) assumption }
+    requires below { ForSome assumption (LitBelow (cnf.now.vars + 1)) }
 {
     let mut solver = Solver::with(alloc, cnf)?;
-    solver.solve(Some(assumption), u64::MAX, restart)
+    solver.solve(assumption, u64::MAX, restart)
 }
 
 /// Whether a new solver finds values, under an assumption where its number is not 0.
@@ -63,12 +54,12 @@ fn answered(
     requires apart { AreApartIn cnf.now }
 {
     let assumption = literal(number);
-    let found = if assumption.var < 1 || cnf.vars < assumption.var {
-        found_alone(alloc, cnf, restart)?
+    let asked = if assumption.var < 1 || cnf.vars < assumption.var {
+        None
     } else {
-        found_under(alloc, cnf, assumption, restart)?
+        Some(assumption)
     };
-    match found {
+    match found(alloc, cnf, asked, restart)? {
         Found::Sat(_) => Ok(Some(true)),
         Found::Refuted(_) => Ok(Some(false)),
         Found::Spent => Ok(None),

@@ -1,0 +1,96 @@
+#!/usr/bin/env python3
+"""Proves the libraries of `bee` side by side, and then builds the program and places eight queens, as `rt run` does.
+
+It calls the toolchain's own `rt`, and differs from `rt run` in two ways. Libraries that do not use one another are proved at the same time, as `rt ci`
+proves them: one a processor, as many as memory holds, the longest chain first (the variable RT_JOBS gives another number). And the sum that `rt` keeps of
+what a library is made from, itself and all below it, reads each crate once; `rt` reads a crate once for each path that leads to it.
+"""
+import copy
+import importlib.machinery
+import importlib.util
+import os
+import shutil
+import sys
+import tempfile
+import threading
+
+sys.dont_write_bytecode = True
+TOP = os.path.dirname(os.path.realpath(__file__))
+ARGUMENTS = ["queens", "8"]
+
+
+def load(path):
+    """The command `rt` as a module."""
+    loader = importlib.machinery.SourceFileLoader("rt", path)
+    made = importlib.util.module_from_spec(importlib.util.spec_from_loader("rt", loader))
+    sys.modules["rt"] = made
+    loader.exec_module(made)
+    return made
+
+
+def read_once(plain):
+    """The sum of a crate, for which each crate below is read once: the value is that of the plain sum."""
+    looked = threading.local()
+
+    def stamp(crate):
+        sums = getattr(looked, "sums", None)
+        if sums is None:
+            looked.sums = {}
+            try:
+                return plain(crate)
+            finally:
+                looked.sums = None
+        if crate.folder not in sums:
+            sums[crate.folder] = plain(crate)
+        return sums[crate.folder]
+
+    return stamp
+
+
+def build_library(crate, given, jobs):
+    """Proves a library, unless one below it failed, and prints what its proof said. The answer is whether it is proved."""
+    if not all(given[it.name, "proof"] for it in crate.below()):
+        return False
+    crate = copy.copy(crate)
+    with tempfile.TemporaryFile("w+", errors="replace") as crate.out:
+        status = crate.build_rlib(["--jobs", str(jobs)], anew=False)
+        crate.out.seek(0)
+        print(f"== {crate.name}\n{crate.out.read()}", end="", flush=True)
+    return not status
+
+
+def build_libraries(rt):
+    """Proves the libraries that are not built yet. The answer is whether all are proved."""
+    bee = rt.rtlib.Crate(os.getcwd(), TOP, {})
+    libraries = bee.below()
+    held = rt.rtlib.lock([*libraries, bee])
+    for it in libraries:
+        rt.rtlib.stop_on_links(it.folder)
+    tasks = {}
+    for it in libraries:
+        waits = [(below.name, "proof") for below in it.below()]
+        call = lambda given, jobs, crate=it: build_library(crate, given, jobs)
+        tasks[it.name, "proof"] = (waits, it.count(rb"\n"), rt.need(it), call)
+    given = rt.in_lanes(tasks)
+    for it in held:
+        os.close(it)
+    return all(given.values())
+
+
+def main():
+    path = shutil.which("rt")
+    if path is None:
+        print("build.py: the toolchain's command rt is not on the path", file=sys.stderr)
+        return 127
+    os.chdir(f"{TOP}/crates/bee")
+    rt = load(os.path.realpath(path))
+    # The guard of what rt starts is set up by the first thread.
+    rt.rtlib.guarded()
+    rt.rtlib.Crate.stamp = read_once(rt.rtlib.Crate.stamp)
+    if not build_libraries(rt):
+        return 1
+    return rt.main(["run", "--", *ARGUMENTS])
+
+
+if __name__ == "__main__":
+    sys.exit(main())

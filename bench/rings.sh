@@ -4,7 +4,7 @@
 #             where it is free, and else taken out; each sixteenth move splices two rings. Prints the processor's nanoseconds for a move, with
 #             the choice of the node and the test of the condition.
 #   clauses   propagation by the crate `clause_rings`, beside minisat, and the memory of clauses; `watches.py` says what is printed. WATCHES
-#             names another such program, so that nothing is built. Wants python3 and minisat.
+#             names another such program, so that nothing is built. Wants python3 and minisat, and counts misses where valgrind is there.
 # It builds small programs over a copy of the crates. Wants rt.
 set -eu
 top=$(cd "$(dirname "${BASH_SOURCE[0]}")/.." && pwd)

@@ -4,6 +4,7 @@
 It calls the toolchain's own `rt`, and differs from `rt run` in two ways. Libraries that do not use one another are proved at the same time, as `rt ci`
 proves them: one a processor, as many as memory holds, the longest chain first (the variable RT_JOBS gives another number). And the sum that `rt` keeps of
 what a library is made from, itself and all below it, reads each crate once; `rt` reads a crate once for each path that leads to it.
+Where a toolchain's `rt` is made of other parts, `rt run` builds all.
 """
 import copy
 import importlib.machinery
@@ -77,19 +78,29 @@ def build_libraries(rt):
     return all(given.values())
 
 
-def main():
-    path = shutil.which("rt")
-    if path is None:
-        print("build.py: the toolchain's command rt is not on the path", file=sys.stderr)
-        return 127
-    os.chdir(f"{TOP}/crates/bee")
-    rt = load(os.path.realpath(path))
+def build(path):
+    """Proves and builds all, by the parts of the command `rt` that stands at this path. The answer is an exit code."""
+    rt = load(path)
     # The guard of what rt starts is set up by the first thread.
     rt.rtlib.guarded()
     rt.rtlib.Crate.stamp = read_once(rt.rtlib.Crate.stamp)
     if not build_libraries(rt):
         return 1
     return rt.main(["run", "--", *ARGUMENTS])
+
+
+def main():
+    path = shutil.which("rt")
+    if path is None:
+        print("build.py: the toolchain's command rt is not on the path", file=sys.stderr)
+        return 127
+    os.chdir(f"{TOP}/crates/bee")
+    try:
+        return build(os.path.realpath(path))
+    except Exception as fault:
+        # A toolchain whose rt is made of other parts still has the command itself, which proves one library after another.
+        print(f"build.py: not side by side ({type(fault).__name__}: {fault})", flush=True)
+        os.execv(path, [path, "run", "--", *ARGUMENTS])
 
 
 if __name__ == "__main__":

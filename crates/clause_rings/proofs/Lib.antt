@@ -1,5 +1,5 @@
 mod Entries
-mod Literals
+pub mod Literals
 mod Nodes
 mod Looking
 mod Db
@@ -14,4 +14,5 @@ mod Linked
 mod Propagated
 mod Backwards
 mod ComeAndGo
-mod Widened
+pub mod Widened
+pub mod Ascending

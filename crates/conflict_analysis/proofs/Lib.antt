@@ -2,7 +2,7 @@ mod Cells
 mod Touched
 mod Members
 mod Literals
-mod Places
+pub mod Places
 mod Meets
 mod Counting
 mod Derived
@@ -13,5 +13,5 @@ mod Steps
 mod Follows
 mod Collects
 mod Works
-mod Accepted
-mod Newness
+pub mod Accepted
+pub mod Newness

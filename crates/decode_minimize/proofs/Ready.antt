@@ -1,16 +1,15 @@
 -- Clauses that a solver takes.
-use Rattle.std.proofs.Common.{◌≡◌, ℕ, zero, suc, ◌+◌, ◌≤◌, ◌<◌, ◌^◌, List, [], ◌∷◌, ◌++◌, length, get_or, refl, sym, ap, ◌∙◌, subst, arith}
+use Rattle.std.proofs.Common.{◌≡◌, ℕ, zero, suc, ◌+◌, List, [], ◌∷◌, ◌++◌, length, refl, sym, ap, ◌∙◌, subst}
 use Rattle.order_ints.specs.declared.atom.Atom.{Atom}
 use Rattle.order_ints.specs.declared.atom.Atom.TheVariants.{True, False, Of}
 use Rattle.order_ints.specs.declared.cnf.Cnf.{Cnf}
 use Rattle.order_ints.specs.declared.literal.Lit.{Lit}
-use Rattle.order_ints.specs.OrderedClauses.{VarsAbove, VarsAscend, ClausesAscend}
-use Rattle.order_ints.specs.Place.{AtomBelow, ClausesBelow, InRange}
-use Rattle.clause_arena.specs.Clauses.{lit_in}
-use Rattle.clause_rings.specs.Clauses.{IsApart, AreApartIn}
+use Rattle.order_ints.specs.OrderedClauses.{ClausesAscend}
+use Rattle.order_ints.specs.Place.{AtomBelow, ClausesBelow}
+use Rattle.clause_rings.specs.Clauses.{AreApartIn}
+use Rattle.clause_rings.proofs.Ascending.{ascending-apart}
 use Rattle.order_ints.specs.declared.order_int.MapValue.{MapValue}
 use Rattle.order_ints.specs.declared.order_int.MapValue.TheVariants as entry
-use Rattle.order_ints.specs.declared.order_int.OrdInt.{OrdInt}
 use Rattle.order_ints.specs.OrderValue.{IsOrdered}
 use Rattle.order_ints.specs.Place.{AtomsBelow}
 use Rattle.order_ints.specs.Truth.{Valuation}
@@ -22,25 +21,8 @@ use Rattle.decode_minimize.specs.declared.improving.Sought.{Sought}
 use Rattle.decode_minimize.specs.Objectives.{IsObjective}
 use Rattle.decode_minimize.specs.Solved.{Problem, IsSolvable, IsProblem, IsSeekable}
 
-above-all : (v : ℕ) (ls : List Lit) (i : ℕ) → VarsAbove v ls → i < length ls → v < (lit_in ls i).var
-above-all v [] i h low = absurd (omega (arith, low))
-above-all v (l ∷ ls) zero h low = h.0
-above-all v (l ∷ ls) (suc i) h low = above-all v ls i h.1 (omega (arith, low))
-
-ascend-apart : (ls : List Lit) → VarsAscend ls → IsApart ls
-ascend-apart [] h i j low_i low_j e = absurd (omega (arith, low_i))
-ascend-apart (l ∷ ls) h zero zero low_i low_j e = refl
-ascend-apart (l ∷ ls) h zero (suc j) low_i low_j e = absurd (omega (arith, above-all l.var ls j h.0 (omega (arith, low_j)), e))
-ascend-apart (l ∷ ls) h (suc i) zero low_i low_j e = absurd (omega (arith, above-all l.var ls i h.0 (omega (arith, low_i)), e))
-ascend-apart (l ∷ ls) h (suc i) (suc j) low_i low_j e = ap suc (ascend-apart ls h.1 i j (omega (arith, low_i)) (omega (arith, low_j)) e)
-
-clauses-apart : (cs : List (List Lit)) → ClausesAscend cs → (k : ℕ) → k < length cs → IsApart (get_or cs k [])
-clauses-apart [] h k low = absurd (omega (arith, low))
-clauses-apart (c ∷ cs) h zero low = ascend-apart c h.0
-clauses-apart (c ∷ cs) h (suc k) low = clauses-apart cs h.1 k (omega (arith, low))
-
 pub solvable-apart : (cnf : Cnf) → IsSolvable cnf → AreApartIn cnf
-solvable-apart cnf is = clauses-apart cnf.clauses is.ascend
+solvable-apart cnf is = ascending-apart cnf is.ascend
 
 atom-ascend : (cs : List (List Lit)) (a : Atom) → ClausesAscend cs → ClausesAscend (cs ++ atom_clauses a)
 atom-ascend [] True h = tt

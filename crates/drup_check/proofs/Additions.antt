@@ -1,23 +1,23 @@
 -- A clause more in a store.
-use Rattle.std.proofs.Common.{◌≡◌, ◌≢◌, ℕ, zero, suc, ◌-◌, ◌<◌, ◌≤◌, Bool, true, false, List, [], ◌∷◌, ◌++◌, length, set, map, refl, sym, ap, ◌∙◌, subst, ◌⊎◌, inl, inr, ⊎_elim, arith, Option, Some, None}
+use Rattle.std.proofs.Common.{◌≡◌, ◌≢◌, ℕ, ◌-◌, ◌<◌, Bool, true, false, List, [], ◌∷◌, ◌++◌, length, set, map, refl, sym, ap, ◌∙◌, subst, ◌⊎◌, inl, inr, ⊎_elim, Option, Some, None}
 use Rattle.std.specs.Prelude.{Contains, IfSome, IfNone, is_some, option_and_then, option_map, if◌then◌else◌}
 use Rattle.std.proofs.lemmas.Bool.{or_cases, or_left, or_right, false≢true, cases_eq}
-use Rattle.std.proofs.lemmas.Bool.{cases_lt}
-use Rattle.std.proofs.lemmas.List.{get_or-set_other, get_or-set_same, get_or_past, get_or_append_left, get_or-append_right, get_or-replicate, length-replicate}
-use Rattle.std.proofs.Math.ListN.{replicate}
+use Rattle.std.proofs.lemmas.List.{get_or-set_other, get_or-set_same}
 use Rattle.std.proofs.lemmas.List.Elements.{Contains-append_left, Contains-append_right, Contains-append_cases}
 use Rattle.order_ints.specs.declared.literal.Lit.{Lit}
 use Rattle.order_ints.specs.declared.atom.Atom.{Atom}
 use Rattle.order_ints.specs.declared.atom.Atom.TheVariants.{Of}
 use Rattle.order_ints.specs.Truth.{not_lit}
 use Rattle.order_ints.specs.View.{resolve}
-use Rattle.order_ints.specs.OrderedClauses.{same_lit, has_lit, has_opposites, by_variable, with_atom, resolved_lits, unless_opposites, ordered_clause, VarsAbove, VarsAscend}
+use Rattle.order_ints.specs.OrderedClauses.{same_lit, has_lit, has_opposites, by_variable, with_atom, resolved_lits, unless_opposites, ordered_clause}
 use Rattle.order_ints.proofs.LitOrder.{same_lit-true, same_lit-refl, has_lit-by_variable, LitsAscend-by_variable}
 use Rattle.order_ints.proofs.Opposites.{VarsAscend-from_opposites}
 use Rattle.literal_trail.specs.Trail.{Trail}
 use Rattle.literal_trail.specs.Standing.{IsFalse}
-use Rattle.clause_arena.specs.Clauses.{Clause, no_clause, live_clause, clause_at, IsLive, lits_of, lit_in}
-use Rattle.clause_rings.specs.Clauses.{ClauseLists, SameClauses, Follows, IsApart, IsComplete, IsDb, HasRoomMore, with_clause}
+use Rattle.clause_arena.specs.Clauses.{Clause, no_clause, live_clause, clause_at, IsLive, lits_of}
+use Rattle.clause_rings.specs.Clauses.{ClauseLists, SameClauses, Follows, IsComplete, IsDb, HasRoomMore, with_clause}
+use Rattle.clause_rings.proofs.Ascending.{ascend-apart}
+use Rattle.clause_rings.proofs.Widened.{wider-at}
 use Rattle.drup_check.specs.Stored.{SameSet, HasOpposites, IsStored, IsListed, Holds, IsOrderedAs, StandsAs}
 use Rattle.drup_check.proofs.Members.{member-cases, member-first, member-more, no-member}
 use Rattle.drup_check.proofs.Permuted.{holds-same}
@@ -58,19 +58,6 @@ opposites-told (l ∷ ls) e =
     record { lit = o.lit; is_in = member-more l ls o.lit o.is_in; negated_in = member-more l ls (not_lit o.lit) o.negated_in })
     (or_cases (has_lit (not_lit l) ls) (has_opposites ls) e)
 
--- variables that ascend differ
-above-all : (v : ℕ) (ls : List Lit) (i : ℕ) → VarsAbove v ls → i < length ls → v < (lit_in ls i).var
-above-all v [] i h low = absurd (omega (arith, low))
-above-all v (l ∷ ls) zero h low = h.0
-above-all v (l ∷ ls) (suc i) h low = above-all v ls i h.1 (omega (arith, low))
-
-pub ascend-apart : (ls : List Lit) → VarsAscend ls → IsApart ls
-ascend-apart [] h i j low_i low_j e = absurd (omega (arith, low_i))
-ascend-apart (l ∷ ls) h zero zero low_i low_j e = refl
-ascend-apart (l ∷ ls) h zero (suc j) low_i low_j e = absurd (omega (arith, above-all l.var ls j h.0 (omega (arith, low_j)), e))
-ascend-apart (l ∷ ls) h (suc i) zero low_i low_j e = absurd (omega (arith, above-all l.var ls i h.0 (omega (arith, low_i)), e))
-ascend-apart (l ∷ ls) h (suc i) (suc j) low_i low_j e = ap suc (ascend-apart ls h.1 i j (omega (arith, low_i)) (omega (arith, low_j)) e)
-
 itself : (v : ℕ) (b : Bool) → resolve [] (Of (record { var = v; positive = b })) ≡ Of (record { var = v; positive = b })
 itself v true = refl
 itself v false = refl
@@ -92,22 +79,6 @@ ordered-as ls kept e =
     let whole : kept ≡ unless_opposites (by_variable ls) = e ∙ ap (λ (o : Option (List Lit)). option_and_then (λ xs. unless_opposites (by_variable xs)) o) (resolved-same ls) in
     let P : Option (List Lit) → Type 0 = IsOrderedAs ls in
     subst P (sym whole) (ordered-by ls (has_opposites (by_variable ls)) refl)
-
--- more references, all of them free
-same-more : (cs : List Clause) (more c : ℕ) → clause_at (cs ++ replicate more no_clause) c ≡ clause_at cs c
-same-more cs more c =
-    ⊎_elim
-    (λ (low : c < length cs). get_or_append_left cs (replicate more no_clause) no_clause c low)
-    (λ (high : length cs ≤ c).
-    get_or-append_right cs (replicate more no_clause) (length cs) c no_clause refl high ∙ nothing more (c - length cs) ∙ sym (get_or_past cs c no_clause high))
-    (cases_lt c (length cs))
-  where
-    nothing : (more k : ℕ) → clause_at (replicate more no_clause) k ≡ no_clause
-    nothing more k =
-        ⊎_elim
-        (λ (low : k < more). get_or-replicate more k no_clause no_clause low)
-        (λ (high : more ≤ k). get_or_past (replicate more no_clause) k no_clause (omega (arith, length-replicate more no_clause)))
-        (cases_lt k more)
 
 -- a store with one clause more holds it
 module _ (old new : List Clause) (r id : ℕ) (lits d : List Lit) (cs : List (List Lit)) (dead : (clause_at old r).live ≡ false) (here : clause_at new r ≡ live_clause id lits) (others : (c : ℕ) → c ≢ r → clause_at new c ≡ clause_at old c) (same : SameSet lits d) (holds : Holds old cs) where
@@ -168,7 +139,7 @@ module _ (old mid next new : ClauseLists) (r : ℕ) (lits : List Lit) (bottom : 
   low = (follows-same new.clauses next.trail new.trail follows).1 ∙ ap (λ (t : Trail). t.level) same_trail ∙ bottom
 
   mid-at : (c : ℕ) → clause_at mid.clauses c ≡ clause_at old.clauses c
-  mid-at c = ap (λ (cs : List Clause). clause_at cs c) room.clauses ∙ same-more old.clauses room.more c
+  mid-at c = ap (λ (cs : List Clause). clause_at cs c) room.clauses ∙ wider-at old.clauses room.more c
 
   set-at : next.clauses ≡ set mid.clauses r (live_clause 0 lits)
   set-at = ap (λ (s : ClauseLists). s.clauses) comes

@@ -1,16 +1,15 @@
 -- A store at its start, and what it says of the empty clause.
-use Rattle.std.proofs.Common.{◌≡◌, ℕ, zero, suc, ◌<◌, Bool, true, false, List, [], ◌∷◌, ◌++◌, length, get_or, refl, sym, ap, ◌∙◌, subst, inl, inr, arith, Option, Some, None}
+use Rattle.std.proofs.Common.{◌≡◌, ℕ, Bool, true, false, List, [], ◌∷◌, ◌++◌, get_or, refl, sym, ap, ◌∙◌, subst, inl, inr, Option, Some, None}
 use Rattle.std.specs.Prelude.{Contains, IfSome, IfNone, IsTrue, is_some}
 use Rattle.std.proofs.lemmas.Bool.{false≢true}
 use Rattle.std.proofs.lemmas.List.{get_or_default}
 use Rattle.std.proofs.lemmas.List.Elements.{Contains-append_left}
 use Rattle.order_ints.specs.declared.literal.Lit.{Lit}
 use Rattle.order_ints.specs.declared.cnf.Cnf.{Cnf}
-use Rattle.order_ints.specs.OrderedClauses.{ClausesAscend}
 use Rattle.literal_trail.specs.Trail.{Trail}
 use Rattle.literal_trail.specs.Standing.{IsFalse}
 use Rattle.clause_arena.specs.Clauses.{Clause, IsLive, lits_of}
-use Rattle.clause_rings.specs.Clauses.{ClauseLists, SameClauses, Follows, IsApart, IsComplete, IsDb, AreApartIn, HoldsCnf}
+use Rattle.clause_rings.specs.Clauses.{ClauseLists, SameClauses, Follows, IsComplete, IsDb, HoldsCnf}
 use Rattle.drup_check.specs.Rup.{Rup}
 use Rattle.drup_check.specs.Stored.{SameSet, Holds, Stands, StandsAs}
 use Rattle.drup_check.proofs.Members.{no-member}
@@ -19,15 +18,6 @@ use Rattle.drup_check.proofs.Permuted.{holds-same}
 use Rattle.drup_check.proofs.Denials.{denying-none}
 use Rattle.drup_check.proofs.Trails.{follows-same}
 use Rattle.drup_check.proofs.Rups.{shown-by}
-use Rattle.drup_check.proofs.Additions.{ascend-apart}
-
-clauses-apart : (cs : List (List Lit)) → ClausesAscend cs → (k : ℕ) → k < length cs → IsApart (get_or cs k [])
-clauses-apart [] h k low = absurd (omega (arith, low))
-clauses-apart (c ∷ cs) h zero low = ascend-apart c h.0
-clauses-apart (c ∷ cs) h (suc k) low = clauses-apart cs h.1 k (omega (arith, low))
-
-pub apart : (cnf : Cnf) → ClausesAscend cnf.clauses → AreApartIn cnf
-apart cnf h = clauses-apart cnf.clauses h
 
 same-set : (c d : List Lit) → c ≡ d → SameSet c d
 same-set c d e l = let P : List Lit → Type 0 = λ ls. Contains ls l in ((λ has. subst P e has), (λ has. subst P (sym e) has))

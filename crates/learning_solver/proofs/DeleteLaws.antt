@@ -23,7 +23,8 @@ use Rattle.learning_solver.specs.Kept.{IsKept, AreOnce}
 use Rattle.learning_solver.proofs.NamedLaws.{cases-at, at-back, at-without, lives-without, numbered-range}
 use Rattle.learning_solver.proofs.LogLaws.{after-more, additions-delete, log-deleted}
 use Rattle.learning_solver.proofs.LitLaws.{cnf-behind}
-use Rattle.learning_solver.proofs.KeptLaws.{live-before, stored-alike, live-inside, alike-more}
+use Rattle.learning_solver.proofs.KeptLaws.{live-before, stored-alike, live-inside}
+use Rattle.clause_rings.proofs.Widened.{wider-at}
 use Rattle.learning_solver.proofs.ReasonLaws.{at-place}
 
 -- the same ids under the same references
@@ -39,7 +40,7 @@ pub once-alike : (base : ℕ) (old new : List Clause) → AreOnce base old → (
 once-alike base old new is same = once-told base old new is (λ c here. (live-before old new c (same c) here, ap (λ (x : Clause). x.id) (same c)))
 
 pub once-more : (base : ℕ) (old new : List Clause) (more : ℕ) → AreOnce base old → new ≡ old ++ replicate more no_clause → AreOnce base new
-once-more base old new more is e = once-alike base old new is (λ c. ap (λ (l : List Clause). stored_at l c) e ∙ alike-more old more c)
+once-more base old new more is e = once-alike base old new is (λ c. ap (λ (l : List Clause). stored_at l c) e ∙ wider-at old more c)
 
 pub once-same : (base : ℕ) (old new : List Clause) → AreOnce base old → SameClauses old new → AreOnce base new
 once-same base old new is same = once-told base old new is (λ c here. (sym (same.each c).live ∙ here, (same.each c).id))

@@ -1,13 +1,14 @@
 -- The clause store keeps the clauses that live: as clauses come and go, change the order of their literals, and get more room.
-use Rattle.std.proofs.Common.{◌≡◌, ℕ, ◌-◌, ◌≤◌, ◌<◌, true, false, List, [], ◌∷◌, ◌++◌, length, None, refl, ap, sym, ◌∙◌, subst, arith, ⊎_elim}
+use Rattle.std.proofs.Common.{◌≡◌, ℕ, ◌-◌, ◌≤◌, ◌<◌, true, false, List, [], ◌∷◌, ◌++◌, length, None, ap, sym, ◌∙◌, subst, ⊎_elim}
 use Rattle.std.specs.Prelude.{slice_set, IsPermutation}
 use Rattle.std.proofs.lemmas.Bool.{cases_eq, cases_lt}
-use Rattle.std.proofs.lemmas.List.{get_or-set_other, get_or-set_same, get_or_past, get_or_append_left, get_or-append_right, get_or-replicate, length-replicate}
+use Rattle.std.proofs.lemmas.List.{get_or-set_other, get_or-set_same, get_or_past}
 use Rattle.std.proofs.Math.ListN.{replicate}
 use Rattle.std.proofs.lemmas.List.Sorted.{IsPermutation-refl, IsPermutation-trans}
 use Rattle.order_ints.specs.declared.literal.Lit.{Lit}
 use Rattle.clause_arena.specs.Clauses.{Clause, clause_at as stored_at, IsLive, lits_of, live_clause, no_clause}
 use Rattle.clause_rings.specs.Clauses.{SameClauses}
+use Rattle.clause_rings.proofs.Widened.{wider-at}
 use Rattle.proof_check.specs.Named.{Named, clause_at, Lives}
 use Rattle.learning_solver.specs.Kept.{IsStored, IsKept}
 use Rattle.learning_solver.proofs.NamedLaws.{at-front, at-more, at-last}
@@ -35,23 +36,8 @@ kept-alike live old new is same = record {
 }
 
 -- more references change no clause
-pub alike-more : (cs : List Clause) (more c : ℕ) → stored_at (cs ++ replicate more no_clause) c ≡ stored_at cs c
-alike-more cs more c =
-    ⊎_elim
-    (λ (low : c < length cs). get_or_append_left cs (replicate more no_clause) no_clause c low)
-    (λ (high : length cs ≤ c).
-    get_or-append_right cs (replicate more no_clause) (length cs) c no_clause refl high ∙ nothing more (c - length cs) ∙ sym (get_or_past cs c no_clause high))
-    (cases_lt c (length cs))
-  where
-    nothing : (more k : ℕ) → stored_at (replicate more no_clause) k ≡ no_clause
-    nothing more k =
-        ⊎_elim
-        (λ (low : k < more). get_or-replicate more k no_clause no_clause low)
-        (λ (high : more ≤ k). get_or_past (replicate more no_clause) k no_clause (omega (arith, length-replicate more no_clause)))
-        (cases_lt k more)
-
 pub kept-more : (live : List Named) (old new : List Clause) (more : ℕ) → IsKept live old → new ≡ old ++ replicate more no_clause → IsKept live new
-kept-more live old new more is e = kept-alike live old new is (λ c. ap (λ (l : List Clause). stored_at l c) e ∙ alike-more old more c)
+kept-more live old new more is e = kept-alike live old new is (λ c. ap (λ (l : List Clause). stored_at l c) e ∙ wider-at old more c)
 
 -- the same clauses, their literals in another order
 pub kept-same : (live : List Named) (old new : List Clause) → IsKept live old → SameClauses old new → IsKept live new

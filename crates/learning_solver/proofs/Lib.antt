@@ -1,5 +1,6 @@
 mod RingLaws
 mod NamedLaws
+pub mod KnownLaws
 mod LogLaws
 mod KeptLaws
 mod HeightLaws

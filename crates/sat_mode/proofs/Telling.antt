@@ -1,82 +1,29 @@
 -- What was found of a CNF, as it is told.
-use Rattle.std.proofs.Common.{◌≡◌, ℕ, zero, suc, ◌+◌, ◌<◌, inl, inr, Bool, true, false, ◌||◌, List, [], ◌∷◌, ◌++◌, length, get_or, refl, sym, ap, subst, ◌∙◌, arith}
-use Rattle.std.specs.Prelude.{Option, None, Some, Ok, IsOk, IsTrue, ◌==◌, if◌then◌else◌}
-use Rattle.std.specs.List.{list_any}
-use Rattle.std.proofs.lemmas.Bool.{false≢true, or_left, or_right}
-use Rattle.std.proofs.lemmas.List.{map-append}
+use Rattle.std.proofs.Common.{◌≡◌, ℕ, inl, inr, true, false, List, [], ◌∷◌, refl, sym, ap, subst, ◌∙◌}
+use Rattle.std.specs.Prelude.{Option, None, Some, Ok, IsOk, IsTrue}
+use Rattle.std.proofs.lemmas.Bool.{false≢true}
 use Rattle.order_ints.specs.declared.literal.Lit.{Lit}
 use Rattle.order_ints.specs.declared.cnf.Cnf.{Cnf}
 use Rattle.order_ints.specs.Truth.{Valuation, valuation_of}
 use Rattle.order_ints.specs.Satisfies.{clauses_truth}
-use Rattle.order_ints.specs.OrderedClauses.{VarsAbove, VarsAscend, ClausesAscend}
-use Rattle.clause_arena.specs.Clauses.{lit_in}
-use Rattle.clause_rings.specs.Clauses.{IsApart, AreApartIn}
 use Rattle.proof_check.specs.declared.line.ProofLine.{ProofLine}
 use Rattle.proof_check.specs.declared.fault.ProofFault.{ProofFault}
-use Rattle.proof_check.specs.Named.{Named, numbered, clause_at, literals_of}
 use Rattle.proof_check.specs.Lrat.{Proof, proof_of, line_fault, after_line, unless_fault, behind, take_lines, Lrat}
-use Rattle.proof_check.specs.Known.{same_literals, all_clauses, known}
+use Rattle.proof_check.specs.Known.{known}
 use Rattle.proof_check.proofs.Implied.{start-implied, lines-implied, known-implied}
-use Rattle.learning_solver.specs.Log.{after_lines, proof_behind, all_named, IsFreshLog}
+use Rattle.learning_solver.specs.Log.{after_lines, proof_behind, IsFreshLog}
 use Rattle.learning_solver.specs.Outcome.{Logged, IsRefutation}
 use Rattle.text_modes.specs.declared.ends.Outcome.{Outcome}
 use Rattle.text_modes.specs.declared.ends.Outcome.TheVariants.{Done, Refused, Unknown}
+use Rattle.learning_solver.proofs.KnownLaws.{known-named}
 use Rattle.sat_mode.specs.declared.options.SearchOptions.{SearchOptions}
 use Rattle.sat_mode.specs.Texts.{refutation_text}
 use Rattle.sat_mode.specs.Found.{IsProof, Tells}
 
--- where variables ascend they differ
-
-above-all : (v : ℕ) (ls : List Lit) (i : ℕ) → VarsAbove v ls → i < length ls → v < (lit_in ls i).var
-above-all v [] i h low = absurd (omega (arith, low))
-above-all v (l ∷ ls) zero h low = h.0
-above-all v (l ∷ ls) (suc i) h low = above-all v ls i h.1 (omega (arith, low))
-
-ascend-apart : (ls : List Lit) → VarsAscend ls → IsApart ls
-ascend-apart [] h i j low_i low_j e = absurd (omega (arith, low_i))
-ascend-apart (l ∷ ls) h zero zero low_i low_j e = refl
-ascend-apart (l ∷ ls) h zero (suc j) low_i low_j e = absurd (omega (arith, above-all l.var ls j h.0 (omega (arith, low_j)), e))
-ascend-apart (l ∷ ls) h (suc i) zero low_i low_j e = absurd (omega (arith, above-all l.var ls i h.0 (omega (arith, low_i)), e))
-ascend-apart (l ∷ ls) h (suc i) (suc j) low_i low_j e = ap suc (ascend-apart ls h.1 i j (omega (arith, low_i)) (omega (arith, low_j)) e)
-
-clauses-apart : (cs : List (List Lit)) → ClausesAscend cs → (k : ℕ) → k < length cs → IsApart (get_or cs k [])
-clauses-apart [] h k low = absurd (omega (arith, low))
-clauses-apart (c ∷ cs) h zero low = ascend-apart c h.0
-clauses-apart (c ∷ cs) h (suc k) low = clauses-apart cs h.1 k (omega (arith, low))
-
-pub apart : (cnf : Cnf) → ClausesAscend cnf.clauses → AreApartIn cnf
-apart cnf h = clauses-apart cnf.clauses h
-
 -- the empty clause is known where it stands under an id
 
-none-some : (lits : List Lit) → None ≡ Some lits → ⊥
-none-some lits e = cc
-
-named-empty : (cs : List Named) (id : ℕ) → clause_at cs id ≡ Some [] → list_any (same_literals []) (literals_of cs) ≡ true
-named-empty [] id e = absurd (none-some [] e)
-named-empty (c ∷ cs) id e = by (c.id == id) e (named-empty cs id)
-  where
-    some : Some c.lits ≡ Some [] → c.lits ≡ []
-    some f = cc
-
-    by : (b : Bool) → (if b then Some c.lits else clause_at cs id) ≡ Some [] → (clause_at cs id ≡ Some [] → list_any (same_literals []) (literals_of cs) ≡ true)
-        → (same_literals [] c.lits || list_any (same_literals []) (literals_of cs)) ≡ true
-    by true f more = or_left (same_literals [] c.lits) (list_any (same_literals []) (literals_of cs)) (ap (same_literals []) (some f))
-    by false f more = or_right (same_literals [] c.lits) (list_any (same_literals []) (literals_of cs)) (more f)
-
-literals-numbered : (k : ℕ) (cs : List (List Lit)) → literals_of (numbered k cs) ≡ cs
-literals-numbered k [] = refl
-literals-numbered k (c ∷ cs) = ap (λ (ds : List (List Lit)). c ∷ ds) (literals-numbered (k + 1) cs)
-
-all-literals : (p : Proof) → literals_of (all_named p) ≡ all_clauses p
-all-literals p =
-    map-append (λ (c : Named). c.lits) (numbered 1 p.cnf.clauses) p.added
-    ∙ ap (λ (cs : List (List Lit)). cs ++ literals_of p.added) (literals-numbered 1 p.cnf.clauses)
-
 pub empty-known : (cnf : Cnf) (log : List ProofLine) (id : ℕ) → IsRefutation cnf log None id → known (proof_behind cnf log) [] ≡ true
-empty-known cnf log id r =
-    let p = proof_behind cnf log in
-    sym (ap (list_any (same_literals [])) (all-literals p)) ∙ named-empty (all_named p) id (r.stands ∙ ap (λ (ls : List Lit). Some ls) r.refutes)
+empty-known cnf log id r = known-named (proof_behind cnf log) id [] (r.stands ∙ ap (λ (ls : List Lit). Some ls) r.refutes)
 
 -- the proof behind lines that are accepted
 

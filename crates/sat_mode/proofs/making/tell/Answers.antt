@@ -1,10 +1,11 @@
 use Rattle.std.proofs.Common.{ap, ◌∙◌}
+use Rattle.clause_rings.proofs.Ascending.{ascending-apart}
 use Rattle.sat_mode.specs.Texts.{refutation_text}
-use Rattle.sat_mode.proofs.Telling.{apart, found-refutation}
+use Rattle.sat_mode.proofs.Telling.{found-refutation}
 use Rattle.sat_mode.proofs.making.tell.Goals as goal
 
 pub with-requires-clause-differ : goal.with-requires-clause-differ
-with-requires-clause-differ c = apart c.args.cnf.now c.requires.ascend
+with-requires-clause-differ c = ascending-apart c.args.cnf.now c.requires.ascend
 
 pub returns-in-Refuted : goal.returns-in-Refuted
 returns-in-Refuted c =

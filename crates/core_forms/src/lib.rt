@@ -32,4 +32,4 @@ pub use meaning::{holds, holds_in_row};
 pub use occurrence::variables;
 pub use shapes::shape;
 pub use taken::Taken;
-pub use trimming::{trim, trim_int};
+pub use trimming::{is_settled, trim, trim_int};

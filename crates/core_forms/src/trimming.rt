@@ -3,8 +3,9 @@
 mod atoms;
 mod forms;
 mod ints;
+mod settled;
 
-ghost use Rattle.std.specs.Prelude.{◌≡◌, ℕ, IfOk};
+ghost use Rattle.std.specs.Prelude.{◌≡◌, ℕ, IfOk, IsTrue};
 ghost use Rattle.order_ints.specs.Truth.{Valuation};
 ghost use Rattle.order_ints.specs.Place.{AtomsBelow};
 ghost use Rattle.order_ints.specs.OrderRange.{IsBounded};
@@ -18,6 +19,7 @@ use crate::form::Core;
 use forms::trimmed_form;
 use ints::trimmed_int;
 use order_ints::{Atom, OrdInt};
+use settled::is_settled_form;
 use std::alloc::{AllocError, Global};
 
 /// A core trimmed by a view: each atom as the view has it, and what constants say worked in. It takes
@@ -46,4 +48,12 @@ pub fn trim_int(alloc: Global, a: &OrdInt, view: &[Atom]) -> Result<OrdInt, Allo
     ensures { IfOk result (λ trimmed. trimmed ≡ trimmed_int view.now a.now) }
 {
     trimmed_int(alloc, a, view)
+}
+
+/// Whether trimming leaves a core as it is. It takes one pass over the core, up to the first atom that would
+/// change, and no memory. It looks at the forms that may have long lists, and says of no other one that it stays.
+pub fn is_settled(core: &Core, view: &[Atom]) -> bool
+    ensures { IsTrue result → trimmed_core view.now core.now ≡ core.now }
+{
+    is_settled_form(core, view)
 }

@@ -1,6 +1,6 @@
 //! The state of a compilation.
 
-ghost use Rattle.std.specs.Prelude.{◌≡◌, ◌+◌, ◌^◌, ◌<◌, ◌≤◌, false, [], map, length, Some, Ok, Err, IfOk, OnOk, OnErr, MatchResult, option_copied};
+ghost use Rattle.std.specs.Prelude.{◌≡◌, ◌+◌, ◌^◌, ◌<◌, ◌≤◌, false, [], map, length, Some, Ok, Err, IfOk, IfSome, OnOk, OnErr, MatchResult, option_copied};
 ghost use Rattle.order_ints.specs.declared.cnf.Cnf.{Cnf};
 ghost use Rattle.order_ints.specs.Label.{own_labels};
 ghost use Rattle.order_ints.specs.Place.{InRange};
@@ -17,7 +17,7 @@ use crate::fault::{ApplyFault, StepFault};
 use crate::lists::all_pending;
 use bee_list::Sequence;
 use clause_order::OrderedClauses;
-use core_forms::{Core, Equation, is_basic, trim};
+use core_forms::{Core, Equation, is_basic, is_settled, trim};
 use core_parts::{is_compound, parts};
 use core_rules::is_instance;
 use equation_store::{EqStore, Merged};
@@ -99,6 +99,20 @@ impl State {
             return None;
         }
         self.cores[id as usize - 1].as_ref()
+    }
+
+    /// The pending core with an id, where it is seen to be as the store has it, so that nothing is to be trimmed. It
+    /// takes one pass over the core, and no memory.
+    pub fn settled(&self, id: u64) -> Option<&Core>
+        ensures settled { IfSome result (λ core. trimmed_at self.now id ≡ Some core.now) }
+        ensures kernel { IsKernel self.now }
+    {
+        let core = self.core(id)?;
+        if is_settled(core, self.store.view()) {
+            Some(core)
+        } else {
+            None
+        }
     }
 
     /// The pending core with an id, as the store has it. It takes the time and the memory of its size.

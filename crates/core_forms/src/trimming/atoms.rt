@@ -1,12 +1,12 @@
 //! Trimming of lists of atoms.
 
-ghost use Rattle.std.specs.Prelude.{◌≡◌, ◌≤◌, IfOk, IsTrue, map, length};
+ghost use Rattle.std.specs.Prelude.{◌≡◌, ◌≤◌, IfOk, map, length};
 ghost use Rattle.order_ints.specs.View.{resolve};
-ghost use Rattle.core_forms.specs.Settled.{IsSettled, AreSettled};
 ghost use Rattle.core_forms.specs.Trimmed.{without_false, without_constants, constant_trues, turned, tidied_clause, tidied_members};
 
+use super::settled::are_settled;
 use bee_list::Sequence;
-use order_ints::{Atom, label_of, resolve};
+use order_ints::{Atom, resolve};
 use std::alloc::{AllocError, Global};
 
 /// The atoms as the view has them.
@@ -69,31 +69,6 @@ pub(super) fn trimmed_members(
         }
     }
     Ok(Sequence::from_vec(kept))
-}
-
-/// Whether the view has an atom as it is, and that is no constant.
-fn is_settled(view: &[Atom], atom: Atom) -> bool
-    ensures { IsTrue result → IsSettled view.now atom }
-{
-    let Atom::Of(literal) = atom else {
-        return false;
-    };
-    match label_of(view, literal.var()) {
-        Atom::Of(label) => label.positive() && label.var() == literal.var(),
-        _ => false,
-    }
-}
-
-/// Whether the view has all these atoms as they are, and none is a constant, so that they stay as they are.
-fn are_settled(atoms: &[Atom], view: &[Atom]) -> bool
-    ensures { IsTrue result → AreSettled view.now atoms.now }
-{
-    for atom in atoms {
-        if !is_settled(view, *atom) {
-            return false;
-        }
-    }
-    true
 }
 
 #[tactic(auto, using(crate::proofs::Settling::settled_false))]

@@ -1,6 +1,6 @@
 use Rattle.std.proofs.Common.{drop}
 use Rattle.core_forms.specs.Settled.{AreSettled}
-use Rattle.core_forms.proofs.trimming.atoms.are_settled.Given as goal
+use Rattle.core_forms.proofs.trimming.settled.are_settled.Given as goal
 
 -- where what is left is settled, all is
 abbrev pub invariant-loop-atom : goal.invariant-loop-atom

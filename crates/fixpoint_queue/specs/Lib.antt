@@ -8,4 +8,5 @@ pub mod Saturation
 pub mod Standing
 pub mod Wider
 pub mod Pairs
+pub mod Told
 pub mod Taken

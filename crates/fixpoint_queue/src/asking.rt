@@ -1,9 +1,11 @@
 //! One question after another, until the queue is empty.
 
-ghost use Rattle.std.specs.Prelude.{ℕ, ◌≡◌, ◌⊎◌, ◌+◌, ◌<◌, ◌≤◌, ◌++◌, ◌∷◌, [], true, false, length, vec_len, vec_capacity, Some, Ok, OnOk, OnErr};
+ghost use Rattle.std.specs.Prelude.{ℕ, ◌≡◌, ◌⊎◌, ◌+◌, ◌<◌, ◌≤◌, ◌++◌, ◌∷◌, [], true, false, length, vec_len, vec_capacity, Some, Ok, IfOk, OnOk, OnErr};
 ghost use Rattle.order_ints.specs.Label.{IsLabel};
 ghost use Rattle.index_ring.specs.Lists.{times, without};
 ghost use Rattle.core_forms.specs.declared.equation.Equation.{Equation};
+ghost use Rattle.core_forms.specs.declared.form.Core.{Core};
+ghost use Rattle.core_forms.specs.WellFormed.{IsWellFormed};
 ghost use Rattle.step_kernel.specs.Kernel.{Kernel, trimmed_at, IsKernel};
 ghost use Rattle.ledger_text.specs.declared.line.Line.TheVariants.{Equate};
 ghost use Rattle.core_rules.specs.Instances.{is_instance_at};
@@ -13,6 +15,7 @@ ghost use Rattle.core_occurrences.specs.Lists.{Occurs};
 ghost use Rattle.fixpoint_queue.specs.Ledgers.{AddsEquations};
 ghost use Rattle.fixpoint_queue.specs.Quiet.{IsClosed};
 ghost use Rattle.fixpoint_queue.specs.Pairs.{IsCounted};
+ghost use Rattle.fixpoint_queue.specs.Told.{IsTold, IsAnswer};
 ghost use Rattle.fixpoint_queue.specs.Waits.{IsSaturation, IsWokenFor, left_to_do, left_to_ask};
 
 use crate::id_queue::IdQueue;
@@ -21,63 +24,126 @@ use crate::oracle::Oracle;
 use crate::taking::{take_equation, take_run};
 use core_forms::{Core, Equation};
 use core_occurrences::Occurrences;
+use core_rules::FoundRun;
 use ledger_text::Line;
 use rule_base::Steps;
 use std::alloc::{AllocError, Global};
 use std::sync::ledger::Ledger;
 use step_kernel::{State, is_compound};
 
-/// Asks one core, which stands here as the store has it: where it tells an equation, that is taken, with those
-/// that it tells one after another; and else the core leaves the queue.
-fn ask_core<F: Oracle<L>, L: Ledger>(
+/// What a core was found to tell.
+#[derive(Drop)]
+enum Answer {
+    /// An equation and a run, with the core as the store has it.
+    Told(Core, FoundRun),
+    /// Nothing, and whether the core is compound.
+    Silent(bool),
+}
+
+/// Asks a core that is lent, and stands here as the store has it. It is copied where it tells something, and only there.
+fn ask_lent<F: Oracle<L>, L: Ledger>(
     alloc: Global,
     oracle: F,
-    state: &mut State,
-    occurs: &Occurrences,
-    queue: &mut IdQueue,
-    marks: &mut Marks,
-    ledger: &mut Vec<Line>,
+    state: &State,
     steps: &mut Steps<L>,
     id: u32,
     core: &Core,
-) -> Result<(), AllocError>
-    requires saturation { IsSaturation F.told state.old occurs.now queue.old marks.old }
-    requires running { state.old.bottom ≡ false }
-    requires first { 1 ≤ times id queue.old.queued }
-    requires there { trimmed_at state.old id ≡ Some core.now }
-    ensures saturation { IsSaturation F.told state.new occurs.now queue.new marks.new }
-    ensures adds { AddsEquations F.told ledger.old.items state.old ledger.new.items state.new }
-    ensures counted { OnOk result (IsCounted state.old ledger.old.items ledger.new.items
-        (length queue.old.queued) steps.old steps.new (left_to_ask state.new queue.new)) }
-    ensures refused { OnErr result (IsCounted state.old ledger.old.items ledger.new.items
-        (length queue.old.queued) steps.old steps.new 0) }
-    ensures less { OnOk result (left_to_do state.new queue.new < left_to_do state.old queue.old) }
+) -> Result<Answer, AllocError>
+    requires kernel { IsKernel state.now }
+    requires there { trimmed_at state.now id ≡ Some core.now }
+    ensures answer { IfOk result (λ answer. IsAnswer F.told core.now answer) }
+    ensures most { steps.new ≤ steps.old + 3 }
 {
     match oracle.ask(alloc, core, steps)? {
-        Some(found) => {
-            ledger.reserve(1 + found.run.len())?;
-            take_equation(state, occurs, queue, ledger, u64::from(id), found.equation);
-            take_run::<F, L>(
-                state,
-                occurs,
-                queue,
-                marks,
-                ledger,
-                id,
-                core,
-                found.run.as_slice(),
-            );
-            Ok(())
-        }
-        None => {
-            queue.take(id);
-            marks.set(id, is_compound(core));
-            Ok(())
-        }
+        Some(found) => match state.trimmed(alloc, u64::from(id))? {
+            Some(copy) => Ok(Answer::Told(copy, found)),
+            None => Err(AllocError),
+        },
+        None => Ok(Answer::Silent(is_compound(core))),
     }
 }
 
-/// Asks the first core of the queue.
+/// Asks a core that is used up.
+fn ask_copy<F: Oracle<L>, L: Ledger>(
+    alloc: Global,
+    oracle: F,
+    copy: Core,
+    steps: &mut Steps<L>,
+) -> Result<Answer, AllocError>
+    requires { IsWellFormed copy }
+    ensures answer { IfOk result (λ answer. IsAnswer F.told copy answer) }
+    ensures most { steps.new ≤ steps.old + 3 }
+{
+    match oracle.ask(alloc, &copy, steps)? {
+        Some(found) => Ok(Answer::Told(copy, found)),
+        None => Ok(Answer::Silent(is_compound(&copy))),
+    }
+}
+
+/// Asks a pending core: the core itself where the store has it as it was made, and else a copy that is trimmed.
+fn ask_pending<F: Oracle<L>, L: Ledger>(
+    alloc: Global,
+    oracle: F,
+    state: &State,
+    steps: &mut Steps<L>,
+    id: u32,
+) -> Result<Answer, AllocError>
+    ensures answer { IfOk result (λ answer.
+        (core : Core) × (trimmed_at state.now id ≡ Some core) × IsAnswer F.told core answer) }
+    ensures most { steps.new ≤ steps.old + 3 }
+{
+    if let Some(core) = state.settled(u64::from(id)) {
+        return ask_lent(alloc, oracle, state, steps, id, core);
+    }
+    match state.trimmed(alloc, u64::from(id))? {
+        Some(copy) => ask_copy(alloc, oracle, copy, steps),
+        None => Err(AllocError),
+    }
+}
+
+/// Takes an equation that was found at a core, which stands here as the store has it, with those that the core
+/// tells one after another.
+fn take_found<F: Oracle<L>, L: Ledger>(
+    state: &mut State,
+    occurs: &Occurrences,
+    queue: &mut IdQueue,
+    marks: &Marks,
+    ledger: &mut Vec<Line>,
+    id: u32,
+    core: &Core,
+    found: &FoundRun,
+) -> Result<(), AllocError>
+    requires saturation { IsSaturation F.told state.old occurs.now queue.old marks.now }
+    requires running { state.old.bottom ≡ false }
+    requires first { 1 ≤ times id queue.old.queued }
+    requires there { trimmed_at state.old id ≡ Some core.now }
+    requires told { IsTold F.told core.now found.now }
+    ensures saturation { IsSaturation F.told state.new occurs.now queue.new marks.now }
+    ensures adds { AddsEquations F.told ledger.old.items state.old ledger.new.items state.new }
+    ensures counted { OnOk result ((counter now : ℕ) → now ≤ counter + 3
+        → IsCounted state.old ledger.old.items ledger.new.items
+        (length queue.old.queued) counter now (left_to_ask state.new queue.new)) }
+    ensures refused { OnErr result ((counter now : ℕ) → now ≤ counter + 3
+        → IsCounted state.old ledger.old.items ledger.new.items (length queue.old.queued) counter now 0) }
+    ensures less { OnOk result (left_to_do state.new queue.new < left_to_do state.old queue.old) }
+{
+    ledger.reserve(1 + found.run.len())?;
+    take_equation(state, occurs, queue, ledger, u64::from(id), found.equation);
+    take_run::<F, L>(
+        state,
+        occurs,
+        queue,
+        marks,
+        ledger,
+        id,
+        core,
+        found.run.as_slice(),
+    );
+    Ok(())
+}
+
+/// Asks the first core of the queue: where it tells an equation, that is taken, with those that it tells one after
+/// another; and else the core leaves the queue.
 fn ask_first<F: Oracle<L>, L: Ledger>(
     alloc: Global,
     oracle: F,
@@ -100,11 +166,15 @@ fn ask_first<F: Oracle<L>, L: Ledger>(
         (length queue.old.queued) steps.old steps.new 0) }
     ensures less { OnOk result (left_to_do state.new queue.new < left_to_do state.old queue.old) }
 {
-    match state.trimmed(alloc, u64::from(id))? {
-        Some(core) => ask_core(
-            alloc, oracle, state, occurs, queue, marks, ledger, steps, id, &core,
-        ),
-        None => Ok(()),
+    match ask_pending(alloc, oracle, state, steps, id)? {
+        Answer::Told(core, found) => {
+            take_found::<F, L>(state, occurs, queue, marks, ledger, id, &core, &found)
+        }
+        Answer::Silent(compound) => {
+            queue.take(id);
+            marks.set(id, compound);
+            Ok(())
+        }
     }
 }
 

@@ -1,0 +1,26 @@
+-- What a core was found to tell.
+use Rattle.std.specs.Prelude.{◌≡◌, ℕ, Bool}
+use Rattle.core_forms.specs.declared.equation.Equation.{Equation}
+use Rattle.core_forms.specs.declared.form.Core.{Core}
+use Rattle.core_forms.specs.Place.{CoreBelow}
+use Rattle.core_parts.specs.Parts.{is_compound_of}
+use Rattle.core_rules.specs.declared.finding.FoundRun.{FoundRun}
+use Rattle.equation_runs.specs.Turns.{AreToldInTurn, EquationsBelow}
+use Rattle.fixpoint_queue.specs.declared.asking.Answer.{Answer}
+use Rattle.fixpoint_queue.specs.declared.asking.Answer.TheVariants.{Told, Silent}
+
+-- the equation that was found is told of the core, and those of its run one after another, over the core's variables
+pub record IsTold (told : Core → Equation → Type 0) (core : Core) (found : FoundRun) : Type 0 where
+  pub equation : told core found.equation
+  pub run : AreToldInTurn told core found.run.items
+  pub below : (n : ℕ) → CoreBelow n core → EquationsBelow n found.run.items
+
+-- nothing is told of the core, and the flag says whether it is compound
+pub record IsSilent (told : Core → Equation → Type 0) (core : Core) (flag : Bool) : Type 0 where
+  pub none : (e : Equation) → told core e → ⊥
+  pub compound : flag ≡ is_compound_of core
+
+-- an answer is right for a core; where something is told it holds that core
+abbrev pub IsAnswer : (Core → Equation → Type 0) → Core → Answer → Type 0
+IsAnswer told core (Told copy found) = (copy ≡ core) × IsTold told core found
+IsAnswer told core (Silent flag) = IsSilent told core flag

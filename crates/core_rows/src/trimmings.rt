@@ -1,6 +1,6 @@
-//! How a core is trimmed by one view, compared whole.
+//! How a core is trimmed by one view, compared whole, and which cores are seen to stay as they are.
 
-use core_forms::trim;
+use core_forms::{is_settled, trim};
 use core_words::{core_of, core_text};
 use order_ints::{Atom, Lit};
 use std::alloc::Global;
@@ -82,6 +82,28 @@ static LISTS: [Row; 5] = [
     ("Lex or 1 none none", "Lex or T"),
 ];
 
+/// Cores, and whether they are seen to stay. Of the first eight variables 4 and 5 alone do.
+static SETTLED: [(&str, bool); 17] = [
+    ("Parity odd 4,-5,9", true),
+    ("Parity even none", true),
+    ("Parity odd 4,9,3", false),
+    ("Parity even 4,9,F", false),
+    ("Amo 9,-4,10,5", true),
+    ("Amo T,4", false),
+    ("Count 4,9 0..2@10", true),
+    ("Count 4,7 0..2@10", false),
+    ("Count 4,9 0..2@2", false),
+    ("Sum 3..5@4;0..1@9;2..2@1 -9", true),
+    ("Sum 0..2@9;0..1@6 0", false),
+    ("AllDiff 0..2@4;0..2@9 T,10", true),
+    ("AllDiff 0..2@4;0..2@9 T,1", false),
+    ("Lex strict T 0..2@4;0..1@9 0..2@10;0..1@12", true),
+    ("Lex or -7 0..2@4 0..2@10", false),
+    ("Lex or 9 0..2@10 0..2@3", false),
+    // Forms that are not looked at.
+    ("Clause 4,9", false),
+];
+
 /// Tests a row.
 fn check(rt: &impl Abort, alloc: Global, row: &Row) -> io::Result<()> {
     let core = core_of(alloc, row.0)?;
@@ -97,6 +119,21 @@ fn forms_are_trimmed(rt: HostRuntime) -> io::Result<()> {
         for row in rows {
             check(&rt, rt.alloc(), row)?;
         }
+    }
+    Ok(())
+}
+
+/// Tests a row of what stays.
+fn check_settled(rt: &impl Abort, alloc: Global, row: &(&'static str, bool)) -> io::Result<()> {
+    let core = core_of(alloc, row.0)?;
+    assert_eq!(rt; is_settled(&core, &VIEW), row.1, "{}", row.0);
+    Ok(())
+}
+
+#[test]
+fn settled_cores_are_seen(rt: HostRuntime) -> io::Result<()> {
+    for row in &SETTLED {
+        check_settled(&rt, rt.alloc(), row)?;
     }
     Ok(())
 }

@@ -10,6 +10,8 @@ mod compilations;
 #[cfg(test)]
 mod ledgers;
 #[cfg(test)]
+mod lent;
+#[cfg(test)]
 mod numbers;
 #[cfg(test)]
 mod occurrence_lists;

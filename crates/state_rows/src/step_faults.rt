@@ -52,7 +52,7 @@ static FAULTS: [(&str, Option<StepFault>); 32] = [
 ];
 
 /// Applies a line. Where memory is refused it is asked for once more.
-fn apply(rt: &impl Abort, state: &mut State, text: &str) -> Result<(), ApplyFault> {
+pub(super) fn apply(rt: &impl Abort, state: &mut State, text: &str) -> Result<(), ApplyFault> {
     let line = line_of(rt, text);
     match state.apply(&line) {
         Err(ApplyFault::Memory) => state.apply(&line),

@@ -1,0 +1,56 @@
+//! Which pending cores a state lends as it has them, since trimming would leave them as they were made.
+
+use crate::step_faults::apply;
+use crate::steps_made::started;
+use bee_text::{push_blank, push_number};
+use std::alloc::{AllocError, Global};
+use std::io;
+use step_kernel::State;
+
+/// Lines, and the ids that are lent behind each. The cores are `Parity even 1 2`, `Parity odd 2 3 4 5`,
+/// `Amo 3 4 5`, `Sum (0 6) (0 7) 1`, `Lex or T (0 3) (0 4)`, `Clause 3`, whose form is not looked at, and
+/// `Parity odd 6 7`; the parts of the second one are `Parity even 1 3 8` and `Parity odd 4 5 8`.
+static LENT: [(&str, &str); 6] = [
+    ("start", " 1 2 3 4 5 7"),
+    ("eq 1 form 1 2", " 3 4 5 7"),
+    ("split 2", " 3 4 5 7 8 9"),
+    ("enc 3", " 4 5 7 8 9"),
+    ("eq 7 form 6 -7", " 5 8 9"),
+    ("eq 6 form 3 T", " 9"),
+];
+
+/// The ids of the cores that are lent.
+fn lent(alloc: Global, state: &State) -> Result<Vec<u8>, AllocError> {
+    let mut text = Vec::new(alloc);
+    for place in 0..state.ids() {
+        let id = place + 1;
+        if state.settled(id).is_some() {
+            push_blank(&mut text)?;
+            push_number(&mut text, u128::from(id))?;
+        }
+    }
+    Ok(text)
+}
+
+#[test]
+fn settled_cores_are_lent(rt: HostRuntime) -> io::Result<()> {
+    let alloc = rt.alloc();
+    let cores = [
+        "Parity even 1,2",
+        "Parity odd 2,3,4,5",
+        "Amo 3,4,5",
+        "Sum 0..1@6;0..1@7 1",
+        "Lex or T 0..1@3 0..1@4",
+        "Clause 3",
+        "Parity odd 6,7",
+    ];
+    let mut state = started(&rt, alloc, 7, &cores)?;
+    for (text, ids) in &LENT {
+        if *text != "start" {
+            assert_eq!(rt; apply(&rt, &mut state, text), Ok(()), "{text}");
+        }
+        let found = lent(alloc, &state)?;
+        assert_eq!(rt; found.as_slice(), ids.as_bytes(), "{text}");
+    }
+    Ok(())
+}

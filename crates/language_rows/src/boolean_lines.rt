@@ -11,7 +11,8 @@ const X_Y: &str = "new_bool(x) new_bool(y)";
 
 const X_Y_Z: &str = "new_bool(x) new_bool(y) new_bool(z)";
 
-static BOOLEAN_LINES: [Row; 39] = [
+/// Booleans as integers, and operators of two.
+static OPERATORS: [Row; 17] = [
     // Booleans as integers.
     (X_I, "bool2int(x,i)", "1 1; 0 0", "1 0; 0 1; 1 2; 0 -1"),
     (X_I, "bool2int(-x,i)", "1 0; 0 1", "1 1; 0 0; 0 2"),
@@ -58,7 +59,10 @@ static BOOLEAN_LINES: [Row; 39] = [
         "0 0 0; 1 1 1",
         "0 1 1; 1 0 0",
     ),
-    // Operators of lists.
+];
+
+/// Operators of lists.
+static LISTS: [Row; 22] = [
     (
         X_Y_Z,
         "bool_array_or([x,y])",
@@ -162,5 +166,8 @@ static BOOLEAN_LINES: [Row; 39] = [
 
 #[test]
 fn boolean_lines(rt: HostRuntime) -> Result<(), Fail> {
-    hold(&rt, rt.alloc(), &BOOLEAN_LINES)
+    for rows in [OPERATORS.as_slice(), LISTS.as_slice()] {
+        hold(&rt, rt.alloc(), rows)?;
+    }
+    Ok(())
 }

@@ -3,8 +3,8 @@
 use crate::verdicts::says;
 use std::test::Fail;
 
-static FAULTS: [(&str, &str); 91] = [
-    // An item after a goal, and no goal.
+/// An item after a goal, and no goal.
+static GOALS: [(&str, &str); 9] = [
     ("", "statement 1: goal"),
     ("new_bool(x)", "statement 2: goal"),
     ("new_bool(x) bool_eq(x,x)", "statement 3: goal"),
@@ -17,7 +17,10 @@ static FAULTS: [(&str, &str); 91] = [
     ("solve satisfy", "model"),
     ("new_int(i,0,1) solve minimize i", "model"),
     ("new_bool(x) bool2int(x,i) solve maximize(i)", "model"),
-    // Names that the language has not.
+];
+
+/// Names that the language has not.
+static UNKNOWN: [(&str, &str); 7] = [
     ("foo(1) solve satisfy", "statement 1: unknown"),
     (
         "new_bool(x) bool_or(x) solve satisfy",
@@ -37,7 +40,10 @@ static FAULTS: [(&str, &str); 91] = [
         "int_array_times([1],1) solve satisfy",
         "statement 1: unknown",
     ),
-    // Names that no earlier item declares.
+];
+
+/// Names that no earlier item declares.
+static UNDECLARED: [(&str, &str); 12] = [
     ("int_eq(y,1) solve satisfy", "statement 1: undeclared"),
     (
         "new_bool(x) int_eq(1,y) solve satisfy",
@@ -61,7 +67,10 @@ static FAULTS: [(&str, &str); 91] = [
     ("bool2int(true,-i) solve satisfy", "statement 1: undeclared"),
     ("bool2int(x,x) solve satisfy", "statement 1: undeclared"),
     ("bool2int(true,i) solve satisfy", "model"),
-    // Kinds of arguments.
+];
+
+/// Kinds of arguments.
+static KINDS: [(&str, &str); 16] = [
     ("new_bool(x) int_eq(x,1) solve satisfy", "statement 2: kind"),
     ("bool_eq(-true,true) solve satisfy", "statement 1: kind"),
     ("bool_eq(-false,true) solve satisfy", "statement 1: kind"),
@@ -98,7 +107,10 @@ static FAULTS: [(&str, &str); 91] = [
         "int_array_allDiffCond([1],[1]) solve satisfy",
         "statement 1: kind",
     ),
-    // Kinds of declaring places and of objectives.
+];
+
+/// Kinds of declaring places and of objectives.
+static DECLARING: [(&str, &str); 13] = [
     ("new_bool(true) solve satisfy", "statement 1: kind"),
     ("new_int(false,0,1) solve satisfy", "statement 1: kind"),
     ("bool2int(true,false) solve satisfy", "statement 1: kind"),
@@ -127,7 +139,10 @@ static FAULTS: [(&str, &str); 91] = [
         "new_bool(x) new_int(i,0,3) bool2int(x,i) solve maximize i",
         "model",
     ),
-    // Names that are declared anew.
+];
+
+/// Names that are declared anew.
+static TWICE: [(&str, &str); 6] = [
     (
         "new_bool(x) new_bool(x) solve satisfy",
         "statement 2: twice",
@@ -146,7 +161,10 @@ static FAULTS: [(&str, &str); 91] = [
     ),
     ("bool2int(true,i) bool2int(false,i) solve satisfy", "model"),
     ("new_bool(x) new_bool(X) solve satisfy", "model"),
-    // Lengths of lists.
+];
+
+/// Lengths of lists.
+static LENGTHS: [(&str, &str); 13] = [
     (
         "bool_arrays_lex([true],[]) solve satisfy",
         "statement 1: lengths",
@@ -184,7 +202,10 @@ static FAULTS: [(&str, &str); 91] = [
     ("int_array_allDiff([]) solve satisfy", "model"),
     ("int_array_allDiffCond([],[]) solve satisfy", "model"),
     ("bool_arrays_lex([],[]) solve satisfy", "model"),
-    // Domains without a value, and domains of a division.
+];
+
+/// Domains without a value, and domains of a division.
+static DOMAINS: [(&str, &str); 15] = [
     ("new_int(x,3,2) solve satisfy", "statement 1: empty domain"),
     (
         "new_bool(y) new_int(x,0,-1) solve satisfy",
@@ -232,7 +253,19 @@ static FAULTS: [(&str, &str); 91] = [
 
 #[test]
 fn faults(rt: HostRuntime) -> Result<(), Fail> {
-    says(&rt, rt.alloc(), &FAULTS)
+    for rows in [
+        GOALS.as_slice(),
+        UNKNOWN.as_slice(),
+        UNDECLARED.as_slice(),
+        KINDS.as_slice(),
+        DECLARING.as_slice(),
+        TWICE.as_slice(),
+        LENGTHS.as_slice(),
+        DOMAINS.as_slice(),
+    ] {
+        says(&rt, rt.alloc(), rows)?;
+    }
+    Ok(())
 }
 
 /// Faults of listed domains and of second objectives, and models that have them.

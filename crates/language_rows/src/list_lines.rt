@@ -18,8 +18,8 @@ const X_Y_Z: &str = "new_bool(x) new_bool(y) new_bool(z)";
 
 const I_J_Z: &str = "new_int(i,-9,9) new_int(j,-9,9) new_bool(z)";
 
-static LIST_LINES: [Row; 28] = [
-    // Different members.
+/// Different members.
+static DIFFERENT: [Row; 10] = [
     (
         I_J_K,
         "int_array_allDiff([i,j,k])",
@@ -67,6 +67,10 @@ static LIST_LINES: [Row; 28] = [
         "1 1 1 1 1 1; 0 0 0 0 0 0",
         "",
     ),
+];
+
+/// Orders of lists.
+static ORDERS: [Row; 10] = [
     // Orders of booleans.
     (
         X_Y_Z_W,
@@ -109,6 +113,10 @@ static LIST_LINES: [Row; 28] = [
         "-1 0 0 0; 0 3 0 0",
         "0 2 0 0; 1 9 0 0",
     ),
+];
+
+/// Truths of orders.
+static TRUTHS: [Row; 8] = [
     // Truths of orders of booleans.
     (
         X_Y_Z,
@@ -163,5 +171,8 @@ static LIST_LINES: [Row; 28] = [
 
 #[test]
 fn list_lines(rt: HostRuntime) -> Result<(), Fail> {
-    hold(&rt, rt.alloc(), &LIST_LINES)
+    for rows in [DIFFERENT.as_slice(), ORDERS.as_slice(), TRUTHS.as_slice()] {
+        hold(&rt, rt.alloc(), rows)?;
+    }
+    Ok(())
 }

@@ -32,26 +32,31 @@ fn push_fault(alloc: Global, text: &mut Vec<u8>, fault: &LowerFault) -> Result<(
     push_bytes(text, told.as_bytes())
 }
 
-/// What a text is lowered to, and where the model is used up how many declarations are kept; or why it is not.
-fn lowered(alloc: Global, text: &str, used_up: bool) -> Result<(usize, Vec<u8>), Fail> {
+/// What a model is lowered to, or why it is not.
+fn lowered(alloc: Global, text: &str) -> Result<Vec<u8>, Fail> {
     let model = small_model(alloc, text)?;
     let mut found = Vec::new(alloc);
-    let mut kept = 0;
-    if used_up {
-        match lower_owned(alloc, model) {
-            Ok(model) => {
-                kept = model.decls.len();
-                push_lowered(&mut found, &model.lowered)?;
-            }
-            Err(fault) => push_fault(alloc, &mut found, &fault)?,
+    match lower(alloc, &model) {
+        Ok(lowered) => push_lowered(&mut found, &lowered)?,
+        Err(fault) => push_fault(alloc, &mut found, &fault)?,
+    }
+    Ok(found)
+}
+
+/// The same where the model is used up, behind how many declarations are kept.
+fn lowered_owned(alloc: Global, text: &str) -> Result<(usize, Vec<u8>), Fail> {
+    let model = small_model(alloc, text)?;
+    let mut found = Vec::new(alloc);
+    match lower_owned(alloc, model) {
+        Ok(model) => {
+            push_lowered(&mut found, &model.lowered)?;
+            Ok((model.decls.len(), found))
         }
-    } else {
-        match lower(alloc, &model) {
-            Ok(lowered) => push_lowered(&mut found, &lowered)?,
-            Err(fault) => push_fault(alloc, &mut found, &fault)?,
+        Err(fault) => {
+            push_fault(alloc, &mut found, &fault)?;
+            Ok((0, found))
         }
     }
-    Ok((kept, found))
 }
 
 const MIXED: &str =
@@ -130,7 +135,7 @@ static BOOLEANS: [(&str, &str); 11] = [
 
 /// Lines over integers, and the number of variables: i is 0 or 1 by variable 1, j is 2 or 3 by variable 2, x is variable 3. Their
 /// cores stand behind those of i and j.
-static INTEGERS: [(&str, u32, &str); 37] = [
+static INTEGERS: [(&str, u32, &str); 14] = [
     ("bool2int(-x,i)", 3, "EqR T (0 1) (0 -3)"),
     ("int_geq(i,j)", 3, "LeqR T (2 2) (0 1)"),
     ("int_eq(i,j)", 3, "EqR T (0 1) (2 2)"),
@@ -145,7 +150,10 @@ static INTEGERS: [(&str, u32, &str); 37] = [
     ("int_abs(i,j)", 3, "Max (0 1) (-1 -1) (2 2)"),
     ("int_array_max([i],j)", 3, "Max (0 1) (2 2)"),
     ("int_array_min([j,1],i)", 3, "Max (-3 -2) (-1) (-1 -1)"),
-    // Fresh integers, or a fresh atom for each two members.
+];
+
+/// Fresh integers, or a fresh atom for each two members.
+static FRESH: [(&str, u32, &str); 7] = [
     ("int_div(i,j,3)", 4, "DivMod (0 1) (2 2) (3) (0 4)"),
     ("int_div(7,j,j)", 5, "DivMod (7) (2 2) (2 2) (0 4 5)"),
     ("int_mod(i,j,i)", 3, "DivMod (0 1) (2 2) (0) (0 1)"),
@@ -161,7 +169,10 @@ static INTEGERS: [(&str, u32, &str); 37] = [
         6,
         "EqR 4 (0 1) (2 2); EqR 5 (0 1) (1); EqR 6 (2 2) (1); Conj 3 -4 -5 -6",
     ),
-    // Cores that may be split.
+];
+
+/// Cores that may be split.
+static SPLIT: [(&str, u32, &str); 16] = [
     ("bool_array_xor([x,-x,true])", 3, "Parity odd 3 -3 T"),
     (
         "bool_array_xor_reif([x,x,true],-x)",
@@ -222,7 +233,7 @@ static INTEGERS: [(&str, u32, &str); 37] = [
 
 /// Asserts what a text is lowered to.
 fn check(rt: &impl Abort, alloc: Global, text: &str, want: &str) -> Result<(), Fail> {
-    let (_, found) = lowered(alloc, text, false)?;
+    let found = lowered(alloc, text)?;
     assert_eq!(rt; found.as_slice(), want.as_bytes(), "{text}");
     Ok(())
 }
@@ -235,40 +246,59 @@ fn check_used_up(
     kept: usize,
     want: &str,
 ) -> Result<(), Fail> {
-    let (found_kept, found) = lowered(alloc, text, true)?;
+    let (found_kept, found) = lowered_owned(alloc, text)?;
     assert_eq!(rt; found.as_slice(), want.as_bytes(), "{text}");
     assert_eq!(rt; found_kept, kept, "{text}");
     Ok(())
 }
 
+/// Asserts both of a row, and how many declarations are kept.
+fn check_both(rt: &impl Abort, alloc: Global, row: &(&str, usize, &str)) -> Result<(), Fail> {
+    check(rt, alloc, row.0, row.2)?;
+    check_used_up(rt, alloc, row.0, row.1, row.2)
+}
+
 #[test]
 fn models_are_lowered(rt: HostRuntime) -> Result<(), Fail> {
-    for (text, kept, want) in MODELS {
-        check(&rt, rt.alloc(), text, want)?;
-        check_used_up(&rt, rt.alloc(), text, kept, want)?;
+    for row in &MODELS {
+        check_both(&rt, rt.alloc(), row)?;
     }
-    for (text, want) in HEAVY {
-        check(&rt, rt.alloc(), text, want)?;
-        check_used_up(&rt, rt.alloc(), text, 0, want)?;
+    for (text, want) in &HEAVY {
+        check_both(&rt, rt.alloc(), &(*text, 0, *want))?;
     }
     Ok(())
 }
 
+/// Asserts the cores of a line over Booleans.
+fn check_booleans(rt: &impl Abort, alloc: Global, statement: &str, want: &str) -> Result<(), Fail> {
+    let text = format!(in alloc; "new_bool(x) new_bool(y) new_bool(z) {statement} solve satisfy")?;
+    check(rt, alloc, text.as_str(), want)
+}
+
+/// Asserts the cores of a line over integers, and the number of variables.
+fn check_integers(
+    rt: &impl Abort,
+    alloc: Global,
+    statement: &str,
+    vars: u32,
+    want: &str,
+) -> Result<(), Fail> {
+    let text = format!(in alloc;
+        "new_int(i,0,1) new_int(j,2,3) new_bool(x) {statement} solve satisfy"
+    )?;
+    let want = format!(in alloc; "{vars}: (0 1) (2 2) 3; Ladder (0 1); Ladder (2 2); {want}")?;
+    check(rt, alloc, text.as_str(), want.as_str())
+}
+
 #[test]
 fn statements_have_these_cores(rt: HostRuntime) -> Result<(), Fail> {
-    let alloc = rt.alloc();
-    for (statement, want) in BOOLEANS {
-        let text = format!(in alloc;
-            "new_bool(x) new_bool(y) new_bool(z) {statement} solve satisfy"
-        )?;
-        check(&rt, alloc, text.as_str(), want)?;
+    for (statement, want) in &BOOLEANS {
+        check_booleans(&rt, rt.alloc(), statement, want)?;
     }
-    for (statement, vars, want) in INTEGERS {
-        let text = format!(in alloc;
-            "new_int(i,0,1) new_int(j,2,3) new_bool(x) {statement} solve satisfy"
-        )?;
-        let want = format!(in alloc; "{vars}: (0 1) (2 2) 3; Ladder (0 1); Ladder (2 2); {want}")?;
-        check(&rt, alloc, text.as_str(), want.as_str())?;
+    for rows in [INTEGERS.as_slice(), FRESH.as_slice(), SPLIT.as_slice()] {
+        for (statement, vars, want) in rows {
+            check_integers(&rt, rt.alloc(), statement, *vars, want)?;
+        }
     }
     Ok(())
 }

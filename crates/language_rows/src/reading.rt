@@ -4,7 +4,8 @@ use bee_list::Sequence;
 use bumblebee_reader::{
     Arg, GoalKind, Item, Items, ReadFault, Syntax, Term, print_model, read_model,
 };
-use std::alloc::Global;
+use std::alloc::{AllocError, Global};
+use std::process::Abort;
 use std::test::Fail;
 
 /// A fault in words.
@@ -24,8 +25,8 @@ fn shown(alloc: Global, text: &[u8]) -> Result<Vec<u8>, Fail> {
     }
 }
 
-static TEXTS: [(&[u8], &[u8]); 72] = [
-    // Gaps and comments.
+/// Gaps and comments.
+static GAPS: [(&[u8], &[u8]); 14] = [
     (b"", b""),
     (b" \t\r\n", b""),
     (b"% only a comment", b""),
@@ -40,7 +41,10 @@ static TEXTS: [(&[u8], &[u8]); 72] = [
     (b"f(\xff)", b"syntax 1"),
     (b"f(x)\x0b", b"syntax 1"),
     (b"\n\nf(x)\n;", b"syntax 4"),
-    // Calls and their arguments.
+];
+
+/// Calls and their arguments.
+static ARGUMENTS: [(&[u8], &[u8]); 23] = [
     (b"f(x)", b"f(x)\n"),
     (b"f(x,y,x)", b"f(x,y,x)\n"),
     (b"f([])", b"f([])\n"),
@@ -70,7 +74,10 @@ static TEXTS: [(&[u8], &[u8]); 72] = [
     (b"f(x y)", b"syntax 1"),
     (b"f x", b"syntax 1"),
     (b"(x)", b"syntax 1"),
-    // Terms and numerals.
+];
+
+/// Terms and numerals.
+static TERMS: [(&[u8], &[u8]); 19] = [
     (b"f(- x)", b"f(-x)\n"),
     (b"f(--x)", b"syntax 1"),
     (b"f(+1)", b"syntax 1"),
@@ -90,7 +97,10 @@ static TEXTS: [(&[u8], &[u8]); 72] = [
     (b"f(,1073741825)", b"syntax 1"),
     (b"f(x)\n1073741825", b"syntax 2"),
     (b"f(x\n1073741825)", b"syntax 2"),
-    // Goals, and their words in other places.
+];
+
+/// Goals, and their words in other places.
+static GOALS: [(&[u8], &[u8]); 13] = [
     (b"solve satisfy", b"solve satisfy\n"),
     (b"solve minimize x", b"solve minimize x\n"),
     (b"solve\nmaximize\n(\nx\n)", b"solve maximize x\n"),
@@ -110,7 +120,10 @@ static TEXTS: [(&[u8], &[u8]); 72] = [
     (b"solve minimize ((x))", b"syntax 1"),
     (b"solve minimize (x", b"syntax 1"),
     (b"solve minimize 5", b"syntax 1"),
-    // Whole models.
+];
+
+/// Whole models.
+static WHOLES: [(&[u8], &[u8]); 3] = [
     (
         b" new_int( x , 007 ,9 ) % c\nsolve minimize (x)",
         b"new_int(x,7,9)\nsolve minimize x\n",
@@ -122,11 +135,25 @@ static TEXTS: [(&[u8], &[u8]); 72] = [
     ),
 ];
 
+/// Asserts what is read of texts.
+fn reads_and_prints(rt: &impl Abort, alloc: Global, rows: &[(&[u8], &[u8])]) -> Result<(), Fail> {
+    for (text, want) in rows {
+        let got = shown(alloc, text)?;
+        assert_eq!(rt; got.as_slice(), *want, "at {text:?}");
+    }
+    Ok(())
+}
+
 #[test]
 fn reads_and_prints_short_texts(rt: HostRuntime) -> Result<(), Fail> {
-    for (text, want) in TEXTS {
-        let got = shown(rt.alloc(), text)?;
-        assert_eq!(rt; got.as_slice(), want, "at {text:?}");
+    for rows in [
+        GAPS.as_slice(),
+        ARGUMENTS.as_slice(),
+        TERMS.as_slice(),
+        GOALS.as_slice(),
+        WHOLES.as_slice(),
+    ] {
+        reads_and_prints(&rt, rt.alloc(), rows)?;
     }
     Ok(())
 }
@@ -165,11 +192,7 @@ static SECOND_OBJECTIVES: [(&[u8], &[u8]); 19] = [
 
 #[test]
 fn reads_and_prints_second_objectives(rt: HostRuntime) -> Result<(), Fail> {
-    for (text, want) in SECOND_OBJECTIVES {
-        let got = shown(rt.alloc(), text)?;
-        assert_eq!(rt; got.as_slice(), want, "at {text:?}");
-    }
-    Ok(())
+    reads_and_prints(&rt, rt.alloc(), &SECOND_OBJECTIVES)
 }
 
 /// Whether the items are the call `f(x,[-y,-3])` and the goal `solve minimize z`.
@@ -198,24 +221,31 @@ fn has_parts(items: &[Item]) -> bool {
         && objective.as_bytes() == b"z".as_slice()
 }
 
+/// Whether a text has these items.
+fn is_read_in_parts(alloc: Global, text: &[u8]) -> bool {
+    match read_model(alloc, text) {
+        Ok(syntax) => has_parts(syntax.items.as_slice()),
+        Err(_) => false,
+    }
+}
+
 #[test]
-fn reads_the_parts_of_items(rt: HostRuntime) -> Result<(), Fail> {
-    let Ok(syntax) = read_model(rt.alloc(), b"f(x,[-y,-3])\nsolve minimize (z)") else {
-        return Err(Fail::from("no syntax"));
-    };
-    assert!(rt; has_parts(syntax.items.as_slice()));
-    Ok(())
+fn reads_the_parts_of_items(rt: HostRuntime) {
+    assert!(rt; is_read_in_parts(rt.alloc(), b"f(x,[-y,-3])\nsolve minimize (z)"));
+}
+
+/// The canonical text of one item.
+fn item_shown(alloc: Global, item: Item) -> Result<Vec<u8>, AllocError> {
+    let mut alone = Vec::new(alloc);
+    alone.push(item)?;
+    let items = Sequence::from_vec(alone);
+    print_model(alloc, &Syntax { items })
 }
 
 /// What one call gives: the item's canonical text, `end`, or the fault in words.
 fn next_shown(alloc: Global, items: &mut Items<'_>) -> Result<Vec<u8>, Fail> {
     match items.next_item(alloc) {
-        Ok(Some(item)) => {
-            let mut alone = Vec::new(alloc);
-            alone.push(item)?;
-            let items = Sequence::from_vec(alone);
-            Ok(print_model(alloc, &Syntax { items })?)
-        }
+        Ok(Some(item)) => Ok(item_shown(alloc, item)?),
         Ok(None) => Ok(Vec::from_slice(alloc, b"end")?),
         Err(fault) => fault_shown(alloc, fault),
     }
@@ -246,11 +276,11 @@ static CALLS: [(&[u8], [&[u8]; 3]); 7] = [
 
 #[test]
 fn gives_items_one_at_a_time(rt: HostRuntime) -> Result<(), Fail> {
-    for (text, wants) in CALLS {
+    for (text, wants) in &CALLS {
         let mut items = Items::new(text);
         for want in wants {
             let got = next_shown(rt.alloc(), &mut items)?;
-            assert_eq!(rt; got.as_slice(), want, "at {text:?}");
+            assert_eq!(rt; got.as_slice(), *want, "at {text:?}");
         }
     }
     Ok(())

@@ -7,8 +7,8 @@ const X_Y_Z_I: &str = "new_bool(x) new_bool(y) new_bool(z) new_int(i,-9,9)";
 
 const I_J_K: &str = "new_int(i,-9,9) new_int(j,-9,9) new_int(k,-9,9)";
 
-static SUM_LINES: [Row; 50] = [
-    // Counts.
+/// Counts.
+static COUNTS: [Row; 13] = [
     (
         X_Y_Z_I,
         "bool_array_sum_leq([x,y,z],i)",
@@ -88,7 +88,10 @@ static SUM_LINES: [Row; 50] = [
         "0 0 0 1; 0 0 0 -1",
         "0 0 0 0; 1 1 1 0",
     ),
-    // Weights.
+];
+
+/// Weights.
+static WEIGHTS: [Row; 12] = [
     (
         X_Y_Z_I,
         "bool_array_pb_leq([1,-2,3],[x,y,z],i)",
@@ -162,7 +165,10 @@ static SUM_LINES: [Row; 50] = [
         "0 0 0 1; 0 0 0 -1",
         "0 0 0 0; 1 1 1 0",
     ),
-    // Sums.
+];
+
+/// Sums.
+static SUMS: [Row; 13] = [
     (
         I_J_K,
         "int_array_sum_leq([i,j],k)",
@@ -242,7 +248,10 @@ static SUM_LINES: [Row; 50] = [
         "0 0 1; 0 0 -1",
         "0 0 0; 1 1 0",
     ),
-    // Linear sums.
+];
+
+/// Linear sums.
+static LINEAR_SUMS: [Row; 12] = [
     (
         I_J_K,
         "int_array_lin_leq([2,-3],[i,j],k)",
@@ -320,5 +329,13 @@ static SUM_LINES: [Row; 50] = [
 
 #[test]
 fn sum_lines(rt: HostRuntime) -> Result<(), Fail> {
-    hold(&rt, rt.alloc(), &SUM_LINES)
+    for rows in [
+        COUNTS.as_slice(),
+        WEIGHTS.as_slice(),
+        SUMS.as_slice(),
+        LINEAR_SUMS.as_slice(),
+    ] {
+        hold(&rt, rt.alloc(), rows)?;
+    }
+    Ok(())
 }

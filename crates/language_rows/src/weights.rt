@@ -4,6 +4,7 @@
 use crate::verdicts::model;
 use model_weight::weight;
 use std::alloc::Global;
+use std::process::Abort;
 use std::test::Fail;
 use typed_model::in_limits;
 
@@ -13,7 +14,8 @@ const DECLARED: &str =
 /// What the declarations weigh: 13 variables, and 14 for the ladders.
 const DECLARED_WEIGHT: u128 = 27;
 
-static LINES: [(&str, u128); 80] = [
+/// Lines over Booleans.
+static BOOLEANS: [(&str, u128); 19] = [
     ("bool2int(x,i)", 32),
     ("bool2int(true,m)", 0),
     ("bool2int(true,m) int_eq(m,i)", 32),
@@ -33,6 +35,10 @@ static LINES: [(&str, u128); 80] = [
     ("bool_array_and_reif([],z)", 1),
     ("bool_array_xor_reif([x,y,x,y],z)", 38),
     ("bool_array_iff_reif([x,y,x],z)", 29),
+];
+
+/// Comparisons of two integers.
+static COMPARISONS: [(&str, u128); 8] = [
     ("int_leq(i,j)", 42),
     ("int_geq(i,j)", 42),
     ("int_eq(i,j)", 62),
@@ -41,6 +47,10 @@ static LINES: [(&str, u128); 80] = [
     ("int_neq(j,i)", 62),
     ("int_leq_reif(i,k,x)", 27),
     ("int_neq_reif(3,4,x)", 11),
+];
+
+/// Sums of Booleans.
+static COUNTS: [(&str, u128); 12] = [
     ("bool_array_sum_eq([x,y,z,x,y],i)", 183),
     ("bool_array_sum_leq([x,y,z,x,y],i)", 234),
     ("bool_array_sum_neq([x],4)", 27),
@@ -53,6 +63,10 @@ static LINES: [(&str, u128); 80] = [
     ("bool_array_pb_leq([2,0,4],[x,true,z],7)", 12),
     ("bool_array_pb_neq([5],[x],i)", 32),
     ("bool_array_pb_gt([0],[x],1)", 6),
+];
+
+/// Sums of integers.
+static SUMS: [(&str, u128); 14] = [
     ("int_array_sum_eq([i,j,k],h)", 158),
     ("int_array_sum_eq([i,j,k,i,j],k)", 764),
     ("int_array_sum_leq([i,j,k],h)", 230),
@@ -70,6 +84,10 @@ static LINES: [(&str, u128); 80] = [
         365,
     ),
     ("int_array_lin_gt([7,7,7,7],[i,j,k,i],j)", 1064),
+];
+
+/// Operations on integers.
+static OPERATIONS: [(&str, u128); 14] = [
     ("int_plus(i,j,k)", 158),
     ("int_plus(i,h,k)", 30),
     ("int_times(i,j,k)", 254),
@@ -84,6 +102,10 @@ static LINES: [(&str, u128); 80] = [
     ("int_array_plus([i,j,k,i],9)", 270),
     ("int_array_max([i,j,k],i)", 60),
     ("int_array_min([i],j)", 32),
+];
+
+/// Different members, and orders of lists.
+static LISTS: [(&str, u128); 13] = [
     ("int_array_allDiff([i,j,k])", 261),
     ("int_array_allDiff([])", 0),
     ("int_array_allDiffCond([i,j],[x,y])", 202),
@@ -148,13 +170,32 @@ fn weighed(alloc: Global, text: &str) -> Result<u128, Fail> {
     Ok(weight(alloc, &model)?)
 }
 
+/// The weight of a statement behind the declarations.
+fn line_weighed(alloc: Global, statement: &str) -> Result<u128, Fail> {
+    let text = format!(in alloc; "{DECLARED} {statement} solve satisfy")?;
+    weighed(alloc, text.as_str())
+}
+
+/// Asserts what statements weigh behind the declarations.
+fn lines_weigh(rt: &impl Abort, alloc: Global, rows: &[(&str, u128)]) -> Result<(), Fail> {
+    for (statement, want) in rows {
+        let found = line_weighed(alloc, statement)?;
+        assert_eq!(rt; found, want.saturating_add(DECLARED_WEIGHT), "{statement}");
+    }
+    Ok(())
+}
+
 #[test]
 fn statements_weigh_what_their_line_says(rt: HostRuntime) -> Result<(), Fail> {
-    let alloc = rt.alloc();
-    for (statement, want) in &LINES {
-        let text = format!(in alloc; "{DECLARED} {statement} solve satisfy")?;
-        let found = weighed(alloc, text.as_str())?;
-        assert_eq!(rt; found, want.saturating_add(DECLARED_WEIGHT), "{statement}");
+    for rows in [
+        BOOLEANS.as_slice(),
+        COMPARISONS.as_slice(),
+        COUNTS.as_slice(),
+        SUMS.as_slice(),
+        OPERATIONS.as_slice(),
+        LISTS.as_slice(),
+    ] {
+        lines_weigh(&rt, rt.alloc(), rows)?;
     }
     Ok(())
 }
@@ -180,12 +221,16 @@ fn long_text(alloc: Global, front: &str, members: &str, back: &str) -> Result<St
     Ok(text)
 }
 
+/// The weight of a model with a list of three members, 333 times.
+fn long_weighed(alloc: Global, front: &str, members: &str, back: &str) -> Result<u128, Fail> {
+    let text = long_text(alloc, front, members, back)?;
+    weighed(alloc, text.as_str())
+}
+
 #[test]
 fn long_lists_weigh_as_if_each_pair_were_counted(rt: HostRuntime) -> Result<(), Fail> {
-    let alloc = rt.alloc();
     for (front, members, back, want) in &LONG {
-        let text = long_text(alloc, front, members, back)?;
-        let found = weighed(alloc, text.as_str())?;
+        let found = long_weighed(rt.alloc(), front, members, back)?;
         assert_eq!(rt; found, want.saturating_add(LONG_DECLARED), "{front}");
     }
     Ok(())

@@ -80,27 +80,42 @@ const VIEW: [Atom; 5] = [
     }),
 ];
 
+/// Adds a clause.
+fn add(alloc: Global, ordered: &mut OrderedClauses, letters: &str) -> Result<(), AllocError> {
+    let unordered = clause(alloc, letters)?;
+    ordered.add(alloc, &VIEW, unordered.as_slice())
+}
+
+/// The clauses between blanks, put in order.
+fn put_in_order(alloc: Global, text: &str) -> Result<Cnf, AllocError> {
+    let mut ordered = OrderedClauses::new(alloc);
+    for letters in text.split(' ') {
+        add(alloc, &mut ordered, letters)?;
+    }
+    ordered.into_cnf(alloc, 6)
+}
+
 #[test]
 fn clauses_are_put_in_order(rt: HostRuntime) -> Result<(), AllocError> {
-    let alloc = rt.alloc();
-    let mut ordered = OrderedClauses::new(alloc);
-    for letters in "ea cFcF be afd eDa Bc Ed F".split(' ') {
-        let unordered = clause(alloc, letters)?;
-        ordered.add(alloc, &VIEW, unordered.as_slice())?;
-    }
-    let found = show(alloc, &ordered.into_cnf(alloc, 6)?)?;
+    let cnf = put_in_order(rt.alloc(), "ea cFcF be afd eDa Bc Ed F")?;
+    let found = show(rt.alloc(), &cnf)?;
     assert_eq!(rt; found.as_slice(), b"ae F  AE ".as_slice());
     Ok(())
 }
 
-#[test]
-fn one_clause_is_put_in_order(rt: HostRuntime) -> Result<(), AllocError> {
-    let unordered = clause(rt.alloc(), "dBd")?;
-    let kept = ordered_clause(rt.alloc(), &[], unordered.as_slice())?;
-    let mut found = Vec::new(rt.alloc());
-    if let Some(kept) = kept {
+/// A clause put in order alone, with a blank behind it; nothing where it is always true.
+fn one_put_in_order(alloc: Global, letters: &str) -> Result<Vec<u8>, AllocError> {
+    let unordered = clause(alloc, letters)?;
+    let mut found = Vec::new(alloc);
+    if let Some(kept) = ordered_clause(alloc, &[], unordered.as_slice())? {
         show_clause(&mut found, kept.as_slice())?;
     }
+    Ok(found)
+}
+
+#[test]
+fn one_clause_is_put_in_order(rt: HostRuntime) -> Result<(), AllocError> {
+    let found = one_put_in_order(rt.alloc(), "dBd")?;
     assert_eq!(rt; found.as_slice(), b"Bd ".as_slice());
     Ok(())
 }

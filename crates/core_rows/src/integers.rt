@@ -84,26 +84,43 @@ fn integers_are_made(rt: HostRuntime) -> Result<(), Fail> {
     Ok(())
 }
 
-#[test]
-fn values_are_reached(rt: HostRuntime) -> Result<(), Fail> {
-    let wide = OrdInt::from_values(rt.alloc(), &[-5, -1, 100], 7)?;
-    for (value, word) in [
-        (i128::MIN, "T"),
-        (-5, "T"),
-        (-4, "7"),
-        (-1, "7"),
-        (100, "8"),
-        (101, "F"),
-        (i128::MAX, "F"),
-    ] {
+/// What it is that an integer of the values -5, -1 and 100, by variables 7 and 8, is at least a value.
+static REACHED: [(i128, &str); 7] = [
+    (i128::MIN, "T"),
+    (-5, "T"),
+    (-4, "7"),
+    (-1, "7"),
+    (100, "8"),
+    (101, "F"),
+    (i128::MAX, "F"),
+];
+
+/// Asserts these rows.
+fn reaches(rt: &impl Abort, wide: &OrdInt) -> Result<(), Fail>
+    requires { IsBounded wide.now }
+{
+    for (value, word) in &REACHED {
         let wanted = atom(word)?;
-        assert_eq!(rt; wide.at(value), wanted, "at {value}");
+        assert_eq!(rt; wide.at(*value), wanted, "at {value}");
     }
+    Ok(())
+}
+
+/// Asserts that an integer reaches each of its values by its level.
+fn reaches_levels(rt: &impl Abort, wide: &OrdInt)
+    requires { IsBounded wide.now }
+{
     for (value, atom) in wide.levels() {
         assert_eq!(rt; atom, wide.at(value));
     }
+}
+
+#[test]
+fn values_are_reached(rt: HostRuntime) -> Result<(), Fail> {
+    let wide = OrdInt::from_values(rt.alloc(), &[-5, -1, 100], 7)?;
     assert_eq!(rt; wide.levels().count(), 3);
-    Ok(())
+    reaches_levels(&rt, &wide);
+    reaches(&rt, &wide)
 }
 
 #[test]

@@ -4,6 +4,7 @@ use core_forms::{Core, variables};
 use core_words::{core_of, core_text};
 use std::alloc::{AllocError, Global};
 use std::io;
+use std::process::Abort;
 
 /// A core, and what it has.
 type Row = (&'static str, &'static str);
@@ -37,22 +38,34 @@ fn variables_text(alloc: Global, core: &Core) -> Result<String, AllocError> {
     Ok(out)
 }
 
+/// Asserts the variables of a core.
+fn has_variables(rt: &impl Abort, alloc: Global, row: &Row) -> io::Result<()> {
+    let core = core_of(alloc, row.0)?;
+    let found = variables_text(alloc, &core)?;
+    assert_eq!(rt; found.as_str(), row.1, "{}", row.0);
+    Ok(())
+}
+
 #[test]
 fn variables_are_told_once_and_ascending(rt: HostRuntime) -> io::Result<()> {
-    for (text, want) in VARIABLES {
-        let core = core_of(rt.alloc(), text)?;
-        let found = variables_text(rt.alloc(), &core)?;
-        assert_eq!(rt; found.as_str(), want, "{text}");
+    for row in &VARIABLES {
+        has_variables(&rt, rt.alloc(), row)?;
     }
+    Ok(())
+}
+
+/// Asserts the members of a core.
+fn has_members(rt: &impl Abort, alloc: Global, row: &Row) -> io::Result<()> {
+    let core = core_of(alloc, row.0)?;
+    let found = core_text(alloc, &core)?;
+    assert_eq!(rt; found.as_slice(), row.1.as_bytes(), "{}", row.0);
     Ok(())
 }
 
 #[test]
 fn atoms_and_integers_are_told_in_their_order(rt: HostRuntime) -> io::Result<()> {
-    for (text, want) in MEMBERS {
-        let core = core_of(rt.alloc(), text)?;
-        let found = core_text(rt.alloc(), &core)?;
-        assert_eq!(rt; found.as_slice(), want.as_bytes(), "{text}");
+    for row in &MEMBERS {
+        has_members(&rt, rt.alloc(), row)?;
     }
     Ok(())
 }

@@ -3,6 +3,7 @@
 use core_cost::Shape;
 use core_forms::{shape, sums};
 use core_words::int;
+use std::alloc::Global;
 use std::io;
 
 /// The shape of an integer of even weights.
@@ -41,12 +42,18 @@ fn integers_have_shapes(rt: HostRuntime) -> io::Result<()> {
     Ok(())
 }
 
+/// The sums of the values of two integers.
+fn sums_of(alloc: Global, first: &str, second: &str) -> io::Result<Vec<i128>> {
+    let a = int(alloc, first)?;
+    let b = int(alloc, second)?;
+    Ok(sums(alloc, &a, &b)?)
+}
+
 #[test]
 fn values_have_sums(rt: HostRuntime) -> io::Result<()> {
-    for (first, second, wanted) in SUMS {
-        let (a, b) = (int(rt.alloc(), first)?, int(rt.alloc(), second)?);
-        let found = sums(rt.alloc(), &a, &b)?;
-        assert_eq!(rt; found.as_slice(), wanted, "{first} and {second}");
+    for (first, second, wanted) in &SUMS {
+        let found = sums_of(rt.alloc(), first, second)?;
+        assert_eq!(rt; found.as_slice(), *wanted, "{first} and {second}");
     }
     Ok(())
 }

@@ -4,49 +4,64 @@ use bee_text::{
     Lines, end_line, is_word, next_word, push_blank, push_bytes, push_number, push_signed,
     read_number, read_signed, split_words,
 };
+use std::alloc::AllocError;
 use std::test::Fail;
 
+/// Texts, and the numbers that they are.
+static NUMBERS: [(&str, Option<u128>); 11] = [
+    ("0", Some(0)),
+    ("9", Some(9)),
+    ("10", Some(10)),
+    ("340282366920938463463374607431768211455", Some(u128::MAX)),
+    ("340282366920938463463374607431768211456", None),
+    (
+        "999999999999999999999999999999999999999999999999999999999999",
+        None,
+    ),
+    ("", None),
+    ("00", None),
+    ("007", None),
+    ("+7", None),
+    ("7 ", None),
+];
+
+/// Texts, and the numbers with a sign that they are.
+static SIGNED: [(&str, Option<i128>); 8] = [
+    ("-1", Some(-1)),
+    ("-170141183460469231731687303715884105728", Some(i128::MIN)),
+    ("-170141183460469231731687303715884105729", None),
+    ("170141183460469231731687303715884105727", Some(i128::MAX)),
+    ("170141183460469231731687303715884105728", None),
+    ("-0", None),
+    ("-", None),
+    ("--1", None),
+];
+
 #[test]
-fn numbers(rt: HostRuntime) -> Result<(), Fail> {
-    let largest = "340282366920938463463374607431768211455";
-    for (text, want) in [
-        ("0", Some(0)),
-        ("9", Some(9)),
-        ("10", Some(10)),
-        (largest, Some(u128::MAX)),
-        ("340282366920938463463374607431768211456", None),
-        (
-            "999999999999999999999999999999999999999999999999999999999999",
-            None,
-        ),
-        ("", None),
-        ("00", None),
-        ("007", None),
-        ("+7", None),
-        ("7 ", None),
-    ] {
-        assert_eq!(rt; read_number(text.as_bytes(), u128::MAX), want, "{text}");
+fn numbers(rt: HostRuntime) {
+    for (text, want) in &NUMBERS {
+        assert_eq!(rt; read_number(text.as_bytes(), u128::MAX), *want, "{text}");
     }
-    for (text, want) in [
-        ("-1", Some(-1)),
-        ("-170141183460469231731687303715884105728", Some(i128::MIN)),
-        ("-170141183460469231731687303715884105729", None),
-        ("170141183460469231731687303715884105727", Some(i128::MAX)),
-        ("170141183460469231731687303715884105728", None),
-        ("-0", None),
-        ("-", None),
-        ("--1", None),
-    ] {
-        assert_eq!(rt; read_signed(text.as_bytes(), u128::MAX), want, "{text}");
+    for (text, want) in &SIGNED {
+        assert_eq!(rt; read_signed(text.as_bytes(), u128::MAX), *want, "{text}");
     }
     assert_eq!(rt; read_number(b"10", 9), None);
     assert_eq!(rt; read_signed(b"-10", 9), None);
+}
+
+/// The greatest number, and behind it, in a line of its own, a word and the least number with a sign.
+fn push_extremes(text: &mut Vec<u8>) -> Result<(), AllocError> {
+    push_number(text, u128::MAX)?;
+    end_line(text)?;
+    push_bytes(text, b"p")?;
+    push_blank(text)?;
+    push_signed(text, i128::MIN)
+}
+
+#[test]
+fn numbers_are_written(rt: HostRuntime) -> Result<(), AllocError> {
     let mut out = Vec::new(rt.alloc());
-    push_number(&mut out, u128::MAX)?;
-    end_line(&mut out)?;
-    push_bytes(&mut out, b"p")?;
-    push_blank(&mut out)?;
-    push_signed(&mut out, i128::MIN)?;
+    push_extremes(&mut out)?;
     let want =
         b"340282366920938463463374607431768211455\np -170141183460469231731687303715884105728";
     assert_eq!(rt; out.as_slice(), want.as_slice());

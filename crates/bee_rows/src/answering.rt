@@ -1,24 +1,20 @@
 //! Solving a model, and checking an answer to it.
 
 use crate::outside::{AMPLE, Shown, run_files, run_over};
+use crate::wanted::{Wanted, shows};
 use std::alloc::{AllocError, Global};
 use std::process::Abort;
 use std::test::Fail;
 
+/// The words that solve a model.
+pub(super) const SOLVE: &[&str] = &["bee", "solve", "m.bee"];
+
 /// Checks a document for a model.
 pub(super) fn checked(alloc: Global, model: &str, document: &[u8]) -> Result<Shown, AllocError> {
-    let model = (
-        String::from_str(alloc, "m.bee")?,
-        Vec::from_slice(alloc, model.as_bytes())?,
-    );
-    let document = (
-        String::from_str(alloc, "a.txt")?,
-        Vec::from_slice(alloc, document)?,
-    );
     run_files(
         alloc,
         &["bee", "check", "m.bee", "a.txt"],
-        vec![in alloc; model, document]?,
+        &[("m.bee", model.as_bytes()), ("a.txt", document)],
         AMPLE,
     )
 }
@@ -31,19 +27,19 @@ pub(super) fn accepted(
     written: &[u8],
     verdict: &str,
 ) -> Result<(), Fail> {
-    let run = checked(alloc, model, written)?;
     let told = format!(in alloc; "ACCEPTED {verdict}\n")?;
-    assert_eq!(rt; run.out.taken(), told.as_bytes(), "{model}");
-    assert_eq!(rt; run.status, ("done", 0), "{model}");
+    let wanted = Wanted {
+        status: ("done", 0),
+        code: 0,
+        out: told.as_bytes(),
+        err: b"",
+    };
+    let run = checked(alloc, model, written)?;
+    shows(rt, &run, &wanted, &[model]);
     Ok(())
 }
 
 /// Solves a model.
 pub(super) fn solved(alloc: Global, words: &[&str], model: &str) -> Result<Shown, AllocError> {
-    run_over(
-        alloc,
-        words,
-        Vec::from_slice(alloc, model.as_bytes())?,
-        AMPLE,
-    )
+    run_over(alloc, words, model.as_bytes(), AMPLE)
 }

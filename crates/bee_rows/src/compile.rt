@@ -1,7 +1,11 @@
 //! Compile mode.
 
-use crate::outside::{AMPLE, Outside, Shown, compile_over, run_over};
+ghost use Rattle.std.specs.Prelude.{◌≤◌};
+
+use crate::outside::{AMPLE, Outside, compile_over, run_over};
+use crate::wanted::{Wanted, compile_shows, shows};
 use std::alloc::{AllocError, Global};
+use std::process::Abort;
 use std::test::Fail;
 
 /// One declared Boolean, and its compiled text.
@@ -43,9 +47,68 @@ static TOO_HEAVY: [(&str, u128); 4] = [
     ),
 ];
 
-fn bytes(alloc: Global, text: &str) -> Result<Vec<u8>, AllocError> {
-    Vec::from_slice(alloc, text.as_bytes())
-}
+/// A text, and the fault for which it is refused: its word, and the number of its line or statement.
+type Refusal = (&'static str, &'static str, u128);
+
+/// Texts that are no models.
+static REFUSALS: [Refusal; 16] = [
+    ("new_bool(x", "syntax", 1),
+    ("new_bool(x)\nsolve\n", "syntax", 3),
+    ("bool_array_or([true,])solve satisfy", "syntax", 1),
+    (
+        "new_bool(x)\nnew_int(y,0,1073741825)\nsolve satisfy\n",
+        "number",
+        2,
+    ),
+    ("", "goal", 1),
+    ("new_bool(x)", "goal", 2),
+    ("solve satisfy\nsolve satisfy\n", "goal", 2),
+    ("foo(x)\nsolve satisfy\n", "unknown", 1),
+    (
+        "bool_array_or([x])\nnew_bool(x)\nsolve satisfy\n",
+        "undeclared",
+        1,
+    ),
+    (
+        "new_bool(x)\nint_eq(y,1)\nbool_arrays_lex([x],[x,x])\nsolve satisfy\n",
+        "undeclared",
+        2,
+    ),
+    ("new_bool(x)\nint_leq(x,x)\nsolve satisfy\n", "kind", 2),
+    ("new_bool(x)\nint_eq(x,1)\nsolve satisfy\n", "kind", 2),
+    (
+        "new_bool(x)\nnew_bool(x)\nint_eq(y,1)\nbool_arrays_lex([x],[x,x])\nsolve satisfy\n",
+        "twice",
+        2,
+    ),
+    (
+        "new_bool(x)\nbool_arrays_lex([x],[x,x])\nsolve satisfy\n",
+        "lengths",
+        2,
+    ),
+    ("new_int(x,3,2)\nsolve satisfy\n", "empty domain", 1),
+    (
+        "new_int(a,0,5)new_int(b,0,3)new_int(c,0,5)int_div(a,b,c)solve satisfy",
+        "division domain",
+        4,
+    ),
+];
+
+/// Words that ask for nothing that is built.
+static OTHER_WORDS: [&[&str]; 9] = [
+    &["bee", "solve"],
+    &["bee", "compile", "m.bee", "m.bee"],
+    &["bee", "solve"],
+    &["bee", "check", "m.bee"],
+    &["bee", "queens", "3"],
+    &["bee", "queens", "25"],
+    &["bee", "solve", "m.bee", "--budget", "0"],
+    &["bee", "compile", "m.bee", "--budget", "0"],
+    &["bee", "compile", "m.bee", "--help"],
+];
+
+/// Options that compiling has no use for.
+const WITH_OPTIONS: &[&str] = &["bee", "--no-restart", "compile", "m.bee", "--budget", "007"];
 
 /// A goal behind so many blanks that the text has this length.
 fn padded(alloc: Global, length: usize) -> Result<Vec<u8>, AllocError> {
@@ -64,166 +127,151 @@ fn told(alloc: Global, word: &'static str, number: u128) -> Result<String, Alloc
     }
 }
 
+/// What a model shows that is refused, where this is told.
+fn refused<'a>(word: &'static str, number: u128, told: &'a str) -> Wanted<'a> {
+    Wanted {
+        status: (word, number),
+        code: 3,
+        out: b"",
+        err: told.as_bytes(),
+    }
+}
+
+/// Asserts that a text is refused for its fault.
+fn refused_row(rt: &impl Abort, alloc: Global, row: &Refusal) -> Result<(), Fail> {
+    let (text, word, number) = *row;
+    let told = told(alloc, word, number)?;
+    compile_shows(rt, alloc, text, &refused(word, number, told.as_str()))
+}
+
 #[test]
 fn other_texts_are_refused(rt: HostRuntime) -> Result<(), Fail> {
-    let alloc = rt.alloc();
-    for (text, word, number) in [
-        ("new_bool(x", "syntax", 1),
-        ("new_bool(x)\nsolve\n", "syntax", 3),
-        ("bool_array_or([true,])solve satisfy", "syntax", 1),
-        (
-            "new_bool(x)\nnew_int(y,0,1073741825)\nsolve satisfy\n",
-            "number",
-            2,
-        ),
-        ("", "goal", 1),
-        ("new_bool(x)", "goal", 2),
-        ("solve satisfy\nsolve satisfy\n", "goal", 2),
-        ("foo(x)\nsolve satisfy\n", "unknown", 1),
-        (
-            "bool_array_or([x])\nnew_bool(x)\nsolve satisfy\n",
-            "undeclared",
-            1,
-        ),
-        (
-            "new_bool(x)\nint_eq(y,1)\nbool_arrays_lex([x],[x,x])\nsolve satisfy\n",
-            "undeclared",
-            2,
-        ),
-        ("new_bool(x)\nint_leq(x,x)\nsolve satisfy\n", "kind", 2),
-        ("new_bool(x)\nint_eq(x,1)\nsolve satisfy\n", "kind", 2),
-        (
-            "new_bool(x)\nnew_bool(x)\nint_eq(y,1)\nbool_arrays_lex([x],[x,x])\nsolve satisfy\n",
-            "twice",
-            2,
-        ),
-        (
-            "new_bool(x)\nbool_arrays_lex([x],[x,x])\nsolve satisfy\n",
-            "lengths",
-            2,
-        ),
-        ("new_int(x,3,2)\nsolve satisfy\n", "empty domain", 1),
-        (
-            "new_int(a,0,5)new_int(b,0,3)new_int(c,0,5)int_div(a,b,c)solve satisfy",
-            "division domain",
-            4,
-        ),
-    ] {
-        let run = compile_over(alloc, text, AMPLE)?;
-        assert_eq!(rt; run.status, (word, number), "{text}");
-        assert_eq!(rt; run.code, 3, "{text}");
-        assert_eq!(rt; run.out.taken(), b"".as_slice(), "{text}");
-        let told = told(alloc, word, number)?;
-        assert_eq!(rt; run.err.taken(), told.as_bytes(), "{text}");
+    for row in &REFUSALS {
+        refused_row(&rt, rt.alloc(), row)?;
     }
     Ok(())
 }
 
+/// Asserts that a model is refused for its weight.
+fn heavy_row(rt: &impl Abort, alloc: Global, text: &str, weight: u128) -> Result<(), Fail> {
+    let told = format!(in alloc; "bee: model: weight {weight}\n")?;
+    compile_shows(rt, alloc, text, &refused("weight", weight, told.as_str()))
+}
+
 #[test]
 fn models_that_are_too_heavy_are_refused(rt: HostRuntime) -> Result<(), Fail> {
-    let alloc = rt.alloc();
     for (text, weight) in &TOO_HEAVY {
-        let run = compile_over(alloc, text, AMPLE)?;
-        assert_eq!(rt; run.status, ("weight", *weight), "{text}");
-        assert_eq!(rt; run.code, 3, "{text}");
-        assert_eq!(rt; run.out.taken(), b"".as_slice(), "{text}");
-        let told = format!(in alloc; "bee: model: weight {weight}\n")?;
-        assert_eq!(rt; run.err.taken(), told.as_bytes(), "{text}");
+        heavy_row(&rt, rt.alloc(), text, *weight)?;
     }
+    Ok(())
+}
+
+/// Asserts what words show over a shelf with a model.
+fn words_row(
+    rt: &impl Abort,
+    alloc: Global,
+    words: &[&str],
+    model: &str,
+    wanted: &Wanted<'_>,
+) -> Result<(), Fail> {
+    let run = run_over(alloc, words, model.as_bytes(), AMPLE)?;
+    shows(rt, &run, wanted, words);
     Ok(())
 }
 
 #[test]
 fn other_words_are_refused(rt: HostRuntime) -> Result<(), Fail> {
-    let alloc = rt.alloc();
-    let two = ["bee", "solve"];
-    let four = ["bee", "compile", "m.bee", "m.bee"];
-    let mode = ["bee", "solve"];
-    let check = ["bee", "check", "m.bee"];
-    let queens = ["bee", "queens", "3"];
-    let board = ["bee", "queens", "25"];
-    let budget = ["bee", "solve", "m.bee", "--budget", "0"];
-    let nothing = ["bee", "compile", "m.bee", "--budget", "0"];
-    let help = ["bee", "compile", "m.bee", "--help"];
-    for words in [
-        two.as_slice(),
-        four.as_slice(),
-        mode.as_slice(),
-        check.as_slice(),
-        queens.as_slice(),
-        board.as_slice(),
-        budget.as_slice(),
-        nothing.as_slice(),
-        help.as_slice(),
-    ] {
-        let run = run_over(alloc, words, bytes(alloc, ONE)?, AMPLE)?;
-        assert_eq!(rt; run.status.0, "usage");
-        assert_eq!(rt; run.code, 2);
-        assert_eq!(rt; run.out.taken(), b"".as_slice());
-        assert_eq!(rt;
-            run.err.taken(),
-            b"bee: usage: bee MODE INPUT [SECOND] [--budget N] [--no-restart]\n".as_slice()
-        );
+    let usage = Wanted {
+        status: ("usage", 0),
+        code: 2,
+        out: b"",
+        err: b"bee: usage: bee MODE INPUT [SECOND] [--budget N] [--no-restart]\n",
+    };
+    for words in &OTHER_WORDS {
+        words_row(&rt, rt.alloc(), words, ONE, &usage)?;
     }
-    let absent = ["bee", "compile", "absent"];
-    let run = run_over(alloc, absent.as_slice(), bytes(alloc, ONE)?, AMPLE)?;
-    assert_eq!(rt; run.status.0, "read");
-    assert_eq!(rt; run.code, 4);
-    assert_eq!(rt; run.out.taken(), b"".as_slice());
-    assert_eq!(rt; run.err.taken(), b"bee: read fault\n".as_slice());
-    Ok(())
+    let unread = Wanted {
+        status: ("read", 0),
+        code: 4,
+        out: b"",
+        err: b"bee: read fault\n",
+    };
+    words_row(&rt, rt.alloc(), &["bee", "compile", "absent"], ONE, &unread)
+}
+
+/// Asserts that a model is compiled to this text where options stand beside it.
+fn options_row(rt: &impl Abort, alloc: Global, model: &str, compiled: &str) -> Result<(), Fail> {
+    let wanted = Wanted {
+        status: ("done", 0),
+        code: 0,
+        out: compiled.as_bytes(),
+        err: b"",
+    };
+    words_row(rt, alloc, WITH_OPTIONS, model, &wanted)
 }
 
 #[test]
 fn options_mean_nothing_to_compile(rt: HostRuntime) -> Result<(), Fail> {
-    let alloc = rt.alloc();
-    let words = ["bee", "--no-restart", "compile", "m.bee", "--budget", "007"];
-    for (text, compiled) in [(ONE, ONE_COMPILED), (SUM, SUM_COMPILED)] {
-        let run = run_over(alloc, words.as_slice(), bytes(alloc, text)?, AMPLE)?;
-        assert_eq!(rt; run.status.0, "done");
-        assert_eq!(rt; run.out.taken(), compiled.as_bytes());
-    }
-    Ok(())
+    options_row(&rt, rt.alloc(), ONE, ONE_COMPILED)?;
+    options_row(&rt, rt.alloc(), SUM, SUM_COMPILED)
 }
 
-/// Compiles a text of this length.
-fn compile_padded(alloc: Global, length: usize) -> Result<Shown, AllocError> {
-    let words = ["bee", "compile", "m.bee"];
-    run_over(alloc, words.as_slice(), padded(alloc, length)?, AMPLE)
+/// Asserts what compiling a text of this length shows.
+fn length_row(
+    rt: &impl Abort,
+    alloc: Global,
+    length: usize,
+    wanted: &Wanted<'_>,
+) -> Result<(), Fail> {
+    let text = padded(alloc, length)?;
+    let run = run_over(alloc, &["bee", "compile", "m.bee"], text.as_slice(), AMPLE)?;
+    shows(rt, &run, wanted, &[]);
+    Ok(())
 }
 
 #[test]
 fn longest_text_is_compiled(rt: HostRuntime) -> Result<(), Fail> {
-    let run = compile_padded(rt.alloc(), 16_777_216)?;
-    assert_eq!(rt; run.status, ("done", 0));
-    assert_eq!(rt; run.out.taken(), b"c bee 1\np cnf 0 0\n".as_slice());
-    Ok(())
+    let wanted = Wanted {
+        status: ("done", 0),
+        code: 0,
+        out: b"c bee 1\np cnf 0 0\n",
+        err: b"",
+    };
+    length_row(&rt, rt.alloc(), 16_777_216, &wanted)
 }
 
 #[test]
 fn longer_text_is_refused(rt: HostRuntime) -> Result<(), Fail> {
-    let run = compile_padded(rt.alloc(), 16_777_217)?;
-    assert_eq!(rt; run.status, ("too long", 0));
-    assert_eq!(rt; run.code, 3);
-    assert_eq!(rt; run.out.taken(), b"".as_slice());
-    assert_eq!(rt; run.err.taken(), b"bee: model: too long\n".as_slice());
+    let wanted = refused("too long", 0, "bee: model: too long\n");
+    length_row(&rt, rt.alloc(), 16_777_217, &wanted)
+}
+
+/// Asserts the status of a compilation, and what is told of a fault.
+fn fault_row(
+    rt: &impl Abort,
+    alloc: Global,
+    text: &str,
+    outside: Outside<'_>,
+    status: (&'static str, u128),
+    told: &str,
+) -> Result<(), Fail>
+    requires { 1 ≤ outside.step }
+{
+    let run = compile_over(alloc, text, outside)?;
+    assert_eq!(rt; run.status, status);
+    assert_eq!(rt; run.err.taken(), told.as_bytes());
     Ok(())
 }
 
 /// A sink that is full, and one for errors that always fails.
 #[test]
 fn faults_of_the_sinks(rt: HostRuntime) -> Result<(), Fail> {
-    let alloc = rt.alloc();
     let full = Outside { room: 20, ..AMPLE };
-    let run = compile_over(alloc, ONE, full)?;
-    assert_eq!(rt; run.status.0, "write");
-    assert_eq!(rt; run.err.taken(), b"bee: write fault\n".as_slice());
+    let told = "bee: write fault\n";
+    fault_row(&rt, rt.alloc(), ONE, full, ("write", 0), told)?;
     let mute = Outside {
         err_failing: &[1, 2, 3],
         ..AMPLE
     };
-    let run = compile_over(alloc, "solve", mute)?;
-    assert_eq!(rt; run.status, ("syntax", 1));
-    assert_eq!(rt; run.err.taken(), b"".as_slice());
-    Ok(())
+    fault_row(&rt, rt.alloc(), "solve", mute, ("syntax", 1), "")
 }

@@ -2,8 +2,10 @@
 
 ghost use Rattle.std.specs.Prelude.{◌≤◌};
 
+use crate::answering::SOLVE;
 use crate::outside::{AMPLE, Outside, Shown, run_files, run_over};
 use crate::solve::PIGEONS;
+use crate::wanted::{Wanted, shows};
 use std::alloc::{AllocError, Global};
 use std::process::Abort;
 use std::test::Fail;
@@ -71,20 +73,11 @@ static RUNS: [Row; 6] = [
 ];
 
 /// The numbers of calls that fail, of the shelf, of the sink, and of that for errors.
-#[derive(Clone, Copy)]
+#[derive(Clone, Copy, Debug)]
 struct Failing<'a> {
     shelf: &'a [u64],
     sink: &'a [u64],
     err: &'a [u64],
-}
-
-/// What a run is to show: the word of its status, its exit code, and what both sinks took.
-#[derive(Clone, Copy)]
-struct Wanted<'a> {
-    status: &'static str,
-    code: u8,
-    out: &'a [u8],
-    err: &'a str,
 }
 
 /// How many calls give so many bytes and see the end, or take them and flush.
@@ -105,15 +98,19 @@ fn readings(row: &Row, step: usize) -> u64
     all
 }
 
+/// The texts of a row.
+fn texts_of(alloc: Global, row: &Row) -> Result<Vec<(&'static str, &'static [u8])>, AllocError> {
+    let mut texts = Vec::new(alloc);
+    for (name, text) in row.files {
+        texts.push((*name, text.as_bytes()))?;
+    }
+    Ok(texts)
+}
+
 /// The run of a row.
 fn ran(alloc: Global, row: &Row, step: usize, failing: Failing<'_>) -> Result<Shown, AllocError>
     requires { 1 ≤ step }
 {
-    let mut files = Vec::new(alloc);
-    for (name, text) in row.files {
-        let name = String::from_str(alloc, name)?;
-        files.push((name, Vec::from_slice(alloc, text.as_bytes())?))?;
-    }
     let outside = Outside {
         step,
         room: 65_536,
@@ -121,20 +118,34 @@ fn ran(alloc: Global, row: &Row, step: usize, failing: Failing<'_>) -> Result<Sh
         sink_failing: failing.sink,
         err_failing: failing.err,
     };
-    run_files(alloc, row.words, files, outside)
+    let texts = texts_of(alloc, row)?;
+    run_files(alloc, row.words, texts.as_slice(), outside)
 }
 
-/// Asserts what a run shows. A sink for errors that fails takes nothing, and changes nothing else.
-fn shows(rt: &impl Abort, run: &Shown, wanted: Wanted<'_>, failing: Failing<'_>, call: u64) {
-    assert_eq!(rt; run.status, (wanted.status, 0), "call {call}");
-    assert_eq!(rt; run.code, wanted.code, "call {call}");
-    assert_eq!(rt; run.out.taken(), wanted.out, "call {call}");
+/// Asserts what the run of a row shows. A sink for errors that fails takes nothing, and changes nothing else.
+fn fails(
+    rt: &impl Abort,
+    alloc: Global,
+    row: &Row,
+    step: usize,
+    failing: Failing<'_>,
+    wanted: Wanted<'_>,
+) -> Result<(), Fail>
+    requires { 1 ≤ step }
+{
     let told = if failing.err.is_empty() {
         wanted.err
     } else {
-        ""
+        b"".as_slice()
     };
-    assert_eq!(rt; run.err.taken(), told.as_bytes(), "call {call}");
+    let calls = format!(in alloc; "{failing:?}")?;
+    let run = ran(alloc, row, step, failing)?;
+    let wanted = Wanted {
+        err: told,
+        ..wanted
+    };
+    shows(rt, &run, &wanted, &[calls.as_str()]);
+    Ok(())
 }
 
 /// Asserts what comes of a row where a reading fails, and of a failing call that is never made.
@@ -150,21 +161,19 @@ fn readings_fail(
 {
     let made = readings(row, step);
     let unread = Wanted {
-        status: "read",
+        status: ("read", 0),
         code: 4,
         out: b"",
-        err: "bee: read fault\n",
+        err: b"bee: read fault\n",
     };
     for call in 1..made.saturating_add(2) {
-        let shelf = [call];
         let failing = Failing {
-            shelf: shelf.as_slice(),
+            shelf: &[call],
             sink: &[],
             err,
         };
-        let run = ran(alloc, row, step, failing)?;
         let wanted = if call <= made { unread } else { whole };
-        shows(rt, &run, wanted, failing, call);
+        fails(rt, alloc, row, step, failing, wanted)?;
     }
     Ok(())
 }
@@ -183,24 +192,44 @@ fn writings_fail(
     let made = calls(whole.out.len(), step);
     let mut taken: usize = 0;
     for call in 1..made.saturating_add(2) {
-        let sink = [call];
         let failing = Failing {
             shelf: &[],
-            sink: sink.as_slice(),
+            sink: &[call],
             err,
         };
-        let run = ran(alloc, row, step, failing)?;
         let unwritten = Wanted {
-            status: "write",
+            status: ("write", 0),
             code: 5,
             out: &whole.out[..taken.min(whole.out.len())],
-            err: "bee: write fault\n",
+            err: b"bee: write fault\n",
         };
         let wanted = if call <= made { unwritten } else { whole };
-        shows(rt, &run, wanted, failing, call);
+        fails(rt, alloc, row, step, failing, wanted)?;
         taken = taken.saturating_add(step);
     }
     Ok(())
+}
+
+/// Asserts what comes of a row where one call fails, and those for errors do or don't. This is what comes of it where none does.
+fn each_fails(
+    rt: &impl Abort,
+    alloc: Global,
+    row: &Row,
+    step: usize,
+    run: &Shown,
+    err: &[u64],
+) -> Result<(), Fail>
+    requires { 1 ≤ step }
+{
+    let whole = Wanted {
+        status: ("done", 0),
+        code: 0,
+        out: run.out.taken(),
+        err: b"",
+    };
+    shows(rt, run, &whole, row.words);
+    readings_fail(rt, alloc, row, step, whole, err)?;
+    writings_fail(rt, alloc, row, step, whole, err)
 }
 
 /// Asserts what comes of a row where one call fails, and those for errors do or don't.
@@ -215,15 +244,7 @@ fn calls_fail(rt: &impl Abort, alloc: Global, row: &Row, err: &[u64]) -> Result<
         err,
     };
     let run = ran(alloc, row, step, none)?;
-    let whole = Wanted {
-        status: "done",
-        code: 0,
-        out: run.out.taken(),
-        err: "",
-    };
-    shows(rt, &run, whole, none, 0);
-    readings_fail(rt, alloc, row, step, whole, err)?;
-    writings_fail(rt, alloc, row, step, whole, err)
+    each_fails(rt, alloc, row, step, &run, err)
 }
 
 #[test]
@@ -254,23 +275,25 @@ fn cut_fault(front: &[u8]) -> (&'static str, u128) {
     }
 }
 
-#[test]
-fn model_is_cut_at_each_byte(rt: HostRuntime) -> Result<(), Fail> {
-    let alloc = rt.alloc();
-    let text = PIGEONS.as_bytes();
-    // Without the last line feed it is the same model.
+/// Asserts the fault of a front of a model.
+fn front_fails(rt: &impl Abort, alloc: Global, front: &[u8]) -> Result<(), Fail> {
+    let outside = Outside { room: 64, ..AMPLE };
+    let run = run_over(alloc, SOLVE, front, outside)?;
+    assert_eq!(rt; run.status, cut_fault(front), "{} bytes", front.len());
+    assert_eq!(rt; run.code, 3, "{} bytes", front.len());
+    assert_eq!(rt; run.out.taken(), b"".as_slice(), "{} bytes", front.len());
+    Ok(())
+}
+
+/// Asserts the fault of each front of a model. Without the last line feed it is the same model.
+fn fronts_fail(rt: &impl Abort, alloc: Global, text: &[u8]) -> Result<(), Fail> {
     for length in 0..text.len().saturating_sub(1) {
-        let front = &text[..length];
-        let outside = Outside { room: 64, ..AMPLE };
-        let run = run_over(
-            alloc,
-            &["bee", "solve", "m.bee"],
-            Vec::from_slice(alloc, front)?,
-            outside,
-        )?;
-        assert_eq!(rt; run.status, cut_fault(front), "{length} bytes");
-        assert_eq!(rt; run.code, 3, "{length} bytes");
-        assert_eq!(rt; run.out.taken(), b"".as_slice(), "{length} bytes");
+        front_fails(rt, alloc, &text[..length])?;
     }
     Ok(())
+}
+
+#[test]
+fn model_is_cut_at_each_byte(rt: HostRuntime) -> Result<(), Fail> {
+    fronts_fail(&rt, rt.alloc(), PIGEONS.as_bytes())
 }

@@ -1,9 +1,9 @@
 //! Decode mode.
 
-ghost use Rattle.std.specs.Prelude.{◌≤◌};
-
-use crate::outside::{AMPLE, Outside, Shown, compile_over, run_files};
+use crate::outside::{AMPLE, Shown, compile_over, run_files};
+use crate::wanted::{Wanted, shows};
 use std::alloc::{AllocError, Global};
+use std::process::Abort;
 use std::test::Fail;
 
 /// Two integers from 0 to 3 whose sum is 3, with the ledger of their compilation.
@@ -15,141 +15,165 @@ const FOUND: &str = "c found\ns SATISFIABLE\nv 1 -2 -3\nv 4 5 -6 0\n";
 
 const FOUND_DECODED: &str = "x = 1\ny = 2\n";
 
+/// Compiled texts, answers, and what the names have.
+static VALUES: [(&str, &str, &str); 5] = [
+    (SUM, FOUND, FOUND_DECODED),
+    (
+        "c bee 1\nc bool a 1\nc bool t T\nc bool f F\nc bool n -1\nc int i -3 -1:1 2:2\nc int k 7\np cnf 2 1\n1 -2 0\n",
+        "s SATISFIABLE\nv 2 1 0\n",
+        "a = true\nt = true\nf = false\nn = false\ni = -1\nk = 7\n",
+    ),
+    (
+        "c bee 1\nc int high -1073741824 1:2147483648\np cnf 1 0\n",
+        "s SATISFIABLE\nv 1 0\n",
+        "high = 1073741824\n",
+    ),
+    (
+        "c bee 1\nc int h 1 F:4 1:2\np cnf 1 0\n",
+        "s SATISFIABLE\nv 1 0\n",
+        "h = 3\n",
+    ),
+    ("c bee 1\np cnf 0 0\n", "s SATISFIABLE\nv 0\n", ""),
+];
+
+/// Answers, and the line at which each is refused.
+static ANSWERS: [(&str, u128); 10] = [
+    ("s UNSATISFIABLE\n", 1),
+    ("", 1),
+    // A variable that is missing, a false clause, the first or the second, one above the variables, and one that stands twice.
+    ("s SATISFIABLE\nv 1 -2 -3 4 5 0\n", 2),
+    ("s SATISFIABLE\nv -1 2 -3 4 5 6 0\n", 2),
+    ("s SATISFIABLE\nv -1 -2 3 4 5 6 0\n", 2),
+    ("s SATISFIABLE\nv 1 -2 -3 4 5 -6 7 0\n", 2),
+    ("s SATISFIABLE\nv 1\nv 1 -2 -3 4 5 -6 0\n", 3),
+    // A last line without line feed, no end, and something behind it.
+    ("s SATISFIABLE\nv 1 -2 -3 4 5 -6 0", 2),
+    ("c\ns SATISFIABLE\nv 1 -2 -3\n", 4),
+    ("s SATISFIABLE\nv 1 -2 -3 4 5 -6 0\nv 0\n", 3),
+];
+
+/// Texts that are not compiled ones, and the line at which each is refused.
+static TEXTS: [(&str, u128); 9] = [
+    ("p cnf 1 0\n", 1),
+    ("new_bool(x)\nsolve satisfy\n", 1),
+    ("c bee 1\nc bool x 1\n", 3),
+    ("c bee 1\nc bool x 1\nc bool x 1\np cnf 1 0\n", 3),
+    ("c bee 1\nc bool x 1\nc led split 0 1\np cnf 1 0\n", 3),
+    ("c bee 1\nc bool x 2\np cnf 1 0\n", 2),
+    ("c bee 1\np cnf 1 1\n1 0", 3),
+    ("c bee 1\np cnf 1 0\n1 0\n", 3),
+    ("c bee 1\np cnf 1 0\nc", 3),
+];
+
+/// The names of both texts, the compiled text, and the word of the status.
+type Named = (&'static str, &'static str, &'static str, &'static str);
+
+static NAMES: [Named; 6] = [
+    // One name for both: nothing is left of the text for the answer.
+    ("m.cnf", "m.cnf", SUM, "refused"),
+    ("m.sol", "m.sol", SUM, "cnf"),
+    ("absent", "m.sol", SUM, "read"),
+    ("m.cnf", "absent", SUM, "read"),
+    ("m.cnf", "absent", "", "cnf"),
+    ("m.sol", "m.cnf", SUM, "cnf"),
+];
+
+const DECODE: &[&str] = &["bee", "decode", "m.cnf", "m.sol"];
+
 /// A run over a shelf with the compiled text `m.cnf` and the answer `m.sol`.
 fn decoded(
     alloc: Global,
     words: &[&str],
     compiled: &[u8],
     answer: &[u8],
-    outside: Outside<'_>,
-) -> Result<Shown, AllocError>
-    requires { 1 ≤ outside.step }
-{
-    let compiled = (
-        String::from_str(alloc, "m.cnf")?,
-        Vec::from_slice(alloc, compiled)?,
-    );
-    let answer = (
-        String::from_str(alloc, "m.sol")?,
-        Vec::from_slice(alloc, answer)?,
-    );
-    run_files(alloc, words, vec![in alloc; compiled, answer]?, outside)
+) -> Result<Shown, AllocError> {
+    run_files(
+        alloc,
+        words,
+        &[("m.cnf", compiled), ("m.sol", answer)],
+        AMPLE,
+    )
 }
 
-const DECODE: [&str; 4] = ["bee", "decode", "m.cnf", "m.sol"];
+/// Asserts what decoding shows.
+fn decode_shows(
+    rt: &impl Abort,
+    alloc: Global,
+    compiled: &str,
+    answer: &str,
+    wanted: &Wanted<'_>,
+) -> Result<(), Fail> {
+    let run = decoded(alloc, DECODE, compiled.as_bytes(), answer.as_bytes())?;
+    shows(rt, &run, wanted, &[compiled, answer]);
+    Ok(())
+}
 
 #[test]
 fn values_are_told(rt: HostRuntime) -> Result<(), Fail> {
-    let alloc = rt.alloc();
-    for (compiled, answer, lines) in [
-        (SUM, FOUND, FOUND_DECODED),
-        (
-            "c bee 1\nc bool a 1\nc bool t T\nc bool f F\nc bool n -1\nc int i -3 -1:1 2:2\nc int k 7\np cnf 2 1\n1 -2 0\n",
-            "s SATISFIABLE\nv 2 1 0\n",
-            "a = true\nt = true\nf = false\nn = false\ni = -1\nk = 7\n",
-        ),
-        (
-            "c bee 1\nc int high -1073741824 1:2147483648\np cnf 1 0\n",
-            "s SATISFIABLE\nv 1 0\n",
-            "high = 1073741824\n",
-        ),
-        (
-            "c bee 1\nc int h 1 F:4 1:2\np cnf 1 0\n",
-            "s SATISFIABLE\nv 1 0\n",
-            "h = 3\n",
-        ),
-        ("c bee 1\np cnf 0 0\n", "s SATISFIABLE\nv 0\n", ""),
-    ] {
-        let run = decoded(
-            alloc,
-            DECODE.as_slice(),
-            compiled.as_bytes(),
-            answer.as_bytes(),
-            AMPLE,
-        )?;
-        assert_eq!(rt; run.out.taken(), lines.as_bytes(), "{compiled}");
-        assert_eq!(rt; run.err.taken(), b"".as_slice(), "{compiled}");
+    for (compiled, answer, lines) in &VALUES {
+        let wanted = Wanted {
+            status: ("done", 0),
+            code: 0,
+            out: lines.as_bytes(),
+            err: b"",
+        };
+        decode_shows(&rt, rt.alloc(), compiled, answer, &wanted)?;
     }
     Ok(())
+}
+
+/// Asserts that an answer is refused at a line.
+fn answer_row(rt: &impl Abort, alloc: Global, answer: &str, line: u128) -> Result<(), Fail> {
+    let told = format!(in alloc; "REFUSED {line}\n")?;
+    let wanted = Wanted {
+        status: ("refused", line),
+        code: 1,
+        out: told.as_bytes(),
+        err: b"",
+    };
+    decode_shows(rt, alloc, SUM, answer, &wanted)
 }
 
 #[test]
 fn other_answers_are_refused(rt: HostRuntime) -> Result<(), Fail> {
-    let alloc = rt.alloc();
-    for (answer, line) in [
-        ("s UNSATISFIABLE\n", 1),
-        ("", 1),
-        // A variable that is missing, a false clause, the first or the second, one above the variables, and one that stands twice.
-        ("s SATISFIABLE\nv 1 -2 -3 4 5 0\n", 2),
-        ("s SATISFIABLE\nv -1 2 -3 4 5 6 0\n", 2),
-        ("s SATISFIABLE\nv -1 -2 3 4 5 6 0\n", 2),
-        ("s SATISFIABLE\nv 1 -2 -3 4 5 -6 7 0\n", 2),
-        ("s SATISFIABLE\nv 1\nv 1 -2 -3 4 5 -6 0\n", 3),
-        // A last line without line feed, no end, and something behind it.
-        ("s SATISFIABLE\nv 1 -2 -3 4 5 -6 0", 2),
-        ("c\ns SATISFIABLE\nv 1 -2 -3\n", 4),
-        ("s SATISFIABLE\nv 1 -2 -3 4 5 -6 0\nv 0\n", 3),
-    ] {
-        let run = decoded(
-            alloc,
-            DECODE.as_slice(),
-            SUM.as_bytes(),
-            answer.as_bytes(),
-            AMPLE,
-        )?;
-        assert_eq!(rt; run.status, ("refused", line), "{answer}");
-        assert_eq!(rt; run.code, 1, "{answer}");
-        let told = format!(in alloc; "REFUSED {line}\n")?;
-        assert_eq!(rt; run.out.taken(), told.as_bytes(), "{answer}");
-        assert_eq!(rt; run.err.taken(), b"".as_slice(), "{answer}");
+    for (answer, line) in &ANSWERS {
+        answer_row(&rt, rt.alloc(), answer, *line)?;
     }
     Ok(())
+}
+
+/// Asserts that a text is refused at a line, since it is not a compiled one.
+fn text_row(rt: &impl Abort, alloc: Global, compiled: &str, line: u128) -> Result<(), Fail> {
+    let told = format!(in alloc; "bee: cnf: line {line}\n")?;
+    let wanted = Wanted {
+        status: ("cnf", line),
+        code: 3,
+        out: b"",
+        err: told.as_bytes(),
+    };
+    decode_shows(rt, alloc, compiled, FOUND, &wanted)
 }
 
 #[test]
 fn other_texts_are_no_compiled_texts(rt: HostRuntime) -> Result<(), Fail> {
-    let alloc = rt.alloc();
-    for (compiled, line) in [
-        ("p cnf 1 0\n", 1),
-        ("new_bool(x)\nsolve satisfy\n", 1),
-        ("c bee 1\nc bool x 1\n", 3),
-        ("c bee 1\nc bool x 1\nc bool x 1\np cnf 1 0\n", 3),
-        ("c bee 1\nc bool x 1\nc led split 0 1\np cnf 1 0\n", 3),
-        ("c bee 1\nc bool x 2\np cnf 1 0\n", 2),
-        ("c bee 1\np cnf 1 1\n1 0", 3),
-        ("c bee 1\np cnf 1 0\n1 0\n", 3),
-        ("c bee 1\np cnf 1 0\nc", 3),
-    ] {
-        let run = decoded(
-            alloc,
-            DECODE.as_slice(),
-            compiled.as_bytes(),
-            FOUND.as_bytes(),
-            AMPLE,
-        )?;
-        assert_eq!(rt; run.status, ("cnf", line), "{compiled}");
-        assert_eq!(rt; run.code, 3, "{compiled}");
-        assert_eq!(rt; run.out.taken(), b"".as_slice(), "{compiled}");
-        let told = format!(in alloc; "bee: cnf: line {line}\n")?;
-        assert_eq!(rt; run.err.taken(), told.as_bytes(), "{compiled}");
+    for (compiled, line) in &TEXTS {
+        text_row(&rt, rt.alloc(), compiled, *line)?;
     }
     Ok(())
 }
 
-#[test]
-fn compiled_text_cut_at_every_byte(rt: HostRuntime) -> Result<(), Fail> {
-    let alloc = rt.alloc();
-    let text = SUM.as_bytes();
+/// Asserts that a front of a compiled text fails at a line.
+fn cut_row(rt: &impl Abort, alloc: Global, front: &[u8], line: u128) -> Result<(), Fail> {
+    let run = decoded(alloc, DECODE, front, FOUND.as_bytes())?;
+    assert_eq!(rt; run.status, ("cnf", line), "{} bytes", front.len());
+    Ok(())
+}
+
+/// Asserts that each front of a compiled text fails at the line that was begun.
+fn fronts_fail(rt: &impl Abort, alloc: Global, text: &[u8]) -> Result<(), Fail> {
     let mut line: u128 = 1;
     for length in 0..text.len() {
-        let run = decoded(
-            alloc,
-            DECODE.as_slice(),
-            &text[..length],
-            FOUND.as_bytes(),
-            AMPLE,
-        )?;
-        assert_eq!(rt; run.status, ("cnf", line), "{length} bytes");
+        cut_row(rt, alloc, &text[..length], line)?;
         if text[length] == b'\n' {
             line = line.saturating_add(1);
         }
@@ -158,42 +182,42 @@ fn compiled_text_cut_at_every_byte(rt: HostRuntime) -> Result<(), Fail> {
 }
 
 #[test]
-fn names_of_the_texts(rt: HostRuntime) -> Result<(), Fail> {
-    let alloc = rt.alloc();
-    for (input, second, compiled, word) in [
-        // One name for both: nothing is left of the text for the answer.
-        ("m.cnf", "m.cnf", SUM, "refused"),
-        ("m.sol", "m.sol", SUM, "cnf"),
-        ("absent", "m.sol", SUM, "read"),
-        ("m.cnf", "absent", SUM, "read"),
-        ("m.cnf", "absent", "", "cnf"),
-        ("m.sol", "m.cnf", SUM, "cnf"),
-    ] {
-        let words = ["bee", "decode", input, second];
-        let run = decoded(
-            alloc,
-            words.as_slice(),
-            compiled.as_bytes(),
-            FOUND.as_bytes(),
-            AMPLE,
-        )?;
-        assert_eq!(rt; run.status.0, word, "{input} {second}");
-    }
+fn compiled_text_cut_at_every_byte(rt: HostRuntime) -> Result<(), Fail> {
+    fronts_fail(&rt, rt.alloc(), SUM.as_bytes())
+}
+
+/// Asserts the status of a run over texts of these names.
+fn names_row(rt: &impl Abort, alloc: Global, row: &Named) -> Result<(), Fail> {
+    let (input, second, compiled, word) = *row;
+    let words = ["bee", "decode", input, second];
+    let run = decoded(
+        alloc,
+        words.as_slice(),
+        compiled.as_bytes(),
+        FOUND.as_bytes(),
+    )?;
+    assert_eq!(rt; run.status.0, word, "{input} {second}");
     Ok(())
 }
 
 #[test]
-fn model_is_compiled_and_decoded(rt: HostRuntime) -> Result<(), Fail> {
-    let alloc = rt.alloc();
-    let model = "new_bool(a)\nnew_bool(b)\nbool_array_or([a,-b])\nsolve satisfy\n";
+fn names_of_the_texts(rt: HostRuntime) -> Result<(), Fail> {
+    for row in &NAMES {
+        names_row(&rt, rt.alloc(), row)?;
+    }
+    Ok(())
+}
+
+/// What decoding shows of the text that a model is compiled to.
+fn decoded_model(alloc: Global, model: &str, answer: &str) -> Result<Shown, AllocError> {
     let text = compile_over(alloc, model, AMPLE)?;
-    let run = decoded(
-        alloc,
-        DECODE.as_slice(),
-        text.out.taken(),
-        b"s SATISFIABLE\nv 1 -2 0\n",
-        AMPLE,
-    )?;
+    decoded(alloc, DECODE, text.out.taken(), answer.as_bytes())
+}
+
+#[test]
+fn model_is_compiled_and_decoded(rt: HostRuntime) -> Result<(), Fail> {
+    let model = "new_bool(a)\nnew_bool(b)\nbool_array_or([a,-b])\nsolve satisfy\n";
+    let run = decoded_model(rt.alloc(), model, "s SATISFIABLE\nv 1 -2 0\n")?;
     assert_eq!(rt; run.status.0, "done");
     assert_eq!(rt; run.out.taken(), b"a = true\nb = false\n".as_slice());
     Ok(())

@@ -3,6 +3,7 @@
 ghost use Rattle.std.specs.Prelude.{◌≤◌};
 
 use crate::outside::{AMPLE, Outside, Shown, run_files};
+use crate::wanted::{Wanted, shows};
 use std::alloc::{AllocError, Global};
 use std::process::Abort;
 use std::test::Fail;
@@ -33,18 +34,18 @@ const DRUP: &[&str] = &["bee", "drup", "m.cnf", "m.drup"];
 fn checked(
     alloc: Global,
     words: &[&str],
-    listed: Vec<u8>,
+    listed: &[u8],
     proof: &str,
     outside: Outside<'_>,
 ) -> Result<Shown, AllocError>
     requires { 1 ≤ outside.step }
 {
-    let listed = (String::from_str(alloc, "m.cnf")?, listed);
-    let proof = (
-        String::from_str(alloc, "m.drup")?,
-        Vec::from_slice(alloc, proof.as_bytes())?,
-    );
-    run_files(alloc, words, vec![in alloc; listed, proof]?, outside)
+    run_files(
+        alloc,
+        words,
+        &[("m.cnf", listed), ("m.drup", proof.as_bytes())],
+        outside,
+    )
 }
 
 /// The words, the text of the CNF, that of the proof, the status with its number, the exit code, what is written, and what is told of a fault.
@@ -265,60 +266,55 @@ static TEXTS: [Row; 11] = [
 ];
 
 /// Runs a row, and compares what it shows.
-fn drup_row<R: Abort>(rt: &R, alloc: Global, row: &Row) -> Result<(), Fail> {
-    let (words, listed, proof, status, code, written, told) = row;
-    let text = Vec::from_slice(alloc, listed.as_bytes())?;
-    let run = checked(alloc, words, text, proof, AMPLE)?;
-    assert_eq!(rt; run.status, *status, "{words:?} {listed} {proof}");
-    assert_eq!(rt; run.code, *code, "{words:?} {listed} {proof}");
-    assert_eq!(rt;
-        run.out.taken(),
-        written.as_bytes(),
-        "{words:?} {listed} {proof}"
-    );
-    assert_eq!(rt;
-        run.err.taken(),
-        told.as_bytes(),
-        "{words:?} {listed} {proof}"
-    );
+fn drup_row(rt: &impl Abort, alloc: Global, row: &Row) -> Result<(), Fail> {
+    let (words, listed, proof, status, code, written, told) = *row;
+    let run = checked(alloc, words, listed.as_bytes(), proof, AMPLE)?;
+    let wanted = Wanted {
+        status,
+        code,
+        out: written.as_bytes(),
+        err: told.as_bytes(),
+    };
+    shows(rt, &run, &wanted, &[listed, proof]);
+    Ok(())
+}
+
+/// Runs rows.
+fn check(rt: &impl Abort, alloc: Global, rows: &[Row]) -> Result<(), Fail> {
+    for row in rows {
+        drup_row(rt, alloc, row)?;
+    }
     Ok(())
 }
 
 #[test]
 fn proofs_are_accepted_or_refused(rt: HostRuntime) -> Result<(), Fail> {
-    let alloc = rt.alloc();
-    for row in &PROOFS {
-        drup_row(&rt, alloc, row)?;
-    }
-    Ok(())
+    check(&rt, rt.alloc(), &PROOFS)
 }
 
 #[test]
 fn texts_and_names_have_these_ends(rt: HostRuntime) -> Result<(), Fail> {
-    let alloc = rt.alloc();
-    for row in &TEXTS {
-        drup_row(&rt, alloc, row)?;
-    }
-    Ok(())
+    check(&rt, rt.alloc(), &TEXTS)
 }
 
 /// The text of a CNF with the empty clause, of this length: blanks stand behind it.
 fn padded(alloc: Global, length: usize) -> Result<Vec<u8>, AllocError> {
-    let mut text = Vec::from_slice(alloc, EMPTY.as_bytes())?;
     let blanks = vec![in alloc; b' '; length.saturating_sub(EMPTY.len())]?;
+    let mut text = Vec::from_slice(alloc, EMPTY.as_bytes())?;
     text.extend_from_slice(blanks.as_slice())?;
     Ok(text)
 }
 
 /// Checks an empty proof from a text of this length, which fits no more or is refused, and compares what is shown.
-fn length_row<R: Abort>(
-    rt: &R,
+fn length_row(
+    rt: &impl Abort,
     alloc: Global,
     length: usize,
     status: &str,
     told: &str,
 ) -> Result<(), Fail> {
-    let run = checked(alloc, DRUP, padded(alloc, length)?, "", AMPLE)?;
+    let text = padded(alloc, length)?;
+    let run = checked(alloc, DRUP, text.as_slice(), "", AMPLE)?;
     assert_eq!(rt; run.status.0, status, "{length}");
     assert_eq!(rt; run.err.taken(), told.as_bytes(), "{length}");
     Ok(())
@@ -331,31 +327,45 @@ fn longest_text_is_checked(rt: HostRuntime) -> Result<(), Fail> {
 
 #[test]
 fn longer_text_is_too_long(rt: HostRuntime) -> Result<(), Fail> {
-    length_row(
-        &rt,
-        rt.alloc(),
-        16_777_217,
-        "too long",
-        "bee: model: too long\n",
-    )
+    let told = "bee: model: too long\n";
+    length_row(&rt, rt.alloc(), 16_777_217, "too long", told)
+}
+
+/// Runs with faults of the outside, and compares the status and what both sinks took.
+fn fault_row(
+    rt: &impl Abort,
+    alloc: Global,
+    listed: &str,
+    outside: Outside<'_>,
+    wanted: &Wanted<'_>,
+) -> Result<(), Fail>
+    requires { 1 ≤ outside.step }
+{
+    let run = checked(alloc, DRUP, listed.as_bytes(), DELETING, outside)?;
+    shows(rt, &run, wanted, &[listed]);
+    Ok(())
 }
 
 /// A sink that is full, and one for errors that always fails.
 #[test]
 fn faults_of_the_sinks(rt: HostRuntime) -> Result<(), Fail> {
-    let alloc = rt.alloc();
     let full = Outside { room: 5, ..AMPLE };
-    let text = Vec::from_slice(alloc, PAIRS.as_bytes())?;
-    let run = checked(alloc, DRUP, text, DELETING, full)?;
-    assert_eq!(rt; run.status.0, "write");
-    assert_eq!(rt; run.out.taken(), b"ACCEP".as_slice());
+    let cut = Wanted {
+        status: ("write", 0),
+        code: 5,
+        out: b"ACCEP",
+        err: b"bee: write fault\n",
+    };
+    fault_row(&rt, rt.alloc(), PAIRS, full, &cut)?;
     let mute = Outside {
         err_failing: &[1, 2, 3],
         ..AMPLE
     };
-    let text = Vec::from_slice(alloc, b"1 0\n")?;
-    let run = checked(alloc, DRUP, text, DELETING, mute)?;
-    assert_eq!(rt; run.status, ("cnf", 1));
-    assert_eq!(rt; run.err.taken(), b"".as_slice());
-    Ok(())
+    let untold = Wanted {
+        status: ("cnf", 1),
+        code: 3,
+        out: b"",
+        err: b"",
+    };
+    fault_row(&rt, rt.alloc(), "1 0\n", mute, &untold)
 }

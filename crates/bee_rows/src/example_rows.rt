@@ -1,7 +1,7 @@
 //! Rows of examples: what a compiled text says of its variables and clauses, and the verdict of an answer.
 
-use crate::answering::{accepted, solved};
-use crate::outside::{AMPLE, compile_over};
+use crate::answering::{SOLVE, accepted, solved};
+use crate::outside::{AMPLE, Shown, compile_over};
 use std::alloc::Global;
 use std::process::Abort;
 use std::test::Fail;
@@ -19,16 +19,32 @@ pub(super) fn has_line(text: &[u8], line: &str) -> bool {
     false
 }
 
+/// Asserts that a model was compiled with its line, and that nothing is on the sink for errors.
+fn has_compiled(rt: &impl Abort, run: &Shown, line: &str) {
+    assert_eq!(rt; run.status, ("done", 0), "{line}");
+    assert_eq!(rt; run.err.taken(), b"".as_slice(), "{line}");
+    assert!(rt; has_line(run.out.taken(), line), "{line}");
+}
+
+/// Compiles an example.
+fn compile_row(rt: &impl Abort, alloc: Global, text: &str, line: &str) -> Result<(), Fail> {
+    let run = compile_over(alloc, text, AMPLE)?;
+    has_compiled(rt, &run, line);
+    Ok(())
+}
+
+/// Solves an example, and checks the answer.
+fn solve_row(rt: &impl Abort, alloc: Global, text: &str, verdict: &str) -> Result<(), Fail> {
+    let run = solved(alloc, SOLVE, text)?;
+    accepted(rt, alloc, text, run.out.taken(), verdict)
+}
+
 /// Asserts that each example is compiled with its line, that nothing is on the sink for errors, and that it is solved with its
 /// verdict, by an answer that is accepted.
 pub(super) fn check(rt: &impl Abort, alloc: Global, rows: &[Row]) -> Result<(), Fail> {
     for (text, line, verdict) in rows {
-        let run = compile_over(alloc, text, AMPLE)?;
-        assert_eq!(rt; run.status, ("done", 0), "{line}");
-        assert_eq!(rt; run.err.taken(), b"".as_slice(), "{line}");
-        assert!(rt; has_line(run.out.taken(), line), "{line}");
-        let run = solved(alloc, &["bee", "solve", "m.bee"], text)?;
-        accepted(rt, alloc, text, run.out.taken(), verdict)?;
+        compile_row(rt, alloc, text, line)?;
+        solve_row(rt, alloc, text, verdict)?;
     }
     Ok(())
 }

@@ -2,8 +2,9 @@
 //! declarations, equations and clauses in `docs/CORES.md`; and a count so long that the sum of its halves is split.
 
 use crate::example_rows::{check, has_line};
-use crate::outside::{AMPLE, compile_over};
+use crate::outside::{AMPLE, Shown, compile_over};
 use std::alloc::{AllocError, Global};
+use std::process::Abort;
 use std::test::Fail;
 
 static GRAPH_COLOURING: &str =
@@ -316,30 +317,46 @@ fn examples_are_compiled(rt: HostRuntime) -> Result<(), Fail> {
     check(&rt, rt.alloc(), &rows)
 }
 
-/// Forty Booleans, of which twenty are true.
-fn half_of_forty(alloc: Global) -> Result<String, AllocError> {
+/// The forty names, each between two words.
+fn between(alloc: Global, before: &str, after: &str) -> Result<String, AllocError> {
     let mut text = String::new(alloc);
-    let mut names = String::new(alloc);
     for i in 1..41u64 {
-        text = format!(in alloc; "{text}new_bool(x{i})\n")?;
-        names = format!(in alloc; "{names},x{i}")?;
+        let name = format!(in alloc; "{before}x{i}{after}")?;
+        text.push_str(name.as_str())?;
     }
+    Ok(text)
+}
+
+/// Forty Booleans, of which twenty are true.
+pub(super) fn half_of_forty(alloc: Global) -> Result<String, AllocError> {
+    let declared = between(alloc, "new_bool(", ")\n")?;
+    let names = between(alloc, ",", "")?;
     let members = names.trim_start_matches(',');
-    format!(in alloc; "{text}bool_array_sum_eq([{members}],20)\nsolve satisfy\n")
+    format!(in alloc; "{declared}bool_array_sum_eq([{members}],20)\nsolve satisfy\n")
+}
+
+/// Asserts that a model was compiled, with these lines.
+fn has_lines(rt: &impl Abort, run: &Shown, lines: &[&str]) {
+    assert_eq!(rt; run.status, ("done", 0));
+    for line in lines {
+        assert!(rt; has_line(run.out.taken(), line), "{line}");
+    }
+}
+
+/// Compiles a model, which gives these lines.
+fn lines_row(rt: &impl Abort, alloc: Global, text: &str, lines: &[&str]) -> Result<(), Fail> {
+    let run = compile_over(alloc, text, AMPLE)?;
+    has_lines(rt, &run, lines);
+    Ok(())
 }
 
 /// The count becomes the counts of two halves and their sum, which is core 4; its network is cheaper than its clauses.
 #[test]
 fn a_long_count_is_split(rt: HostRuntime) -> Result<(), Fail> {
-    let alloc = rt.alloc();
-    let text = half_of_forty(alloc)?;
-    let run = compile_over(alloc, text.as_str(), AMPLE)?;
-    assert_eq!(rt; run.status, ("done", 0));
-    for line in [
+    let lines = [
         "\nc led split 1\n",
         "\nc led split 2\nc led split 3\nc led split 4\n",
-    ] {
-        assert!(rt; has_line(run.out.taken(), line), "{line}");
-    }
-    Ok(())
+    ];
+    let text = half_of_forty(rt.alloc())?;
+    lines_row(&rt, rt.alloc(), text.as_str(), lines.as_slice())
 }

@@ -53,4 +53,6 @@ mod texts;
 #[cfg(test)]
 mod timetable_examples;
 #[cfg(test)]
+mod wanted;
+#[cfg(test)]
 mod words;

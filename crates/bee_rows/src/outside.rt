@@ -77,51 +77,121 @@ fn described(status: &Status) -> (&'static str, u128) {
     }
 }
 
-/// Runs the words over a shelf on which the model stands as `m.bee`.
-pub fn run_over(
+/// Words that are owned.
+fn owned(alloc: Global, words: &[&str]) -> Result<Vec<String>, AllocError> {
+    let mut all = Vec::new(alloc);
+    for word in words {
+        all.push(String::from_str(alloc, word)?)?;
+    }
+    Ok(all)
+}
+
+/// A text under its name.
+fn file(alloc: Global, name: &str, text: &[u8]) -> Result<(String, Vec<u8>), AllocError> {
+    let name = String::from_str(alloc, name)?;
+    let text = Vec::from_slice(alloc, text)?;
+    Ok((name, text))
+}
+
+/// Texts under their names.
+pub fn owned_files(
     alloc: Global,
-    words: &[&str],
-    model: Vec<u8>,
+    files: &[(&str, &[u8])],
+) -> Result<Vec<(String, Vec<u8>)>, AllocError> {
+    let mut all = Vec::new(alloc);
+    for (name, text) in files {
+        all.push(file(alloc, name, text)?)?;
+    }
+    Ok(all)
+}
+
+/// A shelf on which texts stand under their names.
+fn shelf(
+    alloc: Global,
+    files: &[(&str, &[u8])],
+    outside: Outside<'_>,
+) -> Result<MemShelf, AllocError>
+    requires { 1 ≤ outside.step }
+{
+    let failing = Vec::from_slice(alloc, outside.shelf_failing)?;
+    let files = owned_files(alloc, files)?;
+    Ok(MemShelf::with(files, outside.step, failing))
+}
+
+/// A sink with so much room, of which these calls fail.
+fn sink(alloc: Global, room: usize, step: usize, failing: &[u64]) -> Result<MemSink, AllocError>
+    requires { 1 ≤ step }
+{
+    let failing = Vec::from_slice(alloc, failing)?;
+    MemSink::with(alloc, room, step, failing)
+}
+
+/// What the words come to: the status in words, and its exit code.
+fn ended(
+    alloc: Global,
+    words: &Vec<String>,
+    shelf: &mut MemShelf,
+    out: &mut MemSink,
+    err: &mut MemSink,
+) -> ((&'static str, u128), u8) {
+    let status = run(alloc, words, shelf, out, err);
+    (described(&status), code(&status))
+}
+
+/// Runs the words over a shelf.
+fn run_on(
+    alloc: Global,
+    words: &Vec<String>,
+    shelf: &mut MemShelf,
     outside: Outside<'_>,
 ) -> Result<Shown, AllocError>
     requires { 1 ≤ outside.step }
 {
-    let files = vec![in alloc; (String::from_str(alloc, "m.bee")?, model)]?;
-    run_files(alloc, words, files, outside)
+    let mut out = sink(alloc, outside.room, outside.step, outside.sink_failing)?;
+    let mut err = sink(alloc, 1024, outside.step, outside.err_failing)?;
+    let (status, code) = ended(alloc, words, shelf, &mut out, &mut err);
+    Ok(Shown {
+        status,
+        code,
+        out,
+        err,
+    })
 }
 
 /// Runs the words over a shelf on which texts stand under their names.
 pub fn run_files(
     alloc: Global,
     words: &[&str],
-    files: Vec<(String, Vec<u8>)>,
+    files: &[(&str, &[u8])],
     outside: Outside<'_>,
 ) -> Result<Shown, AllocError>
     requires { 1 ≤ outside.step }
 {
-    let mut all = Vec::new(alloc);
-    for word in words {
-        all.push(String::from_str(alloc, word)?)?;
-    }
-    let shelf_failing = Vec::from_slice(alloc, outside.shelf_failing)?;
-    let sink_failing = Vec::from_slice(alloc, outside.sink_failing)?;
-    let err_failing = Vec::from_slice(alloc, outside.err_failing)?;
-    let mut shelf = MemShelf::with(files, outside.step, shelf_failing);
-    let mut out = MemSink::with(alloc, outside.room, outside.step, sink_failing)?;
-    let mut err = MemSink::with(alloc, 1024, outside.step, err_failing)?;
-    let status = run(alloc, &all, &mut shelf, &mut out, &mut err);
-    Ok(Shown {
-        status: described(&status),
-        code: code(&status),
-        out,
-        err,
-    })
+    let words = owned(alloc, words)?;
+    let mut shelf = shelf(alloc, files, outside)?;
+    run_on(alloc, &words, &mut shelf, outside)
+}
+
+/// Runs the words over a shelf on which the model stands as `m.bee`.
+pub fn run_over(
+    alloc: Global,
+    words: &[&str],
+    model: &[u8],
+    outside: Outside<'_>,
+) -> Result<Shown, AllocError>
+    requires { 1 ≤ outside.step }
+{
+    run_files(alloc, words, &[("m.bee", model)], outside)
 }
 
 /// Compiles a model.
 pub fn compile_over(alloc: Global, model: &str, outside: Outside<'_>) -> Result<Shown, AllocError>
     requires { 1 ≤ outside.step }
 {
-    let model = Vec::from_slice(alloc, model.as_bytes())?;
-    run_over(alloc, &["bee", "compile", "m.bee"], model, outside)
+    run_over(
+        alloc,
+        &["bee", "compile", "m.bee"],
+        model.as_bytes(),
+        outside,
+    )
 }

@@ -2,7 +2,8 @@
 
 ghost use Rattle.std.specs.Prelude.{◌≤◌};
 
-use crate::outside::{AMPLE, Outside, Shown, compile_over, run_files};
+use crate::outside::{AMPLE, Shown, compile_over, run_files};
+use crate::wanted::{Wanted, shows};
 use bee_text::{Lines, push_bytes, push_number, read_number, split_words};
 use bumblebee_reader::read_model;
 use std::alloc::{AllocError, Global};
@@ -58,10 +59,8 @@ solve satisfy
 ";
 
 /// Runs words that read no text.
-fn placed(alloc: Global, words: &[&str], outside: Outside<'_>) -> Result<Shown, AllocError>
-    requires { 1 ≤ outside.step }
-{
-    run_files(alloc, words, Vec::new(alloc), outside)
+fn placed(alloc: Global, words: &[&str]) -> Result<Shown, AllocError> {
+    run_files(alloc, words, &[], AMPLE)
 }
 
 /// The items of a row.
@@ -74,30 +73,52 @@ fn row_text(alloc: Global, size: u8, row: u8) -> Result<String, AllocError> {
     )
 }
 
+/// The name of a letter's integer, with what stands behind it in the list.
+fn member(alloc: Global, letter: &str, row: u8, size: u8) -> Result<String, AllocError> {
+    if row == size {
+        format!(in alloc; "{letter}{row}])\n")
+    } else {
+        format!(in alloc; "{letter}{row},")
+    }
+}
+
 /// That the integers of one letter differ.
-fn differing(alloc: Global, letter: &str, size: u8) -> Result<String, AllocError> {
-    let mut text = String::from_str(alloc, "int_array_allDiff([")?;
+fn push_differing(
+    text: &mut String,
+    alloc: Global,
+    letter: &str,
+    size: u8,
+) -> Result<(), AllocError> {
+    text.push_str("int_array_allDiff([")?;
     for row in 1..=size {
-        let name = if row == size {
-            format!(in alloc; "{letter}{row}])\n")?
-        } else {
-            format!(in alloc; "{letter}{row},")?
-        };
+        let name = member(alloc, letter, row, size)?;
         text.push_str(name.as_str())?;
     }
-    Ok(text)
+    Ok(())
+}
+
+/// The items of all rows.
+fn push_rows(text: &mut String, alloc: Global, size: u8) -> Result<(), AllocError> {
+    for row in 1..=size {
+        let items = row_text(alloc, size, row)?;
+        text.push_str(items.as_str())?;
+    }
+    Ok(())
+}
+
+/// The text of the model of so many queens.
+fn push_board(text: &mut String, alloc: Global, size: u8) -> Result<(), AllocError> {
+    push_rows(text, alloc, size)?;
+    push_differing(text, alloc, "q", size)?;
+    push_differing(text, alloc, "a", size)?;
+    push_differing(text, alloc, "d", size)?;
+    text.push_str("solve satisfy\n")
 }
 
 /// The text of the model of so many queens.
 fn board_text(alloc: Global, size: u8) -> Result<String, AllocError> {
     let mut text = String::new(alloc);
-    for row in 1..=size {
-        text.push_str(row_text(alloc, size, row)?.as_str())?;
-    }
-    for letter in ["q", "a", "d"] {
-        text.push_str(differing(alloc, letter, size)?.as_str())?;
-    }
-    text.push_str("solve satisfy\n")?;
+    push_board(&mut text, alloc, size)?;
     Ok(text)
 }
 
@@ -118,6 +139,35 @@ fn number(word: Option<&[u8]>) -> u128 {
     }
 }
 
+/// Takes what a line of a compiled text says.
+fn take_line(found: &mut Compiled, line: &[u8]) -> Result<(), AllocError> {
+    if line.starts_with(b"c led eq ") {
+        found.equations = found.equations.saturating_add(1);
+    }
+    if let Some(step) = line.strip_prefix(b"c led ") {
+        push_bytes(&mut found.ledger, step)?;
+        push_bytes(&mut found.ledger, b"\n")?;
+    }
+    if let Some(counts) = line.strip_prefix(b"p cnf ") {
+        let mut words = split_words(counts);
+        found.variables = number(words.next_word());
+        found.clauses = number(words.next_word());
+    }
+    Ok(())
+}
+
+/// Takes what the lines of a compiled text say.
+fn take_lines(found: &mut Compiled, text: &[u8]) -> Result<(), AllocError> {
+    let mut lines = Lines::new(text);
+    for _ in 0..text.len() {
+        let Some(line) = lines.next_line() else {
+            break;
+        };
+        take_line(found, line.bytes)?;
+    }
+    Ok(())
+}
+
 /// Reads a compiled text.
 fn facts_of(alloc: Global, text: &[u8]) -> Result<Compiled, AllocError> {
     let mut found = Compiled {
@@ -126,24 +176,7 @@ fn facts_of(alloc: Global, text: &[u8]) -> Result<Compiled, AllocError> {
         equations: 0,
         ledger: Vec::new(alloc),
     };
-    let mut lines = Lines::new(text);
-    for _ in 0..text.len() {
-        let Some(line) = lines.next_line() else {
-            break;
-        };
-        if line.bytes.starts_with(b"c led eq ") {
-            found.equations = found.equations.saturating_add(1);
-        }
-        if let Some(step) = line.bytes.strip_prefix(b"c led ") {
-            push_bytes(&mut found.ledger, step)?;
-            push_bytes(&mut found.ledger, b"\n")?;
-        }
-        if let Some(counts) = line.bytes.strip_prefix(b"p cnf ") {
-            let mut words = split_words(counts);
-            found.variables = number(words.next_word());
-            found.clauses = number(words.next_word());
-        }
-    }
+    take_lines(&mut found, text)?;
     Ok(found)
 }
 
@@ -159,6 +192,31 @@ fn line_of(text: &[u8], number: usize) -> &[u8] {
     }
 }
 
+/// Writes a line of a word and a number.
+fn push_count(text: &mut Vec<u8>, word: &str, n: u128) -> Result<(), AllocError> {
+    push_bytes(text, word.as_bytes())?;
+    push_number(text, n)?;
+    push_bytes(text, b"\n")
+}
+
+/// Writes the text of a board with these columns.
+fn push_expected(
+    text: &mut Vec<u8>,
+    size: u8,
+    columns: &[u8],
+    found: &Compiled,
+) -> Result<(), AllocError> {
+    push_count(text, "queens ", u128::from(size))?;
+    push_count(text, "variables ", found.variables)?;
+    push_count(text, "clauses ", found.clauses)?;
+    push_count(text, "equations ", found.equations)?;
+    push_bytes(text, b"SATISFIABLE\n")?;
+    push_bytes(text, columns)?;
+    push_bytes(text, b"\nledger\n")?;
+    push_bytes(text, found.ledger.as_slice())?;
+    push_bytes(text, b"end\n")
+}
+
 /// The text that is to be written for a board with these columns.
 fn expected(
     alloc: Global,
@@ -167,21 +225,7 @@ fn expected(
     found: &Compiled,
 ) -> Result<Vec<u8>, AllocError> {
     let mut text = Vec::new(alloc);
-    for (word, n) in [
-        ("queens ", u128::from(size)),
-        ("variables ", found.variables),
-        ("clauses ", found.clauses),
-        ("equations ", found.equations),
-    ] {
-        push_bytes(&mut text, word.as_bytes())?;
-        push_number(&mut text, n)?;
-        push_bytes(&mut text, b"\n")?;
-    }
-    push_bytes(&mut text, b"SATISFIABLE\n")?;
-    push_bytes(&mut text, columns)?;
-    push_bytes(&mut text, b"\nledger\n")?;
-    push_bytes(&mut text, found.ledger.as_slice())?;
-    push_bytes(&mut text, b"end\n")?;
+    push_expected(&mut text, size, columns, found)?;
     Ok(text)
 }
 
@@ -216,21 +260,42 @@ fn stand_apart(columns: &[u128], size: u8) -> bool {
     columns.len() == usize::from(size)
 }
 
-/// Asserts that the queens of a board are placed, with the numbers and the ledger that are compiled for its text.
-fn check_board(rt: &impl Abort, alloc: Global, size: u8) -> Result<(), Fail> {
-    let word = format!(in alloc; "{size}")?;
-    let run = placed(alloc, &["bee", "queens", word.as_str()], AMPLE)?;
-    assert_eq!(rt; run.status, ("done", 0), "{size}");
-    assert_eq!(rt; run.err.taken(), b"".as_slice(), "{size}");
-    let columns = line_of(run.out.taken(), 6);
+/// Asserts that the queens of a board are placed, and do not attack each other.
+fn check_columns(rt: &impl Abort, alloc: Global, size: u8, columns: &[u8]) -> Result<(), Fail> {
     let numbers = columns_of(alloc, columns)?;
     assert!(rt; stand_apart(numbers.as_slice(), size), "{size}");
+    Ok(())
+}
+
+/// What the text that a board's model is compiled to says.
+fn compiled_board(alloc: Global, size: u8) -> Result<Compiled, AllocError> {
     let model = board_text(alloc, size)?;
     let text = compile_over(alloc, model.as_str(), AMPLE)?;
-    let found = facts_of(alloc, text.out.taken())?;
+    facts_of(alloc, text.out.taken())
+}
+
+/// Asserts that a text places the queens of a board, with the numbers and the ledger that are compiled for its model.
+fn check_placing(rt: &impl Abort, alloc: Global, size: u8, text: &[u8]) -> Result<(), Fail> {
+    let columns = line_of(text, 6);
+    check_columns(rt, alloc, size, columns)?;
+    let found = compiled_board(alloc, size)?;
     let told = expected(alloc, size, columns, &found)?;
-    assert!(rt; run.out.taken() == told.as_slice(), "{size}");
+    assert!(rt; text == told.as_slice(), "{size}");
     Ok(())
+}
+
+/// What is written for a board of this size.
+fn placed_board(alloc: Global, size: u8) -> Result<Shown, AllocError> {
+    let word = format!(in alloc; "{size}")?;
+    placed(alloc, &["bee", "queens", word.as_str()])
+}
+
+/// Asserts that the queens of a board are placed, with the numbers and the ledger that are compiled for its text.
+fn check_board(rt: &impl Abort, alloc: Global, size: u8) -> Result<(), Fail> {
+    let run = placed_board(alloc, size)?;
+    assert_eq!(rt; run.status, ("done", 0), "{size}");
+    assert_eq!(rt; run.err.taken(), b"".as_slice(), "{size}");
+    check_placing(rt, alloc, size, run.out.taken())
 }
 
 #[test]
@@ -242,50 +307,87 @@ fn queens_are_placed(rt: HostRuntime) -> Result<(), Fail> {
     Ok(())
 }
 
+/// Asserts that a text places four queens.
+fn places_four(rt: &impl Abort, text: &[u8]) {
+    assert_eq!(rt; line_of(text, 5), b"SATISFIABLE".as_slice());
+    let columns = line_of(text, 6);
+    assert!(rt;
+        columns == b"columns 2 4 1 3".as_slice() || columns == b"columns 3 1 4 2".as_slice()
+    );
+    assert_eq!(rt; line_of(text, 7), b"ledger".as_slice());
+    assert!(rt; text.ends_with(b"\nend\n"));
+}
+
+/// Places four queens, where a word says their number.
+fn four_row(rt: &impl Abort, alloc: Global, word: &str) -> Result<(), Fail> {
+    let run = placed(alloc, &["bee", "queens", word])?;
+    places_four(rt, run.out.taken());
+    Ok(())
+}
+
 #[test]
 fn four_queens_stand_in_one_of_two_ways(rt: HostRuntime) -> Result<(), Fail> {
-    let alloc = rt.alloc();
-    for word in ["4", "04"] {
-        let run = placed(alloc, &["bee", "queens", word], AMPLE)?;
-        let text = run.out.taken();
-        assert_eq!(rt; line_of(text, 5), b"SATISFIABLE".as_slice());
-        let columns = line_of(text, 6);
-        assert!(rt;
-            columns == b"columns 2 4 1 3".as_slice() || columns == b"columns 3 1 4 2".as_slice()
-        );
-        assert_eq!(rt; line_of(text, 7), b"ledger".as_slice());
-        assert!(rt; text.ends_with(b"\nend\n"));
-    }
+    four_row(&rt, rt.alloc(), "4")?;
+    four_row(&rt, rt.alloc(), "04")
+}
+
+/// Words that say no board.
+static NO_BOARDS: [&[&str]; 4] = [
+    &["bee", "queens", "3"],
+    &["bee", "queens", "25"],
+    &["bee", "queens", "8x"],
+    &["bee", "queens", "8", "9"],
+];
+
+/// Asserts that words are refused.
+fn usage_row(rt: &impl Abort, alloc: Global, words: &[&str]) -> Result<(), Fail> {
+    let run = placed(alloc, words)?;
+    let wanted = Wanted {
+        status: ("usage", 0),
+        code: 2,
+        out: b"",
+        err: b"bee: usage: bee MODE INPUT [SECOND] [--budget N] [--no-restart]\n",
+    };
+    shows(rt, &run, &wanted, words);
     Ok(())
 }
 
 #[test]
 fn boards_are_four_to_twenty_four(rt: HostRuntime) -> Result<(), Fail> {
-    let alloc = rt.alloc();
-    for words in [
-        ["bee", "queens", "3"].as_slice(),
-        &["bee", "queens", "25"],
-        &["bee", "queens", "8x"],
-        &["bee", "queens", "8", "9"],
-    ] {
-        let run = placed(alloc, words, AMPLE)?;
-        assert_eq!(rt; run.status, ("usage", 0));
-        assert_eq!(rt; run.code, 2);
-        assert_eq!(rt; run.out.taken(), b"".as_slice());
+    for words in &NO_BOARDS {
+        usage_row(&rt, rt.alloc(), words)?;
     }
+    Ok(())
+}
+
+/// The model of a text, in words.
+fn model_words(alloc: Global, text: &str) -> Result<String, Fail> {
+    let syntax = read_model(alloc, text.as_bytes())?;
+    let model = check_types(alloc, &syntax)?;
+    Ok(format!(in alloc; "{model:?}")?)
+}
+
+/// The model of so many queens, in words.
+fn queens_words(alloc: Global, size: u64) -> Result<String, AllocError>
+    requires least { 4 ≤ size }
+    requires most { size ≤ 24 }
+{
+    let model = queens_model::queens(alloc, size)?;
+    format!(in alloc; "{model:?}")
+}
+
+/// Asserts that a text is the one of eight queens.
+fn is_board(rt: &impl Abort, alloc: Global, text: &str) -> Result<(), Fail> {
+    let made = board_text(alloc, 8)?;
+    assert_eq!(rt; made.as_str(), text);
     Ok(())
 }
 
 #[test]
 fn the_example_is_the_model(rt: HostRuntime) -> Result<(), Fail> {
-    let alloc = rt.alloc();
-    let text = board_text(alloc, 8)?;
-    assert_eq!(rt; text.as_str(), EIGHT_QUEENS);
-    let syntax = read_model(alloc, EIGHT_QUEENS.as_bytes()).expect(&rt, "a text");
-    let typed = check_types(alloc, &syntax).expect(&rt, "a model");
-    let made = queens_model::queens(alloc, 8)?;
-    let typed = format!(in alloc; "{typed:?}")?;
-    let made = format!(in alloc; "{made:?}")?;
+    is_board(&rt, rt.alloc(), EIGHT_QUEENS)?;
+    let typed = model_words(rt.alloc(), EIGHT_QUEENS)?;
+    let made = queens_words(rt.alloc(), 8)?;
     assert_eq!(rt; typed.as_str(), made.as_str());
     Ok(())
 }

@@ -3,6 +3,7 @@
 ghost use Rattle.std.specs.Prelude.{◌≤◌};
 
 use crate::outside::{AMPLE, Outside, Shown, run_files};
+use crate::wanted::{Wanted, shows};
 use std::alloc::{AllocError, Global};
 use std::process::Abort;
 use std::test::Fail;
@@ -30,11 +31,7 @@ fn searched(
 ) -> Result<Shown, AllocError>
     requires { 1 ≤ outside.step }
 {
-    let file = (
-        String::from_str(alloc, "m.cnf")?,
-        Vec::from_slice(alloc, text.as_bytes())?,
-    );
-    run_files(alloc, words, vec![in alloc; file]?, outside)
+    run_files(alloc, words, &[("m.cnf", text.as_bytes())], outside)
 }
 
 /// The words, the text, the status with its number, the exit code, what is written, and what is told of a fault.
@@ -101,28 +98,42 @@ static ROWS: [Row; 9] = [
     ),
 ];
 
+/// Runs a row, and compares what it shows.
+fn sat_row(rt: &impl Abort, alloc: Global, row: &Row) -> Result<(), Fail> {
+    let (words, text, status, code, written, told) = *row;
+    let run = searched(alloc, words, text, AMPLE)?;
+    let wanted = Wanted {
+        status,
+        code,
+        out: written.as_bytes(),
+        err: told.as_bytes(),
+    };
+    shows(rt, &run, &wanted, &[text]);
+    Ok(())
+}
+
 #[test]
 fn clauses_are_searched(rt: HostRuntime) -> Result<(), Fail> {
-    let alloc = rt.alloc();
-    for (words, text, status, code, written, told) in &ROWS {
-        let run = searched(alloc, words, text, AMPLE)?;
-        assert_eq!(rt; run.status, *status, "{text}");
-        assert_eq!(rt; run.code, *code, "{text}");
-        assert_eq!(rt; run.out.taken(), written.as_bytes(), "{text}");
-        assert_eq!(rt; run.err.taken(), told.as_bytes(), "{text}");
+    for row in &ROWS {
+        sat_row(&rt, rt.alloc(), row)?;
     }
     Ok(())
 }
 
 /// Runs with faults of the outside, and compares the status; what was written is a front of the text.
-fn failing_row<R: Abort>(
-    rt: &R,
+fn failing_row<'a>(
+    rt: &impl Abort,
     alloc: Global,
-    outside: Outside<'_>,
+    shelf_failing: &'a [u64],
+    sink_failing: &'a [u64],
     word: &str,
-) -> Result<(), Fail>
-    requires { 1 ≤ outside.step }
-{
+) -> Result<(), Fail> {
+    let outside = Outside {
+        step: 5,
+        shelf_failing,
+        sink_failing,
+        ..AMPLE
+    };
     let run = searched(alloc, SAT, UNITS, outside)?;
     assert_eq!(rt; run.status.0, word);
     assert!(rt; UNITS_SOLVED.as_bytes().starts_with(run.out.taken()));
@@ -131,26 +142,15 @@ fn failing_row<R: Abort>(
 
 #[test]
 fn searching_with_faults_at_each_call(rt: HostRuntime) -> Result<(), Fail> {
-    let alloc = rt.alloc();
     // The text has 19 bytes, which take four calls of five, and one more sees the end.
     for number in 1..7u64 {
-        let outside = Outside {
-            step: 5,
-            shelf_failing: &[number],
-            ..AMPLE
-        };
         let word = if number <= 5 { "read" } else { "done" };
-        failing_row(&rt, alloc, outside, word)?;
+        failing_row(&rt, rt.alloc(), &[number], &[], word)?;
     }
     // What is written has 26 bytes, which take six calls, and then it is flushed.
     for number in 1..9u64 {
-        let outside = Outside {
-            step: 5,
-            sink_failing: &[number],
-            ..AMPLE
-        };
         let word = if number <= 7 { "write" } else { "done" };
-        failing_row(&rt, alloc, outside, word)?;
+        failing_row(&rt, rt.alloc(), &[], &[number], word)?;
     }
     Ok(())
 }

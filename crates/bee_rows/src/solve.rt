@@ -1,6 +1,11 @@
 //! Solve mode, and check mode over what it writes.
 
-use crate::answering::{accepted, checked, solved};
+use crate::answering::{SOLVE, accepted, checked, solved};
+use crate::examples::half_of_forty;
+use crate::outside::Shown;
+use crate::wanted::{Wanted, shows};
+use std::alloc::Global;
+use std::process::Abort;
 use std::test::Fail;
 
 /// A model with what its answer begins with, and the words of the verdict by which that is accepted.
@@ -105,7 +110,9 @@ solve satisfy
 ";
 
 /// The words, the status, its number, and the words of the verdict.
-static BUDGETS: [(&[&str], &str, u128, &str); 4] = [
+type Budget = (&'static [&'static str], &'static str, u128, &'static str);
+
+static BUDGETS: [Budget; 4] = [
     (
         &["bee", "solve", "m.bee", "--budget", "1"],
         "unknown",
@@ -138,7 +145,9 @@ const LEAST: &str = "new_int(x,0,2) int_neq(x,0) solve minimize x";
 const TWO: &str = "new_int(x,0,2) new_int(y,0,2) int_plus(x,y,2) solve minimize x then y";
 
 /// A model, a document, the status of its check, and its number.
-static DOCUMENTS: [(&str, &str, &str, u128); 22] = [
+type Document = (&'static str, &'static str, &'static str, u128);
+
+static DOCUMENTS: [Document; 22] = [
     (
         PAIRS,
         "bee 1\nUNSATISFIABLE\nledger\nenc 1\nenc 2\nenc 3\nenc 4\nproof\n5 1 0 1 2 0\n6 0 5 3 4 0\nend\n",
@@ -262,37 +271,58 @@ static DOCUMENTS: [(&str, &str, &str, u128); 22] = [
     ("solve satisfy", "bee 1\nSATISFIABLE\nend\n", "done", 0),
 ];
 
+/// Asserts that a run ended well with a text that begins so.
+fn begins(rt: &impl Abort, run: &Shown, model: &str, front: &str) {
+    assert_eq!(rt; run.status, ("done", 0), "{model}");
+    assert_eq!(rt; run.code, 0, "{model}");
+    assert!(rt; run.out.taken().starts_with(front.as_bytes()), "{model}");
+    assert_eq!(rt; run.err.taken(), b"".as_slice(), "{model}");
+}
+
+/// Solves a model, and checks the answer.
+fn answer_row(rt: &impl Abort, alloc: Global, row: &Row) -> Result<(), Fail> {
+    let (model, front, verdict) = *row;
+    let run = solved(alloc, SOLVE, model)?;
+    begins(rt, &run, model, front);
+    accepted(rt, alloc, model, run.out.taken(), verdict)
+}
+
 #[test]
 fn answers_are_written_and_accepted(rt: HostRuntime) -> Result<(), Fail> {
-    let alloc = rt.alloc();
-    for (model, begins, verdict) in &ANSWERS {
-        let run = solved(alloc, &["bee", "solve", "m.bee"], model)?;
-        assert_eq!(rt; run.status, ("done", 0), "{model}");
-        assert_eq!(rt; run.code, 0, "{model}");
-        assert!(rt; run.out.taken().starts_with(begins.as_bytes()), "{model}");
-        assert_eq!(rt; run.err.taken(), b"".as_slice(), "{model}");
-        accepted(&rt, alloc, model, run.out.taken(), verdict)?;
+    for row in &ANSWERS {
+        answer_row(&rt, rt.alloc(), row)?;
     }
     Ok(())
 }
 
+/// Solves the pigeons within a budget, and checks the answer.
+fn budget_row(rt: &impl Abort, alloc: Global, row: &Budget) -> Result<(), Fail> {
+    let (words, status, number, verdict) = *row;
+    let run = solved(alloc, words, PIGEONS)?;
+    assert_eq!(rt; run.status, (status, number), "{verdict}");
+    accepted(rt, alloc, PIGEONS, run.out.taken(), verdict)
+}
+
 #[test]
 fn budgets_are_spent(rt: HostRuntime) -> Result<(), Fail> {
-    let alloc = rt.alloc();
-    for (words, status, number, verdict) in &BUDGETS {
-        let run = solved(alloc, words, PIGEONS)?;
-        assert_eq!(rt; run.status, (*status, *number), "{verdict}");
-        accepted(&rt, alloc, PIGEONS, run.out.taken(), verdict)?;
+    for row in &BUDGETS {
+        budget_row(&rt, rt.alloc(), row)?;
     }
+    Ok(())
+}
+
+/// Checks a document, and compares the status.
+fn document_row(rt: &impl Abort, alloc: Global, row: &Document) -> Result<(), Fail> {
+    let (model, document, status, number) = *row;
+    let run = checked(alloc, model, document.as_bytes())?;
+    assert_eq!(rt; run.status, (status, number), "{document}");
     Ok(())
 }
 
 #[test]
 fn documents_are_checked(rt: HostRuntime) -> Result<(), Fail> {
-    let alloc = rt.alloc();
-    for (model, document, status, number) in &DOCUMENTS {
-        let run = checked(alloc, model, document.as_bytes())?;
-        assert_eq!(rt; run.status, (*status, *number), "{document}");
+    for row in &DOCUMENTS {
+        document_row(&rt, rt.alloc(), row)?;
     }
     Ok(())
 }
@@ -304,30 +334,29 @@ fn lines_ending(text: &[u8], end: &[u8]) -> usize {
         .count()
 }
 
+/// Solves a model, counts the Booleans that are true, and checks the answer.
+fn count_row(rt: &impl Abort, alloc: Global, model: &str, count: usize) -> Result<(), Fail> {
+    let run = solved(alloc, SOLVE, model)?;
+    assert_eq!(rt; run.status, ("done", 0));
+    assert_eq!(rt; lines_ending(run.out.taken(), b" = true"), count);
+    accepted(rt, alloc, model, run.out.taken(), "SATISFIABLE")
+}
+
 #[test]
 fn half_of_forty_are_true(rt: HostRuntime) -> Result<(), Fail> {
-    let alloc = rt.alloc();
-    let mut model = String::new(alloc);
-    for i in 1..41 {
-        model.push_str(&format!(in alloc; "new_bool(b{i}) ")?)?;
-    }
-    model.push_str("bool_array_sum_eq([b1")?;
-    for i in 2..41 {
-        model.push_str(&format!(in alloc; ",b{i}")?)?;
-    }
-    model.push_str("],20) solve satisfy")?;
-    let run = solved(alloc, &["bee", "solve", "m.bee"], &model)?;
-    assert_eq!(rt; run.status, ("done", 0));
-    assert_eq!(rt; lines_ending(run.out.taken(), b" = true"), 20);
-    accepted(&rt, alloc, &model, run.out.taken(), "SATISFIABLE")
+    let model = half_of_forty(rt.alloc())?;
+    count_row(&rt, rt.alloc(), model.as_str(), 20)
 }
 
 #[test]
 fn one_name_for_both_is_refused(rt: HostRuntime) -> Result<(), Fail> {
-    let alloc = rt.alloc();
-    let run = solved(alloc, &["bee", "check", "m.bee", "m.bee"], PAIRS)?;
-    assert_eq!(rt; run.status, ("refused", 1));
-    assert_eq!(rt; run.code, 1);
-    assert_eq!(rt; run.out.taken(), b"REFUSED 1\n".as_slice());
+    let run = solved(rt.alloc(), &["bee", "check", "m.bee", "m.bee"], PAIRS)?;
+    let wanted = Wanted {
+        status: ("refused", 1),
+        code: 1,
+        out: b"REFUSED 1\n",
+        err: b"",
+    };
+    shows(&rt, &run, &wanted, &[PAIRS]);
     Ok(())
 }

@@ -1,6 +1,6 @@
 //! Models with the whole texts that they are compiled to: what the names stand for, the steps, and the clauses.
 
-use crate::outside::{AMPLE, compile_over};
+use crate::wanted::{Wanted, compile_shows};
 use std::alloc::Global;
 use std::process::Abort;
 use std::test::Fail;
@@ -191,11 +191,13 @@ static SUMS: [Row; 7] = [
 /// Compiles the models, each without a fault.
 fn check(rt: &impl Abort, alloc: Global, rows: &[Row]) -> Result<(), Fail> {
     for (model, compiled) in rows {
-        let run = compile_over(alloc, model, AMPLE)?;
-        assert_eq!(rt; run.status, ("done", 0), "{model}");
-        assert_eq!(rt; run.code, 0, "{model}");
-        assert_eq!(rt; run.out.taken(), compiled.as_bytes(), "{model}");
-        assert_eq!(rt; run.err.taken(), b"".as_slice(), "{model}");
+        let wanted = Wanted {
+            status: ("done", 0),
+            code: 0,
+            out: compiled.as_bytes(),
+            err: b"",
+        };
+        compile_shows(rt, alloc, model, &wanted)?;
     }
     Ok(())
 }

@@ -2,6 +2,8 @@
 
 use command_words::{Command, read_command};
 use std::alloc::{AllocError, Global};
+use std::process::Abort;
+use std::test::Fail;
 
 /// The words of a line, which are written apart by blanks.
 fn words_of(alloc: Global, line: &str) -> Result<Vec<String>, AllocError> {
@@ -56,115 +58,168 @@ fn options_of(command: &Command<'_>) -> Option<(u64, bool)> {
 /// The usual budget.
 const USUAL: u64 = 1_000_000;
 
-#[test]
-fn commands_of_words(rt: HostRuntime) {
-    // the line, the mode, the names
-    for (line, mode, input, second) in [
-        ("bee compile m.bee", "compile", "m.bee", None),
-        ("bee compile stdin --budget 5", "compile", "stdin", None),
-        (
-            "bee --no-restart compile m.bee --budget=007",
-            "compile",
-            "m.bee",
-            None,
-        ),
-        (
-            "bee compile m.bee --budget 9223372036854775807",
-            "compile",
-            "m.bee",
-            None,
-        ),
-        ("bee solve m.bee", "solve", "m.bee", None),
-        ("bee sat m.cnf", "sat", "m.cnf", None),
-        ("bee check m.bee a.txt", "check", "m.bee", Some("a.txt")),
-        ("bee check m.bee m.bee", "check", "m.bee", Some("m.bee")),
-        (
-            "bee decode --budget 1 m.cnf --no-restart values",
-            "decode",
-            "m.cnf",
-            Some("values"),
-        ),
-        ("bee drup m.cnf m.drup", "drup", "m.cnf", Some("m.drup")),
-        (
-            "bee --budget 1 drup m.cnf --no-restart m.cnf",
-            "drup",
-            "m.cnf",
-            Some("m.cnf"),
-        ),
-    ] {
-        let words = words_of(rt.alloc(), line).expect(&rt, "memory");
-        let command = read_command(rt.alloc(), words.as_slice()).expect(&rt, "memory");
-        let command = command.expect(&rt, "a command");
-        assert!(rt; mode_of(&command) == (mode, input), "{line}");
-        assert!(rt; second_of(&command) == second, "{line}");
+/// The command of words. What it is by the words is left unsaid, so that no row has to do with it.
+fn command_of<'a>(alloc: Global, words: &'a [String]) -> Result<Option<Command<'a>>, AllocError> {
+    read_command(alloc, words)
+}
+
+/// A line, the mode, and the names.
+type Named = (
+    &'static str,
+    &'static str,
+    &'static str,
+    Option<&'static str>,
+);
+
+static NAMES: [Named; 11] = [
+    ("bee compile m.bee", "compile", "m.bee", None),
+    ("bee compile stdin --budget 5", "compile", "stdin", None),
+    (
+        "bee --no-restart compile m.bee --budget=007",
+        "compile",
+        "m.bee",
+        None,
+    ),
+    (
+        "bee compile m.bee --budget 9223372036854775807",
+        "compile",
+        "m.bee",
+        None,
+    ),
+    ("bee solve m.bee", "solve", "m.bee", None),
+    ("bee sat m.cnf", "sat", "m.cnf", None),
+    ("bee check m.bee a.txt", "check", "m.bee", Some("a.txt")),
+    ("bee check m.bee m.bee", "check", "m.bee", Some("m.bee")),
+    (
+        "bee decode --budget 1 m.cnf --no-restart values",
+        "decode",
+        "m.cnf",
+        Some("values"),
+    ),
+    ("bee drup m.cnf m.drup", "drup", "m.cnf", Some("m.drup")),
+    (
+        "bee --budget 1 drup m.cnf --no-restart m.cnf",
+        "drup",
+        "m.cnf",
+        Some("m.cnf"),
+    ),
+];
+
+/// Asserts that a command has the mode and the names of a row.
+fn has_names(rt: &impl Abort, command: &Command<'_>, row: &Named) {
+    let (line, mode, input, second) = *row;
+    assert!(rt; mode_of(command) == (mode, input), "{line}");
+    assert!(rt; second_of(command) == second, "{line}");
+}
+
+/// Asserts which command a line gives.
+fn names_row(rt: &impl Abort, alloc: Global, row: &Named) -> Result<(), Fail> {
+    let words = words_of(alloc, row.0)?;
+    match command_of(alloc, words.as_slice())? {
+        Some(command) => has_names(rt, &command, row),
+        None => panic!(rt; "no command: {}", row.0),
     }
+    Ok(())
 }
 
 #[test]
-fn options_of_words(rt: HostRuntime) {
-    // the line, the budget, whether the search may begin again, the size of the board
-    for (line, budget, restart, size) in [
-        ("bee solve m.bee", USUAL, true, None),
-        ("bee solve m.bee --budget 007", 7, true, None),
-        ("bee solve --no-restart m.bee", USUAL, false, None),
-        ("bee sat m.cnf", USUAL, true, None),
-        ("bee sat --no-restart m.cnf --budget=9", 9, false, None),
-        ("bee queens 4", USUAL, true, Some(4)),
-        ("bee queens 024 --budget=2 --no-restart", 2, false, Some(24)),
-    ] {
-        let words = words_of(rt.alloc(), line).expect(&rt, "memory");
-        let command = read_command(rt.alloc(), words.as_slice()).expect(&rt, "memory");
-        let command = command.expect(&rt, "a command");
-        assert!(rt; options_of(&command) == Some((budget, restart)), "{line}");
-        assert!(rt; size_of(&command) == size, "{line}");
+fn commands_of_words(rt: HostRuntime) -> Result<(), Fail> {
+    for row in &NAMES {
+        names_row(&rt, rt.alloc(), row)?;
     }
+    Ok(())
+}
+
+/// A line, the budget, whether the search may begin again, and the size of the board.
+type Given = (&'static str, u64, bool, Option<u64>);
+
+static OPTIONS: [Given; 7] = [
+    ("bee solve m.bee", USUAL, true, None),
+    ("bee solve m.bee --budget 007", 7, true, None),
+    ("bee solve --no-restart m.bee", USUAL, false, None),
+    ("bee sat m.cnf", USUAL, true, None),
+    ("bee sat --no-restart m.cnf --budget=9", 9, false, None),
+    ("bee queens 4", USUAL, true, Some(4)),
+    ("bee queens 024 --budget=2 --no-restart", 2, false, Some(24)),
+];
+
+/// Asserts that a command has the options of a row.
+fn has_options(rt: &impl Abort, command: &Command<'_>, row: &Given) {
+    let (line, budget, restart, size) = *row;
+    assert!(rt; options_of(command) == Some((budget, restart)), "{line}");
+    assert!(rt; size_of(command) == size, "{line}");
+}
+
+/// Asserts which options a line gives.
+fn options_row(rt: &impl Abort, alloc: Global, row: &Given) -> Result<(), Fail> {
+    let words = words_of(alloc, row.0)?;
+    match command_of(alloc, words.as_slice())? {
+        Some(command) => has_options(rt, &command, row),
+        None => panic!(rt; "no command: {}", row.0),
+    }
+    Ok(())
 }
 
 #[test]
-fn words_that_give_no_command(rt: HostRuntime) {
-    for line in [
-        "bee",
-        "bee compile",
-        "bee solve",
-        "bee print m.bee",
-        "bee Compile m.bee",
-        "bee check m.bee",
-        "bee decode m.cnf",
-        "bee check m.bee a.txt b.txt",
-        "bee solve m.bee n.bee",
-        "bee sat",
-        "bee sat m.cnf n.cnf",
-        "bee sat m.cnf --budget 0",
-        "bee SAT m.cnf",
-        "bee drup",
-        "bee drup m.cnf",
-        "bee drup m.cnf m.drup n.drup",
-        "bee drup m.cnf m.drup --budget 0",
-        "bee drat m.cnf m.drup",
-        "bee compile m.bee n.bee",
-        "bee compile m.bee n.bee o.bee",
-        "bee queens 3",
-        "bee queens 25",
-        "bee queens +8",
-        "bee queens 8x",
-        "bee queens eight",
-        "bee queens 8 8",
-        "bee compile m.bee --budget 0",
-        "bee compile m.bee --budget +1",
-        "bee compile m.bee --budget=-1",
-        "bee compile m.bee --budget=",
-        "bee compile m.bee --budget 1x",
-        "bee decode m.cnf values --budget 0",
-        "bee compile m.bee --budget 99999999999999999999999",
-        "bee compile m.bee --budget 9223372036854775808",
-        "bee compile m.bee --budget 1 --budget 1",
-        "bee compile m.bee --no-restart --no-restart",
-        "bee compile m.bee --fast",
-        "bee --help",
-        "bee compile m.bee -h",
-    ] {
-        let words = words_of(rt.alloc(), line).expect(&rt, "memory");
-        let command = read_command(rt.alloc(), words.as_slice()).expect(&rt, "memory");
-        assert!(rt; command.is_none(), "{line}");
+fn options_of_words(rt: HostRuntime) -> Result<(), Fail> {
+    for row in &OPTIONS {
+        options_row(&rt, rt.alloc(), row)?;
     }
+    Ok(())
+}
+
+static NO_COMMANDS: [&str; 39] = [
+    "bee",
+    "bee compile",
+    "bee solve",
+    "bee print m.bee",
+    "bee Compile m.bee",
+    "bee check m.bee",
+    "bee decode m.cnf",
+    "bee check m.bee a.txt b.txt",
+    "bee solve m.bee n.bee",
+    "bee sat",
+    "bee sat m.cnf n.cnf",
+    "bee sat m.cnf --budget 0",
+    "bee SAT m.cnf",
+    "bee drup",
+    "bee drup m.cnf",
+    "bee drup m.cnf m.drup n.drup",
+    "bee drup m.cnf m.drup --budget 0",
+    "bee drat m.cnf m.drup",
+    "bee compile m.bee n.bee",
+    "bee compile m.bee n.bee o.bee",
+    "bee queens 3",
+    "bee queens 25",
+    "bee queens +8",
+    "bee queens 8x",
+    "bee queens eight",
+    "bee queens 8 8",
+    "bee compile m.bee --budget 0",
+    "bee compile m.bee --budget +1",
+    "bee compile m.bee --budget=-1",
+    "bee compile m.bee --budget=",
+    "bee compile m.bee --budget 1x",
+    "bee decode m.cnf values --budget 0",
+    "bee compile m.bee --budget 99999999999999999999999",
+    "bee compile m.bee --budget 9223372036854775808",
+    "bee compile m.bee --budget 1 --budget 1",
+    "bee compile m.bee --no-restart --no-restart",
+    "bee compile m.bee --fast",
+    "bee --help",
+    "bee compile m.bee -h",
+];
+
+/// Whether a line gives a command.
+fn is_command(alloc: Global, line: &str) -> Result<bool, AllocError> {
+    let words = words_of(alloc, line)?;
+    Ok(command_of(alloc, words.as_slice())?.is_some())
+}
+
+#[test]
+fn words_that_give_no_command(rt: HostRuntime) -> Result<(), Fail> {
+    for line in &NO_COMMANDS {
+        assert!(rt; !is_command(rt.alloc(), line)?, "{line}");
+    }
+    Ok(())
 }

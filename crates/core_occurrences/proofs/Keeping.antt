@@ -1,6 +1,6 @@
 -- What occurrences keep where cores come and go.
 use Rattle.std.proofs.Common.{◌≡◌, ℕ, zero, suc, ◌+◌, ◌-◌, ◌≤◌, ◌<◌, ◌^◌, List, [], ◌∷◌, ◌++◌, length, map, get_or, replicate, refl, ap, sym, ◌∙◌, subst, arith, ⊎_elim}
-use Rattle.std.specs.List.{All}
+use Rattle.std.specs.List.{All, Contains}
 use Rattle.std.specs.List.Sorted.{IsStrictlyIncreasing}
 use Rattle.std.proofs.lemmas.Bool.{cases_lt, cases_eq}
 use Rattle.std.proofs.lemmas.List.{length-map, map-append, get_or-map}
@@ -33,7 +33,7 @@ module _ (rings : RingLists) (nodes : List Node) (heads : List ℕ) (room : ℕ)
   pub known : IsOccurrences lists
   known = subst IsOccurrences shown k.listed
 
-  pub kept-added : (id : ℕ) (vars : List ℕ) (rings1 : RingLists) (nodes1 : List Node) (heads1 : List ℕ) → 1 ≤ id → id ≤ lists.ids → IsStrictlyIncreasing vars → All (λ v. (1 ≤ v) × (v ≤ length lists.lists)) vars → ((v : ℕ) → ¬ Occurs lists v id) → length vars ≤ lists.room → ids_in nodes1 rings1 ≡ with_id id vars 1 (ids_in nodes rings) → IsHeld nodes1 rings1 → times 0 (owners nodes1) + length vars ≡ times 0 (owners nodes) → AreChains nodes1 heads1 → length nodes1 ≡ length nodes → length heads1 ≡ length heads → KeepsLists rings1 nodes1 heads1 (room - length vars) (added lists id vars)
+  pub kept-added : (id : ℕ) (vars : List ℕ) (rings1 : RingLists) (nodes1 : List Node) (heads1 : List ℕ) → 1 ≤ id → id ≤ lists.ids → IsStrictlyIncreasing vars → All (λ v. (1 ≤ v) × (v ≤ length lists.lists)) vars → ((v : ℕ) → Contains vars v → ¬ Occurs lists v id) → length vars ≤ lists.room → ids_in nodes1 rings1 ≡ with_id id vars 1 (ids_in nodes rings) → IsHeld nodes1 rings1 → times 0 (owners nodes1) + length vars ≡ times 0 (owners nodes) → AreChains nodes1 heads1 → length nodes1 ≡ length nodes → length heads1 ≡ length heads → KeepsLists rings1 nodes1 heads1 (room - length vars) (added lists id vars)
   kept-added id vars rings1 nodes1 heads1 low high increasing range fresh fits ids held free chains node_count head_count = record {
     kept = record {
       chains = chains;

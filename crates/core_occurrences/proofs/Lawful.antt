@@ -1,8 +1,8 @@
 -- The laws of the lists of ids.
 use Rattle.std.proofs.Common.{◌≡◌, ℕ, suc, ◌+◌, ◌-◌, ◌≤◌, ◌<◌, Bool, true, false, List, [], ◌∷◌, ◌++◌, length, get_or, refl, ap, sym, ◌∙◌, arith, ⊎_elim, inl, inr}
-use Rattle.std.specs.Prelude.{if◌then◌else◌, ◌==◌, ◌||◌, ◌⊎◌, ◌≢◌}
+use Rattle.std.specs.Prelude.{if◌then◌else◌, ◌==◌, ◌⊎◌, ◌≢◌}
 use Rattle.std.specs.List.{Contains}
-use Rattle.std.proofs.lemmas.Bool.{cases_lt, cases_eq, cases_Bool, eq-eqb, ne_eqb, eqb-true, cond-true, cond-false, true≢false}
+use Rattle.std.proofs.lemmas.Bool.{cases_lt, cases_eq, cases_Bool, eq-eqb, ne_eqb, cond-true, cond-false, true≢false}
 use Rattle.std.proofs.lemmas.List.{get_or_past}
 use Rattle.std.proofs.lemmas.List.Folds.{list_any_at}
 use Rattle.index_ring.specs.Lists.{times, times_in_all}
@@ -10,19 +10,11 @@ use Rattle.index_ring.proofs.Times.{times-same, times-other, times-append, times
 use Rattle.core_occurrences.specs.Lists.{Occurs, cores_at, with_id, no_occurrences, added, removed}
 use Rattle.core_occurrences.specs.Laws.{AddedBehind, AddedElsewhere, AddedOccurs, RemovedWithout, RemovedOccurs, GrownStays, NothingOccurs, RoomIsHolders, AddedTotal, RemovedTotal, GrownTotal, holders}
 use Rattle.core_occurrences.proofs.Listed.{is_listed, length-with_id}
-use Rattle.core_occurrences.proofs.Occurring.{times-from_contains, contains-from_times, times-none, cores-added, cores-removed, cores-grown, get_or-empties, total-with_id, total-without, total-empties}
+use Rattle.core_occurrences.proofs.Occurring.{times-from_contains, contains-from_listed, contains-from_times, times-none, cores-added, cores-removed, cores-grown, get_or-empties, total-with_id, total-without, total-empties}
 
 -- a test finds what a list contains
 listed-from_contains : (vars : List ℕ) (v : ℕ) → Contains vars v → is_listed v vars ≡ true
 listed-from_contains vars v h = list_any_at (λ w. w == v) vars h.0 v h.1 (eq-eqb (get_or vars h.0 v) v h.2)
-
-contains-from_listed : (vars : List ℕ) (v : ℕ) → is_listed v vars ≡ true → Contains vars v
-contains-from_listed [] v h = absurd (true≢false (sym h))
-contains-from_listed (w ∷ vars) v h = by (w == v) refl (contains-from_listed vars v)
-  where
-    by : (t : Bool) → (w == v) ≡ t → (is_listed v vars ≡ true → Contains vars v) → Contains (w ∷ vars) v
-    by true e rest = (0, omega arith, eqb-true w v e)
-    by false e rest = let found = rest (sym (ap (λ (b : Bool). b || is_listed v vars) e) ∙ h) in (suc found.0, omega (arith, found.1), found.2)
 
 not-listed : (vars : List ℕ) (v : ℕ) → ¬ Contains vars v → is_listed v vars ≡ false
 not-listed vars v none = ⊎_elim (λ (e : is_listed v vars ≡ true). absurd (none (contains-from_listed vars v e))) (λ e. e) (cases_Bool (is_listed v vars))

@@ -6,3 +6,5 @@ pub mod Occurring
 pub mod Keeping
 pub mod Walking
 pub mod Lawful
+pub mod Named
+pub mod Exchanges

@@ -1,9 +1,9 @@
 -- Lists of ids where cores come and go.
 use Rattle.std.proofs.Common.{◌≡◌, ℕ, zero, suc, ◌+◌, ◌-◌, ◌≤◌, ◌<◌, ◌^◌, Bool, true, false, List, [], ◌∷◌, ◌++◌, length, map, get_or, set, take, replicate, refl, ap, sym, ◌∙◌, subst, arith, ⊎_elim}
-use Rattle.std.specs.Prelude.{if◌then◌else◌, ◌==◌}
+use Rattle.std.specs.Prelude.{if◌then◌else◌, ◌==◌, ◌||◌}
 use Rattle.std.specs.List.{All, Contains}
 use Rattle.std.specs.List.Sorted.{IsStrictlyIncreasing}
-use Rattle.std.proofs.lemmas.Bool.{cases_lt, cases_eq}
+use Rattle.std.proofs.lemmas.Bool.{cases_lt, cases_eq, eqb-true, true≢false}
 use Rattle.std.proofs.lemmas.List.{length-append, length-replicate, length-map, get_or-map, get_or_past, take_more, take_all}
 use Rattle.index_ring.specs.Lists.{times, times_in_all, without}
 use Rattle.index_ring.specs.Laws.{total_length}
@@ -29,6 +29,15 @@ contains-from_times (u ∷ list) w some = ⊎_elim here (there (contains-from_ti
 
     there : (1 ≤ times w list → Contains list w) → (u ≡ w → ⊥) → Contains (u ∷ list) w
     there rest ne = let found = rest (omega (arith, times-other w u list ne)) in (suc found.0, omega (arith, found.1), found.2)
+
+-- a test finds no more than a list contains
+pub contains-from_listed : (vars : List ℕ) (v : ℕ) → is_listed v vars ≡ true → Contains vars v
+contains-from_listed [] v h = absurd (true≢false (sym h))
+contains-from_listed (w ∷ vars) v h = by (w == v) refl (contains-from_listed vars v)
+  where
+    by : (t : Bool) → (w == v) ≡ t → (is_listed v vars ≡ true → Contains vars v) → Contains (w ∷ vars) v
+    by true e rest = (0, omega arith, eqb-true w v e)
+    by false e rest = let found = rest (sym (ap (λ (b : Bool). b || is_listed v vars) e) ∙ h) in (suc found.0, omega (arith, found.1), found.2)
 
 pub times-none : (list : List ℕ) (w : ℕ) → ¬ Contains list w → times w list ≡ 0
 times-none list w none =
@@ -114,7 +123,7 @@ occurrences-grown old vars ids nodes h fits = record {
   small = omega (arith, fits, total-empties old.lists vars, length-append old.lists (replicate vars (let none : List ℕ = [] in none)), length-replicate vars (let none : List ℕ = [] in none));
 }
 
-pub occurrences-added : (old : OccurrenceLists) (id : ℕ) (vars : List ℕ) → IsOccurrences old → 1 ≤ id → id ≤ old.ids → IsStrictlyIncreasing vars → All (λ v. (1 ≤ v) × (v ≤ length old.lists)) vars → ((v : ℕ) → ¬ Occurs old v id) → length vars ≤ old.room → IsOccurrences (added old id vars)
+pub occurrences-added : (old : OccurrenceLists) (id : ℕ) (vars : List ℕ) → IsOccurrences old → 1 ≤ id → id ≤ old.ids → IsStrictlyIncreasing vars → All (λ v. (1 ≤ v) × (v ≤ length old.lists)) vars → ((v : ℕ) → Contains vars v → ¬ Occurs old v id) → length vars ≤ old.room → IsOccurrences (added old id vars)
 occurrences-added old id vars h low high increasing range fresh fits = record {
   once = λ v w. ⊎_elim (once_same v w) (λ ne. omega (arith, times-added old id vars v w, times-other w id [] (λ e. ne (sym e)), h.once v w)) (cases_eq w id);
   inside = λ v w occurs. ⊎_elim (λ (e : w ≡ id). let both : (1 ≤ w) × (w ≤ old.ids) = (omega arith, omega arith) in both) (λ ne. h.inside v w (contains-from_times (cores_at old v) w (omega (arith, times-from_contains (cores_at (added old id vars) v) w occurs, times-added old id vars v w, times-other w id [] (λ e. ne (sym e)))))) (cases_eq w id);
@@ -122,9 +131,21 @@ occurrences-added old id vars h low high increasing range fresh fits = record {
 }
   where
     once_same : (v w : ℕ) → w ≡ id → times w (cores_at (added old id vars) v) ≤ 1
-    once_same v w e =
-        let none : times w (cores_at old v) ≡ 0 = ap (λ (u : ℕ). times u (cores_at old v)) e ∙ times-none (cores_at old v) id (fresh v) in
-        omega (arith, times-added old id vars v w, times-same w id [] (sym e), none)
+    once_same v w e = ⊎_elim there past (cases_lt (v - 1) (length old.lists))
+      where
+        there : v - 1 < length old.lists → times w (cores_at (added old id vars) v) ≤ 1
+        there few = by (is_listed (1 + (v - 1)) vars) refl (with_id-at id vars 1 old.lists (v - 1) few)
+          where
+            by : (t : Bool) → is_listed (1 + (v - 1)) vars ≡ t → cores_at (added old id vars) v ≡ (if t then cores_at old v ++ id ∷ [] else cores_at old v) → times w (cores_at (added old id vars) v) ≤ 1
+            by true listed is =
+                let place : 1 + (v - 1) - 1 ≡ v - 1 = omega arith in
+                let apart : ¬ Contains (cores_at old v) id = subst (λ (k : ℕ). ¬ Contains (get_or old.lists k []) id) place (fresh (1 + (v - 1)) (contains-from_listed vars (1 + (v - 1)) listed)) in
+                let none : times w (cores_at old v) ≡ 0 = ap (λ (u : ℕ). times u (cores_at old v)) e ∙ times-none (cores_at old v) id apart in
+                omega (arith, ap (times w) is, times-append w (cores_at old v) (id ∷ []), times-same w id [] (sym e), none)
+            by false listed is = omega (arith, ap (times w) is, h.once v w)
+
+        past : length old.lists ≤ v - 1 → times w (cores_at (added old id vars) v) ≤ 1
+        past high = omega (arith, ap (times w) (get_or_past (with_id id vars 1 old.lists) (v - 1) [] (omega (arith, high, length-with_id id vars 1 old.lists))))
 
 pub occurrences-removed : (old : OccurrenceLists) (id : ℕ) → IsOccurrences old → IsOccurrences (removed old id)
 occurrences-removed old id h = record {

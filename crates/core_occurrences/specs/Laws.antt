@@ -5,6 +5,7 @@ use Rattle.std.specs.List.Sorted.{IsStrictlyIncreasing}
 use Rattle.index_ring.specs.Lists.{times_in_all, without}
 use Rattle.index_ring.specs.Laws.{total_length}
 use Rattle.core_occurrences.specs.Lists.{OccurrenceLists, IsOccurrences, Occurs, cores_at, no_occurrences, grown, added, removed}
+use Rattle.core_occurrences.specs.Bodies.{swapped, exchanged}
 
 -- the core that has come is the last one at each of its variables
 abbrev pub AddedBehind : Type 0
@@ -25,6 +26,10 @@ RemovedWithout = (old : OccurrenceLists) (id v : ℕ) → cores_at (removed old 
 -- no variable occurs in the core that has gone, and all occur in the others as before
 abbrev pub RemovedOccurs : Type 0
 RemovedOccurs = (old : OccurrenceLists) (id v w : ℕ) → Occurs (removed old id) v w ↔ (Occurs old v w × (w ≢ id))
+
+-- a variable occurs in each of two cores where it occurred in the other, and in all others as before
+abbrev pub ExchangedOccurs : Type 0
+ExchangedOccurs = (old : OccurrenceLists) (first second v w : ℕ) → Occurs (exchanged old first second) v w ↔ Occurs old v (swapped first second w)
 
 -- lists stay where they are joined by others, which are empty
 abbrev pub GrownStays : Type 0

@@ -1,4 +1,5 @@
 pub mod Lists
+pub mod Bodies
 pub mod Chains
 pub mod Held
 pub mod Kept

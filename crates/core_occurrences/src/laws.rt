@@ -1,6 +1,6 @@
 //! Laws of the lists that clauses cite.
 
-ghost use Rattle.core_occurrences.specs.Laws.{AddedBehind, AddedElsewhere, AddedOccurs, RemovedWithout, RemovedOccurs, GrownStays, NothingOccurs, RoomIsHolders, AddedTotal, RemovedTotal, GrownTotal};
+ghost use Rattle.core_occurrences.specs.Laws.{AddedBehind, AddedElsewhere, AddedOccurs, RemovedWithout, RemovedOccurs, ExchangedOccurs, GrownStays, NothingOccurs, RoomIsHolders, AddedTotal, RemovedTotal, GrownTotal};
 
 /// What stands where a core has come, and in all cores before.
 pub fn added_laws()
@@ -14,6 +14,11 @@ pub fn removed_laws()
     ensures without { RemovedWithout }
     ensures occurs { RemovedOccurs }
     ensures room { RoomIsHolders }
+{}
+
+/// What stands where two cores have exchanged their occurrences.
+pub fn exchanged_laws()
+    ensures occurs { ExchangedOccurs }
 {}
 
 /// What stands where variables are added, and at the start.

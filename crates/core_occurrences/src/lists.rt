@@ -1,6 +1,6 @@
-//! Occurrences of variables in cores.
+//! Occurrences of variables in bodies, each of which is a core.
 
-ghost use Rattle.std.specs.Prelude.{◌≡◌, ◌+◌, ◌^◌, ◌<◌, ◌≤◌, ◌↔◌, ℕ, length, IfOk, OnOk, OnErr, IsTrue};
+ghost use Rattle.std.specs.Prelude.{◌≡◌, ◌+◌, ◌^◌, ◌<◌, ◌≤◌, ◌↔◌, ℕ, length, IfOk, OnOk, OnErr, IsTrue, Contains};
 ghost use Rattle.std.specs.List.{All};
 ghost use Rattle.std.specs.List.Sorted.{IsStrictlyIncreasing};
 ghost use Rattle.core_occurrences.specs.Lists.{IsOccurrences, Occurs, cores_at, no_occurrences, grown, added, removed};
@@ -12,18 +12,18 @@ use index_ring::Rings;
 use std::alloc::{AllocError, Global};
 use std::marker::Model;
 
-/// For each variable, numbered from 1 on, the ids of the cores that it occurs in, from 1 on, each once, in the
-/// order in which the cores came. Sixteen bytes for each occurrence that there is room for, eight for each
-/// variable, four for each id.
+/// For each variable, numbered from 1 on, the bodies of the cores that it occurs in, from 1 on, each once, in the
+/// order in which these came. Sixteen bytes for each occurrence that there is room for, eight for each
+/// variable, four for each body.
 #[derive(Debug, Drop)]
-pub struct Occurrences {
+pub struct BodyOccurrences {
     rings: Rings,
     nodes: Vec<Node>,
     heads: Vec<u32>,
     room: u32,
 }
 
-impl Model for Occurrences {
+impl Model for BodyOccurrences {
     ghost use Rattle.core_occurrences.specs.Lists.{OccurrenceLists};
 
     ghost Value = { OccurrenceLists };
@@ -46,15 +46,15 @@ fn fits(rings: &Rings, heads: usize, vars: u32, ids: u32, nodes: u32) -> bool
         && heads <= (1 << 32) - ids as usize
 }
 
-impl Occurrences {
+impl BodyOccurrences {
     /// Variables that occur in no core, with no id and no room.
-    pub fn with(alloc: Global, vars: u32) -> Result<Occurrences, AllocError>
+    pub fn with(alloc: Global, vars: u32) -> Result<BodyOccurrences, AllocError>
         ensures lists { IfOk result (λ made. made ≡ no_occurrences vars) }
         ensures occurrences { IfOk result IsOccurrences }
     {
         let mut heads = Vec::new(alloc);
         heads.push(0)?;
-        let mut made = Occurrences {
+        let mut made = BodyOccurrences {
             rings: Rings::with(alloc, 0, 0)?,
             nodes: Vec::new(alloc),
             heads,
@@ -83,12 +83,12 @@ impl Occurrences {
         Ok(())
     }
 
-    /// Adds a core that has an occurrence of each listed variable, in constant time for each. It takes no memory.
+    /// Adds an occurrence of each listed variable in a core, in constant time for each. It takes no memory.
     pub fn add(&mut self, id: u32, vars: &[u32])
         requires id { (1 ≤ id) × (id ≤ self.old.ids) }
         requires increasing { IsStrictlyIncreasing vars.now }
         requires vars { All (λ v. (1 ≤ v) × (v ≤ length self.old.lists)) vars.now }
-        requires fresh { (v : ℕ) → ¬ Occurs self.old v id }
+        requires fresh { (v : ℕ) → Contains vars.now v → ¬ Occurs self.old v id }
         requires room { length vars.now ≤ self.old.room }
         ensures lists { self.new ≡ added self.old id vars.now }
         ensures occurrences { IsOccurrences self.new }

@@ -33,8 +33,8 @@ use Rattle.core_rules.proofs.InstanceLaws.{instance-different}
 use Rattle.step_kernel.proofs.There.{is-there, there-labels, there-equated}
 use Rattle.step_kernel.proofs.Splits.{at-bounds}
 use Rattle.fixpoint_queue.specs.IdQueue.{Ids, IsIds}
-use Rattle.core_occurrences.specs.Lists.{OccurrenceLists, Occurs}
-use Rattle.fixpoint_queue.specs.Listed.{IsListed}
+use Rattle.core_occurrences.specs.Lists.{OccurrenceLists}
+use Rattle.fixpoint_queue.specs.Listed.{HasVar, IsListed}
 use Rattle.fixpoint_queue.specs.Marks.{mark_of}
 use Rattle.fixpoint_queue.specs.Quiet.{IsQuiet}
 use Rattle.fixpoint_queue.specs.Waits.{IsSaturation, IsWoken, IsWokenFor, left_to_do}
@@ -57,26 +57,26 @@ same-cores k e = by (same_atom e.a (not_atom e.b))
     by true = refl
     by false = refl
 
-module _ (view : List Atom) (occurs : OccurrenceLists) (e : Equation) (old new : Ids) (ids : IsIds old) where
-  pub woken-stays : (o : Option ℕ) → MatchOption o (new ≡ old) (λ x. IsWoken view occurs x old new) → (id : ℕ) → 1 ≤ times id old.queued → 1 ≤ times id new.queued
+module _ (k : Kernel) (e : Equation) (old new : Ids) (ids : IsIds old) where
+  pub woken-stays : (o : Option ℕ) → MatchOption o (new ≡ old) (λ x. IsWoken k x old new) → (id : ℕ) → 1 ≤ times id old.queued → 1 ≤ times id new.queued
   woken-stays None w id h = subst (λ (q : Ids). 1 ≤ times id q.queued) (sym w) h
   woken-stays (Some x) w id h = w.stays id h
 
-  woken-ids : (o : Option ℕ) → MatchOption o (new ≡ old) (λ x. IsWoken view occurs x old new) → IsIds new
+  woken-ids : (o : Option ℕ) → MatchOption o (new ≡ old) (λ x. IsWoken k x old new) → IsIds new
   woken-ids None w = subst IsIds (sym w) ids
   woken-ids (Some x) w = w.ids
 
-  woken-places : (o : Option ℕ) → MatchOption o (new ≡ old) (λ x. IsWoken view occurs x old new) → new.places ≡ old.places
+  woken-places : (o : Option ℕ) → MatchOption o (new ≡ old) (λ x. IsWoken k x old new) → new.places ≡ old.places
   woken-places None w = ap (λ (q : Ids). q.places) w
   woken-places (Some x) w = w.places
 
-  woken-only : (o : Option ℕ) → MatchOption o (new ≡ old) (λ x. IsWoken view occurs x old new) → (id : ℕ) → 1 ≤ times id new.queued → (1 ≤ times id old.queued) ⊎ ((v : ℕ) × Occurs occurs v id × (1 ≤ v))
+  woken-only : (o : Option ℕ) → MatchOption o (new ≡ old) (λ x. IsWoken k x old new) → (id : ℕ) → 1 ≤ times id new.queued → (1 ≤ times id old.queued) ⊎ ((v : ℕ) × HasVar k id v)
   woken-only None w id h = inl (subst (λ (q : Ids). 1 ≤ times id q.queued) w h)
-  woken-only (Some x) w id h = ⊎_elim (λ (there : 1 ≤ times id old.queued). inl there) (λ (at : (v : ℕ) × IsMember view x v × Occurs occurs v id). inr (at.0, at.2, at.1.0)) (w.only id h)
+  woken-only (Some x) w id h = ⊎_elim (λ (there : 1 ≤ times id old.queued). inl there) (λ (at : (v : ℕ) × IsMember k.view x v × HasVar k id v). inr (at.0, at.2)) (w.only id h)
 
-  woken-has : (o : Option ℕ) → MatchOption o (new ≡ old) (λ x. IsWoken view occurs x old new) → (x v id : ℕ) → o ≡ Some x → IsMember view x v → Occurs occurs v id → 1 ≤ times id new.queued
+  woken-has : (o : Option ℕ) → MatchOption o (new ≡ old) (λ x. IsWoken k x old new) → (x v id : ℕ) → o ≡ Some x → IsMember k.view x v → HasVar k id v → 1 ≤ times id new.queued
   woken-has None w x v id e member there = absurd (none-some x e)
-  woken-has (Some y) w x v id e member there = w.woken v id (subst (λ (z : ℕ). IsMember view z v) (sym (some-of y x e)) member) there
+  woken-has (Some y) w x v id e member there = w.woken v id (subst (λ (z : ℕ). IsMember k.view z v) (sym (some-of y x e)) member) there
     where
       some-of : (y x : ℕ) → ◌≡◌ {A = Option ℕ} (Some y) (Some x) → y ≡ x
       some-of y x h = cc
@@ -85,7 +85,7 @@ module _ (view : List Atom) (occurs : OccurrenceLists) (e : Equation) (old new :
 
 module _ (told : Core → Equation → Type 0) (k : Kernel) (occurs : OccurrenceLists) (old new : Ids) (marks : List Bool) (saturation : IsSaturation told k occurs old marks)
     (id : ℕ) (core : Core) (there : trimmed_at k id ≡ Some core) (e : Equation) (instance : is_instance_at core e ≡ true)
-    (woken : IsWokenFor k.view occurs e old new)
+    (woken : IsWokenFor k e old new)
   where
     labels : IsLabel k.view e.a × IsLabel k.view e.b
     labels = there-labels k id core saturation.kernel there e instance
@@ -96,29 +96,29 @@ module _ (told : Core → Equation → Type 0) (k : Kernel) (occurs : Occurrence
     -- a core that isn't woken waited for nothing before
     not-woken : (i : ℕ) → times i new.queued ≡ 0 → times i old.queued ≡ 0
     not-woken i none =
-        ⊎_elim (λ (h : times i old.queued < 1). omega (arith, h)) (λ (h : 1 ≤ times i old.queued). absurd (omega (arith, none, woken-stays k.view occurs e old new saturation.queued (loser_of k.view e.a e.b) woken i h))) (cases_lt (times i old.queued) 1)
+        ⊎_elim (λ (h : times i old.queued < 1). omega (arith, h)) (λ (h : 1 ≤ times i old.queued). absurd (omega (arith, none, woken-stays k e old new saturation.queued (loser_of k.view e.a e.b) woken i h))) (cases_lt (times i old.queued) 1)
 
-    unwoken : (i : ℕ) → times i new.queued ≡ 0 → (x v : ℕ) → loser_of k.view e.a e.b ≡ Some x → IsMember k.view x v → Occurs occurs v i → ⊥
-    unwoken i none x v loser member stands = absurd (omega (arith, none, woken-has k.view occurs e old new saturation.queued (loser_of k.view e.a e.b) woken x v i loser member stands))
+    unwoken : (i : ℕ) → times i new.queued ≡ 0 → (x v : ℕ) → loser_of k.view e.a e.b ≡ Some x → IsMember k.view x v → HasVar k i v → ⊥
+    unwoken i none x v loser member stands = absurd (omega (arith, none, woken-has k e old new saturation.queued (loser_of k.view e.a e.b) woken x v i loser member stands))
 
     pending-new : (i : ℕ) → 1 ≤ times i new.queued → (c : Core) × (core_at (equated k e).cores i ≡ Some c)
     pending-new i h =
         let there : (c : Core) × (core_at k.cores i ≡ Some c) =
         ⊎_elim (λ (was : 1 ≤ times i old.queued). saturation.pending i was)
-        (λ (at : (v : ℕ) × Occurs occurs v i × (1 ≤ v)). let has = (saturation.listed.there at.0 i at.2).0 at.1 in (has.0, has.1))
-        (woken-only k.view occurs e old new saturation.queued (loser_of k.view e.a e.b) woken i h) in
+        (λ (at : (v : ℕ) × HasVar k i v). (at.1.0, at.1.1))
+        (woken-only k e old new saturation.queued (loser_of k.view e.a e.b) woken i h) in
         (there.0, ap (λ (cs : List (Option Core)). core_at cs i) (same-cores k e) ∙ there.1)
 
     pub saturation-equated : IsSaturation told (equated k e) occurs new marks
     saturation-equated = record {
       kernel = there-equated k id core saturation.kernel there e instance;
       listed = listed-equated k e occurs same-length saturation.listed;
-      places = omega (arith, saturation.places, ap length (same-cores k e), woken-places k.view occurs e old new saturation.queued (loser_of k.view e.a e.b) woken);
-      queued = woken-ids k.view occurs e old new saturation.queued (loser_of k.view e.a e.b) woken;
+      places = omega (arith, saturation.places, ap length (same-cores k e), woken-places k e old new saturation.queued (loser_of k.view e.a e.b) woken);
+      queued = woken-ids k e old new saturation.queued (loser_of k.view e.a e.b) woken;
       pending = pending-new;
-      waits = λ i none. quiet-kept told k saturation.kernel e labels.0 labels.1 occurs saturation.listed i (unwoken i none) (saturation.waits i (not-woken i none));
+      waits = λ i none. quiet-kept told k saturation.kernel e labels.0 labels.1 i (unwoken i none) (saturation.waits i (not-woken i none));
       mark_places = omega (arith, saturation.mark_places, ap length (same-cores k e));
-      marked = λ i none. saturation.marked i (not-woken i none) ∙ sym (ap is_compound_if (trimmed-kept told k saturation.kernel e labels.0 labels.1 occurs saturation.listed i (unwoken i none)));
+      marked = λ i none. saturation.marked i (not-woken i none) ∙ sym (ap is_compound_if (trimmed-kept told k saturation.kernel e labels.0 labels.1 i (unwoken i none)));
     }
 
     -- a class loses, unless the two atoms are opposite
@@ -153,10 +153,10 @@ module _ (told : Core → Equation → Type 0) (k : Kernel) (occurs : Occurrence
     less-equated running = by (same_atom e.a (not_atom e.b)) refl
       where
         places : new.places ≡ old.places
-        places = woken-places k.view occurs e old new saturation.queued (loser_of k.view e.a e.b) woken
+        places = woken-places k e old new saturation.queued (loser_of k.view e.a e.b) woken
 
         few : length new.queued ≤ new.places
-        few = ids-few new (woken-ids k.view occurs e old new saturation.queued (loser_of k.view e.a e.b) woken)
+        few = ids-few new (woken-ids k e old new saturation.queued (loser_of k.view e.a e.b) woken)
 
         whole : left_to_do k old ≡ number_own k.view * (old.places + 1) + length old.queued + 1
         whole = ap (λ (t : Bool). if t then 0 else number_own k.view * (old.places + 1) + length old.queued + 1) running

@@ -26,7 +26,8 @@ use Rattle.equation_store.specs.Class.{class_size}
 use Rattle.equation_store.proofs.Changes.{merge_changes}
 use Rattle.index_ring.specs.Lists.{times, without}
 use Rattle.index_ring.proofs.Times.{length-without}
-use Rattle.core_occurrences.specs.Lists.{OccurrenceLists, Occurs}
+use Rattle.core_occurrences.specs.Lists.{OccurrenceLists}
+use Rattle.fixpoint_queue.specs.Listed.{HasVar}
 use Rattle.ledger_text.specs.declared.line.Line.{Line}
 use Rattle.ledger_text.specs.declared.line.Line.TheVariants.{Equate}
 use Rattle.step_kernel.specs.declared.fault.StepFault.{StepFault}
@@ -137,7 +138,7 @@ module _ (told : Core → Equation → Type 0) (k : Kernel) (occurs : Occurrence
     abbrev count : ℕ → ℕ
     count i = counted_at k.view next-view (core_at k.cores i)
 
-    module _ (x : ℕ) (loser : loser_of k.view e.a e.b ≡ Some x) (woken : IsWoken k.view occurs x old new) where
+    module _ (x : ℕ) (loser : loser_of k.view e.a e.b ≡ Some x) (woken : IsWoken k x old new) where
       -- a core with a member of the class that loses counts
       counts : (i v : ℕ) (c : Core) → core_at k.cores i ≡ Some c → Contains (core_vars c) v → IsMember k.view x v → 1 ≤ count i
       counts i v c at has member =
@@ -171,8 +172,8 @@ module _ (told : Core → Equation → Type 0) (k : Kernel) (occurs : Occurrence
       woken-counts : (i : ℕ) → 1 ≤ times i new.queued → (1 ≤ times i old.queued) ⊎ (1 ≤ count i)
       woken-counts i h =
           ⊎_elim (λ (was : 1 ≤ times i old.queued). inl was)
-          (λ (at : (v : ℕ) × IsMember k.view x v × Occurs occurs v i).
-          let has = (saturation.listed.there at.0 i at.1.0).0 at.2 in
+          (λ (at : (v : ℕ) × IsMember k.view x v × HasVar k i v).
+          let has = at.2 in
           inr (counts i at.0 has.0 has.1 has.2 at.1))
           (woken.only i h)
 
@@ -195,8 +196,8 @@ module _ (told : Core → Equation → Type 0) (k : Kernel) (occurs : Occurrence
       inside-new : (i : ℕ) → 1 ≤ times i new.queued → (1 ≤ i) × (i ≤ length k.cores)
       inside-new i h =
           ⊎_elim (λ (was : 1 ≤ times i old.queued). inside-old i was)
-          (λ (at : (v : ℕ) × IsMember k.view x v × Occurs occurs v i).
-          let has = (saturation.listed.there at.0 i at.1.0).0 at.2 in
+          (λ (at : (v : ℕ) × IsMember k.view x v × HasVar k i v).
+          let has = at.2 in
           there-bounds k.cores i has.0 has.1)
           (woken.only i h)
 
@@ -217,7 +218,7 @@ module _ (told : Core → Equation → Type 0) (k : Kernel) (occurs : Occurrence
           )
 
     -- so do they where no bottom is found
-    pub fewer-equated : IsWokenFor k.view occurs e old new → (equated k e).bottom ≡ false → 1 + length new.queued ≤ length old.queued + pairs_between k (equated k e)
+    pub fewer-equated : IsWokenFor k e old new → (equated k e).bottom ≡ false → 1 + length new.queued ≤ length old.queued + pairs_between k (equated k e)
     fewer-equated woken running = by (same_atom e.a (not_atom e.b)) refl running
       where
         by : (b : Bool) → same_atom e.a (not_atom e.b) ≡ b → (if b then record k { bottom = true } else record k { view = merged k.view e.a e.b }).bottom ≡ false
@@ -225,7 +226,7 @@ module _ (told : Core → Equation → Type 0) (k : Kernel) (occurs : Occurrence
         by true h r = absurd (false≢true (sym r))
         by false h r = loses-by (loser_of k.view e.a e.b) refl (loses told k occurs old new marks saturation id core there e instance woken h) woken
           where
-            loses-by : (o : Option ℕ) → loser_of k.view e.a e.b ≡ o → is_some o ≡ true → MatchOption o (new ≡ old) (λ x. IsWoken k.view occurs x old new)
+            loses-by : (o : Option ℕ) → loser_of k.view e.a e.b ≡ o → is_some o ≡ true → MatchOption o (new ≡ old) (λ x. IsWoken k x old new)
                 → 1 + length new.queued ≤ length old.queued + relabelled_pairs k.view (merged k.view e.a e.b) (pending k.cores)
             loses-by None at some w = absurd (false≢true some)
             loses-by (Some x) at some w = fewer-pairs x at w
@@ -296,7 +297,7 @@ counted-silent k before id counter now old new running there is most =
     subst (λ (n : ℕ). IsCounted k before before (length old.queued) counter now n) (sym (left-running k new running)) (counted-quiet k before id counter now old.queued new.queued there is most)
 
 pub counted-taken : (told : Core → Equation → Type 0) (k : Kernel) (occurs : OccurrenceLists) (old queue : Ids) (marks : List Bool) → IsSaturation told k occurs old marks
-    → (id : ℕ) (core : Core) → trimmed_at k id ≡ Some core → (e : Equation) → is_instance_at core e ≡ true → 1 ≤ times id old.queued → IsWokenFor k.view occurs e old queue
+    → (id : ℕ) (core : Core) → trimmed_at k id ≡ Some core → (e : Equation) → is_instance_at core e ≡ true → 1 ≤ times id old.queued → IsWokenFor k e old queue
     → (new : Kernel) → new ≡ equated k e → step k (Equate id e) ≡ Ok new → (before behind : List Line) → behind ≡ before ++ Equate id e ∷ [] → (counter now : ℕ) → now ≤ counter + 3
     → IsCounted k before behind (length old.queued) counter now (left_to_ask new queue)
 counted-taken told k occurs old queue marks saturation id core there e instance first woken new is stepped before behind line counter now most = by new.bottom refl

@@ -1,9 +1,9 @@
 -- One core after another comes to its variables and into the queue.
 use Rattle.std.proofs.Common.{◌≡◌, inl, inr, ℕ, zero, suc, ◌+◌, ◌≤◌, ◌<◌, List, [], ◌∷◌, ◌++◌, length, get_or, take, drop, refl, sym, ap, ◌∙◌, subst, arith, ⊎_elim, Option, Some, None}
-use Rattle.std.specs.Prelude.{Contains}
+use Rattle.std.specs.Prelude.{◌==◌, ◌⊎◌, Contains, if◌then◌else◌}
 use Rattle.std.specs.List.{All}
 use Rattle.std.proofs.lemmas.Option.{none-some}
-use Rattle.std.proofs.lemmas.Bool.{cases_eq, cases_lt}
+use Rattle.std.proofs.lemmas.Bool.{cases_eq, cases_lt, cond-true, cond-false, eq-eqb, ne_eqb}
 use Rattle.std.proofs.lemmas.List.{get_or_default, get_or_past, take_more, length-take-le, at_drop_more}
 use Rattle.core_forms.specs.declared.form.Core.{Core}
 use Rattle.core_forms.specs.Variables.{core_vars}
@@ -15,8 +15,8 @@ use Rattle.step_kernel.specs.Kernel.{Kernel, core_at, IsKernel}
 use Rattle.step_kernel.proofs.Holes.{below-there}
 use Rattle.step_kernel.proofs.Splits.{there-bounds}
 use Rattle.fixpoint_queue.specs.IdQueue.{Ids, IsIds, with_id}
-use Rattle.fixpoint_queue.specs.Standing.{Stand, AreVars, AreAllVars, AreVarsFrom, AreEntered, all_counted}
-use Rattle.fixpoint_queue.proofs.Stood.{stand-added}
+use Rattle.fixpoint_queue.specs.Standing.{StandBut, AreVars, AreAllVars, AreVarsFrom, AreEntered, all_counted}
+use Rattle.fixpoint_queue.proofs.Stood.{stand-added, stand-passed, occurs-added}
 use Rattle.fixpoint_queue.proofs.Waking.{put-has, put-stays, put-only, put-places}
 
 pub all-vars-put : (lists : List (List ℕ)) (cores : List Core) (vars : List ℕ) (core : Core) → AreAllVars lists cores → AreVars vars core → AreAllVars (lists ++ vars ∷ []) (cores ++ core ∷ [])
@@ -35,14 +35,14 @@ core-bounds k is id core at v there =
     (b.0, omega (arith, b.1))
 
 -- an id behind all that stand stands nowhere
-none-there : (cores : List (Option Core)) (occurs : OccurrenceLists) (id : ℕ) → length cores < id → Stand cores occurs → (v : ℕ) → 1 ≤ v → ¬ Occurs occurs v id
-none-there cores occurs id past stand v low o =
-    let has = (stand v id low).0 o in
+none-there : (held : ℕ) (cores : List (Option Core)) (occurs : OccurrenceLists) (id : ℕ) → length cores < id → (id ≡ held → ⊥) → StandBut held cores occurs → (v : ℕ) → 1 ≤ v → ¬ Occurs occurs v id
+none-there held cores occurs id past apart stand v low o =
+    let has = (stand v id low apart).0 o in
     absurd (omega (arith, past, (there-bounds cores id has.0 has.1).1))
 
-pub none-behind : (cores : List (Option Core)) (occurs : OccurrenceLists) (id : ℕ) → length cores < id → Stand cores occurs → (v : ℕ) → ¬ Occurs occurs v id
-none-behind cores occurs id past stand zero o = none-there cores occurs id past stand 1 (omega arith) o
-none-behind cores occurs id past stand (suc v) o = none-there cores occurs id past stand (suc v) (omega arith) o
+pub none-behind : (held : ℕ) (cores : List (Option Core)) (occurs : OccurrenceLists) (id : ℕ) → length cores < id → (id ≡ held → ⊥) → StandBut held cores occurs → (v : ℕ) → ¬ Occurs occurs v id
+none-behind held cores occurs id past apart stand zero o = none-there held cores occurs id past apart stand 1 (omega arith) o
+none-behind held cores occurs id past apart stand (suc v) o = none-there held cores occurs id past apart stand (suc v) (omega arith) o
 
 pub some-inside : (cores : List (Option Core)) (i : ℕ) (core : Core) → get_or cores i None ≡ Some core → i < length cores
 some-inside cores i core e = ⊎_elim (λ (h : i < length cores). h) (λ (h : length cores ≤ i). absurd (none-some core (sym (get_or_past cores i None h) ∙ e))) (cases_lt i (length cores))
@@ -50,11 +50,12 @@ some-inside cores i core e = ⊎_elim (λ (h : i < length cores). h) (λ (h : le
 pub length-taken : (cores : List (Option Core)) (n : ℕ) → n ≤ length cores → length (take n cores) ≡ n
 length-taken cores n le = length-take-le n cores le
 
-pub entered-none : (cores : List (Option Core)) (before : ℕ) (occurs : OccurrenceLists) (queue : Ids) → Stand (take before cores) occurs → IsOccurrences occurs → IsIds queue → AreEntered cores before 0 occurs occurs queue queue
-entered-none cores before occurs queue stand is ids =
+pub entered-none : (held : ℕ) (cores : List (Option Core)) (before : ℕ) (occurs : OccurrenceLists) (queue : Ids) → StandBut held (take before cores) occurs → IsOccurrences occurs → IsIds queue → AreEntered held cores before 0 occurs occurs queue queue
+entered-none held cores before occurs queue stand is ids =
     let e : before + 0 ≡ before = omega arith in
     record {
-      stand = subst (λ (n : ℕ). Stand (take n cores) occurs) (sym e) stand;
+      stand = subst (λ (n : ℕ). StandBut held (take n cores) occurs) (sym e) stand;
+      keeps = λ v id low o. o;
       occurrences = is;
       lists = refl;
       ids = refl;
@@ -65,9 +66,9 @@ entered-none cores before occurs queue stand is ids =
       only = λ id h. inl h;
     }
 
-module _ (cores : List (Option Core)) (before i : ℕ) (first o new_occurs : OccurrenceLists) (start q new_queue : Ids) (vars : List ℕ) (core : Core)
+module _ (held : ℕ) (cores : List (Option Core)) (before i : ℕ) (first o new_occurs : OccurrenceLists) (start q new_queue : Ids) (vars : List ℕ) (core : Core)
     (at : get_or cores (before + i) None ≡ Some core) (are : AreVars vars core) (bound : (v : ℕ) → Contains vars v → v ≤ length o.lists)
-    (h : AreEntered cores before i first o start q) (occurs-is : new_occurs ≡ added o (before + i + 1) vars) (occurrences : IsOccurrences new_occurs)
+    (h : AreEntered held cores before i first o start q) (occurs-is : new_occurs ≡ (if before + i + 1 == held then o else added o (before + i + 1) vars)) (occurrences : IsOccurrences new_occurs)
     (queue-is : new_queue ≡ with_id q (before + i + 1)) (ids : IsIds new_queue)
   where
     inside : before + i < length cores
@@ -78,18 +79,51 @@ module _ (cores : List (Option Core)) (before i : ℕ) (first o new_occurs : Occ
         let e : before + (i + 1) ≡ before + i + 1 = omega arith in
         ap (λ (n : ℕ). take n cores) e ∙ take_more cores (before + i) None inside ∙ ap (λ (c : Option Core). take (before + i) cores ++ c ∷ []) at
 
-    stand-one : Stand (take (before + (i + 1)) cores) new_occurs
-    stand-one =
-        subst (λ (cs : List (Option Core)). Stand cs new_occurs) (sym taken)
-        (subst (Stand (take (before + i) cores ++ Some core ∷ [])) (sym occurs-is)
-        (stand-added (take (before + i) cores) o core vars (before + i + 1) (omega (arith, length-taken cores (before + i) (omega (arith, inside)))) are bound h.stand))
+    long : before + i + 1 ≡ length (take (before + i) cores) + 1
+    long = omega (arith, length-taken cores (before + i) (omega (arith, inside)))
 
-    pub entered-one : AreEntered cores before (i + 1) first new_occurs start new_queue
+    -- the lists are as they were, or the core was added
+    cases : ((before + i + 1 ≡ held) × (new_occurs ≡ o)) ⊎ (new_occurs ≡ added o (before + i + 1) vars)
+    cases =
+        ⊎_elim (λ (e : before + i + 1 ≡ held). inl (e, occurs-is ∙ cond-true (before + i + 1 == held) _ _ (eq-eqb (before + i + 1) held e)))
+        (λ (n : before + i + 1 ≡ held → ⊥). inr (occurs-is ∙ cond-false (before + i + 1 == held) _ _ (ne_eqb (before + i + 1) held n)))
+        (cases_eq (before + i + 1) held)
+
+    stand-one : StandBut held (take (before + i) cores ++ Some core ∷ []) new_occurs
+    stand-one =
+        ⊎_elim
+        (λ (c : (before + i + 1 ≡ held) × (new_occurs ≡ o)). subst (StandBut held (take (before + i) cores ++ Some core ∷ [])) (sym c.1) (stand-passed held (take (before + i) cores) o core (sym c.0 ∙ long) h.stand))
+        (λ (c : new_occurs ≡ added o (before + i + 1) vars). subst (StandBut held (take (before + i) cores ++ Some core ∷ [])) (sym c) (stand-added held (take (before + i) cores) o core vars (before + i + 1) long are bound h.stand))
+        cases
+
+    keeps-one : (v id : ℕ) → 1 ≤ v → Occurs o v id → Occurs new_occurs v id
+    keeps-one v id low was =
+        ⊎_elim
+        (λ (c : (before + i + 1 ≡ held) × (new_occurs ≡ o)). subst (λ (l : OccurrenceLists). Occurs l v id) (sym c.1) was)
+        (λ (c : new_occurs ≡ added o (before + i + 1) vars). subst (λ (l : OccurrenceLists). Occurs l v id) (sym c) ((occurs-added o (before + i + 1) vars bound v id low).1 (inl was)))
+        cases
+
+    lists-one : length new_occurs.lists ≡ length o.lists
+    lists-one =
+        ⊎_elim (λ (c : (before + i + 1 ≡ held) × (new_occurs ≡ o)). ap (λ (l : OccurrenceLists). length l.lists) c.1)
+        (λ (c : new_occurs ≡ added o (before + i + 1) vars). ap (λ (l : OccurrenceLists). length l.lists) c ∙ length-with_id (before + i + 1) vars 1 o.lists) cases
+
+    ids-one : new_occurs.ids ≡ o.ids
+    ids-one =
+        ⊎_elim (λ (c : (before + i + 1 ≡ held) × (new_occurs ≡ o)). ap (λ (l : OccurrenceLists). l.ids) c.1) (λ (c : new_occurs ≡ added o (before + i + 1) vars). ap (λ (l : OccurrenceLists). l.ids) c) cases
+
+    -- room is used for the variables at most
+    pub room-one : o.room ≤ new_occurs.room + length vars
+    room-one =
+        ⊎_elim (λ (c : (before + i + 1 ≡ held) × (new_occurs ≡ o)). omega (arith, ap (λ (l : OccurrenceLists). l.room) c.1)) (λ (c : new_occurs ≡ added o (before + i + 1) vars). omega (arith, ap (λ (l : OccurrenceLists). l.room) c)) cases
+
+    pub entered-one : AreEntered held cores before (i + 1) first new_occurs start new_queue
     entered-one = record {
-      stand = stand-one;
+      stand = subst (λ (cs : List (Option Core)). StandBut held cs new_occurs) (sym taken) stand-one;
+      keeps = λ v id low was. keeps-one v id low (h.keeps v id low was);
       occurrences = occurrences;
-      lists = ap (λ (l : OccurrenceLists). length l.lists) occurs-is ∙ length-with_id (before + i + 1) vars 1 o.lists ∙ h.lists;
-      ids = ap (λ (l : OccurrenceLists). l.ids) occurs-is ∙ h.ids;
+      lists = lists-one ∙ h.lists;
+      ids = ids-one ∙ h.ids;
       places = ap (λ (l : Ids). l.places) queue-is ∙ put-places q (before + i + 1) ∙ h.places;
       queued = ids;
       stays = λ id there. subst (λ (l : Ids). 1 ≤ times id l.queued) (sym queue-is) (put-stays q (before + i + 1) id (h.stays id there));

@@ -11,6 +11,8 @@ pub mod LeastMarks
 pub mod Stood
 pub mod Encodings
 pub mod Entries
+pub mod Comings
+pub mod Handings
 pub mod Widened
 pub mod Splittings
 pub mod PairLaws

@@ -77,7 +77,7 @@ length-sum n (x ∷ xs) inside =
 
 -- ---- a core
 
-list_any-from : (v : ℕ) (vars : List ℕ) → Contains vars v → list_any (λ w. w == v) vars ≡ true
+pub list_any-from : (v : ℕ) (vars : List ℕ) → Contains vars v → list_any (λ w. w == v) vars ≡ true
 list_any-from v vars c = at vars c.0 c.1 c.2
   where
     at : (ws : List ℕ) (i : ℕ) → i < length ws → get_or ws i v ≡ v → list_any (λ w. w == v) ws ≡ true

@@ -21,12 +21,10 @@ use Rattle.step_kernel.specs.Kernel.{Kernel, core_at, trimmed_at, IsKernel}
 use Rattle.step_kernel.specs.Steps.{equated}
 use Rattle.step_kernel.proofs.Holes.{below-there}
 use Rattle.fixpoint_queue.specs.Quiet.{IsQuiet}
-use Rattle.fixpoint_queue.specs.Listed.{IsListed}
-use Rattle.core_occurrences.specs.Lists.{OccurrenceLists, Occurs}
+use Rattle.fixpoint_queue.specs.Listed.{HasVar}
 
 module _ (told : Core → Equation → Type 0) (k : Kernel) (is : IsKernel k) (e : Equation) (la : IsLabel k.view e.a) (lb : IsLabel k.view e.b)
-    (occurs : OccurrenceLists) (listed : IsListed k occurs) (id : ℕ)
-    (apart : (x v : ℕ) → loser_of k.view e.a e.b ≡ Some x → IsMember k.view x v → Occurs occurs v id → ⊥)
+    (id : ℕ) (apart : (x v : ℕ) → loser_of k.view e.a e.b ≡ Some x → IsMember k.view x v → HasVar k id v → ⊥)
   where
     -- no variable of the core has a new label
     same-labels : (core : Core) → core_at k.cores id ≡ Some core → HaveSameLabels (core_vars core) k.view (merged k.view e.a e.b)
@@ -35,12 +33,9 @@ module _ (told : Core → Equation → Type 0) (k : Kernel) (is : IsKernel k) (e
         bounds : (1 ≤ v) × (v < length k.view + 1)
         bounds = vars_below (length k.view + 1) core (below-there k.cores id core at (length k.view + 1) is.below).0 v there
 
-        stands : Occurs occurs v id
-        stands = (listed.there v id bounds.0).1 (core, at, there)
-
         unlike : (o : Option ℕ) → loser_of k.view e.a e.b ≡ o → IsSomeAnd o (λ x. IsMember k.view x v) → ⊥
         unlike None loser member = absurd member
-        unlike (Some x) loser member = apart x v loser member stands
+        unlike (Some x) loser member = apart x v loser member (core, at, there)
 
         by : (t : Bool) → same_atom (label_of k.view v) (label_of (merged k.view e.a e.b) v) ≡ t → label_of k.view v ≡ label_of (merged k.view e.a e.b) v
         by true h = same_atom-true (label_of k.view v) (label_of (merged k.view e.a e.b) v) h

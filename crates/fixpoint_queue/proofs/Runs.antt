@@ -1,6 +1,6 @@
 -- Equations that one core tells, taken one after another.
-use Rattle.std.proofs.Common.{◌≡◌, ◌⊎◌, inl, inr, ℕ, ◌+◌, ◌≤◌, ◌<◌, Bool, true, false, ◌||◌, List, [], ◌∷◌, ◌++◌, length, drop, get_or, refl, sym, ap, ◌∙◌, subst, arith, Some, Result, Ok, Err}
-use Rattle.std.specs.Prelude.{option_map, not, IfOk, if◌then◌else◌}
+use Rattle.std.proofs.Common.{◌≡◌, ◌⊎◌, inl, inr, ℕ, ◌+◌, ◌≤◌, ◌<◌, Bool, true, false, List, [], ◌∷◌, ◌++◌, length, drop, get_or, refl, sym, ap, ◌∙◌, subst, arith, Some, Ok}
+use Rattle.std.specs.Prelude.{option_map, not, if◌then◌else◌}
 use Rattle.std.proofs.lemmas.List.{drop_more}
 use Rattle.std.proofs.lemmas.Bool.{false≢true}
 use Rattle.order_ints.specs.declared.atom.Atom.{Atom}
@@ -21,7 +21,7 @@ use Rattle.equation_store.specs.Merge.{loser_of, merged}
 use Rattle.equation_store.proofs.Changes.{merge_is_later, merge_labelled}
 use Rattle.equation_store.proofs.Facts.{is_merge}
 use Rattle.equation_store.proofs.Merge.{merge_resolves}
-use Rattle.equation_runs.specs.Turns.{resolved_equation, IsMade, IsMadeOrTold, AreToldAfter, AreToldInTurn, made_equation, EquationsBelow, is_stated}
+use Rattle.equation_runs.specs.Turns.{resolved_equation, IsMade, IsMadeOrTold, AreToldAfter, made_equation, EquationsBelow}
 use Rattle.index_ring.specs.Lists.{times}
 use Rattle.core_occurrences.specs.Lists.{OccurrenceLists}
 use Rattle.ledger_text.specs.declared.line.Line.{Line}
@@ -156,7 +156,7 @@ module _ (told : Core → Equation → Type 0) (occurs : OccurrenceLists) (marks
 
   module _ (k : Kernel) (old new : Ids) (saturation : IsSaturation told k occurs old marks) (below : CoreBelow (length k.view + 1) core) (there : trimmed_at k id ≡ Some (trimmed_core k.view core))
       (running : k.bottom ≡ false) (first : 1 ≤ times id old.queued) (e : Equation) (tells : told (trimmed_core k.view core) e) (instance : is_instance_at (trimmed_core k.view core) e ≡ true)
-      (woken : IsWokenFor k.view occurs e old new) (after : Kernel) (is : after ≡ equated k e) (stepped : step k (Equate id e) ≡ Ok after)
+      (woken : IsWokenFor k e old new) (after : Kernel) (is : after ≡ equated k e) (stepped : step k (Equate id e) ≡ Ok after)
       (before behind : List Line) (line : behind ≡ before ++ Equate id e ∷ [])
     where
       labels : IsLabel k.view e.a × IsLabel k.view e.b
@@ -165,7 +165,7 @@ module _ (told : Core → Equation → Type 0) (occurs : OccurrenceLists) (marks
       pub taken-one : HasTaken told occurs marks id core k before old after behind new
       taken-one = record {
         saturation = subst (λ (n : Kernel). IsSaturation told n occurs new marks) (sym is) (saturation-equated told k occurs old new marks saturation id (trimmed_core k.view core) there e instance woken);
-        queued = woken-stays k.view occurs e old new saturation.queued (loser_of k.view e.a e.b) woken id first;
+        queued = woken-stays k e old new saturation.queued (loser_of k.view e.a e.b) woken id first;
         there = subst (λ (n : Kernel). trimmed_at n id ≡ Some (trimmed_core n.view core)) (sym is) (there-later k saturation.kernel id core below there e labels);
         vars = ap (λ (n : Kernel). length n.view) is ∙ same-vars k saturation.kernel e labels;
         adds = record { added = Equate id e ∷ []; is = line; leads = (after, stepped, (trimmed_core k.view core, there, tells), refl); equations = tt };
@@ -201,7 +201,7 @@ there-trimmed k is id core there =
 
 module _ (told : Core → Equation → Type 0) (k : Kernel) (occurs : OccurrenceLists) (old next : Ids) (marks : List Bool) (saturation : IsSaturation told k occurs old marks)
     (id : ℕ) (core : Core) (there : trimmed_at k id ≡ Some core) (running : k.bottom ≡ false) (first : 1 ≤ times id old.queued)
-    (e : Equation) (tells : told core e) (instance : is_instance_at core e ≡ true) (woken : IsWokenFor k.view occurs e old next)
+    (e : Equation) (tells : told core e) (instance : is_instance_at core e ≡ true) (woken : IsWokenFor k e old next)
     (mid : Kernel) (is : mid ≡ equated k e) (stepped : step k (Equate id e) ≡ Ok mid) (before behind : List Line) (line : behind ≡ before ++ Equate id e ∷ [])
   where
     same : trimmed_core k.view core ≡ core

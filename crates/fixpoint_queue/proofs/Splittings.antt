@@ -1,9 +1,9 @@
 -- The state after a split.
 use Rattle.std.proofs.Common.{◌≡◌, ◌⊎◌, inl, inr, ℕ, zero, suc, ◌+◌, ◌-◌, ◌≤◌, ◌<◌, ◌^◌, ◌==◌, Bool, true, false, List, [], ◌∷◌, ◌++◌, map, length, get_or, set, take, refl, sym, ap, ◌∙◌, subst, arith, ⊎_elim, Option, Some, None, Result, Ok, Err}
-use Rattle.std.specs.Prelude.{option_map, if◌then◌else◌}
+use Rattle.std.specs.Prelude.{Contains, option_map, if◌then◌else◌}
 use Rattle.std.proofs.lemmas.Bool.{cases_eq, cond-false, ne_eqb}
 use Rattle.std.proofs.lemmas.Bool.Decides.{nat_tests}
-use Rattle.std.proofs.lemmas.List.{length-set, length-append, length-map, get_or_append_left, get_or-append-add, take_all}
+use Rattle.std.proofs.lemmas.List.{length-set, length-append, length-map, get_or_append_left, get_or-append-add}
 use Rattle.std.proofs.Math.Seq.{take-append_seam}
 use Rattle.order_ints.specs.declared.atom.Atom.{Atom}
 use Rattle.order_ints.specs.Label.{own_labels, with_own_labels}
@@ -13,7 +13,7 @@ use Rattle.core_forms.specs.declared.form.Core.{Core}
 use Rattle.core_forms.specs.Trimmed.{trimmed_core}
 use Rattle.part_base.specs.declared.parts.Parts.{Parts}
 use Rattle.ledger_text.specs.declared.line.Line.TheVariants.{Split}
-use Rattle.core_occurrences.specs.Lists.{OccurrenceLists, IsOccurrences, removed}
+use Rattle.core_occurrences.specs.Lists.{OccurrenceLists, Occurs}
 use Rattle.index_ring.specs.Lists.{times, without as without_id}
 use Rattle.index_ring.proofs.Times.{times-without}
 use Rattle.step_kernel.specs.declared.fault.StepFault.{StepFault}
@@ -29,13 +29,15 @@ use Rattle.step_kernel.proofs.Splits.{at-bounds, there-bounds, divided-room}
 use Rattle.step_kernel.proofs.StepLaws.{step-kept}
 use Rattle.step_kernel.proofs.There.{there-divided}
 use Rattle.fixpoint_queue.specs.IdQueue.{Ids, IsIds}
-use Rattle.fixpoint_queue.specs.Listed.{IsListed}
-use Rattle.fixpoint_queue.specs.Standing.{Stand, AreVars, AreAllVars, AreVarsFrom, AreEntered, all_counted}
+use Rattle.fixpoint_queue.specs.Listed.{HasVar}
+use Rattle.fixpoint_queue.specs.Handed.{IsRest, AreComing, HaveCome}
+use Rattle.fixpoint_queue.specs.Standing.{StandBut, AreVars, AreAllVars, AreVarsFrom}
 use Rattle.fixpoint_queue.specs.Waits.{IsSaturation}
 use Rattle.fixpoint_queue.specs.Wider.{IsWider, HasRoom}
+use Rattle.fixpoint_queue.proofs.Entries.{core-bounds}
 use Rattle.fixpoint_queue.proofs.QueueSizes.{queue-grows}
-use Rattle.fixpoint_queue.proofs.NextSaturation.{Goes, Queues, saturation-next, marked-gone, mapped}
-use Rattle.fixpoint_queue.proofs.Stood.{core_at-without, core_at-gone, stand-removed}
+use Rattle.fixpoint_queue.proofs.NextSaturation.{Goes, Queues, saturation-next, marked-gone}
+use Rattle.fixpoint_queue.proofs.Stood.{core_at-without, core_at-gone, stand-without}
 use Rattle.fixpoint_queue.proofs.Widened.{saturation-wider}
 
 ok-of : (x y : Kernel) → ◌≡◌ {A = Result Kernel StepFault} (Ok x) (Ok y) → x ≡ y
@@ -85,14 +87,14 @@ core_at-left xs ys (suc i) high =
     let e : suc i ≡ i + 1 = omega arith in
     ap (core_at (xs ++ ys)) e ∙ core_at-next (xs ++ ys) i ∙ get_or_append_left xs ys None i (omega (arith, high)) ∙ sym (core_at-next xs i) ∙ sym (ap (core_at xs) e)
 
-module _ (told : Core → Equation → Type 0) (k new : Kernel) (id : ℕ) (parts : Parts) (lists : List (List ℕ))
-    (first wide left : OccurrenceLists) (queue wide-queue left-queue : Ids) (marks wide-marks left-marks : List Bool)
-    (start : IsSaturation told k first queue marks) (wider : IsWider first wide queue wide-queue marks wide-marks) (room : HasRoom k parts.fresh lists wide wide-queue wide-marks)
-    (at : ArePartsAt k id parts) (are : AreAllVars lists parts.cores) (is : new ≡ divided k id parts)
-    (left-is : left ≡ removed wide id) (occurrences : IsOccurrences left) (queued : left-queue.queued ≡ without_id id wide-queue.queued) (places : left-queue.places ≡ wide-queue.places)
-    (ids : IsIds left-queue) (marks-are : left-marks ≡ set wide-marks (id - 1) false)
+module _ (told : Core → Equation → Type 0) (k new : Kernel) (id : ℕ) (parts : Parts) (lists : List (List ℕ)) (place : ℕ) (come : List ℕ)
+    (first wide : OccurrenceLists) (queue wide-queue left-queue : Ids) (marks wide-marks left-marks : List Bool)
+    (start : IsSaturation told k first queue marks) (wider : IsWider first wide queue wide-queue marks wide-marks) (room : HasRoom k parts.fresh (length come) lists wide wide-queue wide-marks)
+    (at : ArePartsAt k id parts) (are : AreAllVars lists parts.cores) (rest : IsRest k id lists place come) (is : new ≡ divided k id parts)
+    (queued : left-queue.queued ≡ without_id id wide-queue.queued) (places : left-queue.places ≡ wide-queue.places)
+    (ids : IsIds left-queue) (marks-are : left-marks ≡ set wide-marks (id - 1) false) (kernel : IsKernel new)
   where
-    pub saturation : IsSaturation told k wide wide-queue wide-marks
+    saturation : IsSaturation told k wide wide-queue wide-marks
     saturation = saturation-wider told k first wide queue wide-queue marks wide-marks start wider
 
     bounds : (1 ≤ id) × (id ≤ length k.cores)
@@ -110,7 +112,7 @@ module _ (told : Core → Equation → Type 0) (k new : Kernel) (id : ℕ) (part
     many : length new.cores ≡ length k.cores + length lists
     many = ap length cores-are ∙ length-append (without k.cores id) (map Some parts.cores) ∙ (let e = length-map parts.cores (λ (c : Core). Some c) in omega (arith, front, e, as-many lists parts.cores are))
 
-    pub lists-from : AreVarsFrom new.cores (length k.cores) lists
+    lists-from : AreVarsFrom new.cores (length k.cores) lists
     lists-from =
         subst (λ (cs : List (Option Core)). AreVarsFrom cs (length k.cores) lists) (sym cores-are)
         (subst (λ (n : ℕ). AreVarsFrom (without k.cores id ++ map Some parts.cores) n lists) front (vars-from (without k.cores id) lists parts.cores are))
@@ -121,38 +123,43 @@ module _ (told : Core → Equation → Type 0) (k new : Kernel) (id : ℕ) (part
         ∙ ap (λ (n : ℕ). take n (without k.cores id ++ map Some parts.cores)) (sym front)
         ∙ take-append_seam (without k.cores id) (map Some parts.cores)
 
-    pub left-stand : Stand (take (length k.cores) new.cores) left
-    left-stand =
-        subst (λ (o : OccurrenceLists). Stand (take (length k.cores) new.cores) o) (sym left-is)
-        (subst (λ (cs : List (Option Core)). Stand cs (removed wide id)) (sym taken) (stand-removed k.cores wide id bounds.0 saturation.listed.there))
+    -- the others stand as they did
+    stand : StandBut id (take (length k.cores) new.cores) wide
+    stand = subst (λ (cs : List (Option Core)). StandBut id cs wide) (sym taken) (stand-without k.cores wide id bounds.0 saturation.listed.there)
 
-    pub left-before : length k.cores ≤ length new.cores
-    left-before = omega (arith, many)
+    empty : core_at (take (length k.cores) new.cores) id ≡ None
+    empty = ap (λ (cs : List (Option Core)). core_at cs id) taken ∙ core_at-gone k.cores id bounds.0
 
-    left-lists : length left.lists ≡ length wide.lists
-    left-lists = ap (λ (o : OccurrenceLists). length o.lists) left-is ∙ mapped id wide.lists
+    -- a variable of the core that has gone occurs in it
+    had : place < length lists → (v : ℕ) → Contains (get_or lists place []) v → Contains come v ⊎ Occurs wide v id
+    had inside v there =
+        ⊎_elim (λ (c : Contains come v). inl c) (λ (h : HasVar k id v). inr ((saturation.listed.there v id (core-bounds k start.kernel id h.0 h.1 v h.2).0).1 h)) (rest.all inside v there)
 
-    pub left-vars : length new.view ≤ length left.lists
-    left-vars =
-        omega (
-          arith,
-          left-lists,
-          ap length view-is,
-          length-append k.view (own_labels (length k.view + 1) parts.fresh),
-          length-own_labels (length k.view + 1) parts.fresh,
-          room.vars,
-        )
+    pub coming : AreComing new (length k.cores) id place come lists wide left-queue
+    coming = record {
+      kernel = kernel;
+      listed = lists-from;
+      many = many;
+      bounds = bounds;
+      empty = empty;
+      stand = stand;
+      occurrences = saturation.listed.occurrences;
+      vars = omega (
+        arith,
+        ap length view-is,
+        length-append k.view (own_labels (length k.view + 1) parts.fresh),
+        length-own_labels (length k.view + 1) parts.fresh,
+        room.vars,
+      );
+      ids = room.ids;
+      room = room.room;
+      places = omega (arith, places, room.places);
+      queued = ids;
+      from = rest.from;
+      all = had;
+    }
 
-    pub left-ids : length k.cores + length lists ≤ left.ids
-    left-ids = omega (arith, ap (λ (o : OccurrenceLists). o.ids) left-is, room.ids)
-
-    pub left-room : all_counted lists ≤ left.room
-    left-room = omega (arith, ap (λ (o : OccurrenceLists). o.room) left-is, room.room)
-
-    pub left-places : length k.cores + length lists < left-queue.places
-    left-places = omega (arith, places, room.places)
-
-    module _ (kernel : IsKernel new) (next : OccurrenceLists) (next-queue : Ids) (entered : AreEntered new.cores (length k.cores) (length lists) left next left-queue next-queue)
+    module _ (next : OccurrenceLists) (next-queue : Ids) (entered : HaveCome new (length k.cores) (length lists) next left-queue next-queue)
       where
         here : (other : ℕ) → (other ≡ id → ⊥) → other ≤ length k.cores → core_at new.cores other ≡ core_at k.cores other
         here other n within =
@@ -172,23 +179,12 @@ module _ (told : Core → Equation → Type 0) (k new : Kernel) (id : ℕ) (part
         goes-split : Goes k new id
         goes-split = record {
           kernel = kernel;
-          longer = left-before;
+          longer = omega (arith, many);
           empty = ap (λ (cs : List (Option Core)). core_at cs id) cores-are
               ∙ core_at-left (without k.cores id) (map Some parts.cores) id (omega (arith, bounds.1, front))
               ∙ core_at-gone k.cores id bounds.0;
           at = λ other within n. here other n within;
           trimmed = λ other within n. trimmed-same other n within;
-        }
-
-        whole : take (length k.cores + length lists) new.cores ≡ new.cores
-        whole = ap (λ (n : ℕ). take n new.cores) (sym many) ∙ take_all (length new.cores) new.cores (omega arith)
-
-        listed-split : IsListed new next
-        listed-split = record {
-          occurrences = entered.occurrences;
-          vars = omega (arith, left-vars, entered.lists);
-          ids = omega (arith, many, left-ids, entered.ids);
-          there = subst (λ (cs : List (Option Core)). Stand cs next) whole entered.stand;
         }
 
         times-left : (other : ℕ) → (other ≡ id → ⊥) → times other left-queue.queued ≡ times other queue.queued
@@ -219,7 +215,7 @@ module _ (told : Core → Equation → Type 0) (k new : Kernel) (id : ℕ) (part
         queues-split : Queues k new id queue next-queue
         queues-split = record {
           ids = entered.queued;
-          places = omega (arith, many, left-places, entered.places);
+          places = omega (arith, many, places, room.places, entered.places);
           stays = λ other n there. entered.stays other (omega (arith, there, times-left other n));
           come = λ other core past is-there. entered.come other past (omega (arith, many, (there-bounds new.cores other core is-there).1));
           only = λ other there.
@@ -231,7 +227,7 @@ module _ (told : Core → Equation → Type 0) (k new : Kernel) (id : ℕ) (part
 
         pub saturation-split : IsSaturation told new next next-queue left-marks
         saturation-split =
-            saturation-next told k new id first next queue next-queue marks left-marks start goes-split listed-split queues-split
+            saturation-next told k new id first next queue next-queue marks left-marks start goes-split entered.listed queues-split
             (marked-gone k new id marks wide-marks left-marks bounds.0 wider.marks.mark marks-are (omega (arith, many, room.marks)))
 
         -- only the parts come into the queue

@@ -12,7 +12,7 @@ use Rattle.step_kernel.specs.Kernel.{Kernel, core_at, IsKernel}
 use Rattle.step_kernel.proofs.LeastCompound.{core_at-next}
 use Rattle.core_occurrences.proofs.Listed.{length-with_id}
 use Rattle.fixpoint_queue.specs.IdQueue.{Ids, IsIds, with_id}
-use Rattle.fixpoint_queue.specs.Standing.{Stand, AreVars, ArePending}
+use Rattle.fixpoint_queue.specs.Standing.{StandBut, AreVars, ArePending}
 use Rattle.fixpoint_queue.proofs.Stood.{core_at-elsewhere, core_at-last, core_at-past, stand-none, stand-added, stand-grown}
 use Rattle.fixpoint_queue.proofs.Entries.{length-taken, none-behind, all-of, core-bounds}
 use Rattle.fixpoint_queue.proofs.Waking.{put-has, put-stays, put-only}
@@ -29,7 +29,7 @@ module _ (cores : List (Option Core)) (k : ℕ) (o : OccurrenceLists) (q : Ids) 
 
   pub pending-none : get_or cores k None ≡ None → ArePending cores (k + 1) o q
   pending-none at = record {
-    stand = subst (λ (cs : List (Option Core)). Stand cs o) (sym (taken None at)) (stand-none front o h.stand);
+    stand = subst (λ (cs : List (Option Core)). StandBut 0 cs o) (sym (taken None at)) (stand-none 0 front o h.stand);
     occurrences = h.occurrences;
     queued = h.queued;
     come = λ id core is. h.come id core (sym (same id) ∙ is);
@@ -54,8 +54,8 @@ module _ (cores : List (Option Core)) (k : ℕ) (o : OccurrenceLists) (q : Ids) 
       → ((v : ℕ) → Contains vars v → v ≤ length o.lists)
       → o' ≡ added o (k + 1) vars → IsOccurrences o' → q' ≡ with_id q (k + 1) → IsIds q' → ArePending cores (k + 1) o' q'
   pending-one core vars o' q' at are bound o-is occurrences q-is ids = record {
-    stand = subst (λ (cs : List (Option Core)). Stand cs o') (sym (taken (Some core) at))
-        (subst (Stand (front ++ Some core ∷ [])) (sym o-is) (stand-added front o core vars (k + 1) (omega (arith, long)) are bound h.stand));
+    stand = subst (λ (cs : List (Option Core)). StandBut 0 cs o') (sym (taken (Some core) at))
+        (subst (StandBut 0 (front ++ Some core ∷ [])) (sym o-is) (stand-added 0 front o core vars (k + 1) (omega (arith, long)) are bound h.stand));
     occurrences = occurrences;
     queued = ids;
     come = λ id c is.
@@ -80,7 +80,7 @@ module _ (cores : List (Option Core)) (k : ℕ) (o : OccurrenceLists) (q : Ids) 
 
   pub pending-grown : (o' : OccurrenceLists) (n : ℕ) → o' ≡ grown o 0 0 n → IsOccurrences o' → ArePending cores k o' q
   pending-grown o' n o-is occurrences = record {
-    stand = subst (Stand front) (sym o-is) (stand-grown front o 0 0 n h.stand);
+    stand = subst (StandBut 0 front) (sym o-is) (stand-grown 0 front o 0 0 n h.stand);
     occurrences = occurrences;
     queued = h.queued;
     come = h.come;
@@ -88,7 +88,7 @@ module _ (cores : List (Option Core)) (k : ℕ) (o : OccurrenceLists) (q : Ids) 
   }
 
   pub fresh : (o' : OccurrenceLists) → ArePending cores k o' q → (v : ℕ) → ¬ Occurs o' v (k + 1)
-  fresh o' h' = none-behind front o' (k + 1) (omega (arith, long)) h'.stand
+  fresh o' h' = none-behind 0 front o' (k + 1) (omega (arith, long)) (λ e. omega (arith, e)) h'.stand
 
 no-core : (id : ℕ) → core_at [] id ≡ None
 no-core zero = refl
@@ -97,7 +97,7 @@ no-core (suc id) = core_at-past [] (suc id) (omega arith)
 -- nothing stands at first
 pub pending-start : (cores : List (Option Core)) (o : OccurrenceLists) (q : Ids) → ((v id : ℕ) → Occurs o v id → ⊥) → IsOccurrences o → q.queued ≡ [] → IsIds q → ArePending cores 0 o q
 pending-start cores o q none occurrences empty ids = record {
-  stand = λ v id low. ((λ there. absurd (none v id there)), (λ has. absurd (none-some has.0 (sym (no-core id) ∙ has.1))));
+  stand = λ v id low apart. ((λ there. absurd (none v id there)), (λ has. absurd (none-some has.0 (sym (no-core id) ∙ has.1))));
   occurrences = occurrences;
   queued = ids;
   come = λ id core is. absurd (none-some core (sym (no-core id) ∙ is));

@@ -1,5 +1,5 @@
 -- A state whose pending cores are all queued, as it is at first.
-use Rattle.std.proofs.Common.{◌≡◌, ℕ, ◌-◌, ◌≤◌, ◌<◌, ◌==◌, Bool, true, false, List, [], length, get_or, take, replicate, refl, sym, ap, ◌∙◌, subst, arith, ⊎_elim, Option, Some, None}
+use Rattle.std.proofs.Common.{◌≡◌, inl, ℕ, ◌-◌, ◌≤◌, ◌<◌, ◌==◌, Bool, true, false, List, [], length, get_or, take, replicate, refl, sym, ap, ◌∙◌, subst, arith, ⊎_elim, Option, Some, None}
 use Rattle.std.specs.Prelude.{Contains, option_map, if◌then◌else◌}
 use Rattle.std.proofs.lemmas.Option.{none-some}
 use Rattle.std.proofs.lemmas.Bool.{cases_lt}
@@ -13,9 +13,10 @@ use Rattle.step_kernel.specs.Kernel.{Kernel, core_at, trimmed_at, IsKernel}
 use Rattle.step_kernel.specs.Least.{is_compound_if}
 use Rattle.fixpoint_queue.specs.IdQueue.{Ids}
 use Rattle.fixpoint_queue.specs.Marks.{mark_of}
-use Rattle.fixpoint_queue.specs.Standing.{Stand, ArePending}
+use Rattle.fixpoint_queue.specs.Standing.{StandBut, ArePending}
 use Rattle.fixpoint_queue.specs.Waits.{IsSaturation, Waits}
 use Rattle.fixpoint_queue.proofs.PairLaws.{one_there}
+use Rattle.fixpoint_queue.proofs.Stood.{stand-held}
 
 -- no core stands at variables that have just come
 all-past : (n i : ℕ) → ◌≡◌ {A = List ℕ} (get_or (replicate n []) i []) []
@@ -86,7 +87,7 @@ module _ (told : Core → Equation → Type 0) (k : Kernel) (occurs : Occurrence
       occurrences = h.occurrences;
       vars = vars;
       ids = ids;
-      there = subst (λ (cs : List (Option Core)). Stand cs occurs) all h.stand;
+      there = stand-held 0 k.cores occurs h.occurrences (inl refl) (subst (λ (cs : List (Option Core)). StandBut 0 cs occurs) all h.stand);
     };
     places = places;
     queued = h.queued;

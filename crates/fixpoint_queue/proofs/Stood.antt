@@ -8,11 +8,11 @@ use Rattle.std.proofs.lemmas.List.{get_or-set_other, get_or_append_left, get_or_
 use Rattle.std.proofs.Math.Seq.{get_or-append_seam}
 use Rattle.core_forms.specs.declared.form.Core.{Core}
 use Rattle.core_forms.specs.Variables.{core_vars}
-use Rattle.core_occurrences.specs.Lists.{OccurrenceLists, Occurs, cores_at, grown, added, removed}
+use Rattle.core_occurrences.specs.Lists.{OccurrenceLists, IsOccurrences, Occurs, cores_at, grown, added, removed}
 use Rattle.core_occurrences.proofs.Lawful.{added_elsewhere, added_occurs, removed_occurs, grown_stays}
 use Rattle.step_kernel.specs.Kernel.{core_at}
 use Rattle.step_kernel.specs.Steps.{without}
-use Rattle.fixpoint_queue.specs.Standing.{HasVarAt, Stand, AreVars}
+use Rattle.fixpoint_queue.specs.Standing.{HasVarAt, IsThere, Stand, StandBut, AreVars}
 
 place-of : (cores : List (Option Core)) (id : ℕ) → 1 ≤ id → core_at cores id ≡ get_or cores (id - 1) None
 place-of cores id low =
@@ -45,48 +45,52 @@ core_at-elsewhere cores x id other =
     (λ (within : id ≤ length cores). core_at-before cores x id within)
     (cases_lt (length cores) id)
 
-pub stand-none : (cores : List (Option Core)) (occurs : OccurrenceLists) → Stand cores occurs → Stand (cores ++ None ∷ []) occurs
-stand-none cores occurs stand v id low = (to, from)
+pub stand-none : (held : ℕ) (cores : List (Option Core)) (occurs : OccurrenceLists) → StandBut held cores occurs → StandBut held (cores ++ None ∷ []) occurs
+stand-none held cores occurs stand v id low apart = (to, from)
   where
     same : core_at (cores ++ None ∷ []) id ≡ core_at cores id
     same = ⊎_elim (λ (e : id ≡ length cores + 1). ap (core_at (cores ++ None ∷ [])) e ∙ core_at-last cores None ∙ sym (core_at-past cores id (omega (arith, e)))) (core_at-elsewhere cores None id) (cases_eq id (length cores + 1))
 
-    to : Occurs occurs v id → HasVarAt (cores ++ None ∷ []) id v
-    to o = let has = (stand v id low).0 o in (has.0, same ∙ has.1, has.2)
+    to : Occurs occurs v id → IsThere (cores ++ None ∷ []) id
+    to o = let has = (stand v id low apart).0 o in (has.0, same ∙ has.1)
 
     from : HasVarAt (cores ++ None ∷ []) id v → Occurs occurs v id
-    from has = (stand v id low).1 (has.0, sym same ∙ has.1, has.2)
+    from has = (stand v id low apart).1 (has.0, sym same ∙ has.1, has.2)
 
-pub stand-added : (cores : List (Option Core)) (occurs : OccurrenceLists) (core : Core) (vars : List ℕ) (new : ℕ) → new ≡ length cores + 1 → AreVars vars core → ((v : ℕ) → Contains vars v → v ≤ length occurs.lists) →
-    Stand cores occurs → Stand (cores ++ Some core ∷ []) (added occurs new vars)
-stand-added cores occurs core vars new is are bound stand v id low = (to, from)
+-- the new lists have what the old ones had, and the new id at its variables
+pub occurs-added : (occurs : OccurrenceLists) (new : ℕ) (vars : List ℕ) → ((v : ℕ) → Contains vars v → v ≤ length occurs.lists) → (v id : ℕ) → 1 ≤ v
+    → Occurs (added occurs new vars) v id ↔ (Occurs occurs v id ⊎ ((id ≡ new) × Contains vars v))
+occurs-added occurs new vars bound v id low =
+    ⊎_elim
+    (λ (past : length occurs.lists < v).
+    let none : Contains vars v → ⊥ = λ there. absurd (omega (arith, past, bound v there)) in
+    let same : cores_at (added occurs new vars) v ≡ cores_at occurs v = added_elsewhere occurs new vars v low none in (
+      λ (o : Occurs (added occurs new vars) v id). inl (subst (λ (l : List ℕ). Contains l id) same o),
+      λ (h : Occurs occurs v id ⊎ ((id ≡ new) × Contains vars v)).
+          ⊎_elim (λ (o : Occurs occurs v id). subst (λ (l : List ℕ). Contains l id) (sym same) o) (λ (n : (id ≡ new) × Contains vars v). absurd (none n.1)) h,
+    ))
+    (λ (within : v ≤ length occurs.lists). added_occurs occurs new vars v id low within)
+    (cases_lt (length occurs.lists) v)
+
+pub some-of : (x y : Core) → ◌≡◌ {A = Option Core} (Some x) (Some y) → x ≡ y
+some-of x y h = cc
+
+pub stand-added : (held : ℕ) (cores : List (Option Core)) (occurs : OccurrenceLists) (core : Core) (vars : List ℕ) (new : ℕ) → new ≡ length cores + 1 → AreVars vars core → ((v : ℕ) → Contains vars v → v ≤ length occurs.lists) →
+    StandBut held cores occurs → StandBut held (cores ++ Some core ∷ []) (added occurs new vars)
+stand-added held cores occurs core vars new is are bound stand v id low apart = (to, from)
   where
-    -- the new lists have what the old ones had, and the new id at its variables
     occurs-new : Occurs (added occurs new vars) v id ↔ (Occurs occurs v id ⊎ ((id ≡ new) × Contains vars v))
-    occurs-new =
-        ⊎_elim
-        (λ (past : length occurs.lists < v).
-        let none : Contains vars v → ⊥ = λ there. absurd (omega (arith, past, bound v there)) in
-        let same : cores_at (added occurs new vars) v ≡ cores_at occurs v = added_elsewhere occurs new vars v low none in (
-          λ (o : Occurs (added occurs new vars) v id). inl (subst (λ (l : List ℕ). Contains l id) same o),
-          λ (h : Occurs occurs v id ⊎ ((id ≡ new) × Contains vars v)).
-              ⊎_elim (λ (o : Occurs occurs v id). subst (λ (l : List ℕ). Contains l id) (sym same) o) (λ (n : (id ≡ new) × Contains vars v). absurd (none n.1)) h,
-        ))
-        (λ (within : v ≤ length occurs.lists). added_occurs occurs new vars v id low within)
-        (cases_lt (length occurs.lists) v)
+    occurs-new = occurs-added occurs new vars bound v id low
 
-    to : Occurs (added occurs new vars) v id → HasVarAt (cores ++ Some core ∷ []) id v
+    to : Occurs (added occurs new vars) v id → IsThere (cores ++ Some core ∷ []) id
     to o =
         ⊎_elim
         (λ (old : Occurs occurs v id).
-        let has = (stand v id low).0 old in
+        let has = (stand v id low apart).0 old in
         let other : id ≡ length cores + 1 → ⊥ = λ e. none-some has.0 (sym (core_at-past cores id (omega (arith, e))) ∙ has.1) in
-        (has.0, core_at-elsewhere cores (Some core) id other ∙ has.1, has.2))
-        (λ (n : (id ≡ new) × Contains vars v). (core, ap (core_at (cores ++ Some core ∷ [])) (n.0 ∙ is) ∙ core_at-last cores (Some core), (are.exact v).0 n.1))
+        (has.0, core_at-elsewhere cores (Some core) id other ∙ has.1))
+        (λ (n : (id ≡ new) × Contains vars v). (core, ap (core_at (cores ++ Some core ∷ [])) (n.0 ∙ is) ∙ core_at-last cores (Some core)))
         (occurs-new.0 o)
-
-    some-of : (x y : Core) → ◌≡◌ {A = Option Core} (Some x) (Some y) → x ≡ y
-    some-of x y h = cc
 
     from : HasVarAt (cores ++ Some core ∷ []) id v → Occurs (added occurs new vars) v id
     from has =
@@ -95,8 +99,33 @@ stand-added cores occurs core vars new is are bound stand v id low = (to, from)
         let own : core ≡ has.0 = some-of core has.0 (sym (core_at-last cores (Some core)) ∙ ap (core_at (cores ++ Some core ∷ [])) (sym e) ∙ has.1) in
         occurs-new.1 (inr (e ∙ sym is, (are.exact v).1 (subst (λ (c : Core). Contains (core_vars c) v) (sym own) has.2))))
         (λ (other : id ≡ length cores + 1 → ⊥).
-        occurs-new.1 (inl ((stand v id low).1 (has.0, sym (core_at-elsewhere cores (Some core) id other) ∙ has.1, has.2))))
+        occurs-new.1 (inl ((stand v id low apart).1 (has.0, sym (core_at-elsewhere cores (Some core) id other) ∙ has.1, has.2))))
         (cases_eq id (length cores + 1))
+
+-- the one of which nothing is said comes
+pub stand-passed : (held : ℕ) (cores : List (Option Core)) (occurs : OccurrenceLists) (core : Core) → held ≡ length cores + 1 → StandBut held cores occurs → StandBut held (cores ++ Some core ∷ []) occurs
+stand-passed held cores occurs core is stand v id low apart = (
+  λ o. let has = (stand v id low apart).0 o in (has.0, core_at-elsewhere cores (Some core) id other ∙ has.1),
+  λ has. (stand v id low apart).1 (has.0, sym (core_at-elsewhere cores (Some core) id other) ∙ has.1, has.2),
+)
+  where
+    other : id ≡ length cores + 1 → ⊥
+    other e = apart (e ∙ sym is)
+
+-- something is said of it too
+pub stand-held : (held : ℕ) (cores : List (Option Core)) (occurs : OccurrenceLists) → IsOccurrences occurs → (held ≡ 0) ⊎ (IsThere cores held × ((v : ℕ) → 1 ≤ v → HasVarAt cores held v → Occurs occurs v held)) → StandBut held cores occurs → Stand cores occurs
+stand-held held cores occurs is own stand v id low =
+    ⊎_elim (λ (e : id ≡ held). at_held e own) (λ (n : id ≡ held → ⊥). stand v id low n) (cases_eq id held)
+  where
+    at_held : id ≡ held → (held ≡ 0) ⊎ (IsThere cores held × ((w : ℕ) → 1 ≤ w → HasVarAt cores held w → Occurs occurs w held)) → (Occurs occurs v id → IsThere cores id) × (HasVarAt cores id v → Occurs occurs v id)
+    at_held e (inl z) = (
+      λ o. absurd (omega (arith, (is.inside v id o).0, e, z)),
+      λ has. absurd (none-some has.0 (sym (ap (core_at cores) (e ∙ z)) ∙ has.1)),
+    )
+    at_held e (inr h) = (
+      λ o. subst (IsThere cores) (sym e) h.0,
+      λ has. subst (Occurs occurs v) (sym e) (h.1 v low (subst (λ (i : ℕ). HasVarAt cores i v) e has)),
+    )
 
 -- ---- a core goes
 
@@ -115,23 +144,30 @@ core_at-gone cores gone low = place-of (without cores gone) gone low ∙ emptied
     emptied (c ∷ cs) zero = refl
     emptied (c ∷ cs) (suc i) = emptied cs i
 
+-- all stand as before but that core
+pub stand-without : (cores : List (Option Core)) (occurs : OccurrenceLists) (gone : ℕ) → 1 ≤ gone → Stand cores occurs → StandBut gone (without cores gone) occurs
+stand-without cores occurs gone first stand v id low apart = (
+  λ o. let has = (stand v id low).0 o in (has.0, core_at-without cores gone id first apart ∙ has.1),
+  λ has. (stand v id low).1 (has.0, sym (core_at-without cores gone id first apart) ∙ has.1, has.2),
+)
+
 pub stand-removed : (cores : List (Option Core)) (occurs : OccurrenceLists) (gone : ℕ) → 1 ≤ gone → Stand cores occurs → Stand (without cores gone) (removed occurs gone)
 stand-removed cores occurs gone low stand v id first = (to, from)
   where
-    to : Occurs (removed occurs gone) v id → HasVarAt (without cores gone) id v
+    to : Occurs (removed occurs gone) v id → IsThere (without cores gone) id
     to o =
         let old = (removed_occurs occurs gone v id).0 o in
         let has = (stand v id first).0 old.0 in
-        (has.0, core_at-without cores gone id low old.1 ∙ has.1, has.2)
+        (has.0, core_at-without cores gone id low old.1 ∙ has.1)
 
     from : HasVarAt (without cores gone) id v → Occurs (removed occurs gone) v id
     from has =
         let other : id ≡ gone → ⊥ = λ e. none-some has.0 (sym (core_at-gone cores gone low) ∙ ap (core_at (without cores gone)) (sym e) ∙ has.1) in
         (removed_occurs occurs gone v id).1 ((stand v id first).1 (has.0, sym (core_at-without cores gone id low other) ∙ has.1, has.2), other)
 
-pub stand-grown : (cores : List (Option Core)) (occurs : OccurrenceLists) (vars ids nodes : ℕ) → Stand cores occurs → Stand cores (grown occurs vars ids nodes)
-stand-grown cores occurs vars ids nodes stand v id low =
+pub stand-grown : (held : ℕ) (cores : List (Option Core)) (occurs : OccurrenceLists) (vars ids nodes : ℕ) → StandBut held cores occurs → StandBut held cores (grown occurs vars ids nodes)
+stand-grown held cores occurs vars ids nodes stand v id low apart =
     let same : cores_at (grown occurs vars ids nodes) v ≡ cores_at occurs v = grown_stays occurs vars ids nodes v in (
-      λ o. (stand v id low).0 (subst (λ (l : List ℕ). Contains l id) same o),
-      λ has. subst (λ (l : List ℕ). Contains l id) (sym same) ((stand v id low).1 has),
+      λ o. (stand v id low apart).0 (subst (λ (l : List ℕ). Contains l id) same o),
+      λ has. subst (λ (l : List ℕ). Contains l id) (sym same) ((stand v id low apart).1 has),
     )

@@ -11,7 +11,13 @@ use Rattle.equation_store.specs.Class.{is_of, IsMember, IsWalk}
 use Rattle.equation_store.proofs.Walk.{cases_member}
 use Rattle.equation_store.proofs.Counts.{times-count}
 use Rattle.equation_store.specs.Laws.{IsConstant}
-use Rattle.fixpoint_queue.specs.IdQueue.{Ids, with_id}
+use Rattle.core_occurrences.specs.Lists.{OccurrenceLists, Occurs, cores_at}
+use Rattle.core_occurrences.proofs.Occurring.{contains-from_times}
+use Rattle.step_kernel.specs.Kernel.{Kernel}
+use Rattle.step_kernel.proofs.Splits.{there-bounds}
+use Rattle.fixpoint_queue.specs.IdQueue.{Ids, IsIds, with_id}
+use Rattle.fixpoint_queue.specs.Listed.{IsListed}
+use Rattle.fixpoint_queue.proofs.Ids.{ids-few}
 use Rattle.index_ring.specs.Lists.{rest_from}
 
 -- the queue has what was put into it, and what it had
@@ -106,3 +112,18 @@ walk-once view x walk is v =
 pub rest-none : (o : Option ℕ) (walk : List ℕ) → ((v : ℕ) → o ≡ Some v → ⊥) → rest_from o walk ≡ []
 rest-none None walk h = refl
 rest-none (Some v) walk h = absurd (h v refl)
+
+-- ---- the ids at a variable
+
+module _ (k : Kernel) (occurs : OccurrenceLists) (listed : IsListed k occurs) (queue : Ids) (ids : IsIds queue) (places : length k.cores < queue.places) (v : ℕ) (low : 1 ≤ v) where
+  -- there is a place for each
+  pub placed-at : (id : ℕ) → Occurs occurs v id → id < queue.places
+  placed-at id o = let has = (listed.there v id low).0 o in omega (arith, (there-bounds k.cores id has.0 has.1).1, places)
+
+  -- so they are no more than the places
+  pub few-at : length (cores_at occurs v) ≤ queue.places
+  few-at = ids-few (record { queued = cores_at occurs v; places = queue.places }) (record {
+    once = λ id. listed.occurrences.once v id;
+    placed = λ id some. placed-at id (contains-from_times (cores_at occurs v) id some);
+    small = ids.small;
+  })

@@ -7,6 +7,7 @@ pub mod Marks
 pub mod Saturation
 pub mod Standing
 pub mod Wider
+pub mod Handed
 pub mod Pairs
 pub mod Told
 pub mod Taken

@@ -12,9 +12,17 @@ use Rattle.step_kernel.specs.Kernel.{core_at}
 abbrev pub HasVarAt : List (Option Core) → ℕ → ℕ → Type 0
 HasVarAt cores id v = (core : Core) × (core_at cores id ≡ Some core) × Contains (core_vars core) v
 
--- the ids at each variable are those of the listed cores that have it
+-- there is a core with an id
+abbrev pub IsThere : List (Option Core) → ℕ → Type 0
+IsThere cores id = (core : Core) × (core_at cores id ≡ Some core)
+
+-- the ids at each variable are those of listed cores, of each that has it, and perhaps of others
 abbrev pub Stand : List (Option Core) → OccurrenceLists → Type 0
-Stand cores occurs = (v id : ℕ) → 1 ≤ v → Occurs occurs v id ↔ HasVarAt cores id v
+Stand cores occurs = (v id : ℕ) → 1 ≤ v → (Occurs occurs v id → IsThere cores id) × (HasVarAt cores id v → Occurs occurs v id)
+
+-- so it is of all ids but one
+abbrev pub StandBut : ℕ → List (Option Core) → OccurrenceLists → Type 0
+StandBut held cores occurs = (v id : ℕ) → 1 ≤ v → (id ≡ held → ⊥) → (Occurs occurs v id → IsThere cores id) × (HasVarAt cores id v → Occurs occurs v id)
 
 -- the variables of a core, ascending, each once
 pub record AreVars (vars : List ℕ) (core : Core) : Type 0 where
@@ -38,9 +46,11 @@ abbrev pub AreVarsFrom : List (Option Core) → ℕ → List (List ℕ) → Type
 AreVarsFrom cores before lists = (i : ℕ) → i < length lists →
     (core : Core) × (slice_index_or cores (before + i) None ≡ Some core) × AreVars (slice_index_or lists i []) core
 
--- so many cores more than before stand at their variables, and are in the queue
-pub record AreEntered (cores : List (Option Core)) (before count : ℕ) (old_occurs new_occurs : OccurrenceLists) (old_queue new_queue : Ids) : Type 0 where
-  pub stand : Stand (take (before + count) cores) new_occurs
+-- so many cores more than before stand at their variables, and are in the queue; of one id nothing is said but that it stands
+-- where it stood
+pub record AreEntered (held : ℕ) (cores : List (Option Core)) (before count : ℕ) (old_occurs new_occurs : OccurrenceLists) (old_queue new_queue : Ids) : Type 0 where
+  pub stand : StandBut held (take (before + count) cores) new_occurs
+  pub keeps : (v id : ℕ) → 1 ≤ v → Occurs old_occurs v id → Occurs new_occurs v id
   pub occurrences : IsOccurrences new_occurs
   pub lists : length new_occurs.lists ≡ length old_occurs.lists
   pub ids : new_occurs.ids ≡ old_occurs.ids
@@ -52,7 +62,7 @@ pub record AreEntered (cores : List (Option Core)) (before count : ℕ) (old_occ
 
 -- the pending ones among so many cores stand at their variables and are in the queue, and no others
 pub record ArePending (cores : List (Option Core)) (count : ℕ) (occurs : OccurrenceLists) (queue : Ids) : Type 0 where
-  pub stand : Stand (take count cores) occurs
+  pub stand : StandBut 0 (take count cores) occurs
   pub occurrences : IsOccurrences occurs
   pub queued : IsIds queue
   pub come : (id : ℕ) (core : Core) → core_at (take count cores) id ≡ Some core → 1 ≤ times id queue.queued

@@ -1,6 +1,5 @@
 -- What a queue of cores keeps.
 use Rattle.std.specs.Prelude.{◌≡◌, ◌⊎◌, ℕ, ◌+◌, ◌*◌, ◌<◌, ◌≤◌, Bool, List, length, Some, MatchOption, if◌then◌else◌}
-use Rattle.order_ints.specs.declared.atom.Atom.{Atom}
 use Rattle.index_ring.specs.Lists.{times}
 use Rattle.core_forms.specs.declared.equation.Equation.{Equation}
 use Rattle.core_forms.specs.declared.form.Core.{Core}
@@ -9,8 +8,8 @@ use Rattle.equation_store.specs.Merge.{loser_of}
 use Rattle.step_kernel.specs.Kernel.{Kernel, core_at, trimmed_at, IsKernel}
 use Rattle.step_kernel.specs.Least.{is_compound_if}
 use Rattle.fixpoint_queue.specs.IdQueue.{Ids, IsIds}
-use Rattle.core_occurrences.specs.Lists.{OccurrenceLists, Occurs}
-use Rattle.fixpoint_queue.specs.Listed.{IsListed}
+use Rattle.core_occurrences.specs.Lists.{OccurrenceLists}
+use Rattle.fixpoint_queue.specs.Listed.{HasVar, IsListed}
 use Rattle.fixpoint_queue.specs.Marks.{mark_of}
 use Rattle.fixpoint_queue.specs.Quiet.{IsQuiet}
 
@@ -34,13 +33,13 @@ pub record IsSaturation (told : Core → Equation → Type 0) (k : Kernel) (occu
   pub mark_places : length k.cores ≤ length marks
   pub marked : AreMarked k queue.queued marks
 
--- the queue has what it had, and each core that stands at a member of the class of x; and nothing else
-pub record IsWoken (view : List Atom) (occurs : OccurrenceLists) (x : ℕ) (old new : Ids) : Type 0 where
+-- the queue has what it had, and each pending core that has a member of the class of x; and nothing else
+pub record IsWoken (k : Kernel) (x : ℕ) (old new : Ids) : Type 0 where
   pub places : new.places ≡ old.places
   pub ids : IsIds new
   pub stays : (id : ℕ) → 1 ≤ times id old.queued → 1 ≤ times id new.queued
-  pub woken : (v id : ℕ) → IsMember view x v → Occurs occurs v id → 1 ≤ times id new.queued
-  pub only : (id : ℕ) → 1 ≤ times id new.queued → (1 ≤ times id old.queued) ⊎ ((v : ℕ) × IsMember view x v × Occurs occurs v id)
+  pub woken : (v id : ℕ) → IsMember k.view x v → HasVar k id v → 1 ≤ times id new.queued
+  pub only : (id : ℕ) → 1 ≤ times id new.queued → (1 ≤ times id old.queued) ⊎ ((v : ℕ) × IsMember k.view x v × HasVar k id v)
 
 -- what falls with each question: the classes count for more than the queue can hold
 abbrev pub left_to_do : Kernel → Ids → ℕ
@@ -50,6 +49,6 @@ left_to_do k queue = if k.bottom then 0 else number_own k.view * (queue.places +
 abbrev pub left_to_ask : Kernel → Ids → ℕ
 left_to_ask k queue = if k.bottom then 0 else length queue.queued
 
--- the queue has what it had, and each core that stands at a member of the class that loses, if one does
-abbrev pub IsWokenFor : List Atom → OccurrenceLists → Equation → Ids → Ids → Type 0
-IsWokenFor view occurs e old new = MatchOption (loser_of view e.a e.b) (new ≡ old) (λ x. IsWoken view occurs x old new)
+-- the queue has what it had, and each pending core that has a member of the class that loses, if one does
+abbrev pub IsWokenFor : Kernel → Equation → Ids → Ids → Type 0
+IsWokenFor k e old new = MatchOption (loser_of k.view e.a e.b) (new ≡ old) (λ x. IsWoken k x old new)

@@ -11,7 +11,6 @@ ghost use Rattle.ledger_text.specs.declared.line.Line.TheVariants.{Equate};
 ghost use Rattle.core_rules.specs.Instances.{is_instance_at};
 ghost use Rattle.step_kernel.specs.Steps.{step, equated};
 ghost use Rattle.fixpoint_queue.specs.IdQueue.{IsIds};
-ghost use Rattle.core_occurrences.specs.Lists.{Occurs};
 ghost use Rattle.fixpoint_queue.specs.Ledgers.{AddsEquations};
 ghost use Rattle.fixpoint_queue.specs.Quiet.{IsClosed};
 ghost use Rattle.fixpoint_queue.specs.Pairs.{IsCounted};

@@ -1,27 +1,30 @@
-//! A queue of ids, each once.
+//! A queue of ids, each once, with room to list some of them.
 
-ghost use Rattle.std.specs.Prelude.{◌≡◌, ◌+◌, ◌-◌, ◌<◌, ◌≤◌, ◌^◌, [], ◌↔◌, IfOk, OnOk, true};
+ghost use Rattle.std.specs.Prelude.{◌≡◌, ◌-◌, ◌^◌, ◌<◌, ◌≤◌, ◌⊎◌, ℕ, [], IfOk, OnOk, length};
 ghost use Rattle.index_ring.specs.Lists.{first_in, times, without};
 ghost use Rattle.fixpoint_queue.specs.IdQueue.{IsIds, with_id};
 
-use index_ring::Rings;
+use crate::id_ring::IdRing;
 use std::alloc::{AllocError, Global};
 use std::marker::Model;
 
-/// Ids in a queue, each once, as the nodes of one ring. Each move takes constant time and no memory.
+/// Ids in a queue, each once. Each move takes constant time and no memory. An empty list has room for each
+/// id that there is a place for.
 #[derive(Drop)]
 pub struct IdQueue {
-    ring: Rings,
+    pub(crate) ids: IdRing,
+    pub(crate) coming: Vec<u32>,
 }
 
 impl Model for IdQueue {
-    ghost use Rattle.fixpoint_queue.specs.IdQueue.{Ids, IsQueueRing, ids_of};
+    ghost use Rattle.std.specs.Prelude.{◌≡◌, ◌≤◌, [], vec_capacity};
+    ghost use Rattle.fixpoint_queue.specs.IdQueue.{Ids, IsIds};
 
     ghost Value = { Ids };
 
-    ghost view = { λ s. ids_of s.ring };
+    ghost view = { λ s. s.ids };
 
-    ghost invariant = { λ s. IsQueueRing s.ring };
+    ghost invariant = { λ s. (s.coming.items ≡ []) × (s.ids.places ≤ vec_capacity s.coming) × IsIds s.ids };
 }
 
 impl IdQueue {
@@ -32,8 +35,10 @@ impl IdQueue {
         ensures places { IfOk result (λ queue. queue.places ≡ ids) }
         ensures ids { IfOk result IsIds }
     {
+        let coming = Vec::with_capacity(alloc, ids as usize)?;
         Ok(IdQueue {
-            ring: Rings::with(alloc, 1, ids)?,
+            ids: IdRing::with(alloc, ids)?,
+            coming,
         })
     }
 
@@ -45,11 +50,8 @@ impl IdQueue {
         ensures enough { OnOk result (ids ≤ self.new.places) }
         ensures ids { IsIds self.new }
     {
-        let places = self.ring.nodes();
-        if places < ids {
-            self.ring.grow(0, ids - places)?;
-        }
-        Ok(())
+        self.coming.reserve(ids as usize)?;
+        self.ids.grow_to(ids)
     }
 
     /// The first id.
@@ -57,15 +59,7 @@ impl IdQueue {
         ensures first { result ≡ first_in self.now.queued }
         ensures ids { IsIds self.now }
     {
-        self.ring.first(0)
-    }
-
-    /// Whether an id is in the queue.
-    pub fn has(&self, id: u32) -> bool
-        requires { id < self.now.places }
-        ensures { result ≡ true ↔ (1 ≤ times id self.now.queued) }
-    {
-        !self.ring.is_free(id)
+        self.ids.first()
     }
 
     /// Puts an id at the end, unless it is in the queue.
@@ -74,9 +68,7 @@ impl IdQueue {
         ensures put { self.new ≡ with_id self.old id }
         ensures ids { IsIds self.new }
     {
-        if !self.has(id) {
-            self.ring.push_back(0, id);
-        }
+        self.ids.put(id);
     }
 
     /// Takes an id out.
@@ -86,8 +78,6 @@ impl IdQueue {
         ensures places { self.new.places ≡ self.old.places }
         ensures ids { IsIds self.new }
     {
-        if self.has(id) {
-            self.ring.unlink(id);
-        }
+        self.ids.take(id);
     }
 }

@@ -3,7 +3,10 @@
 
 mod asking;
 mod entering;
+mod handing;
+mod having;
 mod id_queue;
+mod id_ring;
 mod lines;
 mod marks;
 mod oracle;

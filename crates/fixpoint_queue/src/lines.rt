@@ -19,8 +19,22 @@ use ledger_text::Line;
 use std::alloc::AllocError;
 use std::sync::ledger::Ledger;
 
+/// Takes a core from the queue and from the marks.
+pub fn leave_queue(queue: &mut IdQueue, marks: &mut Marks, id: u32)
+    requires id { 1 ≤ id }
+    requires place { id < queue.old.places }
+    requires mark { id ≤ length marks.old }
+    ensures queued { queue.new.queued ≡ without id queue.old.queued }
+    ensures places { queue.new.places ≡ queue.old.places }
+    ensures ids { IsIds queue.new }
+    ensures marks { marks.new ≡ slice_set marks.old (id - 1) false }
+{
+    queue.take(id);
+    marks.set(id, false);
+}
+
 /// Takes a core from its variables, from the queue and from the marks.
-pub fn leave(occurs: &mut Occurrences, queue: &mut IdQueue, marks: &mut Marks, id: u32)
+fn leave(occurs: &mut Occurrences, queue: &mut IdQueue, marks: &mut Marks, id: u32)
     requires id { (1 ≤ id) × (id ≤ occurs.old.ids) }
     requires place { id < queue.old.places }
     requires mark { id ≤ length marks.old }
@@ -32,8 +46,7 @@ pub fn leave(occurs: &mut Occurrences, queue: &mut IdQueue, marks: &mut Marks, i
     ensures marks { marks.new ≡ slice_set marks.old (id - 1) false }
 {
     occurs.remove(id);
-    queue.take(id);
-    marks.set(id, false);
+    leave_queue(queue, marks, id);
 }
 
 impl<F: Oracle<L>, L: Ledger> Runner<F, L> {

@@ -56,7 +56,8 @@ fn widen(occurs: &mut Occurrences, vars: u32, ids: u32, nodes: u32) -> Result<()
     occurs.grow(more_vars, more_ids, more_nodes)
 }
 
-/// Makes room for so many fresh variables, and for a core with each of the lists of variables. What is there
+/// Makes room for so many fresh variables, for a core with each of the lists of variables, and for some
+/// occurrences more. What is there
 /// for other cores is used, so that room is made only where the pending cores become more.
 pub fn make_room(
     state: &State,
@@ -64,15 +65,18 @@ pub fn make_room(
     queue: &mut IdQueue,
     marks: &mut Marks,
     fresh: u32,
+    more: u32,
     lists: &[Sequence<u32>],
 ) -> Result<(), AllocError>
     requires vars { length state.now.view + fresh < 2 ^ 32 }
     requires occurrences { IsOccurrences occurs.old }
     requires queued { IsIds queue.old }
     ensures wider { IsWider occurs.old occurs.new queue.old queue.new marks.old marks.new }
-    ensures room { OnOk result (HasRoom state.now fresh lists.now occurs.new queue.new marks.new) }
+    ensures room { OnOk result (HasRoom state.now fresh more lists.now occurs.new queue.new marks.new) }
 {
-    let nodes = number_of(lists)?;
+    let Some(nodes) = number_of(lists)?.checked_add(more) else {
+        return Err(AllocError);
+    };
     let ids = ids_behind(state, lists.len())?;
     widen(occurs, state.vars() + fresh, ids, nodes)?;
     queue.grow_to(ids + 1)?;

@@ -9,8 +9,9 @@ ghost use Rattle.step_kernel.specs.SplitAt.{ArePartsAt};
 ghost use Rattle.step_kernel.specs.Steps.{step};
 ghost use Rattle.fixpoint_queue.specs.Standing.{AreAllVars};
 
-use crate::entering::{all_variables, enter_all};
-use crate::lines::leave;
+use crate::entering::{all_variables, enter_parts};
+use crate::handing::rest_of;
+use crate::lines::leave_queue;
 use crate::oracle::Oracle;
 use crate::room::make_room;
 use crate::runner::Runner;
@@ -61,28 +62,28 @@ impl<F: Oracle<L>, L: Ledger> Runner<F, L> {
     {
         let alloc = *self.ledger.allocator();
         let (parts, lists) = parts_with_variables(alloc, &self.state, id)?;
+        let (place, come) = rest_of(alloc, &self.state, id, lists.as_slice())?;
         make_room(
             &self.state,
             &mut self.occurs,
             &mut self.queue,
             &mut self.marks,
             parts.fresh,
+            come.len() as u32,
             lists.as_slice(),
         )?;
         self.ledger.reserve(1)?;
         let before = self.state.ids() as u32;
         self.state.split_into(id, parts)?;
-        leave(
-            &mut self.occurs,
-            &mut self.queue,
-            &mut self.marks,
-            id as u32,
-        );
-        enter_all(
+        leave_queue(&mut self.queue, &mut self.marks, id as u32);
+        enter_parts(
             &self.state,
             &mut self.occurs,
             &mut self.queue,
             before,
+            id as u32,
+            place,
+            come.as_slice(),
             lists.as_slice(),
         );
         self.ledger.push(Line::Split { id }).unwrap();

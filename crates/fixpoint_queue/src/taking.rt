@@ -7,13 +7,13 @@ ghost use Rattle.index_ring.specs.Lists.{times};
 ghost use Rattle.core_forms.specs.declared.equation.Equation.{Equation};
 ghost use Rattle.core_forms.specs.Place.{CoreBelow};
 ghost use Rattle.core_forms.specs.Trimmed.{trimmed_core};
-ghost use Rattle.core_occurrences.specs.Lists.{Occurs};
 ghost use Rattle.equation_runs.specs.Turns.{resolved_equation, IsMade, IsMadeOrTold, AreToldInTurn, EquationsBelow};
 ghost use Rattle.ledger_text.specs.declared.line.Line.TheVariants.{Equate};
 ghost use Rattle.step_kernel.specs.Kernel.{trimmed_at, IsKernel};
 ghost use Rattle.step_kernel.specs.Instances.{IsInstanceAt};
 ghost use Rattle.step_kernel.specs.Steps.{step, equated};
 ghost use Rattle.fixpoint_queue.specs.IdQueue.{IsIds};
+ghost use Rattle.fixpoint_queue.specs.Listed.{IsListed};
 ghost use Rattle.fixpoint_queue.specs.Taken.{HasTaken};
 ghost use Rattle.fixpoint_queue.specs.Waits.{IsSaturation, IsWokenFor};
 
@@ -32,13 +32,13 @@ fn wake_for(state: &State, occurs: &Occurrences, queue: &mut IdQueue, e: &Equati
     requires kernel { IsKernel state.now }
     requires first { IsLabel state.now.view e.now.a }
     requires second { IsLabel state.now.view e.now.b }
-    requires lists { length state.now.view ≤ length occurs.now.lists }
-    requires places { (v id : ℕ) → 1 ≤ v → Occurs occurs.now v id → id < queue.old.places }
+    requires listed { IsListed state.now occurs.now }
+    requires places { length state.now.cores < queue.old.places }
     requires queued { IsIds queue.old }
-    ensures { IsWokenFor state.now.view occurs.now e.now queue.old queue.new }
+    ensures { IsWokenFor state.now e.now queue.old queue.new }
 {
     if let Some(loser) = state.store().loser(e.a, e.b) {
-        wake(state.store(), occurs, queue, loser);
+        wake(state, state.store(), occurs, queue, loser);
     }
 }
 
@@ -54,13 +54,13 @@ pub fn take_equation(
     requires kernel { IsKernel state.old }
     requires running { state.old.bottom ≡ false }
     requires instance { IsInstanceAt state.old id e }
-    requires lists { length state.old.view ≤ length occurs.now.lists }
-    requires places { (v id : ℕ) → 1 ≤ v → Occurs occurs.now v id → id < queue.old.places }
+    requires listed { IsListed state.old occurs.now }
+    requires places { length state.old.cores < queue.old.places }
     requires queued { IsIds queue.old }
     requires room { vec_len ledger.old < vec_capacity ledger.old }
     ensures step { step state.old (Equate id e) ≡ Ok state.new }
     ensures equated { state.new ≡ equated state.old e }
-    ensures woken { IsWokenFor state.old.view occurs.now e queue.old queue.new }
+    ensures woken { IsWokenFor state.old e queue.old queue.new }
     ensures ledger { ledger.new.items ≡ ledger.old.items ++ Equate id e ∷ [] }
     ensures lines { vec_len ledger.new ≡ vec_len ledger.old + 1 }
     ensures room { vec_capacity ledger.new ≡ vec_capacity ledger.old }

@@ -1,48 +1,98 @@
 //! Which cores may tell something new after an equation.
 
-ghost use Rattle.std.specs.Prelude.{◌≡◌, ◌<◌, ◌≤◌, ◌⊎◌, ℕ, length, Contains};
+ghost use Rattle.std.specs.Prelude.{◌≡◌, ◌<◌, ◌≤◌, ◌⊎◌, ◌↔◌, ℕ, true, length, Contains};
 ghost use Rattle.order_ints.specs.Label.{IsOwnLabel};
 ghost use Rattle.index_ring.specs.Lists.{times};
 ghost use Rattle.equation_store.specs.Class.{IsMember};
 ghost use Rattle.fixpoint_queue.specs.IdQueue.{IsIds};
-ghost use Rattle.core_occurrences.specs.Lists.{cores_at, Occurs, IsOccurrences};
+ghost use Rattle.fixpoint_queue.specs.Listed.{HasVar, IsListed};
 ghost use Rattle.fixpoint_queue.specs.Waits.{IsWoken};
 
+use crate::having::has_variable;
 use crate::id_queue::IdQueue;
+use crate::id_ring::IdRing;
 use core_occurrences::Occurrences;
 use equation_store::EqStore;
+use step_kernel::State;
 
-/// Queues the cores at a variable.
-fn wake_at(occurs: &Occurrences, queue: &mut IdQueue, var: u32)
-    requires low { 1 ≤ var }
-    requires high { var ≤ length occurs.now.lists }
-    requires places { (id : ℕ) → Occurs occurs.now var id → id < queue.old.places }
-    requires queued { IsIds queue.old }
-    ensures places { queue.new.places ≡ queue.old.places }
-    ensures queued { IsIds queue.new }
-    ensures stays { (id : ℕ) → 1 ≤ times id queue.old.queued → 1 ≤ times id queue.new.queued }
-    ensures woken { (id : ℕ) → Occurs occurs.now var id → 1 ≤ times id queue.new.queued }
-    ensures only { (id : ℕ) → 1 ≤ times id queue.new.queued
-        → (1 ≤ times id queue.old.queued) ⊎ Occurs occurs.now var id }
+/// Whether there is a pending core with an id that has a variable.
+fn is_at(state: &State, id: u32, var: u32) -> bool
+    ensures { result ≡ true ↔ HasVar state.now id var }
 {
-    for id in occurs.cores_of(var) {
-        queue.put(id);
+    match state.core(id.into()) {
+        Some(core) => has_variable(core, var),
+        None => false,
     }
 }
 
-/// Queues the cores at each member of a class.
-pub fn wake(store: &EqStore, occurs: &Occurrences, queue: &mut IdQueue, label: u32)
+/// Queues the core with an id, where it has a variable; a core that is queued isn't looked at.
+fn put_having(state: &State, ids: &mut IdRing, id: u32, var: u32)
+    requires place { id < ids.old.places }
+    requires queued { IsIds ids.old }
+    ensures places { ids.new.places ≡ ids.old.places }
+    ensures queued { IsIds ids.new }
+    ensures stays { (i : ℕ) → 1 ≤ times i ids.old.queued → 1 ≤ times i ids.new.queued }
+    ensures woken { HasVar state.now id var → 1 ≤ times id ids.new.queued }
+    ensures only { (i : ℕ) → 1 ≤ times i ids.new.queued
+        → (1 ≤ times i ids.old.queued) ⊎ HasVar state.now i var }
+{
+    if !ids.has(id) && is_at(state, id, var) {
+        ids.put(id);
+    }
+}
+
+/// Queues the cores with some ids that have a variable.
+fn put_all_having(state: &State, ids: &mut IdRing, coming: &[u32], var: u32)
+    requires places { (id : ℕ) → Contains coming.now id → id < ids.old.places }
+    requires queued { IsIds ids.old }
+    ensures places { ids.new.places ≡ ids.old.places }
+    ensures queued { IsIds ids.new }
+    ensures stays { (id : ℕ) → 1 ≤ times id ids.old.queued → 1 ≤ times id ids.new.queued }
+    ensures woken { (id : ℕ) → Contains coming.now id → HasVar state.now id var
+        → 1 ≤ times id ids.new.queued }
+    ensures only { (id : ℕ) → 1 ≤ times id ids.new.queued
+        → (1 ≤ times id ids.old.queued) ⊎ HasVar state.now id var }
+{
+    for id in coming {
+        put_having(state, ids, *id, var);
+    }
+}
+
+impl IdQueue {
+    /// Queues the cores that have a variable, those with lesser ids first.
+    fn wake_at(&mut self, state: &State, occurs: &Occurrences, var: u32)
+        requires low { 1 ≤ var }
+        requires high { var ≤ length state.now.view }
+        requires listed { IsListed state.now occurs.now }
+        requires places { length state.now.cores < self.old.places }
+        requires queued { IsIds self.old }
+        ensures places { self.new.places ≡ self.old.places }
+        ensures queued { IsIds self.new }
+        ensures stays { (id : ℕ) → 1 ≤ times id self.old.queued → 1 ≤ times id self.new.queued }
+        ensures woken { (id : ℕ) → HasVar state.now id var → 1 ≤ times id self.new.queued }
+        ensures only { (id : ℕ) → 1 ≤ times id self.new.queued
+            → (1 ≤ times id self.old.queued) ⊎ HasVar state.now id var }
+    {
+        occurs.ids_at(var, &mut self.coming);
+        put_all_having(state, &mut self.ids, self.coming.as_slice(), var);
+        self.coming.clear();
+    }
+}
+
+/// Queues the cores that have a member of a class, by the store of their state.
+pub fn wake(state: &State, store: &EqStore, occurs: &Occurrences, queue: &mut IdQueue, label: u32)
+    requires same { store.now.view ≡ state.now.view }
     requires low { 1 ≤ label }
     requires high { label ≤ length store.now.view }
     requires own { IsOwnLabel store.now.view label }
-    requires lists { length store.now.view ≤ length occurs.now.lists }
-    requires places { (v id : ℕ) → 1 ≤ v → Occurs occurs.now v id → id < queue.old.places }
+    requires listed { IsListed state.now occurs.now }
+    requires places { length state.now.cores < queue.old.places }
     requires queued { IsIds queue.old }
-    ensures { IsWoken store.now.view occurs.now label queue.old queue.new }
+    ensures { IsWoken state.now label queue.old queue.new }
 {
     let mut next = store.first(label);
     while let Some(var) = next {
-        wake_at(occurs, queue, var);
+        queue.wake_at(state, occurs, var);
         next = store.after(var);
     }
 }

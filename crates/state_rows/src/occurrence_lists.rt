@@ -1,9 +1,9 @@
 //! Cores that come and go: a table worked out by hand, and refused memory.
 
-ghost use Rattle.std.specs.Prelude.{◌≤◌, ℕ, IsTrue};
+ghost use Rattle.std.specs.Prelude.{◌≡◌, ◌≤◌, ℕ, [], IsTrue, Contains, length};
 ghost use Rattle.std.specs.List.{All};
 ghost use Rattle.std.specs.List.Sorted.{IsStrictlyIncreasing};
-ghost use Rattle.core_occurrences.specs.Lists.{Occurs};
+ghost use Rattle.core_occurrences.specs.Lists.{Occurs, cores_at};
 
 use core_occurrences::Occurrences;
 use std::alloc::{AllocError, Global};
@@ -17,8 +17,12 @@ enum Move {
     Grow(u32, u32, u32),
     /// A core, and the digits of its variables.
     Add(u32, &'static str),
+    /// Further variables of a core, which occur in none.
+    Extend(u32, &'static str),
     /// A core goes.
     Remove(u32),
+    /// Two cores exchange their occurrences.
+    Exchange(u32, u32),
 }
 
 /// Whether each number is less than the next one.
@@ -61,6 +65,36 @@ fn add(rt: &impl Abort, occurrences: &mut Occurrences, id: u32, vars: &[u32]) {
     occurrences.add(id, vars);
 }
 
+/// Whether variables occur in no core.
+fn are_bare(occurrences: &Occurrences, vars: &[u32]) -> bool
+    requires { All (λ v. (1 ≤ v) × (v ≤ length occurrences.now.lists)) vars.now }
+    ensures { IsTrue result → (v : ℕ) → Contains vars.now v → cores_at occurrences.now v ≡ [] }
+{
+    for var in vars {
+        if !occurrences.is_bare(*var) {
+            return false;
+        }
+    }
+    true
+}
+
+/// Adds occurrences of bare variables in a core.
+fn extend(rt: &impl Abort, occurrences: &mut Occurrences, id: u32, vars: &[u32]) {
+    assert!(rt; 1 <= id && id <= occurrences.ids());
+    assert!(rt; are_increasing(vars));
+    assert!(rt; are_variables(vars, occurrences.vars()));
+    assert!(rt; are_bare(occurrences, vars));
+    assert!(rt; vars.len() <= occurrences.room() as usize);
+    occurrences.add(id, vars);
+}
+
+/// Exchanges the occurrences of two ids.
+fn exchange(rt: &impl Abort, occurrences: &mut Occurrences, first: u32, second: u32) {
+    assert!(rt; 1 <= first && first <= occurrences.ids());
+    assert!(rt; 1 <= second && second <= occurrences.ids());
+    occurrences.exchange(first, second);
+}
+
 /// The numbers of digits.
 fn digits(alloc: Global, text: &str) -> Result<Vec<u32>, AllocError> {
     let mut numbers = Vec::new(alloc);
@@ -84,12 +118,30 @@ fn make(
             add(rt, occurrences, id, vars.as_slice());
             Ok(())
         }
+        Move::Extend(id, vars) => {
+            let vars = digits(alloc, vars)?;
+            extend(rt, occurrences, id, vars.as_slice());
+            Ok(())
+        }
+        Move::Exchange(first, second) => {
+            exchange(rt, occurrences, first, second);
+            Ok(())
+        }
         Move::Remove(id) => {
             assert!(rt; 1 <= id && id <= occurrences.ids());
             occurrences.remove(id);
             Ok(())
         }
     }
+}
+
+/// The ids at a variable.
+fn ids_at(alloc: Global, occurrences: &Occurrences, var: u32) -> Result<Vec<u32>, AllocError>
+    requires { (1 ≤ var) × (var ≤ length occurrences.now.lists) }
+{
+    let mut ids = Vec::with_capacity(alloc, occurrences.ids() as usize + 1)?;
+    occurrences.ids_at(var, &mut ids);
+    Ok(ids)
 }
 
 /// The digits of the ids at each variable, with a bar behind each variable.
@@ -99,7 +151,7 @@ fn show(rt: &impl Abort, alloc: Global, occurrences: &Occurrences) -> Result<Vec
     for place in 0..count {
         let var = place + 1;
         assert!(rt; var <= occurrences.vars());
-        for id in occurrences.cores_of(var) {
+        for id in ids_at(alloc, occurrences, var)? {
             text.push(b'0' + u8::try_from(id).unwrap_or(0).min(9))?;
         }
         text.push(b'|')?;
@@ -108,11 +160,11 @@ fn show(rt: &impl Abort, alloc: Global, occurrences: &Occurrences) -> Result<Vec
 }
 
 /// A move, the ids at each variable after it, and the room that there is then.
-static MOVES: [(Move, &str, u32); 15] = [
+static MOVES: [(Move, &str, u32); 20] = [
     (Move::Grow(0, 4, 5), "|||", 5),
     (Move::Add(2, "13"), "2||2|", 3),
     // All nodes are in use; the first core of each list goes.
-    (Move::Add(1, "123"), "21|1|21|", 0),
+    (Move::Add(1, "123"), "12|1|12|", 0),
     (Move::Remove(2), "1|1|1|", 2),
     (Move::Add(4, "2"), "1|14|1|", 1),
     // A core that isn't there, and one that has no variable.
@@ -121,12 +173,18 @@ static MOVES: [(Move, &str, u32); 15] = [
     (Move::Grow(2, 5, 3), "1|14|1|||", 4),
     (Move::Add(9, "1345"), "19|14|19|9|9|", 0),
     (Move::Remove(1), "9|4|9|9|9|", 3),
-    // An id is used again, and comes last.
-    (Move::Add(1, "15"), "91|4|9|9|91|", 1),
+    // An id is used again, and its occurrences come last.
+    (Move::Add(1, "15"), "19|4|9|9|19|", 1),
     (Move::Remove(9), "1|4|||1|", 5),
-    (Move::Remove(4), "1||||1|", 6),
-    (Move::Remove(1), "|||||", 8),
-    (Move::Add(3, "12345"), "3|3|3|3|3|", 3),
+    // An id that had no occurrence has those of another one, and gets a further one.
+    (Move::Exchange(1, 7), "7|4|||7|", 5),
+    (Move::Extend(7, "3"), "7|4|7||7|", 4),
+    (Move::Exchange(4, 7), "4|7|4||4|", 4),
+    (Move::Exchange(4, 4), "4|7|4||4|", 4),
+    (Move::Add(1, "12"), "14|17|4||4|", 2),
+    (Move::Remove(4), "1|17||||", 5),
+    (Move::Remove(7), "1|1||||", 6),
+    (Move::Add(3, "345"), "1|1|3|3|3|", 3),
 ];
 
 #[test]

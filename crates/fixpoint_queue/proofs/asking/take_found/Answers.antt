@@ -1,21 +1,15 @@
-use Rattle.std.proofs.Common.{◌≡◌, ℕ, ◌+◌, List, [], ◌∷◌, ◌++◌, length, sym, ap, ◌∙◌, subst, arith, rules, Ok}
+use Rattle.std.proofs.Common.{◌≡◌, ℕ, ◌+◌, List, [], ◌∷◌, ◌++◌, length, sym, ap, ◌∙◌, subst, rules, Ok}
 use Rattle.core_forms.specs.declared.equation.Equation.{Equation}
 use Rattle.equation_runs.specs.Turns.{EquationsBelow}
 use Rattle.ledger_text.specs.declared.line.Line.{Line}
 use Rattle.ledger_text.specs.declared.line.Line.TheVariants.{Equate}
 use Rattle.step_kernel.specs.Kernel.{Kernel, trimmed_at}
 use Rattle.step_kernel.specs.Steps.{step}
-use Rattle.step_kernel.proofs.Splits.{there-bounds}
 use Rattle.fixpoint_queue.specs.Taken.{HasTaken}
 use Rattle.fixpoint_queue.proofs.Runs.{asked-first, asked-core, asked-adds, asked-counted, asked-less}
 use Rattle.fixpoint_queue.proofs.asking.take_found.Goals as goal
 use Rattle.fixpoint_queue.proofs.asking.take_found.Goals.{After-as_slice}
 use Rattle.fixpoint_queue.proofs.asking.take_found.Given.{Over}
-
-pub take_equation-requires-clause-places : goal.take_equation-requires-clause-places
-take_equation-requires-clause-places g c = λ v id low o.
-    let has = (c.requires.saturation.listed.there v id low).0 o in
-    omega (arith, (there-bounds c.args.state.now.cores id has.0 has.1).1, c.requires.saturation.places)
 
 pub take_equation-requires-clause-instance : goal.take_equation-requires-clause-instance
 take_equation-requires-clause-instance g c =

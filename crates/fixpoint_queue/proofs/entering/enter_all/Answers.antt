@@ -1,18 +1,18 @@
-use Rattle.std.proofs.Common.{◌≡◌, ℕ, ◌+◌, ◌≤◌, length, get_or, take, ap, ◌∙◌, arith, Some, None}
-use Rattle.std.specs.Prelude.{Contains}
+use Rattle.std.proofs.Common.{◌≡◌, ℕ, ◌+◌, ◌≤◌, ◌==◌, length, get_or, take, ap, ◌∙◌, subst, arith, Some, None}
+use Rattle.std.specs.Prelude.{Contains, if◌then◌else◌}
 use Rattle.core_forms.specs.declared.form.Core.{Core}
-use Rattle.core_occurrences.specs.Lists.{OccurrenceLists, added}
+use Rattle.core_occurrences.specs.Lists.{added}
 use Rattle.fixpoint_queue.specs.IdQueue.{with_id}
 use Rattle.step_kernel.proofs.LeastCompound.{core_at-next}
 use Rattle.fixpoint_queue.specs.Standing.{AreVars}
-use Rattle.fixpoint_queue.proofs.Entries.{all-of, core-bounds, none-behind, some-inside, length-taken, entered-none, entered-one, listed-at, counted-at}
+use Rattle.fixpoint_queue.proofs.Entries.{all-of, core-bounds, none-behind, some-inside, length-taken, entered-none, entered-one, room-one, listed-at, counted-at}
 use Rattle.fixpoint_queue.proofs.entering.enter_all.Goals as goal
 use Rattle.fixpoint_queue.proofs.entering.enter_all.Goals.{After-as_slice}
 
 pub loop-vars-init : goal.loop-vars-init
 loop-vars-init c = record {
   id = omega arith;
-  entered = entered-none c.args.state.now.cores c.args.before c.args.occurs.now c.args.queue.now c.requires.stand c.requires.occurrences c.requires.queued;
+  entered = entered-none c.args.held c.args.state.now.cores c.args.before c.args.occurs.now c.args.queue.now c.requires.stand c.requires.occurrences c.requires.queued;
   room = c.requires.room;
 }
 
@@ -30,20 +30,20 @@ range c v there =
     (core_at-next c.args.state.now.cores (c.args.before + c.loop-vars.vars-index) ∙ l.1) v ((l.2.exact v).0 there) in
     (bounds.0, omega (arith, bounds.1, c.requires.vars, c.loop-vars.invariant.entered.lists))
 
-pub enter-requires-clause-increasing : goal.enter-requires-clause-increasing
-enter-requires-clause-increasing c = (listed c).2.ascending
+pub enter_next-requires-clause-increasing : goal.enter_next-requires-clause-increasing
+enter_next-requires-clause-increasing c = (listed c).2.ascending
 
-pub enter-requires-clause-vars : goal.enter-requires-clause-vars
-enter-requires-clause-vars c = all-of (λ (v : ℕ). (1 ≤ v) × (v ≤ length c.loop-vars.occurs.lists)) c.as_slice.result.now (range c)
+pub enter_next-requires-clause-vars : goal.enter_next-requires-clause-vars
+enter_next-requires-clause-vars c = all-of (λ (v : ℕ). (1 ≤ v) × (v ≤ length c.loop-vars.occurs.lists)) c.as_slice.result.now (range c)
 
-pub enter-requires-clause-fresh : goal.enter-requires-clause-fresh
-enter-requires-clause-fresh c =
+pub enter_next-requires-clause-fresh : goal.enter_next-requires-clause-fresh
+enter_next-requires-clause-fresh c = λ apart.
     let l = listed c in
     let cores = c.args.state.now.cores in
     let n = c.args.before + c.loop-vars.vars-index in
     let inside = some-inside cores n l.0 l.1 in
-    none-behind (take n cores) c.loop-vars.occurs (c.loop-vars.id + 1)
-    (omega (arith, length-taken cores n (omega (arith, inside)), c.loop-vars.invariant.id)) c.loop-vars.invariant.entered.stand
+    none-behind c.args.held (take n cores) c.loop-vars.occurs (c.loop-vars.id + 1)
+    (omega (arith, length-taken cores n (omega (arith, inside)), c.loop-vars.invariant.id)) apart c.loop-vars.invariant.entered.stand
 
 pub loop-vars-preserved : goal.loop-vars-preserved
 loop-vars-preserved c =
@@ -56,11 +56,18 @@ loop-vars-preserved c =
     omega (arith, bounds.1, c.requires.vars, c.loop-vars.invariant.entered.lists) in
     let id : c.loop-vars.id + 1 ≡ n + 1 = omega (arith, c.loop-vars.invariant.id) in
     let counted = counted-at c.args.lists.now c.loop-vars.vars-index c.vars-item.result c.as_slice.result.now c.loop-vars-test.true c.vars-item.is c.as_slice.ensures in
+    let occurs : c.enter_next.new.occurs ≡ (if n + 1 == c.args.held then c.loop-vars.occurs else added c.loop-vars.occurs (n + 1) c.as_slice.result.now) =
+    subst (λ (j : ℕ). c.enter_next.new.occurs ≡ (if j == c.args.held then c.loop-vars.occurs else added c.loop-vars.occurs j c.as_slice.result.now)) id c.enter_next.ensures.occurs in
+    let queue : c.enter_next.new.queue ≡ with_id c.loop-vars.queue (n + 1) = c.enter_next.ensures.queue ∙ ap (with_id c.loop-vars.queue) id in
     record {
       id = omega (arith, c.loop-vars.invariant.id);
-      entered = entered-one cores c.args.before c.loop-vars.vars-index c.args.occurs.now c.loop-vars.occurs c.enter.new.occurs c.args.queue.now c.loop-vars.queue c.enter.new.queue c.as_slice.result.now l.0
-          l.1 l.2 bound c.loop-vars.invariant.entered
-          (c.enter.ensures.occurs ∙ ap (λ (j : ℕ). added c.loop-vars.occurs j c.as_slice.result.now) id) c.enter.ensures.occurrences
-          (c.enter.ensures.queue ∙ ap (with_id c.loop-vars.queue) id) c.enter.ensures.ids;
-      room = omega (arith, counted, c.loop-vars.invariant.room, ap (λ (o : OccurrenceLists). o.room) c.enter.ensures.occurs);
+      entered = entered-one c.args.held cores c.args.before c.loop-vars.vars-index c.args.occurs.now c.loop-vars.occurs c.enter_next.new.occurs c.args.queue.now c.loop-vars.queue c.enter_next.new.queue c.as_slice.result.now l.0
+          l.1 l.2 bound c.loop-vars.invariant.entered occurs c.enter_next.ensures.occurrences queue c.enter_next.ensures.ids;
+      room = omega (
+        arith,
+        counted,
+        c.loop-vars.invariant.room,
+        room-one c.args.held cores c.args.before c.loop-vars.vars-index c.args.occurs.now c.loop-vars.occurs c.enter_next.new.occurs c.args.queue.now c.loop-vars.queue c.enter_next.new.queue c.as_slice.result.now l.0
+            l.1 l.2 bound c.loop-vars.invariant.entered occurs c.enter_next.ensures.occurrences queue c.enter_next.ensures.ids,
+      );
     }

@@ -5,6 +5,6 @@ use Rattle.fixpoint_queue.proofs.entering.enter_all.Given as goal
 abbrev pub invariant-loop-vars : goal.invariant-loop-vars
 invariant-loop-vars l = record {
   id : l.id ≡ l.before + l.vars-index;
-  entered : AreEntered l.state.cores l.before l.vars-index l.fn.occurs l.occurs l.fn.queue l.queue;
+  entered : AreEntered l.held l.state.cores l.before l.vars-index l.fn.occurs l.occurs l.fn.queue l.queue;
   room : all_counted (drop l.vars-index l.lists) ≤ l.occurs.room;
 }

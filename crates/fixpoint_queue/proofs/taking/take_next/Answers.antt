@@ -1,4 +1,4 @@
-use Rattle.std.proofs.Common.{◌≡◌, ◌⊎◌, ℕ, ◌≤◌, true, sym, ap, ◌∙◌, subst, arith}
+use Rattle.std.proofs.Common.{◌≡◌, ◌⊎◌, ℕ, ◌≤◌, true, sym, ap, ◌∙◌, subst}
 use Rattle.core_forms.specs.declared.equation.Equation.{Equation}
 use Rattle.core_forms.specs.Trimmed.{trimmed_core}
 use Rattle.equation_runs.specs.Turns.{resolved_equation, IsMade}
@@ -6,7 +6,6 @@ use Rattle.index_ring.specs.Lists.{times}
 use Rattle.step_kernel.specs.Kernel.{Kernel, trimmed_at}
 use Rattle.core_rules.specs.Instances.{is_instance_at}
 use Rattle.step_kernel.specs.Steps.{equated}
-use Rattle.step_kernel.proofs.Splits.{there-bounds}
 use Rattle.fixpoint_queue.specs.Taken.{HasTaken}
 use Rattle.fixpoint_queue.proofs.Runs.{not-made, told-of, taken-one, made-equated}
 use Rattle.fixpoint_queue.proofs.taking.take_next.Goals as goal
@@ -18,11 +17,6 @@ take_equation-requires-clause-instance g c =
     let apart = not-made view c.args.e.now c.resolved-e.result c.ne.result c.ne.ensures c.if-ne.true c.resolved-e.ensures in
     let tells = told-of g.F.Oracle.told c.args.core.now view c.args.e.now c.requires.told apart in
     (core, ap (trimmed_at c.args.state.now) c.from.ensures ∙ c.requires.there, subst (λ (f : Equation). is_instance_at core f ≡ true) (sym c.resolved-e.ensures) (g.F.Oracle.told_is_instance core (resolved_equation view c.args.e.now) tells))
-
-pub take_equation-requires-clause-places : goal.take_equation-requires-clause-places
-take_equation-requires-clause-places g c = λ v id low o.
-    let has = (c.requires.saturation.listed.there v id low).0 o in
-    omega (arith, (there-bounds c.args.state.now.cores id has.0 has.1).1, c.requires.saturation.places)
 
 pub returns-then-ne-clause-taken : goal.returns-then-ne-clause-taken
 returns-then-ne-clause-taken g c =

@@ -4,7 +4,7 @@ use Rattle.index_ring.specs.Lists.{times}
 use Rattle.equation_store.specs.Class.{IsMember}
 use Rattle.equation_store.specs.Store.{class_walk}
 use Rattle.fixpoint_queue.specs.IdQueue.{IsIds}
-use Rattle.core_occurrences.specs.Lists.{Occurs}
+use Rattle.fixpoint_queue.specs.Listed.{HasVar}
 use Rattle.index_ring.specs.Lists.{rest_from}
 use Rattle.fixpoint_queue.proofs.wake.wake.Given as goal
 
@@ -13,9 +13,9 @@ invariant-loop-next l = record {
   places : l.queue.places ≡ l.fn.queue.places;
   queued : IsIds l.queue;
   stays : (id : ℕ) → 1 ≤ times id l.fn.queue.queued → 1 ≤ times id l.queue.queued;
-  only : (id : ℕ) → 1 ≤ times id l.queue.queued → (1 ≤ times id l.fn.queue.queued) ⊎ ((v : ℕ) × IsMember l.store.view l.label v × Occurs l.occurs v id);
+  only : (id : ℕ) → 1 ≤ times id l.queue.queued → (1 ≤ times id l.fn.queue.queued) ⊎ ((v : ℕ) × IsMember l.store.view l.label v × HasVar l.state id v);
   member : IfSome l.next (IsMember l.store.view l.label);
-  woken : (v id : ℕ) → IsMember l.store.view l.label v → Occurs l.occurs v id → (1 ≤ times v (rest_from l.next (class_walk l.store l.label))) ⊎ (1 ≤ times id l.queue.queued);
+  woken : (v id : ℕ) → IsMember l.store.view l.label v → HasVar l.state id v → (1 ≤ times v (rest_from l.next (class_walk l.store l.label))) ⊎ (1 ≤ times id l.queue.queued);
 }
 
 abbrev pub decreases-loop-next : goal.decreases-loop-next

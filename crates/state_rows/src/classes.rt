@@ -8,7 +8,7 @@ use crate::numbers::Numbers;
 use core_words::{atom, word};
 use equation_store::{EqStore, Merged};
 use order_ints::{Atom, Lit};
-use std::alloc::AllocError;
+use std::alloc::{AllocError, Global};
 use std::process::Abort;
 use std::test::Fail;
 
@@ -51,19 +51,30 @@ static MERGES: [(&str, &str, Option<u32>, Merged, &str); 12] = [
     ("F", "4", Some(1), Merged::Changed, "T T T F T F F"),
 ];
 
+/// Asserts that the labels of a store are those of some words.
+fn has_labels(rt: &impl Abort, store: &EqStore, labels: &str) -> Result<(), Fail> {
+    assert_eq!(rt; store.view().len(), 7);
+    for (place, label) in store.view().iter().enumerate() {
+        let wanted = atom(word(labels, place))?;
+        assert_eq!(rt; *label, wanted, "{labels}");
+    }
+    Ok(())
+}
+
+/// Merges the atoms of rows, and asserts what each merge answers, and the labels after it.
+fn merge_all(rt: &impl Abort, store: &mut EqStore) -> Result<(), Fail> {
+    for (a, b, loser, answer, labels) in &MERGES {
+        let merged = merge(rt, store, atom(a)?, atom(b)?);
+        assert_eq!(rt; merged, (*loser, *answer), "at {a} and {b}");
+        has_labels(rt, store, labels)?;
+    }
+    Ok(())
+}
+
 #[test]
 fn merges(rt: HostRuntime) -> Result<(), Fail> {
     let mut store = EqStore::with(rt.alloc(), 7)?;
-    for (a, b, loser, answer, labels) in MERGES {
-        let merged = merge(&rt, &mut store, atom(a)?, atom(b)?);
-        assert_eq!(rt; merged, (loser, answer), "at {a} and {b}");
-        assert_eq!(rt; store.view().len(), 7);
-        for (place, label) in store.view().iter().enumerate() {
-            let wanted = atom(word(labels, place))?;
-            assert_eq!(rt; *label, wanted, "after {a} and {b}");
-        }
-    }
-    Ok(())
+    merge_all(&rt, &mut store)
 }
 
 /// What an atom resolves to.
@@ -94,27 +105,42 @@ fn after(rt: &impl Abort, store: &EqStore, var: u32) -> Option<u32> {
     store.after(var)
 }
 
+/// Merges two atoms of different classes, of which that of a variable loses.
+fn change(rt: &impl Abort, store: &mut EqStore, a: &str, b: &str, loser: u32) -> Result<(), Fail> {
+    let merged = merge(rt, store, atom(a)?, atom(b)?);
+    assert_eq!(rt; merged, (Some(loser), Merged::Changed));
+    Ok(())
+}
+
+/// The variables that a walk of a label's class meets in five steps, ascending.
+fn walked(
+    rt: &impl Abort,
+    alloc: Global,
+    store: &EqStore,
+    label: u32,
+) -> Result<Vec<u32>, AllocError> {
+    let mut walk = Vec::new(alloc);
+    let mut next = first(rt, store, label);
+    for _step in 0..5 {
+        if let Some(var) = next {
+            walk.push(var)?;
+            next = after(rt, store, var);
+        }
+    }
+    assert_eq!(rt; next, None);
+    walk.sort()?;
+    Ok(walk)
+}
+
 #[test]
 fn walks(rt: HostRuntime) -> Result<(), Fail> {
     let mut store = EqStore::with(rt.alloc(), 3)?;
     store.grow(2)?;
-    for (a, b, loser) in [("5", "-2", 5), ("4", "5", 4)] {
-        let merged = merge(&rt, &mut store, atom(a)?, atom(b)?);
-        assert_eq!(rt; merged, (Some(loser), Merged::Changed));
-    }
-    let two = atom("2")?;
-    assert_eq!(rt; resolve(&rt, &store, atom("-4")?), two);
-    let mut walk = Vec::new(rt.alloc());
-    let mut next = first(&rt, &store, 2);
-    for _step in 0..5 {
-        if let Some(var) = next {
-            walk.push(var)?;
-            next = after(&rt, &store, var);
-        }
-    }
-    walk.sort()?;
-    assert_eq!(rt; walk.as_slice(), [2, 4, 5].as_slice());
-    assert_eq!(rt; next, None);
+    change(&rt, &mut store, "5", "-2", 5)?;
+    change(&rt, &mut store, "4", "5", 4)?;
+    assert_eq!(rt; resolve(&rt, &store, atom("-4")?), atom("2")?);
+    let met = walked(&rt, rt.alloc(), &store, 2)?;
+    assert_eq!(rt; met.as_slice(), [2, 4, 5].as_slice());
     Ok(())
 }
 
@@ -247,22 +273,32 @@ fn compare(rt: &impl Abort, store: &EqStore, labels: &[Atom]) {
     }
 }
 
+/// A store of three variables. Where memory is refused it is asked for again.
+fn small(alloc: Global) -> Result<EqStore, AllocError> {
+    match EqStore::with(alloc, 3) {
+        Ok(store) => Ok(store),
+        Err(_) => EqStore::with(alloc, 3),
+    }
+}
+
+/// Adds variables to a store of these labels, again where that is refused.
+fn grow_twice(rt: &impl Abort, store: &mut EqStore, labels: &[Atom]) -> Result<(), AllocError> {
+    assert_eq!(rt; store.view().len(), 3);
+    if store.grow(1_000).is_err() {
+        compare(rt, store, labels);
+        store.grow(1_000)?;
+    }
+    Ok(())
+}
+
 // `rt try --test --fail-alloc N` refuses the Nth allocation: one of the three of `with`, or one of the three of `grow`. What is
 // refused is asked for again.
 #[test]
 fn growth_is_refused(rt: HostRuntime) -> Result<(), Fail> {
-    let mut store = match EqStore::with(rt.alloc(), 3) {
-        Ok(store) => store,
-        Err(_) => EqStore::with(rt.alloc(), 3)?,
-    };
+    let mut store = small(rt.alloc())?;
     let labels = [atom("1")?, atom("2")?, atom("-2")?];
-    let merged = merge(&rt, &mut store, atom("3")?, atom("-2")?);
-    assert_eq!(rt; merged, (Some(3), Merged::Changed));
-    assert_eq!(rt; store.view().len(), 3);
-    if store.grow(1_000).is_err() {
-        compare(&rt, &store, labels.as_slice());
-        store.grow(1_000)?;
-    }
+    change(&rt, &mut store, "3", "-2", 3)?;
+    grow_twice(&rt, &mut store, labels.as_slice())?;
     assert_eq!(rt; store.view().len(), 1_003);
     Ok(())
 }
@@ -279,32 +315,54 @@ fn push_own(labels: &mut Vec<Atom>, more: u32) -> Result<(), AllocError> {
     Ok(())
 }
 
+/// Adds 20 variables to a store of 80, and to its labels.
+fn grow_both(
+    rt: &impl Abort,
+    store: &mut EqStore,
+    labels: &mut Vec<Atom>,
+) -> Result<(), AllocError> {
+    assert_eq!(rt; store.view().len(), 80);
+    store.grow(20)?;
+    push_own(labels, 20)
+}
+
+/// Merges two atoms in no order, in a store and in its labels, and compares both.
+fn merge_both(
+    rt: &impl Abort,
+    numbers: &mut Numbers,
+    store: &mut EqStore,
+    labels: &mut [Atom],
+    vars: u32,
+)
+    requires { 0 < vars }
+{
+    let a = random_atom(numbers, vars);
+    let b = random_atom(numbers, vars);
+    let (_loser, answer) = merge(rt, store, a, b);
+    assert_eq!(rt; answer, plain_merge(labels, a, b), "{a:?} and {b:?}");
+    compare(rt, store, labels);
+}
+
+/// Merges in a store of 80 variables, and then of 100.
+fn merge_many(rt: &impl Abort, alloc: Global, numbers: &mut Numbers) -> Result<(), AllocError> {
+    let mut store = EqStore::with(alloc, 80)?;
+    let mut labels = Vec::new(alloc);
+    push_own(&mut labels, 80)?;
+    for _ in 0..60 {
+        merge_both(rt, numbers, &mut store, labels.as_mut_slice(), 80);
+    }
+    grow_both(rt, &mut store, &mut labels)?;
+    for _ in 0..140 {
+        merge_both(rt, numbers, &mut store, labels.as_mut_slice(), 100);
+    }
+    Ok(())
+}
+
 #[test]
-fn random_merges(rt: HostRuntime) -> Result<(), Fail> {
+fn random_merges(rt: HostRuntime) -> Result<(), AllocError> {
     let mut numbers = Numbers::from(1);
     for _round in 0..50 {
-        let mut store = EqStore::with(rt.alloc(), 80)?;
-        let mut labels = Vec::new(rt.alloc());
-        push_own(&mut labels, 80)?;
-        for count in 0..200 {
-            if count == 60 {
-                assert_eq!(rt; store.view().len(), 80);
-                store.grow(20)?;
-                push_own(&mut labels, 20)?;
-            }
-            let vars = if count < 60 { 80 } else { 100 };
-            let (a, b) = (
-                random_atom(&mut numbers, vars),
-                random_atom(&mut numbers, vars),
-            );
-            let (_loser, answer) = merge(&rt, &mut store, a, b);
-            assert_eq!(rt;
-                answer,
-                plain_merge(labels.as_mut_slice(), a, b),
-                "{count}: {a:?} and {b:?}"
-            );
-            compare(&rt, &store, labels.as_slice());
-        }
+        merge_many(&rt, rt.alloc(), &mut numbers)?;
     }
     Ok(())
 }

@@ -8,10 +8,9 @@ ghost use Rattle.core_occurrences.specs.Lists.{Occurs, cores_at};
 use core_occurrences::Occurrences;
 use std::alloc::{AllocError, Global};
 use std::process::Abort;
-use std::test::Fail;
 
 /// What is done to occurrences.
-#[derive(Clone, Copy, Debug)]
+#[derive(Clone, Copy)]
 enum Move {
     /// Further variables, ids and nodes.
     Grow(u32, u32, u32),
@@ -187,41 +186,71 @@ static MOVES: [(Move, &str, u32); 20] = [
     (Move::Add(3, "345"), "1|1|3|3|3|", 3),
 ];
 
-#[test]
-fn moves_by_hand(rt: HostRuntime) -> Result<(), Fail> {
-    let mut occurrences = Occurrences::with(rt.alloc(), 3)?;
-    for (step, lists, room) in MOVES {
-        make(&rt, rt.alloc(), &mut occurrences, step)?;
-        let found = show(&rt, rt.alloc(), &occurrences)?;
-        assert_eq!(rt; found.as_slice(), lists.as_bytes(), "after {step:?}");
-        assert_eq!(rt; occurrences.room(), room, "after {step:?}");
+/// Makes moves, and asserts the ids and the room behind each.
+fn make_all(
+    rt: &impl Abort,
+    alloc: Global,
+    occurrences: &mut Occurrences,
+    rows: &[(Move, &str, u32)],
+) -> Result<(), AllocError> {
+    for (step, lists, room) in rows {
+        make(rt, alloc, occurrences, *step)?;
+        let found = show(rt, alloc, occurrences)?;
+        assert_eq!(rt; found.as_slice(), lists.as_bytes(), "{lists}");
+        assert_eq!(rt; occurrences.room(), *room, "{lists}");
     }
+    Ok(())
+}
+
+#[test]
+fn moves_by_hand(rt: HostRuntime) -> Result<(), AllocError> {
+    let mut occurrences = Occurrences::with(rt.alloc(), 3)?;
+    make_all(&rt, rt.alloc(), &mut occurrences, &MOVES)?;
     assert_eq!(rt; (occurrences.vars(), occurrences.ids()), (5, 9));
     Ok(())
 }
 
-// `rt try --test --fail-alloc N` refuses the Nth allocation: one of those of `with` or of `grow`. What is refused is asked
-// for again; what passes the limits never succeeds.
-#[test]
-fn growth_is_refused(rt: HostRuntime) -> Result<(), Fail> {
-    assert!(rt; Occurrences::with(rt.alloc(), 1 << 31).is_err());
-    let mut occurrences = match Occurrences::with(rt.alloc(), 2) {
-        Ok(occurrences) => occurrences,
-        Err(_) => Occurrences::with(rt.alloc(), 2)?,
-    };
-    if occurrences.grow(0, 3, 4).is_err() {
-        occurrences.grow(0, 3, 4)?;
+/// No core at two variables. Where memory is refused they are asked for again.
+fn small(alloc: Global) -> Result<Occurrences, AllocError> {
+    match Occurrences::with(alloc, 2) {
+        Ok(occurrences) => Ok(occurrences),
+        Err(_) => Occurrences::with(alloc, 2),
     }
-    add(&rt, &mut occurrences, 3, [2].as_slice());
+}
+
+/// How many variables and ids there are, and how many nodes are free.
+fn sizes(occurrences: &Occurrences) -> (u32, u32, u32) {
+    (occurrences.vars(), occurrences.ids(), occurrences.room())
+}
+
+/// Asserts that what passes the limits never succeeds.
+fn meets_limits(rt: &impl Abort, occurrences: &mut Occurrences) {
     for (vars, ids, nodes) in [(u32::MAX, 0, 0), (0, u32::MAX, 0), (0, 0, u32::MAX)] {
         assert!(rt; occurrences.grow(vars, ids, nodes).is_err());
     }
+}
+
+/// Adds ids and nodes, a core, and many variables, ids and nodes, again where that is refused.
+fn grow_twice(rt: &impl Abort, occurrences: &mut Occurrences) -> Result<(), AllocError> {
+    if occurrences.grow(0, 3, 4).is_err() {
+        occurrences.grow(0, 3, 4)?;
+    }
+    add(rt, occurrences, 3, [2].as_slice());
+    meets_limits(rt, occurrences);
     if occurrences.grow(100, 200, 300).is_err() {
-        let found = (occurrences.vars(), occurrences.ids(), occurrences.room());
-        assert_eq!(rt; found, (2, 3, 3));
+        assert_eq!(rt; sizes(occurrences), (2, 3, 3));
         occurrences.grow(100, 200, 300)?;
     }
-    let found = (occurrences.vars(), occurrences.ids(), occurrences.room());
-    assert_eq!(rt; found, (102, 203, 303));
+    Ok(())
+}
+
+// `rt try --test --fail-alloc N` refuses the Nth allocation: one of those of `with` or of `grow`. What is refused is asked
+// for again.
+#[test]
+fn growth_is_refused(rt: HostRuntime) -> Result<(), AllocError> {
+    assert!(rt; Occurrences::with(rt.alloc(), 1 << 31).is_err());
+    let mut occurrences = small(rt.alloc())?;
+    grow_twice(&rt, &mut occurrences)?;
+    assert_eq!(rt; sizes(&occurrences), (102, 203, 303));
     Ok(())
 }

@@ -7,10 +7,9 @@ use crate::numbers::Numbers;
 use index_ring::Rings;
 use std::alloc::{AllocError, Global};
 use std::process::Abort;
-use std::test::Fail;
 
 /// What is done to rings.
-#[derive(Clone, Copy, Debug)]
+#[derive(Clone, Copy)]
 enum Move {
     Back(u32, u32),
     Front(u32, u32),
@@ -129,44 +128,56 @@ fn show(rt: &impl Abort, alloc: Global, rings: &Rings) -> Result<Vec<u8>, AllocE
     Ok(text)
 }
 
-#[test]
-fn moves_by_hand(rt: HostRuntime) -> Result<(), Fail> {
-    let table = [
-        (Move::Back(0, 3), "3|||"),
-        (Move::Back(0, 1), "31|||"),
-        (Move::Front(0, 4), "431|||"),
-        (Move::Front(2, 0), "431||0|"),
-        // The node in the middle, then the first, then the last.
-        (Move::Unlink(3), "41||0|"),
-        (Move::Back(1, 3), "41|3|0|"),
-        (Move::Unlink(4), "1|3|0|"),
-        (Move::Front(1, 4), "1|43|0|"),
-        (Move::Unlink(3), "1|4|0|"),
-        (Move::Back(1, 2), "1|42|0|"),
-        // A ring of two behind one of one; an empty one behind it, and it behind an empty one.
-        (Move::Splice(1, 0), "142||0|"),
-        (Move::Splice(1, 0), "142||0|"),
-        (Move::Splice(0, 1), "|142|0|"),
-        (Move::Splice(2, 1), "|1420||"),
-        (Move::Unlink(0), "|142||"),
-        (Move::Grow(1, 2), "|142|||"),
-        (Move::Back(3, 6), "|142||6|"),
-        (Move::Front(3, 0), "|142||06|"),
-        (Move::Back(3, 5), "|142||065|"),
-        (Move::Grow(0, 1), "|142||065|"),
-        (Move::Splice(3, 1), "|142065|||"),
-        (Move::Back(1, 7), "|1420657|||"),
-        (Move::Unlink(2), "|140657|||"),
-        (Move::Grow(1, 0), "|140657||||"),
-        (Move::Splice(1, 4), "||||140657|"),
-    ];
-    let mut rings = Rings::with(rt.alloc(), 3, 5)?;
-    for (step, lists) in table {
-        make(&rt, &mut rings, step)?;
-        let found = show(&rt, rt.alloc(), &rings)?;
-        assert_eq!(rt; found.as_slice(), lists.as_bytes(), "after {step:?}");
+/// Moves, and the lists behind each.
+static MOVES: [(Move, &str); 25] = [
+    (Move::Back(0, 3), "3|||"),
+    (Move::Back(0, 1), "31|||"),
+    (Move::Front(0, 4), "431|||"),
+    (Move::Front(2, 0), "431||0|"),
+    // The node in the middle, then the first, then the last.
+    (Move::Unlink(3), "41||0|"),
+    (Move::Back(1, 3), "41|3|0|"),
+    (Move::Unlink(4), "1|3|0|"),
+    (Move::Front(1, 4), "1|43|0|"),
+    (Move::Unlink(3), "1|4|0|"),
+    (Move::Back(1, 2), "1|42|0|"),
+    // A ring of two behind one of one; an empty one behind it, and it behind an empty one.
+    (Move::Splice(1, 0), "142||0|"),
+    (Move::Splice(1, 0), "142||0|"),
+    (Move::Splice(0, 1), "|142|0|"),
+    (Move::Splice(2, 1), "|1420||"),
+    (Move::Unlink(0), "|142||"),
+    (Move::Grow(1, 2), "|142|||"),
+    (Move::Back(3, 6), "|142||6|"),
+    (Move::Front(3, 0), "|142||06|"),
+    (Move::Back(3, 5), "|142||065|"),
+    (Move::Grow(0, 1), "|142||065|"),
+    (Move::Splice(3, 1), "|142065|||"),
+    (Move::Back(1, 7), "|1420657|||"),
+    (Move::Unlink(2), "|140657|||"),
+    (Move::Grow(1, 0), "|140657||||"),
+    (Move::Splice(1, 4), "||||140657|"),
+];
+
+/// Makes moves, and asserts the lists behind each.
+fn make_all(
+    rt: &impl Abort,
+    alloc: Global,
+    rings: &mut Rings,
+    rows: &[(Move, &str)],
+) -> Result<(), AllocError> {
+    for (step, lists) in rows {
+        make(rt, rings, *step)?;
+        let found = show(rt, alloc, rings)?;
+        assert_eq!(rt; found.as_slice(), lists.as_bytes(), "{lists}");
     }
     Ok(())
+}
+
+#[test]
+fn moves_by_hand(rt: HostRuntime) -> Result<(), AllocError> {
+    let mut rings = Rings::with(rt.alloc(), 3, 5)?;
+    make_all(&rt, rt.alloc(), &mut rings, &MOVES)
 }
 
 /// Asserts that rings have these lists. It takes no memory.
@@ -182,22 +193,33 @@ fn compare(rt: &impl Abort, rings: &Rings, lists: &[&[u32]]) {
     }
 }
 
+/// Two rings over three nodes. Where memory is refused they are asked for again.
+fn small(alloc: Global) -> Result<Rings, AllocError> {
+    match Rings::with(alloc, 2, 3) {
+        Ok(rings) => Ok(rings),
+        Err(_) => Rings::with(alloc, 2, 3),
+    }
+}
+
+/// Moves two nodes, and adds many rings and nodes, again where that is refused.
+fn grow_twice(rt: &impl Abort, rings: &mut Rings) -> Result<(), AllocError> {
+    make(rt, rings, Move::Back(1, 2))?;
+    make(rt, rings, Move::Back(1, 0))?;
+    if make(rt, rings, Move::Grow(100, 1_000)).is_err() {
+        assert_eq!(rt; rings.nodes(), 3);
+        assert!(rt; !stands(rings, 1));
+        compare(rt, rings, &[&[], &[2, 0]]);
+        make(rt, rings, Move::Grow(100, 1_000))?;
+    }
+    Ok(())
+}
+
 // `rt try --test --fail-alloc N` refuses the Nth allocation: one of the two of `with`, or one of the two of `grow`. What is
 // refused is asked for again.
 #[test]
-fn growth_is_refused(rt: HostRuntime) -> Result<(), Fail> {
-    let mut rings = match Rings::with(rt.alloc(), 2, 3) {
-        Ok(rings) => rings,
-        Err(_) => Rings::with(rt.alloc(), 2, 3)?,
-    };
-    make(&rt, &mut rings, Move::Back(1, 2))?;
-    make(&rt, &mut rings, Move::Back(1, 0))?;
-    if make(&rt, &mut rings, Move::Grow(100, 1_000)).is_err() {
-        assert_eq!(rt; rings.nodes(), 3);
-        assert!(rt; !stands(&rings, 1));
-        compare(&rt, &rings, &[&[], &[2, 0]]);
-        make(&rt, &mut rings, Move::Grow(100, 1_000))?;
-    }
+fn growth_is_refused(rt: HostRuntime) -> Result<(), AllocError> {
+    let mut rings = small(rt.alloc())?;
+    grow_twice(&rt, &mut rings)?;
     assert_eq!(rt; (rings.rings(), rings.nodes()), (102, 1_003));
     Ok(())
 }
@@ -219,6 +241,24 @@ fn random_move(numbers: &mut Numbers, rings: &Rings) -> Move {
     }
 }
 
+/// Puts one list behind another, and leaves it empty.
+fn splice_plain(
+    alloc: Global,
+    lists: &mut [Vec<u32>],
+    from: u32,
+    into: u32,
+) -> Result<(), AllocError> {
+    let mut moved = Vec::new(alloc);
+    if let Some(list) = lists.get_mut(from as usize) {
+        moved.extend_from_slice(list.as_slice())?;
+        list.clear();
+    }
+    if let Some(list) = lists.get_mut(into as usize) {
+        list.extend_from_slice(moved.as_slice())?;
+    }
+    Ok(())
+}
+
 /// Makes a move of plain lists.
 fn make_plain(alloc: Global, lists: &mut [Vec<u32>], step: Move) -> Result<(), AllocError> {
     match step {
@@ -237,38 +277,64 @@ fn make_plain(alloc: Global, lists: &mut [Vec<u32>], step: Move) -> Result<(), A
                 list.retain(|other| *other != node);
             }
         }
-        Move::Splice(from, into) => {
-            let mut moved = Vec::new(alloc);
-            if let Some(list) = lists.get_mut(from as usize) {
-                moved.extend_from_slice(list.as_slice())?;
-                list.clear();
-            }
-            if let Some(list) = lists.get_mut(into as usize) {
-                list.extend_from_slice(moved.as_slice())?;
-            }
-        }
+        Move::Splice(from, into) => splice_plain(alloc, lists, from, into)?,
         Move::Grow(_, _) => {}
     }
     Ok(())
 }
 
-#[test]
-fn random_moves(rt: HostRuntime) -> Result<(), Fail> {
-    let mut rings = Rings::with(rt.alloc(), 8, 40)?;
-    let mut lists: Vec<Vec<u32>> = Vec::new(rt.alloc());
-    for _ring in 0..8 {
-        lists.push(Vec::new(rt.alloc()))?;
+/// So many empty lists.
+fn empty_lists(alloc: Global, count: u32) -> Result<Vec<Vec<u32>>, AllocError> {
+    let mut lists = Vec::new(alloc);
+    for _ in 0..count {
+        lists.push(Vec::new(alloc))?;
     }
-    let mut numbers = Numbers::from(1);
-    for count in 0..10_000 {
-        let step = random_move(&mut numbers, &rings);
-        make(&rt, &mut rings, step)?;
-        make_plain(rt.alloc(), lists.as_mut_slice(), step)?;
-        for (place, list) in lists.iter().enumerate() {
-            let ring = u32::try_from(place).unwrap_or(0);
-            let found = walk(&rt, rt.alloc(), &rings, ring)?;
-            assert_eq!(rt; found.as_slice(), list.as_slice(), "move {count}: {step:?}");
-        }
+    Ok(lists)
+}
+
+/// Asserts that a walk of a ring meets a list.
+fn compare_ring(
+    rt: &impl Abort,
+    alloc: Global,
+    rings: &Rings,
+    place: usize,
+    list: &[u32],
+) -> Result<(), AllocError> {
+    let ring = u32::try_from(place).unwrap_or(0);
+    let found = walk(rt, alloc, rings, ring)?;
+    assert_eq!(rt; found.as_slice(), list);
+    Ok(())
+}
+
+/// Makes a move in no order, of rings and of plain lists, and compares both.
+fn make_both(
+    rt: &impl Abort,
+    alloc: Global,
+    numbers: &mut Numbers,
+    rings: &mut Rings,
+    lists: &mut [Vec<u32>],
+) -> Result<(), AllocError> {
+    let step = random_move(numbers, rings);
+    make(rt, rings, step)?;
+    make_plain(alloc, lists, step)?;
+    for (place, list) in lists.iter().enumerate() {
+        compare_ring(rt, alloc, rings, place, list)?;
     }
     Ok(())
+}
+
+/// Makes so many moves.
+fn make_many(rt: &impl Abort, alloc: Global, count: u32) -> Result<(), AllocError> {
+    let mut rings = Rings::with(alloc, 8, 40)?;
+    let mut lists = empty_lists(alloc, 8)?;
+    let mut numbers = Numbers::from(1);
+    for _ in 0..count {
+        make_both(rt, alloc, &mut numbers, &mut rings, &mut lists)?;
+    }
+    Ok(())
+}
+
+#[test]
+fn random_moves(rt: HostRuntime) -> Result<(), AllocError> {
+    make_many(&rt, rt.alloc(), 10_000)
 }

@@ -34,3 +34,20 @@ pub fn parts(alloc: Global, core: Core, next_var: u32) -> Result<Parts, AllocErr
         _ => network_encode::parts_from(alloc, core, next_var),
     }
 }
+
+/// The parts of a compound core that is kept, with copies of its lists. They are those that `parts` makes.
+pub fn kept_parts(alloc: Global, core: &Core, next_var: u32) -> Result<Parts, AllocError>
+    requires compound { is_compound_of core.now ≡ true }
+    requires well_formed { IsWellFormed core.now }
+    requires below { CoreBelow next_var core.now }
+    requires first { 1 ≤ next_var }
+    requires room { next_var + cost_of core.now ≤ 2 ^ 27 }
+    ensures { IfOk result (λ parts. parts ≡ parts_at next_var core.now) }
+{
+    match core {
+        Core::Sum(_, _) | Core::AllDiff(_, _) | Core::Lex(_, _, _, _) => {
+            decompose::parts(alloc, core, next_var)
+        }
+        _ => network_encode::parts(alloc, core, next_var),
+    }
+}

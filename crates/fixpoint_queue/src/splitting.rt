@@ -22,6 +22,22 @@ use std::alloc::{AllocError, Global};
 use std::sync::ledger::Ledger;
 use step_kernel::State;
 
+/// The parts of a core that is compound as the store has it. A core that stands as the store has it is lent, and not
+/// copied to be trimmed.
+fn parts_of_pending(alloc: Global, state: &State, id: u64) -> Result<Parts, AllocError>
+    requires kernel { IsKernel state.now }
+    requires compound { is_compound_if (trimmed_at state.now id) ≡ true }
+    ensures { IfOk result (λ made. ArePartsAt state.now id made) }
+{
+    if let Some(core) = state.settled(id) {
+        return state.parts_of_lent(id, core);
+    }
+    let Some(core) = state.trimmed(alloc, id)? else {
+        return Err(AllocError);
+    };
+    state.parts_of(id, core)
+}
+
 /// The parts of a core that is compound as the store has it, and the variables of each.
 fn parts_with_variables(
     alloc: Global,
@@ -33,10 +49,7 @@ fn parts_with_variables(
     ensures parts { IfOk result (λ made. ArePartsAt state.now id made.0) }
     ensures lists { IfOk result (λ made. AreAllVars made.1.items made.0.cores) }
 {
-    let Some(core) = state.trimmed(alloc, id)? else {
-        return Err(AllocError);
-    };
-    let parts = state.parts_of(id, core)?;
+    let parts = parts_of_pending(alloc, state, id)?;
     let lists = all_variables(alloc, parts.cores.as_slice())?;
     Ok((parts, lists))
 }

@@ -19,7 +19,7 @@ use crate::fault::{ApplyFault, StepFault};
 use crate::lists::all_pending;
 use crate::state::State;
 use core_forms::{Core, Equation, is_basic};
-use core_parts::{is_compound, parts};
+use core_parts::{is_compound, kept_parts, parts};
 use core_rules::is_instance;
 use direct_encode::clauses;
 use equation_store::Merged;
@@ -227,6 +227,16 @@ impl State {
     {
         let alloc = *self.cores.allocator();
         parts(alloc, core, self.vars() + 1)
+    }
+
+    /// The parts of a compound core that is lent, with copies of its lists. They are what a split makes of it.
+    pub fn parts_of_lent(&self, id: u64, core: &Core) -> Result<Parts, AllocError>
+        requires there { trimmed_at self.now id ≡ Some core.now }
+        requires compound { is_compound_of core.now ≡ true }
+        ensures { IfOk result (λ parts. parts ≡ parts_at (length self.now.view + 1) core.now) }
+    {
+        let alloc = *self.cores.allocator();
+        kept_parts(alloc, core, self.vars() + 1)
     }
 
     /// Makes the step of a split whose parts are known. Where memory is wanting, the state stays as it was.

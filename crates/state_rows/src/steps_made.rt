@@ -5,11 +5,13 @@
 ghost use Rattle.std.specs.Prelude.{◌≡◌, true, Some, IfOk, IsTrue};
 ghost use Rattle.core_forms.specs.WellFormed.{IsWellFormed};
 ghost use Rattle.step_kernel.specs.Kernel.{trimmed_at};
+ghost use Rattle.step_kernel.specs.SplitAt.{ArePartsAt};
 ghost use Rattle.core_rules.specs.Instances.{is_instance_at};
 
 use crate::starts::start;
 use crate::state_text::state_text;
 use core_forms::{Core, Equation};
+use part_base::Parts;
 use std::alloc::{AllocError, Global};
 use std::io;
 use std::process::Abort;
@@ -78,12 +80,32 @@ fn equate(
     Ok(())
 }
 
+/// The parts of a compound core that is lent.
+fn parts_of_lent(rt: &impl Abort, state: &State, id: u64, core: &Core) -> Result<Parts, AllocError>
+    requires there { trimmed_at state.now id ≡ Some core.now }
+    requires well_formed { IsWellFormed core.now }
+    ensures { IfOk result (λ parts. ArePartsAt state.now id parts) }
+{
+    assert!(rt; is_compound(core));
+    state.parts_of_lent(id, core)
+}
+
+/// The parts of a compound core: of the core itself where it is lent, and else of a copy.
+fn parts_at(rt: &impl Abort, alloc: Global, state: &State, id: u64) -> Result<Parts, AllocError>
+    ensures { IfOk result (λ parts. ArePartsAt state.now id parts) }
+{
+    if let Some(core) = state.settled(id) {
+        return parts_of_lent(rt, state, id, core);
+    }
+    let core = core_at(rt, alloc, state, id)?;
+    assert!(rt; is_compound(&core));
+    state.parts_of(id, core)
+}
+
 /// Makes the step of a split whose parts are made before.
 fn split(rt: &impl Abort, alloc: Global, state: &mut State, id: u64) -> Result<(), ApplyFault> {
     assert!(rt; !state.bottom());
-    let core = core_at(rt, alloc, state, id)?;
-    assert!(rt; is_compound(&core));
-    let parts = state.parts_of(id, core)?;
+    let parts = parts_at(rt, alloc, state, id)?;
     state.split_into(id, parts)?;
     Ok(())
 }

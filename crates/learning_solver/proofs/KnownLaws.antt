@@ -19,6 +19,7 @@ within-more m [] d e = refl
 within-more m (l ∷ c) d e =
     let parts = and_parts (has_lit l d) (lies_within c d) e in
     and_from (has_lit l (m ∷ d)) (lies_within c (m ∷ d)) (or_right (same_lit l m) (has_lit l d) parts.0) (within-more m c d parts.1)
+
 within-itself : (c : List Lit) → lies_within c c ≡ true
 within-itself [] = refl
 within-itself (l ∷ c) =
@@ -57,4 +58,3 @@ all-literals p =
 
 pub known-named : (p : Proof) (id : ℕ) (lits : List Lit) → clause_at (all_named p) id ≡ Some lits → known p lits ≡ true
 known-named p id lits e = sym (ap (list_any (same_literals lits)) (all-literals p)) ∙ named-any (all_named p) id lits e
-

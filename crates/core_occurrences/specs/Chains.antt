@@ -6,7 +6,7 @@ use Rattle.core_occurrences.specs.declared.chains.Node.{Node}
 abbrev pub no_node : Node
 no_node = record { owner = 0; next = 0 }
 
--- the core that a node belongs to, or 0 where it is free
+-- the body that a node belongs to, or 0 where it is free
 abbrev pub owner_of : List Node → ℕ → ℕ
 owner_of nodes v = (slice_index_or nodes v no_node).owner
 

@@ -1,4 +1,4 @@
--- What contracts see of occurrences: for each variable the ids of the cores that it occurs in.
+-- What contracts see of occurrences: for each variable the ids of the cores that it occurs in, or, where occurrences stand with bodies, the bodies.
 use Rattle.std.specs.Prelude.{◌==◌, ℕ, ◌+◌, ◌-◌, ◌^◌, ◌<◌, ◌≤◌, List, [], ◌∷◌, ◌++◌, length, map, replicate, slice_index_or, if◌then◌else◌}
 use Rattle.std.specs.List.{Contains, list_any}
 use Rattle.index_ring.specs.Lists.{times, times_in_all, without}

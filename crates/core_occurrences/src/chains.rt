@@ -8,7 +8,7 @@ use std::mem::size_of;
 /// A node beside its links in a ring.
 #[derive(Clone, Copy, Debug)]
 pub struct Node {
-    /// The id of the core that it belongs to, 0 where it is free.
+    /// The body that it belongs to, 0 where it is free.
     pub owner: u32,
     /// One more than the next node of the same owner, 0 at the end.
     pub next: u32,

@@ -12,7 +12,7 @@ ghost use Rattle.core_occurrences.specs.Held.{IsHeld, IsLinked, IsUnlinked, HasN
 use crate::chains::{Node, pass};
 use index_ring::Rings;
 
-/// Makes a free node of a core the last of the ring of a variable.
+/// Makes a free node of a body the last of the ring of a variable.
 fn link(rings: &mut Rings, nodes: &mut [Node], heads: &mut [u32], id: u32, var: u32)
     requires chains { AreChains nodes.old heads.old }
     requires held { IsHeld nodes.old rings.old }
@@ -27,7 +27,7 @@ fn link(rings: &mut Rings, nodes: &mut [Node], heads: &mut [u32], id: u32, var: 
     }
 }
 
-/// Takes one node of a core out of its ring, if the core has one, which is free then.
+/// Takes one node of a body out of its ring, if the body has one, which is free then.
 fn unlink(rings: &mut Rings, nodes: &mut [Node], heads: &mut [u32], id: u32) -> bool
     requires chains { AreChains nodes.old heads.old }
     requires held { IsHeld nodes.old rings.old }
@@ -45,7 +45,7 @@ fn unlink(rings: &mut Rings, nodes: &mut [Node], heads: &mut [u32], id: u32) -> 
     }
 }
 
-/// Adds an occurrence of each listed variable in a core. It takes constant time for each.
+/// Adds an occurrence of each listed variable in a body. It takes constant time for each.
 pub fn link_all(rings: &mut Rings, nodes: &mut [Node], heads: &mut [u32], id: u32, vars: &[u32])
     requires chains { AreChains nodes.old heads.old }
     requires held { IsHeld nodes.old rings.old }
@@ -63,7 +63,7 @@ pub fn link_all(rings: &mut Rings, nodes: &mut [Node], heads: &mut [u32], id: u3
     }
 }
 
-/// Takes away all occurrences of a core, in constant time for each, and tells how many these were.
+/// Takes away all occurrences of a body, in constant time for each, and tells how many these were.
 pub fn unlink_all(rings: &mut Rings, nodes: &mut [Node], heads: &mut [u32], id: u32) -> u32
     requires chains { AreChains nodes.old heads.old }
     requires held { IsHeld nodes.old rings.old }

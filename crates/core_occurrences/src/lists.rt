@@ -35,7 +35,7 @@ impl Model for BodyOccurrences {
     ghost invariant = { λ s. IsKept s.rings s.nodes.items s.heads.items s.room };
 }
 
-/// Whether there is a place for so many variables, ids and nodes more.
+/// Whether there is a place for so many variables, bodies and nodes more.
 fn fits(rings: &Rings, heads: usize, vars: u32, ids: u32, nodes: u32) -> bool
     ensures rings { IsTrue result
         → (length rings.now.lists + vars) + (rings.now.nodes + nodes) < 2 ^ 31 }
@@ -47,7 +47,7 @@ fn fits(rings: &Rings, heads: usize, vars: u32, ids: u32, nodes: u32) -> bool
 }
 
 impl BodyOccurrences {
-    /// Variables that occur in no core, with no id and no room.
+    /// Variables that occur in no body, with no body and no room.
     pub fn with(alloc: Global, vars: u32) -> Result<BodyOccurrences, AllocError>
         ensures lists { IfOk result (λ made. made ≡ no_occurrences vars) }
         ensures occurrences { IfOk result IsOccurrences }
@@ -64,8 +64,8 @@ impl BodyOccurrences {
         Ok(made)
     }
 
-    /// Adds variables that occur in no core, ids, and room for occurrences. It takes all the memory first. Where
-    /// the variables and nodes together would reach 2^31, or the ids 2^32, it is as if memory were wanting.
+    /// Adds variables that occur in no body, bodies, and room for occurrences. It takes all the memory first. Where
+    /// the variables and nodes together would reach 2^31, or the bodies 2^32, it is as if memory were wanting.
     pub fn grow(&mut self, vars: u32, ids: u32, nodes: u32) -> Result<(), AllocError>
         ensures lists { OnOk result (self.new ≡ grown self.old vars ids nodes) }
         ensures err { OnErr result (self.new ≡ self.old) }
@@ -83,7 +83,7 @@ impl BodyOccurrences {
         Ok(())
     }
 
-    /// Adds an occurrence of each listed variable in a core, in constant time for each. It takes no memory.
+    /// Adds an occurrence of each listed variable in a body, in constant time for each. It takes no memory.
     pub fn add(&mut self, id: u32, vars: &[u32])
         requires id { (1 ≤ id) × (id ≤ self.old.ids) }
         requires increasing { IsStrictlyIncreasing vars.now }
@@ -98,7 +98,7 @@ impl BodyOccurrences {
         self.room -= vars.len() as u32;
     }
 
-    /// Takes a core away, in constant time for each of its occurrences, for which there is room again. It takes
+    /// Takes a body away, in constant time for each of its occurrences, for which there is room again. It takes
     /// no memory.
     pub fn remove(&mut self, id: u32)
         requires { (1 ≤ id) × (id ≤ self.old.ids) }
@@ -110,7 +110,7 @@ impl BodyOccurrences {
         self.room += gone;
     }
 
-    /// The ids of the cores that a variable occurs in.
+    /// The bodies that a variable occurs in.
     pub fn cores_of(&self, var: u32) -> CoreWalk<'_>
         requires { (1 ≤ var) × (var ≤ length self.now.lists) }
         ensures lists { result ≡ cores_at self.now var }
@@ -119,7 +119,7 @@ impl BodyOccurrences {
         CoreWalk::of(&self.rings, self.nodes.as_slice(), var - 1)
     }
 
-    /// Whether no variable occurs in a core. It takes constant time.
+    /// Whether no variable occurs in a body. It takes constant time.
     pub fn is_absent(&self, id: u32) -> bool
         requires { (1 ≤ id) × (id ≤ self.now.ids) }
         ensures absent { IsTrue result ↔ ((v : ℕ) → ¬ Occurs self.now v id) }
@@ -136,7 +136,7 @@ impl BodyOccurrences {
         self.rings.rings()
     }
 
-    /// The greatest id that there is a place for.
+    /// The greatest body that there is a place for.
     pub fn ids(&self) -> u32
         ensures count { result ≡ self.now.ids }
         ensures occurrences { IsOccurrences self.now }

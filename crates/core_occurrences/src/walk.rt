@@ -1,4 +1,4 @@
-//! The walk over the ids at a variable.
+//! The walk over the bodies at a variable.
 
 ghost use Rattle.std.specs.Prelude.{◌≡◌, ◌<◌, length, map};
 ghost use Rattle.std.specs.Iterator.{YieldsFirst, item_count};
@@ -10,8 +10,8 @@ use crate::chains::Node;
 use index_ring::Rings;
 use std::marker::Model;
 
-/// What is left of a walk over the ids at a variable, which takes no memory, and constant time for each. A contract
-/// sees it as the list of the ids that are left.
+/// What is left of a walk over the bodies at a variable, which takes no memory, and constant time for each. A contract
+/// sees it as the list of the bodies that are left.
 #[derive(Drop)]
 pub struct CoreWalk<'a> {
     rings: &'a Rings,

@@ -5,6 +5,7 @@ pub mod Contents
 pub mod Place
 pub mod WellFormed
 pub mod Resolved
+pub mod Plain
 pub mod Settled
 pub mod Trimmed
 pub mod Each

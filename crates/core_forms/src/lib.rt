@@ -16,6 +16,7 @@ pub mod list_laws;
 mod made;
 mod meaning;
 mod occurrence;
+pub mod settled_laws;
 mod shapes;
 mod taken;
 mod trimming;

@@ -13,6 +13,7 @@ ghost use Rattle.order_ints.specs.View.{MeetsView};
 ghost use Rattle.core_forms.specs.Place.{CoreBelow};
 ghost use Rattle.core_forms.specs.WellFormed.{IsWellFormed};
 ghost use Rattle.core_forms.specs.Meaning.{core_truth};
+ghost use Rattle.core_forms.specs.Settled.{IsSettledCore};
 ghost use Rattle.core_forms.specs.Trimmed.{trimmed_core, trimmed_int, IsTrimmed};
 
 use crate::form::Core;
@@ -50,10 +51,11 @@ pub fn trim_int(alloc: Global, a: &OrdInt, view: &[Atom]) -> Result<OrdInt, Allo
     trimmed_int(alloc, a, view)
 }
 
-/// Whether trimming leaves a core as it is. It takes one pass over the core, up to the first atom that would
-/// change, and no memory. It looks at the forms that may have long lists, and says of no other one that it stays.
+/// Whether trimming leaves a core as it is, and the order of its integers tells nothing. It takes one pass over the core, up to
+/// the first atom that would change, and no memory. It looks at the forms that may have long lists, and says of no other one
+/// that it stays.
 pub fn is_settled(core: &Core, view: &[Atom]) -> bool
-    ensures { IsTrue result → trimmed_core view.now core.now ≡ core.now }
+    ensures { IsTrue result → IsSettledCore view.now core.now }
 {
     is_settled_form(core, view)
 }

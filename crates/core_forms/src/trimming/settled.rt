@@ -1,10 +1,10 @@
 //! Which atoms, integers and cores trimming leaves as they are.
 
 ghost use Rattle.std.specs.Prelude.{◌≡◌, IsTrue, false, map};
+ghost use Rattle.order_ints.specs.Truth.{not_atom};
 ghost use Rattle.order_ints.specs.Same.{same_atom};
 ghost use Rattle.order_ints.specs.View.{resolve};
-ghost use Rattle.core_forms.specs.Settled.{IsSettled, AreSettled, AreSettledBehind, IsSettledInt, AreSettledInts};
-ghost use Rattle.core_forms.specs.Trimmed.{trimmed_core};
+ghost use Rattle.core_forms.specs.Settled.{IsSettled, AreSettled, AreSettledBehind, IsSettledInt, AreSettledInts, IsSettledCore};
 
 use crate::form::Core;
 use order_ints::{Atom, OrdInt, label_of, resolve};
@@ -53,11 +53,12 @@ fn are_resolved(atoms: &[Atom], view: &[Atom]) -> bool
     true
 }
 
-/// Whether a step behind one with another atom is merged with nothing.
+/// Whether a step behind one with another atom is merged with nothing, and follows from nothing.
 fn is_settled_behind(view: &[Atom], before: Atom, atom: Atom) -> bool
-    ensures { IsTrue result → (same_atom before atom ≡ false) × IsSettled view.now atom }
+    ensures { IsTrue result → (same_atom before atom ≡ false) × (same_atom atom (not_atom before) ≡ false)
+        × IsSettled view.now atom }
 {
-    before != atom && is_settled_atom(view, atom)
+    before != atom && atom != before.not() && is_settled_atom(view, atom)
 }
 
 /// Whether the steps stay as they are. No settled atom is False, so that the first one may be any.
@@ -96,7 +97,7 @@ fn are_settled_words(front: &[OrdInt], back: &[OrdInt], view: &[Atom]) -> bool
 
 /// Whether a core stays as it is, for the forms that may have long lists.
 pub(super) fn is_settled_form(core: &Core, view: &[Atom]) -> bool
-    ensures { IsTrue result → trimmed_core view.now core.now ≡ core.now }
+    ensures { IsTrue result → IsSettledCore view.now core.now }
 {
     match core {
         Core::Parity(atoms, _) => are_settled(atoms.as_slice(), view),

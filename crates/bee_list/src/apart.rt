@@ -1,7 +1,8 @@
 //! A value with a place of its own, which contracts see as the value at every depth.
 
-ghost use Rattle.std.specs.Prelude.{◌≡◌, IfOk};
+ghost use Rattle.std.specs.Prelude.{◌≡◌, IfOk, drop};
 
+use crate::sequence::Sequence;
 use std::alloc::{AllocError, Global};
 use std::marker::Model;
 
@@ -42,5 +43,14 @@ impl<T: Drop> Apart<T> {
     {
         let inner = Box::new(alloc, value)?;
         Ok(Apart { inner })
+    }
+}
+
+impl<T> Apart<Sequence<T>> {
+    /// So many members of the list leave at its front, or all where there are no more. It takes constant time.
+    pub fn drop_front(&mut self, count: usize)
+        ensures { self.new ≡ drop count self.old }
+    {
+        self.inner.drop_front(count);
     }
 }

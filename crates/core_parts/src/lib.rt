@@ -4,4 +4,4 @@
 mod compound;
 pub mod laws;
 
-pub use compound::{is_compound, kept_parts, parts};
+pub use compound::{cut, is_compound, kept_parts, parts};

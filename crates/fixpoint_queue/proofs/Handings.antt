@@ -11,7 +11,7 @@ use Rattle.core_occurrences.proofs.Exchanges.{exchanged_occurs, swapped-other, s
 use Rattle.core_occurrences.proofs.Lawful.{removed_occurs}
 use Rattle.core_occurrences.proofs.Listed.{length-with_id}
 use Rattle.step_kernel.specs.Kernel.{Kernel, core_at}
-use Rattle.fixpoint_queue.specs.Handed.{IsRest, IsHanded, Holds}
+use Rattle.fixpoint_queue.specs.Handed.{IsRest, IsHanded}
 use Rattle.fixpoint_queue.proofs.Entries.{all-of}
 use Rattle.fixpoint_queue.proofs.NextSaturation.{mapped}
 use Rattle.fixpoint_queue.proofs.Stood.{occurs-added}
@@ -71,9 +71,8 @@ module _ (old : OccurrenceLists) (gone held : ℕ) (come : List ℕ) (range : (v
         occurrences = occurrences;
       }
 
-    pub holds-on : (before place count : ℕ) → place < count → held ≡ before + place + 1 → Holds old new gone before place count come held
-    holds-on before place count inside held-is =
-        inr (inside, held-is, λ v low h. (occurs-new v held low).1 (⊎_elim (λ (c : Contains come v). inr (refl, c)) (λ (o : Occurs old v gone). inl (held-has v o)) h))
+    pub holds-on : (v : ℕ) → 1 ≤ v → Contains come v ⊎ Occurs old v gone → Occurs new v held
+    holds-on v low h = (occurs-new v held low).1 (⊎_elim (λ (c : Contains come v). inr (refl, c)) (λ (o : Occurs old v gone). inl (held-has v o)) h)
 
     pub room-on : old.room ≤ new.room + length come
     room-on = omega (arith, ap (λ (o : OccurrenceLists). o.room) is)

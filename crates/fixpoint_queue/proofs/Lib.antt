@@ -15,6 +15,7 @@ pub mod Comings
 pub mod Handings
 pub mod Widened
 pub mod Splittings
+pub mod Cuttings
 pub mod PairLaws
 pub mod Counted
 pub mod QueueSizes

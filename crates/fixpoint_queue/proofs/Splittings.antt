@@ -11,6 +11,7 @@ use Rattle.order_ints.proofs.Labels.{length-own_labels}
 use Rattle.core_forms.specs.declared.equation.Equation.{Equation}
 use Rattle.core_forms.specs.declared.form.Core.{Core}
 use Rattle.core_forms.specs.Trimmed.{trimmed_core}
+use Rattle.core_forms.specs.Variables.{core_vars}
 use Rattle.part_base.specs.declared.parts.Parts.{Parts}
 use Rattle.ledger_text.specs.declared.line.Line.TheVariants.{Split}
 use Rattle.core_occurrences.specs.Lists.{OccurrenceLists, Occurs}
@@ -31,13 +32,13 @@ use Rattle.step_kernel.proofs.There.{there-divided}
 use Rattle.fixpoint_queue.specs.IdQueue.{Ids, IsIds}
 use Rattle.fixpoint_queue.specs.Listed.{HasVar}
 use Rattle.fixpoint_queue.specs.Handed.{IsRest, AreComing, HaveCome}
-use Rattle.fixpoint_queue.specs.Standing.{StandBut, AreVars, AreAllVars, AreVarsFrom}
+use Rattle.fixpoint_queue.specs.Standing.{HasVarAt, StandBut, AreVars, AreAllVars, AreVarsFrom}
 use Rattle.fixpoint_queue.specs.Waits.{IsSaturation}
 use Rattle.fixpoint_queue.specs.Wider.{IsWider, HasRoom}
 use Rattle.fixpoint_queue.proofs.Entries.{core-bounds}
 use Rattle.fixpoint_queue.proofs.QueueSizes.{queue-grows}
 use Rattle.fixpoint_queue.proofs.NextSaturation.{Goes, Queues, saturation-next, marked-gone}
-use Rattle.fixpoint_queue.proofs.Stood.{core_at-without, core_at-gone, stand-without}
+use Rattle.fixpoint_queue.proofs.Stood.{core_at-without, core_at-gone, stand-without, some-of}
 use Rattle.fixpoint_queue.proofs.Widened.{saturation-wider}
 
 ok-of : (x y : Kernel) → ◌≡◌ {A = Result Kernel StepFault} (Ok x) (Ok y) → x ≡ y
@@ -62,17 +63,12 @@ fresh-bound k id parts is at =
     divided-room k id parts
     (subst (λ (p : Parts). IsKernel (divided k id p)) (sym at.are) (there-divided k id at.core is at.there at.compound))
 
--- the variables of each part, where the parts stand behind other cores
-pub vars-from : (xs : List (Option Core)) (lists : List (List ℕ)) (cores : List Core) → AreAllVars lists cores → AreVarsFrom (xs ++ map Some cores) (length xs) lists
-vars-from xs lists cores are i lt =
-    let at = part lists cores are i lt in
-    (at.0, get_or-append-add xs (map Some cores) i None ∙ at.1, at.2)
-  where
-    part : (ls : List (List ℕ)) (cs : List Core) → AreAllVars ls cs → (j : ℕ) → j < length ls → (core : Core) × (get_or (map Some cs) j None ≡ Some core) × AreVars (get_or ls j []) core
-    part [] cs h j less = absurd (omega (arith, less))
-    part (l ∷ ls) [] h j less = absurd h
-    part (l ∷ ls) (c ∷ cs) h zero less = (c, refl, h.0)
-    part (l ∷ ls) (c ∷ cs) h (suc j) less = part ls cs h.1 j (omega (arith, less))
+-- the core at a place among parts, and its listed variables
+pub part : (lists : List (List ℕ)) (cores : List Core) → AreAllVars lists cores → (i : ℕ) → i < length lists → (core : Core) × (get_or (map Some cores) i None ≡ Some core) × AreVars (get_or lists i []) core
+part [] cores h i less = absurd (omega (arith, less))
+part (l ∷ lists) [] h i less = absurd h
+part (l ∷ lists) (c ∷ cores) h zero less = (c, refl, h.0)
+part (l ∷ lists) (c ∷ cores) h (suc i) less = part lists cores h.1 i (omega (arith, less))
 
 -- as many lists as parts
 pub as-many : (lists : List (List ℕ)) (cores : List Core) → AreAllVars lists cores → length lists ≡ length cores
@@ -87,10 +83,45 @@ core_at-left xs ys (suc i) high =
     let e : suc i ≡ i + 1 = omega arith in
     ap (core_at (xs ++ ys)) e ∙ core_at-next (xs ++ ys) i ∙ get_or_append_left xs ys None i (omega (arith, high)) ∙ sym (core_at-next xs i) ∙ sym (ap (core_at xs) e)
 
-module _ (told : Core → Equation → Type 0) (k new : Kernel) (id : ℕ) (parts : Parts) (lists : List (List ℕ)) (place : ℕ) (come : List ℕ)
+-- Listed variables of parts that come behind the cores of a state, but for those of one id, and what comes to the part at a place, if there
+-- is one, beside what a pending core has.
+pub record AreListed (k : Kernel) (id : ℕ) (parts : Parts) (place unlisted : ℕ) (come : List ℕ) (lists : List (List ℕ)) : Type 0 where
+  pub many : length lists ≡ length parts.cores
+  pub listed : (i : ℕ) → i < length lists → (core : Core) × (get_or (map Some parts.cores) i None ≡ Some core) × ((length k.cores + i + 1 ≡ unlisted → ⊥) → AreVars (get_or lists i []) core)
+  pub from : (v : ℕ) → Contains come v → (1 ≤ v) × (v ≤ length k.view + parts.fresh)
+  pub all : place < length lists → (core : Core) → get_or (map Some parts.cores) place None ≡ Some core → (v : ℕ) → Contains (core_vars core) v → Contains come v ⊎ HasVar k id v
+
+-- the longest of them has no others than those that come, and those of the core that is split
+pub listed-whole : (k : Kernel) (id : ℕ) (parts : Parts) (place : ℕ) (come : List ℕ) (lists : List (List ℕ)) → IsKernel (divided k id parts) → AreAllVars lists parts.cores → IsRest k id lists place come → AreListed k id parts place 0 come lists
+listed-whole k id parts place come lists kernel are rest = record {
+  many = as-many lists parts.cores are;
+  listed = λ i lt. let p = part lists parts.cores are i lt in (p.0, p.1, λ apart. p.2);
+  from = from;
+  all = λ inside core at v there.
+      let p = part lists parts.cores are place inside in
+      let same : p.0 ≡ core = some-of p.0 core (sym p.1 ∙ at) in
+      rest.all inside v ((p.2.exact v).1 (subst (λ (c : Core). Contains (core_vars c) v) (sym same) there));
+}
+  where
+    from : (v : ℕ) → Contains come v → (1 ≤ v) × (v ≤ length k.view + parts.fresh)
+    from v there =
+        let f = rest.from v there in
+        let p = part lists parts.cores are place f.0 in
+        let at : core_at (divided k id parts).cores (length (without k.cores id) + place + 1) ≡ Some p.0 =
+        core_at-next (divided k id parts).cores (length (without k.cores id) + place) ∙ get_or-append-add (without k.cores id) (map Some parts.cores) place None ∙ p.1 in
+        let b = core-bounds (divided k id parts) kernel (length (without k.cores id) + place + 1) p.0 at v ((p.2.exact v).0 f.1) in
+        (b.0, omega (arith, b.1, length-append k.view (own_labels (length k.view + 1) parts.fresh), length-own_labels (length k.view + 1) parts.fresh))
+
+-- what there is after a split
+pub record HasSplit (told : Core → Equation → Type 0) (k new : Kernel) (next : OccurrenceLists) (queue next-queue : Ids) (marks : List Bool) : Type 0 where
+  pub saturation : IsSaturation told new next next-queue marks
+  pub queued : (other : ℕ) → 1 ≤ times other next-queue.queued → (1 ≤ times other queue.queued) ⊎ (length k.cores < other)
+  pub grows : length next-queue.queued + length k.cores ≤ length queue.queued + length new.cores
+
+module _ (told : Core → Equation → Type 0) (k new : Kernel) (id : ℕ) (parts : Parts) (lists : List (List ℕ)) (place unlisted : ℕ) (come : List ℕ)
     (first wide : OccurrenceLists) (queue wide-queue left-queue : Ids) (marks wide-marks left-marks : List Bool)
     (start : IsSaturation told k first queue marks) (wider : IsWider first wide queue wide-queue marks wide-marks) (room : HasRoom k parts.fresh (length come) lists wide wide-queue wide-marks)
-    (at : ArePartsAt k id parts) (are : AreAllVars lists parts.cores) (rest : IsRest k id lists place come) (is : new ≡ divided k id parts)
+    (at : ArePartsAt k id parts) (are : AreListed k id parts place unlisted come lists) (is : new ≡ divided k id parts)
     (queued : left-queue.queued ≡ without_id id wide-queue.queued) (places : left-queue.places ≡ wide-queue.places)
     (ids : IsIds left-queue) (marks-are : left-marks ≡ set wide-marks (id - 1) false) (kernel : IsKernel new)
   where
@@ -110,12 +141,20 @@ module _ (told : Core → Equation → Type 0) (k new : Kernel) (id : ℕ) (part
     front = length-set k.cores (id - 1) None
 
     many : length new.cores ≡ length k.cores + length lists
-    many = ap length cores-are ∙ length-append (without k.cores id) (map Some parts.cores) ∙ (let e = length-map parts.cores (λ (c : Core). Some c) in omega (arith, front, e, as-many lists parts.cores are))
+    many = ap length cores-are ∙ length-append (without k.cores id) (map Some parts.cores) ∙ (let e = length-map parts.cores (λ (c : Core). Some c) in omega (arith, front, e, are.many))
 
-    lists-from : AreVarsFrom new.cores (length k.cores) lists
-    lists-from =
-        subst (λ (cs : List (Option Core)). AreVarsFrom cs (length k.cores) lists) (sym cores-are)
-        (subst (λ (n : ℕ). AreVarsFrom (without k.cores id ++ map Some parts.cores) n lists) front (vars-from (without k.cores id) lists parts.cores are))
+    -- a part stands behind the other cores
+    behind : (i : ℕ) → get_or new.cores (length k.cores + i) None ≡ get_or (map Some parts.cores) i None
+    behind i =
+        ap (λ (cs : List (Option Core)). get_or cs (length k.cores + i) None) cores-are
+        ∙ ap (λ (n : ℕ). get_or (without k.cores id ++ map Some parts.cores) (n + i) None) (sym front)
+        ∙ get_or-append-add (without k.cores id) (map Some parts.cores) i None
+
+    lists-from : AreVarsFrom new.cores (length k.cores) unlisted lists
+    lists-from i lt = let p = are.listed i lt in (p.0, behind i ∙ p.1, p.2)
+
+    view-long : length new.view ≡ length k.view + parts.fresh
+    view-long = ap length view-is ∙ length-append k.view (own_labels (length k.view + 1) parts.fresh) ∙ ap (λ (n : ℕ). length k.view + n) (length-own_labels (length k.view + 1) parts.fresh)
 
     taken : take (length k.cores) new.cores ≡ without k.cores id
     taken =
@@ -131,11 +170,12 @@ module _ (told : Core → Equation → Type 0) (k new : Kernel) (id : ℕ) (part
     empty = ap (λ (cs : List (Option Core)). core_at cs id) taken ∙ core_at-gone k.cores id bounds.0
 
     -- a variable of the core that has gone occurs in it
-    had : place < length lists → (v : ℕ) → Contains (get_or lists place []) v → Contains come v ⊎ Occurs wide v id
+    had : place < length lists → (v : ℕ) → HasVarAt new.cores (length k.cores + place + 1) v → Contains come v ⊎ Occurs wide v id
     had inside v there =
-        ⊎_elim (λ (c : Contains come v). inl c) (λ (h : HasVar k id v). inr ((saturation.listed.there v id (core-bounds k start.kernel id h.0 h.1 v h.2).0).1 h)) (rest.all inside v there)
+        ⊎_elim (λ (c : Contains come v). inl c) (λ (h : HasVar k id v). inr ((saturation.listed.there v id (core-bounds k start.kernel id h.0 h.1 v h.2).0).1 h))
+        (are.all inside there.0 (sym (behind place) ∙ sym (core_at-next new.cores (length k.cores + place)) ∙ there.1) v there.2)
 
-    pub coming : AreComing new (length k.cores) id place come lists wide left-queue
+    pub coming : AreComing new (length k.cores) id place unlisted come lists wide left-queue
     coming = record {
       kernel = kernel;
       listed = lists-from;
@@ -144,18 +184,12 @@ module _ (told : Core → Equation → Type 0) (k new : Kernel) (id : ℕ) (part
       empty = empty;
       stand = stand;
       occurrences = saturation.listed.occurrences;
-      vars = omega (
-        arith,
-        ap length view-is,
-        length-append k.view (own_labels (length k.view + 1) parts.fresh),
-        length-own_labels (length k.view + 1) parts.fresh,
-        room.vars,
-      );
+      vars = omega (arith, view-long, room.vars);
       ids = room.ids;
       room = room.room;
       places = omega (arith, places, room.places);
       queued = ids;
-      from = rest.from;
+      from = λ v there. let f = are.from v there in (f.0, omega (arith, f.1, view-long));
       all = had;
     }
 
@@ -225,13 +259,13 @@ module _ (told : Core → Equation → Type 0) (k new : Kernel) (id : ℕ) (part
               (entered.only other there);
         }
 
-        pub saturation-split : IsSaturation told new next next-queue left-marks
+        saturation-split : IsSaturation told new next next-queue left-marks
         saturation-split =
             saturation-next told k new id first next queue next-queue marks left-marks start goes-split entered.listed queues-split
             (marked-gone k new id marks wide-marks left-marks bounds.0 wider.marks.mark marks-are (omega (arith, many, room.marks)))
 
         -- only the parts come into the queue
-        pub only-parts : (other : ℕ) → 1 ≤ times other next-queue.queued → (1 ≤ times other queue.queued) ⊎ (length k.cores < other)
+        only-parts : (other : ℕ) → 1 ≤ times other next-queue.queued → (1 ≤ times other queue.queued) ⊎ (length k.cores < other)
         only-parts other there =
             ⊎_elim
             (λ (old : 1 ≤ times other left-queue.queued). inl (only-left other old).1)
@@ -239,10 +273,13 @@ module _ (told : Core → Equation → Type 0) (k new : Kernel) (id : ℕ) (part
             (entered.only other there)
 
         -- the queue grows by no more than the cores
-        pub no-more : length next-queue.queued + length k.cores ≤ length queue.queued + length new.cores
+        no-more : length next-queue.queued + length k.cores ≤ length queue.queued + length new.cores
         no-more =
             queue-grows (length k.cores) (length new.cores) queue.queued next-queue.queued (omega (arith, many))
             (λ other there. let p = start.pending other there in let b = there-bounds k.cores other p.0 p.1 in (b.0, omega (arith, b.1, many)))
             (λ other there. let p = saturation-split.pending other there in there-bounds new.cores other p.0 p.1)
             entered.queued.once
             only-parts
+
+        pub has-split : HasSplit told k new next queue next-queue left-marks
+        has-split = record { saturation = saturation-split; queued = only-parts; grows = no-more }

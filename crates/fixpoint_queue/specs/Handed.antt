@@ -5,7 +5,7 @@ use Rattle.core_occurrences.specs.Lists.{OccurrenceLists, Occurs, IsOccurrences}
 use Rattle.step_kernel.specs.Kernel.{Kernel, core_at, IsKernel}
 use Rattle.fixpoint_queue.specs.IdQueue.{Ids, IsIds}
 use Rattle.fixpoint_queue.specs.Listed.{HasVar, IsListed}
-use Rattle.fixpoint_queue.specs.Standing.{StandBut, AreVarsFrom, all_counted}
+use Rattle.fixpoint_queue.specs.Standing.{HasVarAt, StandBut, AreVarsFrom, all_counted}
 
 -- the listed variables at a place, if there is one, are some few and such as a pending core has
 pub record IsRest (k : Kernel) (id : ℕ) (lists : List (List ℕ)) (place : ℕ) (come : List ℕ) : Type 0 where
@@ -26,11 +26,11 @@ abbrev pub Holds : OccurrenceLists → OccurrenceLists → ℕ → ℕ → ℕ �
 Holds old new gone before place count come held =
     (held ≡ 0) ⊎ ((place < count) × (held ≡ before + place + 1) × ((v : ℕ) → 1 ≤ v → Contains come v ⊎ Occurs old v gone → Occurs new v held))
 
--- Listed cores that come behind others, with their variables, and one of them that has no others than one that has gone and some
--- few; there is room for all.
-pub record AreComing (new : Kernel) (before gone place : ℕ) (come : List ℕ) (lists : List (List ℕ)) (occurs : OccurrenceLists) (queue : Ids) : Type 0 where
+-- Listed cores that come behind others, with the variables of all but the one with the id given, and one of them at whose variables
+-- one that has gone stood, but for those that come; there is room for all.
+pub record AreComing (new : Kernel) (before gone place unlisted : ℕ) (come : List ℕ) (lists : List (List ℕ)) (occurs : OccurrenceLists) (queue : Ids) : Type 0 where
   pub kernel : IsKernel new
-  pub listed : AreVarsFrom new.cores before lists
+  pub listed : AreVarsFrom new.cores before unlisted lists
   pub many : length new.cores ≡ before + length lists
   pub bounds : (1 ≤ gone) × (gone ≤ before)
   pub empty : core_at (take before new.cores) gone ≡ None
@@ -41,8 +41,8 @@ pub record AreComing (new : Kernel) (before gone place : ℕ) (come : List ℕ) 
   pub room : all_counted lists + length come ≤ occurs.room
   pub places : before + length lists < queue.places
   pub queued : IsIds queue
-  pub from : (v : ℕ) → Contains come v → (place < length lists) × Contains (slice_index_or lists place []) v
-  pub all : place < length lists → (v : ℕ) → Contains (slice_index_or lists place []) v → Contains come v ⊎ Occurs occurs v gone
+  pub from : (v : ℕ) → Contains come v → (1 ≤ v) × (v ≤ length new.view)
+  pub all : place < length lists → (v : ℕ) → HasVarAt new.cores (before + place + 1) v → Contains come v ⊎ Occurs occurs v gone
 
 -- they have come to their variables and into the queue
 pub record HaveCome (new : Kernel) (before count : ℕ) (occurs : OccurrenceLists) (old_queue queue : Ids) : Type 0 where

@@ -8,6 +8,7 @@ pub mod Saturation
 pub mod Standing
 pub mod Wider
 pub mod Handed
+pub mod Split
 pub mod Pairs
 pub mod Told
 pub mod Taken

@@ -41,10 +41,10 @@ abbrev pub all_counted : List (List ℕ) → ℕ
 all_counted [] = 0
 all_counted (vars ∷ lists) = length vars + all_counted lists
 
--- listed variables are those of the cores behind so many others
-abbrev pub AreVarsFrom : List (Option Core) → ℕ → List (List ℕ) → Type 0
-AreVarsFrom cores before lists = (i : ℕ) → i < length lists →
-    (core : Core) × (slice_index_or cores (before + i) None ≡ Some core) × AreVars (slice_index_or lists i []) core
+-- listed variables are those of the cores behind so many others; what is listed for one id may be anything
+abbrev pub AreVarsFrom : List (Option Core) → ℕ → ℕ → List (List ℕ) → Type 0
+AreVarsFrom cores before held lists = (i : ℕ) → i < length lists →
+    (core : Core) × (slice_index_or cores (before + i) None ≡ Some core) × ((before + i + 1 ≡ held → ⊥) → AreVars (slice_index_or lists i []) core)
 
 -- so many cores more than before stand at their variables, and are in the queue; of one id nothing is said but that it stands
 -- where it stood

@@ -5,6 +5,7 @@ ghost use Rattle.order_ints.specs.Label.{IsLabel};
 ghost use Rattle.index_ring.specs.Lists.{times, without};
 ghost use Rattle.core_forms.specs.declared.equation.Equation.{Equation};
 ghost use Rattle.core_forms.specs.declared.form.Core.{Core};
+ghost use Rattle.core_forms.specs.Plain.{IsPlain};
 ghost use Rattle.core_forms.specs.WellFormed.{IsWellFormed};
 ghost use Rattle.step_kernel.specs.Kernel.{Kernel, trimmed_at, IsKernel};
 ghost use Rattle.ledger_text.specs.declared.line.Line.TheVariants.{Equate};
@@ -39,25 +40,20 @@ enum Answer {
     Silent(bool),
 }
 
-/// Asks a core that is lent, and stands here as the store has it. It is copied where it tells something, and only there.
+/// Asks a core that is lent, and known to be plain. It is copied where it tells something, and only there.
 fn ask_lent<F: Oracle<L>, L: Ledger>(
     alloc: Global,
     oracle: F,
-    state: &State,
-    steps: &mut Steps<L>,
-    id: u32,
     core: &Core,
+    steps: &mut Steps<L>,
 ) -> Result<Answer, AllocError>
-    requires kernel { IsKernel state.now }
-    requires there { trimmed_at state.now id ≡ Some core.now }
+    requires formed { IsWellFormed core.now }
+    requires plain { IsPlain core.now }
     ensures answer { IfOk result (λ answer. IsAnswer F.told core.now answer) }
     ensures most { steps.new ≤ steps.old + 3 }
 {
-    match oracle.ask(alloc, core, steps)? {
-        Some(found) => match state.trimmed(alloc, u64::from(id))? {
-            Some(copy) => Ok(Answer::Told(copy, found)),
-            None => Err(AllocError),
-        },
+    match oracle.ask(alloc, core, true, steps)? {
+        Some(found) => Ok(Answer::Told(core.clone()?, found)),
         None => Ok(Answer::Silent(is_compound(core))),
     }
 }
@@ -73,26 +69,29 @@ fn ask_copy<F: Oracle<L>, L: Ledger>(
     ensures answer { IfOk result (λ answer. IsAnswer F.told copy answer) }
     ensures most { steps.new ≤ steps.old + 3 }
 {
-    match oracle.ask(alloc, &copy, steps)? {
+    match oracle.ask(alloc, &copy, false, steps)? {
         Some(found) => Ok(Answer::Told(copy, found)),
         None => Ok(Answer::Silent(is_compound(&copy))),
     }
 }
 
-/// Asks a pending core: the core itself where the store has it as it was made, and else a copy that is trimmed.
+/// Asks a pending core: the core itself where it is settled, and else a copy that is trimmed.
 fn ask_pending<F: Oracle<L>, L: Ledger>(
     alloc: Global,
     oracle: F,
-    state: &State,
+    state: &mut State,
     steps: &mut Steps<L>,
     id: u32,
 ) -> Result<Answer, AllocError>
     ensures answer { IfOk result (λ answer.
-        (core : Core) × (trimmed_at state.now id ≡ Some core) × IsAnswer F.told core answer) }
+        (core : Core) × (trimmed_at state.old id ≡ Some core) × IsAnswer F.told core answer) }
     ensures most { steps.new ≤ steps.old + 3 }
+    ensures stays { state.new ≡ state.old }
 {
-    if let Some(core) = state.settled(u64::from(id)) {
-        return ask_lent(alloc, oracle, state, steps, id, core);
+    if state.settle(u64::from(id)) {
+        if let Some(core) = state.core(u64::from(id)) {
+            return ask_lent(alloc, oracle, core, steps);
+        }
     }
     match state.trimmed(alloc, u64::from(id))? {
         Some(copy) => ask_copy(alloc, oracle, copy, steps),

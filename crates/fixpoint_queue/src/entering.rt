@@ -1,15 +1,15 @@
 //! Cores that come and go.
 
-ghost use Rattle.std.specs.Prelude.{◌≡◌, ◌≢◌, ◌==◌, ◌+◌, ◌<◌, ◌≤◌, ◌^◌, ℕ, length, take, IfOk, if◌then◌else◌};
+ghost use Rattle.std.specs.Prelude.{◌≡◌, ◌≢◌, ◌==◌, ◌+◌, ◌<◌, ◌≤◌, ◌^◌, ℕ, [], length, take, Contains, IfOk, if◌then◌else◌};
 ghost use Rattle.std.specs.List.{All};
 ghost use Rattle.std.specs.List.Sorted.{IsStrictlyIncreasing};
-ghost use Rattle.core_occurrences.specs.Lists.{Occurs, IsOccurrences, added};
+ghost use Rattle.core_occurrences.specs.Lists.{Occurs, IsOccurrences, added, cores_at};
 ghost use Rattle.step_kernel.specs.Kernel.{IsKernel};
 ghost use Rattle.fixpoint_queue.specs.IdQueue.{IsIds, with_id};
 ghost use Rattle.fixpoint_queue.specs.Standing.{StandBut, AreAllVars, AreVarsFrom, AreEntered, all_counted};
 ghost use Rattle.fixpoint_queue.specs.Handed.{AreComing, HaveCome};
 
-use crate::handing::hand_on;
+use crate::handing::{hand_on, hand_over};
 use crate::id_queue::IdQueue;
 use bee_list::Sequence;
 use core_forms::{Core, variables};
@@ -48,9 +48,9 @@ pub fn enter(occurs: &mut Occurrences, queue: &mut IdQueue, id: u32, vars: &[u32
 /// Puts a core at its variables, unless it holds them already, and into the queue.
 fn enter_next(occurs: &mut Occurrences, queue: &mut IdQueue, held: u32, id: u32, vars: &[u32])
     requires id { (1 ≤ id) × (id ≤ occurs.old.ids) }
-    requires increasing { IsStrictlyIncreasing vars.now }
-    requires vars { All (λ v. (1 ≤ v) × (v ≤ length occurs.old.lists)) vars.now }
     requires occurrences { IsOccurrences occurs.old }
+    requires increasing { id ≢ held → IsStrictlyIncreasing vars.now }
+    requires vars { id ≢ held → All (λ v. (1 ≤ v) × (v ≤ length occurs.old.lists)) vars.now }
     requires fresh { id ≢ held → (v : ℕ) → ¬ Occurs occurs.old v id }
     requires room { length vars.now ≤ occurs.old.room }
     requires place { id < queue.old.places }
@@ -77,7 +77,7 @@ pub fn enter_all(
     lists: &[Sequence<u32>],
 )
     requires kernel { IsKernel state.now }
-    requires lists { AreVarsFrom state.now.cores before lists.now }
+    requires lists { AreVarsFrom state.now.cores before held lists.now }
     requires stand { StandBut held (take before state.now.cores) occurs.old }
     requires occurrences { IsOccurrences occurs.old }
     requires before { before ≤ length state.now.cores }
@@ -107,9 +107,33 @@ pub fn enter_parts(
     come: &[u32],
     lists: &[Sequence<u32>],
 )
-    requires { AreComing state.now before gone place come.now lists.now occurs.old queue.old }
+    requires { AreComing state.now before gone place 0 come.now lists.now occurs.old queue.old }
     ensures { HaveCome state.now before (length lists.now) occurs.new queue.old queue.new }
 {
     let held = hand_on(occurs, gone, before, lists.len(), place, come);
+    enter_all(state, occurs, queue, before, held, lists);
+}
+
+/// Puts the cores of a state that come behind so many others where one of these was at their variables, and into the
+/// queue. The one at a place takes over the occurrences of the one that has gone, and what it has beside them occurs
+/// nowhere; its variables aren't listed.
+pub fn enter_around(
+    state: &State,
+    occurs: &mut Occurrences,
+    queue: &mut IdQueue,
+    before: u32,
+    gone: u32,
+    place: usize,
+    come: &[u32],
+    lists: &[Sequence<u32>],
+)
+    requires coming { AreComing state.now before gone place (before + place + 1) come.now lists.now occurs.old queue.old }
+    requires inside { place < length lists.now }
+    requires increasing { IsStrictlyIncreasing come.now }
+    requires bare { (v : ℕ) → Contains come.now v → cores_at occurs.old v ≡ [] }
+    ensures { HaveCome state.now before (length lists.now) occurs.new queue.old queue.new }
+{
+    let held = before + place as u32 + 1;
+    hand_over(occurs, gone, held, come);
     enter_all(state, occurs, queue, before, held, lists);
 }

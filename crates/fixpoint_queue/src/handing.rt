@@ -115,7 +115,7 @@ fn are_increasing(vars: &[u32]) -> bool
 }
 
 /// Whether variables occur in no core.
-fn are_bare(occurs: &Occurrences, vars: &[u32]) -> bool
+pub fn are_bare(occurs: &Occurrences, vars: &[u32]) -> bool
     requires { (v : ℕ) → Contains vars.now v → (1 ≤ v) × (v ≤ length occurs.now.lists) }
     ensures { IsTrue result → (v : ℕ) → Contains vars.now v → cores_at occurs.now v ≡ [] }
 {
@@ -127,9 +127,26 @@ fn are_bare(occurs: &Occurrences, vars: &[u32]) -> bool
     true
 }
 
-/// Hands the occurrences of a core that has gone on to the one at a place behind others, and adds an occurrence of
-/// each variable that comes, in constant time beside these; or takes the occurrences away, and tells 0, where there
-/// is no such place.
+/// Hands the occurrences of a core that has gone on to another one, which has none, and adds an occurrence of each
+/// variable that comes, in constant time beside these.
+pub fn hand_over(occurs: &mut Occurrences, gone: u32, held: u32, come: &[u32])
+    requires gone { (1 ≤ gone) × (gone < held) }
+    requires ids { held ≤ occurs.old.ids }
+    requires vars { (v : ℕ) → Contains come.now v → (1 ≤ v) × (v ≤ length occurs.old.lists) }
+    requires increasing { IsStrictlyIncreasing come.now }
+    requires bare { (v : ℕ) → Contains come.now v → cores_at occurs.old v ≡ [] }
+    requires room { length come.now ≤ occurs.old.room }
+    requires absent { (v : ℕ) → ¬ Occurs occurs.old v held }
+    ensures handed { IsHanded occurs.old occurs.new gone held }
+    ensures room { occurs.old.room ≤ occurs.new.room + length come.now }
+    ensures holds { (v : ℕ) → 1 ≤ v → Contains come.now v ⊎ Occurs occurs.old v gone → Occurs occurs.new v held }
+{
+    occurs.exchange(gone, held);
+    occurs.add(held, come);
+}
+
+/// Hands the occurrences of a core that has gone on to the one at a place behind others, with those variables that
+/// come; or takes the occurrences away, and tells 0, where there is no such place.
 pub fn hand_on(
     occurs: &mut Occurrences,
     gone: u32,
@@ -150,8 +167,7 @@ pub fn hand_on(
 {
     if place < count && are_increasing(come) && are_bare(occurs, come) {
         let held = before + place as u32 + 1;
-        occurs.exchange(gone, held);
-        occurs.add(held, come);
+        hand_over(occurs, gone, held, come);
         held
     } else {
         occurs.remove(gone);

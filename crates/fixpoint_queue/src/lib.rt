@@ -2,6 +2,7 @@
 #![tactic(auto)]
 
 mod asking;
+mod cutting;
 mod entering;
 mod handing;
 mod having;

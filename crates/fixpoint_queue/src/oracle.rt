@@ -1,7 +1,8 @@
 //! What equations cores tell.
 
-ghost use Rattle.std.specs.Prelude.{◌≡◌, ℕ, ◌+◌, ◌≤◌, IfOk, IfSome, IfNone};
+ghost use Rattle.std.specs.Prelude.{◌≡◌, ℕ, ◌+◌, ◌≤◌, IfOk, IfSome, IfNone, IsTrue};
 ghost use Rattle.core_forms.specs.declared.equation.Equation.{Equation};
+ghost use Rattle.core_forms.specs.Plain.{IsPlain};
 ghost use Rattle.core_forms.specs.WellFormed.{IsWellFormed};
 ghost use Rattle.core_forms.specs.Place.{CoreBelow};
 ghost use Rattle.equation_runs.specs.Turns.{AreToldInTurn, EquationsBelow};
@@ -28,14 +29,17 @@ pub trait Oracle<L: Ledger>: Copy {
 
     /// An equation that is told of a core, with a run of others that it tells one after another, each when its turn
     /// comes, whatever the store has made of the core by then, perhaps none; or `None` where no equation is
-    /// told. So one look at a core that tells many is enough. It counts one step at least and three at most.
+    /// told. So one look at a core that tells many is enough. It counts one step at least and three at most. A core
+    /// may be known to be plain, so that the order of its integers need not be looked at.
     fn ask(
         &self,
         alloc: Global,
         core: &Core,
+        plain: bool,
         steps: &mut Steps<L>,
     ) -> Result<Option<FoundRun>, AllocError>
-        requires { IsWellFormed core.now }
+        requires formed { IsWellFormed core.now }
+        requires plain { IsTrue plain → IsPlain core.now }
         ensures some { IfOk result (λ found. IfSome found (λ first. told core.now first.equation)) }
         ensures run { IfOk result
             (λ found. IfSome found (λ first. AreToldInTurn told core.now first.run.items)) }
@@ -61,6 +65,7 @@ impl<L: Ledger> Oracle<L> for Silent {
         &self,
         _alloc: Global,
         _core: &Core,
+        _plain: bool,
         steps: &mut Steps<L>,
     ) -> Result<Option<FoundRun>, AllocError> {
         steps.tick();
@@ -84,8 +89,10 @@ impl<L: Ledger> Oracle<L> for TableP {
         &self,
         alloc: Global,
         core: &Core,
+        plain: bool,
         steps: &mut Steps<L>,
     ) -> Result<Option<FoundRun>, AllocError> {
+        let _ = plain;
         find(alloc, core, steps)
     }
 }

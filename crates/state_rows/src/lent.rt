@@ -20,11 +20,11 @@ static LENT: [(&str, &str); 6] = [
 ];
 
 /// The ids of the cores that are lent.
-fn lent(alloc: Global, state: &State) -> Result<Vec<u8>, AllocError> {
+fn lent(alloc: Global, state: &mut State) -> Result<Vec<u8>, AllocError> {
     let mut text = Vec::new(alloc);
     for place in 0..state.ids() {
         let id = place + 1;
-        if state.settled(id).is_some() {
+        if state.settle(id) {
             push_blank(&mut text)?;
             push_number(&mut text, u128::from(id))?;
         }
@@ -49,7 +49,7 @@ fn settled_cores_are_lent(rt: HostRuntime) -> io::Result<()> {
         if *text != "start" {
             assert_eq!(rt; apply(&rt, &mut state, text), Ok(()), "{text}");
         }
-        let found = lent(alloc, &state)?;
+        let found = lent(alloc, &mut state)?;
         assert_eq!(rt; found.as_slice(), ids.as_bytes(), "{text}");
     }
     Ok(())

@@ -91,11 +91,14 @@ fn parts_of_lent(rt: &impl Abort, state: &State, id: u64, core: &Core) -> Result
 }
 
 /// The parts of a compound core: of the core itself where it is lent, and else of a copy.
-fn parts_at(rt: &impl Abort, alloc: Global, state: &State, id: u64) -> Result<Parts, AllocError>
-    ensures { IfOk result (λ parts. ArePartsAt state.now id parts) }
+fn parts_at(rt: &impl Abort, alloc: Global, state: &mut State, id: u64) -> Result<Parts, AllocError>
+    ensures parts { IfOk result (λ parts. ArePartsAt state.old id parts) }
+    ensures stays { state.new ≡ state.old }
 {
-    if let Some(core) = state.settled(id) {
-        return parts_of_lent(rt, state, id, core);
+    if state.settle(id) {
+        if let Some(core) = state.core(id) {
+            return parts_of_lent(rt, state, id, core);
+        }
     }
     let core = core_at(rt, alloc, state, id)?;
     assert!(rt; is_compound(&core));

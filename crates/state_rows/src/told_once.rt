@@ -72,6 +72,7 @@ impl<L: Ledger> Oracle<L> for ToldOnce {
         &self,
         alloc: Global,
         core: &Core,
+        _plain: bool,
         steps: &mut Steps<L>,
     ) -> Result<Option<FoundRun>, AllocError> {
         steps.tick();

@@ -27,4 +27,4 @@ pub record IsCutAt (k : Kernel) (id : ℕ) (cut : Cut) : Type 0 where
   pub there : core_at k.cores id ≡ Some core
   pub settled : IsSettledCore k.view core
   pub compound : is_compound_of core ≡ true
-  pub cut : IsCut (length k.view + 1) core (parts_at (length k.view + 1) core) cut
+  pub is : IsCut (length k.view + 1) core (parts_at (length k.view + 1) core) cut

@@ -20,21 +20,23 @@ pub overflow_add-id : goal.overflow_add-id
 overflow_add-id c = omega (arith, c.loop-vars.invariant.id, c.loop-vars-test.true, c.requires.places, c.requires.queued.small)
 
 -- the listed variables, and the core whose they are
-listed : (c : After-as_slice) → (core : Core) × (get_or c.args.state.now.cores (c.args.before + c.loop-vars.vars-index) None ≡ Some core) × AreVars c.as_slice.result.now core
-listed c = listed-at c.args.state.now.cores c.args.before c.args.lists.now c.requires.lists c.loop-vars.vars-index c.loop-vars-test.true c.vars-item.result c.as_slice.result.now c.vars-item.is c.as_slice.ensures
+listed : (c : After-as_slice) →
+    (core : Core) × (get_or c.args.state.now.cores (c.args.before + c.loop-vars.vars-index) None ≡ Some core) × ((c.args.before + c.loop-vars.vars-index + 1 ≡ c.args.held → ⊥) → AreVars c.as_slice.result.now core)
+listed c = listed-at c.args.state.now.cores c.args.before c.args.held c.args.lists.now c.requires.lists c.loop-vars.vars-index c.loop-vars-test.true c.vars-item.result c.as_slice.result.now c.vars-item.is c.as_slice.ensures
 
-range : (c : After-as_slice) → (v : ℕ) → Contains c.as_slice.result.now v → (1 ≤ v) × (v ≤ length c.loop-vars.occurs.lists)
-range c v there =
+range : (c : After-as_slice) → (c.args.before + c.loop-vars.vars-index + 1 ≡ c.args.held → ⊥) → (v : ℕ) → Contains c.as_slice.result.now v → (1 ≤ v) × (v ≤ length c.loop-vars.occurs.lists)
+range c apart v there =
     let l = listed c in
     let bounds = core-bounds c.args.state.now c.requires.kernel (c.args.before + c.loop-vars.vars-index + 1) l.0
-    (core_at-next c.args.state.now.cores (c.args.before + c.loop-vars.vars-index) ∙ l.1) v ((l.2.exact v).0 there) in
+    (core_at-next c.args.state.now.cores (c.args.before + c.loop-vars.vars-index) ∙ l.1) v (((l.2 apart).exact v).0 there) in
     (bounds.0, omega (arith, bounds.1, c.requires.vars, c.loop-vars.invariant.entered.lists))
 
 pub enter_next-requires-clause-increasing : goal.enter_next-requires-clause-increasing
-enter_next-requires-clause-increasing c = (listed c).2.ascending
+enter_next-requires-clause-increasing c = λ apart. ((listed c).2 (λ e. apart (omega (arith, e, c.loop-vars.invariant.id)))).ascending
 
 pub enter_next-requires-clause-vars : goal.enter_next-requires-clause-vars
-enter_next-requires-clause-vars c = all-of (λ (v : ℕ). (1 ≤ v) × (v ≤ length c.loop-vars.occurs.lists)) c.as_slice.result.now (range c)
+enter_next-requires-clause-vars c = λ apart.
+    all-of (λ (v : ℕ). (1 ≤ v) × (v ≤ length c.loop-vars.occurs.lists)) c.as_slice.result.now (range c (λ e. apart (omega (arith, e, c.loop-vars.invariant.id))))
 
 pub enter_next-requires-clause-fresh : goal.enter_next-requires-clause-fresh
 enter_next-requires-clause-fresh c = λ apart.
@@ -49,10 +51,10 @@ pub loop-vars-preserved : goal.loop-vars-preserved
 loop-vars-preserved c =
     let cores = c.args.state.now.cores in
     let n = c.args.before + c.loop-vars.vars-index in
-    let l = listed-at cores c.args.before c.args.lists.now c.requires.lists c.loop-vars.vars-index c.loop-vars-test.true c.vars-item.result c.as_slice.result.now c.vars-item.is c.as_slice.ensures in
-    let bound : (v : ℕ) → Contains c.as_slice.result.now v → v ≤ length c.loop-vars.occurs.lists =
-    λ v there.
-    let bounds = core-bounds c.args.state.now c.requires.kernel (n + 1) l.0 (core_at-next cores n ∙ l.1) v ((l.2.exact v).0 there) in
+    let l = listed-at cores c.args.before c.args.held c.args.lists.now c.requires.lists c.loop-vars.vars-index c.loop-vars-test.true c.vars-item.result c.as_slice.result.now c.vars-item.is c.as_slice.ensures in
+    let bound : (n + 1 ≡ c.args.held → ⊥) → (v : ℕ) → Contains c.as_slice.result.now v → v ≤ length c.loop-vars.occurs.lists =
+    λ apart v there.
+    let bounds = core-bounds c.args.state.now c.requires.kernel (n + 1) l.0 (core_at-next cores n ∙ l.1) v (((l.2 apart).exact v).0 there) in
     omega (arith, bounds.1, c.requires.vars, c.loop-vars.invariant.entered.lists) in
     let id : c.loop-vars.id + 1 ≡ n + 1 = omega (arith, c.loop-vars.invariant.id) in
     let counted = counted-at c.args.lists.now c.loop-vars.vars-index c.vars-item.result c.as_slice.result.now c.loop-vars-test.true c.vars-item.is c.as_slice.ensures in

@@ -1,0 +1,113 @@
+use Rattle.std.proofs.Common.{◌≡◌, ℕ, ◌+◌, ◌≤◌, ◌<◌, ◌^◌, [], List, length, sym, ap, ◌∙◌, subst, arith}
+use Rattle.std.specs.Prelude.{Contains}
+use Rattle.std.specs.List.Sorted.{IsStrictlyIncreasing}
+use Rattle.core_occurrences.specs.Lists.{cores_at}
+use Rattle.part_base.specs.declared.parts.Parts.{Parts}
+use Rattle.core_parts.specs.Parts.{parts_at}
+use Rattle.step_kernel.specs.Kernel.{Kernel, IsKernel}
+use Rattle.step_kernel.specs.SplitAt.{ArePartsAt, IsCutAt}
+use Rattle.step_kernel.specs.Steps.{divided}
+use Rattle.fixpoint_queue.specs.Saturation.{Saturation}
+use Rattle.fixpoint_queue.specs.Handed.{AreComing, HaveCome}
+use Rattle.fixpoint_queue.specs.Split.{IsSplit, AreCutLists, AreFrom}
+use Rattle.fixpoint_queue.specs.Waits.{IsSaturation}
+use Rattle.fixpoint_queue.specs.Wider.{HasRoom}
+use Rattle.fixpoint_queue.proofs.Cuttings.{cut-bound, cut-fresh, cut-parts, from-increasing, from-inside, rest-inside, parts-listed}
+use Rattle.fixpoint_queue.proofs.Splittings.{AreListed, HasSplit, divided-is, kernel-split, coming, has-split}
+use Rattle.fixpoint_queue.proofs.Widened.{saturation-wider}
+use Rattle.fixpoint_queue.proofs.runner.Runner.split_cut.Given
+use Rattle.fixpoint_queue.proofs.runner.Runner.split_cut.Goals as goal
+use Rattle.fixpoint_queue.proofs.runner.Runner.split_cut.Goals.{After-lists_of_cut, After-as_slice-2, After-as_slice-4, After-enter_around}
+
+-- ---- how the core is cut, and room for its parts
+
+is-cut : (g : Given.Over) (c : After-lists_of_cut g) → IsCutAt c.self.inside.state c.args.id c.args.cut
+is-cut g c = subst (λ (r : Saturation). IsCutAt r.kernel c.args.id c.args.cut) (sym c.self.view_is) c.requires.cut
+
+few : (g : Given.Over) (c : After-lists_of_cut g) → length c.self.inside.state.view + c.args.cut.fresh ≤ 2 ^ 27
+few g c = cut-bound c.self.inside.state c.args.id c.args.cut c.self.invariant.kernel (is-cut g c)
+
+pub variables_from-requires : goal.variables_from-requires
+variables_from-requires g c = omega (arith, few g (goal.at.variables_from-requires g c).After-lists_of_cut, c.vars.ensures.vars)
+
+pub make_room-requires-clause-vars : goal.make_room-requires-clause-vars
+make_room-requires-clause-vars g c = omega (arith, few g (goal.at.make_room-requires-clause-vars g c).After-lists_of_cut)
+
+fresh : (g : Given.Over) (c : After-as_slice-2 g) → AreFrom (length c.self.inside.state.view + 1) c.args.cut.fresh c.as_slice-2.result.now
+fresh g c =
+    subst (λ (n : ℕ). AreFrom (n + 1) c.args.cut.fresh c.as_slice-2.result.now) c.vars.ensures.vars
+    (subst (AreFrom (c.vars.result + 1) c.args.cut.fresh) (sym c.as_slice-2.ensures.value) c.in_ok-come.ensures)
+
+pub are_bare-requires : goal.are_bare-requires
+are_bare-requires g c = λ v there.
+    let b = from-inside (length c.self.inside.state.view + 1) c.args.cut.fresh c.as_slice-2.result.now (fresh g (goal.at.are_bare-requires g c).After-as_slice-2) v there in
+    (omega (arith, b.0), omega (arith, b.1, c.in_ok-make_room.ensures.room.vars))
+
+pub invariant_of-self : goal.invariant_of-self
+invariant_of-self g c =
+    saturation-wider g.F.Oracle.told c.self.inside.state c.self.inside.occurs c.make_room.new.occurs c.self.inside.queue c.make_room.new.queue c.self.inside.marks c.make_room.new.marks c.self.invariant c.make_room.ensures.wider
+
+-- ---- what stands before the parts come
+
+parts : (g : Given.Over) (c : After-as_slice-4 g) → Parts
+parts g c = parts_at (length c.self.inside.state.view + 1) (is-cut g c.After-lists_of_cut).core
+
+at : (g : Given.Over) (c : After-as_slice-4 g) → ArePartsAt c.self.inside.state c.args.id (parts g c)
+at g c = cut-parts c.self.inside.state c.args.id c.args.cut (is-cut g c.After-lists_of_cut)
+
+is-divided : (g : Given.Over) (c : After-as_slice-4 g) → c.split_cut.new.self ≡ divided c.self.inside.state c.args.id (parts g c)
+is-divided g c =
+    divided-is c.self.inside.state c.split_cut.new.self c.args.id (parts g c) (ap (λ (r : Saturation). r.kernel.bottom) c.self.view_is ∙ c.requires.running) (at g c) c.in_ok-split_cut.ensures.step
+
+kernel : (g : Given.Over) (c : After-as_slice-4 g) → IsKernel c.split_cut.new.self
+kernel g c = kernel-split c.self.inside.state c.split_cut.new.self c.args.id c.self.invariant.kernel c.in_ok-split_cut.ensures.step
+
+from : (g : Given.Over) (c : After-as_slice-4 g) → AreFrom (length c.self.inside.state.view + 1) c.args.cut.fresh c.as_slice-3.result.now
+from g c = subst (AreFrom (length c.self.inside.state.view + 1) c.args.cut.fresh) (c.as_slice-2.ensures.value ∙ sym c.as_slice-3.ensures.value) (fresh g c.After-as_slice-2)
+
+lists : (g : Given.Over) (c : After-as_slice-4 g) → AreCutLists c.as_slice-4.result.now c.args.cut
+lists g c = subst (λ (l : List (List ℕ)). AreCutLists l c.args.cut) (sym c.as_slice-4.ensures.value) c.in_ok-lists.ensures
+
+has-room : (g : Given.Over) (c : After-as_slice-4 g) → HasRoom c.self.inside.state (parts g c).fresh (length c.as_slice-3.result.now) c.as_slice-4.result.now c.make_room.new.occurs c.make_room.new.queue c.make_room.new.marks
+has-room g c =
+    subst (λ (n : ℕ). HasRoom c.self.inside.state n (length c.as_slice-3.result.now) c.as_slice-4.result.now c.make_room.new.occurs c.make_room.new.queue c.make_room.new.marks) (cut-fresh c.self.inside.state c.args.id c.args.cut (is-cut g c.After-lists_of_cut))
+    (subst (λ (n : ℕ). HasRoom c.self.inside.state c.args.cut.fresh n c.as_slice-4.result.now c.make_room.new.occurs c.make_room.new.queue c.make_room.new.marks) (sym (from g c).many)
+    (subst (λ (l : List (List ℕ)). HasRoom c.self.inside.state c.args.cut.fresh c.args.cut.fresh l c.make_room.new.occurs c.make_room.new.queue c.make_room.new.marks)
+    (c.as_slice.ensures.value ∙ sym c.as_slice-4.ensures.value) c.in_ok-make_room.ensures.room))
+
+are-listed : (g : Given.Over) (c : After-as_slice-4 g) → AreListed c.self.inside.state c.args.id (parts g c) (length c.args.cut.front) (length c.self.inside.state.cores + length c.args.cut.front + 1) c.as_slice-3.result.now c.as_slice-4.result.now
+are-listed g c = parts-listed c.self.inside.state c.args.id c.args.cut c.as_slice-4.result.now c.as_slice-3.result.now (is-cut g c.After-lists_of_cut) (lists g c) (from g c)
+
+pub enter_around-requires-clause-coming : goal.enter_around-requires-clause-coming
+enter_around-requires-clause-coming g c =
+    let d = (goal.at.enter_around-requires-clause-coming g c).After-as_slice-4 in
+    subst (λ (p : ℕ). AreComing c.split_cut.new.self c.ids-before.result c.args.id p (c.ids-before.result + p + 1) c.as_slice-3.result.now c.as_slice-4.result.now c.make_room.new.occurs c.leave_queue.new.queue) (sym c.len-place.ensures)
+    (subst (λ (n : ℕ). AreComing c.split_cut.new.self n c.args.id (length c.args.cut.front) (n + length c.args.cut.front + 1) c.as_slice-3.result.now c.as_slice-4.result.now c.make_room.new.occurs c.leave_queue.new.queue) (sym c.ids-before.ensures.ids)
+    (coming g.F.Oracle.told c.self.inside.state c.split_cut.new.self c.args.id (parts g d) c.as_slice-4.result.now (length c.args.cut.front) (length c.self.inside.state.cores + length c.args.cut.front + 1) c.as_slice-3.result.now
+    c.self.inside.occurs c.make_room.new.occurs c.self.inside.queue c.make_room.new.queue c.leave_queue.new.queue c.self.inside.marks c.make_room.new.marks c.leave_queue.new.marks
+    c.self.invariant c.make_room.ensures.wider (has-room g d) (at g d) (are-listed g d) (is-divided g d)
+    c.leave_queue.ensures.queued c.leave_queue.ensures.places c.leave_queue.ensures.ids c.leave_queue.ensures.marks (kernel g d)))
+
+pub enter_around-requires-clause-inside : goal.enter_around-requires-clause-inside
+enter_around-requires-clause-inside g c =
+    let d = (goal.at.enter_around-requires-clause-inside g c).After-as_slice-4 in
+    omega (arith, c.len-place.ensures, rest-inside c.self.inside.state c.args.id c.args.cut c.as_slice-4.result.now c.as_slice-3.result.now (is-cut g d.After-lists_of_cut) (lists g d) (from g d))
+
+pub enter_around-requires-clause-increasing : goal.enter_around-requires-clause-increasing
+enter_around-requires-clause-increasing g c =
+    from-increasing (length c.self.inside.state.view + 1) c.args.cut.fresh c.as_slice-3.result.now (from g (goal.at.enter_around-requires-clause-increasing g c).After-as_slice-4)
+
+pub enter_around-requires-clause-bare : goal.enter_around-requires-clause-bare
+enter_around-requires-clause-bare g c =
+    subst (λ (l : List ℕ). (v : ℕ) → Contains l v → cores_at c.make_room.new.occurs v ≡ []) (c.as_slice-2.ensures.value ∙ sym c.as_slice-3.ensures.value) (c.are_bare.ensures c.if-are_bare.false)
+
+-- ---- and after that
+
+split : (g : Given.Over) (c : After-enter_around g) → HasSplit g.F.Oracle.told c.self.inside.state c.split_cut.new.self c.enter_around.new.occurs c.self.inside.queue c.enter_around.new.queue c.leave_queue.new.marks
+split g c =
+    let d = c.After-as_slice-4 in
+    has-split g.F.Oracle.told c.self.inside.state c.split_cut.new.self c.args.id (parts g d) c.as_slice-4.result.now (length c.args.cut.front) (length c.self.inside.state.cores + length c.args.cut.front + 1) c.as_slice-3.result.now
+    c.self.inside.occurs c.make_room.new.occurs c.self.inside.queue c.make_room.new.queue c.leave_queue.new.queue c.self.inside.marks c.make_room.new.marks c.leave_queue.new.marks
+    c.self.invariant c.make_room.ensures.wider (has-room g d) (at g d) (are-listed g d) (is-divided g d)
+    c.leave_queue.ensures.queued c.leave_queue.ensures.places c.leave_queue.ensures.ids c.leave_queue.ensures.marks (kernel g d) c.enter_around.new.occurs c.enter_around.new.queue
+    (subst (λ (n : ℕ). HaveCome c.split_cut.new.self n (length c.as_slice-4.result.now) c.enter_around.new.occurs c.leave_queue.new.queue c.enter_around.new.queue) c.ids-before.ensures.ids c.enter_around.ensures)

@@ -6,4 +6,5 @@ pub mod CnfOf
 pub mod Least
 pub mod Pieces
 pub mod Cursor
+pub mod SettledMarks
 pub mod SplitAt

@@ -8,6 +8,7 @@ mod cursor;
 mod fault;
 pub mod laws;
 mod lists;
+mod settled_marks;
 mod state;
 mod steps;
 

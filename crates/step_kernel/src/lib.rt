@@ -5,6 +5,7 @@
 mod clause_list;
 mod cnf;
 mod cursor;
+mod cuts;
 mod fault;
 pub mod laws;
 mod lists;

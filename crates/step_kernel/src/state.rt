@@ -16,9 +16,10 @@ ghost use Rattle.step_kernel.specs.Least.{least_of, least_compound_of};
 use crate::clause_list::ClauseList;
 use crate::fault::{ApplyFault, StepFault};
 use crate::lists::all_pending;
+use crate::settled_marks::SettledMarks;
 use bee_list::Sequence;
 use clause_order::OrderedClauses;
-use core_forms::{Core, Equation, is_basic, trim};
+use core_forms::{Core, Equation, is_basic, is_settled, trim};
 use core_parts::{is_compound, parts};
 use core_rules::is_instance;
 use equation_store::{EqStore, Merged};
@@ -37,6 +38,7 @@ pub struct State {
     pub(crate) clauses: ClauseList,
     pub(crate) bottom: bool,
     pub(crate) first: usize,
+    pub(crate) settled: SettledMarks,
 }
 
 impl Model for State {
@@ -47,7 +49,7 @@ impl Model for State {
 
     ghost view = { λ s. kernel_of s.store s.cores.items s.clauses s.bottom };
 
-    ghost invariant = { λ s. IsState (kernel_of s.store s.cores.items s.clauses s.bottom) s.first };
+    ghost invariant = { λ s. IsState (kernel_of s.store s.cores.items s.clauses s.bottom) s.first s.settled };
 }
 
 impl State {
@@ -102,6 +104,17 @@ impl State {
         self.cores[id as usize - 1].as_ref()
     }
 
+    /// Whether there is a pending core at a place that is seen to be settled.
+    fn is_settled_at(&self, place: usize) -> bool
+        requires { place < length self.now.cores }
+        ensures { IsTrue result → IsSettledAt self.now (place + 1) }
+    {
+        match &self.cores[place] {
+            Some(core) => self.settled.is_marked(place) || is_settled(core, self.store.view()),
+            None => false,
+        }
+    }
+
     /// Whether the pending core with an id is seen to be settled, so that nothing is to be trimmed and its order tells nothing.
     /// It takes one pass over the core, and constant time where that was seen before and no equation has been made since, or where
     /// the core is what is left of such a one that was split at its front.
@@ -110,8 +123,15 @@ impl State {
         ensures stays { self.new ≡ self.old }
         ensures kernel { IsKernel self.old }
     {
-        let _ = id;
-        false
+        if id == 0 || id > self.cores.len() as u64 {
+            return false;
+        }
+        let place = id as usize - 1;
+        let is = self.is_settled_at(place);
+        if is {
+            self.settled.mark(place);
+        }
+        is
     }
 
     /// The pending core with an id, as the store has it. It takes the time and the memory of its size.
@@ -136,12 +156,15 @@ impl State {
     {
         let store = EqStore::with(alloc, vars)?;
         let cores = all_pending(alloc, cores)?;
+        let mut settled = SettledMarks::new(alloc);
+        settled.grow(cores.len())?;
         Ok(State {
             store,
             cores,
             clauses: ClauseList::new(alloc),
             bottom: false,
             first: 0,
+            settled,
         })
     }
 

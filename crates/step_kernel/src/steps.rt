@@ -1,18 +1,17 @@
 //! The three kinds of step.
 
-ghost use Rattle.std.specs.Prelude.{◌≡◌, ◌+◌, ◌^◌, ◌≤◌, true, length, Some, false, Ok, IfOk, IfSome, OnOk, OnErr, IfErr};
+ghost use Rattle.std.specs.Prelude.{◌≡◌, ◌+◌, ◌^◌, ◌≤◌, true, length, Some, false, Ok, IfOk, OnOk, OnErr, IfErr};
 ghost use Rattle.order_ints.specs.Label.{IsLabel};
 ghost use Rattle.core_forms.specs.Basic.{is_basic_of};
 ghost use Rattle.core_forms.specs.Cost.{cost_of};
 ghost use Rattle.core_forms.specs.Place.{CoreBelow};
-ghost use Rattle.core_forms.specs.Settled.{IsSettledCore};
 ghost use Rattle.core_forms.specs.WellFormed.{IsWellFormed};
 ghost use Rattle.ledger_text.specs.declared.line.Line.TheVariants.{Equate, Split, Encode};
-ghost use Rattle.step_kernel.specs.Kernel.{core_at, trimmed_at, IsKernel};
+ghost use Rattle.step_kernel.specs.Kernel.{trimmed_at, IsKernel};
 ghost use Rattle.step_kernel.specs.Instances.{IsInstanceAt};
 ghost use Rattle.step_kernel.specs.Models.{Keeps};
 ghost use Rattle.core_parts.specs.Parts.{parts_at, is_compound_of};
-ghost use Rattle.step_kernel.specs.SplitAt.{ArePartsAt, IsCutAt};
+ghost use Rattle.step_kernel.specs.SplitAt.{ArePartsAt};
 ghost use Rattle.step_kernel.specs.Steps.{id_of, equated, divided, encoded, step_at, step, IsFaultOf};
 
 use crate::cursor::take_out;
@@ -25,7 +24,7 @@ use core_rules::is_instance;
 use direct_encode::clauses;
 use equation_store::Merged;
 use ledger_text::Line;
-use part_base::{Cut, Parts};
+use part_base::Parts;
 use std::alloc::{AllocError, Global};
 
 /// The id that a line names.
@@ -48,6 +47,7 @@ impl State {
         if let Merged::Clash = self.store.merge(e.a, e.b) {
             self.bottom = true;
         }
+        self.settled.clear();
     }
 
     /// Takes a core, which stands here as the store has it, out of the pending ones and puts its clauses
@@ -78,6 +78,7 @@ impl State {
         let Parts { cores, fresh } = parts;
         let mut cores = all_pending(alloc, cores.into_vec())?;
         self.cores.reserve(cores.len())?;
+        self.settled.grow(cores.len())?;
         self.store.grow(fresh)?;
         self.cores.append(&mut cores).unwrap();
         self.first = take_out(&mut self.cores, id, self.first);
@@ -250,29 +251,5 @@ impl State {
     {
         let alloc = *self.cores.allocator();
         self.divide(alloc, id, parts)
-    }
-
-    /// How a compound core that is settled is split at its front, where it is a long list.
-    pub fn cut_of(&self, id: u64, core: &Core) -> Result<Option<Cut>, AllocError>
-        requires there { core_at self.now.cores id ≡ Some core.now }
-        requires settled { IsSettledCore self.now.view core.now }
-        requires compound { is_compound_of core.now ≡ true }
-        ensures { IfOk result (λ made. IfSome made (λ cut. IsCutAt self.now id cut)) }
-    {
-        let _ = (id, core);
-        Ok(None)
-    }
-
-    /// Makes the step of a split of a core that is cut at its front: what is left of its list is made of the core itself. Where memory
-    /// is wanting, the state stays as it was. It takes the time of what leaves and comes.
-    pub fn split_cut(&mut self, id: u64, cut: Cut) -> Result<(), AllocError>
-        requires kernel { IsKernel self.old }
-        requires running { self.old.bottom ≡ false }
-        requires cut { IsCutAt self.old id cut }
-        ensures step { OnOk result (step self.old (Split id) ≡ Ok self.new) }
-        ensures stays { OnErr result (self.new ≡ self.old) }
-    {
-        let _ = (id, cut);
-        Err(AllocError)
     }
 }

@@ -12,3 +12,4 @@ pub mod MergeStands
 pub mod NetworkLaws
 pub mod Turns
 pub mod TakenLaws
+pub mod CutLaws

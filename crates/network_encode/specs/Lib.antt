@@ -1,4 +1,5 @@
 pub mod AtomParts
+pub mod AtomCuts
 pub mod CountParts
 pub mod MergeParts
 pub mod NetworkParts

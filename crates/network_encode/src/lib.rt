@@ -3,6 +3,7 @@
 #![tactic(auto)]
 
 mod counts;
+mod cuts;
 pub mod laws;
 mod members;
 mod merges;
@@ -10,4 +11,5 @@ mod split;
 mod units;
 mod wires;
 
+pub use cuts::cut;
 pub use split::{parts, parts_from};

@@ -20,11 +20,15 @@ pub(crate) fn fresh_atom(var: u32) -> Atom
     })
 }
 
-/// The members of a list, and an atom behind them.
-fn with_last(alloc: Global, atoms: &[Atom], last: Atom) -> Result<Sequence<Atom>, AllocError>
+/// The members of a list, and an atom behind them. It takes memory once.
+pub(crate) fn with_last(
+    alloc: Global,
+    atoms: &[Atom],
+    last: Atom,
+) -> Result<Sequence<Atom>, AllocError>
     ensures { IfOk result (λ all. all ≡ atoms.now ++ last ∷ []) }
 {
-    let mut all = Vec::with_capacity(alloc, atoms.len())?;
+    let mut all = Vec::with_capacity(alloc, atoms.len() + 1)?;
     all.extend_from_slice(atoms)?;
     all.push(last)?;
     Ok(Sequence::from_vec(all))

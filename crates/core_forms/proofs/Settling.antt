@@ -1,23 +1,21 @@
 -- What is settled stays as it is.
-use Rattle.std.proofs.Common.{◌≡◌, ℕ, ◌+◌, Bool, false, List, [], ◌∷◌, ◌++◌, map, drop, length, get_or, ℤ, pos, neg_ℤ, ◌+ℤ◌, refl, ap, ◌∙◌, arith}
+use Rattle.std.proofs.Common.{◌≡◌, ℕ, ◌+◌, Bool, false, List, [], ◌∷◌, map, drop, get_or, ℤ, pos, neg_ℤ, ◌+ℤ◌, refl, ap, ◌∙◌, arith}
 use Rattle.std.specs.Prelude.{if◌then◌else◌}
 use Rattle.std.proofs.lemmas.Int.{ints}
 use Rattle.order_ints.specs.declared.atom.Atom.{Atom}
 use Rattle.order_ints.specs.declared.atom.Atom.TheVariants.{True, False, Of}
 use Rattle.order_ints.specs.declared.order_int.OrdInt.{OrdInt}
-use Rattle.order_ints.specs.Truth.{not_atom}
-use Rattle.order_ints.specs.Label.{own_labels, with_own_labels}
-use Rattle.order_ints.specs.Place.{AtomBelow}
+use Rattle.order_ints.specs.Label.{with_own_labels}
 use Rattle.order_ints.specs.Same.{is_true, is_false, same_atom}
 use Rattle.order_ints.specs.OrderChange.{shifted_of}
-use Rattle.order_ints.specs.View.{label_of, resolve}
-use Rattle.order_ints.proofs.Labels.{label_of-old}
+use Rattle.order_ints.specs.View.{resolve}
+use Rattle.order_ints.proofs.Labels.{resolve-more}
 use Rattle.core_forms.specs.declared.form.Core.{Core}
 use Rattle.core_forms.specs.declared.form.Core.TheVariants.{Ladder, Clause, Parity, Conj, Comp, LeqR, EqR, Sum3, Count, Sum, Max, AllDiff, Amo, Prod, DivMod, Lex}
 use Rattle.core_forms.specs.Contents.{ints_of, atoms_of}
 use Rattle.core_forms.specs.Place.{CoreBelow}
 use Rattle.core_forms.specs.Each.{EachOf, EachStep, EachInt, EachAtom}
-use Rattle.core_forms.specs.Plain.{IsLiteral, AreLiterals, ArePlainBehind, IsPlainInt, ArePlainInts, IsPlain}
+use Rattle.core_forms.specs.Plain.{IsLiteral, AreLiterals, ArePlainBehind, ArePlainInts}
 use Rattle.core_forms.specs.Resolved.{map_steps, map_int, map_ints}
 use Rattle.core_forms.specs.Settled.{IsSettled, AreSettled, AreSettledBehind, IsSettledInt, AreSettledInts, IsSettledCore}
 use Rattle.core_forms.specs.Trimmed.{without_false, without_constants, constant_trues, turned, merged_steps, raised_by, tidied_int, tidied_ints, trimmed_core}
@@ -241,18 +239,12 @@ module _ (P Q R : Atom → Type 0) (both : (a : Atom) → P a → Q a → R a) w
   both_each : (core : Core) → EachAtom P core → EachAtom Q core → EachAtom R core
   both_each core p q = (both_of (atoms_of core) p.0 q.0, both_ints (ints_of core) p.1 q.1)
 
-resolved_further : (view : List Atom) (count : ℕ) (a : Atom) → AtomBelow (length view + 1) a → resolve (with_own_labels view count) a ≡ resolve view a
-resolved_further view count True below = refl
-resolved_further view count False below = refl
-resolved_further view count (Of l) below =
-    ap (λ (b : Atom). if l.positive then b else not_atom b) (label_of-old view (own_labels (length view + 1) count) l.var below.0 (omega (arith, below.1)))
-
--- a settled core is settled when further variables come
-pub settled_further : (view : List Atom) (count : ℕ) (core : Core) → CoreBelow (length view + 1) core → IsSettledCore view core → IsSettledCore (with_own_labels view count) core
-settled_further view count core below h = record {
+-- a settled core is settled when further variables come, also where it has some of these
+pub settled_further : (view : List Atom) (count n : ℕ) (core : Core) → CoreBelow n core → IsSettledCore view core → IsSettledCore (with_own_labels view count) core
+settled_further view count n core below h = record {
   plain = h.plain;
   each =
       both_each (λ a. resolve (with_own_labels view count) a ≡ resolve view a) (λ a. resolve view a ≡ a) (λ a. resolve (with_own_labels view count) a ≡ a) (λ a p q. p ∙ q) core
-      (each_below (length view + 1) (λ a. resolve (with_own_labels view count) a ≡ resolve view a) (resolved_further view count) core below)
+      (each_below n (λ a. resolve (with_own_labels view count) a ≡ resolve view a) (resolve-more view count n) core below)
       h.each;
 }

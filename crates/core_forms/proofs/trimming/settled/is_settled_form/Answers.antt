@@ -1,4 +1,4 @@
-use Rattle.std.proofs.Common.{◌≡◌, refl, sym, subst}
+use Rattle.std.proofs.Common.{refl, sym, subst}
 use Rattle.core_forms.specs.Settled.{IsSettledCore}
 use Rattle.core_forms.proofs.Settling.{parity_core, amo_core, count_core, sum_core, different_core, words_core}
 use Rattle.core_forms.proofs.trimming.settled.is_settled_form.Goals as goal

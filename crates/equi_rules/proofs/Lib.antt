@@ -8,3 +8,4 @@ pub mod RowFound
 pub mod OrderFound
 pub mod Places
 pub mod Found
+pub mod PlainLaws

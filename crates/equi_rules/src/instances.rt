@@ -2,7 +2,9 @@
 
 ghost use Rattle.std.specs.Prelude.{◌≡◌, ◌+◌, ◌↔◌, true, false, IsNone, IfSome};
 ghost use Rattle.core_forms.specs.declared.equation.Equation.{Equation};
+ghost use Rattle.core_forms.specs.Plain.{IsPlain};
 ghost use Rattle.core_forms.specs.WellFormed.{IsWellFormed};
+ghost use Rattle.rule_base.specs.declared.sought.Sought.TheVariants.{Apart};
 ghost use Rattle.rule_base.specs.Pairs.{first_sought};
 ghost use Rattle.rule_base.specs.Found.{IsImplied};
 ghost use Rattle.equi_rules.specs.Instances.{form_equations, equations_of, found_at, is_instance_of};
@@ -80,6 +82,49 @@ pub fn find<L: Ledger>(core: &Core, steps: &mut Steps<L>) -> Option<Equation>
 {
     steps.tick();
     found(core)
+}
+
+/// The equation of a plain core's form.
+fn by_plain_form(core: &Core) -> Option<(Atom, Atom)>
+    requires { IsPlain core.now }
+    ensures { result ≡ first_sought Apart (form_equations core.now) }
+{
+    match core {
+        Core::Parity(atoms, odd) => by_parity(Sought::Apart, atoms.as_slice(), *odd),
+        _ => None,
+    }
+}
+
+/// The equation that is found of a plain core: by its form alone.
+fn found_plain(core: &Core) -> Option<Equation>
+    requires { IsPlain core.now }
+    ensures { result ≡ found_at core.now }
+{
+    let (a, b) = by_plain_form(core)?;
+    Some(Equation {
+        rule: Rule::Form,
+        a,
+        b,
+    })
+}
+
+/// An equation of a plain core, as `find` gives it: the order of its integers states none, and of the forms
+/// that may have long lists only a parity of at most two members states one here. It counts one step, and
+/// takes constant time.
+pub fn find_plain<L: Ledger>(core: &Core, steps: &mut Steps<L>) -> Option<Equation>
+    requires { IsPlain core.now }
+    ensures shape { result ≡ found_at core.now }
+
+    // What is found is an instance, and the core implies it.
+    ensures instance { IfSome result (λ e. is_instance_of core.now e ≡ true) }
+    ensures implied { IfSome result (λ e. IsImplied core.now e) }
+
+    // Nothing is found exactly where there is no instance.
+    ensures none { IsNone result ↔ ((e : Equation) → is_instance_of core.now e ≡ false) }
+    ensures steps { steps.new ≡ steps.old + 1 }
+{
+    steps.tick();
+    found_plain(core)
 }
 
 /// Whether an equation is one that a rule of this crate states of a core. Its time is that of `find`.

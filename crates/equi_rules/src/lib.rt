@@ -9,4 +9,4 @@ mod instances;
 pub mod laws;
 mod order;
 
-pub use instances::{find, is_instance};
+pub use instances::{find, find_plain, is_instance};

@@ -1,10 +1,12 @@
 //! An equation of any rule, with the run that the same look at the core tells.
 
-ghost use Rattle.std.specs.Prelude.{◌≡◌, ℕ, ◌+◌, ◌≤◌, true, IfOk, IfSome, IfNone};
+ghost use Rattle.std.specs.Prelude.{◌≡◌, ℕ, ◌+◌, ◌≤◌, ◌↔◌, true, false, IsTrue, IsNone, IfOk, IfSome, IfNone};
 ghost use Rattle.core_forms.specs.declared.equation.Equation.{Equation};
 ghost use Rattle.core_forms.specs.WellFormed.{IsWellFormed};
+ghost use Rattle.core_forms.specs.Plain.{IsPlain};
 ghost use Rattle.core_forms.specs.Place.{CoreBelow};
 ghost use Rattle.equation_runs.specs.Turns.{AreToldInTurn, EquationsBelow};
+ghost use Rattle.equi_rules.specs.Instances.{is_instance_of as is_equi_instance};
 ghost use Rattle.alldiff_rules.specs.Instances.{is_instance_of as is_alldiff_instance};
 ghost use Rattle.arith_rules.specs.Instances.{is_instance_of as is_arith_instance};
 ghost use Rattle.core_rules.specs.Instances.{is_instance_at, is_form_instance, is_order_or_form};
@@ -78,20 +80,39 @@ fn by_form<L: Ledger>(
     }
 }
 
-/// An equation that a core states by the order of its integers or by its form. It counts one step or two.
+/// An equation that a core states by the rules of `equi_rules`. Where the core is known to be plain, its order
+/// is not looked at.
+fn by_equality<L: Ledger>(core: &Core, plain: bool, steps: &mut Steps<L>) -> Option<Equation>
+    requires well_formed { IsWellFormed core.now }
+    requires plain { IsTrue plain → IsPlain core.now }
+    ensures some { IfSome result (λ e. is_equi_instance core.now e ≡ true) }
+    ensures none { IsNone result ↔ ((e : Equation) → is_equi_instance core.now e ≡ false) }
+    ensures steps { steps.new ≡ steps.old + 1 }
+{
+    if plain {
+        equi_rules::find_plain(core, steps)
+    } else {
+        equi_rules::find(core, steps)
+    }
+}
+
+/// An equation that a core states by the order of its integers or by its form; `plain` is as `find` has it. It
+/// counts one step or two.
 fn by_order_or_form<L: Ledger>(
     alloc: Global,
     core: &Core,
+    plain: bool,
     steps: &mut Steps<L>,
 ) -> Result<Option<Equation>, AllocError>
-    requires { IsWellFormed core.now }
+    requires well_formed { IsWellFormed core.now }
+    requires plain { IsTrue plain → IsPlain core.now }
     ensures some { IfOk result (λ found. IfSome found (λ e. is_instance_at core.now e ≡ true)) }
     ensures none { IfOk result
         (λ found. IfNone found ((e : Equation) → is_order_or_form core.now e ≡ true → ⊥)) }
     ensures least { steps.old + 1 ≤ steps.new }
     ensures most { steps.new ≤ steps.old + 2 }
 {
-    match equi_rules::find(core, steps) {
+    match by_equality(core, plain, steps) {
         Some(e) => Ok(Some(e)),
         None => by_form(alloc, core, steps),
     }
@@ -143,14 +164,17 @@ fn by_table<L: Ledger>(
 }
 
 /// An instance of any rule at a core, by the rules Order, Form and Table in this order, with the run of the core where it was
-/// found by one of the first two; `None` exactly where there is no instance. It counts one step for each of the crates of
-/// rules that it asks, and one for the run: three at most.
+/// found by one of the first two; `None` exactly where there is no instance. `plain` tells whether the core is known to be
+/// plain, so that its order is not looked at. It counts one step for each of the crates of rules that it asks, and
+/// one for the run: three at most.
 pub fn find<L: Ledger>(
     alloc: Global,
     core: &Core,
+    plain: bool,
     steps: &mut Steps<L>,
 ) -> Result<Option<FoundRun>, AllocError>
-    requires { IsWellFormed core.now }
+    requires well_formed { IsWellFormed core.now }
+    requires plain { IsTrue plain → IsPlain core.now }
     ensures some { IfOk result
         (λ found. IfSome found (λ first. is_instance_at core.now first.equation ≡ true)) }
     ensures run { IfOk result (λ found. IfSome found
@@ -161,7 +185,7 @@ pub fn find<L: Ledger>(
     ensures least { steps.old + 1 ≤ steps.new }
     ensures most { steps.new ≤ steps.old + 3 }
 {
-    match by_order_or_form(alloc, core, steps)? {
+    match by_order_or_form(alloc, core, plain, steps)? {
         Some(equation) => {
             let found = with_run(alloc, core, steps, equation)?;
             Ok(Some(found))

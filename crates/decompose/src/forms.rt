@@ -1,6 +1,6 @@
 //! The parts of a core.
 
-ghost use Rattle.std.specs.Prelude.{◌≡◌, ◌+◌, ◌^◌, ◌≤◌, [], IfOk};
+ghost use Rattle.std.specs.Prelude.{◌≡◌, ◌+◌, ◌^◌, ◌≤◌, ◌∷◌, ◌++◌, [], IfOk, OnOk};
 ghost use Rattle.core_forms.specs.Place.{CoreBelow};
 ghost use Rattle.core_forms.specs.WellFormed.{IsWellFormed};
 ghost use Rattle.core_forms.specs.Cost.{cost_of};
@@ -53,18 +53,31 @@ fn form_parts(alloc: Global, core: Core, next_var: u32) -> Result<Parts, AllocEr
     }
 }
 
+/// Puts a copy of an integer behind others.
+fn put_copy(ints: &mut Vec<OrdInt>, a: &OrdInt) -> Result<(), AllocError>
+    ensures { OnOk result (ints.new.items ≡ ints.old.items ++ a.now ∷ []) }
+{
+    let copy = a.clone()?;
+    ints.push(copy)?;
+    Ok(())
+}
+
 /// A copy of integers.
-fn copied_ints(ints: &Sequence<OrdInt>) -> Result<Vec<OrdInt>, AllocError>
+fn copied_ints(alloc: Global, ints: &Sequence<OrdInt>) -> Result<Vec<OrdInt>, AllocError>
     ensures { IfOk result (λ copy. copy.items ≡ ints.now) }
 {
-    Ok(ints.clone()?.into_vec())
+    let mut copy = Vec::with_capacity(alloc, ints.len())?;
+    for a in ints.as_slice() {
+        put_copy(&mut copy, a)?;
+    }
+    Ok(copy)
 }
 
 /// A copy of atoms.
-fn copied_atoms(atoms: &Sequence<Atom>) -> Result<Vec<Atom>, AllocError>
+fn copied_atoms(alloc: Global, atoms: &Sequence<Atom>) -> Result<Vec<Atom>, AllocError>
     ensures { IfOk result (λ copy. copy.items ≡ atoms.now) }
 {
-    Ok(atoms.clone()?.into_vec())
+    Ok(atoms.as_slice().to_vec(alloc)?)
 }
 
 /// The parts, form by form, with copies of the core's lists and integers.
@@ -76,13 +89,14 @@ fn kept_parts(alloc: Global, core: &Core, next_var: u32) -> Result<Parts, AllocE
     ensures { IfOk result (λ parts. parts ≡ parts_of core.now next_var) }
 {
     match core {
-        Core::Sum(ints, k) => sum_parts(alloc, copied_ints(ints)?, *k.get(), next_var),
+        Core::Sum(ints, k) => sum_parts(alloc, copied_ints(alloc, ints)?, *k.get(), next_var),
         Core::AllDiff(ints, conditions) => {
-            let conditions = copied_atoms(conditions.get())?;
-            differing_parts(alloc, copied_ints(ints)?, conditions, next_var)
+            let conditions = copied_atoms(alloc, conditions.get())?;
+            differing_parts(alloc, copied_ints(alloc, ints)?, conditions, next_var)
         }
         Core::Lex(r, strict, front, back) => {
-            let (front, back) = (copied_ints(front.get())?, copied_ints(back.get())?);
+            let front = copied_ints(alloc, front.get())?;
+            let back = copied_ints(alloc, back.get())?;
             lex_parts(alloc, *r, *strict, front, back, next_var)
         }
         _ => Ok(no_parts(alloc)),

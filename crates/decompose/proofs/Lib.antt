@@ -9,3 +9,4 @@ pub mod Differ
 pub mod DifferingLaws
 pub mod GroupLaws
 pub mod DifferingSteps
+pub mod CutLaws

@@ -1,5 +1,5 @@
 -- The parts of an order of words: its first pair of members is compared, and where they are equal the rests are.
-use Rattle.std.specs.Prelude.{ℕ, ◌+◌, Bool, List, [], ◌∷◌, if◌then◌else◌}
+use Rattle.std.specs.Prelude.{ℕ, ◌+◌, Bool, List, [], ◌∷◌, ◌++◌, if◌then◌else◌}
 use Rattle.order_ints.specs.Label.{variable}
 use Rattle.order_ints.specs.declared.atom.Atom.{Atom}
 use Rattle.order_ints.specs.declared.order_int.OrdInt.{OrdInt}
@@ -20,16 +20,21 @@ empty_order r strict = Clause ((if strict then not_atom r else r) ∷ [])
 abbrev pub last_order : Atom → Bool → OrdInt → OrdInt → Core
 last_order r strict a b = if strict then LeqR (not_atom r) b a else LeqR r a b
 
--- more pairs: with fresh l for a at most b, g for b at most a, t for the order of the rests, and u, which is false where b
--- is at most a and t is false; r is true where l and u are
-abbrev pub split_order : ℕ → Atom → Bool → OrdInt → OrdInt → List OrdInt → List OrdInt → List Core
-split_order next r strict a b front back =
-    LeqR (variable next) a b
-    ∷ LeqR (variable (next + 1)) b a
-    ∷ Lex (variable (next + 2)) strict front back
-    ∷ Conj (not_atom (variable (next + 3))) (variable (next + 1) ∷ not_atom (variable (next + 2)) ∷ [])
+-- the first pair is compared, with fresh l for a at most b, and g for b at most a
+abbrev pub before_rest : ℕ → OrdInt → OrdInt → List Core
+before_rest next a b = LeqR (variable next) a b ∷ LeqR (variable (next + 1)) b a ∷ []
+
+-- with fresh t for the order of the rests, and u, which is false where b is at most a and t is false: r is true where l and u are
+abbrev pub behind_rest : ℕ → Atom → List Core
+behind_rest next r =
+    Conj (not_atom (variable (next + 3))) (variable (next + 1) ∷ not_atom (variable (next + 2)) ∷ [])
     ∷ Conj r (variable next ∷ variable (next + 3) ∷ [])
     ∷ []
+
+-- more pairs: the first pair, the order of the rests, and what r is by both
+abbrev pub split_order : ℕ → Atom → Bool → OrdInt → OrdInt → List OrdInt → List OrdInt → List Core
+split_order next r strict a b front back =
+    before_rest next a b ++ Lex (variable (next + 2)) strict front back ∷ behind_rest next r
 
 abbrev pub lex_parts : ℕ → Atom → Bool → List OrdInt → List OrdInt → Parts
 lex_parts next r strict [] back = alone (empty_order r strict)

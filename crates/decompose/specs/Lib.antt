@@ -3,3 +3,4 @@ pub mod SumParts
 pub mod PartsOf
 pub mod DifferingParts
 pub mod MarksByValue
+pub mod CutsOf

@@ -1,9 +1,8 @@
 //! The parts of an order of words.
 
 ghost use Rattle.std.specs.Prelude.{◌≡◌, ◌+◌, ◌^◌, ◌<◌, [], ◌∷◌, IfOk};
-ghost use Rattle.order_ints.specs.Truth.{not_atom};
-ghost use Rattle.core_forms.specs.declared.form.Core.TheVariants.{Conj, LeqR};
-ghost use Rattle.decompose.specs.LexParts.{empty_order, last_order, split_order, lex_parts};
+ghost use Rattle.core_forms.specs.declared.form.Core.TheVariants.{Conj};
+ghost use Rattle.decompose.specs.LexParts.{empty_order, last_order, before_rest, behind_rest, split_order, lex_parts};
 
 use crate::fresh::{atom_of, one_part, take_first};
 use bee_list::Sequence;
@@ -39,36 +38,31 @@ fn last_part(alloc: Global, r: Atom, strict: bool, a: OrdInt, b: OrdInt) -> Resu
 }
 
 /// Whether the first of two integers is at most the second, and the other way round.
-fn compared(
+pub(crate) fn compared(
     alloc: Global,
-    less: Atom,
-    greater: Atom,
     a: OrdInt,
     b: OrdInt,
-) -> Result<(Core, Core), AllocError>
-    ensures { IfOk result (λ cores. (cores.0 ≡ LeqR less a b) × (cores.1 ≡ LeqR greater b a)) }
+    next_var: u32,
+) -> Result<Vec<Core>, AllocError>
+    requires { next_var + 4 < 2 ^ 32 }
+    ensures { IfOk result (λ cores. cores.items ≡ before_rest next_var a b) }
 {
-    let first = Core::leq_r(alloc, less, a.clone()?, b.clone()?)?;
-    let second = Core::leq_r(alloc, greater, b, a)?;
-    Ok((first, second))
+    let first = Core::leq_r(alloc, atom_of(next_var), a.clone()?, b.clone()?)?;
+    let second = Core::leq_r(alloc, atom_of(next_var + 1), b, a)?;
+    Ok(vec![in alloc; first, second]?)
 }
 
 /// The order fails where the first pair's second member is at most its first and the rests fail; it holds
 /// where the first member is at most the second and it does not so fail.
-fn decided(
-    alloc: Global,
-    r: Atom,
-    less: Atom,
-    greater: Atom,
-    rest: Atom,
-    undecided: Atom,
-) -> Result<(Core, Core), AllocError>
-    ensures { IfOk result (λ cores. (cores.0 ≡ Conj (not_atom undecided) (greater ∷ not_atom rest ∷ []))
-        × (cores.1 ≡ Conj r (less ∷ undecided ∷ []))) }
+pub(crate) fn decided(alloc: Global, r: Atom, next_var: u32) -> Result<Vec<Core>, AllocError>
+    requires { next_var + 4 < 2 ^ 32 }
+    ensures { IfOk result (λ cores. cores.items ≡ behind_rest next_var r) }
 {
+    let (less, greater) = (atom_of(next_var), atom_of(next_var + 1));
+    let (rest, undecided) = (atom_of(next_var + 2), atom_of(next_var + 3));
     let first = conjunction(alloc, undecided.not(), greater, rest.not())?;
     let second = conjunction(alloc, r, less, undecided)?;
-    Ok((first, second))
+    Ok(vec![in alloc; first, second]?)
 }
 
 /// The parts where the first pair is not the last.
@@ -86,14 +80,14 @@ fn split_parts(
       fresh = 4;
     }) }
 {
-    let (less, greater) = (atom_of(next_var), atom_of(next_var + 1));
-    let (rest, undecided) = (atom_of(next_var + 2), atom_of(next_var + 3));
     let (front, back) = (Sequence::from_vec(rests.0), Sequence::from_vec(rests.1));
-    let (first, second) = compared(alloc, less, greater, pair.0, pair.1)?;
-    let third = Core::lex(alloc, rest, strict, front, back)?;
-    let (fourth, fifth) = decided(alloc, r, less, greater, rest, undecided)?;
+    let rest = Core::lex(alloc, atom_of(next_var + 2), strict, front, back)?;
+    let mut behind = decided(alloc, r, next_var)?;
+    let mut cores = compared(alloc, pair.0, pair.1, next_var)?;
+    cores.push(rest)?;
+    cores.append(&mut behind)?;
     Ok(Parts {
-        cores: Sequence::from_vec(vec![in alloc; first, second, third, fourth, fifth]?),
+        cores: Sequence::from_vec(cores),
         fresh: 4,
     })
 }

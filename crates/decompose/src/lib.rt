@@ -2,6 +2,7 @@
 #![tactic(auto)]
 
 mod by_value;
+mod cuts;
 mod differing;
 mod forms;
 mod fresh;
@@ -9,4 +10,5 @@ pub mod laws;
 mod lex;
 mod sums;
 
+pub use cuts::cut;
 pub use forms::{parts, parts_from};

@@ -98,7 +98,7 @@ fn short_parts(alloc: Global, ints: Vec<OrdInt>, k: i128) -> Result<Parts, Alloc
 }
 
 /// The fresh integer that stands for two others added up, and how many fresh variables it has.
-fn fresh_sum(
+pub(crate) fn fresh_sum(
     alloc: Global,
     a: &OrdInt,
     b: &OrdInt,

@@ -64,6 +64,9 @@ pub fn cut(alloc: Global, core: &Core, next_var: u32) -> Result<Option<Cut>, All
     requires room { next_var + cost_of core.now ≤ 2 ^ 27 }
     ensures { IfOk result (λ made. IfSome made (λ cut. IsCut next_var core.now (parts_at next_var core.now) cut)) }
 {
-    let _ = (alloc, core, next_var);
-    Ok(None)
+    match core {
+        Core::Parity(_, _) | Core::Amo(_) => network_encode::cut(alloc, core, next_var),
+        Core::Sum(_, _) | Core::Lex(_, _, _, _) => decompose::cut(alloc, core, next_var),
+        _ => Ok(None),
+    }
 }

@@ -34,6 +34,10 @@ module _ (k : Kernel) (id : ℕ) (core : Core) (s : IsSettledAt k id) (at : core
   pub settled-compound : is_compound_if (trimmed_at k id) ≡ true → is_compound_of core ≡ true
   settled-compound compound = sym (ap is_compound_if settled-trimmed) ∙ compound
 
+-- the parts of it as the store has it
+pub parts-are : (k : Kernel) (id : ℕ) (core : Core) (parts : Parts) → trimmed_at k id ≡ Some core → is_compound_of core ≡ true → parts ≡ parts_at (length k.view + 1) core → ArePartsAt k id parts
+parts-are k id core parts there compound are = record { core = core; there = there; compound = compound; are = are }
+
 -- ---- a cut
 
 pub cut-parts : (k : Kernel) (id : ℕ) (cut : Cut) (at : IsCutAt k id cut) → ArePartsAt k id (parts_at (length k.view + 1) at.core)

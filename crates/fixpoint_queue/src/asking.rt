@@ -40,20 +40,27 @@ enum Answer {
     Silent(bool),
 }
 
-/// Asks a core that is lent, and known to be plain. It is copied where it tells something, and only there.
+/// Asks a core that is lent, stands here as the store has it, and is plain. It is copied where it tells something,
+/// and only there.
 fn ask_lent<F: Oracle<L>, L: Ledger>(
     alloc: Global,
     oracle: F,
-    core: &Core,
+    state: &State,
     steps: &mut Steps<L>,
+    id: u32,
+    core: &Core,
 ) -> Result<Answer, AllocError>
-    requires formed { IsWellFormed core.now }
+    requires kernel { IsKernel state.now }
+    requires there { trimmed_at state.now id ≡ Some core.now }
     requires plain { IsPlain core.now }
     ensures answer { IfOk result (λ answer. IsAnswer F.told core.now answer) }
     ensures most { steps.new ≤ steps.old + 3 }
 {
     match oracle.ask(alloc, core, true, steps)? {
-        Some(found) => Ok(Answer::Told(core.clone()?, found)),
+        Some(found) => match state.trimmed(alloc, u64::from(id))? {
+            Some(copy) => Ok(Answer::Told(copy, found)),
+            None => Err(AllocError),
+        },
         None => Ok(Answer::Silent(is_compound(core))),
     }
 }
@@ -90,7 +97,7 @@ fn ask_pending<F: Oracle<L>, L: Ledger>(
 {
     if state.settle(u64::from(id)) {
         if let Some(core) = state.core(u64::from(id)) {
-            return ask_lent(alloc, oracle, core, steps);
+            return ask_lent(alloc, oracle, state, steps, id, core);
         }
     }
     match state.trimmed(alloc, u64::from(id))? {

@@ -92,7 +92,6 @@ impl<L: Ledger> Oracle<L> for TableP {
         plain: bool,
         steps: &mut Steps<L>,
     ) -> Result<Option<FoundRun>, AllocError> {
-        let _ = plain;
-        find(alloc, core, steps)
+        find(alloc, core, plain, steps)
     }
 }

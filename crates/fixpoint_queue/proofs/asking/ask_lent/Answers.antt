@@ -7,8 +7,8 @@ use Rattle.step_kernel.specs.Kernel.{trimmed_at}
 use Rattle.step_kernel.proofs.There.{there-formed}
 use Rattle.fixpoint_queue.proofs.asking.ask_lent.Goals as goal
 
-pub ask-requires : goal.ask-requires
-ask-requires g c = there-formed c.args.state.now c.args.id c.args.core.now c.requires.kernel c.requires.there
+pub ask-requires-clause-formed : goal.ask-requires-clause-formed
+ask-requires-clause-formed g c = there-formed c.args.state.now c.args.id c.args.core.now c.requires.kernel c.requires.there
 
 pub is_compound-requires : goal.is_compound-requires
 is_compound-requires g c = there-formed c.args.state.now c.args.id c.args.core.now c.requires.kernel c.requires.there

@@ -1,7 +1,8 @@
-use Rattle.std.proofs.Common.{◌≡◌, ℕ, ◌+◌, ◌≤◌, ◌<◌, ◌^◌, [], List, length, sym, ap, ◌∙◌, subst, arith}
+use Rattle.std.proofs.Common.{◌≡◌, ℕ, ◌+◌, ◌≤◌, ◌<◌, ◌^◌, List, [], ◌∷◌, ◌++◌, length, sym, ap, ◌∙◌, subst, arith, rules}
+use Rattle.ledger_text.specs.declared.line.Line.TheVariants.{Split}
 use Rattle.std.specs.Prelude.{Contains}
 use Rattle.std.specs.List.Sorted.{IsStrictlyIncreasing}
-use Rattle.core_occurrences.specs.Lists.{cores_at}
+use Rattle.core_occurrences.specs.Lists.{OccurrenceLists, cores_at}
 use Rattle.part_base.specs.declared.parts.Parts.{Parts}
 use Rattle.core_parts.specs.Parts.{parts_at}
 use Rattle.step_kernel.specs.Kernel.{Kernel, IsKernel}
@@ -9,6 +10,7 @@ use Rattle.step_kernel.specs.SplitAt.{ArePartsAt, IsCutAt}
 use Rattle.step_kernel.specs.Steps.{divided}
 use Rattle.fixpoint_queue.specs.Saturation.{Saturation}
 use Rattle.fixpoint_queue.specs.Handed.{AreComing, HaveCome}
+use Rattle.fixpoint_queue.specs.IdQueue.{Ids}
 use Rattle.fixpoint_queue.specs.Split.{IsSplit, AreCutLists, AreFrom}
 use Rattle.fixpoint_queue.specs.Waits.{IsSaturation}
 use Rattle.fixpoint_queue.specs.Wider.{HasRoom}
@@ -17,7 +19,7 @@ use Rattle.fixpoint_queue.proofs.Splittings.{AreListed, HasSplit, divided-is, ke
 use Rattle.fixpoint_queue.proofs.Widened.{saturation-wider}
 use Rattle.fixpoint_queue.proofs.runner.Runner.split_cut.Given
 use Rattle.fixpoint_queue.proofs.runner.Runner.split_cut.Goals as goal
-use Rattle.fixpoint_queue.proofs.runner.Runner.split_cut.Goals.{After-lists_of_cut, After-as_slice-2, After-as_slice-4, After-enter_around}
+use Rattle.fixpoint_queue.proofs.runner.Runner.split_cut.Goals.{After-lists_of_cut, After-as_slice-2, After-as_slice-4}
 
 -- ---- how the core is cut, and room for its parts
 
@@ -47,13 +49,31 @@ pub invariant_of-self : goal.invariant_of-self
 invariant_of-self g c =
     saturation-wider g.F.Oracle.told c.self.inside.state c.self.inside.occurs c.make_room.new.occurs c.self.inside.queue c.make_room.new.queue c.self.inside.marks c.make_room.new.marks c.self.invariant c.make_room.ensures.wider
 
+pub invariant_of-self-then-not-are_bare : goal.invariant_of-self-then-not-are_bare
+invariant_of-self-then-not-are_bare g c =
+    saturation-wider g.F.Oracle.told c.self.inside.state c.self.inside.occurs c.make_room.new.occurs c.self.inside.queue c.make_room.new.queue c.self.inside.marks c.make_room.new.marks c.self.invariant c.make_room.ensures.wider
+
+pub invariant_of-self-in_err-reserve : goal.invariant_of-self-in_err-reserve
+invariant_of-self-in_err-reserve g c =
+    saturation-wider g.F.Oracle.told c.self.inside.state c.self.inside.occurs c.make_room.new.occurs c.self.inside.queue c.make_room.new.queue c.self.inside.marks c.make_room.new.marks c.self.invariant c.make_room.ensures.wider
+
+pub invariant_of-self-in_err-split_cut : goal.invariant_of-self-in_err-split_cut
+invariant_of-self-in_err-split_cut g c =
+    saturation-wider g.F.Oracle.told c.split_cut.new.self c.self.inside.occurs c.make_room.new.occurs c.self.inside.queue c.make_room.new.queue c.self.inside.marks c.make_room.new.marks
+    (subst (λ (k : Kernel). IsSaturation g.F.Oracle.told k c.self.inside.occurs c.self.inside.queue c.self.inside.marks) (sym c.in_err-split_cut.ensures.stays) c.self.invariant)
+    c.make_room.ensures.wider
+
 -- ---- what stands before the parts come
 
+cut : (g : Given.Over) (c : After-as_slice-4 g) → IsCutAt c.self.inside.state c.args.id c.args.cut
+cut g c = subst (λ (r : Saturation). IsCutAt r.kernel c.args.id c.args.cut) (sym c.self.view_is) c.requires.cut
+
 parts : (g : Given.Over) (c : After-as_slice-4 g) → Parts
-parts g c = parts_at (length c.self.inside.state.view + 1) (is-cut g c.After-lists_of_cut).core
+parts g c = parts_at (length c.self.inside.state.view + 1) (cut g c).core
 
 at : (g : Given.Over) (c : After-as_slice-4 g) → ArePartsAt c.self.inside.state c.args.id (parts g c)
-at g c = cut-parts c.self.inside.state c.args.id c.args.cut (is-cut g c.After-lists_of_cut)
+unfolding parts cut
+at g c = cut-parts c.self.inside.state c.args.id c.args.cut (cut g c)
 
 is-divided : (g : Given.Over) (c : After-as_slice-4 g) → c.split_cut.new.self ≡ divided c.self.inside.state c.args.id (parts g c)
 is-divided g c =
@@ -63,20 +83,24 @@ kernel : (g : Given.Over) (c : After-as_slice-4 g) → IsKernel c.split_cut.new.
 kernel g c = kernel-split c.self.inside.state c.split_cut.new.self c.args.id c.self.invariant.kernel c.in_ok-split_cut.ensures.step
 
 from : (g : Given.Over) (c : After-as_slice-4 g) → AreFrom (length c.self.inside.state.view + 1) c.args.cut.fresh c.as_slice-3.result.now
-from g c = subst (AreFrom (length c.self.inside.state.view + 1) c.args.cut.fresh) (c.as_slice-2.ensures.value ∙ sym c.as_slice-3.ensures.value) (fresh g c.After-as_slice-2)
+from g c =
+    subst (λ (n : ℕ). AreFrom (n + 1) c.args.cut.fresh c.as_slice-3.result.now) c.vars.ensures.vars
+    (subst (AreFrom (c.vars.result + 1) c.args.cut.fresh) (sym c.as_slice-3.ensures.value) c.in_ok-come.ensures)
 
 lists : (g : Given.Over) (c : After-as_slice-4 g) → AreCutLists c.as_slice-4.result.now c.args.cut
 lists g c = subst (λ (l : List (List ℕ)). AreCutLists l c.args.cut) (sym c.as_slice-4.ensures.value) c.in_ok-lists.ensures
 
 has-room : (g : Given.Over) (c : After-as_slice-4 g) → HasRoom c.self.inside.state (parts g c).fresh (length c.as_slice-3.result.now) c.as_slice-4.result.now c.make_room.new.occurs c.make_room.new.queue c.make_room.new.marks
+unfolding parts cut
 has-room g c =
-    subst (λ (n : ℕ). HasRoom c.self.inside.state n (length c.as_slice-3.result.now) c.as_slice-4.result.now c.make_room.new.occurs c.make_room.new.queue c.make_room.new.marks) (cut-fresh c.self.inside.state c.args.id c.args.cut (is-cut g c.After-lists_of_cut))
+    subst (λ (n : ℕ). HasRoom c.self.inside.state n (length c.as_slice-3.result.now) c.as_slice-4.result.now c.make_room.new.occurs c.make_room.new.queue c.make_room.new.marks) (cut-fresh c.self.inside.state c.args.id c.args.cut (cut g c))
     (subst (λ (n : ℕ). HasRoom c.self.inside.state c.args.cut.fresh n c.as_slice-4.result.now c.make_room.new.occurs c.make_room.new.queue c.make_room.new.marks) (sym (from g c).many)
     (subst (λ (l : List (List ℕ)). HasRoom c.self.inside.state c.args.cut.fresh c.args.cut.fresh l c.make_room.new.occurs c.make_room.new.queue c.make_room.new.marks)
     (c.as_slice.ensures.value ∙ sym c.as_slice-4.ensures.value) c.in_ok-make_room.ensures.room))
 
 are-listed : (g : Given.Over) (c : After-as_slice-4 g) → AreListed c.self.inside.state c.args.id (parts g c) (length c.args.cut.front) (length c.self.inside.state.cores + length c.args.cut.front + 1) c.as_slice-3.result.now c.as_slice-4.result.now
-are-listed g c = parts-listed c.self.inside.state c.args.id c.args.cut c.as_slice-4.result.now c.as_slice-3.result.now (is-cut g c.After-lists_of_cut) (lists g c) (from g c)
+unfolding parts cut
+are-listed g c = parts-listed c.self.inside.state c.args.id c.args.cut c.as_slice-4.result.now c.as_slice-3.result.now (cut g c) (lists g c) (from g c)
 
 pub enter_around-requires-clause-coming : goal.enter_around-requires-clause-coming
 enter_around-requires-clause-coming g c =
@@ -91,7 +115,7 @@ enter_around-requires-clause-coming g c =
 pub enter_around-requires-clause-inside : goal.enter_around-requires-clause-inside
 enter_around-requires-clause-inside g c =
     let d = (goal.at.enter_around-requires-clause-inside g c).After-as_slice-4 in
-    omega (arith, c.len-place.ensures, rest-inside c.self.inside.state c.args.id c.args.cut c.as_slice-4.result.now c.as_slice-3.result.now (is-cut g d.After-lists_of_cut) (lists g d) (from g d))
+    omega (arith, c.len-place.ensures, rest-inside c.self.inside.state c.args.id c.args.cut c.as_slice-4.result.now c.as_slice-3.result.now (cut g d) (lists g d) (from g d))
 
 pub enter_around-requires-clause-increasing : goal.enter_around-requires-clause-increasing
 enter_around-requires-clause-increasing g c =
@@ -99,15 +123,25 @@ enter_around-requires-clause-increasing g c =
 
 pub enter_around-requires-clause-bare : goal.enter_around-requires-clause-bare
 enter_around-requires-clause-bare g c =
-    subst (λ (l : List ℕ). (v : ℕ) → Contains l v → cores_at c.make_room.new.occurs v ≡ []) (c.as_slice-2.ensures.value ∙ sym c.as_slice-3.ensures.value) (c.are_bare.ensures c.if-are_bare.false)
+    subst (λ (l : List ℕ). (v : ℕ) → Contains l v → cores_at c.make_room.new.occurs v ≡ []) (c.as_slice-2.ensures.value ∙ sym c.as_slice-3.ensures.value) (c.are_bare.ensures c.if-not-are_bare.false)
 
 -- ---- and after that
 
-split : (g : Given.Over) (c : After-enter_around g) → HasSplit g.F.Oracle.told c.self.inside.state c.split_cut.new.self c.enter_around.new.occurs c.self.inside.queue c.enter_around.new.queue c.leave_queue.new.marks
-split g c =
-    let d = c.After-as_slice-4 in
-    has-split g.F.Oracle.told c.self.inside.state c.split_cut.new.self c.args.id (parts g d) c.as_slice-4.result.now (length c.args.cut.front) (length c.self.inside.state.cores + length c.args.cut.front + 1) c.as_slice-3.result.now
+split : (g : Given.Over) (c : After-as_slice-4 g) (next : OccurrenceLists) (queue : Ids) → HaveCome c.split_cut.new.self c.ids-before.result (length c.as_slice-4.result.now) next c.leave_queue.new.queue queue
+    → HasSplit g.F.Oracle.told c.self.inside.state c.split_cut.new.self next c.self.inside.queue queue c.leave_queue.new.marks
+split g c next queue come =
+    has-split g.F.Oracle.told c.self.inside.state c.split_cut.new.self c.args.id (parts g c) c.as_slice-4.result.now (length c.args.cut.front) (length c.self.inside.state.cores + length c.args.cut.front + 1) c.as_slice-3.result.now
     c.self.inside.occurs c.make_room.new.occurs c.self.inside.queue c.make_room.new.queue c.leave_queue.new.queue c.self.inside.marks c.make_room.new.marks c.leave_queue.new.marks
-    c.self.invariant c.make_room.ensures.wider (has-room g d) (at g d) (are-listed g d) (is-divided g d)
-    c.leave_queue.ensures.queued c.leave_queue.ensures.places c.leave_queue.ensures.ids c.leave_queue.ensures.marks (kernel g d) c.enter_around.new.occurs c.enter_around.new.queue
-    (subst (λ (n : ℕ). HaveCome c.split_cut.new.self n (length c.as_slice-4.result.now) c.enter_around.new.occurs c.leave_queue.new.queue c.enter_around.new.queue) c.ids-before.ensures.ids c.enter_around.ensures)
+    c.self.invariant c.make_room.ensures.wider (has-room g c) (at g c) (are-listed g c) (is-divided g c)
+    c.leave_queue.ensures.queued c.leave_queue.ensures.places c.leave_queue.ensures.ids c.leave_queue.ensures.marks (kernel g c) next queue
+    (subst (λ (n : ℕ). HaveCome c.split_cut.new.self n (length c.as_slice-4.result.now) next c.leave_queue.new.queue queue) c.ids-before.ensures.ids come)
+
+pub invariant_of-self-2 : goal.invariant_of-self-2
+invariant_of-self-2 g c = (split g (goal.at.invariant_of-self-2 g c).After-as_slice-4 c.enter_around.new.occurs c.enter_around.new.queue c.enter_around.ensures).saturation
+
+pub returns-clause-split : goal.returns-clause-split
+returns-clause-split g c = λ _.
+    let done = split g (goal.at.returns-clause-split g c).After-as_slice-4 c.enter_around.new.occurs c.enter_around.new.queue c.enter_around.ensures in
+    let line : c.push.new.self.items ≡ c.self.inside.ledger.items ++ Split c.args.id ∷ [] = search rules in
+    subst (λ (r : Saturation). IsSplit r (record { kernel = c.split_cut.new.self; ledger = c.push.new.self.items; queued = c.enter_around.new.queue.queued }) c.args.id) c.self.view_is
+    (record { stepped = c.in_ok-split_cut.ensures.step; line = line; queued = done.queued; grows = done.grows })

@@ -1,8 +1,11 @@
-use Rattle.std.proofs.Common.{◌≡◌, ℕ, ◌+◌, ◌≤◌, ◌<◌, List, length, sym, ap, ◌∙◌, subst, arith}
+use Rattle.std.proofs.Common.{◌≡◌, ℕ, ◌+◌, ◌≤◌, ◌<◌, List, [], ◌∷◌, ◌++◌, length, sym, ap, ◌∙◌, subst, arith, rules}
+use Rattle.core_occurrences.specs.Lists.{OccurrenceLists}
+use Rattle.ledger_text.specs.declared.line.Line.TheVariants.{Split}
 use Rattle.step_kernel.specs.Kernel.{Kernel, IsKernel}
 use Rattle.step_kernel.specs.Steps.{divided}
 use Rattle.fixpoint_queue.specs.Saturation.{Saturation}
 use Rattle.fixpoint_queue.specs.Handed.{IsRest, AreComing, HaveCome}
+use Rattle.fixpoint_queue.specs.IdQueue.{Ids}
 use Rattle.fixpoint_queue.specs.Split.{IsSplit}
 use Rattle.fixpoint_queue.specs.Standing.{AreAllVars}
 use Rattle.fixpoint_queue.specs.Waits.{IsSaturation}
@@ -11,7 +14,7 @@ use Rattle.fixpoint_queue.proofs.Splittings.{AreListed, HasSplit, divided-is, ke
 use Rattle.fixpoint_queue.proofs.Widened.{saturation-wider}
 use Rattle.fixpoint_queue.proofs.runner.Runner.split_whole.Given
 use Rattle.fixpoint_queue.proofs.runner.Runner.split_whole.Goals as goal
-use Rattle.fixpoint_queue.proofs.runner.Runner.split_whole.Goals.{After-as_slice-4, After-enter_parts}
+use Rattle.fixpoint_queue.proofs.runner.Runner.split_whole.Goals.{After-as_slice-4}
 
 pub make_room-requires-clause-vars : goal.make_room-requires-clause-vars
 make_room-requires-clause-vars g c = omega (arith, fresh-bound c.self.inside.state c.args.id c.in_ok-parts.parts c.self.invariant.kernel c.in_ok-parts.ensures.parts)
@@ -65,16 +68,21 @@ enter_parts-requires g c =
 
 -- ---- and after that
 
-split : (g : Given.Over) (c : After-enter_parts g) → HasSplit g.F.Oracle.told c.self.inside.state c.split_into.new.self c.enter_parts.new.occurs c.self.inside.queue c.enter_parts.new.queue c.leave_queue.new.marks
-split g c =
+split : (g : Given.Over) (c : After-as_slice-4 g) (next : OccurrenceLists) (queue : Ids) → HaveCome c.split_into.new.self c.ids-before.result (length c.as_slice-4.result.now) next c.leave_queue.new.queue queue
+    → HasSplit g.F.Oracle.told c.self.inside.state c.split_into.new.self next c.self.inside.queue queue c.leave_queue.new.marks
+split g c next queue come =
     has-split g.F.Oracle.told c.self.inside.state c.split_into.new.self c.args.id c.in_ok-parts.parts c.as_slice-4.result.now c.in_ok-place.place 0 c.as_slice-3.result.now
     c.self.inside.occurs c.make_room.new.occurs c.self.inside.queue c.make_room.new.queue c.leave_queue.new.queue c.self.inside.marks c.make_room.new.marks c.leave_queue.new.marks
-    c.self.invariant c.make_room.ensures.wider (has-room g c.After-as_slice-4) c.in_ok-parts.ensures.parts (are-listed g c.After-as_slice-4) (is-divided g c.After-as_slice-4)
-    c.leave_queue.ensures.queued c.leave_queue.ensures.places c.leave_queue.ensures.ids c.leave_queue.ensures.marks (kernel g c.After-as_slice-4) c.enter_parts.new.occurs c.enter_parts.new.queue
-    (subst (λ (n : ℕ). HaveCome c.split_into.new.self n (length c.as_slice-4.result.now) c.enter_parts.new.occurs c.leave_queue.new.queue c.enter_parts.new.queue) c.ids-before.ensures.ids c.enter_parts.ensures)
+    c.self.invariant c.make_room.ensures.wider (has-room g c) c.in_ok-parts.ensures.parts (are-listed g c) (is-divided g c)
+    c.leave_queue.ensures.queued c.leave_queue.ensures.places c.leave_queue.ensures.ids c.leave_queue.ensures.marks (kernel g c) next queue
+    (subst (λ (n : ℕ). HaveCome c.split_into.new.self n (length c.as_slice-4.result.now) next c.leave_queue.new.queue queue) c.ids-before.ensures.ids come)
 
 pub invariant_of-self-2 : goal.invariant_of-self-2
-invariant_of-self-2 g c = (split g (goal.at.invariant_of-self-2 g c).After-enter_parts).saturation
+invariant_of-self-2 g c = (split g (goal.at.invariant_of-self-2 g c).After-as_slice-4 c.enter_parts.new.occurs c.enter_parts.new.queue c.enter_parts.ensures).saturation
 
 pub returns-clause-split : goal.returns-clause-split
-returns-clause-split g c = ?
+returns-clause-split g c =
+    let done = split g (goal.at.returns-clause-split g c).After-as_slice-4 c.enter_parts.new.occurs c.enter_parts.new.queue c.enter_parts.ensures in
+    let line : c.push.new.self.items ≡ c.self.inside.ledger.items ++ Split c.args.id ∷ [] = search rules in
+    subst (λ (r : Saturation). IsSplit r (record { kernel = c.split_into.new.self; ledger = c.push.new.self.items; queued = c.enter_parts.new.queue.queued }) c.args.id) c.self.view_is
+    (record { stepped = c.in_ok-split_into.ensures.step; line = line; queued = done.queued; grows = done.grows })

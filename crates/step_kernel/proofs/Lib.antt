@@ -14,3 +14,6 @@ pub mod There
 pub mod Outcomes
 pub mod LeastCompound
 pub mod CnfLaws
+mod Rounds
+mod SettledLaws
+pub mod CutSplits

@@ -4,7 +4,7 @@ use Rattle.order_ints.specs.declared.atom.Atom.{Atom}
 use Rattle.core_forms.specs.declared.form.Core.{Core}
 use Rattle.equation_store.specs.Store.{Store}
 use Rattle.step_kernel.specs.Kernel.{Kernel, IsKernel}
-use Rattle.step_kernel.specs.SettledMarks.{AreSettledMarks}
+use Rattle.step_kernel.specs.SettledMarks.{Rounds, AreSettledMarks}
 
 abbrev pub gone_first : List (Option Core) → ℕ
 gone_first [] = 0
@@ -12,7 +12,7 @@ gone_first (None ∷ cores) = gone_first cores + 1
 gone_first (Some core ∷ cores) = 0
 
 -- what a state keeps: its kernel, where the first pending core stands, and that the marked cores are settled
-pub record IsState (k : Kernel) (first : ℕ) (marks : List Bool) : Type 0 where
+pub record IsState (k : Kernel) (first : ℕ) (marks : Rounds) : Type 0 where
   pub kernel : IsKernel k
   pub cursor : first ≡ gone_first k.cores
   pub settled : AreSettledMarks k.view k.cores marks

@@ -1,10 +1,11 @@
 //! Where the first pending core stands.
 
-ghost use Rattle.std.specs.Prelude.{◌≡◌, ◌≤◌, length};
+ghost use Rattle.std.specs.Prelude.{◌≡◌, ◌-◌, ◌≤◌, length, slice_index_or, slice_set, vec_len, vec_capacity, None, Some};
 ghost use Rattle.step_kernel.specs.Cursor.{gone_first};
 ghost use Rattle.step_kernel.specs.Steps.{without};
 
 use core_forms::Core;
+use std::mem::replace;
 
 /// How many cores at the beginning are no longer pending, where so many are known to be.
 fn advanced(cores: &[Option<Core>], known: usize) -> usize
@@ -29,4 +30,25 @@ pub fn take_out(cores: &mut Vec<Option<Core>>, id: u64, known: usize) -> usize
 {
     cores[id as usize - 1] = None;
     advanced(cores.as_slice(), known)
+}
+
+/// Takes out the core with an id, if it is pending.
+pub fn take_core(cores: &mut Vec<Option<Core>>, id: u64) -> Option<Core>
+    requires low { 1 ≤ id }
+    requires high { id ≤ length cores.old.items }
+    ensures core { result ≡ slice_index_or cores.old.items (id - 1) None }
+    ensures cores { cores.new.items ≡ without cores.old.items id }
+    ensures len { vec_len cores.new ≡ vec_len cores.old }
+    ensures room { vec_capacity cores.new ≡ vec_capacity cores.old }
+{
+    replace(&mut cores[id as usize - 1], None)
+}
+
+/// Puts a core where the one with an id was.
+pub fn put_core(cores: &mut Vec<Option<Core>>, id: u64, core: Core)
+    requires low { 1 ≤ id }
+    requires high { id ≤ length cores.old.items }
+    ensures { cores.new.items ≡ slice_set cores.old.items (id - 1) (Some core) }
+{
+    cores[id as usize - 1] = Some(core);
 }

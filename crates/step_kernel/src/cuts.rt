@@ -10,7 +10,7 @@ ghost use Rattle.step_kernel.specs.Kernel.{core_at, IsKernel};
 ghost use Rattle.step_kernel.specs.SplitAt.{IsCutAt};
 ghost use Rattle.step_kernel.specs.Steps.{step};
 
-use crate::cursor::take_out;
+use crate::cursor::{put_core, take_core, take_out};
 use crate::lists::all_pending;
 use crate::state::State;
 use core_forms::Core;
@@ -18,7 +18,6 @@ use core_parts::cut;
 use equation_store::EqStore;
 use part_base::{Coming, Cut, drop_before, put_behind, take_behind};
 use std::alloc::{AllocError, Global};
-use std::mem::replace;
 
 /// A list with what comes behind it, and a store with that many variables more. For want of memory both are as they were.
 fn lengthen(core: Core, coming: Coming, store: &mut EqStore, fresh: u32) -> Result<Core, Core>
@@ -30,14 +29,17 @@ fn lengthen(core: Core, coming: Coming, store: &mut EqStore, fresh: u32) -> Resu
     ensures stays { OnErr result (store.new ≡ store.old) }
 {
     let mut core = core;
-    if put_behind(&mut core, coming).is_err() {
-        return Err(core);
+    match put_behind(&mut core, coming) {
+        Ok(()) => {}
+        Err(_) => return Err(core),
     }
-    if store.grow(fresh).is_err() {
-        take_behind(&mut core);
-        return Err(core);
+    match store.grow(fresh) {
+        Ok(()) => Ok(core),
+        Err(_) => {
+            take_behind(&mut core);
+            Err(core)
+        }
     }
-    Ok(core)
 }
 
 /// Puts cores behind others, where there is room for them.
@@ -90,8 +92,7 @@ impl State {
         let more = front.len() + 1 + back.len();
         self.cores.reserve(more)?;
         self.settled.grow(more)?;
-        let place = id as usize - 1;
-        let Some(core) = replace(&mut self.cores[place], None) else {
+        let Some(core) = take_core(&mut self.cores, id) else {
             return Err(AllocError);
         };
         match lengthen(core, coming, &mut self.store, fresh) {
@@ -104,7 +105,7 @@ impl State {
                 Ok(())
             }
             Err(core) => {
-                self.cores[place] = Some(core);
+                put_core(&mut self.cores, id, core);
                 Err(AllocError)
             }
         }

@@ -1,6 +1,6 @@
 //! Marks of the cores that were seen to be settled.
 
-ghost use Rattle.std.specs.Prelude.{ℕ, ◌≡◌, ◌⊎◌, [], IsTrue};
+ghost use Rattle.std.specs.Prelude.{ℕ, ◌≡◌, ◌⊎◌, IsTrue};
 ghost use Rattle.step_kernel.specs.SettledMarks.{IsMarked};
 
 use std::alloc::{AllocError, Global};
@@ -15,20 +15,19 @@ pub struct SettledMarks {
 }
 
 impl Model for SettledMarks {
-    ghost use Rattle.std.specs.Prelude.{List, Bool, ◌≤◌};
-    ghost use Rattle.step_kernel.specs.SettledMarks.{marks_of, AreUpTo};
+    ghost use Rattle.step_kernel.specs.SettledMarks.{Rounds, AreRounds};
 
-    ghost Value = { List Bool };
+    ghost Value = { Rounds };
 
-    ghost view = { λ s. marks_of s.round s.rounds.items };
+    ghost view = { λ s. record { rounds = s.rounds.items; round = s.round } };
 
-    ghost invariant = { λ s. (1 ≤ s.round) × AreUpTo s.round s.rounds.items };
+    ghost invariant = { λ s. AreRounds (record { rounds = s.rounds.items; round = s.round }) };
 }
 
 impl SettledMarks {
     /// No place.
     pub fn new(alloc: Global) -> SettledMarks
-        ensures { result ≡ [] }
+        ensures { (place : ℕ) → IsMarked result place → ⊥ }
     {
         SettledMarks {
             rounds: Vec::new(alloc),

@@ -1,5 +1,5 @@
 -- The state after a split of a core that is cut at its front.
-use Rattle.std.proofs.Common.{◌≡◌, ◌⊎◌, ℕ, ◌+◌, ◌-◌, ◌<◌, ◌≤◌, ◌^◌, ◌==◌, Bool, true, false, List, [], ◌∷◌, ◌++◌, map, length, get_or, set, refl, sym, ap, ◌∙◌, subst, arith, Option, Some, None}
+use Rattle.std.proofs.Common.{◌≡◌, ◌⊎◌, ℕ, ◌+◌, ◌-◌, ◌<◌, ◌≤◌, ◌^◌, ◌==◌, Bool, true, false, List, ◌∷◌, ◌++◌, map, length, get_or, set, refl, sym, ap, ◌∙◌, subst, arith, Option, Some, None}
 use Rattle.std.specs.Prelude.{option_map, if◌then◌else◌}
 use Rattle.std.specs.declared.result.Result.TheVariants.{Ok, Err}
 use Rattle.std.proofs.lemmas.Option.{none-some}
@@ -8,15 +8,12 @@ use Rattle.std.proofs.Math.Seq.{get_or-append_seam}
 use Rattle.order_ints.specs.declared.atom.Atom.{Atom}
 use Rattle.order_ints.specs.Label.{own_labels, with_own_labels}
 use Rattle.core_forms.specs.declared.form.Core.{Core}
-use Rattle.core_forms.specs.Place.{CoreBelow}
-use Rattle.core_forms.specs.Cost.{cost_of}
 use Rattle.core_forms.specs.Settled.{IsSettledCore}
-use Rattle.core_forms.specs.WellFormed.{IsWellFormed}
 use Rattle.core_forms.specs.Trimmed.{trimmed_core}
 use Rattle.core_forms.proofs.Settling.{settled_core, settled_further}
 use Rattle.part_base.specs.declared.cut.Cut.{Cut}
 use Rattle.part_base.specs.declared.parts.Parts.{Parts}
-use Rattle.part_base.specs.Cuts.{CanCome, rest_of}
+use Rattle.part_base.specs.Cuts.{rest_of}
 use Rattle.equation_store.specs.Store.{Store}
 use Rattle.ledger_text.specs.declared.line.Line.TheVariants.{Split}
 use Rattle.step_kernel.specs.declared.fault.StepFault.TheVariants.{AfterBottom, NotCompound}
@@ -25,12 +22,12 @@ use Rattle.step_kernel.specs.Kernel.{Kernel, core_at, trimmed_at, IsKernel}
 use Rattle.step_kernel.specs.SettledMarks.{Rounds, IsMarked, AreSettledMarks}
 use Rattle.step_kernel.specs.SplitAt.{IsCutAt}
 use Rattle.step_kernel.specs.Steps.{without, divided, unless_fault, step_at, step}
-use Rattle.core_parts.specs.Parts.{parts_at, is_compound_of}
+use Rattle.core_parts.specs.Parts.{parts_at}
 use Rattle.step_kernel.proofs.Cursors.{gone-without, gone-append}
 use Rattle.step_kernel.proofs.Holes.{below-there}
-use Rattle.step_kernel.proofs.SettledLaws.{at-next, settled-fewer, settled-more, settled-divided}
+use Rattle.step_kernel.proofs.SettledLaws.{at-next, settled-more, settled-divided}
 use Rattle.step_kernel.proofs.Splits.{divided-from, divided-room, there-bounds}
-use Rattle.step_kernel.proofs.There.{there-formed, there-below, there-room, there-divided}
+use Rattle.step_kernel.proofs.There.{there-divided}
 
 -- a settled core is as the store has it
 pub settled-there : (k : Kernel) (id : ℕ) (core : Core) → core_at k.cores id ≡ Some core → IsSettledCore k.view core → trimmed_at k id ≡ Some core

@@ -2,14 +2,14 @@
 use Rattle.std.proofs.Common.{◌≡◌, ◌≢◌, ◌⊎◌, inl, inr, ℕ, ◌<◌, ◌≤◌, true, false, List, length, get_or, set, eqb, sym, ◌∙◌, ap, arith, ⊎_elim}
 use Rattle.std.proofs.lemmas.Bool.{cases_lt}
 use Rattle.std.proofs.lemmas.Bool.Decides.{eqb_tells}
-use Rattle.std.proofs.lemmas.List.{get_or_past, get_or-set_same, get_or-set_other, length-set}
-use Rattle.step_kernel.specs.SettledMarks.{Rounds, AreRounds, IsMarked}
+use Rattle.std.proofs.lemmas.List.{get_or_past, get_or-set_same, get_or-set_other}
+use Rattle.step_kernel.specs.SettledMarks.{AreRounds}
 
 -- rounds with no others behind them than 0 are the same rounds
 pub grown : (old new : List ℕ) (n i : ℕ) → length old ≤ n → length new ≡ n
     → ((k d : ℕ) → k < n → k < length old → get_or new k d ≡ get_or old k d)
     → ((k d : ℕ) → length old ≤ k → k < n → get_or new k d ≡ 0) → get_or new i 0 ≡ get_or old i 0
-grown old new n i short long same behind = ⊎_elim beyond within (cases_lt i n)
+grown old new n i short long same behind = ⊎_elim within beyond (cases_lt i n)
   where
     within : i < n → get_or new i 0 ≡ get_or old i 0
     within h = ⊎_elim (λ (k : i < length old). same i 0 h k) (λ (k : length old ≤ i). behind i 0 k h ∙ sym (get_or_past old i 0 k)) (cases_lt i (length old))

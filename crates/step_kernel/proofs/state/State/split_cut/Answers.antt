@@ -1,4 +1,4 @@
-use Rattle.std.proofs.Common.{◌≡◌, ◌-◌, ◌+◌, ◌≤◌, ◌++◌, ◌∷◌, List, get_or, set, inl, inr, ⊎_elim, length, map, sym, ap, ◌∙◌, subst, arith, rules, Option, Some, None}
+use Rattle.std.proofs.Common.{◌≡◌, ◌-◌, ◌+◌, ◌≤◌, ◌++◌, ◌∷◌, List, get_or, set, inl, inr, ⊎_elim, length, map, sym, ap, ◌∙◌, subst, arith, Option, Some, None}
 use Rattle.std.proofs.lemmas.List.{length-map}
 use Rattle.core_forms.specs.declared.form.Core.{Core}
 use Rattle.equation_store.specs.Store.{Store}

@@ -83,7 +83,7 @@ static LISTS: [Row; 5] = [
 ];
 
 /// Cores, and whether they are seen to stay. Of the first eight variables 4 and 5 alone do.
-static SETTLED: [(&str, bool); 17] = [
+static SETTLED: [(&str, bool); 20] = [
     ("Parity odd 4,-5,9", true),
     ("Parity even none", true),
     ("Parity odd 4,9,3", false),
@@ -95,6 +95,10 @@ static SETTLED: [(&str, bool); 17] = [
     ("Count 4,9 0..2@2", false),
     ("Sum 3..5@4;0..1@9;2..2@1 -9", true),
     ("Sum 0..2@9;0..1@6 0", false),
+    ("Sum 0^9,4,-9;0..1@10 0", true),
+    // Neighbouring steps with one atom, and with an atom and its negation.
+    ("Sum 0^9,9,4;0..1@10 0", false),
+    ("Sum 0^4,9,-9;0..1@10 0", false),
     ("AllDiff 0..2@4;0..2@9 T,10", true),
     ("AllDiff 0..2@4;0..2@9 T,1", false),
     ("Lex strict T 0..2@4;0..1@9 0..2@10;0..1@12", true),

@@ -1,11 +1,9 @@
 use Rattle.std.proofs.Common.{◌≡◌, refl, sym, ap, ◌∙◌, subst, Some}
 use Rattle.std.proofs.lemmas.Result.{IfOk-weaker}
 use Rattle.core_forms.specs.declared.form.Core.{Core}
-use Rattle.core_forms.specs.Settled.{IsSettledCore}
 use Rattle.step_kernel.specs.Kernel.{Kernel, core_at, trimmed_at}
 use Rattle.step_kernel.specs.SplitAt.{IsSettledAt}
 use Rattle.step_kernel.proofs.There.{there-formed}
-use Rattle.fixpoint_queue.specs.declared.asking.Answer.{Answer}
 use Rattle.fixpoint_queue.specs.Told.{IsAnswer}
 use Rattle.fixpoint_queue.proofs.Cuttings.{settled-there, settled-trimmed}
 use Rattle.fixpoint_queue.proofs.asking.ask_pending.Given

@@ -1,4 +1,4 @@
-use Rattle.std.proofs.Common.{sym, ◌∙◌}
+use Rattle.std.proofs.Common.{sym}
 use Rattle.fixpoint_queue.proofs.Cuttings.{settled-there, settled-compound}
 use Rattle.fixpoint_queue.proofs.cutting.cut_of_settled.Goals as goal
 

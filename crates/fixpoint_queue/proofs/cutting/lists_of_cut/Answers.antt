@@ -1,4 +1,4 @@
-use Rattle.std.proofs.Common.{◌≡◌, [], ◌∷◌, ◌++◌, ◌∙◌, List, ℕ, ap, subst, append_assoc}
+use Rattle.std.proofs.Common.{[], ◌∷◌, ◌++◌, ◌∙◌, List, ℕ, ap, subst, append_assoc}
 use Rattle.core_forms.specs.declared.form.Core.{Core}
 use Rattle.fixpoint_queue.specs.Standing.{AreAllVars}
 use Rattle.fixpoint_queue.proofs.cutting.lists_of_cut.Goals as goal

@@ -1,7 +1,7 @@
 use Rattle.std.proofs.Common.{◌∙◌, ◌≤◌, ℕ, length, ap, sym, subst, arith}
 use Rattle.std.specs.List.{All}
 use Rattle.core_occurrences.specs.Lists.{OccurrenceLists, added}
-use Rattle.fixpoint_queue.proofs.Handings.{come-all, come-fresh, handed-on, holds-on, room-on}
+use Rattle.fixpoint_queue.proofs.Handings.{come-all, handed-on, holds-on}
 use Rattle.fixpoint_queue.proofs.handing.hand_over.Goals as goal
 
 pub add-requires-clause-vars : goal.add-requires-clause-vars

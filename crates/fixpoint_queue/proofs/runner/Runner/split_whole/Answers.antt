@@ -1,4 +1,4 @@
-use Rattle.std.proofs.Common.{◌≡◌, ℕ, ◌+◌, ◌≤◌, ◌<◌, List, [], ◌∷◌, ◌++◌, length, sym, ap, ◌∙◌, subst, arith, rules}
+use Rattle.std.proofs.Common.{◌≡◌, ℕ, List, [], ◌∷◌, ◌++◌, length, sym, ap, ◌∙◌, subst, arith, rules}
 use Rattle.core_occurrences.specs.Lists.{OccurrenceLists}
 use Rattle.ledger_text.specs.declared.line.Line.TheVariants.{Split}
 use Rattle.step_kernel.specs.Kernel.{Kernel, IsKernel}

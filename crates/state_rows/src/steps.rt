@@ -117,6 +117,26 @@ static SPLITS_OF_INTEGERS: [(&str, &str); 5] = [
     ),
 ];
 
+/// A sum that is split at its front, and its rest once a member has another label.
+static SPLITS_OF_SUMS: [(&str, &str); 4] = [
+    (
+        "start",
+        "5: 1 2 3 4 5; #1 Sum (0 1) (0 2) (0 3) (0 4) (0 5) 2; #2 Parity even 1 4; next 3; least 1 1; cnf 5",
+    ),
+    (
+        "split 1",
+        "7: 1 2 3 4 5 6 7; #2 Parity even 1 4; #3 Sum3 (0 1) (0 2) (0 6 7); #4 Sum (0 3) (0 4) (0 5) (0 6 7) 2; next 5; least 2 4; cnf 7",
+    ),
+    (
+        "eq 2 form 1 4",
+        "7: 1 2 3 1 5 6 7; #2 Parity even 1 4 is Parity even 1 1; #3 Sum3 (0 1) (0 2) (0 6 7); #4 Sum (0 3) (0 4) (0 5) (0 6 7) 2 is Sum (0 3) (0 1) (0 5) (0 6 7) 2; next 5; least 2 4; cnf 7",
+    ),
+    (
+        "split 4",
+        "9: 1 2 3 1 5 6 7 8 9; #2 Parity even 1 4 is Parity even 1 1; #3 Sum3 (0 1) (0 2) (0 6 7); #5 Sum3 (0 3) (0 1) (0 8 9); #6 Sum (0 5) (0 6 7) (0 8 9) 2; next 7; least 2 6; cnf 9",
+    ),
+];
+
 /// The core that is split is the one that the store has, and a fresh variable is its own label.
 static SPLIT_AS_THE_STORE_HAS_IT: [(&str, &str); 4] = [
     (
@@ -261,6 +281,11 @@ fn splits(rt: HostRuntime) -> io::Result<()> {
         "Lex strict 7 0..1@1;0..1@2 0..1@3;0..1@4",
     ];
     walk_both(&rt, alloc, 7, &integers, &SPLITS_OF_INTEGERS)?;
+    let sums = [
+        "Sum 0..1@1;0..1@2;0..1@3;0..1@4;0..1@5 2",
+        "Parity even 1,4",
+    ];
+    walk_both(&rt, alloc, 5, &sums, &SPLITS_OF_SUMS)?;
     let stored = ["Clause 1", "Parity odd 1,2,3,4,5", "Parity even 2,6"];
     walk_both(&rt, alloc, 6, &stored, &SPLIT_AS_THE_STORE_HAS_IT)
 }

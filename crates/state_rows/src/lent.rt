@@ -1,10 +1,12 @@
-//! Which pending cores a state lends as it has them, since trimming would leave them as they were made.
+//! Which pending cores a state lends as it has them, since trimming would leave them as they were made, and which are cut
+//! at their front.
 
 use crate::step_faults::apply;
-use crate::steps_made::started;
+use crate::steps_made::{cut_at, started};
 use bee_text::{push_blank, push_number};
 use std::alloc::{AllocError, Global};
 use std::io;
+use std::process::Abort;
 use step_kernel::State;
 
 /// Lines, and the ids that are lent behind each. The cores are `Parity even 1 2`, `Parity odd 2 3 4 5`,
@@ -51,6 +53,34 @@ fn settled_cores_are_lent(rt: HostRuntime) -> io::Result<()> {
         }
         let found = lent(alloc, &mut state)?;
         assert_eq!(rt; found.as_slice(), ids.as_bytes(), "{text}");
+    }
+    Ok(())
+}
+
+/// Compound cores that are settled, and whether they are cut: lists of the least lengths, and others.
+static CUT: [(&str, bool); 7] = [
+    ("Parity odd 1,2,3,4", true),
+    ("Amo 1,2,3,4,5", true),
+    ("Sum 0..1@1;0..1@2;0..1@3;0..1@4 2", true),
+    ("Lex strict 5 0..1@1;0..1@2 0..1@3;0..1@4", true),
+    ("Sum 0..1@1;0..1@2;0..1@3 2", false),
+    ("Lex strict 5 0..1@1 0..1@3", false),
+    ("AllDiff 0..2@1;0..2@3 5,6", false),
+];
+
+/// Whether a core over six variables is cut.
+fn is_cut(rt: &impl Abort, alloc: Global, core: &str) -> io::Result<bool> {
+    let mut state = started(rt, alloc, 6, &[core])?;
+    assert!(rt; state.settle(1), "{core}");
+    let cut = cut_at(rt, &mut state, 1)?;
+    Ok(cut.is_some())
+}
+
+#[test]
+fn long_lists_are_cut(rt: HostRuntime) -> io::Result<()> {
+    for row in &CUT {
+        let cut = is_cut(&rt, rt.alloc(), row.0)?;
+        assert_eq!(rt; cut, row.1, "{}", row.0);
     }
     Ok(())
 }

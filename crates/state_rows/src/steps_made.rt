@@ -123,7 +123,7 @@ fn cut_of_lent(
 }
 
 /// How a pending core is cut, where it is settled and a long list.
-fn cut_at(rt: &impl Abort, state: &mut State, id: u64) -> Result<Option<Cut>, AllocError>
+pub(super) fn cut_at(rt: &impl Abort, state: &mut State, id: u64) -> Result<Option<Cut>, AllocError>
     ensures cut { IfOk result (λ made. IfSome made (λ cut. IsCutAt state.old id cut)) }
     ensures stays { state.new ≡ state.old }
 {

@@ -16,3 +16,4 @@ pub mod ProductSound
 pub mod Sound
 pub mod EachRows
 pub mod Found
+mod Unbound

@@ -109,4 +109,20 @@ impl Range {
         let to = sought.is_below(a, next(self.high));
         from.or(to)
     }
+
+    /// That an integer, whose own range is given, is in the range. Where its own range is within this one, no two different atoms are
+    /// to be found equal, and it isn't looked at.
+    pub(crate) fn binds(&self, sought: Sought, a: &OrdInt, own: &Range) -> Option<(Atom, Atom)>
+        requires bounded { IsBounded a.now }
+        requires small { IsSmall self.now }
+        requires own { own.now ≡ range_of a.now }
+        ensures { result ≡ first_sought sought (within a.now self.now.low self.now.high) }
+    {
+        if let Sought::Apart = sought {
+            if self.low <= own.low && own.high <= self.high {
+                return None;
+            }
+        }
+        self.holds(sought, a)
+    }
 }

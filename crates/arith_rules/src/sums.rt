@@ -80,7 +80,7 @@ fn totals(ints: &[OrdInt]) -> Range
 }
 
 /// Of the equations of each member being what the others leave of `k`, the first that is looked for: one
-/// pass for the ends of all, and one for each member's share.
+/// pass for the ends of all, and one for each member's share, which binds a member only where its own range is wider.
 pub(crate) fn by_sum(sought: Sought, ints: &[OrdInt], k: &i128) -> Option<(Atom, Atom)>
     requires sound { AreSound ints.now }
     requires limit { abs_total ints.now + unsigned_abs k.now < 2 ^ 100 }
@@ -93,7 +93,7 @@ pub(crate) fn by_sum(sought: Sought, ints: &[OrdInt], k: &i128) -> Option<(Atom,
     for a in ints {
         let own = Range::of(a);
         let share = own.share(&all, k);
-        let pair = share.holds(sought, a);
+        let pair = share.binds(sought, a, &own);
         if pair.is_some() {
             return pair;
         }

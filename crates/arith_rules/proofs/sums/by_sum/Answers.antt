@@ -16,8 +16,8 @@ returns-then-is_some c =
     let xs = c.args.ints.now in
     let k = c.args.k.now in
     let is : drop c.loop-a.a-index xs ≡ c.a-item.result ∷ drop (c.loop-a.a-index + 1) xs = at_drop_more (λ ys. ys) xs c.loop-a.a-index c.a-item.result c.loop-a-test.true ∙ ap (λ (x : OrdInt). x ∷ drop (c.loop-a.a-index + 1) xs) (sym c.a-item.is) in
-    let found = c.holds-pair.ensures ∙ ap (λ (r : Range). first_sought s (within c.a-item.result r.low r.high)) (c.share-share.ensures.shape ∙ (λ i. share_of (c.of-own.ensures.shape i) (c.totals-all.ensures.shape i) k)) in
-    share-stop s k (lows_of xs) (highs_of xs) (drop c.loop-a.a-index xs) (drop (c.loop-a.a-index + 1) xs) c.a-item.result c.holds-pair.result is found (sym c.is_some.ensures ∙ c.if-is_some.true)
+    let found = c.binds-pair.ensures ∙ ap (λ (r : Range). first_sought s (within c.a-item.result r.low r.high)) (c.share-share.ensures.shape ∙ (λ i. share_of (c.of-own.ensures.shape i) (c.totals-all.ensures.shape i) k)) in
+    share-stop s k (lows_of xs) (highs_of xs) (drop c.loop-a.a-index xs) (drop (c.loop-a.a-index + 1) xs) c.a-item.result c.binds-pair.result is found (sym c.is_some.ensures ∙ c.if-is_some.true)
     ∙ c.loop-a.invariant.found ∙ ap (first_sought s) (some-sum xs k (sym c.is_empty.ensures ∙ c.if-is_empty.false))
 
 pub loop-a-preserved : goal.loop-a-preserved
@@ -26,9 +26,9 @@ loop-a-preserved c =
     let xs = c.args.ints.now in
     let k = c.args.k.now in
     let is : drop c.loop-a.a-index xs ≡ c.a-item.result ∷ drop (c.loop-a.a-index + 1) xs = at_drop_more (λ ys. ys) xs c.loop-a.a-index c.a-item.result c.loop-a-test.true ∙ ap (λ (x : OrdInt). x ∷ drop (c.loop-a.a-index + 1) xs) (sym c.a-item.is) in
-    let found = c.holds-pair.ensures ∙ ap (λ (r : Range). first_sought s (within c.a-item.result r.low r.high)) (c.share-share.ensures.shape ∙ (λ i. share_of (c.of-own.ensures.shape i) (c.totals-all.ensures.shape i) k)) in
+    let found = c.binds-pair.ensures ∙ ap (λ (r : Range). first_sought s (within c.a-item.result r.low r.high)) (c.share-share.ensures.shape ∙ (λ i. share_of (c.of-own.ensures.shape i) (c.totals-all.ensures.shape i) k)) in
     record {
-      found = share-next s k (lows_of xs) (highs_of xs) (drop c.loop-a.a-index xs) (drop (c.loop-a.a-index + 1) xs) c.a-item.result c.holds-pair.result is found (sym c.is_some.ensures ∙ c.if-is_some.false)
+      found = share-next s k (lows_of xs) (highs_of xs) (drop c.loop-a.a-index xs) (drop (c.loop-a.a-index + 1) xs) c.a-item.result c.binds-pair.result is found (sym c.is_some.ensures ∙ c.if-is_some.false)
           ∙ c.loop-a.invariant.found;
       sound = (subst (λ (ys : List OrdInt). AreSound ys) is c.loop-a.invariant.sound).1;
     }

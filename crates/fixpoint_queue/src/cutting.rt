@@ -1,8 +1,6 @@
 //! Long lists that are split at their front.
 
-ghost use Rattle.std.specs.Prelude.{◌≡◌, ◌+◌, ◌^◌, ◌<◌, ◌≤◌, ◌∷◌, [], true, false, length, IfOk, IfSome, OnErr, IsTrue};
-ghost use Rattle.step_kernel.specs.Kernel.{trimmed_at};
-ghost use Rattle.step_kernel.specs.Least.{is_compound_if};
+ghost use Rattle.std.specs.Prelude.{◌≡◌, ◌+◌, ◌^◌, ◌<◌, ◌≤◌, ◌∷◌, [], true, false, length, IfOk, OnErr, IsTrue};
 ghost use Rattle.step_kernel.specs.SplitAt.{IsSettledAt, IsCutAt};
 ghost use Rattle.fixpoint_queue.specs.Split.{IsSplit, AreCutLists, AreFrom};
 
@@ -17,19 +15,6 @@ use ledger_text::Line;
 use part_base::Cut;
 use std::alloc::{AllocError, Global};
 use std::sync::ledger::Ledger;
-use step_kernel::State;
-
-/// How a core that is settled is cut at its front, where it is a long list.
-fn cut_of_settled(state: &State, id: u64) -> Result<Option<Cut>, AllocError>
-    requires settled { IsSettledAt state.now id }
-    requires compound { is_compound_if (trimmed_at state.now id) ≡ true }
-    ensures { IfOk result (λ made. IfSome made (λ cut. IsCutAt state.now id cut)) }
-{
-    match state.core(id) {
-        Some(core) => state.cut_of(id, core),
-        None => Ok(None),
-    }
-}
 
 /// So many variables from one on.
 fn variables_from(alloc: Global, next: u32, count: u32) -> Result<Vec<u32>, AllocError>
@@ -102,13 +87,12 @@ impl<F: Oracle<L>, L: Ledger> Runner<F, L> {
     /// what leaves the list and what comes.
     pub(crate) fn split_at_front(&mut self, id: u64) -> Result<bool, AllocError>
         requires running { self.old.kernel.bottom ≡ false }
-        requires compound { is_compound_if (trimmed_at self.old.kernel id) ≡ true }
         requires settled { IsSettledAt self.old.kernel id }
         ensures split { IfOk result (λ done. IsTrue done → IsSplit self.old self.new id) }
         ensures undone { IfOk result (λ done. done ≡ false → self.new ≡ self.old) }
         ensures stays { OnErr result (self.new ≡ self.old) }
     {
-        match cut_of_settled(&self.state, id)? {
+        match self.state.cut_of(id)? {
             Some(cut) => self.split_cut(id, cut),
             None => Ok(false),
         }

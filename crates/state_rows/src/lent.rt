@@ -72,7 +72,7 @@ static CUT: [(&str, bool); 7] = [
 fn is_cut(rt: &impl Abort, alloc: Global, core: &str) -> io::Result<bool> {
     let mut state = started(rt, alloc, 6, &[core])?;
     assert!(rt; state.settle(1), "{core}");
-    let cut = cut_at(rt, &mut state, 1)?;
+    let cut = cut_at(&mut state, 1)?;
     Ok(cut.is_some())
 }
 

@@ -3,9 +3,8 @@
 //! `rt try --test --fail-alloc N`, for each N.
 
 ghost use Rattle.std.specs.Prelude.{◌≡◌, true, Some, IfOk, IfSome, IsTrue};
-ghost use Rattle.core_forms.specs.Settled.{IsSettledCore};
 ghost use Rattle.core_forms.specs.WellFormed.{IsWellFormed};
-ghost use Rattle.step_kernel.specs.Kernel.{core_at as pending_at, trimmed_at};
+ghost use Rattle.step_kernel.specs.Kernel.{trimmed_at};
 ghost use Rattle.step_kernel.specs.SplitAt.{ArePartsAt, IsCutAt};
 ghost use Rattle.core_rules.specs.Instances.{is_instance_at};
 
@@ -106,40 +105,21 @@ fn parts_at(rt: &impl Abort, alloc: Global, state: &mut State, id: u64) -> Resul
     state.parts_of(id, core)
 }
 
-/// How a compound core that is settled is cut, where it is a long list.
-fn cut_of_lent(
-    rt: &impl Abort,
-    state: &State,
-    id: u64,
-    core: &Core,
-) -> Result<Option<Cut>, AllocError>
-    requires there { pending_at state.now.cores id ≡ Some core.now }
-    requires settled { IsSettledCore state.now.view core.now }
-    requires well_formed { IsWellFormed core.now }
-    ensures { IfOk result (λ made. IfSome made (λ cut. IsCutAt state.now id cut)) }
-{
-    assert!(rt; is_compound(core));
-    state.cut_of(id, core)
-}
-
 /// How a pending core is cut, where it is settled and a long list.
-pub(super) fn cut_at(rt: &impl Abort, state: &mut State, id: u64) -> Result<Option<Cut>, AllocError>
+pub(super) fn cut_at(state: &mut State, id: u64) -> Result<Option<Cut>, AllocError>
     ensures cut { IfOk result (λ made. IfSome made (λ cut. IsCutAt state.old id cut)) }
     ensures stays { state.new ≡ state.old }
 {
-    if !state.settle(id) {
-        return Ok(None);
+    if state.settle(id) {
+        return state.cut_of(id);
     }
-    match state.core(id) {
-        Some(core) => cut_of_lent(rt, state, id, core),
-        None => Ok(None),
-    }
+    Ok(None)
 }
 
 /// Makes the step of a split whose parts are made before, but for what is left of a list that is cut.
 fn split(rt: &impl Abort, alloc: Global, state: &mut State, id: u64) -> Result<(), ApplyFault> {
     assert!(rt; !state.bottom());
-    if let Some(cut) = cut_at(rt, state, id)? {
+    if let Some(cut) = cut_at(state, id)? {
         state.split_cut(id, cut)?;
         return Ok(());
     }

@@ -1,20 +1,20 @@
 //! Splits of cores that are long lists, at their front.
 
-ghost use Rattle.std.specs.Prelude.{◌≡◌, ◌+◌, ◌^◌, ◌<◌, ◌≤◌, ◌++◌, ◌∷◌, true, false, length, slice_index_or, slice_set, vec_len, vec_capacity, None, Some, Ok, IfOk, IfErr, IfSome, OnOk, OnErr};
+ghost use Rattle.std.specs.Prelude.{◌≡◌, ◌+◌, ◌^◌, ◌<◌, ◌≤◌, ◌++◌, ◌∷◌, true, false, length, slice_index_or, slice_set, vec_len, vec_capacity, None, Some, Ok, IfOk, IfErr, IfSome, OnOk, OnErr, IsTrue};
 ghost use Rattle.order_ints.specs.Label.{with_own_labels};
 ghost use Rattle.core_forms.specs.Settled.{IsSettledCore};
 ghost use Rattle.part_base.specs.Cuts.{CanCome, longer_of};
 ghost use Rattle.core_parts.specs.Parts.{is_compound_of};
 ghost use Rattle.ledger_text.specs.declared.line.Line.TheVariants.{Split};
 ghost use Rattle.step_kernel.specs.Kernel.{core_at, IsKernel};
-ghost use Rattle.step_kernel.specs.SplitAt.{IsCutAt};
+ghost use Rattle.step_kernel.specs.SplitAt.{IsSettledAt, IsCutAt};
 ghost use Rattle.step_kernel.specs.Steps.{step};
 
 use crate::cursor::{put_core, take_core, take_out};
 use crate::lists::all_pending;
 use crate::state::State;
 use core_forms::Core;
-use core_parts::cut;
+use core_parts::{cut, is_compound};
 use equation_store::EqStore;
 use part_base::{Coming, Cut, drop_before, put_behind, take_behind};
 use std::alloc::{AllocError, Global};
@@ -59,8 +59,8 @@ fn put_parts(
 }
 
 impl State {
-    /// How a compound core that is settled is split at its front, where it is a long list.
-    pub fn cut_of(&self, id: u64, core: &Core) -> Result<Option<Cut>, AllocError>
+    /// How a compound core that is settled is cut.
+    fn cut_core(&self, id: u64, core: &Core) -> Result<Option<Cut>, AllocError>
         requires there { core_at self.now.cores id ≡ Some core.now }
         requires settled { IsSettledCore self.now.view core.now }
         requires compound { is_compound_of core.now ≡ true }
@@ -68,6 +68,24 @@ impl State {
     {
         let alloc = *self.cores.allocator();
         cut(alloc, core, self.vars() + 1)
+    }
+
+    /// How a pending core that is settled is split at its front, where it is a long list. It takes the time and the memory of what
+    /// leaves and comes.
+    pub fn cut_of(&self, id: u64) -> Result<Option<Cut>, AllocError>
+        requires { IsSettledAt self.now id }
+        ensures { IfOk result (λ made. IfSome made (λ cut. IsCutAt self.now id cut)) }
+    {
+        match self.core(id) {
+            Some(core) => {
+                if is_compound(core) {
+                    self.cut_core(id, core)
+                } else {
+                    Ok(None)
+                }
+            }
+            None => Ok(None),
+        }
     }
 
     /// Makes the step of a split of a core that is cut at its front: what is left of its list is made of the core itself. Where memory
@@ -108,6 +126,26 @@ impl State {
                 put_core(&mut self.cores, id, core);
                 Err(AllocError)
             }
+        }
+    }
+
+    /// Makes the step of a split at the front, where the pending core is settled and a long list, and tells whether it did so.
+    pub(crate) fn try_cut(&mut self, id: u64) -> Result<bool, AllocError>
+        requires kernel { IsKernel self.old }
+        requires running { self.old.bottom ≡ false }
+        ensures step { IfOk result (λ done. IsTrue done → step self.old (Split id) ≡ Ok self.new) }
+        ensures undone { IfOk result (λ done. done ≡ false → self.new ≡ self.old) }
+        ensures stays { OnErr result (self.new ≡ self.old) }
+    {
+        if !self.settle(id) {
+            return Ok(false);
+        }
+        match self.cut_of(id)? {
+            Some(cut) => {
+                self.split_cut(id, cut)?;
+                Ok(true)
+            }
+            None => Ok(false),
         }
     }
 }

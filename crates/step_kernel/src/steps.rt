@@ -175,6 +175,38 @@ impl State {
         }
     }
 
+    /// The step of a line at its core, trimmed.
+    fn make_trimmed(&mut self, line: &Line) -> Result<(), ApplyFault>
+        requires running { self.old.bottom ≡ false }
+        ensures step { OnOk result (step self.old line.now ≡ Ok self.new) }
+        ensures fault { IfErr result (IsFaultOf (step self.old line.now)) }
+        ensures stays { OnErr result (self.new ≡ self.old) }
+        ensures kernel { IsKernel self.old }
+    {
+        let alloc = *self.cores.allocator();
+        let id = id_of(line);
+        match self.trimmed(alloc, id) {
+            Ok(Some(core)) => self.apply_at(alloc, line, core),
+            Ok(None) => Err(ApplyFault::Step(StepFault::NoSuch(id))),
+            Err(_) => Err(ApplyFault::Memory),
+        }
+    }
+
+    /// The step of a split, at the front where the core is settled and a long list.
+    fn make_split(&mut self, id: u64) -> Result<(), ApplyFault>
+        requires kernel { IsKernel self.old }
+        requires running { self.old.bottom ≡ false }
+        ensures step { OnOk result (step self.old (Split id) ≡ Ok self.new) }
+        ensures fault { IfErr result (IsFaultOf (step self.old (Split id))) }
+        ensures stays { OnErr result (self.new ≡ self.old) }
+    {
+        match self.try_cut(id) {
+            Ok(true) => Ok(()),
+            Ok(false) => self.make_trimmed(&Line::Split { id }),
+            Err(_) => Err(ApplyFault::Memory),
+        }
+    }
+
     /// The step of a line.
     fn make_step(&mut self, line: &Line) -> Result<(), ApplyFault>
         ensures step { OnOk result (step self.old line.now ≡ Ok self.new) }
@@ -185,16 +217,13 @@ impl State {
         if self.bottom {
             return Err(ApplyFault::Step(StepFault::AfterBottom));
         }
-        let alloc = *self.cores.allocator();
-        let id = id_of(line);
-        match self.trimmed(alloc, id) {
-            Ok(Some(core)) => self.apply_at(alloc, line, core),
-            Ok(None) => Err(ApplyFault::Step(StepFault::NoSuch(id))),
-            Err(_) => Err(ApplyFault::Memory),
+        match line {
+            Line::Split { id } => self.make_split(*id),
+            _ => self.make_trimmed(line),
         }
     }
 
-    /// Makes the step of a line. The line's core is trimmed once. An equation costs the size of its core and
+    /// Makes the step of a line. The line's core is trimmed once; a long list that is settled is split at its front without that. An equation costs the size of its core and
     /// a walk of the class that loses, a split its parts, an encoding its clauses. Where the line is no step,
     /// or memory is wanting, the state stays as it was.
     pub fn apply(&mut self, line: &Line) -> Result<(), ApplyFault>

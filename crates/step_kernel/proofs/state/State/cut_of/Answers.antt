@@ -1,18 +1,12 @@
-use Rattle.std.proofs.Common.{ℕ, ◌+◌, sym, subst, arith}
-use Rattle.core_forms.specs.Place.{CoreBelow}
-use Rattle.step_kernel.proofs.CutSplits.{settled-there}
-use Rattle.step_kernel.proofs.There.{there-formed, there-below, there-room}
+use Rattle.std.proofs.Common.{◌≡◌, sym, ap, ◌∙◌, subst, Some}
+use Rattle.core_forms.specs.WellFormed.{IsWellFormed}
+use Rattle.step_kernel.proofs.CutSplits.{the, settled-there}
+use Rattle.step_kernel.proofs.There.{there-formed}
 use Rattle.step_kernel.proofs.state.State.cut_of.Goals as goal
 
-pub cut-requires-clause-well_formed : goal.cut-requires-clause-well_formed
-cut-requires-clause-well_formed c =
-    there-formed c.args.self.now c.args.id c.args.core.now c.vars.ensures.kernel (settled-there c.args.self.now c.args.id c.args.core.now c.requires.there c.requires.settled)
-
-pub cut-requires-clause-below : goal.cut-requires-clause-below
-cut-requires-clause-below c =
-    subst (λ (n : ℕ). CoreBelow (n + 1) c.args.core.now) (sym c.vars.ensures.vars)
-    (there-below c.args.self.now c.args.id c.args.core.now c.vars.ensures.kernel (settled-there c.args.self.now c.args.id c.args.core.now c.requires.there c.requires.settled))
-
-pub cut-requires-clause-room : goal.cut-requires-clause-room
-cut-requires-clause-room c =
-    omega (arith, c.vars.ensures.vars, there-room c.args.self.now c.args.id c.args.core.now c.vars.ensures.kernel (settled-there c.args.self.now c.args.id c.args.core.now c.requires.there c.requires.settled))
+pub is_compound-requires : goal.is_compound-requires
+is_compound-requires c =
+    let at = c.requires in
+    let formed = there-formed c.args.self.now c.args.id at.core c.core.ensures.kernel (settled-there c.args.self.now c.args.id at.core at.there at.settled) in
+    let same : Some at.core ≡ Some c.in-Some.core.now = sym at.there ∙ sym c.in-Some.ensures.core in
+    subst IsWellFormed (ap (the at.core) same) formed

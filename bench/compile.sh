@@ -11,6 +11,11 @@
 #   count       a sum of Booleans
 #   linear      a linear sum of a hundred digits with coefficients from 1 to 10
 #   times       a product of two integers
+#   parity      a parity of Booleans
+#   at_most     at most one of them
+#   words       an order of two lists of Booleans
+#   added       a sum of integers of two values
+#   differing   integers of as many values that differ
 # Words name the families to be timed; without words all are. `measure.py` says what is printed, `models.py` has the models.
 # Wants python3.
 set -eu
@@ -28,6 +33,11 @@ families=(
   count:1000,2000,4000,8000,16000
   linear:100
   times:50,100,200
+  parity:1000,4000,16000,64000
+  at_most:1000,4000,16000,64000
+  words:1000,4000,16000,64000
+  added:1000,4000,16000
+  differing:100,300,1000
 )
 chosen=()
 for family in "${families[@]}"; do

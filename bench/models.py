@@ -103,6 +103,31 @@ def count(size):
     yield from (f"new_bool({name(n)})" for n in range(size))
     yield f"bool_array_sum_eq({joined(name(n) for n in range(size))},{size // 2})"
 
+# An odd number of so many Booleans are true.
+def parity(size):
+    yield from (f"new_bool({name(n)})" for n in range(size))
+    yield f"bool_array_xor({joined(name(n) for n in range(size))})"
+
+# At most one of so many Booleans is true.
+def at_most(size):
+    yield from (f"new_bool({name(n)})" for n in range(size))
+    yield f"bool_array_sum_leq({joined(name(n) for n in range(size))},1)"
+
+# A list of so many Booleans stands before another one, or is equal to it.
+def words(size):
+    yield from (f"new_bool({name(n)})" for n in range(2 * size))
+    yield f"bool_arrays_lex({joined(name(n) for n in range(size))},{joined(name(n) for n in range(size, 2 * size))})"
+
+# So many integers of two values make half of their number.
+def added(size):
+    yield from (f"new_int({name(n)},0,1)" for n in range(size))
+    yield f"int_array_sum_eq({joined(name(n) for n in range(size))},{size // 2})"
+
+# So many integers of as many values differ.
+def differing(size):
+    yield from (f"new_int({name(n)},1,{size})" for n in range(size))
+    yield f"int_array_allDiff({joined(name(n) for n in range(size))})"
+
 # A linear sum of digits with coefficients from 1 to 10, at half of its greatest value.
 def linear(size):
     coefficients = [1 + n % 10 for n in range(size)]

@@ -13,6 +13,8 @@
 #   pairs     check of a refutation of four clauses
 #   half      compile, half of forty Booleans true
 #   half      solve of the same
+#   lists     compile, a parity, an at-most-one, an order of words and a sum, each of some members
+#   lists     check of its optimum, whose ledger splits them
 #   two       solve, two objectives
 #   sum       decode, two integers from the values of their clauses
 # What is refused is `malloc` and `realloc` of the C library, by a small library that is put before it. BEE names another program that is tried, ASKING another program of the second part, which else is proved and built
@@ -98,12 +100,23 @@ half = path("half.bee", "".join(f"new_bool({n})\n" for n in names) + f"bool_arra
 two = path("two.bee", "new_int(x,0,3)\nnew_int(y,0,3)\nnew_int(z,-3,0)\nint_plus(x,y,3)\nint_plus(y,z,1)\nsolve maximize z then x\n")
 sum_text = path("sum.cnf", "c bee 1\nc int x 0 1:1 2:1 3:1\nc int y 0 -3:1 -2:1 -1:1\np cnf 6 2\n1 -2 0\n2 -3 0\n")
 found = path("sum.values", "c found\ns SATISFIABLE\nv 1 -2 -3\nv 4 5 -6 0\n")
+lists = path(
+    "lists.bee",
+    "".join(f"new_bool({n})\n" for n in names[:24])
+    + "".join(f"new_int(x{n},0,2)\n" for n in range(6))
+    + f"bool_array_xor([{','.join(names[:9])}])\nbool_array_sum_leq([{','.join(names[6:17])}],1)\n"
+    + f"bool_arrays_lex([{','.join(names[10:15])}],[{','.join(names[15:20])}])\n"
+    + "int_array_sum_eq([x0,x1,x2,x3,x4,x5],7)\nsolve minimize x0\n",
+)
+best = path("lists.answer", subprocess.run([program, "solve", lists], capture_output=True, text=True, check=True).stdout)
 RUNS = [
     ("times", ["solve", times]),
     ("pigeons", ["solve", holes, "--no-restart", "--budget", "4096"]),
     ("pairs", ["check", pairs, refuted]),
     ("half", ["compile", half]),
     ("half", ["solve", half]),
+    ("lists", ["compile", lists]),
+    ("lists", ["check", lists, best]),
     ("two", ["solve", two]),
     ("sum", ["decode", sum_text, found]),
 ]

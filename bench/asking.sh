@@ -93,12 +93,13 @@ impl<L: Ledger> Oracle<L> for Counting<'_> {
         &self,
         alloc: Global,
         core: &Core,
+        plain: bool,
         steps: &mut Steps<L>,
     ) -> Result<Option<FoundRun>, AllocError> {
         let vars = variables(alloc, core)?.len() as u64;
         self.asked.set(self.asked.get().saturating_add(1));
         self.looked.set(self.looked.get().saturating_add(vars));
-        let found = TableP.ask(alloc, core, steps)?;
+        let found = TableP.ask(alloc, core, plain, steps)?;
         if let Some(first) = &found {
             if !matches!(first.equation.rule, Rule::Table) {
                 self.looked.set(self.looked.get().saturating_add(vars));

@@ -52,21 +52,6 @@ def chain(size):
     yield "".join(f"new_bool({name})" for name in names) + "".join(f"bool_eq({a},{b})" for a, b in zip(names, names[1:]))
 
 
-def half(size):
-    yield from (f"new_bool(b{n})" for n in range(size))
-    yield f"bool_array_sum_eq([{','.join(f'b{n}' for n in range(size))}],{size // 2})"
-
-
-def added(size):
-    yield from (f"new_int(x{n},0,1)" for n in range(size))
-    yield f"int_array_sum_eq([{','.join(f'x{n}' for n in range(size))}],{size // 2})"
-
-
-def different(size):
-    yield from (f"new_int(x{n},1,{size})" for n in range(size))
-    yield f"int_array_allDiff([{','.join(f'x{n}' for n in range(size))}])"
-
-
 def copies(size):
     """A document of so many bytes whose derivation adds one clause again and again."""
     count = (size - 60) // 17
@@ -107,9 +92,9 @@ LOADS = {
     "weight below": (lines(lambda size: [f"new_int(i,0,{size})"]), 22_369_620, ["compile", "solve"]),
     "weight above": (lines(lambda size: [f"new_int(i,0,{size})"]), 22_369_623, ["compile"]),
     "chain": (lines(chain), 500_000, ["compile", "solve"]),
-    "half": (lines(half), 16_000, ["compile", "solve"]),
-    "sum": (lines(added), 16_000, ["compile"]),
-    "different": (lines(different), 1_000, ["compile"]),
+    "half": (lines(models.count), 16_000, ["compile", "solve"]),
+    "sum": (lines(models.added), 16_000, ["compile"]),
+    "different": (lines(models.differing), 1_000, ["compile"]),
     "document": (copies, 500_000_000, ["check"]),
     "one line": (one_line, 500_000_000, ["check"]),
 }

@@ -98,35 +98,37 @@ def magic(size):
     for line in square + list(zip(*square)) + diagonals:
         yield f"int_array_sum_eq({joined(line)},{total})"
 
+# So many declarations, and a statement over what they declare.
+def over(size, declaration, statement):
+    names = [name(n) for n in range(size)]
+    yield from (declaration.format(it) for it in names)
+    yield statement.format(joined(names))
+
 # Half of so many Booleans are true.
 def count(size):
-    yield from (f"new_bool({name(n)})" for n in range(size))
-    yield f"bool_array_sum_eq({joined(name(n) for n in range(size))},{size // 2})"
+    return over(size, "new_bool({})", f"bool_array_sum_eq({{}},{size // 2})")
 
-# An odd number of so many Booleans are true.
+# An odd number of them.
 def parity(size):
-    yield from (f"new_bool({name(n)})" for n in range(size))
-    yield f"bool_array_xor({joined(name(n) for n in range(size))})"
+    return over(size, "new_bool({})", "bool_array_xor({})")
 
-# At most one of so many Booleans is true.
+# At most one of them.
 def at_most(size):
-    yield from (f"new_bool({name(n)})" for n in range(size))
-    yield f"bool_array_sum_leq({joined(name(n) for n in range(size))},1)"
-
-# A list of so many Booleans stands before another one, or is equal to it.
-def words(size):
-    yield from (f"new_bool({name(n)})" for n in range(2 * size))
-    yield f"bool_arrays_lex({joined(name(n) for n in range(size))},{joined(name(n) for n in range(size, 2 * size))})"
+    return over(size, "new_bool({})", "bool_array_sum_leq({},1)")
 
 # So many integers of two values make half of their number.
 def added(size):
-    yield from (f"new_int({name(n)},0,1)" for n in range(size))
-    yield f"int_array_sum_eq({joined(name(n) for n in range(size))},{size // 2})"
+    return over(size, "new_int({},0,1)", f"int_array_sum_eq({{}},{size // 2})")
 
 # So many integers of as many values differ.
 def differing(size):
-    yield from (f"new_int({name(n)},1,{size})" for n in range(size))
-    yield f"int_array_allDiff({joined(name(n) for n in range(size))})"
+    return over(size, f"new_int({{}},1,{size})", "int_array_allDiff({})")
+
+# A list of so many Booleans stands before another one, or is equal to it.
+def words(size):
+    names = [name(n) for n in range(2 * size)]
+    yield from (f"new_bool({it})" for it in names)
+    yield f"bool_arrays_lex({joined(names[:size])},{joined(names[size:])})"
 
 # A linear sum of digits with coefficients from 1 to 10, at half of its greatest value.
 def linear(size):

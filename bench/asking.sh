@@ -40,7 +40,7 @@ folder=$(mktemp -d)
 trap 'rm -rf "$folder"' EXIT
 git init -q "$folder"
 tar -C "$top" --exclude=out -c crates crates.txt | tar -C "$folder" -x
-echo 'asking: bee_list core_forms rule_base core_rules ledger_text step_kernel fixpoint_queue bumblebee_reader typed_model model_lower bee_compile' \
+echo 'asking: bee_list core_forms rule_base core_rules ledger_text step_kernel fixpoint_queue rule_oracle bumblebee_reader typed_model model_lower bee_compile' \
   >>"$folder/crates.txt"
 mkdir -p "$folder/crates/asking/src" "$folder/models"
 for family in "${families[@]}"; do
@@ -60,10 +60,11 @@ use bee_compile::{Compiled, compile};
 use bumblebee_reader::Items;
 use core_forms::{Core, Rule, variables};
 use core_rules::FoundRun;
-use fixpoint_queue::{Oracle, TableP};
+use fixpoint_queue::Oracle;
 use ledger_text::Line;
 use model_lower::{Lowered, lower};
 use rule_base::Steps;
+use rule_oracle::TableP;
 use std::alloc::{AllocError, Global};
 use std::cell::Cell;
 use std::io;
@@ -86,8 +87,6 @@ impl<L: Ledger> Oracle<L> for Counting<'_> {
     ghost use Rattle.core_rules.specs.Instances.{is_instance_at};
 
     ghost told = { λ core e. is_instance_at core e ≡ true };
-
-    ghost told_is_instance = { λ core e told. told };
 
     fn ask(
         &self,

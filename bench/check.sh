@@ -34,7 +34,7 @@ folder=$(mktemp -d)
 trap 'rm -rf "$folder"' EXIT
 git init -q "$folder"
 tar -C "$top" --exclude=out -c crates crates.txt | tar -C "$folder" -x
-echo 'check_bench: bee_list bee_text order_ints core_forms ledger_text rule_base fixpoint_queue proof_check bumblebee_reader model_meaning typed_model bee_compile answer_document ledger_check' \
+echo 'check_bench: bee_list bee_text order_ints core_forms ledger_text rule_base fixpoint_queue rule_oracle proof_check bumblebee_reader model_meaning typed_model bee_compile answer_document ledger_check' \
   >>"$folder/crates.txt"
 bench=$folder/crates/check_bench
 mkdir -p "$bench/src" "$bench/proofs/models/are_lines" "$folder/cases"
@@ -112,12 +112,12 @@ cat >"$bench/src/documents.rt" <<'RT'
 use answer_document::{Document, Verdict};
 use bee_compile::{Compiled, compile};
 use bee_list::Sequence;
-use fixpoint_queue::TableP;
 use ledger_text::Line;
 use model_meaning::Model;
 use order_ints::Lit;
 use proof_check::ProofLine;
 use rule_base::Steps;
+use rule_oracle::TableP;
 use std::alloc::{AllocError, Global};
 use std::marker::Brand;
 use std::sync::ledger::{Blank, Ledger};

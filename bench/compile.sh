@@ -16,6 +16,14 @@
 #   words       an order of two lists of Booleans
 #   added       a sum of integers of two values
 #   differing   integers of as many values that differ
+#   tenth_fixed the same, where a tenth has its value
+#   half_fixed  the same, where every second one has
+#   sevenfold   an integer, seven times
+#   greatest    the greatest of many digits is at most 3
+#   conjuncts   Booleans that are all true
+#   all_true    a count of Booleans at its greatest value
+#   one_true    at most one of them, of which one is true
+#   near_top    a sum of digits just below its greatest value
 # Words name the families to be timed; without words all are. `measure.py` says what is printed, `models.py` has the models.
 # Wants python3.
 set -eu
@@ -38,6 +46,14 @@ families=(
   words:1000,4000,16000,64000
   added:1000,4000,16000
   differing:100,300,1000
+  tenth_fixed:40,80,160,300
+  half_fixed:50,100,200
+  sevenfold:500,2000,8000
+  greatest:500,2000,8000
+  conjuncts:2000,8000,32000
+  all_true:2000,8000,32000
+  one_true:2000,8000,16000
+  near_top:500,2000,4000
 )
 chosen=()
 for family in "${families[@]}"; do

@@ -124,6 +124,17 @@ def added(size):
 def differing(size):
     return over(size, f"new_int({{}},1,{size})", "int_array_allDiff({})")
 
+# The same, where each one at a multiple of the step has its own place as its value.
+def differing_by(size, step):
+    yield from differing(size)
+    yield from (f"int_eq({name(n - 1)},{n})" for n in range(step, size + 1, step))
+
+def tenth_fixed(size):
+    return differing_by(size, 10)
+
+def half_fixed(size):
+    return differing_by(size, 2)
+
 # A list of so many Booleans stands before another one, or is equal to it.
 def words(size):
     names = [name(n) for n in range(2 * size)]
@@ -139,6 +150,32 @@ def linear(size):
 # A product of two integers from 0 on.
 def times(size):
     yield f"new_int(a,0,{size}) new_int(b,0,{size}) new_int(c,0,{size * size}) int_times(a,b,c)"
+
+# An integer from 0 on, seven times.
+def sevenfold(size):
+    yield f"new_int(a,0,{size}) new_int(b,0,{7 * size}) int_times(a,7,b)"
+
+# The greatest of so many digits is at most 3.
+def greatest(size):
+    yield "new_int(most,0,3)"
+    yield from over(size, "new_int({},0,9)", "int_array_max({},most)")
+
+# So many Booleans are all true.
+def conjuncts(size):
+    return over(size, "new_bool({})", "bool_array_and({})")
+
+# As many of them are true as there are.
+def all_true(size):
+    return over(size, "new_bool({})", f"bool_array_sum_eq({{}},{size})")
+
+# At most one of them, of which one is true.
+def one_true(size):
+    yield from at_most(size)
+    yield f"bool_array_or([{name(size // 2)}])"
+
+# So many digits make three less than they can.
+def near_top(size):
+    return over(size, "new_int({},0,9)", f"int_array_sum_eq({{}},{9 * size - 3})")
 
 def empty(_):
     return ()

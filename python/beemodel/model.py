@@ -1,0 +1,270 @@
+"""A model: its variables, its constraints and its goal, and the text that says them."""
+from __future__ import annotations
+
+import re
+from bisect import bisect_left, bisect_right
+from collections.abc import Iterable, Sequence
+from pathlib import Path
+from typing import NamedTuple, Optional, Union
+
+from . import weights
+from .domains import Domain, domain_of
+from .expressions import (
+    GREATEST,
+    AllOf,
+    BooleanVariable,
+    Comparison,
+    IntegerVariable,
+    Number,
+    NumberLike,
+    Truth,
+    TruthLike,
+    flatten,
+    members,
+    number_of,
+    truth_of,
+    whole,
+)
+from .lines import ModelError, line_of_script, refused
+from .running import Answer, solve_text
+from .translation import Integer, Item, Translation
+
+# So many bytes of a text are read.
+LONGEST = 16_777_216
+
+
+class Constraint(NamedTuple):
+    """What has to hold, and the line of the script that states it."""
+
+    truth: Truth
+    line: str
+
+
+class Goal(NamedTuple):
+    """What is sought: `minimize` or `maximize`, and one objective or two."""
+
+    direction: str
+    objectives: tuple[Number, ...]
+    line: str
+
+
+class Written(NamedTuple):
+    """A model in statements."""
+
+    items: list[Item]
+    goal: str
+
+    def text(self) -> str:
+        return "".join(f"{it.text}\n" for it in self.items) + f"{self.goal}\n"
+
+
+class Model:
+    """Variables, constraints and a goal."""
+
+    def __init__(self) -> None:
+        self.variables: dict[str, Union[IntegerVariable, BooleanVariable]] = {}
+        self.constraints: list[Constraint] = []
+        self.goal: Optional[Goal] = None
+
+    # Variables.
+
+    def bool(self, name: str) -> BooleanVariable:
+        """A Boolean. Weight: 1."""
+        line = self.checked_name(name)
+        made = BooleanVariable(name, line)
+        self.variables[name] = made
+        return made
+
+    def int(
+        self, name: str, low: Union[int, Iterable[int]], high: Optional[int] = None
+    ) -> IntegerVariable:
+        """An integer: `int("x", 1, 5)` has the values 1 to 5, and `int("x", [1, 4, 9])` those of
+        the list.
+
+        Weight: 3 for each value.
+        """
+        line = self.checked_name(name)
+        if high is None:
+            listed = [low] if isinstance(low, int) else low
+            domain = domain_of(whole(it, name) for it in listed)
+        else:
+            domain = range(whole(low, name), whole(high, name) + 1)
+        if not domain:
+            raise refused(f"{name}: the domain has no value")
+        for end in (domain[0], domain[-1]):
+            if abs(end) > GREATEST:
+                raise refused(f"{name}: {end} is beyond {GREATEST}, the language's greatest number")
+        if weights.declared(len(domain) - 1) > weights.LIMIT:
+            raise refused(f"{name}: {len(domain)} values weigh more than {weights.LIMIT}")
+        made = IntegerVariable(name, domain, line)
+        self.variables[name] = made
+        return made
+
+    def checked_name(self, name: str) -> str:
+        """The line of the script, where the name is free and in form."""
+        line = line_of_script()
+        if not isinstance(name, str) or not re.fullmatch(r"[A-Za-z][A-Za-z_0-9]*", name):
+            raise refused(f"{name!r} is no name: a name is a letter and then letters, digits and _")
+        if name in ("true", "false"):
+            raise refused(f"{name} is the language's own word, and no name")
+        if name in self.variables:
+            raise refused(f"{name} is declared already, at {self.variables[name].line}")
+        return line
+
+    # What has to hold, and what is sought.
+
+    def add(self, *truths: Union[TruthLike, Iterable[TruthLike]]) -> None:
+        """States that each of the constraints holds; lists of them are taken as well."""
+        line = line_of_script()
+        for it in truths:
+            each = it if isinstance(it, Iterable) else [it]
+            self.constraints.extend(Constraint(truth_of(truth), line) for truth in each)
+
+    def minimize(self, objective: NumberLike, then: Optional[NumberLike] = None) -> None:
+        """Seeks the least value, and among the solutions that have it the least value of a second
+        one.
+
+        Where the greatest second value is sought, `then` is its negation.
+        """
+        self.set_goal("minimize", objective, then)
+
+    def maximize(self, objective: NumberLike, then: Optional[NumberLike] = None) -> None:
+        """Seeks the greatest value, and among the solutions that have it the greatest of a second
+        one."""
+        self.set_goal("maximize", objective, then)
+
+    def set_goal(self, direction: str, objective: NumberLike, then: Optional[NumberLike]) -> None:
+        """Takes the place of the goal before."""
+        objectives = [objective] if then is None else [objective, then]
+        self.goal = Goal(direction, tuple(number_of(it) for it in objectives), line_of_script())
+
+    # The text, and the answer.
+
+    def written(self) -> Written:
+        """The model in statements. An error names the constraint and its line."""
+        domains, rest = self.narrowed()
+        translation = Translation(self, domains)
+        for name, variable in self.variables.items():
+            translation.line, translation.subject = variable.line, name
+            if isinstance(variable, BooleanVariable):
+                translation.declare_boolean(name)
+            else:
+                translation.declare_integer(name, domains[name] or variable.domain[:1])
+                if not domains[name]:
+                    domains[name] = variable.domain[:1]
+                    translation.clause([])
+        for it in rest:
+            translation.line, translation.subject = it.line, it.truth
+            it.truth.post(translation)
+        goal = self.written_goal(translation)
+        return Written(translation.finish(), goal)
+
+    def written_goal(self, translation: Translation) -> str:
+        """The last item of the text."""
+        if self.goal is None:
+            return "solve satisfy"
+        translation.line, translation.subject = self.goal.line, f"{self.goal.direction}"
+        names = [self.objective(translation, it) for it in self.goal.objectives]
+        return f"solve {self.goal.direction} {' then '.join(names)}"
+
+    def objective(self, translation: Translation, number: Number) -> str:
+        """The declared integer that is an objective."""
+        made: Integer = translation.integer(number)
+        if made.steps or made.term in self.variables:
+            return made.term
+        name = translation.fresh_name()
+        translation.declare_integer(name, made.domain)
+        return name
+
+    def narrowed(self) -> tuple[dict[str, Domain], list[Constraint]]:
+        """The domains without the values that constraints on one variable rule out, and the
+        constraints that are left. The weight is counted by the declared domains, so that this is
+        lighter."""
+        rest: list[Constraint] = []
+        bounds: dict[str, list[Comparison]] = {}
+        for constraint in self.constraints:
+            for truth in members(constraint.truth, AllOf):
+                atom = self.only_variable(truth)
+                if atom is None:
+                    rest.append(Constraint(truth, constraint.line))
+                else:
+                    bounds.setdefault(atom.name, []).append(truth)
+        domains = {
+            name: narrowed_domain(variable, bounds.get(name, []))
+            for name, variable in self.variables.items()
+            if isinstance(variable, IntegerVariable)
+        }
+        return domains, rest
+
+    def only_variable(self, truth: Truth) -> Optional[IntegerVariable]:
+        """The declared integer that a comparison is about, where it is about one alone."""
+        if not isinstance(truth, Comparison):
+            return None
+        atoms, _ = flatten(truth.number)
+        atom = next(iter(atoms)) if len(atoms) == 1 else None
+        is_ours = isinstance(atom, IntegerVariable) and self.variables.get(atom.name) is atom
+        return atom if is_ours else None
+
+    def text(self) -> str:
+        """The model in the language of `docs/LANGUAGE.md`."""
+        return self.written().text()
+
+    def weight(self) -> int:
+        """What the model weighs; the program takes at most 67,108,864."""
+        return sum(it.weight for it in self.written().items)
+
+    def heaviest(self, count: int = 5) -> list[tuple[str, int]]:
+        """The lines of the script whose statements weigh most, and what they weigh together."""
+        return heaviest_lines(self.written().items)[:count]
+
+    def solve(
+        self,
+        budget: Optional[int] = None,
+        program: Optional[str] = None,
+        folder: Union[str, Path, None] = None,
+    ) -> Answer:
+        """Runs `bee solve` and then `bee check`; what is given back was accepted.
+
+        A budget bounds the learned clauses. The program is the argument, the environment variable
+        BEE, or `bee` at the top of the repository. With a folder, the model's text and the answer
+        stay there.
+        """
+        written = self.written()
+        weight = sum(it.weight for it in written.items)
+        if weight > weights.LIMIT:
+            shares = ", ".join(f"{line} {part}" for line, part in heaviest_lines(written.items)[:3])
+            limit = weights.LIMIT
+            raise ModelError(f"the model weighs {weight}, above {limit}; heaviest: {shares}")
+        text = written.text()
+        if len(text) > LONGEST:
+            raise ModelError(f"the text has {len(text)} bytes; at most {LONGEST} are read")
+        answer = solve_text(text, budget, program, folder)
+        if answer.values is not None:
+            answer.values = {name: answer.values[name] for name in self.variables}
+        return answer
+
+
+def narrowed_domain(variable: IntegerVariable, comparisons: Sequence[Comparison]) -> Domain:
+    """The values of a variable for which comparisons of it alone hold."""
+    domain, ruled_out = variable.domain, set()
+    for it in comparisons:
+        atoms, constant = flatten(it.number)
+        factor = atoms[variable]
+        value, rest = divmod(-constant, factor)
+        if it.relation == "leq" and factor > 0:
+            domain = domain[: bisect_right(domain, value)]
+        elif it.relation == "leq":
+            domain = domain[bisect_left(domain, value + bool(rest)) :]
+        elif it.relation == "eq":
+            domain = domain_of([value] if not rest and value in domain else [])
+        elif not rest:
+            ruled_out.add(value)
+    return domain_of(it for it in domain if it not in ruled_out) if ruled_out else domain
+
+
+def heaviest_lines(items: Sequence[Item]) -> list[tuple[str, int]]:
+    """The lines of a script by what their items weigh, the heaviest first."""
+    shares: dict[str, int] = {}
+    for it in items:
+        shares[it.line] = shares.get(it.line, 0) + it.weight
+    return sorted(shares.items(), key=lambda share: -share[1])

@@ -1,0 +1,13 @@
+mod Cuts
+mod Values
+pub mod Spelled
+pub mod Begun
+pub mod Told
+pub mod Faulty
+pub mod ByLines
+pub mod Whole
+pub mod Ends
+mod Fitting
+mod Taken
+mod LineRun
+mod Kept

@@ -1,0 +1,9 @@
+pub mod Words
+pub mod Tokens
+pub mod Grammar
+pub mod Steps
+pub mod Faults
+pub mod Outcomes
+pub mod Solutions
+pub mod Fits
+pub mod Laws

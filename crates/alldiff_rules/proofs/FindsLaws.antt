@@ -4,7 +4,7 @@ use Rattle.std.specs.Prelude.{Option, None, Some}
 use Rattle.std.specs.Option.{option_or, is_some}
 use Rattle.std.proofs.lemmas.Bool.{true≢false, false≢true, cases_lt}
 use Rattle.order_ints.specs.declared.atom.Atom.{Atom}
-use Rattle.rule_base.specs.declared.sought.Sought.{Sought}
+use Rattle.rule_base.specs.declared.sought.SoughtEquation.{SoughtEquation}
 use Rattle.rule_base.specs.Pairs.{is_sought, first_sought}
 use Rattle.alldiff_rules.specs.Instances.{IsOneOf}
 use Rattle.alldiff_rules.specs.Finds.{Finds}
@@ -24,7 +24,7 @@ one-cases a b [] qs h = inr h
 one-cases a b (r ∷ ps) qs (inl h) = inl (inl h)
 one-cases a b (r ∷ ps) qs (inr h) = ⊎_elim (λ (f : IsOneOf a b ps). inl (inr f)) (λ (f : IsOneOf a b qs). inr f) (one-cases a b ps qs h)
 
-module _ (sought : Sought) where
+module _ (sought : SoughtEquation) where
   -- the first pair of a list that is looked for
   pub first-finds : (ps : List (Atom × Atom)) → Finds sought (λ a b. IsOneOf a b ps) (first_sought sought ps)
   first-finds [] = λ a b h. absurd h
@@ -69,10 +69,10 @@ module _ (sought : Sought) where
     all-places n k le below = λ a b h. below h.0 (omega (arith, le, h.1)) a b h.2
 
 -- what is found first
-pub found-first : (sought : Sought) (P Q : Atom → Atom → Type 0) → ((a b : Atom) → P a b → Q a b) → (o : Option (Atom × Atom)) → is_some o ≡ true → Finds sought P o → Finds sought Q o
+pub found-first : (sought : SoughtEquation) (P Q : Atom → Atom → Type 0) → ((a b : Atom) → P a b → Q a b) → (o : Option (Atom × Atom)) → is_some o ≡ true → Finds sought P o → Finds sought Q o
 found-first sought P Q more None some h = absurd (false≢true some)
 found-first sought P Q more (Some p) some h = (more p.0 p.1 h.0, h.1)
 
-pub none-first : (sought : Sought) (P : Atom → Atom → Type 0) (o : Option (Atom × Atom)) → is_some o ≡ false → Finds sought P o → (a b : Atom) → P a b → is_sought sought (a, b) ≡ false
+pub none-first : (sought : SoughtEquation) (P : Atom → Atom → Type 0) (o : Option (Atom × Atom)) → is_some o ≡ false → Finds sought P o → (a b : Atom) → P a b → is_sought sought (a, b) ≡ false
 none-first sought P None none h = h
 none-first sought P (Some p) none h = absurd (true≢false none)

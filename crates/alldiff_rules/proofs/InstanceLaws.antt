@@ -10,7 +10,7 @@ use Rattle.core_forms.specs.declared.equation.Rule.TheVariants.{Form}
 use Rattle.core_forms.specs.declared.equation.Equation.{Equation}
 use Rattle.core_forms.specs.declared.form.Core.{Core}
 use Rattle.core_forms.specs.WellFormed.{IsWellFormed}
-use Rattle.rule_base.specs.declared.sought.Sought.TheVariants.{Apart, Pair}
+use Rattle.rule_base.specs.declared.sought.SoughtEquation.TheVariants.{Apart, Pair}
 use Rattle.rule_base.specs.Pairs.{is_pair_of, is_sought}
 use Rattle.rule_base.specs.Found.{stated_by, IsImplied}
 use Rattle.rule_base.proofs.PairLaws.{by_pair}

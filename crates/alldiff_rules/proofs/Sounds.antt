@@ -11,7 +11,7 @@ use Rattle.order_ints.specs.OrderRange.{low_of, high_of}
 use Rattle.order_ints.specs.Same.{is_true}
 use Rattle.core_forms.specs.WellFormed.{IsSound, AreSound}
 use Rattle.core_forms.proofs.Bounds.{wide_bits}
-use Rattle.rule_base.specs.declared.sought.Sought.{Sought}
+use Rattle.rule_base.specs.declared.sought.SoughtEquation.{SoughtEquation}
 use Rattle.rule_base.specs.Pairs.{first_sought, only_if}
 use Rattle.rule_base.specs.Stated.{at_least, is_below}
 use Rattle.rule_base.proofs.PairLaws.{both-found}
@@ -39,18 +39,18 @@ next_value v n w e small is =
     wide_bits n (omega (arith, ints, next, small)) ∙ next
 
 -- what the first integers of two lists say, one search after the other
-pub first-found : (sought : Sought) (a b : OrdInt) (v w : ℤ) (o p : Option (Atom × Atom)) → v ≡ high_of b +ℤ pos 1 → w ≡ low_of a → o ≡ first_sought sought (is_below a v ∷ []) → p ≡ first_sought sought (at_least b w ∷ []) → option_or o p ≡ first_sought sought (is_below a (high_of b +ℤ pos 1) ∷ at_least b (low_of a) ∷ [])
+pub first-found : (sought : SoughtEquation) (a b : OrdInt) (v w : ℤ) (o p : Option (Atom × Atom)) → v ≡ high_of b +ℤ pos 1 → w ≡ low_of a → o ≡ first_sought sought (is_below a v ∷ []) → p ≡ first_sought sought (at_least b w ∷ []) → option_or o p ≡ first_sought sought (is_below a (high_of b +ℤ pos 1) ∷ at_least b (low_of a) ∷ [])
 first-found sought a b v w o p top bottom first second =
     both-found sought (is_below a (high_of b +ℤ pos 1) ∷ []) (at_least b (low_of a) ∷ []) o p
     (first ∙ ap (λ x. first_sought sought (is_below a x ∷ [])) top) (second ∙ ap (λ x. first_sought sought (at_least b x ∷ [])) bottom)
 
 -- the search along the equations of two lists of one length
-pub lex-empty : (sought : Sought) (r : Atom) (strict : Bool) (front back : List OrdInt) → length front ≡ 0 → length front ≡ length back → first_sought sought (lex_equations r strict front back) ≡ first_sought sought ((r, cond strict False True) ∷ [])
+pub lex-empty : (sought : SoughtEquation) (r : Atom) (strict : Bool) (front back : List OrdInt) → length front ≡ 0 → length front ≡ length back → first_sought sought (lex_equations r strict front back) ≡ first_sought sought ((r, cond strict False True) ∷ [])
 lex-empty sought r strict [] [] none same = refl
 lex-empty sought r strict [] (y ∷ back) none same = absurd (omega arith)
 lex-empty sought r strict (x ∷ front) back none same = absurd (omega arith)
 
-pub lex-more : (sought : Sought) (r : Atom) (strict : Bool) (front back : List OrdInt) (x y : OrdInt) → 0 < length front → length front ≡ length back → x ≡ get_or front 0 x → y ≡ get_or back 0 y → lex_equations r strict front back ≡ only_if (is_true r) (is_below x (high_of y +ℤ pos 1) ∷ at_least y (low_of x) ∷ [])
+pub lex-more : (sought : SoughtEquation) (r : Atom) (strict : Bool) (front back : List OrdInt) (x y : OrdInt) → 0 < length front → length front ≡ length back → x ≡ get_or front 0 x → y ≡ get_or back 0 y → lex_equations r strict front back ≡ only_if (is_true r) (is_below x (high_of y +ℤ pos 1) ∷ at_least y (low_of x) ∷ [])
 lex-more sought r strict [] back x y some same is_x is_y = absurd (omega arith)
 lex-more sought r strict (u ∷ front) [] x y some same is_x is_y = absurd (omega arith)
 lex-more sought r strict (u ∷ front) (w ∷ back) x y some same is_x is_y =

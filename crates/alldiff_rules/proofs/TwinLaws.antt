@@ -10,7 +10,7 @@ use Rattle.order_ints.specs.Truth.{not_atom}
 use Rattle.order_ints.specs.Same.{same_atom}
 use Rattle.order_ints.specs.Equality.{same_atom-true, same_atom-refl}
 use Rattle.order_ints.proofs.Truths.{not_atom-not_atom}
-use Rattle.rule_base.specs.declared.sought.Sought.TheVariants.{Apart}
+use Rattle.rule_base.specs.declared.sought.SoughtEquation.TheVariants.{Apart}
 use Rattle.rule_base.specs.Pairs.{is_pair_of, is_sought, first_sought, only_if}
 use Rattle.rule_base.proofs.PairLaws.{by_pair}
 use Rattle.alldiff_rules.specs.declared.table.Places.{Places}

@@ -19,7 +19,7 @@ use Rattle.order_ints.specs.OrderMade.{constant_of}
 use Rattle.order_ints.proofs.Truths.{not_atom-not_atom}
 use Rattle.order_ints.proofs.Everywhere.{levels_at}
 use Rattle.core_forms.specs.WellFormed.{AreSound}
-use Rattle.rule_base.specs.declared.sought.Sought.{Sought}
+use Rattle.rule_base.specs.declared.sought.SoughtEquation.{SoughtEquation}
 use Rattle.rule_base.specs.Pairs.{is_sought, first_sought, only_if}
 use Rattle.rule_base.specs.Constant.{is_constant}
 use Rattle.rule_base.proofs.PairLaws.{both-found, front-found, back-found}
@@ -43,13 +43,13 @@ use Rattle.alldiff_rules.proofs.TestLaws.{all-sure, sure-all, both-true, true-is
 use Rattle.alldiff_rules.proofs.ValueCases.{at_of-skipped, one-if, if-one, AtValue, by_need, by_reaching, by_passing, value-cases, cases-value}
 
 -- the three searches at a value, one after another
-pub value-found : (sought : Sought) (needed alone : Bool) (here above : Atom) (o p q : Option (Atom × Atom)) → o ≡ first_sought sought (only_if needed ((here, above) ∷ [])) → p ≡ first_sought sought (only_if alone ((here, True) ∷ [])) → q ≡ first_sought sought (only_if alone ((above, False) ∷ [])) → option_or (option_or o p) q ≡ first_sought sought (value_equations needed alone here above)
+pub value-found : (sought : SoughtEquation) (needed alone : Bool) (here above : Atom) (o p q : Option (Atom × Atom)) → o ≡ first_sought sought (only_if needed ((here, above) ∷ [])) → p ≡ first_sought sought (only_if alone ((here, True) ∷ [])) → q ≡ first_sought sought (only_if alone ((above, False) ∷ [])) → option_or (option_or o p) q ≡ first_sought sought (value_equations needed alone here above)
 value-found sought needed alone here above o p q first second third =
     both-found sought (only_if needed ((here, above) ∷ []) ++ only_if alone ((here, True) ∷ [])) (only_if alone ((above, False) ∷ [])) (option_or o p) q
     (both-found sought (only_if needed ((here, above) ∷ [])) (only_if alone ((here, True) ∷ [])) o p first second) third
 
 -- a loop along levels stops at the first one with an equation that is looked for
-module _ (sought : Sought) (tables : Tables) (k : ℕ) (sure : Bool) (a : OrdInt) (ls rest : List (ℤ × Atom)) (v : ℤ) (x : Atom) (o : Option (Atom × Atom))
+module _ (sought : SoughtEquation) (tables : Tables) (k : ℕ) (sure : Bool) (a : OrdInt) (ls rest : List (ℤ × Atom)) (v : ℤ) (x : Atom) (o : Option (Atom × Atom))
     (is : ls ≡ (v, x) ∷ rest) (found : o ≡ first_sought sought (value_equations (sure && is_needed tables.narrow k v) (is_alone tables k v) x (at_of a (v +ℤ pos 1)))) where
   pub level-stop : is_some o ≡ true → o ≡ first_sought sought (level_equations tables k sure a ls)
   level-stop some =
@@ -93,7 +93,7 @@ module _ (tables : Tables) (k : ℕ) (sure : Bool) (a : OrdInt) (p q : Atom) whe
       one-right p q (value_equations (sure && is_needed tables.narrow k l.0) (is_alone tables k l.0) l.1 (at_of a (l.0 +ℤ pos 1))) (level_equations tables k sure a ls) (value-level v here ls at.1 s))
       (among-cases v l.0 (map (λ (m : ℤ × Atom). m.0) ls) e)
 
-module _ (sought : Sought) (of_two : IsOfTwo sought) (xs : List OrdInt) (cs : List Atom) (same : length xs ≡ length cs) (sound : AreSound xs) (tables : Tables) (are : AreTables xs cs tables) where
+module _ (sought : SoughtEquation) (of_two : IsOfTwo sought) (xs : List OrdInt) (cs : List Atom) (same : length xs ≡ length cs) (sound : AreSound xs) (tables : Tables) (are : AreTables xs cs tables) where
   -- as many values as members, which all differ
   module _ (e : tables.as_many ≡ true) where
     tests : (are_all_sure cs && (number_of_values xs == length xs)) ≡ true

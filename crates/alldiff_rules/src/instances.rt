@@ -12,12 +12,16 @@ use crate::members::by_difference;
 use crate::order::by_lex;
 use core_forms::{Core, Equation, Rule};
 use order_ints::Atom;
-use rule_base::{Sought, Steps};
+use rule_base::{SoughtEquation, Steps};
 use std::alloc::{AllocError, Global};
 use std::sync::ledger::Ledger;
 
 /// The equations of a core's form.
-fn by_form(alloc: Global, sought: Sought, core: &Core) -> Result<Option<(Atom, Atom)>, AllocError>
+fn by_form(
+    alloc: Global,
+    sought: SoughtEquation,
+    core: &Core,
+) -> Result<Option<(Atom, Atom)>, AllocError>
     requires sought { IsOfTwo sought }
     requires well_formed { IsWellFormed core.now }
     ensures { IfOk result (Finds sought (IsStated core.now)) }
@@ -70,7 +74,7 @@ pub fn find<L: Ledger>(
     ensures steps { steps.new ≡ steps.old + 1 }
 {
     steps.tick();
-    Ok(equation(by_form(alloc, Sought::Apart, core)?))
+    Ok(equation(by_form(alloc, SoughtEquation::Apart, core)?))
 }
 
 /// Whether two atoms are different, and a core's form states their equation in either order.
@@ -82,7 +86,7 @@ fn is_stated(alloc: Global, core: &Core, a: Atom, b: Atom) -> Result<bool, Alloc
     if a == b {
         return Ok(false);
     }
-    let pair = by_form(alloc, Sought::Pair(a, b), core)?;
+    let pair = by_form(alloc, SoughtEquation::Pair(a, b), core)?;
     Ok(pair.is_some())
 }
 

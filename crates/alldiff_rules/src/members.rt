@@ -13,13 +13,13 @@ use crate::member_tables::Tables;
 use crate::narrow::choices;
 use crate::twins::by_twins;
 use order_ints::{Atom, OrdInt, Walk};
-use rule_base::{Sought, next};
+use rule_base::{SoughtEquation, next};
 use std::alloc::{AllocError, Global};
 
 /// The equations at a value of a member, which is reached where one atom is true and passed where another one
 /// is.
 fn at_value(
-    sought: Sought,
+    sought: SoughtEquation,
     needed: bool,
     alone: bool,
     here: Atom,
@@ -36,7 +36,7 @@ fn at_value(
 /// The equations at the values of the member at a place: one loop along them, beside a walk that is one value
 /// ahead.
 fn at_values(
-    sought: Sought,
+    sought: SoughtEquation,
     tables: &Tables,
     place: usize,
     sure: bool,
@@ -60,7 +60,7 @@ fn at_values(
 
 /// The equation of a constant whose value another one has, of the member at a place.
 fn by_constant(
-    sought: Sought,
+    sought: SoughtEquation,
     tables: &Tables,
     place: usize,
     condition: Atom,
@@ -74,7 +74,7 @@ fn by_constant(
 
 /// The equations of the member at a place.
 fn by_member(
-    sought: Sought,
+    sought: SoughtEquation,
     tables: &Tables,
     place: usize,
     condition: Atom,
@@ -92,7 +92,7 @@ fn by_member(
 
 /// The equations of all members.
 fn by_members(
-    sought: Sought,
+    sought: SoughtEquation,
     tables: &Tables,
     ints: &[OrdInt],
     conditions: &[Atom],
@@ -114,7 +114,7 @@ fn by_members(
 /// memory linear in these.
 pub(crate) fn by_difference(
     alloc: Global,
-    sought: Sought,
+    sought: SoughtEquation,
     ints: &[OrdInt],
     conditions: &[Atom],
 ) -> Result<Option<(Atom, Atom)>, AllocError>

@@ -8,10 +8,10 @@ ghost use Rattle.rule_base.specs.Stated.{at_least, is_below};
 ghost use Rattle.alldiff_rules.specs.Rows.{lex_equations};
 
 use order_ints::{Atom, OrdInt};
-use rule_base::{Sought, next};
+use rule_base::{SoughtEquation, next};
 
 /// The equations where an integer is at most another.
-fn by_first(sought: Sought, a: &OrdInt, b: &OrdInt) -> Option<(Atom, Atom)>
+fn by_first(sought: SoughtEquation, a: &OrdInt, b: &OrdInt) -> Option<(Atom, Atom)>
     requires a { IsSound a.now }
     requires b { IsSound b.now }
     ensures { result ≡ first_sought sought
@@ -24,7 +24,7 @@ fn by_first(sought: Sought, a: &OrdInt, b: &OrdInt) -> Option<(Atom, Atom)>
 
 /// The equations of two lists, of which one stands before the other where an atom is true.
 pub(crate) fn by_lex(
-    sought: Sought,
+    sought: SoughtEquation,
     r: Atom,
     strict: bool,
     front: &[OrdInt],

@@ -3,7 +3,7 @@
 ghost use Rattle.std.specs.Prelude.{◌≡◌, ◌<◌, ◌^◌, ◌↔◌, ℤ, ℕ, true, length, unsigned_abs, MatchOption, IfSome, IfOk, IsTrue};
 ghost use Rattle.std.specs.BTreeMap.{get};
 ghost use Rattle.core_forms.specs.WellFormed.{AreSound};
-ghost use Rattle.rule_base.specs.declared.sought.Sought.TheVariants.{Apart, Pair};
+ghost use Rattle.rule_base.specs.declared.sought.SoughtEquation.TheVariants.{Apart, Pair};
 ghost use Rattle.rule_base.specs.Pairs.{first_sought};
 ghost use Rattle.alldiff_rules.specs.Members.{int_at, IsChoiceAt};
 ghost use Rattle.alldiff_rules.specs.Table.{pair_cmp, has_others, Shows};
@@ -13,7 +13,7 @@ ghost use Rattle.alldiff_rules.specs.Twins.{IsSplitAt, HasTwins, IsTwinRow, firs
 use crate::narrow::{Choice, choice_at, found_choice, is_shared};
 use crate::table::{Places, put_pair};
 use order_ints::{Atom, OrdInt};
-use rule_base::Sought;
+use rule_base::SoughtEquation;
 use std::alloc::{AllocError, Global};
 use std::collections::BTreeMap;
 
@@ -147,7 +147,7 @@ fn apart_from(
     ensures { result ≡ first_sought Apart (twin_equations ints.now atom place other) }
 {
     match other {
-        Some(other) => Sought::Apart.when(other != place, atom, atom_at(ints, other).not()),
+        Some(other) => SoughtEquation::Apart.when(other != place, atom, atom_at(ints, other).not()),
         None => None,
     }
 }
@@ -220,7 +220,7 @@ fn apart_twins(
 /// The equations of members with the same two values.
 pub(crate) fn by_twins(
     alloc: Global,
-    sought: Sought,
+    sought: SoughtEquation,
     choices: &BTreeMap<(i128, u128), Places>,
     ints: &[OrdInt],
     conditions: &[Atom],
@@ -233,7 +233,7 @@ pub(crate) fn by_twins(
     ensures { IfOk result (Finds sought (IsTwinRow ints.now conditions.now)) }
 {
     match sought {
-        Sought::Apart => Ok(apart_twins(choices, ints, conditions)),
-        Sought::Pair(a, b) => given_twins(alloc, ints, conditions, a, b),
+        SoughtEquation::Apart => Ok(apart_twins(choices, ints, conditions)),
+        SoughtEquation::Pair(a, b) => given_twins(alloc, ints, conditions, a, b),
     }
 }

@@ -86,7 +86,7 @@ words-tell (Add id lits hints) (Add n ls hs) p q e =
 words-tell (Add id lits hints) (Delete at ids) p q e = absurd (no-mark lits (list_words signed_decimal hints []) (list_words decimal ids []) p.1 (ap (drop 1) e))
 words-tell (Delete at ids) (Add n ls hs) p q e = absurd (no-mark ls (list_words signed_decimal hs []) (list_words decimal ids []) q.1 (sym (ap (drop 1) e)))
 words-tell (Delete at ids) (Delete n is) p q e =
-    let head : at ≡ n = id-tells at n p.0 q.0 (ap (λ (ws : List (List ℕ)). get_or ws 0 []) e) in
+    let head : at ≡ n = decimal_injective_wide at n (omega (arith, p.0)) (omega (arith, q.0)) (ap (λ (ws : List (List ℕ)). get_or ws 0 []) e) in
     let behind = lists-tell decimal IsReadableId id-tells id-some ids is [] [] p.1 q.1 (ap (drop 2) e) in
     λ i. Delete (head i) (behind.0 i)
 
@@ -96,7 +96,7 @@ line-tells l m p q e = words-tell l m p q (join_words_injective (line_words l) (
 -- a line begins with a digit
 pub line-begins : (l : ProofLine) → IsReadable l → get_or (line_bytes l) 0 0 ≤ 57
 line-begins (Add id lits hints) h = begins-with-digit id (words_behind (list_words literal_word lits (list_words signed_decimal hints []))) (omega (arith, h.0.1))
-line-begins (Delete at ids) h = begins-with-digit at (words_behind (codes "d" ∷ list_words decimal ids [])) (omega (arith, h.0.1))
+line-begins (Delete at ids) h = begins-with-digit at (words_behind (codes "d" ∷ list_words decimal ids [])) (omega (arith, h.0))
 
 -- lines of which the first begins with a letter
 abbrev pub BeginBehind : List (List ℕ) → Type 0

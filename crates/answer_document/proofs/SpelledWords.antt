@@ -84,5 +84,5 @@ line-are-words (Add id lits hints) h =
     word-more (decimal id) (list_words literal_word lits (list_words signed_decimal hints [])) (decimal_word id (omega (arith, h.0.1)))
     (list-words literal_word IsReadableLit literal-word lits (list_words signed_decimal hints []) h.1 (list-words signed_decimal IsReadableHint (λ z k. signed-word z k.0) hints [] h.2 refl))
 line-are-words (Delete at ids) h =
-    word-more (decimal at) (codes "d" ∷ list_words decimal ids []) (decimal_word at (omega (arith, h.0.1)))
+    word-more (decimal at) (codes "d" ∷ list_words decimal ids []) (decimal_word at (omega (arith, h.0)))
     (word-more (codes "d") (list_words decimal ids []) refl (list-words decimal IsReadableId (λ n k. decimal_word n (omega (arith, k.1))) ids [] h.1 refl))

@@ -17,7 +17,7 @@ use Rattle.step_kernel.specs.Kernel.{Kernel, started}
 use Rattle.step_kernel.specs.Steps.{replay}
 use Rattle.step_kernel.specs.CnfOf.{cnf_of}
 use Rattle.proof_check.specs.declared.line.ProofLine.{ProofLine}
-use Rattle.proof_check.specs.Lines.{IsReadable}
+use Rattle.proof_check.specs.Lines.{Each, IsReadable}
 use Rattle.proof_check.specs.Lrat.{Proof, proof_of, take_lines}
 use Rattle.proof_check.specs.Known.{known}
 use Rattle.answer_document.specs.declared.verdict.Bounds.{Bounds}
@@ -119,8 +119,7 @@ AreReadableSteps [] = Unit {0}
 AreReadableSteps (line ∷ lines) = IsReadableStep line × AreReadableSteps lines
 
 abbrev pub AreReadableLines : List ProofLine → Type 0
-AreReadableLines [] = Unit {0}
-AreReadableLines (line ∷ lines) = IsReadable line × AreReadableLines lines
+AreReadableLines lines = Each IsReadable lines
 
 abbrev pub IsReadableSecond : Option (List ProofLine) → Type 0
 IsReadableSecond None = Unit {0}

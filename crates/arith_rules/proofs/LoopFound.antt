@@ -4,12 +4,12 @@ use Rattle.std.specs.Prelude.{Option, filter}
 use Rattle.std.specs.Option.{is_some}
 use Rattle.std.specs.List.{AllByRecursion}
 use Rattle.order_ints.specs.declared.atom.Atom.{Atom}
-use Rattle.rule_base.specs.declared.sought.Sought.{Sought}
+use Rattle.rule_base.specs.declared.sought.SoughtEquation.{SoughtEquation}
 use Rattle.rule_base.specs.Pairs.{first_sought, only_if}
 use Rattle.rule_base.proofs.PairLaws.{front-found, back-found}
 
 -- one equation for each member
-module _ {X : Type 0} (sought : Sought) (pair : X → Atom × Atom) (xs rest : List X) (x : X) (p : Atom × Atom) (o : Option (Atom × Atom))
+module _ {X : Type 0} (sought : SoughtEquation) (pair : X → Atom × Atom) (xs rest : List X) (x : X) (p : Atom × Atom) (o : Option (Atom × Atom))
     (is : xs ≡ x ∷ rest) (at : p ≡ pair x) (found : o ≡ first_sought sought (p ∷ [])) where
   pub pair-stop : is_some o ≡ true → o ≡ first_sought sought (map pair xs)
   pair-stop some =
@@ -30,7 +30,7 @@ filter-first pair test x rest =
     ]
 
 -- one equation for each member that passes a test
-module _ {X : Type 0} (sought : Sought) (pair : X → Atom × Atom) (test : X → Bool) (xs rest : List X) (x : X) (p : Atom × Atom) (o : Option (Atom × Atom))
+module _ {X : Type 0} (sought : SoughtEquation) (pair : X → Atom × Atom) (test : X → Bool) (xs rest : List X) (x : X) (p : Atom × Atom) (o : Option (Atom × Atom))
     (is : xs ≡ x ∷ rest) (at : p ≡ pair x) (found : o ≡ first_sought sought (only_if (test x) (p ∷ []))) where
   pub where-stop : is_some o ≡ true → o ≡ first_sought sought (map pair (filter test xs))
   where-stop some =

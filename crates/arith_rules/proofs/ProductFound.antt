@@ -11,7 +11,7 @@ use Rattle.order_ints.specs.declared.order_int.OrdInt.{OrdInt}
 use Rattle.order_ints.specs.OrderRange.{weights, low_of, high_of}
 use Rattle.order_ints.specs.OrderLevels.{levels, levels_of, values_of}
 use Rattle.core_forms.specs.WellFormed.{HasSmallProducts}
-use Rattle.rule_base.specs.declared.sought.Sought.{Sought}
+use Rattle.rule_base.specs.declared.sought.SoughtEquation.{SoughtEquation}
 use Rattle.rule_base.specs.Pairs.{first_sought}
 use Rattle.rule_base.proofs.PairLaws.{both-found}
 use Rattle.arith_rules.specs.declared.links.Link.TheVariants.{Times, Ceiling, Over}
@@ -63,7 +63,7 @@ corners-small a b small = (
 
 -- ---- two links, with the number that the code computes
 
-module _ (sought : Sought) (x y : OrdInt) (k k' : ℤ) (o p : Option (Atom × Atom)) where
+module _ (sought : SoughtEquation) (x y : OrdInt) (k k' : ℤ) (o p : Option (Atom × Atom)) where
   pub multiple-found : o ≡ first_sought sought (linked_back (link_of (Times k')) x y) → p ≡ first_sought sought (linked (link_of (Ceiling k')) y x) → k' ≡ k → option_or o p ≡ first_sought sought (multiple_equations k x y)
   multiple-found first second e =
       both-found sought (linked_back (link_of (Times k')) x y) (linked (link_of (Ceiling k')) y x) o p first second ∙ ap (λ n. first_sought sought (multiple_equations n x y)) e

@@ -8,7 +8,7 @@ use Rattle.order_ints.specs.declared.atom.Atom.{Atom}
 use Rattle.order_ints.specs.declared.atom.Atom.TheVariants.{True, False}
 use Rattle.order_ints.specs.declared.order_int.OrdInt.{OrdInt}
 use Rattle.order_ints.specs.OrderRange.{low_of, high_of}
-use Rattle.rule_base.specs.declared.sought.Sought.{Sought}
+use Rattle.rule_base.specs.declared.sought.SoughtEquation.{SoughtEquation}
 use Rattle.rule_base.specs.Pairs.{first_sought, only_if}
 use Rattle.rule_base.proofs.PairLaws.{front-found, back-found}
 use Rattle.arith_rules.specs.Links.{within}
@@ -25,7 +25,7 @@ some-sum [] k e = absurd (cc)
 some-sum (a ∷ xs) k e = refl
 
 -- a loop along the members
-module _ (sought : Sought) (k lows highs : ℤ) (xs rest : List OrdInt) (a : OrdInt) (o : Option (Atom × Atom)) (is : xs ≡ a ∷ rest)
+module _ (sought : SoughtEquation) (k lows highs : ℤ) (xs rest : List OrdInt) (a : OrdInt) (o : Option (Atom × Atom)) (is : xs ≡ a ∷ rest)
     (found : o ≡ first_sought sought (within a (k -ℤ (highs -ℤ high_of a)) (k -ℤ (lows -ℤ low_of a)))) where
   pub share-stop : is_some o ≡ true → o ≡ first_sought sought (shares k lows highs xs)
   share-stop some =

@@ -12,7 +12,7 @@ use Rattle.order_ints.specs.OrderLevels.{levels_of, values_of, at_of}
 use Rattle.order_ints.proofs.Comparisons.{int_le-true, int_le-false, by_int_le}
 use Rattle.order_ints.proofs.Everywhere.{levels_small}
 use Rattle.core_forms.specs.WellFormed.{AreSound}
-use Rattle.rule_base.specs.declared.sought.Sought.{Sought}
+use Rattle.rule_base.specs.declared.sought.SoughtEquation.{SoughtEquation}
 use Rattle.rule_base.specs.Pairs.{first_sought, only_if}
 use Rattle.rule_base.specs.Stated.{is_below}
 use Rattle.arith_rules.specs.declared.maxima.Tops.{Tops}
@@ -109,7 +109,7 @@ top_is a xs bounded =
     ∙ ap (λ t. top_from t xs) (by_int_le no_tops.first (high_of a) (high_of a) no_tops.first (λ t. t ≡ high_of a) (λ _. refl) (λ lt. absurd (omega (arith, ints, lt, bounded.1))))
 
 -- what is found where the first of the two bounds c
-pub top-found : (sought : Sought) (c : OrdInt) (xs : List OrdInt) (tops : Tops) → AreSound xs → tops ≡ tops_of xs → (length xs == 0) ≡ false → first_sought sought (is_below c (tops.first +ℤ pos 1) ∷ []) ≡ first_sought sought (top_equations c xs)
+pub top-found : (sought : SoughtEquation) (c : OrdInt) (xs : List OrdInt) (tops : Tops) → AreSound xs → tops ≡ tops_of xs → (length xs == 0) ≡ false → first_sought sought (is_below c (tops.first +ℤ pos 1) ∷ []) ≡ first_sought sought (top_equations c xs)
 top-found sought c [] tops sound is some = absurd (cc)
 top-found sought c (a ∷ xs) tops sound is some =
     ap (λ n. first_sought sought (is_below c (n +ℤ pos 1) ∷ [])) (ap (λ (t : Tops). t.first) is ∙ top_is a xs sound.0.0)

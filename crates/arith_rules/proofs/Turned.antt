@@ -8,8 +8,8 @@ use Rattle.order_ints.specs.Same.{same_atom}
 use Rattle.order_ints.specs.Equality.{same_atom-true, same_atom-refl}
 use Rattle.order_ints.specs.OrderLevels.{values_of, at_of}
 use Rattle.order_ints.specs.Truth.{Valuation}
-use Rattle.rule_base.specs.declared.sought.Sought.{Sought}
-use Rattle.rule_base.specs.declared.sought.Sought.TheVariants.{Apart, Pair}
+use Rattle.rule_base.specs.declared.sought.SoughtEquation.{SoughtEquation}
+use Rattle.rule_base.specs.declared.sought.SoughtEquation.TheVariants.{Apart, Pair}
 use Rattle.rule_base.specs.Pairs.{is_sought, first_sought, AreEqual}
 use Rattle.arith_rules.specs.Links.{linked, linked_back, alike_where, alike_back, turned}
 
@@ -37,13 +37,13 @@ or-turned true false = refl
 or-turned false true = refl
 or-turned false false = refl
 
-sought-turned : (sought : Sought) (p : Atom × Atom) → is_sought sought (turned p) ≡ is_sought sought p
+sought-turned : (sought : SoughtEquation) (p : Atom × Atom) → is_sought sought (turned p) ≡ is_sought sought p
 sought-turned Apart p = ap not (same-turned p.1 p.0)
 sought-turned (Pair a b) p =
     or-turned (same_atom p.1 a && same_atom p.0 b) (same_atom p.1 b && same_atom p.0 a)
     ∙ (λ i. and-turned (same_atom p.1 b) (same_atom p.0 a) i || and-turned (same_atom p.1 a) (same_atom p.0 b) i)
 
-pub turned-found : (sought : Sought) (ps : List (Atom × Atom)) → option_map turned (first_sought sought ps) ≡ first_sought sought (map turned ps)
+pub turned-found : (sought : SoughtEquation) (ps : List (Atom × Atom)) → option_map turned (first_sought sought ps) ≡ first_sought sought (map turned ps)
 turned-found sought [] = refl
 turned-found sought (p ∷ ps) =
     by (is_sought sought p) (turned-found sought ps) ∙ ap (λ (t : Bool). if t then Some (turned p) else first_sought sought (map turned ps)) (sym (sought-turned sought p))

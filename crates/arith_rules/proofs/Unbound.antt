@@ -8,7 +8,7 @@ use Rattle.order_ints.specs.OrderRange.{low_of, high_of}
 use Rattle.order_ints.specs.OrderLevels.{at_of}
 use Rattle.order_ints.proofs.Reaching.{at_of-low, at_of-high}
 use Rattle.rule_base.specs.Pairs.{first_sought}
-use Rattle.rule_base.specs.declared.sought.Sought.TheVariants.{Apart}
+use Rattle.rule_base.specs.declared.sought.SoughtEquation.TheVariants.{Apart}
 use Rattle.arith_rules.specs.Links.{within}
 
 pub unbound : (a : OrdInt) (low high : ℤ) → low ≤ℤ low_of a → high_of a ≤ℤ high → None ≡ first_sought Apart (within a low high)

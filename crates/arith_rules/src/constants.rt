@@ -10,10 +10,10 @@ ghost use Rattle.arith_rules.specs.SumRows.{raised_equations, mirrored_equations
 use crate::links::{Link, linked, linked_back, opposed, opposed_above};
 use crate::sums::by_sum3_ranges;
 use order_ints::{Atom, OrdInt};
-use rule_base::{Sought, is_constant};
+use rule_base::{SoughtEquation, is_constant};
 
 /// The equations of the least value of `a` and `b`, added up, being `c`.
-fn by_raised(sought: Sought, a: &OrdInt, b: &OrdInt, c: &OrdInt) -> Option<(Atom, Atom)>
+fn by_raised(sought: SoughtEquation, a: &OrdInt, b: &OrdInt, c: &OrdInt) -> Option<(Atom, Atom)>
     requires a { IsSound a.now }
     requires b { IsSound b.now }
     requires c { IsSound c.now }
@@ -28,7 +28,7 @@ fn by_raised(sought: Sought, a: &OrdInt, b: &OrdInt, c: &OrdInt) -> Option<(Atom
 }
 
 /// The equations of `a` and `b`, added up, being the least value of `c`: down one and up the other.
-fn by_mirrored(sought: Sought, c: &OrdInt, a: &OrdInt, b: &OrdInt) -> Option<(Atom, Atom)>
+fn by_mirrored(sought: SoughtEquation, c: &OrdInt, a: &OrdInt, b: &OrdInt) -> Option<(Atom, Atom)>
     requires c { IsSound c.now }
     requires a { IsSound a.now }
     requires b { IsSound b.now }
@@ -43,7 +43,7 @@ fn by_mirrored(sought: Sought, c: &OrdInt, a: &OrdInt, b: &OrdInt) -> Option<(At
 }
 
 /// Those where `a` is constant.
-fn raised_where(sought: Sought, a: &OrdInt, b: &OrdInt, c: &OrdInt) -> Option<(Atom, Atom)>
+fn raised_where(sought: SoughtEquation, a: &OrdInt, b: &OrdInt, c: &OrdInt) -> Option<(Atom, Atom)>
     requires a { IsSound a.now }
     requires b { IsSound b.now }
     requires c { IsSound c.now }
@@ -57,7 +57,12 @@ fn raised_where(sought: Sought, a: &OrdInt, b: &OrdInt, c: &OrdInt) -> Option<(A
 }
 
 /// Those where `c` is constant.
-fn mirrored_where(sought: Sought, c: &OrdInt, a: &OrdInt, b: &OrdInt) -> Option<(Atom, Atom)>
+fn mirrored_where(
+    sought: SoughtEquation,
+    c: &OrdInt,
+    a: &OrdInt,
+    b: &OrdInt,
+) -> Option<(Atom, Atom)>
     requires c { IsSound c.now }
     requires a { IsSound a.now }
     requires b { IsSound b.now }
@@ -72,7 +77,7 @@ fn mirrored_where(sought: Sought, c: &OrdInt, a: &OrdInt, b: &OrdInt) -> Option<
 
 /// The equations where one of the three is constant.
 pub(crate) fn by_sum3_constants(
-    sought: Sought,
+    sought: SoughtEquation,
     a: &OrdInt,
     b: &OrdInt,
     c: &OrdInt,
@@ -90,7 +95,12 @@ pub(crate) fn by_sum3_constants(
 
 /// Of the equations of `a` and `b`, added up, being `c`, the first that is looked for: by their ranges, and then,
 /// where one is constant, by walks along the two others side by side.
-pub(crate) fn by_sum3(sought: Sought, a: &OrdInt, b: &OrdInt, c: &OrdInt) -> Option<(Atom, Atom)>
+pub(crate) fn by_sum3(
+    sought: SoughtEquation,
+    a: &OrdInt,
+    b: &OrdInt,
+    c: &OrdInt,
+) -> Option<(Atom, Atom)>
     requires a { IsSound a.now }
     requires b { IsSound b.now }
     requires c { IsSound c.now }

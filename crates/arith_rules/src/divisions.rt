@@ -11,7 +11,7 @@ ghost use Rattle.arith_rules.specs.DivisionRanges.{quotients_of, rest_within, qu
 use crate::numbers::{floor_of, product};
 use crate::ranges::Range;
 use order_ints::{Atom, OrdInt};
-use rule_base::{Sought, next};
+use rule_base::{SoughtEquation, next};
 
 /// What a quotient is at least and at most, where the dividend is in the first range and the divisor in the
 /// second.
@@ -28,7 +28,7 @@ fn quotients_of(x: &Range, y: &Range) -> Range
 }
 
 /// The equations of the range of a rest.
-fn by_rest(sought: Sought, r: &OrdInt, x: &Range, y: &Range) -> Option<(Atom, Atom)>
+fn by_rest(sought: SoughtEquation, r: &OrdInt, x: &Range, y: &Range) -> Option<(Atom, Atom)>
     requires bounded { IsBounded r.now }
     requires dividend { unsigned_abs x.now.high < 2 ^ 100 }
     ensures { result ≡ first_sought sought (rest_within r.now x.now y.now) }
@@ -40,7 +40,13 @@ fn by_rest(sought: Sought, r: &OrdInt, x: &Range, y: &Range) -> Option<(Atom, At
 }
 
 /// The equations of the ranges of a quotient and a rest.
-fn by_quotient(sought: Sought, q: &OrdInt, r: &OrdInt, x: &Range, y: &Range) -> Option<(Atom, Atom)>
+fn by_quotient(
+    sought: SoughtEquation,
+    q: &OrdInt,
+    r: &OrdInt,
+    x: &Range,
+    y: &Range,
+) -> Option<(Atom, Atom)>
     requires q { IsBounded q.now }
     requires r { IsBounded r.now }
     requires divisor { (pos 1 ≤ℤ y.now.low) × (pos 1 ≤ℤ y.now.high) }
@@ -83,7 +89,13 @@ fn are_from_zero(z: &Range, t: &Range) -> bool
 }
 
 /// The equations of the range of a dividend, where the quotient and the rest have values from 0.
-fn by_dividend(sought: Sought, a: &OrdInt, z: &Range, y: &Range, t: &Range) -> Option<(Atom, Atom)>
+fn by_dividend(
+    sought: SoughtEquation,
+    a: &OrdInt,
+    z: &Range,
+    y: &Range,
+    t: &Range,
+) -> Option<(Atom, Atom)>
     requires bounded { IsBounded a.now }
     requires whole { HaveSmallDividends z.now y.now t.now }
     requires rest { (unsigned_abs t.now.low < 2 ^ 100) × (unsigned_abs t.now.high < 2 ^ 100) }
@@ -99,7 +111,7 @@ fn by_dividend(sought: Sought, a: &OrdInt, z: &Range, y: &Range, t: &Range) -> O
 /// Of the equations of `a` by `b` being `q` with the rest `r`, the first that is looked for: by the ranges of
 /// the four, each found by one pass.
 pub(crate) fn by_div_mod(
-    sought: Sought,
+    sought: SoughtEquation,
     a: &OrdInt,
     b: &OrdInt,
     q: &OrdInt,

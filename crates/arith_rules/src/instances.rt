@@ -14,11 +14,11 @@ use crate::products::by_prod;
 use crate::sums::{by_count, by_sum};
 use core_forms::{Core, Equation, Rule};
 use order_ints::Atom;
-use rule_base::{Sought, Steps};
+use rule_base::{SoughtEquation, Steps};
 use std::sync::ledger::Ledger;
 
 /// The equations of a core's form.
-fn by_form(sought: Sought, core: &Core) -> Option<(Atom, Atom)>
+fn by_form(sought: SoughtEquation, core: &Core) -> Option<(Atom, Atom)>
     requires { IsWellFormed core.now }
     ensures { result ≡ first_sought sought (form_equations core.now) }
 {
@@ -34,7 +34,7 @@ fn by_form(sought: Sought, core: &Core) -> Option<(Atom, Atom)>
 }
 
 /// The equations of a core by one rule.
-fn by_rule(sought: Sought, rule: Rule, core: &Core) -> Option<(Atom, Atom)>
+fn by_rule(sought: SoughtEquation, rule: Rule, core: &Core) -> Option<(Atom, Atom)>
     requires { IsWellFormed core.now }
     ensures { result ≡ first_sought sought (equations_of core.now rule) }
 {
@@ -49,7 +49,7 @@ fn found(core: &Core) -> Option<Equation>
     requires { IsWellFormed core.now }
     ensures { result ≡ found_at core.now }
 {
-    let (a, b) = by_form(Sought::Apart, core)?;
+    let (a, b) = by_form(SoughtEquation::Apart, core)?;
     Some(Equation {
         rule: Rule::Form,
         a,
@@ -87,5 +87,5 @@ pub fn is_instance(core: &Core, e: &Equation) -> bool
     if e.a == e.b {
         return false;
     }
-    by_rule(Sought::Pair(e.a, e.b), e.rule, core).is_some()
+    by_rule(SoughtEquation::Pair(e.a, e.b), e.rule, core).is_some()
 }

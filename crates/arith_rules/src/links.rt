@@ -8,11 +8,11 @@ ghost use Rattle.arith_rules.specs.CodeLinks.{link_of, LinkFits, LinkFitsAll};
 
 use crate::numbers::{ceiling_of, over_floor_of, product};
 use order_ints::{Atom, OrdInt, Walk};
-use rule_base::{Sought, next};
+use rule_base::{SoughtEquation, next};
 
 /// Which value of another integer a value is linked with.
 #[derive(Clone, Copy)]
-pub(crate) enum Link {
+pub enum Link {
     /// The value and a number, added up.
     Plus(i128),
     /// The value less a number.
@@ -31,7 +31,7 @@ pub(crate) enum Link {
 
 impl Link {
     /// What a value is linked with.
-    fn of(&self, v: i128) -> i128
+    pub fn of(&self, v: i128) -> i128
         requires value { unsigned_abs v < 2 ^ 100 }
         requires fits { LinkFits self.now v }
         ensures { result ≡ link_of self.now v }
@@ -50,7 +50,12 @@ impl Link {
 
 /// That `a` reaches each of its values exactly where `b` reaches what it is linked with: one loop along
 /// the values of `a`, beside a walk along `b`.
-pub(crate) fn linked(sought: Sought, link: &Link, a: &OrdInt, b: &OrdInt) -> Option<(Atom, Atom)>
+pub(crate) fn linked(
+    sought: SoughtEquation,
+    link: &Link,
+    a: &OrdInt,
+    b: &OrdInt,
+) -> Option<(Atom, Atom)>
     requires a { IsSound a.now }
     requires b { IsSound b.now }
     requires fits { LinkFitsAll link.now a.now }
@@ -80,7 +85,7 @@ pub(crate) fn turned(found: Option<(Atom, Atom)>) -> Option<(Atom, Atom)>
 
 /// That `b` reaches what each value of `a` is linked with exactly where `a` reaches that value.
 pub(crate) fn linked_back(
-    sought: Sought,
+    sought: SoughtEquation,
     link: &Link,
     a: &OrdInt,
     b: &OrdInt,
@@ -95,7 +100,12 @@ pub(crate) fn linked_back(
 }
 
 /// That `a` reaches each of its values exactly where `b` is below what it is linked with.
-pub(crate) fn opposed(sought: Sought, link: &Link, a: &OrdInt, b: &OrdInt) -> Option<(Atom, Atom)>
+pub(crate) fn opposed(
+    sought: SoughtEquation,
+    link: &Link,
+    a: &OrdInt,
+    b: &OrdInt,
+) -> Option<(Atom, Atom)>
     requires a { IsSound a.now }
     requires b { IsSound b.now }
     requires fits { LinkFitsAll link.now a.now }
@@ -115,7 +125,7 @@ pub(crate) fn opposed(sought: Sought, link: &Link, a: &OrdInt, b: &OrdInt) -> Op
 
 /// That `a` is at most each of its values exactly where `b` reaches what it is linked with.
 pub(crate) fn opposed_above(
-    sought: Sought,
+    sought: SoughtEquation,
     link: &Link,
     a: &OrdInt,
     b: &OrdInt,

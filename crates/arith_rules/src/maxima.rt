@@ -11,7 +11,7 @@ ghost use Rattle.arith_rules.specs.Tops.{no_tops, with_top, tops_of, AreSmall, f
 
 use crate::links::turned;
 use order_ints::{Atom, OrdInt, Walk};
-use rule_base::{Sought, next};
+use rule_base::{SoughtEquation, next};
 
 /// Below each value of an integer.
 const BELOW_ALL: i128 = -(1 << 100);
@@ -19,11 +19,11 @@ const BELOW_ALL: i128 = -(1 << 100);
 /// The two greatest of the members' greatest values. A value above the second is reached by one member at
 /// most, and one above the first by none.
 #[derive(Clone, Copy)]
-pub(crate) struct Tops {
+pub struct Tops {
     /// The greatest.
-    first: i128,
+    pub first: i128,
     /// The greatest of all but that one.
-    second: i128,
+    pub second: i128,
 }
 
 impl Tops {
@@ -62,7 +62,7 @@ impl Tops {
     }
 
     /// Those of members, by one pass over their steps.
-    fn of(ints: &[OrdInt]) -> Tops
+    pub fn of(ints: &[OrdInt]) -> Tops
         requires { AreSound ints.now }
         ensures shape { result ≡ tops_of ints.now }
         ensures small { AreSmall result }
@@ -76,7 +76,7 @@ impl Tops {
 }
 
 /// That an integer is at most a number.
-fn is_at_most(sought: Sought, a: &OrdInt, most: &i128) -> Option<(Atom, Atom)>
+fn is_at_most(sought: SoughtEquation, a: &OrdInt, most: &i128) -> Option<(Atom, Atom)>
     requires bounded { IsBounded a.now }
     requires small { unsigned_abs most.now < 2 ^ 110 }
     ensures { result ≡ first_sought sought (is_below a.now (most.now +ℤ pos 1) ∷ []) }
@@ -85,7 +85,7 @@ fn is_at_most(sought: Sought, a: &OrdInt, most: &i128) -> Option<(Atom, Atom)>
 }
 
 /// The equations of the members' ends and those of `c`: one loop along the members, beside a walk along `c`.
-fn on_ranges(sought: Sought, ints: &[OrdInt], c: &OrdInt) -> Option<(Atom, Atom)>
+fn on_ranges(sought: SoughtEquation, ints: &[OrdInt], c: &OrdInt) -> Option<(Atom, Atom)>
     requires ints { AreSound ints.now }
     requires c { IsSound c.now }
     ensures { result ≡ first_sought sought (member_ranges c.now ints.now) }
@@ -106,7 +106,7 @@ fn on_ranges(sought: Sought, ints: &[OrdInt], c: &OrdInt) -> Option<(Atom, Atom)
 }
 
 /// That `c` is not above the greatest values of all members.
-fn on_top(sought: Sought, tops: &Tops, ints: &[OrdInt], c: &OrdInt) -> Option<(Atom, Atom)>
+fn on_top(sought: SoughtEquation, tops: &Tops, ints: &[OrdInt], c: &OrdInt) -> Option<(Atom, Atom)>
     requires ints { AreSound ints.now }
     requires c { IsBounded c.now }
     requires tops { tops.now ≡ tops_of ints.now }
@@ -120,7 +120,7 @@ fn on_top(sought: Sought, tops: &Tops, ints: &[OrdInt], c: &OrdInt) -> Option<(A
 }
 
 /// That `c` is below each of its values above a number.
-fn on_unreached(sought: Sought, least: &i128, c: &OrdInt) -> Option<(Atom, Atom)>
+fn on_unreached(sought: SoughtEquation, least: &i128, c: &OrdInt) -> Option<(Atom, Atom)>
     requires { IsSound c.now }
     ensures { result ≡ first_sought sought (false_above least.now c.now) }
 {
@@ -135,7 +135,7 @@ fn on_unreached(sought: Sought, least: &i128, c: &OrdInt) -> Option<(Atom, Atom)
 
 /// That `a` reaches each of its values above a number exactly where `b` does: one loop along the values of
 /// `a`, beside a walk along `b`.
-fn alike_above(sought: Sought, least: &i128, a: &OrdInt, b: &OrdInt) -> Option<(Atom, Atom)>
+fn alike_above(sought: SoughtEquation, least: &i128, a: &OrdInt, b: &OrdInt) -> Option<(Atom, Atom)>
     requires a { IsSound a.now }
     requires b { IsSound b.now }
     ensures { result ≡ first_sought sought (alike_where (int_lt least.now) a.now b.now) }
@@ -152,7 +152,7 @@ fn alike_above(sought: Sought, least: &i128, a: &OrdInt, b: &OrdInt) -> Option<(
 }
 
 /// That `b` reaches each value of `a` above a number exactly where `a` does.
-fn alike_back(sought: Sought, least: &i128, a: &OrdInt, b: &OrdInt) -> Option<(Atom, Atom)>
+fn alike_back(sought: SoughtEquation, least: &i128, a: &OrdInt, b: &OrdInt) -> Option<(Atom, Atom)>
     requires a { IsSound a.now }
     requires b { IsSound b.now }
     ensures { result ≡ first_sought sought (alike_back (int_lt least.now) a.now b.now) }
@@ -162,7 +162,7 @@ fn alike_back(sought: Sought, least: &i128, a: &OrdInt, b: &OrdInt) -> Option<(A
 }
 
 /// That `c` and a member are linked at the values above a number, where the member reaches some.
-fn on_leader(sought: Sought, least: &i128, c: &OrdInt, a: &OrdInt) -> Option<(Atom, Atom)>
+fn on_leader(sought: SoughtEquation, least: &i128, c: &OrdInt, a: &OrdInt) -> Option<(Atom, Atom)>
     requires c { IsSound c.now }
     requires a { IsSound a.now }
     ensures { result ≡ first_sought sought (leader_above least.now c.now a.now) }
@@ -176,7 +176,12 @@ fn on_leader(sought: Sought, least: &i128, c: &OrdInt, a: &OrdInt) -> Option<(At
 }
 
 /// That `c` is linked with each member that reaches values above a number.
-fn on_leaders(sought: Sought, least: &i128, c: &OrdInt, ints: &[OrdInt]) -> Option<(Atom, Atom)>
+fn on_leaders(
+    sought: SoughtEquation,
+    least: &i128,
+    c: &OrdInt,
+    ints: &[OrdInt],
+) -> Option<(Atom, Atom)>
     requires c { IsSound c.now }
     requires ints { AreSound ints.now }
     ensures { result ≡ first_sought sought (leaders_above least.now c.now ints.now) }
@@ -192,7 +197,7 @@ fn on_leaders(sought: Sought, least: &i128, c: &OrdInt, ints: &[OrdInt]) -> Opti
 
 /// Of the equations of `c` being the greatest member, the first that is looked for: by the ends of all, and
 /// at the values that one member at most reaches by walks along `c` and that member side by side.
-pub(crate) fn by_max(sought: Sought, ints: &[OrdInt], c: &OrdInt) -> Option<(Atom, Atom)>
+pub(crate) fn by_max(sought: SoughtEquation, ints: &[OrdInt], c: &OrdInt) -> Option<(Atom, Atom)>
     requires ints { AreSound ints.now }
     requires c { IsSound c.now }
     ensures { result ≡ first_sought sought (max_equations ints.now c.now) }

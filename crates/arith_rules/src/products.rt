@@ -14,7 +14,7 @@ use crate::links::{Link, linked, linked_back, opposed, opposed_above};
 use crate::numbers::{ceiling_of, floor_of, greater, lesser, product};
 use crate::ranges::Range;
 use order_ints::{Atom, OrdInt};
-use rule_base::{Sought, is_constant};
+use rule_base::{SoughtEquation, is_constant};
 
 /// The least and the greatest of the products of an end of one range and an end of another, each of the
 /// four computed once.
@@ -59,7 +59,13 @@ fn are_unsigned(x: &Range, y: &Range, z: &Range) -> bool
 }
 
 /// The equations of the range of a factor, where no value is below 0.
-fn by_factor(sought: Sought, a: &OrdInt, x: &Range, y: &Range, z: &Range) -> Option<(Atom, Atom)>
+fn by_factor(
+    sought: SoughtEquation,
+    a: &OrdInt,
+    x: &Range,
+    y: &Range,
+    z: &Range,
+) -> Option<(Atom, Atom)>
     requires bounded { IsBounded a.now }
     requires order { y.now.low ≤ℤ y.now.high }
     requires small { (unsigned_abs z.now.low < 2 ^ 100) × (unsigned_abs z.now.high < 2 ^ 100) }
@@ -73,7 +79,12 @@ fn by_factor(sought: Sought, a: &OrdInt, x: &Range, y: &Range, z: &Range) -> Opt
 }
 
 /// The equations of the ranges of two integers and of their product.
-fn by_prod_ranges(sought: Sought, a: &OrdInt, b: &OrdInt, c: &OrdInt) -> Option<(Atom, Atom)>
+fn by_prod_ranges(
+    sought: SoughtEquation,
+    a: &OrdInt,
+    b: &OrdInt,
+    c: &OrdInt,
+) -> Option<(Atom, Atom)>
     requires a { IsSound a.now }
     requires b { IsSound b.now }
     requires c { IsSound c.now }
@@ -91,7 +102,7 @@ fn by_prod_ranges(sought: Sought, a: &OrdInt, b: &OrdInt, c: &OrdInt) -> Option<
 }
 
 /// The equations of `k` times `b` being `c`, for a `k` above 0.
-fn by_multiple(sought: Sought, k: &i128, b: &OrdInt, c: &OrdInt) -> Option<(Atom, Atom)>
+fn by_multiple(sought: SoughtEquation, k: &i128, b: &OrdInt, c: &OrdInt) -> Option<(Atom, Atom)>
     requires k { pos 1 ≤ℤ k.now }
     requires b { IsSound b.now }
     requires c { IsSound c.now }
@@ -106,7 +117,7 @@ fn by_multiple(sought: Sought, k: &i128, b: &OrdInt, c: &OrdInt) -> Option<(Atom
 }
 
 /// The equations of `k` times `b` being `c`, for a `k` below 0: down one and up the other.
-fn by_negative(sought: Sought, k: &i128, b: &OrdInt, c: &OrdInt) -> Option<(Atom, Atom)>
+fn by_negative(sought: SoughtEquation, k: &i128, b: &OrdInt, c: &OrdInt) -> Option<(Atom, Atom)>
     requires k { (k.now <ℤ pos 0) × (unsigned_abs k.now < 2 ^ 100) }
     requires b { IsSound b.now }
     requires c { IsSound c.now }
@@ -121,7 +132,7 @@ fn by_negative(sought: Sought, k: &i128, b: &OrdInt, c: &OrdInt) -> Option<(Atom
 }
 
 /// The equations of the least value of `a` times `b` being `c`.
-fn by_scaled(sought: Sought, a: &OrdInt, b: &OrdInt, c: &OrdInt) -> Option<(Atom, Atom)>
+fn by_scaled(sought: SoughtEquation, a: &OrdInt, b: &OrdInt, c: &OrdInt) -> Option<(Atom, Atom)>
     requires a { IsSound a.now }
     requires b { IsSound b.now }
     requires c { IsSound c.now }
@@ -139,7 +150,7 @@ fn by_scaled(sought: Sought, a: &OrdInt, b: &OrdInt, c: &OrdInt) -> Option<(Atom
 }
 
 /// Those where `a` is constant.
-fn scaled_where(sought: Sought, a: &OrdInt, b: &OrdInt, c: &OrdInt) -> Option<(Atom, Atom)>
+fn scaled_where(sought: SoughtEquation, a: &OrdInt, b: &OrdInt, c: &OrdInt) -> Option<(Atom, Atom)>
     requires a { IsSound a.now }
     requires b { IsSound b.now }
     requires c { IsSound c.now }
@@ -155,7 +166,12 @@ fn scaled_where(sought: Sought, a: &OrdInt, b: &OrdInt, c: &OrdInt) -> Option<(A
 
 /// Of the equations of `a` times `b` being `c`, the first that is looked for: by their ranges, and then,
 /// where a factor is constant, by walks along the two others side by side.
-pub(crate) fn by_prod(sought: Sought, a: &OrdInt, b: &OrdInt, c: &OrdInt) -> Option<(Atom, Atom)>
+pub(crate) fn by_prod(
+    sought: SoughtEquation,
+    a: &OrdInt,
+    b: &OrdInt,
+    c: &OrdInt,
+) -> Option<(Atom, Atom)>
     requires a { IsSound a.now }
     requires b { IsSound b.now }
     requires c { IsSound c.now }

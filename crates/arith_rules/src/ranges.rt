@@ -8,20 +8,20 @@ ghost use Rattle.arith_rules.specs.Links.{within};
 ghost use Rattle.arith_rules.specs.Ranges.{range_of, sum_of, rest_of, share_of, up_to, IsSmall};
 
 use order_ints::{Atom, OrdInt};
-use rule_base::{Sought, next};
+use rule_base::{SoughtEquation, next};
 
 /// The numbers from one to another.
 #[derive(Clone, Copy)]
-pub(crate) struct Range {
+pub struct Range {
     /// The least one.
-    pub(crate) low: i128,
+    pub low: i128,
     /// The greatest one.
-    pub(crate) high: i128,
+    pub high: i128,
 }
 
 impl Range {
     /// The least and the greatest value of an integer, by one pass over its steps.
-    pub(crate) fn of(a: &OrdInt) -> Range
+    pub fn of(a: &OrdInt) -> Range
         requires { IsBounded a.now }
         ensures shape { result ≡ range_of a.now }
         ensures small { (unsigned_abs result.low < 2 ^ 100) × (unsigned_abs result.high < 2 ^ 100) }
@@ -59,7 +59,7 @@ impl Range {
     }
 
     /// What a member in this range has of `k`, where all members together are in another range.
-    pub(crate) fn share(&self, all: &Range, k: &i128) -> Range
+    pub fn share(&self, all: &Range, k: &i128) -> Range
         requires own { (unsigned_abs self.now.low < 2 ^ 100) × (unsigned_abs self.now.high < 2 ^ 100) }
         requires all { (unsigned_abs all.now.low < 2 ^ 100) × (unsigned_abs all.now.high < 2 ^ 100) }
         requires total { unsigned_abs k.now < 2 ^ 100 }
@@ -84,7 +84,7 @@ impl Range {
     }
 
     /// Whether the least number is `n`.
-    pub(crate) fn begins_at(&self, n: usize) -> bool
+    pub fn begins_at(&self, n: usize) -> bool
         requires { unsigned_abs self.now.low < 2 ^ 100 }
         ensures { result ≡ int_eq self.now.low (pos n) }
     {
@@ -92,7 +92,7 @@ impl Range {
     }
 
     /// Whether the greatest number is 0.
-    pub(crate) fn ends_at_zero(&self) -> bool
+    pub fn ends_at_zero(&self) -> bool
         requires { unsigned_abs self.now.high < 2 ^ 100 }
         ensures { result ≡ int_eq self.now.high (pos 0) }
     {
@@ -100,7 +100,7 @@ impl Range {
     }
 
     /// That an integer is in the range.
-    pub(crate) fn holds(&self, sought: Sought, a: &OrdInt) -> Option<(Atom, Atom)>
+    pub(crate) fn holds(&self, sought: SoughtEquation, a: &OrdInt) -> Option<(Atom, Atom)>
         requires bounded { IsBounded a.now }
         requires small { IsSmall self.now }
         ensures { result ≡ first_sought sought (within a.now self.now.low self.now.high) }
@@ -112,13 +112,18 @@ impl Range {
 
     /// That an integer, whose own range is given, is in the range. Where its own range is within this one, no two different atoms are
     /// to be found equal, and it isn't looked at.
-    pub(crate) fn binds(&self, sought: Sought, a: &OrdInt, own: &Range) -> Option<(Atom, Atom)>
+    pub(crate) fn binds(
+        &self,
+        sought: SoughtEquation,
+        a: &OrdInt,
+        own: &Range,
+    ) -> Option<(Atom, Atom)>
         requires bounded { IsBounded a.now }
         requires small { IsSmall self.now }
         requires own { own.now ≡ range_of a.now }
         ensures { result ≡ first_sought sought (within a.now self.now.low self.now.high) }
     {
-        if let Sought::Apart = sought {
+        if let SoughtEquation::Apart = sought {
             if self.low <= own.low && own.high <= self.high {
                 return None;
             }

@@ -10,11 +10,11 @@ ghost use Rattle.arith_rules.specs.Ranges.{ranges_of};
 
 use crate::ranges::Range;
 use order_ints::{Atom, OrdInt};
-use rule_base::Sought;
+use rule_base::SoughtEquation;
 
 /// The equations of the ranges of two integers and of their sum.
 pub(crate) fn by_sum3_ranges(
-    sought: Sought,
+    sought: SoughtEquation,
     a: &OrdInt,
     b: &OrdInt,
     c: &OrdInt,
@@ -37,7 +37,7 @@ pub(crate) fn by_sum3_ranges(
 }
 
 /// That each atom is equal to one, where a test holds.
-fn each_where(sought: Sought, test: bool, atoms: &[Atom], b: Atom) -> Option<(Atom, Atom)>
+fn each_where(sought: SoughtEquation, test: bool, atoms: &[Atom], b: Atom) -> Option<(Atom, Atom)>
     ensures { result ≡ first_sought sought (only_if test (all_equal atoms.now b)) }
 {
     if test {
@@ -48,7 +48,7 @@ fn each_where(sought: Sought, test: bool, atoms: &[Atom], b: Atom) -> Option<(At
 
 /// Of the equations of an integer being the number of true members, the first that is looked for: one pass
 /// over the members, and one over the steps.
-pub(crate) fn by_count(sought: Sought, atoms: &[Atom], c: &OrdInt) -> Option<(Atom, Atom)>
+pub(crate) fn by_count(sought: SoughtEquation, atoms: &[Atom], c: &OrdInt) -> Option<(Atom, Atom)>
     requires { IsBounded c.now }
     ensures { result ≡ first_sought sought (count_equations atoms.now c.now) }
 {
@@ -64,7 +64,7 @@ pub(crate) fn by_count(sought: Sought, atoms: &[Atom], c: &OrdInt) -> Option<(At
 }
 
 /// The least values of integers, added up, and the greatest ones.
-fn totals(ints: &[OrdInt]) -> Range
+pub fn totals(ints: &[OrdInt]) -> Range
     requires sound { AreSound ints.now }
     requires limit { abs_total ints.now < 2 ^ 100 }
     ensures shape { result ≡ ranges_of ints.now }
@@ -81,7 +81,7 @@ fn totals(ints: &[OrdInt]) -> Range
 
 /// Of the equations of each member being what the others leave of `k`, the first that is looked for: one
 /// pass for the ends of all, and one for each member's share, which binds a member only where its own range is wider.
-pub(crate) fn by_sum(sought: Sought, ints: &[OrdInt], k: &i128) -> Option<(Atom, Atom)>
+pub(crate) fn by_sum(sought: SoughtEquation, ints: &[OrdInt], k: &i128) -> Option<(Atom, Atom)>
     requires sound { AreSound ints.now }
     requires limit { abs_total ints.now + unsigned_abs k.now < 2 ^ 100 }
     ensures { result ≡ first_sought sought (sum_equations ints.now k.now) }

@@ -1,5 +1,14 @@
-//! The program `bee`: hands the words of the command line, the files and the standard streams to the one
-//! call, and exits with the code of its status.
+//! The program `bee`: hands the words of the command line, the files and the standard streams to
+//! the one call `run` of `bee_cli`, and exits with the code of its status.
+//!
+//! It is kept so small because nothing proves it to do what it says: `main` has no contract, and
+//! with `HostShelf` and `HostSink` of `bee_outside` it is the part that one reads and believes.
+//! What it decides itself is only what comes of words that cannot be had: one that is no text is
+//! `Usage`, as any word that asks for nothing, and want of memory for the words is `Memory`.
+//!
+//! All promises are those of `run`; the stored run beside this crate (`args`, `stdout`) is the
+//! eight queens, which `./bee` runs at the end of a build. Nothing belongs in here that could stand
+//! in `bee_cli`.
 #![tactic(auto)]
 
 use bee_cli::{Status, code, report, run};

@@ -33,7 +33,7 @@ first_missing model = inr (record { number_is = refl; stands = start_standing mo
 
 pub empty_is_refused : EmptyIsRefused
 empty_is_refused texts h e =
-    let model = h.0 in
-    let lines = declared-lines (map (λ (d : Decl). d.name) model.decls) (names texts.first model h.1.says) in
+    let model = h.0.model in
+    let lines = declared-lines (map (λ (d : Decl). d.name) model.decls) (names texts.first model h.1.0.says) in
     let P : List ℕ → Type 0 = λ t. IsRefused model t 1 Shape in
-    record { model = model; held = h.1; why = Shape; refused = subst P (sym e) (first_fault_refused model lines [] 1 Shape (first_missing model)) }
+    record { model = model; held = h.1.0; why = Shape; refused = subst P (sym e) (first_fault_refused model lines [] 1 Shape (first_missing model)) }

@@ -23,7 +23,6 @@ use Rattle.model_lower.specs.Fits.{Fits}
 use Rattle.model_lower.proofs.LoweringLaw.{lowering_law}
 use Rattle.step_kernel.specs.Kernel.{Kernel, IsKernel, started}
 use Rattle.step_kernel.specs.CnfOf.{cnf_of}
-use Rattle.core_rules.specs.Instances.{is_instance_at}
 use Rattle.step_kernel.proofs.Started.{started-kernel, started-models}
 use Rattle.step_kernel.proofs.CnfLaws.{in_range-of}
 use Rattle.asking_bound.specs.Made.{all_made}
@@ -65,7 +64,7 @@ module _ (l : Lowered) (decls : List Decl) (fits : Fits l decls) where
         (numbers_of-agree (l.vars + 1) d.0 t.0 decls l.map.entries (λ v below. t.1 v (omega (arith, below, start-vars))) fits.entries) in
         (t.0, t.3, d.2 ∙ same ∙ sym (numbers-met last.view t.0 t.2 (l.vars + 1) decls l.map.entries fits.entries))
 
-module _ (told : Core → Equation → Type 0) (instance : (core : Core) (e : Equation) → told core e → is_instance_at core e ≡ true) where
+module _ (told : Core → Equation → Type 0) where
   given : (c : Compiled) (last : Kernel) (l : Lowered) (decls : List Decl) → Fits l decls → IsCompilation told (start_of l) c.ledger last
       → c.cnf ≡ cnf_of last → c.map.entries ≡ trimmed_values last.view l.map.entries → (a : List ℤ) → IsDecoded l a ↔ IsGiven c a
   given c last l decls fits compilation cnf map a =
@@ -90,7 +89,7 @@ module _ (told : Core → Equation → Type 0) (instance : (core : Core) (e : Eq
         vars = omega (arith, vars, kept.kernel.small);
         clauses = subst InRange (sym cnf) (in_range-of {E = ⊥} last (Ok (cnf_of last)) kept.kernel refl);
         values = rw (vars, names, map) values;
-        ledger = rw vars (ledger-below told instance (start_of l) last c.ledger start compilation.lines few);
+        ledger = rw vars (ledger-below told (start_of l) last c.ledger start compilation.lines few);
       }
 
   pub compilation : CompilationLaw told

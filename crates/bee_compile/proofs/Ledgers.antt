@@ -1,6 +1,6 @@
 -- The lines of a compilation are over its variables, and their ids are among those of its cores.
-use Rattle.std.proofs.Common.{◌≡◌, ℕ, ◌+◌, ◌-◌, ◌≤◌, ◌<◌, ◌^◌, Bool, true, false, List, [], ◌∷◌, map, length, length-append, Option, Some, None, Ok, refl, ap, ◌∙◌, arith}
-use Rattle.std.specs.Prelude.{option_map, if◌then◌else◌}
+use Rattle.std.proofs.Common.{◌≡◌, ℕ, ◌+◌, ◌-◌, ◌≤◌, ◌<◌, ◌^◌, Bool, true, false, List, [], ◌∷◌, map, length, length-append, Option, Some, None, Result, Ok, Err, refl, subst, arith, ap}
+use Rattle.std.specs.Prelude.{if◌then◌else◌}
 use Rattle.std.proofs.lemmas.List.{length-set}
 use Rattle.order_ints.specs.Place.{AtomBelow}
 use Rattle.order_ints.specs.Same.{same_atom}
@@ -14,15 +14,16 @@ use Rattle.core_forms.specs.Trimmed.{trimmed_core}
 use Rattle.ledger_text.specs.declared.line.Line.{Line}
 use Rattle.ledger_text.specs.declared.line.Line.TheVariants.{Equate, Split, Encode}
 use Rattle.ledger_text.specs.Steps.{LineBelow, LedgerBelow}
-use Rattle.step_kernel.specs.Kernel.{Kernel, IsKernel, core_at}
+use Rattle.step_kernel.specs.declared.fault.StepFault.{StepFault}
+use Rattle.step_kernel.specs.declared.fault.StepFault.TheVariants.{AfterBottom, NotInstance}
+use Rattle.step_kernel.specs.Kernel.{Kernel, IsKernel, trimmed_at}
 use Rattle.core_rules.specs.Instances.{is_instance_at}
 use Rattle.core_parts.specs.Parts.{parts_at}
-use Rattle.step_kernel.specs.Steps.{without, equated, step}
-use Rattle.step_kernel.proofs.Stepped.{after_step}
+use Rattle.step_kernel.specs.Steps.{without, equated, unless_fault, step_at, step}
+use Rattle.step_kernel.proofs.Stepped.{after_step, err_ok}
+use Rattle.step_kernel.proofs.There.{there-labels}
 use Rattle.step_kernel.proofs.StepLaws.{step-kept}
-use Rattle.step_kernel.proofs.Holes.{below-there}
 use Rattle.step_kernel.proofs.Splits.{at-bounds}
-use Rattle.core_rules.proofs.InstanceLaws.{instance-labels}
 use Rattle.state_compile.specs.Compilation.{IsDue, LeadsInOrder}
 use Rattle.state_compile.proofs.Found.{compound-there, basic-there}
 
@@ -45,29 +46,35 @@ cores-longer k new line made =
     (λ running id core at basic. omega (arith, length-set k.cores (id - 1) None))
     line new made
 
-module _ (told : Core → Equation → Type 0) (instance : (core : Core) (e : Equation) → told core e → is_instance_at core e ≡ true) where
-  -- the atoms of an equation that is told are labels
-  equation-below : (k : Kernel) → IsKernel k → (id : ℕ) (e : Equation) (core : Core) (o : Option Core) → core_at k.cores id ≡ o → option_map (trimmed_core k.view) o ≡ Some core
-      → told core e → AtomBelow (length k.view + 1) e.a × AtomBelow (length k.view + 1) e.b
-  equation-below k is id e core None at there t = absurd (none core there)
-    where
-      none : (core : Core) → None ≡ Some core → ⊥
-      none core e = absurd (cc)
-  equation-below k is id e core (Some c) at there t =
-      let same : trimmed_core k.view c ≡ core = cc in
-      let below = (below-there k.cores id c at (length k.view + 1) is.below).0 in
-      let labels = instance-labels k.view c e is.labelled below (ap (λ x. is_instance_at x e) same ∙ instance core e t) in
-      (AtomBelow-label k.view e.a labels.0, AtomBelow-label k.view e.b labels.1)
+-- an equation of which a step was made is an instance at its core
+stepped-instance : (k new : Kernel) (id : ℕ) (e : Equation) (core : Core) → trimmed_at k id ≡ Some core → step k (Equate id e) ≡ Ok new → is_instance_at core e ≡ true
+stepped-instance k new id e core there made = by k.bottom made
+  where
+    at : (t : Bool) → unless_fault (if t then None else Some NotInstance) (equated k e) ≡ Ok new → t ≡ true
+    at true h = refl
+    at false h = absurd (err_ok NotInstance new h)
 
-  line-below : (k : Kernel) (line : Line) → IsKernel k → length k.cores < 2 ^ 64 → IsDue told k line → LineBelow (length k.view + 1) line
-  line-below k (Equate id e) is few due =
+    by : (b : Bool) → ◌≡◌ {A = Result Kernel StepFault} (if b then Err AfterBottom else step_at k (Equate id e) (trimmed_at k id)) (Ok new) → is_instance_at core e ≡ true
+    by true h = absurd (err_ok AfterBottom new h)
+    by false h = at (is_instance_at core e) (subst (λ (o : Option Core). step_at k (Equate id e) o ≡ Ok new) there h)
+
+-- so its atoms are labels
+equation-below : (k new : Kernel) → IsKernel k → (id : ℕ) (e : Equation) (core : Core) → trimmed_at k id ≡ Some core → step k (Equate id e) ≡ Ok new
+    → AtomBelow (length k.view + 1) e.a × AtomBelow (length k.view + 1) e.b
+equation-below k new is id e core there made =
+    let labels = there-labels k id core is there e (stepped-instance k new id e core there made) in
+    (AtomBelow-label k.view e.a labels.0, AtomBelow-label k.view e.b labels.1)
+
+module _ (told : Core → Equation → Type 0) where
+  line-below : (k new : Kernel) (line : Line) → IsKernel k → length k.cores < 2 ^ 64 → step k line ≡ Ok new → IsDue told k line → LineBelow (length k.view + 1) line
+  line-below k new (Equate id e) is few made due =
       let there = at-bounds k id due.0 due.1 in
-      let below = equation-below k is id e due.0 (core_at k.cores id) refl due.1 due.2 in
+      let below = equation-below k new is id e due.0 due.1 made in
       (omega (arith, there, few), below.0, below.1)
-  line-below k (Split id) is few due =
+  line-below k new (Split id) is few made due =
       let c = compound-there k id due.1 in
       omega (arith, at-bounds k id c.core c.there, few)
-  line-below k (Encode id) is few due =
+  line-below k new (Encode id) is few made due =
       let c = basic-there k id due.1 due.2 in
       omega (arith, at-bounds k id c.0 c.1, few)
 
@@ -93,6 +100,6 @@ module _ (told : Core → Equation → Type 0) (instance : (core : Core) (e : Eq
       let first = step-kept k l.0 line is l.1 in
       let ids = ids-longer k last (line ∷ lines) l in
       let vars = vars-longer k last (line ∷ lines) is l in (
-        line-up (length k.view + 1) (length last.view + 1) line (omega (arith, vars)) (line-below k line is (omega (arith, ids, few)) l.2),
+        line-up (length k.view + 1) (length last.view + 1) line (omega (arith, vars)) (line-below k l.0 line is (omega (arith, ids, few)) l.1 l.2),
         ledger-below l.0 last lines first.kernel l.3 few,
       )

@@ -86,6 +86,7 @@ impl<R: Files, I: Read> Shelf for HostShelf<R, I> {
         ensures no_count_falls { self.old ≤ self.new }
         ensures fits { IfOk result (λ k. k ≤ length into.old) }
         ensures counts_faults { self.new ≡ counted result self.old }
+        ensures counts_nothing_else { IfOk result (λ _. self.new ≡ self.old) }
     {
         let read = if name == STANDARD_INPUT {
             self.input.read(into)

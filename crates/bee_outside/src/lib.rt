@@ -1,6 +1,20 @@
-//! The outside: what a program reads from and writes to. A shelf gives bytes under names, a sink takes
-//! bytes, and each counts its faults. There are fakes over memory for tests, and the few lines over real
-//! files and standard streams.
+//! The outside: where a program's bytes come from and go to. A `Shelf` gives bytes under names, a
+//! `Sink` takes bytes, and each counts its faults.
+//!
+//! They are traits with ghost meanings: what is left under a name, what was taken, how often a call
+//! failed. So a contract speaks of bytes, and the same proof serves files, streams and the fakes in
+//! memory (`MemShelf`, `MemSink`), which meet the clauses exactly and fail where a test tells them
+//! to. `HostShelf` and `HostSink` are the few trusted lines over real files and standard streams.
+//! They tell no bytes, so what is promised of bytes says nothing of them; that they count each
+//! fault is proved.
+//!
+//! What it promises: a call that fails raises its count by one, and no other call raises it
+//! (`counts_faults`); an empty piece is written without one (`empty`). `read_all` and `write_all`
+//! say what was read and written, also after a fault (`fault_took_front`), and that a fault ends
+//! them.
+//!
+//! A count that rises by exactly one is more than most of `run` needs; it is what lets `run` say
+//! that the call that failed was the last one. After a fault nothing is said of the reader's slice.
 #![tactic(auto)]
 
 mod failed;
@@ -21,7 +35,7 @@ pub use host_sink::HostSink;
 pub use laws::{end_law, pieces_law, rise_law};
 pub use mem_shelf::MemShelf;
 pub use mem_sink::MemSink;
-pub use reading::{ReadFault, ReadText, read_all};
+pub use reading::{ReadText, ShelfFault, read_all};
 pub use shelf::Shelf;
 pub use sink::Sink;
 pub use writing::write_all;

@@ -80,6 +80,8 @@ impl Shelf for MemShelf {
         ensures fault_takes_nothing { OnErr result
             (left_under self.new.files name.now ≡ left_under self.old.files name.now) }
         ensures counts_faults { self.new.faults ≡ counted result self.old.faults }
+        ensures counts_nothing_else { IfOk result (λ _. (other : List ℕ) →
+            self.new.faults ≡ self.old.faults) }
     {
         self.calls = self.calls.saturating_add(1);
         if !self.failing.contains(&self.calls) {

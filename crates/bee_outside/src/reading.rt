@@ -1,7 +1,7 @@
 //! Reading a whole text.
 
 ghost use Rattle.std.specs.Prelude.{◌≡◌, ◌≢◌, ℕ, ◌≤◌, ◌<◌, ◌+◌, ◌++◌, List, take, length, vec_len, IfOk, OnErr, IfSome, IsSomeAnd, IsTrue, IsFalse};
-ghost use Rattle.bee_outside.specs.Faults.{read_count};
+ghost use Rattle.bee_outside.specs.Faults.{read_count, UnlessFailed};
 ghost use Rattle.bee_outside.specs.Bytes.{in_front, NothingLeft, TookPiece};
 ghost use Rattle.bee_outside.specs.ReadText.{text_of, is_whole};
 
@@ -22,7 +22,7 @@ pub enum ReadText {
 
 /// Why nothing could be read.
 #[derive(Clone, Copy, Debug, PartialEq, Eq)]
-pub enum ReadFault {
+pub enum ShelfFault {
     /// Memory is wanting.
     Memory,
     /// A call to the shelf failed.
@@ -37,7 +37,7 @@ pub fn read_all<S: Shelf>(
     shelf: &mut S,
     name: &str,
     limit: Option<usize>,
-) -> Result<ReadText, ReadFault>
+) -> Result<ReadText, ShelfFault>
     ensures no_count_falls { (other : List ℕ) → S.faults shelf.old other ≤ S.faults shelf.new other }
     ensures others_stay { (other : List ℕ) → other ≢ name.now →
         S.left shelf.new other ≡ S.left shelf.old other }
@@ -58,11 +58,13 @@ pub fn read_all<S: Shelf>(
 
     // A fault ends it: no call follows one that failed.
     ensures counts_faults { S.faults shelf.new name.now ≡ read_count result (S.faults shelf.old name.now) }
+    ensures counts_nothing_else { UnlessFailed result ((other : List ℕ) →
+        S.faults shelf.new other ≡ S.faults shelf.old other) }
 {
     let mut text = Vec::new(alloc);
     let mut buffer = match zeroed(alloc, PIECE) {
         Ok(buffer) => buffer,
-        Err(_) => return Err(ReadFault::Memory),
+        Err(_) => return Err(ShelfFault::Memory),
     };
     let buffer = buffer.as_mut_slice();
     loop {
@@ -104,7 +106,7 @@ fn read_piece<S: Shelf>(
     name: &str,
     into: &mut [u8],
     text: &mut Vec<u8>,
-) -> Result<usize, ReadFault>
+) -> Result<usize, ShelfFault>
     requires { 0 < length into.old }
     ensures no_count_falls { (other : List ℕ) → S.faults shelf.old other ≤ S.faults shelf.new other }
     ensures others_stay { (other : List ℕ) → other ≢ name.now →
@@ -117,13 +119,15 @@ fn read_piece<S: Shelf>(
     ensures fault_took_front { OnErr result (TookPiece (S.left shelf.old name.now)
         (S.left shelf.new name.now) (Some (length into.old))) }
     ensures counts_faults { S.faults shelf.new name.now ≡ read_count result (S.faults shelf.old name.now) }
+    ensures counts_nothing_else { UnlessFailed result ((other : List ℕ) →
+        S.faults shelf.new other ≡ S.faults shelf.old other) }
 {
     let taken = match shelf.next(name, into) {
         Ok(taken) => taken,
-        Err(_) => return Err(ReadFault::Failed),
+        Err(_) => return Err(ShelfFault::Failed),
     };
     match text.extend_from_slice(&into[..taken]) {
         Ok(()) => Ok(taken),
-        Err(_) => Err(ReadFault::Memory),
+        Err(_) => Err(ShelfFault::Memory),
     }
 }

@@ -36,5 +36,7 @@ pub trait Shelf {
 
         // A fault takes nothing. Each fault is counted, and nothing else is.
         ensures fault_takes_nothing { OnErr result (left self.new name.now ≡ left self.old name.now) }
-        ensures counts_faults { faults self.new name.now ≡ counted result (faults self.old name.now) };
+        ensures counts_faults { faults self.new name.now ≡ counted result (faults self.old name.now) }
+        ensures counts_nothing_else { IfOk result (λ _. (other : List ℕ) →
+            faults self.new other ≡ faults self.old other) };
 }

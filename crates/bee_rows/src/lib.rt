@@ -1,5 +1,16 @@
-//! Tests of the program's one call, over a shelf and sinks in memory, of the solutions that compiled texts stand for, of the
-//! words, and of shelves and sinks.
+//! Rows of the program's one call, over a shelf and sinks in memory: runs of each mode with all
+//! that they read, wrote and ended with, the models of `examples/`, the words, and the outside
+//! itself.
+//!
+//! Here is shown what no contract says: the lines on standard error, that runs succeed where memory
+//! is there, and that the definitions say what is meant by whole models whose solutions are known.
+//! There is a run of each mode in which each call of the outside fails in turn, and a model that is
+//! cut at each byte.
+//!
+//! They stand apart from the crates of the program, so that proving them proves none of those anew.
+//! They are the longest proof of the gate, so what a run is made of and how it is compared stand in
+//! functions of their own, and a row is a line of a table. The scripts that fuzz the built program
+//! stand in `reading/` and are no part of the gate.
 #![tactic(auto)]
 
 #[cfg(test)]

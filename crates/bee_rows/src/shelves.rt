@@ -4,7 +4,7 @@ ghost use Rattle.std.specs.Prelude.{◌≤◌};
 
 use crate::outside::owned_files;
 use bee_outside::{
-    Failed, HostShelf, HostSink, MemShelf, MemSink, ReadFault, ReadText, Shelf, Sink, read_all,
+    Failed, HostShelf, HostSink, MemShelf, MemSink, ReadText, Shelf, ShelfFault, Sink, read_all,
     write_all,
 };
 use std::alloc::{AllocError, Global};
@@ -27,12 +27,12 @@ fn two_files(alloc: Global, step: usize, failing: &[u64]) -> Result<MemShelf, Al
 }
 
 /// What a reading answered, in words.
-fn described(read: &Result<ReadText, ReadFault>) -> (&str, &[u8]) {
+fn described(read: &Result<ReadText, ShelfFault>) -> (&str, &[u8]) {
     match read {
         Ok(ReadText::Whole(text)) => ("whole", text.as_slice()),
         Ok(ReadText::Cut(text)) => ("cut", text.as_slice()),
-        Err(ReadFault::Failed) => ("failed", b""),
-        Err(ReadFault::Memory) => ("memory", b""),
+        Err(ShelfFault::Failed) => ("failed", b""),
+        Err(ShelfFault::Memory) => ("memory", b""),
     }
 }
 

@@ -154,7 +154,7 @@ static SUMS: [Row; 7] = [
     // 3 3: the third step of x, and then what links the values of x and of y.
     (
         "new_int(x,0,3)\nnew_int(y,0,3)\nint_plus(x,y,6)\nsolve satisfy\n",
-        "c bee 1\nc int x 3\nc int y 3\nc led eq 3 form 3 T\nc led eq 3 form 1 T\nc led eq 3 form 2 T\nc led eq 3 form F -4\nc led eq 3 form F -5\nc led eq 3 form F -6\nc led enc 1\nc led enc 2\nc led enc 3\np cnf 6 0\n",
+        "c bee 1\nc int x 3\nc int y 3\nc led eq 3 form 1 T\nc led eq 3 form 2 T\nc led eq 3 form 3 T\nc led eq 3 form F -4\nc led eq 3 form F -5\nc led eq 3 form F -6\nc led enc 1\nc led enc 2\nc led enc 3\np cnf 6 0\n",
     ),
     // 0 3, 1 2, 2 1, 3 0: y by the negations of the variables of x.
     (
@@ -169,12 +169,12 @@ static SUMS: [Row; 7] = [
     // 0
     (
         "new_bool(x)bool2int(x,i)int_plus(i,i,0)solve maximize i",
-        "c bee 1\nc bool x F\nc int i 0\nc led eq 1 form 1 F\nc led enc 1\np cnf 1 0\n",
+        "c bee 1\nc bool x F\nc int i 0\nc led eq 1 form T -1\nc led enc 1\np cnf 1 0\n",
     ),
     // 1 4, 2 8, 3 12: y by the variables of x, in steps of four.
     (
         "new_int(x,1,3)\nnew_int(y,0,20)\nint_times(x,4,y)\nsolve satisfy\n",
-        "c bee 1\nc int x 1 1:1 2:1\nc int y 4 1:4 2:4\nc led eq 3 form 6 T\nc led eq 3 order 5 T\nc led eq 3 order 4 T\nc led eq 3 order 3 T\nc led eq 3 form 15 F\nc led eq 3 order 16 F\nc led eq 3 order 17 F\nc led eq 3 order 18 F\nc led eq 3 order 19 F\nc led eq 3 order 20 F\nc led eq 3 order 21 F\nc led eq 3 order 22 F\nc led eq 3 form 10 1\nc led eq 3 form 14 2\nc led eq 3 form 7 1\nc led eq 3 form 8 1\nc led eq 3 form 9 1\nc led eq 3 form 11 2\nc led eq 3 form 12 2\nc led eq 3 form 13 2\nc led enc 1\nc led enc 2\nc led enc 3\np cnf 22 1\n1 -2 0\n",
+        "c bee 1\nc int x 1 1:1 2:1\nc int y 4 1:4 2:4\nc led eq 3 form 6 T\nc led eq 3 form 10 1\nc led eq 3 form 14 2\nc led eq 3 form 3 T\nc led eq 3 form 4 T\nc led eq 3 form 5 T\nc led eq 3 form 7 1\nc led eq 3 form 8 1\nc led eq 3 form 9 1\nc led eq 3 form 11 2\nc led eq 3 form 12 2\nc led eq 3 form 13 2\nc led eq 3 form 15 F\nc led eq 3 form 16 F\nc led eq 3 form 17 F\nc led eq 3 form 18 F\nc led eq 3 form 19 F\nc led eq 3 form 20 F\nc led eq 3 form 21 F\nc led eq 3 form 22 F\nc led enc 1\nc led enc 2\nc led enc 3\np cnf 22 1\n1 -2 0\n",
     ),
     // Three members, and two values.
     (

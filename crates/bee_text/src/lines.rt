@@ -7,7 +7,7 @@ use std::marker::Model;
 
 /// A line of a text, without the line feed that ends it.
 #[derive(Clone, Copy, Debug)]
-pub struct Line<'a> {
+pub struct TextLine<'a> {
     /// The number of the line, from 1.
     pub number: usize,
     /// What stands before its line feed.
@@ -45,7 +45,7 @@ impl<'a> Lines<'a> {
     }
 
     /// The next line, if a line feed is left.
-    pub fn next_line(&mut self) -> Option<Line<'a>>
+    pub fn next_line(&mut self) -> Option<TextLine<'a>>
         ensures line { IfSome result (λ l. IsLine l.bytes.now) }
         ensures rest { IfSome result (λ l. self.old.rest ≡ l.bytes.now ++ 10 ∷ self.new.rest) }
         ensures number { IfSome result (λ l. l.number ≡ self.old.read + 1) }
@@ -58,7 +58,7 @@ impl<'a> Lines<'a> {
         let end = find_line_feed(text)?;
         self.left = &text[end + 1..];
         self.count += 1;
-        Some(Line {
+        Some(TextLine {
             number: self.count,
             bytes: &text[..end],
         })

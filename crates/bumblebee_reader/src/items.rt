@@ -14,11 +14,11 @@ use std::marker::Model;
 /// The items of a text, each of which is read when it is asked for, so that a long text need not be held as
 /// syntax. A clause sees the bytes that are left and the line on which they begin.
 #[derive(Drop)]
-pub struct Items<'a> {
+pub struct ItemReader<'a> {
     tokens: Tokens<'a>,
 }
 
-impl<'a> Model for Items<'a> {
+impl<'a> Model for ItemReader<'a> {
     ghost use Rattle.bumblebee_reader.specs.Unread.{Left};
 
     ghost Value = { Left };
@@ -26,12 +26,12 @@ impl<'a> Model for Items<'a> {
     ghost view = { λ i. record { line = i.tokens.line; bytes = i.tokens.rest.now } };
 }
 
-impl<'a> Items<'a> {
+impl<'a> ItemReader<'a> {
     /// The items of a whole text, none of which is read yet.
-    pub fn new(text: &'a [u8]) -> Items<'a>
+    pub fn new(text: &'a [u8]) -> ItemReader<'a>
         ensures { result ≡ whole_text text.now }
     {
-        Items {
+        ItemReader {
             tokens: Tokens::new(text),
         }
     }

@@ -7,13 +7,13 @@ ghost use Rattle.bumblebee_reader.specs.Faults.{IsSyntaxFault, IsNumberFault, Me
 ghost use Rattle.bumblebee_reader.specs.Reading.{AtItem, reading, Gives};
 
 use crate::fault::ReadFault;
-use crate::items::Items;
+use crate::items::ItemReader;
 use crate::syntax::Syntax;
 use bee_list::Sequence;
 use std::alloc::Global;
 
 /// The syntax of a text, or its first fault. One pass over the bytes, each of which is looked at once; a
-/// name of more than 16 bytes takes memory once, when it is whole. `Items` gives the same items one at a time.
+/// name of more than 16 bytes takes memory once, when it is whole. `ItemReader` gives the same items one at a time.
 pub fn read_model(alloc: Global, text: &[u8]) -> Result<Syntax, ReadFault>
     ensures ok { MemoryFound result → (s : Syntax) → (result ≡ Ok s) ↔ IsText text.now s }
     ensures syntax { MemoryFound result → (line : ℕ) → (result ≡ Err (ReadFault.Syntax line)) ↔ IsSyntaxFault text.now line }
@@ -25,7 +25,7 @@ pub fn read_model(alloc: Global, text: &[u8]) -> Result<Syntax, ReadFault>
 fn read_whole(alloc: Global, text: &[u8]) -> Result<Syntax, ReadFault>
     ensures { Gives result (reading AtItem 1 text.now) (λ s. Ok s.items) }
 {
-    let mut left = Items::new(text);
+    let mut left = ItemReader::new(text);
     let mut items = Vec::new(alloc);
     while let Some(item) = left.next_item(alloc)? {
         items.push(item)?;

@@ -10,6 +10,7 @@ use Rattle.text_modes.specs.declared.ends.Outcome.{Outcome}
 use Rattle.text_modes.specs.declared.ends.Outcome.TheVariants.{Done, Refused, Unknown}
 use Rattle.text_modes.specs.declared.ends.End.{End}
 use Rattle.text_modes.specs.declared.ends.End.TheVariants.{Wrote, Memory}
+use Rattle.model_lower.specs.Lowering.{lowered_of}
 use Rattle.model_texts.specs.declared.fault.ModelFault.{ModelFault}
 use Rattle.model_texts.specs.ModelTexts.{longest_text, IsFirstFault, HasFault}
 use Rattle.model_texts.specs.HeldModels.{HoldsModel}
@@ -46,17 +47,21 @@ one_end texts (Wrote (Refused m)) b h k = absurd k
 one_end texts a b h k = absurd h
 
 fit_or_fault : (text : List ℕ) (fault : ModelFault) → HasModel text → HasFault text fault → ⊥
-fit_or_fault text fault h k = no_text_fault text fault h.0 h.1.within h.1.says h.1.light k
+fit_or_fault text fault h k = no_text_fault text fault h.0.model h.1.0.within h.1.0.says h.1.0.light k
+
+-- each model that is held is lowered to some cores
+lowered_too : (text : List ℕ) (model : Model) → HoldsModel text model → HasModel text
+lowered_too text model h = (record { model = model; lowered = lowered_of model }, (h, refl))
 
 given : (texts : Texts) (outcome : Outcome) (written : List ℕ) → Gives texts outcome written → HasModel texts.first × HaveEnd texts (Wrote outcome)
 given texts Done written h =
-    ((h.model, h.held), record { model = h.model; held = h.held; verdict = h.tells.verdict; assignment = h.tells.is.assignment; valid = h.tells.is.valid })
-given texts (Refused line) written h = ((h.model, h.held), record { model = h.model; held = h.held; why = h.tells.why; refused = h.tells.is })
+    (lowered_too texts.first h.model h.held, record { model = h.model; held = h.held; verdict = h.tells.verdict; assignment = h.tells.is.assignment; valid = h.tells.is.valid })
+given texts (Refused line) written h = (lowered_too texts.first h.model h.held, record { model = h.model; held = h.held; why = h.tells.why; refused = h.tells.is })
 given texts (Unknown count) written h = absurd h
 
 fit : (texts : Texts) (end : End ModelFault) → HaveEnd texts end → HasModel texts.first
-fit texts (Wrote Done) h = (h.model, h.held)
-fit texts (Wrote (Refused line)) h = (h.model, h.held)
+fit texts (Wrote Done) h = lowered_too texts.first h.model h.held
+fit texts (Wrote (Refused line)) h = lowered_too texts.first h.model h.held
 fit texts end h = absurd h
 
 -- what is said of each end decides which end told texts have

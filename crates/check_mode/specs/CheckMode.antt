@@ -9,12 +9,12 @@ use Rattle.text_modes.specs.declared.ends.End.{End}
 use Rattle.text_modes.specs.declared.ends.End.TheVariants.{Wrote}
 use Rattle.model_texts.specs.declared.fault.ModelFault.{ModelFault}
 use Rattle.model_texts.specs.ModelTexts.{longest_text, HasFault}
-use Rattle.model_texts.specs.HeldModels.{HoldsModel}
+use Rattle.model_texts.specs.HeldModels.{HoldsLowered}
 use Rattle.check_mode.specs.Checked.{Gives, IsAnswered, FailsBehind}
 
 -- a text says a model that is compiled
 abbrev pub HasModel : List ℕ → Type 0
-HasModel = HoldsSome HoldsModel
+HasModel = HoldsSome HoldsLowered
 
 -- the end that two texts have of which the first says a model that is compiled
 abbrev pub HaveEnd : Texts → End ModelFault → Type 0

@@ -1,13 +1,13 @@
 //! From a model and the text of an answer to what the check says.
 
 ghost use Rattle.std.specs.Prelude.{◌≡◌, ◌≤◌, List, ℕ, IfOk};
-ghost use Rattle.model_texts.specs.HeldModels.{HoldsModel};
+ghost use Rattle.model_texts.specs.HeldModels.{HoldsLowered};
 ghost use Rattle.check_mode.specs.Checked.{accepted_text, IsChecking};
 
 use answer_document::{Verdict, push_verdict};
 use bee_text::{end_line, push_bytes};
-use ledger_check::CheckFault;
-use model_meaning::Model;
+use ledger_check::{Judgement, check_lowered};
+use model_texts::HeldModel;
 use std::alloc::{AllocError, Global};
 use text_modes::{Outcome, refusal};
 
@@ -25,23 +25,21 @@ fn acceptance(alloc: Global, verdict: Verdict) -> Result<Vec<u8>, AllocError>
 /// What is written for a model and an answer: the line that tells its verdict, or the line that tells which line of it fails first.
 pub(crate) fn check_text(
     alloc: Global,
-    model: &Model,
+    held: HeldModel,
     answer: &[u8],
 ) -> Result<(Outcome, Vec<u8>), AllocError>
-    requires { (text : List ℕ) × HoldsModel text model.now }
-    ensures { IfOk result (λ checked. IsChecking model.now answer.now checked.0 checked.1.items) }
+    requires { (text : List ℕ) × HoldsLowered text held }
+    ensures { IfOk result (λ checked. IsChecking held.model answer.now checked.0 checked.1.items) }
 {
-    match ledger_check::check(alloc, model, answer) {
-        Ok(verdict) => {
+    let HeldModel { model, lowered } = held;
+    match check_lowered(alloc, &model, lowered, answer)? {
+        Judgement::Valid(verdict) => {
             let text = acceptance(alloc, verdict)?;
             Ok((Outcome::Done, text))
         }
-        Err(CheckFault::Refused { line, .. }) => {
+        Judgement::Refused { line, .. } => {
             let text = refusal(alloc, line)?;
             Ok((Outcome::Refused(line), text))
         }
-        // The model was weighed before.
-        Err(CheckFault::TooHeavy(_)) => unreachable!(),
-        Err(CheckFault::Memory) => Err(AllocError),
     }
 }

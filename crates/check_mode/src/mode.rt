@@ -5,8 +5,7 @@ ghost use Rattle.check_mode.specs.CheckMode.{CheckMode};
 
 use crate::making::check_text;
 use bee_outside::{Shelf, Sink};
-use model_meaning::Model;
-use model_texts::{LONGEST_TEXT, ModelFault, TextFault, held_model};
+use model_texts::{HeldModel, LONGEST_TEXT, ModelFault, ModelTextFault, held_model};
 use std::alloc::{AllocError, Global};
 use text_modes::{End, Outcome, TwoTexts, run_two};
 
@@ -16,16 +15,16 @@ struct Checking;
 impl TwoTexts for Checking {
     ghost use Rattle.std.specs.Prelude.{◌+◌, Some};
     ghost use Rattle.model_texts.specs.ModelTexts.{longest_text, HasFault};
-    ghost use Rattle.model_texts.specs.HeldModels.{HoldsModel};
+    ghost use Rattle.model_texts.specs.HeldModels.{HoldsLowered};
     ghost use Rattle.check_mode.specs.Checked.{Gives};
 
-    type Held = Model;
+    type Held = HeldModel;
 
     type Fault = ModelFault;
 
     ghost most = { λ _. Some (longest_text + 1) };
 
-    ghost holds = { λ _. HoldsModel };
+    ghost holds = { λ _. HoldsLowered };
 
     ghost has_fault = { λ _. HasFault };
 
@@ -40,11 +39,15 @@ impl TwoTexts for Checking {
     }
 
     #[tactic(auto, using(crate::proofs::Ends::had_fault, crate::proofs::Ends::within_limit))]
-    fn judge(&self, alloc: Global, first: &[u8]) -> Result<Result<Model, ModelFault>, AllocError> {
+    fn judge(
+        &self,
+        alloc: Global,
+        first: &[u8],
+    ) -> Result<Result<HeldModel, ModelFault>, AllocError> {
         match held_model(alloc, first) {
-            Ok(model) => Ok(Ok(model)),
-            Err(TextFault::Model(fault)) => Ok(Err(fault)),
-            Err(TextFault::Memory) => Err(AllocError),
+            Ok(held) => Ok(Ok(held)),
+            Err(ModelTextFault::Model(fault)) => Ok(Err(fault)),
+            Err(ModelTextFault::Memory) => Err(AllocError),
         }
     }
 
@@ -52,7 +55,7 @@ impl TwoTexts for Checking {
     fn make(
         &self,
         alloc: Global,
-        held: &Model,
+        held: HeldModel,
         answer: &[u8],
     ) -> Result<(Outcome, Vec<u8>), AllocError> {
         check_text(alloc, held, answer)

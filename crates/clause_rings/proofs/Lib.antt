@@ -8,7 +8,7 @@ mod Watching
 mod Kept
 mod Looked
 mod Walked
-mod Settling
+mod Attaching
 mod Reordered
 mod Linked
 mod Propagated

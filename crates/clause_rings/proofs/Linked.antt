@@ -12,7 +12,7 @@ use Rattle.clause_rings.specs.Clauses.{SameClauses}
 use Rattle.clause_rings.specs.Clauses.Follows.{same}
 use Rattle.clause_rings.specs.Watches.{IsGuarded, IsWatched, IsWaiting, IsIdle, IsAttended, IsWatching, IsKept}
 use Rattle.clause_rings.specs.Keeping.{Keeps, Advances}
-use Rattle.clause_rings.specs.Settling.{IsReordered, IsSettled, IsForced, IsLinkable, IsLinked}
+use Rattle.clause_rings.specs.Attaching.{IsReordered, IsAttached, IsForced, IsLinkable, IsLinked}
 use Rattle.clause_rings.specs.declared.watches.Watches.{Watches}
 use Rattle.clause_rings.proofs.Entries.{entry-append, truth-append}
 use Rattle.clause_rings.proofs.Literals.{contains-at}
@@ -122,8 +122,8 @@ pub record IsNewlyLinked (cs : List Clause) (t : Trail) (old new : RingLists) (h
   pub here : IsAttended (clause_at cs c) new t.entries (take head t.entries) c
   pub gone : list_of new 0 ≡ without (2 * c) (list_of old 0)
 
-pub newly-linked : (cs : List Clause) (t : Trail) (old new : RingLists) (head c : ℕ) → IsLive cs c → 1 ≤ length (lits_of cs c) → IsLinkable (lits_of cs c) old c → IsSettled t.entries (lits_of cs c) → IsLinked (lits_of cs c) old new c → IsNewlyLinked cs t old new head c
-newly-linked cs t old new head c live some able settled linked = ⊎_elim one two linked
+pub newly-linked : (cs : List Clause) (t : Trail) (old new : RingLists) (head c : ℕ) → IsLive cs c → 1 ≤ length (lits_of cs c) → IsLinkable (lits_of cs c) old c → IsAttached t.entries (lits_of cs c) → IsLinked (lits_of cs c) old new c → IsNewlyLinked cs t old new head c
+newly-linked cs t old new head c live some able attached linked = ⊎_elim one two linked
   where
     mid : RingLists
     mid = unlinked old (2 * c)
@@ -133,7 +133,7 @@ newly-linked cs t old new head c live some able settled linked = ⊎_elim one tw
       others = others-first old mid c (unlinked-others old (2 * c));
       count = length-unlinked old (2 * c);
       nodes = refl;
-      here = inr (inr (record { done = λ is. settled.alone (omega arith); first = unlinked-free old (2 * c); second = (unlinked-others old (2 * c)).free (2 * c + 1) (λ k. absurd (omega arith)) able.free }));
+      here = inr (inr (record { done = λ is. attached.alone (omega arith); first = unlinked-free old (2 * c); second = (unlinked-others old (2 * c)).free (2 * c + 1) (λ k. absurd (omega arith)) able.free }));
       gone = list-unlinked (2 * c) old.lists 0;
     })
 
@@ -170,9 +170,9 @@ newly-linked cs t old new head c live some able settled linked = ⊎_elim one tw
         stands (suc (suc i)) lt = absurd (omega arith)
 
         guarded : (i : ℕ) → i < 2 → IsGuarded t.entries (take head t.entries) (lits_of cs c) (lit_in (lits_of cs c) i)
-        guarded zero lt = guarded-open t.entries (take head t.entries) (drop head t.entries) (lits_of cs c) (lit_in (lits_of cs c) 0) (sym (take-append-drop head t.entries)) settled.first
+        guarded zero lt = guarded-open t.entries (take head t.entries) (drop head t.entries) (lits_of cs c) (lit_in (lits_of cs c) 0) (sym (take-append-drop head t.entries)) attached.first
         guarded (suc zero) lt = λ s given f.
-            settled.second s (ap (λ (es : List Entry). entry_of es (lit_in (lits_of cs c) 1).var) (sym (take-append-drop head t.entries)) ∙ entry-append (take head t.entries) (drop head t.entries) (lit_in (lits_of cs c) 1).var s given) (ap (λ (es : List Entry). truth_in es (lit_in (lits_of cs c) 1)) (sym (take-append-drop head t.entries)) ∙ truth-append (take head t.entries) (drop head t.entries) (lit_in (lits_of cs c) 1) false f) more
+            attached.second s (ap (λ (es : List Entry). entry_of es (lit_in (lits_of cs c) 1).var) (sym (take-append-drop head t.entries)) ∙ entry-append (take head t.entries) (drop head t.entries) (lit_in (lits_of cs c) 1).var s given) (ap (λ (es : List Entry). truth_in es (lit_in (lits_of cs c) 1)) (sym (take-append-drop head t.entries)) ∙ truth-append (take head t.entries) (drop head t.entries) (lit_in (lits_of cs c) 1) false f) more
         guarded (suc (suc i)) lt = absurd (omega arith)
 
         made : IsNewlyLinked cs t old last head c

@@ -8,7 +8,7 @@ use Rattle.literal_trail.specs.declared.entry.Entry.{Entry}
 use Rattle.clause_arena.specs.Clauses.{Clause, Arena, no_lit, clause_at, IsLive, lits_of, lit_in, swapped}
 use Rattle.clause_rings.specs.Clauses.{SameClause}
 use Rattle.clause_rings.specs.Looks.{rank_of, IsBestFrom}
-use Rattle.clause_rings.specs.Settling.{AreRanked, IsReordered}
+use Rattle.clause_rings.specs.Attaching.{AreRanked, IsReordered}
 use Rattle.clause_rings.proofs.Db.{IsChanged, changed-set, live-inside, same-swapped, came-from}
 use Rattle.clause_rings.proofs.Kept.{swapped_clause}
 

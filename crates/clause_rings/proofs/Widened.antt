@@ -124,16 +124,24 @@ next-added old mid new c id ls each lt dead is = record {
   others = λ d ne. ap (λ (cs : List Clause). clause_at cs d) is ∙ (get_or-set_other mid c d (live_clause id ls) no_clause ne ∙ each d);
 }
 
--- the first clauses of a list are there, and no others
+-- the first clauses of a list are there, each once, and no others
 pub record HoldsFirst (clauses : List (List Lit)) (n : ℕ) (cs : List Clause) : Type 0 where
   pub stored : (k : ℕ) → k < n → (c : ℕ) × (clause_at cs c ≡ live_clause (k + 1) (get_or clauses k []))
   pub alone : (c : ℕ) → IsLive cs c → (k : ℕ) × (k < n) × (clause_at cs c ≡ live_clause (k + 1) (get_or clauses k []))
+  pub once : (c d : ℕ) → IsLive cs c → IsLive cs d → (clause_at cs c).id ≡ (clause_at cs d).id → c ≡ d
 
 pub holds-none : (clauses : List (List Lit)) (cs : List Clause) → ((d : ℕ) → clause_at cs d ≡ no_clause) → HoldsFirst clauses 0 cs
-holds-none clauses cs each = record { stored = λ k lt. absurd (omega arith); alone = λ c live. absurd (let no : false ≡ true = ap (λ (x : Clause). x.live) (sym (each c)) ∙ live in cc) }
+holds-none clauses cs each = record {
+  stored = λ k lt. absurd (omega arith);
+  alone = λ c live. absurd (dead c live);
+  once = λ c d live there same. absurd (dead c live);
+}
+  where
+    dead : (c : ℕ) → IsLive cs c → ⊥
+    dead c live = let no : false ≡ true = ap (λ (x : Clause). x.live) (sym (each c)) ∙ live in cc
 
 pub holds-next : (clauses : List (List Lit)) (n : ℕ) (old new : List Clause) (ls : List Lit) → ls ≡ get_or clauses n [] → HoldsFirst clauses n old → IsNext old new (n + 1) ls → HoldsFirst clauses (n + 1) new
-holds-next clauses n old new ls is h next = record { stored = stored; alone = alone }
+holds-next clauses n old new ls is h next = record { stored = stored; alone = alone; once = once }
   where
     here : clause_at new next.reference ≡ live_clause (n + 1) (get_or clauses n [])
     here = next.here ∙ ap (live_clause (n + 1)) is
@@ -149,6 +157,33 @@ holds-next clauses n old new ls is h next = record { stored = stored; alone = al
       where
         there : (c ≡ next.reference → ⊥) → (k : ℕ) × (k < n + 1) × (clause_at new c ≡ live_clause (k + 1) (get_or clauses k []))
         there ne = let r = h.alone c (subst (λ (x : Clause). x.live ≡ true) (next.others c ne) live) in (r.0, omega (arith, r.1), next.others c ne ∙ r.2)
+
+    was : (c : ℕ) → (c ≡ next.reference → ⊥) → IsLive new c → IsLive old c
+    was c ne live = subst (λ (x : Clause). x.live ≡ true) (next.others c ne) live
+
+    id-there : (c : ℕ) → (c ≡ next.reference → ⊥) → (clause_at new c).id ≡ (clause_at old c).id
+    id-there c ne = ap (λ (x : Clause). x.id) (next.others c ne)
+
+    id-here : (c : ℕ) → c ≡ next.reference → (clause_at new c).id ≡ n + 1
+    id-here c e = ap (λ (m : ℕ). (clause_at new m).id) e ∙ ap (λ (x : Clause). x.id) here
+
+    low-there : (c : ℕ) → (c ≡ next.reference → ⊥) → IsLive new c → (clause_at new c).id < n + 1
+    low-there c ne live = let r = h.alone c (was c ne live) in omega (arith, id-there c ne, ap (λ (x : Clause). x.id) r.2, r.1)
+
+    once : (c d : ℕ) → IsLive new c → IsLive new d → (clause_at new c).id ≡ (clause_at new d).id → c ≡ d
+    once c d live there same =
+        ⊎_elim
+        (λ (first : c ≡ next.reference).
+        ⊎_elim
+        (λ (second : d ≡ next.reference). first ∙ sym second)
+        (λ (ne : d ≡ next.reference → ⊥). absurd (omega (arith, id-here c first, low-there d ne there, same)))
+        (cases_eq d next.reference))
+        (λ (ne : c ≡ next.reference → ⊥).
+        ⊎_elim
+        (λ (second : d ≡ next.reference). absurd (omega (arith, id-here d second, low-there c ne live, same)))
+        (λ (other : d ≡ next.reference → ⊥). h.once c d (was c ne live) (was d other there) (sym (id-there c ne) ∙ same ∙ id-there d other))
+        (cases_eq d next.reference))
+        (cases_eq c next.reference)
 
 -- the literals of a clause of the list are in range
 pub clause-below : (n : ℕ) (ls : List Lit) → ClauseBelow n ls → (l : Lit) → Contains ls l → LitBelow n l

@@ -120,7 +120,8 @@ pub record HasRoomMore (old new : ClauseLists) : Type 0 where
 abbrev pub AreApartIn : Cnf → Type 0
 AreApartIn cnf = (k : ℕ) → k < length cnf.clauses → IsApart (slice_index_or cnf.clauses k [])
 
--- the clauses of a CNF are there, the first one with id 1, and no other clause is
+-- the clauses of a CNF are there, each once and the first one with id 1, and no other clause is
 pub record HoldsCnf (cnf : Cnf) (cs : List Clause) : Type 0 where
   pub stored : (k : ℕ) → k < length cnf.clauses → (c : ℕ) × (clause_at cs c ≡ live_clause (k + 1) (slice_index_or cnf.clauses k []))
   pub alone : (c : ℕ) → IsLive cs c → (k : ℕ) × (k < length cnf.clauses) × (clause_at cs c ≡ live_clause (k + 1) (slice_index_or cnf.clauses k []))
+  pub once : (c d : ℕ) → IsLive cs c → IsLive cs d → (clause_at cs c).id ≡ (clause_at cs d).id → c ≡ d

@@ -2,5 +2,5 @@ pub mod Clauses
 pub mod Watches
 pub mod Looks
 pub mod Keeping
-pub mod Settling
+pub mod Attaching
 pub mod Moves

@@ -4,7 +4,7 @@ ghost use Rattle.std.specs.Prelude.{IfSome, IfNone};
 ghost use Rattle.clause_rings.specs.Clauses.{IsComplete};
 ghost use Rattle.clause_rings.specs.Keeping.{Keeps, seen, Advances, IsConflict};
 
-use crate::settle::settle_all;
+use crate::attach::attach_all;
 use crate::walk::walk;
 use crate::watches::Watches;
 
@@ -17,7 +17,7 @@ pub fn propagate(watches: &mut Watches) -> Option<u32>
     ensures none { IfNone result (IsComplete watches.new.trail.entries watches.new.arena.clauses) }
 {
     'entries: loop {
-        if let Some(c) = settle_all(watches) {
+        if let Some(c) = attach_all(watches) {
             return Some(c);
         }
         if watches.head == watches.trail.len() {

@@ -24,7 +24,7 @@ module _ (text written : List ℕ) (short : length text ≤ longest_text) (c : C
   made = c.is.compiled
 
   pub well : IsCompiledWell c.model made
-  well = compilation IsInstance (λ core e h. h) c.model made (typed text c.model c.says) (limited text c.model short c.says) c.light c.is.cores c.is.is
+  well = compilation IsInstance c.model made (typed text c.model c.says) (limited text c.model short c.says) c.light c.is.cores c.is.is
 
   -- what the model is compiled to can be written
   pub writable : IsWritable (written_of made)

@@ -17,11 +17,11 @@ use crate::entries::entries_of;
 use bee_compile::{Compiled, compile};
 use bee_list::Sequence;
 use dimacs_out::{CnfText, write_compiled};
-use fixpoint_queue::TableP;
 use model_lower::LowerFault;
 use model_meaning::Model;
-use model_texts::{TextFault, lower_fault, model_of};
+use model_texts::{ModelTextFault, lower_fault, model_of};
 use rule_base::Steps;
+use rule_oracle::TableP;
 use std::alloc::{AllocError, Global};
 use std::marker::Brand;
 use std::sync::ledger::{Blank, Ledger};
@@ -81,7 +81,7 @@ fn write_model(alloc: Global, model: Model) -> Result<Vec<u8>, LowerFault>
 }
 
 /// The compiled text of the model that a text says.
-pub(crate) fn compile_text(alloc: Global, text: &[u8]) -> Result<Vec<u8>, TextFault>
+pub(crate) fn compile_text(alloc: Global, text: &[u8]) -> Result<Vec<u8>, ModelTextFault>
     requires { length text.now ≤ longest_text }
     ensures compiled { IfOk result (λ written. Compiles text.now written.items) }
     ensures fault { IfErr result (λ e. IsCauseOf e text.now) }

@@ -5,7 +5,7 @@ ghost use Rattle.compile_mode.specs.CompileMode.{CompileMode};
 
 use crate::making::compile_text;
 use bee_outside::{Shelf, Sink};
-use model_texts::{LONGEST_TEXT, ModelFault, TextFault};
+use model_texts::{LONGEST_TEXT, ModelFault, ModelTextFault};
 use std::alloc::{AllocError, Global};
 use text_modes::{End, Made, OneText, Outcome, run_one};
 
@@ -37,8 +37,8 @@ impl OneText for Compiling {
     fn make(&self, alloc: Global, text: &[u8]) -> Result<Made<ModelFault>, AllocError> {
         match compile_text(alloc, text) {
             Ok(written) => Ok(Made::Text(Outcome::Done, written)),
-            Err(TextFault::Model(fault)) => Ok(Made::Fault(fault)),
-            Err(TextFault::Memory) => Err(AllocError),
+            Err(ModelTextFault::Model(fault)) => Ok(Made::Fault(fault)),
+            Err(ModelTextFault::Memory) => Err(AllocError),
         }
     }
 }

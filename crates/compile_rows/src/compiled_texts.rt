@@ -1,7 +1,7 @@
 //! Compiled texts that are read, worked out by hand.
 
 use dimacs_out::write_compiled;
-use dimacs_read::{TextFault, read_compiled};
+use dimacs_read::{CompiledTextFault, read_compiled};
 use std::alloc::{AllocError, Global};
 use std::process::Abort;
 
@@ -9,11 +9,11 @@ use std::process::Abort;
 fn read(alloc: Global, text: &str) -> Result<Vec<u8>, AllocError> {
     match read_compiled(alloc, text.as_bytes()) {
         Ok(held) => write_compiled(alloc, &held),
-        Err(TextFault::Form(line)) => {
+        Err(CompiledTextFault::Form(line)) => {
             let fault = format!(in alloc; "line {line}")?;
             Vec::from_slice(alloc, fault.as_bytes())
         }
-        Err(TextFault::Memory) => Vec::from_slice(alloc, b"memory"),
+        Err(CompiledTextFault::Memory) => Vec::from_slice(alloc, b"memory"),
     }
 }
 
@@ -182,7 +182,7 @@ pub(super) fn line_of(text: &[u8], length: usize) -> u64 {
 /// The line of a text that fails.
 fn failing_line(alloc: Global, text: &[u8]) -> Option<u64> {
     match read_compiled(alloc, text) {
-        Err(TextFault::Form(line)) => Some(line),
+        Err(CompiledTextFault::Form(line)) => Some(line),
         _ => None,
     }
 }

@@ -2,7 +2,7 @@
 
 use crate::compiled_texts::line_of;
 use bee_list::Sequence;
-use dimacs_read::{TextFault, read_values};
+use dimacs_read::{CompiledTextFault, read_values};
 use order_ints::{Cnf, Lit};
 use std::alloc::{AllocError, Global};
 use std::process::Abort;
@@ -32,8 +32,8 @@ fn digits(alloc: Global, values: &[bool]) -> Result<String, AllocError> {
 fn told(alloc: Global, cnf: &Cnf, text: &str) -> Result<String, AllocError> {
     match read_values(alloc, text.as_bytes(), cnf) {
         Ok(values) => digits(alloc, &values),
-        Err(TextFault::Form(line)) => format!(in alloc; "line {line}"),
-        Err(TextFault::Memory) => String::from_str(alloc, "memory"),
+        Err(CompiledTextFault::Form(line)) => format!(in alloc; "line {line}"),
+        Err(CompiledTextFault::Memory) => String::from_str(alloc, "memory"),
     }
 }
 
@@ -113,7 +113,7 @@ fn values_that_fail(rt: HostRuntime) -> Result<(), Fail> {
 fn failing_line(alloc: Global, text: &[u8]) -> Result<Option<u64>, AllocError> {
     let cnf = cnf(alloc)?;
     match read_values(alloc, text, &cnf) {
-        Err(TextFault::Form(line)) => Ok(Some(line)),
+        Err(CompiledTextFault::Form(line)) => Ok(Some(line)),
         _ => Ok(None),
     }
 }

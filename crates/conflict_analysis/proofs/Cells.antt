@@ -4,7 +4,7 @@ use Rattle.std.proofs.lemmas.List.{get_or-set_same, get_or-set_other, ext_get_or
 use Rattle.std.proofs.lemmas.Bool.{cases_lt}
 use Rattle.conflict_analysis.specs.declared.marks.Mark.{Mark}
 use Rattle.conflict_analysis.specs.declared.marks.Mark.TheVariants.{Blank, Met, Resolved, Entered, Kept, Failed, Implied}
-use Rattle.conflict_analysis.specs.Marking.{mark_at, is_blank, is_met, is_settled_mark}
+use Rattle.conflict_analysis.specs.Marking.{mark_at, is_blank, is_met, is_covered_mark}
 
 pub at-same : (cells : List Mark) (v : ℕ) (m : Mark) → v < length cells → mark_at (set cells v m) v ≡ m
 at-same cells v m h = get_or-set_same cells v m Blank h
@@ -36,14 +36,14 @@ met-is Implied e = cc
 pub met-isn't : (m : Mark) → is_met m ≡ false → m ≢ Met
 met-isn't m e h = let f : is_met m ≡ true = ap is_met h in cc
 
-pub settled-is : (m : Mark) → is_settled_mark m ≡ true → (m ≡ Kept) ⊎ (m ≡ Implied)
-settled-is Blank e = absurd cc
-settled-is Met e = absurd cc
-settled-is Resolved e = absurd cc
-settled-is Entered e = absurd cc
-settled-is Kept e = inl refl
-settled-is Failed e = absurd cc
-settled-is Implied e = inr refl
+pub covered-is : (m : Mark) → is_covered_mark m ≡ true → (m ≡ Kept) ⊎ (m ≡ Implied)
+covered-is Blank e = absurd cc
+covered-is Met e = absurd cc
+covered-is Resolved e = absurd cc
+covered-is Entered e = absurd cc
+covered-is Kept e = inl refl
+covered-is Failed e = absurd cc
+covered-is Implied e = inr refl
 
 pub blank-cases : (m : Mark) → (m ≡ Blank) ⊎ (m ≢ Blank)
 blank-cases Blank = inl refl

@@ -17,7 +17,7 @@ use Rattle.conflict_analysis.proofs.Resolves.{met-not-blank, After, its_own, mar
 use Rattle.conflict_analysis.proofs.Seeks.{reason-live}
 
 -- a listed variable is in range, and has a reason that lives
-module _ (t : Trail) (tr : IsTrail t) (named : ℕ → Named) (first fates : List Mark) (order : List ℕ) (o : AreOrdered t.entries named first fates order) (k : ℕ) (inside : k < length order) where
+module _ (t : Trail) (tr : IsTrail t) (named : ℕ → Named) (first minimiser : List Mark) (order : List ℕ) (o : AreOrdered t.entries named first minimiser order) (k : ℕ) (inside : k < length order) where
   pub ordered-low : get_or order k 0 < t.vars + 1
   ordered-low =
       let m = (o.each k inside).may_enter in
@@ -29,11 +29,11 @@ module _ (t : Trail) (tr : IsTrail t) (named : ℕ → Named) (first fates : Lis
       let m = (o.each k inside).may_enter in
       record { entry = m.entry; found = m.found; reference = m.reference; because = m.because; live = reason-live t tr named lives rs (get_or order k 0) m.reference m.entry m.found m.because }
 
-module _ (t : Trail) (tr : IsTrail t) (named : ℕ → Named) (lives : ℕ → Type 0) (rs : AreReasons t.entries named lives) (first : List Mark) (fates : List Mark) (order : List ℕ)
-    (o : AreOrdered t.entries named first fates order) (spare : List Lit) (bound : ℕ) (conflict : Named) (cells : List Mark) (hints : List ℕ) (k : ℕ) (inside : k < length order)
-    (h : IsFollowing t.entries named spare bound conflict fates order cells hints (k + 1)) where
+module _ (t : Trail) (tr : IsTrail t) (named : ℕ → Named) (lives : ℕ → Type 0) (rs : AreReasons t.entries named lives) (first : List Mark) (minimiser : List Mark) (order : List ℕ)
+    (o : AreOrdered t.entries named first minimiser order) (spare : List Lit) (bound : ℕ) (conflict : Named) (cells : List Mark) (hints : List ℕ) (k : ℕ) (inside : k < length order)
+    (h : IsFollowing t.entries named spare bound conflict minimiser order cells hints (k + 1)) where
   -- one that isn't met is passed
-  pub following-pass : mark_at cells (get_or order k 0) ≢ Met → IsFollowing t.entries named spare bound conflict fates order cells hints k
+  pub following-pass : mark_at cells (get_or order k 0) ≢ Met → IsFollowing t.entries named spare bound conflict minimiser order cells hints k
   following-pass n = record {
     resolving = h.resolving;
     ahead = λ i l. h.ahead i (omega arith);
@@ -54,7 +54,7 @@ module _ (t : Trail) (tr : IsTrail t) (named : ℕ → Named) (lives : ℕ → T
     abbrev v : ℕ
     v = get_or order k 0
 
-    is : IsOrdered t.entries named first fates order k
+    is : IsOrdered t.entries named first minimiser order k
     is = o.each k inside
 
     reason : reason_at named t.entries (get_or order k 0) ≡ named is.may_enter.reference
@@ -79,7 +79,7 @@ module _ (t : Trail) (tr : IsTrail t) (named : ℕ → Named) (lives : ℕ → T
     after w = after-all t tr named lives rs cells size (get_or order k 0) is.may_enter.reference is.may_enter.entry is.may_enter.found is.may_enter.because w
 
     pub following-next : (cells_after : List Mark) (hints_after : List ℕ) → cells_after ≡ resolved_by cells (get_or order k 0) (reason_at named t.entries (get_or order k 0)).lits
-        → hints_after ≡ hints ++ (reason_at named t.entries (get_or order k 0)).id ∷ [] → IsFollowing t.entries named spare bound conflict fates order cells_after hints_after k
+        → hints_after ≡ hints ++ (reason_at named t.entries (get_or order k 0)).id ∷ [] → IsFollowing t.entries named spare bound conflict minimiser order cells_after hints_after k
     following-next cells_after hints_after e f = rw (e, f, reason) (record {
       resolving = resolving-next t tr named lives rs cells size (get_or order k 0) is.may_enter.reference is.may_enter.entry is.may_enter.found is.may_enter.because
           spare bound conflict hints h.resolving met free;
@@ -95,7 +95,7 @@ module _ (t : Trail) (tr : IsTrail t) (named : ℕ → Named) (lives : ℕ → T
       met = λ w m. met-next w m (after w);
       kept = λ w q.
           let was : mark_at cells w ≡ Met = h.kept w q in
-          let differs : w ≢ get_or order k 0 = λ s. let z : Kept ≡ Implied = sym q ∙ ap (mark_at fates) s ∙ is.marked in cc in
+          let differs : w ≢ get_or order k 0 = λ s. let z : Kept ≡ Implied = sym q ∙ ap (mark_at minimiser) s ∙ is.marked in cc in
           elim (after w) [
             | its_own s p ↦ absurd (differs s)
             | marked d b p ↦ p ∙ was
@@ -104,17 +104,17 @@ module _ (t : Trail) (tr : IsTrail t) (named : ℕ → Named) (lives : ℕ → T
           ];
     })
       where
-        new-one : (w : ℕ) → w ≢ get_or order k 0 → (l : Lit) → Contains (named is.may_enter.reference).lits l → l.var ≡ w → (mark_at fates w ≡ Kept) ⊎ ((i : ℕ) × (i < k) × (get_or order i 0 ≡ w))
+        new-one : (w : ℕ) → w ≢ get_or order k 0 → (l : Lit) → Contains (named is.may_enter.reference).lits l → l.var ≡ w → (mark_at minimiser w ≡ Kept) ⊎ ((i : ℕ) × (i < k) × (get_or order i 0 ≡ w))
         new-one w d l c s = elim (is.others l (subst (λ (r : Named). Contains r.lits l) (sym reason) c)) [
           | inl e ↦ absurd (d (sym s ∙ e))
           | inr r ↦ elim r [
-            | inl f' ↦ inl (ap (mark_at fates) (sym s) ∙ f')
+            | inl f' ↦ inl (ap (mark_at minimiser) (sym s) ∙ f')
             | inr j ↦ inr (j.0, j.1, j.2 ∙ s)
           ]
         ]
 
         met-next : (w : ℕ) → mark_at (resolved_by cells (get_or order k 0) (named is.may_enter.reference).lits) w ≡ Met → After t.entries (named is.may_enter.reference).lits cells (resolved_by cells (get_or order k 0) (named is.may_enter.reference).lits) (get_or order k 0) w
-            → (mark_at fates w ≡ Kept) ⊎ ((i : ℕ) × (i < k) × (get_or order i 0 ≡ w))
+            → (mark_at minimiser w ≡ Kept) ⊎ ((i : ℕ) × (i < k) × (get_or order i 0 ≡ w))
         met-next w m a = elim a [
           | its_own s q ↦ let z : Met ≡ Resolved = sym m ∙ q in absurd cc
           | marked d b q ↦ elim (h.met w (sym q ∙ m)) [

@@ -10,11 +10,11 @@ use Rattle.literal_trail.specs.Trail.{Trail, IsTrail, entry_of, truth_in}
 use Rattle.proof_check.specs.Named.{Named}
 use Rattle.conflict_analysis.specs.declared.marks.Mark.{Mark}
 use Rattle.conflict_analysis.specs.declared.marks.Mark.TheVariants.{Blank, Met, Resolved, Entered, Kept, Failed, Implied}
-use Rattle.conflict_analysis.specs.declared.fates.Frame.{Frame}
-use Rattle.conflict_analysis.specs.Marking.{mark_at, is_blank, is_met, is_settled_mark}
+use Rattle.conflict_analysis.specs.declared.minimiser.Frame.{Frame}
+use Rattle.conflict_analysis.specs.Marking.{mark_at, is_blank, is_met, is_covered_mark}
 use Rattle.conflict_analysis.specs.Reasons.{AreReasons, place_of, level_at, reason_at}
-use Rattle.conflict_analysis.specs.Seeking.{IsSeeking, IsFrame, IsOrdered, MayEnter, IsBelow, blanks, is_settled, lit_in, frame_in, fate_of}
-use Rattle.conflict_analysis.proofs.Cells.{at-same, at-other, settled-is, met-is, met-isn't}
+use Rattle.conflict_analysis.specs.Seeking.{IsSeeking, IsFrame, IsOrdered, MayEnter, IsBelow, blanks, is_covered, lit_in, frame_in, outcome_of}
+use Rattle.conflict_analysis.proofs.Cells.{at-same, at-other, covered-is, met-is, met-isn't}
 use Rattle.conflict_analysis.proofs.Touched.{once-push}
 use Rattle.conflict_analysis.proofs.Places.{entry-place, false-entry, reason-lits, reason-of, level-of, level-rises}
 
@@ -61,31 +61,31 @@ blanks-less [] v m l h r = absurd (omega arith)
 blanks-less (x ∷ cells) zero m l h r = let was : is_blank x ≡ true = ap is_blank h in rw (r, was) (omega arith)
 blanks-less (x ∷ cells) (suc v) m l h r = let e : blanks (set cells v m) + 1 ≡ blanks cells = blanks-less cells v m (omega arith) h r in omega arith
 
--- a variable that is settled
-pub settled-cases : (fates : List Mark) (v u : ℕ) → is_settled fates v u ≡ true → (u ≡ v) ⊎ (mark_at fates u ≡ Kept) ⊎ (mark_at fates u ≡ Implied)
-settled-cases fates v u h = elim (cases_Bool (u == v)) [
+-- a variable that is covered
+pub covered-cases : (minimiser : List Mark) (v u : ℕ) → is_covered minimiser v u ≡ true → (u ≡ v) ⊎ (mark_at minimiser u ≡ Kept) ⊎ (mark_at minimiser u ≡ Implied)
+covered-cases minimiser v u h = elim (cases_Bool (u == v)) [
   | inl p ↦ inl (eqb-true u v p)
-  | inr p ↦ elim (settled-is (mark_at fates u) (drop-or (u == v) (is_settled_mark (mark_at fates u)) p h)) [ inl k ↦ inr (inl k) | inr k ↦ inr (inr k) ]
+  | inr p ↦ elim (covered-is (mark_at minimiser u) (drop-or (u == v) (is_covered_mark (mark_at minimiser u)) p h)) [ inl k ↦ inr (inl k) | inr k ↦ inr (inr k) ]
 ]
   where
     drop-or : (a b : Bool) → a ≡ false → (a || b) ≡ true → b ≡ true
     drop-or true b p q = cc
     drop-or false b p q = q
 
-pub unsettled : (fates : List Mark) (v u : ℕ) → is_settled fates v u ≡ false → (u ≢ v) × (mark_at fates u ≢ Kept) × (mark_at fates u ≢ Implied)
-unsettled fates v u h =
-    let parts = split (u == v) (is_settled_mark (mark_at fates u)) h in (
+pub uncovered : (minimiser : List Mark) (v u : ℕ) → is_covered minimiser v u ≡ false → (u ≢ v) × (mark_at minimiser u ≢ Kept) × (mark_at minimiser u ≢ Implied)
+uncovered minimiser v u h =
+    let parts = split (u == v) (is_covered_mark (mark_at minimiser u)) h in (
       (λ e. let p : (u == v) ≡ true = eq-eqb u v e in cc),
-      (λ e. let p : is_settled_mark (mark_at fates u) ≡ true = ap is_settled_mark e in let q : is_settled_mark (mark_at fates u) ≡ false = parts.1 in cc),
-      (λ e. let p : is_settled_mark (mark_at fates u) ≡ true = ap is_settled_mark e in let q : is_settled_mark (mark_at fates u) ≡ false = parts.1 in cc),
+      (λ e. let p : is_covered_mark (mark_at minimiser u) ≡ true = ap is_covered_mark e in let q : is_covered_mark (mark_at minimiser u) ≡ false = parts.1 in cc),
+      (λ e. let p : is_covered_mark (mark_at minimiser u) ≡ true = ap is_covered_mark e in let q : is_covered_mark (mark_at minimiser u) ≡ false = parts.1 in cc),
     )
   where
     split : (a b : Bool) → (a || b) ≡ false → (a ≡ false) × (b ≡ false)
     split true b h = cc
     split false b h = (refl, h)
 
-is-settled : (fates : List Mark) (v u : ℕ) → (u ≡ v) ⊎ (is_settled_mark (mark_at fates u) ≡ true) → is_settled fates v u ≡ true
-is-settled fates v u h = elim h [
+is-covered : (minimiser : List Mark) (v u : ℕ) → (u ≡ v) ⊎ (is_covered_mark (mark_at minimiser u) ≡ true) → is_covered minimiser v u ≡ true
+is-covered minimiser v u h = elim h [
   | inl e ↦ let p : (u == v) ≡ true = eq-eqb u v e in rw p refl
   | inr e ↦ rw e (or-true (u == v))
 ]
@@ -94,40 +94,40 @@ is-settled fates v u h = elim h [
     or-true true = refl
     or-true false = refl
 
--- what a fate is when a mark is set that settled nothing
-module _ (fates : List Mark) (u : ℕ) (m : Mark) (low : u < length fates) (loose : is_settled_mark (mark_at fates u) ≡ false) where
-  pub set-same : mark_at (set fates u m) u ≡ m
-  set-same = at-same fates u m low
+-- what a outcome is when a mark is set that covered nothing
+module _ (minimiser : List Mark) (u : ℕ) (m : Mark) (low : u < length minimiser) (loose : is_covered_mark (mark_at minimiser u) ≡ false) where
+  pub set-same : mark_at (set minimiser u m) u ≡ m
+  set-same = at-same minimiser u m low
 
-  pub settled-set : (v w : ℕ) → is_settled fates v w ≡ true → is_settled (set fates u m) v w ≡ true
-  settled-set v w h = elim (settled-cases fates v w h) [
-    | inl e ↦ is-settled (set fates u m) v w (inl e)
+  pub covered-set : (v w : ℕ) → is_covered minimiser v w ≡ true → is_covered (set minimiser u m) v w ≡ true
+  covered-set v w h = elim (covered-cases minimiser v w h) [
+    | inl e ↦ is-covered (set minimiser u m) v w (inl e)
     | inr r ↦
-        let s : is_settled_mark (mark_at fates w) ≡ true = elim r [ inl k ↦ ap is_settled_mark k | inr k ↦ ap is_settled_mark k ] in
-        let n : w ≢ u = λ e. let q : is_settled_mark (mark_at fates w) ≡ false = ap (λ (x : ℕ). is_settled_mark (mark_at fates x)) e ∙ loose in cc in
-        is-settled (set fates u m) v w (inr (ap is_settled_mark (at-other fates u w m n) ∙ s))
+        let s : is_covered_mark (mark_at minimiser w) ≡ true = elim r [ inl k ↦ ap is_covered_mark k | inr k ↦ ap is_covered_mark k ] in
+        let n : w ≢ u = λ e. let q : is_covered_mark (mark_at minimiser w) ≡ false = ap (λ (x : ℕ). is_covered_mark (mark_at minimiser x)) e ∙ loose in cc in
+        is-covered (set minimiser u m) v w (inr (ap is_covered_mark (at-other minimiser u w m n) ∙ s))
   ]
 
-  pub kept-set : (w : ℕ) → mark_at fates w ≡ Kept → mark_at (set fates u m) w ≡ Kept
+  pub kept-set : (w : ℕ) → mark_at minimiser w ≡ Kept → mark_at (set minimiser u m) w ≡ Kept
   kept-set w k =
-      let n : w ≢ u = λ e. let q : is_settled_mark (mark_at fates w) ≡ false = ap (λ (x : ℕ). is_settled_mark (mark_at fates x)) e ∙ loose in let p : is_settled_mark (mark_at fates w) ≡ true = ap is_settled_mark k in cc in
-      at-other fates u w m n ∙ k
+      let n : w ≢ u = λ e. let q : is_covered_mark (mark_at minimiser w) ≡ false = ap (λ (x : ℕ). is_covered_mark (mark_at minimiser x)) e ∙ loose in let p : is_covered_mark (mark_at minimiser w) ≡ true = ap is_covered_mark k in cc in
+      at-other minimiser u w m n ∙ k
 
-  implied-set : (w : ℕ) → mark_at fates w ≡ Implied → mark_at (set fates u m) w ≡ Implied
+  implied-set : (w : ℕ) → mark_at minimiser w ≡ Implied → mark_at (set minimiser u m) w ≡ Implied
   implied-set w k =
-      let n : w ≢ u = λ e. let q : is_settled_mark (mark_at fates w) ≡ false = ap (λ (x : ℕ). is_settled_mark (mark_at fates x)) e ∙ loose in let p : is_settled_mark (mark_at fates w) ≡ true = ap is_settled_mark k in cc in
-      at-other fates u w m n ∙ k
+      let n : w ≢ u = λ e. let q : is_covered_mark (mark_at minimiser w) ≡ false = ap (λ (x : ℕ). is_covered_mark (mark_at minimiser x)) e ∙ loose in let p : is_covered_mark (mark_at minimiser w) ≡ true = ap is_covered_mark k in cc in
+      at-other minimiser u w m n ∙ k
 
-  pub frame-set : (entries : List Entry) (named : ℕ → Named) (cells : List Mark) (f : Frame) → f.var ≢ u → IsFrame entries named cells fates f → IsFrame entries named cells (set fates u m) f
+  pub frame-set : (entries : List Entry) (named : ℕ → Named) (cells : List Mark) (f : Frame) → f.var ≢ u → IsFrame entries named cells minimiser f → IsFrame entries named cells (set minimiser u m) f
   frame-set entries named cells f n h = record {
     may_enter = h.may_enter;
     below = h.below;
     inside = h.inside;
-    settled = λ j l. settled-set f.var (lit_in (reason_at named entries f.var).lits j).var (h.settled j l);
-    entered = at-other fates u f.var m n ∙ h.entered;
+    covered = λ j l. covered-set f.var (lit_in (reason_at named entries f.var).lits j).var (h.covered j l);
+    entered = at-other minimiser u f.var m n ∙ h.entered;
   }
 
-  pub ordered-set : (entries : List Entry) (named : ℕ → Named) (cells : List Mark) (order : List ℕ) (i : ℕ) → IsOrdered entries named cells fates order i → IsOrdered entries named cells (set fates u m) order i
+  pub ordered-set : (entries : List Entry) (named : ℕ → Named) (cells : List Mark) (order : List ℕ) (i : ℕ) → IsOrdered entries named cells minimiser order i → IsOrdered entries named cells (set minimiser u m) order i
   ordered-set entries named cells order i h = record {
     may_enter = h.may_enter;
     below = h.below;
@@ -138,86 +138,86 @@ module _ (fates : List Mark) (u : ℕ) (m : Mark) (low : u < length fates) (loos
     marked = implied-set (get_or order i 0) h.marked;
   }
 
-fate-cases : (m : Mark) → ((m ≡ Met) × (fate_of m ≡ Kept)) ⊎ ((m ≢ Met) × (fate_of m ≡ Failed))
-fate-cases m = elim (cases_Bool (is_met m)) [
+outcome-cases : (m : Mark) → ((m ≡ Met) × (outcome_of m ≡ Kept)) ⊎ ((m ≢ Met) × (outcome_of m ≡ Failed))
+outcome-cases m = elim (cases_Bool (is_met m)) [
   | inl p ↦ inl (met-is m p, rw p refl)
   | inr p ↦ inr (met-isn't m p, rw p refl)
 ]
 
-pub fate-real : (m : Mark) → (fate_of m ≢ Blank) × (is_blank (fate_of m) ≡ false)
-fate-real m = elim (cases_Bool (is_met m)) [
+pub outcome-real : (m : Mark) → (outcome_of m ≢ Blank) × (is_blank (outcome_of m) ≡ false)
+outcome-real m = elim (cases_Bool (is_met m)) [
   | inl p ↦ (rw p (λ e. cc), rw p refl)
   | inr p ↦ (rw p (λ e. cc), rw p refl)
 ]
 
 -- a mark that isn't the one that was set was there before
-pub old-mark : (fates : List Mark) (u : ℕ) (m : Mark) → u < length fates → (v : ℕ) (k : Mark) → mark_at (set fates u m) v ≡ k → (m ≡ k → ⊥) → mark_at fates v ≡ k
-old-mark fates u m low v k e n = elim (cases_eq v u) [
-  | inl s ↦ absurd (n (sym (at-same fates u m low) ∙ ap (mark_at (set fates u m)) (sym s) ∙ e))
-  | inr d ↦ sym (at-other fates u v m d) ∙ e
+pub old-mark : (minimiser : List Mark) (u : ℕ) (m : Mark) → u < length minimiser → (v : ℕ) (k : Mark) → mark_at (set minimiser u m) v ≡ k → (m ≡ k → ⊥) → mark_at minimiser v ≡ k
+old-mark minimiser u m low v k e n = elim (cases_eq v u) [
+  | inl s ↦ absurd (n (sym (at-same minimiser u m low) ∙ ap (mark_at (set minimiser u m)) (sym s) ∙ e))
+  | inr d ↦ sym (at-other minimiser u v m d) ∙ e
 ]
 
-module _ (entries : List Entry) (named : ℕ → Named) (cells fates : List Mark) (stack : List Frame) (order : List ℕ) where
+module _ (entries : List Entry) (named : ℕ → Named) (cells minimiser : List Mark) (stack : List Frame) (order : List ℕ) where
   -- a variable gets a mark that isn't one of these that are listed: the frames stay
-  module _ (h : IsSeeking entries named cells fates stack order) (u : ℕ) (low : u < length fates) (blank : mark_at fates u ≡ Blank) where
-    loose : is_settled_mark (mark_at fates u) ≡ false
-    loose = ap is_settled_mark blank
+  module _ (h : IsSeeking entries named cells minimiser stack order) (u : ℕ) (low : u < length minimiser) (blank : mark_at minimiser u ≡ Blank) where
+    loose : is_covered_mark (mark_at minimiser u) ≡ false
+    loose = ap is_covered_mark blank
 
     apart : (k : ℕ) → k < length stack → (frame_in stack k).var ≢ u
-    apart k l e = let q : Entered ≡ Blank = sym (h.frames k l).entered ∙ ap (mark_at fates) e ∙ blank in cc
+    apart k l e = let q : Entered ≡ Blank = sym (h.frames k l).entered ∙ ap (mark_at minimiser) e ∙ blank in cc
 
     -- it isn't implied
-    pub seeking-give-up : 1 ≤ level_at entries u → IsSeeking entries named cells (set fates u (fate_of (mark_at cells u))) stack order
+    pub seeking-give-up : 1 ≤ level_at entries u → IsSeeking entries named cells (set minimiser u (outcome_of (mark_at cells u))) stack order
     seeking-give-up above = record {
-      frames = λ k l. frame-set fates u (fate_of (mark_at cells u)) low loose entries named cells (frame_in stack k) (apart k l) (h.frames k l);
-      entered = λ v e. h.entered v (old-mark fates u (fate_of (mark_at cells u)) low v Entered e (λ q. elim (fate-cases (mark_at cells u)) [ inl f ↦ let z : Kept ≡ Entered = sym f.1 ∙ q in cc | inr f ↦ let z : Failed ≡ Entered = sym f.1 ∙ q in cc ]));
+      frames = λ k l. frame-set minimiser u (outcome_of (mark_at cells u)) low loose entries named cells (frame_in stack k) (apart k l) (h.frames k l);
+      entered = λ v e. h.entered v (old-mark minimiser u (outcome_of (mark_at cells u)) low v Entered e (λ q. elim (outcome-cases (mark_at cells u)) [ inl f ↦ let z : Kept ≡ Entered = sym f.1 ∙ q in cc | inr f ↦ let z : Failed ≡ Entered = sym f.1 ∙ q in cc ]));
       falling = h.falling;
-      ordered = λ i l. ordered-set fates u (fate_of (mark_at cells u)) low loose entries named cells order i (h.ordered i l);
-      implied = λ v e. h.implied v (old-mark fates u (fate_of (mark_at cells u)) low v Implied e (λ q. elim (fate-cases (mark_at cells u)) [ inl f ↦ let z : Kept ≡ Implied = sym f.1 ∙ q in cc | inr f ↦ let z : Failed ≡ Implied = sym f.1 ∙ q in cc ]));
+      ordered = λ i l. ordered-set minimiser u (outcome_of (mark_at cells u)) low loose entries named cells order i (h.ordered i l);
+      implied = λ v e. h.implied v (old-mark minimiser u (outcome_of (mark_at cells u)) low v Implied e (λ q. elim (outcome-cases (mark_at cells u)) [ inl f ↦ let z : Kept ≡ Implied = sym f.1 ∙ q in cc | inr f ↦ let z : Failed ≡ Implied = sym f.1 ∙ q in cc ]));
       kept = λ v e. elim (cases_eq v u) [
-        | inl s ↦ elim (fate-cases (mark_at cells u)) [
+        | inl s ↦ elim (outcome-cases (mark_at cells u)) [
           | inl f ↦ (ap (mark_at cells) s ∙ f.0, subst (λ (x : ℕ). 1 ≤ level_at entries x) (sym s) above)
-          | inr f ↦ let z : Failed ≡ Kept = sym f.1 ∙ sym (at-same fates u (fate_of (mark_at cells u)) low) ∙ ap (mark_at (set fates u (fate_of (mark_at cells u)))) (sym s) ∙ e in absurd cc
+          | inr f ↦ let z : Failed ≡ Kept = sym f.1 ∙ sym (at-same minimiser u (outcome_of (mark_at cells u)) low) ∙ ap (mark_at (set minimiser u (outcome_of (mark_at cells u)))) (sym s) ∙ e in absurd cc
         ]
-        | inr n ↦ h.kept v (sym (at-other fates u v (fate_of (mark_at cells u)) n) ∙ e)
+        | inr n ↦ h.kept v (sym (at-other minimiser u v (outcome_of (mark_at cells u)) n) ∙ e)
       ];
       failed = λ v e. elim (cases_eq v u) [
-        | inl s ↦ elim (fate-cases (mark_at cells u)) [
+        | inl s ↦ elim (outcome-cases (mark_at cells u)) [
           | inr f ↦ ((λ q. f.0 (ap (mark_at cells) (sym s) ∙ q)), subst (λ (x : ℕ). 1 ≤ level_at entries x) (sym s) above)
-          | inl f ↦ let z : Kept ≡ Failed = sym f.1 ∙ sym (at-same fates u (fate_of (mark_at cells u)) low) ∙ ap (mark_at (set fates u (fate_of (mark_at cells u)))) (sym s) ∙ e in absurd cc
+          | inl f ↦ let z : Kept ≡ Failed = sym f.1 ∙ sym (at-same minimiser u (outcome_of (mark_at cells u)) low) ∙ ap (mark_at (set minimiser u (outcome_of (mark_at cells u)))) (sym s) ∙ e in absurd cc
         ]
-        | inr n ↦ h.failed v (sym (at-other fates u v (fate_of (mark_at cells u)) n) ∙ e)
+        | inr n ↦ h.failed v (sym (at-other minimiser u v (outcome_of (mark_at cells u)) n) ∙ e)
       ];
       once = h.once;
       proper = λ v. elim (cases_eq v u) [
         | inl s ↦
-            let is : mark_at (set fates u (fate_of (mark_at cells u))) v ≡ fate_of (mark_at cells u) = ap (mark_at (set fates u (fate_of (mark_at cells u)))) s ∙ at-same fates u (fate_of (mark_at cells u)) low in
-            elim (fate-cases (mark_at cells u)) [
+            let is : mark_at (set minimiser u (outcome_of (mark_at cells u))) v ≡ outcome_of (mark_at cells u) = ap (mark_at (set minimiser u (outcome_of (mark_at cells u)))) s ∙ at-same minimiser u (outcome_of (mark_at cells u)) low in
+            elim (outcome-cases (mark_at cells u)) [
               | inl f ↦ ((λ q. let z : Kept ≡ Met = sym f.1 ∙ sym is ∙ q in cc), (λ q. let z : Kept ≡ Resolved = sym f.1 ∙ sym is ∙ q in cc))
               | inr f ↦ ((λ q. let z : Failed ≡ Met = sym f.1 ∙ sym is ∙ q in cc), (λ q. let z : Failed ≡ Resolved = sym f.1 ∙ sym is ∙ q in cc))
             ]
-        | inr n ↦ ((λ q. (h.proper v).0 (sym (at-other fates u v (fate_of (mark_at cells u)) n) ∙ q)), (λ q. (h.proper v).1 (sym (at-other fates u v (fate_of (mark_at cells u)) n) ∙ q)))
+        | inr n ↦ ((λ q. (h.proper v).0 (sym (at-other minimiser u v (outcome_of (mark_at cells u)) n) ∙ q)), (λ q. (h.proper v).1 (sym (at-other minimiser u v (outcome_of (mark_at cells u)) n) ∙ q)))
       ];
     }
 
     -- it is sought
     pub seeking-enter : MayEnter entries u → IsBelow entries cells u → ((k : ℕ) → k < length stack → place_of entries u < place_of entries (frame_in stack k).var)
-        → IsSeeking entries named cells (set fates u Entered) (stack ++ record { var = u; place = 0 } ∷ []) order
+        → IsSeeking entries named cells (set minimiser u Entered) (stack ++ record { var = u; place = 0 } ∷ []) order
     seeking-enter may below deep = record {
       frames = λ k l. elim (top-cases stack (record { var = u; place = 0 }) k l) [
-        | inl r ↦ subst (λ (f : Frame). IsFrame entries named cells (set fates u Entered) f) (sym r.1) (frame-set fates u Entered low loose entries named cells (frame_in stack k) (apart k r.0) (h.frames k r.0))
-        | inr r ↦ subst (λ (f : Frame). IsFrame entries named cells (set fates u Entered) f) (sym r.1) (record {
+        | inl r ↦ subst (λ (f : Frame). IsFrame entries named cells (set minimiser u Entered) f) (sym r.1) (frame-set minimiser u Entered low loose entries named cells (frame_in stack k) (apart k r.0) (h.frames k r.0))
+        | inr r ↦ subst (λ (f : Frame). IsFrame entries named cells (set minimiser u Entered) f) (sym r.1) (record {
           may_enter = may;
           below = below;
           inside = omega arith;
-          settled = λ j l'. absurd (omega arith);
-          entered = at-same fates u Entered low;
+          covered = λ j l'. absurd (omega arith);
+          entered = at-same minimiser u Entered low;
         })
       ];
       entered = λ v e. elim (cases_eq v u) [
         | inl s ↦ let t = top-is stack (record { var = u; place = 0 }) in (length stack, t.0, ap (λ (f : Frame). f.var) t.1 ∙ sym s)
         | inr n ↦
-            let k = h.entered v (sym (at-other fates u v Entered n) ∙ e) in
+            let k = h.entered v (sym (at-other minimiser u v Entered n) ∙ e) in
             let t = top-below stack (record { var = u; place = 0 }) k.0 k.1 in
             (k.0, t.0, ap (λ (f : Frame). f.var) t.1 ∙ k.2)
       ];
@@ -235,21 +235,21 @@ module _ (entries : List Entry) (named : ℕ → Named) (cells fates : List Mark
             subst (λ (f : Frame). place_of entries (frame_in (stack ++ record { var = u; place = 0 } ∷ []) j).var < place_of entries f.var) (sym t.1)
             (subst (λ (f : Frame). place_of entries f.var < place_of entries (frame_in stack i).var) (sym r.1) (deep i low-i))
       ];
-      ordered = λ i l. ordered-set fates u Entered low loose entries named cells order i (h.ordered i l);
-      implied = λ v e. h.implied v (old-mark fates u Entered low v Implied e (λ q. cc));
-      kept = λ v e. h.kept v (old-mark fates u Entered low v Kept e (λ q. cc));
-      failed = λ v e. h.failed v (old-mark fates u Entered low v Failed e (λ q. cc));
+      ordered = λ i l. ordered-set minimiser u Entered low loose entries named cells order i (h.ordered i l);
+      implied = λ v e. h.implied v (old-mark minimiser u Entered low v Implied e (λ q. cc));
+      kept = λ v e. h.kept v (old-mark minimiser u Entered low v Kept e (λ q. cc));
+      failed = λ v e. h.failed v (old-mark minimiser u Entered low v Failed e (λ q. cc));
       once = h.once;
-      proper = λ v. ((λ q. (h.proper v).0 (old-mark fates u Entered low v Met q (λ z. cc))), (λ q. (h.proper v).1 (old-mark fates u Entered low v Resolved q (λ z. cc))));
+      proper = λ v. ((λ q. (h.proper v).0 (old-mark minimiser u Entered low v Met q (λ z. cc))), (λ q. (h.proper v).1 (old-mark minimiser u Entered low v Resolved q (λ z. cc))));
     }
 
   -- the frame on top
-  module _ (f : Frame) (h : IsSeeking entries named cells fates (stack ++ f ∷ []) order) (low : f.var < length fates) where
-    pub top-frame : IsFrame entries named cells fates f
-    top-frame = let t = top-is stack f in subst (λ (g : Frame). IsFrame entries named cells fates g) t.1 (h.frames (length stack) t.0)
+  module _ (f : Frame) (h : IsSeeking entries named cells minimiser (stack ++ f ∷ []) order) (low : f.var < length minimiser) where
+    pub top-frame : IsFrame entries named cells minimiser f
+    top-frame = let t = top-is stack f in subst (λ (g : Frame). IsFrame entries named cells minimiser g) t.1 (h.frames (length stack) t.0)
 
-    pub frame-below : (k : ℕ) → k < length stack → IsFrame entries named cells fates (frame_in stack k)
-    frame-below k l = let t = top-below stack f k l in subst (λ (g : Frame). IsFrame entries named cells fates g) t.1 (h.frames k t.0)
+    pub frame-below : (k : ℕ) → k < length stack → IsFrame entries named cells minimiser (frame_in stack k)
+    frame-below k l = let t = top-below stack f k l in subst (λ (g : Frame). IsFrame entries named cells minimiser g) t.1 (h.frames k t.0)
 
     pub top-deeper : (k : ℕ) → k < length stack → place_of entries f.var < place_of entries (frame_in stack k).var
     top-deeper k l =
@@ -264,8 +264,8 @@ module _ (entries : List Entry) (named : ℕ → Named) (cells fates : List Mark
         let q : place_of entries (frame_in stack k).var ≡ place_of entries f.var = ap (place_of entries) e in
         omega arith
 
-    top-loose : is_settled_mark (mark_at fates f.var) ≡ false
-    top-loose = ap is_settled_mark top-frame.entered
+    top-loose : is_covered_mark (mark_at minimiser f.var) ≡ false
+    top-loose = ap is_covered_mark top-frame.entered
 
     falling-below : (i j : ℕ) → i < j → j < length stack → place_of entries (frame_in stack j).var < place_of entries (frame_in stack i).var
     falling-below i j l m =
@@ -276,27 +276,27 @@ module _ (entries : List Entry) (named : ℕ → Named) (cells fates : List Mark
         (subst (λ (g : Frame). place_of entries g.var < place_of entries (frame_in (stack ++ f ∷ []) i).var) bj.1 (h.falling i j l bj.0))
 
     -- the others are entered still when the one on top is done with
-    entered-below : (m : Mark) → (m ≡ Entered → ⊥) → (v : ℕ) → mark_at (set fates f.var m) v ≡ Entered → (k : ℕ) × (k < length stack) × ((frame_in stack k).var ≡ v)
+    entered-below : (m : Mark) → (m ≡ Entered → ⊥) → (v : ℕ) → mark_at (set minimiser f.var m) v ≡ Entered → (k : ℕ) × (k < length stack) × ((frame_in stack k).var ≡ v)
     entered-below m n v e =
-        let k = h.entered v (old-mark fates f.var m low v Entered e n) in
+        let k = h.entered v (old-mark minimiser f.var m low v Entered e n) in
         elim (top-cases stack f k.0 k.1) [
           | inl r ↦ (k.0, r.0, ap (λ (g : Frame). g.var) (sym r.1) ∙ k.2)
           | inr r ↦
               let s : f.var ≡ v = ap (λ (g : Frame). g.var) (sym r.1) ∙ k.2 in
-              absurd (n (sym (at-same fates f.var m low) ∙ ap (mark_at (set fates f.var m)) s ∙ e))
+              absurd (n (sym (at-same minimiser f.var m low) ∙ ap (mark_at (set minimiser f.var m)) s ∙ e))
         ]
 
-    -- the literals up to a greater place are settled
-    pub seeking-on : (place : ℕ) → place ≤ length (reason_at named entries f.var).lits → ((j : ℕ) → j < place → is_settled fates f.var (lit_in (reason_at named entries f.var).lits j).var ≡ true)
-        → IsSeeking entries named cells fates (stack ++ record { var = f.var; place = place } ∷ []) order
-    seeking-on place inside settled = record {
+    -- the literals up to a greater place are covered
+    pub seeking-on : (place : ℕ) → place ≤ length (reason_at named entries f.var).lits → ((j : ℕ) → j < place → is_covered minimiser f.var (lit_in (reason_at named entries f.var).lits j).var ≡ true)
+        → IsSeeking entries named cells minimiser (stack ++ record { var = f.var; place = place } ∷ []) order
+    seeking-on place inside covered = record {
       frames = λ k l. elim (top-cases stack (record { var = f.var; place = place }) k l) [
-        | inl r ↦ subst (λ (g : Frame). IsFrame entries named cells fates g) (sym r.1) (frame-below k r.0)
-        | inr r ↦ subst (λ (g : Frame). IsFrame entries named cells fates g) (sym r.1) (record {
+        | inl r ↦ subst (λ (g : Frame). IsFrame entries named cells minimiser g) (sym r.1) (frame-below k r.0)
+        | inr r ↦ subst (λ (g : Frame). IsFrame entries named cells minimiser g) (sym r.1) (record {
           may_enter = top-frame.may_enter;
           below = top-frame.below;
           inside = inside;
-          settled = settled;
+          covered = covered;
           entered = top-frame.entered;
         })
       ];
@@ -329,36 +329,36 @@ module _ (entries : List Entry) (named : ℕ → Named) (cells fates : List Mark
     }
 
     -- it isn't implied
-    pub seeking-pop : 1 ≤ level_at entries f.var → IsSeeking entries named cells (set fates f.var (fate_of (mark_at cells f.var))) stack order
+    pub seeking-pop : 1 ≤ level_at entries f.var → IsSeeking entries named cells (set minimiser f.var (outcome_of (mark_at cells f.var))) stack order
     seeking-pop above = record {
-      frames = λ k l. frame-set fates f.var (fate_of (mark_at cells f.var)) low top-loose entries named cells (frame_in stack k) (top-apart k l) (frame-below k l);
-      entered = entered-below (fate_of (mark_at cells f.var)) (λ q. elim (fate-cases (mark_at cells f.var)) [ inl g ↦ let z : Kept ≡ Entered = sym g.1 ∙ q in cc | inr g ↦ let z : Failed ≡ Entered = sym g.1 ∙ q in cc ]);
+      frames = λ k l. frame-set minimiser f.var (outcome_of (mark_at cells f.var)) low top-loose entries named cells (frame_in stack k) (top-apart k l) (frame-below k l);
+      entered = entered-below (outcome_of (mark_at cells f.var)) (λ q. elim (outcome-cases (mark_at cells f.var)) [ inl g ↦ let z : Kept ≡ Entered = sym g.1 ∙ q in cc | inr g ↦ let z : Failed ≡ Entered = sym g.1 ∙ q in cc ]);
       falling = falling-below;
-      ordered = λ i l. ordered-set fates f.var (fate_of (mark_at cells f.var)) low top-loose entries named cells order i (h.ordered i l);
-      implied = λ v e. h.implied v (old-mark fates f.var (fate_of (mark_at cells f.var)) low v Implied e (λ q. elim (fate-cases (mark_at cells f.var)) [ inl g ↦ let z : Kept ≡ Implied = sym g.1 ∙ q in cc | inr g ↦ let z : Failed ≡ Implied = sym g.1 ∙ q in cc ]));
+      ordered = λ i l. ordered-set minimiser f.var (outcome_of (mark_at cells f.var)) low top-loose entries named cells order i (h.ordered i l);
+      implied = λ v e. h.implied v (old-mark minimiser f.var (outcome_of (mark_at cells f.var)) low v Implied e (λ q. elim (outcome-cases (mark_at cells f.var)) [ inl g ↦ let z : Kept ≡ Implied = sym g.1 ∙ q in cc | inr g ↦ let z : Failed ≡ Implied = sym g.1 ∙ q in cc ]));
       kept = λ v e. elim (cases_eq v f.var) [
-        | inl s ↦ elim (fate-cases (mark_at cells f.var)) [
+        | inl s ↦ elim (outcome-cases (mark_at cells f.var)) [
           | inl g ↦ (ap (mark_at cells) s ∙ g.0, subst (λ (x : ℕ). 1 ≤ level_at entries x) (sym s) above)
-          | inr g ↦ let z : Failed ≡ Kept = sym g.1 ∙ sym (at-same fates f.var (fate_of (mark_at cells f.var)) low) ∙ ap (mark_at (set fates f.var (fate_of (mark_at cells f.var)))) (sym s) ∙ e in absurd cc
+          | inr g ↦ let z : Failed ≡ Kept = sym g.1 ∙ sym (at-same minimiser f.var (outcome_of (mark_at cells f.var)) low) ∙ ap (mark_at (set minimiser f.var (outcome_of (mark_at cells f.var)))) (sym s) ∙ e in absurd cc
         ]
-        | inr n ↦ h.kept v (sym (at-other fates f.var v (fate_of (mark_at cells f.var)) n) ∙ e)
+        | inr n ↦ h.kept v (sym (at-other minimiser f.var v (outcome_of (mark_at cells f.var)) n) ∙ e)
       ];
       failed = λ v e. elim (cases_eq v f.var) [
-        | inl s ↦ elim (fate-cases (mark_at cells f.var)) [
+        | inl s ↦ elim (outcome-cases (mark_at cells f.var)) [
           | inr g ↦ ((λ q. g.0 (ap (mark_at cells) (sym s) ∙ q)), subst (λ (x : ℕ). 1 ≤ level_at entries x) (sym s) above)
-          | inl g ↦ let z : Kept ≡ Failed = sym g.1 ∙ sym (at-same fates f.var (fate_of (mark_at cells f.var)) low) ∙ ap (mark_at (set fates f.var (fate_of (mark_at cells f.var)))) (sym s) ∙ e in absurd cc
+          | inl g ↦ let z : Kept ≡ Failed = sym g.1 ∙ sym (at-same minimiser f.var (outcome_of (mark_at cells f.var)) low) ∙ ap (mark_at (set minimiser f.var (outcome_of (mark_at cells f.var)))) (sym s) ∙ e in absurd cc
         ]
-        | inr n ↦ h.failed v (sym (at-other fates f.var v (fate_of (mark_at cells f.var)) n) ∙ e)
+        | inr n ↦ h.failed v (sym (at-other minimiser f.var v (outcome_of (mark_at cells f.var)) n) ∙ e)
       ];
       once = h.once;
       proper = λ v. elim (cases_eq v f.var) [
         | inl s ↦
-            let is : mark_at (set fates f.var (fate_of (mark_at cells f.var))) v ≡ fate_of (mark_at cells f.var) = ap (mark_at (set fates f.var (fate_of (mark_at cells f.var)))) s ∙ at-same fates f.var (fate_of (mark_at cells f.var)) low in
-            elim (fate-cases (mark_at cells f.var)) [
+            let is : mark_at (set minimiser f.var (outcome_of (mark_at cells f.var))) v ≡ outcome_of (mark_at cells f.var) = ap (mark_at (set minimiser f.var (outcome_of (mark_at cells f.var)))) s ∙ at-same minimiser f.var (outcome_of (mark_at cells f.var)) low in
+            elim (outcome-cases (mark_at cells f.var)) [
               | inl g ↦ ((λ q. let z : Kept ≡ Met = sym g.1 ∙ sym is ∙ q in cc), (λ q. let z : Kept ≡ Resolved = sym g.1 ∙ sym is ∙ q in cc))
               | inr g ↦ ((λ q. let z : Failed ≡ Met = sym g.1 ∙ sym is ∙ q in cc), (λ q. let z : Failed ≡ Resolved = sym g.1 ∙ sym is ∙ q in cc))
             ]
-        | inr n ↦ ((λ q. (h.proper v).0 (sym (at-other fates f.var v (fate_of (mark_at cells f.var)) n) ∙ q)), (λ q. (h.proper v).1 (sym (at-other fates f.var v (fate_of (mark_at cells f.var)) n) ∙ q)))
+        | inr n ↦ ((λ q. (h.proper v).0 (sym (at-other minimiser f.var v (outcome_of (mark_at cells f.var)) n) ∙ q)), (λ q. (h.proper v).1 (sym (at-other minimiser f.var v (outcome_of (mark_at cells f.var)) n) ∙ q)))
       ];
     }
 
@@ -372,33 +372,33 @@ module _ (entries : List Entry) (named : ℕ → Named) (cells fates : List Mark
     not-listed c =
         let o = h.ordered c.0 c.1 in
         let at : get_or order c.0 0 ≡ f.var = get_or_default order c.0 0 f.var c.1 ∙ c.2 in
-        let z : Entered ≡ Implied = sym top-frame.entered ∙ ap (mark_at fates) (sym at) ∙ o.marked in
+        let z : Entered ≡ Implied = sym top-frame.entered ∙ ap (mark_at minimiser) (sym at) ∙ o.marked in
         cc
 
-    -- all its reason's other literals are settled, so it is implied
-    pub seeking-settle : ((l : Lit) → Contains (reason_at named entries f.var).lits l → is_settled fates f.var l.var ≡ true)
-        → IsSeeking entries named cells (set fates f.var Implied) stack (order ++ f.var ∷ [])
-    seeking-settle settled = record {
-      frames = λ k l. frame-set fates f.var Implied low top-loose entries named cells (frame_in stack k) (top-apart k l) (frame-below k l);
+    -- all its reason's other literals are covered, so it is implied
+    pub seeking-cover : ((l : Lit) → Contains (reason_at named entries f.var).lits l → is_covered minimiser f.var l.var ≡ true)
+        → IsSeeking entries named cells (set minimiser f.var Implied) stack (order ++ f.var ∷ [])
+    seeking-cover covered = record {
+      frames = λ k l. frame-set minimiser f.var Implied low top-loose entries named cells (frame_in stack k) (top-apart k l) (frame-below k l);
       entered = entered-below Implied (λ q. cc);
       falling = falling-below;
       ordered = λ i l.
           let n : length (order ++ f.var ∷ []) ≡ length order + 1 = length_push order f.var in
           elim (cases_lt i (length order)) [
-            | inl li ↦ keep i li (ordered-set fates f.var Implied low top-loose entries named cells order i (h.ordered i li))
-            | inr hi ↦ let e : i ≡ length order = omega arith in subst (λ (k : ℕ). IsOrdered entries named cells (set fates f.var Implied) (order ++ f.var ∷ []) k) (sym e) last
+            | inl li ↦ keep i li (ordered-set minimiser f.var Implied low top-loose entries named cells order i (h.ordered i li))
+            | inr hi ↦ let e : i ≡ length order = omega arith in subst (λ (k : ℕ). IsOrdered entries named cells (set minimiser f.var Implied) (order ++ f.var ∷ []) k) (sym e) last
           ];
       implied = λ v e. elim (cases_eq v f.var) [
         | inl s ↦ subst (λ (x : ℕ). Contains (order ++ f.var ∷ []) x) (sym s) (Contains-push order f.var)
-        | inr n ↦ Contains-append_left order (f.var ∷ []) v (h.implied v (sym (at-other fates f.var v Implied n) ∙ e))
+        | inr n ↦ Contains-append_left order (f.var ∷ []) v (h.implied v (sym (at-other minimiser f.var v Implied n) ∙ e))
       ];
-      kept = λ v e. h.kept v (old-mark fates f.var Implied low v Kept e (λ q. cc));
-      failed = λ v e. h.failed v (old-mark fates f.var Implied low v Failed e (λ q. cc));
+      kept = λ v e. h.kept v (old-mark minimiser f.var Implied low v Kept e (λ q. cc));
+      failed = λ v e. h.failed v (old-mark minimiser f.var Implied low v Failed e (λ q. cc));
       once = once-push order f.var h.once not-listed;
-      proper = λ v. ((λ q. (h.proper v).0 (old-mark fates f.var Implied low v Met q (λ z. cc))), (λ q. (h.proper v).1 (old-mark fates f.var Implied low v Resolved q (λ z. cc))));
+      proper = λ v. ((λ q. (h.proper v).0 (old-mark minimiser f.var Implied low v Met q (λ z. cc))), (λ q. (h.proper v).1 (old-mark minimiser f.var Implied low v Resolved q (λ z. cc))));
     }
       where
-        keep : (i : ℕ) → i < length order → IsOrdered entries named cells (set fates f.var Implied) order i → IsOrdered entries named cells (set fates f.var Implied) (order ++ f.var ∷ []) i
+        keep : (i : ℕ) → i < length order → IsOrdered entries named cells (set minimiser f.var Implied) order i → IsOrdered entries named cells (set minimiser f.var Implied) (order ++ f.var ∷ []) i
         keep i li o = record {
           may_enter = subst (λ (x : ℕ). MayEnter entries x) (sym (order-push i li)) o.may_enter;
           below = subst (λ (x : ℕ). IsBelow entries cells x) (sym (order-push i li)) o.below;
@@ -409,21 +409,21 @@ module _ (entries : List Entry) (named : ℕ → Named) (cells fates : List Mark
               | inr j ↦ let lj : j.0 < i = j.1 in let lo : j.0 < length order = omega arith in inr (inr (j.0, j.1, order-push j.0 lo ∙ j.2))
             ]
           ];
-          marked = ap (mark_at (set fates f.var Implied)) (order-push i li) ∙ o.marked;
+          marked = ap (mark_at (set minimiser f.var Implied)) (order-push i li) ∙ o.marked;
         }
 
-        last : IsOrdered entries named cells (set fates f.var Implied) (order ++ f.var ∷ []) (length order)
+        last : IsOrdered entries named cells (set minimiser f.var Implied) (order ++ f.var ∷ []) (length order)
         last = record {
           may_enter = subst (λ (x : ℕ). MayEnter entries x) (sym order-last) top-frame.may_enter;
           below = subst (λ (x : ℕ). IsBelow entries cells x) (sym order-last) top-frame.below;
-          others = λ l c. elim (settled-cases fates f.var l.var (settled l (subst (λ (x : ℕ). Contains (reason_at named entries x).lits l) order-last c))) [
+          others = λ l c. elim (covered-cases minimiser f.var l.var (covered l (subst (λ (x : ℕ). Contains (reason_at named entries x).lits l) order-last c))) [
             | inl e ↦ inl (e ∙ sym order-last)
             | inr r ↦ elim r [
-              | inl k ↦ inr (inl (kept-set fates f.var Implied low top-loose l.var k))
+              | inl k ↦ inr (inl (kept-set minimiser f.var Implied low top-loose l.var k))
               | inr k ↦ let m = h.implied l.var k in inr (inr (m.0, m.1, order-push m.0 m.1 ∙ get_or_default order m.0 0 l.var m.1 ∙ m.2))
             ]
           ];
-          marked = ap (mark_at (set fates f.var Implied)) order-last ∙ at-same fates f.var Implied low;
+          marked = ap (mark_at (set minimiser f.var Implied)) order-last ∙ at-same minimiser f.var Implied low;
         }
 
 -- a look at the literal that stops the one on top
@@ -457,34 +457,34 @@ module _ (t : Trail) (tr : IsTrail t) (named : ℕ → Named) (lives : ℕ → T
   pub literal-below : (cells : List Mark) (v w : ℕ) → IsBelow t.entries cells v → level_at t.entries w ≤ level_at t.entries v → IsBelow t.entries cells w
   literal-below cells v w b l u r = let k : level_at t.entries v < level_at t.entries u = b u r in omega arith
 
-  module _ (cells fates : List Mark) (stack : List Frame) (order : List ℕ) (f : Frame) (h : IsSeeking t.entries named cells fates (stack ++ f ∷ []) order) (low : f.var < length fates) where
-    -- where it is looked at already, and didn't settle, the one on top fails, above level 0
-    pub fail-above : (l : Lit) → Contains (reason_at named t.entries f.var).lits l → is_settled fates f.var l.var ≡ false → mark_at fates l.var ≢ Blank → 1 ≤ level_at t.entries f.var
+  module _ (cells minimiser : List Mark) (stack : List Frame) (order : List ℕ) (f : Frame) (h : IsSeeking t.entries named cells minimiser (stack ++ f ∷ []) order) (low : f.var < length minimiser) where
+    -- where it is looked at already, and didn't cover, the one on top fails, above level 0
+    pub fail-above : (l : Lit) → Contains (reason_at named t.entries f.var).lits l → is_covered minimiser f.var l.var ≡ false → mark_at minimiser l.var ≢ Blank → 1 ≤ level_at t.entries f.var
     fail-above l c s n =
-        let u = unsettled fates f.var l.var s in
-        let o = literal-older f.var (top-frame t.entries named cells fates stack order f h low).may_enter l c u.0 in
+        let u = uncovered minimiser f.var l.var s in
+        let o = literal-older f.var (top-frame t.entries named cells minimiser stack order f h low).may_enter l c u.0 in
         let lev : level_at t.entries l.var ≤ level_at t.entries f.var = o.3 in
-        by-mark (mark_at fates l.var) refl
+        by-mark (mark_at minimiser l.var) refl
       where
-        by-mark : (m : Mark) → mark_at fates l.var ≡ m → 1 ≤ level_at t.entries f.var
+        by-mark : (m : Mark) → mark_at minimiser l.var ≡ m → 1 ≤ level_at t.entries f.var
         by-mark Blank e = absurd (n e)
         by-mark Met e = absurd ((h.proper l.var).0 e)
         by-mark Resolved e = absurd ((h.proper l.var).1 e)
-        by-mark Kept e = absurd ((unsettled fates f.var l.var s).1 e)
-        by-mark Implied e = absurd ((unsettled fates f.var l.var s).2 e)
+        by-mark Kept e = absurd ((uncovered minimiser f.var l.var s).1 e)
+        by-mark Implied e = absurd ((uncovered minimiser f.var l.var s).2 e)
         by-mark Failed e =
-            let o = literal-older f.var (top-frame t.entries named cells fates stack order f h low).may_enter l c (unsettled fates f.var l.var s).0 in
+            let o = literal-older f.var (top-frame t.entries named cells minimiser stack order f h low).may_enter l c (uncovered minimiser f.var l.var s).0 in
             let lev : level_at t.entries l.var ≤ level_at t.entries f.var = o.3 in
             let a : 1 ≤ level_at t.entries l.var = (h.failed l.var e).1 in
             omega arith
         by-mark Entered e =
-            let o = literal-older f.var (top-frame t.entries named cells fates stack order f h low).may_enter l c (unsettled fates f.var l.var s).0 in
+            let o = literal-older f.var (top-frame t.entries named cells minimiser stack order f h low).may_enter l c (uncovered minimiser f.var l.var s).0 in
             let deep : place_of t.entries l.var < place_of t.entries f.var = o.2 in
             let k = h.entered l.var e in
             elim (top-cases stack f k.0 k.1) [
               | inl r ↦
-                  let d : place_of t.entries f.var < place_of t.entries (frame_in stack k.0).var = top-deeper t.entries named cells fates stack order f h low k.0 r.0 in
+                  let d : place_of t.entries f.var < place_of t.entries (frame_in stack k.0).var = top-deeper t.entries named cells minimiser stack order f h low k.0 r.0 in
                   let q : place_of t.entries (frame_in stack k.0).var ≡ place_of t.entries l.var = ap (place_of t.entries) (ap (λ (g : Frame). g.var) (sym r.1) ∙ k.2) in
                   absurd (omega arith)
-              | inr r ↦ absurd ((unsettled fates f.var l.var s).0 (sym (ap (λ (g : Frame). g.var) (sym r.1) ∙ k.2)))
+              | inr r ↦ absurd ((uncovered minimiser f.var l.var s).0 (sym (ap (λ (g : Frame). g.var) (sym r.1) ∙ k.2)))
             ]

@@ -12,7 +12,7 @@ use Rattle.proof_check.specs.Named.{Named}
 use Rattle.proof_check.specs.Values.{VarsDiffer}
 use Rattle.conflict_analysis.specs.declared.marks.Mark.{Mark}
 use Rattle.conflict_analysis.specs.declared.marks.Mark.TheVariants.{Blank, Met, Resolved, Entered, Kept, Failed, Implied}
-use Rattle.conflict_analysis.specs.declared.fates.Frame.{Frame}
+use Rattle.conflict_analysis.specs.declared.minimiser.Frame.{Frame}
 use Rattle.conflict_analysis.specs.Marking.{mark_at}
 use Rattle.conflict_analysis.specs.Reasons.{AreReasons, the_entry, level_at, place_of}
 use Rattle.conflict_analysis.specs.Learned.{IsLearned, AreKept}
@@ -30,24 +30,24 @@ use Rattle.conflict_analysis.proofs.Derived.{derives-more, hints-backward, no-li
 use Rattle.conflict_analysis.proofs.Resolves.{met-not-blank, met-not-resolved, resolved-not-blank}
 use Rattle.conflict_analysis.proofs.Meets.{met-new, met-all, length-met}
 
-module _ (entries : List Entry) (named : ℕ → Named) (cells fates : List Mark) (order : List ℕ) (h : IsSeeking entries named cells fates [] order) where
+module _ (entries : List Entry) (named : ℕ → Named) (cells minimiser : List Mark) (order : List ℕ) (h : IsSeeking entries named cells minimiser [] order) where
   -- what was found is listed in order
-  pub sought-ordered : AreOrdered entries named cells fates order
+  pub sought-ordered : AreOrdered entries named cells minimiser order
   sought-ordered = record { each = h.ordered; once = h.once }
 
   -- a variable that is met stays or is listed
-  known-fate : (v : ℕ) → mark_at cells v ≡ Met → (m : Mark) → mark_at fates v ≡ m → mark_at fates v ≢ Blank → (mark_at fates v ≡ Kept) ⊎ Contains order v
-  known-fate v met Blank e n = absurd (n e)
-  known-fate v met Met e n = absurd ((h.proper v).0 e)
-  known-fate v met Resolved e n = absurd ((h.proper v).1 e)
-  known-fate v met Entered e n = let k = h.entered v e in let l : k.0 < length {A = Frame} [] = k.1 in absurd (omega arith)
-  known-fate v met Kept e n = inl e
-  known-fate v met Failed e n = absurd ((h.failed v e).0 met)
-  known-fate v met Implied e n = inr (h.implied v e)
+  known-outcome : (v : ℕ) → mark_at cells v ≡ Met → (m : Mark) → mark_at minimiser v ≡ m → mark_at minimiser v ≢ Blank → (mark_at minimiser v ≡ Kept) ⊎ Contains order v
+  known-outcome v met Blank e n = absurd (n e)
+  known-outcome v met Met e n = absurd ((h.proper v).0 e)
+  known-outcome v met Resolved e n = absurd ((h.proper v).1 e)
+  known-outcome v met Entered e n = let k = h.entered v e in let l : k.0 < length {A = Frame} [] = k.1 in absurd (omega arith)
+  known-outcome v met Kept e n = inl e
+  known-outcome v met Failed e n = absurd ((h.failed v e).0 met)
+  known-outcome v met Implied e n = inr (h.implied v e)
 
   -- before the listed ones are followed
-  pub following-start : (spare : List Lit) (bound : ℕ) (conflict : Named) (hints : List ℕ) → AreWalked cells → AllKnown cells fates → IsResolving entries named spare bound conflict cells hints
-      → IsFollowing entries named spare bound conflict fates order cells hints (length order)
+  pub following-start : (spare : List Lit) (bound : ℕ) (conflict : Named) (hints : List ℕ) → AreWalked cells → AllKnown cells minimiser → IsResolving entries named spare bound conflict cells hints
+      → IsFollowing entries named spare bound conflict minimiser order cells hints (length order)
   following-start spare bound conflict hints walked known r = record {
     resolving = r;
     ahead = λ i l. elim (walked (get_or order i 0)) [
@@ -57,7 +57,7 @@ module _ (entries : List Entry) (named : ℕ → Named) (cells fates : List Mark
         | inr m ↦ let b : level_at entries (get_or order i 0) < level_at entries (get_or order i 0) = (h.ordered i l).below (get_or order i 0) m in absurd (omega arith)
       ]
     ];
-    met = λ v m. elim (known-fate v m (mark_at fates v) refl (known v m)) [
+    met = λ v m. elim (known-outcome v m (mark_at minimiser v) refl (known v m)) [
       | inl k ↦ inl k
       | inr c ↦ inr (c.0, c.1, get_or_default order c.0 0 v c.1 ∙ c.2)
     ];
@@ -65,11 +65,11 @@ module _ (entries : List Entry) (named : ℕ → Named) (cells fates : List Mark
   }
 
   -- behind them: what is met stays
-  module _ (spare : List Lit) (bound : ℕ) (conflict : Named) (new : List Mark) (hints : List ℕ) (f : IsFollowing entries named spare bound conflict fates order new hints 0) where
-    stays : (v : ℕ) → mark_at new v ≡ Met → mark_at fates v ≡ Kept
+  module _ (spare : List Lit) (bound : ℕ) (conflict : Named) (new : List Mark) (hints : List ℕ) (f : IsFollowing entries named spare bound conflict minimiser order new hints 0) where
+    stays : (v : ℕ) → mark_at new v ≡ Met → mark_at minimiser v ≡ Kept
     stays v m = elim (f.met v m) [ inl k ↦ k | inr r ↦ let l : r.0 < 0 = r.1 in absurd (omega arith) ]
 
-    pub followed-ended : (turned : List ℕ) → turned ≡ reverse hints → (fates_before : List Mark) → StayKept fates_before fates → IsEnded entries named spare bound conflict cells fates_before new turned
+    pub followed-ended : (turned : List ℕ) → turned ≡ reverse hints → (minimiser_before : List Mark) → StayKept minimiser_before minimiser → IsEnded entries named spare bound conflict cells minimiser_before new turned
     followed-ended turned e before keep = record {
       derived = record {
         steps = f.resolving.steps;
@@ -85,9 +85,9 @@ module _ (entries : List Entry) (named : ℕ → Named) (cells fates : List Mark
     }
 
 -- a search that hasn't begun: nothing is known, or that one stays
-pub seeking-none : (entries : List Entry) (named : ℕ → Named) (cells fates : List Mark) (n : ℕ) → fates ≡ replicate n Blank → IsSeeking entries named cells fates [] []
-seeking-none entries named cells fates n e =
-    let nothing : (v : ℕ) → mark_at fates v ≡ Blank = λ v. rw e (at-blank n v) in
+pub seeking-none : (entries : List Entry) (named : ℕ → Named) (cells minimiser : List Mark) (n : ℕ) → minimiser ≡ replicate n Blank → IsSeeking entries named cells minimiser [] []
+seeking-none entries named cells minimiser n e =
+    let nothing : (v : ℕ) → mark_at minimiser v ≡ Blank = λ v. rw e (at-blank n v) in
     record {
       frames = λ k l. absurd (omega arith);
       entered = λ v f. let z : Entered ≡ Blank = sym f ∙ nothing v in absurd cc;
@@ -100,12 +100,12 @@ seeking-none entries named cells fates n e =
       proper = λ v. ((λ f. let z : Met ≡ Blank = sym f ∙ nothing v in cc), (λ f. let z : Resolved ≡ Blank = sym f ∙ nothing v in cc));
     }
 
-pub seeking-one : (entries : List Entry) (named : ℕ → Named) (cells fates : List Mark) (n u : ℕ) → fates ≡ set (replicate n Blank) u Kept → u < n → mark_at cells u ≡ Met → 1 ≤ level_at entries u → IsSeeking entries named cells fates [] []
-seeking-one entries named cells fates n u e low met above =
+pub seeking-one : (entries : List Entry) (named : ℕ → Named) (cells minimiser : List Mark) (n u : ℕ) → minimiser ≡ set (replicate n Blank) u Kept → u < n → mark_at cells u ≡ Met → 1 ≤ level_at entries u → IsSeeking entries named cells minimiser [] []
+seeking-one entries named cells minimiser n u e low met above =
     let size : length (replicate n Blank) ≡ n = length-replicate n Blank in
     let its : mark_at (set (replicate n Blank) u Kept) u ≡ Kept = at-same (replicate n Blank) u Kept (omega arith) in
     let other : (v : ℕ) → v ≢ u → mark_at (set (replicate n Blank) u Kept) v ≡ Blank = λ v d. at-other (replicate n Blank) u v Kept d ∙ at-blank n v in
-    let either : (v : ℕ) → (mark_at fates v ≡ Blank) ⊎ ((v ≡ u) × (mark_at fates v ≡ Kept)) = λ v. elim (cases_eq v u) [
+    let either : (v : ℕ) → (mark_at minimiser v ≡ Blank) ⊎ ((v ≡ u) × (mark_at minimiser v ≡ Kept)) = λ v. elim (cases_eq v u) [
       | inl s ↦ inr (s, rw e (ap (mark_at (set (replicate n Blank) u Kept)) s ∙ its))
       | inr d ↦ inl (rw e (other v d))
     ] in
@@ -141,15 +141,15 @@ module _ (t : Trail) (tr : IsTrail t) (named : ℕ → Named) (conflict : Named)
   pub first-is : first ≡ not_lit (the_entry t.entries first.var).lit
   first-is = not-lit-flip (the_entry t.entries first.var).lit first (ap (λ (x : Entry). x.lit) (the-entry t.entries first.var first-entry.0 first-entry.1) ∙ first-entry.2)
 
-  pub walked-seeking : (fates : List Mark) (n : ℕ) → n ≡ t.vars + 1 → fates ≡ set (replicate n Blank) first.var Kept → IsSeeking t.entries named cells fates [] []
-  walked-seeking fates n size e = seeking-one t.entries named cells fates n first.var e (let l : first.var < t.vars + 1 = first-low in omega arith) h.met (let l : level_at t.entries first.var ≡ t.level = first-level in omega arith)
+  pub walked-seeking : (minimiser : List Mark) (n : ℕ) → n ≡ t.vars + 1 → minimiser ≡ set (replicate n Blank) first.var Kept → IsSeeking t.entries named cells minimiser [] []
+  walked-seeking minimiser n size e = seeking-one t.entries named cells minimiser n first.var e (let l : first.var < t.vars + 1 = first-low in omega arith) h.met (let l : level_at t.entries first.var ≡ t.level = first-level in omega arith)
 
-  pub walked-roots : (fates : List Mark) (n : ℕ) → n ≡ t.vars + 1 → fates ≡ set (replicate n Blank) first.var Kept → AreRoots t.entries cells fates
-  walked-roots fates n size e v met blank =
+  pub walked-roots : (minimiser : List Mark) (n : ℕ) → n ≡ t.vars + 1 → minimiser ≡ set (replicate n Blank) first.var Kept → AreRoots t.entries cells minimiser
+  walked-roots minimiser n size e v met blank =
       let p = place-entry t.entries v (h.resolving.inside v (met-not-blank (mark_at cells v) met)) in
       let size' : length (replicate n Blank) ≡ n = length-replicate n Blank in
       let l : first.var < t.vars + 1 = first-low in
-      let differs : v ≢ first.var = λ s. let z : Blank ≡ Kept = sym blank ∙ ap (mark_at fates) s ∙ ap (λ (c : List Mark). mark_at c first.var) e ∙ at-same (replicate n Blank) first.var Kept (omega arith) in cc in
+      let differs : v ≢ first.var = λ s. let z : Blank ≡ Kept = sym blank ∙ ap (mark_at minimiser) s ∙ ap (λ (c : List Mark). mark_at c first.var) e ∙ at-same (replicate n Blank) first.var Kept (omega arith) in cc in
       record {
         entry = p.0;
         found = p.1;
@@ -186,8 +186,8 @@ module _ (t : Trail) (tr : IsTrail t) (named : ℕ → Named) (conflict : Named)
     now = h.now;
   }
 
-  pub walked-learning : (fates : List Mark) (n : ℕ) → n ≡ t.vars + 1 → fates ≡ set (replicate n Blank) first.var Kept → (new : List Mark) (turned : List ℕ) → IsEnded t.entries named [] (length t.entries) conflict cells fates new turned → IsLearning t named conflict new turned first
-  walked-learning fates n size e new turned ended =
+  pub walked-learning : (minimiser : List Mark) (n : ℕ) → n ≡ t.vars + 1 → minimiser ≡ set (replicate n Blank) first.var Kept → (new : List Mark) (turned : List ℕ) → IsEnded t.entries named [] (length t.entries) conflict cells minimiser new turned → IsLearning t named conflict new turned first
+  walked-learning minimiser n size e new turned ended =
       let l : first.var < t.vars + 1 = first-low in
       let size' : length (replicate n Blank) ≡ n = length-replicate n Blank in
       learning new turned ended.fewer (ended.kept first.var (rw e (at-same (replicate n Blank) first.var Kept (omega arith)))) ended.derived
@@ -268,8 +268,8 @@ module _ (t : Trail) (tr : IsTrail t) (named : ℕ → Named) (lives : ℕ → T
   pub bottom-marks : AreWalked (met_by cells over conflict.lits)
   bottom-marks v = elim (bottom-cases v) [ inl b ↦ inl b | inr m ↦ inr (inl m.0) ]
 
-  pub bottom-roots : (fates : List Mark) → AreRoots t.entries (met_by cells over conflict.lits) fates
-  bottom-roots fates v met b = elim (bottom-cases v) [
+  pub bottom-roots : (minimiser : List Mark) → AreRoots t.entries (met_by cells over conflict.lits) minimiser
+  bottom-roots minimiser v met b = elim (bottom-cases v) [
     | inl z ↦ let q : Met ≡ Blank = sym met ∙ z in absurd cc
     | inr m ↦
         let e = bottom-entry m.2.0 m.2.1 (λ q. m.1 (sym m.2.2 ∙ q)) in

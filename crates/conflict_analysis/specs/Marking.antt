@@ -42,11 +42,11 @@ pub record Marking : Type 0 where
   pub cells : List Mark
   pub touched : List ℕ
 
-abbrev pub is_settled_mark : Mark → Bool
-is_settled_mark Blank = false
-is_settled_mark Met = false
-is_settled_mark Resolved = false
-is_settled_mark Entered = false
-is_settled_mark Kept = true
-is_settled_mark Failed = false
-is_settled_mark Implied = true
+abbrev pub is_covered_mark : Mark → Bool
+is_covered_mark Blank = false
+is_covered_mark Met = false
+is_covered_mark Resolved = false
+is_covered_mark Entered = false
+is_covered_mark Kept = true
+is_covered_mark Failed = false
+is_covered_mark Implied = true

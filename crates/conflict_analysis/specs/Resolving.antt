@@ -51,8 +51,8 @@ pub record IsWalked (t : Trail) (named : ℕ → Named) (conflict : Named) (cell
   pub size : length cells ≡ t.vars + 1
 
 -- as listed variables are followed from the end: those ahead aren't resolved, and what is met stays or is ahead
-pub record IsFollowing (entries : List Entry) (named : ℕ → Named) (spare : List Lit) (bound : ℕ) (conflict : Named) (fates : List Mark) (order : List ℕ) (cells : List Mark) (hints : List ℕ) (left : ℕ) : Type 0 where
+pub record IsFollowing (entries : List Entry) (named : ℕ → Named) (spare : List Lit) (bound : ℕ) (conflict : Named) (minimiser : List Mark) (order : List ℕ) (cells : List Mark) (hints : List ℕ) (left : ℕ) : Type 0 where
   pub resolving : IsResolving entries named spare bound conflict cells hints
   pub ahead : (i : ℕ) → i < left → (mark_at cells (slice_index order i) ≡ Blank) ⊎ (mark_at cells (slice_index order i) ≡ Met)
-  pub met : (v : ℕ) → mark_at cells v ≡ Met → (mark_at fates v ≡ Kept) ⊎ ((i : ℕ) × (i < left) × (slice_index order i ≡ v))
-  pub kept : (v : ℕ) → mark_at fates v ≡ Kept → mark_at cells v ≡ Met
+  pub met : (v : ℕ) → mark_at cells v ≡ Met → (mark_at minimiser v ≡ Kept) ⊎ ((i : ℕ) × (i < left) × (slice_index order i ≡ v))
+  pub kept : (v : ℕ) → mark_at minimiser v ≡ Kept → mark_at cells v ≡ Met

@@ -7,9 +7,9 @@ use Rattle.literal_trail.specs.Trail.{no_entry, entry_of}
 use Rattle.proof_check.specs.Named.{Named}
 use Rattle.conflict_analysis.specs.declared.marks.Mark.{Mark}
 use Rattle.conflict_analysis.specs.declared.marks.Mark.TheVariants.{Blank, Met, Resolved, Entered, Kept, Failed, Implied}
-use Rattle.conflict_analysis.specs.declared.fates.Frame.{Frame}
+use Rattle.conflict_analysis.specs.declared.minimiser.Frame.{Frame}
 use Rattle.conflict_analysis.specs.Reasons.{place_of, level_at, reason_at}
-use Rattle.conflict_analysis.specs.Marking.{mark_at, is_blank, is_met, is_settled_mark, Once}
+use Rattle.conflict_analysis.specs.Marking.{mark_at, is_blank, is_met, is_covered_mark, Once}
 
 abbrev pub no_lit : Lit
 no_lit = no_entry.lit
@@ -21,8 +21,8 @@ abbrev pub frame_in : List Frame → ℕ → Frame
 frame_in stack k = slice_index_or stack k (record { var = 0; place = 0 })
 
 -- the variable is the one that is looked at, or it stays or is implied
-abbrev pub is_settled : List Mark → ℕ → ℕ → Bool
-is_settled fates v u = (u == v) || is_settled_mark (mark_at fates u)
+abbrev pub is_covered : List Mark → ℕ → ℕ → Bool
+is_covered minimiser v u = (u == v) || is_covered_mark (mark_at minimiser u)
 
 -- the variable was made true by a clause
 pub record MayEnter (entries : List Entry) (v : ℕ) : Type 0 where
@@ -35,36 +35,36 @@ pub record MayEnter (entries : List Entry) (v : ℕ) : Type 0 where
 abbrev pub IsBelow : List Entry → List Mark → ℕ → Type 0
 IsBelow entries cells v = (w : ℕ) → mark_at cells w ≡ Resolved → level_at entries v < level_at entries w
 
--- a variable that is sought: the literals of its reason before a place are settled
-pub record IsFrame (entries : List Entry) (named : ℕ → Named) (cells fates : List Mark) (f : Frame) : Type 0 where
+-- a variable that is sought: the literals of its reason before a place are covered
+pub record IsFrame (entries : List Entry) (named : ℕ → Named) (cells minimiser : List Mark) (f : Frame) : Type 0 where
   pub may_enter : MayEnter entries f.var
   pub below : IsBelow entries cells f.var
   pub inside : f.place ≤ length (reason_at named entries f.var).lits
-  pub settled : (j : ℕ) → j < f.place → is_settled fates f.var (lit_in (reason_at named entries f.var).lits j).var ≡ true
-  pub entered : mark_at fates f.var ≡ Entered
+  pub covered : (j : ℕ) → j < f.place → is_covered minimiser f.var (lit_in (reason_at named entries f.var).lits j).var ≡ true
+  pub entered : mark_at minimiser f.var ≡ Entered
 
 -- a variable that those that stay and those listed before it imply
-pub record IsOrdered (entries : List Entry) (named : ℕ → Named) (cells fates : List Mark) (order : List ℕ) (i : ℕ) : Type 0 where
+pub record IsOrdered (entries : List Entry) (named : ℕ → Named) (cells minimiser : List Mark) (order : List ℕ) (i : ℕ) : Type 0 where
   pub may_enter : MayEnter entries (slice_index order i)
   pub below : IsBelow entries cells (slice_index order i)
-  pub others : (l : Lit) → Contains (reason_at named entries (slice_index order i)).lits l → (l.var ≡ slice_index order i) ⊎ (mark_at fates l.var ≡ Kept) ⊎ ((j : ℕ) × (j < i) × (slice_index order j ≡ l.var))
-  pub marked : mark_at fates (slice_index order i) ≡ Implied
+  pub others : (l : Lit) → Contains (reason_at named entries (slice_index order i)).lits l → (l.var ≡ slice_index order i) ⊎ (mark_at minimiser l.var ≡ Kept) ⊎ ((j : ℕ) × (j < i) × (slice_index order j ≡ l.var))
+  pub marked : mark_at minimiser (slice_index order i) ≡ Implied
 
 -- each variable that is sought is entered, each older than the one that it is sought for; listed are those that are implied
-pub record IsSeeking (entries : List Entry) (named : ℕ → Named) (cells fates : List Mark) (stack : List Frame) (order : List ℕ) : Type 0 where
-  pub frames : (k : ℕ) → k < length stack → IsFrame entries named cells fates (frame_in stack k)
-  pub entered : (v : ℕ) → mark_at fates v ≡ Entered → (k : ℕ) × (k < length stack) × ((frame_in stack k).var ≡ v)
+pub record IsSeeking (entries : List Entry) (named : ℕ → Named) (cells minimiser : List Mark) (stack : List Frame) (order : List ℕ) : Type 0 where
+  pub frames : (k : ℕ) → k < length stack → IsFrame entries named cells minimiser (frame_in stack k)
+  pub entered : (v : ℕ) → mark_at minimiser v ≡ Entered → (k : ℕ) × (k < length stack) × ((frame_in stack k).var ≡ v)
   pub falling : (i j : ℕ) → i < j → j < length stack → place_of entries (frame_in stack j).var < place_of entries (frame_in stack i).var
-  pub ordered : (i : ℕ) → i < length order → IsOrdered entries named cells fates order i
-  pub implied : (v : ℕ) → mark_at fates v ≡ Implied → Contains order v
-  pub kept : (v : ℕ) → mark_at fates v ≡ Kept → (mark_at cells v ≡ Met) × (1 ≤ level_at entries v)
-  pub failed : (v : ℕ) → mark_at fates v ≡ Failed → (mark_at cells v ≢ Met) × (1 ≤ level_at entries v)
+  pub ordered : (i : ℕ) → i < length order → IsOrdered entries named cells minimiser order i
+  pub implied : (v : ℕ) → mark_at minimiser v ≡ Implied → Contains order v
+  pub kept : (v : ℕ) → mark_at minimiser v ≡ Kept → (mark_at cells v ≡ Met) × (1 ≤ level_at entries v)
+  pub failed : (v : ℕ) → mark_at minimiser v ≡ Failed → (mark_at cells v ≢ Met) × (1 ≤ level_at entries v)
   pub once : Once order
-  pub proper : (v : ℕ) → (mark_at fates v ≢ Met) × (mark_at fates v ≢ Resolved)
+  pub proper : (v : ℕ) → (mark_at minimiser v ≢ Met) × (mark_at minimiser v ≢ Resolved)
 
 -- what a variable that isn't implied becomes
-abbrev pub fate_of : Mark → Mark
-fate_of m = if is_met m then Kept else Failed
+abbrev pub outcome_of : Mark → Mark
+outcome_of m = if is_met m then Kept else Failed
 
 -- what has a mark has one still
 abbrev pub StayMarked : List Mark → List Mark → Type 0
@@ -81,15 +81,15 @@ blanks (m ∷ ms) = (if is_blank m then 1 else 0) + blanks ms
 
 -- how many steps there may be still: two for each blank mark, one for each variable that is sought
 abbrev pub steps_left : List Mark → List Frame → ℕ
-steps_left fates stack = 2 * blanks fates + length stack
+steps_left minimiser stack = 2 * blanks minimiser + length stack
 
 -- a step of the search keeps it, and there are fewer to come
-pub record IsStepped (entries : List Entry) (named : ℕ → Named) (cells fates : List Mark) (stack : List Frame) (fates_after : List Mark) (stack_after : List Frame) (order_after : List ℕ) : Type 0 where
-  pub seeking : IsSeeking entries named cells fates_after stack_after order_after
-  pub fewer : steps_left fates_after stack_after < steps_left fates stack
-  pub stay : StayMarked fates fates_after
-  pub keep : StayKept fates fates_after
-  pub size : length fates_after ≡ length fates
+pub record IsStepped (entries : List Entry) (named : ℕ → Named) (cells minimiser : List Mark) (stack : List Frame) (minimiser_after : List Mark) (stack_after : List Frame) (order_after : List ℕ) : Type 0 where
+  pub seeking : IsSeeking entries named cells minimiser_after stack_after order_after
+  pub fewer : steps_left minimiser_after stack_after < steps_left minimiser stack
+  pub stay : StayMarked minimiser minimiser_after
+  pub keep : StayKept minimiser minimiser_after
+  pub size : length minimiser_after ≡ length minimiser
 
 -- a variable may be sought first: it has an entry, and what is resolved is of higher levels
 pub record IsRoot (entries : List Entry) (cells : List Mark) (v : ℕ) : Type 0 where
@@ -99,13 +99,13 @@ pub record IsRoot (entries : List Entry) (cells : List Mark) (v : ℕ) : Type 0 
 
 -- each variable that is met is one, or stays
 abbrev pub AreRoots : List Entry → List Mark → List Mark → Type 0
-AreRoots entries cells fates = (v : ℕ) → mark_at cells v ≡ Met → mark_at fates v ≡ Blank → IsRoot entries cells v
+AreRoots entries cells minimiser = (v : ℕ) → mark_at cells v ≡ Met → mark_at minimiser v ≡ Blank → IsRoot entries cells v
 
--- the fate of each variable that is met is known
+-- the outcome of each variable that is met is known
 abbrev pub AllKnown : List Mark → List Mark → Type 0
-AllKnown cells fates = (v : ℕ) → mark_at cells v ≡ Met → mark_at fates v ≢ Blank
+AllKnown cells minimiser = (v : ℕ) → mark_at cells v ≡ Met → mark_at minimiser v ≢ Blank
 
 -- listed variables are implied one after another, each once
-pub record AreOrdered (entries : List Entry) (named : ℕ → Named) (cells fates : List Mark) (order : List ℕ) : Type 0 where
-  pub each : (i : ℕ) → i < length order → IsOrdered entries named cells fates order i
+pub record AreOrdered (entries : List Entry) (named : ℕ → Named) (cells minimiser : List Mark) (order : List ℕ) : Type 0 where
+  pub each : (i : ℕ) → i < length order → IsOrdered entries named cells minimiser order i
   pub once : Once order

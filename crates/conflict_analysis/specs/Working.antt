@@ -19,7 +19,7 @@ use Rattle.conflict_analysis.specs.Collecting.{IsLeft}
 pub record IsWork (w : Work) : Type 0 where
   pub some : 0 < length w.met.cells
   pub levels : length w.levels.cells ≡ length w.met.cells
-  pub fates : length w.fates.marks.cells ≡ length w.met.cells
+  pub minimiser : length w.minimiser.marks.cells ≡ length w.met.cells
 
 -- marks of the walk
 abbrev pub AreWalked : List Mark → Type 0
@@ -40,10 +40,10 @@ abbrev pub AreFewer : List Entry → List Mark → List Mark → Type 0
 AreFewer entries old new = (v : ℕ) → mark_at new v ≡ Met → (mark_at old v ≡ Met) × (1 ≤ level_at entries v)
 
 -- all that is implied is resolved, and what was to stay is met
-pub record IsEnded (entries : List Entry) (named : ℕ → Named) (spare : List Lit) (bound : ℕ) (conflict : Named) (cells fates new : List Mark) (hints : List ℕ) : Type 0 where
+pub record IsEnded (entries : List Entry) (named : ℕ → Named) (spare : List Lit) (bound : ℕ) (conflict : Named) (cells minimiser new : List Mark) (hints : List ℕ) : Type 0 where
   pub derived : IsDerived entries named spare bound conflict new hints
   pub fewer : AreFewer entries cells new
-  pub kept : (v : ℕ) → mark_at fates v ≡ Kept → mark_at new v ≡ Met
+  pub kept : (v : ℕ) → mark_at minimiser v ≡ Kept → mark_at new v ≡ Met
 
 -- the literals of the clause are met
 pub record IsLearning (t : Trail) (named : ℕ → Named) (conflict : Named) (cells : List Mark) (hints : List ℕ) (first : Lit) : Type 0 where

@@ -4,7 +4,7 @@
 //! (as the conflict analysis of MiniSat does, Eén and Sörensson, 2003).
 
 ghost use Rattle.std.specs.Prelude.{◌≡◌, ◌≢◌, ◌+◌, ◌<◌, length, replicate, slice_set, IfOk, OnOk, OnErr};
-ghost use Rattle.conflict_analysis.specs.Marking.{mark_at, is_blank, is_met, IsTouched, is_settled_mark};
+ghost use Rattle.conflict_analysis.specs.Marking.{mark_at, is_blank, is_met, IsTouched, is_covered_mark};
 
 use std::alloc::{AllocError, Global};
 use std::marker::Model;
@@ -87,9 +87,9 @@ impl Marks {
     }
 
     /// Whether a number stays in the clause or is implied by it.
-    pub fn is_settled(&self, v: u32) -> bool
+    pub fn is_covered(&self, v: u32) -> bool
         requires { v < length self.now.cells }
-        ensures { result ≡ is_settled_mark (mark_at self.now.cells v) }
+        ensures { result ≡ is_covered_mark (mark_at self.now.cells v) }
     {
         matches!(self.at(v), Mark::Kept | Mark::Implied)
     }

@@ -13,10 +13,10 @@ ghost use Rattle.conflict_analysis.specs.Seeking.{IsSeeking, AreRoots};
 ghost use Rattle.conflict_analysis.specs.Working.{IsWork, AreWalked, IsDerived, IsEnded, IsLearning, IsSpared, IsBottom};
 
 use crate::collect::mark_levels;
-use crate::fates::Fates;
 use crate::follow::follow;
 use crate::marks::{Mark, Marks};
 use crate::meeting::meet;
+use crate::minimiser::Minimiser;
 use crate::reasons::Reasons;
 use crate::walk::walk;
 use order_ints::Lit;
@@ -30,7 +30,7 @@ pub struct Work {
     /// Which levels the clause has.
     pub levels: Marks,
     /// What those that stay imply.
-    pub fates: Fates,
+    pub minimiser: Minimiser,
 }
 
 /// Turns the hints round.
@@ -48,21 +48,25 @@ impl Work {
     {
         let met = Marks::with(alloc, vars)?;
         let levels = Marks::with(alloc, vars)?;
-        let fates = Fates::with(alloc, vars)?;
-        Ok(Work { met, levels, fates })
+        let minimiser = Minimiser::with(alloc, vars)?;
+        Ok(Work {
+            met,
+            levels,
+            minimiser,
+        })
     }
 
     /// Nothing is marked any more.
     fn clear(&mut self)
         ensures met { self.new.met.cells ≡ replicate (length self.old.met.cells) Mark.Blank }
         ensures levels { length self.new.levels.cells ≡ length self.old.levels.cells }
-        ensures fates { self.new.fates.marks.cells ≡ replicate (length self.old.fates.marks.cells) Mark.Blank }
-        ensures stack { self.new.fates.stack.items ≡ [] }
-        ensures order { self.new.fates.order.items ≡ [] }
+        ensures minimiser { self.new.minimiser.marks.cells ≡ replicate (length self.old.minimiser.marks.cells) Mark.Blank }
+        ensures stack { self.new.minimiser.stack.items ≡ [] }
+        ensures order { self.new.minimiser.order.items ≡ [] }
     {
         self.met.clear();
         self.levels.clear();
-        self.fates.clear();
+        self.minimiser.clear();
     }
 
     /// Resolves what those that stay imply, and puts the hints into their order.
@@ -76,25 +80,25 @@ impl Work {
         requires work { IsWork self.old }
         requires size { length self.old.met.cells ≡ (T.trail source.now).vars + 1 }
         requires walked { AreWalked self.old.met.cells }
-        requires roots { AreRoots (T.trail source.now).entries self.old.met.cells self.old.fates.marks.cells }
-        requires stack { self.old.fates.stack.items ≡ [] }
+        requires roots { AreRoots (T.trail source.now).entries self.old.met.cells self.old.minimiser.marks.cells }
+        requires stack { self.old.minimiser.stack.items ≡ [] }
         requires seeking { IsSeeking (T.trail source.now).entries (T.named source.now) self.old.met.cells
-            self.old.fates.marks.cells [] self.old.fates.order.items }
+            self.old.minimiser.marks.cells [] self.old.minimiser.order.items }
         ensures ended { OnOk result ((spare : List Lit) (bound : ℕ) (conflict : Named) →
             IsResolving (T.trail source.now).entries (T.named source.now) spare bound conflict self.old.met.cells hints.old.items →
-            IsEnded (T.trail source.now).entries (T.named source.now) spare bound conflict self.old.met.cells self.old.fates.marks.cells
+            IsEnded (T.trail source.now).entries (T.named source.now) spare bound conflict self.old.met.cells self.old.minimiser.marks.cells
             self.new.met.cells hints.new.items) }
         ensures work { IsWork self.new }
         ensures size { length self.new.met.cells ≡ length self.old.met.cells }
     {
         mark_levels(&mut self.levels, &self.met, source)?;
-        self.fates.seek(&self.met, &self.levels, source)?;
+        self.minimiser.seek(&self.met, &self.levels, source)?;
         follow(
             &mut self.met,
             hints,
             source,
-            &self.fates.marks,
-            self.fates.order.as_slice(),
+            &self.minimiser.marks,
+            self.minimiser.order.as_slice(),
         )?;
         turn(hints);
         Ok(())
@@ -129,7 +133,7 @@ impl Work {
         seen.clear();
         let first = walk(&mut self.met, hints, source, conflict, level)?;
         seen.extend_from_slice(self.met.touched())?;
-        self.fates.keep(first.var)?;
+        self.minimiser.keep(first.var)?;
         self.resolve_implied(hints, source)?;
         Ok(first)
     }

@@ -1,5 +1,22 @@
-//! The sixteen forms of constraint over literals and integers in the order encoding: their meaning,
-//! their variables, how a view trims them, what they cost, and which of them are basic.
+//! The sixteen forms of constraint to which every statement is lowered: their meaning, how a store
+//! trims them, their variables, their costs, and which of them are encoded as they stand.
+//!
+//! A core is one of these forms over literals and integers in the order encoding; the method of
+//! compiling such constraints is that of Metodi and Codish (2012). The forms are one enum and not a
+//! trait, so that each law is a case for each form and the compiler of the proof says which is
+//! missing. A core takes at most 48 bytes beside its lists, since a model has millions of clauses;
+//! that is checked where `Core` is declared. Trimming is in two steps: each atom is replaced by its
+//! label, then the form is tidied, so each law is one lemma a step.
+//!
+//! What it promises: `holds` is the meaning (its one clause); `trim` gives exactly the trimmed core
+//! (`shape`), which a valuation that meets the view meets exactly where it meets the core
+//! (`meaning`); a core that `is_settled` accepts stays as it is under trimming; `variables` are
+//! exactly those that occur, ascending; `few_variables` are exactly those of a core of at most
+//! eight; `cost` is exact, and trimming never raises it (`cost_law`). Further laws compose views
+//! (`composition_law`, `congruence_law`, `later_trim_law`) and say what stands in a core.
+//!
+//! A core's `Drop` is by hand: only methods of `Core` take one apart (`take_apart`). A further form
+//! touches 46 files in eleven crates; `docs/ARCHITECTURE.md`, "How one adds", lists them.
 #![tactic(auto)]
 
 mod basic;

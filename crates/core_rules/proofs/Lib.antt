@@ -1,4 +1,1 @@
 pub mod InstanceLaws
-mod Told
-mod NotDifferent
-mod Weaker

@@ -77,7 +77,7 @@ use Rattle.decode_minimize.specs.Objectives.{bound_of, no_worse_of, IsObjective}
 use Rattle.decode_minimize.specs.Solved.{Problem, IsReadFrom, HasBounds, HasSecond, IsOptimal, IsSpentFirst, IsSpentSecond, IsGivenUp, IsSolvedAny, IsSolvedBest, IsSolved, IsAnySolved, IsBestSolved, IsSolvedFor, settled_cnf, second_named, second_added, value_under, values_count}
 use Rattle.decode_minimize.specs.Answers.{IsBudget, values_at, second_values, most_rounds, all_additions, IsDecided, IsSpent, IsFreshSecond, IsAnswer}
 use Rattle.decode_minimize.specs.Answering.{problem_at}
-use Rattle.decode_minimize.proofs.Entries.{entries-objectives, count-at, count-some, numbers-fit}
+use Rattle.decode_minimize.proofs.Entries.{entries-objectives, count-at, numbers-fit}
 
 -- a goal from a direction and one place or two
 abbrev pub goal_of : Direction → ℕ → Option ℕ → Goal

@@ -1,5 +1,6 @@
 -- What is solved for a model that is lowered answers the model.
 use Rattle.std.proofs.Common.{◌≡◌, ◌⊎◌, ◌↔◌, ℕ, ◌+◌, ◌*◌, ◌≤◌, ◌<◌, ◌^◌, Bool, true, List, [], ◌∷◌, ◌++◌, length, Option, Some, None, Ok, refl, sym, ap, ◌∙◌, subst, ⊎_elim, ℤ, arith}
+use Rattle.std.proofs.Math.Nat.{mul-le-mul_left}
 use Rattle.std.specs.Prelude.{IsTrue, IfSome, FitsSigned, slice_get}
 use Rattle.std.specs.Int.{w64}
 use Rattle.order_ints.specs.declared.atom.Atom.{Atom}
@@ -13,7 +14,6 @@ use Rattle.order_ints.specs.Truth.{Valuation, valuation_of}
 use Rattle.order_ints.specs.View.{resolve}
 use Rattle.core_forms.specs.declared.equation.Equation.{Equation}
 use Rattle.core_forms.specs.declared.form.Core.{Core}
-use Rattle.core_rules.specs.Instances.{is_instance_at}
 use Rattle.ledger_text.specs.declared.line.Line.{Line}
 use Rattle.model_meaning.specs.declared.model.Assignment.{Assignment}
 use Rattle.model_meaning.specs.declared.model.Goal.{Goal}
@@ -61,10 +61,11 @@ use Rattle.decode_minimize.specs.declared.objective.Direction.{Direction}
 use Rattle.decode_minimize.specs.declared.options.Options.{Options}
 use Rattle.decode_minimize.specs.declared.solved.Solved.{Solved}
 use Rattle.decode_minimize.specs.Objectives.{bound_of, no_worse_of, IsObjective}
-use Rattle.decode_minimize.specs.Solved.{Problem, IsDerivation, IsReadFrom, HasBounds, HasSecond, IsOptimal, IsFirstShown, IsSpentFirst, IsSpentSecond, IsSolvedAny, IsSolvedBest, IsSolvedFor, settled_cnf, second_named, second_added, value_under, values_count}
-use Rattle.decode_minimize.specs.Answers.{IsBudget, values_at, second_values, most_rounds, IsDecided, IsSpent, IsFreshSecond, IsAnswer}
+use Rattle.decode_minimize.specs.Solved.{Problem, IsDerivation, IsReadFrom, HasBounds, HasSecond, IsOptimal, IsFirstShown, IsSpentFirst, IsSpentSecond, IsSolvedAny, IsSolvedBest, IsSolvedFor, settled_cnf, second_named, second_added, value_under, values_count, values_in}
+use Rattle.decode_minimize.specs.Answers.{IsBudget, values_at, second_values, most_rounds, IsDecided, IsSpent, IsFreshSecond, IsOpenBehind, IsOpen, IsAnswer}
 use Rattle.decode_minimize.specs.Answering.{problem_at}
-use Rattle.decode_minimize.proofs.Entries.{entries-objectives, count-at, count-some, numbers-fit}
+use Rattle.decode_minimize.proofs.Entries.{entries-objectives, count-at, numbers-fit}
+use Rattle.decode_minimize.proofs.Rounding.{some-value}
 use Rattle.decode_minimize.proofs.AnswerParts.{goal_of, first-bound-is, second-bound-is, settled-is, objective-is, bounds-fit, goal-fits, rounds-is, number-from, readable-steps, added-behind, given-length, none-length, given-fits, none-fits, fit-second, have-second, fewer-than-most}
 
 abbrev pub document_of : Solved → List Line → Document
@@ -81,6 +82,8 @@ pub record Parts (model : Model) (last : Kernel) (options : Options) (ledger : L
   pub fresh : IsFreshSecond model last (stated v) s.second
   pub spent : IsSpent options.budget (additions s.proof + second_added s.second) v
   pub enough : most_learned options.restart (cnf_of last).vars * most_rounds model.decls model.goal ≤ options.budget → IsDecided v
+  pub unshown : IsOpen model last (document_of s ledger) v
+  pub readable : IsReadableSecond s.second
 
 module _ (told : Core → Equation → Type 0) (model : Model) (typed : WellTyped model) (limits : InLimits model) (light : weight_of model ≤ most_weight)
     (options : Options) (budget : IsBudget options.budget) (last : Kernel) (ledger : List Line) (compilation : IsCompilation told (start_of model) ledger last) where
@@ -102,10 +105,10 @@ module _ (told : Core → Equation → Type 0) (model : Model) (typed : WellType
   pub leads : replay (start_of model) ledger ≡ Ok last
   leads = leads-replay told (start_of model) last ledger (order-leads told (start_of model) last ledger compilation.lines)
 
-  pub readable-ledger : ((core : Core) (e : Equation) → told core e → is_instance_at core e ≡ true) → length last.cores < 2 ^ 64 → AreReadableSteps ledger
-  readable-ledger instance few =
+  pub readable-ledger : length last.cores < 2 ^ 64 → AreReadableSteps ledger
+  readable-ledger few =
       let kept = compilation-kept told (start_of model) last ledger start-kernel compilation in
-      readable-steps (length last.view + 1) ledger (omega (arith, kept.kernel.small)) (ledger-below told instance (start_of model) last ledger start-kernel compilation.lines few)
+      readable-steps (length last.view + 1) ledger (omega (arith, kept.kernel.small)) (ledger-below told (start_of model) last ledger start-kernel compilation.lines few)
 
   pub solutions : (a : List ℤ) → IsSolution model a ↔ ((σ : Valuation) × Satisfies σ (cnf_of last) × (a ≡ numbers_at model last σ))
   solutions a = (λ h. decodes.each a h, λ g. subst (IsSolution model) (sym g.2) (decodes.solution g.0 g.1))
@@ -147,6 +150,12 @@ module _ (told : Core → Equation → Type 0) (model : Model) (typed : WellType
     alone-fresh : (bounds : Option Bounds) → s.second ≡ None → IsFreshSecond model last bounds s.second
     alone-fresh bounds e = subst (IsFreshSecond model last bounds) (sym e) tt
 
+    alone-readable : s.second ≡ None → IsReadableSecond s.second
+    alone-readable e = subst IsReadableSecond (sym e) tt
+
+    both-readable : (lines : List ProofLine) → s.second ≡ Some lines → AreReadableLines lines → IsReadableSecond s.second
+    both-readable lines e h = subst IsReadableSecond (sym e) h
+
     in-budget : (n : ℕ) → n ≡ options.budget → (1 ≤ n) × (n < 2 ^ 63)
     in-budget n e = (omega (arith, e, budget), omega (arith, e, budget))
 
@@ -155,6 +164,12 @@ module _ (told : Core → Equation → Type 0) (model : Model) (typed : WellType
 
     alone-spent : (n : ℕ) → n ≡ options.budget → additions s.proof ≡ options.budget → s.second ≡ None → (n ≡ options.budget) × (additions s.proof + second_added s.second ≡ options.budget)
     alone-spent n e f g = (e, omega (arith, f, ap second_added g))
+
+    -- one round where any solution serves
+    pub any-most : model.goal ≡ Satisfy → additions s.proof + second_added s.second ≤ 1 * most_learned options.restart (cnf_of last).vars
+        → additions s.proof + second_added s.second ≤ most_learned options.restart (cnf_of last).vars * most_rounds model.decls model.goal
+    any-most is h =
+        subst (λ (g : Goal). additions s.proof + second_added s.second ≤ most_learned options.restart (cnf_of last).vars * most_rounds model.decls g) (sym is) (omega (arith, h))
 
     -- where any solution serves
     pub any-parts : model.goal ≡ Satisfy → (v : Verdict) → IsSolvedAny problem options s v → Parts model last options ledger s v
@@ -166,8 +181,10 @@ module _ (told : Core → Equation → Type 0) (model : Model) (typed : WellType
       assignment = fit h.0 h.1;
       count = counted h.0 h.1;
       fresh = alone-fresh None h.2;
+      readable = alone-readable h.2;
       spent = tt;
       enough = λ m. tt;
+      unshown = tt;
     }
     any-parts is Unsatisfiable h = record {
       fits = tt;
@@ -177,8 +194,10 @@ module _ (told : Core → Equation → Type 0) (model : Model) (typed : WellType
       assignment = none-fits s.assignment h.0.0;
       count = none-length s.assignment (length model.decls) h.0.0;
       fresh = alone-fresh None h.0.1;
+      readable = alone-readable h.0.1;
       spent = tt;
       enough = λ m. tt;
+      unshown = tt;
     }
     any-parts is (Optimum b) h = absurd h
     any-parts is (Unknown n None) h = record {
@@ -189,8 +208,10 @@ module _ (told : Core → Equation → Type 0) (model : Model) (typed : WellType
       assignment = none-fits s.assignment h.0.0;
       count = none-length s.assignment (length model.decls) h.0.0;
       fresh = alone-fresh None h.0.1;
+      readable = alone-readable h.0.1;
       spent = alone-spent n h.1 h.2.spent h.0.1;
       enough = λ m. one-round h.2.spent h.2.early (subst (λ (g : Goal). most_learned options.restart (cnf_of last).vars * most_rounds model.decls g ≤ options.budget) is m);
+      unshown = h.2.unshown;
     }
       where
         one-round : additions s.proof ≡ options.budget → additions s.proof < most_learned options.restart (cnf_of last).vars → most_learned options.restart (cnf_of last).vars * 1 ≤ options.budget → ⊥
@@ -254,11 +275,12 @@ module _ (told : Core → Equation → Type 0) (model : Model) (typed : WellType
 
         -- each objective is shown to have no better value
         shown-by : (o : Option ℕ) → model.goal ≡ goal_of d place o → b.second ≡ option_map (value_under problem values) (second_named entries o) → IsOptimal problem d first_integer (second_named entries o) s b
-            → AreShown model last (proof_behind (cnf_of last) s.proof) b b.second s.second × IsFreshSecond model last (Some b) s.second
+            → AreShown model last (proof_behind (cnf_of last) s.proof) b b.second s.second × IsFreshSecond model last (Some b) s.second × IsReadableSecond s.second
         shown-by None goal e h = (
           subst (λ (x : Option ℤ). AreShown model last (proof_behind (cnf_of last) s.proof) b x s.second) (sym e)
               (subst (λ (y : Option (List ProofLine)). AreShown model last (proof_behind (cnf_of last) s.proof) b None y) (sym h.0) (first-derived b h.1)),
           alone-fresh (Some b) h.0,
+          alone-readable h.0,
         )
         shown-by (Some other) goal e h =
             let n = value_under problem values (integer_named entries other) in
@@ -271,10 +293,11 @@ module _ (told : Core → Equation → Type 0) (model : Model) (typed : WellType
                   (subst (λ (y : Option (List ProofLine)). AreShown model last (proof_behind (cnf_of last) s.proof) b (Some n) y) (sym h.1.is)
                   (one, subst (IsShown one.proof) (sym here) shown)),
               second-fresh b lines h.1,
+              both-readable lines h.1.is h.1.derivation.readable,
             )
 
         -- the budget is spent on the first objective
-        first-added : (n : ℕ) → n ≡ options.budget → (o : Option ℕ) → b.second ≡ option_map (value_under problem values) (second_named entries o) → IsSpentFirst problem options first_integer s
+        first-added : (n : ℕ) → n ≡ options.budget → (o : Option ℕ) → b.second ≡ option_map (value_under problem values) (second_named entries o) → IsSpentFirst problem options d first_integer s b
             → AreAdded model last (proof_behind (cnf_of last) s.proof) n b b.second s.second
         first-added n same None e h =
             subst (λ (x : Option ℤ). AreAdded model last (proof_behind (cnf_of last) s.proof) n b x s.second) (sym e)
@@ -297,6 +320,32 @@ module _ (told : Core → Equation → Type 0) (model : Model) (typed : WellType
             subst (λ (x : Option ℤ). AreAdded model last (proof_behind (cnf_of last) s.proof) n b x s.second) (sym e)
             (subst (λ (y : Option (List ProofLine)). AreAdded model last (proof_behind (cnf_of last) s.proof) n b (Some (value_under problem values (integer_named entries other))) y) (sym h.has.is) (one, both))
 
+        -- what was derived does not show that it is best
+        first-open : IsSpentFirst problem options d first_integer s b → IsOpenBehind model last s.proof b s.second b.second
+        first-open h =
+            subst (λ (y : Option (List ProofLine)). IsOpenBehind model last s.proof b y b.second) (sym h.alone)
+            (λ shown. h.unshown (subst (IsShown (proof_behind (cnf_of last) s.proof)) (first-is b.first) shown))
+
+        second-open : (o : Option ℕ) → model.goal ≡ goal_of d place o → IsSpentSecond problem options d first_integer (second_named entries o) s b → IsOpenBehind model last s.proof b s.second b.second
+        second-open None goal h = absurd (none h.is)
+          where
+            none : None ≡ Some h.other → ⊥
+            none e = cc
+        second-open (Some other) goal h =
+            let m = h.number in
+            let same : integer_named entries other ≡ h.other = some h.is in
+            let here : second_shown model last m ≡ resolve last.view (bound_of d (integer_named entries other) m) =
+            ap (λ (g : Goal). resolve last.view (second_bound g entries m)) goal ∙ ap (resolve last.view) (second-bound-is d place other entries m) in
+            subst (λ (y : Option (List ProofLine)). IsOpenBehind model last s.proof b y b.second) (sym h.has.is)
+            (subst (λ (x : Option ℤ). IsOpenBehind model last s.proof b (Some h.lines) x) (sym h.number_is)
+            (λ shown. h.unshown
+            (subst (λ (a : OrdInt). IsShown (proof_behind (settled_cnf problem d first_integer b.first) h.lines) (resolve last.view (bound_of d a m))) same
+            (subst (IsShown (proof_behind (settled_cnf problem d first_integer b.first) h.lines)) here
+            (subst (λ (f : Cnf). IsShown (proof_behind f h.lines) (second_shown model last m)) (second-cnf-is b.first) shown)))))
+          where
+            some : Some (integer_named entries other) ≡ Some h.other → integer_named entries other ≡ h.other
+            some e = cc
+
       -- a budget that suffices isn't spent
       most-is : most_learned options.restart (cnf_of last).vars * most_rounds model.decls model.goal ≤ options.budget
           → most_learned options.restart (cnf_of last).vars * (values_at model.decls place + second_values model.decls second) ≤ options.budget
@@ -307,14 +356,28 @@ module _ (told : Core → Equation → Type 0) (model : Model) (typed : WellType
       first-count : values_count first_integer ≤ values_at model.decls place
       first-count = count-at ((lowered_of model).vars + 1) 1 model.decls entries typed.decls law.fits.entries place sought-fits.0
 
+      second-count : (o : Option ℕ) → SecondFits model.decls o → values_in (second_named entries o) ≤ second_values model.decls o
+      second-count None fits = omega arith
+      second-count (Some other) fits = count-at ((lowered_of model).vars + 1) 1 model.decls entries typed.decls law.fits.entries other fits
+
+      -- and else one for each value
+      pub best-most : additions s.proof + second_added s.second ≤ (values_count first_integer + values_in (second_named entries second)) * most_learned options.restart (cnf_of last).vars
+          → additions s.proof + second_added s.second ≤ most_learned options.restart (cnf_of last).vars * most_rounds model.decls model.goal
+      best-most h =
+          let m = most_learned options.restart (cnf_of last).vars in
+          let more : m * (values_count first_integer + values_in (second_named entries second)) ≤ m * (values_at model.decls place + second_values model.decls second) =
+          mul-le-mul_left m (omega (arith, first-count, second-count second sought-fits.1)) in
+          subst (λ (g : Goal). additions s.proof + second_added s.second ≤ m * most_rounds model.decls g) (sym is)
+          (subst (λ (k : ℕ). additions s.proof + second_added s.second ≤ m * k) (sym (rounds-is d place second model.decls)) (omega (arith, h, more)))
+
       no-round : additions s.proof ≡ options.budget → additions s.proof < most_learned options.restart (cnf_of last).vars
           → most_learned options.restart (cnf_of last).vars * most_rounds model.decls model.goal ≤ options.budget → ⊥
       no-round spent early m =
           fewer-than-most options.budget 1 (values_at model.decls place + second_values model.decls second) (most_learned options.restart (cnf_of last).vars)
-          (omega (arith, spent, early)) (omega (arith, first-count, count-some first_integer)) (most-is m)
+          (omega (arith, spent, early)) (omega (arith, first-count, some-value first_integer)) (most-is m)
 
-      no-first : IsSpentFirst problem options first_integer s → most_learned options.restart (cnf_of last).vars * most_rounds model.decls model.goal ≤ options.budget → ⊥
-      no-first h m =
+      no-first : (b : Bounds) → IsSpentFirst problem options d first_integer s b → most_learned options.restart (cnf_of last).vars * most_rounds model.decls model.goal ≤ options.budget → ⊥
+      no-first b h m =
           fewer-than-most options.budget (values_count first_integer) (values_at model.decls place + second_values model.decls second) (most_learned options.restart (cnf_of last).vars)
           h.early (omega (arith, first-count)) (most-is m)
 
@@ -344,8 +407,10 @@ module _ (told : Core → Equation → Type 0) (model : Model) (typed : WellType
         assignment = none-fits s.assignment h.0.0;
         count = none-length s.assignment (length model.decls) h.0.0;
         fresh = alone-fresh None h.0.1;
+        readable = alone-readable h.0.1;
         spent = tt;
         enough = λ m. tt;
+        unshown = tt;
       }
       best-parts (Optimum b) h = record {
         fits = bounds-in h.0 h.1 b h.2;
@@ -355,8 +420,10 @@ module _ (told : Core → Equation → Type 0) (model : Model) (typed : WellType
         assignment = fit h.0 h.1;
         count = counted h.0 h.1;
         fresh = (shown-by h.0 h.1 b h.2 second is h.2.second h.3).1;
+        readable = (shown-by h.0 h.1 b h.2 second is h.2.second h.3).2;
         spent = tt;
         enough = λ m. tt;
+        unshown = tt;
       }
       best-parts (Unknown n None) h = record {
         fits = ((in-budget n h.1).0, (in-budget n h.1).1, tt);
@@ -366,8 +433,10 @@ module _ (told : Core → Equation → Type 0) (model : Model) (typed : WellType
         assignment = none-fits s.assignment h.0.0;
         count = none-length s.assignment (length model.decls) h.0.0;
         fresh = alone-fresh None h.0.1;
+        readable = alone-readable h.0.1;
         spent = alone-spent n h.1 h.2.spent h.0.1;
         enough = λ m. no-round h.2.spent h.2.early m;
+        unshown = h.2.unshown;
       }
       best-parts (Unknown n (Some b)) h = record {
         fits = ((in-budget n h.3).0, (in-budget n h.3).1, bounds-in h.0 h.1 b h.2);
@@ -375,7 +444,7 @@ module _ (told : Core → Equation → Type 0) (model : Model) (typed : WellType
         certificate = (
           derived,
           ⊎_elim
-              (λ (f : IsSpentFirst problem options first_integer s). first-added h.0 h.1 b h.2 n h.3 second h.2.second f)
+              (λ (f : IsSpentFirst problem options d first_integer s b). first-added h.0 h.1 b h.2 n h.3 second h.2.second f)
               (λ (f : IsSpentSecond problem options d first_integer (second_named entries second) s b). both-added h.0 h.1 b h.2 n h.3 second h.2.second f)
               h.4,
         );
@@ -383,16 +452,24 @@ module _ (told : Core → Equation → Type 0) (model : Model) (typed : WellType
         assignment = fit h.0 h.1;
         count = counted h.0 h.1;
         fresh = ⊎_elim
-            (λ (f : IsSpentFirst problem options first_integer s). alone-fresh (Some b) f.alone)
+            (λ (f : IsSpentFirst problem options d first_integer s b). alone-fresh (Some b) f.alone)
             (λ (f : IsSpentSecond problem options d first_integer (second_named entries second) s b). second-fresh b f.lines f.has)
             h.4;
+        readable = ⊎_elim
+            (λ (f : IsSpentFirst problem options d first_integer s b). alone-readable f.alone)
+            (λ (f : IsSpentSecond problem options d first_integer (second_named entries second) s b). both-readable f.lines f.has.is f.has.derivation.readable)
+            h.4;
         spent = ⊎_elim
-            (λ (f : IsSpentFirst problem options first_integer s). alone-spent n h.3 f.spent f.alone)
+            (λ (f : IsSpentFirst problem options d first_integer s b). alone-spent n h.3 f.spent f.alone)
             (λ (f : IsSpentSecond problem options d first_integer (second_named entries second) s b). both-spent f)
             h.4;
         enough = λ m. ⊎_elim
-            (λ (f : IsSpentFirst problem options first_integer s). no-first f m)
+            (λ (f : IsSpentFirst problem options d first_integer s b). no-first b f m)
             (λ (f : IsSpentSecond problem options d first_integer (second_named entries second) s b). no-second b second sought-fits.1 f (most-is m))
+            h.4;
+        unshown = ⊎_elim
+            (λ (f : IsSpentFirst problem options d first_integer s b). first-open h.0 h.1 b h.2 f)
+            (λ (f : IsSpentSecond problem options d first_integer (second_named entries second) s b). second-open h.0 h.1 b h.2 second is f)
             h.4;
       }
         where

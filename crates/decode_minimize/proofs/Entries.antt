@@ -118,9 +118,6 @@ count-at n k (d ∷ ds) [] fits h place o = absurd h
 count-at n k (d ∷ ds) (e ∷ entries) fits h zero o = entry-count n d.kind e o fits.1.1.1.0 h.0
 count-at n k (d ∷ ds) (e ∷ entries) fits h (suc place) o = count-at n (d.number + 1) ds entries fits.1.1.1.1 h.1 place o
 
-pub count-some : (a : OrdInt) → 1 ≤ values_count a
-count-some a = omega (arith, values-length a)
-
 -- numbers of 64 bits
 number-fits : (σ : Valuation) (v : MapValue) → IsShort v → FitsSigned w64 (number_of σ v)
 number-fits σ (values.Bool a) h = by (atom_truth σ a)

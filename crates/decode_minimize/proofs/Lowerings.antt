@@ -11,7 +11,6 @@ use Rattle.order_ints.proofs.Labels.{labels_below, length-own_labels}
 use Rattle.order_ints.proofs.OrderedLaws.{ClausesAscend-ordered_clauses}
 use Rattle.core_forms.specs.declared.equation.Equation.{Equation}
 use Rattle.core_forms.specs.declared.form.Core.{Core}
-use Rattle.core_rules.specs.Instances.{is_instance_at}
 use Rattle.ledger_text.specs.declared.line.Line.{Line}
 use Rattle.model_meaning.specs.declared.model.Goal.{Goal}
 use Rattle.model_meaning.specs.declared.model.Goal.TheVariants.{Satisfy, Minimize, Maximize}
@@ -40,17 +39,18 @@ use Rattle.learning_solver.specs.Log.{additions, IsFreshLog}
 use Rattle.answer_document.specs.declared.document.Document.{Document}
 use Rattle.answer_document.specs.declared.verdict.Verdict.TheVariants.{Unsatisfiable}
 use Rattle.answer_document.specs.BoundAtoms.{integer_named}
-use Rattle.answer_document.specs.Valid.{start_of, AreReadableLines, IsReadableSecond}
+use Rattle.answer_document.specs.Valid.{start_of}
 use Rattle.decode_minimize.specs.declared.objective.Direction.TheVariants.{Least, Greatest}
 use Rattle.decode_minimize.specs.declared.options.Options.{Options}
 use Rattle.decode_minimize.specs.declared.solved.Names.{Names}
 use Rattle.decode_minimize.specs.declared.solved.Solved.{Solved}
-use Rattle.decode_minimize.specs.Solved.{Problem, problem_of, IsProblem, IsRefuted, IsSolvedFor, second_named, second_added}
-use Rattle.decode_minimize.specs.Answers.{IsBudget, IsAnswer}
+use Rattle.decode_minimize.specs.Solved.{Problem, problem_of, IsProblem, IsDerivation, IsRefuted, IsSolvedFor, second_named, second_added}
+use Rattle.learning_solver.specs.Outcome.{most_learned}
+use Rattle.decode_minimize.specs.Answers.{IsBudget, most_rounds, IsAnswer}
 use Rattle.decode_minimize.specs.Answering.{problem_at, IsReady, IsAnswerOf}
 use Rattle.decode_minimize.proofs.Entries.{entries-objectives, objective-up}
 use Rattle.decode_minimize.proofs.Makings.{any-refuted, best-refuted}
-use Rattle.decode_minimize.proofs.Answered.{document_of, Parts, leads, readable-ledger, solutions, any-parts, best-parts}
+use Rattle.decode_minimize.proofs.Answered.{document_of, Parts, leads, readable-ledger, solutions, any-most, any-parts, best-most, best-parts}
 
 -- a model that is lowered is ready
 pub lowered-ready : (model : Model) (l : Lowered) → WellTyped model → InLimits model → weight_of model ≤ most_weight → l ≡ lowered_of model → IsReady l
@@ -99,8 +99,9 @@ same-problem names cnf entries k map view shape = cc
 -- at bottom the empty clause stands in the CNF, and nothing is to be derived
 refuted-at : (options : Options) (k : Kernel) → k.bottom ≡ true → IsRefuted (cnf_of k) options []
 refuted-at options k bottom = record {
-  derivation = record { accepted = refl; fresh = tt };
+  derivation = record { accepted = refl; fresh = tt; readable = tt };
   within = omega arith;
+  most = omega arith;
   shown = subst (λ (b : Bool). known (proof_of (record { vars = length k.view; clauses = if b then [] ∷ [] else ordered_clauses k.view k.clauses })) [] ≡ true) (sym bottom) refl;
 }
 
@@ -113,13 +114,14 @@ bottom-solved entries k options (Maximize place second) s bottom is =
     best-refuted (problem_at entries k) options s [] Greatest (integer_named entries place) (second_named entries second) is (refuted-at options k bottom)
 
 -- What is solved answers each model that is lowered to this.
-module _ (told : Core → Equation → Type 0) (instance : (core : Core) (e : Equation) → told core e → is_instance_at core e ≡ true) (options : Options) (budget : IsBudget options.budget) (last : Kernel) (ledger : List Line)
-    (few : length last.cores < 2 ^ 64) (s : Solved) (proof : AreReadableLines s.proof) (second : IsReadableSecond s.second) (counter now : ℕ) where
+module _ (told : Core → Equation → Type 0) (options : Options) (budget : IsBudget options.budget) (last : Kernel) (ledger : List Line)
+    (few : length last.cores < 2 ^ 64) (s : Solved) (counter now : ℕ) where
   module _ (model : Model) (typed : WellTyped model) (limits : InLimits model) (light : weight_of model ≤ most_weight) (compilation : IsCompilation told (start_of model) ledger last)
       (asked : now ≤ counter + 3 * most_questions (start_of model) ledger last) where
-    from-parts : IsFreshLog (cnf_of last) s.proof → additions s.proof + second_added s.second ≤ options.budget → Parts model last options ledger s s.verdict
+    from-parts : IsDerivation (cnf_of last) s.proof → additions s.proof + second_added s.second ≤ options.budget
+        → additions s.proof + second_added s.second ≤ most_learned options.restart (cnf_of last).vars * most_rounds model.decls model.goal → Parts model last options ledger s s.verdict
         → IsAnswer told model options (document_of s ledger) counter now
-    from-parts fresh within parts = record {
+    from-parts derivation within most parts = record {
       last = last;
       compilation = compilation;
       solutions = solutions told model typed limits light options budget last ledger compilation;
@@ -129,9 +131,9 @@ module _ (told : Core → Equation → Type 0) (instance : (core : Core) (e : Eq
         readable = record {
           verdict = parts.numbers;
           assignment = parts.assignment;
-          ledger = readable-ledger told model typed limits light options budget last ledger compilation instance few;
-          proof = proof;
-          second = second;
+          ledger = readable-ledger told model typed limits light options budget last ledger compilation few;
+          proof = derivation.readable;
+          second = parts.readable;
         };
         verdict = refl;
         assignment = refl;
@@ -140,21 +142,25 @@ module _ (told : Core → Equation → Type 0) (instance : (core : Core) (e : Eq
         certificate = parts.certificate;
       };
       count = parts.count;
-      fresh = fresh;
+      fresh = derivation.fresh;
       second = parts.fresh;
       within = within;
+      most = most;
       spent = parts.spent;
       enough = parts.enough;
+      unshown = parts.unshown;
       asked = asked;
     }
 
     by-goal : (goal : Goal) → model.goal ≡ goal → IsSolvedFor (problem_at (lowered_of model).map.entries last) options goal s → IsAnswer told model options (document_of s ledger) counter now
     by-goal Satisfy is h =
-        from-parts h.derivation.fresh h.within (any-parts told model typed limits light options budget last ledger compilation s h.derivation is s.verdict h.says)
+        from-parts h.derivation h.within (any-most told model typed limits light options budget last ledger compilation s h.derivation is h.most) (any-parts told model typed limits light options budget last ledger compilation s h.derivation is s.verdict h.says)
     by-goal (Minimize place other) is h =
-        from-parts h.derivation.fresh h.within (best-parts told model typed limits light options budget last ledger compilation s h.derivation Least place other is s.verdict h.says)
+        from-parts h.derivation h.within (best-most told model typed limits light options budget last ledger compilation s h.derivation Least place other is h.most)
+        (best-parts told model typed limits light options budget last ledger compilation s h.derivation Least place other is s.verdict h.says)
     by-goal (Maximize place other) is h =
-        from-parts h.derivation.fresh h.within (best-parts told model typed limits light options budget last ledger compilation s h.derivation Greatest place other is s.verdict h.says)
+        from-parts h.derivation h.within (best-most told model typed limits light options budget last ledger compilation s h.derivation Greatest place other is h.most)
+        (best-parts told model typed limits light options budget last ledger compilation s h.derivation Greatest place other is s.verdict h.says)
 
   pub answers-all : (l : Lowered) (goal : Goal) (first : Kernel) (d : Document) → first ≡ started l.vars l.cores → IsCompilation told first ledger last → IsSolvedFor (problem_at l.map.entries last) options goal s
       → d ≡ document_of s ledger → now ≤ counter + 3 * most_questions first ledger last → IsAnswerOf told l goal options d counter now

@@ -1,6 +1,7 @@
 -- What is made of rounds is solved.
 use Rattle.std.proofs.Common.{◌≡◌, ◌⊎◌, ℕ, ◌+◌, ◌-◌, ◌*◌, ◌≤◌, ◌<◌, Bool, true, false, List, [], ◌∷◌, ◌++◌, length, Option, Some, None, refl, sym, ap, ◌∙◌, subst, inl, inr, ℤ, FitsSigned, w64, to_z, of_z, arith}
 use Rattle.std.specs.Option.{option_map}
+use Rattle.std.proofs.Math.Nat.{mul-le-mul_left}
 use Rattle.std.proofs.lemmas.Int.{to_z-of_z}
 use Rattle.order_ints.specs.declared.atom.Atom.{Atom}
 use Rattle.order_ints.specs.declared.cnf.Cnf.{Cnf}
@@ -32,10 +33,11 @@ use Rattle.decode_minimize.specs.declared.improving.Sought.{Sought}
 use Rattle.decode_minimize.specs.declared.solved.Names.{Names}
 use Rattle.decode_minimize.specs.declared.solved.Progress.{Progress}
 use Rattle.decode_minimize.specs.declared.solved.Solved.{Solved}
-use Rattle.decode_minimize.specs.Objectives.{bound_of, no_worse_of}
+use Rattle.decode_minimize.specs.Objectives.{better_left, bound_of, no_worse_of}
 use Rattle.decode_minimize.specs.Rounds.{AreSatisfying}
-use Rattle.decode_minimize.specs.Solved.{Problem, problem_of, IsSolvable, IsProblem, IsSeekable, IsDerivation, IsProgress, IsRefuted, IsGivenUp, IsReadFrom, HasBounds, IsFirstShown, HasSecond, IsOptimal, IsSpentFirst, IsSpentSecond, IsSolvedAny, IsSolvedBest, IsSolved, IsAnySolved, IsBestSolved, IsMadeOf, settled_cnf, second_added, values_count, verdict_on}
+use Rattle.decode_minimize.specs.Solved.{Problem, problem_of, IsSolvable, IsProblem, IsSeekable, IsDerivation, IsProgress, IsRefuted, IsGivenUp, IsReadFrom, HasBounds, IsFirstShown, HasSecond, IsOptimal, IsSpentFirst, IsSpentSecond, IsSolvedAny, IsSolvedBest, IsSolved, IsAnySolved, IsBestSolved, IsMadeOf, settled_cnf, second_added, values_count, values_in, verdict_on}
 use Rattle.decode_minimize.proofs.Ready.{solvable-with}
+use Rattle.decode_minimize.proofs.Rounding.{some-value}
 use Rattle.decode_minimize.proofs.Sound.{shown-true, with-atom-true, with-atom-parts, exact-value, own-no-worse}
 
 abbrev refuted_solved : List ProofLine → Solved
@@ -45,21 +47,30 @@ abbrev given_up_solved : List ProofLine → Options → Solved
 given_up_solved proof options = record { verdict = Unknown options.budget None; assignment = None; proof = proof; second = None }
 
 module _ (p : Problem) (options : Options) (s : Solved) (proof : List ProofLine) where
+  -- one search is no more than one for each value
+  one-of-many : (a : OrdInt) (second : Option OrdInt) (x : ℕ) → x ≤ most_learned options.restart p.cnf.vars → x + 0 ≤ (values_count a + values_in second) * most_learned options.restart p.cnf.vars
+  one-of-many a second x most =
+      let m = most_learned options.restart p.cnf.vars in
+      let more : m * 1 ≤ m * (values_count a + values_in second) = mul-le-mul_left m (omega (arith, some-value a)) in
+      omega (arith, most, more)
+
   pub any-refuted : s ≡ refuted_solved proof → IsRefuted p.cnf options proof → IsAnySolved p options s
   any-refuted is r =
-      subst (IsAnySolved p options) (sym is) (record { derivation = r.derivation; within = omega (arith, r.within); says = ((refl, refl), r.shown) })
+      subst (IsAnySolved p options) (sym is) (record { derivation = r.derivation; within = omega (arith, r.within); most = omega (arith, r.most); says = ((refl, refl), r.shown) })
 
   pub any-given_up : s ≡ given_up_solved proof options → IsGivenUp p.cnf options proof → IsAnySolved p options s
   any-given_up is g =
-      subst (IsAnySolved p options) (sym is) (record { derivation = g.derivation; within = omega (arith, g.spent); says = ((refl, refl), refl, g) })
+      subst (IsAnySolved p options) (sym is) (record { derivation = g.derivation; within = omega (arith, g.spent); most = omega (arith, g.early); says = ((refl, refl), refl, g) })
 
   pub best-refuted : (d : Direction) (a : OrdInt) (second : Option OrdInt) → s ≡ refuted_solved proof → IsRefuted p.cnf options proof → IsBestSolved p options d a second s
   best-refuted d a second is r =
-      subst (IsBestSolved p options d a second) (sym is) (record { derivation = r.derivation; within = omega (arith, r.within); says = ((refl, refl), r.shown) })
+      subst (IsBestSolved p options d a second) (sym is)
+      (record { derivation = r.derivation; within = omega (arith, r.within); most = one-of-many a second (additions proof) r.most; says = ((refl, refl), r.shown) })
 
   pub best-given_up : (d : Direction) (a : OrdInt) (second : Option OrdInt) → s ≡ given_up_solved proof options → IsGivenUp p.cnf options proof → IsBestSolved p options d a second s
   best-given_up d a second is g =
-      subst (IsBestSolved p options d a second) (sym is) (record { derivation = g.derivation; within = omega (arith, g.spent); says = ((refl, refl), refl, g) })
+      subst (IsBestSolved p options d a second) (sym is)
+      (record { derivation = g.derivation; within = omega (arith, g.spent); most = one-of-many a second (additions proof) (omega (arith, g.early)); says = ((refl, refl), refl, g) })
 
 -- of what is made of a derivation, or of two
 made-derivation : (names : Names) (values : List Bool) (v : Verdict) (proof : List ProofLine) (second : Option (List ProofLine)) (s : Solved) (cnf : Cnf) → IsMadeOf names values v proof second s → IsDerivation cnf proof → IsDerivation cnf s.proof
@@ -77,10 +88,11 @@ made-read : (names : Names) (cnf : Cnf) (values : List Bool) (v : Verdict) (proo
 made-read names cnf values v proof second s made satisfying = record { satisfying = satisfying; numbers = made.numbers }
 
 pub any-solution : (names : Names) (cnf : Cnf) (options : Options) (values : List Bool) (proof : List ProofLine) (s : Solved) → IsMadeOf names values Satisfiable proof None s → AreSatisfying cnf values
-    → IsDerivation cnf proof → additions proof ≤ options.budget → IsAnySolved (problem_of names cnf) options s
-any-solution names cnf options values proof s made satisfying derivation within = record {
+    → IsDerivation cnf proof → additions proof ≤ options.budget → additions proof ≤ most_learned options.restart cnf.vars → IsAnySolved (problem_of names cnf) options s
+any-solution names cnf options values proof s made satisfying derivation within most = record {
   derivation = made-derivation names values Satisfiable proof None s cnf made derivation;
   within = made-within names values Satisfiable proof None s options.budget made (omega (arith, within));
+  most = made-within names values Satisfiable proof None s (1 * most_learned options.restart cnf.vars) made (omega (arith, most));
   says = subst (IsSolvedAny (problem_of names cnf) options s) (sym made.verdict) (values, made-read names cnf values Satisfiable proof None s made satisfying, made.second);
 }
 
@@ -101,6 +113,14 @@ module _ (names : Names) (cnf : Cnf) (sought : Sought) (options : Options) (view
       subst (λ (l : List ProofLine). IsShown (proof_behind cnf l) (resolve names.view.now (bound_of sought.direction sought.integer.now b.first))) (sym made.proof)
       (subst (λ (z : ℤ). IsShown (proof_behind cnf r.proof) (resolve names.view.now (bound_of sought.direction sought.integer.now z))) (sym number) (own-shown e))
 
+  made-open : (v : Verdict) (second : Option (List ProofLine)) (s : Solved) (b : Bounds) → IsMadeOf names r.best.values v r.proof second s → b.first ≡ r.best.number → r.is_best ≡ false
+      → IsFirstShown solving sought.direction sought.integer.now s b → ⊥
+  made-open v second s b made number e shown =
+      progress.unshown e
+      (subst (λ (w : List Atom). IsShown (proof_behind cnf r.proof) (resolve w (bound_of sought.direction sought.integer.now r.best.number))) (sym view)
+      (subst (λ (z : ℤ). IsShown (proof_behind cnf r.proof) (resolve names.view.now (bound_of sought.direction sought.integer.now z))) number
+      (subst (λ (l : List ProofLine). IsShown (proof_behind cnf l) (resolve names.view.now (bound_of sought.direction sought.integer.now b.first))) made.proof shown)))
+
   -- one objective
   abbrev one_bounds : Bounds
   one_bounds = record { first = r.best.number; second = None }
@@ -110,6 +130,7 @@ module _ (names : Names) (cnf : Cnf) (sought : Sought) (options : Options) (view
       let v = Optimum one_bounds in record {
         derivation = made-derivation names r.best.values v r.proof None s cnf made progress.derivation;
         within = made-within names r.best.values v r.proof None s options.budget made (omega (arith, progress.within));
+        most = made-within names r.best.values v r.proof None s ((values_count sought.integer.now + 0) * most_learned options.restart cnf.vars) made (omega (arith, progress.most));
         says = subst (IsSolvedBest solving options sought.direction sought.integer.now None s) (sym made.verdict)
             (r.best.values, made-read names cnf r.best.values v r.proof None s made progress.values, record { first = own-number; second = refl }, (made.second, made-shown v None s one_bounds made refl e));
       }
@@ -120,12 +141,19 @@ module _ (names : Names) (cnf : Cnf) (sought : Sought) (options : Options) (view
       record {
         derivation = made-derivation names r.best.values v r.proof None s cnf made progress.derivation;
         within = made-within names r.best.values v r.proof None s options.budget made (omega (arith, progress.within));
+        most = made-within names r.best.values v r.proof None s ((values_count sought.integer.now + 0) * most_learned options.restart cnf.vars) made (omega (arith, progress.most));
         says = subst (IsSolvedBest solving options sought.direction sought.integer.now None s) (sym made.verdict) (
           r.best.values,
           made-read names cnf r.best.values v r.proof None s made progress.values,
           record { first = own-number; second = refl },
           refl,
-          inl (record { alone = made.second; spent = count ∙ spent.0; early = omega (arith, spent) }),
+          inl (record {
+            alone = made.second;
+            spent = count ∙ spent.0;
+            early = omega (arith, spent);
+            paid = omega (arith, spent.0, progress.paid e);
+            unshown = made-open v None s one_bounds made refl e;
+          }),
         );
       }
 
@@ -144,12 +172,19 @@ module _ (names : Names) (cnf : Cnf) (sought : Sought) (options : Options) (view
       record {
         derivation = made-derivation names r.best.values v r.proof None s cnf made progress.derivation;
         within = made-within names r.best.values v r.proof None s options.budget made (omega (arith, progress.within));
+        most = made-within names r.best.values v r.proof None s ((values_count sought.integer.now + values_count other) * most_learned options.restart cnf.vars) made (omega (arith, progress.most));
         says = subst (IsSolvedBest solving options sought.direction sought.integer.now (Some other) s) (sym made.verdict) (
           r.best.values,
           made-read names cnf r.best.values v r.proof None s made progress.values,
           record { first = own-number; second = ap (λ (w : List Atom). Some (value_of (read_by w (valuation_of r.best.values)) other)) same },
           refl,
-          inl (record { alone = made.second; spent = count ∙ spent.0; early = omega (arith, spent) }),
+          inl (record {
+            alone = made.second;
+            spent = count ∙ spent.0;
+            early = omega (arith, spent);
+            paid = omega (arith, spent.0, progress.paid e);
+            unshown = made-open v None s b made refl e;
+          }),
         );
       }
 
@@ -222,6 +257,9 @@ module _ (cnf : Cnf) (sought : Sought) (options : Options) (r : Progress) (seeka
 both-searches : (a b m x y n : ℕ) → x ≤ a * m → y ≡ n - x → x ≤ n → y < b * m → n < (a + b) * m
 both-searches a b m x y n first rest within second = omega (arith, first, rest, within, second)
 
+both-paid : (a b i m x y n : ℕ) → x ≤ a * m → y ≡ n - x → x ≤ n → y + i * m < (b + 1) * m → n + i * m < (a + b + 1) * m
+both-paid a b i m x y n first rest within second = omega (arith, first, rest, within, second)
+
 -- two objectives, where the first one is settled
 module _ (names : Names) (cnf : Cnf) (sought behind : Sought) (options left : Options) (r last : Progress) (view : sought.view.now ≡ names.view.now) (view_behind : behind.view.now ≡ names.view.now)
     (direction : behind.direction ≡ sought.direction) (seekable : IsSeekable cnf sought) (progress : IsProgress cnf sought options r) (shown : r.is_best ≡ true)
@@ -264,12 +302,20 @@ module _ (names : Names) (cnf : Cnf) (sought behind : Sought) (options left : Op
           fits : (x y n m : ℕ) → x ≤ n → m ≡ n - x → y ≤ m → x + y ≤ n
           fits x y n m h e k = omega (arith, h, e, k)
 
+      both-most : additions s.proof + second_added s.second ≤ (values_count sought.integer.now + values_count behind.integer.now) * most_learned options.restart cnf.vars
+      both-most =
+          let most : most_learned left.restart cnf.vars ≡ most_learned options.restart cnf.vars = ap (λ (b : Bool). most_learned b cnf.vars) restart in
+          let later = subst (λ (m : ℕ). additions last.proof ≤ values_count behind.integer.now * m) most second.most in
+          made-within names last.best.values v r.proof (Some last.proof) s ((values_count sought.integer.now + values_count behind.integer.now) * most_learned options.restart cnf.vars) made
+          (omega (arith, progress.most, later))
+
     both-by : (b : Bool) → last.is_best ≡ b → IsMadeOf names last.best.values (verdict_on b both_bounds options) r.proof (Some last.proof) s
         → IsBestSolved both_problem options sought.direction sought.integer.now (Some behind.integer.now) s
     both-by true e made =
         let v = Optimum both_bounds in record {
           derivation = made-derivation names last.best.values v r.proof (Some last.proof) s cnf made progress.derivation;
           within = both-within v made;
+          most = both-most v made;
           says = subst (IsSolvedBest both_problem options sought.direction sought.integer.now (Some behind.integer.now) s) (sym made.verdict)
               (last.best.values, has-read v made, has-bounds, (last.proof, has-second v made, λ n is. best-second n is));
         }
@@ -290,6 +336,7 @@ module _ (names : Names) (cnf : Cnf) (sought behind : Sought) (options left : Op
         record {
           derivation = made-derivation names last.best.values v r.proof (Some last.proof) s cnf made progress.derivation;
           within = both-within v made;
+          most = both-most v made;
           says = subst (IsSolvedBest both_problem options sought.direction sought.integer.now (Some behind.integer.now) s) (sym made.verdict) (
             last.best.values,
             has-read v made,
@@ -303,6 +350,16 @@ module _ (names : Names) (cnf : Cnf) (sought behind : Sought) (options left : Op
               spent = omega (arith, count, spent.0, budget, progress.within);
               early = both-searches (values_count sought.integer.now) (values_count behind.integer.now) (most_learned options.restart cnf.vars) (additions r.proof) (additions last.proof) options.budget
                   progress.most (spent.0 ∙ budget) progress.within (subst (λ (m : ℕ). additions last.proof < values_count behind.integer.now * m) most spent.1);
+              number = last.best.number;
+              number_is = refl;
+              paid = both-paid (values_count sought.integer.now) (values_count behind.integer.now) (better_left sought.direction behind.integer.now last.best.number) (most_learned options.restart cnf.vars)
+                  (additions r.proof) (additions last.proof) options.budget progress.most (spent.0 ∙ budget) progress.within
+                  (subst (λ (d : Direction). additions last.proof + better_left d behind.integer.now last.best.number * most_learned options.restart cnf.vars < (values_count behind.integer.now + 1) * most_learned options.restart cnf.vars) direction
+                  (subst (λ (m : ℕ). additions last.proof + better_left behind.direction behind.integer.now last.best.number * m < (values_count behind.integer.now + 1) * m) most (second.paid e)));
+              unshown = λ shown. second.unshown e
+                  (subst (λ (w : List Atom). IsShown (proof_behind both_settled last.proof) (resolve w (bound_of behind.direction behind.integer.now last.best.number))) (sym view_behind)
+                  (subst (λ (d : Direction). IsShown (proof_behind both_settled last.proof) (resolve names.view.now (bound_of d behind.integer.now last.best.number))) (sym direction)
+                  (subst (λ (f : Cnf). IsShown (proof_behind f last.proof) (resolve names.view.now (bound_of sought.direction behind.integer.now last.best.number))) same-settled shown)));
             }),
           );
         }

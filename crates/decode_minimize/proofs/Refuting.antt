@@ -1,6 +1,7 @@
 -- What the answer of a solver shows.
 use Rattle.std.proofs.Common.{◌≡◌, ◌⊎◌, ℕ, Bool, true, false, not, List, [], ◌∷◌, Option, Some, None, Result, Ok, Err, refl, sym, ap, ◌∙◌, inl, inr, ⊎_elim}
 use Rattle.std.specs.Prelude.{IsOk}
+use Rattle.std.proofs.lemmas.Bool.{true≢false}
 use Rattle.order_ints.specs.declared.atom.Atom.TheVariants.{True, False, Of}
 use Rattle.order_ints.specs.declared.cnf.Cnf.{Cnf}
 use Rattle.order_ints.specs.declared.literal.Lit.{Lit}
@@ -8,6 +9,7 @@ use Rattle.order_ints.specs.Truth.{valuation_of, lit_truth, not_lit}
 use Rattle.order_ints.proofs.Truths.{lit_truth-not_lit, not_lit-not_lit}
 use Rattle.proof_check.specs.declared.fault.ProofFault.{ProofFault}
 use Rattle.proof_check.specs.declared.line.ProofLine.{ProofLine}
+use Rattle.proof_check.specs.Known.{known}
 use Rattle.proof_check.specs.Lrat.{Proof, proof_of, line_fault, after_line, unless_fault, behind, take_lines, Lrat}
 use Rattle.learning_solver.specs.Log.{after_lines, proof_behind}
 use Rattle.learning_solver.specs.Outcome.{Logged, IsRefutation}
@@ -32,10 +34,7 @@ refuted-some cnf log l a e r =
 pub round-none : (s : Logged) (r : Round) → IsAsked s None r → IsRound s False r
 round-none s (Better values) h = (record { count = h.count; satisfies = h.satisfies }, refl)
 round-none s Shown h = refuted-none s.cnf s.log h
-round-none s Spent h = λ e. other e
-  where
-    other : False ≡ True → ⊥
-    other e = cc
+round-none s Spent h = λ shown. true≢false (sym shown ∙ h [] refl)
 
 pub round-some : (s : Logged) (l a : Lit) (r : Round) → a ≡ not_lit l → IsAsked s (Some a) r → IsRound s (Of l) r
 round-some s l a (Better values) e h = (
@@ -47,10 +46,10 @@ round-some s l a (Better values) e h = (
     denied true e = absurd (cc)
     denied false e = refl
 round-some s l a Shown e h = refuted-some s.cnf s.log l a (ap not_lit e ∙ not_lit-not_lit l) h
-round-some s l a Spent e h = λ f. other f
-  where
-    other : Of l ≡ True → ⊥
-    other e = cc
+round-some s l a Spent e h = λ shown. ⊎_elim
+    (λ (none : known (proof_behind s.cnf s.log) [] ≡ true). true≢false (sym none ∙ h [] (inl refl)))
+    (λ (one : known (proof_behind s.cnf s.log) (l ∷ []) ≡ true). true≢false (sym one ∙ h (l ∷ []) (inr (ap (λ (m : Lit). m ∷ []) (sym (ap not_lit e ∙ not_lit-not_lit l))))))
+    shown
 
 -- Lines that are taken lead to the proof behind them, which adds as many clauses as they have additions.
 

@@ -1,9 +1,11 @@
 -- From a solver's first round to its log.
-use Rattle.std.proofs.Common.{◌≡◌, ℕ, ◌+◌, ◌*◌, ◌≤◌, ◌<◌, Bool, true, false, List, [], length, refl, sym, ap, ◌∙◌, subst, ℤ, arith}
+use Rattle.std.proofs.Common.{◌≡◌, ℕ, ◌+◌, ◌*◌, ◌≤◌, ◌<◌, Bool, true, false, List, [], ◌∷◌, length, map, refl, sym, ap, ◌∙◌, subst, ℤ, arith}
 use Rattle.std.proofs.Math.Nat.{mul-le-mul_left}
-use Rattle.order_ints.specs.declared.atom.Atom.TheVariants.{False}
+use Rattle.order_ints.specs.declared.atom.Atom.{Atom}
+use Rattle.order_ints.specs.declared.atom.Atom.TheVariants.{True, False}
 use Rattle.order_ints.specs.declared.cnf.Cnf.{Cnf}
-use Rattle.order_ints.specs.OrderLevels.{values_of}
+use Rattle.order_ints.specs.declared.order_int.OrdInt.{OrdInt}
+use Rattle.order_ints.specs.OrderLevels.{levels, values_of}
 use Rattle.order_ints.specs.OrderValue.{value_of, IsOrdered}
 use Rattle.order_ints.specs.Satisfies.{Satisfies}
 use Rattle.order_ints.specs.Truth.{Valuation, valuation_of}
@@ -13,7 +15,7 @@ use Rattle.proof_check.specs.declared.line.ProofLine.{ProofLine}
 use Rattle.proof_check.specs.Lrat.{Lrat}
 use Rattle.learning_solver.specs.Log.{additions, proof_behind, IsFreshLog}
 use Rattle.learning_solver.specs.Outcome.{Logged, most_learned}
-use Rattle.answer_document.specs.Valid.{IsShown}
+use Rattle.answer_document.specs.Valid.{IsShown, AreReadableLines}
 use Rattle.decode_minimize.specs.declared.options.Options.{Options}
 use Rattle.decode_minimize.specs.declared.improving.Sought.{Sought}
 use Rattle.decode_minimize.specs.declared.improving.Best.{Best}
@@ -31,8 +33,8 @@ abbrev pub new_solver : Cnf → Logged
 new_solver cnf = record { cnf = cnf; log = [] }
 
 -- a log is a derivation
-pub log-derivation : (cnf : Cnf) (proof : List ProofLine) → Lrat cnf proof → IsFreshLog cnf proof → IsDerivation cnf proof
-log-derivation cnf proof lrat fresh = record { accepted = accepted-behind cnf proof lrat; fresh = fresh }
+pub log-derivation : (cnf : Cnf) (proof : List ProofLine) → Lrat cnf proof → IsFreshLog cnf proof → AreReadableLines proof → IsDerivation cnf proof
+log-derivation cnf proof lrat fresh readable = record { accepted = accepted-behind cnf proof lrat; fresh = fresh; readable = readable }
 
 -- the value of the best solution is one of the integer's
 pub left-few : (s : Logged) (sought : Sought) (best : Best) → IsSeeking s sought best → left sought best + 1 ≤ values_count sought.integer.now
@@ -53,14 +55,28 @@ fewer-searches w c m x y few one most =
     let more : m * (w + 1) ≤ m * c = mul-le-mul_left m few in
     omega (arith, one, most, more)
 
+-- an integer has some value
+pub some-value : (a : OrdInt) → 1 ≤ values_count a
+some-value a = by a.base True a.steps
+  where
+    by : (low : ℤ) (x : Atom) (steps : List (Atom × ℕ)) → 1 ≤ length (map (λ (level : ℤ × Atom). level.0) (levels low x steps))
+    by low x [] = omega arith
+    by low x (s ∷ steps) = omega arith
+
+-- a search for each value that is left out, and one more
+paid-searches : (w c i m x y : ℕ) → w + 1 ≤ c → y ≤ m → x + i * m < y + w * m + m → x + i * m < (c + 1) * m
+paid-searches w c i m x y few one most =
+    let more : m * (w + 1) ≤ m * c = mul-le-mul_left m few in
+    omega (arith, one, most, more)
+
 pub progress-from : (first new : Logged) (sought : Sought) (options : Options) (best is : Best) (shown : Bool) (proof : List ProofLine)
     → IsSeeking first sought best → additions first.log ≤ most_learned options.restart first.cnf.vars → new.cnf ≡ first.cnf → additions new.log ≤ options.budget
-    → IsSeeking new sought is → IsImproved first new sought options best is shown → proof ≡ new.log → Lrat new.cnf proof → IsFreshLog new.cnf proof
+    → IsSeeking new sought is → IsImproved first new sought options best is shown → proof ≡ new.log → Lrat new.cnf proof → IsFreshLog new.cnf proof → AreReadableLines proof
     → IsProgress first.cnf sought options (record { proof = proof; best = is; is_best = shown })
-progress-from first new sought options best is shown proof seeking before cnf within sought_on improved log lrat fresh =
+progress-from first new sought options best is shown proof seeking before cnf within sought_on improved log lrat fresh readable =
     let few = left-few first sought best seeking in
     let m = most_learned options.restart first.cnf.vars in
-    let here : IsDerivation new.cnf proof = log-derivation new.cnf proof lrat fresh in
+    let here : IsDerivation new.cnf proof = log-derivation new.cnf proof lrat fresh readable in
     let same : additions proof ≡ additions new.log = ap additions log in
     record {
       derivation = subst (λ (f : Cnf). IsDerivation f proof) cnf here;
@@ -73,6 +89,10 @@ progress-from first new sought options best is shown proof seeking before cnf wi
       spent = λ e.
           let s = improved.spent e in
           (same ∙ s.0, fewer-searches (left sought best) (values_count sought.integer.now) m (additions proof) (additions first.log) few before (omega (arith, same, s.1)));
+      paid = λ e. paid-searches (left sought best) (values_count sought.integer.now) (left sought is) m (additions proof) (additions first.log) few before (omega (arith, same, improved.paid e));
+      unshown = λ e shown. improved.unshown e
+          (subst (λ (l : List ProofLine). IsShown (proof_behind new.cnf l) (asked_bound sought is)) log
+          (subst (λ (f : Cnf). IsShown (proof_behind f proof) (asked_bound sought is)) (sym cnf) shown));
     }
 
 -- the first round of a new solver
@@ -88,27 +108,35 @@ module _ (cnf : Cnf) (old new : Logged) (options : Options) (start : old ≡ new
       let vars : most_learned options.restart old.cnf.vars ≡ most_learned options.restart new.cnf.vars = ap (λ (f : Cnf). most_learned options.restart f.vars) (sym same) in
       omega (arith, most, none-before, vars)
 
-  module _ (proof : List ProofLine) (log : proof ≡ new.log) (lrat : Lrat new.cnf proof) (fresh : IsFreshLog new.cnf proof) where
+  module _ (proof : List ProofLine) (log : proof ≡ new.log) (lrat : Lrat new.cnf proof) (fresh : IsFreshLog new.cnf proof) (readable : AreReadableLines proof) where
     pub first-derivation : IsDerivation cnf proof
-    first-derivation = subst (λ (f : Cnf). IsDerivation f proof) of-cnf (log-derivation new.cnf proof lrat fresh)
+    first-derivation = subst (λ (f : Cnf). IsDerivation f proof) of-cnf (log-derivation new.cnf proof lrat fresh readable)
 
     same-count : additions proof ≡ additions new.log
     same-count = ap additions log
 
-    pub first-refuted : additions new.log ≤ options.budget → IsRound new False round.Shown → IsRefuted cnf options proof
-    first-refuted within shown = record {
+    pub first-most : additions new.log ≤ additions old.log + most_learned options.restart old.cnf.vars → additions proof ≤ most_learned options.restart cnf.vars
+    first-most most =
+        let vars : most_learned options.restart old.cnf.vars ≡ most_learned options.restart cnf.vars = ap (λ (s : Logged). most_learned options.restart s.cnf.vars) start in
+        omega (arith, same-count, most, none-before, vars)
+
+    pub first-refuted : additions new.log ≤ options.budget → additions new.log ≤ additions old.log + most_learned options.restart old.cnf.vars → IsRound new False round.Shown → IsRefuted cnf options proof
+    first-refuted within most shown = record {
       derivation = first-derivation;
       within = omega (arith, same-count, within);
+      most = first-most most;
       shown = subst (λ (f : Cnf). IsShown (proof_behind f proof) False) of-cnf (subst (λ (l : List ProofLine). IsShown (proof_behind new.cnf l) False) (sym log) shown);
     }
 
-    pub first-given_up : additions new.log ≡ options.budget → additions new.log < additions old.log + most_learned options.restart old.cnf.vars → IsGivenUp cnf options proof
-    first-given_up spent early = record {
+    pub first-given_up : additions new.log ≡ options.budget → additions new.log < additions old.log + most_learned options.restart old.cnf.vars → IsRound new False round.Spent → IsGivenUp cnf options proof
+    first-given_up spent early unshown = record {
       derivation = first-derivation;
       spent = same-count ∙ spent;
       early =
           let vars : most_learned options.restart old.cnf.vars ≡ most_learned options.restart cnf.vars = ap (λ (s : Logged). most_learned options.restart s.cnf.vars) start in
           omega (arith, same-count, early, none-before, vars);
+      unshown = λ shown. unshown
+          (subst (λ (l : List ProofLine). IsShown (proof_behind new.cnf l) False) log (subst (λ (f : Cnf). IsShown (proof_behind f proof) False) (sym of-cnf) shown));
     }
 
   pub first-satisfying : (values : List Bool) → IsRound new False (round.Better values) → AreSatisfying cnf values

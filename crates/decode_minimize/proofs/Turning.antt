@@ -1,6 +1,7 @@
 -- What a round makes of a search for the best value.
 use Rattle.std.proofs.Common.{◌≡◌, ◌≢◌, ◌⊎◌, ℕ, zero, suc, ◌+◌, ◌*◌, ◌≤◌, ◌<◌, Bool, true, false, List, length, refl, sym, ap, ◌∙◌, subst, inl, inr, ⊎_elim, ℤ, FitsSigned, w64, to_z, of_z, arith}
 use Rattle.std.proofs.Math.Nat.{mul-le-mul_left}
+use Rattle.std.proofs.lemmas.Bool.{true≢false}
 use Rattle.std.proofs.lemmas.Int.{to_z-of_z}
 use Rattle.order_ints.specs.declared.atom.Atom.{Atom}
 use Rattle.order_ints.specs.declared.atom.Atom.TheVariants.{True}
@@ -17,9 +18,10 @@ use Rattle.order_ints.proofs.PlaceLaws.{AtomBelow-not_atom, AtomBelow-resolve}
 use Rattle.order_ints.proofs.Reaching.{AtomBelow-at_of}
 use Rattle.state_compile.specs.StandsFor.{read_by}
 use Rattle.model_decode.proofs.Ranges.{value-fits}
-use Rattle.learning_solver.specs.Log.{additions}
+use Rattle.learning_solver.specs.Log.{additions, proof_behind}
 use Rattle.learning_solver.specs.Outcome.{Logged, most_learned}
 use Rattle.std.specs.Prelude.{pos, ◌+ℤ◌}
+use Rattle.answer_document.specs.Valid.{IsShown}
 use Rattle.decode_minimize.specs.declared.objective.Direction.{Direction}
 use Rattle.decode_minimize.specs.declared.objective.Direction.TheVariants.{Least, Greatest}
 use Rattle.decode_minimize.specs.declared.options.Options.{Options}
@@ -125,22 +127,27 @@ module _ (old new : Logged) (sought : Sought) (options : Options) (was : Best) (
         (λ (none : left sought was ≡ 0). let same = unasked (left-none none) in omega (arith, same))
         (λ (some : 1 ≤ left sought was). at-least-one (left sought was) search_most (additions new.log) (additions old.log) some most)
         (some-or-none (left sought was)),
+    refl,
   )
 
   -- the budget is spent
   pub spent-turned : additions new.log ≡ options.budget → additions new.log < additions old.log + search_most → IsRound new (asked_bound sought was) round.Spent
       → IsTurned old new sought options was was turn.Spent
-  spent-turned spent early untrue = (
+  spent-turned spent early unshown = (
     spent,
     ⊎_elim
-        (λ (none : left sought was ≡ 0). absurd (untrue (left-none none)))
-        (λ (some : 1 ≤ left sought was). fewer-than-one (left sought was) search_most (additions new.log) (additions old.log) some early)
+        (λ (none : left sought was ≡ 0). absurd (unshown (subst (IsShown (proof_behind new.cnf new.log)) (sym (left-none none)) tt)))
+        (λ (some : 1 ≤ left sought was). some)
         (some-or-none (left sought was)),
+    early,
+    unshown,
+    refl,
   )
 
 -- one turn after another
 module _ (first old new : Logged) (sought : Sought) (options : Options) (start was is : Best) (one : old.cnf ≡ first.cnf)
-    (so_far : additions old.log + left sought was * most_learned options.restart first.cnf.vars ≤ additions first.log + left sought start * most_learned options.restart first.cnf.vars) where
+    (so_far : additions old.log + left sought was * most_learned options.restart first.cnf.vars ≤ additions first.log + left sought start * most_learned options.restart first.cnf.vars)
+    (fewer : left sought was ≤ left sought start) where
   same-most : most_learned options.restart old.cnf.vars ≡ most_learned options.restart first.cnf.vars
   same-most = ap (λ (f : Cnf). most_learned options.restart f.vars) one
 
@@ -153,9 +160,28 @@ module _ (first old new : Logged) (sought : Sought) (options : Options) (start w
   pub last-shown : IsTurned old new sought options was is turn.Shown → IsImproved first new sought options start is true
   last-shown t =
       let here = subst (λ (m : ℕ). additions new.log ≤ additions old.log + left sought was * m) same-most t.1 in
-      record { best = λ e. t.0; most = omega (arith, here, so_far); spent = λ e. absurd (cc) }
+      let same : left sought is ≡ left sought was = ap (left sought) t.2 in
+      record {
+        best = λ e. t.0;
+        most = omega (arith, here, so_far);
+        spent = λ e. absurd (true≢false e);
+        no_worse = omega (arith, same, fewer);
+        paid = λ e. absurd (true≢false e);
+        unshown = λ e. absurd (true≢false e);
+      }
 
   pub last-spent : IsTurned old new sought options was is turn.Spent → IsImproved first new sought options start is false
   last-spent t =
-      let here = subst (λ (m : ℕ). additions new.log < additions old.log + left sought was * m) same-most t.1 in
-      record { best = λ e. absurd (cc); most = omega (arith, here, so_far); spent = λ e. (t.0, omega (arith, here, so_far)) }
+      let m = most_learned options.restart first.cnf.vars in
+      let here = subst (λ (m : ℕ). additions new.log < additions old.log + m) same-most t.2 in
+      let all = fewer-than-one (left sought was) m (additions new.log) (additions old.log) t.1 here in
+      let same : left sought is ≡ left sought was = ap (left sought) t.4 in
+      let left_over : left sought is * m ≡ left sought was * m = ap (λ (k : ℕ). k * m) same in
+      record {
+        best = λ e. absurd (true≢false (sym e));
+        most = omega (arith, all, so_far);
+        spent = λ e. (t.0, omega (arith, all, so_far));
+        no_worse = omega (arith, same, fewer);
+        paid = λ e. omega (arith, here, so_far, left_over);
+        unshown = λ e. t.3;
+      }

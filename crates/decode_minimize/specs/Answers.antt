@@ -1,5 +1,6 @@
 -- What an answer to a model is, beside being valid: where its parts come from, and what it may have cost.
 use Rattle.std.specs.Prelude.{◌≡◌, ◌↔◌, ℕ, ◌+◌, ◌*◌, ◌≤◌, ◌<◌, ◌^◌, List, length, ℤ, slice_get, Option, Some, None, IfSome}
+use Rattle.order_ints.specs.declared.atom.Atom.TheVariants.{False}
 use Rattle.order_ints.specs.Truth.{Valuation}
 use Rattle.order_ints.specs.Satisfies.{Satisfies}
 use Rattle.core_forms.specs.declared.equation.Equation.{Equation}
@@ -17,14 +18,14 @@ use Rattle.asking_bound.specs.Questions.{most_questions}
 use Rattle.state_compile.specs.Compilation.{IsCompilation}
 use Rattle.model_decode.specs.Decoding.{numbers_at}
 use Rattle.proof_check.specs.declared.line.ProofLine.{ProofLine}
-use Rattle.learning_solver.specs.Log.{additions, IsFreshLog}
+use Rattle.learning_solver.specs.Log.{additions, proof_behind, IsFreshLog}
 use Rattle.learning_solver.specs.Outcome.{most_learned}
 use Rattle.answer_document.specs.declared.verdict.Bounds.{Bounds}
 use Rattle.answer_document.specs.declared.verdict.Verdict.{Verdict}
 use Rattle.answer_document.specs.declared.verdict.Verdict.TheVariants.{Satisfiable, Unsatisfiable, Optimum, Unknown}
 use Rattle.answer_document.specs.declared.document.Document.{Document}
 use Rattle.answer_document.specs.DocumentText.{document_text}
-use Rattle.answer_document.specs.Valid.{start_of, second_cnf, numbers_given, stated, IsValid}
+use Rattle.answer_document.specs.Valid.{start_of, IsShown, first_shown, second_shown, second_cnf, numbers_given, stated, IsValid}
 use Rattle.decode_minimize.specs.declared.options.Options.{Options}
 use Rattle.decode_minimize.specs.Solved.{second_added}
 
@@ -75,6 +76,20 @@ IsFreshSecond model last bounds None = Unit {0}
 IsFreshSecond model last None (Some lines) = ⊥
 IsFreshSecond model last (Some b) (Some lines) = IsFreshLog (second_cnf model last b.first) lines
 
+-- the bound of the objective that was sought last is not shown: that of the second one, where there is a second derivation
+abbrev pub IsOpenBehind : Model → Kernel → List ProofLine → Bounds → Option (List ProofLine) → Option ℤ → Type 0
+IsOpenBehind model last proof b None second = IsShown (proof_behind (cnf_of last) proof) (first_shown model last b.first) → ⊥
+IsOpenBehind model last proof b (Some lines) None = ⊥
+IsOpenBehind model last proof b (Some lines) (Some n) = IsShown (proof_behind (second_cnf model last b.first) lines) (second_shown model last n) → ⊥
+
+-- Where the search was given up, what was derived shows neither that there is no solution, nor that the one that is given is best.
+abbrev pub IsOpen : Model → Kernel → Document → Verdict → Type 0
+IsOpen model last d Satisfiable = Unit {0}
+IsOpen model last d Unsatisfiable = Unit {0}
+IsOpen model last d (Optimum b) = Unit {0}
+IsOpen model last d (Unknown n None) = IsShown (proof_behind (cnf_of last) d.proof) False → ⊥
+IsOpen model last d (Unknown n (Some b)) = IsOpenBehind model last d.proof b d.second b.second
+
 -- An answer to a model, where a counter has risen from one number to another. Its ledger is that of a whole compilation, whatever
 -- the verdict, and the last state's CNF stands for exactly the solutions.
 pub record IsAnswer (told : Core → Equation → Type 0) (model : Model) (options : Options) (d : Document) (counter now : ℕ) : Type 0 where
@@ -90,7 +105,10 @@ pub record IsAnswer (told : Core → Equation → Type 0) (model : Model) (optio
   -- no more clauses are added than the budget has, exactly as many where the search was given up, which it never is where the
   -- budget is as great as the most that the rounds may need
   pub within : all_additions d ≤ options.budget
+  -- nor more than the rounds may need with these options, whatever the budget
+  pub most : all_additions d ≤ most_learned options.restart (cnf_of last).vars * most_rounds model.decls model.goal
   pub spent : IsSpent options.budget (all_additions d) d.verdict
   pub enough : most_learned options.restart (cnf_of last).vars * most_rounds model.decls model.goal ≤ options.budget → IsDecided d.verdict
+  pub unshown : IsOpen model last d d.verdict
   -- the counter rose by three at most for each question that the compilation may have asked
   pub asked : now ≤ counter + 3 * most_questions (start_of model) d.ledger last

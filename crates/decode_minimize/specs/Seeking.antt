@@ -35,18 +35,24 @@ left sought best = better_left sought.direction sought.integer.now best.number
 abbrev pub IsBestShown : Logged → Sought → Best → Type 0
 IsBestShown s sought best = IsShown (proof_behind s.cnf s.log) (resolve sought.view.now (bound_of sought.direction sought.integer.now best.number))
 
--- What a round costs is at most a search for each value that it leaves out; so many clauses are fewer where the budget was spent.
+-- What a round costs is at most a search for each value that it leaves out. Where the budget was spent, so many clauses are fewer,
+-- a value was left, and the log shows nothing of it.
 abbrev pub IsTurned : Logged → Logged → Sought → Options → Best → Best → Turn → Type 0
 IsTurned old new sought options was is Better =
     (left sought is < left sought was)
     × (additions new.log + left sought is * most_learned options.restart old.cnf.vars ≤ additions old.log + left sought was * most_learned options.restart old.cnf.vars)
 IsTurned old new sought options was is Shown =
-    IsBestShown new sought is × (additions new.log ≤ additions old.log + left sought was * most_learned options.restart old.cnf.vars)
+    IsBestShown new sought is × (additions new.log ≤ additions old.log + left sought was * most_learned options.restart old.cnf.vars) × (is ≡ was)
 IsTurned old new sought options was is Spent =
-    (additions new.log ≡ options.budget) × (additions new.log < additions old.log + left sought was * most_learned options.restart old.cnf.vars)
+    (additions new.log ≡ options.budget) × (1 ≤ left sought was) × (additions new.log < additions old.log + most_learned options.restart old.cnf.vars)
+    × (IsBestShown new sought is → ⊥) × (is ≡ was)
 
--- rounds to their end
+-- Rounds to their end. No more values are better than the solution that is kept than were better than the first one; and each search
+-- but the last is paid for by a value that is left out, so what a round found is not given up again.
 pub record IsImproved (old new : Logged) (sought : Sought) (options : Options) (was is : Best) (shown : Bool) : Type 0 where
   pub best : shown ≡ true → IsBestShown new sought is
   pub most : additions new.log ≤ additions old.log + left sought was * most_learned options.restart old.cnf.vars
   pub spent : shown ≡ false → (additions new.log ≡ options.budget) × (additions new.log < additions old.log + left sought was * most_learned options.restart old.cnf.vars)
+  pub no_worse : left sought is ≤ left sought was
+  pub paid : shown ≡ false → additions new.log + left sought is * most_learned options.restart old.cnf.vars < additions old.log + left sought was * most_learned options.restart old.cnf.vars + most_learned options.restart old.cnf.vars
+  pub unshown : shown ≡ false → IsBestShown new sought is → ⊥

@@ -27,7 +27,7 @@ use Rattle.answer_document.specs.declared.verdict.Bounds.{Bounds}
 use Rattle.answer_document.specs.declared.verdict.Verdict.{Verdict}
 use Rattle.answer_document.specs.declared.verdict.Verdict.TheVariants.{Satisfiable, Unsatisfiable, Optimum, Unknown}
 use Rattle.answer_document.specs.BoundAtoms.{integer_named}
-use Rattle.answer_document.specs.Valid.{IsShown, atom_clauses, numbers_given}
+use Rattle.answer_document.specs.Valid.{IsShown, AreReadableLines, atom_clauses, numbers_given}
 use Rattle.decode_minimize.specs.declared.objective.Direction.{Direction}
 use Rattle.decode_minimize.specs.declared.objective.Direction.TheVariants.{Least, Greatest}
 use Rattle.decode_minimize.specs.declared.options.Options.{Options}
@@ -37,7 +37,7 @@ use Rattle.decode_minimize.specs.declared.solved.Progress.{Progress}
 use Rattle.decode_minimize.specs.declared.solved.First.{First}
 use Rattle.decode_minimize.specs.declared.solved.First.TheVariants.{Refuted, GivenUp, Found}
 use Rattle.decode_minimize.specs.declared.solved.Solved.{Solved}
-use Rattle.decode_minimize.specs.Objectives.{bound_of, no_worse_of, IsObjective}
+use Rattle.decode_minimize.specs.Objectives.{better_left, bound_of, no_worse_of, IsObjective}
 use Rattle.decode_minimize.specs.Rounds.{AreSatisfying}
 
 -- what is to be solved: clauses, what the names stand for, and the view by which it is read
@@ -70,10 +70,11 @@ pub record IsSeekable (cnf : Cnf) (sought : Sought) : Type 0 where
   pub objective : IsObjective (length sought.view.now + 1) sought.integer.now
   pub ordered : (σ : Valuation) → Satisfies σ cnf → IsOrdered (read_by sought.view.now σ) sought.integer.now
 
--- a derivation from a CNF: its lines are accepted, and fresh
+-- a derivation from a CNF: its lines are accepted, and fresh, and can be read back from their text
 pub record IsDerivation (cnf : Cnf) (lines : List ProofLine) : Type 0 where
   pub accepted : take_lines (proof_of cnf) lines ≡ Ok (proof_behind cnf lines)
   pub fresh : IsFreshLog cnf lines
+  pub readable : AreReadableLines lines
 
 -- how many values an integer has
 abbrev pub values_count : OrdInt → ℕ
@@ -88,17 +89,21 @@ pub record IsProgress (cnf : Cnf) (sought : Sought) (options : Options) (r : Pro
   pub most : additions r.proof ≤ values_count sought.integer.now * most_learned options.restart cnf.vars
   pub shown : r.is_best ≡ true → IsShown (proof_behind cnf r.proof) (resolve sought.view.now (bound_of sought.direction sought.integer.now r.best.number))
   pub spent : r.is_best ≡ false → (additions r.proof ≡ options.budget) × (additions r.proof < values_count sought.integer.now * most_learned options.restart cnf.vars)
+  pub paid : r.is_best ≡ false → additions r.proof + better_left sought.direction sought.integer.now r.best.number * most_learned options.restart cnf.vars < (values_count sought.integer.now + 1) * most_learned options.restart cnf.vars
+  pub unshown : r.is_best ≡ false → IsShown (proof_behind cnf r.proof) (resolve sought.view.now (bound_of sought.direction sought.integer.now r.best.number)) → ⊥
 
 -- and before any is known
 pub record IsRefuted (cnf : Cnf) (options : Options) (proof : List ProofLine) : Type 0 where
   pub derivation : IsDerivation cnf proof
   pub within : additions proof ≤ options.budget
+  pub most : additions proof ≤ most_learned options.restart cnf.vars
   pub shown : IsShown (proof_behind cnf proof) atom.False
 
 pub record IsGivenUp (cnf : Cnf) (options : Options) (proof : List ProofLine) : Type 0 where
   pub derivation : IsDerivation cnf proof
   pub spent : additions proof ≡ options.budget
   pub early : additions proof < most_learned options.restart cnf.vars
+  pub unshown : IsShown (proof_behind cnf proof) atom.False → ⊥
 
 abbrev pub IsFirst : Cnf → Sought → Options → First → Type 0
 IsFirst cnf sought options (Refuted proof) = IsRefuted cnf options proof
@@ -142,11 +147,14 @@ IsOptimal p d a None s b = (s.second ≡ None) × IsFirstShown p d a s b
 IsOptimal p d a (Some other) s b = (lines : List ProofLine) × HasSecond p d a s b lines
     × ((n : ℤ) → b.second ≡ Some n → IsShown (proof_behind (settled_cnf p d a b.first) lines) (resolve p.view (bound_of d other n)))
 
--- the budget is spent on the first objective, or on both
-pub record IsSpentFirst (p : Problem) (options : Options) (a : OrdInt) (s : Solved) : Type 0 where
+-- The budget is spent on the first objective, or on both. What was derived does not show that no solution is better; and each search
+-- but the last is paid for by a value that is no better than the one that is given.
+pub record IsSpentFirst (p : Problem) (options : Options) (d : Direction) (a : OrdInt) (s : Solved) (b : Bounds) : Type 0 where
   pub alone : s.second ≡ None
   pub spent : additions s.proof ≡ options.budget
   pub early : options.budget < values_count a * most_learned options.restart p.cnf.vars
+  pub paid : options.budget + better_left d a b.first * most_learned options.restart p.cnf.vars < (values_count a + 1) * most_learned options.restart p.cnf.vars
+  pub unshown : IsFirstShown p d a s b → ⊥
 
 pub record IsSpentSecond (p : Problem) (options : Options) (d : Direction) (a : OrdInt) (second : Option OrdInt) (s : Solved) (b : Bounds) : Type 0 where
   pub other : OrdInt
@@ -155,6 +163,10 @@ pub record IsSpentSecond (p : Problem) (options : Options) (d : Direction) (a : 
   pub has : HasSecond p d a s b lines
   pub spent : additions s.proof + additions lines ≡ options.budget
   pub early : options.budget < (values_count a + values_count other) * most_learned options.restart p.cnf.vars
+  pub number : ℤ
+  pub number_is : b.second ≡ Some number
+  pub paid : options.budget + better_left d other number * most_learned options.restart p.cnf.vars < (values_count a + values_count other + 1) * most_learned options.restart p.cnf.vars
+  pub unshown : IsShown (proof_behind (settled_cnf p d a b.first) lines) (resolve p.view (bound_of d other number)) → ⊥
 
 -- there is no assignment, and no second derivation
 abbrev pub IsBare : Solved → Type 0
@@ -177,25 +189,31 @@ IsSolvedBest p options d a second s (Optimum b) =
 IsSolvedBest p options d a second s (Unknown n None) = IsBare s × (n ≡ options.budget) × IsGivenUp p.cnf options s.proof
 IsSolvedBest p options d a second s (Unknown n (Some b)) =
     (values : List Bool) × IsReadFrom p s values × HasBounds p values a second b × (n ≡ options.budget)
-    × (IsSpentFirst p options a s ⊎ IsSpentSecond p options d a second s b)
+    × (IsSpentFirst p options d a s b ⊎ IsSpentSecond p options d a second s b)
 
 -- how many clauses a second derivation adds
 abbrev pub second_added : Option (List ProofLine) → ℕ
 second_added None = 0
 second_added (Some lines) = additions lines
 
--- what holds of the derivations, and what the verdict says
-pub record IsSolved (p : Problem) (options : Options) (s : Solved) (claims : Verdict → Type 0) : Type 0 where
+-- what holds of the derivations, of so many rounds at most, and what the verdict says
+pub record IsSolved (p : Problem) (options : Options) (s : Solved) (rounds : ℕ) (claims : Verdict → Type 0) : Type 0 where
   pub derivation : IsDerivation p.cnf s.proof
   pub within : additions s.proof + second_added s.second ≤ options.budget
+  pub most : additions s.proof + second_added s.second ≤ rounds * most_learned options.restart p.cnf.vars
   pub says : claims s.verdict
+
+-- how many values a second integer has, where there is one
+abbrev pub values_in : Option OrdInt → ℕ
+values_in None = 0
+values_in (Some a) = values_count a
 
 -- any solution serves; or a best one is sought, of one objective or two
 abbrev pub IsAnySolved : Problem → Options → Solved → Type 0
-IsAnySolved p options s = IsSolved p options s (IsSolvedAny p options s)
+IsAnySolved p options s = IsSolved p options s 1 (IsSolvedAny p options s)
 
 abbrev pub IsBestSolved : Problem → Options → Direction → OrdInt → Option OrdInt → Solved → Type 0
-IsBestSolved p options d a second s = IsSolved p options s (IsSolvedBest p options d a second s)
+IsBestSolved p options d a second s = IsSolved p options s (values_count a + values_in second) (IsSolvedBest p options d a second s)
 
 -- the integer of a second objective, where there is one
 abbrev pub second_named : List MapValue → Option ℕ → Option OrdInt

@@ -15,7 +15,6 @@ ghost use Rattle.answer_document.specs.Valid.{start_of};
 ghost use Rattle.decode_minimize.specs.Answering.{IsReady, IsAnswerOf, problem_at, size_of};
 
 use crate::options::Options;
-use crate::readable::are_derivations_readable;
 use crate::solved::{Names, Solved};
 use crate::solving::{refuted, solve};
 use answer_document::Document;
@@ -119,21 +118,16 @@ fn answer_lowered<F: Oracle<L>, L: Ledger>(
     let compilation = compile_state(alloc, state, oracle, steps)?;
     let _ids = compilation.state.ids();
     let made = solve_state(alloc, &compilation.state, &map, goal, options)?;
-    let readable = are_derivations_readable(&made.solved.proof, &made.solved.second);
-    if readable {
-        Ok(SizedDocument {
-            document: Document {
-                verdict: made.solved.verdict,
-                assignment: made.solved.assignment,
-                ledger: compilation.ledger,
-                proof: made.solved.proof,
-                second: made.solved.second,
-            },
-            size: made.size,
-        })
-    } else {
-        Err(AllocError)
-    }
+    Ok(SizedDocument {
+        document: Document {
+            verdict: made.solved.verdict,
+            assignment: made.solved.assignment,
+            ledger: compilation.ledger,
+            proof: made.solved.proof,
+            second: made.solved.second,
+        },
+        size: made.size,
+    })
 }
 
 /// The answer to a model: whether it has a solution, or which is a best one, with a certificate. The model is compiled

@@ -1,4 +1,22 @@
-//! Answers to models: the model is compiled, its clauses are solved, and an objective is improved round by round.
+//! From a model to its answer: the model is compiled, its clauses are solved, and an objective is
+//! improved round by round.
+//!
+//! The first round asks for any values. Each further one asks, under one assumption, for values
+//! that break the bound "no value is better" at the best so far; where there are none, what was
+//! learned is the bound as a clause, or the empty clause, which is just what an optimum must show.
+//! So nothing is solved twice: what was learned, phases and the order of decisions live on. Each
+//! round that finds values leaves fewer, and their number bounds the rounds. A second objective
+//! gets a new solver over the same clauses and one more, that the first is no worse.
+//!
+//! What `answer` and `answer_owned` promise: the text of the document is a valid answer (`valid`),
+//! so what it says is true by `claim_law`; the ledger is that of a whole compilation
+//! (`compilation`, `solutions`); derivations add new clauses and delete only those (`fresh`,
+//! `second`), within the budget (`within`), which is spent where the verdict is UNKNOWN (`spent`);
+//! and it is never UNKNOWN where the budget is as great as a stated number (`enough`). They fail
+//! exactly where the model is too heavy, or memory is wanting (`light`, `heavy`).
+//!
+//! How a round searches is `learning_solver`'s; which bound it asks for is `ask_bound`, here.
+//! Clauses, ledger and derivations go into the document as they are; nothing is made again for it.
 #![tactic(auto)]
 
 mod answering;
@@ -6,7 +24,6 @@ mod asking;
 mod improving;
 mod objective;
 mod options;
-mod readable;
 mod rounds;
 mod settling;
 mod solved;

@@ -9,7 +9,7 @@ ghost use Rattle.state_compile.specs.StandsFor.{read_by};
 ghost use Rattle.answer_document.specs.BoundAtoms.{integer_named, at_least, at_most};
 ghost use Rattle.decode_minimize.specs.Objectives.{bound_of, no_worse_of, IsObjective};
 
-use model_decode::Reading;
+use model_decode::StoreReading;
 use order_ints::{Atom, MapValue, OrdInt};
 
 /// Which value is sought.
@@ -75,5 +75,5 @@ pub fn value_under(integer: &OrdInt, view: &[Atom], values: &[bool]) -> i64
     requires { IsObjective (length view.now + 1) integer.now }
     ensures { result ≡ value_of (read_by view.now (valuation_of values.now)) integer.now }
 {
-    integer.value(Reading { view, values }) as i64
+    integer.value(StoreReading { view, values }) as i64
 }

@@ -1,5 +1,5 @@
 -- Two texts have one end in decode mode.
-use Rattle.std.proofs.Common.{◌≡◌, ℕ, ◌^◌, ◌<◌, List, refl, ap, sym, subst, arith}
+use Rattle.std.proofs.Common.{◌≡◌, ℕ, ◌^◌, ◌<◌, List, refl, ap, subst, arith}
 use Rattle.dimacs_out.specs.declared.text.CnfText.{CnfText}
 use Rattle.dimacs_read.specs.TextLines.{IsTextOf}
 use Rattle.dimacs_read.specs.TextSteps.{TextFails}

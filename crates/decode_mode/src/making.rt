@@ -5,7 +5,7 @@ ghost use Rattle.dimacs_read.specs.TextLines.{IsReadable};
 ghost use Rattle.decode_mode.specs.Decoded.{IsDecoding};
 
 use dimacs_out::{CnfText, write_values};
-use dimacs_read::{TextFault, read_values};
+use dimacs_read::{CompiledTextFault, read_values};
 use std::alloc::{AllocError, Global};
 use text_modes::{Outcome, refusal};
 
@@ -24,10 +24,10 @@ pub(crate) fn decode_text(
             let text = write_values(alloc, held.entries.as_slice(), values.as_slice())?;
             Ok((Outcome::Done, text))
         }
-        Err(TextFault::Form(line)) => {
+        Err(CompiledTextFault::Form(line)) => {
             let text = refusal(alloc, line)?;
             Ok((Outcome::Refused(line), text))
         }
-        Err(TextFault::Memory) => Err(AllocError),
+        Err(CompiledTextFault::Memory) => Err(AllocError),
     }
 }

@@ -6,7 +6,7 @@ ghost use Rattle.decode_mode.specs.DecodeMode.{DecodeMode};
 use crate::making::decode_text;
 use bee_outside::{Shelf, Sink};
 use dimacs_out::CnfText;
-use dimacs_read::{TextFault, read_compiled};
+use dimacs_read::{CompiledTextFault, read_compiled};
 use std::alloc::{AllocError, Global};
 use text_modes::{End, Outcome, TwoTexts, run_two};
 
@@ -43,18 +43,18 @@ impl TwoTexts for Decoding {
     fn judge(&self, alloc: Global, first: &[u8]) -> Result<Result<CnfText, u64>, AllocError> {
         match read_compiled(alloc, first) {
             Ok(held) => Ok(Ok(held)),
-            Err(TextFault::Form(line)) => Ok(Err(line)),
-            Err(TextFault::Memory) => Err(AllocError),
+            Err(CompiledTextFault::Form(line)) => Ok(Err(line)),
+            Err(CompiledTextFault::Memory) => Err(AllocError),
         }
     }
 
     fn make(
         &self,
         alloc: Global,
-        held: &CnfText,
+        held: CnfText,
         answer: &[u8],
     ) -> Result<(Outcome, Vec<u8>), AllocError> {
-        decode_text(alloc, held, answer)
+        decode_text(alloc, &held, answer)
     }
 }
 

@@ -3,8 +3,8 @@ use Rattle.std.proofs.Common.{◌≡◌, ℕ, ◌+◌, ◌^◌, ◌<◌, inl, in
 use Rattle.std.proofs.lemmas.List.{length-replicate}
 use Rattle.bee_text.specs.Lines.{unfinished}
 use Rattle.order_ints.specs.declared.cnf.Cnf.{Cnf}
-use Rattle.dimacs_read.specs.declared.fault.TextFault.{TextFault}
-use Rattle.dimacs_read.specs.declared.fault.TextFault.TheVariants.{Form, Memory}
+use Rattle.dimacs_read.specs.declared.fault.CompiledTextFault.{CompiledTextFault}
+use Rattle.dimacs_read.specs.declared.fault.CompiledTextFault.TheVariants.{Form, Memory}
 use Rattle.dimacs_out.specs.declared.text.CnfText.{CnfText}
 use Rattle.dimacs_read.specs.Values.{NextValues, AreTold, nothing_told, IsValues, ValuesFail}
 use Rattle.dimacs_read.specs.TextLines.{first_above, IsTextOf}
@@ -36,12 +36,12 @@ module _ (cnf : Cnf) (small : cnf.vars < 2 ^ 32) (text : List ℕ) where
   line_same m n p q = misfit_same (NextValues cnf) FitsTold (next_fits cnf) (next_same cnf) AreTold (nothing_told cnf.vars) (start_fits cnf small) (unfinished text) text m n refl p q
 
   module _ {X : Type 0} (view : X → List Bool) where
-    pub values_complete : (r : Result X TextFault) → IfOk r (λ x. IsValues cnf text (view x)) → IfErr r (ValuesFault cnf text) → (v : List Bool) → IsValues cnf text v → IsReadAs view r v
+    pub values_complete : (r : Result X CompiledTextFault) → IfOk r (λ x. IsValues cnf text (view x)) → IfErr r (ValuesFault cnf text) → (v : List Bool) → IsValues cnf text v → IsReadAs view r v
     values_complete (Ok x) ok err v h = values_same (view x) v ok h
     values_complete (Err (Form line)) ok err v h = values_fit v line h err
     values_complete (Err Memory) ok err v h = tt
 
-    pub values_exact : (r : Result X TextFault) → IfOk r (λ x. IsValues cnf text (view x)) → IfErr r (ValuesFault cnf text) → (line : ℕ) → ValuesFail cnf text line → FailsAt r line
+    pub values_exact : (r : Result X CompiledTextFault) → IfOk r (λ x. IsValues cnf text (view x)) → IfErr r (ValuesFault cnf text) → (line : ℕ) → ValuesFail cnf text line → FailsAt r line
     values_exact (Ok x) ok err line m = values_fit (view x) line ok m
     values_exact (Err (Form n)) ok err line m = line_same n line err m
     values_exact (Err Memory) ok err line m = tt
@@ -80,12 +80,12 @@ text_line_same text m n p q =
     let R : List (List ℕ) → Type 0 = λ ls. FaultLine p.stands p.left (length ls + 1) n in
     fault_line_same p.stands p.left (length p.before + 1) m n p.fault (subst R (sym same.fronts) (subst Q (sym same.lefts) (subst P (sym same.stands) q.fault)))
 
-pub text_complete : (text : List ℕ) (r : Result CnfText TextFault) → IfOk r (λ x. IsTextOf x text) → IfErr r (TextFaultOf text) → (x : CnfText) → IsTextOf x text → IsReadAs (λ y. y) r x
+pub text_complete : (text : List ℕ) (r : Result CnfText CompiledTextFault) → IfOk r (λ x. IsTextOf x text) → IfErr r (TextFaultOf text) → (x : CnfText) → IsTextOf x text → IsReadAs (λ y. y) r x
 text_complete text (Ok y) ok err x h = text_same text y x ok h
 text_complete text (Err (Form line)) ok err x h = text_fits text x line h err
 text_complete text (Err Memory) ok err x h = tt
 
-pub text_exact : (text : List ℕ) (r : Result CnfText TextFault) → IfOk r (λ x. IsTextOf x text) → IfErr r (TextFaultOf text) → (line : ℕ) → TextFails text line → FailsAt r line
+pub text_exact : (text : List ℕ) (r : Result CnfText CompiledTextFault) → IfOk r (λ x. IsTextOf x text) → IfErr r (TextFaultOf text) → (line : ℕ) → TextFails text line → FailsAt r line
 text_exact text (Ok x) ok err line m = text_fits text x line ok m
 text_exact text (Err (Form n)) ok err line m = text_line_same text n line err m
 text_exact text (Err Memory) ok err line m = tt

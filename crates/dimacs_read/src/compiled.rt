@@ -7,28 +7,28 @@ ghost use Rattle.dimacs_read.specs.TextSteps.{TextFails};
 ghost use Rattle.dimacs_read.specs.Faults.{TextFaultOf, IsReadAs, FailsAt};
 
 use crate::draft::DraftText;
-use crate::fault::TextFault;
+use crate::fault::CompiledTextFault;
 use dimacs_out::CnfText;
 use line_texts::TextEnd;
 use std::alloc::Global;
 
 /// What a text holds, or the first line that fails.
-fn read_text(alloc: Global, text: &[u8]) -> Result<CnfText, TextFault>
+fn read_text(alloc: Global, text: &[u8]) -> Result<CnfText, CompiledTextFault>
     ensures read { IfOk result (λ x. IsTextOf x text.now) }
     ensures fault { IfErr result (TextFaultOf text.now) }
 {
     let mut draft = DraftText::new(alloc);
     match line_texts::read_lines(alloc, text, &(), &mut draft)? {
         TextEnd::Whole => Ok(draft.finish()),
-        TextEnd::Misfit(_, Some(before)) => Err(TextFault::Form(before)),
-        TextEnd::Misfit(line, None) => Err(TextFault::Form(line)),
-        TextEnd::Missing(line) => Err(TextFault::Form(line)),
+        TextEnd::Misfit(_, Some(before)) => Err(CompiledTextFault::Form(before)),
+        TextEnd::Misfit(line, None) => Err(CompiledTextFault::Form(line)),
+        TextEnd::Missing(line) => Err(CompiledTextFault::Form(line)),
     }
 }
 
 /// What a compiled text holds, or the first line that fails. One pass over the text; a name takes a look-up in
 /// a hash set.
-pub fn read_compiled(alloc: Global, text: &[u8]) -> Result<CnfText, TextFault>
+pub fn read_compiled(alloc: Global, text: &[u8]) -> Result<CnfText, CompiledTextFault>
     ensures read { IfOk result (λ x. IsTextOf x text.now) }
     ensures fault { IfErr result (TextFaultOf text.now) }
     ensures complete { (x : CnfText) → IsTextOf x text.now → IsReadAs (λ y. y) result x }

@@ -1,13 +1,13 @@
 //! Why a text was not read.
 
 ghost use Rattle.std.specs.Prelude.{◌≡◌};
-ghost use Rattle.dimacs_read.specs.declared.fault.TextFault.TheVariants.{Memory};
+ghost use Rattle.dimacs_read.specs.declared.fault.CompiledTextFault.TheVariants.{Memory};
 
 use std::alloc::{AllocError, AllocFailed};
 
 /// Why a text was not read.
 #[derive(Clone, Copy, Debug, PartialEq, Eq)]
-pub enum TextFault {
+pub enum CompiledTextFault {
     /// The first line that fails, counted from 1. The line of a text that ends too early is the one behind its
     /// last.
     Form(u64),
@@ -15,18 +15,18 @@ pub enum TextFault {
     Memory,
 }
 
-impl<T: Drop> From<AllocFailed<T>> for TextFault {
+impl<T: Drop> From<AllocFailed<T>> for CompiledTextFault {
     ghost from_gives = { λ _ e. e ≡ Memory };
 
-    fn from(_e: AllocFailed<T>) -> TextFault {
-        TextFault::Memory
+    fn from(_e: AllocFailed<T>) -> CompiledTextFault {
+        CompiledTextFault::Memory
     }
 }
 
-impl From<AllocError> for TextFault {
+impl From<AllocError> for CompiledTextFault {
     ghost from_gives = { λ _ e. e ≡ Memory };
 
-    fn from(_e: AllocError) -> TextFault {
-        TextFault::Memory
+    fn from(_e: AllocError) -> CompiledTextFault {
+        CompiledTextFault::Memory
     }
 }

@@ -5,7 +5,7 @@ ghost use Rattle.bee_text.specs.Gaps.{words_of};
 ghost use Rattle.dimacs_read.specs.Values.{Known, Told, told, nothing_told, Tell, IsTold, Says, NextValues, IsValues, ValuesFail};
 ghost use Rattle.dimacs_read.specs.Faults.{ValuesFault, IsReadAs, FailsAt};
 
-use crate::fault::TextFault;
+use crate::fault::CompiledTextFault;
 use crate::known::KnownValues;
 use crate::literal::{is, read_literal};
 use bee_text::next_word;
@@ -198,21 +198,21 @@ impl LineTaker for ValuesDraft {
 }
 
 /// The truth values that a text tells, or the first line that fails.
-fn read_told(alloc: Global, text: &[u8], cnf: &Cnf) -> Result<Vec<bool>, TextFault>
+fn read_told(alloc: Global, text: &[u8], cnf: &Cnf) -> Result<Vec<bool>, CompiledTextFault>
     ensures read { IfOk result (λ values. IsValues cnf.now text.now values.items) }
     ensures fault { IfErr result (ValuesFault cnf.now text.now) }
 {
     let mut draft = ValuesDraft::new(alloc, cnf.vars)?;
     match read_lines(alloc, text, cnf, &mut draft)? {
         TextEnd::Whole => Ok(draft.into_values()),
-        TextEnd::Misfit(line, _) => Err(TextFault::Form(line)),
-        TextEnd::Missing(line) => Err(TextFault::Form(line)),
+        TextEnd::Misfit(line, _) => Err(CompiledTextFault::Form(line)),
+        TextEnd::Missing(line) => Err(CompiledTextFault::Form(line)),
     }
 }
 
 /// The truth values that a text tells, that of variable 1 first, or the first line that fails. The text is looked
 /// at once, and takes two bytes of memory for each variable; the clauses are tested once, at the end of the values.
-pub fn read_values(alloc: Global, text: &[u8], cnf: &Cnf) -> Result<Vec<bool>, TextFault>
+pub fn read_values(alloc: Global, text: &[u8], cnf: &Cnf) -> Result<Vec<bool>, CompiledTextFault>
     ensures read { IfOk result (λ values. IsValues cnf.now text.now values.items) }
     ensures fault { IfErr result (ValuesFault cnf.now text.now) }
     ensures complete { (values : List Bool) → IsValues cnf.now text.now values → IsReadAs (λ v. v.items) result values }

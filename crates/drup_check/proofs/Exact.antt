@@ -1,5 +1,5 @@
 -- A text is a proof, or has one line that fails first.
-use Rattle.std.proofs.Common.{◌≡◌, ℕ, ◌≤◌, List, refl}
+use Rattle.std.proofs.Common.{◌≡◌, ℕ, ◌≤◌, List, refl, ◌^◌}
 use Rattle.bee_text.specs.Lines.{unfinished}
 use Rattle.order_ints.specs.declared.literal.Lit.{Lit}
 use Rattle.order_ints.specs.declared.cnf.Cnf.{Cnf}
@@ -12,7 +12,7 @@ use Rattle.drup_check.proofs.Taking.{next_same}
 abbrev AnyClauses : List (List Lit) → Type 0
 AnyClauses cs = Unit {0}
 
-module _ (cnf : Cnf) (few : cnf.vars ≤ 67108864) (text : List ℕ) where
+module _ (cnf : Cnf) (few : cnf.vars ≤ 2 ^ 27) (text : List ℕ) where
   keeps : (s t : List (List Lit)) (line : List ℕ) → AnyClauses s → NextClauses cnf.vars s line t → AnyClauses t
   keeps s t line any next = tt
 

@@ -34,7 +34,7 @@ clause_push : (n : ℕ) (c : List Lit) (l : Lit) → ClauseBelow n c → LitBelo
 clause_push n [] l h k = (k, tt)
 clause_push n (m ∷ c) l h k = (h.0, clause_push n c l h.1 k)
 
-module _ (vars : ℕ) (small : vars ≤ 67108864) where
+module _ (vars : ℕ) (small : vars ≤ 2 ^ 27) where
   nonzero : (l : Lit) → LitBelow (vars + 1) l → literal_word l ≡ codes "0" → ⊥
   nonzero l below e = literal_nonzero (vars + 1) l (omega arith) below e
 

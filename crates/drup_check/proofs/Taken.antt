@@ -1,5 +1,5 @@
 -- What comes of a line, for the clauses so far and the store that stands for them.
-use Rattle.std.proofs.Common.{◌≡◌, ℕ, ◌+◌, ◌≤◌, Bool, true, false, List, [], ◌∷◌, ◌++◌, codes, sym, subst, ⊎_elim}
+use Rattle.std.proofs.Common.{◌≡◌, ℕ, ◌+◌, ◌≤◌, Bool, true, false, List, [], ◌∷◌, ◌++◌, codes, sym, subst, ⊎_elim, ◌^◌}
 use Rattle.std.specs.Prelude.{Contains, MatchBool}
 use Rattle.bee_text.specs.Gaps.{words_of}
 use Rattle.order_ints.specs.declared.literal.Lit.{Lit}
@@ -28,7 +28,7 @@ module _ (vars given : ℕ) (words : List (List ℕ)) (lits slice : List Lit) (s
   pub spelled-below : (l : Lit) → Contains slice l → LitBelow (vars + 1) l
   spelled-below = below-each (vars + 1) slice spells.below
 
-  pub said-taken : vars ≤ 67108864 → (first : List ℕ) (behind : List (List ℕ)) → words ≡ first ∷ behind → (first ≡ codes "d" → ⊥) → (b : Bool) (old : ClauseLists) (r : Bool) (new : ClauseLists) (taken : Bool)
+  pub said-taken : vars ≤ 2 ^ 27 → (first : List ℕ) (behind : List (List ℕ)) → words ≡ first ∷ behind → (first ≡ codes "d" → ⊥) → (b : Bool) (old : ClauseLists) (r : Bool) (new : ClauseLists) (taken : Bool)
       → ((cs : List (List Lit)) → StandsAs b old cs → MatchBool taken (Rup cs slice × StandsAs r new (cs ++ slice ∷ [])) (Rup cs slice → ⊥))
       → (cs : List (List Lit)) → StandsAs b old cs → MatchBool taken (SaysOn vars cs words r new) ((after : List (List Lit)) → Says vars cs words after → ⊥)
   said-taken small first behind cut other b old r new true h cs st =

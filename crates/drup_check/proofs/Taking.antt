@@ -1,5 +1,5 @@
 -- Which line may stand next, by its first word.
-use Rattle.std.proofs.Common.{◌≡◌, ℕ, ◌≤◌, inl, inr, Bool, true, false, List, [], ◌∷◌, ◌++◌, codes, drop, refl, sym, ap, subst, ◌∙◌}
+use Rattle.std.proofs.Common.{◌≡◌, ℕ, ◌≤◌, inl, inr, Bool, true, false, List, [], ◌∷◌, ◌++◌, codes, drop, refl, sym, ap, subst, ◌∙◌, ◌^◌}
 use Rattle.std.specs.Str.{bytes_eq}
 use Rattle.std.proofs.lemmas.Bool.{true≢false}
 use Rattle.std.proofs.lemmas.Slice.Eq.{bytes_eq-Decides}
@@ -37,7 +37,7 @@ module _ (vars : ℕ) (cs : List (List Lit)) (words : List (List ℕ)) (first : 
   no_addition other none t (inr p) = none p.1.clause p.1.spelled p.1.shown
 
   -- where the clause that is spelled is not shown, none is
-  pub not_shown : vars ≤ 67108864 → (clause : List Lit) → SpellsClause vars words clause → (Rup cs clause → ⊥) → (d : List Lit) → SpellsClause vars words d → Rup cs d → ⊥
+  pub not_shown : vars ≤ 2 ^ 27 → (clause : List Lit) → SpellsClause vars words clause → (Rup cs clause → ⊥) → (d : List Lit) → SpellsClause vars words d → Rup cs d → ⊥
   not_shown small clause spelled fails d spells shown = fails (subst (Rup cs) (spells_same vars small words d clause spells spelled) shown)
 
 not_skipped : (words : List (List ℕ)) (first : List ℕ) (behind : List (List ℕ)) → words ≡ first ∷ behind → (first ≡ codes "c" → ⊥) → is_skipped words ≡ false
@@ -60,14 +60,14 @@ pub skipped_comment : (vars : ℕ) (cs : List (List Lit)) (line first : List ℕ
 skipped_comment vars cs line first behind cut is = inl (ap is_skipped cut ∙ (bytes_eq-Decides first (codes "c")).1 is, refl)
 
 -- a line leads to one standing alone
-says_same : (vars : ℕ) → vars ≤ 67108864 → (cs : List (List Lit)) (words : List (List ℕ)) (t u : List (List Lit)) → Says vars cs words t → Says vars cs words u → t ≡ u
+says_same : (vars : ℕ) → vars ≤ 2 ^ 27 → (cs : List (List Lit)) (words : List (List ℕ)) (t u : List (List Lit)) → Says vars cs words t → Says vars cs words u → t ≡ u
 says_same vars small cs words t u (inl p) (inl q) = p.1.after_is ∙ sym q.1.after_is
 says_same vars small cs words t u (inl p) (inr q) = absurd (true≢false (sym p.0 ∙ q.0))
 says_same vars small cs words t u (inr p) (inl q) = absurd (true≢false (sym q.0 ∙ p.0))
 says_same vars small cs words t u (inr p) (inr q) =
     p.1.after_is ∙ ap (λ (c : List Lit). cs ++ c ∷ []) (spells_same vars small words p.1.clause q.1.clause p.1.spelled q.1.spelled) ∙ sym q.1.after_is
 
-pub next_same : (vars : ℕ) → vars ≤ 67108864 → (s t u : List (List Lit)) (line : List ℕ) → NextClauses vars s line t → NextClauses vars s line u → t ≡ u
+pub next_same : (vars : ℕ) → vars ≤ 2 ^ 27 → (s t u : List (List Lit)) (line : List ℕ) → NextClauses vars s line t → NextClauses vars s line u → t ≡ u
 next_same vars small s t u line (inl p) (inl q) = p.1 ∙ sym q.1
 next_same vars small s t u line (inl p) (inr q) = absurd (true≢false (sym p.0 ∙ q.0))
 next_same vars small s t u line (inr p) (inl q) = absurd (true≢false (sym q.0 ∙ p.0))

@@ -1,8 +1,8 @@
 //! Checks a proof.
 
-ghost use Rattle.std.specs.Prelude.{◌≡◌, ℕ, ◌≤◌, IfOk, IfErr, IsErrAnd, MatchOption};
+ghost use Rattle.std.specs.Prelude.{◌≡◌, ℕ, ◌≤◌, ◌^◌, IfOk, IfErr, IsErrAnd, MatchOption};
 ghost use Rattle.order_ints.specs.Place.{InRange};
-ghost use Rattle.order_ints.specs.OrderedClauses.{ClausesAscend};
+ghost use Rattle.clause_rings.specs.Clauses.{AreApartIn};
 ghost use Rattle.drup_check.specs.DrupLines.{IsDrup, DrupFails};
 ghost use Rattle.drup_check.specs.Taken.{DrupFaultOf, IsRefusalAt};
 ghost use Rattle.drup_check.specs.declared.fault.DrupFault.TheVariants.{Memory};
@@ -15,9 +15,9 @@ use std::alloc::{AllocError, Global};
 
 /// The first line of a text that fails, none where the text is a proof from a CNF.
 fn first_refused(alloc: Global, cnf: &Cnf, text: &[u8]) -> Result<Option<u64>, AllocError>
-    requires few { cnf.now.vars ≤ 67108864 }
+    requires few { cnf.now.vars ≤ 2 ^ 27 }
     requires in_range { InRange cnf.now }
-    requires ascend { ClausesAscend cnf.now.clauses }
+    requires apart { AreApartIn cnf.now }
     ensures { IfOk result (λ found. MatchOption found (IsDrup cnf.now text.now) (DrupFails cnf.now text.now)) }
 {
     let mut store = ProofStore::with(alloc, cnf)?;
@@ -42,9 +42,9 @@ fn first_refused(alloc: Global, cnf: &Cnf, text: &[u8]) -> Result<Option<u64>, A
 /// the empty one, of each further line only its form and its variables are tested. Each clause takes the time of propagation from the
 /// denial of its literals, and stays in memory to the end.
 pub fn check_drup(alloc: Global, cnf: &Cnf, text: &[u8]) -> Result<(), DrupFault>
-    requires few { cnf.now.vars ≤ 67108864 }
+    requires few { cnf.now.vars ≤ 2 ^ 27 }
     requires in_range { InRange cnf.now }
-    requires ascend { ClausesAscend cnf.now.clauses }
+    requires apart { AreApartIn cnf.now }
     ensures accepted { IfOk result (λ _. IsDrup cnf.now text.now) }
     ensures fault { IfErr result (DrupFaultOf cnf.now text.now) }
     ensures complete { IsDrup cnf.now text.now → IfErr result (λ e. e ≡ Memory) }

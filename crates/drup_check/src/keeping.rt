@@ -1,6 +1,6 @@
 //! Clauses that are added to a store.
 
-ghost use Rattle.std.specs.Prelude.{◌≡◌, ◌+◌, ◌++◌, ◌∷◌, [], List, Contains, IfOk};
+ghost use Rattle.std.specs.Prelude.{◌≡◌, ◌+◌, ◌++◌, ◌∷◌, [], List, Contains, IfOk, OnErr};
 ghost use Rattle.order_ints.specs.declared.literal.Lit.{Lit};
 ghost use Rattle.order_ints.specs.Place.{LitBelow};
 ghost use Rattle.clause_rings.specs.Clauses.{IsApart};
@@ -28,6 +28,7 @@ fn store(db: &mut ClauseDb, lits: &[Lit]) -> Result<bool, AllocError>
     ensures stands { IfOk result (λ refuted. (cs : List (List Lit)) (d : List Lit) → Holds db.old.clauses cs → SameSet lits.now d
         → StandsAs refuted db.new (cs ++ d ∷ [])) }
     ensures vars { IfOk result (λ _. db.new.trail.vars ≡ db.old.trail.vars) }
+    ensures err { OnErr result (db.new ≡ db.old) }
 {
     db.reserve(lits.len(), 1)?;
     let _reference = db.add(lits, 0);
@@ -35,13 +36,14 @@ fn store(db: &mut ClauseDb, lits: &[Lit]) -> Result<bool, AllocError>
 }
 
 /// Adds a clause to those that a store holds. The answer says whether they show the empty clause then, and else the store
-/// holds them. A clause with a literal and its negation is not stored. It takes the time of one sort of the literals, and of the
-/// propagation.
+/// holds them. A clause with a literal and its negation is not stored. Where memory is wanting the store is as it was. It takes the time
+/// of one sort of the literals, and of the propagation.
 pub fn keep(alloc: Global, db: &mut ClauseDb, lits: &[Lit]) -> Result<bool, AllocError>
     requires lits { (l : Lit) → Contains lits.now l → LitBelow (db.old.trail.vars + 1) l }
     requires bottom { db.old.trail.level ≡ 0 }
     ensures stands { IfOk result (λ refuted. (cs : List (List Lit)) → Stands db.old cs → StandsAs refuted db.new (cs ++ lits.now ∷ [])) }
     ensures vars { IfOk result (λ _. db.new.trail.vars ≡ db.old.trail.vars) }
+    ensures err { OnErr result (db.new ≡ db.old) }
 {
     match ordered(alloc, lits)? {
         None => Ok(false),

@@ -1,10 +1,10 @@
 //! The clauses that a proof has so far.
 
-ghost use Rattle.std.specs.Prelude.{◌≡◌, ◌+◌, ◌≤◌, ◌↔◌, ◌∷◌, ◌++◌, [], List, Contains, IfOk, IsTrue, MatchBool};
+ghost use Rattle.std.specs.Prelude.{◌≡◌, ◌+◌, ◌≤◌, ◌^◌, ◌↔◌, ◌∷◌, ◌++◌, [], List, Contains, IfOk, IsTrue, MatchBool};
 ghost use Rattle.bee_text.specs.Gaps.{words_of};
 ghost use Rattle.order_ints.specs.declared.literal.Lit.{Lit};
 ghost use Rattle.order_ints.specs.Place.{LitBelow, InRange};
-ghost use Rattle.order_ints.specs.OrderedClauses.{ClausesAscend};
+ghost use Rattle.clause_rings.specs.Clauses.{AreApartIn};
 ghost use Rattle.drup_check.specs.Rup.{Rup};
 ghost use Rattle.drup_check.specs.Stored.{StandsAs};
 ghost use Rattle.drup_check.specs.DrupLines.{Says, ShowEmpty};
@@ -29,9 +29,9 @@ pub(crate) struct ProofStore {
 impl ProofStore {
     /// The clauses of a CNF, and what follows from its units.
     pub(crate) fn with(alloc: Global, cnf: &Cnf) -> Result<ProofStore, AllocError>
-        requires few { cnf.now.vars ≤ 67108864 }
+        requires few { cnf.now.vars ≤ 2 ^ 27 }
         requires in_range { InRange cnf.now }
-        requires ascend { ClausesAscend cnf.now.clauses }
+        requires apart { AreApartIn cnf.now }
         ensures stands { IfOk result (λ made. StandsAs made.refuted made.db cnf.now.clauses) }
         ensures vars { IfOk result (λ made. made.db.trail.vars ≡ cnf.now.vars) }
     {
@@ -74,7 +74,7 @@ impl ProofStore {
         first: &[u8],
         behind: &[u8],
     ) -> Result<bool, AllocError>
-        requires few { self.old.db.trail.vars ≤ 67108864 }
+        requires few { self.old.db.trail.vars ≤ 2 ^ 27 }
         requires words { words_of line.now ≡ first.now ∷ words_of behind.now }
         requires stands { (cs : List (List Lit)) × StandsAs self.old.refuted self.old.db cs }
         ensures taken { IfOk result (λ taken. (cs : List (List Lit)) → StandsAs self.old.refuted self.old.db cs
@@ -94,7 +94,7 @@ impl ProofStore {
 
     /// Takes a line, if it may stand next.
     pub(crate) fn take_line(&mut self, alloc: Global, line: &[u8]) -> Result<bool, AllocError>
-        requires few { self.old.db.trail.vars ≤ 67108864 }
+        requires few { self.old.db.trail.vars ≤ 2 ^ 27 }
         requires stands { (cs : List (List Lit)) × StandsAs self.old.refuted self.old.db cs }
         ensures taken { IfOk result (λ taken. (cs : List (List Lit)) → StandsAs self.old.refuted self.old.db cs
             → MatchBool taken (GoesOn self.old.db.trail.vars cs line.now self.new.refuted self.new.db)

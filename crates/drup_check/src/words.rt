@@ -1,6 +1,6 @@
 //! The words of a line.
 
-ghost use Rattle.std.specs.Prelude.{◌≤◌, List, IfOk, MatchOption};
+ghost use Rattle.std.specs.Prelude.{◌≤◌, ◌^◌, List, IfOk, MatchOption};
 ghost use Rattle.bee_text.specs.Gaps.{words_of};
 ghost use Rattle.order_ints.specs.declared.literal.Lit.{Lit};
 ghost use Rattle.drup_check.specs.DrupLines.{SpellsClause};
@@ -16,7 +16,7 @@ pub(crate) fn read_clause(
     vars: u32,
     text: &[u8],
 ) -> Result<Option<Vec<Lit>>, AllocError>
-    requires { vars ≤ 67108864 }
+    requires { vars ≤ 2 ^ 27 }
     ensures { IfOk result
         (λ read. MatchOption read ((clause : List Lit) → SpellsClause vars (words_of text.now) clause → ⊥)
         (λ lits. SpellsClause vars (words_of text.now) lits.items)) }

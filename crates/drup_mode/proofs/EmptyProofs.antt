@@ -1,7 +1,5 @@
 -- What comes of an empty proof.
-use Rattle.std.proofs.Common.{◌≡◌, ℕ, List, [], refl, sym, subst, inr}
-use Rattle.std.proofs.lemmas.List.{append-nil}
-use Rattle.order_ints.specs.declared.literal.Lit.{Lit}
+use Rattle.std.proofs.Common.{ℕ, List, [], refl, sym, subst}
 use Rattle.order_ints.specs.declared.cnf.Cnf.{Cnf}
 use Rattle.line_texts.proofs.Fronts.{missing_first}
 use Rattle.drup_check.specs.DrupLines.{NextClauses, ShowEmpty, IsDrup, DrupFails}

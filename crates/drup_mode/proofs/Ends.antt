@@ -1,5 +1,5 @@
 -- Two texts have one end in drup mode.
-use Rattle.std.proofs.Common.{◌≡◌, ℕ, ◌+◌, ◌<◌, ◌≤◌, List, length, refl, ap, subst}
+use Rattle.std.proofs.Common.{◌≡◌, ℕ, ◌+◌, ◌<◌, ◌≤◌, ◌^◌, List, length, refl, ap, subst, arith}
 use Rattle.std.specs.Prelude.{Some}
 use Rattle.order_ints.specs.declared.cnf.Cnf.{Cnf}
 use Rattle.sat_front.specs.declared.text_fault.CnfTextFault.{CnfTextFault}
@@ -26,8 +26,8 @@ use Rattle.drup_mode.specs.DrupMode.{HaveEnd, DrupMode}
 same_cnf : (text : List ℕ) (x y : Cnf) → HoldsCnf text x → HoldsCnf text y → x ≡ y
 same_cnf text x y h k = text_same text x y h.is k.is
 
-few : (text : List ℕ) (cnf : Cnf) → HoldsCnf text cnf → cnf.vars ≤ 67108864
-few text cnf h = (read_in_range text cnf h.is).1
+few : (text : List ℕ) (cnf : Cnf) → HoldsCnf text cnf → cnf.vars ≤ 2 ^ 27
+few text cnf h = let small : cnf.vars ≤ 67108864 = (read_in_range text cnf h.is).1 in omega arith
 
 proof_or_line : (texts : Texts) (line : ℕ) → IsProved texts → FailsBehind line texts → ⊥
 proof_or_line texts line h k =

@@ -1,5 +1,5 @@
 -- What comes of an empty proof.
-use Rattle.std.specs.Prelude.{◌≡◌, List, []}
+use Rattle.std.specs.Prelude.{◌≡◌, []}
 use Rattle.order_ints.specs.declared.cnf.Cnf.{Cnf}
 use Rattle.sat_front.specs.HeldCnfs.{HoldsCnf}
 use Rattle.drup_check.specs.DrupLines.{ShowEmpty}

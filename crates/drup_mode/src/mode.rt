@@ -50,10 +50,10 @@ impl TwoTexts for Proving {
     fn make(
         &self,
         alloc: Global,
-        held: &Cnf,
+        held: Cnf,
         proof: &[u8],
     ) -> Result<(Outcome, Vec<u8>), AllocError> {
-        check_text(alloc, held, proof)
+        check_text(alloc, &held, proof)
     }
 }
 

@@ -19,14 +19,12 @@ use Rattle.core_forms.proofs.Tidied.{by_test}
 use Rattle.rule_base.specs.Pairs.{is_listed}
 use Rattle.rule_base.specs.Stated.{all_equal}
 use Rattle.equi_rules.specs.OrderRows.{step_equations, int_equations, order_equations}
-use Rattle.equi_rules.specs.Instances.{is_instance_of as is_equi_instance}
-use Rattle.arith_rules.specs.Instances.{is_instance_of as is_arith_instance}
 use Rattle.equation_runs.specs.Turns.{IsMade, IsMadeOrTold, AreToldAfter, is_stated}
 use Rattle.equation_runs.specs.RunRows.{equation_of, behind, chain_pairs, chains_of}
-use Rattle.equation_runs.proofs.NextValue.{or-left}
-use Rattle.equation_runs.proofs.LinkLists.{listed-left, listed-right}
-use Rattle.equation_runs.proofs.LinkTurns.{Told}
-use Rattle.equation_runs.proofs.Neighbours.{EachNext, EachNeighbour, each-later, IsWithin, AreToldIn, neighbours-told}
+use Rattle.equation_runs.proofs.Stated.{by-equi}
+use Rattle.equation_runs.proofs.LinkLists.{IsWithin, listed-left, listed-right}
+use Rattle.equation_runs.proofs.Always.{Told}
+use Rattle.equation_runs.proofs.Neighbours.{EachNext, EachNeighbour, each-later, AreToldIn, neighbours-told}
 
 -- lists of equations one behind the other
 pub append-turn : (told : Core → Equation → Type 0) (core : Core) (before : Equation) (xs ys : List Equation) → AreToldAfter told core before xs → ((e : Equation) → AreToldAfter told core e ys) → AreToldAfter told core before (xs ++ ys)
@@ -86,7 +84,7 @@ order-told core view x y (inr e) = by (same_atom (resolve view x) (resolve view 
     by : (t : Bool) → same_atom (resolve view x) (resolve view y) ≡ t → IsMadeOrTold Told core view (equation_of Order (x, y))
     by true same = inl (same_atom-true (resolve view x) (resolve view y) same)
     by false differ =
-        inr (or-left (is_equi_instance (trimmed_core view core) (equation_of Order (resolve view x, resolve view y))) (is_arith_instance (trimmed_core view core) (equation_of Order (resolve view x, resolve view y)))
+        inr (by-equi (trimmed_core view core) (equation_of Order (resolve view x, resolve view y))
         (ap (λ (t : Bool). not t && is_listed (resolve view x) (resolve view y) (order_equations (trimmed_core view core))) differ ∙ e))
 
 -- along steps, a constant from one atom to the next

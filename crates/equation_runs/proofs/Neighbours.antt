@@ -14,7 +14,7 @@ use Rattle.core_forms.specs.Trimmed.{merged_steps, raised_by, trimmed_int}
 use Rattle.core_forms.proofs.Tidied.{by_test}
 use Rattle.rule_base.specs.Pairs.{is_pair_of, is_listed, only_if}
 use Rattle.equi_rules.specs.OrderRows.{neighbour_equations, equations_above, step_equations}
-use Rattle.equation_runs.proofs.LinkLists.{listed-left, listed-right}
+use Rattle.equation_runs.proofs.LinkLists.{IsWithin, listed-left, listed-right}
 use Rattle.equation_runs.proofs.NextValue.{or-left}
 
 -- something holds of each two neighbours, from an atom on
@@ -47,10 +47,6 @@ IsTrueBelow listed lower upper = upper ≡ True → (lower ≡ True) ⊎ (is_lis
 abbrev pub AreTold : List (Atom × Atom) → Atom → Atom → Type 0
 AreTold listed lower upper = IsFalseAbove listed lower upper × IsTrueBelow listed lower upper
 
--- what is listed in one list is listed in another
-abbrev pub IsWithin : List (Atom × Atom) → List (Atom × Atom) → Type 0
-IsWithin ps qs = (x y : Atom) → is_listed x y ps ≡ true → is_listed x y qs ≡ true
-
 -- steps that are not False at first have that first step when they are merged
 merged-first : (a : Atom) (w : ℕ) (steps : List (Atom × ℕ)) (P : List (Atom × ℕ) → Type 0) → is_false a ≡ false → ((u : ℕ) (more : List (Atom × ℕ)) → P ((a, u) ∷ more)) → P (merged_steps a w steps)
 merged-first a w [] P isnt each =
@@ -63,7 +59,7 @@ merged-first a w (s ∷ steps) P isnt each =
 both-true : (s t : Bool) → s ≡ true → t ≡ true → (s && t) ≡ true
 both-true s t e f = λ i. e i && f i
 
-listed-first : (x y : Atom) (ps : List (Atom × Atom)) → is_listed x y ((x, y) ∷ ps) ≡ true
+pub listed-first : (x y : Atom) (ps : List (Atom × Atom)) → is_listed x y ((x, y) ∷ ps) ≡ true
 listed-first x y ps =
     or-left (is_pair_of x y (x, y)) (is_listed x y ps)
     (or-left (same_atom x x && same_atom y y) (same_atom x y && same_atom y x) (both-true (same_atom x x) (same_atom y y) (same_atom-refl x) (same_atom-refl y)))

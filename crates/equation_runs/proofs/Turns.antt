@@ -1,5 +1,5 @@
 -- A run is told in turn.
-use Rattle.std.proofs.Common.{◌≡◌, ℕ, true, map, sym, subst, Result, Ok, Err}
+use Rattle.std.proofs.Common.{◌≡◌, ℕ, true, List, [], ◌++◌, map, refl, sym, subst, Result, Ok, Err}
 use Rattle.std.specs.Prelude.{IfOk}
 use Rattle.std.specs.Global.{Vec}
 use Rattle.core_forms.specs.declared.equation.Rule.TheVariants.{Order, Form}
@@ -8,16 +8,30 @@ use Rattle.core_forms.specs.declared.equation.Equation.{Equation}
 use Rattle.core_forms.specs.Contents.{ints_of}
 use Rattle.core_forms.specs.Place.{CoreBelow}
 use Rattle.equation_runs.specs.Turns.{AreToldInTurn, EquationsBelow, made_equation, is_stated}
+use Rattle.equation_runs.specs.BoundRows.{bound_pairs}
 use Rattle.equation_runs.specs.RunRows.{equation_of, chains_of, link_pairs, run_of}
-use Rattle.equation_runs.proofs.LinkTurns.{Told, links-turn}
-use Rattle.equation_runs.proofs.ChainTurns.{append-turn, chains-turn}
+use Rattle.equation_runs.proofs.Always.{Told}
+use Rattle.equation_runs.proofs.ChainTurns.{chains-turn}
+use Rattle.equation_runs.proofs.FormTurns.{links-turn, bounds-turn}
+use Rattle.equation_runs.proofs.LaterTurns.{from-after, from-always, from-append}
 use Rattle.equation_runs.proofs.RunBelow.{run-below}
 
--- first what follows along the integers, then what links two of them
+-- first what is told once those before it are made, then what follows along the integers, and then the links, both whatever was made before
 pub run-turn : (core : Core) → AreToldInTurn (λ c e. is_stated c e ≡ true) core (run_of core)
 run-turn core =
-    append-turn Told core made_equation (map (equation_of Order) (chains_of (ints_of core))) (map (equation_of Form) (link_pairs core))
-    (chains-turn core made_equation) (links-turn core)
+    from-append Told core [] (bounds ++ chains) links
+    (from-append Told core [] bounds chains (bounds-turn core)
+    (λ others. from-after Told core others made_equation chains (λ _ _. refl) (chains-turn core made_equation)))
+    (λ others. from-always Told core others links (links-turn core))
+  where
+    bounds : List Equation
+    bounds = map (equation_of Form) (bound_pairs core)
+
+    chains : List Equation
+    chains = map (equation_of Order) (chains_of (ints_of core))
+
+    links : List Equation
+    links = map (equation_of Form) (link_pairs core)
 
 -- and so is what is the run
 pub told-of : {E : Type 0} (core : Core) (r : Result (Vec Equation) E) → IfOk r (λ run. run.items ≡ run_of core)

@@ -1,46 +1,21 @@
 //! The equations that link two integers value by value.
 
-ghost use Rattle.std.specs.Prelude.{◌≡◌, ◌^◌, ◌<◌, [], ◌∷◌, ◌++◌, map, pos, ◌+ℤ◌, ◌-ℤ◌, neg_ℤ, unsigned_abs, OnOk};
+ghost use Rattle.std.specs.Prelude.{◌≡◌, ◌^◌, ◌<◌, [], ◌∷◌, ◌++◌, map, unsigned_abs, OnOk};
 ghost use Rattle.core_forms.specs.WellFormed.{IsSound};
 ghost use Rattle.core_forms.specs.declared.equation.Rule.TheVariants.{Form};
 ghost use Rattle.arith_rules.specs.Links.{linked, linked_back, opposed, opposed_above};
+ghost use Rattle.arith_rules.specs.CodeLinks.{link_of, LinkFitsAll};
 ghost use Rattle.arith_rules.specs.SumRows.{raised_equations, mirrored_equations};
 ghost use Rattle.equation_runs.specs.RunRows.{equation_of};
 
+use arith_rules::Link;
 use core_forms::{Equation, Rule};
 use order_ints::{Atom, OrdInt, Walk};
 use rule_base::next;
 use std::alloc::AllocError;
 
-/// A value and `k`, added up.
-fn raised(value: i128, k: i128) -> i128
-    requires value { unsigned_abs value < 2 ^ 100 }
-    requires k { unsigned_abs k < 2 ^ 110 }
-    ensures { result ≡ value +ℤ k }
-{
-    value + k
-}
-
-/// What a value leaves of `k`.
-fn left(k: i128, value: i128) -> i128
-    requires k { unsigned_abs k < 2 ^ 110 }
-    requires value { unsigned_abs value < 2 ^ 100 }
-    ensures { result ≡ k -ℤ value }
-{
-    k - value
-}
-
-/// The negative of `k`.
-fn minus(k: i128) -> i128
-    requires { unsigned_abs k < 2 ^ 100 }
-    ensures value { result ≡ neg_ℤ k }
-    ensures range { unsigned_abs result < 2 ^ 100 }
-{
-    -k
-}
-
 /// Adds that two atoms are equal.
-fn push_pair(run: &mut Vec<Equation>, a: Atom, b: Atom) -> Result<(), AllocError>
+pub(crate) fn push_pair(run: &mut Vec<Equation>, a: Atom, b: Atom) -> Result<(), AllocError>
     ensures { OnOk result (run.new.items ≡ run.old.items ++ equation_of Form (a, b) ∷ []) }
 {
     run.push(Equation {
@@ -51,16 +26,22 @@ fn push_pair(run: &mut Vec<Equation>, a: Atom, b: Atom) -> Result<(), AllocError
     Ok(())
 }
 
-/// Adds, for each value of `a`, that `a` reaches it exactly where `b` reaches that value and `k`, added up.
-fn push_linked(run: &mut Vec<Equation>, k: i128, a: &OrdInt, b: &OrdInt) -> Result<(), AllocError>
-    requires k { unsigned_abs k < 2 ^ 110 }
+/// Adds, for each value of `a`, that `a` reaches it exactly where `b` reaches what it is linked with.
+pub(crate) fn push_linked(
+    run: &mut Vec<Equation>,
+    link: &Link,
+    a: &OrdInt,
+    b: &OrdInt,
+) -> Result<(), AllocError>
     requires a { IsSound a.now }
     requires b { IsSound b.now }
-    ensures { OnOk result (run.new.items ≡ run.old.items ++ map (equation_of Form) (linked (λ v. v +ℤ k) a.now b.now)) }
+    requires fits { LinkFitsAll link.now a.now }
+    ensures { OnOk result (run.new.items
+        ≡ run.old.items ++ map (equation_of Form) (linked (link_of link.now) a.now b.now)) }
 {
     let mut walk = Walk::along(b);
     for (value, atom) in a.levels() {
-        let target = raised(value, k);
+        let target = link.of(value);
         let other = walk.at(target);
         push_pair(run, atom, other)?;
     }
@@ -68,62 +49,66 @@ fn push_linked(run: &mut Vec<Equation>, k: i128, a: &OrdInt, b: &OrdInt) -> Resu
 }
 
 /// Adds the same with the atom of `b` first.
-fn push_linked_back(
+pub(crate) fn push_linked_back(
     run: &mut Vec<Equation>,
-    k: i128,
+    link: &Link,
     a: &OrdInt,
     b: &OrdInt,
 ) -> Result<(), AllocError>
-    requires k { unsigned_abs k < 2 ^ 110 }
     requires a { IsSound a.now }
     requires b { IsSound b.now }
+    requires fits { LinkFitsAll link.now a.now }
     ensures { OnOk result (run.new.items
-        ≡ run.old.items ++ map (equation_of Form) (linked_back (λ v. v +ℤ k) a.now b.now)) }
+        ≡ run.old.items ++ map (equation_of Form) (linked_back (link_of link.now) a.now b.now)) }
 {
     let mut walk = Walk::along(b);
     for (value, atom) in a.levels() {
-        let target = raised(value, k);
+        let target = link.of(value);
         let other = walk.at(target);
         push_pair(run, other, atom)?;
     }
     Ok(())
 }
 
-/// Adds, for each value of `a`, that `a` reaches it exactly where `b` is below `k` less that value, and 1.
-fn push_opposed(run: &mut Vec<Equation>, k: i128, a: &OrdInt, b: &OrdInt) -> Result<(), AllocError>
-    requires k { unsigned_abs k < 2 ^ 110 }
+/// Adds, for each value of `a`, that `a` reaches it exactly where `b` is below what it is linked with.
+pub(crate) fn push_opposed(
+    run: &mut Vec<Equation>,
+    link: &Link,
+    a: &OrdInt,
+    b: &OrdInt,
+) -> Result<(), AllocError>
     requires a { IsSound a.now }
     requires b { IsSound b.now }
+    requires fits { LinkFitsAll link.now a.now }
     ensures { OnOk result (run.new.items
-        ≡ run.old.items ++ map (equation_of Form) (opposed (λ v. k -ℤ v +ℤ pos 1) a.now b.now)) }
+        ≡ run.old.items ++ map (equation_of Form) (opposed (link_of link.now) a.now b.now)) }
 {
     let mut walk = Walk::along(b);
     for (value, atom) in a.levels() {
-        let most = left(k, value);
-        let target = next(most);
+        let target = link.of(value);
         let other = walk.at(target);
         push_pair(run, atom, other.not())?;
     }
     Ok(())
 }
 
-/// Adds, for each value of `b`, that `b` is at most that value exactly where `a` reaches `k` less the value.
-fn push_opposed_above(
+/// Adds, for each value of `a`, that `a` is at most that value exactly where `b` reaches what it is linked with.
+pub(crate) fn push_opposed_above(
     run: &mut Vec<Equation>,
-    k: i128,
-    b: &OrdInt,
+    link: &Link,
     a: &OrdInt,
+    b: &OrdInt,
 ) -> Result<(), AllocError>
-    requires k { unsigned_abs k < 2 ^ 110 }
-    requires b { IsSound b.now }
     requires a { IsSound a.now }
+    requires b { IsSound b.now }
+    requires fits { LinkFitsAll link.now a.now }
     ensures { OnOk result (run.new.items
-        ≡ run.old.items ++ map (equation_of Form) (opposed_above (λ w. k -ℤ w) b.now a.now)) }
+        ≡ run.old.items ++ map (equation_of Form) (opposed_above (link_of link.now) a.now b.now)) }
 {
-    let mut walk = Walk::along(a);
-    let mut above = Walk::along(b);
-    for (value, _) in b.levels() {
-        let target = left(k, value);
+    let mut above = Walk::along(a);
+    let mut walk = Walk::along(b);
+    for (value, _) in a.levels() {
+        let target = link.of(value);
         let other = walk.at(target);
         let beyond = next(value);
         let upper = above.at(beyond);
@@ -145,9 +130,10 @@ pub(crate) fn push_raised(
     ensures { OnOk result (run.new.items
         ≡ run.old.items ++ map (equation_of Form) (raised_equations k a.now b.now)) }
 {
-    push_linked(run, k, a, b)?;
-    let back = minus(k);
-    push_linked_back(run, back, b, a)?;
+    let plus = Link::Plus(k);
+    let minus = Link::Minus(k);
+    push_linked(run, &plus, a, b)?;
+    push_linked_back(run, &minus, b, a)?;
     Ok(())
 }
 
@@ -164,7 +150,9 @@ pub(crate) fn push_mirrored(
     ensures { OnOk result (run.new.items
         ≡ run.old.items ++ map (equation_of Form) (mirrored_equations k a.now b.now)) }
 {
-    push_opposed(run, k, a, b)?;
-    push_opposed_above(run, k, b, a)?;
+    let above = Link::Above(k);
+    let from = Link::From(k);
+    push_opposed(run, &above, a, b)?;
+    push_opposed_above(run, &from, b, a)?;
     Ok(())
 }

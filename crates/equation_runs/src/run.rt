@@ -12,8 +12,13 @@ ghost use Rattle.core_forms.specs.Place.{CoreBelow};
 ghost use Rattle.equation_runs.specs.Turns.{AreToldInTurn, is_stated, EquationsBelow};
 ghost use Rattle.equation_runs.specs.RunRows.{equation_of, chains_of, link_pairs, run_of};
 
+use crate::bounds::push_bounds;
 use crate::chains::push_chains;
+use crate::different::push_different;
 use crate::links::{push_mirrored, push_raised};
+use crate::maxima::push_leaders;
+use crate::members::push_amo;
+use crate::products::push_product;
 use core_forms::{Core, Equation};
 use order_ints::OrdInt;
 use rule_base::{Steps, is_constant};
@@ -74,8 +79,9 @@ fn push_sum3(run: &mut Vec<Equation>, a: &OrdInt, b: &OrdInt, c: &OrdInt) -> Res
     Ok(())
 }
 
-/// Adds the equations that link two of a core's integers value by value.
-fn push_links(run: &mut Vec<Equation>, core: &Core) -> Result<(), AllocError>
+/// Adds the equations that link two of a core's integers value by value, and those that constants tell of
+/// members that differ.
+fn push_links(alloc: Global, run: &mut Vec<Equation>, core: &Core) -> Result<(), AllocError>
     requires { IsWellFormed core.now }
     ensures { OnOk result (run.new.items ≡ run.old.items ++ map (equation_of Form) (link_pairs core.now)) }
 {
@@ -87,29 +93,40 @@ fn push_links(run: &mut Vec<Equation>, core: &Core) -> Result<(), AllocError>
             Ok(())
         }
         Core::Sum3(a, b, c) => push_sum3(run, a.get(), b.get(), c.get()),
+        Core::Max(ints, c) => push_leaders(run, ints.as_slice(), c.get()),
+        Core::AllDiff(ints, conditions) => {
+            push_different(alloc, run, ints.as_slice(), conditions.get().as_slice())
+        }
+        Core::Amo(ls) => push_amo(run, ls.as_slice()),
+        Core::Prod(a, b, c) => push_product(run, a.get(), b.get(), c.get()),
         _ => Ok(()),
     }
 }
 
-/// The equations along the integers of a core, and those that link two of them.
+/// The equations that are told once those before them are made, those along the integers of a core, and those that
+/// link two of them.
 fn equations_in_turn(alloc: Global, core: &Core) -> Result<Vec<Equation>, AllocError>
     requires { IsWellFormed core.now }
     ensures { IfOk result (λ run. run.items ≡ run_of core.now) }
 {
     let mut run = Vec::new(alloc);
+    push_bounds(alloc, &mut run, core)?;
     for a in core.ints() {
         push_chains(&mut run, a)?;
     }
-    push_links(&mut run, core)?;
+    push_links(alloc, &mut run, core)?;
     Ok(run)
 }
 
-/// Equations that a core tells one after another: upwards along the steps of each integer from a False one,
-/// and downwards from a True one; and between two of its integers, where these are equal or make up a
-/// constant, or where one is the other and a constant, added up. Whatever the store makes of the core later,
-/// each of them is made or is told of it when its turn comes. So one look at a core is enough for all of them,
-/// where each would else cost one of its own. Its time and memory are linear in the core; where there is no
-/// such equation it takes no memory. It counts one step.
+/// Equations that a core tells one after another. First what is told once those before it are made: that the
+/// members of a true conjunction, or of a count at an end, are all constants, and what the others leave each member
+/// of a sum or a maximum. Then what is told whatever the store makes of the core: upwards along the steps of each
+/// integer from a False one, and downwards from a True one; between two of its integers, where these are equal,
+/// where one is the other with a constant added or multiplied, or where they make up a constant; between a
+/// maximum and the member that alone leads; beside a True member of at-most-one; and of members that differ, that
+/// none has the value of another one that is constant, or one of the two that two others have for themselves. So
+/// one look at a core is enough for all of them, where each would else cost one of its own. Its time is that of
+/// one sort of the core's variables, and near-linear in the core besides. It counts one step.
 pub fn run_of<L: Ledger>(
     alloc: Global,
     core: &Core,
@@ -118,8 +135,7 @@ pub fn run_of<L: Ledger>(
     requires { IsWellFormed core.now }
     ensures shape { IfOk result (λ run. run.items ≡ run_of core.now) }
 
-    // Each of them is made, or stated of the core as the store has it, in every store in which the one before it
-    // is made.
+    // Each of them is made, or stated of the core as the store has it, once those before it are made.
     ensures told { IfOk result (λ run. AreToldInTurn (λ c e. is_stated c e ≡ true) core.now run.items) }
     ensures below { (n : ℕ) → CoreBelow n core.now → IfOk result (λ run. EquationsBelow n run.items) }
     ensures steps { steps.new ≡ steps.old + 1 }

@@ -7,7 +7,7 @@ use Rattle.order_ints.specs.declared.order_int.OrdInt.{OrdInt}
 use Rattle.order_ints.specs.OrderLevels.{levels_of, values_of, at_of}
 use Rattle.order_ints.proofs.Everywhere.{map_levels}
 use Rattle.core_forms.specs.WellFormed.{IsSound}
-use Rattle.rule_base.specs.declared.sought.Sought.{Sought}
+use Rattle.rule_base.specs.declared.sought.SoughtEquation.{SoughtEquation}
 use Rattle.rule_base.specs.Pairs.{first_sought}
 use Rattle.rule_base.proofs.PairLaws.{front-found}
 use Rattle.equi_rules.specs.CompareRows.{equal_at}
@@ -28,12 +28,12 @@ pub second_is : (a b : OrdInt) → IsSound b → second_beside a (levels_of b) �
 second_is a b sound = map_levels (λ v x. (at_of a v, x)) b sound.1
 
 -- a loop along the levels stops at the first pair that is looked for
-pub first-stop : (sought : Sought) (b : OrdInt) (ls rest : List (ℤ × Atom)) (v : ℤ) (x y : Atom) (o : Option (Atom × Atom)) → ls ≡ (v, x) ∷ rest → y ≡ at_of b v → o ≡ first_sought sought ((x, y) ∷ []) → is_some o ≡ true → o ≡ first_sought sought (first_beside b ls)
+pub first-stop : (sought : SoughtEquation) (b : OrdInt) (ls rest : List (ℤ × Atom)) (v : ℤ) (x y : Atom) (o : Option (Atom × Atom)) → ls ≡ (v, x) ∷ rest → y ≡ at_of b v → o ≡ first_sought sought ((x, y) ∷ []) → is_some o ≡ true → o ≡ first_sought sought (first_beside b ls)
 first-stop sought b ls rest v x y o is at found some =
     front-found sought ((x, at_of b v) ∷ []) (first_beside b rest) o (found ∙ ap (λ (z : Atom). first_sought sought ((x, z) ∷ [])) at) some
     ∙ ap (λ (xs : List (ℤ × Atom)). first_sought sought (first_beside b xs)) (sym is)
 
-pub second-stop : (sought : Sought) (a : OrdInt) (ls rest : List (ℤ × Atom)) (v : ℤ) (x y : Atom) (o : Option (Atom × Atom)) → ls ≡ (v, x) ∷ rest → y ≡ at_of a v → o ≡ first_sought sought ((y, x) ∷ []) → is_some o ≡ true → o ≡ first_sought sought (second_beside a ls)
+pub second-stop : (sought : SoughtEquation) (a : OrdInt) (ls rest : List (ℤ × Atom)) (v : ℤ) (x y : Atom) (o : Option (Atom × Atom)) → ls ≡ (v, x) ∷ rest → y ≡ at_of a v → o ≡ first_sought sought ((y, x) ∷ []) → is_some o ≡ true → o ≡ first_sought sought (second_beside a ls)
 second-stop sought a ls rest v x y o is at found some =
     front-found sought ((at_of a v, x) ∷ []) (second_beside a rest) o (found ∙ ap (λ (z : Atom). first_sought sought ((z, x) ∷ [])) at) some
     ∙ ap (λ (xs : List (ℤ × Atom)). first_sought sought (second_beside a xs)) (sym is)

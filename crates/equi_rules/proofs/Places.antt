@@ -6,7 +6,7 @@ use Rattle.order_ints.specs.declared.atom.Atom.{Atom}
 use Rattle.order_ints.specs.declared.atom.Atom.TheVariants.{False}
 use Rattle.order_ints.specs.Same.{is_true}
 use Rattle.core_forms.specs.Trimmed.{has_true}
-use Rattle.rule_base.specs.declared.sought.Sought.{Sought}
+use Rattle.rule_base.specs.declared.sought.SoughtEquation.{SoughtEquation}
 use Rattle.rule_base.specs.Pairs.{first_sought}
 use Rattle.rule_base.specs.Stated.{all_equal}
 use Rattle.rule_base.proofs.PairLaws.{first_sought-append, option_or-some, option_or-none}
@@ -57,11 +57,11 @@ all_equal-append [] ys b = refl
 all_equal-append (x ∷ xs) ys b = ap (λ (ps : List (Atom × Atom)). (x, b) ∷ ps) (all_equal-append xs ys b)
 
 -- without a True member nothing is found
-pub amo-none : (sought : Sought) (ls : List Atom) → place_of_true 0 ls ≡ None → None ≡ first_sought sought (amo_equations ls)
+pub amo-none : (sought : SoughtEquation) (ls : List Atom) → place_of_true 0 ls ≡ None → None ≡ first_sought sought (amo_equations ls)
 amo-none sought ls e = sym (ap (λ (xs : List Atom). first_sought sought (all_equal xs False)) (none-beside 0 ls e).1)
 
 -- else among the members before it, and then among those behind it
-pub amo-at : (sought : Sought) (ls : List Atom) (i j : ℕ) → j ≡ suc i → place_of_true 0 ls ≡ Some i → first_sought sought (amo_equations ls) ≡ option_or (first_sought sought (all_equal (take i ls) False)) (first_sought sought (all_equal (drop j ls) False))
+pub amo-at : (sought : SoughtEquation) (ls : List Atom) (i j : ℕ) → j ≡ suc i → place_of_true 0 ls ≡ Some i → first_sought sought (amo_equations ls) ≡ option_or (first_sought sought (all_equal (take i ls) False)) (first_sought sought (all_equal (drop j ls) False))
 amo-at sought ls i j next e =
     let r = beside-place 0 i ls e in
     let same : r.place ≡ i = omega (arith, r.counted) in
@@ -71,13 +71,13 @@ amo-at sought ls i j next e =
     ∙ ap (first_sought sought) (all_equal-append (take i ls) (drop j ls) False)
     ∙ first_sought-append sought (all_equal (take i ls) False) (all_equal (drop j ls) False)
 
-pub amo-front : (sought : Sought) (ls front : List Atom) (i : ℕ) (o : Option (Atom × Atom)) → place_of_true 0 ls ≡ Some i → front ≡ take i ls → o ≡ first_sought sought (all_equal front False) → is_some o ≡ true → o ≡ first_sought sought (amo_equations ls)
+pub amo-front : (sought : SoughtEquation) (ls front : List Atom) (i : ℕ) (o : Option (Atom × Atom)) → place_of_true 0 ls ≡ Some i → front ≡ take i ls → o ≡ first_sought sought (all_equal front False) → is_some o ≡ true → o ≡ first_sought sought (amo_equations ls)
 amo-front sought ls front i o at is found some =
     sym (option_or-some o (first_sought sought (all_equal (drop (suc i) ls) False)) some)
     ∙ ap (λ (x : Option (Atom × Atom)). option_or x (first_sought sought (all_equal (drop (suc i) ls) False))) (found ∙ ap (λ (xs : List Atom). first_sought sought (all_equal xs False)) is)
     ∙ sym (amo-at sought ls i (suc i) refl at)
 
-pub amo-behind : (sought : Sought) (ls front behind : List Atom) (i j : ℕ) (o p : Option (Atom × Atom)) → j ≡ suc i → place_of_true 0 ls ≡ Some i → front ≡ take i ls → behind ≡ drop j ls → o ≡ first_sought sought (all_equal front False) → is_some o ≡ false → p ≡ first_sought sought (all_equal behind False) → p ≡ first_sought sought (amo_equations ls)
+pub amo-behind : (sought : SoughtEquation) (ls front behind : List Atom) (i j : ℕ) (o p : Option (Atom × Atom)) → j ≡ suc i → place_of_true 0 ls ≡ Some i → front ≡ take i ls → behind ≡ drop j ls → o ≡ first_sought sought (all_equal front False) → is_some o ≡ false → p ≡ first_sought sought (all_equal behind False) → p ≡ first_sought sought (amo_equations ls)
 amo-behind sought ls front behind i j o p next at is rest found none more =
     sym (option_or-none o p none)
     ∙ ap (λ (x : Option (Atom × Atom)). option_or x p) (found ∙ ap (λ (xs : List Atom). first_sought sought (all_equal xs False)) is)

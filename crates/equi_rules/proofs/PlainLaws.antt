@@ -13,7 +13,7 @@ use Rattle.core_forms.specs.declared.form.Core.{Core}
 use Rattle.core_forms.specs.declared.form.Core.TheVariants.{Ladder, Clause, Parity, Conj, Comp, LeqR, EqR, Sum3, Count, Sum, Max, AllDiff, Amo, Prod, DivMod, Lex}
 use Rattle.core_forms.specs.Plain.{IsLiteral, AreLiterals, ArePlainBehind, ArePlainInts, IsPlain}
 use Rattle.core_forms.specs.Trimmed.{has_true}
-use Rattle.rule_base.specs.declared.sought.Sought.TheVariants.{Apart}
+use Rattle.rule_base.specs.declared.sought.SoughtEquation.TheVariants.{Apart}
 use Rattle.rule_base.specs.Pairs.{first_sought, only_if}
 use Rattle.rule_base.specs.Found.{stated_by}
 use Rattle.rule_base.specs.Stated.{all_equal}

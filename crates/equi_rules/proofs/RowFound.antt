@@ -16,7 +16,7 @@ use Rattle.order_ints.specs.Walk.{has_value}
 use Rattle.order_ints.specs.Same.{is_true, is_false, same_int}
 use Rattle.order_ints.proofs.Wide.{same_bits}
 use Rattle.core_forms.proofs.Bounds.{wide_bits}
-use Rattle.rule_base.specs.declared.sought.Sought.{Sought}
+use Rattle.rule_base.specs.declared.sought.SoughtEquation.{SoughtEquation}
 use Rattle.rule_base.specs.Pairs.{first_sought, only_if}
 use Rattle.rule_base.specs.Stated.{at_least, is_below, is_not}
 use Rattle.rule_base.proofs.PairLaws.{both-found}
@@ -34,7 +34,7 @@ next_value v w e small =
 pub same_test : (v w x : ℤ) → unsigned_abs v < 2 ^ 100 → w ≡ x → unsigned_abs x < 2 ^ 100 → nat_eq (of_z w128 v) (of_z w128 w) ≡ int_eq v x
 same_test v w x small e limit = same_bits v w small (fits_signed_from_abs w128 w (omega (arith, ints, e, limit))) ∙ ap (int_eq v) e
 
-module _ (sought : Sought) (a b : OrdInt) where
+module _ (sought : SoughtEquation) (a b : OrdInt) where
   pub leq_true-found : (v w : ℤ) (o p : Option (Atom × Atom)) → v ≡ high_of b +ℤ pos 1 → w ≡ low_of a → o ≡ first_sought sought (is_below a v ∷ []) → p ≡ first_sought sought (at_least b w ∷ []) → option_or o p ≡ first_sought sought (leq_equations_true a b)
   leq_true-found v w o p top bottom first second =
       both-found sought (is_below a (high_of b +ℤ pos 1) ∷ []) (at_least b (low_of a) ∷ []) o p
@@ -71,7 +71,7 @@ module _ (sought : Sought) (a b : OrdInt) where
       (both-found sought known one o p first second) third) fourth)
       (fifth ∙ ap (λ s. first_sought sought (only_if s ((r, True) ∷ []))) et)
 
-pub value-found : (sought : Sought) (r : Atom) (v : ℤ) (d : OrdInt) (x y : Atom) (f n l h : Bool) (o p q w : Option (Atom × Atom)) → x ≡ at_of d v → y ≡ at_of d (v +ℤ pos 1) → f ≡ is_false r → n ≡ has_value d v → l ≡ int_eq v (low_of d) → h ≡ int_eq v (high_of d) → o ≡ first_sought sought (only_if f ((x, y) ∷ [])) → p ≡ first_sought sought (only_if (not n) ((r, False) ∷ [])) → q ≡ first_sought sought (only_if l ((r, not_atom y) ∷ [])) → w ≡ first_sought sought (only_if h ((r, x) ∷ [])) → option_or (option_or (option_or o p) q) w ≡ first_sought sought (eq_equations_value r v d)
+pub value-found : (sought : SoughtEquation) (r : Atom) (v : ℤ) (d : OrdInt) (x y : Atom) (f n l h : Bool) (o p q w : Option (Atom × Atom)) → x ≡ at_of d v → y ≡ at_of d (v +ℤ pos 1) → f ≡ is_false r → n ≡ has_value d v → l ≡ int_eq v (low_of d) → h ≡ int_eq v (high_of d) → o ≡ first_sought sought (only_if f ((x, y) ∷ [])) → p ≡ first_sought sought (only_if (not n) ((r, False) ∷ [])) → q ≡ first_sought sought (only_if l ((r, not_atom y) ∷ [])) → w ≡ first_sought sought (only_if h ((r, x) ∷ [])) → option_or (option_or (option_or o p) q) w ≡ first_sought sought (eq_equations_value r v d)
 value-found sought r v d x y f n l h o p q w ex ey ef en el eh first second third fourth =
     let differ = only_if (is_false r) (is_not d v ∷ []) in
     let none = only_if (not (has_value d v)) ((r, False) ∷ []) in

@@ -5,10 +5,10 @@ ghost use Rattle.rule_base.specs.Pairs.{first_sought};
 ghost use Rattle.equi_rules.specs.AtomRows.{clause_equations, parity_equations, conjunction_equations, conj_equations, amo_equations, place_of_true};
 
 use order_ints::Atom;
-use rule_base::Sought;
+use rule_base::SoughtEquation;
 
 /// The equations of a clause.
-pub(crate) fn by_clause(sought: Sought, atoms: &[Atom]) -> Option<(Atom, Atom)>
+pub(crate) fn by_clause(sought: SoughtEquation, atoms: &[Atom]) -> Option<(Atom, Atom)>
     ensures { result ≡ first_sought sought (clause_equations atoms.now) }
 {
     match atoms.len() {
@@ -19,7 +19,7 @@ pub(crate) fn by_clause(sought: Sought, atoms: &[Atom]) -> Option<(Atom, Atom)>
 }
 
 /// The equations of a parity.
-pub(crate) fn by_parity(sought: Sought, atoms: &[Atom], odd: bool) -> Option<(Atom, Atom)>
+pub(crate) fn by_parity(sought: SoughtEquation, atoms: &[Atom], odd: bool) -> Option<(Atom, Atom)>
     ensures { result ≡ first_sought sought (parity_equations atoms.now odd) }
 {
     match atoms.len() {
@@ -31,7 +31,7 @@ pub(crate) fn by_parity(sought: Sought, atoms: &[Atom], odd: bool) -> Option<(At
 }
 
 /// The equation of a conjunction of no member or of one.
-fn by_conjunction(sought: Sought, r: Atom, atoms: &[Atom]) -> Option<(Atom, Atom)>
+fn by_conjunction(sought: SoughtEquation, r: Atom, atoms: &[Atom]) -> Option<(Atom, Atom)>
     ensures { result ≡ first_sought sought (conjunction_equations r atoms.now) }
 {
     match atoms.len() {
@@ -42,7 +42,7 @@ fn by_conjunction(sought: Sought, r: Atom, atoms: &[Atom]) -> Option<(Atom, Atom
 }
 
 /// The equations of a conjunction.
-pub(crate) fn by_conj(sought: Sought, r: Atom, atoms: &[Atom]) -> Option<(Atom, Atom)>
+pub(crate) fn by_conj(sought: SoughtEquation, r: Atom, atoms: &[Atom]) -> Option<(Atom, Atom)>
     ensures { result ≡ first_sought sought (conj_equations r atoms.now) }
 {
     let pair = by_conjunction(sought, r, atoms);
@@ -66,7 +66,7 @@ fn first_true(atoms: &[Atom]) -> Option<usize>
 }
 
 /// The equations of at-most-one: it looks for the first True member, and then goes over the others once.
-pub(crate) fn by_amo(sought: Sought, atoms: &[Atom]) -> Option<(Atom, Atom)>
+pub(crate) fn by_amo(sought: SoughtEquation, atoms: &[Atom]) -> Option<(Atom, Atom)>
     ensures { result ≡ first_sought sought (amo_equations atoms.now) }
 {
     let place = first_true(atoms)?;

@@ -6,10 +6,10 @@ ghost use Rattle.rule_base.specs.Pairs.{first_sought};
 ghost use Rattle.equi_rules.specs.CompareRows.{leq_equations_true, leq_equations_false, leq_equations_known, leq_equations_decided, leq_equations_constant, leq_equations};
 
 use order_ints::{Atom, OrdInt};
-use rule_base::{Sought, is_constant};
+use rule_base::{SoughtEquation, is_constant};
 
 /// The equations where `a` is at most `b`.
-fn by_leq_true(sought: Sought, a: &OrdInt, b: &OrdInt) -> Option<(Atom, Atom)>
+fn by_leq_true(sought: SoughtEquation, a: &OrdInt, b: &OrdInt) -> Option<(Atom, Atom)>
     requires a { IsSound a.now }
     requires b { IsSound b.now }
     ensures { result ≡ first_sought sought (leq_equations_true a.now b.now) }
@@ -20,7 +20,7 @@ fn by_leq_true(sought: Sought, a: &OrdInt, b: &OrdInt) -> Option<(Atom, Atom)>
 }
 
 /// The equations where `a` is above `b`.
-fn by_leq_false(sought: Sought, a: &OrdInt, b: &OrdInt) -> Option<(Atom, Atom)>
+fn by_leq_false(sought: SoughtEquation, a: &OrdInt, b: &OrdInt) -> Option<(Atom, Atom)>
     requires a { IsSound a.now }
     requires b { IsSound b.now }
     ensures { result ≡ first_sought sought (leq_equations_false a.now b.now) }
@@ -31,7 +31,7 @@ fn by_leq_false(sought: Sought, a: &OrdInt, b: &OrdInt) -> Option<(Atom, Atom)>
 }
 
 /// The equations where the integers' ends alone tell which is greater.
-fn by_leq_decided(sought: Sought, r: Atom, a: &OrdInt, b: &OrdInt) -> Option<(Atom, Atom)>
+fn by_leq_decided(sought: SoughtEquation, r: Atom, a: &OrdInt, b: &OrdInt) -> Option<(Atom, Atom)>
     requires a { IsSound a.now }
     requires b { IsSound b.now }
     ensures { result ≡ first_sought sought (leq_equations_decided r a.now b.now) }
@@ -41,7 +41,7 @@ fn by_leq_decided(sought: Sought, r: Atom, a: &OrdInt, b: &OrdInt) -> Option<(At
 }
 
 /// The equations where one of the integers is constant.
-fn by_leq_constant(sought: Sought, r: Atom, a: &OrdInt, b: &OrdInt) -> Option<(Atom, Atom)>
+fn by_leq_constant(sought: SoughtEquation, r: Atom, a: &OrdInt, b: &OrdInt) -> Option<(Atom, Atom)>
     requires a { IsSound a.now }
     requires b { IsSound b.now }
     ensures { result ≡ first_sought sought (leq_equations_constant r a.now b.now) }
@@ -51,7 +51,7 @@ fn by_leq_constant(sought: Sought, r: Atom, a: &OrdInt, b: &OrdInt) -> Option<(A
 }
 
 /// The equations where `r` is a constant.
-fn by_leq_known(sought: Sought, r: Atom, a: &OrdInt, b: &OrdInt) -> Option<(Atom, Atom)>
+fn by_leq_known(sought: SoughtEquation, r: Atom, a: &OrdInt, b: &OrdInt) -> Option<(Atom, Atom)>
     requires a { IsSound a.now }
     requires b { IsSound b.now }
     ensures { result ≡ first_sought sought (leq_equations_known r a.now b.now) }
@@ -64,7 +64,12 @@ fn by_leq_known(sought: Sought, r: Atom, a: &OrdInt, b: &OrdInt) -> Option<(Atom
 }
 
 /// The equations of `r` being the truth of `a` being at most `b`.
-pub(crate) fn by_leq(sought: Sought, r: Atom, a: &OrdInt, b: &OrdInt) -> Option<(Atom, Atom)>
+pub(crate) fn by_leq(
+    sought: SoughtEquation,
+    r: Atom,
+    a: &OrdInt,
+    b: &OrdInt,
+) -> Option<(Atom, Atom)>
     requires a { IsSound a.now }
     requires b { IsSound b.now }
     ensures { result ≡ first_sought sought (leq_equations r a.now b.now) }

@@ -8,10 +8,10 @@ ghost use Rattle.rule_base.specs.Pairs.{first_sought, only_if};
 ghost use Rattle.equi_rules.specs.CompareRows.{equal_at, eq_equations_true, eq_equations_apart, eq_equations_value, eq_equations_constant, eq_equations};
 
 use order_ints::{Atom, OrdInt, Walk};
-use rule_base::{Sought, is_constant};
+use rule_base::{SoughtEquation, is_constant};
 
 /// The equations at the values of `a`: one loop along them, beside a walk along `b`.
-fn at_values_of_first(sought: Sought, a: &OrdInt, b: &OrdInt) -> Option<(Atom, Atom)>
+fn at_values_of_first(sought: SoughtEquation, a: &OrdInt, b: &OrdInt) -> Option<(Atom, Atom)>
     requires a { IsSound a.now }
     requires b { IsSound b.now }
     ensures { result ≡ first_sought sought (map (equal_at a.now b.now) (values_of a.now)) }
@@ -27,7 +27,7 @@ fn at_values_of_first(sought: Sought, a: &OrdInt, b: &OrdInt) -> Option<(Atom, A
 }
 
 /// The equations at the values of `b`.
-fn at_values_of_second(sought: Sought, a: &OrdInt, b: &OrdInt) -> Option<(Atom, Atom)>
+fn at_values_of_second(sought: SoughtEquation, a: &OrdInt, b: &OrdInt) -> Option<(Atom, Atom)>
     requires a { IsSound a.now }
     requires b { IsSound b.now }
     ensures { result ≡ first_sought sought (map (equal_at a.now b.now) (values_of b.now)) }
@@ -43,7 +43,7 @@ fn at_values_of_second(sought: Sought, a: &OrdInt, b: &OrdInt) -> Option<(Atom, 
 }
 
 /// The equations where `a` and `b` are equal.
-fn by_eq_true(sought: Sought, a: &OrdInt, b: &OrdInt) -> Option<(Atom, Atom)>
+fn by_eq_true(sought: SoughtEquation, a: &OrdInt, b: &OrdInt) -> Option<(Atom, Atom)>
     requires a { IsSound a.now }
     requires b { IsSound b.now }
     ensures { result ≡ first_sought sought (eq_equations_true a.now b.now) }
@@ -56,7 +56,7 @@ fn by_eq_true(sought: Sought, a: &OrdInt, b: &OrdInt) -> Option<(Atom, Atom)>
 }
 
 /// The equations where the integers' ends alone tell that they differ.
-fn by_eq_apart(sought: Sought, r: Atom, a: &OrdInt, b: &OrdInt) -> Option<(Atom, Atom)>
+fn by_eq_apart(sought: SoughtEquation, r: Atom, a: &OrdInt, b: &OrdInt) -> Option<(Atom, Atom)>
     requires a { IsSound a.now }
     requires b { IsSound b.now }
     ensures { result ≡ first_sought sought (eq_equations_apart r a.now b.now) }
@@ -66,7 +66,7 @@ fn by_eq_apart(sought: Sought, r: Atom, a: &OrdInt, b: &OrdInt) -> Option<(Atom,
 }
 
 /// The equations where one of the integers is the constant `v`, and `d` is the other.
-fn by_eq_value(sought: Sought, r: Atom, v: i128, d: &OrdInt) -> Option<(Atom, Atom)>
+fn by_eq_value(sought: SoughtEquation, r: Atom, v: i128, d: &OrdInt) -> Option<(Atom, Atom)>
     requires v { unsigned_abs v < 2 ^ 100 }
     requires d { IsSound d.now }
     ensures { result ≡ first_sought sought (eq_equations_value r v d.now) }
@@ -83,7 +83,7 @@ fn by_eq_value(sought: Sought, r: Atom, v: i128, d: &OrdInt) -> Option<(Atom, At
 }
 
 /// The equations where `a` is constant, and `d` is the other integer.
-fn by_eq_constant(sought: Sought, r: Atom, a: &OrdInt, d: &OrdInt) -> Option<(Atom, Atom)>
+fn by_eq_constant(sought: SoughtEquation, r: Atom, a: &OrdInt, d: &OrdInt) -> Option<(Atom, Atom)>
     requires a { IsSound a.now }
     requires d { IsSound d.now }
     ensures { result ≡ first_sought sought (eq_equations_constant r a.now d.now) }
@@ -95,7 +95,7 @@ fn by_eq_constant(sought: Sought, r: Atom, a: &OrdInt, d: &OrdInt) -> Option<(At
 }
 
 /// The equations where `r` is True.
-fn by_eq_known(sought: Sought, r: Atom, a: &OrdInt, b: &OrdInt) -> Option<(Atom, Atom)>
+fn by_eq_known(sought: SoughtEquation, r: Atom, a: &OrdInt, b: &OrdInt) -> Option<(Atom, Atom)>
     requires a { IsSound a.now }
     requires b { IsSound b.now }
     ensures { result ≡ first_sought sought (only_if (is_true r) (eq_equations_true a.now b.now)) }
@@ -107,7 +107,7 @@ fn by_eq_known(sought: Sought, r: Atom, a: &OrdInt, b: &OrdInt) -> Option<(Atom,
 }
 
 /// The equations of `r` being the truth of `a` and `b` being equal.
-pub(crate) fn by_eq(sought: Sought, r: Atom, a: &OrdInt, b: &OrdInt) -> Option<(Atom, Atom)>
+pub(crate) fn by_eq(sought: SoughtEquation, r: Atom, a: &OrdInt, b: &OrdInt) -> Option<(Atom, Atom)>
     requires a { IsSound a.now }
     requires b { IsSound b.now }
     ensures { result ≡ first_sought sought (eq_equations r a.now b.now) }

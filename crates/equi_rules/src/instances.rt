@@ -4,7 +4,7 @@ ghost use Rattle.std.specs.Prelude.{◌≡◌, ◌+◌, ◌↔◌, true, false, 
 ghost use Rattle.core_forms.specs.declared.equation.Equation.{Equation};
 ghost use Rattle.core_forms.specs.Plain.{IsPlain};
 ghost use Rattle.core_forms.specs.WellFormed.{IsWellFormed};
-ghost use Rattle.rule_base.specs.declared.sought.Sought.TheVariants.{Apart};
+ghost use Rattle.rule_base.specs.declared.sought.SoughtEquation.TheVariants.{Apart};
 ghost use Rattle.rule_base.specs.Pairs.{first_sought};
 ghost use Rattle.rule_base.specs.Found.{IsImplied};
 ghost use Rattle.equi_rules.specs.Instances.{form_equations, equations_of, found_at, is_instance_of};
@@ -15,11 +15,11 @@ use crate::equality::by_eq;
 use crate::order::by_order;
 use core_forms::{Core, Equation, Rule};
 use order_ints::Atom;
-use rule_base::{Sought, Steps};
+use rule_base::{SoughtEquation, Steps};
 use std::sync::ledger::Ledger;
 
 /// The equations of a core's form.
-fn by_form(sought: Sought, core: &Core) -> Option<(Atom, Atom)>
+fn by_form(sought: SoughtEquation, core: &Core) -> Option<(Atom, Atom)>
     requires { IsWellFormed core.now }
     ensures { result ≡ first_sought sought (form_equations core.now) }
 {
@@ -35,7 +35,7 @@ fn by_form(sought: Sought, core: &Core) -> Option<(Atom, Atom)>
 }
 
 /// The equations of a core by one rule.
-fn by_rule(sought: Sought, rule: Rule, core: &Core) -> Option<(Atom, Atom)>
+fn by_rule(sought: SoughtEquation, rule: Rule, core: &Core) -> Option<(Atom, Atom)>
     requires { IsWellFormed core.now }
     ensures { result ≡ first_sought sought (equations_of core.now rule) }
 {
@@ -51,14 +51,14 @@ fn found(core: &Core) -> Option<Equation>
     requires { IsWellFormed core.now }
     ensures { result ≡ found_at core.now }
 {
-    if let Some((a, b)) = by_order(Sought::Apart, core) {
+    if let Some((a, b)) = by_order(SoughtEquation::Apart, core) {
         return Some(Equation {
             rule: Rule::Order,
             a,
             b,
         });
     }
-    let (a, b) = by_form(Sought::Apart, core)?;
+    let (a, b) = by_form(SoughtEquation::Apart, core)?;
     Some(Equation {
         rule: Rule::Form,
         a,
@@ -90,7 +90,7 @@ fn by_plain_form(core: &Core) -> Option<(Atom, Atom)>
     ensures { result ≡ first_sought Apart (form_equations core.now) }
 {
     match core {
-        Core::Parity(atoms, odd) => by_parity(Sought::Apart, atoms.as_slice(), *odd),
+        Core::Parity(atoms, odd) => by_parity(SoughtEquation::Apart, atoms.as_slice(), *odd),
         _ => None,
     }
 }
@@ -135,5 +135,5 @@ pub fn is_instance(core: &Core, e: &Equation) -> bool
     if e.a == e.b {
         return false;
     }
-    by_rule(Sought::Pair(e.a, e.b), e.rule, core).is_some()
+    by_rule(SoughtEquation::Pair(e.a, e.b), e.rule, core).is_some()
 }

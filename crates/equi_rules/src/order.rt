@@ -7,10 +7,10 @@ ghost use Rattle.equi_rules.specs.OrderRows.{neighbour_equations, step_equations
 
 use core_forms::Core;
 use order_ints::Atom;
-use rule_base::Sought;
+use rule_base::SoughtEquation;
 
 /// The equations of the atoms of a step and of the next one above it.
-fn neighbours(sought: Sought, lower: Atom, upper: Atom) -> Option<(Atom, Atom)>
+fn neighbours(sought: SoughtEquation, lower: Atom, upper: Atom) -> Option<(Atom, Atom)>
     ensures { result ≡ first_sought sought (neighbour_equations lower upper) }
 {
     let by_upper = sought.when(upper.is_true(), lower, Atom::True);
@@ -20,7 +20,7 @@ fn neighbours(sought: Sought, lower: Atom, upper: Atom) -> Option<(Atom, Atom)>
 }
 
 /// The equations of an integer's steps.
-fn among_steps(sought: Sought, steps: &[(Atom, u128)]) -> Option<(Atom, Atom)>
+fn among_steps(sought: SoughtEquation, steps: &[(Atom, u128)]) -> Option<(Atom, Atom)>
     ensures { result ≡ first_sought sought (step_equations steps.now) }
 {
     let (first, above) = steps.split_first()?;
@@ -36,7 +36,7 @@ fn among_steps(sought: Sought, steps: &[(Atom, u128)]) -> Option<(Atom, Atom)>
 }
 
 /// The equations of the order of each integer of a core.
-pub(crate) fn by_order(sought: Sought, core: &Core) -> Option<(Atom, Atom)>
+pub(crate) fn by_order(sought: SoughtEquation, core: &Core) -> Option<(Atom, Atom)>
     ensures { result ≡ first_sought sought (order_equations core.now) }
 {
     for a in core.ints() {

@@ -19,4 +19,6 @@ pub mod Cuttings
 pub mod PairLaws
 pub mod Counted
 pub mod QueueSizes
+pub mod Inside
+pub mod Behind
 pub mod Runs

@@ -1,6 +1,6 @@
 -- Equations that one core tells, taken one after another.
 use Rattle.std.proofs.Common.{◌≡◌, ◌⊎◌, inl, inr, ℕ, ◌+◌, ◌≤◌, ◌<◌, Bool, true, false, List, [], ◌∷◌, ◌++◌, length, drop, get_or, refl, sym, ap, ◌∙◌, subst, arith, Some, Ok}
-use Rattle.std.specs.Prelude.{option_map, not, if◌then◌else◌}
+use Rattle.std.specs.Prelude.{option_map, not, ◌||◌, if◌then◌else◌}
 use Rattle.std.proofs.lemmas.List.{drop_more}
 use Rattle.std.proofs.lemmas.Bool.{false≢true}
 use Rattle.order_ints.specs.declared.atom.Atom.{Atom}
@@ -21,7 +21,7 @@ use Rattle.equation_store.specs.Merge.{loser_of, merged}
 use Rattle.equation_store.proofs.Changes.{merge_is_later, merge_labelled}
 use Rattle.equation_store.proofs.Facts.{is_merge}
 use Rattle.equation_store.proofs.Merge.{merge_resolves}
-use Rattle.equation_runs.specs.Turns.{resolved_equation, IsMade, IsMadeOrTold, AreToldAfter, made_equation, EquationsBelow}
+use Rattle.equation_runs.specs.Turns.{resolved_equation, IsMade, IsMadeOrTold, AreInTurn, made_equation, EquationsBelow}
 use Rattle.index_ring.specs.Lists.{times}
 use Rattle.core_occurrences.specs.Lists.{OccurrenceLists}
 use Rattle.ledger_text.specs.declared.line.Line.{Line}
@@ -33,11 +33,12 @@ use Rattle.step_kernel.proofs.Holes.{below-there}
 use Rattle.step_kernel.proofs.There.{is-there, there-below, there-labels}
 use Rattle.fixpoint_queue.specs.IdQueue.{Ids}
 use Rattle.fixpoint_queue.specs.Taken.{HasTaken}
+use Rattle.fixpoint_queue.specs.Told.{IsToldInstance}
 use Rattle.fixpoint_queue.specs.Waits.{IsSaturation, IsWokenFor, left_to_do, left_to_ask}
 use Rattle.fixpoint_queue.specs.Ledgers.{AddsEquations}
 use Rattle.fixpoint_queue.specs.Pairs.{IsCounted}
 use Rattle.fixpoint_queue.proofs.AskedCores.{woken-stays, saturation-equated, less-equated}
-use Rattle.fixpoint_queue.proofs.Counted.{counted-none, counted-taken, counted-then, left-running}
+use Rattle.fixpoint_queue.proofs.Counted.{counted-taken, counted-then, left-running}
 use Rattle.fixpoint_queue.proofs.LedgerLaws.{adds-trans}
 
 -- ---- the store after an equation
@@ -72,46 +73,14 @@ there-later k is id core below there e labels = by (same_atom e.a (not_atom e.b)
     by true = there
     by false = moved
 
--- an equation that is taken as the store has it is made, or there is a contradiction
-pub made-equated : (k : Kernel) → IsKernel k → (e : Equation) → AtomBelow (length k.view + 1) e.a → AtomBelow (length k.view + 1) e.b
-    → (resolve k.view e.a ≡ resolve k.view e.b → ⊥) → ((equated k (resolved_equation k.view e)).bottom ≡ true) ⊎ IsMade (equated k (resolved_equation k.view e)).view e
-made-equated k is e first second differs = by (same_atom (resolve k.view e.a) (not_atom (resolve k.view e.b))) refl
-  where
-    in-a : AtomBelow (length k.view + 1) (resolve k.view e.a)
-    in-a = AtomBelow-label k.view (resolve k.view e.a) (IsLabel-resolve k.view e.a is.labelled first)
-
-    in-b : AtomBelow (length k.view + 1) (resolve k.view e.b)
-    in-b = AtomBelow-label k.view (resolve k.view e.b) (IsLabel-resolve k.view e.b is.labelled second)
-
-    once-a : resolve k.view (resolve k.view e.a) ≡ resolve k.view e.a
-    once-a = resolves_once k.view e.a is.labelled
-
-    once-b : resolve k.view (resolve k.view e.b) ≡ resolve k.view e.b
-    once-b = resolves_once k.view e.b is.labelled
-
-    made : same_atom (resolve k.view e.a) (not_atom (resolve k.view e.b)) ≡ false → IsMade (merged k.view (resolve k.view e.a) (resolve k.view e.b)) e
-    made h =
-        let m = is_merge k.view (resolve k.view e.a) (resolve k.view e.b) is.labelled in-a in-b in
-        let apart : resolve k.view (resolve k.view e.a) ≡ resolve k.view (resolve k.view e.b) → ⊥ = λ q. differs (sym once-a ∙ q ∙ once-b) in
-        let free : resolve k.view (resolve k.view e.a) ≡ not_atom (resolve k.view (resolve k.view e.b)) → ⊥ =
-        λ q. absurd (false≢true (sym h ∙ ap (same_atom (resolve k.view e.a)) (ap not_atom (sym once-b) ∙ sym q ∙ once-a) ∙ same_atom-refl (resolve k.view e.a))) in
-        merge_resolves k.view (resolve k.view e.a) (resolve k.view e.b) e.a is.labelled in-a in-b first
-        ∙ (m.changes apart free).equal
-        ∙ sym (merge_resolves k.view (resolve k.view e.a) (resolve k.view e.b) e.b is.labelled in-a in-b second)
-
-    by : (t : Bool) → same_atom (resolve k.view e.a) (not_atom (resolve k.view e.b)) ≡ t
-        → ((if t then record k { bottom = true } else record k { view = merged k.view (resolve k.view e.a) (resolve k.view e.b) }).bottom ≡ true)
-        ⊎ IsMade (if t then record k { bottom = true } else record k { view = merged k.view (resolve k.view e.a) (resolve k.view e.b) }).view e
-    by true h = inl refl
-    by false h = inr (made h)
-
 -- ---- an equation of a run
 
--- two atoms that the code finds different are not one
-pub not-made : (view : List Atom) (e found : Equation) (differ : Bool) → differ ≡ not (same_atom found.a found.b) → differ ≡ true → found ≡ resolved_equation view e → IsMade view e → ⊥
-not-made view e found differ is found-so same made =
-    let both : found.a ≡ found.b = ap (λ (f : Equation). f.a) same ∙ made ∙ sym (ap (λ (f : Equation). f.b) same) in
-    absurd (false≢true (sym (ap not (ap (same_atom found.a) (sym both) ∙ same_atom-refl found.a)) ∙ sym is ∙ found-so))
+-- it is made where its atoms, as the view has them, are one
+pub is-made : (view : List Atom) (e found : Equation) → found ≡ resolved_equation view e → found.a ≡ found.b → IsMade view e
+is-made view e found same one = sym (ap (λ (f : Equation). f.a) same) ∙ one ∙ ap (λ (f : Equation). f.b) same
+
+pub not-made : (view : List Atom) (e found : Equation) → found ≡ resolved_equation view e → (found.a ≡ found.b → ⊥) → IsMade view e → ⊥
+not-made view e found same apart made = apart (ap (λ (f : Equation). f.a) same ∙ made ∙ sym (ap (λ (f : Equation). f.b) same))
 
 -- so the equation is told
 pub told-of : (told : Core → Equation → Type 0) (core : Core) (view : List Atom) (e : Equation) → IsMadeOrTold told core view e → (IsMade view e → ⊥) → told (trimmed_core view core) (resolved_equation view e)
@@ -119,12 +88,12 @@ told-of told core view e (inl made) not = absurd (not made)
 told-of told core view e (inr tells) not = tells
 
 -- the next equation of a run, and those behind it
-pub turn-next : (told : Core → Equation → Type 0) (core : Core) (view : List Atom) (run : List Equation) (i : ℕ) → i < length run
-    → (before : Equation) × IsMade view before × AreToldAfter told core before (drop i run)
-    → IsMadeOrTold told core view (get_or run i made_equation) × AreToldAfter told core (get_or run i made_equation) (drop (i + 1) run)
-turn-next told core view run i low turn =
-    let both = subst (AreToldAfter told core turn.0) (drop_more run i made_equation low) turn.2 in
-    (both.0 view turn.1, both.1)
+pub next-turn : (told : Core → Equation → Type 0) (core : Core) (view : List Atom) (run : List Equation) (i : ℕ) → i < length run → AreInTurn told core view (drop i run)
+    → AreInTurn told core view (get_or run i made_equation ∷ drop (i + 1) run)
+next-turn told core view run i low turn = subst (AreInTurn told core view) (drop_more run i made_equation low) turn
+
+pub first-told : (told : Core → Equation → Type 0) (core : Core) (view : List Atom) (e : Equation) (es : List Equation) → AreInTurn told core view (e ∷ es) → IsMadeOrTold told core view e
+first-told told core view e es turn = turn.told_behind.0 view turn.behind
 
 pub below-next : (n : ℕ) (run : List Equation) (i : ℕ) → i < length run → EquationsBelow n (drop i run)
     → (AtomBelow n (get_or run i made_equation).a × AtomBelow n (get_or run i made_equation).b) × EquationsBelow n (drop (i + 1) run)
@@ -137,17 +106,27 @@ unless-bottom bottom running (inr t) = t
 
 -- ---- what was taken
 
+-- nothing was asked
+counted-idle : (k : Kernel) (before : List Line) (left counter now : ℕ) → now ≤ counter → IsCounted k before before left counter now left
+counted-idle k before left counter now most lines added = omega (arith, most)
+
+-- of two flags the first that is set
+either-set : (m n : Bool) (P : Bool → Type 0) → (m ≡ true → P true) → (m ≡ false → P n) → P (m || n)
+either-set true n P first second = first refl
+either-set false n P first second = second refl
+
 module _ (told : Core → Equation → Type 0) (occurs : OccurrenceLists) (marks : List Bool) (id : ℕ) (core : Core) where
   pub taken-none : (k : Kernel) (before : List Line) (queue : Ids) → IsSaturation told k occurs queue marks → 1 ≤ times id queue.queued → trimmed_at k id ≡ Some (trimmed_core k.view core)
-      → HasTaken told occurs marks id core k before queue k before queue
+      → HasTaken told occurs marks id core k before queue k before queue false
   taken-none k before queue saturation queued there = record {
     saturation = saturation;
     queued = queued;
     there = there;
     vars = refl;
     adds = record { added = []; is = sym (append-none before); leads = refl; equations = tt };
-    counted = counted-none k before (left_to_ask k queue) 0;
+    counted = λ counter now most. counted-idle k before (left_to_ask k queue) counter now (omega (arith, most));
     less = omega arith;
+    still = λ _. refl;
   }
     where
       append-none : (lines : List Line) → lines ++ [] ≡ lines
@@ -155,41 +134,68 @@ module _ (told : Core → Equation → Type 0) (occurs : OccurrenceLists) (marks
       append-none (line ∷ lines) = ap (λ (l : List Line). line ∷ l) (append-none lines)
 
   module _ (k : Kernel) (old new : Ids) (saturation : IsSaturation told k occurs old marks) (below : CoreBelow (length k.view + 1) core) (there : trimmed_at k id ≡ Some (trimmed_core k.view core))
-      (running : k.bottom ≡ false) (first : 1 ≤ times id old.queued) (e : Equation) (tells : told (trimmed_core k.view core) e) (instance : is_instance_at (trimmed_core k.view core) e ≡ true)
+      (running : k.bottom ≡ false) (first : 1 ≤ times id old.queued) (e : Equation) (tells : IsToldInstance told (trimmed_core k.view core) e)
       (woken : IsWokenFor k e old new) (after : Kernel) (is : after ≡ equated k e) (stepped : step k (Equate id e) ≡ Ok after)
       (before behind : List Line) (line : behind ≡ before ++ Equate id e ∷ [])
     where
       labels : IsLabel k.view e.a × IsLabel k.view e.b
-      labels = there-labels k id (trimmed_core k.view core) saturation.kernel there e instance
+      labels = there-labels k id (trimmed_core k.view core) saturation.kernel there e tells.1
 
-      pub taken-one : HasTaken told occurs marks id core k before old after behind new
+      pub taken-one : HasTaken told occurs marks id core k before old after behind new true
       taken-one = record {
-        saturation = subst (λ (n : Kernel). IsSaturation told n occurs new marks) (sym is) (saturation-equated told k occurs old new marks saturation id (trimmed_core k.view core) there e instance woken);
+        saturation = subst (λ (n : Kernel). IsSaturation told n occurs new marks) (sym is) (saturation-equated told k occurs old new marks saturation id (trimmed_core k.view core) there e tells.1 woken);
         queued = woken-stays k e old new saturation.queued (loser_of k.view e.a e.b) woken id first;
         there = subst (λ (n : Kernel). trimmed_at n id ≡ Some (trimmed_core n.view core)) (sym is) (there-later k saturation.kernel id core below there e labels);
         vars = ap (λ (n : Kernel). length n.view) is ∙ same-vars k saturation.kernel e labels;
-        adds = record { added = Equate id e ∷ []; is = line; leads = (after, stepped, (trimmed_core k.view core, there, tells), refl); equations = tt };
-        counted = subst (λ (n : ℕ). IsCounted k before behind n 0 0 (left_to_ask after new)) (sym (left-running k old running))
-            (counted-taken told k occurs old new marks saturation id (trimmed_core k.view core) there e instance first woken after is stepped before behind line 0 0 (omega arith));
+        adds = record { added = Equate id e ∷ []; is = line; leads = (after, stepped, (trimmed_core k.view core, there, tells.0), refl); equations = tt };
+        counted = λ counter now most.
+            subst (λ (n : ℕ). IsCounted k before behind n counter now (left_to_ask after new)) (sym (left-running k old running))
+            (counted-taken told k occurs old new marks saturation id (trimmed_core k.view core) there e tells.1 first woken after is stepped before behind line counter now most);
         less = omega (arith, fewer);
+        still = λ none. absurd (false≢true (sym none));
       }
         where
           fewer : left_to_do after new < left_to_do k old
           fewer =
               subst (λ (n : Kernel). left_to_do n new < left_to_do k old) (sym is)
-              (less-equated told k occurs old new marks saturation id (trimmed_core k.view core) there e instance woken running)
+              (less-equated told k occurs old new marks saturation id (trimmed_core k.view core) there e tells.1 woken running)
 
-  pub taken-then : (k mid new : Kernel) (before behind last : List Line) (from next to : Ids) → HasTaken told occurs marks id core k before from mid behind next
-      → HasTaken told occurs marks id core mid behind next new last to → HasTaken told occurs marks id core k before from new last to
-  taken-then k mid new before behind last from next to one two = record {
-    saturation = two.saturation;
-    queued = two.queued;
-    there = two.there;
-    vars = two.vars ∙ one.vars;
-    adds = adds-trans told before behind last k mid new one.adds two.adds;
-    counted = counted-then told k mid new before behind last (left_to_ask k from) 0 0 (left_to_ask mid next) 0 (left_to_ask new to) one.adds two.adds one.counted two.counted;
-    less = omega (arith, one.less, two.less);
-  }
+  module _ (k mid new : Kernel) (before behind last : List Line) (from next to : Ids) where
+    -- what was taken, and then more
+    module _ (m n : Bool) (one : HasTaken told occurs marks id core k before from mid behind next m) (two : HasTaken told occurs marks id core mid behind next new last to n) where
+      both-counted : (counter now later : ℕ) → now ≤ counter + (if m then 3 else 0) → later ≤ now + (if n then 3 else 0) → IsCounted k before last (left_to_ask k from) counter later (left_to_ask new to)
+      both-counted counter now later most more =
+          counted-then told k mid new before behind last (left_to_ask k from) counter now (left_to_ask mid next) later (left_to_ask new to) one.adds two.adds (one.counted counter now most) (two.counted now later more)
+
+      then-counted : (counter now : ℕ) → now ≤ counter + (if m || n then 3 else 0) → IsCounted k before last (left_to_ask k from) counter now (left_to_ask new to)
+      then-counted counter now =
+          either-set m n (λ (b : Bool). now ≤ counter + (if b then 3 else 0) → IsCounted k before last (left_to_ask k from) counter now (left_to_ask new to))
+          (λ set most. both-counted counter now now (subst (λ (b : Bool). now ≤ counter + (if b then 3 else 0)) (sym set) most) (omega arith))
+          (λ unset most. both-counted counter counter now (omega arith) most)
+
+      then-less : left_to_do new to + (if m || n then 1 else 0) ≤ left_to_do k from
+      then-less =
+          either-set m n (λ (b : Bool). left_to_do new to + (if b then 1 else 0) ≤ left_to_do k from)
+          (λ set. let strict = subst (λ (b : Bool). left_to_do mid next + (if b then 1 else 0) ≤ left_to_do k from) set one.less in omega (arith, strict, two.less))
+          (λ unset. omega (arith, one.less, two.less))
+
+      then-still : (m || n) ≡ false → new ≡ k
+      then-still =
+          either-set m n (λ (b : Bool). b ≡ false → new ≡ k)
+          (λ set none. absurd (false≢true (sym none)))
+          (λ unset none. two.still none ∙ one.still unset)
+
+      pub taken-then : HasTaken told occurs marks id core k before from new last to (m || n)
+      taken-then = record {
+        saturation = two.saturation;
+        queued = two.queued;
+        there = two.there;
+        vars = two.vars ∙ one.vars;
+        adds = adds-trans told before behind last k mid new one.adds two.adds;
+        counted = then-counted;
+        less = then-less;
+        still = then-still;
+      }
 
 -- ---- a core that was asked
 
@@ -199,36 +205,47 @@ there-trimmed k is id core there =
     let r = is-there k id core there in
     ap (trimmed_core k.view) (sym r.is) ∙ trimmed_again k.view r.core is.labelled ∙ r.is
 
-module _ (told : Core → Equation → Type 0) (k : Kernel) (occurs : OccurrenceLists) (old next : Ids) (marks : List Bool) (saturation : IsSaturation told k occurs old marks)
-    (id : ℕ) (core : Core) (there : trimmed_at k id ≡ Some core) (running : k.bottom ≡ false) (first : 1 ≤ times id old.queued)
-    (e : Equation) (tells : told core e) (instance : is_instance_at core e ≡ true) (woken : IsWokenFor k e old next)
-    (mid : Kernel) (is : mid ≡ equated k e) (stepped : step k (Equate id e) ≡ Ok mid) (before behind : List Line) (line : behind ≡ before ++ Equate id e ∷ [])
+-- so it is there as it was asked
+pub there-asked : (k : Kernel) → IsKernel k → (id : ℕ) (core : Core) → trimmed_at k id ≡ Some core → trimmed_at k id ≡ Some (trimmed_core k.view core)
+there-asked k is id core there = there ∙ ap Some (sym (there-trimmed k is id core there))
+
+-- where nothing of a run was taken, an equation that is taken then is the first
+module _ (told : Core → Equation → Type 0) (occurs : OccurrenceLists) (marks : List Bool) (id : ℕ) (core : Core) (k mid : Kernel) (before behind : List Line) (from next : Ids) (some : Bool)
+    (taken : HasTaken told occurs marks id core k before from mid behind next some) (none : some ≡ false) (there : trimmed_at k id ≡ Some core)
   where
-    same : trimmed_core k.view core ≡ core
-    same = there-trimmed k saturation.kernel id core there
+    pub idle-there : trimmed_at mid id ≡ Some core
+    idle-there = subst (λ (n : Kernel). trimmed_at n id ≡ Some core) (sym (taken.still none)) there
 
-    -- what the first equation makes
-    pub asked-first : HasTaken told occurs marks id core k before old mid behind next
-    asked-first =
-        taken-one told occurs marks id core k old next saturation (there-below k id core saturation.kernel there) (there ∙ ap Some (sym same)) running first e
-        (subst (λ (c : Core). told c e) (sym same) tells) (subst (λ (c : Core). is_instance_at c e ≡ true) (sym same) instance) woken mid is stepped before behind line
+    pub idle-running : k.bottom ≡ false → mid.bottom ≡ false
+    idle-running running = subst (λ (n : Kernel). n.bottom ≡ false) (sym (taken.still none)) running
 
-    pub asked-core : CoreBelow (length mid.view + 1) core
-    asked-core = subst (λ (n : ℕ). CoreBelow (n + 1) core) (sym asked-first.vars) (there-below k id core saturation.kernel there)
+    pub idle-equation : k.bottom ≡ false → (e : Equation) → IsToldInstance told core e → (to : Ids) → IsWokenFor mid e next to → (new : Kernel) → new ≡ equated mid e → step mid (Equate id e) ≡ Ok new
+        → (last : List Line) → last ≡ behind ++ Equate id e ∷ [] → HasTaken told occurs marks id core k before from new last to true
+    idle-equation running e tells to woken new is stepped last line =
+        let kernel = taken.saturation.kernel in
+        let one = taken-one told occurs marks id core mid next to taken.saturation (there-below mid id core kernel idle-there) (there-asked mid kernel id core idle-there) (idle-running running) taken.queued e
+        (subst (λ (c : Core). IsToldInstance told c e) (sym (there-trimmed mid kernel id core idle-there)) tells) woken new is stepped behind last line in
+        subst (λ (b : Bool). HasTaken told occurs marks id core k before from new last to (b || true)) none (taken-then told occurs marks id core k mid new before behind last from next to some true taken one)
 
-    module _ (new : Kernel) (last : List Line) (to : Ids) (taken : HasTaken told occurs marks id core mid behind next new last to) where
-      pub asked-adds : AddsEquations told before k last new
-      asked-adds = adds-trans told before behind last k mid new asked-first.adds taken.adds
+-- the same lines before
+pub lines-same : {told : Core → Equation → Type 0} {occurs : OccurrenceLists} {marks : List Bool} {id : ℕ} {core : Core} {k new : Kernel} {items before behind : List Line} {from to : Ids} {some : Bool}
+    → items ≡ before → HasTaken told occurs marks id core k items from new behind to some → HasTaken told occurs marks id core k before from new behind to some
+lines-same {told} {occurs} {marks} {id} {core} {k} {new} {items} {before} {behind} {from} {to} {some} same taken =
+    subst (λ (lines : List Line). HasTaken told occurs marks id core k lines from new behind to some) same taken
 
-      pub asked-counted : (counter now : ℕ) → now ≤ counter + 3 → IsCounted k before last (length old.queued) counter now (left_to_ask new to)
-      asked-counted counter now most =
-          let one = counted-taken told k occurs old next marks saturation id core there e instance first woken mid is stepped before behind line counter now most in
-          λ lines added.
-          let total = counted-then told k mid new before behind last (length old.queued) counter now (left_to_ask mid next) now (left_to_ask new to) asked-first.adds taken.adds one
-          (λ more is_more. omega (arith, taken.counted more is_more)) in
-          total lines added
+-- the same flag
+pub flag-is : {told : Core → Equation → Type 0} {occurs : OccurrenceLists} {marks : List Bool} {id : ℕ} {core : Core} {k new : Kernel} {before behind : List Line} {from to : Ids} {some other : Bool}
+    → some ≡ other → HasTaken told occurs marks id core k before from new behind to some → HasTaken told occurs marks id core k before from new behind to other
+flag-is {told} {occurs} {marks} {id} {core} {k} {new} {before} {behind} {from} {to} {some} {other} same taken =
+    subst (λ (b : Bool). HasTaken told occurs marks id core k before from new behind to b) same taken
 
-      pub asked-less : left_to_do new to < left_to_do k old
-      asked-less =
-          let fewer = subst (λ (n : Kernel). left_to_do n next < left_to_do k old) (sym is) (less-equated told k occurs old next marks saturation id core there e instance woken running) in
-          omega (arith, fewer, taken.less)
+-- what was taken behind a question, where something was
+module _ (told : Core → Equation → Type 0) (occurs : OccurrenceLists) (marks : List Bool) (id : ℕ) (core : Core) (k new : Kernel) (before last : List Line) (from to : Ids)
+    (taken : HasTaken told occurs marks id core k before from new last to true)
+  where
+    pub asked-counted : k.bottom ≡ false → (counter now : ℕ) → now ≤ counter + 3 → IsCounted k before last (length from.queued) counter now (left_to_ask new to)
+    asked-counted running counter now most =
+        subst (λ (n : ℕ). IsCounted k before last n counter now (left_to_ask new to)) (left-running k from running) (taken.counted counter now most)
+
+    pub asked-less : left_to_do new to < left_to_do k from
+    asked-less = omega (arith, taken.less)

@@ -1,28 +1,22 @@
 //! One question after another, until the queue is empty.
 
-ghost use Rattle.std.specs.Prelude.{ℕ, ◌≡◌, ◌⊎◌, ◌+◌, ◌<◌, ◌≤◌, ◌++◌, ◌∷◌, [], true, false, length, vec_len, vec_capacity, Some, Ok, IfOk, OnOk, OnErr};
-ghost use Rattle.order_ints.specs.Label.{IsLabel};
-ghost use Rattle.index_ring.specs.Lists.{times, without};
-ghost use Rattle.core_forms.specs.declared.equation.Equation.{Equation};
+ghost use Rattle.std.specs.Prelude.{ℕ, ◌≡◌, ◌⊎◌, ◌+◌, ◌<◌, ◌≤◌, [], true, false, length, Some, IfOk, OnOk, OnErr};
+ghost use Rattle.index_ring.specs.Lists.{times};
 ghost use Rattle.core_forms.specs.declared.form.Core.{Core};
 ghost use Rattle.core_forms.specs.Plain.{IsPlain};
 ghost use Rattle.core_forms.specs.WellFormed.{IsWellFormed};
-ghost use Rattle.step_kernel.specs.Kernel.{Kernel, trimmed_at, IsKernel};
-ghost use Rattle.ledger_text.specs.declared.line.Line.TheVariants.{Equate};
-ghost use Rattle.core_rules.specs.Instances.{is_instance_at};
-ghost use Rattle.step_kernel.specs.Steps.{step, equated};
-ghost use Rattle.fixpoint_queue.specs.IdQueue.{IsIds};
+ghost use Rattle.step_kernel.specs.Kernel.{trimmed_at, IsKernel};
 ghost use Rattle.fixpoint_queue.specs.Ledgers.{AddsEquations};
 ghost use Rattle.fixpoint_queue.specs.Quiet.{IsClosed};
 ghost use Rattle.fixpoint_queue.specs.Pairs.{IsCounted};
 ghost use Rattle.fixpoint_queue.specs.Told.{IsTold, IsAnswer};
-ghost use Rattle.fixpoint_queue.specs.Waits.{IsSaturation, IsWokenFor, left_to_do, left_to_ask};
+ghost use Rattle.fixpoint_queue.specs.Waits.{IsSaturation, left_to_do, left_to_ask};
 
 use crate::id_queue::IdQueue;
 use crate::marks::Marks;
 use crate::oracle::Oracle;
 use crate::taking::{take_equation, take_run};
-use core_forms::{Core, Equation};
+use core_forms::Core;
 use core_occurrences::Occurrences;
 use core_rules::FoundRun;
 use ledger_text::Line;
@@ -34,7 +28,7 @@ use step_kernel::{State, is_compound};
 /// What a core was found to tell.
 #[derive(Drop)]
 enum Answer {
-    /// An equation and a run, with the core as the store has it.
+    /// An equation, and those that are told in turn, with the core as the store has it.
     Told(Core, FoundRun),
     /// Nothing, and whether the core is compound.
     Silent(bool),
@@ -106,8 +100,8 @@ fn ask_pending<F: Oracle<L>, L: Ledger>(
     }
 }
 
-/// Takes an equation that was found at a core, which stands here as the store has it, with those that the core
-/// tells one after another.
+/// Takes the equations that a core tells one after another, and where all of these were made before, the one that was
+/// found. The core stands here as the store has it.
 fn take_found<F: Oracle<L>, L: Ledger>(
     state: &mut State,
     occurs: &Occurrences,
@@ -133,8 +127,7 @@ fn take_found<F: Oracle<L>, L: Ledger>(
     ensures less { OnOk result (left_to_do state.new queue.new < left_to_do state.old queue.old) }
 {
     ledger.reserve(1 + found.run.len())?;
-    take_equation(state, occurs, queue, ledger, u64::from(id), found.equation);
-    take_run::<F, L>(
+    let some = take_run::<F, L>(
         state,
         occurs,
         queue,
@@ -144,6 +137,10 @@ fn take_found<F: Oracle<L>, L: Ledger>(
         core,
         found.run.as_slice(),
     );
+    if some {
+        return Ok(());
+    }
+    take_equation(state, occurs, queue, ledger, u64::from(id), found.equation);
     Ok(())
 }
 

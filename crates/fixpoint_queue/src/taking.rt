@@ -1,13 +1,13 @@
 //! Equations that a core tells, taken one after another.
 
-ghost use Rattle.std.specs.Prelude.{ℕ, ◌≡◌, ◌⊎◌, ◌+◌, ◌<◌, ◌≤◌, ◌++◌, ◌∷◌, [], true, false, length, vec_len, vec_capacity, Some, Ok};
+ghost use Rattle.std.specs.Prelude.{ℕ, List, ◌≡◌, ◌⊎◌, ◌||◌, ◌+◌, ◌<◌, ◌≤◌, ◌++◌, ◌∷◌, [], true, false, length, vec_len, vec_capacity, Some, Ok};
 ghost use Rattle.order_ints.specs.Label.{IsLabel};
 ghost use Rattle.order_ints.specs.Place.{AtomBelow};
 ghost use Rattle.index_ring.specs.Lists.{times};
 ghost use Rattle.core_forms.specs.declared.equation.Equation.{Equation};
 ghost use Rattle.core_forms.specs.Place.{CoreBelow};
 ghost use Rattle.core_forms.specs.Trimmed.{trimmed_core};
-ghost use Rattle.equation_runs.specs.Turns.{resolved_equation, IsMade, IsMadeOrTold, AreToldInTurn, EquationsBelow};
+ghost use Rattle.equation_runs.specs.Turns.{resolved_equation, IsMadeOrTold, AreInTurn, AreToldInTurn, EquationsBelow};
 ghost use Rattle.ledger_text.specs.declared.line.Line.TheVariants.{Equate};
 ghost use Rattle.step_kernel.specs.Kernel.{trimmed_at, IsKernel};
 ghost use Rattle.step_kernel.specs.Instances.{IsInstanceAt};
@@ -15,6 +15,7 @@ ghost use Rattle.step_kernel.specs.Steps.{step, equated};
 ghost use Rattle.fixpoint_queue.specs.IdQueue.{IsIds};
 ghost use Rattle.fixpoint_queue.specs.Listed.{IsListed};
 ghost use Rattle.fixpoint_queue.specs.Taken.{HasTaken};
+ghost use Rattle.fixpoint_queue.specs.Told.{IsToldInstance};
 ghost use Rattle.fixpoint_queue.specs.Waits.{IsSaturation, IsWokenFor};
 
 use crate::id_queue::IdQueue;
@@ -83,7 +84,7 @@ fn resolved(state: &State, e: &Equation) -> Equation
     }
 }
 
-/// Takes an equation of a run, as the store has it, unless it is made already.
+/// Takes an equation of a run, as the store has it, unless it is made already, and tells whether it did.
 fn take_next<F: Oracle<L>, L: Ledger>(
     state: &mut State,
     occurs: &Occurrences,
@@ -93,7 +94,7 @@ fn take_next<F: Oracle<L>, L: Ledger>(
     id: u32,
     core: &Core,
     e: &Equation,
-)
+) -> bool
     requires saturation { IsSaturation F.told state.old occurs.now queue.old marks.now }
     requires running { state.old.bottom ≡ false }
     requires queued { 1 ≤ times id queue.old.queued }
@@ -101,21 +102,32 @@ fn take_next<F: Oracle<L>, L: Ledger>(
     requires core { CoreBelow (length state.old.view + 1) core.now }
     requires first { AtomBelow (length state.old.view + 1) e.now.a }
     requires second { AtomBelow (length state.old.view + 1) e.now.b }
-    requires told { IsMadeOrTold F.told core.now state.old.view e.now }
+    requires told { IsMadeOrTold (IsToldInstance F.told) core.now state.old.view e.now }
     requires room { vec_len ledger.old < vec_capacity ledger.old }
     ensures taken { HasTaken F.told occurs.now marks.now id core.now
-        state.old ledger.old.items queue.old state.new ledger.new.items queue.new }
-    ensures made { (state.new.bottom ≡ true) ⊎ IsMade state.new.view e.now }
+        state.old ledger.old.items queue.old state.new ledger.new.items queue.new result }
+    ensures turn { (es : List Equation) → AreInTurn (IsToldInstance F.told) core.now state.old.view (e.now ∷ es)
+        → (state.new.bottom ≡ true) ⊎ AreInTurn (IsToldInstance F.told) core.now state.new.view es }
     ensures lines { vec_len ledger.new ≤ vec_len ledger.old + 1 }
     ensures room { vec_capacity ledger.new ≡ vec_capacity ledger.old }
 {
     let e = resolved(state, e);
-    if e.a != e.b {
-        take_equation(state, occurs, queue, ledger, u64::from(id), e);
+    if e.a == e.b {
+        return false;
     }
+    take_equation(state, occurs, queue, ledger, u64::from(id), e);
+    true
 }
 
-/// Takes equations that a core tells one after another, up to a contradiction.
+/// Whether one of two flags is set.
+fn either(first: bool, second: bool) -> bool
+    ensures { result ≡ (first || second) }
+{
+    first || second
+}
+
+/// Takes equations that a core tells one after another, up to a contradiction, and tells whether one was taken. The
+/// core stands here as the store has it before the first of them.
 pub fn take_run<F: Oracle<L>, L: Ledger>(
     state: &mut State,
     occurs: &Occurrences,
@@ -125,21 +137,25 @@ pub fn take_run<F: Oracle<L>, L: Ledger>(
     id: u32,
     core: &Core,
     run: &[Equation],
-)
+) -> bool
     requires saturation { IsSaturation F.told state.old occurs.now queue.old marks.now }
     requires queued { 1 ≤ times id queue.old.queued }
-    requires there { trimmed_at state.old id ≡ Some (trimmed_core state.old.view core.now) }
-    requires core { CoreBelow (length state.old.view + 1) core.now }
+    requires there { trimmed_at state.old id ≡ Some core.now }
     requires below { EquationsBelow (length state.old.view + 1) run.now }
-    requires told { AreToldInTurn F.told core.now run.now }
+    requires told { AreToldInTurn (IsToldInstance F.told) core.now run.now }
     requires room { vec_len ledger.old + length run.now ≤ vec_capacity ledger.old }
-    ensures { HasTaken F.told occurs.now marks.now id core.now
-        state.old ledger.old.items queue.old state.new ledger.new.items queue.new }
+    ensures taken { HasTaken F.told occurs.now marks.now id core.now
+        state.old ledger.old.items queue.old state.new ledger.new.items queue.new result }
+    ensures lines { vec_len ledger.new ≤ vec_len ledger.old + length run.now }
+    ensures room { vec_capacity ledger.new ≡ vec_capacity ledger.old }
 {
+    let mut some = false;
     for e in run {
         if state.bottom() {
-            return;
+            return some;
         }
-        take_next::<F, L>(state, occurs, queue, marks, ledger, id, core, e);
+        let taken = take_next::<F, L>(state, occurs, queue, marks, ledger, id, core, e);
+        some = either(some, taken);
     }
+    some
 }

@@ -93,7 +93,7 @@ fn statement_shown(alloc: Global, text: &str) -> Result<String, Fail> {
 #[test]
 fn a_statement_has_its_arguments(rt: HostRuntime) -> Result<(), Fail> {
     let what = statement_shown(rt.alloc(), "new_bool(x) bool2int(-x,i) solve satisfy")?;
-    let want = "L3 { truth: Of { place: 0, positive: false }, number: Of(1) }";
+    let want = "BoolToInt { truth: Of { place: 0, positive: false }, number: Of(1) }";
     assert_eq!(rt; what.as_str(), want);
     Ok(())
 }
@@ -211,7 +211,7 @@ fn stated(number: u64, right: BoolTerm) -> Stmt {
     };
     Stmt {
         number,
-        what: What::L4 { left, right },
+        what: What::BoolEq { left, right },
     }
 }
 

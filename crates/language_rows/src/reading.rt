@@ -2,7 +2,7 @@
 
 use bee_list::Sequence;
 use bumblebee_reader::{
-    Arg, GoalKind, Item, Items, ReadFault, Syntax, Term, print_model, read_model,
+    Arg, GoalKind, Item, ItemReader, ReadFault, Syntax, Term, print_model, read_model,
 };
 use std::alloc::{AllocError, Global};
 use std::process::Abort;
@@ -243,7 +243,7 @@ fn item_shown(alloc: Global, item: Item) -> Result<Vec<u8>, AllocError> {
 }
 
 /// What one call gives: the item's canonical text, `end`, or the fault in words.
-fn next_shown(alloc: Global, items: &mut Items<'_>) -> Result<Vec<u8>, Fail> {
+fn next_shown(alloc: Global, items: &mut ItemReader<'_>) -> Result<Vec<u8>, Fail> {
     match items.next_item(alloc) {
         Ok(Some(item)) => Ok(item_shown(alloc, item)?),
         Ok(None) => Ok(Vec::from_slice(alloc, b"end")?),
@@ -277,7 +277,7 @@ static CALLS: [(&[u8], [&[u8]; 3]); 7] = [
 #[test]
 fn gives_items_one_at_a_time(rt: HostRuntime) -> Result<(), Fail> {
     for (text, wants) in &CALLS {
-        let mut items = Items::new(text);
+        let mut items = ItemReader::new(text);
         for want in wants {
             let got = next_shown(rt.alloc(), &mut items)?;
             assert_eq!(rt; got.as_slice(), *want, "at {text:?}");

@@ -1,9 +1,10 @@
 -- A learned clause that goes, from store and log, and what no reference shares: a learned id.
-use Rattle.std.proofs.Common.{◌≡◌, ◌≢◌, ℕ, suc, ◌<◌, true, false, List, [], ◌∷◌, ◌++◌, length, take, drop, Option, Some, None, is_some, ap, sym, ◌∙◌, subst, arith, ⊎_elim}
+use Rattle.std.proofs.Common.{◌≡◌, ◌≢◌, ℕ, suc, ◌<◌, ◌≤◌, ◌^◌, true, false, List, [], ◌∷◌, ◌++◌, length, take, drop, Option, Some, None, is_some, ap, sym, ◌∙◌, subst, arith, ⊎_elim}
 use Rattle.std.specs.Prelude.{slice_set, IsTrue}
 use Rattle.std.specs.Option.{option_and_then}
 use Rattle.std.proofs.lemmas.Bool.{cases_eq, cond-true}
 use Rattle.std.proofs.lemmas.List.{get_or-set_other, get_or-set_same, get_or_default}
+use Rattle.std.proofs.lemmas.List.Sorted.{length_permutation}
 use Rattle.std.proofs.Math.ListN.{replicate}
 use Rattle.order_ints.specs.declared.literal.Lit.{Lit}
 use Rattle.order_ints.specs.declared.cnf.Cnf.{Cnf}
@@ -122,7 +123,7 @@ module _ (live : List Named) (cs : List Clause) (base c : ℕ) (is : IsKept live
       (live-before cs (slice_set cs c no_clause) e same there, ap (λ (x : Clause). x.id) same))
 
 -- with a line in the log
-module _ (cnf : Cnf) (log : List ProofLine) (is : IsLog cnf log) (cs : List Clause) (kept : IsKept (proof_behind cnf log).live cs) (c : ℕ) (here : IsLive cs c) (learned : length cnf.clauses < (stored_at cs c).id) (at : ℕ) (items : List ProofLine) (goes : items ≡ log ++ Delete at ((stored_at cs c).id ∷ []) ∷ []) where
+module _ (cnf : Cnf) (log : List ProofLine) (is : IsLog cnf log) (cs : List Clause) (kept : IsKept (proof_behind cnf log).live cs) (c : ℕ) (here : IsLive cs c) (learned : length cnf.clauses < (stored_at cs c).id) (long : 2 ≤ length (lits_of cs c)) (narrow : (stored_at cs c).id < 2 ^ 64) (at : ℕ) (mark : at ≡ (proof_behind cnf log).last) (small : at < 2 ^ 64) (items : List ProofLine) (goes : items ≡ log ++ Delete at ((stored_at cs c).id ∷ []) ∷ []) where
   lives-there : (d : Named) × Lives (proof_behind cnf log).live d × ((stored_at cs c).id ≡ d.id)
   lives-there = let w = kept.named c here in (w.0, w.1, w.2.id)
 
@@ -148,10 +149,17 @@ module _ (cnf : Cnf) (log : List ProofLine) (is : IsLog cnf log) (cs : List Clau
       absurd (omega (arith, range.1, learned, w.2, ap (λ (x : Cnf). length x.clauses) (cnf-behind (proof_of cnf) log))))
       (cases-at (numbered 1 p.cnf.clauses) d.id)
 
+  were-long : (lits : List Lit) → clause_at (proof_behind cnf log).live (stored_at cs c).id ≡ Some lits → 2 ≤ length lits
+  were-long lits there =
+      let w = kept.named c here in
+      let e : Some w.0.lits ≡ Some lits = sym w.1 ∙ sym (ap (λ (i : ℕ). clause_at (proof_behind cnf log).live i) w.2.id) ∙ there in
+      let same : w.0.lits ≡ lits = cc in
+      omega (arith, long, length_permutation w.0.lits (lits_of cs c) w.2.lits, ap (λ (l : List Lit). length l) same)
+
   pub log-gone : IsLog cnf items
   log-gone =
       let P : List ProofLine → Type 0 = IsLog cnf in
-      subst P (sym goes) (log-deleted cnf log is at ((stored_at cs c).id ∷ []) no-fault (was-added, tt))
+      subst P (sym goes) (log-deleted cnf log is at (stored_at cs c).id (small, ((omega (arith, learned), narrow), tt)) mark no-fault (was-added, tt) were-long)
 
   pub additions-gone : additions items ≡ additions log
   additions-gone = ap additions goes ∙ additions-delete log at ((stored_at cs c).id ∷ [])

@@ -24,11 +24,11 @@ use Rattle.learning_solver.specs.Searching.{Stays}
 use Rattle.learning_solver.specs.Ending.{last_lits, IsNamedBy, IsDenied}
 use Rattle.learning_solver.proofs.ReasonLaws.{member-first, member-more, member-cases}
 
-no-member : (l : Lit) → Contains [] l → ⊥
+pub no-member : (l : Lit) → Contains [] l → ⊥
 no-member l has = omega (arith, has.1)
 
 -- a list in another order, where it has one literal at most
-perm-last : (last : Option Lit) (xs : List Lit) → IsPermutation xs (last_lits last) → xs ≡ last_lits last
+pub perm-last : (last : Option Lit) (xs : List Lit) → IsPermutation xs (last_lits last) → xs ≡ last_lits last
 perm-last None [] perm = refl
 perm-last None (x ∷ xs) perm = absurd (omega (arith, length_permutation (x ∷ xs) [] perm))
 perm-last (Some l) [] perm = absurd (omega (arith, length_permutation [] (l ∷ []) perm))
@@ -79,7 +79,7 @@ new-empty live cs kept none d lives =
     new-of-empty live d (λ e. none st.0 st.1.live (empty-perm d.lits (lits_of cs st.0) st.1.lits e)) d.lits refl
 
 -- the members of a list that lies within one literal
-within-one : (l : Lit) (xs : List Lit) → lies_within xs (l ∷ []) ≡ true → (x : Lit) → Contains xs x → x ≡ l
+pub within-one : (l : Lit) (xs : List Lit) → lies_within xs (l ∷ []) ≡ true → (x : Lit) → Contains xs x → x ≡ l
 within-one l [] e x has = absurd (no-member x has)
 within-one l (y ∷ ys) e x has =
     let both = and_parts (has_lit y (l ∷ [])) (lies_within ys (l ∷ [])) e in
@@ -93,7 +93,7 @@ within-one l (y ∷ ys) e x has =
     nothing y f = cc
 
 -- where all literals are one, and variables differ, there is one literal at most
-one-at-most : (l : Lit) (ls : List Lit) → ((x : Lit) → Contains ls x → x ≡ l) → IsApart ls → (ls ≡ []) ⊎ (ls ≡ l ∷ [])
+pub one-at-most : (l : Lit) (ls : List Lit) → ((x : Lit) → Contains ls x → x ≡ l) → IsApart ls → (ls ≡ []) ⊎ (ls ≡ l ∷ [])
 one-at-most l [] all apart = inl refl
 one-at-most l (x ∷ []) all apart = inr (ap (λ (y : Lit). y ∷ []) (all x (member-first x [])))
 one-at-most l (x ∷ y ∷ ls) all apart =

@@ -8,7 +8,7 @@ mod LitLaws
 mod SearchLaws
 mod ReasonLaws
 mod TurnLaws
-mod PaceLaws
+mod RestartLaws
 mod RunLaws
 mod EndLaws
 mod SolutionLaws
@@ -17,3 +17,5 @@ mod AcceptLaws
 mod TeachLaws
 mod StartLaws
 mod DeleteLaws
+mod OpenLaws
+mod ReadableLaws

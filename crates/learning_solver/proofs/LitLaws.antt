@@ -22,7 +22,7 @@ passed : (b : Bool) (behind : Option ProofFault) (e : ProofFault) → (if b then
 passed true behind e none = (refl, none)
 passed false behind e none = cc
 
-both-none : (a b : Option ProofFault) → or_else a b ≡ None → (a ≡ None) × (b ≡ None)
+pub both-none : (a b : Option ProofFault) → or_else a b ≡ None → (a ≡ None) × (b ≡ None)
 both-none None b e = (refl, e)
 both-none (Some x) b e = cc
 

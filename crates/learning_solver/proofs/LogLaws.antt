@@ -2,19 +2,22 @@
 use Rattle.std.proofs.Common.{◌≡◌, ℕ, ◌+◌, ◌≤◌, ◌<◌, true, false, List, [], ◌∷◌, ◌++◌, length, Option, Some, None, is_some, Result, Ok, Err, refl, ap, sym, ◌∙◌, subst, arith, ⊎_elim, append_assoc}
 use Rattle.std.specs.Prelude.{IsTrue, ℤ}
 use Rattle.std.proofs.lemmas.Bool.{cases_eq}
+use Rattle.std.proofs.lemmas.List.{map-append}
 use Rattle.order_ints.specs.declared.literal.Lit.{Lit}
 use Rattle.order_ints.specs.declared.cnf.Cnf.{Cnf}
 use Rattle.proof_check.specs.declared.fault.ProofFault.{ProofFault}
 use Rattle.proof_check.specs.declared.line.ProofLine.{ProofLine}
 use Rattle.proof_check.specs.declared.line.ProofLine.TheVariants.{Add, Delete}
-use Rattle.proof_check.specs.Named.{Named, numbered, clause_at, has_id, without, without_all, Lives}
+use Rattle.proof_check.specs.Named.{Named, numbered, literals_of, clause_at, has_id, without, without_all, Lives}
 use Rattle.proof_check.specs.Lrat.{Proof, proof_of, line_fault, after_line, unless_fault, behind, take_line, take_lines, addition_fault, with_clause}
 use Rattle.proof_check.specs.Faults.{deletion_fault}
 use Rattle.proof_check.specs.New.{New}
-use Rattle.learning_solver.specs.Log.{additions, after_lines, proof_behind, AreAdded, IsFresh, EachLine, IsFreshLog, all_named, IsLog}
+use Rattle.proof_check.specs.Known.{all_clauses}
+use Rattle.proof_check.specs.Lines.{Each, IsReadable}
+use Rattle.learning_solver.specs.Log.{additions, after_lines, proof_behind, AreAdded, IsFresh, EachLine, IsFreshLog, all_named, StaysKnown, IsLog}
 use Rattle.clause_rings.specs.Clauses.{IsApart}
 use Rattle.learning_solver.proofs.LitLaws.{lits-of-addition}
-use Rattle.learning_solver.proofs.NamedLaws.{cases-at, at-front, at-back, at-more, at-first, at-others, at-without, lives-without, numbered-range}
+use Rattle.learning_solver.proofs.NamedLaws.{cases-at, at-front, at-back, at-more, at-first, at-last, at-others, at-without, lives-without, numbered-range}
 
 pub after-more : (p : Proof) (lines : List ProofLine) (line : ProofLine) → after_lines p (lines ++ line ∷ []) ≡ after_line (after_lines p lines) line
 after-more p [] line = refl
@@ -68,24 +71,42 @@ none-lives-above cnf log is id high =
 record IsLogAt (cnf : Cnf) (log : List ProofLine) (p : Proof) : Type 0 where
   accepted : take_lines (proof_of cnf) log ≡ Ok p
   fresh : IsFreshLog cnf log
+  readable : Each IsReadable log
   last : p.last ≡ length cnf.clauses + additions log
   cnf_lives : (d : Named) → Lives (numbered 1 cnf.clauses) d → Lives p.live d
   known : (d : Named) → Lives p.live d → Lives (all_named p) d
   differ : (d : Named) → Lives p.live d → IsApart d.lits
   low : (d : Named) → Lives (all_named p) d → d.id ≤ p.last
   apart : (id : ℕ) → IsTrue (has_id p.added id) → length cnf.clauses < id
+  short : Each (StaysKnown p.live) (all_clauses p)
 
 log-at : (cnf : Cnf) (log : List ProofLine) → IsLogAt cnf log (proof_behind cnf log) → IsLog cnf log
 log-at cnf log is = record {
   accepted = is.accepted;
   fresh = is.fresh;
+  readable = is.readable;
   last = is.last;
   cnf_lives = is.cnf_lives;
   known = is.known;
   differ = is.differ;
   low = is.low;
   apart = is.apart;
+  short = is.short;
 }
+
+each-weaker : (P Q : List Lit → Type 0) (xs : List (List Lit)) → ((x : List Lit) → P x → Q x) → Each P xs → Each Q xs
+each-weaker P Q [] step each = tt
+each-weaker P Q (x ∷ xs) step each = (step x each.0, each-weaker P Q xs step each.1)
+
+each-last : {X : Type 0} (P : X → Type 0) (xs : List X) (x : X) → Each P xs → P x → Each P (xs ++ x ∷ [])
+each-last P [] x each here = (here, tt)
+each-last P (y ∷ ys) x each here = (each.0, each-last P ys x each.1 here)
+
+-- one known clause more
+more-clauses : (cs : List (List Lit)) (ds : List Named) (c : Named) → cs ++ literals_of (ds ++ c ∷ []) ≡ (cs ++ literals_of ds) ++ c.lits ∷ []
+more-clauses cs ds c =
+    ap (λ (l : List (List Lit)). cs ++ l) (map-append (λ (d : Named). d.lits) ds (c ∷ []))
+    ∙ sym (append_assoc cs (literals_of ds) (c.lits ∷ []))
 
 -- what an addition makes of a proof that is a log's
 module _ (cnf : Cnf) (log : List ProofLine) (is : IsLog cnf log) (id : ℕ) (lits : List Lit) (next : id ≡ (proof_behind cnf log).last + 1) where
@@ -137,8 +158,19 @@ module _ (cnf : Cnf) (log : List ProofLine) (is : IsLog cnf log) (id : ℕ) (lit
       (λ (w : (l : List Lit) × (clause_at p.added i ≡ Some l)). is.apart i (ap (λ (o : Option (List Lit)). is_some o) w.1))
       (cases-at p.added i)
 
-  pub log-added : (hints : List ℤ) → addition_fault (proof_behind cnf log) id lits hints ≡ None → New (proof_behind cnf log).live lits → IsLog cnf (log ++ Add id lits hints ∷ [])
-  log-added hints fault new =
+  added-short : IsApart lits → Each (StaysKnown ((proof_behind cnf log).live ++ record { id = id; lits = lits } ∷ [])) (all_clauses (with_clause (proof_behind cnf log) (record { id = id; lits = lits })))
+  added-short differ =
+      let p = proof_behind cnf log in
+      let c : Named = record { id = id; lits = lits } in
+      let S : List Lit → Type 0 = StaysKnown (p.live ++ c ∷ []) in
+      let P : List (List Lit) → Type 0 = Each S in
+      let before : Each S (all_clauses p)
+      = each-weaker (StaysKnown p.live) S (all_clauses p) (λ x st. record { apart = st.apart; lives = λ few. let w = st.lives few in (w.0, at-front p.live (c ∷ []) w.0 x w.1) }) is.short in
+      let here : S lits = record { apart = differ; lives = λ few. (id, at-last p.live c (none-lives-above cnf log is id (omega (arith, next)))) } in
+      subst P (sym (more-clauses p.cnf.clauses p.added c)) (each-last S (all_clauses p) lits before here)
+
+  pub log-added : (hints : List ℤ) → IsReadable (Add id lits hints) → addition_fault (proof_behind cnf log) id lits hints ≡ None → New (proof_behind cnf log).live lits → IsLog cnf (log ++ Add id lits hints ∷ [])
+  log-added hints can fault new =
       let p = proof_behind cnf log in
       let line = Add id lits hints in
       let behind-it : proof_behind cnf (log ++ line ∷ []) ≡ after_line p line = after-more (proof_of cnf) log line in
@@ -148,6 +180,7 @@ module _ (cnf : Cnf) (log : List ProofLine) (is : IsLog cnf log) (id : ℕ) (lit
       (record {
         accepted = takes-more (proof_of cnf) log p line is.accepted fault;
         fresh = each-more (proof_of cnf) log line is.fresh new;
+        readable = each-last IsReadable log line is.readable can;
         last = omega (arith, additions-add log id lits hints, is.last, next);
         cnf_lives = λ d there. at-front p.live (record { id = id; lits = lits } ∷ []) d.id d.lits (is.cnf_lives d there);
         known = added-known;
@@ -160,6 +193,7 @@ module _ (cnf : Cnf) (log : List ProofLine) (is : IsLog cnf log) (id : ℕ) (lit
             (at-more p.live c d lives);
         low = added-low;
         apart = added-apart;
+        short = added-short (lits-of-addition cnf log cnf.vars id lits hints fault refl).1;
       }))
 
 -- what a deletion makes of it
@@ -175,9 +209,22 @@ module _ (cnf : Cnf) (log : List ProofLine) (is : IsLog cnf log) where
       let ne : x ≡ d.id → ⊥ = λ e. omega (arith, is.apart x added.0, low.1, e) in
       still-lives ids (without x cs) d added.1 of_cnf (at-without x cs d.id ne ∙ lives)
 
-  pub log-deleted : (at : ℕ) (ids : List ℕ) → deletion_fault (proof_behind cnf log).live ids ≡ None → AreAdded (proof_behind cnf log) ids → IsLog cnf (log ++ Delete at ids ∷ [])
-  log-deleted at ids fault added =
+  -- a clause that goes has more than one literal
+  deleted-short : (x : ℕ) → ((lits : List Lit) → clause_at (proof_behind cnf log).live x ≡ Some lits → 2 ≤ length lits) → Each (StaysKnown (without x (proof_behind cnf log).live)) (all_clauses (proof_behind cnf log))
+  deleted-short x long =
       let p = proof_behind cnf log in
+      each-weaker (StaysKnown p.live) (StaysKnown (without x p.live)) (all_clauses p) (λ c st. record {
+        apart = st.apart;
+        lives = λ few.
+            let w = st.lives few in
+            let ne : x ≡ w.0 → ⊥ = λ e. omega (arith, few, long c (ap (λ (i : ℕ). clause_at p.live i) e ∙ w.1)) in
+            (w.0, at-without x p.live w.0 ne ∙ w.1);
+      }) is.short
+
+  pub log-deleted : (at x : ℕ) → IsReadable (Delete at (x ∷ [])) → at ≡ (proof_behind cnf log).last → deletion_fault (proof_behind cnf log).live (x ∷ []) ≡ None → AreAdded (proof_behind cnf log) (x ∷ []) → ((lits : List Lit) → clause_at (proof_behind cnf log).live x ≡ Some lits → 2 ≤ length lits) → IsLog cnf (log ++ Delete at (x ∷ []) ∷ [])
+  log-deleted at x can mark fault added long =
+      let p = proof_behind cnf log in
+      let ids = x ∷ [] in
       let line = Delete at ids in
       let behind-it : proof_behind cnf (log ++ line ∷ []) ≡ after_line p line = after-more (proof_of cnf) log line in
       let P : Proof → Type 0 = IsLogAt cnf (log ++ line ∷ []) in
@@ -185,11 +232,13 @@ module _ (cnf : Cnf) (log : List ProofLine) (is : IsLog cnf log) where
       (subst P (sym behind-it)
       (record {
         accepted = takes-more (proof_of cnf) log p line is.accepted fault;
-        fresh = each-more (proof_of cnf) log line is.fresh added;
+        fresh = each-more (proof_of cnf) log line is.fresh (mark, added);
+        readable = each-last IsReadable log line is.readable can;
         last = omega (arith, additions-delete log at ids, is.last);
         cnf_lives = λ d there. still-lives ids p.live d added there (is.cnf_lives d there);
         known = λ d lives. is.known d (still-known ids p.live d lives);
         differ = λ d lives. is.differ d (still-known ids p.live d lives);
         low = is.low;
         apart = is.apart;
+        short = deleted-short x long;
       }))

@@ -19,7 +19,7 @@ use Rattle.clause_rings.specs.Clauses.{ClauseLists, IsDb, SameClauses, Follows}
 use Rattle.clause_rings.specs.Clauses.Follows.{same, more}
 use Rattle.learning_solver.specs.declared.candidates.Candidates.{Candidates}
 use Rattle.learning_solver.specs.declared.search.Search.{Search}
-use Rattle.learning_solver.specs.declared.pace.Pace.{Pace}
+use Rattle.learning_solver.specs.declared.restarts.Restarts.{Restarts}
 use Rattle.learning_solver.specs.declared.task.Task.{Task}
 use Rattle.learning_solver.specs.declared.found.Found.{Found}
 use Rattle.learning_solver.specs.Height.{height}
@@ -31,7 +31,7 @@ use Rattle.learning_solver.specs.Searching.{IsSearch, IsAssumed, IsRunning, IsTu
 use Rattle.learning_solver.proofs.HeightLaws.{height-below, height-chosen, height-follows}
 use Rattle.learning_solver.proofs.KeptLaws.{kept-same}
 use Rattle.learning_solver.proofs.DeleteLaws.{once-same}
-use Rattle.learning_solver.proofs.PaceLaws.{paced-lower, paced-start, less-assigned}
+use Rattle.learning_solver.proofs.RestartLaws.{stretched-lower, stretched-start, less-assigned}
 use Rattle.learning_solver.proofs.TurnLaws.{assumed-more}
 
 -- another clause store that fits
@@ -77,7 +77,7 @@ follows-vars cs t _ same = (refl, refl)
 follows-vars cs t _ (more u l c before live unit) = follows-vars cs t u before
 
 -- propagation
-module _ (task : Task) (p : Pace) (s : Search) (d : ClauseLists) (is : IsRunning task p s) (same-clauses : SameClauses s.db.clauses d.clauses) (follows : Follows d.clauses s.db.trail d.trail) (db : IsDb d.clauses d.trail) where
+module _ (task : Task) (p : Restarts) (s : Search) (d : ClauseLists) (is : IsRunning task p s) (same-clauses : SameClauses s.db.clauses d.clauses) (follows : Follows d.clauses s.db.trail d.trail) (db : IsDb d.clauses d.trail) where
   pub running-propagated : IsRunning task p (record s { db = d })
   running-propagated =
       let w = follows-more d.clauses s.db.trail d.trail follows in
@@ -87,11 +87,11 @@ module _ (task : Task) (p : Pace) (s : Search) (d : ClauseLists) (is : IsRunning
             search-db s d is.search db vars.0 (kept-same (proof_behind s.cnf.now s.lines.items).live s.db.clauses d.clauses is.search.kept same-clauses)
             (once-same s.base s.db.clauses d.clauses is.search.once same-clauses);
         within = is.within;
-        paced = paced-lower s.cnf.now.vars s.added (height s.db.trail) (height d.trail) p is.paced (height-follows d.clauses s.db.trail d.trail follows);
+        stretched = stretched-lower s.cnf.now.vars s.added (height s.db.trail) (height d.trail) p is.stretched (height-follows d.clauses s.db.trail d.trail follows);
         assumed = λ above. assumed-more s.db.trail d.trail w.0 task.assumption w.1 (is.assumed (omega (arith, above, vars.1)));
       }
 
-  pub turned-propagated : (p' : Pace) (new : Search) (r : Result (Option Found) AllocError) → IsTurned task (record s { db = d }) p' new r → IsTurned task s p' new r
+  pub turned-propagated : (p' : Restarts) (new : Search) (r : Result (Option Found) AllocError) → IsTurned task (record s { db = d }) p' new r → IsTurned task s p' new r
   turned-propagated p' new (Ok None) turned =
       let w = follows-more d.clauses s.db.trail d.trail follows in
       (turned.0, omega (arith, turned.1, ap (λ (es : List Entry). length es) w.1, length-append s.db.trail.entries w.0))
@@ -156,7 +156,7 @@ module _ (t : Trail) (is : IsTrail t) (l : Lit) (free : entry_of t.entries l.var
       at-higher None e before = tt
       at-higher (Some x) e before = let Q : List Entry → Type 0 = λ es. truth_in es x ≡ Some true in subst Q (sym e) before
 
-pub running-decided : (task : Task) (p : Pace) (s : Search) (d : ClauseLists) (l : Lit) → IsRunning task p s → d.clauses ≡ s.db.clauses → d.trail ≡ chosen s.db.trail l → IsDb d.clauses d.trail → IsFreeIn s.db.trail l.var → (IsTrueIn s.db.trail task.assumption) ⊎ (task.assumption ≡ Some l) → IsRunning task p (record s { db = d }) × (left_to_do task (record s { db = d }) < left_to_do task s)
+pub running-decided : (task : Task) (p : Restarts) (s : Search) (d : ClauseLists) (l : Lit) → IsRunning task p s → d.clauses ≡ s.db.clauses → d.trail ≡ chosen s.db.trail l → IsDb d.clauses d.trail → IsFreeIn s.db.trail l.var → (IsTrueIn s.db.trail task.assumption) ⊎ (task.assumption ≡ Some l) → IsRunning task p (record s { db = d }) × (left_to_do task (record s { db = d }) < left_to_do task s)
 running-decided task p s d l is clauses trail db free stands =
     let P : List Clause → Type 0 = IsKept (proof_behind s.cnf.now s.lines.items).live in
     let O : List Clause → Type 0 = AreOnce s.base in
@@ -167,7 +167,7 @@ running-decided task p s d l is clauses trail db free stands =
       record {
         search = search-db s d is.search db (ap (λ (t : Trail). t.vars) trail) (subst P (sym clauses) is.search.kept) (subst O (sym clauses) is.search.once);
         within = is.within;
-        paced = paced-lower s.cnf.now.vars s.added (height s.db.trail) (height d.trail) p is.paced (omega (arith, ap height trail, height-chosen s.db.trail l));
+        stretched = stretched-lower s.cnf.now.vars s.added (height s.db.trail) (height d.trail) p is.stretched (omega (arith, ap height trail, height-chosen s.db.trail l));
         assumed = λ above. subst R (sym trail) (assumed-chosen s.db.trail is.search.db.trail l free.free next task.assumption is.assumed stands);
       },
       less-assigned task.budget s.added s.cnf.now.vars (length s.db.trail.entries) (length d.trail.entries)
@@ -180,7 +180,7 @@ pub running-started : (task : Task) (restart : Bool) (old s : Search) → JumpsB
 running-started task restart old s jumped search within = record {
   search = search;
   within = within;
-  paced = paced-start s.cnf.now.vars s.added (height s.db.trail) restart (omega (arith, height-below s.db.trail, ap (λ (v : ℕ). 2 ^ v) search.vars));
+  stretched = stretched-start s.cnf.now.vars s.added (height s.db.trail) restart (omega (arith, height-below s.db.trail, ap (λ (v : ℕ). 2 ^ v) search.vars));
   assumed = λ above. absurd (omega (arith, above, ap (λ (t : Trail). t.level) jumped.trail));
 }
 
@@ -210,9 +210,9 @@ bottom-false t is bottom lits fails l has = record {
 }
 
 lit-made : (l m : Lit) → l.var ≡ m.var → l.positive ≡ m.positive → l ≡ m
-lit-made l m vars signs =
+lit-made l m vars phases =
     let made : ℕ → Bool → Lit = λ v b. record { var = v; positive = b } in
-    ap (λ (v : ℕ). made v l.positive) vars ∙ ap (λ (b : Bool). made m.var b) signs
+    ap (λ (v : ℕ). made v l.positive) vars ∙ ap (λ (b : Bool). made m.var b) phases
 
 other-sign : (a b : Bool) → beq a b ≡ false → a ≡ not b
 other-sign true true e = cc
@@ -221,13 +221,13 @@ other-sign false true e = refl
 other-sign false false e = cc
 
 pub lit-negated : (l a : Lit) → l.var ≡ a.var → beq l.positive a.positive ≡ false → l ≡ not_lit a
-lit-negated l a vars signs = lit-made l (not_lit a) vars (other-sign l.positive a.positive signs)
+lit-negated l a vars phases = lit-made l (not_lit a) vars (other-sign l.positive a.positive phases)
 
 pub entry-var : (t : Trail) (v : ℕ) (e : Entry) → entry_of t.entries v ≡ Some e → e.lit.var ≡ v
 entry-var t v e found = (entry_of-found t.entries v e found).var
 
 -- another order of decisions
-pub left-order : (task : Task) (p : Pace) (s : Search) (o : ℕ) → IsLeft task p s → o ≡ s.order → IsLeft task p (record s { order = o })
+pub left-order : (task : Task) (p : Restarts) (s : Search) (o : ℕ) → IsLeft task p s → o ≡ s.order → IsLeft task p (record s { order = o })
 left-order task p s o is alike = record {
   search = record {
     db = is.search.db;

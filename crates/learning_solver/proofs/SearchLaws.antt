@@ -8,6 +8,7 @@ use Rattle.proof_check.specs.declared.line.ProofLine.{ProofLine}
 use Rattle.proof_check.specs.declared.line.ProofLine.TheVariants.{Add}
 use Rattle.proof_check.specs.Lrat.{Proof, proof_of, after_line, addition_fault}
 use Rattle.proof_check.specs.New.{New}
+use Rattle.proof_check.specs.Lines.{IsReadable}
 use Rattle.learning_solver.specs.Log.{proof_behind, additions, IsLog}
 use Rattle.learning_solver.specs.Kept.{IsKept}
 use Rattle.learning_solver.proofs.LogLaws.{log-added, after-more, none-lives-above, additions-add}
@@ -15,8 +16,8 @@ use Rattle.learning_solver.proofs.KeptLaws.{kept-added}
 
 -- a clause is added
 module _ (cnf : Cnf) (log : List ProofLine) (is : IsLog cnf log) (id : ℕ) (lits : List Lit) (hints : List ℤ) (items : List ProofLine) (goes : items ≡ log ++ Add id lits hints ∷ []) (next : id ≡ (proof_behind cnf log).last + 1) where
-  pub log-taken : addition_fault (proof_behind cnf log) id lits hints ≡ None → New (proof_behind cnf log).live lits → IsLog cnf items
-  log-taken fault new = let P : List ProofLine → Type 0 = IsLog cnf in subst P (sym goes) (log-added cnf log is id lits next hints fault new)
+  pub log-taken : IsReadable (Add id lits hints) → addition_fault (proof_behind cnf log) id lits hints ≡ None → New (proof_behind cnf log).live lits → IsLog cnf items
+  log-taken can fault new = let P : List ProofLine → Type 0 = IsLog cnf in subst P (sym goes) (log-added cnf log is id lits next hints can fault new)
 
   pub behind-taken : proof_behind cnf items ≡ after_line (proof_behind cnf log) (Add id lits hints)
   behind-taken = ap (proof_behind cnf) goes ∙ after-more (proof_of cnf) log (Add id lits hints)

@@ -1,5 +1,5 @@
 -- A search at its start: the CNF's clauses live, and are stored.
-use Rattle.std.proofs.Common.{◌≡◌, ℕ, zero, suc, ◌+◌, ◌<◌, true, false, List, [], ◌∷◌, length, get_or, Some, refl, ap, sym, ◌∙◌, subst, arith, ⊎_elim}
+use Rattle.std.proofs.Common.{◌≡◌, ℕ, zero, suc, ◌+◌, ◌<◌, true, false, List, [], ◌∷◌, ◌++◌, length, get_or, Some, refl, ap, sym, ◌∙◌, subst, arith, ⊎_elim}
 use Rattle.std.specs.Prelude.{IsPermutation}
 use Rattle.std.proofs.lemmas.Bool.{cases_eq}
 use Rattle.std.proofs.lemmas.List.{append-nil}
@@ -10,7 +10,8 @@ use Rattle.clause_arena.specs.Clauses.{Clause, clause_at as stored_at, live_clau
 use Rattle.clause_rings.specs.Clauses.{IsApart, AreApartIn, HoldsCnf}
 use Rattle.proof_check.specs.declared.line.ProofLine.{ProofLine}
 use Rattle.proof_check.specs.Named.{Named, numbered, clause_at}
-use Rattle.learning_solver.specs.Log.{proof_behind, IsLog}
+use Rattle.proof_check.specs.Lines.{Each}
+use Rattle.learning_solver.specs.Log.{proof_behind, StaysKnown, IsLog}
 use Rattle.learning_solver.specs.Kept.{IsStored, IsKept}
 use Rattle.learning_solver.proofs.NamedLaws.{at-first, at-others, numbered-range}
 
@@ -44,11 +45,24 @@ numbered-of n (c ∷ cs) (suc k) low =
     ∙ ap (λ (i : ℕ). clause_at (numbered (n + 1) cs) i) e
     ∙ numbered-of (n + 1) cs k (omega arith)
 
+-- what holds of each member by its place
+each-place : (P : List Lit → Type 0) (cs : List (List Lit)) → ((k : ℕ) → k < length cs → P (get_or cs k [])) → Each P cs
+each-place P [] holds = tt
+each-place P (c ∷ cs) holds = (holds 0 (omega arith), each-place P cs (λ k low. holds (suc k) (omega (arith, low))))
+
+-- the clauses of the CNF live
+known-start : (cnf : Cnf) → AreApartIn cnf → Each (StaysKnown (numbered 1 cnf.clauses)) (cnf.clauses ++ [])
+known-start cnf apart =
+    let P : List (List Lit) → Type 0 = Each (StaysKnown (numbered 1 cnf.clauses)) in
+    subst P (sym (append-nil cnf.clauses))
+    (each-place (StaysKnown (numbered 1 cnf.clauses)) cnf.clauses (λ k low. record { apart = apart k low; lives = λ few. (1 + k, numbered-of 1 cnf.clauses k low) }))
+
 -- the log without a line
 pub log-start : (cnf : Cnf) → AreApartIn cnf → IsLog cnf []
 log-start cnf apart = record {
   accepted = refl;
   fresh = tt;
+  readable = tt;
   last = omega arith;
   cnf_lives = λ d lives. lives;
   known = λ d lives. ap (λ (cs : List Named). clause_at cs d.id) (append-nil (numbered 1 cnf.clauses)) ∙ lives;
@@ -60,6 +74,7 @@ log-start cnf apart = record {
       let range = numbered-range 1 cnf.clauses d.id d.lits (sym (ap (λ (cs : List Named). clause_at cs d.id) (append-nil (numbered 1 cnf.clauses))) ∙ lives) in
       omega (arith, range.1);
   apart = λ id has. absurd (nothing has);
+  short = known-start cnf apart;
 }
   where
     nothing : false ≡ true → ⊥

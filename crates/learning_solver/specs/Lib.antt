@@ -3,7 +3,7 @@ pub mod Log
 pub mod Outcome
 pub mod Kept
 pub mod Height
-pub mod Pacing
+pub mod Restarting
 pub mod Sight
 pub mod Searching
 pub mod Ending

@@ -1,11 +1,14 @@
--- The log of a search: a proof whose additions are new and whose deletions name additions alone.
-use Rattle.std.specs.Prelude.{◌≡◌, ℕ, ◌+◌, ◌<◌, ◌≤◌, Ok, IsTrue, List, [], ◌∷◌, ◌++◌, length}
+-- The log of a search: a proof whose additions are new and whose deletions name additions alone, behind the greatest id so far.
+use Rattle.std.specs.Prelude.{◌≡◌, ℕ, ◌+◌, ◌<◌, ◌≤◌, Ok, Some, IsTrue, List, [], ◌∷◌, ◌++◌, length}
+use Rattle.order_ints.specs.declared.literal.Lit.{Lit}
 use Rattle.order_ints.specs.declared.cnf.Cnf.{Cnf}
 use Rattle.proof_check.specs.declared.line.ProofLine.{ProofLine}
 use Rattle.proof_check.specs.declared.line.ProofLine.TheVariants.{Add, Delete}
-use Rattle.proof_check.specs.Named.{Named, numbered, has_id, Lives}
+use Rattle.proof_check.specs.Named.{Named, numbered, clause_at, has_id, Lives}
 use Rattle.proof_check.specs.Lrat.{Proof, proof_of, after_line, take_lines}
 use Rattle.proof_check.specs.New.{New}
+use Rattle.proof_check.specs.Known.{all_clauses}
+use Rattle.proof_check.specs.Lines.{Each, IsReadable}
 use Rattle.clause_rings.specs.Clauses.{IsApart}
 
 -- how many lines add a clause
@@ -28,17 +31,17 @@ abbrev pub AreAdded : Proof → List ℕ → Type 0
 AreAdded p [] = Unit {0}
 AreAdded p (id ∷ ids) = IsTrue (has_id p.added id) × AreAdded p ids
 
--- an addition is new among the clauses that live before it; a deletion names additions alone
+-- an addition is new among the clauses that live before it; a deletion begins with the greatest id so far, and names additions alone
 abbrev pub IsFresh : Proof → ProofLine → Type 0
 IsFresh p (Add id lits hints) = New p.live lits
-IsFresh p (Delete at ids) = AreAdded p ids
+IsFresh p (Delete at ids) = (at ≡ p.last) × AreAdded p ids
 
 -- what holds of each line, with the proof before it
 abbrev pub EachLine : (Proof → ProofLine → Type 0) → Proof → List ProofLine → Type 0
 EachLine P p [] = Unit {0}
 EachLine P p (line ∷ lines) = P p line × EachLine P (after_line p line) lines
 
--- each addition was new, and deletions name additions alone
+-- each addition was new, and deletions begin with the last id and name additions alone
 abbrev pub IsFreshLog : Cnf → List ProofLine → Type 0
 IsFreshLog cnf log = EachLine IsFresh (proof_of cnf) log
 
@@ -50,10 +53,16 @@ GoesOn old new = (more : List ProofLine) × (new ≡ old ++ more)
 abbrev pub all_named : Proof → List Named
 all_named p = numbered 1 p.cnf.clauses ++ p.added
 
+-- no variable stands twice in a known clause, and one of at most one literal lives
+pub record StaysKnown (live : List Named) (lits : List Lit) : Type 0 where
+  pub apart : IsApart lits
+  pub lives : length lits ≤ 1 → (id : ℕ) × (clause_at live id ≡ Some lits)
+
 -- what the search keeps of its log
 pub record IsLog (cnf : Cnf) (log : List ProofLine) : Type 0 where
   pub accepted : take_lines (proof_of cnf) log ≡ Ok (proof_behind cnf log)
   pub fresh : IsFreshLog cnf log
+  pub readable : Each IsReadable log
   pub last : (proof_behind cnf log).last ≡ length cnf.clauses + additions log
   -- the clauses of the CNF live
   pub cnf_lives : (d : Named) → Lives (numbered 1 cnf.clauses) d → Lives (proof_behind cnf log).live d
@@ -64,3 +73,5 @@ pub record IsLog (cnf : Cnf) (log : List ProofLine) : Type 0 where
   -- no id is above the last, and none of an addition is one of the CNF
   pub low : (d : Named) → Lives (all_named (proof_behind cnf log)) d → d.id ≤ (proof_behind cnf log).last
   pub apart : (id : ℕ) → IsTrue (has_id (proof_behind cnf log).added id) → length cnf.clauses < id
+  -- no clause of at most one literal was ever deleted
+  pub short : Each (StaysKnown (proof_behind cnf log).live) (all_clauses (proof_behind cnf log))

@@ -11,11 +11,11 @@ pub record IsRing (vars : ℕ) (ring : RingLists) : Type 0 where
   pub all : (v : ℕ) → 1 ≤ v → v ≤ vars → Stands ring 0 v
   pub others : IsFree ring 0
 
--- and an activity and a sign for each; the search for a free one begins at one of them, or at the front
-pub record IsOrder (vars : ℕ) (ring : RingLists) (activity : List ℕ) (signs : List Bool) (start : ℕ) : Type 0 where
+-- and an activity and a phase for each; the search for a free one begins at one of them, or at the front
+pub record IsOrder (vars : ℕ) (ring : RingLists) (activity : List ℕ) (phases : List Bool) (start : ℕ) : Type 0 where
   pub ringed : IsRing vars ring
   pub activities : length activity ≡ vars + 1
-  pub signed : length signs ≡ vars + 1
+  pub signed : length phases ≡ vars + 1
   pub started : start ≤ vars
 
 -- a variable has no entry

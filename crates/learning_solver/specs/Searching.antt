@@ -1,5 +1,6 @@
 -- What a search keeps.
-use Rattle.std.specs.Prelude.{◌≡◌, ℕ, ◌+◌, ◌-◌, ◌*◌, ◌<◌, ◌≤◌, ◌^◌, ◌++◌, ◌∷◌, [], map, pos, vec_len, vec_capacity, Bool, true, Option, None, Some, Result, Ok, Err, List, length}
+use Rattle.std.specs.Prelude.{◌≡◌, ℕ, ◌+◌, ◌-◌, ◌*◌, ◌<◌, ◌≤◌, ◌^◌, ◌++◌, ◌∷◌, [], map, pos, vec_len, vec_capacity, Bool, true, Option, None, Some, Result, Ok, Err, List, length, FitsSigned}
+use Rattle.std.specs.Int.{w64}
 use Rattle.std.specs.declared.alloc.AllocError.{AllocError}
 use Rattle.order_ints.specs.declared.literal.Lit.{Lit}
 use Rattle.literal_trail.specs.Trail.{Trail, truth_in, up_to, cut_back}
@@ -8,18 +9,19 @@ use Rattle.proof_check.specs.declared.line.ProofLine.TheVariants.{Add}
 use Rattle.clause_rings.specs.Clauses.{IsDb}
 use Rattle.proof_check.specs.Lrat.{addition_fault}
 use Rattle.proof_check.specs.New.{New}
+use Rattle.proof_check.specs.Lines.{Each}
 use Rattle.conflict_analysis.specs.Learned.{AreKept}
 use Rattle.learning_solver.specs.declared.search.Search.{Search}
 use Rattle.learning_solver.specs.declared.found.Found.{Found}
 use Rattle.learning_solver.specs.declared.found.Found.TheVariants.{Sat, Refuted, Spent}
-use Rattle.learning_solver.specs.declared.pace.Pace.{Pace}
+use Rattle.learning_solver.specs.declared.restarts.Restarts.{Restarts}
 use Rattle.learning_solver.specs.declared.task.Task.{Task}
 use Rattle.learning_solver.specs.declared.lesson.Lesson.{Lesson}
 use Rattle.learning_solver.specs.Log.{additions, proof_behind, IsLog, GoesOn}
 use Rattle.learning_solver.specs.Kept.{IsKept, AreOnce}
 use Rattle.learning_solver.specs.Height.{height}
-use Rattle.learning_solver.specs.Outcome.{IsSolution, IsRefutation, most_learned}
-use Rattle.learning_solver.specs.Pacing.{IsPaced}
+use Rattle.learning_solver.specs.Outcome.{IsSolution, IsRefutation, NoneRefutes, most_learned}
+use Rattle.learning_solver.specs.Restarting.{AreStretched}
 
 -- the parts of a search belong together
 pub record IsSearch (s : Search) : Type 0 where
@@ -45,26 +47,26 @@ IsAssumed t None = Unit {0}
 IsAssumed t (Some a) = truth_in (up_to 1 t.entries) a ≡ Some true
 
 -- a search that goes on
-pub record IsRunning (task : Task) (p : Pace) (s : Search) : Type 0 where
+pub record IsRunning (task : Task) (p : Restarts) (s : Search) : Type 0 where
   pub search : IsSearch s
   pub within : s.added ≤ task.budget
-  pub paced : IsPaced s.cnf.now.vars s.added (height s.db.trail) p
+  pub stretched : AreStretched s.cnf.now.vars s.added (height s.db.trail) p
   pub assumed : 1 ≤ s.db.trail.level → IsAssumed s.db.trail task.assumption
 
 -- a search that stopped, with whatever outcome
-pub record IsLeft (task : Task) (p : Pace) (s : Search) : Type 0 where
+pub record IsLeft (task : Task) (p : Restarts) (s : Search) : Type 0 where
   pub search : IsSearch s
   pub within : s.added ≤ task.budget
   pub most : s.added ≤ p.start + most_learned p.restart s.cnf.now.vars
 
 -- what an outcome says
-abbrev pub Says : Task → Pace → Search → Found → Type 0
+abbrev pub Says : Task → Restarts → Search → Found → Type 0
 Says task p s (Sat values) = IsSolution s.cnf.now task.assumption values
 Says task p s (Refuted id) = IsRefutation s.cnf.now s.lines.items task.assumption id
-Says task p s Spent = (s.added ≡ task.budget) × (s.added < p.start + most_learned p.restart s.cnf.now.vars)
+Says task p s Spent = (s.added ≡ task.budget) × (s.added < p.start + most_learned p.restart s.cnf.now.vars) × NoneRefutes s.cnf.now s.lines.items task.assumption
 
 -- an outcome of a search that stopped
-abbrev pub IsOutcome : Task → Pace → Search → Found → Type 0
+abbrev pub IsOutcome : Task → Restarts → Search → Found → Type 0
 IsOutcome task p s found = IsLeft task p s × Says task p s found
 
 -- how much a search may still do
@@ -72,7 +74,7 @@ abbrev pub left_to_do : Task → Search → ℕ
 left_to_do task s = (task.budget - s.added) * (s.cnf.now.vars + 1) + (s.cnf.now.vars - length s.db.trail.entries)
 
 -- a turn ends the search, or leaves less to do
-abbrev pub IsTurned : Task → Search → Pace → Search → Result (Option Found) AllocError → Type 0
+abbrev pub IsTurned : Task → Search → Restarts → Search → Result (Option Found) AllocError → Type 0
 IsTurned task old p new (Ok None) = IsRunning task p new × (left_to_do task new < left_to_do task old)
 IsTurned task old p new (Ok (Some found)) = IsOutcome task p new found
 IsTurned task old p new (Err e) = IsLeft task p new
@@ -98,6 +100,8 @@ pub record IsReady (s : Search) (lesson : Lesson) : Type 0 where
   pub next : lesson.id ≡ (proof_behind s.cnf.now s.lines.items).last + 1
   pub lits : lesson.lits ≡ s.walker.lits
   pub hints : lesson.hints ≡ map pos s.walker.hints
+  pub small : lesson.id < 2 ^ 64
+  pub fits : Each (FitsSigned w64) lesson.hints
   pub spare_lits : length lesson.lits ≤ s.db.spare_lits
   pub spare_clauses : 1 ≤ s.db.spare_clauses
   pub spare_line : vec_len s.lines < vec_capacity s.lines

@@ -1,6 +1,8 @@
 //! Jumping back, and adding a clause to store and log at once.
 
-ghost use Rattle.std.specs.Prelude.{◌≡◌, ◌+◌, ◌<◌, ◌≤◌, IfOk, IfSome, None, vec_len, vec_capacity, length};
+ghost use Rattle.std.specs.Prelude.{◌≡◌, ◌+◌, ◌<◌, ◌≤◌, IfOk, IfSome, None, vec_len, vec_capacity, length, ◌^◌, FitsSigned};
+ghost use Rattle.std.specs.Int.{w64};
+ghost use Rattle.proof_check.specs.Lines.{Each};
 ghost use Rattle.proof_check.specs.Lrat.{addition_fault};
 ghost use Rattle.proof_check.specs.New.{New};
 ghost use Rattle.clause_rings.specs.Clauses.{MayCome};
@@ -13,7 +15,7 @@ use proof_check::ProofLine;
 use std::alloc::AllocError;
 
 impl Search<'_> {
-    /// Jumps back to the end of a level. Variables that become free keep their signs.
+    /// Jumps back to the end of a level. Variables that become free keep their phases.
     pub fn jump_back(&mut self, level: u32)
         requires search { IsSearch self.old }
         requires level { level ≤ self.old.db.trail.level }
@@ -25,6 +27,14 @@ impl Search<'_> {
         }
         self.order.rewind();
         self.db.backjump(level);
+    }
+
+    /// The greatest id so far, as long as it has 64 bits.
+    pub fn last_id(&self) -> Option<u64>
+        ensures { IfSome result (λ id. (id ≡ self.now.base + self.now.added) × (id < 2 ^ 64)) }
+    {
+        let id = self.base.checked_add(self.added)?;
+        Some(id)
     }
 
     /// The id of the next clause, as long as there is one.
@@ -58,6 +68,8 @@ impl Search<'_> {
         requires search { IsSearch self.old }
         requires next { lesson.id
             ≡ (proof_behind self.old.cnf.now self.old.lines.items).last + 1 }
+        requires small { lesson.id < 2 ^ 64 }
+        requires hints { Each (FitsSigned w64) lesson.hints }
         requires fault { addition_fault (proof_behind self.old.cnf.now self.old.lines.items) lesson.id lesson.lits lesson.hints
             ≡ None }
         requires new { New (proof_behind self.old.cnf.now self.old.lines.items).live lesson.lits }

@@ -9,7 +9,7 @@ ghost use Rattle.learning_solver.specs.Deciding.{Stands, IsTrueIn, AreValues};
 ghost use Rattle.learning_solver.specs.Searching.{IsSearch, IsRunning, IsTurned, GoesForward, IsAssumed};
 
 use crate::found::Found;
-use crate::pace::Pace;
+use crate::restarts::Restarts;
 use crate::search::Search;
 use crate::task::Task;
 use bee_list::Sequence;
@@ -52,16 +52,16 @@ impl Search<'_> {
     }
 
     /// Decides a literal.
-    fn decide(&mut self, l: Lit, task: Task, pace: &Pace)
-        requires running { IsRunning task pace.now self.old }
+    fn decide(&mut self, l: Lit, task: Task, restarts: &Restarts)
+        requires running { IsRunning task restarts.now self.old }
         requires complete { IsComplete self.old.db.trail.entries self.old.db.clauses }
         requires free { IsFreeIn self.old.db.trail l.var }
         requires stands { IsTrueIn self.old.db.trail task.assumption ⊎ (task.assumption ≡ Some l) }
-        ensures turned { IsTurned task self.old pace.now self.new (Ok None) }
+        ensures turned { IsTurned task self.old restarts.now self.new (Ok None) }
         ensures forward { GoesForward self.old self.new }
     {
         let _task = task;
-        let _pace = *pace;
+        let _restarts = *restarts;
         self.db.assign(l, None);
     }
 
@@ -80,34 +80,34 @@ impl Search<'_> {
     }
 
     /// Goes on where no clause is false or unit.
-    pub fn go_on(&mut self, task: Task, pace: &Pace) -> Result<Option<Found>, AllocError>
-        requires running { IsRunning task pace.now self.old }
+    pub fn go_on(&mut self, task: Task, restarts: &Restarts) -> Result<Option<Found>, AllocError>
+        requires running { IsRunning task restarts.now self.old }
         requires complete { IsComplete self.old.db.trail.entries self.old.db.clauses }
         requires in_range { ForSome task.assumption (LitBelow (self.old.cnf.now.vars + 1)) }
-        ensures turned { IsTurned task self.old pace.now self.new result }
+        ensures turned { IsTurned task self.old restarts.now self.new result }
         ensures forward { GoesForward self.old self.new }
     {
         match self.stand(task.assumption) {
             Stand::Open(l) => {
-                self.decide(l, task, pace);
+                self.decide(l, task, restarts);
                 Ok(None)
             }
-            Stand::Against(denied, reason) => self.deny(denied, reason, task, pace),
-            Stand::Holds => self.decide_next(task, pace),
+            Stand::Against(denied, reason) => self.deny(denied, reason, task, restarts),
+            Stand::Holds => self.decide_next(task, restarts),
         }
     }
 
     /// Decides what the order picks; where all variables have values, these are a solution.
-    fn decide_next(&mut self, task: Task, pace: &Pace) -> Result<Option<Found>, AllocError>
-        requires running { IsRunning task pace.now self.old }
+    fn decide_next(&mut self, task: Task, restarts: &Restarts) -> Result<Option<Found>, AllocError>
+        requires running { IsRunning task restarts.now self.old }
         requires complete { IsComplete self.old.db.trail.entries self.old.db.clauses }
         requires holds { IsTrueIn self.old.db.trail task.assumption }
-        ensures turned { IsTurned task self.old pace.now self.new result }
+        ensures turned { IsTurned task self.old restarts.now self.new result }
         ensures forward { GoesForward self.old self.new }
     {
         match self.order.pick(&self.db) {
             Some(l) => {
-                self.decide(l, task, pace);
+                self.decide(l, task, restarts);
                 Ok(None)
             }
             None => match self.values() {

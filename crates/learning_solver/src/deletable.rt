@@ -21,10 +21,10 @@ fn is_reason(db: &ClauseDb, c: u32) -> bool
     false
 }
 
-/// Whether a clause is there, has an id above those of the CNF, and is no reason.
+/// Whether a clause is there, has an id above those of the CNF and more than one literal, and is no reason.
 pub fn is_deletable(db: &ClauseDb, c: u32, base: u64) -> bool
     requires { IsDb db.now.clauses db.now.trail }
     ensures { IsTrue result → IsDeletable db.now base c }
 {
-    db.is_live(c) && db.id(c) > base && !is_reason(db, c)
+    db.is_live(c) && db.id(c) > base && db.len(c) > 1 && !is_reason(db, c)
 }

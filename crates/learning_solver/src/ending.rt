@@ -6,7 +6,7 @@ ghost use Rattle.order_ints.specs.Truth.{not_lit};
 ghost use Rattle.clause_arena.specs.Clauses.{clause_at, IsLive, lits_of};
 ghost use Rattle.literal_trail.specs.Standing.{IsFalse};
 ghost use Rattle.clause_rings.specs.Clauses.{IsComplete};
-ghost use Rattle.learning_solver.specs.Ending.{last_lits, IsNamedBy, IsDenied};
+ghost use Rattle.learning_solver.specs.Ending.{last_lits, IsNamedBy, IsDenied, IsRefuting, NoneStands};
 ghost use Rattle.literal_trail.specs.declared.entry.Entry.{Entry};
 ghost use Rattle.conflict_analysis.specs.Analysis.{IsRefuted, IsForced};
 ghost use Rattle.learning_solver.specs.Sight.{named_in};
@@ -14,7 +14,7 @@ ghost use Rattle.learning_solver.specs.Searching.{IsSearch, IsReady, Stays, IsRu
 
 use crate::found::Found;
 use crate::lesson::Lesson;
-use crate::pace::Pace;
+use crate::restarts::Restarts;
 use crate::search::Search;
 use crate::sight::Sight;
 use crate::task::Task;
@@ -50,22 +50,36 @@ fn find_last(db: &ClauseDb, last: Option<Lit>) -> Option<u64>
     None
 }
 
+/// The id of a clause that is empty, or the negated assumption alone.
+fn find_refutation(db: &ClauseDb, assumption: Option<Lit>) -> Option<u64>
+    ensures found { IfSome result (IsRefuting db.now.clauses assumption) }
+    ensures none { IsNone result → NoneStands db.now.clauses assumption }
+{
+    if let Some(id) = find_last(db, None) {
+        return Some(id);
+    }
+    match assumption {
+        None => None,
+        Some(a) => find_last(db, Some(a.negated())),
+    }
+}
+
 impl Search<'_> {
     /// Ends a search where a clause is false at level 0.
     pub fn refute(
         &mut self,
         conflict: u32,
         task: Task,
-        pace: &Pace,
+        restarts: &Restarts,
     ) -> Result<Option<Found>, AllocError>
-        requires running { IsRunning task pace.now self.old }
+        requires running { IsRunning task restarts.now self.old }
         requires live { IsLive self.old.db.clauses conflict }
         requires is_false { IsFalse self.old.db.trail.entries (lits_of self.old.db.clauses conflict) }
         requires bottom { self.old.db.trail.level ≡ 0 }
-        ensures turned { IsTurned task self.old pace.now self.new result }
+        ensures turned { IsTurned task self.old restarts.now self.new result }
         ensures forward { GoesForward self.old self.new }
     {
-        if let Some(id) = find_last(&self.db, None) {
+        if let Some(id) = find_refutation(&self.db, task.assumption) {
             return Ok(Some(Found::Refuted(id)));
         }
         if self.added >= task.budget {
@@ -114,13 +128,13 @@ impl Search<'_> {
         denied: Lit,
         reason: u32,
         task: Task,
-        pace: &Pace,
+        restarts: &Restarts,
     ) -> Result<Option<Found>, AllocError>
-        requires running { IsRunning task pace.now self.old }
+        requires running { IsRunning task restarts.now self.old }
         requires complete { IsComplete self.old.db.trail.entries self.old.db.clauses }
         requires bottom { self.old.db.trail.level ≡ 0 }
         requires denied { IsDenied self.old.db.trail task.assumption denied reason }
-        ensures turned { IsTurned task self.old pace.now self.new result }
+        ensures turned { IsTurned task self.old restarts.now self.new result }
         ensures forward { GoesForward self.old self.new }
     {
         if let Some(id) = find_last(&self.db, Some(denied)) {

@@ -7,19 +7,19 @@ ghost use Rattle.clause_arena.specs.Clauses.{IsLive, lits_of};
 ghost use Rattle.literal_trail.specs.Standing.{IsFalse};
 ghost use Rattle.conflict_analysis.specs.Analysis.{IsAnalysed};
 ghost use Rattle.learning_solver.specs.Sight.{named_in};
-ghost use Rattle.learning_solver.specs.Pacing.{SameCall};
+ghost use Rattle.learning_solver.specs.Restarting.{SameCall};
 ghost use Rattle.learning_solver.specs.Searching.{IsSearch, IsReady, Stays, IsRunning, IsTurned, GoesForward, Teaches, TurnsBack, BeginsAnew};
 
 use crate::found::Found;
 use crate::lesson::Lesson;
-use crate::pace::Pace;
+use crate::restarts::Restarts;
 use crate::search::Search;
 use crate::sight::analyse;
 use crate::task::Task;
 use std::alloc::AllocError;
 
 impl Search<'_> {
-    /// Learns a clause from one that is false, above level 0, and raises the variables of the conflict.
+    /// Learns a clause from one that is false, above level 0, and bumps the variables of the conflict.
     fn study(&mut self, conflict: u32) -> Result<Lesson, AllocError>
         requires search { IsSearch self.old }
         requires live { IsLive self.old.db.clauses conflict }
@@ -31,7 +31,7 @@ impl Search<'_> {
         ensures search { IsSearch self.new }
     {
         analyse(&mut self.walker, &self.db, conflict)?;
-        self.order.raise(self.walker.seen())?;
+        self.order.bump(self.walker.seen())?;
         self.candidates.uses.use_all(self.walker.hints());
         self.lesson()
     }
@@ -64,7 +64,7 @@ impl Search<'_> {
         if !self.candidates.are_due() {
             return;
         }
-        self.delete_half();
+        self.reduce();
     }
 
     /// Learns from a conflict above level 0, unless the budget is spent.
@@ -72,15 +72,15 @@ impl Search<'_> {
         &mut self,
         conflict: u32,
         task: Task,
-        pace: &mut Pace,
+        restarts: &mut Restarts,
     ) -> Result<Option<Found>, AllocError>
-        requires running { IsRunning task pace.old self.old }
+        requires running { IsRunning task restarts.old self.old }
         requires live { IsLive self.old.db.clauses conflict }
         requires is_false { IsFalse self.old.db.trail.entries (lits_of self.old.db.clauses conflict) }
         requires above { 1 ≤ self.old.db.trail.level }
-        ensures turned { IsTurned task self.old pace.new self.new result }
+        ensures turned { IsTurned task self.old restarts.new self.new result }
         ensures forward { GoesForward self.old self.new }
-        ensures same_call { SameCall pace.old pace.new }
+        ensures same_call { SameCall restarts.old restarts.new }
     {
         if self.added >= task.budget {
             return Ok(Some(Found::Spent));
@@ -90,7 +90,7 @@ impl Search<'_> {
             Err(AllocError) => return Err(AllocError),
         };
         self.turn_back(lesson);
-        if pace.learn() {
+        if restarts.learn() {
             self.begin_anew();
         }
         Ok(None)

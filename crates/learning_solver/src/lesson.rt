@@ -1,6 +1,8 @@
 //! A clause that is about to be added: made whole, and its room taken, before the search changes anything.
 
-ghost use Rattle.std.specs.Prelude.{◌≡◌, ◌<◌, map, pos, length, IfOk};
+ghost use Rattle.std.specs.Prelude.{◌≡◌, ◌<◌, map, pos, length, IfOk, FitsSigned};
+ghost use Rattle.std.specs.Int.{w64};
+ghost use Rattle.proof_check.specs.Lines.{Each};
 ghost use Rattle.clause_arena.specs.Clauses.{lit_in};
 
 use bee_list::Sequence;
@@ -31,7 +33,8 @@ impl Lesson {
 
 /// Ids with a sign; past 63 bits there is none.
 pub fn signed_ids(alloc: Global, ids: &[u64]) -> Result<Sequence<i64>, AllocError>
-    ensures { IfOk result (λ signed. signed ≡ map pos ids.now) }
+    ensures same { IfOk result (λ signed. signed ≡ map pos ids.now) }
+    ensures fits { IfOk result (Each (FitsSigned w64)) }
 {
     let mut signed = Vec::with_capacity(alloc, ids.len())?;
     for id in ids {

@@ -1,17 +1,39 @@
-//! The search for a valuation of clauses, or for a proof that there is none.
+//! The solver: a search for a valuation that satisfies a CNF and an assumption, or for a proof that
+//! there is none, with a log that is a proof at every moment.
+//!
+//! Conflict-driven clause learning: propagate; at a conflict learn a clause and jump back; else
+//! decide (Marques-Silva and Sakallah, 1996). Decisions are by a queue whose front is moved to what
+//! conflicts met (VMTF: Ryan, 2004; Biere and Fröhlich, 2015), of the first eight free ones the
+//! most active (activities: Moskewicz and others, 2001), with the sign that a variable had last
+//! (Pipatsrisawat and Darwiche, 2007). Restarts come by Luby's sequence. Learned clauses go at
+//! restarts, half of those with most levels first (Audemard and Simon, 2009), with a line in the
+//! log each. A clause, its line and the room for both are made before anything changes (`Lesson`),
+//! so wherever memory is refused the log is whole and the call may be made again. The CNF is
+//! borrowed, and what was learned stays for the next call: each round of an optimum goes on where
+//! the last one ended.
+//!
+//! What `solve` promises: the log is accepted to its last line (`accepted`), its additions are new
+//! and its deletions name additions alone (`fresh`); values satisfy CNF and assumption, and a
+//! refutation is a clause that is known (`found`); `Spent` comes where the log's additions number
+//! the budget (`spent`), and no call adds more than 2^V clauses, or (V+1) * 2^V with restarts
+//! (`most`).
+//!
+//! Free to be tuned, since no clause names them: decisions, phases, which clauses go, and the
+//! tables behind both, which have no invariant: a clause is tested anew when it goes
+//! (`is_deletable`).
 #![tactic(auto)]
 
 mod adding;
 mod candidates;
 mod deciding;
 mod deletable;
-mod deleting;
 mod ending;
 mod found;
 mod learning;
 mod lesson;
 mod order;
-mod pace;
+mod reduce;
+mod restarts;
 mod running;
 mod search;
 mod sight;

@@ -1,9 +1,9 @@
-//! In which order variables are decided, and with which sign. A variable that took part in a conflict is likely to
+//! In which order variables are decided, and with which phase. A variable that took part in a conflict is likely to
 //! take part in the next one, so the variables of a conflict move to the front of a ring, as in VMTF (Ryan 2004; Biere
-//! and Froehlich 2015). Beside it each variable has an activity, which newer conflicts raise by more, as in VSIDS
+//! and Froehlich 2015). Beside it each variable has an activity, which newer conflicts bump by more, as in VSIDS
 //! (Moskewicz and others 2001) in the form of MiniSat (Een and Soerensson 2003), but in whole numbers: they decide
 //! in which order the variables of a conflict move, and which of the first free ones is decided. That was faster than
-//! either alone, and than a heap. A variable gets the sign that it had last (Pipatsrisawat and Darwiche 2007).
+//! either alone, and than a heap. A variable gets the phase that it had last (Pipatsrisawat and Darwiche 2007).
 
 ghost use Rattle.std.specs.Prelude.{◌≡◌, ◌+◌, ◌^◌, ◌≤◌, ◌<◌, ◌⊎◌, ◌↔◌, ℕ, length, All, IsTrue, IfOk, IfSome, IsNone, Option, Some, None};
 ghost use Rattle.std.specs.Option.{ForSome};
@@ -17,7 +17,7 @@ use order_ints::Lit;
 use std::alloc::{AllocError, Global};
 use std::marker::Model;
 
-/// By how much the first conflict raises activities.
+/// By how much the first conflict bumps activities.
 const FIRST_GAIN: u64 = 1 << 10;
 
 /// Past this gain all activities are made smaller.
@@ -31,13 +31,13 @@ const LOOKED_AT: u32 = 8;
 
 const MOST_PLACES: u32 = 256;
 
-/// The order of the variables 1 to `vars`, their activities and signs. Some 17 bytes a variable.
+/// The order of the variables 1 to `vars`, their activities and phases. Some 17 bytes a variable.
 #[derive(Drop)]
 pub struct Order {
     vars: u32,
     ring: Rings,
     activity: Vec<u64>,
-    signs: Vec<bool>,
+    phases: Vec<bool>,
     gain: u64,
     /// No variable before this one is free, as far as is known; 0 for the front.
     start: u32,
@@ -51,7 +51,7 @@ impl Model for Order {
 
     ghost view = { λ o. o.vars };
 
-    ghost invariant = { λ o. IsOrder o.vars o.ring o.activity.items o.signs.items o.start };
+    ghost invariant = { λ o. IsOrder o.vars o.ring o.activity.items o.phases.items o.start };
 }
 
 /// Puts the variables into the ring.
@@ -150,13 +150,13 @@ impl Order {
         let places = vars as usize + 1;
         let mut ring = Rings::with(alloc, 1, vars + 1)?;
         let activity = vec![in alloc; 0; places]?;
-        let signs = vec![in alloc; false; places]?;
+        let phases = vec![in alloc; false; places]?;
         push_all(&mut ring, vars);
         Ok(Order {
             vars,
             ring,
             activity,
-            signs,
+            phases,
             gain: FIRST_GAIN,
             start: 0,
         })
@@ -172,7 +172,7 @@ impl Order {
         let first = self.first(db)?;
         self.start = first;
         let var = most_active(&self.ring, self.activity.as_slice(), db, first);
-        Some(Lit::of(var, self.signs[var as usize]))
+        Some(Lit::of(var, self.phases[var as usize]))
     }
 
     /// The first free variable, sought from where the last search ended, and then from the front.
@@ -196,16 +196,16 @@ impl Order {
         self.start = 0;
     }
 
-    /// Keeps the sign of a literal whose variable becomes free.
+    /// Keeps the phase of a literal whose variable becomes free.
     pub fn save(&mut self, l: Lit)
         requires { l.var ≤ self.old }
         ensures { self.new ≡ self.old }
     {
-        self.signs[l.var as usize] = l.positive;
+        self.phases[l.var as usize] = l.positive;
     }
 
-    /// Raises the variables of a conflict, and puts them in front, the most active one first. It sorts them.
-    pub fn raise(&mut self, seen: &[u32]) -> Result<(), AllocError>
+    /// Bumps the variables of a conflict, and puts them in front, the most active one first. It sorts them.
+    pub fn bump(&mut self, seen: &[u32]) -> Result<(), AllocError>
         requires { All (λ v. v ≤ self.old) seen.now }
         ensures { self.new ≡ self.old }
     {
@@ -226,7 +226,7 @@ impl Order {
         Ok(())
     }
 
-    /// Raises a variable, and puts it in front.
+    /// Bumps a variable, and puts it in front.
     fn put_in_front(&mut self, v: u32)
         requires low { 1 ≤ v }
         requires high { v ≤ self.old }

@@ -3,28 +3,28 @@
 ghost use Rattle.std.specs.Prelude.{◌≡◌, ◌+◌, ◌≤◌, MatchResult};
 ghost use Rattle.std.specs.Option.{ForSome};
 ghost use Rattle.order_ints.specs.Place.{LitBelow};
-ghost use Rattle.learning_solver.specs.Pacing.{SameCall};
+ghost use Rattle.learning_solver.specs.Restarting.{SameCall};
 ghost use Rattle.learning_solver.specs.Searching.{IsSearch, IsRunning, IsTurned, GoesForward, IsAnswered};
 
 use crate::found::Found;
-use crate::pace::Pace;
+use crate::restarts::Restarts;
 use crate::search::Search;
 use crate::task::Task;
 use std::alloc::AllocError;
 
 impl Search<'_> {
     /// One turn: propagation, then what follows from a conflict, or a decision.
-    fn turn(&mut self, task: Task, pace: &mut Pace) -> Result<Option<Found>, AllocError>
-        requires running { IsRunning task pace.old self.old }
+    fn turn(&mut self, task: Task, restarts: &mut Restarts) -> Result<Option<Found>, AllocError>
+        requires running { IsRunning task restarts.old self.old }
         requires in_range { ForSome task.assumption (LitBelow (self.old.cnf.now.vars + 1)) }
-        ensures turned { IsTurned task self.old pace.new self.new result }
+        ensures turned { IsTurned task self.old restarts.new self.new result }
         ensures forward { GoesForward self.old self.new }
-        ensures same_call { SameCall pace.old pace.new }
+        ensures same_call { SameCall restarts.old restarts.new }
     {
         match self.db.propagate() {
-            Some(conflict) if self.db.level() > 0 => self.learn(conflict, task, pace),
-            Some(conflict) => self.refute(conflict, task, pace),
-            None => self.go_on(task, pace),
+            Some(conflict) if self.db.level() > 0 => self.learn(conflict, task, restarts),
+            Some(conflict) => self.refute(conflict, task, restarts),
+            None => self.go_on(task, restarts),
         }
     }
 
@@ -37,9 +37,9 @@ impl Search<'_> {
         ensures forward { GoesForward self.old self.new }
     {
         self.jump_back(0);
-        let mut pace = Pace::new(self.added, restart);
+        let mut restarts = Restarts::new(self.added, restart);
         loop {
-            match self.turn(task, &mut pace) {
+            match self.turn(task, &mut restarts) {
                 Ok(None) => {}
                 Ok(Some(found)) => return Ok(found),
                 Err(AllocError) => return Err(AllocError),

@@ -4,6 +4,7 @@ ghost use Rattle.std.specs.Prelude.{◌≡◌, ◌+◌, ◌<◌, ◌≤◌, ◌^
 ghost use Rattle.std.specs.Option.{ForSome};
 ghost use Rattle.order_ints.specs.Place.{LitBelow, InRange};
 ghost use Rattle.clause_rings.specs.Clauses.{AreApartIn};
+ghost use Rattle.proof_check.specs.Lines.{Each, IsReadable};
 ghost use Rattle.proof_check.specs.Lrat.{Lrat};
 ghost use Rattle.learning_solver.specs.Log.{additions, GoesOn, IsFreshLog};
 ghost use Rattle.learning_solver.specs.Outcome.{Answers, most_learned};
@@ -61,9 +62,11 @@ impl<'a> Solver<'a> {
         ensures cnf { self.new.cnf ≡ self.old.cnf }
         ensures log { GoesOn self.old.log self.new.log }
 
-        // The log is accepted to its last line; its additions are new where they stand, and its deletions name additions alone.
+        // The log is accepted to its last line; its additions are new where they stand, its deletions name additions alone,
+        // behind the last id, and each line can be read back from its text.
         ensures accepted { Lrat self.new.cnf self.new.log }
         ensures fresh { IsFreshLog self.new.cnf self.new.log }
+        ensures readable { Each IsReadable self.new.log }
 
         // What is found, and what it may have cost.
         ensures found { IfOk result (Answers self.new assumption) }
@@ -90,6 +93,7 @@ impl<'a> Solver<'a> {
         ensures log { result.now ≡ self.now.log }
         ensures accepted { Lrat self.now.cnf self.now.log }
         ensures fresh { IsFreshLog self.now.cnf self.now.log }
+        ensures readable { Each IsReadable self.now.log }
     {
         self.search.lines.as_slice()
     }
@@ -99,6 +103,7 @@ impl<'a> Solver<'a> {
         ensures log { result ≡ self.entry.log }
         ensures accepted { Lrat self.entry.cnf result }
         ensures fresh { IsFreshLog self.entry.cnf result }
+        ensures readable { Each IsReadable result }
     {
         let Solver { search } = self;
         search.into_lines()

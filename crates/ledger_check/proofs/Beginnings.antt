@@ -26,7 +26,14 @@ use Rattle.model_meaning.specs.declared.model.Goal.TheVariants.{Satisfy, Minimiz
 use Rattle.model_meaning.specs.declared.model.Model.{Model}
 use Rattle.statement_lower.specs.Terms.{integer_at}
 use Rattle.name_map.specs.Fits.{EntryFits, EntriesFit}
+use Rattle.model_meaning.specs.Limits.{InLimits}
+use Rattle.model_meaning.specs.WellTyped.{WellTyped}
+use Rattle.model_weight.specs.Weight.{weight_of}
 use Rattle.model_lower.specs.declared.state.Lowered.{Lowered}
+use Rattle.model_lower.specs.Fits.{Fits}
+use Rattle.model_lower.specs.Lowering.{lowered_of}
+use Rattle.model_lower.specs.Weighed.{most_weight}
+use Rattle.model_lower.proofs.LoweringLaw.{lowering_law}
 use Rattle.step_kernel.specs.Kernel.{Kernel, IsKernel}
 use Rattle.answer_document.specs.BoundAtoms.{integer_named, settled}
 use Rattle.ledger_check.specs.declared.reading.Reading.{Reading}
@@ -86,6 +93,11 @@ pub settled-range : (n : ℕ) (cnf : Cnf) (all : List (List Lit)) (a : Atom) →
 settled-range n cnf all a vars range below is =
     subst (λ (cs : List (List Lit)). ClausesBelow (cnf.vars + 1) cs) (sym is)
     (with-atom (cnf.vars + 1) cnf.clauses a range (subst (λ (m : ℕ). AtomBelow (m + 1) a) (sym vars) below))
+
+-- a lowered model is within its ranges
+pub lowered-fits : (model : Model) (l : Lowered) → WellTyped model → InLimits model → weight_of model ≤ most_weight → l ≡ lowered_of model → Fits l model.decls
+lowered-fits model l typed limits light shape =
+    subst (λ (m : Lowered). Fits m model.decls) (sym shape) (lowering_law model typed limits light).fits
 
 -- before the first line
 pub start-within : (r : Reading) (l : Lowered) (ds : List Decl) → standing_of r ≡ begun l → EntriesFit (l.vars + 1) ds l.map.entries → IsWithin r

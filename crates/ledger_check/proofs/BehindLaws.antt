@@ -47,7 +47,7 @@ digit-first (b ∷ w) behind word digits = (and_parts (is_ascii_digit b) (list_a
 
 line-digit : (l : ProofLine) → IsReadable l → is_ascii_digit (get_or (line_bytes l) 0 0) ≡ true
 line-digit (Add id lits hints) h = digit-first (decimal id) _ (decimal_word id (omega (arith, h.0.1))) (decimal_digits id (omega (arith, h.0.1)))
-line-digit (Delete at ids) h = digit-first (decimal at) _ (decimal_word at (omega (arith, h.0.1))) (decimal_digits at (omega (arith, h.0.1)))
+line-digit (Delete at ids) h = digit-first (decimal at) _ (decimal_word at (omega (arith, h.0))) (decimal_digits at (omega (arith, h.0)))
 
 line-second : (l : ProofLine) → IsReadable l → codes "second" ≡ line_bytes l → ⊥
 line-second l h is = false≢true (ap (λ w. is_ascii_digit (get_or w 0 0)) is ∙ line-digit l h)

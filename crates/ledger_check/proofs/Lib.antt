@@ -14,4 +14,5 @@ mod LineWords
 mod Beginnings
 pub mod DocumentLines
 mod Endgame
+mod Judgements
 pub mod OneFault

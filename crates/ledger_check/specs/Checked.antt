@@ -1,5 +1,5 @@
 -- What comes of a text: a valid answer, or the first line that fails.
-use Rattle.std.specs.Prelude.{◌≡◌, ◌⊎◌, ℕ, ◌<◌, ◌^◌, List, [], ℤ, Option, None}
+use Rattle.std.specs.Prelude.{◌≡◌, ◌⊎◌, ℕ, ◌<◌, ◌≤◌, ◌^◌, List, [], ℤ, Option, None}
 use Rattle.model_meaning.specs.declared.model.Model.{Model}
 use Rattle.model_weight.specs.Weight.{weight_of}
 use Rattle.model_lower.specs.declared.fault.LowerFault.{LowerFault}
@@ -13,6 +13,9 @@ use Rattle.ledger_check.specs.declared.fault.Why.{Why}
 use Rattle.ledger_check.specs.declared.fault.Why.TheVariants.{Shape}
 use Rattle.ledger_check.specs.declared.fault.CheckFault.{CheckFault}
 use Rattle.ledger_check.specs.declared.fault.CheckFault.TheVariants.{TooHeavy, Refused, Memory}
+use Rattle.ledger_check.specs.declared.checking.Judgement.{Judgement}
+use Rattle.ledger_check.specs.declared.checking.Judgement.TheVariants as judged
+use Rattle.ledger_check.specs.declared.checking.Judgement.TheVariants.{Valid}
 use Rattle.ledger_check.specs.Tests.{start_standing}
 use Rattle.ledger_check.specs.Reading.{IsNext, IsBecause, IsEnd}
 
@@ -34,11 +37,16 @@ pub record IsRefused (model : Model) (text : List ℕ) (line : ℕ) (why : Why) 
   pub invalid : (v : Verdict) (a : Option (List ℤ)) → IsValid model text v a → ⊥
   pub first : IsFirstFault model text line why
 
--- The model weighs too much, and its weight is told where it has 128 bits, as that of each text has; or the text is refused; or
--- memory was wanting.
+-- what comes of a text: a valid answer with this verdict, or the first line that fails
+abbrev pub IsJudged : Model → List ℕ → Judgement → Type 0
+IsJudged model text (Valid v) = IsAnswer model text v
+IsJudged model text (judged.Refused line why) = IsRefused model text line why
+
+-- The model weighs too much, and its weight is told where it has 128 bits, as that of each text has; or it does not, and the text
+-- is refused; or memory was wanting.
 abbrev pub IsFaultOf : CheckFault → Model → List ℕ → Type 0
 IsFaultOf (TooHeavy w) model text = (most_weight < weight_of model) × (weight_of model < 2 ^ 128 → w ≡ weight_of model)
-IsFaultOf (Refused line why) model text = IsRefused model text line why
+IsFaultOf (Refused line why) model text = (weight_of model ≤ most_weight) × IsRefused model text line why
 IsFaultOf Memory model text = Unit {0}
 
 -- why a model isn't lowered

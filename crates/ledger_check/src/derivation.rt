@@ -23,7 +23,7 @@ use answer_document::{Bounds, Verdict};
 use ledger_text::{Line, read_step};
 use model_meaning::Model;
 use order_ints::resolve;
-use proof_check::{Checker, LineHead, LineRoom, ProofFault, TakeFault, TextFault};
+use proof_check::{Checker, LineHead, LineRoom, ProofFault, ProofTextFault, TakeFault};
 use std::alloc::AllocError;
 use step_kernel::ApplyFault;
 
@@ -294,8 +294,8 @@ impl Reading {
                 let taken = self.take_first(head, room)?;
                 return Ok(taken);
             }
-            Err(TextFault::Form(_)) => self.behind_proof(model, line),
-            Err(TextFault::Memory) => Err(AllocError),
+            Err(ProofTextFault::Form(_)) => self.behind_proof(model, line),
+            Err(ProofTextFault::Memory) => Err(AllocError),
         }
     }
 
@@ -330,8 +330,8 @@ impl Reading {
                 let taken = self.take_second(head, room)?;
                 return Ok(taken);
             }
-            Err(TextFault::Form(_)) => Ok(self.behind_second(model, line)),
-            Err(TextFault::Memory) => Err(AllocError),
+            Err(ProofTextFault::Form(_)) => Ok(self.behind_second(model, line)),
+            Err(ProofTextFault::Memory) => Err(AllocError),
         }
     }
 }

@@ -1,14 +1,15 @@
 -- Equations of a run that are due at a core, one after another.
-use Rattle.std.proofs.Common.{◌≡◌, ℕ, ◌+◌, ◌<◌, Bool, true, false, ◌||◌, List, [], length, drop, get_or, refl, sym, ap, ◌∙◌, subst, arith, Some}
+use Rattle.std.proofs.Common.{◌≡◌, ℕ, ◌+◌, ◌<◌, Bool, true, false, ◌||◌, List, [], ◌∷◌, length, drop, get_or, refl, sym, ap, ◌∙◌, subst, arith, Some}
 use Rattle.std.proofs.lemmas.Bool.{false≢true}
 use Rattle.std.proofs.lemmas.List.{drop_all, get_or_default}
 use Rattle.order_ints.specs.declared.atom.Atom.{Atom}
+use Rattle.order_ints.specs.Place.{AtomBelow}
 use Rattle.order_ints.specs.Label.{IsLabel}
 use Rattle.core_forms.specs.declared.equation.Equation.{Equation}
 use Rattle.core_forms.specs.declared.form.Core.{Core}
 use Rattle.core_forms.specs.Place.{CoreBelow}
 use Rattle.core_forms.specs.Trimmed.{trimmed_core}
-use Rattle.equation_runs.specs.Turns.{resolved_equation, IsMade, AreToldInTurn, made_equation, EquationsBelow, is_stated}
+use Rattle.equation_runs.specs.Turns.{resolved_equation, IsMade, AreInTurn, AreToldInTurn, made_equation, EquationsBelow, is_stated}
 use Rattle.equi_rules.specs.Instances.{is_instance_of as is_equi_instance}
 use Rattle.arith_rules.specs.Instances.{is_instance_of as is_arith_instance}
 use Rattle.alldiff_rules.specs.Instances.{is_instance_of as is_alldiff_instance}
@@ -17,7 +18,8 @@ use Rattle.core_rules.specs.Instances.{is_instance_at}
 use Rattle.step_kernel.specs.Kernel.{Kernel, trimmed_at, IsKernel}
 use Rattle.step_kernel.specs.Steps.{equated}
 use Rattle.step_kernel.proofs.There.{there-below, there-labels}
-use Rattle.fixpoint_queue.proofs.Runs.{same-vars, there-later, there-trimmed, made-equated, told-of, turn-next, below-next, unless-bottom}
+use Rattle.fixpoint_queue.proofs.Behind.{turn-begins, turn-made, turn-equated}
+use Rattle.fixpoint_queue.proofs.Runs.{same-vars, there-later, there-asked, told-of, next-turn, first-told, below-next, unless-bottom}
 use Rattle.ledger_replay.specs.declared.run.Run.{Run}
 use Rattle.ledger_replay.specs.Due.{AreDue, IsRunAt, IsNext}
 
@@ -27,12 +29,13 @@ told c e = is_stated c e ≡ true
 
 -- it is an instance of a rule
 told-instance : (core : Core) (e : Equation) → told core e → is_instance_at core e ≡ true
-told-instance core e h = by (is_equi_instance core e) (is_arith_instance core e) (is_alldiff_instance core e || is_table_instance core e) h
+told-instance core e h = by (is_equi_instance core e) (is_arith_instance core e) (is_alldiff_instance core e) (is_table_instance core e) h
   where
-    by : (a b c : Bool) → (a || b) ≡ true → (a || (b || c)) ≡ true
-    by true b c h = refl
-    by false true c h = refl
-    by false false c h = absurd (false≢true h)
+    by : (a b c d : Bool) → (a || (b || c)) ≡ true → (a || (b || (c || d))) ≡ true
+    by true b c d h = refl
+    by false true c d h = refl
+    by false false true d h = refl
+    by false false false d h = absurd (false≢true h)
 
 module _ (k : Kernel) (is : IsKernel k) (id : ℕ) where
   -- a run that was just made is due
@@ -41,17 +44,21 @@ module _ (k : Kernel) (is : IsKernel k) (id : ℕ) where
   due_whole core run running there turns places = record {
     running = running;
     core = core;
-    there = there ∙ ap Some (sym (there-trimmed k is id core there));
+    there = there-asked k is id core there;
     below = there-below k id core is there;
-    before = made_equation;
-    made = refl;
-    told = turns;
+    turn = turn-begins told k is id core there run turns;
     places = places;
   }
 
   module _ (run : List Equation) (i : ℕ) (low : i < length run) (due : AreDue k id (drop i run)) where
     abbrev next : Equation
     next = get_or run i made_equation
+
+    in-turn : AreInTurn told due.core k.view (next ∷ drop (i + 1) run)
+    in-turn = next-turn told due.core k.view run i low due.turn
+
+    below : (AtomBelow (length k.view + 1) next.a × AtomBelow (length k.view + 1) next.b) × EquationsBelow (length k.view + 1) (drop (i + 1) run)
+    below = below-next (length k.view + 1) run i low due.places
 
     -- what is behind an equation that is made is due
     made-behind : IsMade k.view next → AreDue k id (drop (i + 1) run)
@@ -60,10 +67,8 @@ module _ (k : Kernel) (is : IsKernel k) (id : ℕ) where
       core = due.core;
       there = due.there;
       below = due.below;
-      before = next;
-      made = made;
-      told = (turn-next told due.core k.view run i low (due.before, due.made, due.told)).1;
-      places = (below-next (length k.view + 1) run i low due.places).1;
+      turn = turn-made told due.core next (drop (i + 1) run) k.view due.below below.0.0 below.0.1 made in-turn;
+      places = below.1;
     }
 
     module _ (other : IsMade k.view next → ⊥) where
@@ -74,7 +79,7 @@ module _ (k : Kernel) (is : IsKernel k) (id : ℕ) where
       e = resolved_equation k.view next
 
       instance : is_instance_at core e ≡ true
-      instance = told-instance core e (told-of told due.core k.view next (turn-next told due.core k.view run i low (due.before, due.made, due.told)).0 other)
+      instance = told-instance core e (told-of told due.core k.view next (first-told told due.core k.view next (drop (i + 1) run) in-turn) other)
 
       labels : IsLabel k.view e.a × IsLabel k.view e.b
       labels = there-labels k id core is due.there e instance
@@ -83,18 +88,14 @@ module _ (k : Kernel) (is : IsKernel k) (id : ℕ) where
       same = same-vars k is e labels
 
       behind : (equated k e).bottom ≡ false → AreDue (equated k e) id (drop (i + 1) run)
-      behind running =
-          let places = below-next (length k.view + 1) run i low due.places in
-          record {
-            running = running;
-            core = due.core;
-            there = there-later k is id due.core due.below due.there e labels;
-            below = subst (λ (n : ℕ). CoreBelow (n + 1) due.core) (sym same) due.below;
-            before = next;
-            made = unless-bottom (equated k e).bottom running (made-equated k is next places.0.0 places.0.1 other);
-            told = (turn-next told due.core k.view run i low (due.before, due.made, due.told)).1;
-            places = subst (λ (n : ℕ). EquationsBelow (n + 1) (drop (i + 1) run)) (sym same) places.1;
-          }
+      behind running = record {
+        running = running;
+        core = due.core;
+        there = there-later k is id due.core due.below due.there e labels;
+        below = subst (λ (n : ℕ). CoreBelow (n + 1) due.core) (sym same) due.below;
+        turn = unless-bottom (equated k e).bottom running (turn-equated told due.core next (drop (i + 1) run) k is due.below below.0.0 below.0.1 other (equated k e) refl same in-turn);
+        places = subst (λ (n : ℕ). EquationsBelow (n + 1) (drop (i + 1) run)) (sym same) below.1;
+      }
 
       resolved-next : IsNext k id e (drop (i + 1) run)
       resolved-next = record { running = due.running; instance = (core, due.there, instance); behind = behind }
@@ -122,7 +123,7 @@ module _ (k : Kernel) (is : IsKernel k) (id : ℕ) where
   due_none run es due = subst (AreDue k id) (sym (drop_all (length run) run (omega arith))) nothing
     where
       nothing : AreDue k id []
-      nothing = record { running = due.running; core = due.core; there = due.there; below = due.below; before = due.before; made = due.made; told = tt; places = tt }
+      nothing = record { running = due.running; core = due.core; there = due.there; below = due.below; turn = record { done = due.turn.done; behind = due.turn.behind; places = due.turn.places; told_behind = tt }; places = tt }
 
 -- a run goes on where an equation of it was made, but for a contradiction
 pub run_after : (k new : Kernel) (id : ℕ) (e : Equation) (run : Run) → IsNext k id e (drop run.place run.equations.items) → run.id ≡ id → new ≡ equated k e → new.bottom ≡ false

@@ -5,22 +5,20 @@ use Rattle.core_forms.specs.declared.equation.Equation.{Equation}
 use Rattle.core_forms.specs.declared.form.Core.{Core}
 use Rattle.core_forms.specs.Place.{CoreBelow}
 use Rattle.core_forms.specs.Trimmed.{trimmed_core}
-use Rattle.equation_runs.specs.Turns.{IsMade, AreToldAfter, EquationsBelow, is_stated}
+use Rattle.equation_runs.specs.Turns.{AreInTurn, EquationsBelow, is_stated}
 use Rattle.step_kernel.specs.Kernel.{Kernel, trimmed_at}
 use Rattle.step_kernel.specs.Instances.{IsInstanceAt}
 use Rattle.step_kernel.specs.Steps.{equated}
 use Rattle.ledger_replay.specs.declared.run.Run.{Run}
 
--- Equations are due at the pending core with an id: there is no contradiction; the store has the core as it has some core at which they are told in
--- turn, behind an equation that is made; and core and equations are over its variables.
+-- Equations are due at the pending core with an id: there is no contradiction; the store has the core as it has some core at which they are what is
+-- left of a run, in the view that those of it made that were before them; and core and equations are over its variables.
 pub record AreDue (k : Kernel) (id : ℕ) (es : List Equation) : Type 0 where
   pub running : k.bottom ≡ false
   pub core : Core
   pub there : trimmed_at k id ≡ Some (trimmed_core k.view core)
   pub below : CoreBelow (length k.view + 1) core
-  pub before : Equation
-  pub made : IsMade k.view before
-  pub told : AreToldAfter (λ c e. is_stated c e ≡ true) core before es
+  pub turn : AreInTurn (λ c e. is_stated c e ≡ true) core k.view es
   pub places : EquationsBelow (length k.view + 1) es
 
 -- the rest of a run is due at its core

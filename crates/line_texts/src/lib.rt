@@ -1,5 +1,18 @@
-//! Texts that are read line by line: a relation says which line may stand next, and what stands behind it. A text is
-//! whole, or has one first line that fails.
+//! Texts that are read line by line, with exactly one verdict each: the text is whole, or it has
+//! one first line that fails, with the cause.
+//!
+//! A reader of such a text is a relation and a function. The relation says which line may stand
+//! next behind what was told so far, and what stands behind it (`next` of the trait `LineTaker`),
+//! where a text may end (`ended`), and for which cause a line is not the next (`because`). The
+//! function takes one line. `read_lines` is the one loop over them all, and what it answers is said
+//! of the relation alone (`EndsAs`, its one clause). Compiled texts, values, CNFs, proofs and
+//! answers are read by such relations, so all share the proof that a text has one verdict.
+//!
+//! Its lemmas: where a line leads to one standing alone, a text is whole in one way, has one first
+//! line that fails, and never both (`whole_same`, `misfit_same`, `whole_fits`).
+//!
+//! To read a further kind of text, implement `LineTaker`, and show that a line leads to one
+//! standing alone; the values of `dimacs_read` are a short example. Lines are counted from 1.
 #![tactic(auto)]
 
 mod ends;

@@ -6,7 +6,7 @@ ghost use Rattle.order_ints.specs.Numbers.{number_of, numbers_of};
 ghost use Rattle.state_compile.specs.StandsFor.{read_by};
 ghost use Rattle.model_decode.specs.Short.{IsShort, AreShort};
 
-use crate::reading::Reading;
+use crate::reading::StoreReading;
 use bee_list::Sequence;
 use name_map::NameMap;
 use order_ints::{Atom, MapValue};
@@ -14,7 +14,7 @@ use std::alloc::{AllocError, Global};
 use typed_model::Assignment;
 
 /// The number of a name that stands for this value.
-fn number_under(value: &MapValue, reading: Reading<'_>) -> i64
+fn number_under(value: &MapValue, reading: StoreReading<'_>) -> i64
     requires { IsShort value.now }
     ensures { result ≡ number_of (read_by reading.entry.view.now (valuation_of reading.entry.values.now)) value.now }
 {
@@ -37,7 +37,7 @@ pub fn decode(
     requires { AreShort map.now.entries }
     ensures { IfOk result (λ a. a.values ≡ numbers_of (read_by view.now (valuation_of sigma.now)) map.now.entries) }
 {
-    let reading = Reading {
+    let reading = StoreReading {
         view,
         values: sigma,
     };

@@ -8,14 +8,14 @@ use order_ints::{Atom, TruthValues, label_of};
 
 /// Truth values read by a view: each variable is as true as its label. A look-up takes constant time.
 #[derive(Clone, Copy, Debug)]
-pub struct Reading<'a> {
+pub struct StoreReading<'a> {
     /// The label of each variable, that of variable 1 first.
     pub view: &'a [Atom],
     /// The truth value of each variable, that of variable 1 first.
     pub values: &'a [bool],
 }
 
-impl TruthValues for Reading<'_> {
+impl TruthValues for StoreReading<'_> {
     ghost valuation = { λ reading. read_by reading.view.now (valuation_of reading.values.now) };
 
     fn truth(&self, var: u32) -> bool {

@@ -13,7 +13,7 @@ use Rattle.model_meaning.specs.declared.what.BoolTerm.{BoolTerm}
 use Rattle.model_meaning.specs.declared.what.BoolTerm.TheVariants as bool_term
 use Rattle.model_meaning.specs.declared.what.IntTerm.TheVariants as int_term
 use Rattle.model_meaning.specs.declared.what.What.{What}
-use Rattle.model_meaning.specs.declared.what.What.TheVariants.{L3}
+use Rattle.model_meaning.specs.declared.what.What.TheVariants.{BoolToInt}
 use Rattle.model_meaning.specs.Terms.{value_at, truth_of, as_number}
 use Rattle.model_meaning.specs.Integers.{is_member}
 use Rattle.model_meaning.specs.Domains.{domain}
@@ -57,7 +57,7 @@ bit-in_domain false = (Decides-domain (pos 0) (pos 1) (pos 0)).1 (omega (arith, 
 
 module _ (l : Lowered) (ds : List Decl) (enc : Encodes l ds) (d : Decl) (x : BoolTerm) (f : TruthFits ds d.number x) (is : d.kind ≡ kind.Range (pos 0) (pos 1)) where
   abbrev w : What
-  w = L3 x (int_term.Of (length ds))
+  w = BoolToInt x (int_term.Of (length ds))
 
   abbrev entries : List MapValue
   entries = l.map.entries

@@ -92,9 +92,9 @@ module _ (ds es : List Decl) (n : ℕ) (from : AllFrom (n + 1) es) where
   IsDivision-before xs k h = absurd h
 
   ValuesFit-before : (s : statement.Statement) (xs : List Argument) → ArgumentsFit (ds ++ es) n (signature s) xs → ValuesFit (ds ++ es) s xs → ValuesFit ds s xs
-  ValuesFit-before (variant.Aggregate o) xs k h = h
-  ValuesFit-before (variant.Operation arithmetic.Div) xs k h = IsDivision-before xs k h
-  ValuesFit-before (variant.Operation arithmetic.Mod) xs k h = IsDivision-before xs k h
+  ValuesFit-before (variant.IntArray o) xs k h = h
+  ValuesFit-before (variant.IntOp arithmetic.Div) xs k h = IsDivision-before xs k h
+  ValuesFit-before (variant.IntOp arithmetic.Mod) xs k h = IsDivision-before xs k h
   ValuesFit-before s xs k h = tt
 
   pub WhatFits-before : (w : What) → WhatFits (ds ++ es) n w → WhatFits ds n w

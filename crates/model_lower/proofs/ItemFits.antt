@@ -7,7 +7,7 @@ use Rattle.model_meaning.specs.declared.model.Decl.{Decl}
 use Rattle.model_meaning.specs.declared.model.Stmt.{Stmt}
 use Rattle.model_meaning.specs.declared.what.IntTerm.TheVariants as int_term
 use Rattle.model_meaning.specs.declared.what.What.{What}
-use Rattle.model_meaning.specs.declared.what.What.TheVariants.{L3}
+use Rattle.model_meaning.specs.declared.what.What.TheVariants.{BoolToInt}
 use Rattle.model_meaning.specs.Limits.{KindInLimit, StmtsInLimit, DeclsInLimit}
 use Rattle.model_meaning.specs.WellTyped.{TruthFits, WhatFits, KindFits, StmtsFit, DeclsFit, DeclaresPlace, SharesFit}
 use Rattle.model_items.specs.Items.{ModelItem, Declaration, Statement, Definition, stmts_before, stmts_from, declared_item, behind_declared, items_of}
@@ -109,13 +109,13 @@ place-at_end n (c ∷ done) ds d (suc p) h le from e = ap suc (place-at_end n do
 -- the statement is a `bool2int` of the declaration
 defines : (n : ℕ) (done ds : List Decl) (d : Decl) (s : Stmt) → AllBelow n done → n ≤ d.number → AllFrom (d.number + 1) ds → s.number ≡ d.number
     → (w : What) → s.what ≡ w → WhatFits (done ++ d ∷ ds) s.number w → DeclaresPlace (done ++ d ∷ ds) d w → IsDefinition done d s
-defines n done ds d s below le from same (L3 x (int_term.Of p)) is fit place =
+defines n done ds d s below le from same (BoolToInt x (int_term.Of p)) is fit place =
     let at : p ≡ length done = place-at_end n done ds d p below le from place.0 in
     let f : TruthFits (done ++ d ∷ ds) d.number x = subst (λ (m : ℕ). TruthFits (done ++ d ∷ ds) m x) same fit.arguments.0 in
     record {
       truth = x;
       truth_fits = truth-before done (d ∷ ds) d.number (omega arith, AllFrom-less d.number ds from) x f;
-      what = is ∙ ap (λ (p : ℕ). L3 x (int_term.Of p)) at;
+      what = is ∙ ap (λ (p : ℕ). BoolToInt x (int_term.Of p)) at;
       kind = place.1;
     }
 defines n done ds d s below le from same w is fit place = absurd place

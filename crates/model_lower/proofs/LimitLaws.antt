@@ -9,7 +9,7 @@ use Rattle.model_lower.proofs.DeclarationSteps.{first-limit, last-of-limit}
 use Rattle.model_meaning.specs.declared.model.Kind.{Kind}
 use Rattle.model_meaning.specs.declared.model.Kind.TheVariants as kind
 use Rattle.model_meaning.specs.declared.what.What.{What}
-use Rattle.model_meaning.specs.declared.what.What.TheVariants.{L3}
+use Rattle.model_meaning.specs.declared.what.What.TheVariants.{BoolToInt}
 use Rattle.model_meaning.specs.Domains.{at_least_zero}
 use Rattle.model_meaning.specs.Limits.{InLimit, KindInLimit}
 use Rattle.statement_lower.specs.Entries.{AreInLimit}
@@ -39,7 +39,7 @@ entry-limit vars (kind.Listed vs) h =
     ((low, high, AreRising-integer_of_values vs (vars + 1) h.1), tt)
 
 defined-limit : (entries : List MapValue) (w : What) → AreInLimit (defined_entry entries w ∷ [])
-defined-limit entries (L3 x i) = ((omega arith, omega (arith, ints), (omega arith, tt)), tt)
+defined-limit entries (BoolToInt x i) = ((omega arith, omega (arith, ints), (omega arith, tt)), tt)
 defined-limit entries w = ((omega arith, omega (arith, ints), tt), tt)
 
 -- behind an item in the limits

@@ -7,7 +7,7 @@ use Rattle.core_forms.specs.Cores.{MeetsAll, CoresBelow, AreWellFormed}
 use Rattle.model_meaning.specs.declared.what.BoolTerm.{BoolTerm}
 use Rattle.model_meaning.specs.declared.what.IntTerm.TheVariants.{Of}
 use Rattle.model_meaning.specs.declared.what.What.{What}
-use Rattle.model_meaning.specs.declared.what.What.TheVariants.{L3}
+use Rattle.model_meaning.specs.declared.what.What.TheVariants.{BoolToInt}
 use Rattle.model_meaning.specs.declared.model.Kind.{Kind}
 use Rattle.model_meaning.specs.declared.model.Kind.TheVariants.{Range}
 use Rattle.model_meaning.specs.declared.model.Decl.{Decl}
@@ -54,7 +54,7 @@ pub record TakesItsValue (l m : Lowered) (k : Kind) (w : What) : Type 0 where
 pub record IsDefinition (decls : List Decl) (d : Decl) (s : Stmt) : Type 0 where
   pub truth : BoolTerm
   pub truth_fits : TruthFits decls d.number truth
-  pub what : s.what ≡ L3 truth (Of (length decls))
+  pub what : s.what ≡ BoolToInt truth (Of (length decls))
   pub kind : d.kind ≡ Range (pos 0) (pos 1)
 
 -- a declaration

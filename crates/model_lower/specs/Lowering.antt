@@ -10,7 +10,7 @@ use Rattle.model_meaning.specs.declared.model.Kind.{Kind}
 use Rattle.model_meaning.specs.declared.model.Kind.TheVariants as kind
 use Rattle.model_meaning.specs.declared.model.Model.{Model}
 use Rattle.model_meaning.specs.declared.what.What.{What}
-use Rattle.model_meaning.specs.declared.what.What.TheVariants.{L3}
+use Rattle.model_meaning.specs.declared.what.What.TheVariants.{BoolToInt}
 use Rattle.model_meaning.specs.Domains.{at_least_zero}
 use Rattle.value_lists.specs.ValueLists.{shape_of}
 use Rattle.model_items.specs.Items.{ModelItem, Declaration, Statement, Definition, items_of_model}
@@ -53,7 +53,7 @@ with_statement l what = record {
 
 -- what the name stands for that a `bool2int` declares: its Boolean, as an integer
 abbrev pub defined_entry : List MapValue → What → MapValue
-defined_entry entries (L3 x i) = values.Int (integer_of_atom (atom_of entries x))
+defined_entry entries (BoolToInt x i) = values.Int (integer_of_atom (atom_of entries x))
 defined_entry entries what = values.Int (constant_of (pos 0))
 
 -- after one more `bool2int` that declares its integer, which takes no variable and makes no core

@@ -120,7 +120,7 @@ fn defined_entry(alloc: Global, entries: &[MapValue], what: &What) -> Result<Map
     ensures { IfOk result (λ e. e ≡ defined_entry entries.now what.now) }
 {
     let integer = match what {
-        What::L3 { truth, .. } => OrdInt::of_atom(alloc, atom_of(entries, *truth))?,
+        What::BoolToInt { truth, .. } => OrdInt::of_atom(alloc, atom_of(entries, *truth))?,
         _ => OrdInt::constant(alloc, 0)?,
     };
     Ok(MapValue::Int(integer))

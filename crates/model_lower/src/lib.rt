@@ -1,8 +1,18 @@
-//! From a typed model to cores and a map of names.
+//! From a typed model to cores and a map of names, item by item, up to a weight.
 //!
-//! Items are taken in the order of their numbers. A declaration takes variables, and makes an entry of the
-//! map; a statement makes cores, by `statement_lower`; a `bool2int` that declares its integer makes an entry alone. A model
-//! that weighs too much is refused before any core is made.
+//! The model is weighed first, and one above 67,108,864 is refused before any core is made; behind
+//! that no step of the compilation meets a limit. Then a declaration takes variables and makes an
+//! entry of the map, a statement makes cores by `statement_lower`, and a `bool2int` that declares
+//! its integer makes an entry alone, since the integer is its Boolean's own.
+//!
+//! What it promises: `lower`, of a model that is lent, and `lower_owned`, which lets each statement
+//! go when it is lowered, give exactly the lowered model (`shape`): the assignments that are
+//! decoded from valuations that meet all cores are exactly the solutions (`solutions`), and a state
+//! may start with its cores (`fits`). They fail exactly where the model is too heavy, with its
+//! weight, or memory is wanting (`light`, `heavy`). Laws: `lowering_law`, `weight_law` (variables
+//! and costs together are at most the weight).
+//!
+//! The limit stands in `src/weighing.rt`; a greater one wants the ranges of a state to follow.
 #![tactic(auto)]
 
 mod declarations;

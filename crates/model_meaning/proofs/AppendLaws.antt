@@ -62,9 +62,9 @@ module _ (ds es : List Decl) (n : ℕ) where
   IsDivision-append xs h = absurd h
 
   ValuesFit-append : (s : Statement) (xs : List Argument) → ValuesFit ds s xs → ValuesFit (ds ++ es) s xs
-  ValuesFit-append (statement.Aggregate o) xs h = h
-  ValuesFit-append (statement.Operation arithmetic.Div) xs h = IsDivision-append xs h
-  ValuesFit-append (statement.Operation arithmetic.Mod) xs h = IsDivision-append xs h
+  ValuesFit-append (statement.IntArray o) xs h = h
+  ValuesFit-append (statement.IntOp arithmetic.Div) xs h = IsDivision-append xs h
+  ValuesFit-append (statement.IntOp arithmetic.Mod) xs h = IsDivision-append xs h
   ValuesFit-append s xs h = tt
 
   pub WhatFits-append : (w : What) → WhatFits ds n w → WhatFits (ds ++ es) n w

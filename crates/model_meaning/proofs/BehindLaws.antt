@@ -8,7 +8,24 @@ use Rattle.model_meaning.specs.declared.what.BoolTerm.TheVariants as bool_term
 use Rattle.model_meaning.specs.declared.what.IntTerm.{IntTerm}
 use Rattle.model_meaning.specs.declared.what.IntTerm.TheVariants as int_term
 use Rattle.model_meaning.specs.declared.what.What.{What}
-use Rattle.model_meaning.specs.declared.what.What.TheVariants.{L3, L4, L5, L6, L7, L8, L9, L10, L11, L12, L13, L14, L15, L16, L17, L18}
+use Rattle.model_meaning.specs.declared.what.What.TheVariants.{
+  BoolToInt,
+  BoolEq,
+  BoolOp,
+  BoolArray,
+  BoolArrayReified,
+  Compare,
+  CompareReified,
+  BoolSum,
+  BoolLinear,
+  IntSum,
+  IntLinear,
+  IntOp,
+  Absolute,
+  IntArray,
+  IntAllDifferent,
+  Lexicographic,
+}
 use Rattle.model_meaning.specs.declared.wanted.Wanted.{Wanted}
 use Rattle.model_meaning.specs.declared.wanted.Wanted.TheVariants as wanted
 use Rattle.model_meaning.specs.declared.model.Decl.{Decl}
@@ -103,25 +120,25 @@ module _ (c a : List ℤ) where
   -- a statement whose arguments are worth the same holds the same
   holds-same : (w : What) → AreSame c a (arguments_of w) → holds c w ≡ holds a w
   unfolding holds
-  holds-same (L3 x i) h = rw (h.0, h.1.0) refl
-  holds-same (L4 x y) h = rw (h.0, h.1.0) refl
-  holds-same (L5 name op x y z) h = rw (h.0, h.1.0, h.1.1.0) refl
-  holds-same (L6 name op xs) h = rw h.0 refl
-  holds-same (L7 name op xs z) h = rw (h.0, h.1.0) refl
-  holds-same (L8 name rel i j) h = rw (h.0, h.1.0) refl
-  holds-same (L9 name rel i j z) h = rw (h.0, h.1.0, h.1.1.0) refl
-  holds-same (L10 name rel xs i) h = rw (h.0, h.1.0) refl
-  holds-same (L11 name rel cs xs i) h = rw (h.1.0, h.1.1.0) refl
-  holds-same (L12 name rel is i) h = rw (h.0, h.1.0) refl
-  holds-same (L13 name rel cs is i) h = rw (h.1.0, h.1.1.0) refl
-  holds-same (L14 name o i j k) h = rw (h.0, h.1.0, h.1.1.0) refl
-  holds-same (L15 i j) h = rw (h.0, h.1.0) refl
-  holds-same (L16 name o is i) h = rw (h.0, h.1.0) refl
-  holds-same (L17 name d is z xs) h =
+  holds-same (BoolToInt x i) h = rw (h.0, h.1.0) refl
+  holds-same (BoolEq x y) h = rw (h.0, h.1.0) refl
+  holds-same (BoolOp name op x y z) h = rw (h.0, h.1.0, h.1.1.0) refl
+  holds-same (BoolArray name op xs) h = rw h.0 refl
+  holds-same (BoolArrayReified name op xs z) h = rw (h.0, h.1.0) refl
+  holds-same (Compare name rel i j) h = rw (h.0, h.1.0) refl
+  holds-same (CompareReified name rel i j z) h = rw (h.0, h.1.0, h.1.1.0) refl
+  holds-same (BoolSum name rel xs i) h = rw (h.0, h.1.0) refl
+  holds-same (BoolLinear name rel cs xs i) h = rw (h.1.0, h.1.1.0) refl
+  holds-same (IntSum name rel is i) h = rw (h.0, h.1.0) refl
+  holds-same (IntLinear name rel cs is i) h = rw (h.1.0, h.1.1.0) refl
+  holds-same (IntOp name o i j k) h = rw (h.0, h.1.0, h.1.1.0) refl
+  holds-same (Absolute i j) h = rw (h.0, h.1.0) refl
+  holds-same (IntArray name o is i) h = rw (h.0, h.1.0) refl
+  holds-same (IntAllDifferent name d is z xs) h =
       let p = first-given (option_map Truth z) (option_map Truths xs ∷ []) h.1 in
       let q = first-given (option_map Truths xs) [] p.1 in
       rw (h.0, truth-if z p.0, truths-if xs q.0) refl
-  holds-same (L18 name o xs ys is js z) h =
+  holds-same (Lexicographic name o xs ys is js z) h =
       let p = first-given (option_map Truths xs) (option_map Truths ys ∷ option_map Numbers is ∷ option_map Numbers js ∷ option_map Truth z ∷ []) h in
       let q = first-given (option_map Truths ys) (option_map Numbers is ∷ option_map Numbers js ∷ option_map Truth z ∷ []) p.1 in
       let r = first-given (option_map Numbers is) (option_map Numbers js ∷ option_map Truth z ∷ []) q.1 in

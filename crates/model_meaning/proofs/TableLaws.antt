@@ -3,7 +3,24 @@ use Rattle.std.proofs.Common.{ℤ, Bool, List, IsTrue}
 use Rattle.std.specs.Bool.{Decides}
 use Rattle.std.proofs.lemmas.Bool.Decides.{Decides-int_eq}
 use Rattle.model_meaning.specs.declared.what.What.{What}
-use Rattle.model_meaning.specs.declared.what.What.TheVariants.{L3, L4, L5, L6, L7, L8, L9, L10, L11, L12, L13, L14, L15, L16, L17, L18}
+use Rattle.model_meaning.specs.declared.what.What.TheVariants.{
+  BoolToInt,
+  BoolEq,
+  BoolOp,
+  BoolArray,
+  BoolArrayReified,
+  Compare,
+  CompareReified,
+  BoolSum,
+  BoolLinear,
+  IntSum,
+  IntLinear,
+  IntOp,
+  Absolute,
+  IntArray,
+  IntAllDifferent,
+  Lexicographic,
+}
 use Rattle.model_meaning.specs.declared.statement.Arithmetic.{Arithmetic}
 use Rattle.model_meaning.specs.declared.statement.Arithmetic.TheVariants.{Plus, Times, Div, Mod, Max, Min}
 use Rattle.model_meaning.specs.declared.statement.Aggregate.{Aggregate}
@@ -38,19 +55,19 @@ Decides-members_differ all_different.Conditional xs z cs = Decides-differ_where 
 
 pub Decides-holds : (a : List ℤ) (w : What) → Decides (holds a w) (Holds a w)
 unfolding holds Holds
-Decides-holds a (L3 x i) = Decides-int_eq _ _
-Decides-holds a (L4 x y) = Decides-same _ _
-Decides-holds a (L5 name op x y z) = Decides-same _ _
-Decides-holds a (L6 name op xs) = Decides-itself _
-Decides-holds a (L7 name op xs z) = Decides-same _ _
-Decides-holds a (L8 name rel i j) = Decides-itself _
-Decides-holds a (L9 name rel i j z) = Decides-same _ _
-Decides-holds a (L10 name rel xs i) = Decides-itself _
-Decides-holds a (L11 name rel cs xs i) = Decides-itself _
-Decides-holds a (L12 name rel is i) = Decides-itself _
-Decides-holds a (L13 name rel cs is i) = Decides-itself _
-Decides-holds a (L14 name o i j k) = Decides-gives o _ _ _
-Decides-holds a (L15 i j) = Decides-int_eq _ _
-Decides-holds a (L16 name o is i) = Decides-is_aggregate o _ _
-Decides-holds a (L17 name d is z xs) = Decides-members_differ d _ _ _
-Decides-holds a (L18 name o xs ys is js z) = Decides-reify o.reified _ _ (Decides-in_order o.strict _ _)
+Decides-holds a (BoolToInt x i) = Decides-int_eq _ _
+Decides-holds a (BoolEq x y) = Decides-same _ _
+Decides-holds a (BoolOp name op x y z) = Decides-same _ _
+Decides-holds a (BoolArray name op xs) = Decides-itself _
+Decides-holds a (BoolArrayReified name op xs z) = Decides-same _ _
+Decides-holds a (Compare name rel i j) = Decides-itself _
+Decides-holds a (CompareReified name rel i j z) = Decides-same _ _
+Decides-holds a (BoolSum name rel xs i) = Decides-itself _
+Decides-holds a (BoolLinear name rel cs xs i) = Decides-itself _
+Decides-holds a (IntSum name rel is i) = Decides-itself _
+Decides-holds a (IntLinear name rel cs is i) = Decides-itself _
+Decides-holds a (IntOp name o i j k) = Decides-gives o _ _ _
+Decides-holds a (Absolute i j) = Decides-int_eq _ _
+Decides-holds a (IntArray name o is i) = Decides-is_aggregate o _ _
+Decides-holds a (IntAllDifferent name d is z xs) = Decides-members_differ d _ _ _
+Decides-holds a (Lexicographic name o xs ys is js z) = Decides-reify o.reified _ _ (Decides-in_order o.strict _ _)

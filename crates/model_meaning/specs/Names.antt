@@ -88,9 +88,9 @@ lone_statement name = if bytes_eq name (codes "new_bool") then Some statement.Ne
 -- lines 5 to 7: `bool_OP_reif`, `bool_array_OP`, `bool_array_OP_reif`
 unfoldable pub operator_statement : List ℕ → Option Statement
 operator_statement name =
-    first_of (option_map statement.PairReified (option_and_then operator_of (between (codes "bool_") (codes "_reif") name)))
-    (first_of (option_map statement.Array (option_and_then operator_of (after (codes "bool_array_") name)))
-    (option_map statement.ArrayReified (option_and_then operator_of (between (codes "bool_array_") (codes "_reif") name))))
+    first_of (option_map statement.BoolOp (option_and_then operator_of (between (codes "bool_") (codes "_reif") name)))
+    (first_of (option_map statement.BoolArray (option_and_then operator_of (after (codes "bool_array_") name)))
+    (option_map statement.BoolArrayReified (option_and_then operator_of (between (codes "bool_array_") (codes "_reif") name))))
 
 -- lines 8 to 13: `int_REL`, `int_REL_reif`, `bool_array_sum_REL`, `bool_array_pb_REL`, `int_array_sum_REL`,
 -- `int_array_lin_REL`
@@ -98,21 +98,21 @@ unfoldable pub relation_statement : List ℕ → Option Statement
 relation_statement name =
     first_of (option_map statement.Compare (option_and_then relation_of (after (codes "int_") name)))
     (first_of (option_map statement.CompareReified (option_and_then relation_of (between (codes "int_") (codes "_reif") name)))
-    (first_of (option_map statement.Count (option_and_then relation_of (after (codes "bool_array_sum_") name)))
-    (first_of (option_map statement.PseudoBoolean (option_and_then relation_of (after (codes "bool_array_pb_") name)))
-    (first_of (option_map statement.Sum (option_and_then relation_of (after (codes "int_array_sum_") name)))
-    (option_map statement.Linear (option_and_then relation_of (after (codes "int_array_lin_") name)))))))
+    (first_of (option_map statement.BoolSum (option_and_then relation_of (after (codes "bool_array_sum_") name)))
+    (first_of (option_map statement.BoolLinear (option_and_then relation_of (after (codes "bool_array_pb_") name)))
+    (first_of (option_map statement.IntSum (option_and_then relation_of (after (codes "int_array_sum_") name)))
+    (option_map statement.IntLinear (option_and_then relation_of (after (codes "int_array_lin_") name)))))))
 
--- line 14: `int_plus`, `int_times`, `int_div`, `int_mod`, `int_max`, `int_min`; line 16: `int_array_plus`,
--- `int_array_max`, `int_array_min`; line 17: `int_array_allDiff`, `int_array_allDiff_reif`, `int_array_allDiffCond`;
--- line 18: `bool_arrays_` or `int_arrays_`, then `lex` or `lexLt`, and `_reif` where a Boolean is the truth of it
+-- `int_plus`, `int_times`, `int_div`, `int_mod`, `int_max`, `int_min`; `int_array_plus`,
+-- `int_array_max`, `int_array_min`; `int_array_allDiff`, `int_array_allDiff_reif`, `int_array_allDiffCond`;
+-- `bool_arrays_` or `int_arrays_`, then `lex` or `lexLt`, and `_reif` where a Boolean is the truth of it
 unfoldable pub operation_statement : List ℕ → Option Statement
 operation_statement name =
-    first_of (option_map statement.Operation (option_and_then arithmetic_of (after (codes "int_") name)))
-    (first_of (option_map statement.Aggregate (option_and_then aggregate_of (after (codes "int_array_") name)))
-    (first_of (option_map statement.AllDifferent (option_and_then all_different_of (after (codes "int_array_") name)))
-    (first_of (option_map statement.Lex (option_and_then (order_of true) (after (codes "bool_arrays_") name)))
-    (option_map statement.Lex (option_and_then (order_of false) (after (codes "int_arrays_") name))))))
+    first_of (option_map statement.IntOp (option_and_then arithmetic_of (after (codes "int_") name)))
+    (first_of (option_map statement.IntArray (option_and_then aggregate_of (after (codes "int_array_") name)))
+    (first_of (option_map statement.IntAllDifferent (option_and_then all_different_of (after (codes "int_array_") name)))
+    (first_of (option_map statement.Lexicographic (option_and_then (order_of true) (after (codes "bool_arrays_") name)))
+    (option_map statement.Lexicographic (option_and_then (order_of false) (after (codes "int_arrays_") name))))))
 
 -- the declaration or statement of a name, where it is one
 unfoldable pub statement_of : List ℕ → Option Statement

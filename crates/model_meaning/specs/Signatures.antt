@@ -8,13 +8,13 @@ use Rattle.model_meaning.specs.declared.statement.Order.{Order}
 use Rattle.model_meaning.specs.declared.statement.Statement.{Statement}
 use Rattle.model_meaning.specs.declared.statement.Statement.TheVariants as statement
 
--- line 17
+-- members that differ
 abbrev pub all_different_signature : AllDifferent → List Wanted
 all_different_signature all_different.Plain = Numbers ∷ []
 all_different_signature all_different.Reified = Numbers ∷ Truth ∷ []
 all_different_signature all_different.Conditional = Numbers ∷ Truths ∷ []
 
--- line 18
+-- an order of two lists
 abbrev pub lex_signature : Order → List Wanted
 lex_signature o = if o.of_booleans then (if o.reified then Truths ∷ Truths ∷ Truth ∷ [] else Truths ∷ Truths ∷ []) else (if o.reified then Numbers ∷ Numbers ∷ Truth ∷ [] else Numbers ∷ Numbers ∷ [])
 
@@ -24,17 +24,17 @@ signature statement.NewBool = NewName ∷ []
 signature statement.NewInt = NewName ∷ Numeral ∷ Numeral ∷ []
 signature statement.BoolToInt = Truth ∷ NewInteger ∷ []
 signature statement.BoolEq = Truth ∷ Truth ∷ []
-signature (statement.PairReified op) = Truth ∷ Truth ∷ Truth ∷ []
-signature (statement.Array op) = Truths ∷ []
-signature (statement.ArrayReified op) = Truths ∷ Truth ∷ []
+signature (statement.BoolOp op) = Truth ∷ Truth ∷ Truth ∷ []
+signature (statement.BoolArray op) = Truths ∷ []
+signature (statement.BoolArrayReified op) = Truths ∷ Truth ∷ []
 signature (statement.Compare rel) = Number ∷ Number ∷ []
 signature (statement.CompareReified rel) = Number ∷ Number ∷ Truth ∷ []
-signature (statement.Count rel) = Truths ∷ Number ∷ []
-signature (statement.PseudoBoolean rel) = Numerals ∷ Truths ∷ Number ∷ []
-signature (statement.Sum rel) = Numbers ∷ Number ∷ []
-signature (statement.Linear rel) = Numerals ∷ Numbers ∷ Number ∷ []
-signature (statement.Operation o) = Number ∷ Number ∷ Number ∷ []
+signature (statement.BoolSum rel) = Truths ∷ Number ∷ []
+signature (statement.BoolLinear rel) = Numerals ∷ Truths ∷ Number ∷ []
+signature (statement.IntSum rel) = Numbers ∷ Number ∷ []
+signature (statement.IntLinear rel) = Numerals ∷ Numbers ∷ Number ∷ []
+signature (statement.IntOp o) = Number ∷ Number ∷ Number ∷ []
 signature statement.Absolute = Number ∷ Number ∷ []
-signature (statement.Aggregate e) = Numbers ∷ Number ∷ []
-signature (statement.AllDifferent d) = all_different_signature d
-signature (statement.Lex o) = lex_signature o
+signature (statement.IntArray e) = Numbers ∷ Number ∷ []
+signature (statement.IntAllDifferent d) = all_different_signature d
+signature (statement.Lexicographic o) = lex_signature o

@@ -5,7 +5,7 @@ use Rattle.model_meaning.specs.declared.what.BoolTerm.TheVariants as bool_term
 use Rattle.model_meaning.specs.declared.what.IntTerm.{IntTerm}
 use Rattle.model_meaning.specs.declared.what.IntTerm.TheVariants as int_term
 use Rattle.model_meaning.specs.declared.what.What.{What}
-use Rattle.model_meaning.specs.declared.what.What.TheVariants.{L3}
+use Rattle.model_meaning.specs.declared.what.What.TheVariants.{BoolToInt}
 use Rattle.model_meaning.specs.declared.wanted.Wanted.{Wanted}
 use Rattle.model_meaning.specs.declared.wanted.Wanted.TheVariants as wanted
 use Rattle.model_meaning.specs.declared.statement.Arithmetic.TheVariants as arithmetic
@@ -105,9 +105,9 @@ IsDivision ds (Number i ∷ Number j ∷ rest) = IsAtLeast ds (pos 0) i × IsAtL
 IsDivision ds args = ⊥
 
 abbrev pub ValuesFit : List Decl → Statement → List Argument → Type 0
-ValuesFit ds (statement.Aggregate o) args = HasMember o args
-ValuesFit ds (statement.Operation arithmetic.Div) args = IsDivision ds args
-ValuesFit ds (statement.Operation arithmetic.Mod) args = IsDivision ds args
+ValuesFit ds (statement.IntArray o) args = HasMember o args
+ValuesFit ds (statement.IntOp arithmetic.Div) args = IsDivision ds args
+ValuesFit ds (statement.IntOp arithmetic.Mod) args = IsDivision ds args
 ValuesFit ds s args = Unit {0}
 
 -- a statement, item n: its name is its own, and its arguments are those of the statement's signature, with lengths and
@@ -141,7 +141,7 @@ DeclsFit n (d ∷ ds) = (n ≤ d.number) × (IsFalse (is_constant d.name) × (Is
 -- where a declaration has the number of a statement, the statement is a `bool2int` of that declaration,
 -- and the domain is 0 to 1
 abbrev pub DeclaresPlace : List Decl → Decl → What → Type 0
-DeclaresPlace ds d (L3 x (int_term.Of place)) = (slice_get ds place ≡ Some d) × (d.kind ≡ kind.Range (pos 0) (pos 1))
+DeclaresPlace ds d (BoolToInt x (int_term.Of place)) = (slice_get ds place ≡ Some d) × (d.kind ≡ kind.Range (pos 0) (pos 1))
 DeclaresPlace ds d w = ⊥
 
 abbrev pub SharesFit : List Decl → List Stmt → Type 0

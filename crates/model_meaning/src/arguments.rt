@@ -82,9 +82,12 @@ pub fn arguments_of(what: &What) -> [Option<Argument<'_>>; 5]
     ensures { arguments result ≡ arguments_of what.now }
 {
     match what {
-        What::L3 { truth, number } => two(Argument::Truth(*truth), Argument::Number(*number)),
-        What::L4 { left, right } => two(Argument::Truth(*left), Argument::Truth(*right)),
-        What::L5 {
+        What::BoolToInt { truth, number } => two(
+            Argument::Truth(*truth),
+            Argument::Number(*number),
+        ),
+        What::BoolEq { left, right } => two(Argument::Truth(*left), Argument::Truth(*right)),
+        What::BoolOp {
             left,
             right,
             truth,
@@ -94,15 +97,15 @@ pub fn arguments_of(what: &What) -> [Option<Argument<'_>>; 5]
             Argument::Truth(*right),
             Argument::Truth(*truth),
         ),
-        What::L6 { members, .. } => one(Argument::Truths(members.as_slice())),
-        What::L7 { members, truth, .. } => {
+        What::BoolArray { members, .. } => one(Argument::Truths(members.as_slice())),
+        What::BoolArrayReified { members, truth, .. } => {
             two(
                 Argument::Truths(members.as_slice()),
                 Argument::Truth(*truth),
             )
         }
-        What::L8 { left, right, .. } => two(Argument::Number(*left), Argument::Number(*right)),
-        What::L9 {
+        What::Compare { left, right, .. } => two(Argument::Number(*left), Argument::Number(*right)),
+        What::CompareReified {
             left,
             right,
             truth,
@@ -112,13 +115,13 @@ pub fn arguments_of(what: &What) -> [Option<Argument<'_>>; 5]
             Argument::Number(*right),
             Argument::Truth(*truth),
         ),
-        What::L10 { members, bound, .. } => {
+        What::BoolSum { members, bound, .. } => {
             two(
                 Argument::Truths(members.as_slice()),
                 Argument::Number(*bound),
             )
         }
-        What::L11 {
+        What::BoolLinear {
             coefficients,
             members,
             bound,
@@ -128,13 +131,13 @@ pub fn arguments_of(what: &What) -> [Option<Argument<'_>>; 5]
             Argument::Truths(members.as_slice()),
             Argument::Number(*bound),
         ),
-        What::L12 { members, bound, .. } => {
+        What::IntSum { members, bound, .. } => {
             two(
                 Argument::Numbers(members.as_slice()),
                 Argument::Number(*bound),
             )
         }
-        What::L13 {
+        What::IntLinear {
             coefficients,
             members,
             bound,
@@ -144,7 +147,7 @@ pub fn arguments_of(what: &What) -> [Option<Argument<'_>>; 5]
             Argument::Numbers(members.as_slice()),
             Argument::Number(*bound),
         ),
-        What::L14 {
+        What::IntOp {
             left,
             right,
             value,
@@ -154,14 +157,17 @@ pub fn arguments_of(what: &What) -> [Option<Argument<'_>>; 5]
             Argument::Number(*right),
             Argument::Number(*value),
         ),
-        What::L15 { operand, value } => two(Argument::Number(*operand), Argument::Number(*value)),
-        What::L16 { members, value, .. } => {
+        What::Absolute { operand, value } => two(
+            Argument::Number(*operand),
+            Argument::Number(*value),
+        ),
+        What::IntArray { members, value, .. } => {
             two(
                 Argument::Numbers(members.as_slice()),
                 Argument::Number(*value),
             )
         }
-        What::L17 {
+        What::IntAllDifferent {
             members,
             truth,
             conditions,
@@ -173,7 +179,7 @@ pub fn arguments_of(what: &What) -> [Option<Argument<'_>>; 5]
             None,
             None,
         ],
-        What::L18 {
+        What::Lexicographic {
             left_truths,
             right_truths,
             left_numbers,

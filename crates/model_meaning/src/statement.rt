@@ -92,31 +92,31 @@ pub enum Statement {
     /// `bool_eq`
     BoolEq,
     /// `bool_OP_reif`
-    PairReified(Operator),
+    BoolOp(Operator),
     /// `bool_array_OP`
-    Array(Operator),
+    BoolArray(Operator),
     /// `bool_array_OP_reif`
-    ArrayReified(Operator),
+    BoolArrayReified(Operator),
     /// `int_REL`
     Compare(Relation),
     /// `int_REL_reif`
     CompareReified(Relation),
     /// `bool_array_sum_REL`
-    Count(Relation),
+    BoolSum(Relation),
     /// `bool_array_pb_REL`
-    PseudoBoolean(Relation),
+    BoolLinear(Relation),
     /// `int_array_sum_REL`
-    Sum(Relation),
+    IntSum(Relation),
     /// `int_array_lin_REL`
-    Linear(Relation),
+    IntLinear(Relation),
     /// `int_plus`, `int_times`, `int_div`, `int_mod`, `int_max`, `int_min`
-    Operation(Arithmetic),
+    IntOp(Arithmetic),
     /// `int_abs`
     Absolute,
     /// `int_array_plus`, `int_array_max`, `int_array_min`
-    Aggregate(Aggregate),
+    IntArray(Aggregate),
     /// `int_array_allDiff`, `int_array_allDiff_reif`, `int_array_allDiffCond`
-    AllDifferent(AllDifferent),
+    IntAllDifferent(AllDifferent),
     /// `bool_arrays_lex`, `int_arrays_lex`, with `Lt` and `_reif`
-    Lex(Order),
+    Lexicographic(Order),
 }

@@ -100,11 +100,11 @@ pub fn what_holds(values: &[i64], what: &What) -> bool
     ensures { result ≡ holds values.now what.now }
 {
     match what {
-        What::L3 { truth, number } => {
+        What::BoolToInt { truth, number } => {
             number_of(values, *number) == as_number(truth_of(values, *truth))
         }
-        What::L4 { left, right } => same(truth_of(values, *left), truth_of(values, *right)),
-        What::L5 {
+        What::BoolEq { left, right } => same(truth_of(values, *left), truth_of(values, *right)),
+        What::BoolOp {
             operator,
             left,
             right,
@@ -114,12 +114,12 @@ pub fn what_holds(values: &[i64], what: &What) -> bool
             truth_of(values, *truth),
             combine(*operator, values, &[*left, *right]),
         ),
-        What::L6 {
+        What::BoolArray {
             operator,
             members,
             ..
         } => combine(*operator, values, members.as_slice()),
-        What::L7 {
+        What::BoolArrayReified {
             operator,
             members,
             truth,
@@ -128,13 +128,13 @@ pub fn what_holds(values: &[i64], what: &What) -> bool
             truth_of(values, *truth),
             combine(*operator, values, members.as_slice()),
         ),
-        What::L8 {
+        What::Compare {
             relation,
             left,
             right,
             ..
         } => compares(*relation, values, *left, *right),
-        What::L9 {
+        What::CompareReified {
             relation,
             left,
             right,
@@ -144,7 +144,7 @@ pub fn what_holds(values: &[i64], what: &What) -> bool
             truth_of(values, *truth),
             compares(*relation, values, *left, *right),
         ),
-        What::L10 {
+        What::BoolSum {
             relation,
             members,
             bound,
@@ -153,7 +153,7 @@ pub fn what_holds(values: &[i64], what: &What) -> bool
             let count = count_true(values, members.as_slice()) as i128;
             relates_to(*relation, count, values, *bound)
         }
-        What::L11 {
+        What::BoolLinear {
             relation,
             coefficients,
             members,
@@ -163,13 +163,13 @@ pub fn what_holds(values: &[i64], what: &What) -> bool
             let sum = weight_of_true(values, coefficients.as_slice(), members.as_slice());
             relates_to(*relation, sum, values, *bound)
         }
-        What::L12 {
+        What::IntSum {
             relation,
             members,
             bound,
             ..
         } => relates_to(*relation, total(values, members.as_slice()), values, *bound),
-        What::L13 {
+        What::IntLinear {
             relation,
             coefficients,
             members,
@@ -179,7 +179,7 @@ pub fn what_holds(values: &[i64], what: &What) -> bool
             let sum = linear_sum(values, coefficients.as_slice(), members.as_slice());
             relates_to(*relation, sum, values, *bound)
         }
-        What::L14 {
+        What::IntOp {
             operation,
             left,
             right,
@@ -191,8 +191,8 @@ pub fn what_holds(values: &[i64], what: &What) -> bool
             number_of(values, *right),
             number_of(values, *value),
         ),
-        What::L15 { operand, value } => is_absolute(values, *operand, *value),
-        What::L16 {
+        What::Absolute { operand, value } => is_absolute(values, *operand, *value),
+        What::IntArray {
             operation,
             members,
             value,
@@ -203,7 +203,7 @@ pub fn what_holds(values: &[i64], what: &What) -> bool
             members.as_slice(),
             number_of(values, *value),
         ),
-        What::L17 {
+        What::IntAllDifferent {
             kind,
             members,
             truth,
@@ -216,7 +216,7 @@ pub fn what_holds(values: &[i64], what: &What) -> bool
             truth_or_true(values, truth),
             terms_or_none(conditions),
         ),
-        What::L18 {
+        What::Lexicographic {
             order,
             left_truths,
             right_truths,

@@ -34,21 +34,21 @@ pub enum IntTerm {
 #[derive(Debug, Clone, Drop)]
 pub enum What {
     /// `bool2int`: a Boolean as an integer.
-    L3 {
+    BoolToInt {
         /// The Boolean.
         truth: BoolTerm,
         /// The integer, 1 where the Boolean is true and else 0.
         number: IntTerm,
     },
     /// `bool_eq`: two Booleans are equal.
-    L4 {
+    BoolEq {
         /// One of them.
         left: BoolTerm,
         /// The other.
         right: BoolTerm,
     },
     /// `bool_or_reif` and its kin: a Boolean is an operator of two.
-    L5 {
+    BoolOp {
         /// The statement's name.
         name: Name,
         /// The operator of its name.
@@ -61,7 +61,7 @@ pub enum What {
         truth: BoolTerm,
     },
     /// `bool_array_or` and its kin: an operator of a list is true.
-    L6 {
+    BoolArray {
         /// The statement's name.
         name: Name,
         /// The operator of its name.
@@ -70,7 +70,7 @@ pub enum What {
         members: Sequence<BoolTerm>,
     },
     /// `bool_array_or_reif` and its kin: a Boolean is an operator of a list.
-    L7 {
+    BoolArrayReified {
         /// The statement's name.
         name: Name,
         /// The operator of its name.
@@ -81,7 +81,7 @@ pub enum What {
         truth: BoolTerm,
     },
     /// `int_leq` and its kin: a comparison of two integers.
-    L8 {
+    Compare {
         /// The statement's name.
         name: Name,
         /// The relation of its name.
@@ -92,7 +92,7 @@ pub enum What {
         right: IntTerm,
     },
     /// `int_leq_reif` and its kin: a Boolean is the truth of a comparison.
-    L9 {
+    CompareReified {
         /// The statement's name.
         name: Name,
         /// The relation of its name.
@@ -105,7 +105,7 @@ pub enum What {
         truth: BoolTerm,
     },
     /// `bool_array_sum_leq` and its kin: the number of true members is compared.
-    L10 {
+    BoolSum {
         /// The statement's name.
         name: Name,
         /// The relation of its name.
@@ -116,7 +116,7 @@ pub enum What {
         bound: IntTerm,
     },
     /// `bool_array_pb_leq` and its kin: the coefficients of the true members are added and compared.
-    L11 {
+    BoolLinear {
         /// The statement's name.
         name: Name,
         /// The relation of its name.
@@ -129,7 +129,7 @@ pub enum What {
         bound: IntTerm,
     },
     /// `int_array_sum_leq` and its kin: the members are added and compared.
-    L12 {
+    IntSum {
         /// The statement's name.
         name: Name,
         /// The relation of its name.
@@ -140,7 +140,7 @@ pub enum What {
         bound: IntTerm,
     },
     /// `int_array_lin_leq` and its kin: the members times their coefficients are added and compared.
-    L13 {
+    IntLinear {
         /// The statement's name.
         name: Name,
         /// The relation of its name.
@@ -153,7 +153,7 @@ pub enum What {
         bound: IntTerm,
     },
     /// `int_plus`, `int_times`, `int_div`, `int_mod`, `int_max`, `int_min`: an operation on two integers.
-    L14 {
+    IntOp {
         /// The statement's name.
         name: Name,
         /// The operation of its name.
@@ -166,14 +166,14 @@ pub enum What {
         value: IntTerm,
     },
     /// `int_abs`: an absolute value.
-    L15 {
+    Absolute {
         /// The integer.
         operand: IntTerm,
         /// Its absolute value.
         value: IntTerm,
     },
     /// `int_array_plus`, `int_array_max`, `int_array_min`: an operation on a list of integers.
-    L16 {
+    IntArray {
         /// The statement's name.
         name: Name,
         /// The operation of its name.
@@ -184,7 +184,7 @@ pub enum What {
         value: IntTerm,
     },
     /// `int_array_allDiff`, `int_array_allDiff_reif`, `int_array_allDiffCond`: members differ.
-    L17 {
+    IntAllDifferent {
         /// The statement's name.
         name: Name,
         /// Which members differ, by its name.
@@ -197,7 +197,7 @@ pub enum What {
         conditions: Option<Apart<Sequence<BoolTerm>>>,
     },
     /// `bool_arrays_lex` and its kin: two lists are in order.
-    L18 {
+    Lexicographic {
         /// The statement's name.
         name: Name,
         /// The order of its name.

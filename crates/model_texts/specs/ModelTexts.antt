@@ -11,8 +11,8 @@ use Rattle.typed_model.specs.declared.fault.TypeFault.TheVariants as type_fault
 use Rattle.typed_model.specs.Items.{first_fault, model_of}
 use Rattle.model_weight.specs.Weight.{weight_of}
 use Rattle.model_lower.specs.Weighed.{most_weight}
-use Rattle.model_texts.specs.declared.model_text.TextFault.{TextFault}
-use Rattle.model_texts.specs.declared.model_text.TextFault.TheVariants as text_fault
+use Rattle.model_texts.specs.declared.model_text.ModelTextFault.{ModelTextFault}
+use Rattle.model_texts.specs.declared.model_text.ModelTextFault.TheVariants as text_fault
 use Rattle.model_texts.specs.declared.fault.ModelFault.{ModelFault}
 use Rattle.model_texts.specs.declared.fault.ModelFault.TheVariants as fault
 
@@ -42,17 +42,17 @@ abbrev pub HasFault : List ℕ → ModelFault → Type 0
 HasFault text f = ((longest_text < length text) × (f ≡ fault.TooLong)) ⊎ ((length text ≤ longest_text) × IsFirstFault text f)
 
 -- what a fault of the items makes of a text: want of memory is no fault of it
-abbrev pub text_fault_of : TypeFault → TextFault
+abbrev pub text_fault_of : TypeFault → ModelTextFault
 text_fault_of type_fault.Memory = text_fault.Memory
 text_fault_of f = text_fault.Model (fault.Typed f)
 
 -- what a fault of the reading makes of a text
-abbrev pub read_fault_of : ReadFault → TextFault
+abbrev pub read_fault_of : ReadFault → ModelTextFault
 read_fault_of (read_fault.Syntax line) = text_fault.Model (fault.Syntax line)
 read_fault_of (read_fault.Number line) = text_fault.Model (fault.Number line)
 read_fault_of read_fault.Memory = text_fault.Memory
 
 -- why nothing comes of a text
-abbrev pub IsCauseOf : TextFault → List ℕ → Type 0
+abbrev pub IsCauseOf : ModelTextFault → List ℕ → Type 0
 IsCauseOf (text_fault.Model f) text = IsFirstFault text f
 IsCauseOf text_fault.Memory text = Unit {0}

@@ -7,7 +7,7 @@ ghost use Rattle.typed_model.specs.Taken.{HasTaken};
 ghost use Rattle.model_texts.specs.ModelTexts.{IsModelOf, IsCauseOf, text_fault_of, read_fault_of};
 
 use crate::fault::ModelFault;
-use bumblebee_reader::{Item, Items, ReadFault};
+use bumblebee_reader::{Item, ItemReader, ReadFault};
 use std::alloc::Global;
 use typed_model::{Model, TypeFault, Typing};
 
@@ -16,7 +16,7 @@ pub const LONGEST_TEXT: usize = 16_777_216;
 
 /// Why nothing comes of a text.
 #[derive(Debug, Drop)]
-pub enum TextFault {
+pub enum ModelTextFault {
     /// It has this fault.
     Model(ModelFault),
     /// Memory is wanting.
@@ -24,23 +24,23 @@ pub enum TextFault {
 }
 
 /// What a fault of the items makes of a text.
-fn text_fault(fault: TypeFault) -> TextFault
+fn text_fault(fault: TypeFault) -> ModelTextFault
     ensures { result ≡ text_fault_of fault }
 {
     match fault {
-        TypeFault::Memory => TextFault::Memory,
-        other => TextFault::Model(ModelFault::Typed(other)),
+        TypeFault::Memory => ModelTextFault::Memory,
+        other => ModelTextFault::Model(ModelFault::Typed(other)),
     }
 }
 
 /// What a fault of the reading makes of a text.
-fn read_fault(fault: ReadFault) -> TextFault
+fn read_fault(fault: ReadFault) -> ModelTextFault
     ensures { result ≡ read_fault_of fault }
 {
     match fault {
-        ReadFault::Syntax(line) => TextFault::Model(ModelFault::Syntax(line)),
-        ReadFault::Number(line) => TextFault::Model(ModelFault::Number(line)),
-        ReadFault::Memory => TextFault::Memory,
+        ReadFault::Syntax(line) => ModelTextFault::Model(ModelFault::Syntax(line)),
+        ReadFault::Number(line) => ModelTextFault::Model(ModelFault::Number(line)),
+        ReadFault::Memory => ModelTextFault::Memory,
     }
 }
 
@@ -60,7 +60,7 @@ fn take_items(alloc: Global, text: &[u8]) -> Result<Typing, ReadFault>
         (λ t. (items : List Item) × (unread (whole_text text.now) ≡ Ok items) × HasTaken t items)
         (λ f. f ≢ ReadFault.Memory → unread (whole_text text.now) ≡ Err f) }
 {
-    let mut items = Items::new(text);
+    let mut items = ItemReader::new(text);
     let mut typing = Typing::new(alloc);
     while let Some(item) = items.next_item(alloc)? {
         take_item(alloc, &mut typing, item)?;
@@ -69,7 +69,7 @@ fn take_items(alloc: Global, text: &[u8]) -> Result<Typing, ReadFault>
 }
 
 /// The model that a text says. Of what was read of the text just one item stands at a time.
-pub fn model_of(alloc: Global, text: &[u8]) -> Result<Model, TextFault>
+pub fn model_of(alloc: Global, text: &[u8]) -> Result<Model, ModelTextFault>
     ensures model { IfOk result (λ m. IsModelOf text.now m) }
     ensures fault { IfErr result (λ e. IsCauseOf e text.now) }
 {

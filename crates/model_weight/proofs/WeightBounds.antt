@@ -14,7 +14,24 @@ use Rattle.model_meaning.specs.declared.what.BoolTerm.{BoolTerm}
 use Rattle.model_meaning.specs.declared.what.IntTerm.{IntTerm}
 use Rattle.model_meaning.specs.declared.what.IntTerm.TheVariants as int_term
 use Rattle.model_meaning.specs.declared.what.What.{What}
-use Rattle.model_meaning.specs.declared.what.What.TheVariants.{L3, L4, L5, L6, L7, L8, L9, L10, L11, L12, L13, L14, L15, L16, L17, L18}
+use Rattle.model_meaning.specs.declared.what.What.TheVariants.{
+  BoolToInt,
+  BoolEq,
+  BoolOp,
+  BoolArray,
+  BoolArrayReified,
+  Compare,
+  CompareReified,
+  BoolSum,
+  BoolLinear,
+  IntSum,
+  IntLinear,
+  IntOp,
+  Absolute,
+  IntArray,
+  IntAllDifferent,
+  Lexicographic,
+}
 use Rattle.model_meaning.specs.declared.statement.Relation.{Relation}
 use Rattle.model_meaning.specs.declared.statement.Relation.TheVariants as relation
 use Rattle.model_meaning.specs.declared.statement.Arithmetic.{Arithmetic}
@@ -179,37 +196,37 @@ order-limit o ds xs ys is js m limit h k = by_kind o.of_booleans (omega (arith, 
 
 -- A statement.
 
-compares-limit : (ds : List Decl) (rel : Relation) (i j : IntTerm) → DeclsInLimit ds → weight_of_what ds (L8 [] rel i j) ≤ 2 ^ 82
+compares-limit : (ds : List Decl) (rel : Relation) (i j : IntTerm) → DeclsInLimit ds → weight_of_what ds (Compare [] rel i j) ≤ 2 ^ 82
 compares-limit ds rel i j limit = omega (arith, comparison-bound rel (steps_in ds i) (steps_in ds j), steps_in-bound ds i limit, steps_in-bound ds j limit)
 
 what-limit : (ds : List Decl) (w : What) → DeclsInLimit ds → WhatInLimit w → weight_of_what ds w ≤ 2 ^ 82 * (what_members w + 1)
-what-limit ds (L3 x i) limit h = omega (arith, comparison-bound relation.Eq (steps_in ds i) 1, steps_in-bound ds i limit)
-what-limit ds (L4 x y) limit h = omega arith
-what-limit ds (L5 name op x y z) limit h = omega (arith, reified_array-bound op 2)
-what-limit ds (L6 name op xs) limit h = omega (arith, array-bound op (length xs))
-what-limit ds (L7 name op xs z) limit h = omega (arith, reified_array-bound op (length xs))
-what-limit ds (L8 name rel i j) limit h = omega (arith, compares-limit ds rel i j limit)
-what-limit ds (L9 name rel i j z) limit h = omega (arith, compares-limit ds rel i j limit)
-what-limit ds (L10 name rel xs i) limit h = omega (arith, weight_of_count-limit rel (length xs) (steps_in ds i) (omega (arith, h.1)) (steps_in-bound ds i limit))
-what-limit ds (L11 name rel cs xs i) limit h =
-    linear-line rel (scaled_truths cs xs) (shape_in ds i) (length xs) (what_members (L11 name rel cs xs i)) (omega arith) h.1 (length-scaled_truths cs xs)
+what-limit ds (BoolToInt x i) limit h = omega (arith, comparison-bound relation.Eq (steps_in ds i) 1, steps_in-bound ds i limit)
+what-limit ds (BoolEq x y) limit h = omega arith
+what-limit ds (BoolOp name op x y z) limit h = omega (arith, reified_array-bound op 2)
+what-limit ds (BoolArray name op xs) limit h = omega (arith, array-bound op (length xs))
+what-limit ds (BoolArrayReified name op xs z) limit h = omega (arith, reified_array-bound op (length xs))
+what-limit ds (Compare name rel i j) limit h = omega (arith, compares-limit ds rel i j limit)
+what-limit ds (CompareReified name rel i j z) limit h = omega (arith, compares-limit ds rel i j limit)
+what-limit ds (BoolSum name rel xs i) limit h = omega (arith, weight_of_count-limit rel (length xs) (steps_in ds i) (omega (arith, h.1)) (steps_in-bound ds i limit))
+what-limit ds (BoolLinear name rel cs xs i) limit h =
+    linear-line rel (scaled_truths cs xs) (shape_in ds i) (length xs) (what_members (BoolLinear name rel cs xs i)) (omega arith) h.1 (length-scaled_truths cs xs)
     (scaled_truths-spans cs xs h.0.0) (span-bound ds i limit) (AreShapes-scaled_truths cs xs (shape_in ds i) (shape-in ds i limit))
-what-limit ds (L12 name rel is i) limit h = numbers-limit ds rel is i (what_members (L12 name rel is i)) limit (omega arith) h.1
-what-limit ds (L13 name rel cs is i) limit h =
-    linear-line rel (scaled_numbers ds cs is) (shape_in ds i) (length is) (what_members (L13 name rel cs is i)) (omega arith) h.1 (length-scaled_numbers ds cs is)
+what-limit ds (IntSum name rel is i) limit h = numbers-limit ds rel is i (what_members (IntSum name rel is i)) limit (omega arith) h.1
+what-limit ds (IntLinear name rel cs is i) limit h =
+    linear-line rel (scaled_numbers ds cs is) (shape_in ds i) (length is) (what_members (IntLinear name rel cs is i)) (omega arith) h.1 (length-scaled_numbers ds cs is)
     (scaled_numbers-spans ds cs is limit h.0.0) (span-bound ds i limit) (AreShapes-scaled_numbers ds limit cs is (shape_in ds i) (shape-in ds i limit))
-what-limit ds (L14 name o i j k) limit h =
+what-limit ds (IntOp name o i j k) limit h =
     omega (arith, operation-limit o (domain_of ds i) (domain_of ds j) (domain_of ds k) (domain-limit ds i limit h.0.0) (domain-limit ds j limit h.0.1.0) (domain-limit ds k limit h.0.1.1.0))
-what-limit ds (L15 i j) limit h =
+what-limit ds (Absolute i j) limit h =
     omega (arith, steps_in-bound ds i limit, steps_in-bound ds j limit, ladder_lem (steps_in ds i), ladder_lem (steps_in ds j))
-what-limit ds (L16 name o is i) limit h = omega (arith, aggregate-limit o ds is i limit (omega (arith, h.1)))
-what-limit ds (L17 name d is z xs) limit h = omega (arith, all_different-limit d ds is limit (omega (arith, h.1)))
-what-limit ds (L18 name o xs ys is js z) limit h =
+what-limit ds (IntArray name o is i) limit h = omega (arith, aggregate-limit o ds is i limit (omega (arith, h.1)))
+what-limit ds (IntAllDifferent name d is z xs) limit h = omega (arith, all_different-limit d ds is limit (omega (arith, h.1)))
+what-limit ds (Lexicographic name o xs ys is js z) limit h =
     let behind = option_map Truth z ∷ [] in
     let a = given-truths xs (option_map Truths ys ∷ option_map Numbers is ∷ option_map Numbers js ∷ behind) in
     let b = given-truths ys (option_map Numbers is ∷ option_map Numbers js ∷ behind) in
     let c = given-numbers is (option_map Numbers js ∷ behind) in
-    order-limit o ds (terms_or_none xs) (terms_or_none ys) (terms_or_none is) (terms_or_none js) (what_members (L18 name o xs ys is js z)) limit
+    order-limit o ds (terms_or_none xs) (terms_or_none ys) (terms_or_none is) (terms_or_none js) (what_members (Lexicographic name o xs ys is js z)) limit
     (omega (arith, a)) (omega (arith, a, b, c))
 
 -- All items.

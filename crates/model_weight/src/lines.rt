@@ -22,38 +22,38 @@ pub fn statement_weight(alloc: Global, decls: &[Decl], what: &What) -> Result<u1
     ensures { IfOk result (λ weight. weight ≡ saturated (weight_of_what decls.now what.now)) }
 {
     match what {
-        What::L3 { number, .. } => Ok(eq_cost(steps_in(decls, *number), 1)),
-        What::L4 { .. } => Ok(parity_cost(2)),
-        What::L5 { operator, .. } => Ok(reified_array_weight(*operator, 2)),
-        What::L6 {
+        What::BoolToInt { number, .. } => Ok(eq_cost(steps_in(decls, *number), 1)),
+        What::BoolEq { .. } => Ok(parity_cost(2)),
+        What::BoolOp { operator, .. } => Ok(reified_array_weight(*operator, 2)),
+        What::BoolArray {
             operator,
             members,
             ..
         } => Ok(array_weight(*operator, members.len())),
-        What::L7 {
+        What::BoolArrayReified {
             operator,
             members,
             ..
         } => Ok(reified_array_weight(*operator, members.len())),
-        What::L8 {
+        What::Compare {
             relation,
             left,
             right,
             ..
         } => Ok(comparison_weight(*relation, steps_in(decls, *left), steps_in(decls, *right))),
-        What::L9 {
+        What::CompareReified {
             relation,
             left,
             right,
             ..
         } => Ok(comparison_weight(*relation, steps_in(decls, *left), steps_in(decls, *right))),
-        What::L10 {
+        What::BoolSum {
             relation,
             members,
             bound,
             ..
         } => Ok(count_weight(*relation, members.len(), steps_in(decls, *bound))),
-        What::L11 {
+        What::BoolLinear {
             relation,
             coefficients,
             members,
@@ -67,13 +67,13 @@ pub fn statement_weight(alloc: Global, decls: &[Decl], what: &What) -> Result<u1
             members.as_slice(),
             *bound,
         ),
-        What::L12 {
+        What::IntSum {
             relation,
             members,
             bound,
             ..
         } => total_weight(alloc, decls, *relation, members.as_slice(), *bound),
-        What::L13 {
+        What::IntLinear {
             relation,
             coefficients,
             members,
@@ -87,7 +87,7 @@ pub fn statement_weight(alloc: Global, decls: &[Decl], what: &What) -> Result<u1
             members.as_slice(),
             *bound,
         ),
-        What::L14 {
+        What::IntOp {
             operation,
             left,
             right,
@@ -99,20 +99,20 @@ pub fn statement_weight(alloc: Global, decls: &[Decl], what: &What) -> Result<u1
             domain_of(decls, *right),
             domain_of(decls, *value),
         )),
-        What::L15 { operand, value } => {
+        What::Absolute { operand, value } => {
             let steps = steps_in(decls, *operand);
             Ok(max_cost(&[steps, steps], steps_in(decls, *value)))
         }
-        What::L16 {
+        What::IntArray {
             operation,
             members,
             value,
             ..
         } => aggregate_weight(alloc, decls, *operation, members.as_slice(), *value),
-        What::L17 { kind, members, .. } => {
+        What::IntAllDifferent { kind, members, .. } => {
             all_different_weight(alloc, decls, *kind, members.as_slice())
         }
-        What::L18 {
+        What::Lexicographic {
             order,
             left_truths,
             right_truths,

@@ -179,7 +179,7 @@ line-pieces : (line : ProofLine) → IsReadable line → ArePieces (line_words l
 line-pieces (Add id lits hints) h =
     and_from _ _ (id_spelling.piece id h.0)
     (list-pieces literal_word IsReadableLit literal_spelling lits _ h.1 (list-pieces signed_decimal IsReadableHint hint_spelling hints [] h.2 refl))
-line-pieces (Delete at ids) h = and_from _ _ (id_spelling.piece at h.0) (list-pieces decimal IsReadableId id_spelling ids [] h.1 refl)
+line-pieces (Delete at ids) h = and_from _ _ (word_piece (decimal at) (decimal_word at (omega (arith, h.0)))) (list-pieces decimal IsReadableId id_spelling ids [] h.1 refl)
 
 some-words : (line : ProofLine) → 0 < length (line_words line)
 some-words (Add id lits hints) = omega arith
@@ -208,11 +208,11 @@ pub record IsDeletion (line : ProofLine) (id : ℕ) (behind : List (List ℕ)) :
   pub behind_is : behind ≡ list_words decimal ids []
 
 pub deletion-words : (line : ProofLine) (words rest behind : List (List ℕ)) (id : ℕ) (w : List ℕ) → IsReadable line → words ≡ line_words line →
-    get_or words 1 [] ≡ codes "d" → words ≡ decimal id ∷ rest → IsReadableId id → rest ≡ w ∷ behind → IsDeletion line id behind
+    get_or words 1 [] ≡ codes "d" → words ≡ decimal id ∷ rest → id < 2 ^ 64 → rest ≡ w ∷ behind → IsDeletion line id behind
 deletion-words (Add n lits hints) words rest behind id w h e mark first small second =
     absurd (addition-mark lits (list_words signed_decimal hints []) h.1 (sym (ap (λ (ws : List (List ℕ)). get_or ws 1 []) e) ∙ mark))
 deletion-words (Delete at ids) words rest behind id w h e mark first small second =
-    let same : at ≡ id = id_spelling.tells at id h.0 small (ap (λ (ws : List (List ℕ)). get_or ws 0 []) (sym e ∙ first)) in
+    let same : at ≡ id = decimal_injective_wide at id (omega (arith, h.0)) (omega (arith, small)) (ap (λ (ws : List (List ℕ)). get_or ws 0 []) (sym e ∙ first)) in
     record {
       ids = ids;
       is = ap (λ (n : ℕ). Delete n ids) same;
@@ -238,7 +238,7 @@ words-tell (Add id lits hints) (Delete at ids) p q e =
 words-tell (Delete at ids) (Add n ls hs) p q e =
     absurd (addition-mark ls (list_words signed_decimal hs []) q.1 (sym (ap (λ (ws : List (List ℕ)). get_or ws 1 []) e)))
 words-tell (Delete at ids) (Delete n is) p q e =
-    let head : at ≡ n = id_spelling.tells at n p.0 q.0 (ap (λ (ws : List (List ℕ)). get_or ws 0 []) e) in
+    let head : at ≡ n = decimal_injective_wide at n (omega (arith, p.0)) (omega (arith, q.0)) (ap (λ (ws : List (List ℕ)). get_or ws 0 []) e) in
     let behind = lists-tell decimal IsReadableId id_spelling ids is [] [] p.1 q.1 (ap (drop 2) e) in
     λ i. Delete (head i) (behind.0 i)
 

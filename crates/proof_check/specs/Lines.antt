@@ -50,10 +50,10 @@ IsReadableId id = (1 ≤ id) × (id < 2 ^ 64)
 abbrev pub IsReadableHint : ℤ → Type 0
 IsReadableHint z = FitsSigned w64 z × (1 ≤ unsigned_abs z)
 
--- a line that can be read is made of such
+-- A line that can be read is made of such. The first number of a deletion names no clause: it is any of 64 bits.
 abbrev pub IsReadable : ProofLine → Type 0
 IsReadable (Add id lits hints) = IsReadableId id × Each IsReadableLit lits × Each IsReadableHint hints
-IsReadable (Delete at ids) = IsReadableId at × Each IsReadableId ids
+IsReadable (Delete at ids) = (at < 2 ^ 64) × Each IsReadableId ids
 
 -- the bytes are the text of the line, without and with its line feed
 abbrev pub AreBytesOf : ProofLine → List ℕ → Type 0

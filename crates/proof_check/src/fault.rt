@@ -30,7 +30,7 @@ pub enum TakeFault {
 
 /// Why a text was not read.
 #[derive(Clone, Copy, Debug, PartialEq, Eq)]
-pub enum TextFault {
+pub enum ProofTextFault {
     /// The number of the line that is no line of a proof, which is 1 for a text of one line.
     Form(u64),
     /// Memory was wanting.
@@ -57,22 +57,22 @@ impl From<AllocError> for TakeFault {
     }
 }
 
-impl<T: Drop> From<AllocFailed<T>> for TextFault {
-    ghost use Rattle.proof_check.specs.declared.fault.TextFault.TheVariants.{Memory};
+impl<T: Drop> From<AllocFailed<T>> for ProofTextFault {
+    ghost use Rattle.proof_check.specs.declared.fault.ProofTextFault.TheVariants.{Memory};
 
     ghost from_gives = { λ _ e. e ≡ Memory };
 
-    fn from(_e: AllocFailed<T>) -> TextFault {
-        TextFault::Memory
+    fn from(_e: AllocFailed<T>) -> ProofTextFault {
+        ProofTextFault::Memory
     }
 }
 
-impl From<AllocError> for TextFault {
-    ghost use Rattle.proof_check.specs.declared.fault.TextFault.TheVariants.{Memory};
+impl From<AllocError> for ProofTextFault {
+    ghost use Rattle.proof_check.specs.declared.fault.ProofTextFault.TheVariants.{Memory};
 
     ghost from_gives = { λ _ e. e ≡ Memory };
 
-    fn from(_e: AllocError) -> TextFault {
-        TextFault::Memory
+    fn from(_e: AllocError) -> ProofTextFault {
+        ProofTextFault::Memory
     }
 }

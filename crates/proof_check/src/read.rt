@@ -3,18 +3,18 @@
 //! A text of many lines is read into the same room line by line, so that a line takes no memory once the longest
 //! one was read.
 
-ghost use Rattle.std.specs.Prelude.{◌≡◌, ◌⊎◌, ◌↔◌, ◌∷◌, ◌++◌, List, ℕ, ℤ, [], Some, codes, slice_index_or, IsTrue, IfSome, IfNone, OnOk, IfOk, IfErr, MatchResult};
+ghost use Rattle.std.specs.Prelude.{◌≡◌, ◌<◌, ◌^◌, ◌⊎◌, ◌↔◌, ◌∷◌, ◌++◌, List, ℕ, ℤ, [], Some, codes, slice_index_or, IsTrue, IfSome, IfNone, OnOk, IfOk, IfErr, MatchResult};
 ghost use Rattle.bee_text.specs.Words.{split_blanks};
 ghost use Rattle.std.specs.Fmt.{decimal, signed_decimal};
 ghost use Rattle.order_ints.specs.declared.literal.Lit.{Lit};
 ghost use Rattle.proof_check.specs.declared.line.ProofLine.{ProofLine};
-ghost use Rattle.proof_check.specs.declared.fault.TextFault.TheVariants.{Form, Memory};
+ghost use Rattle.proof_check.specs.declared.fault.ProofTextFault.TheVariants.{Form, Memory};
 ghost use Rattle.proof_check.specs.Lines.{literal_word, list_words, line_words, Each, IsReadableLit, IsReadableId, IsReadableHint, IsReadable, AreBytesOf, IsTextOf};
 ghost use Rattle.proof_check.specs.Room.{line_in};
 
-use crate::fault::TextFault;
+use crate::fault::ProofTextFault;
 use crate::line::ProofLine;
-use crate::spelling::{is, read_hint, read_id, read_literal};
+use crate::spelling::{is, read_count, read_hint, read_id, read_literal};
 use bee_list::Sequence;
 use bee_text::{Words, split_words};
 use order_ints::Lit;
@@ -25,7 +25,7 @@ use std::alloc::Global;
 pub enum LineHead {
     /// An addition with this id.
     Addition(u64),
-    /// A deletion that begins with this id.
+    /// A deletion that begins with this number.
     Deletion(u64),
 }
 
@@ -41,7 +41,7 @@ pub struct LineRoom {
 }
 
 /// Reads literals up to 0.
-fn read_literals(words: &mut Words<'_>, out: &mut Vec<Lit>) -> Result<(), TextFault>
+fn read_literals(words: &mut Words<'_>, out: &mut Vec<Lit>) -> Result<(), ProofTextFault>
     ensures read { OnOk result ((words.old ≡ list_words literal_word out.new.items words.new)
         × Each IsReadableLit out.new.items) }
     ensures complete { (ls : List Lit) (rest : List (List ℕ)) → Each IsReadableLit ls
@@ -52,13 +52,13 @@ fn read_literals(words: &mut Words<'_>, out: &mut Vec<Lit>) -> Result<(), TextFa
     out.clear();
     loop {
         match words.next_word() {
-            None => return Err(TextFault::Form(1)),
+            None => return Err(ProofTextFault::Form(1)),
             Some(word) => {
                 if is(word, b"0") {
                     return Ok(());
                 }
                 match read_literal(word) {
-                    None => return Err(TextFault::Form(1)),
+                    None => return Err(ProofTextFault::Form(1)),
                     Some(lit) => out.push(lit)?,
                 }
             }
@@ -67,7 +67,7 @@ fn read_literals(words: &mut Words<'_>, out: &mut Vec<Lit>) -> Result<(), TextFa
 }
 
 /// Reads hints up to 0.
-fn read_hints(words: &mut Words<'_>, out: &mut Vec<i64>) -> Result<(), TextFault>
+fn read_hints(words: &mut Words<'_>, out: &mut Vec<i64>) -> Result<(), ProofTextFault>
     ensures read { OnOk result ((words.old ≡ list_words signed_decimal out.new.items words.new)
         × Each IsReadableHint out.new.items) }
     ensures complete { (hs : List ℤ) (rest : List (List ℕ)) → Each IsReadableHint hs
@@ -78,13 +78,13 @@ fn read_hints(words: &mut Words<'_>, out: &mut Vec<i64>) -> Result<(), TextFault
     out.clear();
     loop {
         match words.next_word() {
-            None => return Err(TextFault::Form(1)),
+            None => return Err(ProofTextFault::Form(1)),
             Some(word) => {
                 if is(word, b"0") {
                     return Ok(());
                 }
                 match read_hint(word) {
-                    None => return Err(TextFault::Form(1)),
+                    None => return Err(ProofTextFault::Form(1)),
                     Some(hint) => out.push(hint)?,
                 }
             }
@@ -93,7 +93,7 @@ fn read_hints(words: &mut Words<'_>, out: &mut Vec<i64>) -> Result<(), TextFault
 }
 
 /// Reads ids up to 0.
-fn read_ids(words: &mut Words<'_>, out: &mut Vec<u64>) -> Result<(), TextFault>
+fn read_ids(words: &mut Words<'_>, out: &mut Vec<u64>) -> Result<(), ProofTextFault>
     ensures read { OnOk result ((words.old ≡ list_words decimal out.new.items words.new)
         × Each IsReadableId out.new.items) }
     ensures complete { (is : List ℕ) (rest : List (List ℕ)) → Each IsReadableId is
@@ -104,13 +104,13 @@ fn read_ids(words: &mut Words<'_>, out: &mut Vec<u64>) -> Result<(), TextFault>
     out.clear();
     loop {
         match words.next_word() {
-            None => return Err(TextFault::Form(1)),
+            None => return Err(ProofTextFault::Form(1)),
             Some(word) => {
                 if is(word, b"0") {
                     return Ok(());
                 }
                 match read_id(word) {
-                    None => return Err(TextFault::Form(1)),
+                    None => return Err(ProofTextFault::Form(1)),
                     Some(id) => out.push(id)?,
                 }
             }
@@ -119,7 +119,7 @@ fn read_ids(words: &mut Words<'_>, out: &mut Vec<u64>) -> Result<(), TextFault>
 }
 
 /// Reads what stands behind the id of an addition.
-fn read_addition(words: &mut Words<'_>, room: &mut LineRoom) -> Result<(), TextFault>
+fn read_addition(words: &mut Words<'_>, room: &mut LineRoom) -> Result<(), ProofTextFault>
     ensures read { OnOk result
         ((words.old ≡ list_words literal_word room.new.lits.items (list_words signed_decimal room.new.hints.items []))
         × Each IsReadableLit room.new.lits.items × Each IsReadableHint room.new.hints.items) }
@@ -138,12 +138,12 @@ fn read_addition(words: &mut Words<'_>, room: &mut LineRoom) -> Result<(), TextF
     }
     match words.next_word() {
         None => Ok(()),
-        Some(_) => Err(TextFault::Form(1)),
+        Some(_) => Err(ProofTextFault::Form(1)),
     }
 }
 
 /// Reads what stands behind the mark of a deletion.
-fn read_deletion(words: &mut Words<'_>, ids: &mut Vec<u64>) -> Result<(), TextFault>
+fn read_deletion(words: &mut Words<'_>, ids: &mut Vec<u64>) -> Result<(), ProofTextFault>
     ensures read { OnOk result ((words.old ≡ list_words decimal ids.new.items [])
         × Each IsReadableId ids.new.items) }
     ensures complete { (is : List ℕ) → Each IsReadableId is → words.old ≡ list_words decimal is []
@@ -156,7 +156,7 @@ fn read_deletion(words: &mut Words<'_>, ids: &mut Vec<u64>) -> Result<(), TextFa
     }
     match words.next_word() {
         None => Ok(()),
-        Some(_) => Err(TextFault::Form(1)),
+        Some(_) => Err(ProofTextFault::Form(1)),
     }
 }
 
@@ -174,17 +174,17 @@ fn is_deletion(bytes: &[u8]) -> bool
     }
 }
 
-/// The id that the next word spells.
-fn next_id(words: &mut Words<'_>) -> Option<u64>
-    ensures read { IfSome result (λ id. (words.old ≡ decimal id ∷ words.new) × IsReadableId id) }
-    ensures complete { (id : ℕ) (rest : List (List ℕ)) → IsReadableId id → words.old ≡ decimal id ∷ rest
-        → (result ≡ Some id) × (words.new ≡ rest) }
+/// The number that the next word spells.
+fn next_count(words: &mut Words<'_>) -> Option<u64>
+    ensures read { IfSome result (λ n. (words.old ≡ decimal n ∷ words.new) × (n < 2 ^ 64)) }
+    ensures complete { (n : ℕ) (rest : List (List ℕ)) → n < 2 ^ 64 → words.old ≡ decimal n ∷ rest
+        → (result ≡ Some n) × (words.new ≡ rest) }
 {
     match words.next_word() {
         None => None,
-        Some(word) => match read_id(word) {
+        Some(word) => match read_count(word) {
             None => None,
-            Some(id) => Some(id),
+            Some(n) => Some(n),
         },
     }
 }
@@ -194,7 +194,7 @@ fn read_words(
     words: &mut Words<'_>,
     deletion: bool,
     room: &mut LineRoom,
-) -> Result<LineHead, TextFault>
+) -> Result<LineHead, ProofTextFault>
     requires { IsTrue deletion ↔ (slice_index_or words.old 1 [] ≡ codes "d") }
     ensures read { IfOk result (λ head. (words.old ≡ line_words (line_in head room.new))
         × IsReadable (line_in head room.new)) }
@@ -202,17 +202,19 @@ fn read_words(
         → MatchResult result (λ head. line_in head room.new ≡ line) (λ e. e ≡ Memory) }
     ensures fault { IfErr result (λ e. (e ≡ Form 1) ⊎ (e ≡ Memory)) }
 {
-    let Some(id) = next_id(words) else {
-        return Err(TextFault::Form(1));
+    let Some(id) = next_count(words) else {
+        return Err(ProofTextFault::Form(1));
     };
     if deletion {
         match words.next_word() {
-            None => Err(TextFault::Form(1)),
+            None => Err(ProofTextFault::Form(1)),
             Some(_) => match read_deletion(words, &mut room.ids) {
                 Err(e) => Err(e),
                 Ok(()) => Ok(LineHead::Deletion(id)),
             },
         }
+    } else if id == 0 {
+        Err(ProofTextFault::Form(1))
     } else {
         match read_addition(words, room) {
             Err(e) => Err(e),
@@ -233,7 +235,7 @@ impl LineRoom {
 
     /// Reads a line without its line feed, and says what it is; its lists are then here, in place of what was before. It
     /// passes over each byte a few times.
-    pub fn read_bytes(&mut self, bytes: &[u8]) -> Result<LineHead, TextFault>
+    pub fn read_bytes(&mut self, bytes: &[u8]) -> Result<LineHead, ProofTextFault>
         ensures read { IfOk result (λ head. AreBytesOf (line_in head self.new) bytes.now) }
         ensures complete { (line : ProofLine) → AreBytesOf line bytes.now
             → MatchResult result (λ head. line_in head self.new ≡ line) (λ e. e ≡ Memory) }
@@ -248,14 +250,14 @@ impl LineRoom {
     }
 
     /// Reads a line with its line feed.
-    pub fn read_text(&mut self, text: &[u8]) -> Result<LineHead, TextFault>
+    pub fn read_text(&mut self, text: &[u8]) -> Result<LineHead, ProofTextFault>
         ensures read { IfOk result (λ head. IsTextOf (line_in head self.new) text.now) }
         ensures complete { (line : ProofLine) → IsTextOf line text.now
             → MatchResult result (λ head. line_in head self.new ≡ line) (λ e. e ≡ Memory) }
         ensures fault { IfErr result (λ e. (e ≡ Form 1) ⊎ (e ≡ Memory)) }
     {
         match without_line_feed(text) {
-            None => Err(TextFault::Form(1)),
+            None => Err(ProofTextFault::Form(1)),
             Some(bytes) => match self.read_bytes(bytes) {
                 Err(e) => Err(e),
                 Ok(head) => Ok(head),
@@ -281,7 +283,7 @@ fn without_line_feed(text: &[u8]) -> Option<&[u8]>
 }
 
 /// The line whose text, with its line feed, the bytes are.
-pub fn read_line(alloc: Global, text: &[u8]) -> Result<ProofLine, TextFault>
+pub fn read_line(alloc: Global, text: &[u8]) -> Result<ProofLine, ProofTextFault>
     ensures read { IfOk result (λ line. IsTextOf line text.now) }
     ensures complete { (line : ProofLine) → IsTextOf line text.now → MatchResult result (λ l. l ≡ line) (λ e. e ≡ Memory) }
     ensures fault { IfErr result (λ e. (e ≡ Form 1) ⊎ (e ≡ Memory)) }

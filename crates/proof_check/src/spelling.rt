@@ -1,6 +1,6 @@
 //! The words of literals, hints and ids.
 
-ghost use Rattle.std.specs.Prelude.{◌≡◌, ◌≤◌, ◌^◌, ◌↔◌, ◌++◌, ◌∷◌, drop, ℕ, ℤ, Some, IfSome, IsTrue, OnOk};
+ghost use Rattle.std.specs.Prelude.{◌≡◌, ◌<◌, ◌≤◌, ◌^◌, ◌↔◌, ◌++◌, ◌∷◌, drop, ℕ, ℤ, Some, IfSome, IsTrue, OnOk};
 ghost use Rattle.std.specs.Fmt.{decimal, signed_decimal};
 ghost use Rattle.order_ints.specs.declared.literal.Lit.{Lit};
 ghost use Rattle.proof_check.specs.Lines.{literal_word, IsReadableLit, IsReadableHint, IsReadableId};
@@ -64,16 +64,25 @@ pub(crate) fn read_hint(word: &[u8]) -> Option<i64>
     Some(z as i64)
 }
 
+/// The number that a word spells.
+pub(crate) fn read_count(word: &[u8]) -> Option<u64>
+    ensures read { IfSome result (λ n. (n < 2 ^ 64) × (word.now ≡ decimal n)) }
+    ensures complete { (n : ℕ) → n < 2 ^ 64 → word.now ≡ decimal n → result ≡ Some n }
+{
+    let n = read_number(word, u128::from(u64::MAX))?;
+    Some(n as u64)
+}
+
 /// The id that a word spells.
 pub(crate) fn read_id(word: &[u8]) -> Option<u64>
     ensures read { IfSome result (λ id. IsReadableId id × (word.now ≡ decimal id)) }
     ensures complete { (id : ℕ) → IsReadableId id → word.now ≡ decimal id → result ≡ Some id }
 {
-    let id = read_number(word, u128::from(u64::MAX))?;
+    let id = read_count(word)?;
     if id == 0 {
         return None;
     }
-    Some(id as u64)
+    Some(id)
 }
 
 /// Appends a literal.

@@ -7,7 +7,24 @@ use Rattle.model_meaning.specs.declared.model.Stmt.{Stmt}
 use Rattle.model_meaning.specs.declared.what.IntTerm.{IntTerm}
 use Rattle.model_meaning.specs.declared.what.IntTerm.TheVariants as int_term
 use Rattle.model_meaning.specs.declared.what.What.{What}
-use Rattle.model_meaning.specs.declared.what.What.TheVariants.{L3, L4, L5, L6, L7, L8, L9, L10, L11, L12, L13, L14, L15, L16, L17, L18}
+use Rattle.model_meaning.specs.declared.what.What.TheVariants.{
+  BoolToInt,
+  BoolEq,
+  BoolOp,
+  BoolArray,
+  BoolArrayReified,
+  Compare,
+  CompareReified,
+  BoolSum,
+  BoolLinear,
+  IntSum,
+  IntLinear,
+  IntOp,
+  Absolute,
+  IntArray,
+  IntAllDifferent,
+  Lexicographic,
+}
 use Rattle.model_meaning.specs.declared.statement.Arithmetic.{Arithmetic}
 use Rattle.model_meaning.specs.declared.statement.Arithmetic.TheVariants as arithmetic
 use Rattle.model_meaning.specs.declared.statement.AllDifferent.{AllDifferent}
@@ -57,18 +74,18 @@ module _ (ds : List Decl) (n : ℕ) where
     abbrev sum_test : List ℕ → Arithmetic → Bool
     sum_test name o = bytes_eq name (codes "int_plus") && (is_plus o && (number_test ds n i && (number_test ds n j && number_test ds n k)))
 
-    sum_fits : number_test ds n i ≡ true → number_test ds n j ≡ true → number_test ds n k ≡ true → WhatFits ds n (L14 (codes "int_plus") arithmetic.Plus i j k)
+    sum_fits : number_test ds n i ≡ true → number_test ds n j ≡ true → number_test ds n k ≡ true → WhatFits ds n (IntOp (codes "int_plus") arithmetic.Plus i j k)
     unfolding statement_of lone_statement operator_statement relation_statement operation_statement
     sum_fits p q r = record { name = refl; arguments = (number_fits ds n i p, (number_fits ds n j q, (number_fits ds n k r, tt))); lengths = tt; values = tt }
 
-    sum_kept : (name : List ℕ) (o : Arithmetic) → sum_test name o ≡ true → WhatFits ds n (L14 name o i j k) × WhatInLimit (L14 name o i j k)
+    sum_kept : (name : List ℕ) (o : Arithmetic) → sum_test name o ≡ true → WhatFits ds n (IntOp name o i j k) × WhatInLimit (IntOp name o i j k)
     sum_kept name o h =
         let a = and_parts (bytes_eq name (codes "int_plus")) (is_plus o && (number_test ds n i && (number_test ds n j && number_test ds n k))) h in
         let b = and_parts (is_plus o) (number_test ds n i && (number_test ds n j && number_test ds n k)) a.1 in
         let e = and_parts (number_test ds n i) (number_test ds n j && number_test ds n k) b.1 in
         let f = and_parts (number_test ds n j) (number_test ds n k) e.1 in
-        let P : List ℕ → Type 0 = λ m. WhatFits ds n (L14 m o i j k) in
-        let Q : Arithmetic → Type 0 = λ x. WhatFits ds n (L14 (codes "int_plus") x i j k) in (
+        let P : List ℕ → Type 0 = λ m. WhatFits ds n (IntOp m o i j k) in
+        let Q : Arithmetic → Type 0 = λ x. WhatFits ds n (IntOp (codes "int_plus") x i j k) in (
           subst P (sym (same_name name (codes "int_plus") a.0)) (subst Q (plus_is o b.0) (sum_fits e.0 f.0 f.1)),
           ((number_in_limit ds n i e.0, (number_in_limit ds n j f.0, (number_in_limit ds n k f.1, tt))), leb-true 0 16777216 refl),
         )
@@ -89,15 +106,15 @@ module _ (ds : List Decl) (n : ℕ) where
     abbrev differ_test : List ℕ → Bool
     differ_test name = bytes_eq name (codes "int_array_allDiff") && (nat_le (length is) 16777216 && terms_test ds n is)
 
-    differ_fits : terms_test ds n is ≡ true → WhatFits ds n (L17 (codes "int_array_allDiff") all_different.Plain is None None)
+    differ_fits : terms_test ds n is ≡ true → WhatFits ds n (IntAllDifferent (codes "int_array_allDiff") all_different.Plain is None None)
     unfolding statement_of lone_statement operator_statement relation_statement operation_statement
     differ_fits p = record { name = refl; arguments = (terms_fit ds n is p, tt); lengths = tt; values = tt }
 
-    differ_kept : (name : List ℕ) → differ_test name ≡ true → WhatFits ds n (L17 name all_different.Plain is None None) × WhatInLimit (L17 name all_different.Plain is None None)
+    differ_kept : (name : List ℕ) → differ_test name ≡ true → WhatFits ds n (IntAllDifferent name all_different.Plain is None None) × WhatInLimit (IntAllDifferent name all_different.Plain is None None)
     differ_kept name h =
         let a = and_parts (bytes_eq name (codes "int_array_allDiff")) (nat_le (length is) 16777216 && terms_test ds n is) h in
         let b = and_parts (nat_le (length is) 16777216) (terms_test ds n is) a.1 in
-        let P : List ℕ → Type 0 = λ m. WhatFits ds n (L17 m all_different.Plain is None None) in (
+        let P : List ℕ → Type 0 = λ m. WhatFits ds n (IntAllDifferent m all_different.Plain is None None) in (
           subst P (sym (same_name name (codes "int_array_allDiff") a.0)) (differ_fits b.1),
           ((terms_in_limit ds n is b.1, tt), more (length is) (leb-true (length is) 16777216 b.0)),
         )
@@ -108,13 +125,13 @@ module _ (ds : List Decl) (n : ℕ) where
 -- statements of these two kinds
 
 abbrev what_test : List Decl → ℕ → What → Bool
-what_test ds n (L14 name o i j k) = sum_test ds n i j k name o
-what_test ds n (L17 name all_different.Plain is None None) = differ_test ds n is name
+what_test ds n (IntOp name o i j k) = sum_test ds n i j k name o
+what_test ds n (IntAllDifferent name all_different.Plain is None None) = differ_test ds n is name
 what_test ds n w = false
 
 what_kept : (ds : List Decl) (n : ℕ) (w : What) → what_test ds n w ≡ true → WhatFits ds n w × WhatInLimit w
-what_kept ds n (L14 name o i j k) h = sum_kept ds n i j k name o h
-what_kept ds n (L17 name all_different.Plain is None None) h = differ_kept ds n is name h
+what_kept ds n (IntOp name o i j k) h = sum_kept ds n i j k name o h
+what_kept ds n (IntAllDifferent name all_different.Plain is None None) h = differ_kept ds n is name h
 what_kept ds n w h = absurd (false≢true h)
 
 abbrev pub stmts_test : List Decl → ℕ → List Stmt → Bool

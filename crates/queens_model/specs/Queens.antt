@@ -21,7 +21,7 @@ use Rattle.model_meaning.specs.declared.model.Goal.TheVariants.{Satisfy}
 use Rattle.model_meaning.specs.declared.model.Model.{Model}
 use Rattle.model_meaning.specs.declared.what.IntTerm.{IntTerm}
 use Rattle.model_meaning.specs.declared.what.IntTerm.TheVariants.{Number, Of}
-use Rattle.model_meaning.specs.declared.what.What.TheVariants.{L14, L17}
+use Rattle.model_meaning.specs.declared.what.What.TheVariants.{IntOp, IntAllDifferent}
 use Rattle.model_meaning.specs.declared.statement.Arithmetic.TheVariants.{Plus}
 use Rattle.model_meaning.specs.declared.statement.AllDifferent.TheVariants.{Plain}
 
@@ -47,7 +47,7 @@ row_integers size k = column size k ∷ sum size k ∷ difference size k ∷ []
 
 -- item n: an integer and a number are another integer
 abbrev pub sum_is : ℕ → ℕ → ℤ → ℕ → Stmt
-sum_is n left z value = record { number = n; what = L14 (codes "int_plus") Plus (Of left) (Number z) (Of value) }
+sum_is n left z value = record { number = n; what = IntOp (codes "int_plus") Plus (Of left) (Number z) (Of value) }
 
 -- the statements of a row
 abbrev pub row_sums : ℕ → List Stmt
@@ -55,7 +55,7 @@ row_sums k = sum_is (5 * k + 3) (3 * k) (pos (k + 1)) (3 * k + 1) ∷ sum_is (5 
 
 -- item n: members differ
 abbrev pub differ : ℕ → List IntTerm → Stmt
-differ n members = record { number = n; what = L17 (codes "int_array_allDiff") Plain members None None }
+differ n members = record { number = n; what = IntAllDifferent (codes "int_array_allDiff") Plain members None None }
 
 -- those of the first rows
 

@@ -21,7 +21,7 @@ fn sum_is(
 {
     Ok(Stmt {
         number,
-        what: What::L14 {
+        what: What::IntOp {
             name: Name::from_slice(alloc, b"int_plus")?,
             operation: Arithmetic::Plus,
             left: IntTerm::Of(left),
@@ -68,7 +68,7 @@ fn differ(alloc: Global, number: u64, letter: usize, size: u64) -> Result<Stmt, 
     let members = members(alloc, letter, size)?;
     Ok(Stmt {
         number,
-        what: What::L17 {
+        what: What::IntAllDifferent {
             name: Name::from_slice(alloc, b"int_array_allDiff")?,
             kind: AllDifferent::Plain,
             members: Sequence::from_vec(members),

@@ -10,7 +10,7 @@ use Rattle.core_forms.specs.declared.equation.Rule.TheVariants.{Order, Form, Tab
 use Rattle.core_forms.specs.declared.equation.Equation.{Equation}
 use Rattle.core_forms.specs.declared.form.Core.{Core}
 use Rattle.core_forms.specs.Meaning.{Meets}
-use Rattle.rule_base.specs.declared.sought.Sought.TheVariants.{Apart, Pair}
+use Rattle.rule_base.specs.declared.sought.SoughtEquation.TheVariants.{Apart, Pair}
 use Rattle.rule_base.specs.Pairs.{first_sought, is_listed, AreEqual, EachOfPairs}
 use Rattle.rule_base.specs.Found.{stated_by, found_by, is_instance_by, IsImplied}
 use Rattle.rule_base.proofs.PairLaws.{first_sought-Pair, listed-found, sought-found, none-apart, equal-listed, each-listed}

@@ -7,12 +7,12 @@ use Rattle.order_ints.specs.Same.{same_atom}
 use Rattle.order_ints.specs.Truth.{Valuation, atom_truth}
 use Rattle.order_ints.specs.Equality.{same_atom-true, same_atom-refl}
 use Rattle.core_forms.proofs.Tidied.{by_test}
-use Rattle.rule_base.specs.declared.sought.Sought.{Sought}
-use Rattle.rule_base.specs.declared.sought.Sought.TheVariants.{Apart, Pair}
+use Rattle.rule_base.specs.declared.sought.SoughtEquation.{SoughtEquation}
+use Rattle.rule_base.specs.declared.sought.SoughtEquation.TheVariants.{Apart, Pair}
 use Rattle.rule_base.specs.Pairs.{is_pair_of, is_sought, first_sought, is_listed, only_if, AreEqual, EachOfPairs}
 
 -- what is found in a list of two parts is found in the first part, and else in the second
-pub first_sought-append : (sought : Sought) (ps qs : List (Atom × Atom)) → first_sought sought (ps ++ qs) ≡ option_or (first_sought sought ps) (first_sought sought qs)
+pub first_sought-append : (sought : SoughtEquation) (ps qs : List (Atom × Atom)) → first_sought sought (ps ++ qs) ≡ option_or (first_sought sought ps) (first_sought sought qs)
 first_sought-append sought [] qs = refl
 first_sought-append sought (p ∷ ps) qs =
     elim (is_sought sought p) as (λ t. cond t (Some p) (first_sought sought (ps ++ qs)) ≡ option_or (cond t (Some p) (first_sought sought ps)) (first_sought sought qs)) [
@@ -21,10 +21,10 @@ first_sought-append sought (p ∷ ps) qs =
     ]
 
 -- so it is with one pair in front
-pub first_sought-cons : (sought : Sought) (p : Atom × Atom) (ps : List (Atom × Atom)) → first_sought sought (p ∷ ps) ≡ option_or (first_sought sought (p ∷ [])) (first_sought sought ps)
+pub first_sought-cons : (sought : SoughtEquation) (p : Atom × Atom) (ps : List (Atom × Atom)) → first_sought sought (p ∷ ps) ≡ option_or (first_sought sought (p ∷ [])) (first_sought sought ps)
 first_sought-cons sought p ps = first_sought-append sought (p ∷ []) ps
 
-pub first_sought-only_if : (sought : Sought) (t : Bool) (ps : List (Atom × Atom)) → first_sought sought (only_if t ps) ≡ cond t (first_sought sought ps) None
+pub first_sought-only_if : (sought : SoughtEquation) (t : Bool) (ps : List (Atom × Atom)) → first_sought sought (only_if t ps) ≡ cond t (first_sought sought ps) None
 first_sought-only_if sought true ps = refl
 first_sought-only_if sought false ps = refl
 
@@ -43,23 +43,23 @@ option_or-none None p h = refl
 option_or-none (Some x) p h = absurd (cc)
 
 -- two searches, one after the other, find what one finds in both lists together
-pub both-found : (sought : Sought) (ps qs : List (Atom × Atom)) (o p : Option (Atom × Atom)) → o ≡ first_sought sought ps → p ≡ first_sought sought qs → option_or o p ≡ first_sought sought (ps ++ qs)
+pub both-found : (sought : SoughtEquation) (ps qs : List (Atom × Atom)) (o p : Option (Atom × Atom)) → o ≡ first_sought sought ps → p ≡ first_sought sought qs → option_or o p ≡ first_sought sought (ps ++ qs)
 both-found sought ps qs o p first second =
     ap (λ (x : Option (Atom × Atom)). option_or x p) first ∙ ap (option_or (first_sought sought ps)) second ∙ sym (first_sought-append sought ps qs)
 
 -- what is found in the first list, and what is found in the second where there is nothing in the first
-pub front-found : (sought : Sought) (ps qs : List (Atom × Atom)) (o : Option (Atom × Atom)) → o ≡ first_sought sought ps → is_some o ≡ true → o ≡ first_sought sought (ps ++ qs)
+pub front-found : (sought : SoughtEquation) (ps qs : List (Atom × Atom)) (o : Option (Atom × Atom)) → o ≡ first_sought sought ps → is_some o ≡ true → o ≡ first_sought sought (ps ++ qs)
 front-found sought ps qs o first some =
     sym (option_or-some o (first_sought sought qs) some) ∙ both-found sought ps qs o (first_sought sought qs) first refl
 
-pub back-found : (sought : Sought) (ps qs : List (Atom × Atom)) (o p : Option (Atom × Atom)) → o ≡ first_sought sought ps → is_some o ≡ false → p ≡ first_sought sought qs → p ≡ first_sought sought (ps ++ qs)
+pub back-found : (sought : SoughtEquation) (ps qs : List (Atom × Atom)) (o p : Option (Atom × Atom)) → o ≡ first_sought sought ps → is_some o ≡ false → p ≡ first_sought sought qs → p ≡ first_sought sought (ps ++ qs)
 back-found sought ps qs o p first none second = sym (option_or-none o p none) ∙ both-found sought ps qs o p first second
 
 -- what is found under a test
-pub only_if-found : (sought : Sought) (t : Bool) (ps : List (Atom × Atom)) (o : Option (Atom × Atom)) → t ≡ true → o ≡ first_sought sought ps → o ≡ first_sought sought (only_if t ps)
+pub only_if-found : (sought : SoughtEquation) (t : Bool) (ps : List (Atom × Atom)) (o : Option (Atom × Atom)) → t ≡ true → o ≡ first_sought sought ps → o ≡ first_sought sought (only_if t ps)
 only_if-found sought t ps o holds found = found ∙ ap (λ b. first_sought sought (only_if b ps)) (sym holds)
 
-pub only_if-none : (sought : Sought) (t : Bool) (ps : List (Atom × Atom)) → t ≡ false → None ≡ first_sought sought (only_if t ps)
+pub only_if-none : (sought : SoughtEquation) (t : Bool) (ps : List (Atom × Atom)) → t ≡ false → None ≡ first_sought sought (only_if t ps)
 only_if-none sought t ps fails = ap (λ b. first_sought sought (only_if b ps)) (sym fails)
 
 and-left : (s t : Bool) → (s && t) ≡ true → s ≡ true
@@ -94,7 +94,7 @@ or-right true = refl
 or-right false = refl
 
 -- what is found is listed, and it is looked for
-pub listed-found : (sought : Sought) (ps : List (Atom × Atom)) (p : Atom × Atom) → first_sought sought ps ≡ Some p → is_listed p.0 p.1 ps ≡ true
+pub listed-found : (sought : SoughtEquation) (ps : List (Atom × Atom)) (p : Atom × Atom) → first_sought sought ps ≡ Some p → is_listed p.0 p.1 ps ≡ true
 listed-found sought [] p e = absurd (cc)
 listed-found sought (q ∷ ps) p e =
     by_test (is_sought sought q) (Some q) (first_sought sought ps) (λ o. o ≡ Some p → is_listed p.0 p.1 (q ∷ ps) ≡ true)
@@ -102,7 +102,7 @@ listed-found sought (q ∷ ps) p e =
     ap (λ r. is_pair_of p.0 p.1 r || is_listed p.0 p.1 ps) same ∙ ap (λ t. t || is_listed p.0 p.1 ps) (is_pair_of-itself p))
     (λ _ is. ap (λ t. is_pair_of p.0 p.1 q || t) (listed-found sought ps p is) ∙ or-right (is_pair_of p.0 p.1 q)) e
 
-pub sought-found : (sought : Sought) (ps : List (Atom × Atom)) (p : Atom × Atom) → first_sought sought ps ≡ Some p → is_sought sought p ≡ true
+pub sought-found : (sought : SoughtEquation) (ps : List (Atom × Atom)) (p : Atom × Atom) → first_sought sought ps ≡ Some p → is_sought sought p ≡ true
 sought-found sought [] p e = absurd (cc)
 sought-found sought (q ∷ ps) p e =
     by_test (is_sought sought q) (Some q) (first_sought sought ps) (λ o. o ≡ Some p → is_sought sought p ≡ true)

@@ -9,7 +9,7 @@ use Rattle.core_forms.specs.declared.equation.Rule.TheVariants.{Order, Form, Tab
 use Rattle.core_forms.specs.declared.equation.Equation.{Equation}
 use Rattle.core_forms.specs.declared.form.Core.{Core}
 use Rattle.core_forms.specs.Meaning.{Meets}
-use Rattle.rule_base.specs.declared.sought.Sought.TheVariants.{Apart}
+use Rattle.rule_base.specs.declared.sought.SoughtEquation.TheVariants.{Apart}
 use Rattle.rule_base.specs.Pairs.{first_sought, is_listed}
 
 -- a pair as an equation of a rule

@@ -4,20 +4,20 @@ use Rattle.order_ints.specs.declared.atom.Atom.{Atom}
 use Rattle.order_ints.specs.declared.atom.Atom.TheVariants.{True, False}
 use Rattle.order_ints.specs.Same.{same_atom}
 use Rattle.order_ints.specs.Truth.{Valuation, atom_truth, not_atom}
-use Rattle.rule_base.specs.declared.sought.Sought.{Sought}
-use Rattle.rule_base.specs.declared.sought.Sought.TheVariants.{Apart, Pair}
+use Rattle.rule_base.specs.declared.sought.SoughtEquation.{SoughtEquation}
+use Rattle.rule_base.specs.declared.sought.SoughtEquation.TheVariants.{Apart, Pair}
 
 -- the pair is of these two atoms, in either order
 abbrev pub is_pair_of : Atom → Atom → Atom × Atom → Bool
 is_pair_of a b p = (same_atom p.0 a && same_atom p.1 b) || (same_atom p.0 b && same_atom p.1 a)
 
 -- the pair is looked for
-abbrev pub is_sought : Sought → Atom × Atom → Bool
+abbrev pub is_sought : SoughtEquation → Atom × Atom → Bool
 is_sought Apart p = not (same_atom p.0 p.1)
 is_sought (Pair a b) p = is_pair_of a b p
 
 -- the first pair that is looked for
-abbrev pub first_sought : Sought → List (Atom × Atom) → Option (Atom × Atom)
+abbrev pub first_sought : SoughtEquation → List (Atom × Atom) → Option (Atom × Atom)
 first_sought sought [] = None
 first_sought sought (p ∷ pairs) = if is_sought sought p then Some p else first_sought sought pairs
 

@@ -9,7 +9,7 @@ use order_ints::Atom;
 /// Which of the equations that a rule states is looked for. It is handed down to the walks along them, so
 /// that finding an equation and testing one share each walk.
 #[derive(Clone, Copy, Debug)]
-pub enum Sought {
+pub enum SoughtEquation {
     /// An equation of two different atoms.
     Apart,
     /// The equation of these two atoms, in either order.
@@ -23,14 +23,14 @@ fn is_pair(a: Atom, b: Atom, x: Atom, y: Atom) -> bool
     (x == a && y == b) || (x == b && y == a)
 }
 
-impl Sought {
+impl SoughtEquation {
     /// Whether the equation of two atoms is looked for.
     fn is(self, x: Atom, y: Atom) -> bool
         ensures { result ≡ is_sought self (x, y) }
     {
         match self {
-            Sought::Apart => x != y,
-            Sought::Pair(a, b) => is_pair(a, b, x, y),
+            SoughtEquation::Apart => x != y,
+            SoughtEquation::Pair(a, b) => is_pair(a, b, x, y),
         }
     }
 

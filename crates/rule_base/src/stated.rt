@@ -5,7 +5,7 @@ ghost use Rattle.order_ints.specs.OrderRange.{IsBounded};
 ghost use Rattle.rule_base.specs.Pairs.{first_sought};
 ghost use Rattle.rule_base.specs.Stated.{at_least, is_below, is_not};
 
-use crate::sought::Sought;
+use crate::sought::SoughtEquation;
 use order_ints::{Atom, OrdInt};
 
 /// The value above another by 1.
@@ -16,7 +16,7 @@ pub fn next(v: i128) -> i128
     v + 1
 }
 
-impl Sought {
+impl SoughtEquation {
     /// That an integer is at least a value, if that is looked for. Its time is that of `at`.
     pub fn at_least(self, a: &OrdInt, v: i128) -> Option<(Atom, Atom)>
         requires { IsBounded a.now }

@@ -1,6 +1,6 @@
 //! Literals, as words spell them and as atoms.
 
-ghost use Rattle.std.specs.Prelude.{◌≡◌, ◌+◌, ◌≤◌, Some, IfOk, IfSome, map};
+ghost use Rattle.std.specs.Prelude.{◌≡◌, ◌+◌, ◌≤◌, ◌^◌, Some, IfOk, IfSome, map};
 ghost use Rattle.order_ints.specs.declared.literal.Lit.{Lit};
 ghost use Rattle.order_ints.specs.declared.atom.Atom.TheVariants.{Of};
 ghost use Rattle.order_ints.specs.Place.{LitBelow};
@@ -12,7 +12,7 @@ use std::alloc::{AllocError, Global};
 
 /// The literal that a word spells, where its variable is at most `vars`.
 pub fn literal_within(word: &[u8], vars: u32) -> Option<Lit>
-    requires { vars ≤ 67108864 }
+    requires { vars ≤ 2 ^ 27 }
     ensures read { IfSome result (λ l. LitBelow (vars + 1) l × (word.now ≡ literal_word l)) }
     ensures complete { (l : Lit) → LitBelow (vars + 1) l → word.now ≡ literal_word l → result ≡ Some l }
 {

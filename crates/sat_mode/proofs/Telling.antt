@@ -1,6 +1,6 @@
 -- What was found of a CNF, as it is told.
-use Rattle.std.proofs.Common.{◌≡◌, ℕ, inl, inr, true, false, List, [], ◌∷◌, refl, sym, ap, subst, ◌∙◌}
-use Rattle.std.specs.Prelude.{Option, None, Some, Ok, IsOk, IsTrue}
+use Rattle.std.proofs.Common.{◌≡◌, ℕ, ◌≤◌, ◌<◌, inl, inr, true, false, List, [], ◌∷◌, refl, sym, ap, subst, ◌∙◌, arith}
+use Rattle.std.specs.Prelude.{Bool, length, Option, None, Some, Ok, IsOk, IsTrue}
 use Rattle.std.proofs.lemmas.Bool.{false≢true}
 use Rattle.order_ints.specs.declared.literal.Lit.{Lit}
 use Rattle.order_ints.specs.declared.cnf.Cnf.{Cnf}
@@ -10,14 +10,17 @@ use Rattle.proof_check.specs.declared.line.ProofLine.{ProofLine}
 use Rattle.proof_check.specs.declared.fault.ProofFault.{ProofFault}
 use Rattle.proof_check.specs.Lrat.{Proof, proof_of, line_fault, after_line, unless_fault, behind, take_lines, Lrat}
 use Rattle.proof_check.specs.Known.{known}
+use Rattle.proof_check.specs.Lines.{Each, IsReadable}
 use Rattle.proof_check.proofs.Implied.{start-implied, lines-implied, known-implied}
-use Rattle.learning_solver.specs.Log.{after_lines, proof_behind, IsFreshLog}
-use Rattle.learning_solver.specs.Outcome.{Logged, IsRefutation}
+use Rattle.learning_solver.specs.Log.{additions, after_lines, proof_behind, IsFreshLog}
+use Rattle.learning_solver.specs.Outcome.{Logged, Answers, IsSolution, IsRefutation, NoneRefutes, most_learned}
+use Rattle.learning_solver.specs.declared.found.Found.{Found}
+use Rattle.learning_solver.specs.declared.found.Found.TheVariants.{Sat, Spent}
 use Rattle.text_modes.specs.declared.ends.Outcome.{Outcome}
 use Rattle.text_modes.specs.declared.ends.Outcome.TheVariants.{Done, Refused, Unknown}
 use Rattle.learning_solver.proofs.KnownLaws.{known-named}
 use Rattle.sat_mode.specs.declared.options.SearchOptions.{SearchOptions}
-use Rattle.sat_mode.specs.Texts.{refutation_text}
+use Rattle.sat_mode.specs.Texts.{values_text, refutation_text, unknown_text}
 use Rattle.sat_mode.specs.Found.{IsProof, Tells}
 
 -- the empty clause is known where it stands under an id
@@ -50,18 +53,45 @@ pub tells-same : (options : SearchOptions) (cnf : Cnf) (cs ds : List (List Lit))
 tells-same options cnf cs ds Done written same (inl h) =
     inl (record { values = h.values; count = h.count; satisfies = sym (same (valuation_of h.values)) ∙ h.satisfies; writes = h.writes })
 tells-same options cnf cs ds Done written same (inr h) =
-    inr (record { log = h.log; proof = h.proof; empty = h.empty; none = λ σ sat. h.none σ (same σ ∙ sat); writes = h.writes })
+    inr (record { log = h.log; proof = h.proof; empty = h.empty; within = h.within; most = h.most; none = λ σ sat. h.none σ (same σ ∙ sat); writes = h.writes })
 tells-same options cnf cs ds (Unknown count) written same h = h
 tells-same options cnf cs ds (Refused line) written same h = h
 
 -- what a search found, as it is told
 
-proof-of : (cnf : Cnf) (s : Logged) → s.cnf ≡ cnf → Lrat s.cnf s.log → IsFreshLog s.cnf s.log → IsProof cnf s.log
-proof-of cnf s e accepted fresh = subst (λ (x : Cnf). IsProof x s.log) e (record { accepted = accepted; fresh = fresh })
+proof-of : (cnf : Cnf) (s : Logged) → s.cnf ≡ cnf → Lrat s.cnf s.log → IsFreshLog s.cnf s.log → Each IsReadable s.log → IsProof cnf s.log
+proof-of cnf s e accepted fresh readable = subst (λ (x : Cnf). IsProof x s.log) e (record { accepted = accepted; fresh = fresh; readable = readable })
 
-pub found-refutation : (options : SearchOptions) (cnf : Cnf) (s : Logged) (id : ℕ) (written : List ℕ) → s.cnf ≡ cnf → Lrat s.cnf s.log → IsFreshLog s.cnf s.log → IsRefutation s.cnf s.log None id
-    → written ≡ refutation_text s.log → Tells options cnf cnf.clauses Done written
-found-refutation options cnf s id written e accepted fresh refuted w =
-    let proof = proof-of cnf s e accepted fresh in
+pub found-refutation : (options : SearchOptions) (cnf : Cnf) (s : Logged) (id : ℕ) (written : List ℕ) → s.cnf ≡ cnf → Lrat s.cnf s.log → IsFreshLog s.cnf s.log → Each IsReadable s.log → IsRefutation s.cnf s.log None id
+    → additions s.log ≤ options.budget → additions s.log ≤ most_learned options.restart cnf.vars → written ≡ refutation_text s.log → Tells options cnf cnf.clauses Done written
+found-refutation options cnf s id written e accepted fresh readable refuted within most w =
+    let proof = proof-of cnf s e accepted fresh readable in
     let empty = empty-known cnf s.log id (subst (λ (x : Cnf). IsRefutation x s.log None id) e refuted) in
-    inr (record { log = s.log; proof = proof; empty = empty; none = no-values cnf s.log proof.accepted empty; writes = w })
+    inr (record { log = s.log; proof = proof; empty = empty; within = within; most = most; none = no-values cnf s.log proof.accepted empty; writes = w })
+
+pub found-values : (options : SearchOptions) (cnf : Cnf) (s : Logged) (found : Found) (values : List Bool) (written : List ℕ) → s.cnf ≡ cnf → found ≡ Sat values → Answers s None found
+    → written ≡ values_text values → Tells options cnf cnf.clauses Done written
+found-values options cnf s found values written e is answers w =
+    let P : Found → Type 0 = Answers s None in
+    let Q : Cnf → Type 0 = λ x. IsSolution x None values in
+    let solves = subst Q e (subst P is answers) in
+    inl (record { values = values; count = solves.count; satisfies = solves.satisfies; writes = w })
+
+-- how many values were found
+pub found-count : (s : Logged) (found : Found) (values : List Bool) → found ≡ Sat values → Answers s None found → length values ≡ s.cnf.vars
+found-count s found values is answers = let P : Found → Type 0 = Answers s None in let solves : IsSolution s.cnf None values = subst P is answers in solves.count
+
+none-known : (s : Logged) (found : Found) → found ≡ Spent → Answers s None found → known (proof_behind s.cnf s.log) [] ≡ false
+none-known s found is answers = let P : Found → Type 0 = Answers s None in let none : NoneRefutes s.cnf s.log None = subst P is answers in none [] refl
+
+pub found-unknown : (options : SearchOptions) (cnf : Cnf) (s : Logged) (found : Found) (written : List ℕ) → s.cnf ≡ cnf → found ≡ Spent → Lrat s.cnf s.log → IsFreshLog s.cnf s.log → Each IsReadable s.log → Answers s None found
+    → additions s.log ≡ options.budget → additions s.log < most_learned options.restart cnf.vars → written ≡ unknown_text s.log → Tells options cnf cnf.clauses (Unknown options.budget) written
+found-unknown options cnf s found written e is accepted fresh readable answers spent early w = record {
+  log = s.log;
+  proof = proof-of cnf s e accepted fresh readable;
+  budget = refl;
+  spent = spent;
+  early = omega (arith, spent, early);
+  not_empty = subst (λ (x : Cnf). known (proof_behind x s.log) [] ≡ false) e (none-known s found is answers);
+  writes = w;
+}

@@ -36,7 +36,7 @@ static ROWS: [Row; 5] = [
             (1, u64::MAX, "refuted by 3\n"),
         ],
     ),
-    // The last clause meets the budget, and stays the answer whatever is assumed.
+    // The last clause meets the budget, and stays the answer whatever is assumed; what denies an assumption is told at once.
     (
         2,
         &[&[1, 2], &[1, -2], &[-1, 2], &[-1, -2]],
@@ -45,7 +45,7 @@ static ROWS: [Row; 5] = [
             (0, 1, "spent\n5 1 0 1 2 0\n"),
             (0, 1, "spent\n"),
             (-2, 1, "spent\n"),
-            (-1, 1, "spent\n"),
+            (-1, 1, "refuted by 5\n"),
             (0, 2, "refuted by 6\n6 0 5 3 4 0\n"),
             (0, 2, "refuted by 6\n"),
             (-1, 2, "refuted by 6\n"),

@@ -46,13 +46,15 @@ fn asked(
 /// How many variables there are, the clauses, the assumption, the budget, and what is told.
 type Row = (u32, &'static [&'static [i32]], i32, u64, &'static str);
 
-static ROWS: [Row; 14] = [
+static ROWS: [Row; 15] = [
     // Clauses of one literal alone, and an assumption that one of them denies.
     (2, &[&[1], &[-2]], -2, 0, "true\n"),
     (2, &[&[1], &[-2]], 2, 0, "refuted by 2\n"),
     (2, &[&[1], &[-2]], -1, 0, "refuted by 1\n"),
     // The empty clause.
     (2, &[&[1], &[]], 2, 0, "refuted by 2\n"),
+    // Clauses of which one is false at level 0, and another one the negated assumption.
+    (2, &[&[1], &[-1]], -1, 0, "refuted by 1\n"),
     // An assumption that is true, and one of a free variable.
     (2, &[&[1]], 1, 0, "true\n"),
     (2, &[&[1]], 2, 0, "true\n"),

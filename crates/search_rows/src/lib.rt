@@ -1,5 +1,13 @@
-//! Rows worked out by hand and random ones, over the public calls of the clause store, of the analysis of conflicts, and of a search that is asked once or again.
-//! They stand apart from its crates, so that proving them proves none of those crates anew.
+//! Rows worked out by hand and at random over the public calls of the clause store, the analysis of
+//! conflicts, and a search that is asked once or again.
+//!
+//! Moves of the store are compared with a plain program that looks at every clause after each move;
+//! searches in no order with the trying of all valuations; and logs with the checker, restarts and
+//! deletions counted in them. So what no clause says, as that learned clauses go at restarts, is
+//! seen here and nowhere else.
+//!
+//! They stand apart from those crates, so that proving them proves none of those anew. Moves at
+//! random come from a generator with fixed seeds (`numbers`), so a failure comes again.
 #![tactic(auto)]
 
 #[cfg(test)]

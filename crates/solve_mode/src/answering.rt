@@ -17,10 +17,10 @@ ghost use Rattle.solve_mode.specs.Solved.{outcome_of};
 
 use answer_document::Verdict;
 use decode_minimize::{AnsweredModel, Options, answer_owned};
-use fixpoint_queue::TableP;
 use model_lower::LowerFault;
 use model_meaning::Model;
 use rule_base::Steps;
+use rule_oracle::TableP;
 use std::alloc::Global;
 use std::marker::Brand;
 use std::sync::ledger::{Blank, Ledger};

@@ -15,7 +15,7 @@ use answer_document::write_document;
 use decode_minimize::Options;
 use model_lower::LowerFault;
 use model_meaning::Model;
-use model_texts::{TextFault, lower_fault, model_of};
+use model_texts::{ModelTextFault, lower_fault, model_of};
 use std::alloc::{AllocError, Global};
 use text_modes::Outcome;
 
@@ -44,7 +44,7 @@ pub(crate) fn solve_text(
     alloc: Global,
     text: &[u8],
     options: Options,
-) -> Result<(Outcome, Vec<u8>), TextFault>
+) -> Result<(Outcome, Vec<u8>), ModelTextFault>
     requires short { length text.now ≤ longest_text }
     requires budget { IsBudget options.budget }
     ensures solved { IfOk result (λ made. Answers options text.now made.0 made.1.items) }

@@ -7,7 +7,7 @@ ghost use Rattle.solve_mode.specs.SolveMode.{SolveMode};
 use crate::making::solve_text;
 use bee_outside::{Shelf, Sink};
 use decode_minimize::Options;
-use model_texts::{LONGEST_TEXT, ModelFault, TextFault};
+use model_texts::{LONGEST_TEXT, ModelFault, ModelTextFault};
 use std::alloc::{AllocError, Global};
 use std::marker::Model;
 use text_modes::{End, Made, OneText, run_one};
@@ -54,8 +54,8 @@ impl OneText for Solving {
     fn make(&self, alloc: Global, text: &[u8]) -> Result<Made<ModelFault>, AllocError> {
         match solve_text(alloc, text, self.options) {
             Ok((outcome, written)) => Ok(Made::Text(outcome, written)),
-            Err(TextFault::Model(fault)) => Ok(Made::Fault(fault)),
-            Err(TextFault::Memory) => Err(AllocError),
+            Err(ModelTextFault::Model(fault)) => Ok(Made::Fault(fault)),
+            Err(ModelTextFault::Memory) => Err(AllocError),
         }
     }
 }

@@ -3,7 +3,7 @@
 use bee_list::Sequence;
 use order_ints::Lit;
 use proof_check::{
-    LineHead, LineRoom, ProofLine, TextFault, push_deletion, push_line, read_line, write_line,
+    LineHead, LineRoom, ProofLine, ProofTextFault, push_deletion, push_line, read_line, write_line,
 };
 use std::alloc::{AllocError, Global};
 use std::process::Abort;
@@ -11,7 +11,7 @@ use std::test::Fail;
 
 /// Lines, with a bar between two.
 const LINES: &str =
-    "5 1 -2 0 3 -4 0\n|5 0 1 0\n|5 1 0 0\n|5 0 0\n|5 d 1 18446744073709551615 0\n|5 d 0\n|\
+    "5 1 -2 0 3 -4 0\n|5 0 1 0\n|5 1 0 0\n|5 0 0\n|5 d 1 18446744073709551615 0\n|5 d 0\n|0 d 1 2 0\n|\
     18446744073709551615 134217728 -134217728 0 9223372036854775807 -9223372036854775808 0\n";
 
 /// What is no line, with a bar between two.
@@ -19,8 +19,8 @@ const MISFITS: &str =
     "|\n|5\n|5 1 0 1 0|5 1 0 1 0\n\n|5 1 0 1 0\r\n| 5 1 0 1 0\n|5  1 0 1 0\n|5 1 0 1 0 \n|\
     5\t1 0 1 0\n|05 1 0 1 0\n|+5 1 0 1 0\n|-5 1 0 1 0\n|0 1 0 1 0\n|5 1\n|5 1 0\n|5 1 0 1\n|5 1 0 1 0 0\n|\
     5 01 0 1 0\n|5 -0 0 1 0\n|5 1 0 -0 0\n|5 134217729 0 0\n|18446744073709551616 0 0\n|\
-    5 0 9223372036854775808 0\n|5 0 -9223372036854775809 0\n|0 d 1 0\n|5 d 1\n|5 d 1 0 0\n|5 d -1 0\n|\
-    5 d 18446744073709551616 0\n|5 D 1 0\n|5 d d 0\n|d 5 0\n|5 1 0 1 0\n6 0 5 0\n";
+    5 0 9223372036854775808 0\n|5 0 -9223372036854775809 0\n|00 d 1 0\n|0 d 0 1 0\n|5 d 1\n|5 d 1 0 0\n|5 d -1 0\n|\
+    5 d 18446744073709551616 0\n|18446744073709551616 d 1 0\n|5 D 1 0\n|5 d d 0\n|d 5 0\n|5 1 0 1 0\n6 0 5 0\n";
 
 /// A line is read, and written again it is the same.
 fn line_row<R: Abort>(rt: &R, alloc: Global, text: &str) -> Result<(), Fail> {
@@ -34,12 +34,12 @@ fn line_row<R: Abort>(rt: &R, alloc: Global, text: &str) -> Result<(), Fail> {
 fn misfit_row<R: Abort>(rt: &R, alloc: Global, text: &str) {
     let owned = match read_line(alloc, text.as_bytes()) {
         Ok(_) => false,
-        Err(e) => e == TextFault::Form(1),
+        Err(e) => e == ProofTextFault::Form(1),
     };
     assert!(rt; owned, "{text}");
     let mut room = LineRoom::new(alloc);
     let lent = room.read_text(text.as_bytes());
-    assert_eq!(rt; lent, Err(TextFault::Form(1)), "{text}");
+    assert_eq!(rt; lent, Err(ProofTextFault::Form(1)), "{text}");
 }
 
 #[test]

@@ -6,7 +6,7 @@ use step_kernel::State;
 
 /// The last state of a compilation, and the ledger of the lines that led there.
 #[derive(Drop)]
-pub struct Compiled {
+pub struct CompiledState {
     pub state: State,
     pub ledger: Sequence<Line>,
 }

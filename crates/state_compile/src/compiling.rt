@@ -7,7 +7,7 @@ ghost use Rattle.asking_bound.specs.Questions.{most_questions};
 ghost use Rattle.state_compile.specs.StandsFor.{CnfStandsFor};
 ghost use Rattle.state_compile.specs.Compilation.{IsCompilation};
 
-use crate::compiled::Compiled;
+use crate::compiled::CompiledState;
 use crate::encoding::encode_all;
 use crate::splitting::split_all;
 use bee_list::Sequence;
@@ -26,7 +26,7 @@ pub fn compile_state<F: Oracle<L>, L: Ledger>(
     state: State,
     oracle: F,
     steps: &mut Steps<L>,
-) -> Result<Compiled, AllocError>
+) -> Result<CompiledState, AllocError>
     ensures compilation { IfOk result (λ made. IsCompilation F.told state made.ledger made.state) }
     ensures leads { IfOk result (λ made. Leads F.told state made.ledger made.state) }
 
@@ -40,12 +40,12 @@ pub fn compile_state<F: Oracle<L>, L: Ledger>(
 {
     if state.bottom() {
         let ledger = Sequence::from_vec(Vec::new(alloc));
-        return Ok(Compiled { state, ledger });
+        return Ok(CompiledState { state, ledger });
     }
     let mut runner = Runner::with(alloc, state, oracle)?;
     split_all(&mut runner, steps)?;
     encode_all(&mut runner)?;
     let (state, ledger) = runner.finish();
     let ledger = Sequence::from_vec(ledger);
-    Ok(Compiled { state, ledger })
+    Ok(CompiledState { state, ledger })
 }

@@ -1,6 +1,15 @@
-//! Rows worked out by hand, over the public calls of the crates whose values change in place: nodes moved between
-//! rings, classes merged and walked, cores that come and go, and the steps of a compilation. They stand apart from those
-//! crates, so that proving them proves none of those crates anew.
+//! Rows over the public calls of the crates whose values change in place: nodes moved between
+//! rings, classes merged and walked, occurrences that are handed on, and the steps of a compilation
+//! with their faults and refused memory.
+//!
+//! Moves of rings and merges of classes are also tried at random, beside a plain reckoning; and a
+//! worklist is asked with all rules, with none, and with one equation that is told once. Two things
+//! are shown here alone, since their clauses allow less: that a long list is cut, and that a
+//! settled core is lent as it stands (`lent`).
+//!
+//! They stand apart from those crates, so that proving them proves none of those anew. A row is a
+//! line of a table; cores are read by `core_words`. A store that lives across a test is lent to
+//! functions of its own: dropped at each way out, it made a test of twenty lines take a minute.
 #![tactic(auto)]
 
 #[cfg(test)]

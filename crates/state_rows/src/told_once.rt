@@ -62,11 +62,9 @@ fn told_equation() -> Equation
 }
 
 impl<L: Ledger> Oracle<L> for ToldOnce {
-    ghost use Rattle.state_rows.specs.ToldOnce.{IsToldOnce, told_once_is_instance};
+    ghost use Rattle.state_rows.specs.ToldOnce.{IsToldOnce};
 
     ghost told = { IsToldOnce };
-
-    ghost told_is_instance = { told_once_is_instance };
 
     fn ask(
         &self,

@@ -23,7 +23,7 @@ use Rattle.model_meaning.specs.WellTyped.{NumberFits, NumbersFit, TruthsFit}
 use Rattle.statement_lower.specs.Terms.{atom_of, atoms_of, integer_of, integers_of}
 use Rattle.name_map.specs.Fits.{EntriesFit}
 use Rattle.statement_lower.specs.Entries.{AreOrdered}
-use Rattle.statement_lower.specs.declared.made.Made.{Made}
+use Rattle.statement_lower.specs.declared.made.MadeCores.{MadeCores}
 use Rattle.statement_lower.specs.Linear.{scaled_each, with_steps, constant_of_members, linear_members, equal_sum, compared_sum, linear_made, AreSummands}
 use Rattle.statement_lower.specs.Lines.{scaled_truths, scaled_integers}
 use Rattle.statement_lower.specs.Lowers.{Lowers}
@@ -67,7 +67,7 @@ module _ (vars n : ℕ) (ds : List Decl) (entries : List MapValue) (h : EntriesF
       let small = integer_of-small (vars + 1) n ds entries h i fi li in
       let all : List OrdInt = linear_members members a in
       let k : ℤ = constant_of_members all in
-      let made : Made = compared_sum vars rel all in
+      let made : MadeCores = compared_sum vars rel all in
       lowers-same vars made.vars C made.cores (λ σ. IsTrue (relates rel (forms.total (forms.values σ (with_steps all)) +ℤ k) (pos 0))) (λ σ. IsTrue (relates rel (sum σ) (number_of (env σ) i)))
       (λ σ c.
       let same = relates-difference rel (forms.total (forms.values σ (with_steps all)) +ℤ k) (pos 0) (sum σ) (number_of (env σ) i)
@@ -94,7 +94,7 @@ module _ (vars n : ℕ) (ds : List Decl) (entries : List MapValue) (h : EntriesF
   linear-stands relation.Gt members i sum below summands few fi li order e = compared-stands relation.Gt members i sum below summands few fi li order e
   linear-stands relation.Neq members i sum below summands few fi li order e = compared-stands relation.Neq members i sum below summands few fi li order e
 
-  -- line 11
+  -- a linear sum of Booleans
   pub truths-stand : (rel : Relation) (cs : List ℤ) (xs : List BoolTerm) (i : IntTerm)
       → AllInLimit cs → TruthsFit ds n xs → length xs ≤ 16777216 → NumberFits ds n i → TermInLimit i
       → Lowers vars (linear_made vars rel (scaled_truths entries cs xs) (integer_of entries i)).vars C (linear_made vars rel (scaled_truths entries cs xs) (integer_of entries i)).cores
@@ -123,7 +123,7 @@ module _ (vars n : ℕ) (ds : List Decl) (entries : List MapValue) (h : EntriesF
       (λ σ c. ordered-integers_of σ entries is c)
       (λ σ. ap forms.total (integers_of-values (vars + 1) n ds entries h σ is fs) ∙ sym (same_meanings.total (numbers_of (env σ) is)))
 
-  -- line 13
+  -- a linear sum of integers
   pub multiples-stand : (rel : Relation) (cs : List ℤ) (is : List IntTerm) (i : IntTerm)
       → AllInLimit cs → NumbersFit ds n is → TermsInLimit is → length is ≤ 16777216 → NumberFits ds n i → TermInLimit i
       → Lowers vars (linear_made vars rel (scaled_integers entries cs is) (integer_of entries i)).vars C (linear_made vars rel (scaled_integers entries cs is) (integer_of entries i)).cores
@@ -138,7 +138,7 @@ module _ (vars n : ℕ) (ds : List Decl) (entries : List MapValue) (h : EntriesF
       (λ σ c. scaled-ordered σ cs members (ordered-integers_of σ entries is c))
       (λ σ. scaled-total σ cs members ∙ ap (linear_sum cs) (integers_of-values (vars + 1) n ds entries h σ is fs))
 
-  -- line 16: the sum
+  -- the sum
   pub aggregate-sum-stands : (is : List IntTerm) (i : IntTerm)
       → NumbersFit ds n is → TermsInLimit is → length is ≤ 16777216 → NumberFits ds n i → TermInLimit i
       → Lowers vars (linear_made vars relation.Eq (integers_of entries is) (integer_of entries i)).vars C (linear_made vars relation.Eq (integers_of entries is) (integer_of entries i)).cores

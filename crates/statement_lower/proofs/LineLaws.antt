@@ -24,7 +24,24 @@ use Rattle.model_meaning.specs.declared.what.BoolTerm.{BoolTerm}
 use Rattle.model_meaning.specs.declared.what.IntTerm.{IntTerm}
 use Rattle.model_meaning.specs.declared.what.IntTerm.TheVariants as int_term
 use Rattle.model_meaning.specs.declared.what.What.{What}
-use Rattle.model_meaning.specs.declared.what.What.TheVariants.{L3, L4, L5, L6, L7, L8, L9, L10, L11, L12, L13, L14, L15, L16, L17, L18}
+use Rattle.model_meaning.specs.declared.what.What.TheVariants.{
+  BoolToInt,
+  BoolEq,
+  BoolOp,
+  BoolArray,
+  BoolArrayReified,
+  Compare,
+  CompareReified,
+  BoolSum,
+  BoolLinear,
+  IntSum,
+  IntLinear,
+  IntOp,
+  Absolute,
+  IntArray,
+  IntAllDifferent,
+  Lexicographic,
+}
 use Rattle.model_meaning.specs.declared.wanted.Wanted.TheVariants as wanted
 use Rattle.model_meaning.specs.declared.statement.Operator.{Operator}
 use Rattle.model_meaning.specs.declared.statement.Operator.TheVariants as operator
@@ -172,7 +189,7 @@ module _ (vars n : ℕ) (ds : List Decl) (entries : List MapValue) (h : EntriesF
       (operator-lowers vars C (AreOrdered-depends (vars + 1) ds entries h) op atoms z all at)
 
   operation-stands : (o : Arithmetic) (i j k : IntTerm) → NumberFits ds n i → NumberFits ds n j → NumberFits ds n k
-      → TermInLimit i → TermInLimit j → TermInLimit k → ValuesFit ds (statement.Operation o) (Number i ∷ Number j ∷ Number k ∷ [])
+      → TermInLimit i → TermInLimit j → TermInLimit k → ValuesFit ds (statement.IntOp o) (Number i ∷ Number j ∷ Number k ∷ [])
       → Lowers vars (operation_made vars o (integer_of entries i) (integer_of entries j) (integer_of entries k)).vars C
       (operation_made vars o (integer_of entries i) (integer_of entries j) (integer_of entries k)).cores
       (λ σ. IsTrue (gives o (number_of (env σ) i) (number_of (env σ) j) (number_of (env σ) k)))
@@ -324,45 +341,45 @@ module _ (vars n : ℕ) (ds : List Decl) (entries : List MapValue) (h : EntriesF
   stands : (w : What) → WhatFits ds n w → WhatInLimit w
       → Lowers vars (made_of vars entries w).vars C (made_of vars entries w).cores (λ σ. IsTrue (holds (env σ) w))
   unfolding holds
-  stands (L3 x i) fit limit = bit-stands x i fit.arguments.0 fit.arguments.1.0 limit.0.1.0
-  stands (L4 x y) fit limit =
+  stands (BoolToInt x i) fit limit = bit-stands x i fit.arguments.0 fit.arguments.1.0 limit.0.1.0
+  stands (BoolEq x y) fit limit =
       lowers-one vars C (equal_core (atom_of entries x) (atom_of entries y)) (λ σ. same (truth_of (env σ) x) (truth_of (env σ) y))
       ((below x fit.arguments.0, (below y fit.arguments.1.0, tt)), tt) tt
       (λ σ o. rw (← truth x fit.arguments.0 σ, ← truth y fit.arguments.1.0 σ) (equal-truth σ (atom_of entries x) (atom_of entries y)))
-  stands (L5 name op x y z) fit limit =
+  stands (BoolOp name op x y z) fit limit =
       let args = fit.arguments in
       operator-stands op (atom_of entries x ∷ atom_of entries y ∷ []) (atom_of entries z)
       (λ σ. truth_of (env σ) x ∷ truth_of (env σ) y ∷ []) (λ σ. truth_of (env σ) z)
       (below x args.0, (below y args.1.0, tt)) (below z args.1.1.0)
       (λ σ. truths (x ∷ y ∷ []) (args.0, (args.1.0, tt)) σ)
       (λ σ. truth z args.1.1.0 σ)
-  stands (L6 name op xs) fit limit =
+  stands (BoolArray name op xs) fit limit =
       lowers-here vars C (array_cores op (atoms_of entries xs)) (λ σ. combine op (truths_of (env σ) xs))
       (array-below (vars + 1) op (atoms_of entries xs) (all-below xs fit.arguments.0)) (array-well_formed op (atoms_of entries xs))
       (λ σ o. rw (← truths xs fit.arguments.0 σ) (array-truth σ op (atoms_of entries xs)))
-  stands (L7 name op xs z) fit limit =
+  stands (BoolArrayReified name op xs z) fit limit =
       operator-stands op (atoms_of entries xs) (atom_of entries z) (λ σ. truths_of (env σ) xs) (λ σ. truth_of (env σ) z)
       (all-below xs fit.arguments.0) (below z fit.arguments.1.0) (truths xs fit.arguments.0) (truth z fit.arguments.1.0)
-  stands (L8 name rel i j) fit limit =
+  stands (Compare name rel i j) fit limit =
       comparison-stands rel True (λ σ. true) i j tt (λ σ. refl) fit.arguments.0 fit.arguments.1.0 limit.0.0 limit.0.1.0
-  stands (L9 name rel i j z) fit limit =
+  stands (CompareReified name rel i j z) fit limit =
       let args = fit.arguments in
       comparison-stands rel (atom_of entries z) (λ σ. truth_of (env σ) z) i j (below z args.1.1.0) (truth z args.1.1.0) args.0 args.1.0 limit.0.0 limit.0.1.0
-  stands (L10 name rel xs i) fit limit =
+  stands (BoolSum name rel xs i) fit limit =
       count-stands rel xs i fit.arguments.0 fit.arguments.1.0 limit.0.1.0 (omega (arith, limit.1))
-  stands (L11 name rel cs xs i) fit limit =
+  stands (BoolLinear name rel cs xs i) fit limit =
       let args = fit.arguments in
       truths-stand vars n ds entries h rel cs xs i limit.0.0 args.1.0 (omega (arith, limit.1)) args.1.1.0 limit.0.1.1.0
-  stands (L12 name rel is i) fit limit =
+  stands (IntSum name rel is i) fit limit =
       let args = fit.arguments in
       sums-stand vars n ds entries h rel is i args.0 limit.0.0 (omega (arith, limit.1)) args.1.0 limit.0.1.0
-  stands (L13 name rel cs is i) fit limit =
+  stands (IntLinear name rel cs is i) fit limit =
       let args = fit.arguments in
       multiples-stand vars n ds entries h rel cs is i limit.0.0 args.1.0 limit.0.1.0 (omega (arith, limit.1)) args.1.1.0 limit.0.1.1.0
-  stands (L14 name o i j k) fit limit =
+  stands (IntOp name o i j k) fit limit =
       let args = fit.arguments in
       operation-stands o i j k args.0 args.1.0 args.1.1.0 limit.0.0 limit.0.1.0 limit.0.1.1.0 fit.values
-  stands (L15 i j) fit limit =
+  stands (Absolute i j) fit limit =
       let args = fit.arguments in
       let a = small i args.0 limit.0.0 in
       let b = small j args.1.0 limit.0.1.0 in
@@ -371,11 +388,11 @@ module _ (vars n : ℕ) (ds : List Decl) (entries : List MapValue) (h : EntriesF
       lowers-one vars C (absolute_core (integer_of entries i) (integer_of entries j)) (λ σ. int_eq (number_of (env σ) j) (pos (unsigned_abs (number_of (env σ) i))))
       (greatest-below (vars + 1) members (integer_of entries j) each b) (greatest-well_formed (vars + 1) members (integer_of entries j) each b (omega arith))
       (λ σ o. rw (← value i args.0 σ, ← value j args.1.0 σ) (absolute-truth σ (integer_of entries i) (integer_of entries j) (ordered i σ o) (ordered j σ o)))
-  stands (L16 name o is i) fit limit =
+  stands (IntArray name o is i) fit limit =
       aggregate-stands o is i fit.arguments.0 fit.arguments.1.0 limit.0.0 limit.0.1.0 (omega (arith, limit.1)) fit.values
-  stands (L17 name d is z xs) fit limit =
+  stands (IntAllDifferent name d is z xs) fit limit =
       difference-stands vars n ds entries h d is z xs fit.arguments fit.lengths limit.0.0
-  stands (L18 name o xs ys is js z) fit limit =
+  stands (Lexicographic name o xs ys is js z) fit limit =
       words-stand vars n ds entries h o.strict xs ys is js z o.of_booleans o.reified fit.arguments fit.lengths limit.0
 
 pub line_law : LineLaw

@@ -2,7 +2,24 @@
 use Rattle.std.proofs.Common.{ℕ, zero, suc, ◌-◌, ◌≤◌, ℤ, List, [], ◌∷◌, ◌++◌, length, arith}
 use Rattle.order_ints.specs.declared.atom.Atom.{Atom}
 use Rattle.order_ints.specs.declared.order_int.OrdInt.{OrdInt}
-use Rattle.model_meaning.specs.declared.what.What.TheVariants.{L3, L4, L5, L6, L7, L8, L9, L10, L11, L12, L13, L14, L15, L16, L17, L18}
+use Rattle.model_meaning.specs.declared.what.What.TheVariants.{
+  BoolToInt,
+  BoolEq,
+  BoolOp,
+  BoolArray,
+  BoolArrayReified,
+  Compare,
+  CompareReified,
+  BoolSum,
+  BoolLinear,
+  IntSum,
+  IntLinear,
+  IntOp,
+  Absolute,
+  IntArray,
+  IntAllDifferent,
+  Lexicographic,
+}
 use Rattle.model_meaning.specs.declared.statement.Operator.{Operator}
 use Rattle.model_meaning.specs.declared.statement.Operator.TheVariants as operator
 use Rattle.model_meaning.specs.declared.statement.Relation.{Relation}
@@ -75,19 +92,19 @@ linear-more vars relation.Gt ints a = compared-more vars relation.Gt ints a
 linear-more vars relation.Neq ints a = compared-more vars relation.Neq ints a
 
 pub variables_law : VariablesLaw
-variables_law vars entries (L3 x i) = omega arith
-variables_law vars entries (L4 x y) = omega arith
-variables_law vars entries (L5 name op x y z) = operator-more vars op (atom_of entries x ∷ atom_of entries y ∷ []) (atom_of entries z)
-variables_law vars entries (L6 name op xs) = omega arith
-variables_law vars entries (L7 name op xs z) = operator-more vars op (atoms_of entries xs) (atom_of entries z)
-variables_law vars entries (L8 name rel i j) = omega arith
-variables_law vars entries (L9 name rel i j z) = omega arith
-variables_law vars entries (L10 name rel xs i) = count-more vars rel (atoms_of entries xs) (integer_of entries i)
-variables_law vars entries (L11 name rel cs xs i) = linear-more vars rel (scaled_truths entries cs xs) (integer_of entries i)
-variables_law vars entries (L12 name rel is i) = linear-more vars rel (integers_of entries is) (integer_of entries i)
-variables_law vars entries (L13 name rel cs is i) = linear-more vars rel (scaled_integers entries cs is) (integer_of entries i)
-variables_law vars entries (L14 name o i j k) = operation-more vars o (integer_of entries i) (integer_of entries j) (integer_of entries k)
-variables_law vars entries (L15 i j) = omega arith
-variables_law vars entries (L16 name o is i) = aggregate-more vars o (integers_of entries is) (integer_of entries i)
-variables_law vars entries (L17 name d is z xs) = difference-more vars d (integers_of entries is) (atom_or_true entries z) (atoms_of entries (terms_or_none xs))
-variables_law vars entries (L18 name o xs ys is js z) = omega arith
+variables_law vars entries (BoolToInt x i) = omega arith
+variables_law vars entries (BoolEq x y) = omega arith
+variables_law vars entries (BoolOp name op x y z) = operator-more vars op (atom_of entries x ∷ atom_of entries y ∷ []) (atom_of entries z)
+variables_law vars entries (BoolArray name op xs) = omega arith
+variables_law vars entries (BoolArrayReified name op xs z) = operator-more vars op (atoms_of entries xs) (atom_of entries z)
+variables_law vars entries (Compare name rel i j) = omega arith
+variables_law vars entries (CompareReified name rel i j z) = omega arith
+variables_law vars entries (BoolSum name rel xs i) = count-more vars rel (atoms_of entries xs) (integer_of entries i)
+variables_law vars entries (BoolLinear name rel cs xs i) = linear-more vars rel (scaled_truths entries cs xs) (integer_of entries i)
+variables_law vars entries (IntSum name rel is i) = linear-more vars rel (integers_of entries is) (integer_of entries i)
+variables_law vars entries (IntLinear name rel cs is i) = linear-more vars rel (scaled_integers entries cs is) (integer_of entries i)
+variables_law vars entries (IntOp name o i j k) = operation-more vars o (integer_of entries i) (integer_of entries j) (integer_of entries k)
+variables_law vars entries (Absolute i j) = omega arith
+variables_law vars entries (IntArray name o is i) = aggregate-more vars o (integers_of entries is) (integer_of entries i)
+variables_law vars entries (IntAllDifferent name d is z xs) = difference-more vars d (integers_of entries is) (atom_or_true entries z) (atoms_of entries (terms_or_none xs))
+variables_law vars entries (Lexicographic name o xs ys is js z) = omega arith

@@ -15,7 +15,7 @@ use Rattle.core_forms.specs.WellFormed.{IsSound, AreSound, greatest_abs, abs_tot
 use Rattle.core_forms.proofs.IntLists.{AreSound-append, abs_total-append}
 use Rattle.core_forms.proofs.SumValues.{fresh-abs}
 use Rattle.model_meaning.specs.declared.statement.Relation.{Relation}
-use Rattle.statement_lower.specs.declared.made.Made.{Made}
+use Rattle.statement_lower.specs.declared.made.MadeCores.{MadeCores}
 use Rattle.statement_lower.specs.Comparison.{comparison_core}
 use Rattle.statement_lower.specs.Queue.{fresh_sum, vars_behind_sum, first_or_zero, with_first, queue_made}
 use Rattle.statement_lower.specs.Linear.{compared_made}
@@ -80,7 +80,7 @@ module _ (start : ℕ) (rel : Relation) (members : List OrdInt) (vars : ℕ) whe
       let same = λ (n : ℤ). compared-of-more vars rel n a b rest more in
       let small : greatest_abs a + greatest_abs b < 2 ^ 100 = omega (arith, q.limit, limit) in
       let later = queue-more (length (rest ++ z ∷ []) - 2) m rel k (rest ++ z ∷ []) in
-      let whole : (compared_made m rel k (rest ++ z ∷ [])).vars ≡ (compared_made start rel k members).vars = sym (ap (λ (made : Made). made.vars) (same k)) ∙ q.vars_left k in
+      let whole : (compared_made m rel k (rest ++ z ∷ [])).vars ≡ (compared_made start rel k members).vars = sym (ap (λ (made : MadeCores). made.vars) (same k)) ∙ q.vars_left k in
       record {
         first = q.sound.0;
         second = q.sound.1.0;
@@ -89,10 +89,10 @@ module _ (start : ℕ) (rel : Relation) (members : List OrdInt) (vars : ℕ) whe
         next = record {
           sound = AreSound-append rest (z ∷ []) q.sound.1.1 (sound-sum vars a b small, tt);
           limit = omega (arith, abs_total-append rest (z ∷ []), fresh-abs a b (vars + 1), q.limit);
-          vars_left = λ n. sym (ap (λ (made : Made). made.vars) (same n)) ∙ q.vars_left n;
+          vars_left = λ n. sym (ap (λ (made : MadeCores). made.vars) (same n)) ∙ q.vars_left n;
           cores_left = λ n.
               append_assoc cores (core.Sum3 a b z ∷ []) (compared_made m rel n (rest ++ z ∷ [])).cores
-              ∙ (ap (λ (made : Made). cores ++ made.cores) (sym (same n)) ∙ q.cores_left n);
+              ∙ (ap (λ (made : MadeCores). cores ++ made.cores) (sym (same n)) ∙ q.cores_left n);
         };
       }
 
@@ -111,7 +111,7 @@ pub record IsEnd (start : ℕ) (rel : Relation) (members : List OrdInt) (vars : 
   pub shifted : IsBounded (shifted_of a k)
   pub made : made_here vars (cores ++ comparison_core rel True (shifted_of a k) (negated_of b) ∷ []) ≡ compared_made start rel k members
 
-made-alike : (made : Made) (vs : ℕ) (cs : List Core) → vs ≡ made.vars → cs ≡ made.cores → made_here vs cs ≡ made
+made-alike : (made : MadeCores) (vs : ℕ) (cs : List Core) → vs ≡ made.vars → cs ≡ made.cores → made_here vs cs ≡ made
 made-alike made vs cs e f = rw (e, f) refl
 
 first-bounded : (queue : List OrdInt) → AreSound queue → IsBounded (first_or_zero queue)
@@ -132,9 +132,9 @@ module _ (start : ℕ) (rel : Relation) (members : List OrdInt) (vars : ℕ) whe
   end-at queue cores k q two limit =
       let same = compared-of-two vars rel k queue two in
       let few : greatest_abs (first_or_zero queue) + unsigned_abs k < 2 ^ 100 = omega (arith, first-limit queue, q.limit, limit) in
-      let vs : vars ≡ (compared_made start rel k members).vars = sym (ap (λ (made : Made). made.vars) same) ∙ q.vars_left k in
+      let vs : vars ≡ (compared_made start rel k members).vars = sym (ap (λ (made : MadeCores). made.vars) same) ∙ q.vars_left k in
       let cs : cores ++ comparison_core rel True (shifted_of (first_or_zero queue) k) (negated_of (first_or_zero (drop 1 queue))) ∷ [] ≡ (compared_made start rel k members).cores =
-      ap (λ (made : Made). cores ++ made.cores) (sym same) ∙ q.cores_left k in
+      ap (λ (made : MadeCores). cores ++ made.cores) (sym same) ∙ q.cores_left k in
       record {
         first = first-bounded queue q.sound;
         second = first-bounded (drop 1 queue) (rest-sound queue q.sound);

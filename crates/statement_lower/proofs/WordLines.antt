@@ -123,7 +123,7 @@ module _ (vars n : ℕ) (ds : List Decl) (entries : List MapValue) (h : EntriesF
     values = λ σ. values-bits σ (atoms_of entries xs) ∙ ap (map as_number) (atoms_of-truths σ (vars + 1) n ds entries xs h f);
   }
 
-  -- line 17
+  -- members that differ
   pub difference-stands : (d : AllDifferent) (is : List IntTerm) (z : Option BoolTerm) (xs : Option (List BoolTerm))
       → ArgumentsFit ds n (all_different_signature d) (given (Some (Numbers is) ∷ option_map Truth z ∷ option_map Truths xs ∷ []))
       → LengthsFit (given (Some (Numbers is) ∷ option_map Truth z ∷ option_map Truths xs ∷ [])) → TermsInLimit is
@@ -161,7 +161,7 @@ module _ (vars n : ℕ) (ds : List Decl) (entries : List MapValue) (h : EntriesF
   difference-stands all_different.Reified is None (Some xs) f k l = absurd f.1.0
   difference-stands all_different.Reified is None None f k l = absurd f.1
 
-  -- line 18: words, and an atom that is the truth of their order
+  -- words, and an atom that is the truth of their order
   order-stands : (strict : Bool) (r : Atom) (t : Valuation → Bool) (front back : List OrdInt) (v w : Valuation → List ℤ)
       → Word front v → Word back w → length front ≡ length back → AtomBelow (vars + 1) r → ((σ : Valuation) → atom_truth σ r ≡ t σ)
       → ((σ : Valuation) → length (v σ) ≡ length (w σ)) → (q : Valuation → Bool) → ((σ : Valuation) → beq (t σ) (typed.in_order strict (v σ) (w σ)) ≡ q σ)

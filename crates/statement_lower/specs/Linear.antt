@@ -8,7 +8,7 @@ use Rattle.core_forms.specs.declared.form.Core.TheVariants as core
 use Rattle.core_forms.specs.WellFormed.{IsSound, greatest_abs}
 use Rattle.model_meaning.specs.declared.statement.Relation.{Relation}
 use Rattle.model_meaning.specs.declared.statement.Relation.TheVariants as relation
-use Rattle.statement_lower.specs.declared.made.Made.{Made}
+use Rattle.statement_lower.specs.declared.made.MadeCores.{MadeCores}
 use Rattle.statement_lower.specs.Queue.{queue_made}
 
 -- each integer multiplied by its coefficient
@@ -44,15 +44,15 @@ abbrev pub equal_sum : List OrdInt → OrdInt → Core
 equal_sum ints a = zero_sum (linear_members ints a)
 
 -- members with steps and a number, added up, stand in a relation to 0: fresh sums until two members are left
-abbrev pub compared_made : ℕ → Relation → ℤ → List OrdInt → Made
+abbrev pub compared_made : ℕ → Relation → ℤ → List OrdInt → MadeCores
 compared_made vars rel k members = queue_made (length members - 2) vars rel k members
 
 -- members, added up, stand in a relation to 0 other than equality
-abbrev pub compared_sum : ℕ → Relation → List OrdInt → Made
+abbrev pub compared_sum : ℕ → Relation → List OrdInt → MadeCores
 compared_sum vars rel members = compared_made vars rel (constant_of_members members) (with_steps members)
 
 -- a sum stands in a relation to the right side; for equality it is one core
-abbrev pub linear_made : ℕ → Relation → List OrdInt → OrdInt → Made
+abbrev pub linear_made : ℕ → Relation → List OrdInt → OrdInt → MadeCores
 linear_made vars relation.Leq ints a = compared_sum vars relation.Leq (linear_members ints a)
 linear_made vars relation.Geq ints a = compared_sum vars relation.Geq (linear_members ints a)
 linear_made vars relation.Eq ints a = record { vars = vars; cores = equal_sum ints a ∷ [] }

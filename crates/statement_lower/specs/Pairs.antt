@@ -6,7 +6,7 @@ use Rattle.order_ints.specs.declared.order_int.OrdInt.{OrdInt}
 use Rattle.order_ints.specs.Truth.{not_atom}
 use Rattle.core_forms.specs.declared.form.Core.{Core}
 use Rattle.core_forms.specs.declared.form.Core.TheVariants as core
-use Rattle.statement_lower.specs.declared.made.Made.{Made}
+use Rattle.statement_lower.specs.declared.made.MadeCores.{MadeCores}
 use Rattle.statement_lower.specs.Fresh.{fresh_atom}
 
 -- one member beside each later one: the variables behind the fresh atoms, the atoms, and the cores
@@ -36,7 +36,7 @@ pairs_equal vars [] = []
 pairs_equal vars (a ∷ ints) = each_equal vars a ints ++ pairs_equal (each_vars vars ints) ints
 
 -- z is the truth of all members being different
-abbrev pub difference_made : ℕ → List OrdInt → Atom → Made
+abbrev pub difference_made : ℕ → List OrdInt → Atom → MadeCores
 difference_made vars ints z = record {
   vars = pairs_vars vars ints;
   cores = pairs_equal vars ints ++ core.Conj z (map not_atom (pairs_atoms vars ints)) ∷ [];

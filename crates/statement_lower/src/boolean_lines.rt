@@ -5,7 +5,7 @@ ghost use Rattle.statement_lower.specs.Terms.{atom_of, atoms_of};
 ghost use Rattle.statement_lower.specs.Fresh.{fresh_atom, second_fresh_atom};
 ghost use Rattle.statement_lower.specs.Lines.{equal_core, equal_cores, array_cores, all_equal_cores, made_here, operator_made};
 
-use crate::made::Made;
+use crate::made::MadeCores;
 use crate::terms::{atom_of, atoms_of, negated_atoms};
 use bee_list::Sequence;
 use core_forms::Core;
@@ -41,11 +41,11 @@ pub fn equal_made(
     vars: u32,
     left: BoolTerm,
     right: BoolTerm,
-) -> Result<Made, AllocError>
+) -> Result<MadeCores, AllocError>
     ensures { IfOk result (λ m. m ≡ made_here vars (equal_core (atom_of entries.now left) (atom_of entries.now right) ∷ [])) }
 {
     let core = equal_core(alloc, atom_of(entries, left), atom_of(entries, right))?;
-    Made::of_core(alloc, vars, core)
+    MadeCores::of_core(alloc, vars, core)
 }
 
 /// An operator of a list is true.
@@ -55,17 +55,17 @@ pub fn array_made(
     vars: u32,
     operator: Operator,
     members: &[BoolTerm],
-) -> Result<Made, AllocError>
+) -> Result<MadeCores, AllocError>
     ensures { IfOk result (λ m. m ≡ made_here vars (array_cores operator (atoms_of entries.now members.now))) }
 {
     let atoms = atoms_of(alloc, entries, members)?;
     match operator {
-        Operator::Or => Made::of_core(alloc, vars, Core::Clause(atoms)),
-        Operator::And => Made::of_core(alloc, vars, Core::Conj(Atom::True, atoms)),
-        Operator::Xor => Made::of_core(alloc, vars, Core::Parity(atoms, true)),
+        Operator::Or => MadeCores::of_core(alloc, vars, Core::Clause(atoms)),
+        Operator::And => MadeCores::of_core(alloc, vars, Core::Conj(Atom::True, atoms)),
+        Operator::Xor => MadeCores::of_core(alloc, vars, Core::Parity(atoms, true)),
         Operator::Iff => {
             let cores = equal_cores(alloc, atoms.as_slice())?;
-            Ok(Made { vars, cores })
+            Ok(MadeCores { vars, cores })
         }
     }
 }
@@ -104,25 +104,25 @@ fn operator_made(
     operator: Operator,
     atoms: Sequence<Atom>,
     truth: Atom,
-) -> Result<Made, AllocError>
+) -> Result<MadeCores, AllocError>
     requires room { (operator_made vars operator atoms truth).vars < 2 ^ 27 }
     ensures { IfOk result (λ m. m ≡ operator_made vars operator atoms truth) }
 {
     match operator {
         Operator::Or => {
             let negated = negated_atoms(alloc, atoms.as_slice())?;
-            Made::of_core(alloc, vars, Core::Conj(truth.not(), negated))
+            MadeCores::of_core(alloc, vars, Core::Conj(truth.not(), negated))
         }
-        Operator::And => Made::of_core(alloc, vars, Core::Conj(truth, atoms)),
+        Operator::And => MadeCores::of_core(alloc, vars, Core::Conj(truth, atoms)),
         Operator::Xor => {
             let all = with_last(atoms, truth)?;
-            Made::of_core(alloc, vars, Core::Parity(all, false))
+            MadeCores::of_core(alloc, vars, Core::Parity(all, false))
         }
         Operator::Iff => {
             let all = Atom::Of(Lit::of(vars + 1, true));
             let none = Atom::Of(Lit::of(vars + 2, true));
             let cores = all_equal_cores(alloc, all, none, atoms, truth)?;
-            Ok(Made {
+            Ok(MadeCores {
                 vars: vars + 2,
                 cores,
             })
@@ -139,7 +139,7 @@ pub fn pair_made(
     left: BoolTerm,
     right: BoolTerm,
     truth: BoolTerm,
-) -> Result<Made, AllocError>
+) -> Result<MadeCores, AllocError>
     requires room { (operator_made vars operator (atom_of entries.now left ∷ atom_of entries.now right ∷ []) (atom_of entries.now truth)).vars < 2 ^ 27 }
     ensures { IfOk result (λ m. m ≡ operator_made vars operator (atom_of entries.now left ∷ atom_of entries.now right ∷ []) (atom_of entries.now truth)) }
 {
@@ -156,7 +156,7 @@ pub fn truth_made(
     operator: Operator,
     members: &[BoolTerm],
     truth: BoolTerm,
-) -> Result<Made, AllocError>
+) -> Result<MadeCores, AllocError>
     requires room { (operator_made vars operator (atoms_of entries.now members.now) (atom_of entries.now truth)).vars < 2 ^ 27 }
     ensures { IfOk result (λ m. m ≡ operator_made vars operator (atoms_of entries.now members.now) (atom_of entries.now truth)) }
 {

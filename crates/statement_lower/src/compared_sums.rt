@@ -12,7 +12,7 @@ ghost use Rattle.statement_lower.specs.Queue.{fresh_sum, vars_behind_sum, first_
 ghost use Rattle.statement_lower.specs.Linear.{compared_made};
 
 use crate::integer_lines::comparison_core;
-use crate::made::Made;
+use crate::made::MadeCores;
 use crate::summands::Summands;
 use bee_list::Sequence;
 use core_forms::{Core, sums};
@@ -102,7 +102,7 @@ pub fn compared_made(
     vars: u32,
     relation: Relation,
     members: Summands,
-) -> Result<Made, AllocError>
+) -> Result<MadeCores, AllocError>
     requires sound { AreSound members.ints.items }
     requires limit { abs_total members.ints.items + unsigned_abs members.constant < 2 ^ 100 }
     requires room { (compared_made vars relation members.constant members.ints.items).vars < 2 ^ 27 }
@@ -123,7 +123,7 @@ pub fn compared_made(
     let second = take_first(alloc, &mut queue.members)?;
     let core = last_core(alloc, relation, &first, &second, constant)?;
     queue.cores.push(core)?;
-    Ok(Made {
+    Ok(MadeCores {
         vars: queue.vars,
         cores: Sequence::from_vec(queue.cores),
     })

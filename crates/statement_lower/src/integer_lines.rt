@@ -11,7 +11,7 @@ ghost use Rattle.statement_lower.specs.Lines.{made_here, bit_core, compared_coun
 
 use crate::fresh::{fresh_range, most_quotient, most_remainder};
 use crate::linear_lines::sum_made;
-use crate::made::Made;
+use crate::made::MadeCores;
 use crate::terms::{
     atom_of, atoms_of, bounded_integer_of, integer_of, integers_of, negated_integer_of,
     negated_integers_of,
@@ -29,12 +29,12 @@ pub fn bit_made(
     vars: u32,
     truth: BoolTerm,
     number: IntTerm,
-) -> Result<Made, AllocError>
+) -> Result<MadeCores, AllocError>
     ensures { IfOk result (λ m. m ≡ made_here vars (bit_core (atom_of entries.now truth) (integer_of entries.now number) ∷ [])) }
 {
     let integer = integer_of(alloc, entries, number)?;
     let bit = OrdInt::of_atom(alloc, atom_of(entries, truth))?;
-    Made::of_core(alloc, vars, Core::eq_r(alloc, Atom::True, integer, bit)?)
+    MadeCores::of_core(alloc, vars, Core::eq_r(alloc, Atom::True, integer, bit)?)
 }
 
 /// The core that says that an atom is the truth of a comparison.
@@ -66,13 +66,13 @@ pub fn comparison_made(
     truth: Atom,
     left: IntTerm,
     right: IntTerm,
-) -> Result<Made, AllocError>
+) -> Result<MadeCores, AllocError>
     ensures { IfOk result (λ m. m ≡ made_here vars (comparison_core relation truth (integer_of entries.now left) (integer_of entries.now right) ∷ [])) }
 {
     let left = integer_of(alloc, entries, left)?;
     let right = integer_of(alloc, entries, right)?;
     let core = comparison_core(alloc, relation, truth, left, right)?;
-    Made::of_core(alloc, vars, core)
+    MadeCores::of_core(alloc, vars, core)
 }
 
 /// A Boolean is the truth of a comparison.
@@ -84,7 +84,7 @@ pub fn reified_made(
     left: IntTerm,
     right: IntTerm,
     truth: BoolTerm,
-) -> Result<Made, AllocError>
+) -> Result<MadeCores, AllocError>
     ensures { IfOk result (λ m. m ≡ made_here vars (comparison_core relation (atom_of entries.now truth) (integer_of entries.now left) (integer_of entries.now right) ∷ [])) }
 {
     let truth = atom_of(entries, truth);
@@ -98,7 +98,7 @@ fn compared_count(
     relation: Relation,
     atoms: Sequence<Atom>,
     bound: OrdInt,
-) -> Result<Made, AllocError>
+) -> Result<MadeCores, AllocError>
     requires { (compared_count vars relation atoms bound).vars < 2 ^ 27 }
     ensures { IfOk result (λ m. m ≡ compared_count vars relation atoms bound) }
 {
@@ -107,7 +107,7 @@ fn compared_count(
     let compared = fresh_range(alloc, vars, most)?;
     let first = Core::count(alloc, atoms, counted)?;
     let second = comparison_core(alloc, relation, Atom::True, compared, bound)?;
-    Ok(Made {
+    Ok(MadeCores {
         vars: vars + most,
         cores: Sequence::from_vec(vec![in alloc; first, second]?),
     })
@@ -121,14 +121,14 @@ pub fn count_made(
     relation: Relation,
     members: &[BoolTerm],
     bound: IntTerm,
-) -> Result<Made, AllocError>
+) -> Result<MadeCores, AllocError>
     requires { (count_made vars relation (atoms_of entries.now members.now) (integer_of entries.now bound)).vars < 2 ^ 27 }
     ensures { IfOk result (λ m. m ≡ count_made vars relation (atoms_of entries.now members.now) (integer_of entries.now bound)) }
 {
     let atoms = atoms_of(alloc, entries, members)?;
     let bound = integer_of(alloc, entries, bound)?;
     match relation {
-        Relation::Eq => Made::of_core(alloc, vars, Core::count(alloc, atoms, bound)?),
+        Relation::Eq => MadeCores::of_core(alloc, vars, Core::count(alloc, atoms, bound)?),
         _ => compared_count(alloc, vars, relation, atoms, bound),
     }
 }
@@ -184,7 +184,7 @@ fn quotient_made(
     left: IntTerm,
     right: IntTerm,
     value: IntTerm,
-) -> Result<Made, AllocError>
+) -> Result<MadeCores, AllocError>
     requires entries { AreInLimit entries.now }
     requires room { vars + most_remainder (integer_of entries.now left) (integer_of entries.now right) < 2 ^ 27 }
     ensures { IfOk result (λ m. m ≡ operation_made vars Div (integer_of entries.now left) (integer_of entries.now right) (integer_of entries.now value)) }
@@ -195,7 +195,7 @@ fn quotient_made(
     let most = most_remainder(&a, &b) as u32;
     let remainder = fresh_range(alloc, vars, most)?;
     let core = Core::div_mod(alloc, a, b, quotient, remainder)?;
-    Made::of_core(alloc, vars + most, core)
+    MadeCores::of_core(alloc, vars + most, core)
 }
 
 /// The third integer is the remainder of the first two, beside a fresh quotient.
@@ -206,7 +206,7 @@ fn remainder_made(
     left: IntTerm,
     right: IntTerm,
     value: IntTerm,
-) -> Result<Made, AllocError>
+) -> Result<MadeCores, AllocError>
     requires entries { AreInLimit entries.now }
     requires room { vars + most_quotient (integer_of entries.now left) (integer_of entries.now right) < 2 ^ 27 }
     ensures { IfOk result (λ m. m ≡ operation_made vars Mod (integer_of entries.now left) (integer_of entries.now right) (integer_of entries.now value)) }
@@ -217,7 +217,7 @@ fn remainder_made(
     let most = most_quotient(&a, &b) as u32;
     let quotient = fresh_range(alloc, vars, most)?;
     let core = Core::div_mod(alloc, a, b, quotient, remainder)?;
-    Made::of_core(alloc, vars + most, core)
+    MadeCores::of_core(alloc, vars + most, core)
 }
 
 /// An operation on two integers gives the third.
@@ -229,7 +229,7 @@ pub fn operation_made(
     left: IntTerm,
     right: IntTerm,
     value: IntTerm,
-) -> Result<Made, AllocError>
+) -> Result<MadeCores, AllocError>
     requires entries { AreInLimit entries.now }
     requires room { (operation_made vars operation (integer_of entries.now left) (integer_of entries.now right) (integer_of entries.now value)).vars < 2 ^ 27 }
     ensures { IfOk result (λ m. m ≡ operation_made vars operation (integer_of entries.now left) (integer_of entries.now right) (integer_of entries.now value)) }
@@ -251,7 +251,7 @@ pub fn operation_made(
         Arithmetic::Div => return quotient_made(alloc, entries, vars, left, right, value),
         Arithmetic::Mod => return remainder_made(alloc, entries, vars, left, right, value),
     };
-    Made::of_core(alloc, vars, core)
+    MadeCores::of_core(alloc, vars, core)
 }
 
 /// The second integer is the absolute value of the first.
@@ -261,7 +261,7 @@ pub fn absolute_made(
     vars: u32,
     operand: IntTerm,
     value: IntTerm,
-) -> Result<Made, AllocError>
+) -> Result<MadeCores, AllocError>
     requires { AreInLimit entries.now }
     ensures { IfOk result (λ m. m ≡ made_here vars (absolute_core (integer_of entries.now operand) (integer_of entries.now value) ∷ [])) }
 {
@@ -269,7 +269,7 @@ pub fn absolute_made(
     let b = negated_integer_of(alloc, entries, operand)?;
     let c = integer_of(alloc, entries, value)?;
     let core = greater_core(alloc, a, b, c)?;
-    Made::of_core(alloc, vars, core)
+    MadeCores::of_core(alloc, vars, core)
 }
 
 /// The core that says that an integer is the least member.
@@ -295,7 +295,7 @@ pub fn aggregate_made(
     operation: Aggregate,
     members: &[IntTerm],
     value: IntTerm,
-) -> Result<Made, AllocError>
+) -> Result<MadeCores, AllocError>
     requires entries { AreInLimit entries.now }
     requires members { TermsInLimit members.now }
     requires few { length members.now ≤ 16777216 }
@@ -308,11 +308,11 @@ pub fn aggregate_made(
         Aggregate::Max => {
             let ints = integers_of(alloc, entries, members)?;
             let c = integer_of(alloc, entries, value)?;
-            Made::of_core(alloc, vars, Core::max(alloc, ints, c)?)
+            MadeCores::of_core(alloc, vars, Core::max(alloc, ints, c)?)
         }
         Aggregate::Min => {
             let core = least_core(alloc, entries, members, value)?;
-            Made::of_core(alloc, vars, core)
+            MadeCores::of_core(alloc, vars, core)
         }
     }
 }

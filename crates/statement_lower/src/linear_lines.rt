@@ -9,7 +9,7 @@ ghost use Rattle.statement_lower.specs.Linear.{linear_made, AreSummands};
 ghost use Rattle.statement_lower.specs.Lines.{scaled_truths, scaled_integers};
 
 use crate::compared_sums::compared_made;
-use crate::made::Made;
+use crate::made::MadeCores;
 use crate::summands::{Summands, linear_members, scaled_integers, scaled_truths};
 use crate::terms::integers_of;
 use bee_list::Sequence;
@@ -43,7 +43,7 @@ fn linear_made(
     relation: Relation,
     ints: Vec<OrdInt>,
     right: IntTerm,
-) -> Result<Made, AllocError>
+) -> Result<MadeCores, AllocError>
     requires entries { AreInLimit entries.now }
     requires ints { AreSummands ints.items }
     requires few { length ints.items ≤ 16777216 }
@@ -53,7 +53,7 @@ fn linear_made(
 {
     let members = linear_members(alloc, entries, ints, right)?;
     match relation {
-        Relation::Eq => Made::of_core(alloc, vars, zero_sum(alloc, members)?),
+        Relation::Eq => MadeCores::of_core(alloc, vars, zero_sum(alloc, members)?),
         _ => compared_made(alloc, vars, relation, members),
     }
 }
@@ -67,7 +67,7 @@ pub fn truths_made(
     coefficients: &[i64],
     members: &[BoolTerm],
     bound: IntTerm,
-) -> Result<Made, AllocError>
+) -> Result<MadeCores, AllocError>
     requires entries { AreInLimit entries.now }
     requires coefficients { AllInLimit coefficients.now }
     requires few { length members.now ≤ 16777216 }
@@ -87,7 +87,7 @@ pub fn sum_made(
     relation: Relation,
     members: &[IntTerm],
     bound: IntTerm,
-) -> Result<Made, AllocError>
+) -> Result<MadeCores, AllocError>
     requires entries { AreInLimit entries.now }
     requires members { TermsInLimit members.now }
     requires few { length members.now ≤ 16777216 }
@@ -108,7 +108,7 @@ pub fn multiples_made(
     coefficients: &[i64],
     members: &[IntTerm],
     bound: IntTerm,
-) -> Result<Made, AllocError>
+) -> Result<MadeCores, AllocError>
     requires entries { AreInLimit entries.now }
     requires coefficients { AllInLimit coefficients.now }
     requires members { TermsInLimit members.now }

@@ -6,7 +6,7 @@ ghost use Rattle.order_ints.specs.OrderMade.{integer_of_atom};
 ghost use Rattle.statement_lower.specs.Terms.{atoms_of, integers_of, atom_or_true, word_of};
 ghost use Rattle.statement_lower.specs.Lines.{made_here, different_made, order_core};
 
-use crate::made::Made;
+use crate::made::MadeCores;
 use crate::pair_lines::difference_made;
 use crate::terms::{atom_of, atoms_of, integers_of};
 use bee_list::{Apart, Sequence};
@@ -35,7 +35,7 @@ pub fn different_made(
     members: &[IntTerm],
     truth: Atom,
     conditions: &[BoolTerm],
-) -> Result<Made, AllocError>
+) -> Result<MadeCores, AllocError>
     requires room { (different_made vars kind (integers_of entries.now members.now) truth (atoms_of entries.now conditions.now)).vars < 2 ^ 27 }
     ensures { IfOk result (λ m. m ≡ different_made vars kind (integers_of entries.now members.now) truth (atoms_of entries.now conditions.now)) }
 {
@@ -43,12 +43,12 @@ pub fn different_made(
     match kind {
         AllDifferent::Plain => {
             let conditions = true_conditions(alloc, ints.as_slice())?;
-            Made::of_core(alloc, vars, Core::all_diff(alloc, ints, conditions)?)
+            MadeCores::of_core(alloc, vars, Core::all_diff(alloc, ints, conditions)?)
         }
         AllDifferent::Reified => difference_made(alloc, vars, ints.as_slice(), truth),
         AllDifferent::Conditional => {
             let conditions = atoms_of(alloc, entries, conditions)?;
-            Made::of_core(alloc, vars, Core::all_diff(alloc, ints, conditions)?)
+            MadeCores::of_core(alloc, vars, Core::all_diff(alloc, ints, conditions)?)
         }
     }
 }
@@ -103,7 +103,7 @@ pub fn order_made(
     order: Order,
     lists: &OrderLists<'_>,
     truth: &Option<Apart<BoolTerm>>,
-) -> Result<Made, AllocError>
+) -> Result<MadeCores, AllocError>
     ensures { IfOk result (λ m. m ≡ made_here vars (order_core entries.now order lists.now.left_truths.now lists.now.right_truths.now lists.now.left_numbers.now lists.now.right_numbers.now truth.now ∷ [])) }
 {
     let booleans = order.of_booleans;
@@ -127,5 +127,5 @@ pub fn order_made(
         Atom::True
     };
     let core = Core::lex(alloc, atom, order.strict, front, back)?;
-    Made::of_core(alloc, vars, core)
+    MadeCores::of_core(alloc, vars, core)
 }

@@ -6,7 +6,7 @@ ghost use Rattle.core_forms.specs.declared.form.Core.TheVariants.{EqR};
 ghost use Rattle.statement_lower.specs.Fresh.{fresh_atom};
 ghost use Rattle.statement_lower.specs.Pairs.{each_vars, each_atoms, each_equal, pairs_vars, pairs_atoms, pairs_equal, difference_made};
 
-use crate::made::Made;
+use crate::made::MadeCores;
 use bee_list::Sequence;
 use core_forms::Core;
 use order_ints::{Atom, Lit, OrdInt};
@@ -90,7 +90,7 @@ pub fn difference_made(
     vars: u32,
     ints: &[OrdInt],
     truth: Atom,
-) -> Result<Made, AllocError>
+) -> Result<MadeCores, AllocError>
     requires room { pairs_vars vars ints.now < 2 ^ 27 }
     ensures { IfOk result (λ m. m ≡ difference_made vars ints.now truth) }
 {
@@ -102,7 +102,7 @@ pub fn difference_made(
         mut cores,
     } = pairs;
     cores.push(Core::Conj(truth, Sequence::from_vec(apart)))?;
-    Ok(Made {
+    Ok(MadeCores {
         vars,
         cores: Sequence::from_vec(cores),
     })

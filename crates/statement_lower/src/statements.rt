@@ -12,7 +12,7 @@ use crate::integer_lines::{
 };
 use crate::linear_lines::{multiples_made, sum_made, truths_made};
 use crate::list_lines::{atom_or_true, different_made, order_made};
-use crate::made::Made;
+use crate::made::MadeCores;
 use model_meaning::{OrderLists, What, terms_or_none};
 use order_ints::{Atom, MapValue};
 use std::alloc::{AllocError, Global};
@@ -23,53 +23,53 @@ pub fn made_of(
     entries: &[MapValue],
     vars: u32,
     what: &What,
-) -> Result<Made, AllocError>
+) -> Result<MadeCores, AllocError>
     requires entries { AreInLimit entries.now }
     requires what { WhatInLimit what.now }
     requires room { (made_of vars entries.now what.now).vars < 2 ^ 27 }
     ensures { IfOk result (λ m. m ≡ made_of vars entries.now what.now) }
 {
     match what {
-        What::L3 { truth, number } => bit_made(alloc, entries, vars, *truth, *number),
-        What::L4 { left, right } => equal_made(alloc, entries, vars, *left, *right),
-        What::L5 {
+        What::BoolToInt { truth, number } => bit_made(alloc, entries, vars, *truth, *number),
+        What::BoolEq { left, right } => equal_made(alloc, entries, vars, *left, *right),
+        What::BoolOp {
             operator,
             left,
             right,
             truth,
             ..
         } => pair_made(alloc, entries, vars, *operator, *left, *right, *truth),
-        What::L6 {
+        What::BoolArray {
             operator,
             members,
             ..
         } => array_made(alloc, entries, vars, *operator, members.as_slice()),
-        What::L7 {
+        What::BoolArrayReified {
             operator,
             members,
             truth,
             ..
         } => truth_made(alloc, entries, vars, *operator, members.as_slice(), *truth),
-        What::L8 {
+        What::Compare {
             relation,
             left,
             right,
             ..
         } => comparison_made(alloc, entries, vars, *relation, Atom::True, *left, *right),
-        What::L9 {
+        What::CompareReified {
             relation,
             left,
             right,
             truth,
             ..
         } => reified_made(alloc, entries, vars, *relation, *left, *right, *truth),
-        What::L10 {
+        What::BoolSum {
             relation,
             members,
             bound,
             ..
         } => count_made(alloc, entries, vars, *relation, members.as_slice(), *bound),
-        What::L11 {
+        What::BoolLinear {
             relation,
             coefficients,
             members,
@@ -88,13 +88,13 @@ pub fn made_of(
                 *bound,
             )
         }
-        What::L12 {
+        What::IntSum {
             relation,
             members,
             bound,
             ..
         } => sum_made(alloc, entries, vars, *relation, members.as_slice(), *bound),
-        What::L13 {
+        What::IntLinear {
             relation,
             coefficients,
             members,
@@ -113,21 +113,21 @@ pub fn made_of(
                 *bound,
             )
         }
-        What::L14 {
+        What::IntOp {
             operation,
             left,
             right,
             value,
             ..
         } => operation_made(alloc, entries, vars, *operation, *left, *right, *value),
-        What::L15 { operand, value } => absolute_made(alloc, entries, vars, *operand, *value),
-        What::L16 {
+        What::Absolute { operand, value } => absolute_made(alloc, entries, vars, *operand, *value),
+        What::IntArray {
             operation,
             members,
             value,
             ..
         } => aggregate_made(alloc, entries, vars, *operation, members.as_slice(), *value),
-        What::L17 {
+        What::IntAllDifferent {
             kind,
             members,
             truth,
@@ -146,7 +146,7 @@ pub fn made_of(
                 terms_or_none(conditions),
             )
         }
-        What::L18 {
+        What::Lexicographic {
             order,
             left_truths,
             right_truths,

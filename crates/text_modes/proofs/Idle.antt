@@ -53,7 +53,7 @@ module _ {F : Type 0} (limit : Option ℕ) (HasFault : List ℕ → F → Type 0
         between = seen.shelf_after;
         says = tt;
         silent = λ _. ap (λ s. s.taken) same.out;
-        read_faults = inl (ap (λ s. s.faults input) same.shelf, refl);
+        read_faults = inl (λ name. ap (λ s. s.faults name) same.shelf, λ name. refl);
         write_faults = ap (λ s. s.faults) same.out;
         first_taken = subst P same.shelf (untouched input limit seen.shelf_after);
         second_taken = untouched second None seen.shelf_after;

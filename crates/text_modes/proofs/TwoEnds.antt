@@ -6,7 +6,7 @@ use Rattle.bee_outside.proofs.FaultLaws.{Rose-next, Rose-from_before}
 use Rattle.text_modes.specs.Seen.{ShelfShown, Seen}
 use Rattle.text_modes.proofs.Idle.{untouched}
 use Rattle.text_modes.specs.Promises.{ReadWhole, ReadFaulty, WroteText, WroteSome, TookUnder, Writes}
-use Rattle.text_modes.specs.TwoTexts.{Texts, FirstRead, HoldsSome, GivesBehind, TwoTextRun}
+use Rattle.text_modes.specs.TwoTexts.{Texts, CountsStay, FirstRead, HoldsSome, GivesBehind, TwoTextRun}
 use Rattle.text_modes.specs.declared.ends.Outcome.{Outcome}
 use Rattle.text_modes.specs.declared.ends.End.{End}
 use Rattle.text_modes.specs.declared.ends.End.TheVariants.{Wrote, Fault, Read, Write, Memory}
@@ -21,12 +21,12 @@ module _ {H F : Type 0} (limit : Option ℕ) (Holds : List ℕ → H → Type 0)
   -- the reading of the first text ended the run
 
   module _ (took : TookUnder input limit seen.shelf_before seen.shelf_after) (still : Unmoved) where
-    first_faulty : (fault : F) → ReadFaulty input limit seen.shelf_before seen.shelf_after HasFault fault × (seen.shelf_after.faults input ≡ seen.shelf_before.faults input) → Promised (Fault fault)
+    first_faulty : (fault : F) → ReadFaulty input limit seen.shelf_before seen.shelf_after HasFault fault × CountsStay seen.shelf_before seen.shelf_after → Promised (Fault fault)
     first_faulty fault r = record {
       between = seen.shelf_after;
       says = record { faulty = r.0; unasked = refl };
       silent = λ _. ap (λ s. s.taken) still;
-      read_faults = inl (r.1, refl);
+      read_faults = inl (r.1, λ name. refl);
       write_faults = ap (λ s. s.faults) still;
       first_taken = took;
       second_taken = untouched second None seen.shelf_after;
@@ -43,12 +43,12 @@ module _ {H F : Type 0} (limit : Option ℕ) (Holds : List ℕ → H → Type 0)
       second_taken = untouched second None seen.shelf_after;
     }
 
-    first_wanting : seen.shelf_after.faults input ≡ seen.shelf_before.faults input → Promised Memory
+    first_wanting : CountsStay seen.shelf_before seen.shelf_after → Promised Memory
     first_wanting r = record {
       between = seen.shelf_after;
       says = tt;
       silent = λ _. ap (λ s. s.taken) still;
-      read_faults = inl (r, refl);
+      read_faults = inl (r, λ name. refl);
       write_faults = ap (λ s. s.faults) still;
       first_taken = took;
       second_taken = untouched second None seen.shelf_after;
@@ -82,7 +82,7 @@ module _ {H F : Type 0} (limit : Option ℕ) (Holds : List ℕ → H → Type 0)
           second_taken = second_taken;
         }
 
-    second_wanting : seen.shelf_after.faults second ≡ between.faults second → Unmoved → Promised Memory
+    second_wanting : CountsStay between seen.shelf_after → Unmoved → Promised Memory
     second_wanting counts still = record {
       between = between;
       says = tt;
@@ -93,7 +93,7 @@ module _ {H F : Type 0} (limit : Option ℕ) (Holds : List ℕ → H → Type 0)
       second_taken = second_taken;
     }
 
-    module _ (text : List ℕ) (read : ReadWhole (between.left second) (seen.shelf_after.left second) text) (counts : seen.shelf_after.faults second ≡ between.faults second) where
+    module _ (text : List ℕ) (read : ReadWhole (between.left second) (seen.shelf_after.left second) text) (counts : CountsStay between seen.shelf_after) where
       wrote : (outcome : Outcome) → WroteText seen.out_before seen.out_after (λ written. GivesBehind Holds Gives held text outcome written) → Promised (Wrote outcome)
       wrote outcome w = record {
         between = between;

@@ -3,7 +3,7 @@
 use Rattle.std.specs.Prelude.{◌≡◌, ◌≢◌, ◌⊎◌, ℕ, List, [], Option, None, Result, Ok, Err}
 use Rattle.bee_outside.specs.Faults.{next_count}
 use Rattle.text_modes.specs.Seen.{ShelfShown, Seen}
-use Rattle.text_modes.specs.Ends.{IsSilent, count_read, count_written}
+use Rattle.text_modes.specs.Ends.{IsSilent, count_written}
 use Rattle.text_modes.specs.Promises.{ReadWhole, ReadWithin, ToldUnder, ReadFailed, WriteFailed, ReadFaulty, WroteWhole, WroteFront, TookUnder}
 use Rattle.text_modes.specs.OneText.{GivesSome}
 use Rattle.text_modes.specs.declared.ends.Outcome.{Outcome}
@@ -50,10 +50,20 @@ Says limit IsFit Gives HasFault input second between Read seen = ReadFailed inpu
 Says limit IsFit Gives HasFault input second between Write seen = WroteFront (ReadBoth input second limit between seen) (GivesSome Gives) seen × WriteFailed seen
 Says limit IsFit Gives HasFault input second between Memory seen = Unit {0}
 
--- the counts of faults: a fault of either reading ends the run, and no call follows it
+-- no fault is counted, under any name
+abbrev pub CountsStay : ShelfShown → ShelfShown → Type 0
+CountsStay before after = (name : List ℕ) → after.faults name ≡ before.faults name
+
+-- the counts of faults behind a reading that ended the run so: one more under its name where it failed, and else none
+abbrev pub CountsUnder : {F : Type 0} → List ℕ → End F → ShelfShown → ShelfShown → Type 0
+CountsUnder name Read before after = after.faults name ≡ next_count (before.faults name)
+CountsUnder name end before after = CountsStay before after
+
+-- The counts of faults: a fault of either reading ends the run, and no call follows it. So nothing is asked in vain between the two
+-- readings, under either name: the counts that the second one finds are those before the first.
 abbrev pub CountsRead : {F : Type 0} → List ℕ → List ℕ → ShelfShown → End F → Seen → Type 0
 CountsRead input second between end seen =
-    ((between.faults input ≡ seen.shelf_before.faults input) × (seen.shelf_after.faults second ≡ count_read end (between.faults second)))
+    (CountsStay seen.shelf_before between × CountsUnder second end between seen.shelf_after)
     ⊎ ((end ≡ Read) × (between.faults input ≡ next_count (seen.shelf_before.faults input)) × (seen.shelf_after ≡ between))
 
 -- a run that reads two texts, so many bytes of the first one as the limit says at most, and the second one where the first is fit
@@ -73,10 +83,10 @@ HoldsSome {H} Holds text = (held : H) × Holds text held
 -- what reading and judging the first text comes to
 abbrev pub FirstRead : {H F : Type 0} → List ℕ → Option ℕ → (List ℕ → H → Type 0) → (List ℕ → F → Type 0) → ShelfShown → ShelfShown → Result H (End F) → Type 0
 FirstRead {H} input limit Holds HasFault before after (Ok held) =
-    (text : List ℕ) × ReadWithin input limit before after text × Holds text held × (after.faults input ≡ before.faults input)
-FirstRead input limit Holds HasFault before after (Err (Fault fault)) = ReadFaulty input limit before after HasFault fault × (after.faults input ≡ before.faults input)
+    (text : List ℕ) × ReadWithin input limit before after text × Holds text held × CountsStay before after
+FirstRead input limit Holds HasFault before after (Err (Fault fault)) = ReadFaulty input limit before after HasFault fault × CountsStay before after
 FirstRead input limit Holds HasFault before after (Err Read) = after.faults input ≡ next_count (before.faults input)
-FirstRead input limit Holds HasFault before after (Err Memory) = after.faults input ≡ before.faults input
+FirstRead input limit Holds HasFault before after (Err Memory) = CountsStay before after
 FirstRead input limit Holds HasFault before after (Err end) = ⊥
 
 -- a first text holds this, or has this fault

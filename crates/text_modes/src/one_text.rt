@@ -7,7 +7,7 @@ ghost use Rattle.text_modes.specs.Promises.{Writes};
 ghost use Rattle.text_modes.specs.OneText.{OneTextRun};
 
 use crate::ends::{End, Made};
-use bee_outside::{Failed, ReadFault, ReadText, Shelf, Sink, read_all, write_all};
+use bee_outside::{Failed, ReadText, Shelf, ShelfFault, Sink, read_all, write_all};
 use std::alloc::{AllocError, Global};
 
 /// A mode that reads one text, and writes another one for it. It has three meanings: how many bytes are read at most, so that a
@@ -74,8 +74,8 @@ pub fn run_one<M: OneText, S: Shelf, O: Sink>(
     let text = match read_all(alloc, shelf, input, mode.limit()) {
         Ok(ReadText::Whole(text)) => text,
         Ok(ReadText::Cut(_)) => return End::Fault(mode.too_long()),
-        Err(ReadFault::Failed) => return End::Read,
-        Err(ReadFault::Memory) => return End::Memory,
+        Err(ShelfFault::Failed) => return End::Read,
+        Err(ShelfFault::Memory) => return End::Memory,
     };
     write_made(alloc, mode, text.as_slice(), out)
 }

@@ -7,7 +7,7 @@ ghost use Rattle.text_modes.specs.TwoTexts.{FirstRead, IsJudged, HoldsSome, Give
 
 use crate::ends::{End, Outcome};
 use crate::whole_text::read_whole;
-use bee_outside::{Failed, ReadFault, ReadText, Shelf, Sink, read_all, write_all};
+use bee_outside::{Failed, ReadText, Shelf, ShelfFault, Sink, read_all, write_all};
 use std::alloc::{AllocError, Global};
 
 /// A mode that reads two texts, and writes a third one for them. It has four meanings: how many bytes of the first are read at most,
@@ -49,15 +49,15 @@ pub trait TwoTexts {
         requires { IfSome (most self.now) (λ n. length first.now < n) }
         ensures { IfOk result (IsJudged (holds self.now first.now) (has_fault self.now first.now)) };
 
-    /// The text that is written for two, with its outcome.
+    /// The text that is written for two, with its outcome. What the first text holds is used up.
     fn make(
         &self,
         alloc: Global,
-        held: &Self::Held,
+        held: Self::Held,
         second: &[u8],
     ) -> Result<(Outcome, Vec<u8>), AllocError>
-        requires { (first : List ℕ) × holds self.now first held.now }
-        ensures { IfOk result (λ made. GivesBehind (holds self.now) (gives self.now) held.now second.now made.0 made.1.items) };
+        requires { (first : List ℕ) × holds self.now first held }
+        ensures { IfOk result (λ made. GivesBehind (holds self.now) (gives self.now) held second.now made.0 made.1.items) };
 }
 
 /// Reads the first text, judges it, and lets its bytes go.
@@ -76,8 +76,8 @@ fn read_first<M: TwoTexts, S: Shelf>(
     let text = match read_all(alloc, shelf, input, mode.limit()) {
         Ok(ReadText::Whole(text)) => text,
         Ok(ReadText::Cut(_)) => return Err(End::Fault(mode.too_long())),
-        Err(ReadFault::Failed) => return Err(End::Read),
-        Err(ReadFault::Memory) => return Err(End::Memory),
+        Err(ShelfFault::Failed) => return Err(End::Read),
+        Err(ShelfFault::Memory) => return Err(End::Memory),
     };
     match mode.judge(alloc, text.as_slice()) {
         Ok(Ok(held)) => Ok(held),
@@ -90,12 +90,12 @@ fn read_first<M: TwoTexts, S: Shelf>(
 fn write_made<M: TwoTexts, O: Sink>(
     alloc: Global,
     mode: &M,
-    held: &M::Held,
+    held: M::Held,
     second: &[u8],
     out: &mut O,
 ) -> End<M::Fault>
-    requires { (first : List ℕ) × M.holds mode.now first held.now }
-    ensures { Writes (GivesBehind (M.holds mode.now) (M.gives mode.now) held.now second.now) (λ fault. ⊥) result
+    requires { (first : List ℕ) × M.holds mode.now first held }
+    ensures { Writes (GivesBehind (M.holds mode.now) (M.gives mode.now) held second.now) (λ fault. ⊥) result
         (sink_shown O.taken O.flushed O.faults out.old) (sink_shown O.taken O.flushed O.faults out.new) }
 {
     match mode.make(alloc, held, second) {
@@ -127,8 +127,8 @@ pub fn run_two<M: TwoTexts, S: Shelf, O: Sink>(
     };
     let text = match read_whole(alloc, shelf, second) {
         Ok(text) => text,
-        Err(ReadFault::Failed) => return End::Read,
-        Err(ReadFault::Memory) => return End::Memory,
+        Err(ShelfFault::Failed) => return End::Read,
+        Err(ShelfFault::Memory) => return End::Memory,
     };
-    write_made(alloc, mode, &held, text.as_slice(), out)
+    write_made(alloc, mode, held, text.as_slice(), out)
 }

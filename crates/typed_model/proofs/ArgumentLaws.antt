@@ -43,7 +43,7 @@ pub record Reads (ds : List Decl) (args : List Arg) (s : Statement) (w : What) :
   pub arguments : arguments_of w ≡ arguments_in ds (signature s) (slice_get args)
 
 module _ (ds : List Decl) (args : List Arg) (name : List ℕ) where
-  all_different-reads : (d : AllDifferent) → statement_of name ≡ Some (statement.AllDifferent d) → Reads ds args (statement.AllDifferent d) (all_different_what ds name d args)
+  all_different-reads : (d : AllDifferent) → statement_of name ≡ Some (statement.IntAllDifferent d) → Reads ds args (statement.IntAllDifferent d) (all_different_what ds name d args)
   all_different-reads all_different.Plain m = record { name = m; statement = refl; arguments = refl }
   all_different-reads all_different.Reified m = record { name = m; statement = refl; arguments = refl }
   all_different-reads all_different.Conditional m = record { name = m; statement = refl; arguments = refl }
@@ -67,8 +67,8 @@ module _ (ds : List Decl) (args : List Arg) (name : List ℕ) where
   reads statement.BoolToInt m = record { name = tt; statement = refl; arguments = refl }
   reads statement.BoolEq m = record { name = tt; statement = refl; arguments = refl }
   reads statement.Absolute m = record { name = tt; statement = refl; arguments = refl }
-  reads (statement.AllDifferent d) m = all_different-reads d m
-  reads (statement.Lex o) m =
+  reads (statement.IntAllDifferent d) m = all_different-reads d m
+  reads (statement.Lexicographic o) m =
       record {
         name = m;
         statement = refl;

@@ -18,7 +18,7 @@ use Rattle.model_meaning.specs.declared.statement.Statement.TheVariants as state
 use Rattle.model_meaning.specs.declared.what.BoolTerm.{BoolTerm}
 use Rattle.model_meaning.specs.declared.what.IntTerm.TheVariants as int_term
 use Rattle.model_meaning.specs.declared.what.What.{What}
-use Rattle.model_meaning.specs.declared.what.What.TheVariants.{L3}
+use Rattle.model_meaning.specs.declared.what.What.TheVariants.{BoolToInt}
 use Rattle.model_meaning.specs.declared.model.Decl.{Decl}
 use Rattle.model_meaning.specs.declared.model.Stmt.{Stmt}
 use Rattle.model_meaning.specs.declared.model.Goal.{Goal}
@@ -147,7 +147,7 @@ module _ (n : ℕ) (ds more : List Decl) (before : AllBefore n ds) (later : AllF
   nothing : (es : List Decl) → es ≡ [] → slice_get ((ds ++ es) ++ more) p ≡ Some d → d.number ≡ n → ⊥
   nothing es m g e = not_here n p ds more d (subst (λ (xs : List Decl). slice_get (xs ++ more) p ≡ Some d) (ap (λ xs. ds ++ xs) m ∙ append-nil ds) g) before later e
 
-  place_shares : (x : BoolTerm) (name : List ℕ) (o : Option ℕ) → place_of name ds ≡ o → slice_get ((ds ++ declare_name n ds name own_kind) ++ more) p ≡ Some d → d.number ≡ n → DeclaresPlace ((ds ++ declare_name n ds name own_kind) ++ more) d (L3 x (int_term.Of (place_or_zero name (ds ++ declare_name n ds name own_kind))))
+  place_shares : (x : BoolTerm) (name : List ℕ) (o : Option ℕ) → place_of name ds ≡ o → slice_get ((ds ++ declare_name n ds name own_kind) ++ more) p ≡ Some d → d.number ≡ n → DeclaresPlace ((ds ++ declare_name n ds name own_kind) ++ more) d (BoolToInt x (int_term.Of (place_or_zero name (ds ++ declare_name n ds name own_kind))))
   place_shares x name (Some k) m g e =
       absurd (nothing (declare_name n ds name own_kind) (ap (λ (o : Option ℕ). if is_some o then [] else record { number = n; name = name; kind = own_kind } ∷ []) m) g e)
   place_shares x name None m g e =
@@ -158,9 +158,9 @@ module _ (n : ℕ) (ds more : List Decl) (before : AllBefore n ds) (later : AllF
       let r = only_here n p ds more own d g2 before later e in
       let placed : place_or_zero name (ds ++ own ∷ []) ≡ p = ap (λ (o : Option ℕ). option_map_or (λ p. p) o 0) last ∙ sym r.0 in
       let there : slice_get ((ds ++ own ∷ []) ++ more) (place_or_zero name (ds ++ own ∷ [])) ≡ Some d = subst (λ (q : ℕ). slice_get ((ds ++ own ∷ []) ++ more) q ≡ Some d) (sym placed) g2 in
-      subst (λ (es : List Decl). DeclaresPlace ((ds ++ es) ++ more) d (L3 x (int_term.Of (place_or_zero name (ds ++ es))))) (sym made) (there, own_kind_of own d r.1)
+      subst (λ (es : List Decl). DeclaresPlace ((ds ++ es) ++ more) d (BoolToInt x (int_term.Of (place_or_zero name (ds ++ es))))) (sym made) (there, own_kind_of own d r.1)
 
-  arg_shares : (x : BoolTerm) (a : Option Arg) → ArgFits ds wanted.NewInteger a → slice_get ((ds ++ declare n ds (name_in a) own_kind) ++ more) p ≡ Some d → d.number ≡ n → DeclaresPlace ((ds ++ declare n ds (name_in a) own_kind) ++ more) d (L3 x (number_in (ds ++ declare n ds (name_in a) own_kind) a))
+  arg_shares : (x : BoolTerm) (a : Option Arg) → ArgFits ds wanted.NewInteger a → slice_get ((ds ++ declare n ds (name_in a) own_kind) ++ more) p ≡ Some d → d.number ≡ n → DeclaresPlace ((ds ++ declare n ds (name_in a) own_kind) ++ more) d (BoolToInt x (number_in (ds ++ declare n ds (name_in a) own_kind) a))
   arg_shares x None h g e = absurd h
   arg_shares x (Some (arg.One (term.Plain name))) h g e = place_shares x name (place_of name ds) refl g e
   arg_shares x (Some (arg.One (term.Minus name))) h g e = absurd (false≢true h)

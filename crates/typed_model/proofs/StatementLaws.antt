@@ -44,7 +44,7 @@ IsPlain statement.NewInt = ⊥
 IsPlain statement.BoolToInt = ⊥
 IsPlain s = Unit {0}
 
-all_different-plain : (d : AllDifferent) → ArePlainWanted (signature (statement.AllDifferent d))
+all_different-plain : (d : AllDifferent) → ArePlainWanted (signature (statement.IntAllDifferent d))
 all_different-plain all_different.Plain = (tt, tt)
 all_different-plain all_different.Reified = (tt, (tt, tt))
 all_different-plain all_different.Conditional = (tt, (tt, tt))
@@ -60,20 +60,20 @@ signature-plain statement.NewBool p = absurd p
 signature-plain statement.NewInt p = absurd p
 signature-plain statement.BoolToInt p = absurd p
 signature-plain statement.BoolEq p = (tt, (tt, tt))
-signature-plain (statement.PairReified op) p = (tt, (tt, (tt, tt)))
-signature-plain (statement.Array op) p = (tt, tt)
-signature-plain (statement.ArrayReified op) p = (tt, (tt, tt))
+signature-plain (statement.BoolOp op) p = (tt, (tt, (tt, tt)))
+signature-plain (statement.BoolArray op) p = (tt, tt)
+signature-plain (statement.BoolArrayReified op) p = (tt, (tt, tt))
 signature-plain (statement.Compare rel) p = (tt, (tt, tt))
 signature-plain (statement.CompareReified rel) p = (tt, (tt, (tt, tt)))
-signature-plain (statement.Count rel) p = (tt, (tt, tt))
-signature-plain (statement.PseudoBoolean rel) p = (tt, (tt, (tt, tt)))
-signature-plain (statement.Sum rel) p = (tt, (tt, tt))
-signature-plain (statement.Linear rel) p = (tt, (tt, (tt, tt)))
-signature-plain (statement.Operation o) p = (tt, (tt, (tt, tt)))
+signature-plain (statement.BoolSum rel) p = (tt, (tt, tt))
+signature-plain (statement.BoolLinear rel) p = (tt, (tt, (tt, tt)))
+signature-plain (statement.IntSum rel) p = (tt, (tt, tt))
+signature-plain (statement.IntLinear rel) p = (tt, (tt, (tt, tt)))
+signature-plain (statement.IntOp o) p = (tt, (tt, (tt, tt)))
 signature-plain statement.Absolute p = (tt, (tt, tt))
-signature-plain (statement.Aggregate o) p = (tt, (tt, tt))
-signature-plain (statement.AllDifferent d) p = all_different-plain d
-signature-plain (statement.Lex o) p = order-plain o.of_booleans o.reified
+signature-plain (statement.IntArray o) p = (tt, (tt, tt))
+signature-plain (statement.IntAllDifferent d) p = all_different-plain d
+signature-plain (statement.Lexicographic o) p = order-plain o.of_booleans o.reified
 
 -- Each argument that is what the signature wants fits.
 
@@ -143,13 +143,13 @@ module _ (n : ℕ) (ds : List Decl) (before : AllBefore n ds) (args : List Arg) 
   member h m = rw (length-map (terms_in (slice_get args 0)) (number ds)) (list-member ds (slice_get args 0) h m)
 
   values-fit : (s : Statement) → NoFault ds s args → ValuesFit ds s (arguments_in ds (signature s) (slice_get args))
-  values-fit (statement.Aggregate aggregate.Plus) ok = tt
-  values-fit (statement.Aggregate aggregate.Max) ok = member (fit-at ds (wanted.Numbers ∷ wanted.Number ∷ []) args 0 ok.fits) ok.member
-  values-fit (statement.Aggregate aggregate.Min) ok = member (fit-at ds (wanted.Numbers ∷ wanted.Number ∷ []) args 0 ok.fits) ok.member
-  values-fit (statement.Operation arithmetic.Div) ok =
+  values-fit (statement.IntArray aggregate.Plus) ok = tt
+  values-fit (statement.IntArray aggregate.Max) ok = member (fit-at ds (wanted.Numbers ∷ wanted.Number ∷ []) args 0 ok.fits) ok.member
+  values-fit (statement.IntArray aggregate.Min) ok = member (fit-at ds (wanted.Numbers ∷ wanted.Number ∷ []) args 0 ok.fits) ok.member
+  values-fit (statement.IntOp arithmetic.Div) ok =
       let F = λ (k : ℕ). fit-at ds (wanted.Number ∷ wanted.Number ∷ wanted.Number ∷ []) args k ok.fits in
       division (F 0) (F 1) ok.division
-  values-fit (statement.Operation arithmetic.Mod) ok =
+  values-fit (statement.IntOp arithmetic.Mod) ok =
       let F = λ (k : ℕ). fit-at ds (wanted.Number ∷ wanted.Number ∷ wanted.Number ∷ []) args k ok.fits in
       division (F 0) (F 1) ok.division
   values-fit s ok = tt

@@ -93,8 +93,8 @@ lists_differ (Some (arg.Many xs)) (Some (arg.Many ys)) = not (length xs == lengt
 lists_differ a b = false
 
 abbrev pub wants_member : Statement → Bool
-wants_member (statement.Aggregate aggregate.Max) = true
-wants_member (statement.Aggregate aggregate.Min) = true
+wants_member (statement.IntArray aggregate.Max) = true
+wants_member (statement.IntArray aggregate.Min) = true
 wants_member s = false
 
 abbrev pub is_empty : Option Arg → Bool
@@ -124,8 +124,8 @@ empty_domain s args = declares_integer s && lacks_value (slice_get args 1) (slic
 -- DivDomain: the dividend may be below 0, or the divisor below 1.
 
 abbrev pub divides : Statement → Bool
-divides (statement.Operation arithmetic.Div) = true
-divides (statement.Operation arithmetic.Mod) = true
+divides (statement.IntOp arithmetic.Div) = true
+divides (statement.IntOp arithmetic.Mod) = true
 divides s = false
 
 abbrev pub least_in : List Decl → Option Arg → ℤ

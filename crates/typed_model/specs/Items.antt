@@ -14,7 +14,24 @@ use Rattle.model_meaning.specs.declared.what.BoolTerm.TheVariants as bool_term
 use Rattle.model_meaning.specs.declared.what.IntTerm.{IntTerm}
 use Rattle.model_meaning.specs.declared.what.IntTerm.TheVariants as int_term
 use Rattle.model_meaning.specs.declared.what.What.{What}
-use Rattle.model_meaning.specs.declared.what.What.TheVariants.{L3, L4, L5, L6, L7, L8, L9, L10, L11, L12, L13, L14, L15, L16, L17, L18}
+use Rattle.model_meaning.specs.declared.what.What.TheVariants.{
+  BoolToInt,
+  BoolEq,
+  BoolOp,
+  BoolArray,
+  BoolArrayReified,
+  Compare,
+  CompareReified,
+  BoolSum,
+  BoolLinear,
+  IntSum,
+  IntLinear,
+  IntOp,
+  Absolute,
+  IntArray,
+  IntAllDifferent,
+  Lexicographic,
+}
 use Rattle.model_meaning.specs.declared.statement.AllDifferent.{AllDifferent}
 use Rattle.model_meaning.specs.declared.statement.AllDifferent.TheVariants as all_different
 use Rattle.model_meaning.specs.declared.statement.Order.{Order}
@@ -95,13 +112,13 @@ declarations_of n ds (item.Goal k objective second) = []
 -- What an item states, among the declarations that there are after it.
 
 abbrev pub all_different_what : List Decl → List ℕ → AllDifferent → List Arg → What
-all_different_what ds name all_different.Plain args = L17 name all_different.Plain (numbers_in ds (slice_get args 0)) None None
-all_different_what ds name all_different.Reified args = L17 name all_different.Reified (numbers_in ds (slice_get args 0)) (Some (truth_in ds (slice_get args 1))) None
-all_different_what ds name all_different.Conditional args = L17 name all_different.Conditional (numbers_in ds (slice_get args 0)) None (Some (truths_in ds (slice_get args 1)))
+all_different_what ds name all_different.Plain args = IntAllDifferent name all_different.Plain (numbers_in ds (slice_get args 0)) None None
+all_different_what ds name all_different.Reified args = IntAllDifferent name all_different.Reified (numbers_in ds (slice_get args 0)) (Some (truth_in ds (slice_get args 1))) None
+all_different_what ds name all_different.Conditional args = IntAllDifferent name all_different.Conditional (numbers_in ds (slice_get args 0)) None (Some (truths_in ds (slice_get args 1)))
 
 abbrev pub order_what : List Decl → List ℕ → Order → List Arg → What
 order_what ds name o args =
-    L18 name o
+    Lexicographic name o
     (if o.of_booleans then Some (truths_in ds (slice_get args 0)) else None)
     (if o.of_booleans then Some (truths_in ds (slice_get args 1)) else None)
     (if o.of_booleans then None else Some (numbers_in ds (slice_get args 0)))
@@ -111,22 +128,22 @@ order_what ds name o args =
 unfoldable pub what_of : List Decl → List ℕ → Statement → List Arg → Option What
 what_of ds name statement.NewBool args = None
 what_of ds name statement.NewInt args = None
-what_of ds name statement.BoolToInt args = Some (L3 (truth_in ds (slice_get args 0)) (number_in ds (slice_get args 1)))
-what_of ds name statement.BoolEq args = Some (L4 (truth_in ds (slice_get args 0)) (truth_in ds (slice_get args 1)))
-what_of ds name (statement.PairReified op) args = Some (L5 name op (truth_in ds (slice_get args 0)) (truth_in ds (slice_get args 1)) (truth_in ds (slice_get args 2)))
-what_of ds name (statement.Array op) args = Some (L6 name op (truths_in ds (slice_get args 0)))
-what_of ds name (statement.ArrayReified op) args = Some (L7 name op (truths_in ds (slice_get args 0)) (truth_in ds (slice_get args 1)))
-what_of ds name (statement.Compare rel) args = Some (L8 name rel (number_in ds (slice_get args 0)) (number_in ds (slice_get args 1)))
-what_of ds name (statement.CompareReified rel) args = Some (L9 name rel (number_in ds (slice_get args 0)) (number_in ds (slice_get args 1)) (truth_in ds (slice_get args 2)))
-what_of ds name (statement.Count rel) args = Some (L10 name rel (truths_in ds (slice_get args 0)) (number_in ds (slice_get args 1)))
-what_of ds name (statement.PseudoBoolean rel) args = Some (L11 name rel (numerals_in (slice_get args 0)) (truths_in ds (slice_get args 1)) (number_in ds (slice_get args 2)))
-what_of ds name (statement.Sum rel) args = Some (L12 name rel (numbers_in ds (slice_get args 0)) (number_in ds (slice_get args 1)))
-what_of ds name (statement.Linear rel) args = Some (L13 name rel (numerals_in (slice_get args 0)) (numbers_in ds (slice_get args 1)) (number_in ds (slice_get args 2)))
-what_of ds name (statement.Operation o) args = Some (L14 name o (number_in ds (slice_get args 0)) (number_in ds (slice_get args 1)) (number_in ds (slice_get args 2)))
-what_of ds name statement.Absolute args = Some (L15 (number_in ds (slice_get args 0)) (number_in ds (slice_get args 1)))
-what_of ds name (statement.Aggregate o) args = Some (L16 name o (numbers_in ds (slice_get args 0)) (number_in ds (slice_get args 1)))
-what_of ds name (statement.AllDifferent d) args = Some (all_different_what ds name d args)
-what_of ds name (statement.Lex o) args = Some (order_what ds name o args)
+what_of ds name statement.BoolToInt args = Some (BoolToInt (truth_in ds (slice_get args 0)) (number_in ds (slice_get args 1)))
+what_of ds name statement.BoolEq args = Some (BoolEq (truth_in ds (slice_get args 0)) (truth_in ds (slice_get args 1)))
+what_of ds name (statement.BoolOp op) args = Some (BoolOp name op (truth_in ds (slice_get args 0)) (truth_in ds (slice_get args 1)) (truth_in ds (slice_get args 2)))
+what_of ds name (statement.BoolArray op) args = Some (BoolArray name op (truths_in ds (slice_get args 0)))
+what_of ds name (statement.BoolArrayReified op) args = Some (BoolArrayReified name op (truths_in ds (slice_get args 0)) (truth_in ds (slice_get args 1)))
+what_of ds name (statement.Compare rel) args = Some (Compare name rel (number_in ds (slice_get args 0)) (number_in ds (slice_get args 1)))
+what_of ds name (statement.CompareReified rel) args = Some (CompareReified name rel (number_in ds (slice_get args 0)) (number_in ds (slice_get args 1)) (truth_in ds (slice_get args 2)))
+what_of ds name (statement.BoolSum rel) args = Some (BoolSum name rel (truths_in ds (slice_get args 0)) (number_in ds (slice_get args 1)))
+what_of ds name (statement.BoolLinear rel) args = Some (BoolLinear name rel (numerals_in (slice_get args 0)) (truths_in ds (slice_get args 1)) (number_in ds (slice_get args 2)))
+what_of ds name (statement.IntSum rel) args = Some (IntSum name rel (numbers_in ds (slice_get args 0)) (number_in ds (slice_get args 1)))
+what_of ds name (statement.IntLinear rel) args = Some (IntLinear name rel (numerals_in (slice_get args 0)) (numbers_in ds (slice_get args 1)) (number_in ds (slice_get args 2)))
+what_of ds name (statement.IntOp o) args = Some (IntOp name o (number_in ds (slice_get args 0)) (number_in ds (slice_get args 1)) (number_in ds (slice_get args 2)))
+what_of ds name statement.Absolute args = Some (Absolute (number_in ds (slice_get args 0)) (number_in ds (slice_get args 1)))
+what_of ds name (statement.IntArray o) args = Some (IntArray name o (numbers_in ds (slice_get args 0)) (number_in ds (slice_get args 1)))
+what_of ds name (statement.IntAllDifferent d) args = Some (all_different_what ds name d args)
+what_of ds name (statement.Lexicographic o) args = Some (order_what ds name o args)
 
 -- the statement of item n
 abbrev pub state : ℕ → Option What → List Stmt

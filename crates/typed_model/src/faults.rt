@@ -166,7 +166,7 @@ fn wants_member(statement: Statement) -> bool
 {
     matches!(
         statement,
-        Statement::Aggregate(Aggregate::Max) | Statement::Aggregate(Aggregate::Min)
+        Statement::IntArray(Aggregate::Max) | Statement::IntArray(Aggregate::Min)
     )
 }
 
@@ -223,7 +223,7 @@ fn divides(statement: Statement) -> bool
 {
     matches!(
         statement,
-        Statement::Operation(Arithmetic::Div) | Statement::Operation(Arithmetic::Mod)
+        Statement::IntOp(Arithmetic::Div) | Statement::IntOp(Arithmetic::Mod)
     )
 }
 

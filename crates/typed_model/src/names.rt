@@ -202,13 +202,13 @@ fn operator_statement(name: &[u8]) -> Option<Statement>
     ensures { result ≡ operator_statement name.now }
 {
     if let Some(operator) = operator_of(between(name, b"bool_", b"_reif")) {
-        return Some(Statement::PairReified(operator));
+        return Some(Statement::BoolOp(operator));
     }
     if let Some(operator) = operator_of(after(name, b"bool_array_")) {
-        return Some(Statement::Array(operator));
+        return Some(Statement::BoolArray(operator));
     }
     let operator = operator_of(between(name, b"bool_array_", b"_reif"))?;
-    Some(Statement::ArrayReified(operator))
+    Some(Statement::BoolArrayReified(operator))
 }
 
 /// The statements whose names have a relation.
@@ -223,16 +223,16 @@ fn relation_statement(name: &[u8]) -> Option<Statement>
         return Some(Statement::CompareReified(relation));
     }
     if let Some(relation) = relation_of(after(name, b"bool_array_sum_")) {
-        return Some(Statement::Count(relation));
+        return Some(Statement::BoolSum(relation));
     }
     if let Some(relation) = relation_of(after(name, b"bool_array_pb_")) {
-        return Some(Statement::PseudoBoolean(relation));
+        return Some(Statement::BoolLinear(relation));
     }
     if let Some(relation) = relation_of(after(name, b"int_array_sum_")) {
-        return Some(Statement::Sum(relation));
+        return Some(Statement::IntSum(relation));
     }
     let relation = relation_of(after(name, b"int_array_lin_"))?;
-    Some(Statement::Linear(relation))
+    Some(Statement::IntLinear(relation))
 }
 
 /// The statements whose names have an operation, a kind of all-different, or an order.
@@ -241,19 +241,19 @@ fn operation_statement(name: &[u8]) -> Option<Statement>
     ensures { result ≡ operation_statement name.now }
 {
     if let Some(operation) = arithmetic_of(after(name, b"int_")) {
-        return Some(Statement::Operation(operation));
+        return Some(Statement::IntOp(operation));
     }
     if let Some(operation) = aggregate_of(after(name, b"int_array_")) {
-        return Some(Statement::Aggregate(operation));
+        return Some(Statement::IntArray(operation));
     }
     if let Some(kind) = all_different_of(after(name, b"int_array_")) {
-        return Some(Statement::AllDifferent(kind));
+        return Some(Statement::IntAllDifferent(kind));
     }
     if let Some(order) = order_of(true, after(name, b"bool_arrays_")) {
-        return Some(Statement::Lex(order));
+        return Some(Statement::Lexicographic(order));
     }
     let order = order_of(false, after(name, b"int_arrays_"))?;
-    Some(Statement::Lex(order))
+    Some(Statement::Lexicographic(order))
 }
 
 /// The declaration or statement of a name; `None` where the language has none of that name. It compares

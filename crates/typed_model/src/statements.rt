@@ -1,7 +1,7 @@
 //! The statement of an item.
 
 ghost use Rattle.std.specs.Prelude.{◌≡◌, IfOk, slice_get, None, Some, if◌then◌else◌};
-ghost use Rattle.model_meaning.specs.declared.what.What.TheVariants.{L3, L4, L5, L6, L7, L8, L9, L10, L11, L12, L13, L14, L15, L16, L18};
+ghost use Rattle.model_meaning.specs.declared.what.What.TheVariants.{BoolToInt, BoolEq, BoolOp, BoolArray, BoolArrayReified, Compare, CompareReified, BoolSum, BoolLinear, IntSum, IntLinear, IntOp, Absolute, IntArray, Lexicographic};
 ghost use Rattle.typed_model.specs.Items.{truth_in, number_in, truths_in, numbers_in, numerals_in, all_different_what, order_what, what_of};
 
 use crate::call::Call;
@@ -13,9 +13,9 @@ use std::alloc::AllocError;
 
 /// The statement `bool2int`.
 fn bool_to_int(call: &Call<'_>) -> What
-    ensures { result ≡ L3 (truth_in call.now.scope.now (slice_get call.now.args.now 0)) (number_in call.now.scope.now (slice_get call.now.args.now 1)) }
+    ensures { result ≡ BoolToInt (truth_in call.now.scope.now (slice_get call.now.args.now 0)) (number_in call.now.scope.now (slice_get call.now.args.now 1)) }
 {
-    What::L3 {
+    What::BoolToInt {
         truth: call.truth(0),
         number: call.number(1),
     }
@@ -23,9 +23,9 @@ fn bool_to_int(call: &Call<'_>) -> What
 
 /// The statement `bool_eq`.
 fn bool_eq(call: &Call<'_>) -> What
-    ensures { result ≡ L4 (truth_in call.now.scope.now (slice_get call.now.args.now 0)) (truth_in call.now.scope.now (slice_get call.now.args.now 1)) }
+    ensures { result ≡ BoolEq (truth_in call.now.scope.now (slice_get call.now.args.now 0)) (truth_in call.now.scope.now (slice_get call.now.args.now 1)) }
 {
-    What::L4 {
+    What::BoolEq {
         left: call.truth(0),
         right: call.truth(1),
     }
@@ -33,9 +33,9 @@ fn bool_eq(call: &Call<'_>) -> What
 
 /// The statement `bool_OP_reif`.
 fn pair(call: &Call<'_>, operator: Operator) -> Result<What, AllocError>
-    ensures { IfOk result (λ w. w ≡ L5 call.now.name.now operator (truth_in call.now.scope.now (slice_get call.now.args.now 0)) (truth_in call.now.scope.now (slice_get call.now.args.now 1)) (truth_in call.now.scope.now (slice_get call.now.args.now 2))) }
+    ensures { IfOk result (λ w. w ≡ BoolOp call.now.name.now operator (truth_in call.now.scope.now (slice_get call.now.args.now 0)) (truth_in call.now.scope.now (slice_get call.now.args.now 1)) (truth_in call.now.scope.now (slice_get call.now.args.now 2))) }
 {
-    Ok(What::L5 {
+    Ok(What::BoolOp {
         name: call.own_name()?,
         operator,
         left: call.truth(0),
@@ -46,9 +46,9 @@ fn pair(call: &Call<'_>, operator: Operator) -> Result<What, AllocError>
 
 /// The statement `int_REL`.
 fn compare(call: &Call<'_>, relation: Relation) -> Result<What, AllocError>
-    ensures { IfOk result (λ w. w ≡ L8 call.now.name.now relation (number_in call.now.scope.now (slice_get call.now.args.now 0)) (number_in call.now.scope.now (slice_get call.now.args.now 1))) }
+    ensures { IfOk result (λ w. w ≡ Compare call.now.name.now relation (number_in call.now.scope.now (slice_get call.now.args.now 0)) (number_in call.now.scope.now (slice_get call.now.args.now 1))) }
 {
-    Ok(What::L8 {
+    Ok(What::Compare {
         name: call.own_name()?,
         relation,
         left: call.number(0),
@@ -58,9 +58,9 @@ fn compare(call: &Call<'_>, relation: Relation) -> Result<What, AllocError>
 
 /// The statement `int_REL_reif`.
 fn compare_reified(call: &Call<'_>, relation: Relation) -> Result<What, AllocError>
-    ensures { IfOk result (λ w. w ≡ L9 call.now.name.now relation (number_in call.now.scope.now (slice_get call.now.args.now 0)) (number_in call.now.scope.now (slice_get call.now.args.now 1)) (truth_in call.now.scope.now (slice_get call.now.args.now 2))) }
+    ensures { IfOk result (λ w. w ≡ CompareReified call.now.name.now relation (number_in call.now.scope.now (slice_get call.now.args.now 0)) (number_in call.now.scope.now (slice_get call.now.args.now 1)) (truth_in call.now.scope.now (slice_get call.now.args.now 2))) }
 {
-    Ok(What::L9 {
+    Ok(What::CompareReified {
         name: call.own_name()?,
         relation,
         left: call.number(0),
@@ -71,9 +71,9 @@ fn compare_reified(call: &Call<'_>, relation: Relation) -> Result<What, AllocErr
 
 /// The statement of an operation on two integers.
 fn operation(call: &Call<'_>, operation: Arithmetic) -> Result<What, AllocError>
-    ensures { IfOk result (λ w. w ≡ L14 call.now.name.now operation (number_in call.now.scope.now (slice_get call.now.args.now 0)) (number_in call.now.scope.now (slice_get call.now.args.now 1)) (number_in call.now.scope.now (slice_get call.now.args.now 2))) }
+    ensures { IfOk result (λ w. w ≡ IntOp call.now.name.now operation (number_in call.now.scope.now (slice_get call.now.args.now 0)) (number_in call.now.scope.now (slice_get call.now.args.now 1)) (number_in call.now.scope.now (slice_get call.now.args.now 2))) }
 {
-    Ok(What::L14 {
+    Ok(What::IntOp {
         name: call.own_name()?,
         operation,
         left: call.number(0),
@@ -84,9 +84,9 @@ fn operation(call: &Call<'_>, operation: Arithmetic) -> Result<What, AllocError>
 
 /// The statement `int_abs`.
 fn absolute(call: &Call<'_>) -> What
-    ensures { result ≡ L15 (number_in call.now.scope.now (slice_get call.now.args.now 0)) (number_in call.now.scope.now (slice_get call.now.args.now 1)) }
+    ensures { result ≡ Absolute (number_in call.now.scope.now (slice_get call.now.args.now 0)) (number_in call.now.scope.now (slice_get call.now.args.now 1)) }
 {
-    What::L15 {
+    What::Absolute {
         operand: call.number(0),
         value: call.number(1),
     }
@@ -94,11 +94,11 @@ fn absolute(call: &Call<'_>) -> What
 
 /// The statement `bool_array_OP`.
 fn array(call: &Call<'_>, operator: Operator) -> Result<What, AllocError>
-    ensures { IfOk result (λ w. w ≡ L6 call.now.name.now operator (truths_in call.now.scope.now (slice_get call.now.args.now 0))) }
+    ensures { IfOk result (λ w. w ≡ BoolArray call.now.name.now operator (truths_in call.now.scope.now (slice_get call.now.args.now 0))) }
 {
     let members = call.truths(0)?;
     let name = call.own_name()?;
-    Ok(What::L6 {
+    Ok(What::BoolArray {
         name,
         operator,
         members,
@@ -107,11 +107,11 @@ fn array(call: &Call<'_>, operator: Operator) -> Result<What, AllocError>
 
 /// The statement `bool_array_OP_reif`.
 fn array_reified(call: &Call<'_>, operator: Operator) -> Result<What, AllocError>
-    ensures { IfOk result (λ w. w ≡ L7 call.now.name.now operator (truths_in call.now.scope.now (slice_get call.now.args.now 0)) (truth_in call.now.scope.now (slice_get call.now.args.now 1))) }
+    ensures { IfOk result (λ w. w ≡ BoolArrayReified call.now.name.now operator (truths_in call.now.scope.now (slice_get call.now.args.now 0)) (truth_in call.now.scope.now (slice_get call.now.args.now 1))) }
 {
     let members = call.truths(0)?;
     let name = call.own_name()?;
-    Ok(What::L7 {
+    Ok(What::BoolArrayReified {
         name,
         operator,
         members,
@@ -121,11 +121,11 @@ fn array_reified(call: &Call<'_>, operator: Operator) -> Result<What, AllocError
 
 /// The statement `bool_array_sum_REL`.
 fn count(call: &Call<'_>, relation: Relation) -> Result<What, AllocError>
-    ensures { IfOk result (λ w. w ≡ L10 call.now.name.now relation (truths_in call.now.scope.now (slice_get call.now.args.now 0)) (number_in call.now.scope.now (slice_get call.now.args.now 1))) }
+    ensures { IfOk result (λ w. w ≡ BoolSum call.now.name.now relation (truths_in call.now.scope.now (slice_get call.now.args.now 0)) (number_in call.now.scope.now (slice_get call.now.args.now 1))) }
 {
     let members = call.truths(0)?;
     let name = call.own_name()?;
-    Ok(What::L10 {
+    Ok(What::BoolSum {
         name,
         relation,
         members,
@@ -135,12 +135,12 @@ fn count(call: &Call<'_>, relation: Relation) -> Result<What, AllocError>
 
 /// The statement `bool_array_pb_REL`.
 fn pseudo_boolean(call: &Call<'_>, relation: Relation) -> Result<What, AllocError>
-    ensures { IfOk result (λ w. w ≡ L11 call.now.name.now relation (numerals_in (slice_get call.now.args.now 0)) (truths_in call.now.scope.now (slice_get call.now.args.now 1)) (number_in call.now.scope.now (slice_get call.now.args.now 2))) }
+    ensures { IfOk result (λ w. w ≡ BoolLinear call.now.name.now relation (numerals_in (slice_get call.now.args.now 0)) (truths_in call.now.scope.now (slice_get call.now.args.now 1)) (number_in call.now.scope.now (slice_get call.now.args.now 2))) }
 {
     let coefficients = call.numerals(0)?;
     let members = call.truths(1)?;
     let name = call.own_name()?;
-    Ok(What::L11 {
+    Ok(What::BoolLinear {
         name,
         relation,
         coefficients,
@@ -151,11 +151,11 @@ fn pseudo_boolean(call: &Call<'_>, relation: Relation) -> Result<What, AllocErro
 
 /// The statement `int_array_sum_REL`.
 fn sum(call: &Call<'_>, relation: Relation) -> Result<What, AllocError>
-    ensures { IfOk result (λ w. w ≡ L12 call.now.name.now relation (numbers_in call.now.scope.now (slice_get call.now.args.now 0)) (number_in call.now.scope.now (slice_get call.now.args.now 1))) }
+    ensures { IfOk result (λ w. w ≡ IntSum call.now.name.now relation (numbers_in call.now.scope.now (slice_get call.now.args.now 0)) (number_in call.now.scope.now (slice_get call.now.args.now 1))) }
 {
     let members = call.numbers(0)?;
     let name = call.own_name()?;
-    Ok(What::L12 {
+    Ok(What::IntSum {
         name,
         relation,
         members,
@@ -165,12 +165,12 @@ fn sum(call: &Call<'_>, relation: Relation) -> Result<What, AllocError>
 
 /// The statement `int_array_lin_REL`.
 fn linear(call: &Call<'_>, relation: Relation) -> Result<What, AllocError>
-    ensures { IfOk result (λ w. w ≡ L13 call.now.name.now relation (numerals_in (slice_get call.now.args.now 0)) (numbers_in call.now.scope.now (slice_get call.now.args.now 1)) (number_in call.now.scope.now (slice_get call.now.args.now 2))) }
+    ensures { IfOk result (λ w. w ≡ IntLinear call.now.name.now relation (numerals_in (slice_get call.now.args.now 0)) (numbers_in call.now.scope.now (slice_get call.now.args.now 1)) (number_in call.now.scope.now (slice_get call.now.args.now 2))) }
 {
     let coefficients = call.numerals(0)?;
     let members = call.numbers(1)?;
     let name = call.own_name()?;
-    Ok(What::L13 {
+    Ok(What::IntLinear {
         name,
         relation,
         coefficients,
@@ -181,11 +181,11 @@ fn linear(call: &Call<'_>, relation: Relation) -> Result<What, AllocError>
 
 /// The statement of an operation on a list of integers.
 fn aggregate(call: &Call<'_>, operation: Aggregate) -> Result<What, AllocError>
-    ensures { IfOk result (λ w. w ≡ L16 call.now.name.now operation (numbers_in call.now.scope.now (slice_get call.now.args.now 0)) (number_in call.now.scope.now (slice_get call.now.args.now 1))) }
+    ensures { IfOk result (λ w. w ≡ IntArray call.now.name.now operation (numbers_in call.now.scope.now (slice_get call.now.args.now 0)) (number_in call.now.scope.now (slice_get call.now.args.now 1))) }
 {
     let members = call.numbers(0)?;
     let name = call.own_name()?;
-    Ok(What::L16 {
+    Ok(What::IntArray {
         name,
         operation,
         members,
@@ -204,7 +204,7 @@ fn all_different(call: &Call<'_>, kind: AllDifferent) -> Result<What, AllocError
         AllDifferent::Conditional => (None, Some(call.truths_apart(1)?)),
     };
     let name = call.own_name()?;
-    Ok(What::L17 {
+    Ok(What::IntAllDifferent {
         name,
         kind,
         members,
@@ -219,12 +219,12 @@ fn truths_order(
     order: Order,
     truth: Option<Apart<BoolTerm>>,
 ) -> Result<What, AllocError>
-    ensures { IfOk result (λ w. w ≡ L18 call.now.name.now order (Some (truths_in call.now.scope.now (slice_get call.now.args.now 0))) (Some (truths_in call.now.scope.now (slice_get call.now.args.now 1))) None None truth) }
+    ensures { IfOk result (λ w. w ≡ Lexicographic call.now.name.now order (Some (truths_in call.now.scope.now (slice_get call.now.args.now 0))) (Some (truths_in call.now.scope.now (slice_get call.now.args.now 1))) None None truth) }
 {
     let left = call.truths_apart(0)?;
     let right = call.truths_apart(1)?;
     let name = call.own_name()?;
-    Ok(What::L18 {
+    Ok(What::Lexicographic {
         name,
         order,
         left_truths: Some(left),
@@ -241,12 +241,12 @@ fn numbers_order(
     order: Order,
     truth: Option<Apart<BoolTerm>>,
 ) -> Result<What, AllocError>
-    ensures { IfOk result (λ w. w ≡ L18 call.now.name.now order None None (Some (numbers_in call.now.scope.now (slice_get call.now.args.now 0))) (Some (numbers_in call.now.scope.now (slice_get call.now.args.now 1))) truth) }
+    ensures { IfOk result (λ w. w ≡ Lexicographic call.now.name.now order None None (Some (numbers_in call.now.scope.now (slice_get call.now.args.now 0))) (Some (numbers_in call.now.scope.now (slice_get call.now.args.now 1))) truth) }
 {
     let left = call.numbers_apart(0)?;
     let right = call.numbers_apart(1)?;
     let name = call.own_name()?;
-    Ok(What::L18 {
+    Ok(What::Lexicographic {
         name,
         order,
         left_truths: None,
@@ -291,19 +291,19 @@ pub fn what_of(call: &Call<'_>, statement: Statement) -> Result<Option<What>, Al
         Statement::NewInt => Ok(None),
         Statement::BoolToInt => Ok(Some(bool_to_int(call))),
         Statement::BoolEq => Ok(Some(bool_eq(call))),
-        Statement::PairReified(operator) => Ok(Some(pair(call, operator)?)),
-        Statement::Array(operator) => Ok(Some(array(call, operator)?)),
-        Statement::ArrayReified(operator) => Ok(Some(array_reified(call, operator)?)),
+        Statement::BoolOp(operator) => Ok(Some(pair(call, operator)?)),
+        Statement::BoolArray(operator) => Ok(Some(array(call, operator)?)),
+        Statement::BoolArrayReified(operator) => Ok(Some(array_reified(call, operator)?)),
         Statement::Compare(relation) => Ok(Some(compare(call, relation)?)),
         Statement::CompareReified(relation) => Ok(Some(compare_reified(call, relation)?)),
-        Statement::Count(relation) => Ok(Some(count(call, relation)?)),
-        Statement::PseudoBoolean(relation) => Ok(Some(pseudo_boolean(call, relation)?)),
-        Statement::Sum(relation) => Ok(Some(sum(call, relation)?)),
-        Statement::Linear(relation) => Ok(Some(linear(call, relation)?)),
-        Statement::Operation(which) => Ok(Some(operation(call, which)?)),
+        Statement::BoolSum(relation) => Ok(Some(count(call, relation)?)),
+        Statement::BoolLinear(relation) => Ok(Some(pseudo_boolean(call, relation)?)),
+        Statement::IntSum(relation) => Ok(Some(sum(call, relation)?)),
+        Statement::IntLinear(relation) => Ok(Some(linear(call, relation)?)),
+        Statement::IntOp(which) => Ok(Some(operation(call, which)?)),
         Statement::Absolute => Ok(Some(absolute(call))),
-        Statement::Aggregate(which) => Ok(Some(aggregate(call, which)?)),
-        Statement::AllDifferent(kind) => Ok(Some(all_different(call, kind)?)),
-        Statement::Lex(kind) => Ok(Some(order(call, kind)?)),
+        Statement::IntArray(which) => Ok(Some(aggregate(call, which)?)),
+        Statement::IntAllDifferent(kind) => Ok(Some(all_different(call, kind)?)),
+        Statement::Lexicographic(kind) => Ok(Some(order(call, kind)?)),
     }
 }

@@ -29,7 +29,24 @@ use Rattle.model_meaning.specs.declared.what.BoolTerm.{BoolTerm}
 use Rattle.model_meaning.specs.declared.what.IntTerm.{IntTerm}
 use Rattle.model_meaning.specs.declared.what.IntTerm.TheVariants as int_term
 use Rattle.model_meaning.specs.declared.what.What.{What}
-use Rattle.model_meaning.specs.declared.what.What.TheVariants.{L3, L4, L5, L6, L7, L8, L9, L10, L11, L12, L13, L14, L15, L16, L17, L18}
+use Rattle.model_meaning.specs.declared.what.What.TheVariants.{
+  BoolToInt,
+  BoolEq,
+  BoolOp,
+  BoolArray,
+  BoolArrayReified,
+  Compare,
+  CompareReified,
+  BoolSum,
+  BoolLinear,
+  IntSum,
+  IntLinear,
+  IntOp,
+  Absolute,
+  IntArray,
+  IntAllDifferent,
+  Lexicographic,
+}
 use Rattle.model_meaning.specs.declared.wanted.Wanted.TheVariants as wanted
 use Rattle.model_meaning.specs.declared.statement.Operator.{Operator}
 use Rattle.model_meaning.specs.declared.statement.Operator.TheVariants as operator
@@ -293,49 +310,49 @@ module _ (vars n : ℕ) (ds more : List Decl) (entries : List MapValue) (h : Ent
   -- All lines.
 
   pub statement-same : (w : What) → WhatFits ds n w → HasNoFreshSum w → size_of_made (made_of vars entries w) ≡ vars + weight_of_what lists w
-  statement-same (L3 x (int_term.Number z)) fit none = absurd fit.arguments.1.0
-  statement-same (L3 x (int_term.Of p)) fit none =
+  statement-same (BoolToInt x (int_term.Number z)) fit none = absurd fit.arguments.1.0
+  statement-same (BoolToInt x (int_term.Of p)) fit none =
       let i : IntTerm = int_term.Of p in
       let steps = steps-same (n + 1) ds more entries h i fit.arguments.1.0 in
-      one-same vars (bit_core (atom_of entries x) (integer_of entries i)) (weight_of_what lists (L3 x i)) (λ t. cost_of_eq (steps t) 1)
-  statement-same (L4 x y) fit none = omega arith
-  statement-same (L5 name op x y z) fit none = operator-same vars op (atom_of entries x ∷ atom_of entries y ∷ []) (atom_of entries z)
-  statement-same (L6 name op xs) fit none =
+      one-same vars (bit_core (atom_of entries x) (integer_of entries i)) (weight_of_what lists (BoolToInt x i)) (λ t. cost_of_eq (steps t) 1)
+  statement-same (BoolEq x y) fit none = omega arith
+  statement-same (BoolOp name op x y z) fit none = operator-same vars op (atom_of entries x ∷ atom_of entries y ∷ []) (atom_of entries z)
+  statement-same (BoolArray name op xs) fit none =
       let costs = array-same op (atoms_of entries xs) in
       let same : weight_of_array op (length (atoms_of entries xs)) ≡ weight_of_array op (length xs) = ap (λ (k : ℕ). weight_of_array op k) (length-map xs (atom_of entries)) in
       omega (arith, costs, same)
-  statement-same (L7 name op xs z) fit none =
+  statement-same (BoolArrayReified name op xs z) fit none =
       let size = operator-same vars op (atoms_of entries xs) (atom_of entries z) in
       let same : weight_of_reified_array op (length (atoms_of entries xs)) ≡ weight_of_reified_array op (length xs) = ap (λ (k : ℕ). weight_of_reified_array op k) (length-map xs (atom_of entries)) in
       omega (arith, size, same)
-  statement-same (L8 name rel i j) fit none =
-      one-same vars (comparison_core rel True (integer_of entries i) (integer_of entries j)) (weight_of_what lists (L8 name rel i j))
+  statement-same (Compare name rel i j) fit none =
+      one-same vars (comparison_core rel True (integer_of entries i) (integer_of entries j)) (weight_of_what lists (Compare name rel i j))
       (comparison-same rel True (integer_of entries i) (integer_of entries j) (counted.steps_in lists i) (counted.steps_in lists j) (steps-same n ds more entries h i fit.arguments.0) (steps-same n ds more entries h j fit.arguments.1.0))
-  statement-same (L9 name rel i j z) fit none =
-      one-same vars (comparison_core rel (atom_of entries z) (integer_of entries i) (integer_of entries j)) (weight_of_what lists (L9 name rel i j z))
+  statement-same (CompareReified name rel i j z) fit none =
+      one-same vars (comparison_core rel (atom_of entries z) (integer_of entries i) (integer_of entries j)) (weight_of_what lists (CompareReified name rel i j z))
       (comparison-same rel (atom_of entries z) (integer_of entries i) (integer_of entries j) (counted.steps_in lists i) (counted.steps_in lists j) (steps-same n ds more entries h i fit.arguments.0) (steps-same n ds more entries h j fit.arguments.1.0))
-  statement-same (L10 name rel xs i) fit none =
+  statement-same (BoolSum name rel xs i) fit none =
       let size = count-same vars rel (atoms_of entries xs) (integer_of entries i) (counted.steps_in lists i) (steps-same n ds more entries h i fit.arguments.1.0) in
       let same : weight_of_count rel (length (atoms_of entries xs)) (counted.steps_in lists i) ≡ weight_of_count rel (length xs) (counted.steps_in lists i) =
       ap (λ (k : ℕ). weight_of_count rel k (counted.steps_in lists i)) (length-map xs (atom_of entries)) in
       omega (arith, size, same)
-  statement-same (L11 name rel cs xs i) fit none = linear-same rel (scaled_truths entries cs xs) (linear.scaled_truths cs xs) i none (truths-same entries cs xs) fit.arguments.1.1.0
-  statement-same (L12 name rel is i) fit none =
+  statement-same (BoolLinear name rel cs xs i) fit none = linear-same rel (scaled_truths entries cs xs) (linear.scaled_truths cs xs) i none (truths-same entries cs xs) fit.arguments.1.1.0
+  statement-same (IntSum name rel is i) fit none =
       linear-same rel (integers_of entries is) (linear.numbers lists is) i none (shapes-same n ds more entries h is fit.arguments.0) fit.arguments.1.0
-  statement-same (L13 name rel cs is i) fit none =
+  statement-same (IntLinear name rel cs is i) fit none =
       linear-same rel (scaled_integers entries cs is) (linear.scaled_numbers lists cs is) i none (multiples-same n ds more entries h cs is fit.arguments.1.0) fit.arguments.1.1.0
-  statement-same (L14 name o i j k) fit none =
+  statement-same (IntOp name o i j k) fit none =
       operation-same vars o (integer_of entries i) (integer_of entries j) (integer_of entries k) (counted.domain_of lists i) (counted.domain_of lists j) (counted.domain_of lists k)
       (exact-term n ds more entries h i fit.arguments.0) (exact-term n ds more entries h j fit.arguments.1.0) (exact-term n ds more entries h k fit.arguments.1.1.0)
-  statement-same (L15 i j) fit none =
+  statement-same (Absolute i j) fit none =
       let a : OrdInt = integer_of entries i in
       let members = steps-same n ds more entries h i fit.arguments.0 in
       let negated = negated-steps a ∙ members in
       let value = steps-same n ds more entries h j fit.arguments.1.0 in
-      one-same vars (absolute_core a (integer_of entries j)) (weight_of_what lists (L15 i j)) (λ t. cost_of_max (members t ∷ negated t ∷ []) (value t))
-  statement-same (L16 name o is i) fit none = aggregate-same o is i fit.arguments.0 fit.arguments.1.0
-  statement-same (L17 name d is z xs) fit none =
+      one-same vars (absolute_core a (integer_of entries j)) (weight_of_what lists (Absolute i j)) (λ t. cost_of_max (members t ∷ negated t ∷ []) (value t))
+  statement-same (IntArray name o is i) fit none = aggregate-same o is i fit.arguments.0 fit.arguments.1.0
+  statement-same (IntAllDifferent name d is z xs) fit none =
       different-same d is (atom_or_true entries z) (atoms_of entries (terms_or_none xs)) (members-fit d is (given (option_map Truth z ∷ option_map Truths xs ∷ [])) fit.arguments)
-  statement-same (L18 name o xs ys is js z) fit none =
-      one-same vars (order_core entries o (terms_or_none xs) (terms_or_none ys) (terms_or_none is) (terms_or_none js) z) (weight_of_what lists (L18 name o xs ys is js z))
+  statement-same (Lexicographic name o xs ys is js z) fit none =
+      one-same vars (order_core entries o (terms_or_none xs) (terms_or_none ys) (terms_or_none is) (terms_or_none js) z) (weight_of_what lists (Lexicographic name o xs ys is js z))
       (order-same o.of_booleans o.strict o.reified (if o.reified then atom_or_true entries z else True) xs ys is js z fit.arguments)

@@ -11,7 +11,7 @@ use Rattle.core_forms.specs.Shapes.{steps_of, shapes_of}
 use Rattle.core_forms.specs.Cores.{costs_of}
 use Rattle.model_meaning.specs.declared.statement.Relation.{Relation}
 use Rattle.model_meaning.specs.declared.statement.Relation.TheVariants as relation
-use Rattle.statement_lower.specs.declared.made.Made.{Made}
+use Rattle.statement_lower.specs.declared.made.MadeCores.{MadeCores}
 use Rattle.statement_lower.specs.Comparison.{comparison_core}
 use Rattle.statement_lower.specs.Queue.{fresh_sum, vars_behind_sum, last_made, queue_made}
 use Rattle.statement_lower.specs.Linear.{with_steps, constant_of_members, linear_members, equal_sum, compared_sum, linear_made}
@@ -45,7 +45,7 @@ made-size times vars rel k (a ∷ b ∷ ints) (p ∷ []) h = absurd h.1.1
 made-size zero vars rel k (a ∷ b ∷ ints) (p ∷ q ∷ shapes) h = last-size vars rel k a b p.steps q.steps h.1.0.steps h.1.1.1.0.steps
 made-size (suc times) vars rel k (a ∷ b ∷ ints) (p ∷ q ∷ shapes) h =
     let z : OrdInt = fresh_sum vars a b in
-    let rest : Made = queue_made times (vars_behind_sum vars a b) rel k (ints ++ z ∷ []) in
+    let rest : MadeCores = queue_made times (vars_behind_sum vars a b) rel k (ints ++ z ∷ []) in
     queue-size vars rest.vars times rel a b ints p q shapes (vars + 1) rest.cores h
     (made-size times (vars_behind_sum vars a b) rel k (ints ++ z ∷ []) (shapes ++ fresh_sum_of p q ∷ []) (queue-within a b ints p q shapes (vars + 1) h))
 

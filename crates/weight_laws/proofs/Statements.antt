@@ -17,7 +17,24 @@ use Rattle.model_meaning.specs.declared.model.Decl.{Decl}
 use Rattle.model_meaning.specs.declared.what.BoolTerm.{BoolTerm}
 use Rattle.model_meaning.specs.declared.what.IntTerm.{IntTerm}
 use Rattle.model_meaning.specs.declared.what.What.{What}
-use Rattle.model_meaning.specs.declared.what.What.TheVariants.{L3, L4, L5, L6, L7, L8, L9, L10, L11, L12, L13, L14, L15, L16, L17, L18}
+use Rattle.model_meaning.specs.declared.what.What.TheVariants.{
+  BoolToInt,
+  BoolEq,
+  BoolOp,
+  BoolArray,
+  BoolArrayReified,
+  Compare,
+  CompareReified,
+  BoolSum,
+  BoolLinear,
+  IntSum,
+  IntLinear,
+  IntOp,
+  Absolute,
+  IntArray,
+  IntAllDifferent,
+  Lexicographic,
+}
 use Rattle.model_meaning.specs.declared.statement.Operator.{Operator}
 use Rattle.model_meaning.specs.declared.statement.Aggregate.{Aggregate}
 use Rattle.model_meaning.specs.declared.statement.Aggregate.TheVariants as aggregate
@@ -102,42 +119,42 @@ module _ (vars : ℕ) (ds more : List Decl) (entries : List MapValue) (h : Entri
   -- All lines.
 
   pub statement-size : (n : ℕ) (w : What) → WhatFits ds n w → size_of_made (made_of vars entries w) ≤ vars + weight_of_what (ds ++ more) w
-  statement-size n (L3 x i) fit =
-      one-core vars (bit_core (atom_of entries x) (integer_of entries i)) (weight_of_what (ds ++ more) (L3 x i))
+  statement-size n (BoolToInt x i) fit =
+      one-core vars (bit_core (atom_of entries x) (integer_of entries i)) (weight_of_what (ds ++ more) (BoolToInt x i))
       (eq-mono (steps_of (integer_of entries i)) 1 (steps_in (ds ++ more) i) 1 (few-steps ds more entries h i) (omega arith))
-  statement-size n (L4 x y) fit = omega arith
-  statement-size n (L5 name op x y z) fit = operator-size vars op (atom_of entries x ∷ atom_of entries y ∷ []) (atom_of entries z)
-  statement-size n (L6 name op xs) fit = array-line vars entries op xs
-  statement-size n (L7 name op xs z) fit = operator-line vars entries op xs (atom_of entries z)
-  statement-size n (L8 name rel i j) fit =
-      one-core vars (comparison_core rel True (integer_of entries i) (integer_of entries j)) (weight_of_what (ds ++ more) (L8 name rel i j))
+  statement-size n (BoolEq x y) fit = omega arith
+  statement-size n (BoolOp name op x y z) fit = operator-size vars op (atom_of entries x ∷ atom_of entries y ∷ []) (atom_of entries z)
+  statement-size n (BoolArray name op xs) fit = array-line vars entries op xs
+  statement-size n (BoolArrayReified name op xs z) fit = operator-line vars entries op xs (atom_of entries z)
+  statement-size n (Compare name rel i j) fit =
+      one-core vars (comparison_core rel True (integer_of entries i) (integer_of entries j)) (weight_of_what (ds ++ more) (Compare name rel i j))
       (comparison-cost rel True (integer_of entries i) (integer_of entries j) (steps_in (ds ++ more) i) (steps_in (ds ++ more) j) (few-steps ds more entries h i) (few-steps ds more entries h j))
-  statement-size n (L9 name rel i j z) fit =
-      one-core vars (comparison_core rel (atom_of entries z) (integer_of entries i) (integer_of entries j)) (weight_of_what (ds ++ more) (L9 name rel i j z))
+  statement-size n (CompareReified name rel i j z) fit =
+      one-core vars (comparison_core rel (atom_of entries z) (integer_of entries i) (integer_of entries j)) (weight_of_what (ds ++ more) (CompareReified name rel i j z))
       (comparison-cost rel (atom_of entries z) (integer_of entries i) (integer_of entries j) (steps_in (ds ++ more) i) (steps_in (ds ++ more) j) (few-steps ds more entries h i) (few-steps ds more entries h j))
-  statement-size n (L10 name rel xs i) fit =
+  statement-size n (BoolSum name rel xs i) fit =
       let size = count-size vars rel (atoms_of entries xs) (integer_of entries i) (steps_in (ds ++ more) i) (few-steps ds more entries h i) in
       let same : weight_of_count rel (length (atoms_of entries xs)) (steps_in (ds ++ more) i) ≡ weight_of_count rel (length xs) (steps_in (ds ++ more) i) =
       ap (λ k. weight_of_count rel k (steps_in (ds ++ more) i)) (length-map xs (atom_of entries)) in
       omega (arith, size, same)
-  statement-size n (L11 name rel cs xs i) fit =
+  statement-size n (BoolLinear name rel cs xs i) fit =
       linear-size vars rel (scaled_truths entries cs xs) (linear.scaled_truths cs xs) (integer_of entries i) (shape_in (ds ++ more) i)
       (like-bits entries cs xs) (like-integer n ds more entries h i fit.arguments.1.1.0)
-  statement-size n (L12 name rel is i) fit =
+  statement-size n (IntSum name rel is i) fit =
       linear-size vars rel (integers_of entries is) (numbers (ds ++ more) is) (integer_of entries i) (shape_in (ds ++ more) i)
       (like-integers n ds more entries h is fit.arguments.0) (like-integer n ds more entries h i fit.arguments.1.0)
-  statement-size n (L13 name rel cs is i) fit =
+  statement-size n (IntLinear name rel cs is i) fit =
       linear-size vars rel (scaled_integers entries cs is) (linear.scaled_numbers (ds ++ more) cs is) (integer_of entries i) (shape_in (ds ++ more) i)
       (like-multiples n ds more entries h cs is fit.arguments.1.0) (like-integer n ds more entries h i fit.arguments.1.1.0)
-  statement-size n (L14 name o i j k) fit =
+  statement-size n (IntOp name o i j k) fit =
       operation-size vars o (integer_of entries i) (integer_of entries j) (integer_of entries k) (domain_of (ds ++ more) i) (domain_of (ds ++ more) j) (domain_of (ds ++ more) k)
       (integer-in ds more entries h i) (integer-in ds more entries h j) (integer-in ds more entries h k)
-  statement-size n (L15 i j) fit =
-      one-core vars (absolute_core (integer_of entries i) (integer_of entries j)) (weight_of_what (ds ++ more) (L15 i j))
+  statement-size n (Absolute i j) fit =
+      one-core vars (absolute_core (integer_of entries i) (integer_of entries j)) (weight_of_what (ds ++ more) (Absolute i j))
       (absolute-cost (integer_of entries i) (integer_of entries j) (steps_in (ds ++ more) i) (steps_in (ds ++ more) j) (few-steps ds more entries h i) (few-steps ds more entries h j))
-  statement-size n (L16 name o is i) fit = aggregate-line n o is i fit.arguments.0 fit.arguments.1.0
-  statement-size n (L17 name d is z xs) fit = difference-line d is (atom_or_true entries z) (atoms_of entries (terms_or_none xs))
-  statement-size n (L18 name o xs ys is js z) fit = order-line o (terms_or_none xs) (terms_or_none ys) (terms_or_none is) (terms_or_none js) z
+  statement-size n (IntArray name o is i) fit = aggregate-line n o is i fit.arguments.0 fit.arguments.1.0
+  statement-size n (IntAllDifferent name d is z xs) fit = difference-line d is (atom_or_true entries z) (atoms_of entries (terms_or_none xs))
+  statement-size n (Lexicographic name o xs ys is js z) fit = order-line o (terms_or_none xs) (terms_or_none ys) (terms_or_none is) (terms_or_none js) z
 
 -- The number of cores.
 
@@ -154,19 +171,19 @@ difference-count-line vars all_different.Reified ints z cs = difference-count va
 difference-count-line vars all_different.Conditional ints z cs = omega arith
 
 pub statement-count : (vars : ℕ) (entries : List MapValue) (w : What) → length (made_of vars entries w).cores ≤ 1 + costs_of (made_of vars entries w).cores
-statement-count vars entries (L3 x i) = omega arith
-statement-count vars entries (L4 x y) = omega arith
-statement-count vars entries (L5 name op x y z) = operator-count vars op (atom_of entries x ∷ atom_of entries y ∷ []) (atom_of entries z)
-statement-count vars entries (L6 name op xs) = array-count op (atoms_of entries xs)
-statement-count vars entries (L7 name op xs z) = operator-count vars op (atoms_of entries xs) (atom_of entries z)
-statement-count vars entries (L8 name rel i j) = omega arith
-statement-count vars entries (L9 name rel i j z) = omega arith
-statement-count vars entries (L10 name rel xs i) = count-count vars rel (atoms_of entries xs) (integer_of entries i)
-statement-count vars entries (L11 name rel cs xs i) = linear-count vars rel (scaled_truths entries cs xs) (integer_of entries i)
-statement-count vars entries (L12 name rel is i) = linear-count vars rel (integers_of entries is) (integer_of entries i)
-statement-count vars entries (L13 name rel cs is i) = linear-count vars rel (scaled_integers entries cs is) (integer_of entries i)
-statement-count vars entries (L14 name o i j k) = operation-count vars o (integer_of entries i) (integer_of entries j) (integer_of entries k)
-statement-count vars entries (L15 i j) = omega arith
-statement-count vars entries (L16 name o is i) = aggregate-count vars o (integers_of entries is) (integer_of entries i)
-statement-count vars entries (L17 name d is z xs) = difference-count-line vars d (integers_of entries is) (atom_or_true entries z) (atoms_of entries (terms_or_none xs))
-statement-count vars entries (L18 name o xs ys is js z) = omega arith
+statement-count vars entries (BoolToInt x i) = omega arith
+statement-count vars entries (BoolEq x y) = omega arith
+statement-count vars entries (BoolOp name op x y z) = operator-count vars op (atom_of entries x ∷ atom_of entries y ∷ []) (atom_of entries z)
+statement-count vars entries (BoolArray name op xs) = array-count op (atoms_of entries xs)
+statement-count vars entries (BoolArrayReified name op xs z) = operator-count vars op (atoms_of entries xs) (atom_of entries z)
+statement-count vars entries (Compare name rel i j) = omega arith
+statement-count vars entries (CompareReified name rel i j z) = omega arith
+statement-count vars entries (BoolSum name rel xs i) = count-count vars rel (atoms_of entries xs) (integer_of entries i)
+statement-count vars entries (BoolLinear name rel cs xs i) = linear-count vars rel (scaled_truths entries cs xs) (integer_of entries i)
+statement-count vars entries (IntSum name rel is i) = linear-count vars rel (integers_of entries is) (integer_of entries i)
+statement-count vars entries (IntLinear name rel cs is i) = linear-count vars rel (scaled_integers entries cs is) (integer_of entries i)
+statement-count vars entries (IntOp name o i j k) = operation-count vars o (integer_of entries i) (integer_of entries j) (integer_of entries k)
+statement-count vars entries (Absolute i j) = omega arith
+statement-count vars entries (IntArray name o is i) = aggregate-count vars o (integers_of entries is) (integer_of entries i)
+statement-count vars entries (IntAllDifferent name d is z xs) = difference-count-line vars d (integers_of entries is) (atom_or_true entries z) (atoms_of entries (terms_or_none xs))
+statement-count vars entries (Lexicographic name o xs ys is js z) = omega arith

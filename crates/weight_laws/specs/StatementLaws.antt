@@ -4,7 +4,7 @@ use Rattle.order_ints.specs.declared.order_int.MapValue.{MapValue}
 use Rattle.core_forms.specs.Cores.{costs_of}
 use Rattle.model_meaning.specs.declared.model.Decl.{Decl}
 use Rattle.model_meaning.specs.declared.what.What.{What}
-use Rattle.model_meaning.specs.declared.what.What.TheVariants.{L11, L12, L13}
+use Rattle.model_meaning.specs.declared.what.What.TheVariants.{BoolLinear, IntSum, IntLinear}
 use Rattle.model_meaning.specs.declared.statement.Relation.TheVariants as relation
 use Rattle.model_meaning.specs.WellTyped.{WhatFits}
 use Rattle.name_map.specs.Fits.{EntriesFit}
@@ -23,9 +23,9 @@ StatementSizeLaw =
 -- The statement is lowered without a fresh integer for a linear sum: it is no linear sum, or one that is compared by equality, which is one
 -- core.
 abbrev pub HasNoFreshSum : What → Type 0
-HasNoFreshSum (L11 name rel cs xs i) = rel ≡ relation.Eq
-HasNoFreshSum (L12 name rel is i) = rel ≡ relation.Eq
-HasNoFreshSum (L13 name rel cs is i) = rel ≡ relation.Eq
+HasNoFreshSum (BoolLinear name rel cs xs i) = rel ≡ relation.Eq
+HasNoFreshSum (IntSum name rel is i) = rel ≡ relation.Eq
+HasNoFreshSum (IntLinear name rel cs is i) = rel ≡ relation.Eq
 HasNoFreshSum w = Unit {0}
 
 -- Such a statement weighs exactly its fresh variables and the costs of its cores.

@@ -1,5 +1,5 @@
 use Rattle.std.proofs.Common.{ap, ◌∙◌, Option}
-use Rattle.rule_base.specs.declared.sought.Sought.TheVariants.{Apart}
+use Rattle.rule_base.specs.declared.sought.SoughtEquation.TheVariants.{Apart}
 use Rattle.rule_base.specs.Pairs.{first_sought}
 use Rattle.alldiff_rules.specs.declared.table.Places.{Places}
 use Rattle.alldiff_rules.specs.Twins.{shown_equations}

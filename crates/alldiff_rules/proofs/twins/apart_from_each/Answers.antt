@@ -2,7 +2,7 @@ use Rattle.std.proofs.Common.{ap, sym, ◌++◌, ◌∙◌}
 use Rattle.std.specs.Prelude.{Option, Some}
 use Rattle.std.specs.Option.{option_or}
 use Rattle.order_ints.specs.declared.atom.Atom.{Atom}
-use Rattle.rule_base.specs.declared.sought.Sought.TheVariants.{Apart}
+use Rattle.rule_base.specs.declared.sought.SoughtEquation.TheVariants.{Apart}
 use Rattle.rule_base.specs.Pairs.{first_sought}
 use Rattle.rule_base.proofs.PairLaws.{both-found}
 use Rattle.alldiff_rules.specs.declared.table.Places.{Places}

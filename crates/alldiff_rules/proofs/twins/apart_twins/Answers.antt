@@ -1,5 +1,5 @@
 use Rattle.std.proofs.Common.{length, None, sym, ◌∙◌}
-use Rattle.rule_base.specs.declared.sought.Sought.TheVariants.{Apart}
+use Rattle.rule_base.specs.declared.sought.SoughtEquation.TheVariants.{Apart}
 use Rattle.alldiff_rules.specs.Twins.{IsShownTwin}
 use Rattle.alldiff_rules.proofs.FindsLaws.{stop-place, next-place, all-places}
 use Rattle.alldiff_rules.proofs.TwinLaws.{twins-find}

@@ -1,4 +1,4 @@
-use Rattle.rule_base.specs.declared.sought.Sought.TheVariants.{Apart}
+use Rattle.rule_base.specs.declared.sought.SoughtEquation.TheVariants.{Apart}
 use Rattle.alldiff_rules.specs.Twins.{IsShownTwin}
 use Rattle.alldiff_rules.proofs.FindsLaws.{NoneBelow}
 use Rattle.alldiff_rules.proofs.twins.apart_twins.Given as goal

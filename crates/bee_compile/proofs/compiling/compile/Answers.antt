@@ -8,14 +8,14 @@ trim_map-requires g c = are-bounded _ c.args.model.decls c.in_ok-lowered.field-0
 
 pub returns-clause-solutions : goal.returns-clause-solutions
 returns-clause-solutions g c =
-    (compiled-well g.F.Oracle.told g.F.Oracle.told_is_instance c.args.model c.in_ok-lowered.field-0.lowered c.into_vec.result.items c.in_ok-state.state
+    (compiled-well g.F.Oracle.told c.args.model c.in_ok-lowered.field-0.lowered c.into_vec.result.items c.in_ok-state.state
     c.in_ok-compilation.compilation.state c.view.result.now _ c.requires.typed c.requires.limits c.in_ok-lowered.ensures.light c.in_ok-lowered.ensures.shape c.into_vec.ensures
     c.in_ok-state.ensures.start c.in_ok-compilation.ensures.compilation c.ids.ensures.ids (omega (arith, c.ids.type_inv)) c.in_ok-cnf.ensures.shape c.in_ok-lowered.ensures.decls
     (c.view.ensures.view ∙ c.store.ensures.view) c.in_ok-map.ensures).solutions
 
 pub returns-clause-fits : goal.returns-clause-fits
 returns-clause-fits g c =
-    (compiled-well g.F.Oracle.told g.F.Oracle.told_is_instance c.args.model c.in_ok-lowered.field-0.lowered c.into_vec.result.items c.in_ok-state.state
+    (compiled-well g.F.Oracle.told c.args.model c.in_ok-lowered.field-0.lowered c.into_vec.result.items c.in_ok-state.state
     c.in_ok-compilation.compilation.state c.view.result.now _ c.requires.typed c.requires.limits c.in_ok-lowered.ensures.light c.in_ok-lowered.ensures.shape c.into_vec.ensures
     c.in_ok-state.ensures.start c.in_ok-compilation.ensures.compilation c.ids.ensures.ids (omega (arith, c.ids.type_inv)) c.in_ok-cnf.ensures.shape c.in_ok-lowered.ensures.decls
     (c.view.ensures.view ∙ c.store.ensures.view) c.in_ok-map.ensures).fits

@@ -2,4 +2,4 @@ use Rattle.bee_compile.proofs.Compilation.{compilation}
 use Rattle.bee_compile.proofs.laws.compilation_law.Goals as goal
 
 pub returns : goal.returns
-returns g c = compilation g.F.Oracle.told g.F.Oracle.told_is_instance
+returns g c = compilation g.F.Oracle.told

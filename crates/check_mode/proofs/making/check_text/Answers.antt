@@ -4,11 +4,17 @@ use Rattle.std.proofs.Common.{map}
 use Rattle.ledger_check.proofs.DocumentLines.{declared-lines}
 use Rattle.check_mode.proofs.making.check_text.Goals as goal
 
-pub check-requires-clause-typed : goal.check-requires-clause-typed
-check-requires-clause-typed c = typed c.requires.0 c.args.model.now c.requires.1.says
+pub check_lowered-requires-clause-typed : goal.check_lowered-requires-clause-typed
+check_lowered-requires-clause-typed c = typed c.requires.0 c.args.held.model c.requires.1.0.says
 
-pub check-requires-clause-limits : goal.check-requires-clause-limits
-check-requires-clause-limits c = limited c.requires.0 c.args.model.now c.requires.1.within c.requires.1.says
+pub check_lowered-requires-clause-limits : goal.check_lowered-requires-clause-limits
+check_lowered-requires-clause-limits c = limited c.requires.0 c.args.held.model c.requires.1.0.within c.requires.1.0.says
 
-pub check-requires-clause-names : goal.check-requires-clause-names
-check-requires-clause-names c = declared-lines (map (λ (d : Decl). d.name) c.args.model.now.decls) (names c.requires.0 c.args.model.now c.requires.1.says)
+pub check_lowered-requires-clause-names : goal.check_lowered-requires-clause-names
+check_lowered-requires-clause-names c = declared-lines (map (λ (d : Decl). d.name) c.args.held.model.decls) (names c.requires.0 c.args.held.model c.requires.1.0.says)
+
+pub check_lowered-requires-clause-light : goal.check_lowered-requires-clause-light
+check_lowered-requires-clause-light c = c.requires.1.0.light
+
+pub check_lowered-requires-clause-shape : goal.check_lowered-requires-clause-shape
+check_lowered-requires-clause-shape c = c.requires.1.1

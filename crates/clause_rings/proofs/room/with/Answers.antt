@@ -37,4 +37,4 @@ returns-clause-clauses c =
     let is : c.as_slice-clauses.result.now ≡ c.args.cnf.now.clauses = c.as_slice-clauses.ensures in
     let end : c.loop-k.k ≡ length c.args.cnf.now.clauses = omega (arith, ap (length {A = List Lit}) is) in
     let h : HoldsFirst c.args.cnf.now.clauses (length c.args.cnf.now.clauses) c.loop-k.watches.arena.clauses = subst (λ (n : ℕ). HoldsFirst c.args.cnf.now.clauses n c.loop-k.watches.arena.clauses) end (subst (λ (cs : List (List Lit)). HoldsFirst cs c.loop-k.k c.loop-k.watches.arena.clauses) is c.loop-k.invariant.2) in
-    record { stored = h.stored; alone = h.alone }
+    record { stored = h.stored; alone = h.alone; once = h.once }

@@ -9,14 +9,13 @@ solve_state-requires g c =
     problem-ready g.F.Oracle.told c.args.lowered c.in_ok-state.state c.in_ok-compilation.compilation.state c.in_ok-compilation.compilation.ledger c.requires.ready
     (c.in_ok-state.ensures.start ∙ ap (started c.args.lowered.vars) c.into_vec.ensures) c.in_ok-compilation.ensures.compilation
 
-pub returns-then-readable-clause-answer : goal.returns-then-readable-clause-answer
-returns-then-readable-clause-answer g c =
+pub returns-clause-answer : goal.returns-clause-answer
+returns-clause-answer g c =
     let few = subst (λ (n : ℕ). n < 2 ^ 64) c.ids-ids.ensures.ids (omega (arith, c.ids-ids.type_inv)) in
-    answers-all g.F.Oracle.told g.F.Oracle.told_is_instance c.args.options c.requires.budget c.in_ok-compilation.compilation.state c.in_ok-compilation.compilation.ledger few c.in_ok-made.made.solved
-    (c.are_derivations_readable-readable.ensures.proof c.if-readable.true) (c.are_derivations_readable-readable.ensures.second c.if-readable.true) _ _ c.args.lowered c.args.goal c.in_ok-state.state _
+    answers-all g.F.Oracle.told c.args.options c.requires.budget c.in_ok-compilation.compilation.state c.in_ok-compilation.compilation.ledger few c.in_ok-made.made.solved _ _ c.args.lowered c.args.goal c.in_ok-state.state _
     (c.in_ok-state.ensures.start ∙ ap (started c.args.lowered.vars) c.into_vec.ensures) c.in_ok-compilation.ensures.compilation c.in_ok-made.ensures.solved refl c.in_ok-compilation.ensures.asked
 
-pub returns-then-readable-clause-size : goal.returns-then-readable-clause-size
-returns-then-readable-clause-size g c = λ last other.
+pub returns-clause-size : goal.returns-clause-size
+returns-clause-size g c = λ last other.
     size-there g.F.Oracle.told c.in_ok-compilation.compilation.ledger (started c.args.lowered.vars c.args.lowered.cores) c.in_ok-state.state c.in_ok-compilation.compilation.state last c.in_ok-made.made.size
     (c.in_ok-state.ensures.start ∙ ap (started c.args.lowered.vars) c.into_vec.ensures) c.in_ok-made.ensures.size c.in_ok-compilation.ensures.compilation other

@@ -10,6 +10,7 @@ invariant-loop l = record {
   cnf : l.solver.cnf ≡ l.fn.solver.cnf;
   within : additions l.solver.log ≤ l.options.budget;
   seeking : IsSeeking l.solver l.sought l.best;
+  no_worse : left l.sought l.best ≤ left l.sought l.fn.best;
   cost : additions l.solver.log + left l.sought l.best * most_learned l.options.restart l.fn.solver.cnf.vars ≤ additions l.fn.solver.log + left l.sought l.fn.best * most_learned l.options.restart l.fn.solver.cnf.vars;
 }
 

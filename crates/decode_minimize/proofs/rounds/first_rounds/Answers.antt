@@ -13,13 +13,14 @@ pub returns-in-Shown : goal.returns-in-Shown
 returns-in-Shown c =
     let shown = subst (λ (r : Round). IsRound c.ask_bound.new.solver False r) c.in-Shown.is c.in_ok-ask_bound.ensures.round in
     first-refuted c.args.cnf.now c.in_ok-solver.solver c.ask_bound.new.solver c.args.options c.in_ok-solver.ensures c.ask_bound.ensures.cnf c.into_log.result c.into_log.ensures.log c.into_log.ensures.accepted
-    c.into_log.ensures.fresh c.ask_bound.ensures.within shown
+    c.into_log.ensures.fresh c.into_log.ensures.readable c.ask_bound.ensures.within c.ask_bound.ensures.most shown
 
 pub returns-in-Spent : goal.returns-in-Spent
 returns-in-Spent c =
     let was = c.in_ok-ask_bound.was ∙ ap Ok c.in-Spent.is in
+    let unshown = subst (λ (r : Round). IsRound c.ask_bound.new.solver False r) c.in-Spent.is c.in_ok-ask_bound.ensures.round in
     first-given_up c.args.cnf.now c.in_ok-solver.solver c.ask_bound.new.solver c.args.options c.in_ok-solver.ensures c.ask_bound.ensures.cnf c.into_log-in-Spent.result c.into_log-in-Spent.ensures.log
-    c.into_log-in-Spent.ensures.accepted c.into_log-in-Spent.ensures.fresh (c.ask_bound.ensures.spent was) (c.ask_bound.ensures.spent_early was)
+    c.into_log-in-Spent.ensures.accepted c.into_log-in-Spent.ensures.fresh c.into_log-in-Spent.ensures.readable (c.ask_bound.ensures.spent was) (c.ask_bound.ensures.spent_early was) unshown
 
 pub rounds_from-requires-clause-seeking : goal.rounds_from-requires-clause-seeking
 rounds_from-requires-clause-seeking c =

@@ -4,4 +4,4 @@ use Rattle.decode_minimize.proofs.rounds.rounds_from.Goals as goal
 pub returns : goal.returns
 returns c =
     progress-from c.args.solver c.improve.new.solver c.args.sought.now c.args.options c.args.best c.improve.new.best c.in_ok-is_best.is_best c.into_log.result c.requires.seeking c.requires.most
-    c.improve.ensures.cnf c.improve.ensures.within c.in_ok-is_best.ensures.seeking c.in_ok-is_best.ensures.improved c.into_log.ensures.log c.into_log.ensures.accepted c.into_log.ensures.fresh
+    c.improve.ensures.cnf c.improve.ensures.within c.in_ok-is_best.ensures.seeking c.in_ok-is_best.ensures.improved c.into_log.ensures.log c.into_log.ensures.accepted c.into_log.ensures.fresh c.into_log.ensures.readable

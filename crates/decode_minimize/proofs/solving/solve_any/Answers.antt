@@ -6,7 +6,7 @@ use Rattle.decode_minimize.specs.declared.asking.Round.{Round}
 use Rattle.decode_minimize.specs.Rounds.{IsRound}
 use Rattle.decode_minimize.specs.Solved.{problem_of, IsMadeOf}
 use Rattle.decode_minimize.proofs.Ready.{solvable-apart}
-use Rattle.decode_minimize.proofs.Rounding.{first-refuted, first-given_up, first-derivation, first-satisfying}
+use Rattle.decode_minimize.proofs.Rounding.{first-refuted, first-given_up, first-derivation, first-most, first-satisfying}
 use Rattle.decode_minimize.proofs.Makings.{any-refuted, any-given_up, any-solution}
 use Rattle.decode_minimize.proofs.solving.solve_any.Goals as goal
 
@@ -18,14 +18,15 @@ returns-in-Shown c =
     let shown = subst (λ (r : Round). IsRound c.ask_bound.new.solver False r) c.in-Shown.is c.in_ok-ask_bound.ensures.round in
     any-refuted (problem_of c.args.names.now c.args.cnf.now) c.args.options c.refuted.result c.into_log.result c.refuted.ensures
     (first-refuted c.args.cnf.now c.in_ok-solver.solver c.ask_bound.new.solver c.args.options c.in_ok-solver.ensures c.ask_bound.ensures.cnf c.into_log.result c.into_log.ensures.log c.into_log.ensures.accepted
-    c.into_log.ensures.fresh c.ask_bound.ensures.within shown)
+    c.into_log.ensures.fresh c.into_log.ensures.readable c.ask_bound.ensures.within c.ask_bound.ensures.most shown)
 
 pub returns-in-Spent : goal.returns-in-Spent
 returns-in-Spent c =
     let was = c.in_ok-ask_bound.was ∙ ap Ok c.in-Spent.is in
+    let unshown = subst (λ (r : Round). IsRound c.ask_bound.new.solver False r) c.in-Spent.is c.in_ok-ask_bound.ensures.round in
     any-given_up (problem_of c.args.names.now c.args.cnf.now) c.args.options c.given_up.result c.into_log-in-Spent.result c.given_up.ensures
     (first-given_up c.args.cnf.now c.in_ok-solver.solver c.ask_bound.new.solver c.args.options c.in_ok-solver.ensures c.ask_bound.ensures.cnf c.into_log-in-Spent.result c.into_log-in-Spent.ensures.log
-    c.into_log-in-Spent.ensures.accepted c.into_log-in-Spent.ensures.fresh (c.ask_bound.ensures.spent was) (c.ask_bound.ensures.spent_early was))
+    c.into_log-in-Spent.ensures.accepted c.into_log-in-Spent.ensures.fresh c.into_log-in-Spent.ensures.readable (c.ask_bound.ensures.spent was) (c.ask_bound.ensures.spent_early was) unshown)
 
 pub returns-in_ok-solved-in-Better : goal.returns-in_ok-solved-in-Better
 returns-in_ok-solved-in-Better c =
@@ -35,4 +36,6 @@ returns-in_ok-solved-in-Better c =
     any-solution c.args.names.now c.args.cnf.now c.args.options c.in-Better.values c.into_log-proof.result c.in_ok-solved-in-Better.solved made
     (first-satisfying c.args.cnf.now c.in_ok-solver.solver c.ask_bound.new.solver c.args.options c.in_ok-solver.ensures c.ask_bound.ensures.cnf c.in-Better.values found)
     (first-derivation c.args.cnf.now c.in_ok-solver.solver c.ask_bound.new.solver c.args.options c.in_ok-solver.ensures c.ask_bound.ensures.cnf c.into_log-proof.result c.into_log-proof.ensures.log
-    c.into_log-proof.ensures.accepted c.into_log-proof.ensures.fresh) within
+    c.into_log-proof.ensures.accepted c.into_log-proof.ensures.fresh c.into_log-proof.ensures.readable) within
+    (first-most c.args.cnf.now c.in_ok-solver.solver c.ask_bound.new.solver c.args.options c.in_ok-solver.ensures c.ask_bound.ensures.cnf c.into_log-proof.result c.into_log-proof.ensures.log
+    c.into_log-proof.ensures.accepted c.into_log-proof.ensures.fresh c.into_log-proof.ensures.readable c.ask_bound.ensures.most)

@@ -1,5 +1,4 @@
-use Rattle.std.proofs.Common.{ℤ, ◌+ℤ◌, ◌-ℤ◌, rules, ap, ◌∙◌, ◌++◌, map}
-use Rattle.std.specs.Prelude.{neg_ℤ}
+use Rattle.std.proofs.Common.{ap, ◌∙◌, ◌++◌, map, ℤ, ◌+ℤ◌, ◌-ℤ◌}
 use mir.Syntax.{w128}
 use Rattle.std.proofs.lemmas.Int.{to_z-of_z}
 use Rattle.core_forms.specs.declared.equation.Rule.TheVariants.{Form}
@@ -15,4 +14,4 @@ returns c =
     let k = to_z-of_z w128 c.args.k c.ranges.k in
     both-parts (linked (λ v. v +ℤ c.args.k) a b) (linked_back (λ w. w -ℤ c.args.k) b a) c.args.run.now.items c.push_linked.new.run.items c.push_linked_back.new.run.items
     (c.in_ok-push_linked.ensures ∙ ap (λ (n : ℤ). c.args.run.now.items ++ map (equation_of Form) (linked (λ v. v +ℤ n) a b)) k)
-    (c.in_ok-push_linked_back.ensures ∙ ap (λ (n : ℤ). c.push_linked.new.run.items ++ map (equation_of Form) (linked_back (λ v. v +ℤ n) b a)) (to_z-of_z w128 c.minus-back.result (search rules) ∙ c.minus-back.ensures.value ∙ ap neg_ℤ k))
+    (c.in_ok-push_linked_back.ensures ∙ ap (λ (n : ℤ). c.push_linked.new.run.items ++ map (equation_of Form) (linked_back (λ v. v -ℤ n) b a)) k)

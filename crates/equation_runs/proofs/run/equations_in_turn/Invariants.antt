@@ -6,4 +6,4 @@ use Rattle.equation_runs.proofs.run.equations_in_turn.Given as goal
 
 -- those so far and those of the integers that are left are all
 abbrev pub invariant-loop-a : goal.invariant-loop-a
-invariant-loop-a l = l.run.items ++ map (equation_of Order) (chains_of l.a-iterator) ≡ map (equation_of Order) (chains_of (ints_of l.core))
+invariant-loop-a l = l.run.items ++ map (equation_of Order) (chains_of l.a-iterator) ≡ l.initial.run.items ++ map (equation_of Order) (chains_of (ints_of l.core))

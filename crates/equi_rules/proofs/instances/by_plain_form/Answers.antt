@@ -1,5 +1,5 @@
 use Rattle.std.proofs.Common.{sym, ap}
-use Rattle.rule_base.specs.declared.sought.Sought.TheVariants.{Apart}
+use Rattle.rule_base.specs.declared.sought.SoughtEquation.TheVariants.{Apart}
 use Rattle.rule_base.specs.Pairs.{first_sought}
 use Rattle.equi_rules.proofs.PlainLaws.{plain-form}
 use Rattle.equi_rules.proofs.instances.by_plain_form.Goals as goal

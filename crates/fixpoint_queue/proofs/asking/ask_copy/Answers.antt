@@ -1,15 +1,16 @@
 use Rattle.std.proofs.Common.{refl, subst, Option}
 use Rattle.std.specs.Prelude.{IfSome}
-use Rattle.core_rules.specs.declared.finding.FoundRun.{FoundRun}
+use Rattle.core_rules.specs.declared.found.FoundRun.{FoundRun}
 use Rattle.equation_runs.specs.Turns.{AreToldInTurn, EquationsBelow}
+use Rattle.fixpoint_queue.specs.Told.{IsToldInstance}
 use Rattle.fixpoint_queue.proofs.asking.ask_copy.Goals as goal
 
 pub returns-in-Some-clause-answer : goal.returns-in-Some-clause-answer
 returns-in-Some-clause-answer g c = (
   refl,
   record {
-    equation = subst (λ (o : Option FoundRun). IfSome o (λ first. g.F.Oracle.told c.args.copy first.equation)) c.in-Some.is c.in_ok-found.ensures.some;
-    run = subst (λ (o : Option FoundRun). IfSome o (λ first. AreToldInTurn g.F.Oracle.told c.args.copy first.run.items)) c.in-Some.is c.in_ok-found.ensures.run;
+    equation = subst (λ (o : Option FoundRun). IfSome o (λ first. IsToldInstance g.F.Oracle.told c.args.copy first.equation)) c.in-Some.is c.in_ok-found.ensures.some;
+    run = subst (λ (o : Option FoundRun). IfSome o (λ first. AreToldInTurn (IsToldInstance g.F.Oracle.told) c.args.copy first.run.items)) c.in-Some.is c.in_ok-found.ensures.run;
     below = λ n below. subst (λ (o : Option FoundRun). IfSome o (λ first. EquationsBelow n first.run.items)) c.in-Some.is (c.in_ok-found.ensures.below n below);
   },
 )

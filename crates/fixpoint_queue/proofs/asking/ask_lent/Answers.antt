@@ -1,10 +1,11 @@
 use Rattle.std.proofs.Common.{◌≡◌, sym, ap, ◌∙◌, subst, rules, Option, Some}
 use Rattle.std.specs.Prelude.{IfSome}
 use Rattle.core_forms.specs.declared.form.Core.{Core}
-use Rattle.core_rules.specs.declared.finding.FoundRun.{FoundRun}
+use Rattle.core_rules.specs.declared.found.FoundRun.{FoundRun}
 use Rattle.equation_runs.specs.Turns.{AreToldInTurn, EquationsBelow}
 use Rattle.step_kernel.specs.Kernel.{trimmed_at}
 use Rattle.step_kernel.proofs.There.{there-formed}
+use Rattle.fixpoint_queue.specs.Told.{IsToldInstance}
 use Rattle.fixpoint_queue.proofs.asking.ask_lent.Goals as goal
 
 pub ask-requires-clause-formed : goal.ask-requires-clause-formed
@@ -21,8 +22,8 @@ returns-in-Some-2-clause-answer g c =
     let same : c.in-Some-2.copy ≡ c.args.core.now = cc made in (
       same,
       record {
-        equation = subst (λ (o : Option FoundRun). IfSome o (λ first. g.F.Oracle.told c.args.core.now first.equation)) c.in-Some.is c.in_ok-found.ensures.some;
-        run = subst (λ (o : Option FoundRun). IfSome o (λ first. AreToldInTurn g.F.Oracle.told c.args.core.now first.run.items)) c.in-Some.is c.in_ok-found.ensures.run;
+        equation = subst (λ (o : Option FoundRun). IfSome o (λ first. IsToldInstance g.F.Oracle.told c.args.core.now first.equation)) c.in-Some.is c.in_ok-found.ensures.some;
+        run = subst (λ (o : Option FoundRun). IfSome o (λ first. AreToldInTurn (IsToldInstance g.F.Oracle.told) c.args.core.now first.run.items)) c.in-Some.is c.in_ok-found.ensures.run;
         below = λ n below. subst (λ (o : Option FoundRun). IfSome o (λ first. EquationsBelow n first.run.items)) c.in-Some.is (c.in_ok-found.ensures.below n below);
       },
     )

@@ -1,43 +1,52 @@
-use Rattle.std.proofs.Common.{◌≡◌, ◌⊎◌, ℕ, ◌≤◌, true, sym, ap, ◌∙◌, subst}
+use Rattle.std.proofs.Common.{◌≡◌, ◌⊎◌, inr, ℕ, ◌+◌, ◌≤◌, Bool, true, false, List, ◌∷◌, length, refl, sym, ap, ◌∙◌, subst, arith}
+use Rattle.std.proofs.lemmas.Bool.{false≢true}
 use Rattle.core_forms.specs.declared.equation.Equation.{Equation}
 use Rattle.core_forms.specs.Trimmed.{trimmed_core}
-use Rattle.equation_runs.specs.Turns.{resolved_equation, IsMade}
+use Rattle.equation_runs.specs.Turns.{resolved_equation, IsMade, AreInTurn}
 use Rattle.index_ring.specs.Lists.{times}
 use Rattle.step_kernel.specs.Kernel.{Kernel, trimmed_at}
-use Rattle.core_rules.specs.Instances.{is_instance_at}
 use Rattle.step_kernel.specs.Steps.{equated}
 use Rattle.fixpoint_queue.specs.Taken.{HasTaken}
-use Rattle.fixpoint_queue.proofs.Runs.{not-made, told-of, taken-one, made-equated}
+use Rattle.fixpoint_queue.specs.Told.{IsToldInstance}
+use Rattle.fixpoint_queue.proofs.Behind.{turn-made, turn-equated}
+use Rattle.fixpoint_queue.proofs.Runs.{is-made, not-made, told-of, taken-none, taken-one}
 use Rattle.fixpoint_queue.proofs.taking.take_next.Goals as goal
 
 pub take_equation-requires-clause-instance : goal.take_equation-requires-clause-instance
 take_equation-requires-clause-instance g c =
     let view = c.args.state.now.view in
     let core = trimmed_core view c.args.core.now in
-    let apart = not-made view c.args.e.now c.resolved-e.result c.ne.result c.ne.ensures c.if-ne.true c.resolved-e.ensures in
-    let tells = told-of g.F.Oracle.told c.args.core.now view c.args.e.now c.requires.told apart in
-    (core, ap (trimmed_at c.args.state.now) c.from.ensures ∙ c.requires.there, subst (λ (f : Equation). is_instance_at core f ≡ true) (sym c.resolved-e.ensures) (g.F.Oracle.told_is_instance core (resolved_equation view c.args.e.now) tells))
+    let tells = told-of (IsToldInstance g.F.Oracle.told) c.args.core.now view c.args.e.now c.requires.told (not-made view c.args.e.now c.resolved-e.result c.resolved-e.ensures (λ one. false≢true (sym c.if-eq.false ∙ c.eq.ensures.equal.1 one))) in
+    (core, ap (trimmed_at c.args.state.now) c.from.ensures ∙ c.requires.there, (subst (IsToldInstance g.F.Oracle.told core) (sym c.resolved-e.ensures) tells).1)
 
-pub returns-then-ne-clause-taken : goal.returns-then-ne-clause-taken
-returns-then-ne-clause-taken g c =
+pub returns-then-eq-clause-taken : goal.returns-then-eq-clause-taken
+returns-then-eq-clause-taken g c =
+    taken-none g.F.Oracle.told c.args.occurs.now c.args.marks.now c.args.id c.args.core.now c.args.state.now c.args.ledger.now.items c.args.queue.now c.requires.saturation c.requires.queued c.requires.there
+
+pub returns-then-eq-clause-turn : goal.returns-then-eq-clause-turn
+returns-then-eq-clause-turn g c = λ es turn.
+    let made = is-made c.args.state.now.view c.args.e.now c.resolved-e.result c.resolved-e.ensures (c.eq.ensures.equal.0 c.if-eq.true) in
+    inr (turn-made (IsToldInstance g.F.Oracle.told) c.args.core.now c.args.e.now es c.args.state.now.view c.requires.core c.requires.first c.requires.second made turn)
+
+pub returns-clause-taken : goal.returns-clause-taken
+returns-clause-taken g c =
     let k = c.args.state.now in
     let core = trimmed_core k.view c.args.core.now in
-    let apart = not-made k.view c.args.e.now c.resolved-e.result c.ne.result c.ne.ensures c.if-ne.true c.resolved-e.ensures in
-    let told = told-of g.F.Oracle.told c.args.core.now k.view c.args.e.now c.requires.told apart in
-    let tells : g.F.Oracle.told core c.resolved-e.result = subst (g.F.Oracle.told core) (sym c.resolved-e.ensures) told in
+    let told = told-of (IsToldInstance g.F.Oracle.told) c.args.core.now k.view c.args.e.now c.requires.told (not-made k.view c.args.e.now c.resolved-e.result c.resolved-e.ensures (λ one. false≢true (sym c.if-eq.false ∙ c.eq.ensures.equal.1 one))) in
+    let tells : IsToldInstance g.F.Oracle.told core c.resolved-e.result = subst (IsToldInstance g.F.Oracle.told core) (sym c.resolved-e.ensures) told in
     subst
     (λ (i : ℕ). HasTaken g.F.Oracle.told c.args.occurs.now c.args.marks.now i c.args.core.now k c.args.ledger.now.items c.args.queue.now
-    c.take_equation.new.state c.take_equation.new.ledger.items c.take_equation.new.queue)
+    c.take_equation.new.state c.take_equation.new.ledger.items c.take_equation.new.queue true)
     c.from.ensures
     (taken-one g.F.Oracle.told c.args.occurs.now c.args.marks.now c.from.result c.args.core.now k c.args.queue.now c.take_equation.new.queue c.requires.saturation c.requires.core
     (ap (trimmed_at k) c.from.ensures ∙ c.requires.there) c.requires.running (subst (λ (i : ℕ). 1 ≤ times i c.args.queue.now.queued) (sym c.from.ensures) c.requires.queued)
-    c.resolved-e.result tells (g.F.Oracle.told_is_instance core c.resolved-e.result tells) c.take_equation.ensures.woken c.take_equation.new.state c.take_equation.ensures.equated
+    c.resolved-e.result tells c.take_equation.ensures.woken c.take_equation.new.state c.take_equation.ensures.equated
     c.take_equation.ensures.step c.args.ledger.now.items c.take_equation.new.ledger.items c.take_equation.ensures.ledger)
 
-pub returns-then-ne-clause-made : goal.returns-then-ne-clause-made
-returns-then-ne-clause-made g c =
+pub returns-clause-turn : goal.returns-clause-turn
+returns-clause-turn g c = λ es turn.
     let k = c.args.state.now in
-    let apart = not-made k.view c.args.e.now c.resolved-e.result c.ne.result c.ne.ensures c.if-ne.true c.resolved-e.ensures in
     let is : c.take_equation.new.state ≡ equated k (resolved_equation k.view c.args.e.now) = c.take_equation.ensures.equated ∙ ap (equated k) c.resolved-e.ensures in
-    subst (λ (n : Kernel). (n.bottom ≡ true) ⊎ IsMade n.view c.args.e.now) (sym is)
-    (made-equated k c.requires.saturation.kernel c.args.e.now c.requires.first c.requires.second apart)
+    turn-equated (IsToldInstance g.F.Oracle.told) c.args.core.now c.args.e.now es k c.requires.saturation.kernel c.requires.core c.requires.first c.requires.second
+    (not-made k.view c.args.e.now c.resolved-e.result c.resolved-e.ensures (λ one. false≢true (sym c.if-eq.false ∙ c.eq.ensures.equal.1 one)))
+    c.take_equation.new.state is (returns-clause-taken g c).vars turn

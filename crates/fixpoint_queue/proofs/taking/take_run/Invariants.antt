@@ -1,14 +1,16 @@
 use Rattle.std.proofs.Common.{◌≡◌, ◌⊎◌, ◌+◌, ◌≤◌, true, length, drop}
 use Rattle.std.specs.Prelude.{vec_len, vec_capacity}
-use Rattle.core_forms.specs.declared.equation.Equation.{Equation}
-use Rattle.equation_runs.specs.Turns.{IsMade, AreToldAfter, EquationsBelow}
+use Rattle.equation_runs.specs.Turns.{AreInTurn, EquationsBelow}
 use Rattle.fixpoint_queue.specs.Taken.{HasTaken}
+use Rattle.fixpoint_queue.specs.Told.{IsToldInstance}
 use Rattle.fixpoint_queue.proofs.taking.take_run.Given as goal
 
 abbrev pub invariant-loop-e : goal.invariant-loop-e
 invariant-loop-e g l = record {
-  taken : HasTaken g.F.Oracle.told l.occurs l.marks l.id l.core l.fn.state l.fn.ledger.items l.fn.queue l.state l.ledger.items l.queue;
-  turn : (l.state.bottom ≡ true) ⊎ ((before : Equation) × IsMade l.state.view before × AreToldAfter g.F.Oracle.told l.core before (drop l.e-index l.run));
+  taken : HasTaken g.F.Oracle.told l.occurs l.marks l.id l.core l.fn.state l.fn.ledger.items l.fn.queue l.state l.ledger.items l.queue l.some;
+  turn : (l.state.bottom ≡ true) ⊎ AreInTurn (IsToldInstance g.F.Oracle.told) l.core l.state.view (drop l.e-index l.run);
   below : EquationsBelow (length l.fn.state.view + 1) (drop l.e-index l.run);
   room : vec_len l.ledger + length l.run ≤ vec_capacity l.ledger + l.e-index;
+  lines : vec_len l.ledger ≤ vec_len l.fn.ledger + l.e-index;
+  capacity : vec_capacity l.ledger ≡ vec_capacity l.fn.ledger;
 }

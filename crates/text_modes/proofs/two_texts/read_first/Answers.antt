@@ -13,5 +13,5 @@ returns-in-Ok-Cut-clause-read g c =
     let most = g.M.TwoTexts.most c.args.mode.now in
     let shown = shelf_shown g.S.Shelf.left g.S.Shelf.faults in (
       inl (too_long c.args.input.now most (shown c.args.shelf.now) (shown c.read_all.new.shelf) (g.M.TwoTexts.has_fault c.args.mode.now) c.too_long.result text moved cut c.too_long.ensures),
-      rw c.in-Ok-Cut.is at c.read_all.ensures.counts_faults,
+      rw c.in-Ok-Cut.is at c.read_all.ensures.counts_nothing_else,
     )

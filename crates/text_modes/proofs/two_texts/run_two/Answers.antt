@@ -30,4 +30,4 @@ returns g c =
     written_ended (m.most c.args.mode.now) (m.holds c.args.mode.now) (m.has_fault c.args.mode.now) (m.gives c.args.mode.now) c.args.input.now c.args.second.now shows c.in-Ok.held between
     c.in-Ok.ensures.read c.in-Ok.ensures.took
     (record { front = c.in-Ok-read_whole.ensures.took; others_stay = c.in-Ok-read_whole.ensures.others_stay }) c.in-Ok-read_whole.text.items c.in-Ok-read_whole.ensures.whole
-    c.in-Ok-read_whole.ensures.counts_faults c.write_made.result (rw c.as_slice.ensures.value at c.write_made.ensures)
+    c.in-Ok-read_whole.ensures.counts_nothing_else c.write_made.result (rw c.as_slice.ensures.value at c.write_made.ensures)

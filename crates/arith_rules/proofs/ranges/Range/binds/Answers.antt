@@ -1,7 +1,7 @@
 use Rattle.std.proofs.Common.{◌≡◌, ap, sym, ◌∙◌, arith}
 use Rattle.std.proofs.lemmas.Int.{ints}
 use Rattle.order_ints.specs.OrderRange.{low_of, high_of}
-use Rattle.rule_base.specs.declared.sought.Sought.{Sought}
+use Rattle.rule_base.specs.declared.sought.SoughtEquation.{SoughtEquation}
 use Rattle.rule_base.specs.Pairs.{first_sought}
 use Rattle.arith_rules.specs.declared.ranges.Range.{Range}
 use Rattle.arith_rules.specs.Links.{within}
@@ -14,4 +14,4 @@ returns-then-own-self c =
     let high : c.args.own.now.high ≡ high_of c.args.a.now = ap (λ (r : Range). r.high) c.requires.own in
     unbound c.args.a.now c.args.self.now.low c.args.self.now.high
     (omega (arith, ints, c.if-self-own.true, low)) (omega (arith, ints, c.if-own-self.true, high))
-    ∙ ap (λ (s : Sought). first_sought s (within c.args.a.now c.args.self.now.low c.args.self.now.high)) (sym c.in-Apart.is)
+    ∙ ap (λ (s : SoughtEquation). first_sought s (within c.args.a.now c.args.self.now.low c.args.self.now.high)) (sym c.in-Apart.is)

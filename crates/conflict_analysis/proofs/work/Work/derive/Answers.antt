@@ -14,12 +14,12 @@ resolve_implied-requires-clause-walked g c = subst (λ (cs : List Mark). AreWalk
 
 pub resolve_implied-requires-clause-roots : goal.resolve_implied-requires-clause-roots
 resolve_implied-requires-clause-roots g c =
-    subst (λ (cs : List Mark). AreRoots (g.T.Reasons.trail c.args.source.now).entries cs c.clear.new.self.fates.marks.cells) (sym c.in_ok-meet.ensures.marks) (bottom-roots (g.T.Reasons.trail c.args.source.now) c.requires.trail (g.T.Reasons.named c.args.source.now) (g.T.Reasons.lives c.args.source.now) c.requires.reasons (g.T.Reasons.named c.args.source.now c.args.conflict) c.args.over c.requires.bottom c.clear.new.self.met.cells (length c.args.self.now.met.cells) c.requires.size c.clear.ensures.met c.clear.new.self.fates.marks.cells)
+    subst (λ (cs : List Mark). AreRoots (g.T.Reasons.trail c.args.source.now).entries cs c.clear.new.self.minimiser.marks.cells) (sym c.in_ok-meet.ensures.marks) (bottom-roots (g.T.Reasons.trail c.args.source.now) c.requires.trail (g.T.Reasons.named c.args.source.now) (g.T.Reasons.lives c.args.source.now) c.requires.reasons (g.T.Reasons.named c.args.source.now c.args.conflict) c.args.over c.requires.bottom c.clear.new.self.met.cells (length c.args.self.now.met.cells) c.requires.size c.clear.ensures.met c.clear.new.self.minimiser.marks.cells)
 
 pub resolve_implied-requires-clause-seeking : goal.resolve_implied-requires-clause-seeking
 resolve_implied-requires-clause-seeking g c =
-    subst (λ (o : List ℕ). IsSeeking (g.T.Reasons.trail c.args.source.now).entries (g.T.Reasons.named c.args.source.now) c.meet.new.marks.cells c.clear.new.self.fates.marks.cells [] o) (sym c.clear.ensures.order)
-    (seeking-none (g.T.Reasons.trail c.args.source.now).entries (g.T.Reasons.named c.args.source.now) c.meet.new.marks.cells c.clear.new.self.fates.marks.cells (length c.args.self.now.fates.marks.cells) c.clear.ensures.fates)
+    subst (λ (o : List ℕ). IsSeeking (g.T.Reasons.trail c.args.source.now).entries (g.T.Reasons.named c.args.source.now) c.meet.new.marks.cells c.clear.new.self.minimiser.marks.cells [] o) (sym c.clear.ensures.order)
+    (seeking-none (g.T.Reasons.trail c.args.source.now).entries (g.T.Reasons.named c.args.source.now) c.meet.new.marks.cells c.clear.new.self.minimiser.marks.cells (length c.args.self.now.minimiser.marks.cells) c.clear.ensures.minimiser)
 
 pub returns-clause-derived : goal.returns-clause-derived
 returns-clause-derived g c = λ spare bound s.

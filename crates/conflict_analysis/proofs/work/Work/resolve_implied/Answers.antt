@@ -8,4 +8,4 @@ returns-clause-ended g c = λ spare bound conflict r.
     (rw (← c.as_slice.ensures.value) (c.in_ok-follow.ensures.followed spare bound conflict
     (rw c.as_slice.ensures.value (following-start (g.T.Reasons.trail c.args.source.now).entries (g.T.Reasons.named c.args.source.now) c.args.self.now.met.cells c.seek.new.self.marks.cells c.seek.new.self.order.items c.in_ok-seek.ensures.seeking
     spare bound conflict c.args.hints.now.items c.requires.walked c.in_ok-seek.ensures.known r))))
-    c.turn.new.hints.items c.turn.ensures c.args.self.now.fates.marks.cells c.in_ok-seek.ensures.keep
+    c.turn.new.hints.items c.turn.ensures c.args.self.now.minimiser.marks.cells c.in_ok-seek.ensures.keep

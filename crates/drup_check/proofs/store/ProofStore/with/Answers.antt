@@ -1,12 +1,8 @@
 use Rattle.std.proofs.Common.{ap, ◌∙◌}
 use Rattle.literal_trail.specs.Trail.{Trail}
 use Rattle.drup_check.proofs.Trails.{follows-same}
-use Rattle.clause_rings.proofs.Ascending.{ascending-apart}
 use Rattle.drup_check.proofs.Started.{cnf-holds, propagated}
 use Rattle.drup_check.proofs.store.ProofStore.with.Goals as goal
-
-pub with-requires-clause-apart : goal.with-requires-clause-apart
-with-requires-clause-apart c = ascending-apart c.args.cnf.now c.requires.ascend
 
 pub returns-clause-stands : goal.returns-clause-stands
 returns-clause-stands c =

@@ -2,4 +2,4 @@ use Rattle.learning_solver.proofs.RunLaws.{anew-forgets}
 use Rattle.learning_solver.proofs.search.Search.begin_anew.Goals as goal
 
 pub returns-clause-anew : goal.returns-clause-anew
-returns-clause-anew c = anew-forgets c.args.self.now c.jump_back.new.self c.delete_half.new.self c.jump_back.ensures.jumped c.delete_half.ensures.forgets
+returns-clause-anew c = anew-forgets c.args.self.now c.jump_back.new.self c.reduce.new.self c.jump_back.ensures.jumped c.reduce.ensures.forgets

@@ -12,7 +12,7 @@ returns-in-Ok-clause-turned c =
     let given = c.in-None.ensures.none refl in
     let values = c.in-Ok.values in
     let are = c.in-Ok.ensures in (
-      left-order task c.args.pace.now s c.pick.new.self (left-running task c.args.pace.now s c.requires.running) c.pick.ensures.vars,
+      left-order task c.args.restarts.now s c.pick.new.self (left-running task c.args.restarts.now s c.requires.running) c.pick.ensures.vars,
       record {
         count = are.count ∙ is.vars;
         satisfies = satisfied s.db.trail s.db.clauses is.db c.requires.complete given values are s.cnf.now _ is.kept is.log.cnf_lives;
@@ -23,4 +23,4 @@ returns-in-Ok-clause-turned c =
 pub returns-in-Err-clause-turned : goal.returns-in-Err-clause-turned
 returns-in-Err-clause-turned c =
     let s = c.args.self.now in
-    left-order c.args.task c.args.pace.now s c.pick.new.self (left-running c.args.task c.args.pace.now s c.requires.running) c.pick.ensures.vars
+    left-order c.args.task c.args.restarts.now s c.pick.new.self (left-running c.args.task c.args.restarts.now s c.requires.running) c.pick.ensures.vars

@@ -2,6 +2,7 @@ use Rattle.std.proofs.Common.{◌∙◌, [], ◌∷◌, Some, refl}
 use Rattle.learning_solver.proofs.TeachLaws.{refuted-accepted, one-range, forced-live}
 use Rattle.learning_solver.proofs.RunLaws.{left-running, left-stays, left-takes, spent, forward-stays}
 use Rattle.learning_solver.proofs.EndLaws.{refutation-named, new-stays, refutes-denied, new-unit}
+use Rattle.learning_solver.proofs.OpenLaws.{none-denied}
 use Rattle.learning_solver.proofs.search.Search.deny.Goals as goal
 
 pub returns-in-Some-clause-turned : goal.returns-in-Some-clause-turned
@@ -9,19 +10,22 @@ returns-in-Some-clause-turned c =
     let s = c.args.self.now in
     let task = c.args.task in
     let is = c.requires.running.search in (
-      left-running task c.args.pace.now s c.requires.running,
+      left-running task c.args.restarts.now s c.requires.running,
       refutation-named s.cnf.now s.lines.items s.db.clauses is.log is.kept task.assumption (Some c.args.denied) c.in-Some.id (refutes-denied c.args.self.now.db.trail task.assumption c.args.denied c.args.reason c.requires.denied) c.in-Some.ensures.found,
     )
 
 pub returns-then-self-task-clause-turned : goal.returns-then-self-task-clause-turned
 returns-then-self-task-clause-turned c =
     let s = c.args.self.now in
-    let task = c.args.task in
-    (left-running task c.args.pace.now s c.requires.running, spent task c.args.pace.now s c.requires.running c.if-self-task.true)
+    let task = c.args.task in (
+      left-running task c.args.restarts.now s c.requires.running,
+      spent task c.args.restarts.now s c.requires.running c.if-self-task.true
+          (none-denied s.db.clauses s.db.trail task.assumption c.args.denied c.args.reason c.requires.denied c.requires.complete (c.in_default.ensures.none refl)),
+    )
 
 pub returns-in_default-lesson_of_denial-clause-turned : goal.returns-in_default-lesson_of_denial-clause-turned
 returns-in_default-lesson_of_denial-clause-turned c =
-    left-stays c.args.task c.args.pace.now c.args.self.now c.lesson_of_denial.new.self c.requires.running c.lesson_of_denial.ensures.stays c.lesson_of_denial.ensures.search
+    left-stays c.args.task c.args.restarts.now c.args.self.now c.lesson_of_denial.new.self c.requires.running c.lesson_of_denial.ensures.stays c.lesson_of_denial.ensures.search
 
 pub returns-in_default-lesson_of_denial-clause-forward : goal.returns-in_default-lesson_of_denial-clause-forward
 returns-in_default-lesson_of_denial-clause-forward c = forward-stays c.args.self.now c.lesson_of_denial.new.self c.lesson_of_denial.ensures.stays
@@ -52,7 +56,7 @@ returns-clause-turned c =
     let takes = c.take-clause.ensures.takes in
     let is = c.take-clause.ensures.search in
     let lits = c.in-Ok.ensures.ready.lits ∙ c.in-Ok.ensures.refuted.same in (
-      left-takes task c.args.pace.now s mid new lesson c.take-clause.result c.requires.running c.lesson_of_denial.ensures.stays takes is c.if-self-task.false,
+      left-takes task c.args.restarts.now s mid new lesson c.take-clause.result c.requires.running c.lesson_of_denial.ensures.stays takes is c.if-self-task.false,
       refutation-named new.cnf.now new.lines.items new.db.clauses is.log is.kept task.assumption (Some c.args.denied) lesson.id (refutes-denied c.args.self.now.db.trail task.assumption c.args.denied c.args.reason c.requires.denied)
           (record { reference = c.take-clause.result; live = takes.live; same_id = takes.id; same_lits = takes.lits ∙ lits }),
     )

@@ -4,10 +4,10 @@ use Rattle.learning_solver.proofs.search.Search.find_answer.Given as goal
 
 abbrev pub invariant-loop-found : goal.invariant-loop-found
 invariant-loop-found l = record {
-  running : IsRunning l.task l.pace l.self;
+  running : IsRunning l.task l.restarts l.self;
   forward : GoesForward l.fn.self l.self;
-  start : l.pace.start ≡ l.fn.self.added;
-  restart : l.pace.restart ≡ l.restart;
+  start : l.restarts.start ≡ l.fn.self.added;
+  restart : l.restarts.restart ≡ l.restart;
 }
 
 abbrev pub decreases-loop-found : goal.decreases-loop-found

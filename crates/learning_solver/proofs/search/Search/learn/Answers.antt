@@ -1,20 +1,24 @@
 use Rattle.std.proofs.Common.{◌<◌, sym, arith, subst, Bool}
 use Rattle.learning_solver.specs.declared.search.Search.{Search}
-use Rattle.learning_solver.specs.Pacing.{Counts}
+use Rattle.learning_solver.specs.Restarting.{Counts}
 use Rattle.learning_solver.specs.Searching.{IsRunning, left_to_do, GoesForward}
-use Rattle.learning_solver.proofs.PaceLaws.{few-stretches}
+use Rattle.learning_solver.proofs.RestartLaws.{few-stretches}
 use Rattle.learning_solver.proofs.TeachLaws.{teaches}
 use Rattle.learning_solver.proofs.RunLaws.{left-running, left-stays, spent, forward-stays, forward-turns, forward-anew, forward-then, running-learned, running-anew}
+use Rattle.learning_solver.proofs.OpenLaws.{none-above-bottom}
 use Rattle.learning_solver.proofs.search.Search.learn.Goals as goal
 use Rattle.learning_solver.proofs.search.Search.learn.Goals.{then-learn, else-learn}
 
 pub returns-then-self-task-clause-turned : goal.returns-then-self-task-clause-turned
 returns-then-self-task-clause-turned c =
-    let s = c.args.self.now in
-    (left-running c.args.task c.args.pace.now s c.requires.running, spent c.args.task c.args.pace.now s c.requires.running c.if-self-task.true)
+    let s = c.args.self.now in (
+      left-running c.args.task c.args.restarts.now s c.requires.running,
+      spent c.args.task c.args.restarts.now s c.requires.running c.if-self-task.true
+          (none-above-bottom s.db.clauses s.db.trail c.requires.running.search.db c.requires.above c.args.task.assumption (c.requires.running.assumed c.requires.above)),
+    )
 
 pub returns-in-Err-clause-turned : goal.returns-in-Err-clause-turned
-returns-in-Err-clause-turned c = left-stays c.args.task c.args.pace.now c.args.self.now c.study.new.self c.requires.running c.study.ensures.stays c.study.ensures.search
+returns-in-Err-clause-turned c = left-stays c.args.task c.args.restarts.now c.args.self.now c.study.new.self c.requires.running c.study.ensures.stays c.study.ensures.search
 
 pub returns-in-Err-clause-forward : goal.returns-in-Err-clause-forward
 returns-in-Err-clause-forward c = forward-stays c.args.self.now c.study.new.self c.study.ensures.stays
@@ -26,7 +30,7 @@ turn_back-requires-clause-teaches c =
 pub learn-requires-clause-few : goal.learn-requires-clause-few
 learn-requires-clause-few c =
     let s = c.args.self.now in
-    few-stretches s.cnf.now.vars s.added _ c.args.pace.now c.requires.running.paced (omega arith)
+    few-stretches s.cnf.now.vars s.added _ c.args.restarts.now c.requires.running.stretched (omega arith)
 
 pub returns-clause-turned : goal.returns-clause-turned
 returns-clause-turned c =
@@ -38,12 +42,12 @@ returns-clause-turned c =
     elim c.if-learn.branch [
       | then-learn w ↦
           subst P (sym w.self-is)
-          (running-anew task c.args.pace.now c.learn.new.self s0 s1 s2 c.in-Ok.lesson c.requires.running c.study.ensures.stays c.turn_back.ensures.turned c.if-self-task.false w.begin_anew.new.self w.begin_anew.ensures.anew w.begin_anew.ensures.search
-          (let Q : Bool → Type 0 = Counts c.args.pace.now c.learn.new.self in subst Q w.if-learn.true c.learn.ensures))
+          (running-anew task c.args.restarts.now c.learn.new.self s0 s1 s2 c.in-Ok.lesson c.requires.running c.study.ensures.stays c.turn_back.ensures.turned c.if-self-task.false w.begin_anew.new.self w.begin_anew.ensures.anew w.begin_anew.ensures.search
+          (let Q : Bool → Type 0 = Counts c.args.restarts.now c.learn.new.self in subst Q w.if-learn.true c.learn.ensures))
       | else-learn w ↦
           subst P (sym w.self-is)
-          (running-learned task c.args.pace.now c.learn.new.self s0 s1 s2 c.in-Ok.lesson c.requires.running c.study.ensures.stays c.turn_back.ensures.turned c.if-self-task.false c.turn_back.ensures.search
-          (let Q : Bool → Type 0 = Counts c.args.pace.now c.learn.new.self in subst Q w.if-learn.false c.learn.ensures))
+          (running-learned task c.args.restarts.now c.learn.new.self s0 s1 s2 c.in-Ok.lesson c.requires.running c.study.ensures.stays c.turn_back.ensures.turned c.if-self-task.false c.turn_back.ensures.search
+          (let Q : Bool → Type 0 = Counts c.args.restarts.now c.learn.new.self in subst Q w.if-learn.false c.learn.ensures))
     ]
 
 pub returns-clause-forward : goal.returns-clause-forward

@@ -8,6 +8,7 @@ use Rattle.learning_solver.specs.Kept.{AreOnce}
 use Rattle.learning_solver.proofs.LogLaws.{none-lives-above}
 use Rattle.learning_solver.proofs.DeleteLaws.{once-added}
 use Rattle.learning_solver.proofs.LitLaws.{lits-of-addition}
+use Rattle.learning_solver.proofs.ReadableLaws.{addition-readable}
 use Rattle.learning_solver.proofs.SearchLaws.{log-taken, additions-taken, kept-taken}
 use Rattle.learning_solver.proofs.search.Search.take.Goals as goal
 
@@ -37,7 +38,8 @@ returns-clause-search c =
       db = c.add-clause.ensures.db;
       vars = ap (λ (d : ClauseLists). d.trail.vars) c.add-clause.ensures.clause ∙ is.vars;
       few = is.few;
-      log = log-taken cnf log is.log lesson.id lesson.lits lesson.hints _ goes c.requires.next c.requires.fault c.requires.new;
+      log = log-taken cnf log is.log lesson.id lesson.lits lesson.hints _ goes c.requires.next
+          (addition-readable cnf log is.log is.few lesson.id lesson.lits lesson.hints c.requires.next c.requires.small c.requires.fault c.requires.hints) c.requires.fault c.requires.new;
       base = is.base;
       added = ap (λ (n : ℕ). n + 1) is.added ∙ sym (additions-taken cnf log is.log lesson.id lesson.lits lesson.hints _ goes c.requires.next);
       kept = kept-taken cnf log is.log lesson.id lesson.lits lesson.hints _ goes c.requires.next s.db.clauses c.add-clause.result _ is.kept c.add-clause.ensures.inside c.add-clause.ensures.fresh

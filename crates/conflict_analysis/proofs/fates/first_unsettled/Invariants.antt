@@ -1,6 +1,0 @@
-use Rattle.std.proofs.Common.{◌≡◌, ℕ, ◌<◌, ◌≤◌, true}
-use Rattle.conflict_analysis.specs.Seeking.{is_settled, lit_in}
-use Rattle.conflict_analysis.proofs.fates.first_unsettled.Given as goal
-
-abbrev pub invariant-loop-place : goal.invariant-loop-place
-invariant-loop-place g l = (j : ℕ) → l.frame.place ≤ j → j < l.place → is_settled l.fates.cells l.frame.var (lit_in (g.T.Reasons.named l.source l.clause).lits j).var ≡ true

@@ -1,5 +1,0 @@
-use Rattle.core_rules.proofs.Weaker.{run-told}
-use Rattle.core_rules.proofs.finding.with_run.Goals as goal
-
-pub returns-clause-run : goal.returns-clause-run
-returns-clause-run g c = run-told c.args.core.now _ c.in_ok-run.ensures.told

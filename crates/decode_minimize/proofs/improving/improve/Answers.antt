@@ -1,0 +1,17 @@
+use Rattle.std.proofs.Common.{subst}
+use Rattle.decode_minimize.specs.declared.improving.Turn.{Turn}
+use Rattle.decode_minimize.specs.Seeking.{IsTurned}
+use Rattle.decode_minimize.proofs.Turning.{last-shown, last-spent}
+use Rattle.decode_minimize.proofs.improving.improve.Goals as goal
+
+pub returns-in-Shown-clause-improved : goal.returns-in-Shown-clause-improved
+returns-in-Shown-clause-improved c =
+    last-shown c.args.solver.now c.loop.solver c.improve_once.new.solver c.args.sought.now c.args.options c.args.best.now c.loop.best c.improve_once.new.best
+    c.loop.invariant.cnf c.loop.invariant.cost c.loop.invariant.no_worse
+    (subst (λ (t : Turn). IsTurned c.loop.solver c.improve_once.new.solver c.args.sought.now c.args.options c.loop.best c.improve_once.new.best t) c.in-Shown.is c.in_ok-improve_once.ensures.turned)
+
+pub returns-in-Spent-clause-improved : goal.returns-in-Spent-clause-improved
+returns-in-Spent-clause-improved c =
+    last-spent c.args.solver.now c.loop.solver c.improve_once.new.solver c.args.sought.now c.args.options c.args.best.now c.loop.best c.improve_once.new.best
+    c.loop.invariant.cnf c.loop.invariant.cost c.loop.invariant.no_worse
+    (subst (λ (t : Turn). IsTurned c.loop.solver c.improve_once.new.solver c.args.sought.now c.args.options c.loop.best c.improve_once.new.best t) c.in-Spent.is c.in_ok-improve_once.ensures.turned)

@@ -1,0 +1,14 @@
+use Rattle.std.proofs.Common.{List, ◌++◌, ℤ, sym, ap, ◌∙◌}
+use Rattle.equation_runs.specs.FreeAtoms.{vars_of, are_different, step_atoms, int_atoms}
+use Rattle.equation_runs.proofs.BoundSteps.{vars_both}
+use Rattle.equation_runs.proofs.free.are_all_free.Goals as goal
+
+pub returns : goal.returns
+returns c =
+    let steps = step_atoms c.args.c.now.steps in
+    let atoms = int_atoms c.args.ints.now in
+    c.are_different.ensures
+    ∙ ap are_different
+    (c.in_ok-push_int_vars.ensures
+    ∙ ap (λ (vs : List ℤ). vs ++ vars_of atoms) (c.in_ok-push_step_vars.ensures ∙ ap (λ (vs : List ℤ). vs ++ vars_of steps) c.new-vars.ensures.items)
+    ∙ sym (vars_both steps atoms))

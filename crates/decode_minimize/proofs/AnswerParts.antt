@@ -75,7 +75,7 @@ use Rattle.decode_minimize.specs.declared.options.Options.{Options}
 use Rattle.decode_minimize.specs.declared.solved.Solved.{Solved}
 use Rattle.decode_minimize.specs.Objectives.{bound_of, no_worse_of, IsObjective}
 use Rattle.decode_minimize.specs.Solved.{Problem, IsReadFrom, HasBounds, HasSecond, IsOptimal, IsSpentFirst, IsSpentSecond, IsGivenUp, IsSolvedAny, IsSolvedBest, IsSolved, IsAnySolved, IsBestSolved, IsSolvedFor, settled_cnf, second_named, second_added, value_under, values_count}
-use Rattle.decode_minimize.specs.Answers.{IsBudget, values_at, second_values, most_rounds, all_additions, IsDecided, IsSpent, IsFreshSecond, IsAnswer}
+use Rattle.decode_minimize.specs.Answers.{IsBudget, values_at, second_values, most_rounds, all_additions, IsDecided, IsSpent, IsFreshSecond, IsPaidBehind, IsPaidTowards, IsAnswer}
 use Rattle.decode_minimize.specs.Answering.{problem_at}
 use Rattle.decode_minimize.proofs.Entries.{entries-objectives, count-at, numbers-fit}
 
@@ -95,6 +95,11 @@ second-bound-is Greatest place other entries n = refl
 pub settled-is : (d : Direction) (place : ℕ) (second : Option ℕ) (entries : List MapValue) (m : ℤ) → settled (goal_of d place second) entries m ≡ no_worse_of d (integer_named entries place) m
 settled-is Least place second entries m = refl
 settled-is Greatest place second entries m = refl
+
+pub paid-towards : (d : Direction) (place : ℕ) (second : Option ℕ) (entries : List MapValue) (budget most : ℕ) (b : Bounds) (lines : Option (List ProofLine))
+    → IsPaidBehind entries budget most d place second b lines → IsPaidTowards entries budget most b lines (goal_of d place second)
+paid-towards Least place second entries budget most b lines h = h
+paid-towards Greatest place second entries budget most b lines h = h
 
 pub objective-is : (d : Direction) (place : ℕ) (second : Option ℕ) (a : List ℤ) → objective (goal_of d place second) a ≡ value_at a place ∷ second_value second a
 objective-is Least place second a = refl

@@ -149,6 +149,7 @@ module _ (told : Core → Equation → Type 0) (options : Options) (budget : IsB
       spent = parts.spent;
       enough = parts.enough;
       unshown = parts.unshown;
+      paid = parts.paid;
       asked = asked;
     }
 

@@ -25,6 +25,7 @@ mod improving;
 mod objective;
 mod options;
 mod rounds;
+mod seeker;
 mod settling;
 mod solved;
 mod solving;

@@ -1,14 +1,12 @@
 -- What is solved for a model that is lowered answers the model.
-use Rattle.std.proofs.Common.{◌≡◌, ◌⊎◌, ◌↔◌, ℕ, ◌+◌, ◌*◌, ◌≤◌, ◌<◌, ◌^◌, Bool, true, List, [], ◌∷◌, ◌++◌, length, Option, Some, None, Ok, refl, sym, ap, ◌∙◌, subst, ⊎_elim, ℤ, arith}
+use Rattle.std.proofs.Common.{◌≡◌, ◌↔◌, ℕ, ◌+◌, ◌*◌, ◌≤◌, ◌<◌, ◌^◌, Bool, List, [], ◌∷◌, ◌++◌, length, Option, Some, None, Ok, sym, ap, ◌∙◌, subst, ⊎_elim, ℤ, arith}
 use Rattle.std.proofs.Math.Nat.{mul-le-mul_left}
-use Rattle.std.specs.Prelude.{IsTrue, IfSome, FitsSigned, slice_get}
+use Rattle.std.specs.Prelude.{IfSome, FitsSigned, slice_get}
 use Rattle.std.specs.Int.{w64}
 use Rattle.order_ints.specs.declared.atom.Atom.{Atom}
 use Rattle.order_ints.specs.declared.cnf.Cnf.{Cnf}
 use Rattle.order_ints.specs.declared.order_int.OrdInt.{OrdInt}
 use Rattle.order_ints.specs.declared.order_int.MapValue.{MapValue}
-use Rattle.order_ints.specs.Numbers.{numbers_of}
-use Rattle.order_ints.specs.OrderValue.{value_of}
 use Rattle.order_ints.specs.Satisfies.{Satisfies}
 use Rattle.order_ints.specs.Truth.{Valuation, valuation_of}
 use Rattle.order_ints.specs.View.{resolve}
@@ -17,7 +15,7 @@ use Rattle.core_forms.specs.declared.form.Core.{Core}
 use Rattle.ledger_text.specs.declared.line.Line.{Line}
 use Rattle.model_meaning.specs.declared.model.Assignment.{Assignment}
 use Rattle.model_meaning.specs.declared.model.Goal.{Goal}
-use Rattle.model_meaning.specs.declared.model.Goal.TheVariants.{Satisfy, Minimize, Maximize}
+use Rattle.model_meaning.specs.declared.model.Goal.TheVariants.{Satisfy}
 use Rattle.model_meaning.specs.declared.model.Model.{Model}
 use Rattle.model_meaning.specs.declared.what.IntTerm.TheVariants.{Of}
 use Rattle.model_meaning.specs.Limits.{InLimits}
@@ -34,7 +32,6 @@ use Rattle.step_kernel.specs.Kernel.{Kernel, IsKernel}
 use Rattle.step_kernel.specs.CnfOf.{cnf_of}
 use Rattle.step_kernel.specs.Steps.{replay}
 use Rattle.step_kernel.proofs.Started.{started-kernel}
-use Rattle.asking_bound.specs.Questions.{most_questions}
 use Rattle.asking_bound.proofs.Asked.{leads-replay}
 use Rattle.state_compile.specs.Compilation.{IsCompilation}
 use Rattle.state_compile.specs.StandsFor.{read_by}
@@ -54,15 +51,15 @@ use Rattle.answer_document.specs.declared.verdict.Verdict.{Verdict}
 use Rattle.answer_document.specs.declared.verdict.Verdict.TheVariants.{Satisfiable, Unsatisfiable, Optimum, Unknown}
 use Rattle.answer_document.specs.declared.document.Document.{Document}
 use Rattle.answer_document.specs.BoundAtoms.{integer_named, first_bound, second_bound, settled}
-use Rattle.answer_document.specs.Verdicts.{numbers_in, numbers_with, BoundsFit, VerdictFits}
+use Rattle.answer_document.specs.Verdicts.{numbers_with, BoundsFit, VerdictFits}
 use Rattle.answer_document.specs.Claims.{IsSolutionAt}
 use Rattle.answer_document.specs.Valid.{start_of, IsShown, first_shown, second_shown, second_cnf, atom_clauses, IsDerived, IsSecond, AreShown, AreAdded, AreAddedAlone, IsCertified, AnswerHolds, AreReadableSteps, AreReadableLines, IsReadableSecond, FitNumbers, FitAssignment, stated, numbers_given}
 use Rattle.decode_minimize.specs.declared.objective.Direction.{Direction}
 use Rattle.decode_minimize.specs.declared.options.Options.{Options}
 use Rattle.decode_minimize.specs.declared.solved.Solved.{Solved}
-use Rattle.decode_minimize.specs.Objectives.{bound_of, no_worse_of, IsObjective}
-use Rattle.decode_minimize.specs.Solved.{Problem, IsDerivation, IsReadFrom, HasBounds, HasSecond, IsOptimal, IsFirstShown, IsSpentFirst, IsSpentSecond, IsSolvedAny, IsSolvedBest, IsSolvedFor, settled_cnf, second_named, second_added, value_under, values_count, values_in}
-use Rattle.decode_minimize.specs.Answers.{IsBudget, values_at, second_values, most_rounds, IsDecided, IsSpent, IsFreshSecond, IsOpenBehind, IsOpen, IsPaidFor, IsPaidBehind, IsPaidTowards, IsPaid, IsAnswer}
+use Rattle.decode_minimize.specs.Objectives.{bound_of, IsObjective}
+use Rattle.decode_minimize.specs.Solved.{Problem, IsDerivation, IsReadFrom, HasBounds, HasSecond, IsOptimal, IsFirstShown, IsSpentFirst, IsSpentSecond, IsSolvedAny, IsSolvedBest, settled_cnf, second_named, second_added, value_under, values_count, values_in}
+use Rattle.decode_minimize.specs.Answers.{IsBudget, values_at, second_values, most_rounds, IsDecided, IsSpent, IsFreshSecond, IsOpenBehind, IsOpen, IsPaidFor, IsPaidBehind, IsPaidTowards, IsPaid}
 use Rattle.decode_minimize.specs.Answering.{problem_at}
 use Rattle.decode_minimize.proofs.Entries.{entries-objectives, count-at, numbers-fit}
 use Rattle.decode_minimize.proofs.Rounding.{some-value}

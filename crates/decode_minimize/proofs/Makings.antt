@@ -1,6 +1,5 @@
 -- What is made of rounds is solved.
-use Rattle.std.proofs.Common.{◌≡◌, ◌⊎◌, ℕ, ◌+◌, ◌-◌, ◌*◌, ◌≤◌, ◌<◌, Bool, true, false, List, [], ◌∷◌, ◌++◌, length, Option, Some, None, refl, sym, ap, ◌∙◌, subst, inl, inr, ℤ, FitsSigned, w64, to_z, of_z, arith}
-use Rattle.std.specs.Option.{option_map}
+use Rattle.std.proofs.Common.{◌≡◌, ℕ, ◌+◌, ◌-◌, ◌*◌, ◌≤◌, ◌<◌, Bool, true, false, List, ◌++◌, length, Option, Some, None, refl, sym, ap, ◌∙◌, subst, inl, inr, ℤ, FitsSigned, w64, to_z, of_z, arith}
 use Rattle.std.proofs.Math.Nat.{mul-le-mul_left}
 use Rattle.std.proofs.lemmas.Int.{to_z-of_z}
 use Rattle.order_ints.specs.declared.atom.Atom.{Atom}
@@ -8,7 +7,6 @@ use Rattle.order_ints.specs.declared.cnf.Cnf.{Cnf}
 use Rattle.order_ints.specs.declared.order_int.OrdInt.{OrdInt}
 use Rattle.order_ints.specs.OrderValue.{value_of, IsOrdered}
 use Rattle.order_ints.specs.Place.{AtomBelow}
-use Rattle.order_ints.specs.Satisfies.{Satisfies, clauses_truth}
 use Rattle.order_ints.specs.Truth.{Valuation, valuation_of, atom_truth}
 use Rattle.order_ints.specs.View.{resolve}
 use Rattle.order_ints.proofs.PlaceLaws.{AtomBelow-not_atom, AtomBelow-resolve}
@@ -35,7 +33,7 @@ use Rattle.decode_minimize.specs.declared.solved.Progress.{Progress}
 use Rattle.decode_minimize.specs.declared.solved.Solved.{Solved}
 use Rattle.decode_minimize.specs.Objectives.{better_left, bound_of, no_worse_of}
 use Rattle.decode_minimize.specs.Rounds.{AreSatisfying}
-use Rattle.decode_minimize.specs.Solved.{Problem, problem_of, IsSolvable, IsProblem, IsSeekable, IsDerivation, IsProgress, IsRefuted, IsGivenUp, IsReadFrom, HasBounds, IsFirstShown, HasSecond, IsOptimal, IsSpentFirst, IsSpentSecond, IsSolvedAny, IsSolvedBest, IsSolved, IsAnySolved, IsBestSolved, IsMadeOf, settled_cnf, second_added, values_count, values_in, verdict_on}
+use Rattle.decode_minimize.specs.Solved.{Problem, problem_of, IsSolvable, IsSeekable, IsDerivation, IsProgress, IsRefuted, IsGivenUp, IsReadFrom, HasBounds, IsFirstShown, HasSecond, IsSolvedAny, IsSolvedBest, IsAnySolved, IsBestSolved, IsMadeOf, settled_cnf, second_added, values_count, values_in, verdict_on}
 use Rattle.decode_minimize.proofs.Ready.{solvable-with}
 use Rattle.decode_minimize.proofs.Rounding.{some-value}
 use Rattle.decode_minimize.proofs.Sound.{shown-true, with-atom-true, with-atom-parts, exact-value, own-no-worse}

@@ -1,5 +1,5 @@
 -- From a solver's first round to its log.
-use Rattle.std.proofs.Common.{◌≡◌, ℕ, ◌+◌, ◌*◌, ◌≤◌, ◌<◌, Bool, true, false, List, [], ◌∷◌, length, map, Some, refl, sym, ap, ◌∙◌, subst, ℤ, arith}
+use Rattle.std.proofs.Common.{◌≡◌, ℕ, ◌+◌, ◌*◌, ◌≤◌, ◌<◌, Bool, List, [], ◌∷◌, length, map, Some, sym, ap, ◌∙◌, subst, ℤ, arith}
 use Rattle.std.proofs.Math.Nat.{mul-le-mul_left}
 use Rattle.order_ints.specs.declared.atom.Atom.{Atom}
 use Rattle.order_ints.specs.declared.atom.Atom.TheVariants.{True, False}
@@ -8,7 +8,7 @@ use Rattle.order_ints.specs.declared.order_int.OrdInt.{OrdInt}
 use Rattle.order_ints.specs.OrderLevels.{levels, values_of}
 use Rattle.order_ints.specs.OrderValue.{value_of, IsOrdered}
 use Rattle.order_ints.specs.Satisfies.{Satisfies}
-use Rattle.order_ints.specs.Truth.{Valuation, valuation_of}
+use Rattle.order_ints.specs.Truth.{valuation_of}
 use Rattle.order_ints.proofs.Reaching.{Contains-value_of}
 use Rattle.state_compile.specs.StandsFor.{read_by}
 use Rattle.proof_check.specs.declared.line.ProofLine.{ProofLine}
@@ -21,7 +21,6 @@ use Rattle.decode_minimize.specs.declared.improving.Sought.{Sought}
 use Rattle.decode_minimize.specs.declared.improving.Best.{Best}
 use Rattle.decode_minimize.specs.declared.asking.Round.TheVariants as round
 use Rattle.decode_minimize.specs.declared.seeker.SeekerLog.{SeekerLog}
-use Rattle.decode_minimize.specs.declared.solved.Progress.{Progress}
 use Rattle.decode_minimize.specs.Objectives.{better_left}
 use Rattle.decode_minimize.specs.Rounds.{AreSatisfying, IsRound}
 use Rattle.decode_minimize.specs.Seeking.{IsSeeking, IsImproved, left}

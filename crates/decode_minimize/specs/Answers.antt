@@ -97,23 +97,31 @@ IsOpen model last d (Optimum b) = Unit {0}
 IsOpen model last d (Unknown n None) = IsShown (proof_behind (cnf_of last) d.proof) False → ⊥
 IsOpen model last d (Unknown n (Some b)) = IsOpenBehind model last d.proof b d.second b.second
 
--- How good the solution is that is given where the search was given up. Each search but the last left out a value, and those that
--- are still better than what is given were not left out: so with them, the budget is less than the most that a search may need
--- for each value of the objectives that were sought, and for one search more.
+-- How good the solution is that is given where the search was given up. Each search but the last left out a value, and
+-- those that are still better than what is given were not left out: so with them, the budget is less than the most that a
+-- search may need for each value of the objectives that were sought, and for one search more.
 abbrev pub IsPaidFor : ℕ → ℕ → ℕ → Direction → OrdInt → ℤ → Type 0
 IsPaidFor budget most values d a m = budget + better_left d a m * most < (values + 1) * most
 
+-- how many values the integer at a place has
+abbrev pub values_named : List MapValue → ℕ → ℕ
+values_named entries place = values_count (integer_named entries place)
+
 -- of the objective that was sought last: the second one, where there is a second derivation
 abbrev pub IsPaidBehind : List MapValue → ℕ → ℕ → Direction → ℕ → Option ℕ → Bounds → Option (List ProofLine) → Type 0
-IsPaidBehind entries budget most d place second b None = IsPaidFor budget most (values_count (integer_named entries place)) d (integer_named entries place) b.first
+IsPaidBehind entries budget most d place second b None =
+    IsPaidFor budget most (values_named entries place) d (integer_named entries place) b.first
 IsPaidBehind entries budget most d place None b (Some lines) = ⊥
 IsPaidBehind entries budget most d place (Some other) b (Some lines) =
-    (n : ℤ) → b.second ≡ Some n → IsPaidFor budget most (values_count (integer_named entries place) + values_count (integer_named entries other)) d (integer_named entries other) n
+    (n : ℤ) → b.second ≡ Some n
+    → IsPaidFor budget most (values_named entries place + values_named entries other) d (integer_named entries other) n
 
 abbrev pub IsPaidTowards : List MapValue → ℕ → ℕ → Bounds → Option (List ProofLine) → Goal → Type 0
 IsPaidTowards entries budget most b lines Satisfy = ⊥
-IsPaidTowards entries budget most b lines (Minimize place second) = IsPaidBehind entries budget most Least place second b lines
-IsPaidTowards entries budget most b lines (Maximize place second) = IsPaidBehind entries budget most Greatest place second b lines
+IsPaidTowards entries budget most b lines (Minimize place second) =
+    IsPaidBehind entries budget most Least place second b lines
+IsPaidTowards entries budget most b lines (Maximize place second) =
+    IsPaidBehind entries budget most Greatest place second b lines
 
 abbrev pub IsPaid : List MapValue → ℕ → ℕ → Goal → Option (List ProofLine) → Verdict → Type 0
 IsPaid entries budget most goal lines Satisfiable = Unit {0}
@@ -143,6 +151,7 @@ pub record IsAnswer (told : Core → Equation → Type 0) (model : Model) (optio
   pub enough : most_learned options.restart (cnf_of last).vars * most_rounds model.decls model.goal ≤ options.budget → IsDecided d.verdict
   pub unshown : IsOpen model last d d.verdict
   -- and a solution that is given then is as good as the searches were many
-  pub paid : IsPaid (lowered_of model).map.entries options.budget (most_learned options.restart (cnf_of last).vars) model.goal d.second d.verdict
+  pub paid : IsPaid (lowered_of model).map.entries options.budget (most_learned options.restart (cnf_of last).vars)
+      model.goal d.second d.verdict
   -- the counter rose by three at most for each question that the compilation may have asked
   pub asked : now ≤ counter + 3 * most_questions (start_of model) d.ledger last

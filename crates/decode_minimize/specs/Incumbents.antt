@@ -9,6 +9,7 @@ use Rattle.decode_minimize.specs.declared.improving.Sought.{Sought}
 
 -- The incumbent behind a round: the value of the solution that was found, or the one before, where none was.
 abbrev pub incumbent_behind : Sought → Option ℤ → Round → Option ℤ
-incumbent_behind sought before (Better values) = Some (value_of (read_by sought.view.now (valuation_of values)) sought.integer.now)
+incumbent_behind sought before (Better values) =
+    Some (value_of (read_by sought.view.now (valuation_of values)) sought.integer.now)
 incumbent_behind sought before Shown = before
 incumbent_behind sought before Spent = before

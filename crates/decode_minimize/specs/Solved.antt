@@ -80,8 +80,8 @@ pub record IsDerivation (cnf : Cnf) (lines : List ProofLine) : Type 0 where
 abbrev pub values_count : OrdInt → ℕ
 values_count a = length (values_of a)
 
--- The rounds of an objective, from a solution on. The solution that is kept has the value of the last one that was found, and each
--- that a round finds is better than all before it.
+-- The rounds of an objective, from a solution on. The solution that is kept has the value of the last one that was
+-- found, and each that a round finds is better than all before it.
 pub record IsProgress (cnf : Cnf) (sought : Sought) (options : Options) (r : Progress) : Type 0 where
   pub derivation : IsDerivation cnf r.proof.lines
   pub values : AreSatisfying cnf r.best.values

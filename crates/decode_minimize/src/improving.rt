@@ -88,8 +88,8 @@ fn improve_once(
     }
 }
 
-/// Rounds until no better value is there, or the budget is spent; whether the former. Each round takes one search, and each but
-/// the last finds a better value. What is best at the end is the last solution that a round found.
+/// Rounds until no better value is there, or the budget is spent; whether the former. Each round takes one search, and
+/// each but the last finds a better value. What is best at the end is the last solution that a round found.
 pub fn improve(
     seeker: &mut Seeker<'_>,
     sought: &Sought<'_>,

@@ -22,8 +22,8 @@ use order_ints::{Atom, Cnf};
 use proof_check::ProofLine;
 use std::alloc::{AllocError, Global};
 
-/// A solver that seeks the best value of an integer, and its incumbent: the value of the last solution that it found, or
-/// that it was begun with. Both are private, so that whoever makes the rounds can't lose what one of them found.
+/// A solver that seeks the best value of an integer, and its incumbent: the value of the last solution that it found,
+/// or that it was begun with. Both are private, so that whoever makes the rounds can't lose what one of them found.
 #[derive(Drop)]
 pub struct Seeker<'a> {
     solver: Solver<'a>,
@@ -68,8 +68,8 @@ impl<'a> Seeker<'a> {
         })
     }
 
-    /// Asks for a solution that breaks a bound, which is that of the incumbent, where there is one: so what is found is better,
-    /// and is the incumbent from then on.
+    /// Asks for a solution that breaks a bound, which is that of the incumbent, where there is one: so what is found is
+    /// better, and is the incumbent from then on.
     pub fn ask(
         &mut self,
         sought: &Sought<'_>,

@@ -1,9 +1,7 @@
-use Rattle.std.proofs.Common.{◌≡◌, None, Some, Option, Ok, ℤ, sym, ap, ◌∙◌, subst, List}
+use Rattle.std.proofs.Common.{◌≡◌, Some, Option, Ok, ℤ, sym, ap, ◌∙◌, subst}
 use Rattle.std.specs.Prelude.{IfSome}
-use Rattle.order_ints.specs.declared.atom.Atom.{Atom}
 use Rattle.order_ints.specs.declared.atom.Atom.TheVariants.{False}
 use Rattle.order_ints.specs.View.{resolve}
-use Rattle.proof_check.specs.declared.line.ProofLine.{ProofLine}
 use Rattle.decode_minimize.specs.declared.asking.Round.{Round}
 use Rattle.decode_minimize.specs.Incumbents.{incumbent_behind}
 use Rattle.decode_minimize.specs.Objectives.{bound_of}

@@ -1,5 +1,4 @@
-use Rattle.std.proofs.Common.{◌≡◌, rules, FitsSigned, w64, to_z, of_z}
-use Rattle.std.proofs.lemmas.Int.{to_z-of_z}
+use Rattle.std.proofs.Common.{◌≡◌, rules, w64, to_z, of_z}
 use Rattle.decode_minimize.proofs.solving.with_two.Goals as goal
 
 pub returns : goal.returns

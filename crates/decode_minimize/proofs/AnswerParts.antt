@@ -1,7 +1,7 @@
 -- What goals, verdicts and derivations say, case by case.
-use Rattle.std.proofs.Common.{◌≡◌, ◌⊎◌, ◌↔◌, ℕ, ◌+◌, ◌*◌, ◌≤◌, ◌<◌, ◌^◌, Bool, true, List, [], ◌∷◌, length, Option, Some, None, Ok, refl, sym, ap, ◌∙◌, subst, ⊎_elim, ℤ, arith}
+use Rattle.std.proofs.Common.{◌≡◌, ℕ, ◌+◌, ◌*◌, ◌≤◌, ◌<◌, ◌^◌, List, [], ◌∷◌, length, Option, Some, None, refl, sym, ap, ◌∙◌, subst, ℤ, arith}
 use Rattle.std.proofs.Math.Nat.{mul-le-mul_left}
-use Rattle.std.specs.Prelude.{IsTrue, IfSome, IsSomeAnd, FitsSigned, slice_get}
+use Rattle.std.specs.Prelude.{IfSome, IsSomeAnd, FitsSigned}
 use Rattle.std.specs.Int.{w64}
 use Rattle.std.specs.Option.{option_map}
 use Rattle.order_ints.specs.declared.atom.Atom.{Atom}
@@ -9,75 +9,31 @@ use Rattle.order_ints.specs.declared.atom.Atom.TheVariants as atom
 use Rattle.order_ints.specs.declared.cnf.Cnf.{Cnf}
 use Rattle.order_ints.specs.declared.order_int.OrdInt.{OrdInt}
 use Rattle.order_ints.specs.declared.order_int.MapValue.{MapValue}
-use Rattle.order_ints.specs.Numbers.{numbers_of}
-use Rattle.order_ints.specs.OrderValue.{value_of}
 use Rattle.order_ints.specs.Place.{AtomBelow}
-use Rattle.order_ints.specs.Satisfies.{Satisfies}
-use Rattle.order_ints.specs.Truth.{Valuation, valuation_of}
-use Rattle.order_ints.specs.View.{resolve}
-use Rattle.core_forms.specs.declared.equation.Equation.{Equation}
-use Rattle.core_forms.specs.declared.form.Core.{Core}
-use Rattle.core_rules.specs.Instances.{is_instance_at}
 use Rattle.ledger_text.specs.declared.line.Line.{Line}
 use Rattle.ledger_text.specs.declared.line.Line.TheVariants.{Equate, Split, Encode}
-use Rattle.ledger_text.specs.Steps.{IsReadableStep, LineBelow, LedgerBelow}
+use Rattle.ledger_text.specs.Steps.{LedgerBelow}
 use Rattle.ledger_text.specs.Words.{IsReadableAtom}
 use Rattle.model_meaning.specs.declared.model.Assignment.{Assignment}
 use Rattle.model_meaning.specs.declared.model.Decl.{Decl}
 use Rattle.model_meaning.specs.declared.model.Goal.{Goal}
-use Rattle.model_meaning.specs.declared.model.Goal.TheVariants.{Satisfy, Minimize, Maximize}
-use Rattle.model_meaning.specs.declared.model.Model.{Model}
-use Rattle.model_meaning.specs.declared.what.IntTerm.TheVariants.{Of}
-use Rattle.model_meaning.specs.Limits.{InLimits}
-use Rattle.model_meaning.specs.Solutions.{IsSolution, objective, second_value}
+use Rattle.model_meaning.specs.declared.model.Goal.TheVariants.{Minimize, Maximize}
+use Rattle.model_meaning.specs.Solutions.{objective, second_value}
 use Rattle.model_meaning.specs.Terms.{value_at}
-use Rattle.model_meaning.specs.WellTyped.{IsInt, IsNumberAt, ObjectiveFits, SecondFits, GoalFits, WellTyped}
-use Rattle.model_weight.specs.Weight.{weight_of}
-use Rattle.statement_lower.proofs.EntryLaws.{integer_of-value, length-numbers_of}
-use Rattle.model_lower.specs.declared.state.Lowered.{Lowered}
-use Rattle.model_lower.specs.Lowering.{lowered_of}
-use Rattle.model_lower.specs.ItemLaws.{LoweringLaw}
-use Rattle.model_lower.specs.Weighed.{most_weight}
-use Rattle.model_lower.proofs.LoweringLaw.{lowering_law}
-use Rattle.step_kernel.specs.Kernel.{Kernel, IsKernel}
-use Rattle.step_kernel.specs.CnfOf.{cnf_of}
-use Rattle.step_kernel.specs.Steps.{replay}
-use Rattle.step_kernel.proofs.Started.{started-kernel}
-use Rattle.asking_bound.specs.Questions.{most_questions}
-use Rattle.asking_bound.proofs.Asked.{leads-replay}
-use Rattle.state_compile.specs.Compilation.{IsCompilation}
-use Rattle.state_compile.specs.StandsFor.{read_by}
-use Rattle.state_compile.proofs.InOrder.{order-leads}
-use Rattle.state_compile.proofs.Answered.{compilation-kept}
-use Rattle.bee_compile.proofs.Ledgers.{ledger-below}
-use Rattle.model_decode.specs.Decoding.{numbers_at, DecodesSolutions}
-use Rattle.model_decode.proofs.Solutions.{decoding}
-use Rattle.model_decode.proofs.Ranges.{value-fits}
+use Rattle.model_meaning.specs.WellTyped.{IsInt, ObjectiveFits, SecondFits, GoalFits}
 use Rattle.proof_check.specs.declared.line.ProofLine.{ProofLine}
 use Rattle.proof_check.specs.declared.line.ProofLine.TheVariants.{Add, Delete}
-use Rattle.proof_check.specs.Lrat.{Proof, proof_of, after_line, take_lines}
-use Rattle.proof_check.specs.Known.{known}
+use Rattle.proof_check.specs.Lrat.{Proof, proof_of, after_line}
 use Rattle.learning_solver.specs.Log.{additions, after_lines, proof_behind}
-use Rattle.learning_solver.specs.Outcome.{most_learned}
 use Rattle.std.proofs.lemmas.List.{length-append}
 use Rattle.answer_document.specs.declared.verdict.Bounds.{Bounds}
-use Rattle.answer_document.specs.declared.verdict.Verdict.{Verdict}
-use Rattle.answer_document.specs.declared.verdict.Verdict.TheVariants.{Satisfiable, Unsatisfiable, Optimum, Unknown}
-use Rattle.answer_document.specs.declared.document.Document.{Document}
 use Rattle.answer_document.specs.BoundAtoms.{integer_named, first_bound, second_bound, settled}
-use Rattle.answer_document.specs.DocumentText.{document_text}
-use Rattle.answer_document.specs.Verdicts.{numbers_in, numbers_with, HaveSecond, BoundsFit, VerdictFits}
-use Rattle.answer_document.specs.Claims.{IsSolutionAt}
-use Rattle.answer_document.specs.Valid.{start_of, IsShown, first_shown, second_shown, second_cnf, IsDerived, IsSecond, AreShown, AreAdded, AreAddedAlone, IsCertified, AnswerHolds, AreReadableSteps, AreReadableLines, IsReadableSecond, FitNumbers, FitValues, FitAssignment, IsReadableDocument, stated, numbers_given, IsValid}
+use Rattle.answer_document.specs.Verdicts.{HaveSecond, BoundsFit}
+use Rattle.answer_document.specs.Valid.{AreReadableSteps, FitValues, FitAssignment, numbers_given}
 use Rattle.decode_minimize.specs.declared.objective.Direction.{Direction}
 use Rattle.decode_minimize.specs.declared.objective.Direction.TheVariants.{Least, Greatest}
-use Rattle.decode_minimize.specs.declared.options.Options.{Options}
-use Rattle.decode_minimize.specs.declared.solved.Solved.{Solved}
-use Rattle.decode_minimize.specs.Objectives.{bound_of, no_worse_of, IsObjective}
-use Rattle.decode_minimize.specs.Solved.{Problem, IsReadFrom, HasBounds, HasSecond, IsOptimal, IsSpentFirst, IsSpentSecond, IsGivenUp, IsSolvedAny, IsSolvedBest, IsSolved, IsAnySolved, IsBestSolved, IsSolvedFor, settled_cnf, second_named, second_added, value_under, values_count}
-use Rattle.decode_minimize.specs.Answers.{IsBudget, values_at, second_values, most_rounds, all_additions, IsDecided, IsSpent, IsFreshSecond, IsAnswer}
-use Rattle.decode_minimize.specs.Answering.{problem_at}
-use Rattle.decode_minimize.proofs.Entries.{entries-objectives, count-at, numbers-fit}
+use Rattle.decode_minimize.specs.Objectives.{bound_of, no_worse_of}
+use Rattle.decode_minimize.specs.Answers.{values_at, second_values, most_rounds, IsPaidBehind, IsPaidTowards}
 
 -- a goal from a direction and one place or two
 abbrev pub goal_of : Direction → ℕ → Option ℕ → Goal
@@ -95,6 +51,11 @@ second-bound-is Greatest place other entries n = refl
 pub settled-is : (d : Direction) (place : ℕ) (second : Option ℕ) (entries : List MapValue) (m : ℤ) → settled (goal_of d place second) entries m ≡ no_worse_of d (integer_named entries place) m
 settled-is Least place second entries m = refl
 settled-is Greatest place second entries m = refl
+
+pub paid-towards : (d : Direction) (place : ℕ) (second : Option ℕ) (entries : List MapValue) (budget most : ℕ) (b : Bounds) (lines : Option (List ProofLine))
+    → IsPaidBehind entries budget most d place second b lines → IsPaidTowards entries budget most b lines (goal_of d place second)
+paid-towards Least place second entries budget most b lines h = h
+paid-towards Greatest place second entries budget most b lines h = h
 
 pub objective-is : (d : Direction) (place : ℕ) (second : Option ℕ) (a : List ℤ) → objective (goal_of d place second) a ≡ value_at a place ∷ second_value second a
 objective-is Least place second a = refl

@@ -1,14 +1,12 @@
 -- What is solved for a model that is lowered answers the model.
-use Rattle.std.proofs.Common.{◌≡◌, ◌⊎◌, ◌↔◌, ℕ, ◌+◌, ◌*◌, ◌≤◌, ◌<◌, ◌^◌, Bool, true, List, [], ◌∷◌, ◌++◌, length, Option, Some, None, Ok, refl, sym, ap, ◌∙◌, subst, ⊎_elim, ℤ, arith}
+use Rattle.std.proofs.Common.{◌≡◌, ◌↔◌, ℕ, ◌+◌, ◌*◌, ◌≤◌, ◌<◌, ◌^◌, Bool, List, [], ◌∷◌, ◌++◌, length, Option, Some, None, Ok, sym, ap, ◌∙◌, subst, ⊎_elim, ℤ, arith}
 use Rattle.std.proofs.Math.Nat.{mul-le-mul_left}
-use Rattle.std.specs.Prelude.{IsTrue, IfSome, FitsSigned, slice_get}
+use Rattle.std.specs.Prelude.{IfSome, FitsSigned, slice_get}
 use Rattle.std.specs.Int.{w64}
 use Rattle.order_ints.specs.declared.atom.Atom.{Atom}
 use Rattle.order_ints.specs.declared.cnf.Cnf.{Cnf}
 use Rattle.order_ints.specs.declared.order_int.OrdInt.{OrdInt}
 use Rattle.order_ints.specs.declared.order_int.MapValue.{MapValue}
-use Rattle.order_ints.specs.Numbers.{numbers_of}
-use Rattle.order_ints.specs.OrderValue.{value_of}
 use Rattle.order_ints.specs.Satisfies.{Satisfies}
 use Rattle.order_ints.specs.Truth.{Valuation, valuation_of}
 use Rattle.order_ints.specs.View.{resolve}
@@ -17,7 +15,7 @@ use Rattle.core_forms.specs.declared.form.Core.{Core}
 use Rattle.ledger_text.specs.declared.line.Line.{Line}
 use Rattle.model_meaning.specs.declared.model.Assignment.{Assignment}
 use Rattle.model_meaning.specs.declared.model.Goal.{Goal}
-use Rattle.model_meaning.specs.declared.model.Goal.TheVariants.{Satisfy, Minimize, Maximize}
+use Rattle.model_meaning.specs.declared.model.Goal.TheVariants.{Satisfy}
 use Rattle.model_meaning.specs.declared.model.Model.{Model}
 use Rattle.model_meaning.specs.declared.what.IntTerm.TheVariants.{Of}
 use Rattle.model_meaning.specs.Limits.{InLimits}
@@ -34,7 +32,6 @@ use Rattle.step_kernel.specs.Kernel.{Kernel, IsKernel}
 use Rattle.step_kernel.specs.CnfOf.{cnf_of}
 use Rattle.step_kernel.specs.Steps.{replay}
 use Rattle.step_kernel.proofs.Started.{started-kernel}
-use Rattle.asking_bound.specs.Questions.{most_questions}
 use Rattle.asking_bound.proofs.Asked.{leads-replay}
 use Rattle.state_compile.specs.Compilation.{IsCompilation}
 use Rattle.state_compile.specs.StandsFor.{read_by}
@@ -54,19 +51,19 @@ use Rattle.answer_document.specs.declared.verdict.Verdict.{Verdict}
 use Rattle.answer_document.specs.declared.verdict.Verdict.TheVariants.{Satisfiable, Unsatisfiable, Optimum, Unknown}
 use Rattle.answer_document.specs.declared.document.Document.{Document}
 use Rattle.answer_document.specs.BoundAtoms.{integer_named, first_bound, second_bound, settled}
-use Rattle.answer_document.specs.Verdicts.{numbers_in, numbers_with, BoundsFit, VerdictFits}
+use Rattle.answer_document.specs.Verdicts.{numbers_with, BoundsFit, VerdictFits}
 use Rattle.answer_document.specs.Claims.{IsSolutionAt}
 use Rattle.answer_document.specs.Valid.{start_of, IsShown, first_shown, second_shown, second_cnf, atom_clauses, IsDerived, IsSecond, AreShown, AreAdded, AreAddedAlone, IsCertified, AnswerHolds, AreReadableSteps, AreReadableLines, IsReadableSecond, FitNumbers, FitAssignment, stated, numbers_given}
 use Rattle.decode_minimize.specs.declared.objective.Direction.{Direction}
 use Rattle.decode_minimize.specs.declared.options.Options.{Options}
 use Rattle.decode_minimize.specs.declared.solved.Solved.{Solved}
-use Rattle.decode_minimize.specs.Objectives.{bound_of, no_worse_of, IsObjective}
-use Rattle.decode_minimize.specs.Solved.{Problem, IsDerivation, IsReadFrom, HasBounds, HasSecond, IsOptimal, IsFirstShown, IsSpentFirst, IsSpentSecond, IsSolvedAny, IsSolvedBest, IsSolvedFor, settled_cnf, second_named, second_added, value_under, values_count, values_in}
-use Rattle.decode_minimize.specs.Answers.{IsBudget, values_at, second_values, most_rounds, IsDecided, IsSpent, IsFreshSecond, IsOpenBehind, IsOpen, IsAnswer}
+use Rattle.decode_minimize.specs.Objectives.{bound_of, IsObjective}
+use Rattle.decode_minimize.specs.Solved.{Problem, IsDerivation, IsReadFrom, HasBounds, HasSecond, IsOptimal, IsFirstShown, IsSpentFirst, IsSpentSecond, IsSolvedAny, IsSolvedBest, settled_cnf, second_named, second_added, value_under, values_count, values_in}
+use Rattle.decode_minimize.specs.Answers.{IsBudget, values_at, second_values, most_rounds, IsDecided, IsSpent, IsFreshSecond, IsOpenBehind, IsOpen, IsPaidFor, IsPaidBehind, IsPaidTowards, IsPaid}
 use Rattle.decode_minimize.specs.Answering.{problem_at}
 use Rattle.decode_minimize.proofs.Entries.{entries-objectives, count-at, numbers-fit}
 use Rattle.decode_minimize.proofs.Rounding.{some-value}
-use Rattle.decode_minimize.proofs.AnswerParts.{goal_of, first-bound-is, second-bound-is, settled-is, objective-is, bounds-fit, goal-fits, rounds-is, number-from, readable-steps, added-behind, given-length, none-length, given-fits, none-fits, fit-second, have-second, fewer-than-most}
+use Rattle.decode_minimize.proofs.AnswerParts.{goal_of, paid-towards, first-bound-is, second-bound-is, settled-is, objective-is, bounds-fit, goal-fits, rounds-is, number-from, readable-steps, added-behind, given-length, none-length, given-fits, none-fits, fit-second, have-second, fewer-than-most}
 
 abbrev pub document_of : Solved → List Line → Document
 document_of s ledger = record { verdict = s.verdict; assignment = s.assignment; ledger = ledger; proof = s.proof; second = s.second }
@@ -83,6 +80,7 @@ pub record Parts (model : Model) (last : Kernel) (options : Options) (ledger : L
   pub spent : IsSpent options.budget (additions s.proof + second_added s.second) v
   pub enough : most_learned options.restart (cnf_of last).vars * most_rounds model.decls model.goal ≤ options.budget → IsDecided v
   pub unshown : IsOpen model last (document_of s ledger) v
+  pub paid : IsPaid (lowered_of model).map.entries options.budget (most_learned options.restart (cnf_of last).vars) model.goal s.second v
   pub readable : IsReadableSecond s.second
 
 module _ (told : Core → Equation → Type 0) (model : Model) (typed : WellTyped model) (limits : InLimits model) (light : weight_of model ≤ most_weight)
@@ -185,6 +183,7 @@ module _ (told : Core → Equation → Type 0) (model : Model) (typed : WellType
       spent = tt;
       enough = λ m. tt;
       unshown = tt;
+      paid = tt;
     }
     any-parts is Unsatisfiable h = record {
       fits = tt;
@@ -198,6 +197,7 @@ module _ (told : Core → Equation → Type 0) (model : Model) (typed : WellType
       spent = tt;
       enough = λ m. tt;
       unshown = tt;
+      paid = tt;
     }
     any-parts is (Optimum b) h = absurd h
     any-parts is (Unknown n None) h = record {
@@ -212,6 +212,7 @@ module _ (told : Core → Equation → Type 0) (model : Model) (typed : WellType
       spent = alone-spent n h.1 h.2.spent h.0.1;
       enough = λ m. one-round h.2.spent h.2.early (subst (λ (g : Goal). most_learned options.restart (cnf_of last).vars * most_rounds model.decls g ≤ options.budget) is m);
       unshown = h.2.unshown;
+      paid = tt;
     }
       where
         one-round : additions s.proof ≡ options.budget → additions s.proof < most_learned options.restart (cnf_of last).vars → most_learned options.restart (cnf_of last).vars * 1 ≤ options.budget → ⊥
@@ -346,6 +347,42 @@ module _ (told : Core → Equation → Type 0) (model : Model) (typed : WellType
             some : Some (integer_named entries other) ≡ Some h.other → integer_named entries other ≡ h.other
             some e = cc
 
+      -- the budget was spent on searches that left out values
+      abbrev search_most : ℕ
+      search_most = most_learned options.restart (cnf_of last).vars
+
+      first-paid : (b : Bounds) → IsSpentFirst problem options d first_integer s b → IsPaidTowards entries options.budget search_most b s.second model.goal
+      first-paid b h =
+          subst (IsPaidTowards entries options.budget search_most b s.second) (sym is)
+          (paid-towards d place second entries options.budget search_most b s.second
+          (subst (λ (y : Option (List ProofLine)). IsPaidBehind entries options.budget search_most d place second b y) (sym h.alone) h.paid))
+
+      second-paid : (b : Bounds) (o : Option ℕ) → model.goal ≡ goal_of d place o → IsSpentSecond problem options d first_integer (second_named entries o) s b
+          → IsPaidTowards entries options.budget search_most b s.second model.goal
+      second-paid b None goal h = absurd (none h.is)
+        where
+          none : None ≡ Some h.other → ⊥
+          none e = cc
+      second-paid b (Some other) goal h =
+          subst (IsPaidTowards entries options.budget search_most b s.second) (sym goal)
+          (paid-towards d place (Some other) entries options.budget search_most b s.second
+          (subst (λ (y : Option (List ProofLine)). IsPaidBehind entries options.budget search_most d place (Some other) b y) (sym h.has.is) paid))
+        where
+          same : integer_named entries other ≡ h.other
+          same = some h.is
+            where
+              some : Some (integer_named entries other) ≡ Some h.other → integer_named entries other ≡ h.other
+              some e = cc
+
+          paid : (n : ℤ) → b.second ≡ Some n → IsPaidFor options.budget search_most (values_count first_integer + values_count (integer_named entries other)) d (integer_named entries other) n
+          paid n e =
+              let number : h.number ≡ n = equal (sym h.number_is ∙ e) in
+              subst (λ (a : OrdInt). IsPaidFor options.budget search_most (values_count first_integer + values_count a) d a n) (sym same)
+              (subst (λ (z : ℤ). IsPaidFor options.budget search_most (values_count first_integer + values_count h.other) d h.other z) number h.paid)
+            where
+              equal : Some h.number ≡ Some n → h.number ≡ n
+              equal e = cc
+
       -- a budget that suffices isn't spent
       most-is : most_learned options.restart (cnf_of last).vars * most_rounds model.decls model.goal ≤ options.budget
           → most_learned options.restart (cnf_of last).vars * (values_at model.decls place + second_values model.decls second) ≤ options.budget
@@ -411,6 +448,7 @@ module _ (told : Core → Equation → Type 0) (model : Model) (typed : WellType
         spent = tt;
         enough = λ m. tt;
         unshown = tt;
+        paid = tt;
       }
       best-parts (Optimum b) h = record {
         fits = bounds-in h.0 h.1 b h.2;
@@ -424,6 +462,7 @@ module _ (told : Core → Equation → Type 0) (model : Model) (typed : WellType
         spent = tt;
         enough = λ m. tt;
         unshown = tt;
+        paid = tt;
       }
       best-parts (Unknown n None) h = record {
         fits = ((in-budget n h.1).0, (in-budget n h.1).1, tt);
@@ -437,6 +476,7 @@ module _ (told : Core → Equation → Type 0) (model : Model) (typed : WellType
         spent = alone-spent n h.1 h.2.spent h.0.1;
         enough = λ m. no-round h.2.spent h.2.early m;
         unshown = h.2.unshown;
+        paid = tt;
       }
       best-parts (Unknown n (Some b)) h = record {
         fits = ((in-budget n h.3).0, (in-budget n h.3).1, bounds-in h.0 h.1 b h.2);
@@ -470,6 +510,10 @@ module _ (told : Core → Equation → Type 0) (model : Model) (typed : WellType
         unshown = ⊎_elim
             (λ (f : IsSpentFirst problem options d first_integer s b). first-open h.0 h.1 b h.2 f)
             (λ (f : IsSpentSecond problem options d first_integer (second_named entries second) s b). second-open h.0 h.1 b h.2 second is f)
+            h.4;
+        paid = ⊎_elim
+            (λ (f : IsSpentFirst problem options d first_integer s b). first-paid b f)
+            (λ (f : IsSpentSecond problem options d first_integer (second_named entries second) s b). second-paid b second is f)
             h.4;
       }
         where

@@ -1,6 +1,6 @@
 -- What the declared names stand for, as objectives: their ranges, and how many values they have.
-use Rattle.std.proofs.Common.{◌≡◌, ℕ, zero, suc, ◌+◌, ◌-◌, ◌≤◌, ◌<◌, ◌^◌, List, [], ◌∷◌, length, map, refl, sym, ap, ◌∙◌, subst, ℤ, pos, negsuc, ◌+ℤ◌, ◌-ℤ◌, ◌≤ℤ◌, arith}
-use Rattle.std.specs.Prelude.{Some, slice_get, unsigned_abs, FitsSigned, if◌then◌else◌, Bool, true, false}
+use Rattle.std.proofs.Common.{◌≡◌, ℕ, zero, suc, ◌+◌, ◌≤◌, ◌<◌, List, [], ◌∷◌, length, map, refl, sym, ap, ◌∙◌, subst, ℤ, pos, ◌+ℤ◌, ◌-ℤ◌, arith}
+use Rattle.std.specs.Prelude.{Some, FitsSigned, if◌then◌else◌, Bool, true, false}
 use Rattle.std.specs.Int.{w64}
 use Rattle.std.proofs.lemmas.Int.{ints}
 use Rattle.order_ints.specs.declared.atom.Atom.{Atom}
@@ -8,9 +8,9 @@ use Rattle.order_ints.specs.declared.order_int.OrdInt.{OrdInt}
 use Rattle.order_ints.specs.declared.order_int.MapValue.{MapValue}
 use Rattle.order_ints.specs.declared.order_int.MapValue.TheVariants as values
 use Rattle.order_ints.specs.Numbers.{number_of, numbers_of}
-use Rattle.order_ints.specs.OrderLevels.{levels, values_of}
+use Rattle.order_ints.specs.OrderLevels.{levels}
 use Rattle.order_ints.specs.OrderMade.{constant_of}
-use Rattle.order_ints.specs.OrderRange.{weights, low_of, high_of, AreRising, IntBelow}
+use Rattle.order_ints.specs.OrderRange.{weights, AreRising}
 use Rattle.order_ints.specs.Place.{StepsBelow}
 use Rattle.order_ints.specs.Truth.{Valuation, atom_truth}
 use Rattle.order_ints.proofs.PlaceLaws.{AtomBelow-up}

@@ -1,12 +1,9 @@
 -- From a model that is lowered to what is to be solved, and back to the model's answer.
-use Rattle.std.proofs.Common.{◌≡◌, ℕ, ◌+◌, ◌*◌, ◌≤◌, ◌<◌, ◌^◌, Bool, true, false, List, [], ◌∷◌, length, Option, Some, None, Ok, refl, sym, ap, ◌∙◌, subst, ℤ, arith}
+use Rattle.std.proofs.Common.{◌≡◌, ℕ, ◌+◌, ◌*◌, ◌≤◌, ◌<◌, ◌^◌, Bool, true, false, List, [], ◌∷◌, length, None, refl, sym, ap, ◌∙◌, subst, arith}
 use Rattle.std.specs.Prelude.{if◌then◌else◌}
-use Rattle.order_ints.specs.declared.literal.Lit.{Lit}
 use Rattle.order_ints.specs.declared.cnf.Cnf.{Cnf}
 use Rattle.order_ints.specs.declared.order_int.MapValue.{MapValue}
 use Rattle.order_ints.specs.OrderedClauses.{ordered_clauses, ClausesAscend}
-use Rattle.order_ints.specs.Satisfies.{Satisfies}
-use Rattle.order_ints.specs.Truth.{Valuation}
 use Rattle.order_ints.proofs.Labels.{labels_below, length-own_labels}
 use Rattle.order_ints.proofs.OrderedLaws.{ClausesAscend-ordered_clauses}
 use Rattle.core_forms.specs.declared.equation.Equation.{Equation}
@@ -32,10 +29,9 @@ use Rattle.state_compile.specs.StandsFor.{read_by}
 use Rattle.state_compile.proofs.Answered.{compilation-kept, compilation-models}
 use Rattle.state_compile.proofs.Reading.{read-model}
 use Rattle.model_decode.proofs.Ranges.{entries-short}
-use Rattle.proof_check.specs.declared.line.ProofLine.{ProofLine}
 use Rattle.proof_check.specs.Known.{known}
 use Rattle.proof_check.specs.Lrat.{proof_of}
-use Rattle.learning_solver.specs.Log.{additions, IsFreshLog}
+use Rattle.learning_solver.specs.Log.{additions}
 use Rattle.answer_document.specs.declared.document.Document.{Document}
 use Rattle.answer_document.specs.declared.verdict.Verdict.TheVariants.{Unsatisfiable}
 use Rattle.answer_document.specs.BoundAtoms.{integer_named}
@@ -44,13 +40,13 @@ use Rattle.decode_minimize.specs.declared.objective.Direction.TheVariants.{Least
 use Rattle.decode_minimize.specs.declared.options.Options.{Options}
 use Rattle.decode_minimize.specs.declared.solved.Names.{Names}
 use Rattle.decode_minimize.specs.declared.solved.Solved.{Solved}
-use Rattle.decode_minimize.specs.Solved.{Problem, problem_of, IsProblem, IsDerivation, IsRefuted, IsSolvedFor, second_named, second_added}
+use Rattle.decode_minimize.specs.Solved.{problem_of, IsProblem, IsDerivation, IsRefuted, IsSolvedFor, second_named, second_added}
 use Rattle.learning_solver.specs.Outcome.{most_learned}
 use Rattle.decode_minimize.specs.Answers.{IsBudget, most_rounds, IsAnswer}
 use Rattle.decode_minimize.specs.Answering.{problem_at, IsReady, IsAnswerOf}
 use Rattle.decode_minimize.proofs.Entries.{entries-objectives, objective-up}
 use Rattle.decode_minimize.proofs.Makings.{any-refuted, best-refuted}
-use Rattle.decode_minimize.proofs.Answered.{document_of, Parts, leads, readable-ledger, solutions, any-most, any-parts, best-most, best-parts}
+use Rattle.decode_minimize.proofs.Answered.{document_of, Parts, readable-ledger, solutions, any-most, any-parts, best-most, best-parts}
 
 -- a model that is lowered is ready
 pub lowered-ready : (model : Model) (l : Lowered) → WellTyped model → InLimits model → weight_of model ≤ most_weight → l ≡ lowered_of model → IsReady l
@@ -149,6 +145,7 @@ module _ (told : Core → Equation → Type 0) (options : Options) (budget : IsB
       spent = parts.spent;
       enough = parts.enough;
       unshown = parts.unshown;
+      paid = parts.paid;
       asked = asked;
     }
 

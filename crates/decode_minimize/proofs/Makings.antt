@@ -1,6 +1,5 @@
 -- What is made of rounds is solved.
-use Rattle.std.proofs.Common.{◌≡◌, ◌⊎◌, ℕ, ◌+◌, ◌-◌, ◌*◌, ◌≤◌, ◌<◌, Bool, true, false, List, [], ◌∷◌, ◌++◌, length, Option, Some, None, refl, sym, ap, ◌∙◌, subst, inl, inr, ℤ, FitsSigned, w64, to_z, of_z, arith}
-use Rattle.std.specs.Option.{option_map}
+use Rattle.std.proofs.Common.{◌≡◌, ℕ, ◌+◌, ◌-◌, ◌*◌, ◌≤◌, ◌<◌, Bool, true, false, List, ◌++◌, length, Option, Some, None, refl, sym, ap, ◌∙◌, subst, inl, inr, ℤ, FitsSigned, w64, to_z, of_z, arith}
 use Rattle.std.proofs.Math.Nat.{mul-le-mul_left}
 use Rattle.std.proofs.lemmas.Int.{to_z-of_z}
 use Rattle.order_ints.specs.declared.atom.Atom.{Atom}
@@ -8,7 +7,6 @@ use Rattle.order_ints.specs.declared.cnf.Cnf.{Cnf}
 use Rattle.order_ints.specs.declared.order_int.OrdInt.{OrdInt}
 use Rattle.order_ints.specs.OrderValue.{value_of, IsOrdered}
 use Rattle.order_ints.specs.Place.{AtomBelow}
-use Rattle.order_ints.specs.Satisfies.{Satisfies, clauses_truth}
 use Rattle.order_ints.specs.Truth.{Valuation, valuation_of, atom_truth}
 use Rattle.order_ints.specs.View.{resolve}
 use Rattle.order_ints.proofs.PlaceLaws.{AtomBelow-not_atom, AtomBelow-resolve}
@@ -35,7 +33,7 @@ use Rattle.decode_minimize.specs.declared.solved.Progress.{Progress}
 use Rattle.decode_minimize.specs.declared.solved.Solved.{Solved}
 use Rattle.decode_minimize.specs.Objectives.{better_left, bound_of, no_worse_of}
 use Rattle.decode_minimize.specs.Rounds.{AreSatisfying}
-use Rattle.decode_minimize.specs.Solved.{Problem, problem_of, IsSolvable, IsProblem, IsSeekable, IsDerivation, IsProgress, IsRefuted, IsGivenUp, IsReadFrom, HasBounds, IsFirstShown, HasSecond, IsOptimal, IsSpentFirst, IsSpentSecond, IsSolvedAny, IsSolvedBest, IsSolved, IsAnySolved, IsBestSolved, IsMadeOf, settled_cnf, second_added, values_count, values_in, verdict_on}
+use Rattle.decode_minimize.specs.Solved.{Problem, problem_of, IsSolvable, IsSeekable, IsDerivation, IsProgress, IsRefuted, IsGivenUp, IsReadFrom, HasBounds, IsFirstShown, HasSecond, IsSolvedAny, IsSolvedBest, IsAnySolved, IsBestSolved, IsMadeOf, settled_cnf, second_added, values_count, values_in, verdict_on}
 use Rattle.decode_minimize.proofs.Ready.{solvable-with}
 use Rattle.decode_minimize.proofs.Rounding.{some-value}
 use Rattle.decode_minimize.proofs.Sound.{shown-true, with-atom-true, with-atom-parts, exact-value, own-no-worse}
@@ -104,47 +102,47 @@ module _ (names : Names) (cnf : Cnf) (sought : Sought) (options : Options) (view
   own-number : r.best.number ≡ value_of (read_by names.view.now (valuation_of r.best.values)) sought.integer.now
   own-number = progress.number ∙ ap (λ (v : List Atom). value_of (read_by v (valuation_of r.best.values)) sought.integer.now) view
 
-  own-shown : r.is_best ≡ true → IsShown (proof_behind cnf r.proof) (resolve names.view.now (bound_of sought.direction sought.integer.now r.best.number))
-  own-shown e = subst (λ (v : List Atom). IsShown (proof_behind cnf r.proof) (resolve v (bound_of sought.direction sought.integer.now r.best.number))) view (progress.shown e)
+  own-shown : r.is_best ≡ true → IsShown (proof_behind cnf r.proof.lines) (resolve names.view.now (bound_of sought.direction sought.integer.now r.best.number))
+  own-shown e = subst (λ (v : List Atom). IsShown (proof_behind cnf r.proof.lines) (resolve v (bound_of sought.direction sought.integer.now r.best.number))) view (progress.shown e)
 
-  made-shown : (v : Verdict) (second : Option (List ProofLine)) (s : Solved) (b : Bounds) → IsMadeOf names r.best.values v r.proof second s → b.first ≡ r.best.number → r.is_best ≡ true
+  made-shown : (v : Verdict) (second : Option (List ProofLine)) (s : Solved) (b : Bounds) → IsMadeOf names r.best.values v r.proof.lines second s → b.first ≡ r.best.number → r.is_best ≡ true
       → IsFirstShown solving sought.direction sought.integer.now s b
   made-shown v second s b made number e =
       subst (λ (l : List ProofLine). IsShown (proof_behind cnf l) (resolve names.view.now (bound_of sought.direction sought.integer.now b.first))) (sym made.proof)
-      (subst (λ (z : ℤ). IsShown (proof_behind cnf r.proof) (resolve names.view.now (bound_of sought.direction sought.integer.now z))) (sym number) (own-shown e))
+      (subst (λ (z : ℤ). IsShown (proof_behind cnf r.proof.lines) (resolve names.view.now (bound_of sought.direction sought.integer.now z))) (sym number) (own-shown e))
 
-  made-open : (v : Verdict) (second : Option (List ProofLine)) (s : Solved) (b : Bounds) → IsMadeOf names r.best.values v r.proof second s → b.first ≡ r.best.number → r.is_best ≡ false
+  made-open : (v : Verdict) (second : Option (List ProofLine)) (s : Solved) (b : Bounds) → IsMadeOf names r.best.values v r.proof.lines second s → b.first ≡ r.best.number → r.is_best ≡ false
       → IsFirstShown solving sought.direction sought.integer.now s b → ⊥
   made-open v second s b made number e shown =
       progress.unshown e
-      (subst (λ (w : List Atom). IsShown (proof_behind cnf r.proof) (resolve w (bound_of sought.direction sought.integer.now r.best.number))) (sym view)
-      (subst (λ (z : ℤ). IsShown (proof_behind cnf r.proof) (resolve names.view.now (bound_of sought.direction sought.integer.now z))) number
+      (subst (λ (w : List Atom). IsShown (proof_behind cnf r.proof.lines) (resolve w (bound_of sought.direction sought.integer.now r.best.number))) (sym view)
+      (subst (λ (z : ℤ). IsShown (proof_behind cnf r.proof.lines) (resolve names.view.now (bound_of sought.direction sought.integer.now z))) number
       (subst (λ (l : List ProofLine). IsShown (proof_behind cnf l) (resolve names.view.now (bound_of sought.direction sought.integer.now b.first))) made.proof shown)))
 
   -- one objective
   abbrev one_bounds : Bounds
   one_bounds = record { first = r.best.number; second = None }
 
-  one-by : (b : Bool) (s : Solved) → r.is_best ≡ b → IsMadeOf names r.best.values (verdict_on b one_bounds options) r.proof None s → IsBestSolved solving options sought.direction sought.integer.now None s
+  one-by : (b : Bool) (s : Solved) → r.is_best ≡ b → IsMadeOf names r.best.values (verdict_on b one_bounds options) r.proof.lines None s → IsBestSolved solving options sought.direction sought.integer.now None s
   one-by true s e made =
       let v = Optimum one_bounds in record {
-        derivation = made-derivation names r.best.values v r.proof None s cnf made progress.derivation;
-        within = made-within names r.best.values v r.proof None s options.budget made (omega (arith, progress.within));
-        most = made-within names r.best.values v r.proof None s ((values_count sought.integer.now + 0) * most_learned options.restart cnf.vars) made (omega (arith, progress.most));
+        derivation = made-derivation names r.best.values v r.proof.lines None s cnf made progress.derivation;
+        within = made-within names r.best.values v r.proof.lines None s options.budget made (omega (arith, progress.within));
+        most = made-within names r.best.values v r.proof.lines None s ((values_count sought.integer.now + 0) * most_learned options.restart cnf.vars) made (omega (arith, progress.most));
         says = subst (IsSolvedBest solving options sought.direction sought.integer.now None s) (sym made.verdict)
-            (r.best.values, made-read names cnf r.best.values v r.proof None s made progress.values, record { first = own-number; second = refl }, (made.second, made-shown v None s one_bounds made refl e));
+            (r.best.values, made-read names cnf r.best.values v r.proof.lines None s made progress.values, record { first = own-number; second = refl }, (made.second, made-shown v None s one_bounds made refl e));
       }
   one-by false s e made =
       let v = Unknown options.budget (Some one_bounds) in
       let spent = progress.spent e in
-      let count : additions s.proof ≡ additions r.proof = ap additions made.proof in
+      let count : additions s.proof ≡ additions r.proof.lines = ap additions made.proof in
       record {
-        derivation = made-derivation names r.best.values v r.proof None s cnf made progress.derivation;
-        within = made-within names r.best.values v r.proof None s options.budget made (omega (arith, progress.within));
-        most = made-within names r.best.values v r.proof None s ((values_count sought.integer.now + 0) * most_learned options.restart cnf.vars) made (omega (arith, progress.most));
+        derivation = made-derivation names r.best.values v r.proof.lines None s cnf made progress.derivation;
+        within = made-within names r.best.values v r.proof.lines None s options.budget made (omega (arith, progress.within));
+        most = made-within names r.best.values v r.proof.lines None s ((values_count sought.integer.now + 0) * most_learned options.restart cnf.vars) made (omega (arith, progress.most));
         says = subst (IsSolvedBest solving options sought.direction sought.integer.now None s) (sym made.verdict) (
           r.best.values,
-          made-read names cnf r.best.values v r.proof None s made progress.values,
+          made-read names cnf r.best.values v r.proof.lines None s made progress.values,
           record { first = own-number; second = refl },
           refl,
           inl (record {
@@ -157,25 +155,25 @@ module _ (names : Names) (cnf : Cnf) (sought : Sought) (options : Options) (view
         );
       }
 
-  pub one-solved : (s : Solved) → IsMadeOf names r.best.values (verdict_on r.is_best one_bounds options) r.proof None s → IsBestSolved solving options sought.direction sought.integer.now None s
+  pub one-solved : (s : Solved) → IsMadeOf names r.best.values (verdict_on r.is_best one_bounds options) r.proof.lines None s → IsBestSolved solving options sought.direction sought.integer.now None s
   one-solved s made = one-by r.is_best s refl made
 
   -- two, where the budget was spent on the first one
   pub first-solved : (other : OrdInt) (behind : List Atom) (s : Solved) → behind ≡ names.view.now → r.is_best ≡ false
-      → IsMadeOf names r.best.values (Unknown options.budget (Some (record { first = r.best.number; second = Some (value_of (read_by behind (valuation_of r.best.values)) other) }))) r.proof None s
+      → IsMadeOf names r.best.values (Unknown options.budget (Some (record { first = r.best.number; second = Some (value_of (read_by behind (valuation_of r.best.values)) other) }))) r.proof.lines None s
       → IsBestSolved solving options sought.direction sought.integer.now (Some other) s
   first-solved other behind s same e made =
       let b : Bounds = record { first = r.best.number; second = Some (value_of (read_by behind (valuation_of r.best.values)) other) } in
       let v = Unknown options.budget (Some b) in
       let spent = progress.spent e in
-      let count : additions s.proof ≡ additions r.proof = ap additions made.proof in
+      let count : additions s.proof ≡ additions r.proof.lines = ap additions made.proof in
       record {
-        derivation = made-derivation names r.best.values v r.proof None s cnf made progress.derivation;
-        within = made-within names r.best.values v r.proof None s options.budget made (omega (arith, progress.within));
-        most = made-within names r.best.values v r.proof None s ((values_count sought.integer.now + values_count other) * most_learned options.restart cnf.vars) made (omega (arith, progress.most));
+        derivation = made-derivation names r.best.values v r.proof.lines None s cnf made progress.derivation;
+        within = made-within names r.best.values v r.proof.lines None s options.budget made (omega (arith, progress.within));
+        most = made-within names r.best.values v r.proof.lines None s ((values_count sought.integer.now + values_count other) * most_learned options.restart cnf.vars) made (omega (arith, progress.most));
         says = subst (IsSolvedBest solving options sought.direction sought.integer.now (Some other) s) (sym made.verdict) (
           r.best.values,
-          made-read names cnf r.best.values v r.proof None s made progress.values,
+          made-read names cnf r.best.values v r.proof.lines None s made progress.values,
           record { first = own-number; second = ap (λ (w : List Atom). Some (value_of (read_by w (valuation_of r.best.values)) other)) same },
           refl,
           inl (record {
@@ -248,7 +246,7 @@ module _ (cnf : Cnf) (sought : Sought) (options : Options) (r : Progress) (seeka
         let bound = bound_of sought.direction sought.integer.now r.best.number in
         let no_worse = no_worse_of sought.direction sought.integer.now r.best.number in
         let better : atom_truth σ (resolve sought.view.now bound) ≡ true =
-        shown-true cnf r.proof (proof_behind cnf r.proof) progress.derivation.accepted σ front-satisfying.satisfies (resolve sought.view.now bound) (progress.shown shown) in
+        shown-true cnf r.proof.lines (proof_behind cnf r.proof.lines) progress.derivation.accepted σ front-satisfying.satisfies (resolve sought.view.now bound) (progress.shown shown) in
         let worse : atom_truth σ (resolve sought.view.now no_worse) ≡ true = (with-atom-parts σ cnf.clauses settled_atom satisfying.satisfies).1 in
         exact-value τ sought.integer.now r.best.number (seekable.ordered σ front-satisfying.satisfies) sought.direction
         (read-atom sought.view.now σ bound ∙ better) (read-atom sought.view.now σ no_worse ∙ worse)
@@ -263,7 +261,7 @@ both-paid a b i m x y n first rest within second = omega (arith, first, rest, wi
 -- two objectives, where the first one is settled
 module _ (names : Names) (cnf : Cnf) (sought behind : Sought) (options left : Options) (r last : Progress) (view : sought.view.now ≡ names.view.now) (view_behind : behind.view.now ≡ names.view.now)
     (direction : behind.direction ≡ sought.direction) (seekable : IsSeekable cnf sought) (progress : IsProgress cnf sought options r) (shown : r.is_best ≡ true)
-    (budget : left.budget ≡ options.budget - additions r.proof) (restart : left.restart ≡ options.restart) where
+    (budget : left.budget ≡ options.budget - additions r.proof.lines) (restart : left.restart ≡ options.restart) where
   abbrev both_settled : Cnf
   both_settled = record { vars = cnf.vars; clauses = cnf.clauses ++ atom_clauses (resolve sought.view.now (no_worse_of sought.direction sought.integer.now r.best.number)) }
 
@@ -284,20 +282,20 @@ module _ (names : Names) (cnf : Cnf) (sought behind : Sought) (options left : Op
       second = ap (λ (z : ℤ). Some z) (second.number ∙ ap (λ (v : List Atom). value_of (read_by v (valuation_of last.best.values)) behind.integer.now) view_behind);
     }
 
-    module _ (v : Verdict) (made : IsMadeOf names last.best.values v r.proof (Some last.proof) s) where
+    module _ (v : Verdict) (made : IsMadeOf names last.best.values v r.proof.lines (Some last.proof.lines) s) where
       has-read : IsReadFrom both_problem s last.best.values
       has-read = record { satisfying = front-satisfying cnf sought options r seekable progress shown last.best.values second.values; numbers = made.numbers }
 
-      has-second : HasSecond both_problem sought.direction sought.integer.now s both_bounds last.proof
+      has-second : HasSecond both_problem sought.direction sought.integer.now s both_bounds last.proof.lines
       has-second = record {
         is = made.second;
         first = subst (λ (l : List ProofLine). IsShown (proof_behind cnf l) (resolve names.view.now (bound_of sought.direction sought.integer.now r.best.number))) (sym made.proof)
-            (subst (λ (w : List Atom). IsShown (proof_behind cnf r.proof) (resolve w (bound_of sought.direction sought.integer.now r.best.number))) view (progress.shown shown));
-        derivation = subst (λ (f : Cnf). IsDerivation f last.proof) (sym same-settled) second.derivation;
+            (subst (λ (w : List Atom). IsShown (proof_behind cnf r.proof.lines) (resolve w (bound_of sought.direction sought.integer.now r.best.number))) view (progress.shown shown));
+        derivation = subst (λ (f : Cnf). IsDerivation f last.proof.lines) (sym same-settled) second.derivation;
       }
 
       both-within : additions s.proof + second_added s.second ≤ options.budget
-      both-within = made-within names last.best.values v r.proof (Some last.proof) s options.budget made (fits (additions r.proof) (additions last.proof) options.budget left.budget progress.within budget second.within)
+      both-within = made-within names last.best.values v r.proof.lines (Some last.proof.lines) s options.budget made (fits (additions r.proof.lines) (additions last.proof.lines) options.budget left.budget progress.within budget second.within)
         where
           fits : (x y n m : ℕ) → x ≤ n → m ≡ n - x → y ≤ m → x + y ≤ n
           fits x y n m h e k = omega (arith, h, e, k)
@@ -305,36 +303,36 @@ module _ (names : Names) (cnf : Cnf) (sought behind : Sought) (options left : Op
       both-most : additions s.proof + second_added s.second ≤ (values_count sought.integer.now + values_count behind.integer.now) * most_learned options.restart cnf.vars
       both-most =
           let most : most_learned left.restart cnf.vars ≡ most_learned options.restart cnf.vars = ap (λ (b : Bool). most_learned b cnf.vars) restart in
-          let later = subst (λ (m : ℕ). additions last.proof ≤ values_count behind.integer.now * m) most second.most in
-          made-within names last.best.values v r.proof (Some last.proof) s ((values_count sought.integer.now + values_count behind.integer.now) * most_learned options.restart cnf.vars) made
+          let later = subst (λ (m : ℕ). additions last.proof.lines ≤ values_count behind.integer.now * m) most second.most in
+          made-within names last.best.values v r.proof.lines (Some last.proof.lines) s ((values_count sought.integer.now + values_count behind.integer.now) * most_learned options.restart cnf.vars) made
           (omega (arith, progress.most, later))
 
-    both-by : (b : Bool) → last.is_best ≡ b → IsMadeOf names last.best.values (verdict_on b both_bounds options) r.proof (Some last.proof) s
+    both-by : (b : Bool) → last.is_best ≡ b → IsMadeOf names last.best.values (verdict_on b both_bounds options) r.proof.lines (Some last.proof.lines) s
         → IsBestSolved both_problem options sought.direction sought.integer.now (Some behind.integer.now) s
     both-by true e made =
         let v = Optimum both_bounds in record {
-          derivation = made-derivation names last.best.values v r.proof (Some last.proof) s cnf made progress.derivation;
+          derivation = made-derivation names last.best.values v r.proof.lines (Some last.proof.lines) s cnf made progress.derivation;
           within = both-within v made;
           most = both-most v made;
           says = subst (IsSolvedBest both_problem options sought.direction sought.integer.now (Some behind.integer.now) s) (sym made.verdict)
-              (last.best.values, has-read v made, has-bounds, (last.proof, has-second v made, λ n is. best-second n is));
+              (last.best.values, has-read v made, has-bounds, (last.proof.lines, has-second v made, λ n is. best-second n is));
         }
       where
-        best-second : (n : ℤ) → Some last.best.number ≡ Some n → IsShown (proof_behind (settled_cnf both_problem sought.direction sought.integer.now r.best.number) last.proof) (resolve names.view.now (bound_of sought.direction behind.integer.now n))
+        best-second : (n : ℤ) → Some last.best.number ≡ Some n → IsShown (proof_behind (settled_cnf both_problem sought.direction sought.integer.now r.best.number) last.proof.lines) (resolve names.view.now (bound_of sought.direction behind.integer.now n))
         best-second n is =
             let same : last.best.number ≡ n = cc in
-            let P : ℤ → Type 0 = λ z. IsShown (proof_behind (settled_cnf both_problem sought.direction sought.integer.now r.best.number) last.proof) (resolve names.view.now (bound_of sought.direction behind.integer.now z)) in
+            let P : ℤ → Type 0 = λ z. IsShown (proof_behind (settled_cnf both_problem sought.direction sought.integer.now r.best.number) last.proof.lines) (resolve names.view.now (bound_of sought.direction behind.integer.now z)) in
             let here = second.shown e in
-            let one = subst (λ (d : Direction). IsShown (proof_behind both_settled last.proof) (resolve behind.view.now (bound_of d behind.integer.now last.best.number))) direction here in
-            let two = subst (λ (w : List Atom). IsShown (proof_behind both_settled last.proof) (resolve w (bound_of sought.direction behind.integer.now last.best.number))) view_behind one in
-            subst P same (subst (λ (f : Cnf). IsShown (proof_behind f last.proof) (resolve names.view.now (bound_of sought.direction behind.integer.now last.best.number))) (sym same-settled) two)
+            let one = subst (λ (d : Direction). IsShown (proof_behind both_settled last.proof.lines) (resolve behind.view.now (bound_of d behind.integer.now last.best.number))) direction here in
+            let two = subst (λ (w : List Atom). IsShown (proof_behind both_settled last.proof.lines) (resolve w (bound_of sought.direction behind.integer.now last.best.number))) view_behind one in
+            subst P same (subst (λ (f : Cnf). IsShown (proof_behind f last.proof.lines) (resolve names.view.now (bound_of sought.direction behind.integer.now last.best.number))) (sym same-settled) two)
     both-by false e made =
         let v = Unknown options.budget (Some both_bounds) in
         let spent = second.spent e in
-        let count : additions s.proof ≡ additions r.proof = ap additions made.proof in
+        let count : additions s.proof ≡ additions r.proof.lines = ap additions made.proof in
         let most : most_learned left.restart cnf.vars ≡ most_learned options.restart cnf.vars = ap (λ (b : Bool). most_learned b cnf.vars) restart in
         record {
-          derivation = made-derivation names last.best.values v r.proof (Some last.proof) s cnf made progress.derivation;
+          derivation = made-derivation names last.best.values v r.proof.lines (Some last.proof.lines) s cnf made progress.derivation;
           within = both-within v made;
           most = both-most v made;
           says = subst (IsSolvedBest both_problem options sought.direction sought.integer.now (Some behind.integer.now) s) (sym made.verdict) (
@@ -345,36 +343,36 @@ module _ (names : Names) (cnf : Cnf) (sought behind : Sought) (options left : Op
             inr (record {
               other = behind.integer.now;
               is = refl;
-              lines = last.proof;
+              lines = last.proof.lines;
               has = has-second v made;
               spent = omega (arith, count, spent.0, budget, progress.within);
-              early = both-searches (values_count sought.integer.now) (values_count behind.integer.now) (most_learned options.restart cnf.vars) (additions r.proof) (additions last.proof) options.budget
-                  progress.most (spent.0 ∙ budget) progress.within (subst (λ (m : ℕ). additions last.proof < values_count behind.integer.now * m) most spent.1);
+              early = both-searches (values_count sought.integer.now) (values_count behind.integer.now) (most_learned options.restart cnf.vars) (additions r.proof.lines) (additions last.proof.lines) options.budget
+                  progress.most (spent.0 ∙ budget) progress.within (subst (λ (m : ℕ). additions last.proof.lines < values_count behind.integer.now * m) most spent.1);
               number = last.best.number;
               number_is = refl;
               paid = both-paid (values_count sought.integer.now) (values_count behind.integer.now) (better_left sought.direction behind.integer.now last.best.number) (most_learned options.restart cnf.vars)
-                  (additions r.proof) (additions last.proof) options.budget progress.most (spent.0 ∙ budget) progress.within
-                  (subst (λ (d : Direction). additions last.proof + better_left d behind.integer.now last.best.number * most_learned options.restart cnf.vars < (values_count behind.integer.now + 1) * most_learned options.restart cnf.vars) direction
-                  (subst (λ (m : ℕ). additions last.proof + better_left behind.direction behind.integer.now last.best.number * m < (values_count behind.integer.now + 1) * m) most (second.paid e)));
+                  (additions r.proof.lines) (additions last.proof.lines) options.budget progress.most (spent.0 ∙ budget) progress.within
+                  (subst (λ (d : Direction). additions last.proof.lines + better_left d behind.integer.now last.best.number * most_learned options.restart cnf.vars < (values_count behind.integer.now + 1) * most_learned options.restart cnf.vars) direction
+                  (subst (λ (m : ℕ). additions last.proof.lines + better_left behind.direction behind.integer.now last.best.number * m < (values_count behind.integer.now + 1) * m) most (second.paid e)));
               unshown = λ shown. second.unshown e
-                  (subst (λ (w : List Atom). IsShown (proof_behind both_settled last.proof) (resolve w (bound_of behind.direction behind.integer.now last.best.number))) (sym view_behind)
-                  (subst (λ (d : Direction). IsShown (proof_behind both_settled last.proof) (resolve names.view.now (bound_of d behind.integer.now last.best.number))) (sym direction)
-                  (subst (λ (f : Cnf). IsShown (proof_behind f last.proof) (resolve names.view.now (bound_of sought.direction behind.integer.now last.best.number))) same-settled shown)));
+                  (subst (λ (w : List Atom). IsShown (proof_behind both_settled last.proof.lines) (resolve w (bound_of behind.direction behind.integer.now last.best.number))) (sym view_behind)
+                  (subst (λ (d : Direction). IsShown (proof_behind both_settled last.proof.lines) (resolve names.view.now (bound_of d behind.integer.now last.best.number))) (sym direction)
+                  (subst (λ (f : Cnf). IsShown (proof_behind f last.proof.lines) (resolve names.view.now (bound_of sought.direction behind.integer.now last.best.number))) same-settled shown)));
             }),
           );
         }
 
-    pub both-solved : IsMadeOf names last.best.values (verdict_on last.is_best both_bounds options) r.proof (Some last.proof) s
+    pub both-solved : IsMadeOf names last.best.values (verdict_on last.is_best both_bounds options) r.proof.lines (Some last.proof.lines) s
         → IsBestSolved both_problem options sought.direction sought.integer.now (Some behind.integer.now) s
     both-solved made = both-by last.is_best refl made
 
 -- the same, of what the code has: the clauses as they were made, and the number as its bits
 pub both-made : (names : Names) (cnf made : Cnf) (sought behind : Sought) (options left : Options) (r last : Progress) (number : ℤ) (s : Solved) → sought.view.now ≡ names.view.now → behind.view.now ≡ names.view.now
-    → behind.direction ≡ sought.direction → IsSeekable cnf sought → IsProgress cnf sought options r → r.is_best ≡ true → left.budget ≡ options.budget - additions r.proof → left.restart ≡ options.restart
+    → behind.direction ≡ sought.direction → IsSeekable cnf sought → IsProgress cnf sought options r → r.is_best ≡ true → left.budget ≡ options.budget - additions r.proof.lines → left.restart ≡ options.restart
     → made ≡ record { vars = cnf.vars; clauses = cnf.clauses ++ atom_clauses (resolve sought.view.now (no_worse_of sought.direction sought.integer.now r.best.number)) } → IsProgress made behind left last
-    → number ≡ r.best.number → IsMadeOf names last.best.values (verdict_on last.is_best (record { first = number; second = Some last.best.number }) options) r.proof (Some last.proof) s
+    → number ≡ r.best.number → IsMadeOf names last.best.values (verdict_on last.is_best (record { first = number; second = Some last.best.number }) options) r.proof.lines (Some last.proof.lines) s
     → IsBestSolved (problem_of names cnf) options sought.direction sought.integer.now (Some behind.integer.now) s
 both-made names cnf made sought behind options left r last number s view view_behind direction seekable progress shown budget restart settled second same is =
     both-solved names cnf sought behind options left r last view view_behind direction seekable progress shown budget restart
     (subst (λ (f : Cnf). IsProgress f behind left last) settled second) s
-    (subst (λ (z : ℤ). IsMadeOf names last.best.values (verdict_on last.is_best (record { first = z; second = Some last.best.number }) options) r.proof (Some last.proof) s) same is)
+    (subst (λ (z : ℤ). IsMadeOf names last.best.values (verdict_on last.is_best (record { first = z; second = Some last.best.number }) options) r.proof.lines (Some last.proof.lines) s) same is)

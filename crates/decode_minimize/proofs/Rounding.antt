@@ -1,5 +1,5 @@
 -- From a solver's first round to its log.
-use Rattle.std.proofs.Common.{◌≡◌, ℕ, ◌+◌, ◌*◌, ◌≤◌, ◌<◌, Bool, true, false, List, [], ◌∷◌, length, map, refl, sym, ap, ◌∙◌, subst, ℤ, arith}
+use Rattle.std.proofs.Common.{◌≡◌, ℕ, ◌+◌, ◌*◌, ◌≤◌, ◌<◌, Bool, List, [], ◌∷◌, length, map, Some, sym, ap, ◌∙◌, subst, ℤ, arith}
 use Rattle.std.proofs.Math.Nat.{mul-le-mul_left}
 use Rattle.order_ints.specs.declared.atom.Atom.{Atom}
 use Rattle.order_ints.specs.declared.atom.Atom.TheVariants.{True, False}
@@ -8,7 +8,7 @@ use Rattle.order_ints.specs.declared.order_int.OrdInt.{OrdInt}
 use Rattle.order_ints.specs.OrderLevels.{levels, values_of}
 use Rattle.order_ints.specs.OrderValue.{value_of, IsOrdered}
 use Rattle.order_ints.specs.Satisfies.{Satisfies}
-use Rattle.order_ints.specs.Truth.{Valuation, valuation_of}
+use Rattle.order_ints.specs.Truth.{valuation_of}
 use Rattle.order_ints.proofs.Reaching.{Contains-value_of}
 use Rattle.state_compile.specs.StandsFor.{read_by}
 use Rattle.proof_check.specs.declared.line.ProofLine.{ProofLine}
@@ -20,7 +20,7 @@ use Rattle.decode_minimize.specs.declared.options.Options.{Options}
 use Rattle.decode_minimize.specs.declared.improving.Sought.{Sought}
 use Rattle.decode_minimize.specs.declared.improving.Best.{Best}
 use Rattle.decode_minimize.specs.declared.asking.Round.TheVariants as round
-use Rattle.decode_minimize.specs.declared.solved.Progress.{Progress}
+use Rattle.decode_minimize.specs.declared.seeker.SeekerLog.{SeekerLog}
 use Rattle.decode_minimize.specs.Objectives.{better_left}
 use Rattle.decode_minimize.specs.Rounds.{AreSatisfying, IsRound}
 use Rattle.decode_minimize.specs.Seeking.{IsSeeking, IsImproved, left}
@@ -69,30 +69,31 @@ paid-searches w c i m x y few one most =
     let more : m * (w + 1) ≤ m * c = mul-le-mul_left m few in
     omega (arith, one, most, more)
 
-pub progress-from : (first new : Logged) (sought : Sought) (options : Options) (best is : Best) (shown : Bool) (proof : List ProofLine)
+pub progress-from : (first new : Logged) (sought : Sought) (options : Options) (best is : Best) (shown : Bool) (proof : SeekerLog)
     → IsSeeking first sought best → additions first.log ≤ most_learned options.restart first.cnf.vars → new.cnf ≡ first.cnf → additions new.log ≤ options.budget
-    → IsSeeking new sought is → IsImproved first new sought options best is shown → proof ≡ new.log → Lrat new.cnf proof → IsFreshLog new.cnf proof → AreReadableLines proof
+    → IsSeeking new sought is → IsImproved first new sought options best is shown → proof.lines ≡ new.log → proof.incumbent ≡ Some is.number → Lrat new.cnf proof.lines → IsFreshLog new.cnf proof.lines → AreReadableLines proof.lines
     → IsProgress first.cnf sought options (record { proof = proof; best = is; is_best = shown })
-progress-from first new sought options best is shown proof seeking before cnf within sought_on improved log lrat fresh readable =
+progress-from first new sought options best is shown proof seeking before cnf within sought_on improved log kept lrat fresh readable =
     let few = left-few first sought best seeking in
     let m = most_learned options.restart first.cnf.vars in
-    let here : IsDerivation new.cnf proof = log-derivation new.cnf proof lrat fresh readable in
-    let same : additions proof ≡ additions new.log = ap additions log in
+    let here : IsDerivation new.cnf proof.lines = log-derivation new.cnf proof.lines lrat fresh readable in
+    let same : additions proof.lines ≡ additions new.log = ap additions log in
     record {
-      derivation = subst (λ (f : Cnf). IsDerivation f proof) cnf here;
+      derivation = subst (λ (f : Cnf). IsDerivation f proof.lines) cnf here;
+      kept = kept;
       values = subst (λ (f : Cnf). AreSatisfying f is.values) cnf sought_on.values;
       number = sought_on.number;
       within = omega (arith, same, within);
-      most = all-searches (left sought best) (values_count sought.integer.now) m (additions proof) (additions first.log) few before (omega (arith, same, improved.most));
-      shown = λ e. subst (λ (f : Cnf). IsShown (proof_behind f proof) (asked_bound sought is)) cnf
+      most = all-searches (left sought best) (values_count sought.integer.now) m (additions proof.lines) (additions first.log) few before (omega (arith, same, improved.most));
+      shown = λ e. subst (λ (f : Cnf). IsShown (proof_behind f proof.lines) (asked_bound sought is)) cnf
           (subst (λ (l : List ProofLine). IsShown (proof_behind new.cnf l) (asked_bound sought is)) (sym log) (improved.best e));
       spent = λ e.
           let s = improved.spent e in
-          (same ∙ s.0, fewer-searches (left sought best) (values_count sought.integer.now) m (additions proof) (additions first.log) few before (omega (arith, same, s.1)));
-      paid = λ e. paid-searches (left sought best) (values_count sought.integer.now) (left sought is) m (additions proof) (additions first.log) few before (omega (arith, same, improved.paid e));
+          (same ∙ s.0, fewer-searches (left sought best) (values_count sought.integer.now) m (additions proof.lines) (additions first.log) few before (omega (arith, same, s.1)));
+      paid = λ e. paid-searches (left sought best) (values_count sought.integer.now) (left sought is) m (additions proof.lines) (additions first.log) few before (omega (arith, same, improved.paid e));
       unshown = λ e shown. improved.unshown e
           (subst (λ (l : List ProofLine). IsShown (proof_behind new.cnf l) (asked_bound sought is)) log
-          (subst (λ (f : Cnf). IsShown (proof_behind f proof) (asked_bound sought is)) (sym cnf) shown));
+          (subst (λ (f : Cnf). IsShown (proof_behind f proof.lines) (asked_bound sought is)) (sym cnf) shown));
     }
 
 -- the first round of a new solver

@@ -1,5 +1,5 @@
 -- The size of the CNF at the end of a compilation.
-use Rattle.std.proofs.Common.{◌≡◌, ℕ, true, List, [], ◌∷◌, length, Ok, refl, sym, ap, ◌∙◌, subst}
+use Rattle.std.proofs.Common.{◌≡◌, ℕ, true, List, [], ◌∷◌, length, Ok, sym, ap, ◌∙◌, subst}
 use Rattle.std.specs.Prelude.{Result, Bool, if◌then◌else◌}
 use Rattle.order_ints.specs.declared.cnf.Cnf.{Cnf}
 use Rattle.order_ints.specs.declared.literal.Lit.{Lit}

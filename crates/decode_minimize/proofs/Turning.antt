@@ -1,5 +1,5 @@
 -- What a round makes of a search for the best value.
-use Rattle.std.proofs.Common.{◌≡◌, ◌≢◌, ◌⊎◌, ℕ, zero, suc, ◌+◌, ◌*◌, ◌≤◌, ◌<◌, Bool, true, false, List, length, refl, sym, ap, ◌∙◌, subst, inl, inr, ⊎_elim, ℤ, FitsSigned, w64, to_z, of_z, arith}
+use Rattle.std.proofs.Common.{◌≡◌, ◌⊎◌, ℕ, zero, suc, ◌+◌, ◌*◌, ◌≤◌, ◌<◌, Bool, true, false, List, length, refl, sym, ap, ◌∙◌, subst, inl, inr, ⊎_elim, ℤ, FitsSigned, w64, to_z, of_z, arith}
 use Rattle.std.proofs.Math.Nat.{mul-le-mul_left}
 use Rattle.std.proofs.lemmas.Bool.{true≢false}
 use Rattle.std.proofs.lemmas.Int.{to_z-of_z}
@@ -12,7 +12,7 @@ use Rattle.order_ints.specs.OrderRange.{IntBelow}
 use Rattle.order_ints.specs.OrderValue.{value_of, IsOrdered}
 use Rattle.order_ints.specs.Place.{AtomBelow}
 use Rattle.order_ints.specs.Satisfies.{Satisfies}
-use Rattle.order_ints.specs.Truth.{Valuation, valuation_of, atom_truth}
+use Rattle.order_ints.specs.Truth.{valuation_of}
 use Rattle.order_ints.specs.View.{resolve}
 use Rattle.order_ints.proofs.PlaceLaws.{AtomBelow-not_atom, AtomBelow-resolve}
 use Rattle.order_ints.proofs.Reaching.{AtomBelow-at_of}
@@ -31,7 +31,7 @@ use Rattle.decode_minimize.specs.declared.improving.Turn.TheVariants as turn
 use Rattle.decode_minimize.specs.declared.asking.Round.TheVariants as round
 use Rattle.decode_minimize.specs.Objectives.{better_left, bound_of}
 use Rattle.decode_minimize.specs.Rounds.{AreSatisfying, IsRound}
-use Rattle.decode_minimize.specs.Seeking.{IsSeeking, IsBestShown, IsTurned, IsImproved, left}
+use Rattle.decode_minimize.specs.Seeking.{IsSeeking, IsTurned, IsImproved, left}
 use Rattle.decode_minimize.proofs.Better.{none-left, fewer-left}
 
 bound-below : (n : ℕ) (d : Direction) (a : OrdInt) (m : ℤ) → IntBelow n a → AtomBelow n (bound_of d a m)

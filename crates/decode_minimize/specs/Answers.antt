@@ -1,6 +1,8 @@
 -- What an answer to a model is, beside being valid: where its parts come from, and what it may have cost.
 use Rattle.std.specs.Prelude.{◌≡◌, ◌↔◌, ℕ, ◌+◌, ◌*◌, ◌≤◌, ◌<◌, ◌^◌, List, length, ℤ, slice_get, Option, Some, None, IfSome}
 use Rattle.order_ints.specs.declared.atom.Atom.TheVariants.{False}
+use Rattle.order_ints.specs.declared.order_int.MapValue.{MapValue}
+use Rattle.order_ints.specs.declared.order_int.OrdInt.{OrdInt}
 use Rattle.order_ints.specs.Truth.{Valuation}
 use Rattle.order_ints.specs.Satisfies.{Satisfies}
 use Rattle.core_forms.specs.declared.equation.Equation.{Equation}
@@ -12,6 +14,7 @@ use Rattle.model_meaning.specs.declared.model.Model.{Model}
 use Rattle.model_meaning.specs.declared.model.Assignment.{Assignment}
 use Rattle.model_meaning.specs.Domains.{domain}
 use Rattle.model_meaning.specs.Solutions.{IsSolution}
+use Rattle.model_lower.specs.Lowering.{lowered_of}
 use Rattle.step_kernel.specs.Kernel.{Kernel}
 use Rattle.step_kernel.specs.CnfOf.{cnf_of}
 use Rattle.asking_bound.specs.Questions.{most_questions}
@@ -24,10 +27,14 @@ use Rattle.answer_document.specs.declared.verdict.Bounds.{Bounds}
 use Rattle.answer_document.specs.declared.verdict.Verdict.{Verdict}
 use Rattle.answer_document.specs.declared.verdict.Verdict.TheVariants.{Satisfiable, Unsatisfiable, Optimum, Unknown}
 use Rattle.answer_document.specs.declared.document.Document.{Document}
+use Rattle.answer_document.specs.BoundAtoms.{integer_named}
 use Rattle.answer_document.specs.DocumentText.{document_text}
 use Rattle.answer_document.specs.Valid.{start_of, IsShown, first_shown, second_shown, second_cnf, numbers_given, stated, IsValid}
+use Rattle.decode_minimize.specs.declared.objective.Direction.{Direction}
+use Rattle.decode_minimize.specs.declared.objective.Direction.TheVariants.{Least, Greatest}
 use Rattle.decode_minimize.specs.declared.options.Options.{Options}
-use Rattle.decode_minimize.specs.Solved.{second_added}
+use Rattle.decode_minimize.specs.Objectives.{better_left}
+use Rattle.decode_minimize.specs.Solved.{values_count, second_added}
 
 -- the budget is one that a document can state
 abbrev pub IsBudget : ℕ → Type 0
@@ -90,6 +97,39 @@ IsOpen model last d (Optimum b) = Unit {0}
 IsOpen model last d (Unknown n None) = IsShown (proof_behind (cnf_of last) d.proof) False → ⊥
 IsOpen model last d (Unknown n (Some b)) = IsOpenBehind model last d.proof b d.second b.second
 
+-- How good the solution is that is given where the search was given up. Each search but the last left out a value, and
+-- those that are still better than what is given were not left out: so with them, the budget is less than the most that a
+-- search may need for each value of the objectives that were sought, and for one search more.
+abbrev pub IsPaidFor : ℕ → ℕ → ℕ → Direction → OrdInt → ℤ → Type 0
+IsPaidFor budget most values d a m = budget + better_left d a m * most < (values + 1) * most
+
+-- how many values the integer at a place has
+abbrev pub values_named : List MapValue → ℕ → ℕ
+values_named entries place = values_count (integer_named entries place)
+
+-- of the objective that was sought last: the second one, where there is a second derivation
+abbrev pub IsPaidBehind : List MapValue → ℕ → ℕ → Direction → ℕ → Option ℕ → Bounds → Option (List ProofLine) → Type 0
+IsPaidBehind entries budget most d place second b None =
+    IsPaidFor budget most (values_named entries place) d (integer_named entries place) b.first
+IsPaidBehind entries budget most d place None b (Some lines) = ⊥
+IsPaidBehind entries budget most d place (Some other) b (Some lines) =
+    (n : ℤ) → b.second ≡ Some n
+    → IsPaidFor budget most (values_named entries place + values_named entries other) d (integer_named entries other) n
+
+abbrev pub IsPaidTowards : List MapValue → ℕ → ℕ → Bounds → Option (List ProofLine) → Goal → Type 0
+IsPaidTowards entries budget most b lines Satisfy = ⊥
+IsPaidTowards entries budget most b lines (Minimize place second) =
+    IsPaidBehind entries budget most Least place second b lines
+IsPaidTowards entries budget most b lines (Maximize place second) =
+    IsPaidBehind entries budget most Greatest place second b lines
+
+abbrev pub IsPaid : List MapValue → ℕ → ℕ → Goal → Option (List ProofLine) → Verdict → Type 0
+IsPaid entries budget most goal lines Satisfiable = Unit {0}
+IsPaid entries budget most goal lines Unsatisfiable = Unit {0}
+IsPaid entries budget most goal lines (Optimum b) = Unit {0}
+IsPaid entries budget most goal lines (Unknown n None) = Unit {0}
+IsPaid entries budget most goal lines (Unknown n (Some b)) = IsPaidTowards entries budget most b lines goal
+
 -- An answer to a model, where a counter has risen from one number to another. Its ledger is that of a whole compilation, whatever
 -- the verdict, and the last state's CNF stands for exactly the solutions.
 pub record IsAnswer (told : Core → Equation → Type 0) (model : Model) (options : Options) (d : Document) (counter now : ℕ) : Type 0 where
@@ -110,5 +150,8 @@ pub record IsAnswer (told : Core → Equation → Type 0) (model : Model) (optio
   pub spent : IsSpent options.budget (all_additions d) d.verdict
   pub enough : most_learned options.restart (cnf_of last).vars * most_rounds model.decls model.goal ≤ options.budget → IsDecided d.verdict
   pub unshown : IsOpen model last d d.verdict
+  -- and a solution that is given then is as good as the searches were many
+  pub paid : IsPaid (lowered_of model).map.entries options.budget (most_learned options.restart (cnf_of last).vars)
+      model.goal d.second d.verdict
   -- the counter rose by three at most for each question that the compilation may have asked
   pub asked : now ≤ counter + 3 * most_questions (start_of model) d.ledger last

@@ -1,5 +1,6 @@
 pub mod Objectives
 pub mod Rounds
+pub mod Incumbents
 pub mod Seeking
 pub mod Settling
 pub mod Solved

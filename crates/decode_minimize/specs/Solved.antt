@@ -80,17 +80,19 @@ pub record IsDerivation (cnf : Cnf) (lines : List ProofLine) : Type 0 where
 abbrev pub values_count : OrdInt → ℕ
 values_count a = length (values_of a)
 
--- the rounds of an objective, from a solution on
+-- The rounds of an objective, from a solution on. The solution that is kept has the value of the last one that was
+-- found, and each that a round finds is better than all before it.
 pub record IsProgress (cnf : Cnf) (sought : Sought) (options : Options) (r : Progress) : Type 0 where
-  pub derivation : IsDerivation cnf r.proof
+  pub derivation : IsDerivation cnf r.proof.lines
   pub values : AreSatisfying cnf r.best.values
+  pub kept : r.proof.incumbent ≡ Some r.best.number
   pub number : r.best.number ≡ value_of (read_by sought.view.now (valuation_of r.best.values)) sought.integer.now
-  pub within : additions r.proof ≤ options.budget
-  pub most : additions r.proof ≤ values_count sought.integer.now * most_learned options.restart cnf.vars
-  pub shown : r.is_best ≡ true → IsShown (proof_behind cnf r.proof) (resolve sought.view.now (bound_of sought.direction sought.integer.now r.best.number))
-  pub spent : r.is_best ≡ false → (additions r.proof ≡ options.budget) × (additions r.proof < values_count sought.integer.now * most_learned options.restart cnf.vars)
-  pub paid : r.is_best ≡ false → additions r.proof + better_left sought.direction sought.integer.now r.best.number * most_learned options.restart cnf.vars < (values_count sought.integer.now + 1) * most_learned options.restart cnf.vars
-  pub unshown : r.is_best ≡ false → IsShown (proof_behind cnf r.proof) (resolve sought.view.now (bound_of sought.direction sought.integer.now r.best.number)) → ⊥
+  pub within : additions r.proof.lines ≤ options.budget
+  pub most : additions r.proof.lines ≤ values_count sought.integer.now * most_learned options.restart cnf.vars
+  pub shown : r.is_best ≡ true → IsShown (proof_behind cnf r.proof.lines) (resolve sought.view.now (bound_of sought.direction sought.integer.now r.best.number))
+  pub spent : r.is_best ≡ false → (additions r.proof.lines ≡ options.budget) × (additions r.proof.lines < values_count sought.integer.now * most_learned options.restart cnf.vars)
+  pub paid : r.is_best ≡ false → additions r.proof.lines + better_left sought.direction sought.integer.now r.best.number * most_learned options.restart cnf.vars < (values_count sought.integer.now + 1) * most_learned options.restart cnf.vars
+  pub unshown : r.is_best ≡ false → IsShown (proof_behind cnf r.proof.lines) (resolve sought.view.now (bound_of sought.direction sought.integer.now r.best.number)) → ⊥
 
 -- and before any is known
 pub record IsRefuted (cnf : Cnf) (options : Options) (proof : List ProofLine) : Type 0 where

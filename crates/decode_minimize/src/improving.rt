@@ -1,6 +1,6 @@
 //! The rounds of one objective.
 
-ghost use Rattle.std.specs.Prelude.{◌≡◌, ◌+◌, ◌≤◌, IfOk, length};
+ghost use Rattle.std.specs.Prelude.{◌≡◌, ◌+◌, ◌≤◌, Some, IfOk, length};
 ghost use Rattle.order_ints.specs.OrderValue.{value_of};
 ghost use Rattle.order_ints.specs.Truth.{valuation_of};
 ghost use Rattle.state_compile.specs.StandsFor.{read_by};
@@ -8,11 +8,11 @@ ghost use Rattle.decode_minimize.specs.Objectives.{IsObjective};
 ghost use Rattle.learning_solver.specs.Log.{additions};
 ghost use Rattle.decode_minimize.specs.Seeking.{IsSeeking, IsTurned, IsImproved};
 
-use crate::asking::{Round, ask_bound};
+use crate::asking::Round;
 use crate::objective::{Direction, bound_of, value_under};
 use crate::options::Options;
+use crate::seeker::Seeker;
 use bee_list::Sequence;
-use learning_solver::Solver;
 use order_ints::{Atom, OrdInt, resolve};
 use std::alloc::AllocError;
 
@@ -59,23 +59,26 @@ fn take(sought: &Sought<'_>, best: &mut Best, values: Sequence<bool>)
 
 /// One round: asks for a better value than the best one so far.
 fn improve_once(
-    solver: &mut Solver<'_>,
+    seeker: &mut Seeker<'_>,
     sought: &Sought<'_>,
     best: &mut Best,
     options: Options,
 ) -> Result<Turn, AllocError>
-    requires seeking { IsSeeking solver.old sought.now best.old }
-    requires budget { additions solver.old.log ≤ options.budget }
-    ensures cnf { solver.new.cnf ≡ solver.old.cnf }
-    ensures within { additions solver.new.log ≤ options.budget }
-    ensures seeking { IfOk result (λ t. IsSeeking solver.new sought.now best.new) }
-    ensures turned { IfOk result (λ t. IsTurned solver.old solver.new sought.now options best.old best.new t) }
+    requires seeking { IsSeeking seeker.old.solver sought.now best.old }
+    requires kept { seeker.old.incumbent ≡ Some best.old.number }
+    requires budget { additions seeker.old.solver.log ≤ options.budget }
+    ensures cnf { seeker.new.solver.cnf ≡ seeker.old.solver.cnf }
+    ensures within { additions seeker.new.solver.log ≤ options.budget }
+    ensures seeking { IfOk result (λ t. IsSeeking seeker.new.solver sought.now best.new) }
+    ensures kept { IfOk result (λ t. seeker.new.incumbent ≡ Some best.new.number) }
+    ensures turned { IfOk result
+        (λ t. IsTurned seeker.old.solver seeker.new.solver sought.now options best.old best.new t) }
 {
     let bound = resolve(
         sought.view,
         bound_of(sought.direction, sought.integer, best.number),
     );
-    match ask_bound(solver, bound, options)? {
+    match seeker.ask(sought, bound, options)? {
         Round::Better(values) => {
             take(sought, best, values);
             Ok(Turn::Better)
@@ -85,23 +88,26 @@ fn improve_once(
     }
 }
 
-/// Rounds until no better value is there, or the budget is spent; whether the former. Each round takes one search, and each but
-/// the last finds a better value.
+/// Rounds until no better value is there, or the budget is spent; whether the former. Each round takes one search, and
+/// each but the last finds a better value. What is best at the end is the last solution that a round found.
 pub fn improve(
-    solver: &mut Solver<'_>,
+    seeker: &mut Seeker<'_>,
     sought: &Sought<'_>,
     best: &mut Best,
     options: Options,
 ) -> Result<bool, AllocError>
-    requires seeking { IsSeeking solver.old sought.now best.old }
-    requires budget { additions solver.old.log ≤ options.budget }
-    ensures cnf { solver.new.cnf ≡ solver.old.cnf }
-    ensures within { additions solver.new.log ≤ options.budget }
-    ensures seeking { IfOk result (λ shown. IsSeeking solver.new sought.now best.new) }
-    ensures improved { IfOk result (IsImproved solver.old solver.new sought.now options best.old best.new) }
+    requires seeking { IsSeeking seeker.old.solver sought.now best.old }
+    requires kept { seeker.old.incumbent ≡ Some best.old.number }
+    requires budget { additions seeker.old.solver.log ≤ options.budget }
+    ensures cnf { seeker.new.solver.cnf ≡ seeker.old.solver.cnf }
+    ensures within { additions seeker.new.solver.log ≤ options.budget }
+    ensures seeking { IfOk result (λ shown. IsSeeking seeker.new.solver sought.now best.new) }
+    ensures kept { IfOk result (λ shown. seeker.new.incumbent ≡ Some best.new.number) }
+    ensures improved { IfOk result
+        (IsImproved seeker.old.solver seeker.new.solver sought.now options best.old best.new) }
 {
     loop {
-        match improve_once(solver, sought, best, options)? {
+        match improve_once(seeker, sought, best, options)? {
             Turn::Better => {}
             Turn::Shown => return Ok(true),
             Turn::Spent => return Ok(false),

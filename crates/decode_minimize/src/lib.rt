@@ -12,8 +12,13 @@
 //! so what it says is true by `claim_law`; the ledger is that of a whole compilation
 //! (`compilation`, `solutions`); derivations add new clauses and delete only those (`fresh`,
 //! `second`), within the budget (`within`), which is spent where the verdict is UNKNOWN (`spent`);
-//! and it is never UNKNOWN where the budget is as great as a stated number (`enough`). They fail
-//! exactly where the model is too heavy, or memory is wanting (`light`, `heavy`).
+//! it is never UNKNOWN where the budget is as great as a stated number (`enough`), and what is given
+//! with it is as good as the searches were many (`paid`). They fail exactly where the model is too
+//! heavy, or memory is wanting (`light`, `heavy`).
+//!
+//! A round asks through a `Seeker`, whose incumbent is the value of the last solution that was found.
+//! It asks for a better one alone, and whoever makes the rounds can't change it: so that the solution
+//! that is kept has this value (`kept`) says that none that was found is better.
 //!
 //! How a round searches is `learning_solver`'s; which bound it asks for is `ask_bound`, here.
 //! Clauses, ledger and derivations go into the document as they are; nothing is made again for it.
@@ -25,6 +30,7 @@ mod improving;
 mod objective;
 mod options;
 mod rounds;
+mod seeker;
 mod settling;
 mod solved;
 mod solving;

@@ -1,6 +1,6 @@
 //! The rounds of a solver, from its first one to its log.
 
-ghost use Rattle.std.specs.Prelude.{◌≡◌, ◌+◌, ◌≤◌, IfOk, length};
+ghost use Rattle.std.specs.Prelude.{◌≡◌, ◌+◌, ◌≤◌, Some, IfOk, length};
 ghost use Rattle.order_ints.specs.OrderValue.{value_of};
 ghost use Rattle.order_ints.specs.Truth.{valuation_of};
 ghost use Rattle.state_compile.specs.StandsFor.{read_by};
@@ -11,13 +11,13 @@ ghost use Rattle.decode_minimize.specs.Rounds.{AreSatisfying};
 ghost use Rattle.decode_minimize.specs.Seeking.{IsSeeking};
 ghost use Rattle.decode_minimize.specs.Solved.{IsSolvable, IsSeekable, IsProgress, IsFirst};
 
-use crate::asking::{Round, ask_bound};
+use crate::asking::Round;
 use crate::improving::{Best, Sought, improve};
 use crate::objective::value_under;
 use crate::options::Options;
+use crate::seeker::Seeker;
 use crate::solved::{First, Progress};
 use bee_list::Sequence;
-use learning_solver::Solver;
 use order_ints::{Atom, Cnf};
 use std::alloc::{AllocError, Global};
 
@@ -31,23 +31,24 @@ fn best_of(sought: &Sought<'_>, values: Sequence<bool>) -> Best
     Best { values, number }
 }
 
-/// The rounds of a solver from a solution on. It may have made one search before.
+/// The rounds of a seeker from a solution on. It may have made one search before.
 fn rounds_from(
-    solver: Solver<'_>,
+    seeker: Seeker<'_>,
     sought: &Sought<'_>,
     best: Best,
     options: Options,
 ) -> Result<Progress, AllocError>
-    requires seeking { IsSeeking solver sought.now best }
-    requires budget { additions solver.log ≤ options.budget }
-    requires most { additions solver.log ≤ most_learned options.restart solver.cnf.vars }
-    ensures { IfOk result (IsProgress solver.entry.cnf sought.now options) }
+    requires seeking { IsSeeking seeker.solver sought.now best }
+    requires kept { seeker.incumbent ≡ Some best.number }
+    requires budget { additions seeker.solver.log ≤ options.budget }
+    requires most { additions seeker.solver.log ≤ most_learned options.restart seeker.solver.cnf.vars }
+    ensures { IfOk result (IsProgress seeker.entry.solver.cnf sought.now options) }
 {
-    let mut solver = solver;
+    let mut seeker = seeker;
     let mut best = best;
-    let is_best = improve(&mut solver, sought, &mut best, options)?;
+    let is_best = improve(&mut seeker, sought, &mut best, options)?;
     Ok(Progress {
-        proof: solver.into_log(),
+        proof: seeker.into_log(),
         best,
         is_best,
     })
@@ -64,13 +65,13 @@ pub fn first_rounds(
     requires seekable { IsSeekable cnf.now sought.now }
     ensures { IfOk result (IsFirst cnf.now sought.now options) }
 {
-    let mut solver = Solver::with(alloc, cnf)?;
-    match ask_bound(&mut solver, Atom::False, options)? {
-        Round::Shown => Ok(First::Refuted(solver.into_log())),
-        Round::Spent => Ok(First::GivenUp(solver.into_log())),
+    let mut seeker = Seeker::with(alloc, cnf)?;
+    match seeker.ask(sought, Atom::False, options)? {
+        Round::Shown => Ok(First::Refuted(seeker.into_log().into_lines())),
+        Round::Spent => Ok(First::GivenUp(seeker.into_log().into_lines())),
         Round::Better(values) => {
             let best = best_of(sought, values);
-            let progress = rounds_from(solver, sought, best, options)?;
+            let progress = rounds_from(seeker, sought, best, options)?;
             Ok(First::Found(progress))
         }
     }
@@ -89,8 +90,8 @@ pub fn rounds_behind(
     requires satisfying { AreSatisfying cnf.now values }
     ensures { IfOk result (IsProgress cnf.now sought.now options) }
 {
-    let solver = Solver::with(alloc, cnf)?;
     let best = best_of(sought, values);
-    let progress = rounds_from(solver, sought, best, options)?;
+    let seeker = Seeker::behind(alloc, cnf, &best)?;
+    let progress = rounds_from(seeker, sought, best, options)?;
     Ok(progress)
 }

@@ -1,6 +1,7 @@
 //! What solving gives.
 
 use crate::improving::Best;
+use crate::seeker::SeekerLog;
 use answer_document::Verdict;
 use bee_list::Sequence;
 use model_meaning::Assignment;
@@ -33,9 +34,9 @@ pub struct Solved {
 /// What came of the rounds of an objective, of which a solution is known.
 #[derive(Debug, Drop)]
 pub struct Progress {
-    /// The derivation.
-    pub proof: Sequence<ProofLine>,
-    /// The best solution that was found.
+    /// The derivation, with the value of the last solution that was found.
+    pub proof: SeekerLog,
+    /// The best solution that was found: it has that value.
     pub best: Best,
     /// Whether the derivation shows that none is better; else the budget is spent.
     pub is_best: bool,

@@ -119,7 +119,7 @@ fn with_one(
     options: Options,
 ) -> Result<Solved, AllocError>
     requires { AreShort names.now.map.now.entries }
-    ensures { IfOk result (IsMadeOf names.now progress.best.values (verdict_on progress.is_best (record { first = progress.best.number; second = None }) options) progress.proof None) }
+    ensures { IfOk result (IsMadeOf names.now progress.best.values (verdict_on progress.is_best (record { first = progress.best.number; second = None }) options) progress.proof.lines None) }
 {
     let Progress {
         proof,
@@ -131,6 +131,7 @@ fn with_one(
         second: None,
     };
     let verdict = verdict_on(is_best, bounds, options);
+    let proof = proof.into_lines();
     let solved = with_solution(alloc, names, best.values.as_slice(), verdict, proof, None)?;
     Ok(solved)
 }
@@ -170,7 +171,7 @@ fn with_first(
     requires objective { IsObjective (length behind.now.view.now + 1) behind.now.integer.now }
     ensures { IfOk result (IsMadeOf names.now progress.best.values
         (Verdict.Unknown options.budget (Some (record { first = progress.best.number; second = Some (value_of (read_by behind.now.view.now (valuation_of progress.best.values)) behind.now.integer.now) })))
-        progress.proof None) }
+        progress.proof.lines None) }
 {
     let Progress { proof, best, .. } = progress;
     let other = value_under(behind.integer, behind.view, best.values.as_slice());
@@ -179,6 +180,7 @@ fn with_first(
         second: Some(other),
     };
     let verdict = Verdict::Unknown(options.budget, Some(bounds));
+    let proof = proof.into_lines();
     let solved = with_solution(alloc, names, best.values.as_slice(), verdict, proof, None)?;
     Ok(solved)
 }
@@ -193,7 +195,7 @@ fn with_two(
     options: Options,
 ) -> Result<Solved, AllocError>
     requires { AreShort names.now.map.now.entries }
-    ensures { IfOk result (IsMadeOf names.now progress.best.values (verdict_on progress.is_best (record { first = number; second = Some progress.best.number }) options) proof (Some progress.proof)) }
+    ensures { IfOk result (IsMadeOf names.now progress.best.values (verdict_on progress.is_best (record { first = number; second = Some progress.best.number }) options) proof (Some progress.proof.lines)) }
 {
     let Progress {
         proof: second,
@@ -205,6 +207,7 @@ fn with_two(
         second: Some(best.number),
     };
     let verdict = verdict_on(is_best, bounds, options);
+    let second = second.into_lines();
     let solved = with_solution(
         alloc,
         names,
@@ -242,11 +245,11 @@ fn solve_behind(
     let settled = no_worse_of(sought.direction, sought.integer, number);
     let cnf = settle(alloc, cnf, resolve(sought.view, settled))?;
     let left = Options {
-        budget: options.budget - additions(proof.as_slice()),
+        budget: options.budget - additions(proof.lines()),
         restart: options.restart,
     };
     let last = rounds_behind(alloc, &cnf, behind, values, left)?;
-    let solved = with_two(alloc, names, number, proof, last, options)?;
+    let solved = with_two(alloc, names, number, proof.into_lines(), last, options)?;
     Ok(solved)
 }
 

@@ -1,4 +1,4 @@
-use Rattle.std.proofs.Common.{◌≡◌, ◌<◌, ◌^◌, ℕ, refl, ap, ◌∙◌, subst, arith}
+use Rattle.std.proofs.Common.{◌<◌, ◌^◌, ℕ, refl, ap, ◌∙◌, subst, arith}
 use Rattle.step_kernel.specs.Kernel.{started}
 use Rattle.decode_minimize.proofs.Lowerings.{problem-ready, answers-all}
 use Rattle.decode_minimize.proofs.Sizes.{size-there}

@@ -1,4 +1,4 @@
-use Rattle.std.proofs.Common.{◌≡◌, refl, sym, ap, subst}
+use Rattle.std.proofs.Common.{refl, sym, ap, subst}
 use Rattle.model_lower.specs.declared.state.Lowered.{Lowered}
 use Rattle.step_kernel.specs.Kernel.{Kernel, started}
 use Rattle.state_compile.specs.Compilation.{IsCompilation}

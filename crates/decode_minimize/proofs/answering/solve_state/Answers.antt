@@ -1,8 +1,7 @@
 use Rattle.std.proofs.Common.{◌≡◌, [], List, None, refl, sym, ap, ◌∙◌, subst}
 use Rattle.proof_check.specs.declared.line.ProofLine.{ProofLine}
 use Rattle.answer_document.specs.declared.verdict.Verdict.TheVariants.{Unsatisfiable}
-use Rattle.decode_minimize.specs.declared.solved.Solved.{Solved}
-use Rattle.decode_minimize.specs.Solved.{Problem, problem_of, IsProblem, IsSolvedFor}
+use Rattle.decode_minimize.specs.Solved.{Problem, IsProblem, IsSolvedFor}
 use Rattle.decode_minimize.proofs.Lowerings.{same-problem, bottom-solved}
 use Rattle.decode_minimize.proofs.Sizes.{size-at-bottom, size-made}
 use Rattle.decode_minimize.proofs.answering.solve_state.Goals as goal

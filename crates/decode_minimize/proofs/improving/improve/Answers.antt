@@ -6,12 +6,12 @@ use Rattle.decode_minimize.proofs.improving.improve.Goals as goal
 
 pub returns-in-Shown-clause-improved : goal.returns-in-Shown-clause-improved
 returns-in-Shown-clause-improved c =
-    last-shown c.args.solver.now c.loop.solver c.improve_once.new.solver c.args.sought.now c.args.options c.args.best.now c.loop.best c.improve_once.new.best
+    last-shown c.args.seeker.now.solver c.loop.seeker.solver c.improve_once.new.seeker.solver c.args.sought.now c.args.options c.args.best.now c.loop.best c.improve_once.new.best
     c.loop.invariant.cnf c.loop.invariant.cost c.loop.invariant.no_worse
-    (subst (λ (t : Turn). IsTurned c.loop.solver c.improve_once.new.solver c.args.sought.now c.args.options c.loop.best c.improve_once.new.best t) c.in-Shown.is c.in_ok-improve_once.ensures.turned)
+    (subst (λ (t : Turn). IsTurned c.loop.seeker.solver c.improve_once.new.seeker.solver c.args.sought.now c.args.options c.loop.best c.improve_once.new.best t) c.in-Shown.is c.in_ok-improve_once.ensures.turned)
 
 pub returns-in-Spent-clause-improved : goal.returns-in-Spent-clause-improved
 returns-in-Spent-clause-improved c =
-    last-spent c.args.solver.now c.loop.solver c.improve_once.new.solver c.args.sought.now c.args.options c.args.best.now c.loop.best c.improve_once.new.best
+    last-spent c.args.seeker.now.solver c.loop.seeker.solver c.improve_once.new.seeker.solver c.args.sought.now c.args.options c.args.best.now c.loop.best c.improve_once.new.best
     c.loop.invariant.cnf c.loop.invariant.cost c.loop.invariant.no_worse
-    (subst (λ (t : Turn). IsTurned c.loop.solver c.improve_once.new.solver c.args.sought.now c.args.options c.loop.best c.improve_once.new.best t) c.in-Spent.is c.in_ok-improve_once.ensures.turned)
+    (subst (λ (t : Turn). IsTurned c.loop.seeker.solver c.improve_once.new.seeker.solver c.args.sought.now c.args.options c.loop.best c.improve_once.new.best t) c.in-Spent.is c.in_ok-improve_once.ensures.turned)

@@ -1,4 +1,4 @@
-use Rattle.std.proofs.Common.{◌≡◌, ◌≤◌, None, Ok, sym, ap, ◌∙◌, subst, arith, List, Bool}
+use Rattle.std.proofs.Common.{◌≤◌, None, Ok, ap, ◌∙◌, subst, arith, List, Bool}
 use Rattle.order_ints.specs.declared.atom.Atom.TheVariants.{False}
 use Rattle.learning_solver.specs.Log.{additions}
 use Rattle.answer_document.specs.declared.verdict.Verdict.TheVariants.{Satisfiable}

@@ -1,0 +1,142 @@
+//! A solver that is asked for better and better solutions, and what is the best that it was told or found.
+
+ghost use Rattle.std.specs.Prelude.{◌≡◌, ◌+◌, ◌<◌, ◌≤◌, ◌^◌, [], None, Some, Ok, IfOk, IfSome, length};
+ghost use Rattle.order_ints.specs.Place.{AtomBelow, InRange};
+ghost use Rattle.order_ints.specs.View.{resolve};
+ghost use Rattle.clause_rings.specs.Clauses.{AreApartIn};
+ghost use Rattle.proof_check.specs.Lrat.{Lrat};
+ghost use Rattle.learning_solver.specs.Log.{additions, IsFreshLog};
+ghost use Rattle.learning_solver.specs.Outcome.{most_learned};
+ghost use Rattle.answer_document.specs.Valid.{AreReadableLines};
+ghost use Rattle.decode_minimize.specs.Objectives.{bound_of, IsObjective};
+ghost use Rattle.decode_minimize.specs.Rounds.{IsRound};
+ghost use Rattle.decode_minimize.specs.Incumbents.{incumbent_behind};
+
+use crate::asking::{Round, ask_bound};
+use crate::improving::{Best, Sought};
+use crate::objective::value_under;
+use crate::options::Options;
+use bee_list::Sequence;
+use learning_solver::Solver;
+use order_ints::{Atom, Cnf};
+use proof_check::ProofLine;
+use std::alloc::{AllocError, Global};
+
+/// A solver that seeks the best value of an integer, and its incumbent: the value of the last solution that it found,
+/// or that it was begun with. Both are private, so that whoever makes the rounds can't lose what one of them found.
+#[derive(Drop)]
+pub struct Seeker<'a> {
+    solver: Solver<'a>,
+    incumbent: Option<i64>,
+}
+
+/// The log of a seeker, and its incumbent. None makes one but a seeker.
+#[derive(Debug, Drop)]
+pub struct SeekerLog {
+    lines: Sequence<ProofLine>,
+    incumbent: Option<i64>,
+}
+
+impl<'a> Seeker<'a> {
+    /// A seeker of which no solution is known.
+    pub fn with(alloc: Global, cnf: &'a Cnf) -> Result<Seeker<'a>, AllocError>
+        requires vars { cnf.now.vars ≤ 2 ^ 27 }
+        requires in_range { InRange cnf.now }
+        requires differ { AreApartIn cnf.now }
+        ensures solver { IfOk result (λ s. s.solver ≡ record { cnf = cnf.entry.now; log = [] }) }
+        ensures incumbent { IfOk result (λ s. s.incumbent ≡ None) }
+    {
+        let solver = Solver::with(alloc, cnf)?;
+        Ok(Seeker {
+            solver,
+            incumbent: None,
+        })
+    }
+
+    /// A seeker that is begun with a solution.
+    pub fn behind(alloc: Global, cnf: &'a Cnf, best: &Best) -> Result<Seeker<'a>, AllocError>
+        requires vars { cnf.now.vars ≤ 2 ^ 27 }
+        requires in_range { InRange cnf.now }
+        requires differ { AreApartIn cnf.now }
+        ensures solver { IfOk result (λ s. s.solver ≡ record { cnf = cnf.entry.now; log = [] }) }
+        ensures incumbent { IfOk result (λ s. s.incumbent ≡ Some best.now.number) }
+    {
+        let solver = Solver::with(alloc, cnf)?;
+        Ok(Seeker {
+            solver,
+            incumbent: Some(best.number),
+        })
+    }
+
+    /// Asks for a solution that breaks a bound, which is that of the incumbent, where there is one: so what is found is
+    /// better, and is the incumbent from then on.
+    pub fn ask(
+        &mut self,
+        sought: &Sought<'_>,
+        bound: Atom,
+        options: Options,
+    ) -> Result<Round, AllocError>
+        requires objective { IsObjective (length sought.now.view.now + 1) sought.now.integer.now }
+        requires below { AtomBelow (self.old.solver.cnf.vars + 1) bound }
+        requires better { IfSome self.old.incumbent
+            (λ n. bound ≡ resolve sought.now.view.now (bound_of sought.now.direction sought.now.integer.now n)) }
+        requires budget { additions self.old.solver.log ≤ options.budget }
+        ensures cnf { self.new.solver.cnf ≡ self.old.solver.cnf }
+        ensures round { IfOk result (IsRound self.new.solver bound) }
+        ensures incumbent { IfOk result (λ r. self.new.incumbent ≡ incumbent_behind sought.now self.old.incumbent r) }
+        ensures spent { result ≡ Ok Round.Spent → additions self.new.solver.log ≡ options.budget }
+        ensures spent_early { result ≡ Ok Round.Spent → additions self.new.solver.log
+            < additions self.old.solver.log + most_learned options.restart self.old.solver.cnf.vars }
+        ensures within { additions self.new.solver.log ≤ options.budget }
+        ensures most { additions self.new.solver.log
+            ≤ additions self.old.solver.log + most_learned options.restart self.old.solver.cnf.vars }
+        ensures unasked { bound ≡ Atom.True → additions self.new.solver.log ≡ additions self.old.solver.log }
+    {
+        let round = ask_bound(&mut self.solver, bound, options)?;
+        self.incumbent = seen(sought, self.incumbent, &round);
+        Ok(round)
+    }
+
+    /// Its log, with the incumbent.
+    pub fn into_log(self) -> SeekerLog
+        ensures lines { result.lines ≡ self.entry.solver.log }
+        ensures incumbent { result.incumbent ≡ self.entry.incumbent }
+        ensures accepted { Lrat self.entry.solver.cnf result.lines }
+        ensures fresh { IsFreshLog self.entry.solver.cnf result.lines }
+        ensures readable { AreReadableLines result.lines }
+    {
+        let Seeker { solver, incumbent } = self;
+        SeekerLog {
+            lines: solver.into_log(),
+            incumbent,
+        }
+    }
+}
+
+/// The incumbent behind a round.
+fn seen(sought: &Sought<'_>, incumbent: Option<i64>, round: &Round) -> Option<i64>
+    requires { IsObjective (length sought.now.view.now + 1) sought.now.integer.now }
+    ensures { result ≡ incumbent_behind sought.now incumbent round.now }
+{
+    match round {
+        Round::Better(values) => Some(value_under(sought.integer, sought.view, values.as_slice())),
+        Round::Shown | Round::Spent => incumbent,
+    }
+}
+
+impl SeekerLog {
+    /// The log.
+    pub fn lines(&self) -> &[ProofLine]
+        ensures { result.now ≡ self.now.lines }
+    {
+        self.lines.as_slice()
+    }
+
+    /// The log alone.
+    pub fn into_lines(self) -> Sequence<ProofLine>
+        ensures { result ≡ self.lines }
+    {
+        let SeekerLog { lines, .. } = self;
+        lines
+    }
+}

@@ -6,6 +6,12 @@
               true, the other an odd one (Chew and Sinz, 2020)
   mitre       two array multipliers of SIZE bits with the factors interchanged, and some bit of their products differs
   pebbling    a pyramid of SIZE rows: each place needs the two below it, and has two variables of which one or both are true
+  planted     three literals a clause over SIZE variables, 4.2 clauses a variable, all true under values that were drawn first
+  factoring   two factors of SIZE bits, the lesser one first, of the product of two primes of SIZE bits
+  langford    SIZE numbers, each at two places, as far apart as it says (Langford, 1958); there is one where SIZE or SIZE + 1 is four times another
+  costas      a permutation of SIZE in which no two vectors between two places are the same (Costas, 1984)
+  latin       a Latin square of order SIZE, of which two fifths of the places are holes, by one variable for each place and number
+  colours     a graph of SIZE places and 2.3 edges a place, in three colours
   implications  a chain of SIZE clauses, each the first variable or the negation of the next one
   sparse      three literals a clause, SIZE clauses over two fifths as many variables
 The models are quasigroup (a Latin square of which two fifths are holes), spoiled (two places of a row have one value), golomb (a ruler of
@@ -132,6 +138,84 @@ def pebbling(cnf, size, seed):
         cnf.add(-literal)
 
 
+def planted(cnf, size, seed):
+    cnf.count, draw = size, random.Random(seed * 1_000_003 + size)
+    values = [draw.choice((-1, 1)) for _ in range(size)]
+    while len(cnf.list) < round(4.2 * size):
+        clause = [v * draw.choice((-1, 1)) for v in draw.sample(range(1, size + 1), 3)]
+        if any(l * values[abs(l) - 1] > 0 for l in clause):
+            cnf.add(*clause)
+
+
+def factoring(cnf, size, seed):
+    draw = random.Random(seed * 1_000_003 + size)
+    primes = [p for p in range(1 << (size - 1), 1 << size) if all(p % d for d in range(2, int(p**0.5) + 1))]
+    number = draw.choice(primes) * draw.choice(primes)
+    a, b = ([cnf.new() for _ in range(size)] for _ in range(2))
+    for place, bit in enumerate(product(cnf, a, b)):
+        cnf.add(bit if number >> place & 1 else -bit)
+    cnf.add(a[-1])
+    cnf.add(b[-1])
+
+
+def exactly_one(cnf, literals):
+    cnf.add(*literals)
+    for one, other in itertools.combinations(literals, 2):
+        cnf.add(-one, -other)
+
+
+def langford(cnf, size, seed):
+    at = [[] for _ in range(2 * size)]
+    for number in range(1, size + 1):
+        here = []
+        for place in range(2 * size - number - 1):
+            v = cnf.new()
+            here.append(v)
+            at[place].append(v)
+            at[place + number + 1].append(v)
+        exactly_one(cnf, here)
+    for literals in at:
+        exactly_one(cnf, literals)
+
+
+def costas(cnf, size, seed):
+    at = [[cnf.new() for _ in range(size)] for _ in range(size)]
+    for row in (*at, *zip(*at)):
+        exactly_one(cnf, list(row))
+    for step in range(1, size - 1):
+        for rise in range(1 - size, size):
+            dots = []
+            for x in range(size - step):
+                steps = [cnf.both(at[x][y], at[x + step][y + rise]) for y in range(size) if 0 <= y + rise < size]
+                dots.extend(steps)
+            for one, other in itertools.combinations(dots, 2):
+                cnf.add(-one, -other)
+
+
+def latin(cnf, size, seed):
+    draw = random.Random(seed * 1_000_003 + size)
+    rows, columns, numbers = (draw.sample(range(size), size) for _ in range(3))
+    at = [[[cnf.new() for _ in range(size)] for _ in range(size)] for _ in range(size)]
+    for x in range(size):
+        for y in range(size):
+            exactly_one(cnf, at[x][y])
+            exactly_one(cnf, [at[x][z][y] for z in range(size)])
+            exactly_one(cnf, [at[z][x][y] for z in range(size)])
+            if draw.random() > 0.42:
+                cnf.add(at[x][y][numbers[(rows[x] + columns[y]) % size]])
+
+
+def colours(cnf, size, seed):
+    draw = random.Random(seed * 1_000_003 + size)
+    at = [[cnf.new() for _ in range(3)] for _ in range(size)]
+    for place in at:
+        cnf.add(*place)
+    for _ in range(round(2.3 * size)):
+        one, other = draw.sample(at, 2)
+        for x, y in zip(one, other):
+            cnf.add(-x, -y)
+
+
 def quasigroup(size, seed):
     yield from models.quasigroup(size)
 
@@ -152,7 +236,7 @@ def jobs(size, hours):
 
 
 MODELS = {family.__name__: family for family in (quasigroup, spoiled, golomb, jobs)}
-FAMILIES = {family.__name__.rstrip("_"): family for family in (random_, pigeons, parity, mitre, pebbling, implications, sparse)}
+FAMILIES = {family.__name__.rstrip("_"): family for family in (random_, pigeons, parity, mitre, pebbling, planted, factoring, langford, costas, latin, colours, implications, sparse)}
 
 
 def main():

@@ -94,23 +94,23 @@ filled-none vars rings = record {
   others = all-empty 0 1;
 }
 
-pub filled-next : (vars k : ℕ) (ring : RingLists) → IsFilled vars k ring → 1 ≤ k → IsRings (pushed_back ring 0 k) → IsFilled vars (k + 1) (pushed_back ring 0 k)
+pub filled-next : (vars k : ℕ) (ring : RingLists) → IsFilled vars k ring → 1 ≤ k → IsRings (pushed_front ring 0 k) → IsFilled vars (k + 1) (pushed_front ring 0 k)
 filled-next vars k ring is some rings =
-    let list = list_of ring 0 ++ k ∷ [] in
+    let list = k ∷ list_of ring 0 in
     let inside : 0 < length ring.lists = omega (arith, is.one) in
-    let here : (w : ℕ) → times w (list_of (pushed_back ring 0 k) 0) ≡ times w list
+    let here : (w : ℕ) → times w (list_of (pushed_front ring 0 k) 0) ≡ times w list
     = λ w. ap (times w) (get-set ring.lists 0 0 list inside) in
-    let counted : (w : ℕ) → times w list ≡ times w (list_of ring 0) + times w (k ∷ []) = λ w. times-append w (list_of ring 0) (k ∷ []) in
-    let free : (w : ℕ) → (w ≡ k → ⊥) → IsFree ring w → IsFree (pushed_back ring 0 k) w
-    = λ w ne was. omega (arith, all-set w ring.lists 0 list inside, counted w, times-other w k [] (λ e. ne (sym e))) in
+    let others : (w : ℕ) → (w ≡ k → ⊥) → times w list ≡ times w (list_of ring 0) = λ w ne. times-other w k (list_of ring 0) (λ e. ne (sym e)) in
+    let free : (w : ℕ) → (w ≡ k → ⊥) → IsFree ring w → IsFree (pushed_front ring 0 k) w
+    = λ w ne was. omega (arith, all-set w ring.lists 0 list inside, others w ne) in
     record {
       rings = rings;
       one = length-set ring.lists 0 list ∙ is.one;
       nodes = is.nodes;
       below = λ v low high.
           ⊎_elim
-          (λ (e : v ≡ k). omega (arith, here v, counted v, times-same v k [] (sym e)))
-          (λ (ne : v ≡ k → ⊥). omega (arith, here v, counted v, is.below v low (omega arith)))
+          (λ (e : v ≡ k). omega (arith, here v, times-same v k (list_of ring 0) (sym e)))
+          (λ (ne : v ≡ k → ⊥). omega (arith, here v, others v ne, is.below v low (omega arith)))
           (cases_eq v k);
       above = λ v h. free v (λ e. omega arith) (is.above v (omega arith));
       others = free 0 (λ e. omega arith) is.others;

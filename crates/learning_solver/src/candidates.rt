@@ -1,24 +1,15 @@
 //! The learned clauses that may be deleted, and when some are. A clause whose literals are of few levels is likely to be of use again
-//! (Audemard and Simon, 2009), and so is one that a conflict used lately; half of the others go, those of the most levels first.
+//! (Audemard and Simon, 2009), and so is one that a conflict used lately; half of the others go, those of the most levels first,
+//! of these the longest, and of these the oldest.
 //! Nothing is promised of the table: a clause is looked at again when it goes.
 
 ghost use Rattle.clause_rings.specs.Clauses.{IsDb};
 
 use crate::deletable::is_deletable;
+use crate::profile::Profile;
+use crate::tunables::{DELETION_IN_ORDER, FIRST_DELETION, GOOD_GLUE, LONGER_BY, SHORT};
 use clause_rings::ClauseDb;
 use std::alloc::{AllocError, Global};
-
-/// How many conflicts pass before the first deletion.
-const FIRST_STRETCH: u64 = 300;
-
-/// By how many the conflicts between two deletions grow each time.
-const LONGER: u64 = 20;
-
-/// A clause of so many levels, or of fewer, is never deleted.
-const GOOD_GLUE: u32 = 2;
-
-/// A clause of so many literals, or of fewer, is never deleted.
-const SHORT: usize = 2;
 
 /// A learned clause that may be deleted.
 #[derive(Clone, Copy, Debug)]
@@ -29,6 +20,8 @@ pub struct Candidate {
     pub id: u64,
     /// The number of levels of its literals when it was learned.
     pub glue: u32,
+    /// The number of its literals, or the greatest number of 32 bits.
+    pub size: u32,
     /// Whether it may go this time.
     pub goes: bool,
 }
@@ -112,17 +105,22 @@ impl Candidates {
             clause,
             id,
             glue,
+            size: u32::try_from(size).unwrap_or(u32::MAX),
             goes: false,
         });
     }
 
     /// Whether it is time for a deletion.
-    pub fn are_due(&self) -> bool {
-        self.conflicts >= FIRST_STRETCH + LONGER * self.uses.deletions as u64
+    pub fn are_due(&self, profile: Profile) -> bool {
+        match profile {
+            Profile::Activity => self.conflicts
+                >= FIRST_DELETION + LONGER_BY * self.uses.deletions as u64,
+            Profile::InOrder => self.conflicts >= DELETION_IN_ORDER,
+        }
     }
 
-    /// Puts those that may go behind the others, those of the most levels last, and of these the oldest last. It tells how many are
-    /// to go: half of them.
+    /// Puts those that may go behind the others, those of the most levels last, of these the longest, and of these the oldest. It
+    /// tells how many are to go: half of them.
     pub fn line_up(&mut self, db: &ClauseDb) -> usize
         requires { IsDb db.now.clauses db.now.trail }
     {
@@ -134,7 +132,7 @@ impl Candidates {
             }
         }
         self.list
-            .sort_unstable_by_key(|c| (c.goes, c.glue, u64::MAX - c.id));
+            .sort_unstable_by_key(|c| (c.goes, c.glue, c.size, u64::MAX - c.id));
         count / 2
     }
 

@@ -8,10 +8,11 @@ ghost use Rattle.literal_trail.specs.Standing.{IsFalse};
 ghost use Rattle.conflict_analysis.specs.Analysis.{IsAnalysed};
 ghost use Rattle.learning_solver.specs.Sight.{named_in};
 ghost use Rattle.learning_solver.specs.Restarting.{SameCall};
-ghost use Rattle.learning_solver.specs.Searching.{IsSearch, IsReady, Stays, IsRunning, IsTurned, GoesForward, Teaches, TurnsBack, BeginsAnew};
+ghost use Rattle.learning_solver.specs.Searching.{IsSearch, IsReady, Stays, IsRunning, IsTurned, GoesForward, Teaches, TurnsBack, BeginsAnew, Forgets};
 
 use crate::found::Found;
 use crate::lesson::Lesson;
+use crate::profile::Profile;
 use crate::restarts::Restarts;
 use crate::search::Search;
 use crate::sight::analyse;
@@ -31,7 +32,9 @@ impl Search<'_> {
         ensures search { IsSearch self.new }
     {
         analyse(&mut self.walker, &self.db, conflict)?;
-        self.order.bump(self.walker.seen())?;
+        self.raised
+            .gather(&self.db, self.walker.seen(), self.walker.lits())?;
+        self.order.bump(&mut self.raised.list);
         self.candidates.uses.use_all(self.walker.hints());
         self.lesson()
     }
@@ -61,14 +64,50 @@ impl Search<'_> {
         ensures search { IsSearch self.new }
     {
         self.jump_back(0);
-        if !self.candidates.are_due() {
+        if !self.candidates.are_due(self.order.profile()) {
             return;
         }
         self.reduce();
     }
 
-    /// Learns from a conflict above level 0, unless the budget is spent.
+    /// Where decisions go along a list, clauses go in the midst of the search.
+    fn thin_out(&mut self)
+        requires { IsSearch self.old }
+        ensures forgets { Forgets self.old self.new }
+        ensures search { IsSearch self.new }
+    {
+        let profile = self.order.profile();
+        if matches!(profile, Profile::InOrder) && self.candidates.are_due(profile) {
+            self.reduce();
+        }
+    }
+
+    /// Learns from a conflict above level 0, unless the budget is spent, and deletes clauses where it is time for it.
     pub fn learn(
+        &mut self,
+        conflict: u32,
+        task: Task,
+        restarts: &mut Restarts,
+    ) -> Result<Option<Found>, AllocError>
+        requires running { IsRunning task restarts.old self.old }
+        requires live { IsLive self.old.db.clauses conflict }
+        requires is_false { IsFalse self.old.db.trail.entries (lits_of self.old.db.clauses conflict) }
+        requires above { 1 ≤ self.old.db.trail.level }
+        ensures turned { IsTurned task self.old restarts.new self.new result }
+        ensures forward { GoesForward self.old self.new }
+        ensures same_call { SameCall restarts.old restarts.new }
+    {
+        match self.learn_one(conflict, task, restarts) {
+            Ok(None) => {
+                self.thin_out();
+                Ok(None)
+            }
+            ended => ended,
+        }
+    }
+
+    /// Learns from a conflict above level 0, unless the budget is spent.
+    fn learn_one(
         &mut self,
         conflict: u32,
         task: Task,

@@ -11,25 +11,14 @@ ghost use Rattle.index_ring.specs.Lists.{IsRings, Stands, list_of, first_in, no_
 ghost use Rattle.literal_trail.specs.Trail.{entry_of};
 ghost use Rattle.learning_solver.specs.Order.{IsRing, IsFreeIn, AllGiven};
 
+use crate::listed::Listed;
+use crate::profile::Profile;
+use crate::tunables::{FIRST_GAIN, GAIN_PARTS, LOOKED_AT, MOST_GAIN, MOST_PLACES, SCALE};
 use clause_rings::ClauseDb;
 use index_ring::Rings;
 use order_ints::Lit;
 use std::alloc::{AllocError, Global};
 use std::marker::Model;
-
-/// By how much the first conflict bumps activities.
-const FIRST_GAIN: u64 = 1 << 10;
-
-/// Past this gain all activities are made smaller.
-const MOST_GAIN: u64 = 1 << 50;
-
-/// By how many binary digits they are.
-const SCALE: u32 = 40;
-
-/// How many free variables are looked at for the most active one, and at how many places of the ring at most.
-const LOOKED_AT: u32 = 8;
-
-const MOST_PLACES: u32 = 256;
 
 /// The order of the variables 1 to `vars`, their activities and phases. Some 17 bytes a variable.
 #[derive(Drop)]
@@ -41,6 +30,10 @@ pub struct Order {
     gain: u64,
     /// No variable before this one is free, as far as is known; 0 for the front.
     start: u32,
+    /// What is decided before all others.
+    listed: Listed,
+    /// How it searches.
+    profile: Profile,
 }
 
 impl Model for Order {
@@ -54,7 +47,8 @@ impl Model for Order {
     ghost invariant = { λ o. IsOrder o.vars o.ring o.activity.items o.phases.items o.start };
 }
 
-/// Puts the variables into the ring.
+/// Puts the variables into the ring, the last one in front: where a CNF was compiled, it has the most fresh variables
+/// that stand for large parts of the whole behind.
 fn push_all(ring: &mut Rings, vars: u32)
     requires few { vars ≤ 2 ^ 27 }
     requires empty { ring.old ≡ no_lists 1 (vars + 1) }
@@ -62,7 +56,7 @@ fn push_all(ring: &mut Rings, vars: u32)
     ensures { IsRing vars ring.new }
 {
     for v in 1..vars + 1 {
-        ring.push_back(0, v);
+        ring.push_front(0, v);
     }
 }
 
@@ -142,7 +136,7 @@ fn move_to_front(ring: &mut Rings, vars: u32, v: u32)
 }
 
 impl Order {
-    /// The variables in the order of their numbers.
+    /// The variables, the last one first.
     pub fn with(alloc: Global, vars: u32) -> Result<Order, AllocError>
         requires { vars ≤ 2 ^ 27 }
         ensures { IfOk result (λ o. o ≡ vars) }
@@ -159,7 +153,26 @@ impl Order {
             phases,
             gain: FIRST_GAIN,
             start: 0,
+            listed: Listed::new(alloc),
+            profile: Profile::Activity,
         })
+    }
+
+    /// The order in which a list of literals comes before all other variables.
+    pub fn with_first(alloc: Global, vars: u32, first: &[Lit]) -> Result<Order, AllocError>
+        requires { vars ≤ 2 ^ 27 }
+        ensures { IfOk result (λ o. o ≡ vars) }
+    {
+        let listed = Listed::with(alloc, first)?;
+        let mut order = Order::with(alloc, vars)?;
+        order.listed = listed;
+        order.profile = Profile::InOrder;
+        Ok(order)
+    }
+
+    /// How it searches.
+    pub fn profile(&self) -> Profile {
+        self.profile
     }
 
     /// The literal to be decided, none where no variable is free.
@@ -169,6 +182,9 @@ impl Order {
         ensures none { IsNone result → AllGiven db.now.trail }
         ensures vars { self.new ≡ self.old }
     {
+        if let Some(l) = self.listed.next(db) {
+            return Some(l);
+        }
         let first = self.first(db)?;
         self.start = first;
         let var = most_active(&self.ring, self.activity.as_slice(), db, first);
@@ -194,6 +210,7 @@ impl Order {
         ensures { self.new ≡ self.old }
     {
         self.start = 0;
+        self.listed.rewind();
     }
 
     /// Keeps the phase of a literal whose variable becomes free.
@@ -205,25 +222,21 @@ impl Order {
     }
 
     /// Bumps the variables of a conflict, and puts them in front, the most active one first. It sorts them.
-    pub fn bump(&mut self, seen: &[u32]) -> Result<(), AllocError>
-        requires { All (λ v. v ≤ self.old) seen.now }
+    pub fn bump(&mut self, raised: &mut Vec<u32>)
         ensures { self.new ≡ self.old }
     {
-        let alloc = *self.activity.allocator();
-        let mut sorted: Vec<u32> = seen.iter().copied().collect(alloc)?;
         let activity = self.activity.as_slice();
-        sorted.sort_unstable_by_key(|v| activity.get(*v as usize).copied());
-        for v in &sorted {
-            if *v > 0 {
+        raised.sort_unstable_by_key(|v| activity.get(*v as usize).copied());
+        for v in raised.iter() {
+            if *v > 0 && *v <= self.vars {
                 self.put_in_front(*v);
             }
         }
-        self.gain = self.gain.saturating_add(self.gain / 19);
+        self.gain = self.gain.saturating_add(self.gain / GAIN_PARTS);
         if self.gain > MOST_GAIN {
             self.scale_down();
         }
         self.start = 0;
-        Ok(())
     }
 
     /// Bumps a variable, and puts it in front.

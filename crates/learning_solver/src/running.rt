@@ -7,6 +7,7 @@ ghost use Rattle.learning_solver.specs.Restarting.{SameCall};
 ghost use Rattle.learning_solver.specs.Searching.{IsSearch, IsRunning, IsTurned, GoesForward, IsAnswered};
 
 use crate::found::Found;
+use crate::profile::Profile;
 use crate::restarts::Restarts;
 use crate::search::Search;
 use crate::task::Task;
@@ -28,8 +29,22 @@ impl Search<'_> {
         }
     }
 
-    /// Searches until there is an answer.
+    /// Searches until there is an answer. Where decisions go along a list there is no restart.
     pub fn find_answer(&mut self, task: Task, restart: bool) -> Result<Found, AllocError>
+        requires search { IsSearch self.old }
+        requires budget { self.old.added ≤ task.budget }
+        requires in_range { ForSome task.assumption (LitBelow (self.old.cnf.now.vars + 1)) }
+        ensures answered { IsAnswered task restart self.old self.new result }
+        ensures forward { GoesForward self.old self.new }
+    {
+        match self.order.profile() {
+            Profile::Activity => self.run(task, restart),
+            Profile::InOrder => self.run(task, false),
+        }
+    }
+
+    /// Searches until there is an answer, with restarts or without.
+    fn run(&mut self, task: Task, restart: bool) -> Result<Found, AllocError>
         requires search { IsSearch self.old }
         requires budget { self.old.added ≤ task.budget }
         requires in_range { ForSome task.assumption (LitBelow (self.old.cnf.now.vars + 1)) }

@@ -6,6 +6,7 @@ ghost use Rattle.clause_rings.specs.Clauses.{AreApartIn};
 
 use crate::candidates::Candidates;
 use crate::order::Order;
+use crate::raising::Raised;
 use bee_list::Sequence;
 use clause_rings::ClauseDb;
 use conflict_analysis::Walker;
@@ -24,6 +25,8 @@ pub struct Search<'a> {
     pub walker: Walker,
     /// The order of decisions.
     pub order: Order,
+    /// The variables of a conflict.
+    pub raised: Raised,
     /// The learned clauses that may be deleted.
     pub candidates: Candidates,
     /// The log.
@@ -37,8 +40,9 @@ pub struct Search<'a> {
 impl<'a> Search<'a> {
     ghost use Rattle.learning_solver.specs.Searching.{IsSearch};
 
-    /// At the start, with an empty log.
-    pub fn with(alloc: Global, cnf: &'a Cnf) -> Result<Search<'a>, AllocError>
+    /// At the start, with an empty log, and with an order of the CNF's variables.
+    pub fn with(alloc: Global, cnf: &'a Cnf, order: Order) -> Result<Search<'a>, AllocError>
+        requires order { order ≡ cnf.now.vars }
         requires vars { cnf.now.vars ≤ 2 ^ 27 }
         requires in_range { InRange cnf.now }
         requires differ { AreApartIn cnf.now }
@@ -48,7 +52,7 @@ impl<'a> Search<'a> {
     {
         let db = ClauseDb::with(alloc, cnf)?;
         let walker = Walker::with(alloc, cnf.vars)?;
-        let order = Order::with(alloc, cnf.vars)?;
+        let raised = Raised::with(alloc, cnf.vars)?;
         let lines = Vec::new(alloc);
         let base = cnf.clauses.len() as u64;
         Ok(Search {
@@ -56,11 +60,21 @@ impl<'a> Search<'a> {
             db,
             walker,
             order,
+            raised,
             candidates: Candidates::new(alloc, base),
             lines,
             base,
             added: 0,
         })
+    }
+
+    /// The order of decisions.
+    pub fn into_order(self) -> Order
+        requires { IsSearch self }
+        ensures { result ≡ self.entry.cnf.now.vars }
+    {
+        let Search { order, .. } = self;
+        order
     }
 
     /// The log.

@@ -10,6 +10,7 @@ ghost use Rattle.learning_solver.specs.Log.{additions, GoesOn, IsFreshLog};
 ghost use Rattle.learning_solver.specs.Outcome.{Answers, most_learned};
 
 use crate::found::Found;
+use crate::order::Order;
 use crate::search::Search;
 use crate::task::Task;
 use bee_list::Sequence;
@@ -43,8 +44,42 @@ impl<'a> Solver<'a> {
         requires differ { AreApartIn cnf.now }
         ensures { IfOk result (λ s. s ≡ record { cnf = cnf.entry.now; log = [] }) }
     {
-        let search = Search::with(alloc, cnf)?;
+        let order = Order::with(alloc, cnf.vars)?;
+        Solver::anew(alloc, cnf, order)
+    }
+
+    /// A solver of a CNF, with an empty log, for one solution after another: it decides the literals of a list first, as
+    /// the list gives them, restarts never, whatever is asked for, and deletes learned clauses often. Literals of other
+    /// variables than the CNF's are passed over. It copies the list.
+    pub fn with_first(alloc: Global, cnf: &'a Cnf, first: &[Lit]) -> Result<Solver<'a>, AllocError>
+        requires vars { cnf.now.vars ≤ 2 ^ 27 }
+        requires in_range { InRange cnf.now }
+        requires differ { AreApartIn cnf.now }
+        ensures { IfOk result (λ s. s ≡ record { cnf = cnf.entry.now; log = [] }) }
+    {
+        let order = Order::with_first(alloc, cnf.vars, first)?;
+        Solver::anew(alloc, cnf, order)
+    }
+
+    /// A solver of a CNF, with an empty log, that goes on with the order and the phases of another one's end
+    /// (`into_order`).
+    pub fn anew(alloc: Global, cnf: &'a Cnf, order: Order) -> Result<Solver<'a>, AllocError>
+        requires vars { cnf.now.vars ≤ 2 ^ 27 }
+        requires in_range { InRange cnf.now }
+        requires differ { AreApartIn cnf.now }
+        requires order { order ≡ cnf.now.vars }
+        ensures { IfOk result (λ s. s ≡ record { cnf = cnf.entry.now; log = [] }) }
+    {
+        let search = Search::with(alloc, cnf, order)?;
         Ok(Solver { search })
+    }
+
+    /// The order of decisions and the phases, for the solver of another CNF with as many variables.
+    pub fn into_order(self) -> Order
+        ensures { result ≡ self.entry.cnf.vars }
+    {
+        let Solver { search } = self;
+        search.into_order()
     }
 
     /// Searches for truth values that satisfy the CNF and the assumption, or for a clause that refutes them, until the log

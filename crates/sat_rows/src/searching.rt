@@ -1,5 +1,5 @@
 //! Texts of plain CNFs that are searched: the clauses that are learned, with their hints in order, worked out by hand, and what comes of
-//! searches. At first the variables are decided false, in the order of their numbers.
+//! searches. At first the variables are decided false, the last one first.
 
 use bee_outside::{MemShelf, MemSink};
 use sat_mode::{SearchOptions, sat};
@@ -37,70 +37,70 @@ fn search_row<R: Abort>(rt: &R, alloc: Global, row: Row) -> Result<(), Fail> {
 /// is spent, and that clause is shown. Its hints are the clauses by their numbers.
 static LEARNED: [Row; 12] = [
     (
-        "p cnf 4 6\n1 2 0 1 -2 0\n3 4 0 3 -4 0 -3 4 0 -3 -4 0\n",
+        "p cnf 4 6\n3 4 0 -3 4 0\n1 2 0 -1 2 0 1 -2 0 -1 -2 0\n",
         1,
-        "s UNKNOWN\n7 1 0 1 2 0\n",
+        "s UNKNOWN\n7 4 0 1 2 0\n",
     ),
     // The first literal of the level by which all others follow is kept, not the decision.
     (
-        "p cnf 5 7\n1 2 0 -2 3 0 -2 -3 0\n4 5 0 4 -5 0 -4 5 0 -4 -5 0\n",
+        "p cnf 5 7\n4 5 0 3 -4 0 -3 -4 0\n1 2 0 -1 2 0 1 -2 0 -1 -2 0\n",
         1,
-        "s UNKNOWN\n8 -2 0 2 3 0\n",
+        "s UNKNOWN\n8 -4 0 2 3 0\n",
     ),
     (
-        "p cnf 7 8\n2 3 0 -3 4 0 -3 5 0 1 -4 -5 0\n6 7 0 6 -7 0 -6 7 0 -6 -7 0\n",
+        "p cnf 7 8\n5 6 0 4 -5 0 3 -5 0 -3 -4 7 0\n1 2 0 -1 2 0 1 -2 0 -1 -2 0\n",
         1,
-        "s UNKNOWN\n9 -3 1 0 2 3 4 0\n",
+        "s UNKNOWN\n9 -5 7 0 2 3 4 0\n",
     ),
     // Three levels, the greatest other one second.
     (
-        "p cnf 6 6\n1 3 4 0 2 3 -4 0\n5 6 0 5 -6 0 -5 6 0 -5 -6 0\n",
+        "p cnf 6 6\n3 4 6 0 -3 4 5 0\n1 2 0 -1 2 0 1 -2 0 -1 -2 0\n",
         1,
-        "s UNKNOWN\n7 3 2 1 0 1 2 0\n",
+        "s UNKNOWN\n7 4 5 6 0 1 2 0\n",
     ),
     (
-        "p cnf 6 6\n2 3 4 0 1 3 -4 0\n5 6 0 5 -6 0 -5 6 0 -5 -6 0\n",
+        "p cnf 6 6\n3 4 5 0 -3 4 6 0\n1 2 0 -1 2 0 1 -2 0 -1 -2 0\n",
         1,
-        "s UNKNOWN\n7 3 2 1 0 1 2 0\n",
+        "s UNKNOWN\n7 4 5 6 0 1 2 0\n",
     ),
     // A literal goes that another one implies, in one step and in several.
     (
-        "p cnf 7 8\n1 3 0 1 2 4 0 2 5 0 -3 -4 -5 0\n6 7 0 6 -7 0 -6 7 0 -6 -7 0\n",
+        "p cnf 7 8\n5 7 0 4 6 7 0 3 6 0 -3 -4 -5 0\n1 2 0 -1 2 0 1 -2 0 -1 -2 0\n",
         1,
-        "s UNKNOWN\n9 2 1 0 1 2 3 4 0\n",
+        "s UNKNOWN\n9 6 7 0 1 2 3 4 0\n",
     ),
     (
-        "p cnf 9 10\n1 3 0 -3 4 0 -4 5 0 1 2 6 0 2 7 0 -5 -6 -7 0\n8 9 0 8 -9 0 -8 9 0 -8 -9 0\n",
+        "p cnf 9 10\n7 9 0 6 -7 0 5 -6 0 4 8 9 0 3 8 0 -3 -4 -5 0\n1 2 0 -1 2 0 1 -2 0 -1 -2 0\n",
         1,
-        "s UNKNOWN\n11 2 1 0 1 2 3 4 5 6 0\n",
+        "s UNKNOWN\n11 8 9 0 1 2 3 4 5 6 0\n",
     ),
     // It stays where a reason has a literal outside, or a decision is behind it.
     (
-        "p cnf 8 8\n1 2 4 0 1 3 5 0 3 6 0 -4 -5 -6 0\n7 8 0 7 -8 0 -7 8 0 -7 -8 0\n",
+        "p cnf 8 8\n5 7 8 0 4 6 8 0 3 6 0 -3 -4 -5 0\n1 2 0 -1 2 0 1 -2 0 -1 -2 0\n",
         1,
-        "s UNKNOWN\n9 3 -4 1 0 2 3 4 0\n",
+        "s UNKNOWN\n9 6 -5 8 0 2 3 4 0\n",
     ),
     (
-        "p cnf 7 8\n1 3 0 2 4 0 2 5 0 -3 -4 -5 0\n6 7 0 6 -7 0 -6 7 0 -6 -7 0\n",
+        "p cnf 7 8\n5 7 0 4 6 0 3 6 0 -3 -4 -5 0\n1 2 0 -1 2 0 1 -2 0 -1 -2 0\n",
         1,
-        "s UNKNOWN\n9 2 -3 0 2 3 4 0\n",
+        "s UNKNOWN\n9 6 -5 0 2 3 4 0\n",
     ),
     (
-        "p cnf 9 10\n1 3 0 -3 4 0 -4 5 0 2 6 0 2 7 0 -5 -6 -7 0\n8 9 0 8 -9 0 -8 9 0 -8 -9 0\n",
+        "p cnf 9 10\n7 9 0 6 -7 0 5 -6 0 4 8 0 3 8 0 -3 -4 -5 0\n1 2 0 -1 2 0 1 -2 0 -1 -2 0\n",
         1,
-        "s UNKNOWN\n11 2 -5 0 4 5 6 0\n",
+        "s UNKNOWN\n11 8 -5 0 4 5 6 0\n",
     ),
     // Level 0 stands in the hints, and not in the clause.
     (
-        "p cnf 7 9\n3 0 2 -3 0 1 4 0 1 5 0 -2 -4 -5 0\n6 7 0 6 -7 0 -6 7 0 -6 -7 0\n",
+        "p cnf 7 9\n5 0 -5 6 0 4 7 0 3 7 0 -3 -4 -6 0\n1 2 0 -1 2 0 1 -2 0 -1 -2 0\n",
         1,
-        "s UNKNOWN\n10 1 0 1 2 3 4 5 0\n",
+        "s UNKNOWN\n10 7 0 1 2 3 4 5 0\n",
     ),
     // What was implied once is not sought again.
     (
-        "p cnf 9 10\n1 3 0 -3 4 0 -3 -4 5 0 1 2 6 0 2 7 0 -4 -5 -6 -7 0\n8 9 0 8 -9 0 -8 9 0 -8 -9 0\n",
+        "p cnf 9 10\n7 9 0 6 -7 0 5 -6 -7 0 4 8 9 0 3 8 0 -3 -4 -5 -6 0\n1 2 0 -1 2 0 1 -2 0 -1 -2 0\n",
         1,
-        "s UNKNOWN\n11 2 1 0 1 2 3 4 5 6 0\n",
+        "s UNKNOWN\n11 8 9 0 1 2 3 4 5 6 0\n",
     ),
 ];
 
@@ -125,17 +125,17 @@ static SEARCHES: [Row; 11] = [
     (
         "p cnf 2 4\n1 2 0 1 -2 0 -1 2 0 -1 -2 0\n",
         1,
-        "s UNKNOWN\n5 1 0 1 2 0\n",
+        "s UNKNOWN\n5 2 0 1 3 0\n",
     ),
     (
         "p cnf 2 4\n1 2 0 1 -2 0 -1 2 0 -1 -2 0\n",
         2,
-        "s UNSATISFIABLE\n5 1 0 1 2 0\n6 0 5 3 4 0\n",
+        "s UNSATISFIABLE\n5 2 0 1 3 0\n6 0 5 2 4 0\n",
     ),
     (
         "p cnf 2 4\n1 2 0 1 -2 0 -1 2 0 -1 -2 0\n",
         9_223_372_036_854_775_807,
-        "s UNSATISFIABLE\n5 1 0 1 2 0\n6 0 5 3 4 0\n",
+        "s UNSATISFIABLE\n5 2 0 1 3 0\n6 0 5 2 4 0\n",
     ),
 ];
 

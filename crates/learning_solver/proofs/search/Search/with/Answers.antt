@@ -18,6 +18,6 @@ returns-clause-search c =
       added = sym (ap additions none);
       kept = kept-of-none cnf c.new-lines.result.items c.in_ok-db.db.clauses none c.in_ok-db.ensures.clauses;
       once = once-start cnf c.in_ok-db.db.clauses c.len-base.result c.len-base.ensures c.in_ok-db.ensures.clauses;
-      order = c.in_ok-order.ensures;
+      order = c.requires.order;
       walker = c.in_ok-walker.ensures;
     }

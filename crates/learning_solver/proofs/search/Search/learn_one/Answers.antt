@@ -6,8 +6,8 @@ use Rattle.learning_solver.proofs.RestartLaws.{few-stretches}
 use Rattle.learning_solver.proofs.TeachLaws.{teaches}
 use Rattle.learning_solver.proofs.RunLaws.{left-running, left-stays, spent, forward-stays, forward-turns, forward-anew, forward-then, running-learned, running-anew}
 use Rattle.learning_solver.proofs.OpenLaws.{none-above-bottom}
-use Rattle.learning_solver.proofs.search.Search.learn.Goals as goal
-use Rattle.learning_solver.proofs.search.Search.learn.Goals.{then-learn, else-learn}
+use Rattle.learning_solver.proofs.search.Search.learn_one.Goals as goal
+use Rattle.learning_solver.proofs.search.Search.learn_one.Goals.{then-learn, else-learn}
 
 pub returns-then-self-task-clause-turned : goal.returns-then-self-task-clause-turned
 returns-then-self-task-clause-turned c =

@@ -4,7 +4,7 @@ use Rattle.learning_solver.specs.declared.search.Search.{Search}
 use Rattle.learning_solver.specs.Searching.{IsRunning}
 use Rattle.learning_solver.proofs.MoveLaws.{running-started}
 use Rattle.learning_solver.proofs.RunLaws.{goes-on-same}
-use Rattle.learning_solver.proofs.search.Search.find_answer.Goals as goal
+use Rattle.learning_solver.proofs.search.Search.run.Goals as goal
 
 pub loop-found-init : goal.loop-found-init
 loop-found-init c =

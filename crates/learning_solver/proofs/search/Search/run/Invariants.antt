@@ -1,6 +1,6 @@
 use Rattle.std.proofs.Common.{◌≡◌}
 use Rattle.learning_solver.specs.Searching.{IsRunning, GoesForward, left_to_do}
-use Rattle.learning_solver.proofs.search.Search.find_answer.Given as goal
+use Rattle.learning_solver.proofs.search.Search.run.Given as goal
 
 abbrev pub invariant-loop-found : goal.invariant-loop-found
 invariant-loop-found l = record {

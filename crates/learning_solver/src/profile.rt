@@ -1,0 +1,11 @@
+//! The two ways of searching.
+
+/// How a solver searches.
+#[derive(Clone, Copy, Debug)]
+pub enum Profile {
+    /// For one solution or none: decisions by activity, deletions at restarts.
+    Activity,
+    /// For one solution after another: a list of literals is decided first, as it is given. There are no restarts,
+    /// and deletions come often, in the midst of the search.
+    InOrder,
+}

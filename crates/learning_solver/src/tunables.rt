@@ -1,0 +1,34 @@
+//! The numbers that the search is tuned by. No clause names one, so each may be changed at will.
+
+/// How many conflicts pass before the first deletion of learned clauses.
+pub const FIRST_DELETION: u64 = 300;
+
+/// By how many the conflicts between two deletions grow each time.
+pub const LONGER_BY: u64 = 20;
+
+/// How many conflicts pass between two deletions where decisions follow a list, without restarts.
+pub const DELETION_IN_ORDER: u64 = 100;
+
+/// A clause of so many levels, or of fewer, is never deleted.
+pub const GOOD_GLUE: u32 = 2;
+
+/// A clause of so many literals, or of fewer, is never deleted.
+pub const SHORT: usize = 2;
+
+/// By how much the first conflict bumps activities.
+pub const FIRST_GAIN: u64 = 1 << 10;
+
+/// At each conflict the gain grows by one of so many parts.
+pub const GAIN_PARTS: u64 = 19;
+
+/// Past this gain all activities are made smaller.
+pub const MOST_GAIN: u64 = 1 << 50;
+
+/// By how many binary digits they are.
+pub const SCALE: u32 = 40;
+
+/// How many free variables of the ring are looked at for the most active one.
+pub const LOOKED_AT: u32 = 8;
+
+/// And at how many places of the ring at most.
+pub const MOST_PLACES: u32 = 256;

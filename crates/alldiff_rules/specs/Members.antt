@@ -1,5 +1,6 @@
 -- The members of an all-different constraint by their places, each an integer and a condition, and their values.
-use Rattle.std.specs.Prelude.{◌≡◌, ℕ, suc, ◌<◌, Bool, List, [], ◌∷◌, ◌++◌, length, ℤ, pos, ◌+ℤ◌, slice_index_or, if◌then◌else◌}
+use Rattle.std.specs.Prelude.{◌≡◌, ℕ, suc, ◌<◌, Bool, List, [], ◌∷◌, ◌++◌, length, ℤ, pos}
+use Rattle.std.specs.Prelude.{◌+ℤ◌, slice_index_or, if◌then◌else◌}
 use Rattle.order_ints.specs.declared.atom.Atom.{Atom}
 use Rattle.order_ints.specs.declared.atom.Atom.TheVariants.{True, False}
 use Rattle.order_ints.specs.declared.order_int.OrdInt.{OrdInt}
@@ -54,7 +55,8 @@ all_values (a ∷ ints) = values_of a ++ all_values ints
 -- how many different values stand in a list beside those that were counted already
 abbrev pub number_new : List ℤ → List ℤ → ℕ
 number_new counted [] = 0
-number_new counted (v ∷ vs) = if is_among v counted then number_new counted vs else suc (number_new (v ∷ counted) vs)
+number_new counted (v ∷ vs) = if is_among v counted then number_new counted vs
+    else suc (number_new (v ∷ counted) vs)
 
 -- how many different values the members have
 abbrev pub number_of_values : List OrdInt → ℕ

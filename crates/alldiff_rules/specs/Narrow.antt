@@ -8,14 +8,16 @@ use Rattle.alldiff_rules.specs.declared.narrow.Narrow.{Narrow}
 use Rattle.alldiff_rules.specs.Table.{has_others, Shows}
 use Rattle.alldiff_rules.specs.Members.{IsConstantAt, IsHolderAt}
 
--- for each value the first three constants, and the first three of those that share their two values with others and have
--- it as the lower or as the greater one
+-- for each value the first three constants, and the first three of those that share their two values with others and
+-- have it as the lower or as the greater one
 pub record IsNarrow (ints : List OrdInt) (cs : List Atom) (tables : Narrow) : Type 0 where
-  pub constants : (v : ℤ) → Shows (λ i. (i < length ints) × IsConstantAt ints cs v i) (get int_cmp tables.constants v)
+  pub constants : (v : ℤ)
+      → Shows (λ i. (i < length ints) × IsConstantAt ints cs v i) (get int_cmp tables.constants v)
   pub lows : (v : ℤ) → Shows (λ i. (i < length ints) × IsHolderAt ints cs false v i) (get int_cmp tables.lows v)
   pub highs : (v : ℤ) → Shows (λ i. (i < length ints) × IsHolderAt ints cs true v i) (get int_cmp tables.highs v)
 
 -- by the tables: members at other places than k need the value
 abbrev pub is_needed : Narrow → ℕ → ℤ → Bool
 is_needed tables k v =
-    has_others 1 k (get int_cmp tables.constants v) || (has_others 2 k (get int_cmp tables.lows v) || has_others 2 k (get int_cmp tables.highs v))
+    has_others 1 k (get int_cmp tables.constants v)
+    || (has_others 2 k (get int_cmp tables.lows v) || has_others 2 k (get int_cmp tables.highs v))

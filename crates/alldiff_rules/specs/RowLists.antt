@@ -1,5 +1,6 @@
 -- The equations that all-different states, as a list: member by member, and value by value.
-use Rattle.std.specs.Prelude.{◌==◌, ℕ, zero, suc, nat_lt, Bool, true, false, not, ◌&&◌, ◌||◌, List, [], ◌∷◌, ◌++◌, length, ℤ, pos, ◌+ℤ◌}
+use Rattle.std.specs.Prelude.{◌==◌, ℕ, zero, suc, nat_lt, Bool, true, false, not, ◌&&◌, ◌||◌, List, []}
+use Rattle.std.specs.Prelude.{◌∷◌, ◌++◌, length, ℤ, pos, ◌+ℤ◌}
 use Rattle.std.specs.List.{flat_map}
 use Rattle.std.specs.Ordering.{int_eq}
 use Rattle.order_ints.specs.declared.atom.Atom.{Atom}
@@ -56,7 +57,8 @@ share_two_values a b =
 
 -- sure members at two places have the same two values
 abbrev pub are_twins : List OrdInt → List Atom → ℕ → ℕ → Bool
-are_twins ints cs i j = not (i == j) && ((is_sure cs i && is_sure cs j) && share_two_values (int_at ints i) (int_at ints j))
+are_twins ints cs i j = not (i == j)
+    && ((is_sure cs i && is_sure cs j) && share_two_values (int_at ints i) (int_at ints j))
 
 -- those at two other places than k have, and v is one of the two
 abbrev pub is_of_twins_elsewhere : List OrdInt → List Atom → ℕ → ℤ → Bool
@@ -76,7 +78,8 @@ is_nowhere_else ints k v = not (any_place (length ints) (λ j. not (j == k) && i
 -- and passed
 abbrev pub value_equations : Bool → Bool → Atom → Atom → List (Atom × Atom)
 value_equations needed alone here above =
-    only_if needed ((here, above) ∷ []) ++ only_if alone ((here, True) ∷ []) ++ only_if alone ((above, False) ∷ [])
+    only_if needed ((here, above) ∷ []) ++ only_if alone ((here, True) ∷ [])
+    ++ only_if alone ((above, False) ∷ [])
 
 -- so at a value of the member at the place
 abbrev pub equations_at_value : List OrdInt → List Atom → ℕ → ℤ → List (Atom × Atom)
@@ -87,13 +90,15 @@ equations_at_value ints cs k v =
 -- of the member at the place: that its condition is false, if it is a constant that another one is; and at its values
 abbrev pub equations_at_place : List OrdInt → List Atom → ℕ → List (Atom × Atom)
 equations_at_place ints cs k =
-    only_if (is_constant (int_at ints k) && is_constant_elsewhere ints cs k (low_of (int_at ints k))) ((condition_at cs k, False) ∷ [])
+    only_if (is_constant (int_at ints k) && is_constant_elsewhere ints cs k (low_of (int_at ints k)))
+    ((condition_at cs k, False) ∷ [])
     ++ flat_map (λ v. equations_at_value ints cs k v) (values_of (int_at ints k))
 
 -- of the members at two places
 abbrev pub equations_of_twins : List OrdInt → List Atom → ℕ → ℕ → List (Atom × Atom)
 equations_of_twins ints cs i j =
-    only_if (are_twins ints cs i j) ((first_atom (int_at ints i).steps, not_atom (first_atom (int_at ints j).steps)) ∷ [])
+    only_if (are_twins ints cs i j) ((first_atom (int_at ints i).steps, not_atom (first_atom (int_at ints j).steps))
+    ∷ [])
 
 -- that there are too few values, and of each member, and of each two
 abbrev pub row_equations : List OrdInt → List Atom → List (Atom × Atom)

@@ -1,5 +1,6 @@
 -- The equations that all-different and lexicographic order state.
-use Rattle.std.specs.Prelude.{◌≡◌, ◌≢◌, ◌⊎◌, ℕ, ◌<◌, Bool, true, false, List, [], ◌∷◌, length, ℤ, pos, ◌+ℤ◌, if◌then◌else◌}
+use Rattle.std.specs.Prelude.{◌≡◌, ◌≢◌, ◌⊎◌, ℕ, ◌<◌, Bool, true, false, List, [], ◌∷◌}
+use Rattle.std.specs.Prelude.{length, ℤ, pos, ◌+ℤ◌, if◌then◌else◌}
 use Rattle.order_ints.specs.declared.atom.Atom.{Atom}
 use Rattle.order_ints.specs.declared.atom.Atom.TheVariants.{True, False}
 use Rattle.order_ints.specs.declared.order_int.OrdInt.{OrdInt}
@@ -24,7 +25,8 @@ pub record AreTwins (ints : List OrdInt) (cs : List Atom) (i j : ℕ) (v : ℤ) 
 -- members at other places than k need the value: a constant, or two with the same two values
 pub data IsTaken (ints : List OrdInt) (cs : List Atom) (k : ℕ) (v : ℤ) : Type 0 where
   by_constant : (i : ℕ) → i ≢ k → IsSure cs i → int_at ints i ≡ constant_of v → IsTaken ints cs k v
-  by_twins : (i j : ℕ) (low : ℤ) (d : ℕ) (p q : Atom) → AreTwins ints cs i j low d p q → i ≢ k → j ≢ k →
+  by_twins : (i j : ℕ) (low : ℤ) (d : ℕ) (p q : Atom) → AreTwins ints cs i j low d p q → i ≢ k → j ≢ k
+      →
       (v ≡ low) ⊎ (v ≡ low +ℤ pos d) → IsTaken ints cs k v
 
 -- the value is one of the member at the place, and of no other
@@ -34,19 +36,23 @@ pub record IsAlone (ints : List OrdInt) (i : ℕ) (v : ℤ) : Type 0 where
   pub nowhere : (j : ℕ) → j < length ints → j ≢ i → is_among v (values_of (int_at ints j)) ≡ false
 
 -- the equation of a and b is one that all-different states: that there are fewer values than members, which all differ,
--- is a contradiction; a member isn't a value that others need; of two constants with one value one has no true condition;
--- of two members with the same two values one has the greater where the other has the lower; and where there are as many
--- values as members, which all differ, a value that one member alone has is its value
+-- is a contradiction; a member isn't a value that others need; of two constants with one value one has no true
+-- condition; of two members with the same two values one has the greater where the other has the lower; and where there
+-- are as many values as members, which all differ, a value that one member alone has is its value
 pub data IsRow (ints : List OrdInt) (cs : List Atom) (a b : Atom) : Type 0 where
   too_few : AreAllSure cs → number_of_values ints < length ints → a ≡ True → b ≡ False → IsRow ints cs a b
   needed_elsewhere : (k : ℕ) (v : ℤ) → k < length ints → IsSure cs k → IsTaken ints cs k v →
       a ≡ at_of (int_at ints k) v → b ≡ at_of (int_at ints k) (v +ℤ pos 1) → IsRow ints cs a b
-  equal_constants : (i j : ℕ) (v : ℤ) → i ≢ j → j < length ints → IsSure cs i → int_at ints i ≡ constant_of v →
+  equal_constants : (i j : ℕ) (v : ℤ) → i ≢ j → j < length ints → IsSure cs i
+      → int_at ints i ≡ constant_of v →
       int_at ints j ≡ constant_of v → a ≡ condition_at cs j → b ≡ False → IsRow ints cs a b
-  opposite_twins : (i j : ℕ) (v : ℤ) (d : ℕ) (p q : Atom) → AreTwins ints cs i j v d p q → a ≡ p → b ≡ not_atom q → IsRow ints cs a b
-  reached_alone : (i : ℕ) (v : ℤ) → AreAllSure cs → number_of_values ints ≡ length ints → IsAlone ints i v →
+  opposite_twins : (i j : ℕ) (v : ℤ) (d : ℕ) (p q : Atom) → AreTwins ints cs i j v d p q → a ≡ p
+      → b ≡ not_atom q → IsRow ints cs a b
+  reached_alone : (i : ℕ) (v : ℤ) → AreAllSure cs → number_of_values ints ≡ length ints → IsAlone ints i v
+      →
       a ≡ at_of (int_at ints i) v → b ≡ True → IsRow ints cs a b
-  passed_alone : (i : ℕ) (v : ℤ) → AreAllSure cs → number_of_values ints ≡ length ints → IsAlone ints i v →
+  passed_alone : (i : ℕ) (v : ℤ) → AreAllSure cs → number_of_values ints ≡ length ints → IsAlone ints i v
+      →
       a ≡ at_of (int_at ints i) (v +ℤ pos 1) → b ≡ False → IsRow ints cs a b
 
 -- the order of two empty lists is known; and where one list stands before the other, or equals it, its first integer is
@@ -55,4 +61,5 @@ abbrev pub lex_equations : Atom → Bool → List OrdInt → List OrdInt → Lis
 lex_equations r strict [] [] = (r, if strict then False else True) ∷ []
 lex_equations r strict [] (b ∷ back) = []
 lex_equations r strict (a ∷ front) [] = []
-lex_equations r strict (a ∷ front) (b ∷ back) = only_if (is_true r) (is_below a (high_of b +ℤ pos 1) ∷ at_least b (low_of a) ∷ [])
+lex_equations r strict (a ∷ front) (b ∷ back) =
+    only_if (is_true r) (is_below a (high_of b +ℤ pos 1) ∷ at_least b (low_of a) ∷ [])

@@ -1,5 +1,6 @@
 -- Members with the same two values.
-use Rattle.std.specs.Prelude.{◌≡◌, ◌≢◌, ◌⊎◌, ◌==◌, ℕ, not, List, [], ◌∷◌, ◌++◌, ℤ, Option, None, Some}
+use Rattle.std.specs.Prelude.{◌≡◌, ◌≢◌, ◌⊎◌, ◌==◌, ℕ, not, List, [], ◌∷◌, ◌++◌, ℤ}
+use Rattle.std.specs.Prelude.{Option, None, Some}
 use Rattle.std.specs.BTreeMap.{BTreeMap, get}
 use Rattle.order_ints.specs.declared.atom.Atom.{Atom}
 use Rattle.order_ints.specs.declared.atom.Atom.TheVariants.{True}
@@ -46,5 +47,6 @@ IsShown j (Some h) = (j ≡ h.first) ⊎ (Some j ≡ h.second) ⊎ (Some j ≡ h
 -- the same of the member at a place and one of the first three with its two values
 abbrev pub IsShownTwin : List OrdInt → List Atom → BTreeMap (ℤ × ℕ) Places → ℕ → Atom → Atom → Type 0
 IsShownTwin ints cs choices i a b =
-    (low : ℤ) × (d : ℕ) × (j : ℕ) × IsSplitAt ints cs a low d i × IsSplitAt ints cs (not_atom b) low d j × (j ≢ i)
+    (low : ℤ) × (d : ℕ) × (j : ℕ) × IsSplitAt ints cs a low d i × IsSplitAt ints cs (not_atom b) low d j
+    × (j ≢ i)
     × IsShown j (get pair_cmp choices (low, d))

@@ -1,5 +1,6 @@
 -- The equations that tables of an all-different constraint give, member by member and value by value.
-use Rattle.std.specs.Prelude.{◌≡◌, ◌<◌, ℕ, Bool, true, not, ◌&&◌, List, [], ◌∷◌, ◌++◌, length, ℤ, pos, ◌+ℤ◌}
+use Rattle.std.specs.Prelude.{◌≡◌, ◌<◌, ℕ, Bool, true, not, ◌&&◌, List, [], ◌∷◌, ◌++◌, length}
+use Rattle.std.specs.Prelude.{ℤ, pos, ◌+ℤ◌}
 use Rattle.std.specs.BTreeMap.{get}
 use Rattle.std.specs.Ordering.{int_cmp}
 use Rattle.order_ints.specs.declared.atom.Atom.{Atom}
@@ -17,11 +18,13 @@ use Rattle.alldiff_rules.specs.Narrow.{IsNarrow, is_needed}
 use Rattle.alldiff_rules.specs.RowLists.{are_too_few, are_as_many, value_equations}
 use Rattle.alldiff_rules.specs.Instances.{IsOneOf}
 
--- the tables of members: those of the sure ones with one value or two, whether there are fewer values than members, which
--- all differ, or as many, and in this case each value with up to three different places at which it stands
+-- the tables of members: those of the sure ones with one value or two, whether there are fewer values than members,
+-- which all differ, or as many, and in this case each value with up to three different places at which it stands
 pub record AreTables (ints : List OrdInt) (cs : List Atom) (tables : Tables) : Type 0 where
   pub narrow : IsNarrow ints cs tables.narrow
-  pub values : tables.as_many ≡ true → (v : ℤ) → Shows (λ i. (i < length ints) × (is_among v (values_of (int_at ints i)) ≡ true)) (get int_cmp tables.tally.values v)
+  pub values : tables.as_many ≡ true → (v : ℤ)
+      → Shows (λ i. (i < length ints) × (is_among v (values_of (int_at ints i)) ≡ true))
+      (get int_cmp tables.tally.values v)
   pub too_few : tables.too_few ≡ are_too_few ints cs
   pub as_many : tables.as_many ≡ are_as_many ints cs
 
@@ -46,7 +49,8 @@ constant_equations tables k c a = only_if (is_shared_constant tables k a) ((c, F
 
 -- of the member at place k, whose condition is c
 abbrev pub equations_of_member : Tables → ℕ → Atom → OrdInt → List (Atom × Atom)
-equations_of_member tables k c a = constant_equations tables k c a ++ level_equations tables k (is_true c) a (levels_of a)
+equations_of_member tables k c a = constant_equations tables k c a
+    ++ level_equations tables k (is_true c) a (levels_of a)
 
 abbrev pub member_equations : Tables → List OrdInt → List Atom → ℕ → List (Atom × Atom)
 member_equations tables ints cs k = equations_of_member tables k (condition_at cs k) (int_at ints k)

@@ -1,6 +1,7 @@
 //! The sure members that have one value or two, in tables by these values.
 
-ghost use Rattle.std.specs.Prelude.{◌≡◌, ◌<◌, ◌^◌, ◌↔◌, ◌||◌, ℕ, ℤ, List, length, unsigned_abs, MatchOption, IfSome, IfOk, IsTrue, if◌then◌else◌};
+ghost use Rattle.std.specs.Prelude.{◌≡◌, ◌<◌, ◌^◌, ◌↔◌, ◌||◌, ℕ, ℤ, List, length};
+ghost use Rattle.std.specs.Prelude.{unsigned_abs, MatchOption, IfSome, IfOk, IsTrue, if◌then◌else◌};
 ghost use Rattle.order_ints.specs.OrderRange.{low_of, high_of, IsBounded};
 ghost use Rattle.std.specs.BTreeMap.{get};
 ghost use Rattle.std.specs.Ordering.{int_cmp};

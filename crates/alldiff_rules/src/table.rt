@@ -8,7 +8,8 @@ ghost use Rattle.alldiff_rules.specs.Table.{pair_cmp, with_place, joined, number
 use std::alloc::AllocError;
 use std::collections::BTreeMap;
 
-/// Up to three different places at which something stands, of which there is one at least: three where there are so many, and else all.
+/// Up to three different places at which something stands, of which there is one at least: three where there are so
+/// many, and else all.
 #[derive(Clone, Copy)]
 pub(crate) struct Places {
     /// One place.

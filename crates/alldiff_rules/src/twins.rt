@@ -1,6 +1,7 @@
 //! The equations of members with the same two values.
 
-ghost use Rattle.std.specs.Prelude.{◌≡◌, ◌<◌, ◌^◌, ◌↔◌, ℤ, ℕ, true, length, unsigned_abs, MatchOption, IfSome, IfOk, IsTrue};
+ghost use Rattle.std.specs.Prelude.{◌≡◌, ◌<◌, ◌^◌, ◌↔◌, ℤ, ℕ, true, length, unsigned_abs};
+ghost use Rattle.std.specs.Prelude.{MatchOption, IfSome, IfOk, IsTrue};
 ghost use Rattle.std.specs.BTreeMap.{get};
 ghost use Rattle.core_forms.specs.WellFormed.{AreSound};
 ghost use Rattle.rule_base.specs.declared.sought.SoughtEquation.TheVariants.{Apart, Pair};
@@ -8,7 +9,8 @@ ghost use Rattle.rule_base.specs.Pairs.{first_sought};
 ghost use Rattle.alldiff_rules.specs.Members.{int_at, IsChoiceAt};
 ghost use Rattle.alldiff_rules.specs.Table.{pair_cmp, has_others, Shows};
 ghost use Rattle.alldiff_rules.specs.Finds.{Finds};
-ghost use Rattle.alldiff_rules.specs.Twins.{IsSplitAt, HasTwins, IsTwinRow, first_atom, twin_equations, shown_equations, IsShownTwin};
+ghost use Rattle.alldiff_rules.specs.Twins.{IsSplitAt, HasTwins, IsTwinRow, first_atom, twin_equations};
+ghost use Rattle.alldiff_rules.specs.Twins.{shown_equations, IsShownTwin};
 
 use crate::narrow::{Choice, choice_at, found_choice, is_shared};
 use crate::table::{Places, put_pair};

@@ -14,8 +14,8 @@ use std::alloc::{AllocError, Global};
 use std::process::Abort;
 use std::test::Fail;
 
-/// A line of a derivation: a clause with its id and its hints, or ids behind the one that the line begins with. A literal is a variable, or
-/// the negative number of one.
+/// A line of a derivation: a clause with its id and its hints, or ids behind the one that the line begins with. A
+/// literal is a variable, or the negative number of one.
 #[derive(Clone, Copy)]
 enum Derived {
     Add(u64, &'static [i64], &'static [i64]),

@@ -1,5 +1,6 @@
 -- The ranges of quotients and of dividends, as the code computes them from the ranges of the integers.
-use Rattle.std.specs.Prelude.{◌^◌, ◌<◌, ◌&&◌, List, [], ◌∷◌, ◌++◌, pos, ◌+ℤ◌, ◌*ℤ◌, int_le, unsigned_abs}
+use Rattle.std.specs.Prelude.{◌^◌, ◌<◌, ◌&&◌, List, [], ◌∷◌, ◌++◌, pos, ◌+ℤ◌, ◌*ℤ◌}
+use Rattle.std.specs.Prelude.{int_le, unsigned_abs}
 use Rattle.order_ints.specs.declared.atom.Atom.{Atom}
 use Rattle.order_ints.specs.declared.order_int.OrdInt.{OrdInt}
 use Rattle.rule_base.specs.Pairs.{only_if}
@@ -8,7 +9,8 @@ use Rattle.arith_rules.specs.declared.ranges.Range.{Range}
 use Rattle.arith_rules.specs.Links.{within}
 use Rattle.arith_rules.specs.ProductRows.{floor_of}
 
--- what a quotient is at least and at most, where the dividend is in the first range and the divisor in the second, from 1
+-- what a quotient is at least and at most, where the dividend is in the first range and the divisor in the second, from
+-- 1
 abbrev pub quotients_of : Range → Range → Range
 quotients_of x y = record { low = floor_of x.low y.high; high = floor_of x.high y.low }
 

@@ -1,5 +1,6 @@
 -- The equations that a greatest member states.
-use Rattle.std.specs.Prelude.{ℕ, ◌+◌, ◌==◌, Bool, nat_le, List, [], ◌∷◌, ◌++◌, map, filter, ℤ, pos, ◌+ℤ◌, int_le, if◌then◌else◌}
+use Rattle.std.specs.Prelude.{ℕ, ◌+◌, ◌==◌, Bool, nat_le, List, [], ◌∷◌, ◌++◌, map, filter, ℤ}
+use Rattle.std.specs.Prelude.{pos, ◌+ℤ◌, int_le, if◌then◌else◌}
 use Rattle.order_ints.specs.declared.atom.Atom.{Atom}
 use Rattle.order_ints.specs.declared.atom.Atom.TheVariants.{False}
 use Rattle.order_ints.specs.declared.order_int.OrdInt.{OrdInt}

@@ -21,7 +21,8 @@ HaveSmallCorners x y =
     (unsigned_abs (x.low *ℤ y.low) < 2 ^ 100) × (unsigned_abs (x.low *ℤ y.high) < 2 ^ 100)
     × (unsigned_abs (x.high *ℤ y.low) < 2 ^ 100) × (unsigned_abs (x.high *ℤ y.high) < 2 ^ 100)
 
--- what a factor from 0 is at least and at most, where the other is in the first range, from 1, and the product in the second
+-- what a factor from 0 is at least and at most, where the other is in the first range, from 1, and the product in the
+-- second
 abbrev pub factors_of : Range → Range → Range
 factors_of y z = record { low = ceiling_of z.low y.high; high = floor_of z.high y.low }
 

@@ -1,5 +1,6 @@
 -- The equations that a product and a division state.
-use Rattle.std.specs.Prelude.{◌&&◌, List, [], ◌∷◌, ◌++◌, ℤ, pos, neg_ℤ, ◌+ℤ◌, ◌*ℤ◌, int_le, int_lt}
+use Rattle.std.specs.Prelude.{◌&&◌, List, [], ◌∷◌, ◌++◌, ℤ, pos, neg_ℤ, ◌+ℤ◌, ◌*ℤ◌}
+use Rattle.std.specs.Prelude.{int_le, int_lt}
 use Rattle.std.specs.Int.{int_min, int_max, int_div_euclid}
 use Rattle.order_ints.specs.declared.atom.Atom.{Atom}
 use Rattle.order_ints.specs.declared.order_int.OrdInt.{OrdInt}
@@ -19,14 +20,16 @@ ceiling_of v divisor = neg_ℤ (int_div_euclid (neg_ℤ v) divisor)
 -- the least and the greatest of the products of an end of a's range and an end of b's
 abbrev pub least_product : OrdInt → OrdInt → ℤ
 least_product a b =
-    int_min (int_min (low_of a *ℤ low_of b) (low_of a *ℤ high_of b)) (int_min (high_of a *ℤ low_of b) (high_of a *ℤ high_of b))
+    int_min (int_min (low_of a *ℤ low_of b) (low_of a *ℤ high_of b))
+    (int_min (high_of a *ℤ low_of b) (high_of a *ℤ high_of b))
 
 abbrev pub greatest_product : OrdInt → OrdInt → ℤ
 greatest_product a b =
-    int_max (int_max (low_of a *ℤ low_of b) (low_of a *ℤ high_of b)) (int_max (high_of a *ℤ low_of b) (high_of a *ℤ high_of b))
+    int_max (int_max (low_of a *ℤ low_of b) (low_of a *ℤ high_of b))
+    (int_max (high_of a *ℤ low_of b) (high_of a *ℤ high_of b))
 
--- a times b is c, where none is below 0, and b not below 1: a is at least the least value of c by the greatest of b, and
--- at most the greatest value of c by the least of b
+-- a times b is c, where none is below 0, and b not below 1: a is at least the least value of c by the greatest of b,
+-- and at most the greatest value of c by the least of b
 abbrev pub factor_equations : OrdInt → OrdInt → OrdInt → List (Atom × Atom)
 factor_equations a b c =
     only_if (int_le (pos 0) (low_of a) && (int_le (pos 1) (low_of b) && int_le (pos 0) (low_of c)))
@@ -38,7 +41,8 @@ multiple_equations k b c = linked_back (λ v. k *ℤ v) b c ++ linked (λ w. cei
 
 -- k times b is c, for k below 0: c goes down as b goes up
 abbrev pub negative_equations : ℤ → OrdInt → OrdInt → List (Atom × Atom)
-negative_equations k b c = opposed_above (λ v. k *ℤ v) b c ++ opposed (λ w. floor_of (neg_ℤ w) (neg_ℤ k) +ℤ pos 1) c b
+negative_equations k b c = opposed_above (λ v. k *ℤ v) b c
+    ++ opposed (λ w. floor_of (neg_ℤ w) (neg_ℤ k) +ℤ pos 1) c b
 
 -- k times b is c
 abbrev pub scaled_equations : ℤ → OrdInt → OrdInt → List (Atom × Atom)

@@ -17,7 +17,8 @@ sum3_ranges a b c =
     ++ within a (low_of c -ℤ high_of b) (high_of c -ℤ low_of b)
     ++ within b (low_of c -ℤ high_of a) (high_of c -ℤ low_of a)
 
--- k and b, added up, are c: b is at least v exactly where c is at least v and k, for each value v of b, and for each value of c less k
+-- k and b, added up, are c: b is at least v exactly where c is at least v and k, for each value v of b, and for each
+-- value of c less k
 abbrev pub raised_equations : ℤ → OrdInt → OrdInt → List (Atom × Atom)
 raised_equations k b c = linked (λ v. v +ℤ k) b c ++ linked_back (λ w. w -ℤ k) c b
 

@@ -1,5 +1,7 @@
--- The greatest and the second greatest of the members' greatest values, and the equations of a greatest member told by them.
-use Rattle.std.specs.Prelude.{◌^◌, ◌<◌, List, [], ◌∷◌, ◌++◌, map, filter, ℤ, pos, neg_ℤ, int_le, int_lt, unsigned_abs, if◌then◌else◌}
+-- The greatest and the second greatest of the members' greatest values, and the equations of a greatest member told by
+-- them.
+use Rattle.std.specs.Prelude.{◌^◌, ◌<◌, List, [], ◌∷◌, ◌++◌, map, filter, ℤ, pos, neg_ℤ, int_le}
+use Rattle.std.specs.Prelude.{int_lt, unsigned_abs, if◌then◌else◌}
 use Rattle.order_ints.specs.declared.atom.Atom.{Atom}
 use Rattle.order_ints.specs.declared.atom.Atom.TheVariants.{False}
 use Rattle.order_ints.specs.declared.order_int.OrdInt.{OrdInt}

@@ -1,12 +1,14 @@
 //! The equations that a division states.
 
-ghost use Rattle.std.specs.Prelude.{◌≡◌, ◌&&◌, ◌^◌, ◌<◌, pos, ◌+ℤ◌, ◌*ℤ◌, ◌≤ℤ◌, int_le, unsigned_abs};
+ghost use Rattle.std.specs.Prelude.{◌≡◌, ◌&&◌, ◌^◌, ◌<◌, pos, ◌+ℤ◌, ◌*ℤ◌, ◌≤ℤ◌};
+ghost use Rattle.std.specs.Prelude.{int_le, unsigned_abs};
 ghost use Rattle.order_ints.specs.OrderRange.{IsBounded, low_of};
 ghost use Rattle.core_forms.specs.WellFormed.{HasSmallDivisions};
 ghost use Rattle.rule_base.specs.Pairs.{first_sought};
 ghost use Rattle.arith_rules.specs.Ranges.{IsSmall};
 ghost use Rattle.arith_rules.specs.ProductRows.{div_mod_equations};
-ghost use Rattle.arith_rules.specs.DivisionRanges.{quotients_of, rest_within, quotient_within, dividends_of, HaveSmallDividends, dividend_within};
+ghost use Rattle.arith_rules.specs.DivisionRanges.{quotients_of, rest_within, quotient_within, dividends_of};
+ghost use Rattle.arith_rules.specs.DivisionRanges.{HaveSmallDividends, dividend_within};
 
 use crate::numbers::{floor_of, product};
 use crate::ranges::Range;

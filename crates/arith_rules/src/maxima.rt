@@ -7,7 +7,8 @@ ghost use Rattle.rule_base.specs.Pairs.{first_sought};
 ghost use Rattle.rule_base.specs.Stated.{is_below};
 ghost use Rattle.arith_rules.specs.Links.{alike_where, alike_back};
 ghost use Rattle.arith_rules.specs.MaxRows.{member_ranges, top_equations, max_equations};
-ghost use Rattle.arith_rules.specs.Tops.{no_tops, with_top, tops_of, AreSmall, false_above, leader_above, leaders_above};
+ghost use Rattle.arith_rules.specs.Tops.{no_tops, with_top, tops_of, AreSmall, false_above, leader_above};
+ghost use Rattle.arith_rules.specs.Tops.{leaders_above};
 
 use crate::links::turned;
 use order_ints::{Atom, OrdInt, Walk};

@@ -7,8 +7,10 @@ ghost use Rattle.rule_base.specs.Pairs.{first_sought, only_if};
 ghost use Rattle.rule_base.specs.Constant.{is_constant};
 ghost use Rattle.arith_rules.specs.CodeLinks.{HasSmallMultiples};
 ghost use Rattle.arith_rules.specs.Ranges.{IsSmall};
-ghost use Rattle.arith_rules.specs.ProductRows.{multiple_equations, negative_equations, scaled_equations, prod_ranges, prod_equations};
-ghost use Rattle.arith_rules.specs.ProductRanges.{products_of, HaveSmallCorners, factors_of, factor_within, are_unsigned};
+ghost use Rattle.arith_rules.specs.ProductRows.{multiple_equations, negative_equations, scaled_equations, prod_ranges};
+ghost use Rattle.arith_rules.specs.ProductRows.{prod_equations};
+ghost use Rattle.arith_rules.specs.ProductRanges.{products_of, HaveSmallCorners, factors_of, factor_within};
+ghost use Rattle.arith_rules.specs.ProductRanges.{are_unsigned};
 
 use crate::links::{Link, linked, linked_back, opposed, opposed_above};
 use crate::numbers::{ceiling_of, floor_of, greater, lesser, product};

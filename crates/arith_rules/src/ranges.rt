@@ -110,8 +110,8 @@ impl Range {
         from.or(to)
     }
 
-    /// That an integer, whose own range is given, is in the range. Where its own range is within this one, no two different atoms are
-    /// to be found equal, and it isn't looked at.
+    /// That an integer, whose own range is given, is in the range. Where its own range is within this one, no two
+    /// different atoms are to be found equal, and it isn't looked at.
     pub(crate) fn binds(
         &self,
         sought: SoughtEquation,

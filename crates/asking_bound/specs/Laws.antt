@@ -11,11 +11,12 @@ use Rattle.asking_bound.specs.Questions.{binary_digits, occurrences_of}
 -- a variable gets no more new labels than the last number of variables has binary digits
 abbrev pub FewNewLabels : Type 0
 FewNewLabels =
-    (start last : Kernel) (lines : List Line) (v : ℕ) → IsKernel start → replay start lines ≡ Ok last → 1 ≤ v →
+    (start last : Kernel) (lines : List Line) (v : ℕ) → IsKernel start → replay start lines ≡ Ok last
+    → 1 ≤ v →
     new_labels v (Ok start) lines ≤ binary_digits (length last.view)
 
--- the pairs of a pending core and one of its variables that get a new label are no more than that number for each pair of a core
--- that was made and one of its variables
+-- the pairs of a pending core and one of its variables that get a new label are no more than that number for each pair
+-- of a core that was made and one of its variables
 abbrev pub FewPairs : Type 0
 FewPairs =
     (start last : Kernel) (lines : List Line) → IsKernel start → replay start lines ≡ Ok last →

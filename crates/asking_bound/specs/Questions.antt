@@ -17,15 +17,15 @@ abbrev pub occurrences_of : List Core → ℕ
 occurrences_of [] = 0
 occurrences_of (core ∷ cores) = length (own_vars core) + occurrences_of cores
 
--- One question for each core that was made, and one for each new label that each of its different variables can get, of which
--- there are as many as the last number of variables has binary digits.
+-- One question for each core that was made, and one for each new label that each of its different variables can get, of
+-- which there are as many as the last number of variables has binary digits.
 abbrev pub most_questions : Kernel → List Line → Kernel → ℕ
 most_questions start lines last =
     length (all_made start lines) + occurrences_of (all_made start lines) * binary_digits (length last.view)
 
--- From a state and a ledger on, with so many questions to ask, a counter has risen by at most three for each question that was
--- asked; there are so many left; and those that came are no more than the cores that were made, and the pairs that got a new
--- label.
+-- From a state and a ledger on, with so many questions to ask, a counter has risen by at most three for each question
+-- that was asked; there are so many left; and those that came are no more than the cores that were made, and the pairs
+-- that got a new label.
 abbrev pub IsAsked : Kernel → List Line → List Line → ℕ → ℕ → ℕ → ℕ → Type 0
 IsAsked k before behind queued counter now left =
     (lines : List Line) → behind ≡ before ++ lines →

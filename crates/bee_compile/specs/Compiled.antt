@@ -1,5 +1,6 @@
 -- What a model is compiled to, and which assignments that gives.
-use Rattle.std.specs.Prelude.{◌≡◌, ◌↔◌, ℕ, ◌+◌, ◌*◌, ◌≤◌, ◌<◌, ◌^◌, true, List, length, ℤ}
+use Rattle.std.specs.Prelude.{◌≡◌, ◌↔◌, ℕ, ◌+◌, ◌*◌, ◌≤◌, ◌<◌, ◌^◌, true, List}
+use Rattle.std.specs.Prelude.{length, ℤ}
 use Rattle.order_ints.specs.Truth.{Valuation}
 use Rattle.order_ints.specs.Satisfies.{Satisfies}
 use Rattle.order_ints.specs.Numbers.{numbers_of}
@@ -31,9 +32,9 @@ IsInstance core e = is_instance_at core e ≡ true
 abbrev pub start_of : Lowered → Kernel
 start_of l = started l.vars l.cores
 
--- The ledger leads through a whole compilation from the lowered model to a last state. The cores that were made are those of
--- this state, which keeps the places of all ids; the clauses are its CNF; and each name stands for what it has in the lowered
--- model, as the last store has it.
+-- The ledger leads through a whole compilation from the lowered model to a last state. The cores that were made are
+-- those of this state, which keeps the places of all ids; the clauses are its CNF; and each name stands for what it has
+-- in the lowered model, as the last store has it.
 pub record IsCompiled (told : Core → Equation → Type 0) (model : Model) (c : Compiled) : Type 0 where
   pub last : Kernel
   pub compilation : IsCompilation told (start_of (lowered_of model)) c.ledger last
@@ -42,8 +43,8 @@ pub record IsCompiled (told : Core → Equation → Type 0) (model : Model) (c :
   pub decls : c.decls ≡ model.decls
   pub map : c.map.entries ≡ trimmed_values last.view (lowered_of model).map.entries
 
--- The most questions that a compilation may ask: one for each core that is made, and one for each new label that one of its
--- variables can get, which are as many at most as the number of variables has binary digits.
+-- The most questions that a compilation may ask: one for each core that is made, and one for each new label that one of
+-- its variables can get, which are as many at most as the number of variables has binary digits.
 abbrev pub questions_of : Model → Compiled → ℕ
 questions_of model c =
     let made = all_made (start_of (lowered_of model)) c.ledger in
@@ -60,4 +61,5 @@ pub record IsCompiledWell (model : Model) (c : Compiled) : Type 0 where
 
 -- so is what a model is compiled to that is well typed, in the limits and not too heavy
 abbrev pub CompilationLaw : (Core → Equation → Type 0) → Type 0
-CompilationLaw told = (model : Model) (c : Compiled) → WellTyped model → InLimits model → weight_of model ≤ most_weight → c.cores < 2 ^ 64 → IsCompiled told model c → IsCompiledWell model c
+CompilationLaw told = (model : Model) (c : Compiled) → WellTyped model → InLimits model
+    → weight_of model ≤ most_weight → c.cores < 2 ^ 64 → IsCompiled told model c → IsCompiledWell model c

@@ -23,8 +23,8 @@ use typed_model::Model;
 
 /// The clauses and the map of names of a model: it is lowered to cores; equations are added to them until none is told;
 /// compound cores are split, the least one each time, with equations after each split; and each core gives its clauses,
-/// the least id first. It stops where a contradiction is found. Each statement is let go when it is lowered, each core when it is
-/// split or encoded.
+/// the least id first. It stops where a contradiction is found. Each statement is let go when it is lowered, each core
+/// when it is split or encoded.
 ///
 /// It fails with the model's weight where that is above 67,108,864, and for want of memory.
 pub fn compile<F: Oracle<L>, L: Ledger>(

@@ -1,6 +1,7 @@
 //! A list over a `Vec`, which contracts see as the list of its members at every depth.
 
-ghost use Rattle.std.specs.Prelude.{◌≡◌, ◌==◌, ◌↔◌, ◌++◌, ◌∷◌, [], IsTrue, OnOk, OnErr, drop, length, List};
+ghost use Rattle.std.specs.Prelude.{◌≡◌, ◌==◌, ◌↔◌, ◌++◌, ◌∷◌, [], IsTrue, OnOk, OnErr, drop};
+ghost use Rattle.std.specs.Prelude.{length, List};
 ghost use Rattle.std.specs.Cmp.Lexicographic.{pointwise, lists_per, lists_equiv};
 
 use std::alloc::{AllocError, Global};
@@ -9,8 +10,8 @@ use std::marker::Model;
 /// A list of values. It is made from a `Vec` and gives it back without memory, and a clause sees it as
 /// the list of its members wherever it stands: in a struct, in an enum, in another list.
 ///
-/// Members leave at its front in constant time, and come at its back: those that left stay in the vector, before the start,
-/// until the list falls out of use or gives its vector back.
+/// Members leave at its front in constant time, and come at its back: those that left stay in the vector, before the
+/// start, until the list falls out of use or gives its vector back.
 #[derive(Debug, Clone, Drop)]
 pub struct Sequence<T> {
     items: Vec<T>,

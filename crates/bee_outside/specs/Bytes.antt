@@ -1,5 +1,6 @@
 -- What is told of bytes that are left or were taken.
-use Rattle.std.specs.Prelude.{◌≡◌, ℕ, ◌≤◌, List, [], ◌++◌, length, take, Option, Some, None, IsSome, IfSome}
+use Rattle.std.specs.Prelude.{◌≡◌, ℕ, ◌≤◌, List, [], ◌++◌, length, take, Option, Some, None, IsSome}
+use Rattle.std.specs.Prelude.{IfSome}
 
 -- an implementation tells this
 abbrev pub IsTold : {X : Type 0} → Option X → Type 0

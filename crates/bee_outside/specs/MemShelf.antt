@@ -1,5 +1,7 @@
 -- A shelf over memory: what it holds, and what its next call does.
-use Rattle.std.specs.Prelude.{ℕ, Bool, List, [], ◌∷◌, ◌||◌, ◌==◌, drop, take, ◌++◌, length, min, map, Option, Some, None, is_none, unwrap_or, Result, Ok, Err, if◌then◌else◌, bytes_eq, string_bytes, String}
+use Rattle.std.specs.Prelude.{ℕ, Bool, List, [], ◌∷◌, ◌||◌, ◌==◌, drop, take, ◌++◌, length, min}
+use Rattle.std.specs.Prelude.{map, Option, Some, None, is_none, unwrap_or, Result, Ok, Err, if◌then◌else◌}
+use Rattle.std.specs.Prelude.{bytes_eq, string_bytes, String}
 use Rattle.std.specs.List.{list_any}
 use Rattle.std.specs.Global.{Vec, Global}
 use Rattle.bee_outside.specs.declared.failed.Failed.{Failed}

@@ -1,5 +1,6 @@
 -- A sink over memory: what it holds, and what its next call does.
-use Rattle.std.specs.Prelude.{ℕ, ◌-◌, Bool, List, [], ◌||◌, ◌&&◌, ◌==◌, ◌++◌, take, length, min, nat_lt, nat_le, Result, Ok, Err, if◌then◌else◌}
+use Rattle.std.specs.Prelude.{ℕ, ◌-◌, Bool, List, [], ◌||◌, ◌&&◌, ◌==◌, ◌++◌, take, length, min}
+use Rattle.std.specs.Prelude.{nat_lt, nat_le, Result, Ok, Err, if◌then◌else◌}
 use Rattle.std.specs.List.{list_any}
 use Rattle.bee_outside.specs.declared.failed.Failed.{Failed}
 use Rattle.bee_outside.specs.Faults.{next_count}

@@ -1,6 +1,7 @@
 //! A shelf over memory, for tests: it gives small pieces and fails at chosen calls.
 
-ghost use Rattle.std.specs.Prelude.{◌≡◌, ◌≢◌, ℕ, ◌≤◌, ◌<◌, ◌↔◌, List, [], ◌++◌, map, reverse, take, drop, length, vec_len, IfOk, OnErr, IfSome, MatchOption};
+ghost use Rattle.std.specs.Prelude.{◌≡◌, ◌≢◌, ℕ, ◌≤◌, ◌<◌, ◌↔◌, List, [], ◌++◌, map};
+ghost use Rattle.std.specs.Prelude.{reverse, take, drop, length, vec_len, IfOk, OnErr, IfSome, MatchOption};
 ghost use Rattle.bee_outside.specs.Faults.{counted};
 ghost use Rattle.bee_outside.specs.Bytes.{IsTold, in_front};
 ghost use Rattle.bee_outside.specs.MemShelf.{given_file, fresh_shelf, left_under, next_answer, next_slice, after_next};
@@ -31,7 +32,13 @@ impl Model for MemShelf {
 
     ghost Value = { MemShelfState };
 
-    ghost view = { λ s. record { files = map kept_file s.files.items; step = s.step; failing = s.failing.items; calls = s.calls; faults = s.faults } };
+    ghost view = { λ s. record {
+      files = map kept_file s.files.items;
+      step = s.step;
+      failing = s.failing.items;
+      calls = s.calls;
+      faults = s.faults;
+    } };
 
     ghost invariant = { λ s. 1 ≤ s.step };
 }

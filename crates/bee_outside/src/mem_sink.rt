@@ -33,7 +33,15 @@ impl Model for MemSink {
 
     ghost Value = { MemSinkState };
 
-    ghost view = { λ s. record { taken = s.taken.items; flushed = s.flushed; room = s.room; step = s.step; failing = s.failing.items; calls = s.calls; faults = s.faults } };
+    ghost view = { λ s. record {
+      taken = s.taken.items;
+      flushed = s.flushed;
+      room = s.room;
+      step = s.step;
+      failing = s.failing.items;
+      calls = s.calls;
+      faults = s.faults;
+    } };
 
     ghost invariant = { λ s. (1 ≤ s.step) × (vec_len s.taken ≤ s.room) × (s.room ≤ vec_capacity s.taken) };
 }

@@ -1,6 +1,7 @@
 //! Reading a whole text.
 
-ghost use Rattle.std.specs.Prelude.{◌≡◌, ◌≢◌, ℕ, ◌≤◌, ◌<◌, ◌+◌, ◌++◌, List, take, length, vec_len, IfOk, OnErr, IfSome, IsSomeAnd, IsTrue, IsFalse};
+ghost use Rattle.std.specs.Prelude.{◌≡◌, ◌≢◌, ℕ, ◌≤◌, ◌<◌, ◌+◌, ◌++◌, List, take};
+ghost use Rattle.std.specs.Prelude.{length, vec_len, IfOk, OnErr, IfSome, IsSomeAnd, IsTrue, IsFalse};
 ghost use Rattle.bee_outside.specs.Faults.{read_count, UnlessFailed};
 ghost use Rattle.bee_outside.specs.Bytes.{in_front, NothingLeft, TookPiece};
 ghost use Rattle.bee_outside.specs.ReadText.{text_of, is_whole};

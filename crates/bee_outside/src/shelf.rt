@@ -1,6 +1,7 @@
 //! What a program reads from.
 
-ghost use Rattle.std.specs.Prelude.{◌≡◌, ◌≢◌, ℕ, ◌≤◌, ◌<◌, ◌↔◌, List, [], take, drop, length, IfOk, OnErr, IfSome};
+ghost use Rattle.std.specs.Prelude.{◌≡◌, ◌≢◌, ℕ, ◌≤◌, ◌<◌, ◌↔◌, List, [], take, drop};
+ghost use Rattle.std.specs.Prelude.{length, IfOk, OnErr, IfSome};
 ghost use Rattle.bee_outside.specs.Faults.{counted};
 ghost use Rattle.bee_outside.specs.Bytes.{IsTold, in_front};
 

@@ -17,8 +17,8 @@ pub trait Sink {
 
     ghost faults: { Self → ℕ };
 
-    /// Takes bytes from the front of the piece, at least one where it has any, and answers how many. A piece without bytes is
-    /// no fault.
+    /// Takes bytes from the front of the piece, at least one where it has any, and answers how many. A piece without
+    /// bytes is no fault.
     fn put(&mut self, piece: &[u8]) -> Result<usize, Failed>
         ensures fits { IfOk result (λ k. k ≤ length piece.now) }
         ensures takes_some { IfOk result (λ k. 0 < length piece.now → 1 ≤ k) }

@@ -1,5 +1,6 @@
 -- The laws of numbers, lines and words that other crates build on.
-use Rattle.std.specs.Prelude.{◌≡◌, ℕ, ◌<◌, ◌^◌, List, ◌∷◌, ◌++◌, length, slice_index, ℤ, IsTrue, FitsSigned}
+use Rattle.std.specs.Prelude.{◌≡◌, ℕ, ◌<◌, ◌^◌, List, ◌∷◌, ◌++◌, length, slice_index, ℤ}
+use Rattle.std.specs.Prelude.{IsTrue, FitsSigned}
 use Rattle.std.specs.Int.{w128}
 use Rattle.std.specs.Char.{is_ascii_digit}
 use Rattle.std.specs.Fmt.{decimal, signed_decimal}
@@ -14,7 +15,8 @@ DecimalTellsNumber = (m n : ℕ) → m < 2 ^ 128 → n < 2 ^ 128 → decimal m �
 
 -- the same of signed numbers
 abbrev pub SignedDecimalTellsNumber : Type 0
-SignedDecimalTellsNumber = (y z : ℤ) → FitsSigned w128 y → FitsSigned w128 z → signed_decimal y ≡ signed_decimal z → y ≡ z
+SignedDecimalTellsNumber = (y z : ℤ) → FitsSigned w128 y → FitsSigned w128 z
+    → signed_decimal y ≡ signed_decimal z → y ≡ z
 
 -- each byte of a decimal is a digit
 abbrev pub DecimalHasDigits : Type 0
@@ -34,15 +36,18 @@ SignedDecimalIsWord = (z : ℤ) → FitsSigned w128 z → IsWord (signed_decimal
 
 -- lines that are joined to one text are the same lines
 abbrev pub JoinTellsLines : Type 0
-JoinTellsLines = (xs ys : List (List ℕ)) → AreLines xs → AreLines ys → join_lines xs ≡ join_lines ys → xs ≡ ys
+JoinTellsLines = (xs ys : List (List ℕ)) → AreLines xs → AreLines ys → join_lines xs ≡ join_lines ys
+    → xs ≡ ys
 
 -- joined lines have those lines, also with a line behind them that no line feed ends
 abbrev pub LinesOfJoined : Type 0
-LinesOfJoined = (xs : List (List ℕ)) (rest : List ℕ) → AreLines xs → IsLine rest → lines_of (join_lines xs ++ rest) ≡ xs
+LinesOfJoined = (xs : List (List ℕ)) (rest : List ℕ) → AreLines xs → IsLine rest
+    → lines_of (join_lines xs ++ rest) ≡ xs
 
 -- that line is what stands behind their last line feed
 abbrev pub UnfinishedOfJoined : Type 0
-UnfinishedOfJoined = (xs : List (List ℕ)) (rest : List ℕ) → IsLine rest → unfinished (join_lines xs ++ rest) ≡ rest
+UnfinishedOfJoined = (xs : List (List ℕ)) (rest : List ℕ) → IsLine rest
+    → unfinished (join_lines xs ++ rest) ≡ rest
 
 -- a text is its lines joined, and what stands behind them
 abbrev pub JoinOfLines : Type 0
@@ -58,7 +63,8 @@ JoinAppendsLines = (xs ys : List (List ℕ)) → join_lines (xs ++ ys) ≡ join_
 
 -- words that are joined to one text are the same words
 abbrev pub JoinTellsWords : Type 0
-JoinTellsWords = (vs ws : List (List ℕ)) → AreWords vs → AreWords ws → join_words vs ≡ join_words ws → vs ≡ ws
+JoinTellsWords = (vs ws : List (List ℕ)) → AreWords vs → AreWords ws → join_words vs ≡ join_words ws
+    → vs ≡ ws
 
 -- joined pieces have those pieces between their blanks
 abbrev pub SplitOfJoined : Type 0
@@ -74,7 +80,8 @@ WordsOfText = (text : List ℕ) → AreWords (words_of text)
 
 -- lists of words one after the other, a blank between them
 abbrev pub JoinAppendsWords : Type 0
-JoinAppendsWords = (vs ws : List (List ℕ)) → 0 < length vs → 0 < length ws → join_words (vs ++ ws) ≡ join_words vs ++ 32 ∷ join_words ws
+JoinAppendsWords = (vs ws : List (List ℕ)) → 0 < length vs → 0 < length ws
+    → join_words (vs ++ ws) ≡ join_words vs ++ 32 ∷ join_words ws
 
 -- joined words are a line, where each is a line
 abbrev pub JoinedWordsAreLine : Type 0

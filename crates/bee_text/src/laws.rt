@@ -1,9 +1,12 @@
 //! Laws of numbers, lines and words that other crates build on. The functions do nothing: their
 //! contracts are the laws.
 
-ghost use Rattle.bee_text.specs.Laws.{DecimalTellsNumber, SignedDecimalTellsNumber, DecimalHasDigits, DecimalLeadsByZero, DecimalIsWord, SignedDecimalIsWord};
-ghost use Rattle.bee_text.specs.Laws.{JoinTellsLines, LinesOfJoined, UnfinishedOfJoined, JoinOfLines, LinesOfText, JoinAppendsLines};
-ghost use Rattle.bee_text.specs.Laws.{JoinTellsWords, SplitOfJoined, WordsOfJoined, WordsOfText, JoinAppendsWords, JoinedWordsAreLine, WordsAreLines};
+ghost use Rattle.bee_text.specs.Laws.{DecimalTellsNumber, SignedDecimalTellsNumber, DecimalHasDigits};
+ghost use Rattle.bee_text.specs.Laws.{DecimalLeadsByZero, DecimalIsWord, SignedDecimalIsWord};
+ghost use Rattle.bee_text.specs.Laws.{JoinTellsLines, LinesOfJoined, UnfinishedOfJoined, JoinOfLines, LinesOfText};
+ghost use Rattle.bee_text.specs.Laws.{JoinAppendsLines};
+ghost use Rattle.bee_text.specs.Laws.{JoinTellsWords, SplitOfJoined, WordsOfJoined, WordsOfText, JoinAppendsWords};
+ghost use Rattle.bee_text.specs.Laws.{JoinedWordsAreLine, WordsAreLines};
 
 /// What the decimals of numbers are like.
 pub fn decimal_laws()

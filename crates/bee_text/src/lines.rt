@@ -1,6 +1,7 @@
 //! The lines of a text, one by one.
 
-ghost use Rattle.std.specs.Prelude.{◌≡◌, ◌==◌, ◌+◌, ◌∷◌, ◌++◌, [], IfSome, IfNone, MatchOption, position};
+ghost use Rattle.std.specs.Prelude.{◌≡◌, ◌==◌, ◌+◌, ◌∷◌, ◌++◌, [], IfSome, IfNone, MatchOption};
+ghost use Rattle.std.specs.Prelude.{position};
 ghost use Rattle.bee_text.specs.Lines.{IsLine, lines_of};
 
 use std::marker::Model;

@@ -1,6 +1,7 @@
 //! Decimal numbers read from a text.
 
-ghost use Rattle.std.specs.Prelude.{◌≡◌, ◌↔◌, ℕ, ◌≤◌, ◌∷◌, drop, ℤ, IsTrue, Some, IfSome, unsigned_abs, FitsSigned};
+ghost use Rattle.std.specs.Prelude.{◌≡◌, ◌↔◌, ℕ, ◌≤◌, ◌∷◌, drop, ℤ, IsTrue, Some, IfSome};
+ghost use Rattle.std.specs.Prelude.{unsigned_abs, FitsSigned};
 ghost use Rattle.std.specs.Int.{w128};
 ghost use Rattle.std.specs.Fmt.{decimal, signed_decimal};
 ghost use Rattle.bee_text.specs.Digits.{with_digit, digits_after, leads_well};

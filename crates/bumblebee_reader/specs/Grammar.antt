@@ -1,5 +1,6 @@
 -- The grammar of model texts: which tokens spell which items.
-use Rattle.std.specs.Prelude.{◌≡◌, ◌≢◌, ◌⊎◌, ℕ, false, Option, Some, None, List, [], ◌∷◌, ◌++◌, pos, neg_ℤ, codes}
+use Rattle.std.specs.Prelude.{◌≡◌, ◌≢◌, ◌⊎◌, ℕ, false, Option, Some, None, List, [], ◌∷◌}
+use Rattle.std.specs.Prelude.{◌++◌, pos, neg_ℤ, codes}
 use Rattle.bumblebee_reader.specs.declared.syntax.Syntax.{Syntax}
 use Rattle.bumblebee_reader.specs.declared.syntax.Item.{Item}
 use Rattle.bumblebee_reader.specs.declared.syntax.Item.TheVariants.{Call, Goal}
@@ -8,7 +9,8 @@ use Rattle.bumblebee_reader.specs.declared.syntax.Arg.TheVariants.{One, Many}
 use Rattle.bumblebee_reader.specs.declared.syntax.Term.{Term}
 use Rattle.bumblebee_reader.specs.declared.syntax.Term.TheVariants.{Plain, Minus, Number}
 use Rattle.bumblebee_reader.specs.declared.syntax.GoalKind.TheVariants.{Satisfy, Minimize, Maximize}
-use Rattle.bumblebee_reader.specs.declared.lexeme.Sign.TheVariants.{OpenCall, CloseCall, OpenList, CloseList, Comma, Dash}
+use Rattle.bumblebee_reader.specs.declared.lexeme.Sign.TheVariants.{OpenCall, CloseCall, OpenList, CloseList, Comma}
+use Rattle.bumblebee_reader.specs.declared.lexeme.Sign.TheVariants.{Dash}
 use Rattle.bumblebee_reader.specs.Tokens.{Token, TokenAt, Word, Digits, Mark, tokens}
 use Rattle.bumblebee_reader.specs.Numeral.{number_of, is_too_great}
 
@@ -17,14 +19,17 @@ abbrev pub SpellsTerm : List Token → Term → Type 0
 SpellsTerm ts (Plain name) = ts ≡ Word name ∷ []
 SpellsTerm ts (Minus name) = ts ≡ Mark Dash ∷ Word name ∷ []
 SpellsTerm ts (Number z) =
-    (digits : List ℕ) × (((ts ≡ Digits digits ∷ []) × (z ≡ pos (number_of digits))) ⊎ ((ts ≡ Mark Dash ∷ Digits digits ∷ []) × (z ≡ neg_ℤ (pos (number_of digits)))))
+    (digits : List ℕ)
+    × (((ts ≡ Digits digits ∷ []) × (z ≡ pos (number_of digits)))
+    ⊎ ((ts ≡ Mark Dash ∷ Digits digits ∷ []) × (z ≡ neg_ℤ (pos (number_of digits)))))
 
 -- one term or more, separated by `,`
 abbrev pub SpellsTerms : List Token → List Term → Type 0
 SpellsTerms ts [] = ⊥
 SpellsTerms ts (t ∷ []) = SpellsTerm ts t
 SpellsTerms ts (t ∷ t' ∷ terms) =
-    (us : List Token) × (vs : List Token) × (ts ≡ us ++ Mark Comma ∷ vs) × SpellsTerm us t × SpellsTerms vs (t' ∷ terms)
+    (us : List Token) × (vs : List Token) × (ts ≡ us ++ Mark Comma ∷ vs) × SpellsTerm us t
+    × SpellsTerms vs (t' ∷ terms)
 
 -- any number of terms, separated by `,`
 abbrev pub SpellsMembers : List Token → List Term → Type 0
@@ -42,7 +47,8 @@ abbrev pub SpellsArgs : List Token → List Arg → Type 0
 SpellsArgs ts [] = ⊥
 SpellsArgs ts (a ∷ []) = SpellsArg ts a
 SpellsArgs ts (a ∷ a' ∷ args) =
-    (us : List Token) × (vs : List Token) × (ts ≡ us ++ Mark Comma ∷ vs) × SpellsArg us a × SpellsArgs vs (a' ∷ args)
+    (us : List Token) × (vs : List Token) × (ts ≡ us ++ Mark Comma ∷ vs) × SpellsArg us a
+    × SpellsArgs vs (a' ∷ args)
 
 -- a name, or a name in parentheses
 abbrev pub SpellsObjective : List Token → List ℕ → Type 0
@@ -58,8 +64,8 @@ abbrev pub SpellsObjectives : List Token → List ℕ → Option (List ℕ) → 
 SpellsObjectives ts name second =
     (us : List Token) × (vs : List Token) × (ts ≡ us ++ vs) × SpellsObjective us name × SpellsSecond vs second
 
--- an item: a name other than `solve` and `then`, `(`, one argument or more separated by `,`, and `)`; or `solve satisfy`;
--- or `solve minimize` or `solve maximize`, an objective, and then optionally `then` and another
+-- an item: a name other than `solve` and `then`, `(`, one argument or more separated by `,`, and `)`; or `solve
+-- satisfy`; or `solve minimize` or `solve maximize`, an objective, and then optionally `then` and another
 abbrev pub SpellsItem : List Token → Item → Type 0
 SpellsItem ts (Call name args) =
     (name ≢ codes "solve") × (name ≢ codes "then") × (us : List Token) × (ts ≡ Word name ∷ Mark OpenCall ∷ (us ++ Mark CloseCall ∷ [])) × SpellsArgs us args

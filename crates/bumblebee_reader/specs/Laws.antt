@@ -16,7 +16,8 @@ OneSyntax = (text : List ℕ) (s t : Syntax) → IsText text s → IsText text t
 -- bytes are a text, or they have a first fault
 abbrev pub TextOrFault : Type 0
 TextOrFault =
-    (text : List ℕ) → ((s : Syntax) × IsText text s) ⊎ (((line : ℕ) × IsSyntaxFault text line) ⊎ ((line : ℕ) × IsNumberFault text line))
+    (text : List ℕ) → ((s : Syntax) × IsText text s)
+    ⊎ (((line : ℕ) × IsSyntaxFault text line) ⊎ ((line : ℕ) × IsNumberFault text line))
 
 -- what is unread of a whole text is what the grammar says of it: its items, or its first fault
 pub record TellsText (text : List ℕ) : Type 0 where

@@ -1,5 +1,6 @@
 -- Reading token by token: where a reading stands, and what a token does there.
-use Rattle.std.specs.Prelude.{◌≡◌, ◌≢◌, ℕ, Bool, true, false, Option, Some, None, Result, Ok, Err, List, [], ◌∷◌, ◌++◌, pos, neg_ℤ, codes, if◌then◌else◌}
+use Rattle.std.specs.Prelude.{◌≡◌, ◌≢◌, ℕ, Bool, true, false, Option, Some, None, Result, Ok, Err, List}
+use Rattle.std.specs.Prelude.{[], ◌∷◌, ◌++◌, pos, neg_ℤ, codes, if◌then◌else◌}
 use Rattle.std.specs.Str.{bytes_eq}
 use Rattle.bumblebee_reader.specs.declared.syntax.Item.{Item}
 use Rattle.bumblebee_reader.specs.declared.syntax.Item.TheVariants.{Call, Goal}
@@ -9,7 +10,8 @@ use Rattle.bumblebee_reader.specs.declared.syntax.Term.{Term}
 use Rattle.bumblebee_reader.specs.declared.syntax.Term.TheVariants.{Plain, Minus, Number}
 use Rattle.bumblebee_reader.specs.declared.syntax.GoalKind.{GoalKind}
 use Rattle.bumblebee_reader.specs.declared.syntax.GoalKind.TheVariants.{Satisfy, Minimize, Maximize}
-use Rattle.bumblebee_reader.specs.declared.lexeme.Sign.TheVariants.{OpenCall, CloseCall, OpenList, CloseList, Comma, Dash}
+use Rattle.bumblebee_reader.specs.declared.lexeme.Sign.TheVariants.{OpenCall, CloseCall, OpenList, CloseList, Comma}
+use Rattle.bumblebee_reader.specs.declared.lexeme.Sign.TheVariants.{Dash}
 use Rattle.bumblebee_reader.specs.declared.fault.ReadFault.{ReadFault}
 use Rattle.bumblebee_reader.specs.declared.fault.ReadFault.TheVariants as fault
 use Rattle.bumblebee_reader.specs.Tokens.{Token, TokenAt, Word, Digits, Mark, Stray, tokens_at, last_line_at}
@@ -200,7 +202,8 @@ at_close seeking name Stray = Misfit
 
 -- `then` goes on with a second objective; else the goal is whole, and the next item begins
 abbrev pub behind_objective : GoalKind → List ℕ → Token → Move
-behind_objective kind name (Word word) = if is_then word then Go (AtObjective (SecondOf kind name)) else behind_item (Goal kind (Some name) None) (begin_item word)
+behind_objective kind name (Word word) = if is_then word then Go (AtObjective (SecondOf kind name))
+    else behind_item (Goal kind (Some name) None) (begin_item word)
 behind_objective kind name (Digits digits) = Misfit
 behind_objective kind name (Mark sign) = Misfit
 behind_objective kind name Stray = Misfit

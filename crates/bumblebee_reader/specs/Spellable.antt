@@ -1,5 +1,6 @@
 -- Which syntaxes some text has.
-use Rattle.std.specs.Prelude.{◌≡◌, ◌≢◌, ℕ, ◌≤◌, true, Option, Some, None, List, [], ◌∷◌, unsigned_abs, codes}
+use Rattle.std.specs.Prelude.{◌≡◌, ◌≢◌, ℕ, ◌≤◌, true, Option, Some, None, List, [], ◌∷◌}
+use Rattle.std.specs.Prelude.{unsigned_abs, codes}
 use Rattle.bumblebee_reader.specs.declared.syntax.Syntax.{Syntax}
 use Rattle.bumblebee_reader.specs.declared.syntax.Item.{Item}
 use Rattle.bumblebee_reader.specs.declared.syntax.Item.TheVariants.{Call, Goal}

@@ -1,9 +1,11 @@
 -- The tokens of a text, with their lines.
-use Rattle.std.specs.Prelude.{ℕ, zero, suc, ◌+◌, Bool, ◌||◌, Option, Some, None, List, [], ◌∷◌, nat_eq, if◌then◌else◌}
+use Rattle.std.specs.Prelude.{ℕ, zero, suc, ◌+◌, Bool, ◌||◌, Option, Some, None, List, [], ◌∷◌, nat_eq}
+use Rattle.std.specs.Prelude.{if◌then◌else◌}
 use Rattle.std.specs.List.{prefix_len, take_while}
 use Rattle.bumblebee_reader.specs.Bytes.{is_letter, is_digit, is_word, is_in_comment}
 use Rattle.bumblebee_reader.specs.declared.lexeme.Sign.{Sign}
-use Rattle.bumblebee_reader.specs.declared.lexeme.Sign.TheVariants.{OpenCall, CloseCall, OpenList, CloseList, Comma, Dash}
+use Rattle.bumblebee_reader.specs.declared.lexeme.Sign.TheVariants.{OpenCall, CloseCall, OpenList, CloseList, Comma}
+use Rattle.bumblebee_reader.specs.declared.lexeme.Sign.TheVariants.{Dash}
 use Rattle.bumblebee_reader.specs.declared.lexeme.Lexeme.{Lexeme}
 use Rattle.bumblebee_reader.specs.declared.lexeme.Lexeme.TheVariants as lent
 
@@ -21,7 +23,11 @@ pub record TokenAt : Type 0 where
 -- the token that is one byte
 abbrev pub lone_token : ℕ → Token
 lone_token b =
-    if nat_eq b 40 then Mark OpenCall else (if nat_eq b 41 then Mark CloseCall else (if nat_eq b 91 then Mark OpenList else (if nat_eq b 93 then Mark CloseList else (if nat_eq b 44 then Mark Comma else (if nat_eq b 45 then Mark Dash else Stray)))))
+    if nat_eq b 40 then Mark OpenCall
+    else (if nat_eq b 41 then Mark CloseCall
+    else (if nat_eq b 91 then Mark OpenList
+    else (if nat_eq b 93 then Mark CloseList
+    else (if nat_eq b 44 then Mark Comma else (if nat_eq b 45 then Mark Dash else Stray)))))
 
 -- a blank, a tab, a carriage return, a line feed, or the `%` that begins a comment
 abbrev pub begins_gap : ℕ → Bool
@@ -31,12 +37,15 @@ begins_gap b = nat_eq b 32 || nat_eq b 9 || nat_eq b 13 || nat_eq b 10 || nat_eq
 -- or the byte alone; none where a gap begins there
 abbrev pub token_from : ℕ → List ℕ → Option Token
 token_from b bs =
-    if is_letter b then Some (Word (b ∷ take_while is_word bs)) else (if is_digit b then Some (Digits (b ∷ take_while is_digit bs)) else (if begins_gap b then None else Some (lone_token b)))
+    if is_letter b then Some (Word (b ∷ take_while is_word bs))
+    else (if is_digit b then Some (Digits (b ∷ take_while is_digit bs))
+    else (if begins_gap b then None else Some (lone_token b)))
 
 -- how many of the bytes bs belong to the token or the comment that begins with the byte b before them
 abbrev pub length_from : ℕ → List ℕ → ℕ
 length_from b bs =
-    if is_letter b then prefix_len is_word bs else (if is_digit b then prefix_len is_digit bs else (if nat_eq b 37 then prefix_len is_in_comment bs else 0))
+    if is_letter b then prefix_len is_word bs
+    else (if is_digit b then prefix_len is_digit bs else (if nat_eq b 37 then prefix_len is_in_comment bs else 0))
 
 -- a token at its line before others, or only the others
 abbrev pub with_token : Option Token → ℕ → List TokenAt → List TokenAt

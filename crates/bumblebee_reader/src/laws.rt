@@ -1,6 +1,7 @@
 //! Laws of model texts, for the crates above.
 
-ghost use Rattle.bumblebee_reader.specs.Laws.{OneSyntax, TextOrFault, UnreadTells, TextIsSpellable, CanonicalIsText, RoundTrip};
+ghost use Rattle.bumblebee_reader.specs.Laws.{OneSyntax, TextOrFault, UnreadTells, TextIsSpellable, CanonicalIsText};
+ghost use Rattle.bumblebee_reader.specs.Laws.{RoundTrip};
 
 /// A text has at most one syntax.
 pub fn one_syntax()

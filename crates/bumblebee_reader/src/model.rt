@@ -16,8 +16,10 @@ use std::alloc::Global;
 /// name of more than 16 bytes takes memory once, when it is whole. `ItemReader` gives the same items one at a time.
 pub fn read_model(alloc: Global, text: &[u8]) -> Result<Syntax, ReadFault>
     ensures ok { MemoryFound result → (s : Syntax) → (result ≡ Ok s) ↔ IsText text.now s }
-    ensures syntax { MemoryFound result → (line : ℕ) → (result ≡ Err (ReadFault.Syntax line)) ↔ IsSyntaxFault text.now line }
-    ensures number { MemoryFound result → (line : ℕ) → (result ≡ Err (ReadFault.Number line)) ↔ IsNumberFault text.now line }
+    ensures syntax { MemoryFound result → (line : ℕ)
+        → (result ≡ Err (ReadFault.Syntax line)) ↔ IsSyntaxFault text.now line }
+    ensures number { MemoryFound result → (line : ℕ)
+        → (result ≡ Err (ReadFault.Number line)) ↔ IsNumberFault text.now line }
 {
     read_whole(alloc, text)
 }

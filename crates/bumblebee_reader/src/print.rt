@@ -3,7 +3,8 @@
 ghost use Rattle.std.specs.Prelude.{◌≡◌, ◌++◌, IfOk, OnOk};
 ghost use Rattle.bumblebee_reader.specs.declared.syntax.Item.TheVariants.{Call, Goal};
 ghost use Rattle.bumblebee_reader.specs.declared.syntax.Arg.TheVariants.{Many};
-ghost use Rattle.bumblebee_reader.specs.Canonical.{canonical, item_line, name_text, args_text, arg_text, terms_text, term_text, kind_word};
+ghost use Rattle.bumblebee_reader.specs.Canonical.{canonical, item_line, name_text, args_text, arg_text, terms_text};
+ghost use Rattle.bumblebee_reader.specs.Canonical.{term_text, kind_word};
 
 use crate::name::Name;
 use crate::syntax::{Arg, GoalKind, Item, Syntax, Term};

@@ -1,12 +1,16 @@
 //! Reads a model text, token by token.
 
-ghost use Rattle.std.specs.Prelude.{◌≡◌, ◌<◌, ◌≤◌, ◌++◌, ◌∷◌, [], Ok, Err, Some, Option, List, ℕ, length, option_map, IfOk, OnSome};
+ghost use Rattle.std.specs.Prelude.{◌≡◌, ◌<◌, ◌≤◌, ◌++◌, ◌∷◌, [], Ok, Err, Some, Option};
+ghost use Rattle.std.specs.Prelude.{List, ℕ, length, option_map, IfOk, OnSome};
 ghost use Rattle.bumblebee_reader.specs.Tokens.{token_of};
 ghost use Rattle.bumblebee_reader.specs.declared.syntax.Arg.{Arg};
 ghost use Rattle.bumblebee_reader.specs.declared.syntax.Arg.TheVariants.{Many};
 ghost use Rattle.bumblebee_reader.specs.declared.syntax.Item.TheVariants.{Call, Goal};
 ghost use Rattle.bumblebee_reader.specs.declared.syntax.GoalKind.{GoalKind};
-ghost use Rattle.bumblebee_reader.specs.Reading.{AtItem, AtOpen, AtArg, BehindArg, AtFirst, AtKind, AtObjective, AtInner, BehindDash, BehindObjective, FirstOf, SecondOf, Owner, Place, behind_term, at_item, taken, term_taken, turn_at, reading, with_item, Gives, is_then_word, is_open_list, is_close_list};
+ghost use Rattle.bumblebee_reader.specs.Reading.{AtItem, AtOpen, AtArg, BehindArg, AtFirst, AtKind, AtObjective};
+ghost use Rattle.bumblebee_reader.specs.Reading.{AtInner, BehindDash, BehindObjective, FirstOf, SecondOf, Owner, Place};
+ghost use Rattle.bumblebee_reader.specs.Reading.{behind_term, at_item, taken, term_taken, turn_at, reading, with_item};
+ghost use Rattle.bumblebee_reader.specs.Reading.{Gives, is_then_word, is_open_list, is_close_list};
 ghost use Rattle.bumblebee_reader.specs.Unread.{next_before};
 
 use crate::fault::ReadFault;
@@ -33,7 +37,8 @@ pub fn read_next(alloc: Global, tokens: &mut Tokens<'_>) -> Result<Option<Item>,
 
 /// The item that begins with this token.
 fn read_item(alloc: Global, tokens: &mut Tokens<'_>, first: Lexeme<'_>) -> Result<Item, ReadFault>
-    ensures read { Gives result (turn_at (at_item (token_of first.entry)) (token_of first.entry) tokens.old.line tokens.old.rest.now)
+    ensures read { Gives result
+        (turn_at (at_item (token_of first.entry)) (token_of first.entry) tokens.old.line tokens.old.rest.now)
         (λ item. with_item item (reading AtItem tokens.new.line tokens.new.rest.now)) }
     ensures not_longer { length tokens.new.rest.now ≤ length tokens.old.rest.now }
 {
@@ -118,9 +123,11 @@ fn read_second(
 
 /// The objective behind `minimize`, `maximize` or `then`.
 fn read_objective(alloc: Global, tokens: &mut Tokens<'_>) -> Result<Name, ReadFault>
-    ensures first { (kind : GoalKind) → Gives result (reading (AtObjective (FirstOf kind)) tokens.old.line tokens.old.rest.now)
+    ensures first { (kind : GoalKind)
+        → Gives result (reading (AtObjective (FirstOf kind)) tokens.old.line tokens.old.rest.now)
         (λ name. reading (BehindObjective kind name) tokens.new.line tokens.new.rest.now) }
-    ensures second { (kind : GoalKind) (first : List ℕ) → Gives result (reading (AtObjective (SecondOf kind first)) tokens.old.line tokens.old.rest.now)
+    ensures second { (kind : GoalKind) (first : List ℕ)
+        → Gives result (reading (AtObjective (SecondOf kind first)) tokens.old.line tokens.old.rest.now)
         (λ name. with_item (Goal kind (Some first) (Some name)) (reading AtItem tokens.new.line tokens.new.rest.now)) }
     ensures not_longer { length tokens.new.rest.now ≤ length tokens.old.rest.now }
 {
@@ -133,9 +140,11 @@ fn read_objective(alloc: Global, tokens: &mut Tokens<'_>) -> Result<Name, ReadFa
 
 /// The objective behind an opening parenthesis, and the closing one.
 fn read_inner(alloc: Global, tokens: &mut Tokens<'_>) -> Result<Name, ReadFault>
-    ensures first { (kind : GoalKind) → Gives result (reading (AtInner (FirstOf kind)) tokens.old.line tokens.old.rest.now)
+    ensures first { (kind : GoalKind)
+        → Gives result (reading (AtInner (FirstOf kind)) tokens.old.line tokens.old.rest.now)
         (λ name. reading (BehindObjective kind name) tokens.new.line tokens.new.rest.now) }
-    ensures second { (kind : GoalKind) (first : List ℕ) → Gives result (reading (AtInner (SecondOf kind first)) tokens.old.line tokens.old.rest.now)
+    ensures second { (kind : GoalKind) (first : List ℕ)
+        → Gives result (reading (AtInner (SecondOf kind first)) tokens.old.line tokens.old.rest.now)
         (λ name. with_item (Goal kind (Some first) (Some name)) (reading AtItem tokens.new.line tokens.new.rest.now)) }
     ensures not_longer { length tokens.new.rest.now ≤ length tokens.old.rest.now }
 {
@@ -184,7 +193,8 @@ fn read_args(alloc: Global, tokens: &mut Tokens<'_>) -> Result<Vec<Arg>, ReadFau
 /// One argument.
 #[tactic(auto, using(crate::proofs::Parse::taken_argument))]
 fn read_arg(alloc: Global, tokens: &mut Tokens<'_>) -> Result<Arg, ReadFault>
-    ensures read { (name : List ℕ) (args : List Arg) → Gives result (reading (AtArg name args) tokens.old.line tokens.old.rest.now)
+    ensures read { (name : List ℕ) (args : List Arg)
+        → Gives result (reading (AtArg name args) tokens.old.line tokens.old.rest.now)
         (λ arg. reading (BehindArg name (args ++ arg ∷ [])) tokens.new.line tokens.new.rest.now) }
     ensures not_longer { length tokens.new.rest.now ≤ length tokens.old.rest.now }
 {
@@ -197,7 +207,8 @@ fn read_arg(alloc: Global, tokens: &mut Tokens<'_>) -> Result<Arg, ReadFault>
 
 /// The members of a list, and the closing bracket.
 fn read_list(alloc: Global, tokens: &mut Tokens<'_>) -> Result<Vec<Term>, ReadFault>
-    ensures read { (name : List ℕ) (args : List Arg) → Gives result (reading (AtFirst name args) tokens.old.line tokens.old.rest.now)
+    ensures read { (name : List ℕ) (args : List Arg)
+        → Gives result (reading (AtFirst name args) tokens.old.line tokens.old.rest.now)
         (λ terms. reading (BehindArg name (args ++ Many terms.items ∷ [])) tokens.new.line tokens.new.rest.now) }
     ensures not_longer { length tokens.new.rest.now ≤ length tokens.old.rest.now }
 {
@@ -222,7 +233,8 @@ fn read_term(
     tokens: &mut Tokens<'_>,
     first: Option<Lexeme<'_>>,
 ) -> Result<Term, ReadFault>
-    ensures read { (owner : Owner) → Gives result (term_taken owner (option_map token_of first.entry) tokens.old.line tokens.old.rest.now)
+    ensures read { (owner : Owner)
+        → Gives result (term_taken owner (option_map token_of first.entry) tokens.old.line tokens.old.rest.now)
         (λ term. reading (behind_term owner term) tokens.new.line tokens.new.rest.now) }
     ensures not_longer { length tokens.new.rest.now ≤ length tokens.old.rest.now }
 {

@@ -1,9 +1,11 @@
 //! The tokens of a text, one after another.
 
-ghost use Rattle.std.specs.Prelude.{◌≡◌, ◌+◌, ◌<◌, ◌≤◌, ◌^◌, [], ◌∷◌, length, drop, false, Some, MatchOption, IfNone, OnSome};
+ghost use Rattle.std.specs.Prelude.{◌≡◌, ◌+◌, ◌<◌, ◌≤◌, ◌^◌, [], ◌∷◌, length, drop};
+ghost use Rattle.std.specs.Prelude.{false, Some, MatchOption, IfNone, OnSome};
 ghost use Rattle.std.specs.List.{prefix_len};
 ghost use Rattle.bumblebee_reader.specs.Bytes.{is_word, is_digit, is_in_comment, is_letter};
-ghost use Rattle.bumblebee_reader.specs.Tokens.{tokens_at, last_line_at, token_of, token_from, length_from, lone_token, begins_gap};
+ghost use Rattle.bumblebee_reader.specs.Tokens.{tokens_at, last_line_at, token_of, token_from, length_from, lone_token};
+ghost use Rattle.bumblebee_reader.specs.Tokens.{begins_gap};
 
 use crate::lexeme::{Lexeme, Sign, is_digit, is_letter, is_word};
 

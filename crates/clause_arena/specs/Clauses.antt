@@ -1,5 +1,6 @@
 -- What contracts see of an arena: a clause for each reference, and how much is spare.
-use Rattle.std.specs.Prelude.{◌≡◌, ℕ, ◌+◌, ◌-◌, ◌<◌, ◌≤◌, ◌^◌, Bool, true, false, List, [], ◌++◌, length, replicate, swap, slice_index_or, slice_set}
+use Rattle.std.specs.Prelude.{◌≡◌, ℕ, ◌+◌, ◌-◌, ◌<◌, ◌≤◌, ◌^◌, Bool, true, false, List}
+use Rattle.std.specs.Prelude.{[], ◌++◌, length, replicate, swap, slice_index_or, slice_set}
 use Rattle.order_ints.specs.declared.literal.Lit.{Lit}
 
 -- a clause with its id; under a reference that is not in use stands `no_clause`, which is not live

@@ -1,5 +1,6 @@
 -- How an arena stands for clauses: ring 0 has the references in use, in the order of their literals, ring 1 the others.
-use Rattle.std.specs.Prelude.{◌≡◌, ◌==◌, ℕ, ◌+◌, ◌<◌, ◌≤◌, ◌^◌, List, [], ◌∷◌, length, map, slice_index, if◌then◌else◌, Bool, true, false, slice_index_or}
+use Rattle.std.specs.Prelude.{◌≡◌, ◌==◌, ℕ, ◌+◌, ◌<◌, ◌≤◌, ◌^◌, List, [], ◌∷◌}
+use Rattle.std.specs.Prelude.{length, map, slice_index, if◌then◌else◌, Bool, true, false, slice_index_or}
 use Rattle.std.specs.List.{range_with_len}
 use Rattle.index_ring.specs.Lists.{RingLists, IsRings, list_of, times, times_in_all}
 use Rattle.clause_arena.specs.declared.codes.Span.{Span}
@@ -8,7 +9,8 @@ use Rattle.clause_arena.specs.Codes.{span_of, lits_at}
 
 -- the clause of a reference
 abbrev pub clause_of : List ℕ → List Span → List ℕ → RingLists → ℕ → Clause
-clause_of codes spans ids order c = if times c (list_of order 0) == 0 then no_clause else live_clause (slice_index ids c) (lits_at codes (span_of spans c))
+clause_of codes spans ids order c = if times c (list_of order 0) == 0 then no_clause
+    else live_clause (slice_index ids c) (lits_at codes (span_of spans c))
 
 abbrev pub arena_of : List ℕ → List Span → List ℕ → RingLists → ℕ → ℕ → Arena
 arena_of codes spans ids order spare dead = record {
@@ -20,10 +22,12 @@ arena_of codes spans ids order spare dead = record {
 -- from a place to another, the literals of each clause stand behind those of the one before
 abbrev pub AreLaid : List Span → ℕ → List ℕ → ℕ → Type 0
 AreLaid spans from [] to = from ≤ to
-AreLaid spans from (c ∷ cs) to = (from ≤ (span_of spans c).start) × AreLaid spans ((span_of spans c).start + (span_of spans c).len) cs to
+AreLaid spans from (c ∷ cs) to = (from ≤ (span_of spans c).start)
+    × AreLaid spans ((span_of spans c).start + (span_of spans c).len) cs to
 
 -- what an arena keeps
-pub record IsKept (codes : List ℕ) (spans : List Span) (ids : List ℕ) (order : RingLists) (spare dead capacity : ℕ) : Type 0 where
+pub record IsKept (codes : List ℕ) (spans : List Span) (ids : List ℕ) (order : RingLists)
+    (spare dead capacity : ℕ) : Type 0 where
   pub rings : IsRings order
   pub two : length order.lists ≡ 2
   pub nodes : order.nodes ≡ length spans

@@ -11,7 +11,8 @@ pub record AreListed (order : RingLists) (first : ℕ) : Type 0 where
   pub behind : (c : ℕ) → first ≤ c → times_in_all c order.lists ≡ 0
 
 -- so many references that are not in use stand behind the others
-pub record AreAdded (order : RingLists) (spans : List Span) (ids : List ℕ) (order1 : RingLists) (spans1 : List Span) (ids1 : List ℕ) (more : ℕ) : Type 0 where
+pub record AreAdded (order : RingLists) (spans : List Span) (ids : List ℕ) (order1 : RingLists) (spans1 : List Span)
+    (ids1 : List ℕ) (more : ℕ) : Type 0 where
   pub spans_added : spans1 ≡ spans ++ replicate more no_span
   pub ids_added : ids1 ≡ ids ++ replicate more 0
   pub in_use : list_of order1 0 ≡ list_of order 0

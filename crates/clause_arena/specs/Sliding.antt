@@ -12,7 +12,8 @@ pub record IsMoved (old new : List ℕ) (start to len : ℕ) : Type 0 where
   pub above : (k : ℕ) → to + len ≤ k → slice_index new k ≡ slice_index old k
 
 -- each listed clause has the literals that it had
-pub record AreSlid (codes : List ℕ) (spans : List Span) (codes1 : List ℕ) (spans1 : List Span) (list : List ℕ) : Type 0 where
+pub record AreSlid (codes : List ℕ) (spans : List Span) (codes1 : List ℕ) (spans1 : List Span) (list : List ℕ)
+    : Type 0 where
   pub codes_length : length codes1 ≡ length codes
   pub spans_length : length spans1 ≡ length spans
   pub lits : (c : ℕ) → 1 ≤ times c list → lits_at codes1 (span_of spans1 c) ≡ lits_at codes (span_of spans c)

@@ -1,10 +1,12 @@
-//! The arena: clauses by reference, with their literals packed one behind another, as in MiniSat (Niklas Eén and Niklas Sörensson,
-//! 2003). Where a clause's literals stand is in a table, so that a reference stays when the literals move; when they have to make
-//! room they slide down over those of deleted clauses, in place.
+//! The arena: clauses by reference, with their literals packed one behind another, as in MiniSat (Niklas Eén and
+//! Niklas Sörensson, 2003). Where a clause's literals stand is in a table, so that a reference stays when the literals
+//! move; when they have to make room they slide down over those of deleted clauses, in place.
 
-ghost use Rattle.std.specs.Prelude.{max, ◌≡◌, ◌+◌, ◌^◌, ◌<◌, ◌≤◌, ◌↔◌, IsTrue, false, length, IfOk, OnOk, OnErr};
+ghost use Rattle.std.specs.Prelude.{max, ◌≡◌, ◌+◌, ◌^◌, ◌<◌, ◌≤◌, ◌↔◌, IsTrue, false};
+ghost use Rattle.std.specs.Prelude.{length, IfOk, OnOk, OnErr};
 ghost use Rattle.std.specs.List.{All};
-ghost use Rattle.clause_arena.specs.Clauses.{IsArena, IsLive, IsWider, no_clauses, added, deleted, swapped, clause_at, lits_of, lit_in};
+ghost use Rattle.clause_arena.specs.Clauses.{IsArena, IsLive, IsWider, no_clauses, added, deleted, swapped, clause_at};
+ghost use Rattle.clause_arena.specs.Clauses.{lits_of, lit_in};
 
 use crate::codes::{Span, lit_of, part, push_codes};
 use crate::literals::Literals;
@@ -175,7 +177,8 @@ impl ClauseArena {
             .saturating_add(self.spans.as_slice()[c as usize].len);
     }
 
-    /// Lets the literals of clauses that are there slide down over those of deleted ones. It takes time for each literal.
+    /// Lets the literals of clauses that are there slide down over those of deleted ones. It takes time for each
+    /// literal.
     fn pack(&mut self)
         ensures { self.new ≡ self.old }
     {
@@ -186,8 +189,8 @@ impl ClauseArena {
         self.wasted = 0;
     }
 
-    /// Packs the literals if there is no room for so many more and deleted clauses have a quarter of the arena, so that packing
-    /// takes constant time for each literal that came.
+    /// Packs the literals if there is no room for so many more and deleted clauses have a quarter of the arena, so that
+    /// packing takes constant time for each literal that came.
     fn pack_for(&mut self, literals: usize)
         ensures { self.new ≡ self.old }
     {
@@ -196,9 +199,9 @@ impl ClauseArena {
         }
     }
 
-    /// Makes room for so many literals and clauses to come, first where deleted clauses stood. Where the references would reach
-    /// 2^31 - 2, or the literals 2^32, it is as if memory were wanting. It takes constant time where there is room already, and
-    /// else, taken together over all calls, time for each literal and each clause that comes.
+    /// Makes room for so many literals and clauses to come, first where deleted clauses stood. Where the references
+    /// would reach 2^31 - 2, or the literals 2^32, it is as if memory were wanting. It takes constant time where there
+    /// is room already, and else, taken together over all calls, time for each literal and each clause that comes.
     pub fn reserve(&mut self, literals: usize, clauses: usize) -> Result<(), AllocError>
         ensures wider { OnOk result (IsWider self.old self.new) }
         ensures lits { OnOk result (literals ≤ self.new.spare_lits) }

@@ -9,8 +9,8 @@ use crate::codes::lit_of;
 use order_ints::Lit;
 use std::marker::Model;
 
-/// The literals of a clause, or what is left of a walk over them. A contract sees it as their list. A literal is unpacked where
-/// it is looked at, in constant time.
+/// The literals of a clause, or what is left of a walk over them. A contract sees it as their list. A literal is
+/// unpacked where it is looked at, in constant time.
 #[derive(Drop)]
 pub struct Literals<'a> {
     codes: &'a [u32],

@@ -1,6 +1,7 @@
 //! References are added, none of which is in use.
 
-ghost use Rattle.std.specs.Prelude.{◌≡◌, ◌+◌, ◌^◌, ◌<◌, ◌≤◌, ◌++◌, length, replicate, OnOk, OnErr, vec_len, vec_capacity, false};
+ghost use Rattle.std.specs.Prelude.{◌≡◌, ◌+◌, ◌^◌, ◌<◌, ◌≤◌, ◌++◌, length, replicate, OnOk};
+ghost use Rattle.std.specs.Prelude.{OnErr, vec_len, vec_capacity, false};
 ghost use Rattle.std.specs.List.{range_with_len};
 ghost use Rattle.index_ring.specs.Lists.{IsRings, IsFree, list_of, pushed_back, unlinked};
 ghost use Rattle.clause_arena.specs.Codes.{no_span};

@@ -20,8 +20,8 @@ fn move_down(codes: &mut [u32], from: u32, to: u32, len: u32)
     }
 }
 
-/// Moves the literals of each clause, of which there are so many at most, down to those of the one before, and tells how many literals
-/// there are.
+/// Moves the literals of each clause, of which there are so many at most, down to those of the one before, and tells
+/// how many literals there are.
 pub fn slide_down(codes: &mut [u32], spans: &mut [Span], order: &Rings, clauses: u32) -> u32
     requires rings { IsRings order.now }
     requires some { 0 < length order.now.lists }

@@ -1,6 +1,7 @@
 //! Clauses put in order as they come.
 
-ghost use Rattle.std.specs.Prelude.{◌≡◌, ◌++◌, ◌∷◌, [], ◌+◌, List, ℕ, IfOk, OnOk, OnErr, filter_map};
+ghost use Rattle.std.specs.Prelude.{◌≡◌, ◌++◌, ◌∷◌, [], ◌+◌, List, ℕ, IfOk, OnOk, OnErr};
+ghost use Rattle.std.specs.Prelude.{filter_map};
 ghost use Rattle.order_ints.specs.declared.atom.Atom.{Atom};
 ghost use Rattle.order_ints.specs.Truth.{Valuation};
 ghost use Rattle.order_ints.specs.Place.{ClausesBelow, InRange};
@@ -62,7 +63,8 @@ impl OrderedClauses {
             → cnf.clauses ≡ ordered_clauses view cs) }
 
         // The CNF is as true as they are under each valuation.
-        ensures same_truth { IfOk result (λ cnf. (σ : Valuation) → clauses_truth σ cnf.clauses ≡ clauses_truth σ self) }
+        ensures same_truth { IfOk result (λ cnf. (σ : Valuation)
+            → clauses_truth σ cnf.clauses ≡ clauses_truth σ self) }
 
         // Where their variables are from 1 to `vars`, so are the CNF's.
         ensures in_range { IfOk result (λ cnf. ClausesBelow (vars + 1) self → InRange cnf) }

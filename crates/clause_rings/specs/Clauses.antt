@@ -1,5 +1,7 @@
 -- What contracts see of a clause store: clauses by number, the trail, and which clauses are false or unit under it.
-use Rattle.std.specs.Prelude.{◌≡◌, ◌≢◌, ℕ, ◌+◌, ◌-◌, ◌<◌, ◌≤◌, false, List, [], ◌∷◌, ◌++◌, length, replicate, slice_index_or, slice_set, Contains, Option, Some, None, ◌⊎◌, IsPermutation}
+use Rattle.std.specs.Prelude.{◌≡◌, ◌≢◌, ℕ, ◌+◌, ◌-◌, ◌<◌, ◌≤◌, false, List, []}
+use Rattle.std.specs.Prelude.{◌∷◌, ◌++◌, length, replicate, slice_index_or, slice_set, Contains, Option, Some}
+use Rattle.std.specs.Prelude.{None, ◌⊎◌, IsPermutation}
 use Rattle.order_ints.specs.declared.literal.Lit.{Lit}
 use Rattle.order_ints.specs.Place.{LitBelow}
 use Rattle.literal_trail.specs.declared.entry.Entry.{Entry}
@@ -37,7 +39,8 @@ pub record SameClauses (old new : List Clause) : Type 0 where
 -- the trail with literals more, each made true by a live clause that was unit for it
 pub data Follows (cs : List Clause) (t : Trail) : Trail → Type 0 where
   same : Follows cs t t
-  more : (u : Trail) (l : Lit) (c : ℕ) → Follows cs t u → IsLive cs c → IsUnit u.entries (lits_of cs c) l → Follows cs t (implied u l c)
+  more : (u : Trail) (l : Lit) (c : ℕ) → Follows cs t u → IsLive cs c → IsUnit u.entries (lits_of cs c) l
+      → Follows cs t (implied u l c)
 
 -- no variable stands twice in a clause
 abbrev pub IsApart : List Lit → Type 0
@@ -45,7 +48,8 @@ IsApart ls = (i j : ℕ) → i < length ls → j < length ls → (lit_in ls i).v
 
 -- each literal that a clause made true was free as that clause's other ones were false, and the clause is there
 abbrev pub HaveReasons : List Clause → List Entry → Type 0
-HaveReasons cs es = (before after : List Entry) (e : Entry) (c : ℕ) → es ≡ before ++ e ∷ after → e.reason ≡ Some c → IsLive cs c × IsUnit before (lits_of cs c) e.lit
+HaveReasons cs es = (before after : List Entry) (e : Entry) (c : ℕ) → es ≡ before ++ e ∷ after
+    → e.reason ≡ Some c → IsLive cs c × IsUnit before (lits_of cs c) e.lit
 
 -- each literal of a live clause is in range
 abbrev pub AreInRange : ℕ → List Clause → Type 0
@@ -65,7 +69,8 @@ pub record IsDb (cs : List Clause) (t : Trail) : Type 0 where
 
 -- the literal is free, true, or false by the current level
 abbrev pub IsLate : Trail → Lit → Type 0
-IsLate t l = (e : Entry) → entry_of t.entries l.var ≡ Some e → truth_in t.entries l ≡ Some false → e.level ≡ t.level
+IsLate t l = (e : Entry) → entry_of t.entries l.var ≡ Some e → truth_in t.entries l ≡ Some false
+    → e.level ≡ t.level
 
 -- two of the literals are free, true or of the current level
 pub record HaveTwoLate (t : Trail) (ls : List Lit) : Type 0 where
@@ -122,6 +127,8 @@ AreApartIn cnf = (k : ℕ) → k < length cnf.clauses → IsApart (slice_index_o
 
 -- the clauses of a CNF are there, each once and the first one with id 1, and no other clause is
 pub record HoldsCnf (cnf : Cnf) (cs : List Clause) : Type 0 where
-  pub stored : (k : ℕ) → k < length cnf.clauses → (c : ℕ) × (clause_at cs c ≡ live_clause (k + 1) (slice_index_or cnf.clauses k []))
-  pub alone : (c : ℕ) → IsLive cs c → (k : ℕ) × (k < length cnf.clauses) × (clause_at cs c ≡ live_clause (k + 1) (slice_index_or cnf.clauses k []))
+  pub stored : (k : ℕ) → k < length cnf.clauses → (c : ℕ)
+      × (clause_at cs c ≡ live_clause (k + 1) (slice_index_or cnf.clauses k []))
+  pub alone : (c : ℕ) → IsLive cs c → (k : ℕ) × (k < length cnf.clauses)
+      × (clause_at cs c ≡ live_clause (k + 1) (slice_index_or cnf.clauses k []))
   pub once : (c d : ℕ) → IsLive cs c → IsLive cs d → (clause_at cs c).id ≡ (clause_at cs d).id → c ≡ d

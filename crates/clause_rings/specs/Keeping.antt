@@ -1,5 +1,6 @@
 -- What a clause store keeps, and how far propagation has taken it.
-use Rattle.std.specs.Prelude.{◌≡◌, ◌==◌, ℕ, ◌+◌, ◌*◌, ◌/◌, ◌<◌, List, [], ◌∷◌, Option, Some, None, ◌⊎◌, if◌then◌else◌}
+use Rattle.std.specs.Prelude.{◌≡◌, ◌==◌, ℕ, ◌+◌, ◌*◌, ◌/◌, ◌<◌, List, [], ◌∷◌, Option}
+use Rattle.std.specs.Prelude.{Some, None, ◌⊎◌, if◌then◌else◌}
 use Rattle.order_ints.specs.Truth.{not_lit}
 use Rattle.literal_trail.specs.Trail.{entry_at}
 use Rattle.literal_trail.specs.Standing.{HasTrue, IsFalse}
@@ -17,7 +18,12 @@ Keeps w = IsKept w.arena.clauses w.trail w.rings w.blockers.items w.head
 
 -- what contracts see
 abbrev pub seen : Watches → ClauseLists
-seen w = record { clauses = w.arena.clauses; trail = w.trail; spare_lits = w.arena.spare_lits; spare_clauses = w.arena.spare_clauses }
+seen w = record {
+  clauses = w.arena.clauses;
+  trail = w.trail;
+  spare_lits = w.arena.spare_lits;
+  spare_clauses = w.arena.spare_clauses;
+}
 
 -- propagation has put literals of clauses into another order, and literals on the trail, and has left all else
 pub record Advances (old new : ClauseLists) : Type 0 where
@@ -40,7 +46,9 @@ IsMet w c = HasTrue w.trail.entries (lits_of w.arena.clauses c) (entry_at w.trai
 
 -- a node stays in the ring that is walked, and its clause has a true literal; or it has left the ring
 abbrev pub IsVisited : Watches → Watches → ℕ → Type 0
-IsVisited old new node = ((list_of new.rings (head_ring old) ≡ list_of old.rings (head_ring old)) × IsMet new (node / 2)) ⊎ (list_of new.rings (head_ring old) ≡ without node (list_of old.rings (head_ring old)))
+IsVisited old new node = ((list_of new.rings (head_ring old) ≡ list_of old.rings (head_ring old))
+    × IsMet new (node / 2))
+    ⊎ (list_of new.rings (head_ring old) ≡ without node (list_of old.rings (head_ring old)))
 
 -- each clause that watches the literal which the entry at the head makes false has a true literal
 abbrev pub AreMet : Watches → Type 0

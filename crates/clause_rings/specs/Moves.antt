@@ -1,5 +1,6 @@
 -- What the moves of nodes leave of rings.
-use Rattle.std.specs.Prelude.{◌≡◌, ◌≢◌, false, ℕ, ◌+◌, ◌*◌, ◌<◌, ◌≤◌, List, length, slice_index}
+use Rattle.std.specs.Prelude.{◌≡◌, ◌≢◌, false, ℕ, ◌+◌, ◌*◌, ◌<◌, ◌≤◌, List, length}
+use Rattle.std.specs.Prelude.{slice_index}
 use Rattle.std.specs.List.{Contains}
 use Rattle.order_ints.specs.declared.literal.Lit.{Lit}
 use Rattle.clause_arena.specs.Clauses.{Clause, clause_at, live_clause}

@@ -1,5 +1,7 @@
--- How the nodes of rings watch clauses: the clause of number c has the nodes 2c and 2c + 1, and ring 2v + s is that of a literal of variable v.
-use Rattle.std.specs.Prelude.{◌≡◌, ℕ, ◌+◌, ◌*◌, ◌<◌, ◌≤◌, true, false, List, length, Contains, Some, slice_index, take, ◌⊎◌}
+-- How the nodes of rings watch clauses: the clause of number c has the nodes 2c and 2c + 1, and ring 2v + s is that of
+-- a literal of variable v.
+use Rattle.std.specs.Prelude.{◌≡◌, ℕ, ◌+◌, ◌*◌, ◌<◌, ◌≤◌, true, false, List, length, Contains}
+use Rattle.std.specs.Prelude.{Some, slice_index, take, ◌⊎◌}
 use Rattle.order_ints.specs.declared.literal.Lit.{Lit}
 use Rattle.literal_trail.specs.declared.entry.Entry.{Entry}
 use Rattle.literal_trail.specs.Trail.{Trail, entry_of, entry_at, truth_in}
@@ -11,7 +13,8 @@ use Rattle.clause_rings.specs.Clauses.{IsDb}
 
 -- where an entry that is worked off makes the literal false, a literal of the clause is true by that level
 abbrev pub IsGuarded : List Entry → List Entry → List Lit → Lit → Type 0
-IsGuarded es done ls w = (s : Entry) → entry_of done w.var ≡ Some s → truth_in done w ≡ Some false → HasTrue es ls s.level
+IsGuarded es done ls w = (s : Entry) → entry_of done w.var ≡ Some s → truth_in done w ≡ Some false
+    → HasTrue es ls s.level
 
 -- both nodes of a clause stand in the rings of its first two literals, which are guarded
 pub record IsWatched (x : Clause) (rings : RingLists) (es done : List Entry) (c : ℕ) : Type 0 where
@@ -47,7 +50,8 @@ pub record IsWatching (cs : List Clause) (t : Trail) (rings : RingLists) (head :
 
 -- the blockers of both nodes of a clause are literals of it
 abbrev pub AreBlockers : List Clause → List ℕ → Type 0
-AreBlockers cs blockers = (c i : ℕ) → i < 2 → IsLive cs c → 1 ≤ length (lits_of cs c) → Contains (lits_of cs c) (lit_of (slice_index blockers (2 * c + i)))
+AreBlockers cs blockers = (c i : ℕ) → i < 2 → IsLive cs c → 1 ≤ length (lits_of cs c)
+    → Contains (lits_of cs c) (lit_of (slice_index blockers (2 * c + i)))
 
 -- all that a clause store keeps
 pub record IsKept (cs : List Clause) (t : Trail) (rings : RingLists) (blockers : List ℕ) (head : ℕ) : Type 0 where

@@ -1,7 +1,8 @@
-//! Clauses that have come and wait to be watched. Such a clause may be false, unit or true already, by any level; so the literals
-//! that became false last, or are not false, come to the places that are watched.
+//! Clauses that have come and wait to be watched. Such a clause may be false, unit or true already, by any level; so
+//! the literals that became false last, or are not false, come to the places that are watched.
 
-ghost use Rattle.std.specs.Prelude.{◌≡◌, ◌+◌, ◌*◌, ◌/◌, ◌<◌, ◌≤◌, [], length, IfSome, IfNone};
+ghost use Rattle.std.specs.Prelude.{◌≡◌, ◌+◌, ◌*◌, ◌/◌, ◌<◌, ◌≤◌, [], length, IfSome};
+ghost use Rattle.std.specs.Prelude.{IfNone};
 ghost use Rattle.std.specs.Bool.{OnTrue, OnFalse};
 ghost use Rattle.literal_trail.specs.Trail.{IsTrail};
 ghost use Rattle.literal_trail.specs.Standing.{IsFalse};
@@ -9,7 +10,8 @@ ghost use Rattle.clause_arena.specs.Clauses.{IsLive, lits_of};
 ghost use Rattle.index_ring.specs.Lists.{IsRings, Stands, list_of, without};
 ghost use Rattle.clause_rings.specs.Clauses.{IsDb};
 ghost use Rattle.clause_rings.specs.Keeping.{Keeps, seen, Advances, IsConflict};
-ghost use Rattle.clause_rings.specs.Attaching.{AreRanked, IsReordered, IsAttached, IsForced, IsAlone, HasSecond, IsLinkable, IsLinked};
+ghost use Rattle.clause_rings.specs.Attaching.{AreRanked, IsReordered, IsAttached, IsForced, IsAlone, HasSecond};
+ghost use Rattle.clause_rings.specs.Attaching.{IsLinkable, IsLinked};
 
 use crate::looks::best_place;
 use crate::watches::{Watches, is_false};
@@ -108,7 +110,8 @@ fn attach(watches: &mut Watches, c: u32) -> bool
     false
 }
 
-/// Lets each clause that waits be watched, and answers one that is false. It takes time for each literal of those that waited.
+/// Lets each clause that waits be watched, and answers one that is false. It takes time for each literal of those that
+/// waited.
 pub fn attach_all(watches: &mut Watches) -> Option<u32>
     requires kept { Keeps watches.old }
     ensures kept { Keeps watches.new }

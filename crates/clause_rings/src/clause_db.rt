@@ -1,13 +1,17 @@
 //! The clause store of a search: clauses by reference, the literals that are true, and complete propagation.
 
-ghost use Rattle.std.specs.Prelude.{◌≡◌, ◌≢◌, ◌+◌, ◌^◌, ◌<◌, ◌≤◌, ℕ, Some, None, false, length, Contains, IfOk, OnOk, OnErr, IfSome, IfNone, MatchOption, IsNone, IsTrue, ◌↔◌};
+ghost use Rattle.std.specs.Prelude.{◌≡◌, ◌≢◌, ◌+◌, ◌^◌, ◌<◌, ◌≤◌, ℕ, Some, None, false};
+ghost use Rattle.std.specs.Prelude.{length, Contains, IfOk, OnOk, OnErr, IfSome, IfNone, MatchOption, IsNone, IsTrue};
+ghost use Rattle.std.specs.Prelude.{◌↔◌};
 ghost use Rattle.std.specs.Option.{OnSome};
 ghost use Rattle.order_ints.specs.declared.literal.Lit.{Lit};
 ghost use Rattle.order_ints.specs.Place.{LitBelow, InRange};
-ghost use Rattle.literal_trail.specs.Trail.{entry_at, entry_of, value_in, truth_in, level_in, reason_in, up_to, cut_back, empty_trail};
+ghost use Rattle.literal_trail.specs.Trail.{entry_at, entry_of, value_in, truth_in, level_in, reason_in, up_to};
+ghost use Rattle.literal_trail.specs.Trail.{cut_back, empty_trail};
 ghost use Rattle.literal_trail.specs.Standing.{IsUnit, IsFalse};
 ghost use Rattle.clause_arena.specs.Clauses.{clause_at, IsLive, lits_of, lit_in};
-ghost use Rattle.clause_rings.specs.Clauses.{IsDb, IsApart, IsComplete, SameClauses, Follows, MayCome, AreApartIn, HoldsCnf, HasRoomMore, IsUnused, with_clause, without_clause, assigned};
+ghost use Rattle.clause_rings.specs.Clauses.{IsDb, IsApart, IsComplete, SameClauses, Follows, MayCome, AreApartIn};
+ghost use Rattle.clause_rings.specs.Clauses.{HoldsCnf, HasRoomMore, IsUnused, with_clause, without_clause, assigned};
 
 use crate::propagate::propagate;
 use crate::watches::Watches;
@@ -21,8 +25,8 @@ use std::marker::Model;
 /// The reference of a clause. It stays until the clause is deleted, and may then be that of another one.
 pub type ClauseRef = u32;
 
-/// Clauses with ids, a trail with levels and reasons, and watches. At each moment, and for each level below the current one, no
-/// live clause is false or unit under the trail's prefix of that level.
+/// Clauses with ids, a trail with levels and reasons, and watches. At each moment, and for each level below the current
+/// one, no live clause is false or unit under the trail's prefix of that level.
 #[derive(Debug, Drop)]
 pub struct ClauseDb {
     watches: Watches,
@@ -54,8 +58,8 @@ impl ClauseDb {
         })
     }
 
-    /// Makes room for so many literals and clauses to come, so that `add` takes no memory. Deleted clauses give theirs. Where the
-    /// references would not fit, it is as if memory were wanting.
+    /// Makes room for so many literals and clauses to come, so that `add` takes no memory. Deleted clauses give theirs.
+    /// Where the references would not fit, it is as if memory were wanting.
     pub fn reserve(&mut self, literals: usize, clauses: usize) -> Result<(), AllocError>
         ensures lits { OnOk result (literals ≤ self.new.spare_lits) }
         ensures room { OnOk result (clauses ≤ self.new.spare_clauses) }
@@ -81,8 +85,8 @@ impl ClauseDb {
         moves::add(&mut self.watches, lits, id)
     }
 
-    /// Makes a literal true at the current level, for a clause that is unit for it, or begins a level with it. It takes constant time
-    /// where propagation is complete, and no memory.
+    /// Makes a literal true at the current level, for a clause that is unit for it, or begins a level with it. It takes
+    /// constant time where propagation is complete, and no memory.
     pub fn assign(&mut self, l: Lit, reason: Option<ClauseRef>)
         requires lit { LitBelow (self.old.trail.vars + 1) l }
         requires free { entry_of self.old.trail.entries l.var ≡ None }
@@ -94,9 +98,9 @@ impl ClauseDb {
         moves::assign(&mut self.watches, l, reason);
     }
 
-    /// Makes each literal true for which a clause is unit, and goes on until no clause is false or unit, or one is false, which is
-    /// answered. Only literals of clauses change places. It takes time for each clause that watches what has become false, and no
-    /// memory.
+    /// Makes each literal true for which a clause is unit, and goes on until no clause is false or unit, or one is
+    /// false, which is answered. Only literals of clauses change places. It takes time for each clause that watches
+    /// what has become false, and no memory.
     pub fn propagate(&mut self) -> Option<ClauseRef>
         ensures clauses { SameClauses self.old.clauses self.new.clauses }
         ensures trail { Follows self.new.clauses self.old.trail self.new.trail }

@@ -1,6 +1,7 @@
 //! Looking at the literals of a clause.
 
-ghost use Rattle.std.specs.Prelude.{◌≡◌, ◌≢◌, ◌<◌, ◌≤◌, ℕ, Some, false, length, MatchOption, Contains};
+ghost use Rattle.std.specs.Prelude.{◌≡◌, ◌≢◌, ◌<◌, ◌≤◌, ℕ, Some, false, length, MatchOption};
+ghost use Rattle.std.specs.Prelude.{Contains};
 ghost use Rattle.order_ints.specs.declared.literal.Lit.{Lit};
 ghost use Rattle.literal_trail.specs.Trail.{truth_in};
 ghost use Rattle.clause_arena.specs.Clauses.{lit_in};

@@ -1,6 +1,7 @@
 //! The moves of a search that are no propagation: an assignment, a jump back, a clause that comes or goes, more room.
 
-ghost use Rattle.std.specs.Prelude.{◌≡◌, ◌≢◌, ◌+◌, ◌*◌, ◌^◌, ◌<◌, ◌≤◌, ℕ, None, false, length, Contains, MatchOption, vec_len};
+ghost use Rattle.std.specs.Prelude.{◌≡◌, ◌≢◌, ◌+◌, ◌*◌, ◌^◌, ◌<◌, ◌≤◌, ℕ, None};
+ghost use Rattle.std.specs.Prelude.{false, length, Contains, MatchOption, vec_len};
 ghost use Rattle.std.specs.List.{All};
 ghost use Rattle.order_ints.specs.declared.literal.Lit.{Lit};
 ghost use Rattle.order_ints.specs.Place.{LitBelow};
@@ -61,8 +62,8 @@ fn park_ring(watches: &mut Watches)
     }
 }
 
-/// Lets each clause wait that watches a literal which has become false and is not worked off. Where propagation is complete, there is
-/// none.
+/// Lets each clause wait that watches a literal which has become false and is not worked off. Where propagation is
+/// complete, there is none.
 fn park_all(watches: &mut Watches)
     requires kept { Keeps watches.old }
     ensures kept { Keeps watches.new }
@@ -82,7 +83,8 @@ pub fn assign(watches: &mut Watches, l: Lit, reason: Option<u32>)
     requires lit { LitBelow (watches.old.trail.vars + 1) l }
     requires free { entry_of watches.old.trail.entries l.var ≡ None }
     requires reason { MatchOption reason (IsComplete watches.old.trail.entries watches.old.arena.clauses)
-        (λ c. IsLive watches.old.arena.clauses c × IsUnit watches.old.trail.entries (lits_of watches.old.arena.clauses c) l) }
+        (λ c. IsLive watches.old.arena.clauses c
+        × IsUnit watches.old.trail.entries (lits_of watches.old.arena.clauses c) l) }
     ensures kept { Keeps watches.new }
     ensures arena { watches.new.arena ≡ watches.old.arena }
     ensures trail { watches.new.trail ≡ assigned watches.old.trail l reason }

@@ -1,6 +1,7 @@
 //! Room for literals and clauses, and the clauses of a CNF.
 
-ghost use Rattle.std.specs.Prelude.{◌≡◌, ◌≢◌, ◌+◌, ◌*◌, ◌^◌, ◌<◌, ◌≤◌, ◌++◌, ℕ, max, replicate, length, Contains, IfOk, OnOk, OnErr, vec_len, vec_capacity};
+ghost use Rattle.std.specs.Prelude.{◌≡◌, ◌≢◌, ◌+◌, ◌*◌, ◌^◌, ◌<◌, ◌≤◌, ◌++◌, ℕ};
+ghost use Rattle.std.specs.Prelude.{max, replicate, length, Contains, IfOk, OnOk, OnErr, vec_len, vec_capacity};
 ghost use Rattle.order_ints.specs.declared.literal.Lit.{Lit};
 ghost use Rattle.order_ints.specs.Place.{LitBelow, InRange};
 ghost use Rattle.literal_trail.specs.Trail.{empty_trail};
@@ -55,7 +56,8 @@ fn make_nodes(rings: &mut Rings, nodes: u32) -> Result<(), AllocError>
     rings.grow(0, more)
 }
 
-/// Makes room for literals and clauses to come. Nodes and blockers come before the references, and stay where these are refused.
+/// Makes room for literals and clauses to come. Nodes and blockers come before the references, and stay where these are
+/// refused.
 pub fn reserve(watches: &mut Watches, literals: usize, clauses: usize) -> Result<(), AllocError>
     requires kept { Keeps watches.old }
     ensures kept { Keeps watches.new }

@@ -1,12 +1,15 @@
-//! Propagation: the clauses that watch a literal which has become false are looked at, each by the node that stands for the watch.
-//! A blocker, a literal of the clause that is kept beside the node, spares the look where it is true: as in MiniSat (Niklas
-//! Sörensson and Niklas Eén), and for longer clauses by Geoffrey Chu, Aaron Harwood and Peter Stuckey (2008).
+//! Propagation: the clauses that watch a literal which has become false are looked at, each by the node that stands for
+//! the watch. A blocker, a literal of the clause that is kept beside the node, spares the look where it is true: as in
+//! MiniSat (Niklas Sörensson and Niklas Eén), and for longer clauses by Geoffrey Chu, Aaron Harwood and Peter Stuckey
+//! (2008).
 
-ghost use Rattle.std.specs.Prelude.{◌≡◌, ◌+◌, ◌/◌, ◌<◌, length, slice_index, IfSome, IfNone, IsTrue, Some, true, ◌↔◌, ◌≤◌};
+ghost use Rattle.std.specs.Prelude.{◌≡◌, ◌+◌, ◌/◌, ◌<◌, length, slice_index, IfSome, IfNone, IsTrue};
+ghost use Rattle.std.specs.Prelude.{Some, true, ◌↔◌, ◌≤◌};
 ghost use Rattle.std.specs.Bool.{OnTrue, OnFalse};
 ghost use Rattle.literal_trail.specs.Trail.{truth_in};
 ghost use Rattle.index_ring.specs.Lists.{Stands};
-ghost use Rattle.clause_rings.specs.Keeping.{Keeps, seen, Advances, head_ring, IsConflict, IsVisited, AreMet, IsBlocker};
+ghost use Rattle.clause_rings.specs.Keeping.{Keeps, seen, Advances, head_ring, IsConflict, IsVisited, AreMet};
+ghost use Rattle.clause_rings.specs.Keeping.{IsBlocker};
 
 use crate::looks::{Look, look_at};
 use crate::watches::{Watches, rewatch};
@@ -14,8 +17,9 @@ use clause_arena::{code_of, lit_of};
 use literal_trail::LiteralTrail;
 use order_ints::Lit;
 
-/// Looks at the clause of a node whose watched literal the entry at the head makes false, and tells whether each literal is false.
-/// Else the watch moves to another literal, or the other watched literal is true, perhaps by this clause.
+/// Looks at the clause of a node whose watched literal the entry at the head makes false, and tells whether each
+/// literal is false. Else the watch moves to another literal, or the other watched literal is true, perhaps by this
+/// clause.
 fn look(watches: &mut Watches, node: u32) -> bool
     requires kept { Keeps watches.old }
     requires head { watches.old.head < length watches.old.trail.entries }
@@ -87,8 +91,8 @@ fn meet(watches: &mut Watches, node: u32, blocker: u32) -> bool
     look(watches, node)
 }
 
-/// Looks at each clause that watches the literal which the entry at the head makes false, and answers one that is false. The next
-/// node and its blocker are loaded before this one is worked on.
+/// Looks at each clause that watches the literal which the entry at the head makes false, and answers one that is
+/// false. The next node and its blocker are loaded before this one is worked on.
 pub fn walk(watches: &mut Watches) -> Option<u32>
     requires kept { Keeps watches.old }
     requires head { watches.old.head < length watches.old.trail.entries }

@@ -1,12 +1,13 @@
 //! What a clause store keeps, and how a watch moves.
 //!
-//! Each clause of two or more literals is watched by its first two: as long as neither is false, the clause is neither false nor
-//! unit, and nothing has to be done for it. Only where a watched literal becomes false is the clause looked at, and a jump back
-//! changes no watch. The two watched literals are those of Matthew Moskewicz, Conor Madigan, Ying Zhao, Lintao Zhang and Sharad
-//! Malik (Chaff, 2001). The clauses that watch a literal are a ring of nodes, two for each clause, so that a watch moves, and a
-//! clause comes and goes, in constant time and without memory.
+//! Each clause of two or more literals is watched by its first two: as long as neither is false, the clause is neither
+//! false nor unit, and nothing has to be done for it. Only where a watched literal becomes false is the clause looked
+//! at, and a jump back changes no watch. The two watched literals are those of Matthew Moskewicz, Conor Madigan, Ying
+//! Zhao, Lintao Zhang and Sharad Malik (Chaff, 2001). The clauses that watch a literal are a ring of nodes, two for
+//! each clause, so that a watch moves, and a clause comes and goes, in constant time and without memory.
 
-ghost use Rattle.std.specs.Prelude.{◌≡◌, ◌+◌, ◌*◌, ◌<◌, ◌≤◌, ◌^◌, ◌↔◌, IsTrue, Some, false, length};
+ghost use Rattle.std.specs.Prelude.{◌≡◌, ◌+◌, ◌*◌, ◌<◌, ◌≤◌, ◌^◌, ◌↔◌, IsTrue, Some};
+ghost use Rattle.std.specs.Prelude.{false, length};
 ghost use Rattle.order_ints.specs.Place.{LitBelow};
 ghost use Rattle.literal_trail.specs.Trail.{truth_in};
 ghost use Rattle.clause_arena.specs.Clauses.{IsLive, swapped, lits_of, lit_in};
@@ -18,7 +19,8 @@ use index_ring::Rings;
 use literal_trail::LiteralTrail;
 use order_ints::Lit;
 
-/// The clauses, the trail, the rings of watches, a blocker for each node, and how many entries of the trail are worked off.
+/// The clauses, the trail, the rings of watches, a blocker for each node, and how many entries of the trail are worked
+/// off.
 #[derive(Debug, Drop)]
 pub struct Watches {
     /// The clauses.
@@ -41,8 +43,8 @@ pub fn is_false(trail: &LiteralTrail, l: Lit) -> bool
     matches!(trail.truth(l), Some(false))
 }
 
-/// Lets a clause watch the literal at another place: the two literals change places, and the node goes to the end of the ring of
-/// the new one.
+/// Lets a clause watch the literal at another place: the two literals change places, and the node goes to the end of
+/// the ring of the new one.
 pub fn rewatch(arena: &mut ClauseArena, rings: &mut Rings, c: u32, place: u32, other: u32)
     requires made { IsRings rings.old }
     requires live { IsLive arena.old.clauses c }
@@ -55,7 +57,8 @@ pub fn rewatch(arena: &mut ClauseArena, rings: &mut Rings, c: u32, place: u32, o
     requires node_small { 2 * c + place < rings.old.nodes }
     ensures arena { arena.new ≡ swapped arena.old c place other }
     ensures rings { rings.new
-        ≡ pushed_back (unlinked rings.old (2 * c + place)) (code_of (lit_in (lits_of arena.old.clauses c) other)) (2 * c + place) }
+        ≡ pushed_back (unlinked rings.old (2 * c + place)) (code_of (lit_in (lits_of arena.old.clauses c) other))
+        (2 * c + place) }
     ensures made { IsRings rings.new }
 {
     let l = arena.lit_at(c, other);

@@ -18,8 +18,8 @@ use std::marker::Brand;
 use std::sync::ledger::{Blank, Ledger};
 use typed_model::{Model, check_types, in_limits};
 
-/// A model, and what it is compiled to: the numbers of names, of variables and of cores, the clauses, each with 0 behind
-/// it, and the steps.
+/// A model, and what it is compiled to: the numbers of names, of variables and of cores, the clauses, each with 0
+/// behind it, and the steps.
 type Row = (&'static str, &'static str);
 
 /// By the order of integers, the form of cores, and truth tables.

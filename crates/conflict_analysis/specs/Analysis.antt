@@ -7,8 +7,8 @@ use Rattle.literal_trail.specs.Trail.{Trail, entry_of}
 use Rattle.proof_check.specs.Named.{Named}
 use Rattle.conflict_analysis.specs.Learned.{Step, IsLearned, AreKept, IsFalseAt, hints_of}
 
--- the clause and its hints, the level to jump back to, how many levels the clause has, and the variables that were seen;
--- `vars` is the number of variables that there is room for
+-- the clause and its hints, the level to jump back to, how many levels the clause has, and the variables that were
+-- seen; `vars` is the number of variables that there is room for
 pub record Analysis : Type 0 where
   pub vars : ℕ
   pub lits : List Lit
@@ -33,7 +33,8 @@ abbrev pub IsFalseAtBottom : List Entry → List Lit → Type 0
 IsFalseAtBottom entries lits = (l : Lit) → Contains lits l → IsFalseAt entries 0 l
 
 -- a clause of no literal, or of one that level 0 has, is refuted by hints that resolve everything else
-pub record IsRefuted (t : Trail) (named : ℕ → Named) (conflict : Named) (lits : List Lit) (found : Analysis) : Type 0 where
+pub record IsRefuted (t : Trail) (named : ℕ → Named) (conflict : Named) (lits : List Lit) (found : Analysis)
+    : Type 0 where
   pub steps : List Step
   pub learned : IsLearned t.entries named conflict steps lits
   pub told : found.hints ≡ hints_of steps conflict

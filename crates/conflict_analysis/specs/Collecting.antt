@@ -1,5 +1,6 @@
 -- What is left of the marks is the clause.
-use Rattle.std.specs.Prelude.{◌≡◌, ◌≢◌, ◌⊎◌, ℕ, ◌<◌, ◌≤◌, List, ◌∷◌, length, slice_index}
+use Rattle.std.specs.Prelude.{◌≡◌, ◌≢◌, ◌⊎◌, ℕ, ◌<◌, ◌≤◌, List, ◌∷◌, length}
+use Rattle.std.specs.Prelude.{slice_index}
 use Rattle.std.specs.List.{Contains}
 use Rattle.order_ints.specs.declared.literal.Lit.{Lit}
 use Rattle.order_ints.specs.Truth.{not_lit}
@@ -38,13 +39,16 @@ pub record IsCollected (t : Trail) (cells : List Mark) (first : Lit) (lits : Lis
   pub all : (v : ℕ) → mark_at cells v ≡ Met → Contains lits (not_lit (the_entry t.entries v).lit)
 
 -- the literals of what was looked at: the first, the best, and those of a front of a list
-pub record IsCollecting (t : Trail) (cells : List Mark) (first : Lit) (best jump : ℕ) (touched : List ℕ) (k : ℕ) (lits : List Lit) : Type 0 where
+pub record IsCollecting (t : Trail) (cells : List Mark) (first : Lit) (best jump : ℕ) (touched : List ℕ) (k : ℕ)
+    (lits : List Lit) : Type 0 where
   pub others : List Lit
   pub shape : lits ≡ first ∷ others
   pub second : IsSecond t.entries jump others
   pub lower : (l : Lit) → Contains others l → IsFalseUpTo t.entries jump l
   pub differ : VarsDiffer lits
   pub met : (l : Lit) → Contains lits l → mark_at cells l.var ≡ Met
-  pub among : (l : Lit) → Contains lits l → (l.var ≡ first.var) ⊎ (l.var ≡ best) ⊎ ((i : ℕ) × (i < k) × (slice_index touched i ≡ l.var))
+  pub among : (l : Lit) → Contains lits l → (l.var ≡ first.var) ⊎ (l.var ≡ best)
+      ⊎ ((i : ℕ) × (i < k) × (slice_index touched i ≡ l.var))
   pub farther : 0 < jump → Contains lits (not_lit (the_entry t.entries best).lit)
-  pub done : (i : ℕ) → i < k → mark_at cells (slice_index touched i) ≡ Met → Contains lits (not_lit (the_entry t.entries (slice_index touched i)).lit)
+  pub done : (i : ℕ) → i < k → mark_at cells (slice_index touched i) ≡ Met
+      → Contains lits (not_lit (the_entry t.entries (slice_index touched i)).lit)

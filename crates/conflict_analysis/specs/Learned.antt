@@ -1,5 +1,7 @@
--- What a learned clause is, and what its hints are: resolved literals with their reasons, in an order in which each reason is unit when its turn comes.
-use Rattle.std.specs.Prelude.{◌≡◌, ◌⊎◌, ℕ, ◌<◌, ◌≤◌, false, List, [], ◌∷◌, ◌++◌, map, Some}
+-- What a learned clause is, and what its hints are: resolved literals with their reasons, in an order in which each
+-- reason is unit when its turn comes.
+use Rattle.std.specs.Prelude.{◌≡◌, ◌⊎◌, ℕ, ◌<◌, ◌≤◌, false, List, [], ◌∷◌, ◌++◌, map}
+use Rattle.std.specs.Prelude.{Some}
 use Rattle.std.specs.List.{Contains}
 use Rattle.order_ints.specs.declared.literal.Lit.{Lit}
 use Rattle.order_ints.specs.Truth.{not_lit}
@@ -19,7 +21,8 @@ pub record Leads (known : Lit → Type 0) (s : Step) : Type 0 where
   pub has : Contains s.reason.lits s.lit
   pub others : (l : Lit) → Contains s.reason.lits l → (l ≡ s.lit) ⊎ known l
 
--- from literals that are known to be false each reason in its turn gives its literal, and then all literals of the conflict are false
+-- from literals that are known to be false each reason in its turn gives its literal, and then all literals of the
+-- conflict are false
 abbrev pub Derives : (Lit → Type 0) → List Step → List Lit → Type 0
 Derives known [] conflict = (l : Lit) → Contains conflict l → known l
 Derives known (s ∷ steps) conflict = Leads known s × Derives (λ l. known l ⊎ (l ≡ not_lit s.lit)) steps conflict
@@ -42,7 +45,8 @@ pub record IsStep (entries : List Entry) (named : ℕ → Named) (s : Step) : Ty
   pub names : named reference ≡ s.reason
 
 -- a clause that follows from the conflict and from the reasons of resolved literals, none of whose variables it has
-pub record IsLearned (entries : List Entry) (named : ℕ → Named) (conflict : Named) (steps : List Step) (learned : List Lit) : Type 0 where
+pub record IsLearned (entries : List Entry) (named : ℕ
+    → Named) (conflict : Named) (steps : List Step) (learned : List Lit) : Type 0 where
   pub of_trail : (s : Step) → Contains steps s → IsStep entries named s
   pub derives : Derives (Contains learned) steps conflict.lits
   pub differ : VarsDiffer learned
@@ -66,7 +70,8 @@ abbrev pub IsSecond : List Entry → ℕ → List Lit → Type 0
 IsSecond entries jump [] = jump ≡ 0
 IsSecond entries jump (l ∷ others) = IsFalseAt entries jump l
 
--- what a learned clause keeps: first a literal of the current level, then literals of levels between it and 0, one of the greatest first
+-- what a learned clause keeps: first a literal of the current level, then literals of levels between it and 0, one of
+-- the greatest first
 pub record AreKept (entries : List Entry) (current : ℕ) (first : Lit) (others : List Lit) (jump : ℕ) : Type 0 where
   pub now : IsFalseAt entries current first
   pub lower : (l : Lit) → Contains others l → IsFalseUpTo entries jump l

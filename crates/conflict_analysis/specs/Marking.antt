@@ -1,8 +1,10 @@
 -- Marks of variables or of levels, and the list of those that have one.
-use Rattle.std.specs.Prelude.{◌≡◌, ◌≢◌, ℕ, ◌<◌, Bool, true, false, List, length, slice_index, slice_index_or}
+use Rattle.std.specs.Prelude.{◌≡◌, ◌≢◌, ℕ, ◌<◌, Bool, true, false, List, length, slice_index}
+use Rattle.std.specs.Prelude.{slice_index_or}
 use Rattle.std.specs.List.{Contains, All}
 use Rattle.conflict_analysis.specs.declared.marks.Mark.{Mark}
-use Rattle.conflict_analysis.specs.declared.marks.Mark.TheVariants.{Blank, Met, Resolved, Entered, Kept, Failed, Implied}
+use Rattle.conflict_analysis.specs.declared.marks.Mark.TheVariants.{Blank, Met, Resolved, Entered, Kept, Failed}
+use Rattle.conflict_analysis.specs.declared.marks.Mark.TheVariants.{Implied}
 
 -- the mark of a number; none past the end
 abbrev pub mark_at : List Mark → ℕ → Mark

@@ -1,5 +1,6 @@
 -- A trail whose reasons are clauses under ids.
-use Rattle.std.specs.Prelude.{◌≡◌, ◌==◌, ℕ, suc, ◌<◌, List, [], ◌∷◌, length, take, Option, None, Some, unwrap_or, if◌then◌else◌}
+use Rattle.std.specs.Prelude.{◌≡◌, ◌==◌, ℕ, suc, ◌<◌, List, [], ◌∷◌, length, take, Option, None}
+use Rattle.std.specs.Prelude.{Some, unwrap_or, if◌then◌else◌}
 use Rattle.literal_trail.specs.declared.entry.Entry.{Entry}
 use Rattle.literal_trail.specs.Trail.{no_entry, entry_at, entry_of}
 use Rattle.literal_trail.specs.Standing.{IsUnit}
@@ -33,7 +34,8 @@ reason_at named entries v = named_by named (the_entry entries v).reason
 -- each reason lives, and was unit for its literal when that became true
 pub record AreReasons (entries : List Entry) (named : ℕ → Named) (lives : ℕ → Type 0) : Type 0 where
   pub live : (j c : ℕ) → j < length entries → (entry_at entries j).reason ≡ Some c → lives c
-  pub unit : (j c : ℕ) → j < length entries → (entry_at entries j).reason ≡ Some c → IsUnit (take j entries) (named c).lits (entry_at entries j).lit
+  pub unit : (j c : ℕ) → j < length entries → (entry_at entries j).reason ≡ Some c
+      → IsUnit (take j entries) (named c).lits (entry_at entries j).lit
 
 -- the variable was made true by a clause that lives
 pub record HasReason (entries : List Entry) (lives : ℕ → Type 0) (v : ℕ) : Type 0 where

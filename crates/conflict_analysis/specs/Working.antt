@@ -23,10 +23,12 @@ pub record IsWork (w : Work) : Type 0 where
 
 -- marks of the walk
 abbrev pub AreWalked : List Mark → Type 0
-AreWalked cells = (v : ℕ) → (mark_at cells v ≡ Blank) ⊎ (mark_at cells v ≡ Met) ⊎ (mark_at cells v ≡ Resolved)
+AreWalked cells = (v : ℕ) → (mark_at cells v ≡ Blank) ⊎ (mark_at cells v ≡ Met)
+    ⊎ (mark_at cells v ≡ Resolved)
 
 -- all is resolved that is to be, and the hints stand in their order
-pub record IsDerived (entries : List Entry) (named : ℕ → Named) (spare : List Lit) (bound : ℕ) (conflict : Named) (cells : List Mark) (hints : List ℕ) : Type 0 where
+pub record IsDerived (entries : List Entry) (named : ℕ
+    → Named) (spare : List Lit) (bound : ℕ) (conflict : Named) (cells : List Mark) (hints : List ℕ) : Type 0 where
   pub steps : List Step
   pub told : hints ≡ hints_of steps conflict
   pub derives : Derives (Known entries spare cells) steps conflict.lits
@@ -40,13 +42,16 @@ abbrev pub AreFewer : List Entry → List Mark → List Mark → Type 0
 AreFewer entries old new = (v : ℕ) → mark_at new v ≡ Met → (mark_at old v ≡ Met) × (1 ≤ level_at entries v)
 
 -- all that is implied is resolved, and what was to stay is met
-pub record IsEnded (entries : List Entry) (named : ℕ → Named) (spare : List Lit) (bound : ℕ) (conflict : Named) (cells minimiser new : List Mark) (hints : List ℕ) : Type 0 where
+pub record IsEnded (entries : List Entry) (named : ℕ
+    → Named) (spare : List Lit) (bound : ℕ) (conflict : Named) (cells minimiser new : List Mark) (hints : List ℕ)
+    : Type 0 where
   pub derived : IsDerived entries named spare bound conflict new hints
   pub fewer : AreFewer entries cells new
   pub kept : (v : ℕ) → mark_at minimiser v ≡ Kept → mark_at new v ≡ Met
 
 -- the literals of the clause are met
-pub record IsLearning (t : Trail) (named : ℕ → Named) (conflict : Named) (cells : List Mark) (hints : List ℕ) (first : Lit) : Type 0 where
+pub record IsLearning (t : Trail) (named : ℕ →
+    Named) (conflict : Named) (cells : List Mark) (hints : List ℕ) (first : Lit) : Type 0 where
   pub derived : IsDerived t.entries named [] (length t.entries) conflict cells hints
   pub left : IsLeft t cells first.var
   pub is_false : truth_in t.entries first ≡ Some false
@@ -54,7 +59,8 @@ pub record IsLearning (t : Trail) (named : ℕ → Named) (conflict : Named) (ce
 
 -- the literals of a clause are false at level 0, but those of one variable
 abbrev pub IsBottom : List Entry → ℕ → List Lit → Type 0
-IsBottom entries over lits = (l : Lit) → Contains lits l → l.var ≢ over → (truth_in entries l ≡ Some false) × (level_in entries l.var ≡ Some 0)
+IsBottom entries over lits = (l : Lit) → Contains lits l → l.var ≢ over → (truth_in entries l ≡ Some false)
+    × (level_in entries l.var ≡ Some 0)
 
 -- the literals of one variable are spared, and those of the others stand before a bound
 pub record IsSpared (entries : List Entry) (spare : List Lit) (bound over : ℕ) (lits : List Lit) : Type 0 where

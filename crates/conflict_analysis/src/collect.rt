@@ -1,6 +1,7 @@
 //! The learned clause: what is met still, first the literal of the current level, then one of the greatest other level.
 
-ghost use Rattle.std.specs.Prelude.{◌≡◌, ◌≢◌, ◌+◌, ◌<◌, ◌≤◌, ◌++◌, ◌∷◌, [], length, OnOk, IfOk};
+ghost use Rattle.std.specs.Prelude.{◌≡◌, ◌≢◌, ◌+◌, ◌<◌, ◌≤◌, ◌++◌, ◌∷◌, [], length};
+ghost use Rattle.std.specs.Prelude.{OnOk, IfOk};
 ghost use Rattle.std.specs.List.{All};
 ghost use Rattle.order_ints.specs.Truth.{not_lit};
 ghost use Rattle.literal_trail.specs.Trail.{IsTrail};

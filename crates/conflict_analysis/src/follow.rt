@@ -25,7 +25,8 @@ pub fn follow<T: Reasons>(
     requires trail { IsTrail (T.trail source.now) }
     requires reasons { AreReasons (T.trail source.now).entries (T.named source.now) (T.lives source.now) }
     requires size { length marks.old.cells ≡ (T.trail source.now).vars + 1 }
-    requires ordered { AreOrdered (T.trail source.now).entries (T.named source.now) marks.old.cells minimiser.now.cells order.now }
+    requires ordered { AreOrdered (T.trail source.now).entries (T.named source.now) marks.old.cells minimiser.now.cells
+        order.now }
     ensures followed { OnOk result ((spare : List Lit) (bound : ℕ) (conflict : Named) →
         IsFollowing (T.trail source.now).entries (T.named source.now) spare bound conflict minimiser.now.cells order.now marks.old.cells hints.old.items (length order.now) →
         IsFollowing (T.trail source.now).entries (T.named source.now) spare bound conflict minimiser.now.cells order.now marks.new.cells hints.new.items 0) }

@@ -3,7 +3,8 @@
 //! An analysis marks some variables of many, so what it marks is listed, and the next one clears the list
 //! (as the conflict analysis of MiniSat does, Eén and Sörensson, 2003).
 
-ghost use Rattle.std.specs.Prelude.{◌≡◌, ◌≢◌, ◌+◌, ◌<◌, length, replicate, slice_set, IfOk, OnOk, OnErr};
+ghost use Rattle.std.specs.Prelude.{◌≡◌, ◌≢◌, ◌+◌, ◌<◌, length, replicate, slice_set, IfOk, OnOk};
+ghost use Rattle.std.specs.Prelude.{OnErr};
 ghost use Rattle.conflict_analysis.specs.Marking.{mark_at, is_blank, is_met, IsTouched, is_covered_mark};
 
 use std::alloc::{AllocError, Global};

@@ -1,6 +1,7 @@
 //! Resolving a variable with its reason, and marking the variables of a clause.
 
-ghost use Rattle.std.specs.Prelude.{◌≡◌, ◌+◌, ◌<◌, ◌≤◌, ◌++◌, ◌∷◌, [], length, slice_set, IfOk, OnOk};
+ghost use Rattle.std.specs.Prelude.{◌≡◌, ◌+◌, ◌<◌, ◌≤◌, ◌++◌, ◌∷◌, [], length, slice_set};
+ghost use Rattle.std.specs.Prelude.{IfOk, OnOk};
 ghost use Rattle.std.specs.List.{All};
 ghost use Rattle.conflict_analysis.specs.Reasons.{reason_at, HasReason};
 ghost use Rattle.conflict_analysis.specs.Walking.{met_by, met_one, counts, counts_one, resolved_by};
@@ -46,7 +47,8 @@ pub fn meet<T: Reasons>(
     requires inside { All (λ l. l.var < length marks.old.cells) (T.named source.now clause).lits }
     requires size { length marks.old.cells ≡ (T.trail source.now).vars + 1 }
     ensures marks { OnOk result (marks.new.cells ≡ met_by marks.old.cells over (T.named source.now clause).lits) }
-    ensures count { IfOk result (λ n. n ≡ counts (T.trail source.now).entries level marks.old.cells over (T.named source.now clause).lits) }
+    ensures count { IfOk result
+        (λ n. n ≡ counts (T.trail source.now).entries level marks.old.cells over (T.named source.now clause).lits) }
     ensures size { length marks.new.cells ≡ length marks.old.cells }
 {
     let mut count = 0;
@@ -67,11 +69,17 @@ pub fn resolve<T: Reasons>(
 ) -> Result<u32, AllocError>
     requires inside { var < length marks.old.cells }
     requires reason { HasReason (T.trail source.now).entries (T.lives source.now) var }
-    requires lits { All (λ l. l.var < length marks.old.cells) (reason_at (T.named source.now) (T.trail source.now).entries var).lits }
+    requires lits { All (λ l. l.var < length marks.old.cells)
+        (reason_at (T.named source.now) (T.trail source.now).entries var).lits }
     requires size { length marks.old.cells ≡ (T.trail source.now).vars + 1 }
-    ensures marks { OnOk result (marks.new.cells ≡ resolved_by marks.old.cells var (reason_at (T.named source.now) (T.trail source.now).entries var).lits) }
-    ensures hints { OnOk result (hints.new.items ≡ hints.old.items ++ (reason_at (T.named source.now) (T.trail source.now).entries var).id ∷ []) }
-    ensures count { IfOk result (λ n. n ≡ counts (T.trail source.now).entries level (slice_set marks.old.cells var Mark.Resolved) var (reason_at (T.named source.now) (T.trail source.now).entries var).lits) }
+    ensures marks { OnOk result
+        (marks.new.cells ≡ resolved_by marks.old.cells var
+        (reason_at (T.named source.now) (T.trail source.now).entries var).lits) }
+    ensures hints { OnOk result (hints.new.items ≡ hints.old.items
+        ++ (reason_at (T.named source.now) (T.trail source.now).entries var).id ∷ []) }
+    ensures count { IfOk result
+        (λ n. n ≡ counts (T.trail source.now).entries level (slice_set marks.old.cells var Mark.Resolved) var
+        (reason_at (T.named source.now) (T.trail source.now).entries var).lits) }
     ensures size { length marks.new.cells ≡ length marks.old.cells }
 {
     let clause = source.entry_of(var).unwrap().reason.unwrap();

@@ -4,13 +4,15 @@
 //! (minimisation of clauses: Sörensson and Biere, 2009). A variable fails where a decision is met, or a level
 //! that the clause doesn't have. Each variable's outcome is found once.
 
-ghost use Rattle.std.specs.Prelude.{◌≡◌, ◌≢◌, ℕ, ◌+◌, ◌<◌, ◌≤◌, ◌++◌, ◌∷◌, [], true, false, length, slice_set, replicate, OnOk, IfOk};
+ghost use Rattle.std.specs.Prelude.{◌≡◌, ◌≢◌, ℕ, ◌+◌, ◌<◌, ◌≤◌, ◌++◌, ◌∷◌, []};
+ghost use Rattle.std.specs.Prelude.{true, false, length, slice_set, replicate, OnOk, IfOk};
 ghost use Rattle.std.specs.List.{All};
 ghost use Rattle.literal_trail.specs.declared.entry.Entry.{Entry};
 ghost use Rattle.literal_trail.specs.Trail.{IsTrail, entry_of};
 ghost use Rattle.conflict_analysis.specs.Reasons.{AreReasons, reason_at};
 ghost use Rattle.conflict_analysis.specs.Marking.{mark_at};
-ghost use Rattle.conflict_analysis.specs.Seeking.{IsSeeking, StayMarked, StayKept, is_covered, lit_in, MayEnter, IsRoot, AreRoots, AllKnown, IsStepped, outcome_of};
+ghost use Rattle.conflict_analysis.specs.Seeking.{IsSeeking, StayMarked, StayKept, is_covered, lit_in, MayEnter};
+ghost use Rattle.conflict_analysis.specs.Seeking.{IsRoot, AreRoots, AllKnown, IsStepped, outcome_of};
 
 use crate::marks::{Mark, Marks};
 use crate::reasons::{Reasons, level_at};
@@ -58,8 +60,10 @@ fn first_uncovered<T: Reasons>(minimiser: &Marks, source: &T, clause: u32, frame
     requires vars { All (λ l. l.var < length minimiser.now.cells) (T.named source.now clause).lits }
     ensures from { frame.place ≤ result }
     ensures inside { result ≤ length (T.named source.now clause).lits }
-    ensures covered { (j : ℕ) → frame.place ≤ j → j < result → is_covered minimiser.now.cells frame.var (lit_in (T.named source.now clause).lits j).var ≡ true }
-    ensures stops { result < length (T.named source.now clause).lits → is_covered minimiser.now.cells frame.var (lit_in (T.named source.now clause).lits result).var ≡ false }
+    ensures covered { (j : ℕ) → frame.place ≤ j → j < result
+        → is_covered minimiser.now.cells frame.var (lit_in (T.named source.now clause).lits j).var ≡ true }
+    ensures stops { result < length (T.named source.now clause).lits
+        → is_covered minimiser.now.cells frame.var (lit_in (T.named source.now clause).lits result).var ≡ false }
 {
     for place in frame.place..source.size(clause) {
         let var = source.lit(clause, place).var;
@@ -84,7 +88,8 @@ fn may_enter<T: Reasons>(levels: &Marks, source: &T, var: u32) -> bool
     requires trail { IsTrail (T.trail source.now) }
     requires bottom { mark_at levels.now.cells 0 ≢ Mark.Blank }
     ensures yes { result ≡ true → MayEnter (T.trail source.now).entries var }
-    ensures no { result ≡ false → (e : Entry) → entry_of (T.trail source.now).entries var ≡ Some e → 1 ≤ e.level }
+    ensures no { result ≡ false → (e : Entry) → entry_of (T.trail source.now).entries var ≡ Some e
+        → 1 ≤ e.level }
 {
     match source.entry_of(var) {
         Some(entry) => entry.reason.is_some() && has_level(levels, entry.level),
@@ -143,7 +148,8 @@ impl Minimiser {
     fn give_up(&mut self, met: &Marks, var: u32) -> Result<(), AllocError>
         requires minimiser { var < length self.old.marks.cells }
         requires met { var < length met.now.cells }
-        ensures marks { OnOk result (self.new.marks.cells ≡ slice_set self.old.marks.cells var (outcome_of (mark_at met.now.cells var))) }
+        ensures marks { OnOk result (self.new.marks.cells
+            ≡ slice_set self.old.marks.cells var (outcome_of (mark_at met.now.cells var))) }
         ensures order { self.new.order.items ≡ self.old.order.items }
         ensures stack { self.new.stack.items ≡ self.old.stack.items }
         ensures size { length self.new.marks.cells ≡ length self.old.marks.cells }
@@ -161,7 +167,8 @@ impl Minimiser {
         requires { var < length self.old.marks.cells }
         ensures marks { OnOk result (self.new.marks.cells ≡ slice_set self.old.marks.cells var Mark.Entered) }
         ensures order { self.new.order.items ≡ self.old.order.items }
-        ensures stack { OnOk result (self.new.stack.items ≡ self.old.stack.items ++ record { var = var; place = 0 } ∷ []) }
+        ensures stack { OnOk result (self.new.stack.items ≡ self.old.stack.items ++ record { var = var; place = 0 }
+            ∷ []) }
         ensures size { length self.new.marks.cells ≡ length self.old.marks.cells }
     {
         self.stack.push(Frame { var, place: 0 })?;

@@ -118,7 +118,8 @@ impl Walker {
         requires level { level ≡ (T.trail source.now).level }
         requires above { 0 < level }
         requires vars { self.old.vars ≡ (T.trail source.now).vars }
-        ensures analysed { OnOk result (IsAnalysed (T.trail source.now) (T.named source.now) (T.named source.now conflict) self.new) }
+        ensures analysed { OnOk result
+            (IsAnalysed (T.trail source.now) (T.named source.now) (T.named source.now conflict) self.new) }
         ensures vars { self.new.vars ≡ self.old.vars }
     {
         self.lits.clear();
@@ -139,7 +140,8 @@ impl Walker {
         requires live { T.lives source.now conflict }
         requires conflict { IsFalseAtBottom (T.trail source.now).entries (T.named source.now conflict).lits }
         requires vars { self.old.vars ≡ (T.trail source.now).vars }
-        ensures refuted { OnOk result (IsRefuted (T.trail source.now) (T.named source.now) (T.named source.now conflict) [] self.new) }
+        ensures refuted { OnOk result
+            (IsRefuted (T.trail source.now) (T.named source.now) (T.named source.now conflict) [] self.new) }
         ensures vars { self.new.vars ≡ self.old.vars }
     {
         self.lits.clear();
@@ -156,9 +158,12 @@ impl Walker {
     ) -> Result<(), AllocError>
         requires trail { IsTrail (T.trail source.now) }
         requires reasons { AreReasons (T.trail source.now).entries (T.named source.now) (T.lives source.now) }
-        requires forced { (e : Entry) × IsForced (T.trail source.now).entries literal.var e reason × (e.lit ≡ literal) }
+        requires forced { (e : Entry) × IsForced (T.trail source.now).entries literal.var e reason
+            × (e.lit ≡ literal) }
         requires vars { self.old.vars ≡ (T.trail source.now).vars }
-        ensures refuted { OnOk result (IsRefuted (T.trail source.now) (T.named source.now) (T.named source.now reason) (literal ∷ []) self.new) }
+        ensures refuted { OnOk result
+            (IsRefuted (T.trail source.now) (T.named source.now) (T.named source.now reason) (literal ∷ [])
+            self.new) }
         ensures vars { self.new.vars ≡ self.old.vars }
     {
         self.lits.clear();

@@ -1,6 +1,7 @@
 //! The course of an analysis: the walk, what is implied, and the hints.
 
-ghost use Rattle.std.specs.Prelude.{◌≡◌, ◌≢◌, ◌+◌, ◌<◌, ◌≤◌, ◌∷◌, [], ℕ, List, length, replicate, reverse, OnOk, IfOk, OnErr};
+ghost use Rattle.std.specs.Prelude.{◌≡◌, ◌≢◌, ◌+◌, ◌<◌, ◌≤◌, ◌∷◌, [], ℕ, List};
+ghost use Rattle.std.specs.Prelude.{length, replicate, reverse, OnOk, IfOk, OnErr};
 ghost use Rattle.std.specs.List.{All};
 ghost use Rattle.order_ints.specs.declared.literal.Lit.{Lit};
 ghost use Rattle.literal_trail.specs.Trail.{IsTrail, level_in};
@@ -10,7 +11,8 @@ ghost use Rattle.conflict_analysis.specs.Marking.{mark_at};
 ghost use Rattle.conflict_analysis.specs.Learned.{IsConflict};
 ghost use Rattle.conflict_analysis.specs.Resolving.{IsResolving};
 ghost use Rattle.conflict_analysis.specs.Seeking.{IsSeeking, AreRoots};
-ghost use Rattle.conflict_analysis.specs.Working.{IsWork, AreWalked, IsDerived, IsEnded, IsLearning, IsSpared, IsBottom};
+ghost use Rattle.conflict_analysis.specs.Working.{IsWork, AreWalked, IsDerived, IsEnded, IsLearning, IsSpared};
+ghost use Rattle.conflict_analysis.specs.Working.{IsBottom};
 
 use crate::collect::mark_levels;
 use crate::follow::follow;
@@ -60,7 +62,8 @@ impl Work {
     fn clear(&mut self)
         ensures met { self.new.met.cells ≡ replicate (length self.old.met.cells) Mark.Blank }
         ensures levels { length self.new.levels.cells ≡ length self.old.levels.cells }
-        ensures minimiser { self.new.minimiser.marks.cells ≡ replicate (length self.old.minimiser.marks.cells) Mark.Blank }
+        ensures minimiser { self.new.minimiser.marks.cells
+            ≡ replicate (length self.old.minimiser.marks.cells) Mark.Blank }
         ensures stack { self.new.minimiser.stack.items ≡ [] }
         ensures order { self.new.minimiser.order.items ≡ [] }
     {
@@ -122,7 +125,8 @@ impl Work {
         requires above { 0 < level }
         requires work { IsWork self.old }
         requires size { length self.old.met.cells ≡ (T.trail source.now).vars + 1 }
-        ensures learning { IfOk result (λ first. IsLearning (T.trail source.now) (T.named source.now) (T.named source.now conflict)
+        ensures learning { IfOk result
+            (λ first. IsLearning (T.trail source.now) (T.named source.now) (T.named source.now conflict)
             self.new.met.cells hints.new.items first) }
         ensures seen { OnOk result (All (λ v. v ≤ (T.trail source.now).vars) seen.new.items) }
         ensures work { IsWork self.new }
@@ -153,7 +157,8 @@ impl Work {
         requires size { length self.old.met.cells ≡ (T.trail source.now).vars + 1 }
         requires over { over ≤ (T.trail source.now).vars }
         requires bottom { IsBottom (T.trail source.now).entries over (T.named source.now conflict).lits }
-        ensures derived { OnOk result ((spare : List Lit) (bound : ℕ) → IsSpared (T.trail source.now).entries spare bound over (T.named source.now conflict).lits →
+        ensures derived { OnOk result ((spare : List Lit) (bound : ℕ)
+            → IsSpared (T.trail source.now).entries spare bound over (T.named source.now conflict).lits →
             IsDerived (T.trail source.now).entries (T.named source.now) spare bound (T.named source.now conflict) self.new.met.cells hints.new.items) }
         ensures none { OnOk result ((v : ℕ) → mark_at self.new.met.cells v ≢ Mark.Met) }
         ensures work { IsWork self.new }

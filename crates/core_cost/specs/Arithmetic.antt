@@ -34,4 +34,5 @@ cost_of_prod n m c = 10 * pairs_of_values n m + cost_of_ladder n + cost_of_ladde
 
 -- A is B times Q and the remainder R
 abbrev pub cost_of_div_mod : ℕ → ℕ → ℕ → ℕ → ℕ
-cost_of_div_mod n m q r = 20 * pairs_of_values n m + cost_of_ladder n + cost_of_ladder m + cost_of_ladder q + cost_of_ladder r
+cost_of_div_mod n m q r = 20 * pairs_of_values n m + cost_of_ladder n + cost_of_ladder m + cost_of_ladder q
+    + cost_of_ladder r

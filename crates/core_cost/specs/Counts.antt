@@ -7,8 +7,8 @@ use Rattle.core_cost.specs.Network.{half_up, half_down, cost_of_sum3_over}
 abbrev pub cost_of_half : ℕ → ℕ → ℕ
 cost_of_half h counted = if nat_le 2 h then h + counted else 0
 
--- the number of true ones of k members is an integer with c steps, with at most so many halvings: the sum of the counts of
--- two halves, where one member is its own count
+-- the number of true ones of k members is an integer with c steps, with at most so many halvings: the sum of the counts
+-- of two halves, where one member is its own count
 abbrev pub count_within : ℕ → ℕ → ℕ → ℕ
 count_within zero k c = cost_of_sum3_over k 0 c k 0
 count_within (suc most) k c =

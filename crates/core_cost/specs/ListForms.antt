@@ -14,8 +14,8 @@ cost_of_conj k = 3 * k + 1
 abbrev pub cost_of_comp : ℕ
 cost_of_comp = 14
 
--- a parity of k members: the literals of its clauses up to three members, and else, for a fresh variable in the place of
--- two members, 1 and the parity of three, and the parity of one member fewer
+-- a parity of k members: the literals of its clauses up to three members, and else, for a fresh variable in the place
+-- of two members, 1 and the parity of three, and the parity of one member fewer
 abbrev pub cost_of_parity : ℕ → ℕ
 cost_of_parity zero = 0
 cost_of_parity (suc zero) = 1

@@ -25,8 +25,8 @@ cost_of_table n m = 6 * pairs_of_values n m
 abbrev pub cheaper : Bool → ℕ → ℕ → ℕ
 cheaper network_stands table network = if network_stands then min table network else table
 
--- the cost of a network by the costs of its halves: its wires, its comparators with the two fresh variables of each, and
--- that what it gives is the sum, which has c steps
+-- the cost of a network by the costs of its halves: its wires, its comparators with the two fresh variables of each,
+-- and that what it gives is the sum, which has c steps
 abbrev pub cost_over_halves : ℕ → ℕ → ℕ → ℕ → ℕ
 cost_over_halves odd even wires c = odd + even + wires + 16 * ((wires - 1) / 2) + cost_of_eq wires c
 
@@ -36,7 +36,8 @@ unit_sum_within zero n m = cost_of_ladder n + cost_of_ladder m + cost_of_ladder 
 unit_sum_within (suc most) n m =
     cost_of_ladder n + cost_of_ladder m + cost_of_ladder (n + m)
     + cheaper (has_network n m) (cost_of_table n m)
-    (cost_over_halves (unit_sum_within most (half_up n) (half_up m)) (unit_sum_within most (half_down n) (half_down m)) (n + m) (n + m))
+    (cost_over_halves (unit_sum_within most (half_up n) (half_up m)) (unit_sum_within most (half_down n) (half_down m))
+    (n + m) (n + m))
 
 -- the cost of the sum of n and m steps of weight 1; after n + m halvings no network is left
 unfoldable pub cost_of_unit_sum : ℕ → ℕ → ℕ

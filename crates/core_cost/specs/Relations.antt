@@ -3,13 +3,14 @@ use Rattle.std.specs.Prelude.{◌≡◌, ℕ, ◌*◌, ◌^◌, ◌<◌, ◌≤�
 use Prim.Native.Nat.{◌∣◌}
 use Rattle.core_cost.specs.declared.shape.Shape.{Shape}
 
--- what holds of an integer's shape: each step has a weight that is a multiple of the divisor, which is 0 without steps alone
+-- what holds of an integer's shape: each step has a weight that is a multiple of the divisor, which is 0 without steps
+-- alone
 pub record IsShape (a : Shape) : Type 0 where
   pub weights : a.steps * a.divisor ≤ a.span
   pub none : a.divisor ≡ 0 → (a.steps ≡ 0) × (a.span ≡ 0)
 
--- a has at most b's steps and span, and its weights are multiples of b's divisor: so it is with an integer of which steps
--- are decided or joined
+-- a has at most b's steps and span, and its weights are multiples of b's divisor: so it is with an integer of which
+-- steps are decided or joined
 pub record IsWithin (a b : Shape) : Type 0 where
   pub steps : a.steps ≤ b.steps
   pub span : a.span ≤ b.span

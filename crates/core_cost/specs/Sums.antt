@@ -1,5 +1,6 @@
 -- The cost of a sum of integers, by their shapes.
-use Rattle.std.specs.Prelude.{ℕ, ◌+◌, ◌-◌, ◌/◌, ◌&&◌, min, Bool, nat_lt, List, [], ◌∷◌, ◌++◌, length}
+use Rattle.std.specs.Prelude.{ℕ, ◌+◌, ◌-◌, ◌/◌, ◌&&◌, min, Bool, nat_lt, List, [], ◌∷◌}
+use Rattle.std.specs.Prelude.{◌++◌, length}
 use Rattle.std.proofs.Common.{zero, suc}
 use Rattle.core_cost.specs.declared.shape.Shape.{Shape}
 use Rattle.core_cost.specs.Divisor.{common_divisor_of}
@@ -32,8 +33,9 @@ abbrev pub unit_steps : ℕ → Shape
 unit_steps zero = constant
 unit_steps (suc n) = record { steps = suc n; span = suc n; divisor = 1 }
 
--- the fresh integer that stands for the sum of A and B: its values are the sums of their values, or every number between
--- the least and the greatest sum that is apart from the least by a multiple of the common divisor, whichever are fewer
+-- the fresh integer that stands for the sum of A and B: its values are the sums of their values, or every number
+-- between the least and the greatest sum that is apart from the least by a multiple of the common divisor, whichever
+-- are fewer
 abbrev pub fresh_sum_of : Shape → Shape → Shape
 fresh_sum_of a b = record {
   steps = min (pairs_of_values a.steps b.steps - 1) ((a.span + b.span) / common_divisor_of a.divisor b.divisor);

@@ -2,7 +2,8 @@
 
 ghost use Rattle.std.specs.Prelude.{◌≡◌};
 ghost use Rattle.core_cost.specs.Saturated.{saturated};
-ghost use Rattle.core_cost.specs.Arithmetic.{cost_of_member, cost_of_max, cost_of_different, cost_of_all_diff, pairs_of_values, cost_of_prod, cost_of_div_mod};
+ghost use Rattle.core_cost.specs.Arithmetic.{cost_of_member, cost_of_max, cost_of_different, cost_of_all_diff};
+ghost use Rattle.core_cost.specs.Arithmetic.{pairs_of_values, cost_of_prod, cost_of_div_mod};
 
 use crate::comparisons::ladder_cost;
 

@@ -1,14 +1,17 @@
 //! Laws of costs, for proofs of crates above. Each function does nothing; its contract is the law.
 
-ghost use Rattle.std.specs.Prelude.{◌≡◌, ℕ, ◌+◌, ◌*◌, ◌^◌, ◌<◌, ◌≤◌, List, [], ◌∷◌, ◌++◌, length, IsTrue};
+ghost use Rattle.std.specs.Prelude.{◌≡◌, ℕ, ◌+◌, ◌*◌, ◌^◌, ◌<◌, ◌≤◌, List, [], ◌∷◌};
+ghost use Rattle.std.specs.Prelude.{◌++◌, length, IsTrue};
 ghost use Rattle.core_cost.specs.declared.shape.Shape.{Shape};
 ghost use Rattle.core_cost.specs.ListForms.{cost_of_parity, cost_of_amo};
 ghost use Rattle.core_cost.specs.Comparisons.{cost_of_ladder, cost_of_leq, cost_of_eq, cost_of_lex};
 ghost use Rattle.core_cost.specs.Arithmetic.{cost_of_max, cost_of_all_diff, cost_of_prod, cost_of_div_mod};
-ghost use Rattle.core_cost.specs.Network.{half_up, half_down, has_network, cost_of_table, cost_of_unit_sum, cost_of_network, cost_of_sum3_over};
+ghost use Rattle.core_cost.specs.Network.{half_up, half_down, has_network, cost_of_table, cost_of_unit_sum};
+ghost use Rattle.core_cost.specs.Network.{cost_of_network, cost_of_sum3_over};
 ghost use Rattle.core_cost.specs.Counts.{cost_of_half, cost_of_count};
 ghost use Rattle.core_cost.specs.Sums.{unit_steps, constant, cost_of_sum3, fresh_sum_of, cost_of_sum, spans_of};
-ghost use Rattle.core_cost.specs.Relations.{AreAtMost, PairsAreAtMost, AreShapes, AreWithin, IsShape, IsWithin, FitsInMemory, AllFitInMemory, PairsFitInMemory};
+ghost use Rattle.core_cost.specs.Relations.{AreAtMost, PairsAreAtMost, AreShapes, AreWithin, IsShape, IsWithin};
+ghost use Rattle.core_cost.specs.Relations.{FitsInMemory, AllFitInMemory, PairsFitInMemory};
 
 /// Costs grow with numbers of members.
 pub fn members_law()
@@ -28,18 +31,22 @@ pub fn steps_law()
     ensures leq { (n m p q : ℕ) → n ≤ p → m ≤ q → cost_of_leq n m ≤ cost_of_leq p q }
     ensures equal { (n m p q : ℕ) → n ≤ p → m ≤ q → cost_of_eq n m ≤ cost_of_eq p q }
     ensures lex { (ps qs : List (ℕ × ℕ)) → PairsAreAtMost ps qs → cost_of_lex ps ≤ cost_of_lex qs }
-    ensures max { (ns ms : List ℕ) (c d : ℕ) → AreAtMost ns ms → c ≤ d → cost_of_max ns c ≤ cost_of_max ms d }
+    ensures max { (ns ms : List ℕ) (c d : ℕ) → AreAtMost ns ms → c ≤ d
+        → cost_of_max ns c ≤ cost_of_max ms d }
     ensures all_diff { (ns ms : List ℕ) → AreAtMost ns ms → cost_of_all_diff ns ≤ cost_of_all_diff ms }
-    ensures prod { (n m c p q d : ℕ) → n ≤ p → m ≤ q → c ≤ d → cost_of_prod n m c ≤ cost_of_prod p q d }
+    ensures prod { (n m c p q d : ℕ) → n ≤ p → m ≤ q → c ≤ d
+        → cost_of_prod n m c ≤ cost_of_prod p q d }
     ensures div_mod { (n m c e p q d f : ℕ) → n ≤ p → m ≤ q → c ≤ d → e ≤ f
         → cost_of_div_mod n m c e ≤ cost_of_div_mod p q d f }
 {}
 
 /// Costs of sums grow with the shapes: with the steps, the spans and fewer common divisors.
 pub fn shapes_law()
-    ensures over { (n m c N M p q d P Q : ℕ) → n ≤ N → m ≤ M → n ≤ p → m ≤ q → c ≤ d → N ≤ P → M ≤ Q
+    ensures over { (n m c N M p q d P Q : ℕ) → n ≤ N → m ≤ M → n ≤ p → m ≤ q → c ≤ d → N ≤ P
+        → M ≤ Q
         → cost_of_sum3_over n m c N M ≤ cost_of_sum3_over p q d P Q }
-    ensures sum3 { (a b p q : Shape) (c d : ℕ) → IsShape a → IsShape b → IsWithin a p → IsWithin b q → c ≤ d
+    ensures sum3 { (a b p q : Shape) (c d : ℕ) → IsShape a → IsShape b → IsWithin a p → IsWithin b q
+        → c ≤ d
         → cost_of_sum3 a b c ≤ cost_of_sum3 p q d }
     ensures sum { (members others : List Shape) → AreWithin members others
         → cost_of_sum members ≤ cost_of_sum others }
@@ -61,11 +68,14 @@ pub fn fits_law()
     ensures ladder { (n : ℕ) → FitsInMemory n → cost_of_ladder n < 2 ^ 128 }
     ensures leq { (n m : ℕ) → FitsInMemory n → FitsInMemory m → cost_of_leq n m < 2 ^ 128 }
     ensures equal { (n m : ℕ) → FitsInMemory n → FitsInMemory m → cost_of_eq n m < 2 ^ 128 }
-    ensures lex { (ps : List (ℕ × ℕ)) → PairsFitInMemory ps → FitsInMemory (length ps) → cost_of_lex ps < 2 ^ 128 }
+    ensures lex { (ps : List (ℕ × ℕ)) → PairsFitInMemory ps → FitsInMemory (length ps)
+        → cost_of_lex ps < 2 ^ 128 }
     ensures max { (ns : List ℕ) (c : ℕ) → AllFitInMemory ns → FitsInMemory (length ns) → FitsInMemory c
         → cost_of_max ns c < 2 ^ 128 }
-    ensures all_diff { (ns : List ℕ) → AllFitInMemory ns → FitsInMemory (length ns) → cost_of_all_diff ns < 2 ^ 128 }
-    ensures prod { (n m c : ℕ) → FitsInMemory n → FitsInMemory m → FitsInMemory c → cost_of_prod n m c < 2 ^ 128 }
+    ensures all_diff { (ns : List ℕ) → AllFitInMemory ns → FitsInMemory (length ns)
+        → cost_of_all_diff ns < 2 ^ 128 }
+    ensures prod { (n m c : ℕ) → FitsInMemory n → FitsInMemory m → FitsInMemory c
+        → cost_of_prod n m c < 2 ^ 128 }
     ensures div_mod { (n m q r : ℕ) → FitsInMemory n → FitsInMemory m → FitsInMemory q → FitsInMemory r
         → cost_of_div_mod n m q r < 2 ^ 128 }
     ensures table { (n m : ℕ) → n < 2 ^ 62 → m < 2 ^ 62 → cost_of_table n m < 2 ^ 128 }

@@ -5,7 +5,8 @@
 
 ghost use Rattle.std.specs.Prelude.{◌≡◌, ℕ, ◌+◌, ◌^◌, ◌<◌, ◌≤◌};
 ghost use Rattle.core_cost.specs.Saturated.{saturated};
-ghost use Rattle.core_cost.specs.Network.{half_up, half_down, has_network, cost_of_table, cost_over_halves, cost_of_unit_sum, cost_of_network};
+ghost use Rattle.core_cost.specs.Network.{half_up, half_down, has_network, cost_of_table, cost_over_halves};
+ghost use Rattle.core_cost.specs.Network.{cost_of_unit_sum, cost_of_network};
 ghost use Rattle.core_cost.specs.Neighbours.{AreAround, moved_up};
 
 use crate::arithmetic::pairs;

@@ -4,7 +4,8 @@ ghost use Rattle.std.specs.Prelude.{◌≡◌, ◌^◌, ◌<◌, ◌+◌, ◌/�
 ghost use Rattle.std.specs.VecDeque.{deque_len};
 ghost use Rattle.core_cost.specs.Saturated.{saturated};
 ghost use Rattle.core_cost.specs.Network.{cost_of_table, cost_of_sum3_over};
-ghost use Rattle.core_cost.specs.Sums.{first_units, second_units, cost_of_sum3, network_is_cheaper, fresh_sum_of, cost_of_sum, spans_of};
+ghost use Rattle.core_cost.specs.Sums.{first_units, second_units, cost_of_sum3, network_is_cheaper, fresh_sum_of};
+ghost use Rattle.core_cost.specs.Sums.{cost_of_sum, spans_of};
 
 use crate::comparisons::ladder_cost;
 use crate::divisor::common_divisor;

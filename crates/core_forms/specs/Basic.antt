@@ -2,7 +2,8 @@
 use Rattle.std.specs.Prelude.{Bool, true, false, not, nat_le, length}
 use Rattle.core_cost.specs.Sums.{network_is_cheaper}
 use Rattle.core_forms.specs.declared.form.Core.{Core}
-use Rattle.core_forms.specs.declared.form.Core.TheVariants.{Ladder, Clause, Parity, Conj, Comp, LeqR, EqR, Sum3, Count, Sum, Max, AllDiff, Amo, Prod, DivMod, Lex}
+use Rattle.core_forms.specs.declared.form.Core.TheVariants.{Ladder, Clause, Parity, Conj, Comp, LeqR, EqR, Sum3, Count}
+use Rattle.core_forms.specs.declared.form.Core.TheVariants.{Sum, Max, AllDiff, Amo, Prod, DivMod, Lex}
 use Rattle.core_forms.specs.Shapes.{steps_of, shape_of}
 
 -- whether a core is basic: a parity of at most three members, at most one of at most four members, and a sum of two

@@ -7,7 +7,8 @@ use Rattle.core_cost.specs.Counts.{cost_of_count}
 use Rattle.core_cost.specs.Sums.{cost_of_sum3, cost_of_sum}
 use Rattle.core_cost.specs.Relations.{FitsInMemory, AllFitInMemory, PairsFitInMemory}
 use Rattle.core_forms.specs.declared.form.Core.{Core}
-use Rattle.core_forms.specs.declared.form.Core.TheVariants.{Ladder, Clause, Parity, Conj, Comp, LeqR, EqR, Sum3, Count, Sum, Max, AllDiff, Amo, Prod, DivMod, Lex}
+use Rattle.core_forms.specs.declared.form.Core.TheVariants.{Ladder, Clause, Parity, Conj, Comp, LeqR, EqR, Sum3, Count}
+use Rattle.core_forms.specs.declared.form.Core.TheVariants.{Sum, Max, AllDiff, Amo, Prod, DivMod, Lex}
 use Rattle.core_forms.specs.Shapes.{steps_of, shape_of, shapes_of, numbers_of_steps, pairs_of_steps}
 
 -- the cost of a core, form by form

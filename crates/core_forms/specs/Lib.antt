@@ -6,7 +6,7 @@ pub mod Place
 pub mod WellFormed
 pub mod Resolved
 pub mod Plain
-pub mod Settled
+pub mod Stable
 pub mod Trimmed
 pub mod Each
 pub mod Variables

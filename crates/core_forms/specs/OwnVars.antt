@@ -1,5 +1,6 @@
 -- The different variables of a core, ascending, and whether they are few.
-use Rattle.std.specs.Prelude.{ℕ, nat_eq, nat_lt, nat_le, length, List, [], ◌∷◌, Option, Some, None, if◌then◌else◌}
+use Rattle.std.specs.Prelude.{ℕ, nat_eq, nat_lt, nat_le, length, List, [], ◌∷◌, Option, Some, None}
+use Rattle.std.specs.Prelude.{if◌then◌else◌}
 use Rattle.order_ints.specs.Placing.{placed_by}
 use Rattle.core_forms.specs.declared.form.Core.{Core}
 use Rattle.core_forms.specs.Variables.{core_vars}

@@ -1,4 +1,5 @@
--- Cores that are as plain as trimming leaves them: no constants, and no two neighbouring steps with one variable's atoms that follow from one another.
+-- Cores that are as plain as trimming leaves them: no constants, and no two neighbouring steps with one variable's
+-- atoms that follow from one another.
 use Rattle.std.specs.Prelude.{◌≡◌, ℕ, false, List, [], ◌∷◌}
 use Rattle.order_ints.specs.declared.atom.Atom.{Atom}
 use Rattle.order_ints.specs.declared.atom.Atom.TheVariants.{True, False, Of}
@@ -6,7 +7,8 @@ use Rattle.order_ints.specs.declared.order_int.OrdInt.{OrdInt}
 use Rattle.order_ints.specs.Truth.{not_atom}
 use Rattle.order_ints.specs.Same.{same_atom}
 use Rattle.core_forms.specs.declared.form.Core.{Core}
-use Rattle.core_forms.specs.declared.form.Core.TheVariants.{Ladder, Clause, Parity, Conj, Comp, LeqR, EqR, Sum3, Count, Sum, Max, AllDiff, Amo, Prod, DivMod, Lex}
+use Rattle.core_forms.specs.declared.form.Core.TheVariants.{Ladder, Clause, Parity, Conj, Comp, LeqR, EqR, Sum3, Count}
+use Rattle.core_forms.specs.declared.form.Core.TheVariants.{Sum, Max, AllDiff, Amo, Prod, DivMod, Lex}
 
 -- the atom is no constant
 abbrev pub IsLiteral : Atom → Type 0
@@ -18,11 +20,13 @@ abbrev pub AreLiterals : List Atom → Type 0
 AreLiterals [] = Unit {0}
 AreLiterals (a ∷ atoms) = IsLiteral a × AreLiterals atoms
 
--- the steps behind one with an atom: the atom of each is no constant, and neither that of the step before it nor its negation
+-- the steps behind one with an atom: the atom of each is no constant, and neither that of the step before it nor its
+-- negation
 abbrev pub ArePlainBehind : Atom → List (Atom × ℕ) → Type 0
 ArePlainBehind before [] = Unit {0}
 ArePlainBehind before (s ∷ steps) =
-    (same_atom before s.0 ≡ false) × (same_atom s.0 (not_atom before) ≡ false) × IsLiteral s.0 × ArePlainBehind s.0 steps
+    (same_atom before s.0 ≡ false) × (same_atom s.0 (not_atom before) ≡ false) × IsLiteral s.0
+    × ArePlainBehind s.0 steps
 
 -- so it is of all steps of the integer; since no step is a constant, the first one may be any
 abbrev pub IsPlainInt : OrdInt → Type 0

@@ -1,8 +1,10 @@
 -- What a core held that is taken apart.
 use Rattle.core_forms.specs.declared.form.Core.{Core}
-use Rattle.core_forms.specs.declared.form.Core.TheVariants.{Ladder, Clause, Parity, Conj, Comp, LeqR, EqR, Sum3, Count, Sum, Max, AllDiff, Amo, Prod, DivMod, Lex}
+use Rattle.core_forms.specs.declared.form.Core.TheVariants.{Ladder, Clause, Parity, Conj, Comp, LeqR, EqR, Sum3, Count}
+use Rattle.core_forms.specs.declared.form.Core.TheVariants.{Sum, Max, AllDiff, Amo, Prod, DivMod, Lex}
 use Rattle.core_forms.specs.declared.taken.Taken.{Taken}
-use Rattle.core_forms.specs.declared.taken.Taken.TheVariants.{Xor, Added, Counted, Summed, Differing, AtMostOne, Words, Other}
+use Rattle.core_forms.specs.declared.taken.Taken.TheVariants.{Xor, Added, Counted, Summed, Differing, AtMostOne, Words}
+use Rattle.core_forms.specs.declared.taken.Taken.TheVariants.{Other}
 
 -- the members of a core of a form that may be compound, or a core of another form
 abbrev pub taken_apart : Core → Taken

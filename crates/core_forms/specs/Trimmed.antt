@@ -1,5 +1,6 @@
 -- A trimmed core: what constants say is worked in, and neighbouring steps with one atom are one.
-use Rattle.std.specs.Prelude.{◌≡◌, ℕ, zero, suc, ◌+◌, Bool, true, false, not, List, [], ◌∷◌, ℤ, pos, neg_ℤ, ◌+ℤ◌, map, if◌then◌else◌}
+use Rattle.std.specs.Prelude.{◌≡◌, ℕ, zero, suc, ◌+◌, Bool, true, false, not, List, [], ◌∷◌, ℤ, pos}
+use Rattle.std.specs.Prelude.{neg_ℤ, ◌+ℤ◌, map, if◌then◌else◌}
 use Rattle.order_ints.specs.declared.atom.Atom.{Atom}
 use Rattle.order_ints.specs.declared.atom.Atom.TheVariants.{True, False, Of}
 use Rattle.order_ints.specs.declared.order_int.OrdInt.{OrdInt}
@@ -7,7 +8,8 @@ use Rattle.order_ints.specs.Same.{is_true, is_false, same_atom}
 use Rattle.order_ints.specs.OrderChange.{shifted_of}
 use Rattle.order_ints.specs.View.{resolve}
 use Rattle.core_forms.specs.declared.form.Core.{Core}
-use Rattle.core_forms.specs.declared.form.Core.TheVariants.{Ladder, Clause, Parity, Conj, Comp, LeqR, EqR, Sum3, Count, Sum, Max, AllDiff, Amo, Prod, DivMod, Lex}
+use Rattle.core_forms.specs.declared.form.Core.TheVariants.{Ladder, Clause, Parity, Conj, Comp, LeqR, EqR, Sum3, Count}
+use Rattle.core_forms.specs.declared.form.Core.TheVariants.{Sum, Max, AllDiff, Amo, Prod, DivMod, Lex}
 use Rattle.core_forms.specs.Resolved.{map_int, resolved_core}
 
 -- a step and those behind it: as long as the next one has the same atom its weight is added; and False steps at
@@ -21,7 +23,8 @@ merged_steps a w (s ∷ steps) =
 abbrev pub raised_by : ℤ → List (Atom × ℕ) → OrdInt
 raised_by base [] = record { base = base; steps = [] }
 raised_by base (s ∷ steps) =
-    if is_true s.0 then raised_by (base +ℤ pos s.1) steps else record { base = base; steps = merged_steps s.0 s.1 steps }
+    if is_true s.0 then raised_by (base +ℤ pos s.1) steps
+    else record { base = base; steps = merged_steps s.0 s.1 steps }
 
 -- an integer with its leading True steps in the base, without its trailing False steps, and with neighbours of one
 -- atom in one step

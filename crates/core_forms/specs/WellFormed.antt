@@ -1,11 +1,13 @@
 -- When a core is well formed: its lists have the lengths that its form wants, and what its meaning computes stays
 -- within the limits of the numbers.
-use Rattle.std.specs.Prelude.{◌≡◌, ℕ, ◌+◌, ◌^◌, ◌<◌, max, List, [], ◌∷◌, length, Contains, ℤ, pos, ◌+ℤ◌, ◌*ℤ◌, ◌≤ℤ◌, unsigned_abs}
+use Rattle.std.specs.Prelude.{◌≡◌, ℕ, ◌+◌, ◌^◌, ◌<◌, max, List, [], ◌∷◌, length, Contains}
+use Rattle.std.specs.Prelude.{ℤ, pos, ◌+ℤ◌, ◌*ℤ◌, ◌≤ℤ◌, unsigned_abs}
 use Rattle.order_ints.specs.declared.order_int.OrdInt.{OrdInt}
 use Rattle.order_ints.specs.OrderRange.{low_of, high_of, IsBounded, AreRising}
 use Rattle.order_ints.specs.OrderLevels.{values_of}
 use Rattle.core_forms.specs.declared.form.Core.{Core}
-use Rattle.core_forms.specs.declared.form.Core.TheVariants.{Ladder, Clause, Parity, Conj, Comp, LeqR, EqR, Sum3, Count, Sum, Max, AllDiff, Amo, Prod, DivMod, Lex}
+use Rattle.core_forms.specs.declared.form.Core.TheVariants.{Ladder, Clause, Parity, Conj, Comp, LeqR, EqR, Sum3, Count}
+use Rattle.core_forms.specs.declared.form.Core.TheVariants.{Sum, Max, AllDiff, Amo, Prod, DivMod, Lex}
 
 -- an integer's values are below 2 ^ 100 in absolute value, and each step raises the value
 abbrev pub IsSound : OrdInt → Type 0
@@ -52,5 +54,6 @@ IsWellFormed (AllDiff ints cs) = AreSound ints × (length ints ≡ length cs)
 IsWellFormed (Amo ls) = Unit {0}
 IsWellFormed (Prod a b c) = IsSound a × IsSound b × IsSound c × HasSmallProducts a b
 IsWellFormed (DivMod a b q r) =
-    IsSound a × IsSound b × IsSound q × IsSound r × (pos 0 ≤ℤ low_of a) × (pos 1 ≤ℤ low_of b) × HasSmallDivisions b q r
+    IsSound a × IsSound b × IsSound q × IsSound r × (pos 0 ≤ℤ low_of a) × (pos 1 ≤ℤ low_of b)
+    × HasSmallDivisions b q r
 IsWellFormed (Lex r strict front back) = AreSound front × AreSound back × (length front ≡ length back)

@@ -1,7 +1,8 @@
 //! Laws of costs and of fresh sums, for proofs of crates above. Each function does nothing; its
 //! contract is the law.
 
-ghost use Rattle.std.specs.Prelude.{◌≡◌, ℕ, ◌+◌, ◌*◌, ◌^◌, ◌<◌, ◌≤◌, ℤ, ◌+ℤ◌, ◌≤ℤ◌, List, length, Contains};
+ghost use Rattle.std.specs.Prelude.{◌≡◌, ℕ, ◌+◌, ◌*◌, ◌^◌, ◌<◌, ◌≤◌, ℤ, ◌+ℤ◌};
+ghost use Rattle.std.specs.Prelude.{◌≤ℤ◌, List, length, Contains};
 ghost use Rattle.order_ints.specs.declared.atom.Atom.{Atom};
 ghost use Rattle.order_ints.specs.declared.order_int.OrdInt.{OrdInt};
 ghost use Rattle.order_ints.specs.OrderRange.{low_of, high_of, weights, AreRising};

@@ -1,6 +1,7 @@
 //! The values of a fresh integer that stands for the sum of two integers.
 
-ghost use Rattle.std.specs.Prelude.{◌≡◌, ◌+◌, ◌*◌, ◌++◌, ◌^◌, ◌<◌, ◌≤◌, ◌+ℤ◌, pos, map, unsigned_abs, length, IfOk, OnOk};
+ghost use Rattle.std.specs.Prelude.{◌≡◌, ◌+◌, ◌*◌, ◌++◌, ◌^◌, ◌<◌, ◌≤◌, ◌+ℤ◌};
+ghost use Rattle.std.specs.Prelude.{pos, map, unsigned_abs, length, IfOk, OnOk};
 ghost use Rattle.order_ints.specs.OrderRange.{IsBounded};
 ghost use Rattle.order_ints.specs.OrderLevels.{values_of};
 ghost use Rattle.order_ints.specs.OrderMade.{AreAscending, AreSmall};
@@ -102,7 +103,8 @@ pub fn sums(alloc: Global, a: &OrdInt, b: &OrdInt) -> Result<Vec<i128>, AllocErr
     ensures some { IfOk result (λ sums. 0 < length sums.items) }
     ensures ascending { IfOk result (λ sums. AreAscending sums.items) }
     ensures small { IfOk result (λ sums. AreSmall sums.items) }
-    ensures steps { IfOk result (λ sums. length sums.items ≤ (fresh_sum_of (shape_of a.now) (shape_of b.now)).steps + 1) }
+    ensures steps { IfOk result (λ sums. length sums.items
+        ≤ (fresh_sum_of (shape_of a.now) (shape_of b.now)).steps + 1) }
 {
     listed_sums(alloc, a, b)
 }

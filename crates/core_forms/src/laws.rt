@@ -1,6 +1,7 @@
 //! Laws of the forms, for proofs of crates above. Each function does nothing; its contract is the law.
 
-ghost use Rattle.std.specs.Prelude.{◌≡◌, ◌↔◌, ℕ, ◌+◌, ◌≤◌, ◌<◌, ◌*◌, ◌^◌, ℤ, unsigned_abs, List, length, map, Contains};
+ghost use Rattle.std.specs.Prelude.{◌≡◌, ◌↔◌, ℕ, ◌+◌, ◌≤◌, ◌<◌, ◌*◌, ◌^◌, ℤ};
+ghost use Rattle.std.specs.Prelude.{unsigned_abs, List, length, map, Contains};
 ghost use Rattle.std.specs.List.Sorted.{IsStrictlyIncreasing};
 ghost use Rattle.order_ints.specs.declared.atom.Atom.{Atom};
 ghost use Rattle.order_ints.specs.Truth.{Valuation, valuation_at, Agree};

@@ -10,7 +10,7 @@
 //!
 //! What it promises: `holds` is the meaning (its one clause); `trim` gives exactly the trimmed core
 //! (`shape`), which a valuation that meets the view meets exactly where it meets the core
-//! (`meaning`); a core that `is_settled` accepts stays as it is under trimming; `variables` are
+//! (`meaning`); a core that `is_stable` accepts stays as it is under trimming; `variables` are
 //! exactly those that occur, ascending; `few_variables` are exactly those of a core of at most
 //! eight; `cost` is exact, and trimming never raises it (`cost_law`). Further laws compose views
 //! (`composition_law`, `congruence_law`, `later_trim_law`) and say what stands in a core.
@@ -33,8 +33,8 @@ pub mod list_laws;
 mod made;
 mod meaning;
 mod occurrence;
-pub mod settled_laws;
 mod shapes;
+pub mod stable_laws;
 mod taken;
 mod trimming;
 pub mod view_laws;
@@ -50,4 +50,4 @@ pub use meaning::{holds, holds_in_row};
 pub use occurrence::variables;
 pub use shapes::shape;
 pub use taken::Taken;
-pub use trimming::{is_settled, trim, trim_int};
+pub use trimming::{is_stable, trim, trim_int};

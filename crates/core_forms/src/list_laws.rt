@@ -1,7 +1,8 @@
 //! Laws of what stands in a core and of lists of cores, for proofs of crates above. Each function does
 //! nothing; its contract is the law.
 
-ghost use Rattle.std.specs.Prelude.{◌≡◌, ◌↔◌, ℕ, ◌+◌, ◌≤◌, ◌&&◌, ℤ, ◌+ℤ◌, List, ◌++◌, ◌⊎◌, Contains, IsTrue};
+ghost use Rattle.std.specs.Prelude.{◌≡◌, ◌↔◌, ℕ, ◌+◌, ◌≤◌, ◌&&◌, ℤ, ◌+ℤ◌, List};
+ghost use Rattle.std.specs.Prelude.{◌++◌, ◌⊎◌, Contains, IsTrue};
 ghost use Rattle.order_ints.specs.declared.order_int.OrdInt.{OrdInt};
 ghost use Rattle.order_ints.specs.Truth.{Valuation, Agree};
 ghost use Rattle.core_forms.specs.declared.form.Core.{Core};

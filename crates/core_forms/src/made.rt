@@ -2,7 +2,8 @@
 //! memory for these places; where there is none, the members are let go.
 
 ghost use Rattle.std.specs.Prelude.{◌≡◌, IfOk};
-ghost use Rattle.core_forms.specs.declared.form.Core.TheVariants.{Ladder, Comp, LeqR, EqR, Sum3, Count, Sum, Max, AllDiff, Prod, DivMod, Lex};
+ghost use Rattle.core_forms.specs.declared.form.Core.TheVariants.{Ladder, Comp, LeqR, EqR, Sum3, Count, Sum, Max};
+ghost use Rattle.core_forms.specs.declared.form.Core.TheVariants.{AllDiff, Prod, DivMod, Lex};
 
 use crate::form::Core;
 use bee_list::{Apart, Sequence};

@@ -62,7 +62,8 @@ pub fn holds_in_row(core: &Core, vars: &[u32], values: &[bool]) -> bool
 
     // Where the core has no other variables, that is what each valuation with these values says.
     ensures meaning { (σ : Valuation)
-        → AreAmong (core_vars core.now) vars.now → map σ vars.now ≡ values.now → result ≡ core_truth σ core.now }
+        → AreAmong (core_vars core.now) vars.now → map σ vars.now ≡ values.now
+        → result ≡ core_truth σ core.now }
 {
     holds(core, TruthRow { vars, values })
 }

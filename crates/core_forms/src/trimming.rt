@@ -3,7 +3,7 @@
 mod atoms;
 mod forms;
 mod ints;
-mod settled;
+mod stable;
 
 ghost use Rattle.std.specs.Prelude.{◌≡◌, ℕ, IfOk, IsTrue};
 ghost use Rattle.order_ints.specs.Truth.{Valuation};
@@ -13,14 +13,14 @@ ghost use Rattle.order_ints.specs.View.{MeetsView};
 ghost use Rattle.core_forms.specs.Place.{CoreBelow};
 ghost use Rattle.core_forms.specs.WellFormed.{IsWellFormed};
 ghost use Rattle.core_forms.specs.Meaning.{core_truth};
-ghost use Rattle.core_forms.specs.Settled.{IsSettledCore};
+ghost use Rattle.core_forms.specs.Stable.{IsStableCore};
 ghost use Rattle.core_forms.specs.Trimmed.{trimmed_core, trimmed_int, IsTrimmed};
 
 use crate::form::Core;
 use forms::trimmed_form;
 use ints::trimmed_int;
 use order_ints::{Atom, OrdInt};
-use settled::is_settled_form;
+use stable::is_stable_form;
 use std::alloc::{AllocError, Global};
 
 /// A core trimmed by a view: each atom as the view has it, and what constants say worked in. It takes
@@ -51,11 +51,11 @@ pub fn trim_int(alloc: Global, a: &OrdInt, view: &[Atom]) -> Result<OrdInt, Allo
     trimmed_int(alloc, a, view)
 }
 
-/// Whether trimming leaves a core as it is, and the order of its integers tells nothing. It takes one pass over the core, up to
-/// the first atom that would change, and no memory. It looks at the forms that may have long lists, and says of no other one
-/// that it stays.
-pub fn is_settled(core: &Core, view: &[Atom]) -> bool
-    ensures { IsTrue result → IsSettledCore view.now core.now }
+/// Whether trimming leaves a core as it is, and the order of its integers tells nothing. It takes one pass over the
+/// core, up to the first atom that would change, and no memory. It looks at the forms that may have long lists, and
+/// says of no other one that it stays.
+pub fn is_stable(core: &Core, view: &[Atom]) -> bool
+    ensures { IsTrue result → IsStableCore view.now core.now }
 {
-    is_settled_form(core, view)
+    is_stable_form(core, view)
 }

@@ -29,4 +29,8 @@ swapped first second id = if id == first then second else if id == second then f
 
 -- two ids are exchanged in all lists
 abbrev pub exchanged : OccurrenceLists → ℕ → ℕ → OccurrenceLists
-exchanged old first second = record { lists = map (map (swapped first second)) old.lists; ids = old.ids; room = old.room }
+exchanged old first second = record {
+  lists = map (map (swapped first second)) old.lists;
+  ids = old.ids;
+  room = old.room;
+}

@@ -1,5 +1,6 @@
 -- The owner of each node, and the chain of the nodes of each owner.
-use Rattle.std.specs.Prelude.{◌≡◌, ◌==◌, ℕ, ◌+◌, ◌<◌, ◌≤◌, ◌^◌, List, [], ◌∷◌, length, map, slice_index, slice_index_or, if◌then◌else◌}
+use Rattle.std.specs.Prelude.{◌≡◌, ◌==◌, ℕ, ◌+◌, ◌<◌, ◌≤◌, ◌^◌, List, [], ◌∷◌}
+use Rattle.std.specs.Prelude.{length, map, slice_index, slice_index_or, if◌then◌else◌}
 use Rattle.index_ring.specs.Lists.{times}
 use Rattle.core_occurrences.specs.declared.chains.Node.{Node}
 
@@ -42,7 +43,8 @@ pub record IsPassed (old new : List Node) (from to v : ℕ) : Type 0 where
   pub inside : v < length old
   pub was : owner_of old v ≡ from
   pub owner : (w : ℕ) → owner_of new w ≡ (if w == v then to else owner_of old w)
-  pub count : (i : ℕ) → times i (owners new) + (if from == i then 1 else 0) ≡ times i (owners old) + (if to == i then 1 else 0)
+  pub count : (i : ℕ) → times i (owners new) + (if from == i then 1 else 0)
+      ≡ times i (owners old) + (if to == i then 1 else 0)
 
 -- an owner has no node
 pub record OwnsNone (old new : List Node) (from : ℕ) : Type 0 where

@@ -1,5 +1,6 @@
 -- What occurrences keep beside their lists.
-use Rattle.std.specs.Prelude.{◌≡◌, ℕ, ◌+◌, ◌-◌, ◌^◌, ◌≤◌, List, [], ◌∷◌, length, Option, Some, None, if◌then◌else◌, ◌==◌, IfSome}
+use Rattle.std.specs.Prelude.{◌≡◌, ℕ, ◌+◌, ◌-◌, ◌^◌, ◌≤◌, List, [], ◌∷◌, length, Option}
+use Rattle.std.specs.Prelude.{Some, None, if◌then◌else◌, ◌==◌, IfSome}
 use Rattle.index_ring.specs.Lists.{RingLists, Stands, times}
 use Rattle.index_ring.specs.Laws.{total_length}
 use Rattle.core_occurrences.specs.declared.chains.Node.{Node}

@@ -1,11 +1,13 @@
--- What contracts see of occurrences: for each variable the ids of the cores that it occurs in, or, where occurrences stand with bodies, the bodies.
-use Rattle.std.specs.Prelude.{◌==◌, ℕ, ◌+◌, ◌-◌, ◌^◌, ◌<◌, ◌≤◌, List, [], ◌∷◌, ◌++◌, length, map, replicate, slice_index_or, if◌then◌else◌}
+-- What contracts see of occurrences: for each variable the ids of the cores that it occurs in, or, where occurrences
+-- stand with bodies, the bodies.
+use Rattle.std.specs.Prelude.{◌==◌, ℕ, ◌+◌, ◌-◌, ◌^◌, ◌<◌, ◌≤◌, List, [], ◌∷◌}
+use Rattle.std.specs.Prelude.{◌++◌, length, map, replicate, slice_index_or, if◌then◌else◌}
 use Rattle.std.specs.List.{Contains, list_any}
 use Rattle.index_ring.specs.Lists.{times, times_in_all, without}
 use Rattle.index_ring.specs.Laws.{total_length}
 
--- a list of ids for each variable, that of variable 1 first; how many ids there is a place for; how many occurrences more
--- there is room for
+-- a list of ids for each variable, that of variable 1 first; how many ids there is a place for; how many occurrences
+-- more there is room for
 pub record OccurrenceLists : Type 0 where
   pub lists : List (List ℕ)
   pub ids : ℕ
@@ -19,8 +21,8 @@ cores_at occurs v = slice_index_or occurs.lists (v - 1) []
 abbrev pub Occurs : OccurrenceLists → ℕ → ℕ → Type 0
 Occurs occurs v id = Contains (cores_at occurs v) id
 
--- a core stands in a list once at most, and only cores that there is a place for; variables, occurrences and room together
--- are less than 2 ^ 31
+-- a core stands in a list once at most, and only cores that there is a place for; variables, occurrences and room
+-- together are less than 2 ^ 31
 pub record IsOccurrences (occurs : OccurrenceLists) : Type 0 where
   pub once : (v id : ℕ) → times id (cores_at occurs v) ≤ 1
   pub inside : (v id : ℕ) → Occurs occurs v id → (1 ≤ id) × (id ≤ occurs.ids)
@@ -32,7 +34,11 @@ no_occurrences vars = record { lists = replicate vars []; ids = 0; room = 0 }
 
 -- further variables that occur in no core, further ids, and room for further occurrences
 abbrev pub grown : OccurrenceLists → ℕ → ℕ → ℕ → OccurrenceLists
-grown old vars ids nodes = record { lists = old.lists ++ replicate vars []; ids = old.ids + ids; room = old.room + nodes }
+grown old vars ids nodes = record {
+  lists = old.lists ++ replicate vars [];
+  ids = old.ids + ids;
+  room = old.room + nodes;
+}
 
 -- lists of variables from `first` on, where those of the listed variables have the id behind what they had
 abbrev pub with_id : ℕ → List ℕ → ℕ → List (List ℕ) → List (List ℕ)
@@ -46,4 +52,8 @@ added old id vars = record { lists = with_id id vars 1 old.lists; ids = old.ids;
 
 -- the core has gone, and there is room for as many occurrences more as it had
 abbrev pub removed : OccurrenceLists → ℕ → OccurrenceLists
-removed old id = record { lists = map (without id) old.lists; ids = old.ids; room = old.room + times_in_all id old.lists }
+removed old id = record {
+  lists = map (without id) old.lists;
+  ids = old.ids;
+  room = old.room + times_in_all id old.lists;
+}

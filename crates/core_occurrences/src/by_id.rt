@@ -1,6 +1,7 @@
 //! Occurrences of variables in cores, two of which may exchange theirs.
 
-ghost use Rattle.std.specs.Prelude.{◌≡◌, ◌+◌, ◌^◌, ◌<◌, ◌≤◌, ◌↔◌, ℕ, [], length, IfOk, OnOk, OnErr, IsTrue, Contains, vec_capacity};
+ghost use Rattle.std.specs.Prelude.{◌≡◌, ◌+◌, ◌^◌, ◌<◌, ◌≤◌, ◌↔◌, ℕ, [], length, IfOk};
+ghost use Rattle.std.specs.Prelude.{OnOk, OnErr, IsTrue, Contains, vec_capacity};
 ghost use Rattle.std.specs.List.{All};
 ghost use Rattle.std.specs.List.Sorted.{IsSorted, IsStrictlyIncreasing};
 ghost use Rattle.std.specs.Ordering.{nat_cmp};

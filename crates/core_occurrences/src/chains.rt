@@ -1,6 +1,7 @@
 //! The owner of each node, and the chain of the nodes of each owner.
 
-ghost use Rattle.std.specs.Prelude.{◌≡◌, ◌≢◌, ◌+◌, ◌^◌, ◌<◌, ◌≤◌, ◌++◌, length, replicate, vec_len, vec_capacity, MatchOption};
+ghost use Rattle.std.specs.Prelude.{◌≡◌, ◌≢◌, ◌+◌, ◌^◌, ◌<◌, ◌≤◌, ◌++◌, length};
+ghost use Rattle.std.specs.Prelude.{replicate, vec_len, vec_capacity, MatchOption};
 ghost use Rattle.core_occurrences.specs.Chains.{AreChains, IsPassed, OwnsNone, IsFreed};
 
 use std::mem::size_of;

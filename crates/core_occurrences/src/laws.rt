@@ -1,6 +1,8 @@
 //! Laws of the lists that clauses cite.
 
-ghost use Rattle.core_occurrences.specs.Laws.{AddedBehind, AddedElsewhere, AddedOccurs, RemovedWithout, RemovedOccurs, ExchangedOccurs, GrownStays, NothingOccurs, RoomIsHolders, AddedTotal, RemovedTotal, GrownTotal};
+ghost use Rattle.core_occurrences.specs.Laws.{AddedBehind, AddedElsewhere, AddedOccurs, RemovedWithout, RemovedOccurs};
+ghost use Rattle.core_occurrences.specs.Laws.{ExchangedOccurs, GrownStays, NothingOccurs, RoomIsHolders, AddedTotal};
+ghost use Rattle.core_occurrences.specs.Laws.{RemovedTotal, GrownTotal};
 
 /// What stands where a core has come, and in all cores before.
 pub fn added_laws()

@@ -7,8 +7,8 @@ use Rattle.part_base.specs.declared.parts.Parts.{Parts}
 use Rattle.decompose.specs.PartsOf.{parts_of as decomposed}
 use Rattle.network_encode.specs.NetworkParts.{parts_of as networked}
 
--- sums, different members and orders of words are decomposed, and for the other compound forms there are networks; the fresh variables are
--- those from next on
+-- sums, different members and orders of words are decomposed, and for the other compound forms there are networks; the
+-- fresh variables are those from next on
 abbrev pub parts_at : ℕ → Core → Parts
 parts_at next (Sum ints k) = decomposed (Sum ints k) next
 parts_at next (AllDiff ints cs) = decomposed (AllDiff ints cs) next

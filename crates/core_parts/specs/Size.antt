@@ -5,8 +5,8 @@ use Rattle.core_forms.specs.declared.form.Core.TheVariants.{Count, Sum, AllDiff,
 use Rattle.core_forms.specs.Shapes.{pairs_of_steps}
 use Rattle.core_forms.specs.Cost.{cost_of}
 
--- one and the number of members of a count, a sum, different members, and of pairs of an order of words; nothing for the
--- other forms
+-- one and the number of members of a count, a sum, different members, and of pairs of an order of words; nothing for
+-- the other forms
 abbrev pub members_of : Core → ℕ
 members_of (Count ls c) = 1 + length ls
 members_of (Sum ints k) = 1 + length ints

@@ -53,9 +53,9 @@ pub fn kept_parts(alloc: Global, core: &Core, next_var: u32) -> Result<Parts, Al
     }
 }
 
-/// How a compound core that is a long list is split at its front: the parts but for the list itself, which stays, and what comes
-/// behind it. They are those that `parts` makes. It takes the time and the memory of what leaves and comes, and not of what
-/// stays; `None` is for the other forms, and for short lists.
+/// How a compound core that is a long list is split at its front: the parts but for the list itself, which stays, and
+/// what comes behind it. They are those that `parts` makes. It takes the time and the memory of what leaves and comes,
+/// and not of what stays; `None` is for the other forms, and for short lists.
 pub fn cut(alloc: Global, core: &Core, next_var: u32) -> Result<Option<Cut>, AllocError>
     requires compound { is_compound_of core.now ≡ true }
     requires well_formed { IsWellFormed core.now }

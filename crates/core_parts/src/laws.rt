@@ -9,8 +9,9 @@ ghost use Rattle.part_base.specs.PartsFor.{ArePartsFor};
 ghost use Rattle.core_parts.specs.Parts.{parts_at, is_compound_of};
 ghost use Rattle.core_parts.specs.Size.{size_of, sizes_of};
 
-/// The parts of a compound core stand for it, and are together smaller than it: the cost of each, and one and the number of
-/// its members where it is a count, a sum, of different members or an order of words. So splitting comes to an end.
+/// The parts of a compound core stand for it, and are together smaller than it: the cost of each, and one and the
+/// number of its members where it is a count, a sum, of different members or an order of words. So splitting comes to
+/// an end.
 pub fn parts_law()
     ensures stand { (core : Core) (next : ℕ) → is_compound_of core ≡ true → 1 ≤ next → IsWellFormed core
         → CoreBelow next core → next + cost_of core ≤ 2 ^ 27 → ArePartsFor core next (parts_at next core) }

@@ -1,6 +1,6 @@
 //! How a core is trimmed by one view, compared whole, and which cores are seen to stay as they are.
 
-use core_forms::{is_settled, trim};
+use core_forms::{is_stable, trim};
 use core_words::{core_of, core_text};
 use order_ints::{Atom, Lit};
 use std::alloc::Global;
@@ -83,7 +83,7 @@ static LISTS: [Row; 5] = [
 ];
 
 /// Cores, and whether they are seen to stay. Of the first eight variables 4 and 5 alone do.
-static SETTLED: [(&str, bool); 20] = [
+static STABLE: [(&str, bool); 20] = [
     ("Parity odd 4,-5,9", true),
     ("Parity even none", true),
     ("Parity odd 4,9,3", false),
@@ -128,16 +128,16 @@ fn forms_are_trimmed(rt: HostRuntime) -> io::Result<()> {
 }
 
 /// Tests a row of what stays.
-fn check_settled(rt: &impl Abort, alloc: Global, row: &(&'static str, bool)) -> io::Result<()> {
+fn check_stable(rt: &impl Abort, alloc: Global, row: &(&'static str, bool)) -> io::Result<()> {
     let core = core_of(alloc, row.0)?;
-    assert_eq!(rt; is_settled(&core, &VIEW), row.1, "{}", row.0);
+    assert_eq!(rt; is_stable(&core, &VIEW), row.1, "{}", row.0);
     Ok(())
 }
 
 #[test]
-fn settled_cores_are_seen(rt: HostRuntime) -> io::Result<()> {
-    for row in &SETTLED {
-        check_settled(&rt, rt.alloc(), row)?;
+fn stable_cores_are_seen(rt: HostRuntime) -> io::Result<()> {
+    for row in &STABLE {
+        check_stable(&rt, rt.alloc(), row)?;
     }
     Ok(())
 }

@@ -11,8 +11,8 @@ ghost use Rattle.core_forms.specs.Trimmed.{trimmed_core};
 ghost use Rattle.rule_base.specs.Found.{IsImplied};
 ghost use Rattle.core_rules.specs.Instances.{is_instance_at};
 
-/// An instance is implied by its core where that is well formed, and its two atoms are different. At a core as a store has it they are
-/// labels of the store, so that each is resolved.
+/// An instance is implied by its core where that is well formed, and its two atoms are different. At a core as a store
+/// has it they are labels of the store, so that each is resolved.
 pub fn instance_law()
     ensures implied { (core : Core) (e : Equation)
         → IsWellFormed core → is_instance_at core e ≡ true → IsImplied core e }

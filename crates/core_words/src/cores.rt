@@ -1,5 +1,5 @@
-//! Cores in words: the form's name, `odd`, `even`, `strict` or `or` where the form has a flag, and then the members in the order of its
-//! fields.
+//! Cores in words: the form's name, `odd`, `even`, `strict` or `or` where the form has a flag, and then the members in
+//! the order of its fields.
 
 ghost use Rattle.std.specs.Prelude.{IfOk};
 ghost use Rattle.core_forms.specs.Cores.{AreWellFormed};

@@ -1,6 +1,7 @@
-//! Integers in words. One is the list of its values, with commas between them, where `2..5` is each value from 2 to 5; its
-//! variables are those from 1 on, or with `@7` behind the values those from 7 on. Or it is its least value, `^`, and the atoms
-//! of three steps of weight 1. A list of integers has semicolons between its members; the empty one is `none`.
+//! Integers in words. One is the list of its values, with commas between them, where `2..5` is each value from 2 to 5;
+//! its variables are those from 1 on, or with `@7` behind the values those from 7 on. Or it is its least value, `^`,
+//! and the atoms of three steps of weight 1. A list of integers has semicolons between its members; the empty one is
+//! `none`.
 
 ghost use Rattle.std.specs.Prelude.{◌<◌, ◌≤◌, ◌≤ℤ◌, unsigned_abs, length, IfOk, IsTrue};
 ghost use Rattle.order_ints.specs.OrderMade.{AscendFrom, AreAscending, AreSmall};

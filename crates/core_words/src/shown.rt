@@ -1,6 +1,6 @@
-//! Cores put into words: the form's name with its flag, the atoms, the integers, and the number of a sum, with blanks between
-//! them. An integer is its base and its steps in brackets; a step is its atom, with `:` and the weight behind it where that is
-//! not 1.
+//! Cores put into words: the form's name with its flag, the atoms, the integers, and the number of a sum, with blanks
+//! between them. An integer is its base and its steps in brackets; a step is its atom, with `:` and the weight behind
+//! it where that is not 1.
 
 use bee_text::{push_blank, push_bytes, push_number, push_signed};
 use core_forms::Core;

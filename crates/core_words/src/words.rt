@@ -1,5 +1,5 @@
-//! Words of a text, numbers, and atoms: `T`, `F`, or a variable, with a minus sign where it is negated. A list has commas
-//! between its members; the empty one is `none`.
+//! Words of a text, numbers, and atoms: `T`, `F`, or a variable, with a minus sign where it is negated. A list has
+//! commas between its members; the empty one is `none`.
 
 ghost use Rattle.std.specs.Prelude.{◌≤◌, unsigned_abs, IfOk};
 

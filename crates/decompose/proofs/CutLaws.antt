@@ -1,4 +1,4 @@
--- The cuts of sums and of orders of words make their parts, and leave what is settled settled.
+-- The cuts of sums and of orders of words make their parts, and leave what is stable stable.
 use Rattle.std.proofs.Common.{◌≡◌, ℕ, zero, suc, ◌+◌, ◌-◌, ◌<◌, ◌≤◌, Bool, true, false, ◌&&◌, ◌⊎◌, inl, inr, List, [], ◌∷◌, ◌++◌, map, length, get_or, Contains, ℤ, refl, sym, ap, subst, arith}
 use Rattle.std.specs.Prelude.{IfOk, IfSome}
 use Rattle.std.specs.Bool.{beq}
@@ -19,7 +19,7 @@ use Rattle.core_forms.specs.declared.form.Core.{Core}
 use Rattle.core_forms.specs.declared.form.Core.TheVariants.{Sum, Lex}
 use Rattle.core_forms.specs.Each.{EachStep, EachInt, EachAtom}
 use Rattle.core_forms.specs.Plain.{ArePlainBehind, ArePlainInts}
-use Rattle.core_forms.specs.Settled.{IsSettledCore}
+use Rattle.core_forms.specs.Stable.{IsStableCore}
 use Rattle.core_forms.specs.Sums.{sums_of}
 use Rattle.core_forms.specs.Variables.{core_vars}
 use Rattle.core_forms.proofs.EachLaws.{EachInt-append, EachInt-left, EachInt-right}
@@ -104,8 +104,8 @@ module _ (next : ℕ) (a b c d : OrdInt) (rest : List OrdInt) (k : ℤ) where
       (λ v low high. fresh_var next (length (sums_of a b) - 1) v (λ w. Contains (core_vars long_sum) w) low high) in
       vars_each IsSumVar less_sum (tt, EachInt-append (OfVars IsSumVar) (c ∷ d ∷ rest) (z ∷ []) old.1.1.1 (new, tt))
 
-  sum_settled : (view : List Atom) → next ≡ length view + 1 → IsSettledCore view long_sum → IsSettledCore view less_sum
-  sum_settled view e h = record {
+  sum_stable : (view : List Atom) → next ≡ length view + 1 → IsStableCore view long_sum → IsStableCore view less_sum
+  sum_stable view e h = record {
     plain =
         ArePlainInts-append (c ∷ d ∷ rest) (z ∷ []) h.plain.1.1 (plain_own False next (length (sums_of a b) - 1) z.steps fresh_steps refl refl, tt);
     each = (
@@ -123,7 +123,7 @@ module _ (next : ℕ) (a b c d : OrdInt) (rest : List OrdInt) (k : ℤ) where
     fresh = refl;
     comes = by_sum z (a ∷ b ∷ c ∷ d ∷ rest) k refl refl;
     vars = sum_vars;
-    settled = sum_settled;
+    stable = sum_stable;
   }
 
 -- ---- orders of words
@@ -148,8 +148,8 @@ module _ (next : ℕ) (r : Atom) (strict : Bool) (a b c : OrdInt) (front back : 
         EachInt-append (OfVars IsOrderVar) (c ∷ front) back fronts.1 backs.1,
       )
 
-  order_settled : (view : List Atom) → next ≡ length view + 1 → IsSettledCore view long_order → IsSettledCore view less_order
-  order_settled view e h =
+  order_stable : (view : List Atom) → next ≡ length view + 1 → IsStableCore view long_order → IsStableCore view less_order
+  order_stable view e h =
       let fronts : EachInt (λ x. resolve view x ≡ x) (a ∷ c ∷ front) = EachInt-left (λ x. resolve view x ≡ x) (a ∷ c ∷ front) (b ∷ back) h.each.1 in
       let backs : EachInt (λ x. resolve view x ≡ x) (b ∷ back) = EachInt-right (λ x. resolve view x ≡ x) (a ∷ c ∷ front) (b ∷ back) h.each.1 in
       record {
@@ -163,7 +163,7 @@ module _ (next : ℕ) (r : Atom) (strict : Bool) (a b c : OrdInt) (front back : 
     fresh = refl;
     comes = by_words r strict (a ∷ c ∷ front) (b ∷ back) refl;
     vars = order_vars;
-    settled = order_settled;
+    stable = order_stable;
   }
 
 -- ---- the cut of a core

@@ -1,6 +1,7 @@
--- The parts of different members: for each value of a member a fresh variable, its mark, which says that the member has the value
--- and that its condition is true.
-use Rattle.std.specs.Prelude.{ℕ, ◌+◌, ◌==◌, Bool, true, ◌&&◌, List, [], ◌∷◌, ◌++◌, map, length, ℤ, pos, ◌+ℤ◌, if◌then◌else◌}
+-- The parts of different members: for each value of a member a fresh variable, its mark, which says that the member has
+-- the value and that its condition is true.
+use Rattle.std.specs.Prelude.{ℕ, ◌+◌, ◌==◌, Bool, true, ◌&&◌, List, [], ◌∷◌, ◌++◌, map, length}
+use Rattle.std.specs.Prelude.{ℤ, pos, ◌+ℤ◌, if◌then◌else◌}
 use Rattle.std.specs.Ordering.{int_eq}
 use Rattle.order_ints.specs.Label.{variable}
 use Rattle.order_ints.specs.declared.atom.Atom.{Atom}
@@ -61,7 +62,8 @@ differing_cores ints cs next vs marks =
     ++ (map (λ v. Amo (marked v marks)) vs
     ++ reached_cores ints cs vs marks))
 
--- each member is ordered; the marks; each value is at most one member's; and where it must be, each value is some member's
+-- each member is ordered; the marks; each value is at most one member's; and where it must be, each value is some
+-- member's
 abbrev pub differing_parts : ℕ → List OrdInt → List Atom → Parts
 differing_parts next ints cs = record {
   cores = differing_cores ints cs next (ascending (all_values ints)) (marks_from next (all_values ints));

@@ -24,7 +24,8 @@ last_order r strict a b = if strict then LeqR (not_atom r) b a else LeqR r a b
 abbrev pub before_rest : ℕ → OrdInt → OrdInt → List Core
 before_rest next a b = LeqR (variable next) a b ∷ LeqR (variable (next + 1)) b a ∷ []
 
--- with fresh t for the order of the rests, and u, which is false where b is at most a and t is false: r is true where l and u are
+-- with fresh t for the order of the rests, and u, which is false where b is at most a and t is false: r is true where l
+-- and u are
 abbrev pub behind_rest : ℕ → Atom → List Core
 behind_rest next r =
     Conj (not_atom (variable (next + 3))) (variable (next + 1) ∷ not_atom (variable (next + 2)) ∷ [])

@@ -1,5 +1,5 @@
--- The parts of a sum: up to three members are one sum of two integers, and else a fresh integer behind the list stands for
--- the first two.
+-- The parts of a sum: up to three members are one sum of two integers, and else a fresh integer behind the list stands
+-- for the first two.
 use Rattle.std.specs.Prelude.{ℕ, ◌-◌, List, [], ◌∷◌, ◌++◌, length, ℤ, pos}
 use Rattle.order_ints.specs.declared.order_int.OrdInt.{OrdInt}
 use Rattle.order_ints.specs.OrderMade.{constant_of, integer_of_values}

@@ -110,9 +110,9 @@ fn form_cut(alloc: Global, core: &Core, next_var: u32) -> Result<Option<Cut>, Al
     }
 }
 
-/// How a core that is a long list is split at its front, where it is one: the parts but for the list itself, which stays, and what
-/// comes behind it. They are those that `parts` makes. It takes the time and the memory of what leaves and comes, and not of what
-/// stays.
+/// How a core that is a long list is split at its front, where it is one: the parts but for the list itself, which
+/// stays, and what comes behind it. They are those that `parts` makes. It takes the time and the memory of what leaves
+/// and comes, and not of what stays.
 pub fn cut(alloc: Global, core: &Core, next_var: u32) -> Result<Option<Cut>, AllocError>
     requires well_formed { IsWellFormed core.now }
     requires first { 1 ≤ next_var }

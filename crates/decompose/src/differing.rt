@@ -1,10 +1,12 @@
 //! The parts of different members.
 
-ghost use Rattle.std.specs.Prelude.{◌≡◌, ◌+◌, ◌==◌, ◌^◌, ◌<◌, ◌≤◌, ◌++◌, ◌&&◌, [], IfOk, OnOk, length, map, unsigned_abs, if◌then◌else◌};
+ghost use Rattle.std.specs.Prelude.{◌≡◌, ◌+◌, ◌==◌, ◌^◌, ◌<◌, ◌≤◌, ◌++◌, ◌&&◌, []};
+ghost use Rattle.std.specs.Prelude.{IfOk, OnOk, length, map, unsigned_abs, if◌then◌else◌};
 ghost use Rattle.order_ints.specs.OrderLevels.{values_of};
 ghost use Rattle.core_forms.specs.declared.form.Core.TheVariants.{Ladder, Clause, Amo};
 ghost use Rattle.core_forms.specs.WellFormed.{IsSound, AreSound};
-ghost use Rattle.decompose.specs.DifferingParts.{all_values, mark_core, mark_cores, all_mark_cores, are_true, differing_parts};
+ghost use Rattle.decompose.specs.DifferingParts.{all_values, mark_core, mark_cores, all_mark_cores, are_true};
+ghost use Rattle.decompose.specs.DifferingParts.{differing_parts};
 
 use crate::by_value::{all_values, groups, marks};
 use crate::fresh::atom_of;
@@ -140,7 +142,8 @@ fn reached(
     groups: &[Sequence<Atom>],
 ) -> Result<Vec<Core>, AllocError>
     ensures { IfOk result (λ cores. cores.items
-        ≡ (if are_true conditions.now && (length groups.now == members) then map (λ group. Clause group) groups.now else [])) }
+        ≡ (if are_true conditions.now && (length groups.now == members) then map (λ group. Clause group) groups.now
+        else [])) }
 {
     if groups.len() == members && are_true(conditions) {
         return clauses(alloc, groups);

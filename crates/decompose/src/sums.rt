@@ -1,6 +1,7 @@
 //! The parts of a sum.
 
-ghost use Rattle.std.specs.Prelude.{◌≡◌, ◌+◌, ◌-◌, ◌^◌, ◌<◌, ◌≤◌, ◌∷◌, ◌++◌, [], ℤ, unsigned_abs, IfOk, length};
+ghost use Rattle.std.specs.Prelude.{◌≡◌, ◌+◌, ◌-◌, ◌^◌, ◌<◌, ◌≤◌, ◌∷◌, ◌++◌, []};
+ghost use Rattle.std.specs.Prelude.{ℤ, unsigned_abs, IfOk, length};
 ghost use Rattle.order_ints.specs.OrderMade.{constant_of};
 ghost use Rattle.core_cost.specs.Sums.{fresh_sum_of, cost_of_sum};
 ghost use Rattle.core_forms.specs.declared.form.Core.TheVariants.{Sum3, Sum};

@@ -1,4 +1,5 @@
--- The compiled text of declared names, what they stand for, the steps of the compilation, and a CNF, as a function to bytes.
+-- The compiled text of declared names, what they stand for, the steps of the compilation, and a CNF, as a function to
+-- bytes.
 --
 --     c bee 1
 --     c bool NAME ATOM               for each declared Boolean
@@ -8,7 +9,8 @@
 --     LITERAL .. 0                   for each clause
 --
 -- An atom is `T`, `F`, or a variable with its sign.
-use Rattle.std.specs.Prelude.{ℕ, ◌≤◌, ◌<◌, ◌^◌, ◌+◌, List, [], ◌∷◌, ◌++◌, codes, length, map, FitsSigned}
+use Rattle.std.specs.Prelude.{ℕ, ◌≤◌, ◌<◌, ◌^◌, ◌+◌, List, [], ◌∷◌, ◌++◌, codes, length}
+use Rattle.std.specs.Prelude.{map, FitsSigned}
 use Rattle.std.specs.Int.{w128}
 use Rattle.std.specs.Fmt.{decimal, signed_decimal}
 use Rattle.bee_text.specs.Lines.{join_lines}
@@ -59,7 +61,10 @@ clause_line c = join_words (clause_words c)
 -- the lines of what a text holds
 abbrev pub text_lines : CnfText → List (List ℕ)
 text_lines x =
-    heading ∷ (map entry_line x.entries ++ (map ledger_line x.ledger ++ numbers_line x.cnf.vars (length x.cnf.clauses) ∷ map clause_line x.cnf.clauses))
+    heading
+    ∷ (map entry_line x.entries
+    ++ (map ledger_line x.ledger ++ numbers_line x.cnf.vars (length x.cnf.clauses)
+    ∷ map clause_line x.cnf.clauses))
 
 -- its text
 abbrev pub text_of : CnfText → List ℕ
@@ -79,8 +84,8 @@ abbrev pub EntriesBelow : ℕ → List MapEntry → Type 0
 EntriesBelow n [] = Unit {0}
 EntriesBelow n (e ∷ entries) = ValueBelow n e.value × EntriesBelow n entries
 
--- what has a compiled text: declared names, each once, that stand for atoms and integers over the variables from 1 to the
--- CNF's number of them, with weights of at least 1; ledger lines and a CNF over these variables
+-- what has a compiled text: declared names, each once, that stand for atoms and integers over the variables from 1 to
+-- the CNF's number of them, with weights of at least 1; ledger lines and a CNF over these variables
 pub record IsWritable (x : CnfText) : Type 0 where
   pub names : AreDeclared (map (λ e. e.name) x.entries)
   pub values : EntriesBelow (x.cnf.vars + 1) x.entries

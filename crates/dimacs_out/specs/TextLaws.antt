@@ -16,4 +16,5 @@ TextTellsAll = (x y : CnfText) → IsWritable x → IsWritable y → text_of x �
 abbrev pub StandsForExactly : Type 0
 StandsForExactly =
     (x : CnfText) (a : List ℤ) → IsWritable x
-    → (StandsFor (text_of x) a ↔ ((σ : Valuation) × Satisfies σ x.cnf × (a ≡ numbers_of σ (values_of x.entries))))
+    → (StandsFor (text_of x) a ↔ ((σ : Valuation) × Satisfies σ x.cnf
+    × (a ≡ numbers_of σ (values_of x.entries))))

@@ -7,8 +7,8 @@ use Rattle.name_map.specs.Values.{values_of}
 use Rattle.dimacs_out.specs.declared.text.CnfText.{CnfText}
 use Rattle.dimacs_out.specs.CompiledText.{text_of, IsWritable}
 
--- a text stands for an assignment where it is the compiled text of names, a map, a ledger and a CNF, and a valuation that
--- satisfies the CNF gives the assignment
+-- a text stands for an assignment where it is the compiled text of names, a map, a ledger and a CNF, and a valuation
+-- that satisfies the CNF gives the assignment
 pub record StandsFor (text : List ℕ) (a : List ℤ) : Type 0 where
   pub holds : CnfText
   pub writable : IsWritable holds

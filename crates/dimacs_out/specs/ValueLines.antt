@@ -1,5 +1,5 @@
--- The lines that tell the values of declared names: `NAME = VALUE`, with `true` or `false` for a Boolean and a number for an
--- integer.
+-- The lines that tell the values of declared names: `NAME = VALUE`, with `true` or `false` for a Boolean and a number
+-- for an integer.
 use Rattle.std.specs.Prelude.{ℕ, List, map, ℤ}
 use Rattle.bee_text.specs.Lines.{join_lines}
 use Rattle.order_ints.specs.Truth.{Valuation}

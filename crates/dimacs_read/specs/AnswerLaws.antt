@@ -12,4 +12,5 @@ TextOrLine = (text : List ℕ) → ((x : CnfText) × IsTextOf x text) ⊎ ((line
 
 -- and for a CNF it is in the form of values, or a line of it fails
 abbrev pub ValuesOrLine : Type 0
-ValuesOrLine = (cnf : Cnf) (text : List ℕ) → ((values : List Bool) × IsValues cnf text values) ⊎ ((line : ℕ) × ValuesFail cnf text line)
+ValuesOrLine = (cnf : Cnf) (text : List ℕ) → ((values : List Bool) × IsValues cnf text values)
+    ⊎ ((line : ℕ) × ValuesFail cnf text line)

@@ -19,7 +19,8 @@ AreInLimit (e ∷ entries) = IsInLimit e.value × AreInLimit entries
 
 -- a text that is written, of values and variables in the limits, is read as what was written
 abbrev pub WrittenIsRead : Type 0
-WrittenIsRead = (x : CnfText) → IsWritable x → x.cnf.vars ≤ 2 ^ 26 → AreInLimit x.entries → IsTextOf x (text_of x)
+WrittenIsRead = (x : CnfText) → IsWritable x → x.cnf.vars ≤ 2 ^ 26 → AreInLimit x.entries
+    → IsTextOf x (text_of x)
 
 -- what is read can be written
 abbrev pub ReadIsWritable : Type 0
@@ -27,7 +28,8 @@ ReadIsWritable = (x : CnfText) → IsReadable x → IsWritable x
 
 -- values satisfy the clauses
 abbrev pub ValuesSatisfy : Type 0
-ValuesSatisfy = (cnf : Cnf) (text : List ℕ) (values : List Bool) → IsValues cnf text values → Satisfies (valuation_of values) cnf
+ValuesSatisfy = (cnf : Cnf) (text : List ℕ) (values : List Bool) → IsValues cnf text values
+    → Satisfies (valuation_of values) cnf
 
 -- what the names have under values is an assignment that the compiled text stands for
 abbrev pub ValuesGiveAssignment : Type 0

@@ -1,5 +1,6 @@
 -- Which compiled texts can be read.
-use Rattle.std.specs.Prelude.{◌≡◌, ℕ, ◌+◌, ◌^◌, ◌<◌, ◌≤◌, Bool, true, not, ◌&&◌, nat_le, List, [], ◌∷◌, length, map, position, Option, Some, None, option_map, unsigned_abs}
+use Rattle.std.specs.Prelude.{◌≡◌, ℕ, ◌+◌, ◌^◌, ◌<◌, ◌≤◌, Bool, true, not, ◌&&◌, nat_le}
+use Rattle.std.specs.Prelude.{List, [], ◌∷◌, length, map, position, Option, Some, None, option_map, unsigned_abs}
 use Rattle.std.specs.List.{list_all}
 use Rattle.order_ints.specs.declared.atom.Atom.{Atom}
 use Rattle.order_ints.specs.declared.atom.Atom.TheVariants.{True, False, Of}
@@ -57,7 +58,8 @@ above_of names None later = option_map (λ j. j + (names + 2)) later
 
 abbrev pub first_above : ℕ → List MapEntry → List Line → Option ℕ
 first_above n entries ledger =
-    above_of (length entries) (position (λ e. not (value_within n e.value)) entries) (position (λ l. not (step_within n l)) ledger)
+    above_of (length entries) (position (λ e. not (value_within n e.value)) entries)
+    (position (λ l. not (step_within n l)) ledger)
 
 -- what can be read
 pub record IsReadable (x : CnfText) : Type 0 where

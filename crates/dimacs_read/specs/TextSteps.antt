@@ -1,5 +1,6 @@
 -- Which line may stand next in a compiled text.
-use Rattle.std.specs.Prelude.{◌≡◌, ◌⊎◌, ℕ, ◌+◌, ◌^◌, ◌<◌, ◌≤◌, List, [], ◌∷◌, ◌++◌, length, map, Option, Some, None}
+use Rattle.std.specs.Prelude.{◌≡◌, ◌⊎◌, ℕ, ◌+◌, ◌^◌, ◌<◌, ◌≤◌, List, [], ◌∷◌}
+use Rattle.std.specs.Prelude.{◌++◌, length, map, Option, Some, None}
 use Rattle.order_ints.specs.declared.literal.Lit.{Lit}
 use Rattle.order_ints.specs.Place.{ClauseBelow}
 use Rattle.ledger_text.specs.declared.line.Line.{Line}
@@ -31,7 +32,12 @@ pub record IsNamed (s : Draft) (line : List ℕ) (t : Draft) : Type 0 where
   pub spelled : line ≡ entry_line entry
   pub readable : IsReadableEntry entry
   pub new : IsNew entry.name (map (λ e. e.name) s.entries)
-  pub after : t ≡ record { stage = Names; entries = s.entries ++ entry ∷ []; ledger = s.ledger; clauses = s.clauses }
+  pub after : t ≡ record {
+    stage = Names;
+    entries = s.entries ++ entry ∷ [];
+    ledger = s.ledger;
+    clauses = s.clauses;
+  }
 
 -- the line of a ledger line
 pub record IsLedgered (s : Draft) (line : List ℕ) (t : Draft) : Type 0 where
@@ -61,11 +67,17 @@ pub record IsClause (vars count : ℕ) (s : Draft) (line : List ℕ) (t : Draft)
   pub spelled : line ≡ clause_line clause
   pub below : ClauseBelow (vars + 1) clause
   pub fewer : length s.clauses < count
-  pub after : t ≡ record { stage = Clauses vars count; entries = s.entries; ledger = s.ledger; clauses = s.clauses ++ clause ∷ [] }
+  pub after : t ≡ record {
+    stage = Clauses vars count;
+    entries = s.entries;
+    ledger = s.ledger;
+    clauses = s.clauses ++ clause ∷ [];
+  }
 
 -- the line may stand next
 abbrev pub NextAt : TextStage → Draft → List ℕ → Draft → Type 0
-NextAt Start s line t = (line ≡ heading) × (t ≡ record { stage = Names; entries = s.entries; ledger = s.ledger; clauses = s.clauses })
+NextAt Start s line t = (line ≡ heading)
+    × (t ≡ record { stage = Names; entries = s.entries; ledger = s.ledger; clauses = s.clauses })
 NextAt Names s line t = IsNamed s line t ⊎ (IsLedgered s line t ⊎ IsProblem s line t)
 NextAt Steps s line t = IsLedgered s line t ⊎ IsProblem s line t
 NextAt (Clauses vars count) s line t = IsClause vars count s line t

@@ -5,7 +5,8 @@
 --     v LITERAL LITERAL ..     one line or more; 0 stands behind the last literal
 --
 -- Words stand apart by blanks, tabs and carriage returns. Each variable of the CNF stands once.
-use Rattle.std.specs.Prelude.{◌≡◌, ◌⊎◌, ℕ, ◌-◌, ◌≤◌, Bool, true, false, List, [], ◌∷◌, codes, replicate, slice_get, slice_set, Some, IsTrue}
+use Rattle.std.specs.Prelude.{◌≡◌, ◌⊎◌, ℕ, ◌-◌, ◌≤◌, Bool, true, false, List, [], ◌∷◌}
+use Rattle.std.specs.Prelude.{codes, replicate, slice_get, slice_set, Some, IsTrue}
 use Rattle.std.specs.List.{list_all}
 use Rattle.std.specs.Str.{bytes_eq}
 use Rattle.bee_text.specs.Gaps.{words_of}
@@ -44,7 +45,10 @@ IsNew k l = (1 ≤ l.var) × (slice_get k.listed (l.var - 1) ≡ Some false)
 
 -- a literal tells that it is true
 abbrev pub with_literal : Known → Lit → Known
-with_literal k l = record { listed = slice_set k.listed (l.var - 1) true; values = slice_set k.values (l.var - 1) l.positive }
+with_literal k l = record {
+  listed = slice_set k.listed (l.var - 1) true;
+  values = slice_set k.values (l.var - 1) l.positive;
+}
 
 -- words that tell values: literals, and where `ends` says so, 0 behind them
 abbrev pub Tell : Known → List (List ℕ) → Bool → Known → Type 0
@@ -89,7 +93,8 @@ is_skipped (w ∷ ws) = bytes_eq w (codes "c")
 -- the line may stand next
 abbrev pub NextValues : Cnf → Told → List ℕ → Told → Type 0
 NextValues cnf s line t =
-    ((is_skipped (words_of line) ≡ true) × (t ≡ s)) ⊎ ((is_skipped (words_of line) ≡ false) × Says cnf s.stage s.known (words_of line) t)
+    ((is_skipped (words_of line) ≡ true) × (t ≡ s))
+    ⊎ ((is_skipped (words_of line) ≡ false) × Says cnf s.stage s.known (words_of line) t)
 
 -- the values are told to their end
 abbrev pub AreTold : Told → Type 0

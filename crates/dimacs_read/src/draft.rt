@@ -1,9 +1,11 @@
 //! A compiled text, as far as it is read.
 
-ghost use Rattle.std.specs.Prelude.{◌≡◌, ◌⊎◌, ◌∷◌, ◌++◌, [], map, ◌↔◌, IfOk, IsTrue, MatchBool};
+ghost use Rattle.std.specs.Prelude.{◌≡◌, ◌⊎◌, ◌∷◌, ◌++◌, [], map, ◌↔◌, IfOk, IsTrue};
+ghost use Rattle.std.specs.Prelude.{MatchBool};
 ghost use Rattle.bumblebee_reader.specs.Names.{IsNew};
 ghost use Rattle.dimacs_read.specs.declared.draft.TextStage.TheVariants.{Start, Names, Steps, Clauses};
-ghost use Rattle.dimacs_read.specs.TextSteps.{Draft, nothing_read, IsNamed, IsLedgered, IsProblem, IsClause, NextAt, NextLine, IsComplete, MayHaveNumbers, FailsBefore, vars_of, held};
+ghost use Rattle.dimacs_read.specs.TextSteps.{Draft, nothing_read, IsNamed, IsLedgered, IsProblem, IsClause, NextAt};
+ghost use Rattle.dimacs_read.specs.TextSteps.{NextLine, IsComplete, MayHaveNumbers, FailsBefore, vars_of, held};
 ghost use Rattle.dimacs_read.specs.TextLines.{first_above};
 
 use crate::above::first_above;
@@ -69,7 +71,12 @@ impl Model for DraftText {
 
     ghost Value = { Draft };
 
-    ghost view = { λ d. record { stage = d.stage; entries = d.entries.items; ledger = d.ledger.items; clauses = d.clauses.items } };
+    ghost view = { λ d. record {
+      stage = d.stage;
+      entries = d.entries.items;
+      ledger = d.ledger.items;
+      clauses = d.clauses.items;
+    } };
 
     ghost invariant = { λ d. d.names.keys ≡ map (λ e. e.name) d.entries.items };
 }
@@ -92,7 +99,12 @@ impl DraftText {
     fn add_entry(&mut self, entry: MapEntry) -> Result<bool, AllocError>
         ensures { IfOk result
             (λ added. MatchBool added (IsNew entry.name (map (λ e. e.name) self.old.entries)
-            × (self.new ≡ record { stage = Names; entries = self.old.entries ++ entry ∷ []; ledger = self.old.ledger; clauses = self.old.clauses }))
+            × (self.new ≡ record {
+              stage = Names;
+              entries = self.old.entries ++ entry ∷ [];
+              ledger = self.old.ledger;
+              clauses = self.old.clauses;
+            }))
             ((IsNew entry.name (map (λ e. e.name) self.old.entries) → ⊥) × (self.new ≡ self.old))) }
     {
         let name = entry.name.clone()?;
@@ -171,7 +183,8 @@ impl DraftText {
         requires { self.old.stage ≡ Clauses numbers.vars numbers.count }
         ensures { IfOk result
             (λ taken. MatchBool taken (IsClause numbers.vars numbers.count self.old line.now self.new)
-            (((t : Draft) → IsClause numbers.vars numbers.count self.old line.now t → ⊥) × (self.new ≡ self.old))) }
+            (((t : Draft) → IsClause numbers.vars numbers.count self.old line.now t → ⊥)
+            × (self.new ≡ self.old))) }
     {
         if self.clauses.len() as u64 >= numbers.count {
             return Ok(false);
@@ -202,7 +215,8 @@ impl DraftText {
     fn take_behind_names(&mut self, line: &[u8]) -> Result<bool, AllocError>
         ensures { IfOk result
             (λ taken. MatchBool taken (IsLedgered self.old line.now self.new ⊎ IsProblem self.old line.now self.new)
-            (((t : Draft) → IsLedgered self.old line.now t ⊎ IsProblem self.old line.now t → ⊥) × (self.new ≡ self.old))) }
+            (((t : Draft) → IsLedgered self.old line.now t ⊎ IsProblem self.old line.now t → ⊥)
+            × (self.new ≡ self.old))) }
     {
         if self.take_step(line)? {
             return Ok(true);

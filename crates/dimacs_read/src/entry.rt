@@ -1,6 +1,7 @@
 //! Reads the line of a declared name.
 
-ghost use Rattle.std.specs.Prelude.{◌≡◌, ◌∷◌, [], ℕ, List, codes, map, MatchOption, IfOk, unsigned_abs, pos, ◌+ℤ◌, ◌≤◌, ◌^◌, ◌+◌};
+ghost use Rattle.std.specs.Prelude.{◌≡◌, ◌∷◌, [], ℕ, List, codes, map, MatchOption, IfOk, unsigned_abs};
+ghost use Rattle.std.specs.Prelude.{pos, ◌+ℤ◌, ◌≤◌, ◌^◌, ◌+◌};
 ghost use Rattle.std.specs.Fmt.{signed_decimal};
 ghost use Rattle.order_ints.specs.declared.atom.Atom.{Atom};
 ghost use Rattle.order_ints.specs.declared.order_int.OrdInt.{OrdInt};
@@ -97,7 +98,8 @@ fn limited(integer: OrdInt, total: u128) -> Option<OrdInt>
 /// The integer that the words spell that are left.
 fn read_int(alloc: Global, words: &mut Words<'_>) -> Result<Option<OrdInt>, AllocError>
     ensures { IfOk result
-        (λ found. MatchOption found ((a : OrdInt) → IsReadableInt a → words.old ≡ signed_decimal a.base ∷ map step_word a.steps → ⊥)
+        (λ found. MatchOption found ((a : OrdInt) → IsReadableInt a
+        → words.old ≡ signed_decimal a.base ∷ map step_word a.steps → ⊥)
         (λ a. IsReadableInt a × (words.old ≡ signed_decimal a.base ∷ map step_word a.steps))) }
 {
     let Some(word) = words.next_word() else {
@@ -121,7 +123,8 @@ fn read_value(
     words: &mut Words<'_>,
 ) -> Result<Option<MapValue>, AllocError>
     ensures { IfOk result
-        (λ found. MatchOption found ((v : MapValue) → kind_of v ≡ kind → IsReadableValue v → words.old ≡ tail_words v → ⊥)
+        (λ found. MatchOption found ((v : MapValue) → kind_of v ≡ kind → IsReadableValue v
+        → words.old ≡ tail_words v → ⊥)
         (λ v. (kind_of v ≡ kind) × IsReadableValue v × (words.old ≡ tail_words v))) }
 {
     match kind {

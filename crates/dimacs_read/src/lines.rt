@@ -1,6 +1,7 @@
 //! Reads the lines of a compiled text that are no names.
 
-ghost use Rattle.std.specs.Prelude.{◌≡◌, ◌↔◌, ℕ, ◌+◌, ◌<◌, ◌^◌, ◌∷◌, [], List, IsTrue, MatchOption, IfOk};
+ghost use Rattle.std.specs.Prelude.{◌≡◌, ◌↔◌, ℕ, ◌+◌, ◌<◌, ◌^◌, ◌∷◌, [], List, IsTrue};
+ghost use Rattle.std.specs.Prelude.{MatchOption, IfOk};
 ghost use Rattle.std.specs.Fmt.{decimal};
 ghost use Rattle.order_ints.specs.declared.literal.Lit.{Lit};
 ghost use Rattle.order_ints.specs.Place.{ClauseBelow};
@@ -49,7 +50,8 @@ pub(crate) struct Numbers {
 /// The numbers that two words spell, and no word behind them.
 fn read_pair(words: &mut Words<'_>) -> Option<Numbers>
     ensures { MatchOption result
-        ((vars count : ℕ) → vars < 2 ^ 32 → count < 2 ^ 64 → words.old ≡ decimal vars ∷ decimal count ∷ [] → ⊥)
+        ((vars count : ℕ) → vars < 2 ^ 32 → count < 2 ^ 64 → words.old ≡ decimal vars ∷ decimal count ∷ []
+        → ⊥)
         (λ n. (words.old ≡ decimal n.vars ∷ decimal n.count ∷ []) × (n.vars < 2 ^ 32) × (n.count < 2 ^ 64)) }
 {
     let vars = read_number(words.next_word()?, u128::from(u32::MAX))?;
@@ -86,7 +88,8 @@ fn read_literals(
     vars: u32,
 ) -> Result<Option<Vec<Lit>>, AllocError>
     ensures { IfOk result
-        (λ found. MatchOption found ((c : List Lit) → ClauseBelow (vars + 1) c → words.old ≡ clause_words c → ⊥)
+        (λ found. MatchOption found ((c : List Lit) → ClauseBelow (vars + 1) c → words.old ≡ clause_words c
+        → ⊥)
         (λ c. ClauseBelow (vars + 1) c.items × (words.old ≡ clause_words c.items))) }
 {
     let mut literals = Vec::new(alloc);
@@ -112,7 +115,8 @@ pub(crate) fn read_clause(
     vars: u32,
 ) -> Result<Option<Sequence<Lit>>, AllocError>
     ensures { IfOk result
-        (λ found. MatchOption found ((c : List Lit) → ClauseBelow (vars + 1) c → line.now ≡ clause_line c → ⊥)
+        (λ found. MatchOption found ((c : List Lit) → ClauseBelow (vars + 1) c → line.now ≡ clause_line c
+        → ⊥)
         (λ c. ClauseBelow (vars + 1) c × (line.now ≡ clause_line c))) }
 {
     let mut words = split_words(line);

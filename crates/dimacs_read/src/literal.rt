@@ -18,7 +18,8 @@ pub(crate) fn is(word: &[u8], bytes: &[u8]) -> bool
 
 /// The literal of a variable from 1 to `vars` whose decimal the digits are.
 fn read_variable(digits: &[u8], positive: bool, vars: u32) -> Option<Lit>
-    ensures read { IfSome result (λ l. LitBelow (vars + 1) l × (digits.now ≡ decimal l.var) × (l.positive ≡ positive)) }
+    ensures read { IfSome result (λ l. LitBelow (vars + 1) l × (digits.now ≡ decimal l.var)
+        × (l.positive ≡ positive)) }
     ensures complete { (l : Lit) → LitBelow (vars + 1) l → l.positive ≡ positive → digits.now ≡ decimal l.var
         → result ≡ Some l }
 {

@@ -45,8 +45,10 @@ fn read_step_word(word: &[u8]) -> Option<(Atom, u128)>
 /// The steps that the words spell that are left.
 pub(crate) fn read_steps(alloc: Global, words: &mut Words<'_>) -> Result<Option<Steps>, AllocError>
     ensures { IfOk result
-        (λ found. MatchOption found ((steps : List (Atom × ℕ)) → AreReadableWeights steps → words.old ≡ map step_word steps → ⊥)
-        (λ s. AreReadableWeights s.steps.items × (words.old ≡ map step_word s.steps.items) × (s.total ≡ weights s.steps.items))) }
+        (λ found. MatchOption found ((steps : List (Atom × ℕ)) → AreReadableWeights steps
+        → words.old ≡ map step_word steps → ⊥)
+        (λ s. AreReadableWeights s.steps.items × (words.old ≡ map step_word s.steps.items)
+        × (s.total ≡ weights s.steps.items))) }
 {
     let mut steps = Vec::new(alloc);
     let mut total = 0;

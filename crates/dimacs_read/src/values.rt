@@ -1,8 +1,10 @@
 //! Reads the values that a SAT solver answers.
 
-ghost use Rattle.std.specs.Prelude.{◌≡◌, ◌↔◌, ◌∷◌, [], ℕ, List, Bool, codes, IsTrue, MatchOption, IfSome, IfOk, IfErr};
+ghost use Rattle.std.specs.Prelude.{◌≡◌, ◌↔◌, ◌∷◌, [], ℕ, List, Bool, codes, IsTrue, MatchOption};
+ghost use Rattle.std.specs.Prelude.{IfSome, IfOk, IfErr};
 ghost use Rattle.bee_text.specs.Gaps.{words_of};
-ghost use Rattle.dimacs_read.specs.Values.{Known, Told, told, nothing_told, Tell, IsTold, Says, NextValues, IsValues, ValuesFail};
+ghost use Rattle.dimacs_read.specs.Values.{Known, Told, told, nothing_told, Tell, IsTold, Says, NextValues, IsValues};
+ghost use Rattle.dimacs_read.specs.Values.{ValuesFail};
 ghost use Rattle.dimacs_read.specs.Faults.{ValuesFault, IsReadAs, FailsAt};
 
 use crate::fault::CompiledTextFault;
@@ -31,7 +33,8 @@ fn take_words(known: &mut KnownValues, text: &[u8]) -> Option<bool>
     ensures told { MatchOption result ((ends : Bool) (k : Known) → Tell known.old (words_of text.now) ends k → ⊥)
         (λ ends. Tell known.old (words_of text.now) ends known.new) }
     ensures only { IfSome result
-        (λ ends. (e : Bool) (k : Known) → Tell known.old (words_of text.now) e k → (e ≡ ends) × (k ≡ known.new)) }
+        (λ ends. (e : Bool) (k : Known) → Tell known.old (words_of text.now) e k → (e ≡ ends)
+        × (k ≡ known.new)) }
 {
     let mut rest = text;
     while let Some((word, behind)) = next_word(rest) {
@@ -215,7 +218,8 @@ fn read_told(alloc: Global, text: &[u8], cnf: &Cnf) -> Result<Vec<bool>, Compile
 pub fn read_values(alloc: Global, text: &[u8], cnf: &Cnf) -> Result<Vec<bool>, CompiledTextFault>
     ensures read { IfOk result (λ values. IsValues cnf.now text.now values.items) }
     ensures fault { IfErr result (ValuesFault cnf.now text.now) }
-    ensures complete { (values : List Bool) → IsValues cnf.now text.now values → IsReadAs (λ v. v.items) result values }
+    ensures complete { (values : List Bool) → IsValues cnf.now text.now values
+        → IsReadAs (λ v. v.items) result values }
     ensures exact { (line : ℕ) → ValuesFail cnf.now text.now line → FailsAt result line }
 {
     // A field that is read tells the proof its range.

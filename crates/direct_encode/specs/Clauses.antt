@@ -2,7 +2,8 @@
 use Rattle.std.specs.Prelude.{List, [], ◌∷◌, ◌++◌}
 use Rattle.order_ints.specs.declared.atom.Atom.{Atom}
 use Rattle.core_forms.specs.declared.form.Core.{Core}
-use Rattle.core_forms.specs.declared.form.Core.TheVariants.{Ladder, Clause, Parity, Conj, Comp, LeqR, EqR, Sum3, Count, Sum, Max, AllDiff, Amo, Prod, DivMod, Lex}
+use Rattle.core_forms.specs.declared.form.Core.TheVariants.{Ladder, Clause, Parity, Conj, Comp, LeqR, EqR, Sum3, Count}
+use Rattle.core_forms.specs.declared.form.Core.TheVariants.{Sum, Max, AllDiff, Amo, Prod, DivMod, Lex}
 use Rattle.direct_encode.specs.Orders.{order_clauses, orders_of}
 use Rattle.direct_encode.specs.AtomLists.{parity_clauses, conj_clauses, comp_clauses, amo_clauses}
 use Rattle.direct_encode.specs.Comparisons.{leq_clauses, eq_clauses}

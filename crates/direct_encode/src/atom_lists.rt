@@ -1,8 +1,10 @@
 //! The clauses of the forms over lists of atoms.
 
-ghost use Rattle.std.specs.Prelude.{◌≡◌, ◌≤◌, ◌∷◌, [], ◌++◌, OnOk, IfOk, length, map, if◌then◌else◌};
+ghost use Rattle.std.specs.Prelude.{◌≡◌, ◌≤◌, ◌∷◌, [], ◌++◌, OnOk, IfOk, length, map};
+ghost use Rattle.std.specs.Prelude.{if◌then◌else◌};
 ghost use Rattle.order_ints.specs.Truth.{not_atom};
-ghost use Rattle.direct_encode.specs.AtomLists.{parity_clauses, member_clauses, conj_clauses, comp_clauses, apart_clauses, amo_clauses};
+ghost use Rattle.direct_encode.specs.AtomLists.{parity_clauses, member_clauses, conj_clauses, comp_clauses};
+ghost use Rattle.direct_encode.specs.AtomLists.{apart_clauses, amo_clauses};
 
 use crate::clause::{push_clause, push_owned};
 use bee_list::Sequence;

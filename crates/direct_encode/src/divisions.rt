@@ -1,6 +1,7 @@
 //! The clauses of quotient and rest of two integers, over each pair of values.
 
-ghost use Rattle.std.specs.Prelude.{◌≡◌, ◌++◌, ◌^◌, ◌<◌, ◌≤◌, ◌/◌, ◌%◌, pos, ◌≤ℤ◌, unsigned_abs, OnOk};
+ghost use Rattle.std.specs.Prelude.{◌≡◌, ◌++◌, ◌^◌, ◌<◌, ◌≤◌, ◌/◌, ◌%◌, pos};
+ghost use Rattle.std.specs.Prelude.{◌≤ℤ◌, unsigned_abs, OnOk};
 ghost use Rattle.order_ints.specs.OrderRange.{low_of};
 ghost use Rattle.core_forms.specs.WellFormed.{IsSound};
 ghost use Rattle.core_forms.specs.Shapes.{steps_of};

@@ -17,7 +17,8 @@ ghost use Rattle.direct_encode.specs.Clauses.{clauses_of};
 /// A valuation makes the clauses of a well formed basic core true together exactly where it meets the core.
 pub fn meaning_law()
     ensures { (σ : Valuation) (core : Core)
-        → IsTrue (is_basic_of core) → IsWellFormed core → atom_clauses_truth σ (clauses_of core) ≡ core_truth σ core }
+        → IsTrue (is_basic_of core) → IsWellFormed core
+        → atom_clauses_truth σ (clauses_of core) ≡ core_truth σ core }
 {}
 
 /// The clauses of a well formed basic core have at most as many literals as it costs.

@@ -2,7 +2,8 @@
 
 ghost use Rattle.std.specs.Prelude.{◌≡◌, ◌∷◌, ◌++◌, IfOk, OnOk};
 ghost use Rattle.core_forms.specs.WellFormed.{IsSound, AreSound};
-ghost use Rattle.direct_encode.specs.Maxima.{at_most_clauses, all_at_most_clauses, all_at, some_reaching_clauses, max_clauses};
+ghost use Rattle.direct_encode.specs.Maxima.{at_most_clauses, all_at_most_clauses, all_at, some_reaching_clauses};
+ghost use Rattle.direct_encode.specs.Maxima.{max_clauses};
 ghost use Rattle.direct_encode.specs.Walked.{walked};
 
 use crate::clause::{push_clause, push_owned};

@@ -1,11 +1,13 @@
 //! The clauses of a sum of two integers, over each pair of values.
 
-ghost use Rattle.std.specs.Prelude.{◌≡◌, ◌^◌, ◌<◌, ◌≤◌, ◌++◌, pos, ◌+ℤ◌, unsigned_abs, OnOk};
+ghost use Rattle.std.specs.Prelude.{◌≡◌, ◌^◌, ◌<◌, ◌≤◌, ◌++◌, pos, ◌+ℤ◌, unsigned_abs};
+ghost use Rattle.std.specs.Prelude.{OnOk};
 ghost use Rattle.order_ints.specs.Truth.{not_atom};
 ghost use Rattle.order_ints.specs.Walk.{value_at};
 ghost use Rattle.core_forms.specs.WellFormed.{IsSound};
 ghost use Rattle.core_forms.specs.Shapes.{steps_of};
-ghost use Rattle.direct_encode.specs.Tables.{row_clauses, from_pair, up_to_pair, sum_reached, sum_exceeded, has_lower_neighbour, has_upper_neighbour, unless, sum_pair, sum3_clauses};
+ghost use Rattle.direct_encode.specs.Tables.{row_clauses, from_pair, up_to_pair, sum_reached, sum_exceeded};
+ghost use Rattle.direct_encode.specs.Tables.{has_lower_neighbour, has_upper_neighbour, unless, sum_pair, sum3_clauses};
 
 use crate::clause::push_clause;
 use crate::table::Table;

@@ -1,6 +1,7 @@
 //! The levels of an integer as a list, in which a value is searched.
 
-ghost use Rattle.std.specs.Prelude.{◌≡◌, ◌+◌, ◌^◌, ◌<◌, ◌≤◌, pos, ◌+ℤ◌, unsigned_abs, IfOk};
+ghost use Rattle.std.specs.Prelude.{◌≡◌, ◌+◌, ◌^◌, ◌<◌, ◌≤◌, pos, ◌+ℤ◌, unsigned_abs};
+ghost use Rattle.std.specs.Prelude.{IfOk};
 ghost use Rattle.order_ints.specs.OrderRange.{low_of};
 ghost use Rattle.order_ints.specs.OrderLevels.{levels_of, at_of};
 ghost use Rattle.order_ints.specs.Walk.{value_at};

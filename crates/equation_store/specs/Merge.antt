@@ -1,5 +1,6 @@
 -- What a merge of two atoms does to a view.
-use Rattle.std.specs.Prelude.{◌≡◌, ◌==◌, ℕ, ◌-◌, ◌≤◌, Bool, false, nat_lt, max, List, length, map, slice_index, Option, Some, None, option_map, if◌then◌else◌}
+use Rattle.std.specs.Prelude.{◌≡◌, ◌==◌, ℕ, ◌-◌, ◌≤◌, Bool, false, nat_lt, max, List, length, map}
+use Rattle.std.specs.Prelude.{slice_index, Option, Some, None, option_map, if◌then◌else◌}
 use Rattle.order_ints.specs.declared.literal.Lit.{Lit}
 use Rattle.order_ints.specs.declared.atom.Atom.{Atom}
 use Rattle.order_ints.specs.declared.atom.Atom.TheVariants.{True, False, Of}
@@ -19,8 +20,8 @@ replaced x by True = True
 replaced x by False = False
 replaced x by (Of l) = if l.var == x then signed l.positive by else Of l
 
--- of two label variables, whose classes have these sizes, the one whose class loses: the smaller class, of equal ones that of the
--- greater variable
+-- of two label variables, whose classes have these sizes, the one whose class loses: the smaller class, of equal ones
+-- that of the greater variable
 abbrev pub losing_by : (ℕ → ℕ) → ℕ → ℕ → ℕ
 losing_by size x y = if nat_lt (size x) (size y) then x else (if nat_lt (size y) (size x) then y else max x y)
 
@@ -31,10 +32,11 @@ losing view x y = losing_by (class_size view) x y
 abbrev pub change_to : Lit → Atom → Change
 change_to l a = record { loser = l.var; label = signed l.positive a }
 
--- what makes two labels one, where classes have these sizes: which variable gets which label; nothing where they are equal or
--- each other's negation
+-- what makes two labels one, where classes have these sizes: which variable gets which label; nothing where they are
+-- equal or each other's negation
 abbrev pub change_by : (ℕ → ℕ) → Atom → Atom → Option Change
-change_by size (Of l) (Of m) = if l.var == m.var then None else Some (if losing_by size l.var m.var == l.var then change_to l (Of m) else change_to m (Of l))
+change_by size (Of l) (Of m) = if l.var == m.var then None
+    else Some (if losing_by size l.var m.var == l.var then change_to l (Of m) else change_to m (Of l))
 change_by size (Of l) True = Some (change_to l True)
 change_by size (Of l) False = Some (change_to l False)
 change_by size True (Of m) = Some (change_to m True)
@@ -72,7 +74,7 @@ changed_by (Some c) view = map (replaced c.loser c.label) view
 abbrev pub merged : List Atom → Atom → Atom → List Atom
 merged view a b = changed_by (change_of view (resolve view a) (resolve view b)) view
 
--- the class of x has a new label: a member whose label was x has the new label of x, one whose label was the negation of x
--- has the negation of that, and every other label stays
+-- the class of x has a new label: a member whose label was x has the new label of x, one whose label was the negation
+-- of x has the negation of that, and every other label stays
 abbrev pub IsRelabelled : List Atom → List Atom → ℕ → Type 0
 IsRelabelled old new x = new ≡ map (replaced x (label_of new x)) old

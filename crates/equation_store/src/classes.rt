@@ -1,7 +1,8 @@
 //! The rings of classes: each variable has the number of the member behind it, and the one behind the last is the
 //! first.
 
-ghost use Rattle.std.specs.Prelude.{◌≡◌, ◌==◌, ◌+◌, ◌-◌, ◌^◌, ◌<◌, ◌≤◌, length, map, slice_set, if◌then◌else◌, ℕ, true};
+ghost use Rattle.std.specs.Prelude.{◌≡◌, ◌==◌, ◌+◌, ◌-◌, ◌^◌, ◌<◌, ◌≤◌, length, map};
+ghost use Rattle.std.specs.Prelude.{slice_set, if◌then◌else◌, ℕ, true};
 ghost use Rattle.std.specs.List.{swap};
 ghost use Rattle.order_ints.specs.View.{label_of};
 ghost use Rattle.equation_store.specs.Class.{is_of, IsWalk};

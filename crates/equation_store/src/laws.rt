@@ -1,6 +1,8 @@
 //! Laws of the definitions that the clauses of the store cite.
 
-ghost use Rattle.equation_store.specs.Laws.{ResolvesExactly, MergeResolves, MergeKeeps, MergeDoubles, MergeNeverShrinks, MergeLabelled, MergeLabels, MergeChanges, MergeTakesOne, MergeIsLater, OwnTest, OwnBound, OwnAdded};
+ghost use Rattle.equation_store.specs.Laws.{ResolvesExactly, MergeResolves, MergeKeeps, MergeDoubles};
+ghost use Rattle.equation_store.specs.Laws.{MergeNeverShrinks, MergeLabelled, MergeLabels, MergeChanges, MergeTakesOne};
+ghost use Rattle.equation_store.specs.Laws.{MergeIsLater, OwnTest, OwnBound, OwnAdded};
 
 /// What resolving tells.
 pub fn resolve_law()

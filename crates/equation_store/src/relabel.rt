@@ -4,7 +4,8 @@ ghost use Rattle.std.specs.Prelude.{◌≡◌, ◌≢◌, ◌+◌, ◌≤◌, �
 ghost use Rattle.order_ints.specs.Truth.{not_atom};
 ghost use Rattle.order_ints.specs.Place.{AtomBelow};
 ghost use Rattle.order_ints.specs.View.{resolve};
-ghost use Rattle.equation_store.specs.Merge.{signed, replaced, losing_by, size_in, change_by, change_of, change_to, merged, IsReplacement};
+ghost use Rattle.equation_store.specs.Merge.{signed, replaced, losing_by, size_in, change_by, change_of, change_to};
+ghost use Rattle.equation_store.specs.Merge.{merged, IsReplacement};
 ghost use Rattle.equation_store.specs.Laws.{IsAtomOf};
 ghost use Rattle.equation_store.specs.Store.{IsSized, IsKept};
 

@@ -1,6 +1,7 @@
 //! The store of equations between literals.
 
-ghost use Rattle.std.specs.Prelude.{◌≡◌, ◌≢◌, ◌+◌, ◌^◌, ◌<◌, ◌≤◌, ◌⊎◌, ◌↔◌, ◌++◌, length, IsNone, IsSomeAnd, IfSome, IfOk, OnOk, OnErr, ℕ, true};
+ghost use Rattle.std.specs.Prelude.{◌≡◌, ◌≢◌, ◌+◌, ◌^◌, ◌<◌, ◌≤◌, ◌⊎◌, ◌↔◌};
+ghost use Rattle.std.specs.Prelude.{◌++◌, length, IsNone, IsSomeAnd, IfSome, IfOk, OnOk, OnErr, ℕ, true};
 ghost use Rattle.order_ints.specs.Truth.{not_atom};
 ghost use Rattle.order_ints.specs.View.{label_of, resolve};
 ghost use Rattle.order_ints.specs.Label.{IsOwnLabel, own_labels};

@@ -29,7 +29,8 @@ leq_equations_known r a b =
 -- all values of a are at most all of b, or all are above
 abbrev pub leq_equations_decided : Atom → OrdInt → OrdInt → List (Atom × Atom)
 leq_equations_decided r a b =
-    only_if (int_le (high_of a) (low_of b)) ((r, True) ∷ []) ++ only_if (int_lt (high_of b) (low_of a)) ((r, False) ∷ [])
+    only_if (int_le (high_of a) (low_of b)) ((r, True) ∷ [])
+    ++ only_if (int_lt (high_of b) (low_of a)) ((r, False) ∷ [])
 
 -- where one of the integers is constant, r is an atom of the other
 abbrev pub leq_equations_constant : Atom → OrdInt → OrdInt → List (Atom × Atom)

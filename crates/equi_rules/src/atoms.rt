@@ -2,7 +2,8 @@
 
 ghost use Rattle.std.specs.Prelude.{◌≡◌, ◌<◌, length, IfSome};
 ghost use Rattle.rule_base.specs.Pairs.{first_sought};
-ghost use Rattle.equi_rules.specs.AtomRows.{clause_equations, parity_equations, conjunction_equations, conj_equations, amo_equations, place_of_true};
+ghost use Rattle.equi_rules.specs.AtomRows.{clause_equations, parity_equations, conjunction_equations, conj_equations};
+ghost use Rattle.equi_rules.specs.AtomRows.{amo_equations, place_of_true};
 
 use order_ints::Atom;
 use rule_base::SoughtEquation;

@@ -3,7 +3,8 @@
 ghost use Rattle.std.specs.Prelude.{◌≡◌};
 ghost use Rattle.core_forms.specs.WellFormed.{IsSound};
 ghost use Rattle.rule_base.specs.Pairs.{first_sought};
-ghost use Rattle.equi_rules.specs.CompareRows.{leq_equations_true, leq_equations_false, leq_equations_known, leq_equations_decided, leq_equations_constant, leq_equations};
+ghost use Rattle.equi_rules.specs.CompareRows.{leq_equations_true, leq_equations_false, leq_equations_known};
+ghost use Rattle.equi_rules.specs.CompareRows.{leq_equations_decided, leq_equations_constant, leq_equations};
 
 use order_ints::{Atom, OrdInt};
 use rule_base::{SoughtEquation, is_constant};

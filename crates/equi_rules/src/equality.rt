@@ -5,7 +5,8 @@ ghost use Rattle.order_ints.specs.OrderLevels.{values_of};
 ghost use Rattle.core_forms.specs.WellFormed.{IsSound};
 ghost use Rattle.order_ints.specs.Same.{is_true};
 ghost use Rattle.rule_base.specs.Pairs.{first_sought, only_if};
-ghost use Rattle.equi_rules.specs.CompareRows.{equal_at, eq_equations_true, eq_equations_apart, eq_equations_value, eq_equations_constant, eq_equations};
+ghost use Rattle.equi_rules.specs.CompareRows.{equal_at, eq_equations_true, eq_equations_apart, eq_equations_value};
+ghost use Rattle.equi_rules.specs.CompareRows.{eq_equations_constant, eq_equations};
 
 use order_ints::{Atom, OrdInt, Walk};
 use rule_base::{SoughtEquation, is_constant};

@@ -1,38 +1,38 @@
--- Cores that are settled, and how they are cut.
+-- Cores that are stable, and how they are cut.
 use Rattle.std.proofs.Common.{◌≡◌, ◌⊎◌, inl, inr, ℕ, zero, suc, ◌+◌, ◌-◌, ◌≤◌, ◌<◌, ◌^◌, true, List, [], ◌∷◌, ◌++◌, map, length, get_or, refl, sym, ap, ◌∙◌, subst, arith, ⊎_elim, Some, None}
 use Rattle.std.specs.Prelude.{Contains, option_map}
 use Rattle.std.specs.List.Sorted.{IsStrictlyIncreasing}
 use Rattle.std.proofs.lemmas.List.{get_or_default, length-append}
 use Rattle.core_forms.specs.declared.form.Core.{Core}
-use Rattle.core_forms.specs.Settled.{IsSettledCore}
+use Rattle.core_forms.specs.Stable.{IsStableCore}
 use Rattle.core_forms.specs.Trimmed.{trimmed_core}
 use Rattle.core_forms.specs.Variables.{core_vars}
-use Rattle.core_forms.proofs.Settling.{settled_core}
+use Rattle.core_forms.proofs.Stability.{stable_core}
 use Rattle.part_base.specs.declared.cut.Cut.{Cut}
 use Rattle.part_base.specs.declared.parts.Parts.{Parts}
 use Rattle.part_base.specs.Cuts.{rest_of}
 use Rattle.core_parts.specs.Parts.{parts_at, is_compound_of}
 use Rattle.step_kernel.specs.Kernel.{Kernel, core_at, trimmed_at, IsKernel}
 use Rattle.step_kernel.specs.Least.{is_compound_if}
-use Rattle.step_kernel.specs.SplitAt.{ArePartsAt, IsSettledAt, IsCutAt}
+use Rattle.step_kernel.specs.SplitAt.{ArePartsAt, IsStableAt, IsCutAt}
 use Rattle.fixpoint_queue.specs.Listed.{HasVar}
 use Rattle.fixpoint_queue.specs.Split.{AreCutLists, AreFrom}
 use Rattle.fixpoint_queue.specs.Standing.{AreVars, AreAllVars}
 use Rattle.fixpoint_queue.proofs.Splittings.{AreListed, as-many, part, fresh-bound}
 use Rattle.fixpoint_queue.proofs.Stood.{some-of}
 
--- ---- a core that is settled
+-- ---- a core that is stable
 
-module _ (k : Kernel) (id : ℕ) (core : Core) (s : IsSettledAt k id) (at : core_at k.cores id ≡ Some core) where
-  pub settled-there : IsSettledCore k.view core
-  settled-there = subst (IsSettledCore k.view) (some-of s.core core (sym s.there ∙ at)) s.settled
+module _ (k : Kernel) (id : ℕ) (core : Core) (s : IsStableAt k id) (at : core_at k.cores id ≡ Some core) where
+  pub stable-there : IsStableCore k.view core
+  stable-there = subst (IsStableCore k.view) (some-of s.core core (sym s.there ∙ at)) s.stable
 
   -- the store has it as it was made
-  pub settled-trimmed : trimmed_at k id ≡ Some core
-  settled-trimmed = ap (option_map (trimmed_core k.view)) at ∙ ap (λ (c : Core). Some c) (settled_core k.view core settled-there)
+  pub stable-trimmed : trimmed_at k id ≡ Some core
+  stable-trimmed = ap (option_map (trimmed_core k.view)) at ∙ ap (λ (c : Core). Some c) (stable_core k.view core stable-there)
 
-  pub settled-compound : is_compound_if (trimmed_at k id) ≡ true → is_compound_of core ≡ true
-  settled-compound compound = sym (ap is_compound_if settled-trimmed) ∙ compound
+  pub stable-compound : is_compound_if (trimmed_at k id) ≡ true → is_compound_of core ≡ true
+  stable-compound compound = sym (ap is_compound_if stable-trimmed) ∙ compound
 
 -- the parts of it as the store has it
 pub parts-are : (k : Kernel) (id : ℕ) (core : Core) (parts : Parts) → trimmed_at k id ≡ Some core → is_compound_of core ≡ true → parts ≡ parts_at (length k.view + 1) core → ArePartsAt k id parts
@@ -43,7 +43,7 @@ parts-are k id core parts there compound are = record { core = core; there = the
 pub cut-parts : (k : Kernel) (id : ℕ) (cut : Cut) (at : IsCutAt k id cut) → ArePartsAt k id (parts_at (length k.view + 1) at.core)
 cut-parts k id cut at = record {
   core = at.core;
-  there = settled-trimmed k id at.core (record { core = at.core; there = at.there; settled = at.settled }) at.there;
+  there = stable-trimmed k id at.core (record { core = at.core; there = at.there; stable = at.stable }) at.there;
   compound = at.compound;
   are = refl;
 }

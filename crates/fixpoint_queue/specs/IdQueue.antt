@@ -1,5 +1,6 @@
 -- What contracts see of a queue of ids.
-use Rattle.std.specs.Prelude.{◌≡◌, ℕ, ◌^◌, ◌<◌, ◌≤◌, nat_le, List, [], ◌∷◌, ◌++◌, length, if◌then◌else◌}
+use Rattle.std.specs.Prelude.{◌≡◌, ℕ, ◌^◌, ◌<◌, ◌≤◌, nat_le, List, [], ◌∷◌, ◌++◌}
+use Rattle.std.specs.Prelude.{length, if◌then◌else◌}
 use Rattle.index_ring.specs.Lists.{RingLists, IsRings, list_of, times}
 
 -- the ids in the queue, in order, and how many places for ids there are
@@ -15,7 +16,8 @@ pub record IsIds (ids : Ids) : Type 0 where
 
 -- the queue with one more at its end, unless it is there
 abbrev pub with_id : Ids → ℕ → Ids
-with_id ids id = if nat_le 1 (times id ids.queued) then ids else record { queued = ids.queued ++ id ∷ []; places = ids.places }
+with_id ids id = if nat_le 1 (times id ids.queued) then ids
+    else record { queued = ids.queued ++ id ∷ []; places = ids.places }
 
 -- the queue of one ring
 abbrev pub ids_of : RingLists → Ids

@@ -16,7 +16,8 @@ IsToldAt told k (Encode id) = Unit {0}
 -- the lines lead by steps from one state to another, and the equation of each is told where its step begins
 abbrev pub Leads : (Core → Equation → Type 0) → Kernel → List Line → Kernel → Type 0
 Leads told k [] new = k ≡ new
-Leads told k (line ∷ lines) new = (mid : Kernel) × (step k line ≡ Ok mid) × IsToldAt told k line × Leads told mid lines new
+Leads told k (line ∷ lines) new = (mid : Kernel) × (step k line ≡ Ok mid) × IsToldAt told k line
+    × Leads told mid lines new
 
 -- each line is an equation
 abbrev pub AreEquations : List Line → Type 0
@@ -26,13 +27,15 @@ AreEquations (Split id ∷ lines) = ⊥
 AreEquations (Encode id ∷ lines) = ⊥
 
 -- a ledger is another one and then lines that lead from one state to another
-pub record Adds (told : Core → Equation → Type 0) (before : List Line) (old : Kernel) (behind : List Line) (new : Kernel) : Type 0 where
+pub record Adds (told : Core → Equation → Type 0) (before : List Line) (old : Kernel) (behind : List Line)
+    (new : Kernel) : Type 0 where
   pub added : List Line
   pub is : behind ≡ before ++ added
   pub leads : Leads told old added new
 
 -- and these are equations alone
-pub record AddsEquations (told : Core → Equation → Type 0) (before : List Line) (old : Kernel) (behind : List Line) (new : Kernel) : Type 0 where
+pub record AddsEquations (told : Core → Equation
+    → Type 0) (before : List Line) (old : Kernel) (behind : List Line) (new : Kernel) : Type 0 where
   pub added : List Line
   pub is : behind ≡ before ++ added
   pub leads : Leads told old added new

@@ -9,10 +9,11 @@ use Rattle.core_occurrences.specs.Lists.{OccurrenceLists, Occurs, IsOccurrences}
 abbrev pub HasVar : Kernel → ℕ → ℕ → Type 0
 HasVar k id v = (core : Core) × (core_at k.cores id ≡ Some core) × Contains (core_vars core) v
 
--- the ids at each variable are those of pending cores, of each that has it, and perhaps of others; there is a list for each
--- variable, and a place for each core, and perhaps for further ones
+-- the ids at each variable are those of pending cores, of each that has it, and perhaps of others; there is a list for
+-- each variable, and a place for each core, and perhaps for further ones
 pub record IsListed (k : Kernel) (occurs : OccurrenceLists) : Type 0 where
   pub occurrences : IsOccurrences occurs
   pub vars : length k.view ≤ length occurs.lists
   pub ids : length k.cores ≤ occurs.ids
-  pub there : (v id : ℕ) → 1 ≤ v → (Occurs occurs v id → (core : Core) × (core_at k.cores id ≡ Some core)) × (HasVar k id v → Occurs occurs v id)
+  pub there : (v id : ℕ) → 1 ≤ v → (Occurs occurs v id → (core : Core) × (core_at k.cores id ≡ Some core))
+      × (HasVar k id v → Occurs occurs v id)

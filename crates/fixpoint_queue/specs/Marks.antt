@@ -1,5 +1,6 @@
 -- Marks of ids.
-use Rattle.std.specs.Prelude.{◌≡◌, ℕ, ◌+◌, ◌-◌, ◌≤◌, ◌==◌, Bool, false, List, [], ◌∷◌, length, slice_index_or, Option, None, Some, if◌then◌else◌}
+use Rattle.std.specs.Prelude.{◌≡◌, ℕ, ◌+◌, ◌-◌, ◌≤◌, ◌==◌, Bool, false, List, [], ◌∷◌}
+use Rattle.std.specs.Prelude.{length, slice_index_or, Option, None, Some, if◌then◌else◌}
 
 -- the mark of an id; those of 0 and of ids without a place are false
 abbrev pub mark_of : List Bool → ℕ → Bool

@@ -1,5 +1,6 @@
 -- How many pairs of a pending core and one of its variables get a new label.
-use Rattle.std.specs.Prelude.{◌≡◌, ◌==◌, ℕ, zero, suc, ◌+◌, ◌*◌, ◌≤◌, Bool, not, ◌&&◌, List, [], ◌∷◌, ◌++◌, length, if◌then◌else◌}
+use Rattle.std.specs.Prelude.{◌≡◌, ◌==◌, ℕ, zero, suc, ◌+◌, ◌*◌, ◌≤◌, Bool, not, ◌&&◌}
+use Rattle.std.specs.Prelude.{List, [], ◌∷◌, ◌++◌, length, if◌then◌else◌}
 use Rattle.std.specs.List.{list_any}
 use Rattle.std.specs.declared.result.Result.{Result}
 use Rattle.std.specs.declared.result.Result.TheVariants.{Ok, Err}
@@ -24,7 +25,8 @@ has_var core v = list_any (λ w. w == v) (core_vars core)
 -- how many of the variables 1 to n stand in a core and have another label in the second view
 abbrev pub relabelled_in : List Atom → List Atom → Core → ℕ → ℕ
 relabelled_in old new core zero = 0
-relabelled_in old new core (suc n) = (if has_var core (suc n) && is_relabelled old new (suc n) then 1 else 0) + relabelled_in old new core n
+relabelled_in old new core (suc n) = (if has_var core (suc n) && is_relabelled old new (suc n) then 1 else 0)
+    + relabelled_in old new core n
 
 -- of all these cores
 abbrev pub relabelled_pairs : List Atom → List Atom → List Core → ℕ
@@ -46,8 +48,9 @@ pairs_along r [] = 0
 pairs_along (Err fault) (line ∷ lines) = 0
 pairs_along (Ok k) (line ∷ lines) = pairs_to k (step k line) + pairs_along (step k line) lines
 
--- From a state and a ledger on, with so many questions to ask, a counter has risen by at most three for each question that was
--- asked; there are so many left; and those that came are no more than the pairs that got a new label.
+-- From a state and a ledger on, with so many questions to ask, a counter has risen by at most three for each question
+-- that was asked; there are so many left; and those that came are no more than the pairs that got a new label.
 abbrev pub IsCounted : Kernel → List Line → List Line → ℕ → ℕ → ℕ → ℕ → Type 0
 IsCounted k before behind queued counter now left =
-    (lines : List Line) → behind ≡ before ++ lines → now + 3 * left ≤ counter + 3 * (queued + pairs_along (Ok k) lines)
+    (lines : List Line) → behind ≡ before ++ lines
+    → now + 3 * left ≤ counter + 3 * (queued + pairs_along (Ok k) lines)

@@ -1,5 +1,6 @@
 -- What a split makes of a runner, and the lists of variables of a core that is cut.
-use Rattle.std.specs.Prelude.{◌≡◌, ◌⊎◌, ℕ, ◌+◌, ◌<◌, ◌≤◌, List, [], ◌∷◌, ◌++◌, length, slice_index_or, Ok}
+use Rattle.std.specs.Prelude.{◌≡◌, ◌⊎◌, ℕ, ◌+◌, ◌<◌, ◌≤◌, List, [], ◌∷◌, ◌++◌}
+use Rattle.std.specs.Prelude.{length, slice_index_or, Ok}
 use Rattle.index_ring.specs.Lists.{times}
 use Rattle.ledger_text.specs.declared.line.Line.TheVariants.{Split}
 use Rattle.part_base.specs.declared.cut.Cut.{Cut}
@@ -11,7 +12,8 @@ use Rattle.fixpoint_queue.specs.Standing.{AreAllVars}
 pub record IsSplit (old new : Saturation) (id : ℕ) : Type 0 where
   pub stepped : step old.kernel (Split id) ≡ Ok new.kernel
   pub line : new.ledger ≡ old.ledger ++ Split id ∷ []
-  pub queued : (other : ℕ) → 1 ≤ times other new.queued → (1 ≤ times other old.queued) ⊎ (length old.kernel.cores < other)
+  pub queued : (other : ℕ) → 1 ≤ times other new.queued → (1 ≤ times other old.queued)
+      ⊎ (length old.kernel.cores < other)
   pub grows : length new.queued + length old.kernel.cores ≤ length old.queued + length new.kernel.cores
 
 -- the variables of each part of a cut, but for what is left of the list, at whose place none is listed

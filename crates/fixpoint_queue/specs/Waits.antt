@@ -1,5 +1,6 @@
 -- What a queue of cores keeps.
-use Rattle.std.specs.Prelude.{◌≡◌, ◌⊎◌, ℕ, ◌+◌, ◌*◌, ◌<◌, ◌≤◌, Bool, List, length, Some, MatchOption, if◌then◌else◌}
+use Rattle.std.specs.Prelude.{◌≡◌, ◌⊎◌, ℕ, ◌+◌, ◌*◌, ◌<◌, ◌≤◌, Bool, List, length, Some}
+use Rattle.std.specs.Prelude.{MatchOption, if◌then◌else◌}
 use Rattle.index_ring.specs.Lists.{times}
 use Rattle.core_forms.specs.declared.equation.Equation.{Equation}
 use Rattle.core_forms.specs.declared.form.Core.{Core}
@@ -19,11 +20,13 @@ Waits told k queued = (id : ℕ) → times id queued ≡ 0 → IsQuiet told k id
 
 -- and the marks tell whether it is pending and compound, as the store has it
 abbrev pub AreMarked : Kernel → List ℕ → List Bool → Type 0
-AreMarked k queued marks = (id : ℕ) → times id queued ≡ 0 → mark_of marks id ≡ is_compound_if (trimmed_at k id)
+AreMarked k queued marks = (id : ℕ) → times id queued ≡ 0
+    → mark_of marks id ≡ is_compound_if (trimmed_at k id)
 
--- a state whose cores stand at their variables, and a queue with a place for each core, in which each core waits that may
--- tell something
-pub record IsSaturation (told : Core → Equation → Type 0) (k : Kernel) (occurs : OccurrenceLists) (queue : Ids) (marks : List Bool) : Type 0 where
+-- a state whose cores stand at their variables, and a queue with a place for each core, in which each core waits that
+-- may tell something
+pub record IsSaturation (told : Core → Equation →
+    Type 0) (k : Kernel) (occurs : OccurrenceLists) (queue : Ids) (marks : List Bool) : Type 0 where
   pub kernel : IsKernel k
   pub listed : IsListed k occurs
   pub places : length k.cores < queue.places
@@ -39,7 +42,8 @@ pub record IsWoken (k : Kernel) (x : ℕ) (old new : Ids) : Type 0 where
   pub ids : IsIds new
   pub stays : (id : ℕ) → 1 ≤ times id old.queued → 1 ≤ times id new.queued
   pub woken : (v id : ℕ) → IsMember k.view x v → HasVar k id v → 1 ≤ times id new.queued
-  pub only : (id : ℕ) → 1 ≤ times id new.queued → (1 ≤ times id old.queued) ⊎ ((v : ℕ) × IsMember k.view x v × HasVar k id v)
+  pub only : (id : ℕ) → 1 ≤ times id new.queued → (1 ≤ times id old.queued)
+      ⊎ ((v : ℕ) × IsMember k.view x v × HasVar k id v)
 
 -- what falls with each question: the classes count for more than the queue can hold
 abbrev pub left_to_do : Kernel → Ids → ℕ

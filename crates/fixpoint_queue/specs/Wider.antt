@@ -22,7 +22,8 @@ pub record IsWider (first next : OccurrenceLists) (queue wide : Ids) (short long
   pub marks : AreLonger short longer
 
 -- there is room for so many fresh variables, for so many cores with these variables, and for some occurrences more
-pub record HasRoom (k : Kernel) (fresh more : ℕ) (lists : List (List ℕ)) (occurs : OccurrenceLists) (queue : Ids) (flags : List Bool) : Type 0 where
+pub record HasRoom (k : Kernel) (fresh more : ℕ) (lists : List (List ℕ)) (occurs : OccurrenceLists) (queue : Ids)
+    (flags : List Bool) : Type 0 where
   pub vars : length k.view + fresh ≤ length occurs.lists
   pub ids : length k.cores + length lists ≤ occurs.ids
   pub room : all_counted lists + more ≤ occurs.room

@@ -1,6 +1,7 @@
 //! One question after another, until the queue is empty.
 
-ghost use Rattle.std.specs.Prelude.{ℕ, ◌≡◌, ◌⊎◌, ◌+◌, ◌<◌, ◌≤◌, [], true, false, length, Some, IfOk, OnOk, OnErr};
+ghost use Rattle.std.specs.Prelude.{ℕ, ◌≡◌, ◌⊎◌, ◌+◌, ◌<◌, ◌≤◌, [], true, false, length};
+ghost use Rattle.std.specs.Prelude.{Some, IfOk, OnOk, OnErr};
 ghost use Rattle.index_ring.specs.Lists.{times};
 ghost use Rattle.core_forms.specs.declared.form.Core.{Core};
 ghost use Rattle.core_forms.specs.Plain.{IsPlain};
@@ -76,7 +77,7 @@ fn ask_copy<F: Oracle<L>, L: Ledger>(
     }
 }
 
-/// Asks a pending core: the core itself where it is settled, and else a copy that is trimmed.
+/// Asks a pending core: the core itself where it is stable, and else a copy that is trimmed.
 fn ask_pending<F: Oracle<L>, L: Ledger>(
     alloc: Global,
     oracle: F,
@@ -89,7 +90,7 @@ fn ask_pending<F: Oracle<L>, L: Ledger>(
     ensures most { steps.new ≤ steps.old + 3 }
     ensures stays { state.new ≡ state.old }
 {
-    if state.settle(u64::from(id)) {
+    if state.mark_stable(u64::from(id)) {
         if let Some(core) = state.core(u64::from(id)) {
             return ask_lent(alloc, oracle, state, steps, id, core);
         }

@@ -1,6 +1,7 @@
 //! The occurrences of a core that is split go on to its longest part.
 
-ghost use Rattle.std.specs.Prelude.{◌≡◌, ◌+◌, ◌^◌, ◌<◌, ◌≤◌, ◌⊎◌, ℕ, [], length, IfOk, OnOk, IsTrue, Contains};
+ghost use Rattle.std.specs.Prelude.{◌≡◌, ◌+◌, ◌^◌, ◌<◌, ◌≤◌, ◌⊎◌, ℕ, [], length, IfOk};
+ghost use Rattle.std.specs.Prelude.{OnOk, IsTrue, Contains};
 ghost use Rattle.std.specs.List.Sorted.{IsStrictlyIncreasing};
 ghost use Rattle.core_occurrences.specs.Lists.{Occurs, cores_at};
 ghost use Rattle.fixpoint_queue.specs.Handed.{IsRest, IsHanded, Holds};
@@ -139,7 +140,8 @@ pub fn hand_over(occurs: &mut Occurrences, gone: u32, held: u32, come: &[u32])
     requires absent { (v : ℕ) → ¬ Occurs occurs.old v held }
     ensures handed { IsHanded occurs.old occurs.new gone held }
     ensures room { occurs.old.room ≤ occurs.new.room + length come.now }
-    ensures holds { (v : ℕ) → 1 ≤ v → Contains come.now v ⊎ Occurs occurs.old v gone → Occurs occurs.new v held }
+    ensures holds { (v : ℕ) → 1 ≤ v → Contains come.now v ⊎ Occurs occurs.old v gone
+        → Occurs occurs.new v held }
 {
     occurs.exchange(gone, held);
     occurs.add(held, come);

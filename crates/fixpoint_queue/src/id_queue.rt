@@ -1,6 +1,7 @@
 //! A queue of ids, each once, with room to list some of them.
 
-ghost use Rattle.std.specs.Prelude.{◌≡◌, ◌-◌, ◌^◌, ◌<◌, ◌≤◌, ◌⊎◌, ℕ, [], IfOk, OnOk, length};
+ghost use Rattle.std.specs.Prelude.{◌≡◌, ◌-◌, ◌^◌, ◌<◌, ◌≤◌, ◌⊎◌, ℕ, [], IfOk, OnOk};
+ghost use Rattle.std.specs.Prelude.{length};
 ghost use Rattle.index_ring.specs.Lists.{first_in, times, without};
 ghost use Rattle.fixpoint_queue.specs.IdQueue.{IsIds, with_id};
 

@@ -1,6 +1,7 @@
 //! A queue of ids, each once.
 
-ghost use Rattle.std.specs.Prelude.{◌⊎◌, ◌≡◌, ◌+◌, ◌-◌, ◌<◌, ◌≤◌, ◌^◌, [], ◌↔◌, IfOk, OnOk, true};
+ghost use Rattle.std.specs.Prelude.{◌⊎◌, ◌≡◌, ◌+◌, ◌-◌, ◌<◌, ◌≤◌, ◌^◌, [], ◌↔◌};
+ghost use Rattle.std.specs.Prelude.{IfOk, OnOk, true};
 ghost use Rattle.index_ring.specs.Lists.{first_in, times, without};
 ghost use Rattle.fixpoint_queue.specs.IdQueue.{IsIds, with_id};
 

@@ -1,6 +1,7 @@
 //! Cores that are encoded.
 
-ghost use Rattle.std.specs.Prelude.{◌≡◌, ◌+◌, ◌-◌, ◌++◌, ◌∷◌, ◌<◌, ◌≤◌, [], true, false, length, slice_set, Ok, Some, OnOk, OnErr};
+ghost use Rattle.std.specs.Prelude.{◌≡◌, ◌+◌, ◌-◌, ◌++◌, ◌∷◌, ◌<◌, ◌≤◌, [], true};
+ghost use Rattle.std.specs.Prelude.{false, length, slice_set, Ok, Some, OnOk, OnErr};
 ghost use Rattle.index_ring.specs.Lists.{without};
 ghost use Rattle.core_forms.specs.declared.form.Core.{Core};
 ghost use Rattle.core_forms.specs.Basic.{is_basic_of};

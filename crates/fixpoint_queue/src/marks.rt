@@ -1,6 +1,7 @@
 //! Marks of ids, and the least marked one.
 
-ghost use Rattle.std.specs.Prelude.{◌≡◌, ◌+◌, ◌-◌, ◌++◌, ◌≤◌, [], false, length, replicate, slice_set, vec_len, vec_capacity, OnOk, OnErr};
+ghost use Rattle.std.specs.Prelude.{◌≡◌, ◌+◌, ◌-◌, ◌++◌, ◌≤◌, [], false, length, replicate};
+ghost use Rattle.std.specs.Prelude.{slice_set, vec_len, vec_capacity, OnOk, OnErr};
 ghost use Rattle.fixpoint_queue.specs.Marks.{AreLonger, least_marked, false_first};
 
 use std::alloc::{AllocError, Global};

@@ -1,6 +1,7 @@
 //! A compilation whose cores are asked for equations.
 
-ghost use Rattle.std.specs.Prelude.{◌≡◌, ◌⊎◌, ◌+◌, ◌++◌, ◌∷◌, ◌≤◌, ℕ, [], true, false, length, Ok, is_some, if◌then◌else◌, IfOk, OnOk, OnErr};
+ghost use Rattle.std.specs.Prelude.{◌≡◌, ◌⊎◌, ◌+◌, ◌++◌, ◌∷◌, ◌≤◌, ℕ, [], true};
+ghost use Rattle.std.specs.Prelude.{false, length, Ok, is_some, if◌then◌else◌, IfOk, OnOk, OnErr};
 ghost use Rattle.index_ring.specs.Lists.{times};
 ghost use Rattle.ledger_text.specs.declared.line.Line.TheVariants.{Split, Encode};
 ghost use Rattle.step_kernel.specs.Kernel.{core_at, trimmed_at, IsKernel};
@@ -23,9 +24,9 @@ use std::marker::{Model, PhantomData};
 use std::sync::ledger::Ledger;
 use step_kernel::State;
 
-/// A state with the ledger of its lines, and a queue of the cores that may tell an equation which the store
-/// lacks to an oracle whose questions are counted in `L`. For each variable it keeps which pending cores have it, so that an equation queues those at the
-/// class that gets a new label, and no others.
+/// A state with the ledger of its lines, and a queue of the cores that may tell an equation which the store lacks to an
+/// oracle whose questions are counted in `L`. For each variable it keeps which pending cores have it, so that an
+/// equation queues those at the class that gets a new label, and no others.
 #[derive(Drop)]
 pub struct Runner<F: Oracle<L>, L: Ledger> {
     pub(crate) state: State,

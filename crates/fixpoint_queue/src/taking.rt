@@ -1,6 +1,7 @@
 //! Equations that a core tells, taken one after another.
 
-ghost use Rattle.std.specs.Prelude.{ℕ, List, ◌≡◌, ◌⊎◌, ◌||◌, ◌+◌, ◌<◌, ◌≤◌, ◌++◌, ◌∷◌, [], true, false, length, vec_len, vec_capacity, Some, Ok};
+ghost use Rattle.std.specs.Prelude.{ℕ, List, ◌≡◌, ◌⊎◌, ◌||◌, ◌+◌, ◌<◌, ◌≤◌, ◌++◌};
+ghost use Rattle.std.specs.Prelude.{◌∷◌, [], true, false, length, vec_len, vec_capacity, Some, Ok};
 ghost use Rattle.order_ints.specs.Label.{IsLabel};
 ghost use Rattle.order_ints.specs.Place.{AtomBelow};
 ghost use Rattle.index_ring.specs.Lists.{times};

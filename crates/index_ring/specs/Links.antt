@@ -1,5 +1,6 @@
 -- How links between places stand for lists.
-use Rattle.std.specs.Prelude.{◌≡◌, ◌==◌, ℕ, zero, suc, ◌+◌, ◌-◌, ◌<◌, ◌≤◌, ◌^◌, nat_lt, List, [], ◌∷◌, length, map, slice_index_or, if◌then◌else◌}
+use Rattle.std.specs.Prelude.{◌≡◌, ◌==◌, ℕ, zero, suc, ◌+◌, ◌-◌, ◌<◌, ◌≤◌, ◌^◌}
+use Rattle.std.specs.Prelude.{nat_lt, List, [], ◌∷◌, length, map, slice_index_or, if◌then◌else◌}
 use Rattle.std.specs.List.{range_with_len}
 use Rattle.index_ring.specs.declared.links.Links.{Links}
 use Rattle.index_ring.specs.Lists.{RingLists, list_of, IsFree, IsRings}
@@ -13,11 +14,13 @@ no_links = record { next = 0; previous = 0 }
 
 -- the place behind a place, by the links of nodes and of sentinels
 abbrev pub next_at : List Links → List Links → ℕ → ℕ
-next_at nodes rings p = if nat_lt p (2 ^ 31) then (slice_index_or nodes p no_links).next else (slice_index_or rings (p - 2 ^ 31) no_links).next
+next_at nodes rings p = if nat_lt p (2 ^ 31) then (slice_index_or nodes p no_links).next
+    else (slice_index_or rings (p - 2 ^ 31) no_links).next
 
 -- the place before a place
 abbrev pub previous_at : List Links → List Links → ℕ → ℕ
-previous_at nodes rings p = if nat_lt p (2 ^ 31) then (slice_index_or nodes p no_links).previous else (slice_index_or rings (p - 2 ^ 31) no_links).previous
+previous_at nodes rings p = if nat_lt p (2 ^ 31) then (slice_index_or nodes p no_links).previous
+    else (slice_index_or rings (p - 2 ^ 31) no_links).previous
 
 -- a node or a sentinel that is there
 pub record IsPlace (nodes rings : List Links) (p : ℕ) : Type 0 where
@@ -64,9 +67,11 @@ pub record NextSet (nodes rings nodes_after rings_after : List Links) (a b : ℕ
 -- the place before one place is another now
 pub record PreviousSet (nodes rings nodes_after rings_after : List Links) (a b : ℕ) : Type 0 where
   pub next : (q : ℕ) → next_at nodes_after rings_after q ≡ next_at nodes rings q
-  pub previous : (q : ℕ) → previous_at nodes_after rings_after q ≡ (if q == a then b else previous_at nodes rings q)
+  pub previous : (q : ℕ) → previous_at nodes_after rings_after q
+      ≡ (if q == a then b else previous_at nodes rings q)
 
 -- b is behind a now, and a before b
 pub record Joined (nodes rings nodes_after rings_after : List Links) (a b : ℕ) : Type 0 where
   pub next : (q : ℕ) → next_at nodes_after rings_after q ≡ (if q == a then b else next_at nodes rings q)
-  pub previous : (q : ℕ) → previous_at nodes_after rings_after q ≡ (if q == b then a else previous_at nodes rings q)
+  pub previous : (q : ℕ) → previous_at nodes_after rings_after q
+      ≡ (if q == b then a else previous_at nodes rings q)

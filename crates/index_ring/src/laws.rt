@@ -1,6 +1,7 @@
 //! Laws of the lists that clauses cite.
 
-ghost use Rattle.index_ring.specs.Laws.{StandsOnce, FreeExactly, LengthsFit, WalkMeets, WalkIsList, UnlinkCloses, OthersStay};
+ghost use Rattle.index_ring.specs.Laws.{StandsOnce, FreeExactly, LengthsFit, WalkMeets, WalkIsList, UnlinkCloses};
+ghost use Rattle.index_ring.specs.Laws.{OthersStay};
 
 /// Where a node stands.
 pub fn place_laws()

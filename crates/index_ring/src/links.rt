@@ -1,6 +1,7 @@
 //! Places and the links between them. A place is a node or the sentinel of a ring.
 
-ghost use Rattle.std.specs.Prelude.{◌≡◌, ◌+◌, ◌^◌, ◌<◌, ◌≤◌, ◌++◌, length, nat_lt, if◌then◌else◌, vec_len, vec_capacity};
+ghost use Rattle.std.specs.Prelude.{◌≡◌, ◌+◌, ◌^◌, ◌<◌, ◌≤◌, ◌++◌, length, nat_lt};
+ghost use Rattle.std.specs.Prelude.{if◌then◌else◌, vec_len, vec_capacity};
 ghost use Rattle.index_ring.specs.Links.{sentinel, alone, IsPlace, NextSet, PreviousSet, Joined};
 
 /// The place of the sentinel of ring 0. The places below are nodes.

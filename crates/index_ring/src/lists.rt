@@ -1,7 +1,9 @@
 //! Rings of numbered nodes.
 
-ghost use Rattle.std.specs.Prelude.{◌≡◌, ◌≢◌, ◌+◌, ◌^◌, ◌<◌, ◌↔◌, ℕ, length, IfOk, OnOk, OnErr, IsTrue};
-ghost use Rattle.index_ring.specs.Lists.{RingLists, IsRings, IsFree, Stands, list_of, no_lists, grown, pushed_back, pushed_front, unlinked, spliced, first_in, after_in};
+ghost use Rattle.std.specs.Prelude.{◌≡◌, ◌≢◌, ◌+◌, ◌^◌, ◌<◌, ◌↔◌, ℕ, length, IfOk};
+ghost use Rattle.std.specs.Prelude.{OnOk, OnErr, IsTrue};
+ghost use Rattle.index_ring.specs.Lists.{RingLists, IsRings, IsFree, Stands, list_of, no_lists, grown, pushed_back};
+ghost use Rattle.index_ring.specs.Lists.{pushed_front, unlinked, spliced, first_in, after_in};
 
 use crate::links::{FIRST_SENTINEL, Links, node_at, push_alone};
 use crate::moves;

@@ -133,8 +133,8 @@ static BOOLEANS: [(&str, &str); 11] = [
     ),
 ];
 
-/// Lines over integers, and the number of variables: i is 0 or 1 by variable 1, j is 2 or 3 by variable 2, x is variable 3. Their
-/// cores stand behind those of i and j.
+/// Lines over integers, and the number of variables: i is 0 or 1 by variable 1, j is 2 or 3 by variable 2, x is
+/// variable 3. Their cores stand behind those of i and j.
 static INTEGERS: [(&str, u32, &str); 14] = [
     ("bool2int(-x,i)", 3, "EqR T (0 1) (0 -3)"),
     ("int_geq(i,j)", 3, "LeqR T (2 2) (0 1)"),

@@ -1,5 +1,5 @@
-//! Weights of models. They were counted anew by a program of its own, which goes over each pair of members and follows the
-//! costs' recursions as they are written.
+//! Weights of models. They were counted anew by a program of its own, which goes over each pair of members and follows
+//! the costs' recursions as they are written.
 
 use crate::verdicts::model;
 use model_weight::weight;

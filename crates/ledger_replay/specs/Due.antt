@@ -11,8 +11,9 @@ use Rattle.step_kernel.specs.Instances.{IsInstanceAt}
 use Rattle.step_kernel.specs.Steps.{equated}
 use Rattle.ledger_replay.specs.declared.run.Run.{Run}
 
--- Equations are due at the pending core with an id: there is no contradiction; the store has the core as it has some core at which they are what is
--- left of a run, in the view that those of it made that were before them; and core and equations are over its variables.
+-- Equations are due at the pending core with an id: there is no contradiction; the store has the core as it has some
+-- core at which they are what is left of a run, in the view that those of it made that were before them; and core and
+-- equations are over its variables.
 pub record AreDue (k : Kernel) (id : ℕ) (es : List Equation) : Type 0 where
   pub running : k.bottom ≡ false
   pub core : Core

@@ -1,6 +1,7 @@
 //! The run of a pending core, and how far it was made.
 
-ghost use Rattle.std.specs.Prelude.{◌≡◌, ◌↔◌, ◌+◌, ◌<◌, ℕ, true, IsTrue, IfOk, IfSome, length, drop};
+ghost use Rattle.std.specs.Prelude.{◌≡◌, ◌↔◌, ◌+◌, ◌<◌, ℕ, true, IsTrue, IfOk, IfSome, length};
+ghost use Rattle.std.specs.Prelude.{drop};
 ghost use Rattle.core_forms.specs.Place.{CoreBelow};
 ghost use Rattle.core_forms.specs.WellFormed.{IsWellFormed};
 ghost use Rattle.equation_runs.specs.Turns.{resolved_equation, IsMade, AreToldInTurn, EquationsBelow, is_stated};

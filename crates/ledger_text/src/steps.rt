@@ -1,6 +1,7 @@
 //! The text of a ledger's lines.
 
-ghost use Rattle.std.specs.Prelude.{◌≡◌, ◌↔◌, ◌++◌, ℕ, ◌<◌, ◌^◌, List, OnOk, IfOk, IfSome, Some, IsTrue};
+ghost use Rattle.std.specs.Prelude.{◌≡◌, ◌↔◌, ◌++◌, ℕ, ◌<◌, ◌^◌, List, OnOk, IfOk, IfSome};
+ghost use Rattle.std.specs.Prelude.{Some, IsTrue};
 ghost use Rattle.std.specs.Fmt.{decimal};
 ghost use Rattle.bee_text.specs.Words.{words_behind};
 ghost use Rattle.core_forms.specs.declared.equation.Rule.{Rule};

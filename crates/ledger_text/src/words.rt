@@ -39,7 +39,8 @@ pub fn push_atom(out: &mut Vec<u8>, atom: Atom) -> Result<(), AllocError>
 /// The literal over a variable whose decimal the digits are.
 fn read_variable(digits: &[u8], positive: bool) -> Option<Lit>
     ensures read { IfSome result (λ l. IsReadable l × (digits.now ≡ decimal l.var) × (l.positive ≡ positive)) }
-    ensures complete { (l : Lit) → IsReadable l → l.positive ≡ positive → digits.now ≡ decimal l.var → result ≡ Some l }
+    ensures complete { (l : Lit) → IsReadable l → l.positive ≡ positive → digits.now ≡ decimal l.var
+        → result ≡ Some l }
 {
     let var = read_number(digits, GREATEST)?;
     if var == 0 {

@@ -1,5 +1,6 @@
 -- The tables beside the entries: the value of each literal, the place of each variable, the end of each level.
-use Rattle.std.specs.Prelude.{◌≡◌, ℕ, zero, suc, ◌+◌, ◌*◌, ◌<◌, ◌≤◌, true, false, List, length, take, Option, Some, None, slice_index, slice_index_or, if◌then◌else◌, Bool}
+use Rattle.std.specs.Prelude.{◌≡◌, ℕ, zero, suc, ◌+◌, ◌*◌, ◌<◌, ◌≤◌, true, false, List}
+use Rattle.std.specs.Prelude.{length, take, Option, Some, None, slice_index, slice_index_or, if◌then◌else◌, Bool}
 use Rattle.order_ints.specs.declared.literal.Lit.{Lit}
 use Rattle.order_ints.specs.Place.{LitBelow}
 use Rattle.literal_trail.specs.declared.entry.Entry.{Entry}
@@ -25,7 +26,8 @@ entry_by entries (suc j) = Some (entry_at entries j)
 -- the tables say what the entries do
 pub record AreTables (entries : List Entry) (values : List Value) (places : List ℕ) : Type 0 where
   pub lengths : length values ≡ 2 * length places
-  pub valued : (l : Lit) → l.var < length places → truth_of (slice_index_or values (code_of l) Free) ≡ truth_in entries l
+  pub valued : (l : Lit) → l.var < length places
+      → truth_of (slice_index_or values (code_of l) Free) ≡ truth_in entries l
   pub placed : (v : ℕ) → v < length places → entry_by entries (slice_index places v) ≡ entry_of entries v
   pub within : (v : ℕ) → v < length places → slice_index places v ≤ length entries
 
@@ -39,7 +41,8 @@ abbrev pub AreEnds : List Entry → List ℕ → Type 0
 AreEnds entries ends = (k : ℕ) → k < length ends → slice_index ends k ≡ length (up_to k entries)
 
 -- what a trail keeps: tables, ends of levels, and room for every variable
-pub record IsKept (vars : ℕ) (entries : List Entry) (values : List Value) (places ends : List ℕ) (entry_room end_room : ℕ) : Type 0 where
+pub record IsKept (vars : ℕ) (entries : List Entry) (values : List Value) (places ends : List ℕ)
+    (entry_room end_room : ℕ) : Type 0 where
   pub trail : IsTrail (record { vars = vars; entries = entries; level = length ends })
   pub tables : AreTables entries values places
   pub count : length places ≡ vars + 1

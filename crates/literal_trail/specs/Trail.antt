@@ -1,5 +1,7 @@
 -- What contracts see of a trail: its entries, the oldest first, and the current level.
-use Rattle.std.specs.Prelude.{◌≡◌, ◌==◌, ℕ, ◌+◌, ◌<◌, ◌≤◌, ◌^◌, nat_le, Bool, false, not, List, [], ◌∷◌, ◌++◌, length, take, slice_index_or, Option, Some, None, if◌then◌else◌}
+use Rattle.std.specs.Prelude.{◌≡◌, ◌==◌, ℕ, ◌+◌, ◌<◌, ◌≤◌, ◌^◌, nat_le, Bool, false, not}
+use Rattle.std.specs.Prelude.{List, [], ◌∷◌, ◌++◌, length, take, slice_index_or, Option, Some, None}
+use Rattle.std.specs.Prelude.{if◌then◌else◌}
 use Rattle.std.specs.Option.{option_map, option_and_then}
 use Rattle.order_ints.specs.declared.literal.Lit.{Lit}
 use Rattle.order_ints.specs.Place.{LitBelow}
@@ -54,8 +56,8 @@ abbrev pub AreLevelled : ℕ → List Entry → ℕ → Type 0
 AreLevelled n [] last = n ≡ last
 AreLevelled n (e ∷ es) last = (e.level ≡ level_behind n e.reason) × AreLevelled e.level es last
 
--- variables in range, each made true or false once; each entry without a reason begins a level, and each other one is of the level of
--- the one before it, or of level 0 where there is none
+-- variables in range, each made true or false once; each entry without a reason begins a level, and each other one is
+-- of the level of the one before it, or of level 0 where there is none
 pub record IsTrail (t : Trail) : Type 0 where
   pub few : t.vars ≤ 2 ^ 27
   pub inside : (j : ℕ) → j < length t.entries → LitBelow (t.vars + 1) (entry_at t.entries j).lit
@@ -65,8 +67,10 @@ pub record IsTrail (t : Trail) : Type 0 where
   pub fits : length t.entries ≤ t.vars
   pub high : t.level ≤ length t.entries
   pub top : (j : ℕ) → j < length t.entries → (entry_at t.entries j).level ≤ t.level
-  pub rising : (i j : ℕ) → i ≤ j → j < length t.entries → (entry_at t.entries i).level ≤ (entry_at t.entries j).level
-  pub begins : (i j : ℕ) → i < j → j < length t.entries → (entry_at t.entries j).reason ≡ None → (entry_at t.entries i).level < (entry_at t.entries j).level
+  pub rising : (i j : ℕ) → i ≤ j → j < length t.entries
+      → (entry_at t.entries i).level ≤ (entry_at t.entries j).level
+  pub begins : (i j : ℕ) → i < j → j < length t.entries → (entry_at t.entries j).reason ≡ None
+      → (entry_at t.entries i).level < (entry_at t.entries j).level
 
 -- no entry, at level 0
 abbrev pub empty_trail : ℕ → Trail

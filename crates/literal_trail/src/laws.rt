@@ -1,6 +1,9 @@
 //! Laws of trails that clauses cite.
 
-ghost use Rattle.literal_trail.specs.Laws.{PrefixIsFront, PrefixIsWhole, PrefixOfPrefix, PrefixStays, PrefixByLevel, DecisionBehind, EntryInPrefix, EntryOfPlace, PlaceOfEntry, EntryStays, FreeBefore, TruthStays, ImpliedIsTrail, ChosenIsTrail, CutIsTrail, RoomWhereFree};
+ghost use Rattle.literal_trail.specs.Laws.{PrefixIsFront, PrefixIsWhole, PrefixOfPrefix, PrefixStays, PrefixByLevel};
+ghost use Rattle.literal_trail.specs.Laws.{DecisionBehind, EntryInPrefix, EntryOfPlace, PlaceOfEntry, EntryStays};
+ghost use Rattle.literal_trail.specs.Laws.{FreeBefore, TruthStays, ImpliedIsTrail, ChosenIsTrail, CutIsTrail};
+ghost use Rattle.literal_trail.specs.Laws.{RoomWhereFree};
 
 /// The prefix of a trail up to a level.
 pub fn prefix_laws()

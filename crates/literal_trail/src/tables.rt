@@ -1,6 +1,7 @@
 //! The tables beside the entries: the value of each literal and the place of each variable.
 
-ghost use Rattle.std.specs.Prelude.{◌≡◌, ◌+◌, ◌*◌, ◌^◌, ◌<◌, ◌≤◌, ◌++◌, ◌∷◌, [], ◌-◌, length, take, replicate, vec_len, vec_capacity};
+ghost use Rattle.std.specs.Prelude.{◌≡◌, ◌+◌, ◌*◌, ◌^◌, ◌<◌, ◌≤◌, ◌++◌, ◌∷◌, []};
+ghost use Rattle.std.specs.Prelude.{◌-◌, length, take, replicate, vec_len, vec_capacity};
 ghost use Rattle.order_ints.specs.Place.{LitBelow};
 ghost use Rattle.literal_trail.specs.Trail.{entry_of};
 ghost use Rattle.literal_trail.specs.Tables.{AreTables, AreFresh, code_of, truth_of};

@@ -1,10 +1,13 @@
-//! The trail: the literals that a search has made true, the oldest first, each with its level and its reason. Levels, reasons and
-//! the jump back over many of them at once are those of João Marques-Silva and Karem Sakallah (GRASP, 1996); that a trail keeps
-//! its literals in one array beside tables by literal and by variable is as in MiniSat (Niklas Eén and Niklas Sörensson, 2003).
+//! The trail: the literals that a search has made true, the oldest first, each with its level and its reason. Levels,
+//! reasons and the jump back over many of them at once are those of João Marques-Silva and Karem Sakallah (GRASP,
+//! 1996); that a trail keeps its literals in one array beside tables by literal and by variable is as in MiniSat
+//! (Niklas Eén and Niklas Sörensson, 2003).
 
-ghost use Rattle.std.specs.Prelude.{◌≡◌, ◌+◌, ◌^◌, ◌<◌, ◌≤◌, ◌↔◌, true, false, Some, None, length, IfOk, IsTrue, MatchOption};
+ghost use Rattle.std.specs.Prelude.{◌≡◌, ◌+◌, ◌^◌, ◌<◌, ◌≤◌, ◌↔◌, true, false, Some};
+ghost use Rattle.std.specs.Prelude.{None, length, IfOk, IsTrue, MatchOption};
 ghost use Rattle.order_ints.specs.Place.{LitBelow};
-ghost use Rattle.literal_trail.specs.Trail.{IsTrail, empty_trail, implied, chosen, cut_back, entry_at, entry_of, value_in, truth_in, level_in, reason_in, up_to};
+ghost use Rattle.literal_trail.specs.Trail.{IsTrail, empty_trail, implied, chosen, cut_back, entry_at, entry_of};
+ghost use Rattle.literal_trail.specs.Trail.{value_in, truth_in, level_in, reason_in, up_to};
 
 use crate::entry::Entry;
 use crate::tables::{Value, add_entry, code_of, keep_front, push_free, push_no_place};
@@ -12,8 +15,8 @@ use order_ints::Lit;
 use std::alloc::{AllocError, Global};
 use std::marker::Model;
 
-/// Variables from 1 on, and the literals of theirs that are true. The moves take no memory, since there is room for every
-/// variable from the start: 30 bytes for each.
+/// Variables from 1 on, and the literals of theirs that are true. The moves take no memory, since there is room for
+/// every variable from the start: 30 bytes for each.
 #[derive(Debug, Drop)]
 pub struct LiteralTrail {
     vars: u32,

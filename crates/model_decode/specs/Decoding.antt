@@ -24,13 +24,16 @@ use Rattle.model_decode.specs.Short.{AreShort}
 abbrev pub numbers_at : Model → Kernel → Valuation → List ℤ
 numbers_at model k σ = numbers_of (read_by k.view σ) (lowered_of model).map.entries
 
--- The names of a model can be decoded. What they have under a valuation that satisfies the CNF of a state is a solution, and each
--- solution is what they have under one.
+-- The names of a model can be decoded. What they have under a valuation that satisfies the CNF of a state is a
+-- solution, and each solution is what they have under one.
 pub record DecodesSolutions (model : Model) (k : Kernel) : Type 0 where
   pub short : AreShort (lowered_of model).map.entries
   pub solution : (σ : Valuation) → Satisfies σ (cnf_of k) → IsSolution model (numbers_at model k σ)
-  pub each : (a : List ℤ) → IsSolution model a → (σ : Valuation) × Satisfies σ (cnf_of k) × (a ≡ numbers_at model k σ)
+  pub each : (a : List ℤ) → IsSolution model a → (σ : Valuation) × Satisfies σ (cnf_of k)
+      × (a ≡ numbers_at model k σ)
 
 -- so it is at the end of a compilation of a model that is well typed, in the limits and not too heavy
 abbrev pub DecodingLaw : (Core → Equation → Type 0) → Type 0
-DecodingLaw told = (model : Model) (ledger : List Line) (last : Kernel) → WellTyped model → InLimits model → weight_of model ≤ most_weight → IsCompilation told (start_of (lowered_of model)) ledger last → DecodesSolutions model last
+DecodingLaw told = (model : Model) (ledger : List Line) (last : Kernel) → WellTyped model → InLimits model
+    → weight_of model ≤ most_weight → IsCompilation told (start_of (lowered_of model)) ledger last
+    → DecodesSolutions model last

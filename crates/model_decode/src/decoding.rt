@@ -24,8 +24,8 @@ fn number_under(value: &MapValue, reading: StoreReading<'_>) -> i64
     }
 }
 
-/// The number that each declared name has under truth values, of which that of variable 1 stands first, and which a view
-/// reads: each variable is as true as its label, and one without a truth value is false. A Boolean has 0 or 1.
+/// The number that each declared name has under truth values, of which that of variable 1 stands first, and which a
+/// view reads: each variable is as true as its label, and one without a truth value is false. A Boolean has 0 or 1.
 ///
 /// One pass over the names and the steps of their integers; it takes memory for the numbers alone.
 pub fn decode(

@@ -6,8 +6,8 @@ use Rattle.name_map.specs.Fits.{EntriesFit}
 use Rattle.model_lower.specs.declared.state.Lowered.{Lowered}
 use Rattle.model_lower.specs.Weighed.{size_of_lowered}
 
--- the variables and the costs of the cores are few, there is one entry for each declaration, the variables are those that are
--- counted, and the cores are well formed
+-- the variables and the costs of the cores are few, there is one entry for each declaration, the variables are those
+-- that are counted, and the cores are well formed
 pub record Fits (l : Lowered) (decls : List Decl) : Type 0 where
   pub size : size_of_lowered l ≤ 2 ^ 26
   pub entries : EntriesFit (l.vars + 1) decls l.map.entries

@@ -1,5 +1,6 @@
 -- What one more item makes of the assignments that cores and a map of names stand for.
-use Rattle.std.specs.Prelude.{◌≡◌, ◌↔◌, ◌+◌, ◌≤◌, ℤ, pos, List, [], ◌∷◌, ◌++◌, length, IsTrue}
+use Rattle.std.specs.Prelude.{◌≡◌, ◌↔◌, ◌+◌, ◌≤◌, ℤ, pos, List, [], ◌∷◌, ◌++◌, length}
+use Rattle.std.specs.Prelude.{IsTrue}
 use Rattle.order_ints.specs.Truth.{Valuation, Agree}
 use Rattle.order_ints.specs.Numbers.{numbers_of}
 use Rattle.order_ints.specs.Represents.{Represents}
@@ -28,8 +29,8 @@ use Rattle.model_lower.specs.Weighed.{most_weight}
 use Rattle.model_lower.specs.Decoded.{IsDecoded}
 use Rattle.model_lower.specs.Fits.{Fits}
 
--- what is lowered so far has one entry for each declaration so far, and well formed cores over the variables so far, which keep the
--- integers of its map ordered
+-- what is lowered so far has one entry for each declaration so far, and well formed cores over the variables so far,
+-- which keep the integers of its map ordered
 pub record Encodes (l : Lowered) (decls : List Decl) : Type 0 where
   pub entries : EntriesFit (l.vars + 1) decls l.map.entries
   pub below : CoresBelow (l.vars + 1) l.cores
@@ -39,18 +40,22 @@ pub record Encodes (l : Lowered) (decls : List Decl) : Type 0 where
 -- a declaration adds a value of its domain, and it may be each of them
 pub record TakesEachValue (l m : Lowered) (k : Kind) : Type 0 where
   pub some : (σ : Valuation) → MeetsAll σ m.cores
-      → MeetsAll σ l.cores × ((v : ℤ) × IsTrue (is_member v (domain k)) × (numbers_of σ m.map.entries ≡ numbers_of σ l.map.entries ++ v ∷ []))
+      → MeetsAll σ l.cores
+      × ((v : ℤ) × IsTrue (is_member v (domain k))
+      × (numbers_of σ m.map.entries ≡ numbers_of σ l.map.entries ++ v ∷ []))
   pub each : (σ : Valuation) (v : ℤ) → MeetsAll σ l.cores → IsTrue (is_member v (domain k))
-      → (τ : Valuation) × Agree (l.vars + 1) σ τ × MeetsAll τ m.cores × (numbers_of τ m.map.entries ≡ numbers_of σ l.map.entries ++ v ∷ [])
+      → (τ : Valuation) × Agree (l.vars + 1) σ τ × MeetsAll τ m.cores
+      × (numbers_of τ m.map.entries ≡ numbers_of σ l.map.entries ++ v ∷ [])
 
 -- a definition adds the one value for which its statement holds, and changes nothing else
 pub record TakesItsValue (l m : Lowered) (k : Kind) (w : What) : Type 0 where
   pub cores : m.cores ≡ l.cores
-  pub value : (σ : Valuation) → (v : ℤ) × IsTrue (is_member v (domain k)) × (numbers_of σ m.map.entries ≡ numbers_of σ l.map.entries ++ v ∷ [])
+  pub value : (σ : Valuation) → (v : ℤ) × IsTrue (is_member v (domain k))
+      × (numbers_of σ m.map.entries ≡ numbers_of σ l.map.entries ++ v ∷ [])
       × ((z : ℤ) → Holds (numbers_of σ l.map.entries ++ z ∷ []) w ↔ (z ≡ v))
 
--- a statement is a `bool2int` of a Boolean that is declared before it, and of the name that it declares itself behind these
--- declarations, with the domain 0 to 1
+-- a statement is a `bool2int` of a Boolean that is declared before it, and of the name that it declares itself behind
+-- these declarations, with the domain 0 to 1
 pub record IsDefinition (decls : List Decl) (d : Decl) (s : Stmt) : Type 0 where
   pub truth : BoolTerm
   pub truth_fits : TruthFits decls d.number truth
@@ -68,20 +73,24 @@ abbrev pub StatementLaw : Type 0
 StatementLaw = (l : Lowered) (decls : List Decl) (s : Stmt)
     → Encodes l decls → WhatFits decls s.number s.what → WhatInLimit s.what
     → Encodes (with_statement l s.what) decls
-    × Represents (l.vars + 1) ((with_statement l s.what).vars + 1) (λ σ. MeetsAll σ (with_statement l s.what).cores) (λ σ. MeetsAll σ l.cores × Holds (numbers_of σ l.map.entries) s.what)
+    × Represents (l.vars + 1) ((with_statement l s.what).vars + 1) (λ σ. MeetsAll σ (with_statement l s.what).cores)
+    (λ σ. MeetsAll σ l.cores × Holds (numbers_of σ l.map.entries) s.what)
 
 -- a `bool2int` that declares its integer
 abbrev pub DefinitionLaw : Type 0
 DefinitionLaw = (l : Lowered) (decls : List Decl) (d : Decl) (s : Stmt)
     → Encodes l decls → IsDefinition decls d s
-    → Encodes (with_definition l s.what) (decls ++ d ∷ []) × TakesItsValue l (with_definition l s.what) d.kind s.what
+    → Encodes (with_definition l s.what) (decls ++ d ∷ [])
+    × TakesItsValue l (with_definition l s.what) d.kind s.what
 
--- a model that is well typed, in the limits, and no heavier than may be: the solutions are the assignments that are decoded, and the
--- cores keep the integers of the names ordered
+-- a model that is well typed, in the limits, and no heavier than may be: the solutions are the assignments that are
+-- decoded, and the cores keep the integers of the names ordered
 pub record LoweringLaw (model : Model) : Type 0 where
   pub solutions : (a : List ℤ) → IsSolution model a ↔ IsDecoded (lowered_of model) a
   pub fits : Fits (lowered_of model) model.decls
-  pub ordered : (σ : Valuation) → MeetsAll σ (lowered_of model).cores → AreOrdered σ (lowered_of model).map.entries
+  pub ordered : (σ : Valuation) → MeetsAll σ (lowered_of model).cores
+      → AreOrdered σ (lowered_of model).map.entries
 
 abbrev pub LoweringLaws : Type 0
-LoweringLaws = (model : Model) → WellTyped model → InLimits model → weight_of model ≤ most_weight → LoweringLaw model
+LoweringLaws = (model : Model) → WellTyped model → InLimits model → weight_of model ≤ most_weight
+    → LoweringLaw model

@@ -16,8 +16,8 @@ most_weight = 67108864
 abbrev pub size_of_lowered : Lowered → ℕ
 size_of_lowered l = l.vars + costs_of l.cores
 
--- a model is lowered to as many variables and costs as it weighs at most, and to as many cores as it has items and weighs
--- at most
+-- a model is lowered to as many variables and costs as it weighs at most, and to as many cores as it has items and
+-- weighs at most
 pub record ModelWeightLaw (model : Model) : Type 0 where
   pub size : size_of_lowered (lowered_of model) ≤ weight_of model
   pub cores : length (lowered_of model).cores ≤ length model.decls + length model.stmts + weight_of model

@@ -1,8 +1,10 @@
 //! What a declared name stands for.
 
-ghost use Rattle.std.specs.Prelude.{◌≡◌, ◌+◌, ◌-◌, ◌<◌, ◌^◌, ◌++◌, ◌∷◌, [], unsigned_abs, OnOk, IfOk, length};
+ghost use Rattle.std.specs.Prelude.{◌≡◌, ◌+◌, ◌-◌, ◌<◌, ◌^◌, ◌++◌, ◌∷◌, []};
+ghost use Rattle.std.specs.Prelude.{unsigned_abs, OnOk, IfOk, length};
 ghost use Rattle.order_ints.specs.OrderMade.{AreAscending, AreSmall, integer_of_values};
-ghost use Rattle.model_lower.specs.Lowering.{vars_taken, entry_of, entry_cores, defined_entry, with_declaration, with_definition};
+ghost use Rattle.model_lower.specs.Lowering.{vars_taken, entry_of, entry_cores, defined_entry, with_declaration};
+ghost use Rattle.model_lower.specs.Lowering.{with_definition};
 ghost use Rattle.model_lower.specs.Drafting.{lowered_so_far};
 
 use crate::draft::Draft;

@@ -8,8 +8,8 @@ pub fn lowering_law()
     ensures { LoweringLaws }
 {}
 
-/// The variables of a lowered model and the costs of its cores are at most the model's weight, and its cores are at most its
-/// items and its weight.
+/// The variables of a lowered model and the costs of its cores are at most the model's weight, and its cores are at
+/// most its items and its weight.
 pub fn weight_law()
     ensures { ModelWeightLaws }
 {}

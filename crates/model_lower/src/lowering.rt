@@ -53,8 +53,8 @@ fn lower_items(alloc: Global, model: &Model) -> Result<Lowered, AllocError>
     Ok(draft.finish())
 }
 
-/// The cores and the map of names of a model that is lent. A model that weighs more than 67,108,864 is refused before any core
-/// is made; else it takes time linear in the weight, but for a sort of the members of some statements.
+/// The cores and the map of names of a model that is lent. A model that weighs more than 67,108,864 is refused before
+/// any core is made; else it takes time linear in the weight, but for a sort of the members of some statements.
 pub fn lower(alloc: Global, model: &Model) -> Result<Lowered, LowerFault>
     requires typed { WellTyped model.now }
     requires limits { InLimits model.now }

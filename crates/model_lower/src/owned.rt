@@ -1,6 +1,7 @@
 //! From a typed model that is used up to cores and a map of names.
 
-ghost use Rattle.std.specs.Prelude.{◌≡◌, ◌↔◌, ◌<◌, ◌≤◌, ◌^◌, ℤ, List, length, reverse, IfOk, IfErr, OnOk};
+ghost use Rattle.std.specs.Prelude.{◌≡◌, ◌↔◌, ◌<◌, ◌≤◌, ◌^◌, ℤ, List, length, reverse};
+ghost use Rattle.std.specs.Prelude.{IfOk, IfErr, OnOk};
 ghost use Rattle.model_meaning.specs.WellTyped.{WellTyped};
 ghost use Rattle.model_meaning.specs.Limits.{WhatInLimit, DeclsInLimit, StmtsInLimit, InLimits};
 ghost use Rattle.model_meaning.specs.Solutions.{IsSolution};
@@ -41,8 +42,10 @@ fn add_declared(
     decl: &Decl,
     left: &mut Vec<Stmt>,
 ) -> Result<(), AllocError>
-    requires room { (lowered_item (lowered_so_far draft.old) (declared_item decl.now (reverse left.old.items))).vars < 2 ^ 27 }
-    ensures lowered { OnOk result (lowered_so_far draft.new ≡ lowered_item (lowered_so_far draft.old) (declared_item decl.now (reverse left.old.items))) }
+    requires room { (lowered_item (lowered_so_far draft.old) (declared_item decl.now (reverse left.old.items))).vars
+        < 2 ^ 27 }
+    ensures lowered { OnOk result (lowered_so_far draft.new
+        ≡ lowered_item (lowered_so_far draft.old) (declared_item decl.now (reverse left.old.items))) }
     ensures left { OnOk result (reverse left.new.items ≡ behind_declared decl.now (reverse left.old.items)) }
     ensures shorter { OnOk result (length left.new.items ≤ length left.old.items) }
 {
@@ -75,8 +78,8 @@ fn lower_each(alloc: Global, decls: &[Decl], stmts: Vec<Stmt>) -> Result<Lowered
     }
 }
 
-/// The cores and the map of names of a model that is used up: each statement is let go as soon as it is lowered, and the
-/// declarations are kept. It refuses what `lower` refuses, and takes as long.
+/// The cores and the map of names of a model that is used up: each statement is let go as soon as it is lowered, and
+/// the declarations are kept. It refuses what `lower` refuses, and takes as long.
 pub fn lower_owned(alloc: Global, model: Model) -> Result<LoweredModel, LowerFault>
     requires typed { WellTyped model }
     requires limits { InLimits model }

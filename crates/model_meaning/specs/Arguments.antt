@@ -57,8 +57,11 @@ arguments_of (IntLinear name rel cs is i) = Numerals cs ∷ Numbers is ∷ Numbe
 arguments_of (IntOp name o i j k) = Number i ∷ Number j ∷ Number k ∷ []
 arguments_of (Absolute i j) = Number i ∷ Number j ∷ []
 arguments_of (IntArray name o is i) = Numbers is ∷ Number i ∷ []
-arguments_of (IntAllDifferent name d is z xs) = given (Some (Numbers is) ∷ option_map Truth z ∷ option_map Truths xs ∷ [])
-arguments_of (Lexicographic name o xs ys is js z) = given (option_map Truths xs ∷ option_map Truths ys ∷ option_map Numbers is ∷ option_map Numbers js ∷ option_map Truth z ∷ [])
+arguments_of (IntAllDifferent name d is z xs) =
+    given (Some (Numbers is) ∷ option_map Truth z ∷ option_map Truths xs ∷ [])
+arguments_of (Lexicographic name o xs ys is js z) =
+    given (option_map Truths xs ∷ option_map Truths ys ∷ option_map Numbers is ∷ option_map Numbers js
+    ∷ option_map Truth z ∷ [])
 
 -- the statement that a line states
 abbrev pub statement_in : What → Statement

@@ -1,5 +1,6 @@
 -- What operators make of a list of truth values.
-use Rattle.std.specs.Prelude.{ℕ, ◌+◌, ◌%◌, ◌==◌, Bool, true, false, not, ◌&&◌, ◌||◌, List, [], ◌∷◌, if◌then◌else◌}
+use Rattle.std.specs.Prelude.{ℕ, ◌+◌, ◌%◌, ◌==◌, Bool, true, false, not, ◌&&◌, ◌||◌, List, []}
+use Rattle.std.specs.Prelude.{◌∷◌, if◌then◌else◌}
 use Rattle.model_meaning.specs.declared.statement.Operator.{Operator}
 use Rattle.model_meaning.specs.declared.statement.Operator.TheVariants.{Or, And, Xor, Iff}
 

@@ -1,5 +1,6 @@
 -- The values of a declaration, and the assignments whose values are in the domains.
-use Rattle.std.specs.Prelude.{ℕ, zero, suc, ℤ, pos, negsuc, ◌+ℤ◌, ◌-ℤ◌, Bool, true, false, ◌&&◌, List, [], ◌∷◌}
+use Rattle.std.specs.Prelude.{ℕ, zero, suc, ℤ, pos, negsuc, ◌+ℤ◌, ◌-ℤ◌, Bool, true, false, ◌&&◌}
+use Rattle.std.specs.Prelude.{List, [], ◌∷◌}
 use Rattle.model_meaning.specs.declared.model.Kind.{Kind}
 use Rattle.model_meaning.specs.declared.model.Kind.TheVariants as kind
 use Rattle.model_meaning.specs.declared.model.Decl.{Decl}

@@ -1,6 +1,7 @@
 -- When a statement holds under an assignment: the table of statements, line by line. Each line is read as
 -- it is printed, over whole numbers and truth values.
-use Rattle.std.specs.Prelude.{◌≡◌, ◌↔◌, ℤ, pos, unsigned_abs, Bool, true, false, not, List, [], ◌∷◌, map, Option, Some, None, IsTrue, if◌then◌else◌}
+use Rattle.std.specs.Prelude.{◌≡◌, ◌↔◌, ℤ, pos, unsigned_abs, Bool, true, false, not, List, [], ◌∷◌}
+use Rattle.std.specs.Prelude.{map, Option, Some, None, IsTrue, if◌then◌else◌}
 use Rattle.std.specs.Ordering.{int_eq}
 use Rattle.model_meaning.specs.declared.what.BoolTerm.{BoolTerm}
 use Rattle.model_meaning.specs.declared.what.What.{What}
@@ -27,7 +28,8 @@ use Rattle.model_meaning.specs.declared.statement.AllDifferent.TheVariants as al
 use Rattle.model_meaning.specs.declared.statement.Order.{Order}
 use Rattle.model_meaning.specs.Terms.{truth_of, number_of, truths_of, numbers_of, as_number}
 use Rattle.model_meaning.specs.Booleans.{combine, count_true}
-use Rattle.model_meaning.specs.Integers.{relates, total, weight_of_true, linear_sum, Gives, IsAggregate, gives, is_aggregate}
+use Rattle.model_meaning.specs.Integers.{relates, total, weight_of_true, linear_sum, Gives, IsAggregate, gives}
+use Rattle.model_meaning.specs.Integers.{is_aggregate}
 use Rattle.model_meaning.specs.Lists.{AllDiffer, DifferWhere, InOrder, all_differ, differ_where, in_order}
 
 -- the truth value of a term that may be left out; one that is left out is true
@@ -54,7 +56,9 @@ MembersDiffer all_different.Conditional xs z cs = DifferWhere xs cs
 -- the lists are in order, or z is the truth of that. Of Booleans false comes before true
 abbrev pub ListsInOrder : Order → List Bool → List Bool → List ℤ → List ℤ → Bool → Type 0
 ListsInOrder o xs ys is js z =
-    Reify o.reified z (InOrder o.strict (if o.of_booleans then map as_number xs else is) (if o.of_booleans then map as_number ys else js))
+    Reify o.reified z
+    (InOrder o.strict (if o.of_booleans then map as_number xs else is)
+    (if o.of_booleans then map as_number ys else js))
 
 -- the statement holds; its name was read before
 unfoldable pub Holds : List ℤ → What → Type 0
@@ -72,9 +76,11 @@ Holds a (IntLinear name rel cs is i) = IsTrue (relates rel (linear_sum cs (numbe
 Holds a (IntOp name o i j k) = Gives o (number_of a i) (number_of a j) (number_of a k)
 Holds a (Absolute i j) = number_of a j ≡ pos (unsigned_abs (number_of a i))
 Holds a (IntArray name o is i) = IsAggregate o (numbers_of a is) (number_of a i)
-Holds a (IntAllDifferent name d is z xs) = MembersDiffer d (numbers_of a is) (truth_or_true a z) (truths_of a (terms_or_none xs))
+Holds a (IntAllDifferent name d is z xs) =
+    MembersDiffer d (numbers_of a is) (truth_or_true a z) (truths_of a (terms_or_none xs))
 Holds a (Lexicographic name o xs ys is js z) =
-    ListsInOrder o (truths_of a (terms_or_none xs)) (truths_of a (terms_or_none ys)) (numbers_of a (terms_or_none is)) (numbers_of a (terms_or_none js)) (truth_or_true a z)
+    ListsInOrder o (truths_of a (terms_or_none xs)) (truths_of a (terms_or_none ys)) (numbers_of a (terms_or_none is))
+    (numbers_of a (terms_or_none js)) (truth_or_true a z)
 
 -- The same as a test.
 
@@ -96,7 +102,9 @@ members_differ all_different.Conditional xs z cs = differ_where xs cs
 -- an order of two lists
 abbrev pub lists_in_order : Order → List Bool → List Bool → List ℤ → List ℤ → Bool → Bool
 lists_in_order o xs ys is js z =
-    reify o.reified z (in_order o.strict (if o.of_booleans then map as_number xs else is) (if o.of_booleans then map as_number ys else js))
+    reify o.reified z
+    (in_order o.strict (if o.of_booleans then map as_number xs else is)
+    (if o.of_booleans then map as_number ys else js))
 
 -- whether the statement holds
 unfoldable pub holds : List ℤ → What → Bool
@@ -114,6 +122,8 @@ holds a (IntLinear name rel cs is i) = relates rel (linear_sum cs (numbers_of a 
 holds a (IntOp name o i j k) = gives o (number_of a i) (number_of a j) (number_of a k)
 holds a (Absolute i j) = int_eq (number_of a j) (pos (unsigned_abs (number_of a i)))
 holds a (IntArray name o is i) = is_aggregate o (numbers_of a is) (number_of a i)
-holds a (IntAllDifferent name d is z xs) = members_differ d (numbers_of a is) (truth_or_true a z) (truths_of a (terms_or_none xs))
+holds a (IntAllDifferent name d is z xs) =
+    members_differ d (numbers_of a is) (truth_or_true a z) (truths_of a (terms_or_none xs))
 holds a (Lexicographic name o xs ys is js z) =
-    lists_in_order o (truths_of a (terms_or_none xs)) (truths_of a (terms_or_none ys)) (numbers_of a (terms_or_none is)) (numbers_of a (terms_or_none js)) (truth_or_true a z)
+    lists_in_order o (truths_of a (terms_or_none xs)) (truths_of a (terms_or_none ys)) (numbers_of a (terms_or_none is))
+    (numbers_of a (terms_or_none js)) (truth_or_true a z)

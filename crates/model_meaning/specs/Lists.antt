@@ -1,5 +1,6 @@
 -- Lists whose members differ, and lists that are in order.
-use Rattle.std.specs.Prelude.{◌≡◌, ◌≢◌, ◌⊎◌, ℕ, ◌<◌, ℤ, ◌<ℤ◌, int_lt, Bool, true, false, not, ◌&&◌, ◌||◌, List, [], ◌∷◌, length, slice_index_or, IsTrue}
+use Rattle.std.specs.Prelude.{◌≡◌, ◌≢◌, ◌⊎◌, ℕ, ◌<◌, ℤ, ◌<ℤ◌, int_lt, Bool, true, false}
+use Rattle.std.specs.Prelude.{not, ◌&&◌, ◌||◌, List, [], ◌∷◌, length, slice_index_or, IsTrue}
 use Rattle.std.specs.Ordering.{int_eq}
 use Rattle.model_meaning.specs.Terms.{value_at}
 
@@ -10,13 +11,15 @@ AllDiffer xs = (i j : ℕ) → i < j → j < length xs → value_at xs i ≢ val
 -- members at two places whose conditions are both true differ
 abbrev pub DifferWhere : List ℤ → List Bool → Type 0
 DifferWhere xs cs =
-    (i j : ℕ) → i < j → j < length xs → IsTrue (slice_index_or cs i false) → IsTrue (slice_index_or cs j false) → value_at xs i ≢ value_at xs j
+    (i j : ℕ) → i < j → j < length xs → IsTrue (slice_index_or cs i false)
+    → IsTrue (slice_index_or cs j false) → value_at xs i ≢ value_at xs j
 
 -- the first list is before the second: at some place of both it has the lesser member, and the members
 -- at all places before that are equal
 abbrev pub IsBefore : List ℤ → List ℤ → Type 0
 IsBefore xs ys =
-    (k : ℕ) × (k < length xs) × (k < length ys) × (value_at xs k <ℤ value_at ys k) × ((i : ℕ) → i < k → value_at xs i ≡ value_at ys i)
+    (k : ℕ) × (k < length xs) × (k < length ys) × (value_at xs k <ℤ value_at ys k)
+    × ((i : ℕ) → i < k → value_at xs i ≡ value_at ys i)
 
 -- two lists are in order: the first is before the second, or, where the order isn't strict, they are equal
 abbrev pub InOrder : Bool → List ℤ → List ℤ → Type 0

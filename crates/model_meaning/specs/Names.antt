@@ -1,5 +1,6 @@
 -- Which name is which statement.
-use Rattle.std.specs.Prelude.{ℕ, ◌-◌, Bool, true, false, List, length, take, drop, codes, Option, Some, None, if◌then◌else◌}
+use Rattle.std.specs.Prelude.{ℕ, ◌-◌, Bool, true, false, List, length, take, drop, codes, Option, Some, None}
+use Rattle.std.specs.Prelude.{if◌then◌else◌}
 use Rattle.std.specs.Option.{option_and_then, option_map}
 use Rattle.std.specs.Str.{bytes_eq}
 use Rattle.model_meaning.specs.declared.statement.Relation.{Relation}
@@ -27,7 +28,8 @@ after front name = if bytes_eq (take (length front) name) front then Some (drop 
 
 -- what stands before an end of a name
 abbrev pub before : List ℕ → List ℕ → Option (List ℕ)
-before end name = if bytes_eq (drop (length name - length end) name) end then Some (take (length name - length end) name) else None
+before end name = if bytes_eq (drop (length name - length end) name) end
+    then Some (take (length name - length end) name) else None
 
 -- what stands between the two
 abbrev pub between : List ℕ → List ℕ → List ℕ → Option (List ℕ)
@@ -116,4 +118,6 @@ operation_statement name =
 
 -- the declaration or statement of a name, where it is one
 unfoldable pub statement_of : List ℕ → Option Statement
-statement_of name = first_of (lone_statement name) (first_of (operator_statement name) (first_of (relation_statement name) (operation_statement name)))
+statement_of name =
+    first_of (lone_statement name)
+    (first_of (operator_statement name) (first_of (relation_statement name) (operation_statement name)))

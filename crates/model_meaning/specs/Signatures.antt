@@ -1,7 +1,8 @@
 -- Which arguments each declaration and statement takes.
 use Rattle.std.specs.Prelude.{List, [], ◌∷◌, if◌then◌else◌}
 use Rattle.model_meaning.specs.declared.wanted.Wanted.{Wanted}
-use Rattle.model_meaning.specs.declared.wanted.Wanted.TheVariants.{Truth, Number, Numeral, Truths, Numbers, Numerals, NewName, NewInteger}
+use Rattle.model_meaning.specs.declared.wanted.Wanted.TheVariants.{Truth, Number, Numeral, Truths, Numbers, Numerals}
+use Rattle.model_meaning.specs.declared.wanted.Wanted.TheVariants.{NewName, NewInteger}
 use Rattle.model_meaning.specs.declared.statement.AllDifferent.{AllDifferent}
 use Rattle.model_meaning.specs.declared.statement.AllDifferent.TheVariants as all_different
 use Rattle.model_meaning.specs.declared.statement.Order.{Order}
@@ -16,7 +17,9 @@ all_different_signature all_different.Conditional = Numbers ∷ Truths ∷ []
 
 -- an order of two lists
 abbrev pub lex_signature : Order → List Wanted
-lex_signature o = if o.of_booleans then (if o.reified then Truths ∷ Truths ∷ Truth ∷ [] else Truths ∷ Truths ∷ []) else (if o.reified then Numbers ∷ Numbers ∷ Truth ∷ [] else Numbers ∷ Numbers ∷ [])
+lex_signature o =
+    if o.of_booleans then (if o.reified then Truths ∷ Truths ∷ Truth ∷ [] else Truths ∷ Truths ∷ [])
+    else (if o.reified then Numbers ∷ Numbers ∷ Truth ∷ [] else Numbers ∷ Numbers ∷ [])
 
 -- what the arguments are to be, in their order
 abbrev pub signature : Statement → List Wanted

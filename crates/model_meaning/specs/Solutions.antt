@@ -1,5 +1,6 @@
 -- The solutions of a model, and the best ones.
-use Rattle.std.specs.Prelude.{ℕ, ℤ, Bool, true, false, List, [], ◌∷◌, Option, Some, None, IsTrue, IsFalse, if◌then◌else◌}
+use Rattle.std.specs.Prelude.{ℕ, ℤ, Bool, true, false, List, [], ◌∷◌, Option, Some, None, IsTrue, IsFalse}
+use Rattle.std.specs.Prelude.{if◌then◌else◌}
 use Rattle.model_meaning.specs.declared.model.Goal.{Goal}
 use Rattle.model_meaning.specs.declared.model.Goal.TheVariants.{Satisfy, Minimize, Maximize}
 use Rattle.model_meaning.specs.declared.model.Stmt.{Stmt}
@@ -40,7 +41,8 @@ is_better (Maximize place second) v w = in_order true w v
 -- a best solution: no solution has a better value
 pub record IsBest (model : Model) (a : List ℤ) : Type 0 where
   pub solution : IsSolution model a
-  pub best : (b : List ℤ) → IsSolution model b → IsFalse (is_better model.goal (objective model.goal b) (objective model.goal a))
+  pub best : (b : List ℤ) → IsSolution model b
+      → IsFalse (is_better model.goal (objective model.goal b) (objective model.goal a))
 
 -- the number of the first statement that doesn't hold
 abbrev pub first_broken : List ℤ → List Stmt → Option ℕ

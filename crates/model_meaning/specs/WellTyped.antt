@@ -1,5 +1,6 @@
 -- When a model is well typed, as a fact about the model alone.
-use Rattle.std.specs.Prelude.{◌≡◌, ℕ, ◌+◌, ◌<◌, ℤ, pos, ◌≤ℤ◌, ◌≤◌, List, [], ◌∷◌, length, slice_get, Option, Some, None, IfSome, IsSomeAnd, IsFalse}
+use Rattle.std.specs.Prelude.{◌≡◌, ℕ, ◌+◌, ◌<◌, ℤ, pos, ◌≤ℤ◌, ◌≤◌, List, [], ◌∷◌}
+use Rattle.std.specs.Prelude.{length, slice_get, Option, Some, None, IfSome, IsSomeAnd, IsFalse}
 use Rattle.model_meaning.specs.declared.what.BoolTerm.{BoolTerm}
 use Rattle.model_meaning.specs.declared.what.BoolTerm.TheVariants as bool_term
 use Rattle.model_meaning.specs.declared.what.IntTerm.{IntTerm}
@@ -22,7 +23,8 @@ use Rattle.model_meaning.specs.declared.model.Goal.TheVariants as goal
 use Rattle.model_meaning.specs.declared.model.Model.{Model}
 use Rattle.model_meaning.specs.Names.{statement_of}
 use Rattle.model_meaning.specs.Signatures.{signature}
-use Rattle.model_meaning.specs.Arguments.{Argument, Truth, Number, Truths, Numbers, Numerals, arguments_of, statement_in, own_name}
+use Rattle.model_meaning.specs.Arguments.{Argument, Truth, Number, Truths, Numbers, Numerals, arguments_of}
+use Rattle.model_meaning.specs.Arguments.{statement_in, own_name}
 use Rattle.value_lists.specs.ValueLists.{Ascends}
 use Rattle.model_meaning.specs.Places.{is_constant, low_of, place_of}
 
@@ -136,16 +138,20 @@ KindFits (kind.Listed values) = (0 < length values) × Ascends values
 
 abbrev pub DeclsFit : ℕ → List Decl → Type 0
 DeclsFit n [] = Unit {0}
-DeclsFit n (d ∷ ds) = (n ≤ d.number) × (IsFalse (is_constant d.name) × (IsFree d.name ds × (KindFits d.kind × DeclsFit (d.number + 1) ds)))
+DeclsFit n (d ∷ ds) = (n ≤ d.number)
+    × (IsFalse (is_constant d.name) × (IsFree d.name ds × (KindFits d.kind × DeclsFit (d.number + 1) ds)))
 
 -- where a declaration has the number of a statement, the statement is a `bool2int` of that declaration,
 -- and the domain is 0 to 1
 abbrev pub DeclaresPlace : List Decl → Decl → What → Type 0
-DeclaresPlace ds d (BoolToInt x (int_term.Of place)) = (slice_get ds place ≡ Some d) × (d.kind ≡ kind.Range (pos 0) (pos 1))
+DeclaresPlace ds d (BoolToInt x (int_term.Of place)) = (slice_get ds place ≡ Some d)
+    × (d.kind ≡ kind.Range (pos 0) (pos 1))
 DeclaresPlace ds d w = ⊥
 
 abbrev pub SharesFit : List Decl → List Stmt → Type 0
-SharesFit ds ss = (p q : ℕ) → IfSome (slice_get ds p) (λ d. IfSome (slice_get ss q) (λ s. d.number ≡ s.number → DeclaresPlace ds d s.what))
+SharesFit ds ss = (p q : ℕ)
+    → IfSome (slice_get ds p) (λ d. IfSome (slice_get ss q) (λ s. d.number ≡ s.number
+    → DeclaresPlace ds d s.what))
 
 -- an objective is an integer, and so is a second one, where there is one
 abbrev pub ObjectiveFits : List Decl → ℕ → Type 0

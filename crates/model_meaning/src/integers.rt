@@ -1,9 +1,11 @@
 //! Comparisons, sums, and operations on whole numbers.
 
-ghost use Rattle.std.specs.Prelude.{◌≡◌, ℕ, ◌+ℤ◌, ◌-ℤ◌, ◌*ℤ◌, ◌≤◌, ◌^◌, unsigned_abs, pos, FitsSigned, if◌then◌else◌};
+ghost use Rattle.std.specs.Prelude.{◌≡◌, ℕ, ◌+ℤ◌, ◌-ℤ◌, ◌*ℤ◌, ◌≤◌, ◌^◌};
+ghost use Rattle.std.specs.Prelude.{unsigned_abs, pos, FitsSigned, if◌then◌else◌};
 ghost use Rattle.std.specs.Int.{w64};
 ghost use Rattle.model_meaning.specs.Terms.{truths_of, numbers_of};
-ghost use Rattle.model_meaning.specs.Integers.{relates, total, weight_of_true, linear_sum, is_greatest, is_least, is_quotient, is_remainder, gives, is_aggregate};
+ghost use Rattle.model_meaning.specs.Integers.{relates, total, weight_of_true, linear_sum, is_greatest, is_least};
+ghost use Rattle.model_meaning.specs.Integers.{is_quotient, is_remainder, gives, is_aggregate};
 ghost use Rattle.model_meaning.specs.Limits.{AllInLimit, TermsInLimit};
 
 use crate::statement::{Aggregate, Arithmetic, Relation};

@@ -3,7 +3,9 @@
 ghost use Rattle.std.specs.Prelude.{◌≡◌, ◌≤◌, ◌↔◌, IsTrue};
 ghost use Rattle.model_meaning.specs.Arguments.{argument, arguments};
 ghost use Rattle.model_meaning.specs.Sizes.{argument_members, arguments_members};
-ghost use Rattle.model_meaning.specs.Limits.{InLimit, AllInLimit, TermInLimit, TermsInLimit, ArgumentInLimit, ArgumentsInLimit, WhatInLimit, StmtsInLimit, KindInLimit, DeclsInLimit, InLimits};
+ghost use Rattle.model_meaning.specs.Limits.{InLimit, AllInLimit, TermInLimit, TermsInLimit, ArgumentInLimit};
+ghost use Rattle.model_meaning.specs.Limits.{ArgumentsInLimit, WhatInLimit, StmtsInLimit, KindInLimit, DeclsInLimit};
+ghost use Rattle.model_meaning.specs.Limits.{InLimits};
 
 use crate::arguments::{Argument, arguments_of};
 use crate::model::{Decl, Kind, Model, Stmt};

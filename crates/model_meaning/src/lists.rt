@@ -43,7 +43,8 @@ fn is_taken(values: &[i64], number: i64, member: IntTerm, condition: BoolTerm) -
 
 /// Whether no member whose condition is true has a value.
 fn differs_where(values: &[i64], number: i64, members: &[IntTerm], conditions: &[BoolTerm]) -> bool
-    ensures { result ≡ differs_where number (numbers_of values.now members.now) (truths_of values.now conditions.now) }
+    ensures { result ≡ differs_where number (numbers_of values.now members.now)
+        (truths_of values.now conditions.now) }
 {
     for i in 0..members.len() {
         if i >= conditions.len() {
@@ -100,7 +101,8 @@ pub fn numbers_in_order(strict: bool, values: &[i64], left: &[IntTerm], right: &
 
 /// Whether two lists of Booleans are in order, false before true.
 pub fn truths_in_order(strict: bool, values: &[i64], left: &[BoolTerm], right: &[BoolTerm]) -> bool
-    ensures { result ≡ in_order strict (map as_number (truths_of values.now left.now)) (map as_number (truths_of values.now right.now)) }
+    ensures { result ≡ in_order strict (map as_number (truths_of values.now left.now))
+        (map as_number (truths_of values.now right.now)) }
 {
     for i in 0..left.len() {
         if i >= right.len() {

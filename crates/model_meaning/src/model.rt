@@ -65,8 +65,8 @@ pub enum Goal {
     /// A solution with the least value of the integer at this place, and among these the least value of the one at the
     /// second place, where there is one.
     Minimize(usize, Option<usize>),
-    /// A solution with the greatest value of the integer at this place, and among these the greatest value of the one at
-    /// the second place, where there is one.
+    /// A solution with the greatest value of the integer at this place, and among these the greatest value of the one
+    /// at the second place, where there is one.
     Maximize(usize, Option<usize>),
 }
 

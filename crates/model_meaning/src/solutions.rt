@@ -1,6 +1,7 @@
 //! Which assignments are in the domains, and which statements hold.
 
-ghost use Rattle.std.specs.Prelude.{◌≡◌, ◌↔◌, ◌<◌, ◌&&◌, int_le, length, IsTrue, IsNone, IfSome, Some, slice_get};
+ghost use Rattle.std.specs.Prelude.{◌≡◌, ◌↔◌, ◌<◌, ◌&&◌, int_le, length, IsTrue, IsNone, IfSome};
+ghost use Rattle.std.specs.Prelude.{Some, slice_get};
 ghost use Rattle.std.specs.Option.{option_map};
 ghost use Rattle.model_meaning.specs.Integers.{is_member};
 ghost use Rattle.model_meaning.specs.Limits.{InLimits, StmtsInLimit, AllInLimit};

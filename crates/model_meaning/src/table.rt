@@ -62,7 +62,8 @@ fn members_differ(
     truth: bool,
     conditions: &[BoolTerm],
 ) -> bool
-    ensures { result ≡ members_differ kind (numbers_of values.now members.now) truth (truths_of values.now conditions.now) }
+    ensures { result ≡ members_differ kind (numbers_of values.now members.now) truth
+        (truths_of values.now conditions.now) }
 {
     match kind {
         AllDifferent::Plain => all_differ(values, members),
@@ -73,7 +74,9 @@ fn members_differ(
 
 /// Whether the lists of an order are in it.
 fn lists_in_order(order: Order, values: &[i64], lists: &OrderLists<'_>, truth: bool) -> bool
-    ensures { result ≡ lists_in_order order (truths_of values.now lists.now.left_truths.now) (truths_of values.now lists.now.right_truths.now) (numbers_of values.now lists.now.left_numbers.now) (numbers_of values.now lists.now.right_numbers.now) truth }
+    ensures { result ≡ lists_in_order order (truths_of values.now lists.now.left_truths.now)
+        (truths_of values.now lists.now.right_truths.now) (numbers_of values.now lists.now.left_numbers.now)
+        (numbers_of values.now lists.now.right_numbers.now) truth }
 {
     let in_order = if order.of_booleans {
         truths_in_order(order.strict, values, lists.left_truths, lists.right_truths)

@@ -34,12 +34,14 @@ IsFirstFault text fault.TooLong = ⊥
 IsFirstFault text (fault.Syntax line) = IsSyntaxFault text line
 IsFirstFault text (fault.Number line) = IsNumberFault text line
 IsFirstFault text (fault.Typed f) = (s : Syntax) × IsText text s × (first_fault s.items ≡ Some f)
-IsFirstFault text (fault.TooHeavy weight) = (m : Model) × IsModelOf text m × (most_weight < weight_of m) × (weight ≡ weight_of m)
+IsFirstFault text (fault.TooHeavy weight) = (m : Model) × IsModelOf text m × (most_weight < weight_of m)
+    × (weight ≡ weight_of m)
 IsFirstFault text (fault.Cnf line) = ⊥
 
 -- a text is too long, or within the limit and has this fault first
 abbrev pub HasFault : List ℕ → ModelFault → Type 0
-HasFault text f = ((longest_text < length text) × (f ≡ fault.TooLong)) ⊎ ((length text ≤ longest_text) × IsFirstFault text f)
+HasFault text f = ((longest_text < length text) × (f ≡ fault.TooLong))
+    ⊎ ((length text ≤ longest_text) × IsFirstFault text f)
 
 -- what a fault of the items makes of a text: want of memory is no fault of it
 abbrev pub text_fault_of : TypeFault → ModelTextFault

@@ -4,8 +4,8 @@ use thiserror::Error;
 use typed_model::TypeFault;
 
 /// Why an input is no model that is compiled, no compiled text, or no plain CNF. The first of these that it has, in
-/// this order, is its fault; of `Syntax` and `Number` the one that stands first in the text. `Cnf` is that of a compiled
-/// text and of a plain CNF.
+/// this order, is its fault; of `Syntax` and `Number` the one that stands first in the text. `Cnf` is that of a
+/// compiled text and of a plain CNF.
 #[derive(Debug, Drop, Error)]
 pub enum ModelFault {
     /// Its text has more than 16,777,216 bytes.

@@ -1,6 +1,7 @@
 //! From a text to the model that it says.
 
-ghost use Rattle.std.specs.Prelude.{◌≡◌, ◌≢◌, ◌++◌, ◌∷◌, [], List, IfOk, IfErr, OnOk, MatchResult, Ok, Err};
+ghost use Rattle.std.specs.Prelude.{◌≡◌, ◌≢◌, ◌++◌, ◌∷◌, [], List, IfOk, IfErr, OnOk};
+ghost use Rattle.std.specs.Prelude.{MatchResult, Ok, Err};
 ghost use Rattle.bumblebee_reader.specs.declared.syntax.Item.{Item};
 ghost use Rattle.bumblebee_reader.specs.Unread.{unread, whole_text};
 ghost use Rattle.typed_model.specs.Taken.{HasTaken};
@@ -46,7 +47,8 @@ fn read_fault(fault: ReadFault) -> ModelTextFault
 
 /// Types one more item, and lets it go.
 fn take_item(alloc: Global, typing: &mut Typing, item: Item) -> Result<(), ReadFault>
-    ensures taken { (items : List Item) → HasTaken typing.old items → OnOk result (HasTaken typing.new (items ++ item ∷ [])) }
+    ensures taken { (items : List Item) → HasTaken typing.old items
+        → OnOk result (HasTaken typing.new (items ++ item ∷ [])) }
     ensures fault { IfErr result (λ f. f ≡ ReadFault.Memory) }
 {
     typing.take(alloc, &item)?;

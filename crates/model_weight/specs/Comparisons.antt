@@ -18,7 +18,8 @@ weight_of_comparison relation.Neq n m = cost_of_eq n m
 abbrev pub weight_of_fresh_count : Relation → ℕ → ℕ → ℕ
 weight_of_fresh_count rel k m = k + cost_of_count k k + weight_of_comparison rel k m
 
--- the number of true ones of k members is compared to an integer with m steps, which is the count where they are to be equal
+-- the number of true ones of k members is compared to an integer with m steps, which is the count where they are to be
+-- equal
 abbrev pub weight_of_count : Relation → ℕ → ℕ → ℕ
 weight_of_count relation.Leq k m = weight_of_fresh_count relation.Leq k m
 weight_of_count relation.Geq k m = weight_of_fresh_count relation.Geq k m

@@ -1,5 +1,5 @@
--- The weight of reified all-different: for each two members a fresh Boolean that is the truth of their being equal, and that
--- none of these is true.
+-- The weight of reified all-different: for each two members a fresh Boolean that is the truth of their being equal, and
+-- that none of these is true.
 use Rattle.std.specs.Prelude.{ℕ, ◌+◌, ◌*◌, List, [], ◌∷◌, length}
 use Rattle.core_cost.specs.ListForms.{cost_of_conj}
 use Rattle.core_cost.specs.Comparisons.{cost_of_ladder, cost_of_eq}
@@ -21,8 +21,8 @@ count_of_pairs (n ∷ ns) = length ns + count_of_pairs ns
 abbrev pub weight_of_reified_all_different : List ℕ → ℕ
 weight_of_reified_all_different ns = weight_of_pairs ns + cost_of_conj (count_of_pairs ns)
 
--- The same of ascending numbers without a walk over pairs: what a member adds to each pair in which it has the lesser number
--- of steps, and to each in which it has the greater one.
+-- The same of ascending numbers without a walk over pairs: what a member adds to each pair in which it has the lesser
+-- number of steps, and to each in which it has the greater one.
 
 abbrev pub weight_as_lesser : ℕ → ℕ
 weight_as_lesser n = 8 * n + 12 + cost_of_ladder n

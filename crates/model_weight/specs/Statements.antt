@@ -1,6 +1,7 @@
--- The weight of a statement, line by line: the fresh variables and the costs of the cores that it is lowered to. A Boolean
--- that is taken as an integer has one step.
-use Rattle.std.specs.Prelude.{ℕ, ◌+◌, ◌-◌, ◌*◌, ◌/◌, min, List, [], ◌∷◌, map, length, if◌then◌else◌}
+-- The weight of a statement, line by line: the fresh variables and the costs of the cores that it is lowered to. A
+-- Boolean that is taken as an integer has one step.
+use Rattle.std.specs.Prelude.{ℕ, ◌+◌, ◌-◌, ◌*◌, ◌/◌, min, List, [], ◌∷◌, map, length}
+use Rattle.std.specs.Prelude.{if◌then◌else◌}
 use Rattle.std.specs.List.{zip}
 use Rattle.core_cost.specs.ListForms.{cost_of_clause, cost_of_conj, cost_of_parity}
 use Rattle.core_cost.specs.Comparisons.{cost_of_eq, cost_of_lex}
@@ -40,7 +41,8 @@ use Rattle.model_meaning.specs.declared.statement.Order.{Order}
 use Rattle.model_meaning.specs.declared.model.Kind.{Kind}
 use Rattle.model_meaning.specs.declared.model.Decl.{Decl}
 use Rattle.model_meaning.specs.Holds.{terms_or_none}
-use Rattle.model_weight.specs.Shapes.{steps_of, shape_of, least_of, greatest_of, domain_of, steps_in, shape_in, all_steps}
+use Rattle.model_weight.specs.Shapes.{steps_of, shape_of, least_of, greatest_of, domain_of, steps_in, shape_in}
+use Rattle.model_weight.specs.Shapes.{all_steps}
 use Rattle.model_weight.specs.Comparisons.{weight_of_comparison, weight_of_count}
 use Rattle.model_weight.specs.Linear.{scaled_truths, scaled_numbers, numbers, weight_of_linear}
 use Rattle.model_weight.specs.Pairs.{weight_of_reified_all_different}
@@ -52,8 +54,8 @@ weight_of_array operator.And k = cost_of_conj k
 weight_of_array operator.Xor k = cost_of_parity k
 weight_of_array operator.Iff k = (k - 1) * cost_of_parity 2
 
--- lines 5 and 7: a Boolean is an operator of k members. They are all equal where one of two fresh Booleans is true, which
--- are the conjunction of the members and that of their negations
+-- lines 5 and 7: a Boolean is an operator of k members. They are all equal where one of two fresh Booleans is true,
+-- which are the conjunction of the members and that of their negations
 abbrev pub weight_of_reified_array : Operator → ℕ → ℕ
 weight_of_reified_array operator.Or k = cost_of_conj k
 weight_of_reified_array operator.And k = cost_of_conj k
@@ -96,9 +98,11 @@ abbrev pub truth_steps : List BoolTerm → List ℕ
 truth_steps xs = map (λ _. 1) xs
 
 -- two lists are in order
-abbrev pub weight_of_order : Order → List Decl → List BoolTerm → List BoolTerm → List IntTerm → List IntTerm → ℕ
+abbrev pub weight_of_order : Order → List Decl → List BoolTerm → List BoolTerm → List IntTerm → List IntTerm
+    → ℕ
 weight_of_order o ds xs ys is js =
-    if o.of_booleans then cost_of_lex (zip (truth_steps xs) (truth_steps ys)) else cost_of_lex (zip (all_steps ds is) (all_steps ds js))
+    if o.of_booleans then cost_of_lex (zip (truth_steps xs) (truth_steps ys))
+    else cost_of_lex (zip (all_steps ds is) (all_steps ds js))
 
 -- a statement among declarations
 abbrev pub weight_of_what : List Decl → What → ℕ

@@ -12,7 +12,8 @@ use Rattle.model_weight.specs.Statements.{weight_of_what}
 -- a declared name: its variables, and that an integer is ordered
 abbrev pub weight_of_declaration : Kind → ℕ
 weight_of_declaration kind.Bool = 1
-weight_of_declaration (kind.Range low high) = steps_of (kind.Range low high) + cost_of_ladder (steps_of (kind.Range low high))
+weight_of_declaration (kind.Range low high) = steps_of (kind.Range low high)
+    + cost_of_ladder (steps_of (kind.Range low high))
 weight_of_declaration (kind.Listed vs) = steps_of (kind.Listed vs) + cost_of_ladder (steps_of (kind.Listed vs))
 
 -- an item; the integer that a `bool2int` declares is its Boolean, and takes no variable and no core

@@ -53,10 +53,10 @@ fn items_weight(alloc: Global, model: &Model) -> Result<u128, AllocError>
     Ok(weight)
 }
 
-/// The weight of a model: its variables, and the costs of the cores that it is lowered to, a fresh sum of a linear sum with as
-/// many variables as its shape says. It is exact for the model of each text; a weight that does not fit 128 bits would be
-/// given as 2^128 - 1. No core is made; it takes time linear in the model, but for a sort of the members of reified
-/// all-different.
+/// The weight of a model: its variables, and the costs of the cores that it is lowered to, a fresh sum of a linear sum
+/// with as many variables as its shape says. It is exact for the model of each text; a weight that does not fit 128
+/// bits would be given as 2^128 - 1. No core is made; it takes time linear in the model, but for a sort of the members
+/// of reified all-different.
 pub fn weight(alloc: Global, model: &Model) -> Result<u128, AllocError>
     requires { InLimits model.now }
     ensures weight { IfOk result (λ weight. weight ≡ saturated (weight_of model.now)) }

@@ -19,9 +19,10 @@ pub fn queue_law()
         → weight_of_queue times rel members ≤ weight_of_queue times rel others }
 {}
 
-/// A model within the limits weighs less than 2^128, so that its weight is exact, where its declarations, its statements and
-/// the members of their lists are fewer than 2^45 together; those of a text are fewer than its bytes.
+/// A model within the limits weighs less than 2^128, so that its weight is exact, where its declarations, its
+/// statements and the members of their lists are fewer than 2^45 together; those of a text are fewer than its bytes.
 pub fn fits_law()
-    ensures { (model : Model) → InLimits model → length model.decls + length model.stmts + members_of model.stmts < 2 ^ 45
+    ensures { (model : Model) → InLimits model →
+        length model.decls + length model.stmts + members_of model.stmts < 2 ^ 45
         → weight_of model < 2 ^ 128 }
 {}

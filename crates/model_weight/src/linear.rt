@@ -1,13 +1,15 @@
 //! Linear sums that are compared.
 
-ghost use Rattle.std.specs.Prelude.{◌≡◌, ◌+◌, ◌^◌, ◌≤◌, ◌<◌, ◌++◌, ◌∷◌, [], List, length, drop, IfOk};
+ghost use Rattle.std.specs.Prelude.{◌≡◌, ◌+◌, ◌^◌, ◌≤◌, ◌<◌, ◌++◌, ◌∷◌, [], List};
+ghost use Rattle.std.specs.Prelude.{length, drop, IfOk};
 ghost use Rattle.std.specs.VecDeque.{deque_len};
 ghost use Rattle.core_cost.specs.declared.shape.Shape.{Shape};
 ghost use Rattle.core_cost.specs.Saturated.{saturated};
 ghost use Rattle.core_cost.specs.Sums.{spans_of, fresh_sum_of};
 ghost use Rattle.model_meaning.specs.Limits.{AllInLimit, DeclsInLimit};
 ghost use Rattle.model_weight.specs.Shapes.{shape_in};
-ghost use Rattle.model_weight.specs.Linear.{scaled_truths, scaled_numbers, numbers, with_steps, steps_of_first, weight_of_fresh_sum, weight_of_compared, weight_of_sum, weight_of_linear};
+ghost use Rattle.model_weight.specs.Linear.{scaled_truths, scaled_numbers, numbers, with_steps, steps_of_first};
+ghost use Rattle.model_weight.specs.Linear.{weight_of_fresh_sum, weight_of_compared, weight_of_sum, weight_of_linear};
 
 use crate::comparisons::comparison_weight;
 use crate::members::{add_member, numbers, scaled_numbers, scaled_truths};
@@ -48,8 +50,8 @@ fn take_steps(queue: &mut VecDeque<Shape>) -> u128
     }
 }
 
-/// The members' sum is compared to a number otherwise than by equality: two by two they make way for a fresh sum behind the
-/// others, until two are left.
+/// The members' sum is compared to a number otherwise than by equality: two by two they make way for a fresh sum behind
+/// the others, until two are left.
 fn compared_weight(relation: Relation, members: Vec<Shape>) -> Result<u128, AllocError>
     requires { spans_of members.items < 2 ^ 128 }
     ensures { IfOk result (λ weight. weight ≡ saturated (weight_of_compared relation members.items)) }
@@ -105,7 +107,10 @@ pub fn truths_weight(
     requires decls { DeclsInLimit decls.now }
     requires coefficients { AllInLimit coefficients.now }
     requires members { length members.now ≤ 16777216 }
-    ensures { IfOk result (λ weight. weight ≡ saturated (weight_of_linear relation (scaled_truths coefficients.now members.now) (shape_in decls.now right))) }
+    ensures { IfOk result
+        (λ weight. weight
+        ≡ saturated
+        (weight_of_linear relation (scaled_truths coefficients.now members.now) (shape_in decls.now right))) }
 {
     let shapes = scaled_truths(alloc, coefficients, members)?;
     linear_weight(relation, shapes, shape_in(decls, right))
@@ -123,7 +128,11 @@ pub fn numbers_weight(
     requires decls { DeclsInLimit decls.now }
     requires coefficients { AllInLimit coefficients.now }
     requires members { length members.now ≤ 16777216 }
-    ensures { IfOk result (λ weight. weight ≡ saturated (weight_of_linear relation (scaled_numbers decls.now coefficients.now members.now) (shape_in decls.now right))) }
+    ensures { IfOk result
+        (λ weight. weight
+        ≡ saturated
+        (weight_of_linear relation (scaled_numbers decls.now coefficients.now members.now)
+        (shape_in decls.now right))) }
 {
     let shapes = scaled_numbers(alloc, decls, coefficients, members)?;
     linear_weight(relation, shapes, shape_in(decls, right))
@@ -139,7 +148,9 @@ pub fn total_weight(
 ) -> Result<u128, AllocError>
     requires decls { DeclsInLimit decls.now }
     requires members { length members.now ≤ 16777216 }
-    ensures { IfOk result (λ weight. weight ≡ saturated (weight_of_linear relation (numbers decls.now members.now) (shape_in decls.now right))) }
+    ensures { IfOk result
+        (λ weight. weight
+        ≡ saturated (weight_of_linear relation (numbers decls.now members.now) (shape_in decls.now right))) }
 {
     let shapes = numbers(alloc, decls, members)?;
     linear_weight(relation, shapes, shape_in(decls, right))

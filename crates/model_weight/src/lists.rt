@@ -27,7 +27,8 @@ pub fn pairs_of_steps(
     left: &[IntTerm],
     right: &[IntTerm],
 ) -> Result<Vec<(u128, u128)>, AllocError>
-    ensures { IfOk result (λ pairs. pairs.items ≡ zip (all_steps decls.now left.now) (all_steps decls.now right.now)) }
+    ensures { IfOk result
+        (λ pairs. pairs.items ≡ zip (all_steps decls.now left.now) (all_steps decls.now right.now)) }
 {
     let mut pairs = Vec::with_capacity(alloc, left.len())?;
     let both = left.len().min(right.len());

@@ -1,6 +1,7 @@
 //! The members of linear sums, as shapes of integers that have a step.
 
-ghost use Rattle.std.specs.Prelude.{◌≡◌, ◌*◌, ◌^◌, ◌≤◌, ◌<◌, ◌++◌, ◌∷◌, [], length, OnOk, IfOk};
+ghost use Rattle.std.specs.Prelude.{◌≡◌, ◌*◌, ◌^◌, ◌≤◌, ◌<◌, ◌++◌, ◌∷◌, [], length};
+ghost use Rattle.std.specs.Prelude.{OnOk, IfOk};
 ghost use Rattle.core_cost.specs.Sums.{spans_of};
 ghost use Rattle.model_meaning.specs.Limits.{AllInLimit, DeclsInLimit};
 ghost use Rattle.model_weight.specs.Linear.{scaled, scaled_truths, scaled_numbers, numbers, with_steps};
@@ -64,7 +65,8 @@ pub fn scaled_numbers(
 ) -> Result<Vec<Shape>, AllocError>
     requires decls { DeclsInLimit decls.now }
     requires coefficients { AllInLimit coefficients.now }
-    ensures shapes { IfOk result (λ shapes. shapes.items ≡ with_steps (scaled_numbers decls.now coefficients.now members.now)) }
+    ensures shapes { IfOk result (λ shapes. shapes.items
+        ≡ with_steps (scaled_numbers decls.now coefficients.now members.now)) }
     ensures spans { IfOk result (λ shapes. spans_of shapes.items ≤ 2 ^ 61 * length members.now) }
 {
     let mut shapes = Vec::with_capacity(alloc, members.len())?;

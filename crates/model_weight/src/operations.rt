@@ -3,7 +3,8 @@
 ghost use Rattle.std.specs.Prelude.{◌≡◌, ◌≤◌, length, IfOk};
 ghost use Rattle.core_cost.specs.Saturated.{saturated};
 ghost use Rattle.model_meaning.specs.Limits.{DeclsInLimit};
-ghost use Rattle.model_weight.specs.Statements.{steps_of_remainder, steps_of_quotient, weight_of_operation, weight_of_aggregate, weight_of_all_different};
+ghost use Rattle.model_weight.specs.Statements.{steps_of_remainder, steps_of_quotient, weight_of_operation};
+ghost use Rattle.model_weight.specs.Statements.{weight_of_aggregate, weight_of_all_different};
 ghost use Rattle.model_weight.specs.Shapes.{all_steps, steps_in, lent_domain};
 ghost use Rattle.core_cost.specs.Arithmetic.{cost_of_max};
 
@@ -41,7 +42,9 @@ pub fn operation_weight(
     right: Domain<'_>,
     value: Domain<'_>,
 ) -> u128
-    ensures { result ≡ saturated (weight_of_operation operation (lent_domain left.entry) (lent_domain right.entry) (lent_domain value.entry)) }
+    ensures { result
+        ≡ saturated
+        (weight_of_operation operation (lent_domain left.entry) (lent_domain right.entry) (lent_domain value.entry)) }
 {
     let (first, second, third) = (steps(left), steps(right), steps(value));
     match operation {
@@ -66,7 +69,8 @@ fn extreme_weight(
     members: &[IntTerm],
     value: IntTerm,
 ) -> Result<u128, AllocError>
-    ensures { IfOk result (λ weight. weight ≡ saturated (cost_of_max (all_steps decls.now members.now) (steps_in decls.now value))) }
+    ensures { IfOk result
+        (λ weight. weight ≡ saturated (cost_of_max (all_steps decls.now members.now) (steps_in decls.now value))) }
 {
     let steps = all_steps(alloc, decls, members)?;
     Ok(max_cost(&steps, steps_in(decls, value)))
@@ -82,7 +86,8 @@ pub fn aggregate_weight(
 ) -> Result<u128, AllocError>
     requires decls { DeclsInLimit decls.now }
     requires members { length members.now ≤ 16777216 }
-    ensures { IfOk result (λ weight. weight ≡ saturated (weight_of_aggregate operation decls.now members.now value)) }
+    ensures { IfOk result
+        (λ weight. weight ≡ saturated (weight_of_aggregate operation decls.now members.now value)) }
 {
     match operation {
         Aggregate::Plus => total_weight(alloc, decls, Relation::Eq, members, value),
@@ -97,7 +102,8 @@ pub fn all_different_weight(
     kind: AllDifferent,
     members: &[IntTerm],
 ) -> Result<u128, AllocError>
-    ensures { IfOk result (λ weight. weight ≡ saturated (weight_of_all_different kind (all_steps decls.now members.now))) }
+    ensures { IfOk result
+        (λ weight. weight ≡ saturated (weight_of_all_different kind (all_steps decls.now members.now))) }
 {
     let steps = all_steps(alloc, decls, members)?;
     match kind {

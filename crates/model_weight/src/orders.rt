@@ -16,7 +16,11 @@ pub fn order_weight(
     order: Order,
     lists: &OrderLists<'_>,
 ) -> Result<u128, AllocError>
-    ensures { IfOk result (λ weight. weight ≡ saturated (weight_of_order order decls.now lists.now.left_truths.now lists.now.right_truths.now lists.now.left_numbers.now lists.now.right_numbers.now)) }
+    ensures { IfOk result
+        (λ weight. weight
+        ≡ saturated
+        (weight_of_order order decls.now lists.now.left_truths.now lists.now.right_truths.now lists.now.left_numbers.now
+        lists.now.right_numbers.now)) }
 {
     if order.of_booleans {
         let pairs = pairs_of_truths(alloc, lists.left_truths, lists.right_truths)?;

@@ -2,12 +2,13 @@
 
 ghost use Rattle.std.specs.Prelude.{◌≡◌, ℕ, ◌*◌, List, length};
 ghost use Rattle.core_cost.specs.Saturated.{saturated};
-ghost use Rattle.model_weight.specs.Pairs.{weight_of_reified_all_different, count_of_pairs, weight_as_lesser, weight_as_greater, weight_of_ascending};
+ghost use Rattle.model_weight.specs.Pairs.{weight_of_reified_all_different, count_of_pairs, weight_as_lesser};
+ghost use Rattle.model_weight.specs.Pairs.{weight_as_greater, weight_of_ascending};
 
 use core_cost::ladder_cost;
 
-/// What a member adds to each pair in which it has the lesser number of steps: the fresh Boolean, and what of the equality
-/// depends on it.
+/// What a member adds to each pair in which it has the lesser number of steps: the fresh Boolean, and what of the
+/// equality depends on it.
 fn lesser_weight(steps: u128) -> u128
     ensures { result ≡ saturated (weight_as_lesser steps) }
 {

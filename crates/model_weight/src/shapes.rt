@@ -2,7 +2,8 @@
 
 ghost use Rattle.std.specs.Prelude.{◌≡◌, ◌^◌, ◌<◌, ◌-ℤ◌};
 ghost use Rattle.model_meaning.specs.Domains.{at_least_zero};
-ghost use Rattle.model_weight.specs.Shapes.{steps_of, shape_of, least_of, greatest_of, domain_of, lent_domain, steps_in, shape_in};
+ghost use Rattle.model_weight.specs.Shapes.{steps_of, shape_of, least_of, greatest_of, domain_of, lent_domain};
+ghost use Rattle.model_weight.specs.Shapes.{steps_in, shape_in};
 
 use core_cost::Shape;
 use model_meaning::{Decl, IntTerm, Kind};

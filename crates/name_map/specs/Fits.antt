@@ -16,8 +16,8 @@ use Rattle.model_meaning.specs.declared.model.Decl.{Decl}
 use Rattle.model_meaning.specs.Domains.{at_least_zero}
 use Rattle.model_meaning.specs.Limits.{InLimit}
 
--- A Boolean stands for an atom, whose variable is below n, and an integer for an integer that is as `Fits` says of its domain's least and
--- greatest value and shape.
+-- A Boolean stands for an atom, whose variable is below n, and an integer for an integer that is as `Fits` says of its
+-- domain's least and greatest value and shape.
 abbrev pub IsOfKind : (ℤ → ℤ → Shape → OrdInt → Type 0) → ℕ → Kind → MapValue → Type 0
 IsOfKind Fits n kind.Bool (values.Bool a) = AtomBelow n a
 IsOfKind Fits n kind.Bool (values.Int a) = ⊥
@@ -33,8 +33,8 @@ AreOfKinds Fits n [] (v ∷ vs) = ⊥
 AreOfKinds Fits n (d ∷ ds) [] = ⊥
 AreOfKinds Fits n (d ∷ ds) (v ∷ vs) = IsOfKind Fits n d.kind v × AreOfKinds Fits n ds vs
 
--- What the declarations say: an integer's variables are below n, it is sound, its least and greatest values are those of its
--- domain, which are in the limit of numerals, and it has the domain's shape.
+-- What the declarations say: an integer's variables are below n, it is sound, its least and greatest values are those
+-- of its domain, which are in the limit of numerals, and it has the domain's shape.
 pub record IntegerFits (n : ℕ) (low high : ℤ) (s : Shape) (a : OrdInt) : Type 0 where
   pub below : IntBelow n a
   pub sound : IsSound a
@@ -50,8 +50,8 @@ EntryFits n k v = IsOfKind (IntegerFits n) n k v
 abbrev pub EntriesFit : ℕ → List Decl → List MapValue → Type 0
 EntriesFit n ds entries = AreOfKinds (IntegerFits n) n ds entries
 
--- What a store has of it: an integer's variables are below n, it is sound, and its values are from the least to the greatest of
--- its domain, which are in the limit of numerals.
+-- What a store has of it: an integer's variables are below n, it is sound, and its values are from the least to the
+-- greatest of its domain, which are in the limit of numerals.
 pub record TrimmedFits (n : ℕ) (low high : ℤ) (s : Shape) (a : OrdInt) : Type 0 where
   pub below : IntBelow n a
   pub sound : IsSound a

@@ -1,6 +1,7 @@
--- The lines that tell the numbers of declared names: `NAME = VALUE`, with `true` or `false` for a Boolean and a number for an
--- integer.
-use Rattle.std.specs.Prelude.{◌≡◌, ◌≤◌, ◌⊎◌, ℕ, Bool, true, false, List, [], ◌∷◌, ◌++◌, codes, ℤ, pos, unsigned_abs, FitsSigned, if◌then◌else◌}
+-- The lines that tell the numbers of declared names: `NAME = VALUE`, with `true` or `false` for a Boolean and a number
+-- for an integer.
+use Rattle.std.specs.Prelude.{◌≡◌, ◌≤◌, ◌⊎◌, ℕ, Bool, true, false, List, [], ◌∷◌, ◌++◌}
+use Rattle.std.specs.Prelude.{codes, ℤ, pos, unsigned_abs, FitsSigned, if◌then◌else◌}
 use Rattle.std.specs.Int.{w128}
 use Rattle.std.specs.Fmt.{signed_decimal}
 use Rattle.std.specs.Ordering.{int_eq}
@@ -31,8 +32,8 @@ declared_lines [] a = []
 declared_lines (d ∷ ds) [] = []
 declared_lines (d ∷ ds) (z ∷ a) = declared_line d z ∷ declared_lines ds a
 
--- a number that a line can tell, and be read again: 0 or 1 of a Boolean, and of an integer one that is at most `most` in
--- absolute value
+-- a number that a line can tell, and be read again: 0 or 1 of a Boolean, and of an integer one that is at most `most`
+-- in absolute value
 abbrev pub IsTellable : Bool → ℕ → ℤ → Type 0
 IsTellable true most z = (z ≡ pos 0) ⊎ (z ≡ pos 1)
 IsTellable false most z = (unsigned_abs z ≤ most) × FitsSigned w128 z
@@ -40,4 +41,5 @@ IsTellable false most z = (unsigned_abs z ≤ most) × FitsSigned w128 z
 -- a line tells one number
 abbrev pub LineTellsNumber : Type 0
 LineTellsNumber =
-    (name : List ℕ) (boolean : Bool) (most : ℕ) (y z : ℤ) → IsTellable boolean most y → IsTellable boolean most z → value_line name boolean y ≡ value_line name boolean z → y ≡ z
+    (name : List ℕ) (boolean : Bool) (most : ℕ) (y z : ℤ) → IsTellable boolean most y
+    → IsTellable boolean most z → value_line name boolean y ≡ value_line name boolean z → y ≡ z

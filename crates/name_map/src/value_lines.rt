@@ -50,7 +50,8 @@ fn read_truth(word: &[u8]) -> Option<i128>
 
 /// The number that a word tells.
 fn read_number_word(word: &[u8], is_boolean: bool, most: u128) -> Option<i128>
-    ensures { MatchOption result ((z : ℤ) → IsTellable is_boolean most z → word.now ≡ number_word is_boolean z → ⊥)
+    ensures { MatchOption result ((z : ℤ) → IsTellable is_boolean most z → word.now ≡ number_word is_boolean z
+        → ⊥)
         (λ z. IsTellable is_boolean most z × (word.now ≡ number_word is_boolean z)) }
 {
     if is_boolean {
@@ -68,7 +69,8 @@ fn behind<'a>(text: &'a [u8], front: &[u8]) -> Option<&'a [u8]>
     text.strip_prefix(front)
 }
 
-/// The number that the line of a name tells: 0 or 1 of a Boolean, and of an integer one that is at most `most` in absolute value.
+/// The number that the line of a name tells: 0 or 1 of a Boolean, and of an integer one that is at most `most` in
+/// absolute value.
 pub fn read_value_line(line: &[u8], name: &[u8], is_boolean: bool, most: u128) -> Option<i128>
     ensures { MatchOption result
         ((z : ℤ) → IsTellable is_boolean most z → line.now ≡ value_line name.now is_boolean z → ⊥)

@@ -9,7 +9,7 @@ use Rattle.core_forms.specs.declared.form.Core.{Core}
 use Rattle.core_forms.specs.declared.form.Core.TheVariants.{Parity, Amo}
 use Rattle.core_forms.specs.Each.{EachOf}
 use Rattle.core_forms.specs.Plain.{AreLiterals}
-use Rattle.core_forms.specs.Settled.{IsSettledCore}
+use Rattle.core_forms.specs.Stable.{IsStableCore}
 use Rattle.core_forms.specs.Variables.{atom_vars, atoms_vars}
 use Rattle.part_base.specs.declared.cut.Cut.{Cut}
 use Rattle.part_base.specs.Cuts.{IsCut, by_parity, by_amo}
@@ -64,8 +64,8 @@ module _ (next : ℕ) (l m : Atom) (rest : List Atom) (odd : Bool) where
       among old =
           Contains-append_right (atom_vars l) (atoms_vars (m ∷ rest)) v (Contains-append_right (atom_vars m) (atoms_vars rest) v old)
 
-  parity-settled : (view : List Atom) → next ≡ length view + 1 → IsSettledCore view (Parity (l ∷ m ∷ rest) odd) → IsSettledCore view (Parity (rest ++ variable next ∷ []) odd)
-  parity-settled view past h = record {
+  parity-stable : (view : List Atom) → next ≡ length view + 1 → IsStableCore view (Parity (l ∷ m ∷ rest) odd) → IsStableCore view (Parity (rest ++ variable next ∷ []) odd)
+  parity-stable view past h = record {
     plain = literals-behind next rest h.plain.1.1;
     each = (each-behind (λ a. resolve view a ≡ a) next rest (own-past view next past) h.each.0.1.1, tt);
   }
@@ -76,7 +76,7 @@ module _ (next : ℕ) (l m : Atom) (rest : List Atom) (odd : Bool) where
     fresh = refl;
     comes = by_parity (variable next) (l ∷ m ∷ rest) odd refl refl;
     vars = parity-vars;
-    settled = parity-settled;
+    stable = parity-stable;
   }
 
 parity-cuts : (next : ℕ) (ls : List Atom) (odd : Bool) → 2 ≤ length ls → IsCut next (Parity ls odd) (parity_parts next ls odd) (parity_cut next ls)
@@ -105,8 +105,8 @@ module _ (next : ℕ) (l m n : Atom) (rest : List Atom) where
           Contains-append_right (atom_vars l) (atoms_vars (m ∷ n ∷ rest)) v
           (Contains-append_right (atom_vars m) (atoms_vars (n ∷ rest)) v (Contains-append_right (atom_vars n) (atoms_vars rest) v old))
 
-  amo-settled : (view : List Atom) → next ≡ length view + 1 → IsSettledCore view (Amo (l ∷ m ∷ n ∷ rest)) → IsSettledCore view (Amo (rest ++ variable next ∷ []))
-  amo-settled view past h = record {
+  amo-stable : (view : List Atom) → next ≡ length view + 1 → IsStableCore view (Amo (l ∷ m ∷ n ∷ rest)) → IsStableCore view (Amo (rest ++ variable next ∷ []))
+  amo-stable view past h = record {
     plain = literals-behind next rest h.plain.1.1.1;
     each = (each-behind (λ a. resolve view a ≡ a) next rest (own-past view next past) h.each.0.1.1.1, tt);
   }
@@ -117,7 +117,7 @@ module _ (next : ℕ) (l m n : Atom) (rest : List Atom) where
     fresh = refl;
     comes = by_amo (variable next) (l ∷ m ∷ n ∷ rest) refl refl;
     vars = amo-vars;
-    settled = amo-settled;
+    stable = amo-stable;
   }
 
 amo-cuts : (next : ℕ) (ls : List Atom) → 3 ≤ length ls → IsCut next (Amo ls) (amo_parts next ls) (amo_cut next ls)

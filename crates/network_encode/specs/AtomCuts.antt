@@ -1,4 +1,5 @@
--- How a parity and at-most-one are split at their front: one fresh variable stands for the members that leave, and comes behind the others.
+-- How a parity and at-most-one are split at their front: one fresh variable stands for the members that leave, and
+-- comes behind the others.
 use Rattle.std.specs.Prelude.{ℕ, false, List, [], ◌∷◌, ◌++◌, take}
 use Rattle.order_ints.specs.Label.{variable}
 use Rattle.order_ints.specs.declared.atom.Atom.{Atom}

@@ -8,7 +8,8 @@ use Rattle.core_forms.specs.declared.form.Core.{Core}
 use Rattle.core_forms.specs.declared.form.Core.TheVariants.{Sum3, Count}
 use Rattle.part_base.specs.declared.parts.Parts.{Parts}
 
--- the number of true members of a half as an integer: of one member it is that member, and of more it is a fresh integer
+-- the number of true members of a half as an integer: of one member it is that member, and of more it is a fresh
+-- integer
 abbrev pub half_int : ℕ → List Atom → OrdInt
 half_int next [] = constant_of (pos 0)
 half_int next (l ∷ []) = integer_of_atom l

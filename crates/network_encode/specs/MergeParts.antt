@@ -1,6 +1,7 @@
--- The parts of a sum of two integers by a merge network: the units of both sides are merged, the odd places with the odd
--- places and the even places with the even places, and one row of comparators puts what comes of both in order.
-use Rattle.std.specs.Prelude.{ℕ, zero, suc, ◌+◌, ◌*◌, ◌-◌, ◌/◌, min, List, [], ◌∷◌, ◌++◌, map, length, pos, ◌+ℤ◌}
+-- The parts of a sum of two integers by a merge network: the units of both sides are merged, the odd places with the
+-- odd places and the even places with the even places, and one row of comparators puts what comes of both in order.
+use Rattle.std.specs.Prelude.{ℕ, zero, suc, ◌+◌, ◌*◌, ◌-◌, ◌/◌, min, List, [], ◌∷◌, ◌++◌}
+use Rattle.std.specs.Prelude.{map, length, pos, ◌+ℤ◌}
 use Rattle.order_ints.specs.Label.{own_labels, variable}
 use Rattle.order_ints.specs.declared.atom.Atom.{Atom}
 use Rattle.order_ints.specs.declared.atom.Atom.TheVariants.{True}
@@ -48,23 +49,25 @@ odd_steps ls ms = length (odd_places ls) + length (odd_places ms)
 abbrev pub even_steps : List Atom → List Atom → ℕ
 even_steps ls ms = length (even_places ls) + length (even_places ms)
 
--- a row of comparators, with fresh variables from one on for what they give: one for the atoms at each place of both lists
+-- a row of comparators, with fresh variables from one on for what they give: one for the atoms at each place of both
+-- lists
 abbrev pub row_cores : ℕ → List Atom → List Atom → List Core
 row_cores fresh [] es = []
 row_cores fresh (d ∷ ds) [] = []
 row_cores fresh (d ∷ ds) (e ∷ es) =
     Comp d e (variable fresh) (variable (fresh + 1)) ∷ row_cores (fresh + 2) ds es
 
--- what the row gives: of each comparator the disjunction and then the conjunction, and the atoms that have no partner. In a
--- network there is one such atom at most: where both sides have an even number of units it is the last even one, and where
--- both have an odd number the last odd one.
+-- what the row gives: of each comparator the disjunction and then the conjunction, and the atoms that have no partner.
+-- In a network there is one such atom at most: where both sides have an even number of units it is the last even one,
+-- and where both have an odd number the last odd one.
 abbrev pub row_wires : ℕ → List Atom → List Atom → List Atom
 row_wires fresh [] es = es
 row_wires fresh (d ∷ ds) [] = d ∷ ds
 row_wires fresh (d ∷ ds) (e ∷ es) = variable fresh ∷ variable (fresh + 1) ∷ row_wires (fresh + 2) ds es
 
--- The two sums have the fresh variables from next on, first n of them for the odd places and then k for the even places.
--- The first atom of the odd ones is the first of the whole; each further one is compared with the even one before it.
+-- The two sums have the fresh variables from next on, first n of them for the odd places and then k for the even
+-- places. The first atom of the odd ones is the first of the whole; each further one is compared with the even one
+-- before it.
 abbrev pub further_odd : ℕ → ℕ → List Atom
 further_odd next n = own_labels (next + 1) (n - 1)
 
@@ -95,8 +98,8 @@ half_sums next ls ms =
     ∷ unit_sum (next + odd_steps ls ms) (even_places ls) (even_places ms)
     ∷ []
 
--- the parts, where a and b have the units ls and ms of g: both sides are ordered, the two sums, the row of comparators, and
--- what comes of it is c; there is a fresh variable for each step of the two sums, and two for each comparator
+-- the parts, where a and b have the units ls and ms of g: both sides are ordered, the two sums, the row of comparators,
+-- and what comes of it is c; there is a fresh variable for each step of the two sums, and two for each comparator
 abbrev pub network_parts : ℕ → OrdInt → OrdInt → OrdInt → ℕ → List Atom → List Atom → Parts
 network_parts next a b c g ls ms = record {
   cores =

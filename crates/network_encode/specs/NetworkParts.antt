@@ -5,7 +5,8 @@ use Rattle.core_cost.specs.Comparisons.{cost_of_ladder}
 use Rattle.core_cost.specs.Network.{has_network, cost_of_network}
 use Rattle.core_cost.specs.Sums.{first_units, second_units}
 use Rattle.core_forms.specs.declared.form.Core.{Core}
-use Rattle.core_forms.specs.declared.form.Core.TheVariants.{Ladder, Clause, Parity, Conj, Comp, LeqR, EqR, Sum3, Count, Sum, Max, AllDiff, Amo, Prod, DivMod, Lex}
+use Rattle.core_forms.specs.declared.form.Core.TheVariants.{Ladder, Clause, Parity, Conj, Comp, LeqR, EqR, Sum3, Count}
+use Rattle.core_forms.specs.declared.form.Core.TheVariants.{Sum, Max, AllDiff, Amo, Prod, DivMod, Lex}
 use Rattle.core_forms.specs.Meaning.{Meets}
 use Rattle.core_forms.specs.Shapes.{steps_of, shape_of}
 use Rattle.core_forms.specs.Cost.{cost_of}
@@ -35,8 +36,8 @@ parts_of next (Prod a b c) = no_parts
 parts_of next (DivMod a b q r) = no_parts
 parts_of next (Lex r strict front back) = no_parts
 
--- a core has a form that is split here, and is compound; a sum is split wherever it has a network, also where its table costs
--- less
+-- a core has a form that is split here, and is compound; a sum is split wherever it has a network, also where its table
+-- costs less
 abbrev pub IsSplit : Core → Type 0
 IsSplit (Ladder a) = ⊥
 IsSplit (Clause ls) = ⊥
@@ -45,7 +46,8 @@ IsSplit (Conj r ls) = ⊥
 IsSplit (Comp a b hi lo) = ⊥
 IsSplit (LeqR r a b) = ⊥
 IsSplit (EqR r a b) = ⊥
-IsSplit (Sum3 a b c) = IsTrue (has_network (first_units (shape_of a) (shape_of b)) (second_units (shape_of a) (shape_of b)))
+IsSplit (Sum3 a b c) =
+    IsTrue (has_network (first_units (shape_of a) (shape_of b)) (second_units (shape_of a) (shape_of b)))
 IsSplit (Count ls c) = Unit {0}
 IsSplit (Sum ints k) = ⊥
 IsSplit (Max ints c) = ⊥

@@ -2,7 +2,8 @@
 use Rattle.core_forms.specs.declared.form.Core.{Core}
 use Rattle.core_forms.specs.declared.form.Core.TheVariants.{Parity, Sum3, Count, Sum, AllDiff, Amo, Lex}
 use Rattle.core_forms.specs.declared.taken.Taken.{Taken}
-use Rattle.core_forms.specs.declared.taken.Taken.TheVariants.{Xor, Added, Counted, Summed, Differing, AtMostOne, Words, Other}
+use Rattle.core_forms.specs.declared.taken.Taken.TheVariants.{Xor, Added, Counted, Summed, Differing, AtMostOne, Words}
+use Rattle.core_forms.specs.declared.taken.Taken.TheVariants.{Other}
 
 abbrev pub core_of : Taken → Core
 core_of (Xor ls odd) = Parity ls odd

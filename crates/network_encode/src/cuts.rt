@@ -46,9 +46,9 @@ fn cut_amo(alloc: Global, atoms: &[Atom], next: u32) -> Result<Cut, AllocError>
     front_cut(alloc, Core::Amo(members), next)
 }
 
-/// How a core that is a long list is split at its front, where it is one, a parity or at-most-one: the parts but for the list itself,
-/// which stays, and what comes behind it. They are those that `parts` makes. It takes the time and the memory of what leaves and
-/// comes, and not of what stays.
+/// How a core that is a long list is split at its front, where it is one, a parity or at-most-one: the parts but for
+/// the list itself, which stays, and what comes behind it. They are those that `parts` makes. It takes the time and the
+/// memory of what leaves and comes, and not of what stays.
 pub fn cut(alloc: Global, core: &Core, next_var: u32) -> Result<Option<Cut>, AllocError>
     requires { IsSplit core.now }
     ensures { IfOk result (λ made. IfSome made (λ cut. IsCut next_var core.now (parts_of next_var core.now) cut)) }

@@ -1,6 +1,7 @@
 //! The parts of a sum of two integers, by a network of odd-even merging.
 
-ghost use Rattle.std.specs.Prelude.{◌≡◌, ◌+◌, ◌-◌, ◌*◌, ◌^◌, ◌++◌, ◌∷◌, [], ◌≤◌, ◌<◌, ◌+ℤ◌, drop, min, length, IsTrue, IfOk, OnOk};
+ghost use Rattle.std.specs.Prelude.{◌≡◌, ◌+◌, ◌-◌, ◌*◌, ◌^◌, ◌++◌, ◌∷◌, [], ◌≤◌};
+ghost use Rattle.std.specs.Prelude.{◌<◌, ◌+ℤ◌, drop, min, length, IsTrue, IfOk, OnOk};
 ghost use Rattle.core_cost.specs.Network.{has_network, half_up, half_down};
 ghost use Rattle.core_cost.specs.Sums.{first_units, second_units};
 ghost use Rattle.core_forms.specs.declared.form.Core.TheVariants.{Ladder, Sum3};
@@ -31,7 +32,8 @@ fn half_sum(
     requires place { place ≤ 1 }
     requires least { 1 ≤ next }
     requires room { next + count ≤ 2 ^ 27 }
-    requires steps { count ≡ length (odd_places (drop place first.now)) + length (odd_places (drop place second.now)) }
+    requires steps { count ≡ length (odd_places (drop place first.now))
+        + length (odd_places (drop place second.now)) }
     ensures { IfOk result (λ core. core
         ≡ unit_sum next (odd_places (drop place first.now)) (odd_places (drop place second.now))) }
 {

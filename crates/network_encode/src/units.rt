@@ -1,6 +1,7 @@
 //! The units of the steps of integers, and their odd and even places.
 
-ghost use Rattle.std.specs.Prelude.{◌≡◌, ◌+◌, ◌*◌, ◌^◌, ◌++◌, ◌≤◌, ◌<◌, drop, length, IfOk, OnOk};
+ghost use Rattle.std.specs.Prelude.{◌≡◌, ◌+◌, ◌*◌, ◌^◌, ◌++◌, ◌≤◌, ◌<◌, drop, length};
+ghost use Rattle.std.specs.Prelude.{IfOk, OnOk};
 ghost use Rattle.network_encode.specs.MergeParts.{copies, units_of, odd_places, unit_int};
 
 use bee_list::Sequence;

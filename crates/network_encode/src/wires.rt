@@ -1,7 +1,8 @@
 //! The row of comparators of a merge network, and its wires.
 
 ghost use Rattle.order_ints.specs.Label.{own_labels};
-ghost use Rattle.std.specs.Prelude.{◌≡◌, ◌+◌, ◌-◌, ◌*◌, ◌^◌, ◌++◌, ◌≤◌, min, IfOk, OnOk};
+ghost use Rattle.std.specs.Prelude.{◌≡◌, ◌+◌, ◌-◌, ◌*◌, ◌^◌, ◌++◌, ◌≤◌, min, IfOk};
+ghost use Rattle.std.specs.Prelude.{OnOk};
 ghost use Rattle.network_encode.specs.MergeParts.{weighted, comparators, wires};
 
 use crate::members::fresh_atom;

@@ -1,5 +1,6 @@
 -- The first fault of a text.
-use Rattle.std.specs.Prelude.{◌≡◌, ◌⊎◌, ℕ, ◌+◌, ℤ, pos, neg_ℤ, ◌+ℤ◌, ◌<ℤ◌, List, [], ◌∷◌, ◌++◌, length, map, Option, Result, Ok, Err}
+use Rattle.std.specs.Prelude.{◌≡◌, ◌⊎◌, ℕ, ◌+◌, ℤ, pos, neg_ℤ, ◌+ℤ◌, ◌<ℤ◌, List, []}
+use Rattle.std.specs.Prelude.{◌∷◌, ◌++◌, length, map, Option, Result, Ok, Err}
 use Rattle.opb_front.specs.declared.items.Term.{Term}
 use Rattle.opb_front.specs.declared.items.Constraint.{Constraint}
 use Rattle.opb_front.specs.declared.items.Objective.{Objective}
@@ -28,7 +29,8 @@ pub record SumPasses (before : List Token) (t : Token) : Type 0 where
   pub term : Term
   pub tokens : before ≡ Min ∷ terms_tokens terms
   pub number : t ≡ Number term.coefficient
-  pub past : (sum_below (terms ++ term ∷ []) <ℤ neg_ℤ (pos most_number)) ⊎ (pos most_number <ℤ sum_above (terms ++ term ∷ []))
+  pub past : (sum_below (terms ++ term ∷ []) <ℤ neg_ℤ (pos most_number))
+      ⊎ (pos most_number <ℤ sum_above (terms ++ term ∷ []))
 
 -- a limit is passed with a token behind these
 abbrev pub IsPast : List Token → Token → Type 0
@@ -41,7 +43,8 @@ IsAtFault misfit.Number before t = Begins (before ++ t ∷ []) × IsPast before 
 
 -- no token of these is at fault
 abbrev pub HasNoFault : List Token → Type 0
-HasNoFault ts = (m : Misfit) (before : List Token) (t : Token) (behind : List Token) → ts ≡ before ++ t ∷ behind → IsAtFault m before t → ⊥
+HasNoFault ts = (m : Misfit) (before : List Token) (t : Token) (behind : List Token) → ts ≡ before ++ t ∷ behind
+    → IsAtFault m before t → ⊥
 
 -- the first token at fault stands in the line of this number
 pub record FirstAt (text : List ℕ) (m : Misfit) (number : ℕ) : Type 0 where

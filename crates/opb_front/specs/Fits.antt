@@ -18,7 +18,8 @@ TermsFit vars (t ∷ ts) = TermFits vars t × TermsFit vars ts
 
 abbrev pub ConstraintsFit : ℕ → List Constraint → Type 0
 ConstraintsFit vars [] = Unit {0}
-ConstraintsFit vars (c ∷ cs) = (TermsFit vars c.terms × (unsigned_abs c.bound ≤ most_number)) × ConstraintsFit vars cs
+ConstraintsFit vars (c ∷ cs) = (TermsFit vars c.terms × (unsigned_abs c.bound ≤ most_number))
+    × ConstraintsFit vars cs
 
 abbrev pub objective_terms : Option Objective → List Term
 objective_terms None = []

@@ -7,7 +7,8 @@
 --     COMPARISON  >= or <= or =
 --     NUMBER      digits, with + or - before them or neither
 --     LITERAL     x and digits that begin with none that is zero, or ~ and this
-use Rattle.std.specs.Prelude.{◌≡◌, ℕ, max, ℤ, pos, ◌+ℤ◌, ◌≤ℤ◌, int_le, neg_ℤ, List, [], ◌∷◌, ◌++◌, map, Option, Some, None, if◌then◌else◌}
+use Rattle.std.specs.Prelude.{◌≡◌, ℕ, max, ℤ, pos, ◌+ℤ◌, ◌≤ℤ◌, int_le, neg_ℤ, List, []}
+use Rattle.std.specs.Prelude.{◌∷◌, ◌++◌, map, Option, Some, None, if◌then◌else◌}
 use Rattle.opb_front.specs.declared.items.Term.{Term}
 use Rattle.opb_front.specs.declared.items.Constraint.{Constraint}
 use Rattle.opb_front.specs.declared.items.Objective.{Objective}

@@ -7,7 +7,8 @@ use Rattle.opb_front.specs.Faults.{OpbFails}
 
 -- each text says something or has a first fault
 abbrev pub EachTextEnds : Type 0
-EachTextEnds = (text : List ℕ) → ((opb : Opb) × IsOpbText text opb) ⊎ ((m : Misfit) × ((line : ℕ) × OpbFails text m line))
+EachTextEnds = (text : List ℕ) → ((opb : Opb) × IsOpbText text opb)
+    ⊎ ((m : Misfit) × ((line : ℕ) × OpbFails text m line))
 
 -- and never both, nor two of either
 abbrev pub OneEnd : Type 0
@@ -15,4 +16,5 @@ OneEnd =
     (text : List ℕ)
     → ((a b : Opb) → IsOpbText text a → IsOpbText text b → a ≡ b)
     × ((opb : Opb) (m : Misfit) (line : ℕ) → IsOpbText text opb → OpbFails text m line → ⊥)
-    × ((m n : Misfit) (line other : ℕ) → OpbFails text m line → OpbFails text n other → (m ≡ n) × (line ≡ other))
+    × ((m n : Misfit) (line other : ℕ) → OpbFails text m line → OpbFails text n other → (m ≡ n)
+    × (line ≡ other))

@@ -26,11 +26,14 @@ opb_of s = record { vars = s.vars; objective = s.objective; constraints = s.cons
 
 -- all tokens are taken, but the text ends too early
 abbrev pub StopsEarly : List ℕ → ℕ → Type 0
-StopsEarly text line = (s : Draft) × (run_lines 1 nothing_read (text_lines text) ≡ Ok s) × (IsEnded s → ⊥) × (line ≡ length (text_lines text))
+StopsEarly text line = (s : Draft) × (run_lines 1 nothing_read (text_lines text) ≡ Ok s) × (IsEnded s → ⊥)
+    × (line ≡ length (text_lines text))
 
 -- what comes of a text
 abbrev pub IsOutcome : List ℕ → Result Opb OpbFault → Type 0
-IsOutcome text (Ok opb) = (s : Draft) × (run_lines 1 nothing_read (text_lines text) ≡ Ok s) × IsEnded s × (opb ≡ opb_of s)
-IsOutcome text (Err (Syntax line)) = (run_lines 1 nothing_read (text_lines text) ≡ Err (misfit.Syntax, line)) ⊎ StopsEarly text line
+IsOutcome text (Ok opb) = (s : Draft) × (run_lines 1 nothing_read (text_lines text) ≡ Ok s) × IsEnded s
+    × (opb ≡ opb_of s)
+IsOutcome text (Err (Syntax line)) = (run_lines 1 nothing_read (text_lines text) ≡ Err (misfit.Syntax, line))
+    ⊎ StopsEarly text line
 IsOutcome text (Err (Number line)) = run_lines 1 nothing_read (text_lines text) ≡ Err (misfit.Number, line)
 IsOutcome text (Err Memory) = Unit {0}

@@ -1,5 +1,6 @@
 -- What a file means: which assignments satisfy it, and what they cost.
-use Rattle.std.specs.Prelude.{◌≡◌, ℕ, ◌-◌, ℤ, pos, ◌+ℤ◌, ◌≤ℤ◌, Bool, false, not, List, [], ◌∷◌, length, slice_index_or, Option, Some, None, if◌then◌else◌}
+use Rattle.std.specs.Prelude.{◌≡◌, ℕ, ◌-◌, ℤ, pos, ◌+ℤ◌, ◌≤ℤ◌, Bool, false, not, List, []}
+use Rattle.std.specs.Prelude.{◌∷◌, length, slice_index_or, Option, Some, None, if◌then◌else◌}
 use Rattle.opb_front.specs.declared.items.Literal.{Literal}
 use Rattle.opb_front.specs.declared.items.Term.{Term}
 use Rattle.opb_front.specs.declared.items.Comparison.{Comparison}
@@ -12,7 +13,8 @@ use Rattle.opb_front.specs.declared.items.Opb.{Opb}
 
 -- whether a literal is true
 abbrev pub literal_truth : List Bool → Literal → Bool
-literal_truth b l = if l.positive then slice_index_or b (l.index - 1) false else not (slice_index_or b (l.index - 1) false)
+literal_truth b l = if l.positive then slice_index_or b (l.index - 1) false
+    else not (slice_index_or b (l.index - 1) false)
 
 -- the sum of the coefficients of the true literals
 abbrev pub sum_of : List Bool → List Term → ℤ

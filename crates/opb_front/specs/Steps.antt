@@ -1,14 +1,19 @@
--- How a text is read, token by token: where the reading stands, which token may stand next, and what is known behind it.
-use Rattle.std.specs.Prelude.{◌≡◌, ◌⊎◌, ℕ, ◌+◌, max, ℤ, pos, neg_ℤ, ◌+ℤ◌, ◌-ℤ◌, int_le, int_lt, Bool, true, false, List, [], ◌∷◌, ◌++◌, Option, Some, None, Result, Ok, Err, if◌then◌else◌}
+-- How a text is read, token by token: where the reading stands, which token may stand next, and what is known behind
+-- it.
+use Rattle.std.specs.Prelude.{◌≡◌, ◌⊎◌, ℕ, ◌+◌, max, ℤ, pos, neg_ℤ, ◌+ℤ◌, ◌-ℤ◌}
+use Rattle.std.specs.Prelude.{int_le, int_lt, Bool, true, false, List, [], ◌∷◌, ◌++◌, Option, Some, None}
+use Rattle.std.specs.Prelude.{Result, Ok, Err, if◌then◌else◌}
 use Rattle.opb_front.specs.declared.items.Term.{Term}
 use Rattle.opb_front.specs.declared.items.Constraint.{Constraint}
 use Rattle.opb_front.specs.declared.items.Objective.{Objective}
 use Rattle.opb_front.specs.declared.items.Literal.{Literal}
 use Rattle.opb_front.specs.declared.items.Comparison.{Comparison}
 use Rattle.opb_front.specs.declared.tokens.Token.{Token}
-use Rattle.opb_front.specs.declared.tokens.Token.TheVariants.{Min, Semicolon, Compare, Number, PastNumber, Of, PastIndex, Unknown}
+use Rattle.opb_front.specs.declared.tokens.Token.TheVariants.{Min, Semicolon, Compare, Number, PastNumber, Of}
+use Rattle.opb_front.specs.declared.tokens.Token.TheVariants.{PastIndex, Unknown}
 use Rattle.opb_front.specs.declared.places.Place.{Place}
-use Rattle.opb_front.specs.declared.places.Place.TheVariants.{First, Objectives, ObjectiveNumber, Terms, TermNumber, Bound, End}
+use Rattle.opb_front.specs.declared.places.Place.TheVariants.{First, Objectives, ObjectiveNumber, Terms, TermNumber}
+use Rattle.opb_front.specs.declared.places.Place.TheVariants.{Bound, End}
 use Rattle.opb_front.specs.declared.fault.Misfit.{Misfit}
 use Rattle.opb_front.specs.declared.fault.Misfit.TheVariants as misfit
 use Rattle.opb_front.specs.Tokens.{most_number, line_tokens}
@@ -80,7 +85,15 @@ pub record Draft : Type 0 where
   pub vars : ℕ
 
 abbrev pub nothing_read : Draft
-nothing_read = record { place = First; terms = []; low = pos 0; high = pos 0; objective = None; constraints = []; vars = 0 }
+nothing_read = record {
+  place = First;
+  terms = [];
+  low = pos 0;
+  high = pos 0;
+  objective = None;
+  constraints = [];
+  vars = 0;
+}
 
 -- whether a coefficient passes the limit of the sum that it is added to
 abbrev pub sum_passes : ℤ → ℤ → ℤ → Bool
@@ -102,11 +115,17 @@ passes s t = false
 
 abbrev pub with_number : Place → Draft → ℤ → Draft
 with_number Objectives s z =
-    record s { low = (if int_le (pos 0) z then s.low else s.low +ℤ z); high = (if int_le (pos 0) z then s.high +ℤ z else s.high) }
+    record s {
+      low = (if int_le (pos 0) z then s.low else s.low +ℤ z);
+      high = (if int_le (pos 0) z then s.high +ℤ z else s.high);
+    }
 with_number p s z = s
 
 abbrev pub with_term : Draft → ℤ → Literal → Draft
-with_term s z l = record s { terms = s.terms ++ record { coefficient = z; literal = l } ∷ []; vars = max s.vars l.index }
+with_term s z l = record s {
+  terms = s.terms ++ record { coefficient = z; literal = l } ∷ [];
+  vars = max s.vars l.index;
+}
 
 abbrev pub with_literal : Place → Draft → Literal → Draft
 with_literal (ObjectiveNumber z) s l = with_term s z l
@@ -114,8 +133,10 @@ with_literal (TermNumber z) s l = with_term s z l
 with_literal p s l = s
 
 abbrev pub with_end : Place → Draft → Draft
-with_end Objectives s = record s { terms = []; objective = Some (record { terms = s.terms; low = s.low; high = s.high }) }
-with_end (End c z) s = record s { terms = []; constraints = s.constraints ++ record { terms = s.terms; comparison = c; bound = z } ∷ [] }
+with_end Objectives s =
+    record s { terms = []; objective = Some (record { terms = s.terms; low = s.low; high = s.high }) }
+with_end (End c z) s =
+    record s { terms = []; constraints = s.constraints ++ record { terms = s.terms; comparison = c; bound = z } ∷ [] }
 with_end p s = s
 
 abbrev pub with_token : Draft → Token → Draft
@@ -147,7 +168,8 @@ run s [] = Ok s
 run s (t ∷ ts) = run_behind (move s t) (λ u. run u ts)
 
 -- what comes of lines, the first of which has this number
-abbrev pub lines_behind : Result Draft Misfit → ℕ → (Draft → Result Draft (Misfit × ℕ)) → Result Draft (Misfit × ℕ)
+abbrev pub lines_behind : Result Draft Misfit → ℕ → (Draft → Result Draft (Misfit × ℕ))
+    → Result Draft (Misfit × ℕ)
 lines_behind (Ok s) n next = next s
 lines_behind (Err m) n next = Err (m, n)
 

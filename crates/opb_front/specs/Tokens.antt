@@ -1,11 +1,14 @@
 -- The tokens of a text.
-use Rattle.std.specs.Prelude.{ℕ, ◌+◌, ◌*◌, ◌-◌, ◌==◌, ◌&&◌, not, nat_le, ℤ, pos, neg_ℤ, Bool, true, false, List, [], ◌∷◌, ◌++◌, codes, map, length, drop, slice_index, if◌then◌else◌}
+use Rattle.std.specs.Prelude.{ℕ, ◌+◌, ◌*◌, ◌-◌, ◌==◌, ◌&&◌, not, nat_le, ℤ, pos, neg_ℤ, Bool}
+use Rattle.std.specs.Prelude.{true, false, List, [], ◌∷◌, ◌++◌, codes, map, length, drop, slice_index}
+use Rattle.std.specs.Prelude.{if◌then◌else◌}
 use Rattle.std.specs.Char.{is_ascii_digit}
 use Rattle.std.specs.List.{list_all}
 use Rattle.std.specs.Str.{bytes_eq}
 use Rattle.opb_front.specs.declared.items.Comparison.TheVariants.{AtLeast, AtMost, Equal}
 use Rattle.opb_front.specs.declared.tokens.Token.{Token}
-use Rattle.opb_front.specs.declared.tokens.Token.TheVariants.{Min, Semicolon, Compare, Number, PastNumber, Of, PastIndex, Unknown}
+use Rattle.opb_front.specs.declared.tokens.Token.TheVariants.{Min, Semicolon, Compare, Number, PastNumber, Of}
+use Rattle.opb_front.specs.declared.tokens.Token.TheVariants.{PastIndex, Unknown}
 use Rattle.opb_front.specs.Words.{line_words, text_lines}
 
 -- the greatest absolute value of a number, and the greatest index
@@ -42,7 +45,8 @@ number_token positive digits =
 abbrev pub literal_token : Bool → List ℕ → Token
 literal_token positive digits =
     if are_digits digits && not (slice_index digits 0 == 48)
-    then (if nat_le (value_of digits) most_index then Of (record { index = value_of digits; positive = positive }) else PastIndex)
+    then (if nat_le (value_of digits) most_index then Of (record { index = value_of digits; positive = positive })
+    else PastIndex)
     else Unknown
 
 -- a number or a literal, by its first byte: `+`, `-`, `x`, `~`

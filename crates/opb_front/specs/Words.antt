@@ -1,6 +1,7 @@
--- The words of a line. They stand apart by blanks, tabs and carriage returns, and `;` is a word of its own, whatever stands
--- beside it.
-use Rattle.std.specs.Prelude.{◌==◌, ◌||◌, ◌++◌, not, ℕ, Bool, true, false, List, [], ◌∷◌, if◌then◌else◌}
+-- The words of a line. They stand apart by blanks, tabs and carriage returns, and `;` is a word of its own, whatever
+-- stands beside it.
+use Rattle.std.specs.Prelude.{◌==◌, ◌||◌, ◌++◌, not, ℕ, Bool, true, false, List, [], ◌∷◌}
+use Rattle.std.specs.Prelude.{if◌then◌else◌}
 use Rattle.bee_text.specs.Words.{is_gap, before_first}
 use Rattle.bee_text.specs.Lines.{lines_of, unfinished}
 

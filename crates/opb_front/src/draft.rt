@@ -3,7 +3,8 @@
 ghost use Rattle.std.specs.Prelude.{◌≡◌, ◌↔◌, false, [], Ok, Err, IfOk, IsTrue, MatchOption};
 ghost use Rattle.opb_front.specs.Tokens.{line_tokens};
 ghost use Rattle.opb_front.specs.declared.places.Place.TheVariants.{Objectives};
-ghost use Rattle.opb_front.specs.Steps.{nothing_read, sum_passes, passes, with_number, with_term, with_literal, with_end, with_token, at_place, move, run, IsEnded};
+ghost use Rattle.opb_front.specs.Steps.{nothing_read, sum_passes, passes, with_number, with_term, with_literal};
+ghost use Rattle.opb_front.specs.Steps.{with_end, with_token, at_place, move, run, IsEnded};
 
 use crate::fault::Misfit;
 use crate::items::{Constraint, Literal, Objective, Opb, Term};
@@ -33,9 +34,18 @@ impl Model for OpbDraft {
 
     ghost Value = { Draft };
 
-    ghost view = { λ d. record { place = d.place; terms = d.terms.items; low = d.low; high = d.high; objective = d.objective; constraints = d.constraints.items; vars = d.vars } };
+    ghost view = { λ d. record {
+      place = d.place;
+      terms = d.terms.items;
+      low = d.low;
+      high = d.high;
+      objective = d.objective;
+      constraints = d.constraints.items;
+      vars = d.vars;
+    } };
 
-    ghost invariant = { λ d. ((neg_ℤ (pos most_number) ≤ℤ d.low) × (d.low ≤ℤ pos 0)) × ((pos 0 ≤ℤ d.high) × (d.high ≤ℤ pos most_number)) };
+    ghost invariant = { λ d. ((neg_ℤ (pos most_number) ≤ℤ d.low) × (d.low ≤ℤ pos 0))
+        × ((pos 0 ≤ℤ d.high) × (d.high ≤ℤ pos most_number)) };
 }
 
 impl OpbDraft {
@@ -164,7 +174,9 @@ impl OpbDraft {
 
     /// Takes a token, if it fits; otherwise the answer says why not.
     fn take(&mut self, token: Token) -> Result<Option<Misfit>, AllocError>
-        ensures { IfOk result (λ misfit. MatchOption misfit (move self.old token ≡ Ok self.new) (λ m. move self.old token ≡ Err m)) }
+        ensures { IfOk result
+            (λ misfit. MatchOption misfit (move self.old token ≡ Ok self.new)
+            (λ m. move self.old token ≡ Err m)) }
     {
         let Some(place) = step(self.place, token) else {
             return Ok(Some(Misfit::Syntax));

@@ -17,11 +17,12 @@ pub(crate) enum Misfit {
 /// Why a file was not read. Lines are counted from 1.
 #[derive(Clone, Copy, Debug, PartialEq, Eq)]
 pub enum OpbFault {
-    /// The line of the first token behind which no text can be completed, or the last line of a text that ends too early.
+    /// The line of the first token behind which no text can be completed, or the last line of a text that ends too
+    /// early.
     Syntax(u64),
     /// The line of a number past 1,073,741,824 in absolute value, of an index past 1,000,000, or of the objective's
-    /// coefficient with which the sum of the positive ones, or that of the negative ones, passes 1,073,741,824 in absolute
-    /// value.
+    /// coefficient with which the sum of the positive ones, or that of the negative ones, passes 1,073,741,824 in
+    /// absolute value.
     Number(u64),
     /// Memory was wanting.
     Memory,

@@ -9,8 +9,8 @@ pub fn text_law()
     ensures one { OneEnd }
 {}
 
-/// What is read is in its limits: each index is that of a variable, of which there are at most 1,000,000, each number is at
-/// most 1,073,741,824 in absolute value, and a sum has at most half as many terms as the text has bytes.
+/// What is read is in its limits: each index is that of a variable, of which there are at most 1,000,000, each number
+/// is at most 1,073,741,824 in absolute value, and a sum has at most half as many terms as the text has bytes.
 pub fn fits_law()
     ensures { ReadFits }
 {}

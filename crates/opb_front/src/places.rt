@@ -1,7 +1,8 @@
 //! Where the reading of a text stands, and which token may stand next.
 
 ghost use Rattle.std.specs.Prelude.{◌≡◌};
-ghost use Rattle.opb_front.specs.Steps.{sized, step_terms, step_first, step_objective, step_literal, step_bound, step_end, step};
+ghost use Rattle.opb_front.specs.Steps.{sized, step_terms, step_first, step_objective, step_literal, step_bound};
+ghost use Rattle.opb_front.specs.Steps.{step_end, step};
 
 use crate::items::{Comparison, Literal};
 use crate::tokens::Token;

@@ -1,10 +1,12 @@
 //! The tokens of a line.
 
-ghost use Rattle.std.specs.Prelude.{◌≡◌, ◌==◌, ◌<◌, ◌^◌, ◌+◌, ◌*◌, ◌-◌, nat_le, true, IsTrue, Some, None, if◌then◌else◌, slice_index};
+ghost use Rattle.std.specs.Prelude.{◌≡◌, ◌==◌, ◌<◌, ◌^◌, ◌+◌, ◌*◌, ◌-◌, nat_le, true};
+ghost use Rattle.std.specs.Prelude.{IsTrue, Some, None, if◌then◌else◌, slice_index};
 ghost use Rattle.std.specs.List.{list_all};
 ghost use Rattle.std.specs.Char.{is_ascii_digit};
 ghost use Rattle.std.specs.Str.{bytes_eq};
-ghost use Rattle.opb_front.specs.Tokens.{are_digits, value_of, signed, number_token, literal_token, term_token, token_of, is_comment};
+ghost use Rattle.opb_front.specs.Tokens.{are_digits, value_of, signed, number_token, literal_token, term_token};
+ghost use Rattle.opb_front.specs.Tokens.{token_of, is_comment};
 
 use crate::items::{Comparison, Literal};
 

@@ -1,6 +1,7 @@
 //! The words of a line.
 
-ghost use Rattle.std.specs.Prelude.{◌≡◌, ◌<◌, ◌≤◌, ◌∷◌, [], false, not, MatchOption, position, length, slice_index, take, drop};
+ghost use Rattle.std.specs.Prelude.{◌≡◌, ◌<◌, ◌≤◌, ◌∷◌, [], false, not, MatchOption, position};
+ghost use Rattle.std.specs.Prelude.{length, slice_index, take, drop};
 ghost use Rattle.bee_text.specs.Words.{is_gap};
 ghost use Rattle.opb_front.specs.Words.{ends_word, line_words};
 

@@ -14,9 +14,12 @@ use Rattle.order_ints.specs.Same.{is_true, is_false, same_atom, same_step, same_
 use Rattle.order_ints.specs.OrderedClauses.{same_lit}
 
 -- both tests of a conjunction hold exactly where both facts do
-both-tell : {P Q R : Type 0} (b c : Bool) → Decides b P → Decides c Q → (P → Q → R) → (R → P) → (R → Q) → Decides (b && c) R
-both-tell b c p q make first second =
-    ((λ h. make (p.0 (and_parts b c h).0) (q.0 (and_parts b c h).1)), (λ r. and_both b c (p.1 (first r)) (q.1 (second r))))
+both-tell : {P Q R : Type 0} (b c : Bool) → Decides b P → Decides c Q → (P → Q → R) → (R → P)
+    → (R → Q) → Decides (b && c) R
+both-tell b c p q make first second = (
+  (λ h. make (p.0 (and_parts b c h).0) (q.0 (and_parts b c h).1)),
+  (λ r. and_both b c (p.1 (first r)) (q.1 (second r))),
+)
   where
     and_both : (b c : Bool) → b ≡ true → c ≡ true → (b && c) ≡ true
     and_both true c e f = f
@@ -24,8 +27,10 @@ both-tell b c p q make first second =
 
 pub same_lit-tells : (l m : Lit) → Decides (same_lit l m) (l ≡ m)
 same_lit-tells l m =
-    both-tell (l.var == m.var) (beq l.positive m.positive) (Decides-eqb l.var m.var) (booleans_Decides l.positive m.positive)
-    (λ e f. λ i. record { var = e i; positive = f i }) (λ e. ap (λ (x : Lit). x.var) e) (λ e. ap (λ (x : Lit). x.positive) e)
+    both-tell (l.var == m.var) (beq l.positive m.positive) (Decides-eqb l.var m.var)
+    (booleans_Decides l.positive m.positive)
+    (λ e f. λ i. record { var = e i; positive = f i }) (λ e. ap (λ (x : Lit). x.var) e)
+    (λ e. ap (λ (x : Lit). x.positive) e)
 
 pub is_true-True : (a : Atom) → is_true a ≡ true → a ≡ True
 is_true-True True h = refl
@@ -60,8 +65,10 @@ same_step-tells s t =
 
 pub same_int-tells : (a b : OrdInt) → Decides (same_int a b) (a ≡ b)
 same_int-tells a b =
-    both-tell (int_eq a.base b.base) (pointwise same_step a.steps b.steps) (Decides-int_eq a.base b.base) (pointwise_decides same_step-tells a.steps b.steps)
-    (λ e f. λ i. record { base = e i; steps = f i }) (λ e. ap (λ (x : OrdInt). x.base) e) (λ e. ap (λ (x : OrdInt). x.steps) e)
+    both-tell (int_eq a.base b.base) (pointwise same_step a.steps b.steps) (Decides-int_eq a.base b.base)
+    (pointwise_decides same_step-tells a.steps b.steps)
+    (λ e f. λ i. record { base = e i; steps = f i }) (λ e. ap (λ (x : OrdInt). x.base) e)
+    (λ e. ap (λ (x : OrdInt). x.steps) e)
 
 -- a test that tells equality is an equivalence
 tells_equiv : {X : Type 0} (E : X → X → Bool) → ((x y : X) → Decides (E x y) (x ≡ y)) → IsEquivalence E

@@ -8,7 +8,8 @@ use Rattle.order_ints.specs.Label.{variable, IsLabel, IsLabelled, own_labels, Is
 
 -- a label resolves to itself, and an atom of the view that does is a label
 abbrev pub LabelResolves : Type 0
-LabelResolves = (view : List Atom) (a : Atom) → IsLabel view a ↔ (AtomBelow (length view + 1) a × (resolve view a ≡ a))
+LabelResolves = (view : List Atom) (a : Atom) → IsLabel view a ↔
+    (AtomBelow (length view + 1) a × (resolve view a ≡ a))
 
 -- the negation of a label is a label
 abbrev pub LabelNegation : Type 0
@@ -20,7 +21,8 @@ LabelsBelow = (view : List Atom) → IsLabelled view → AtomsBelow (length view
 
 -- an atom of the view resolves to a label
 abbrev pub ResolvesToLabel : Type 0
-ResolvesToLabel = (view : List Atom) (a : Atom) → IsLabelled view → AtomBelow (length view + 1) a → IsLabel view (resolve view a)
+ResolvesToLabel = (view : List Atom) (a : Atom) → IsLabelled view → AtomBelow (length view + 1) a
+    → IsLabel view (resolve view a)
 
 -- resolving an atom, of the view or not, twice is resolving it once
 abbrev pub ResolvesOnce : Type 0
@@ -40,7 +42,8 @@ OwnLabelsLength = (first count : ℕ) → length (own_labels first count) ≡ co
 
 -- where variables are added to a view, those that were there keep their labels
 abbrev pub OldKeepLabels : Type 0
-OldKeepLabels = (view added : List Atom) (v : ℕ) → 1 ≤ v → v ≤ length view → label_of (view ++ added) v ≡ label_of view v
+OldKeepLabels = (view added : List Atom) (v : ℕ) → 1 ≤ v → v ≤ length view
+    → label_of (view ++ added) v ≡ label_of view v
 
 -- and what is a label stays one
 abbrev pub LabelsStay : Type 0
@@ -48,19 +51,23 @@ LabelsStay = (view added : List Atom) (a : Atom) → IsLabel view a → IsLabel 
 
 -- a variable that is added as its own label is that, and so is each one past the end
 abbrev pub AddedLabels : Type 0
-AddedLabels = (view : List Atom) (count v : ℕ) → length view < v → label_of (view ++ own_labels (length view + 1) count) v ≡ variable v
+AddedLabels = (view : List Atom) (count v : ℕ) → length view < v
+    → label_of (view ++ own_labels (length view + 1) count) v ≡ variable v
 
 -- each atom resolves as before
 abbrev pub AddedResolve : Type 0
-AddedResolve = (view : List Atom) (count n : ℕ) (a : Atom) → AtomBelow n a → resolve (view ++ own_labels (length view + 1) count) a ≡ resolve view a
+AddedResolve = (view : List Atom) (count n : ℕ) (a : Atom) → AtomBelow n a
+    → resolve (view ++ own_labels (length view + 1) count) a ≡ resolve view a
 
 -- the same valuations meet the view
 abbrev pub AddedMet : Type 0
-AddedMet = (view : List Atom) (count : ℕ) (σ : Valuation) → MeetsView σ (view ++ own_labels (length view + 1) count) ↔ MeetsView σ view
+AddedMet = (view : List Atom) (count : ℕ) (σ : Valuation)
+    → MeetsView σ (view ++ own_labels (length view + 1) count) ↔ MeetsView σ view
 
 -- labels label themselves as before
 abbrev pub AddedLabelled : Type 0
-AddedLabelled = (view : List Atom) (count : ℕ) → IsLabelled view → IsLabelled (view ++ own_labels (length view + 1) count)
+AddedLabelled = (view : List Atom) (count : ℕ) → IsLabelled view
+    → IsLabelled (view ++ own_labels (length view + 1) count)
 
 -- a view whose labels label themselves is later than itself, and so is one with more variables
 abbrev pub MoreIsLater : Type 0
@@ -71,12 +78,15 @@ LaterThanItself = (view : List Atom) → IsLabelled view → IsLater view view
 
 -- what is later than a later view is later
 abbrev pub LaterThanLater : Type 0
-LaterThanLater = (n : ℕ) (old new newest : List Atom) → AtomsBelow n old → IsLater old new → IsLater new newest → IsLater old newest
+LaterThanLater = (n : ℕ) (old new newest : List Atom) → AtomsBelow n old → IsLater old new → IsLater new newest
+    → IsLater old newest
 
 -- resolving by a view and then by a later one is resolving by the later one
 abbrev pub LaterResolves : Type 0
-LaterResolves = (n : ℕ) (old new : List Atom) (a : Atom) → IsLater old new → AtomBelow n a → resolve new (resolve old a) ≡ resolve new a
+LaterResolves = (n : ℕ) (old new : List Atom) (a : Atom) → IsLater old new → AtomBelow n a
+    → resolve new (resolve old a) ≡ resolve new a
 
 -- a valuation that meets a view meets each one that it is later than
 abbrev pub LaterMeets : Type 0
-LaterMeets = (n : ℕ) (old new : List Atom) (σ : Valuation) → AtomsBelow n old → IsLater old new → MeetsView σ new → MeetsView σ old
+LaterMeets = (n : ℕ) (old new : List Atom) (σ : Valuation) → AtomsBelow n old → IsLater old new
+    → MeetsView σ new → MeetsView σ old

@@ -1,5 +1,6 @@
 -- The levels of an integer: its values upwards, each with the atom that is true where that value is reached.
-use Rattle.std.specs.Prelude.{ℕ, Bool, false, ◌||◌, ℤ, pos, ◌+ℤ◌, int_le, List, [], ◌∷◌, map, if◌then◌else◌}
+use Rattle.std.specs.Prelude.{ℕ, Bool, false, ◌||◌, ℤ, pos, ◌+ℤ◌, int_le, List, [], ◌∷◌, map}
+use Rattle.std.specs.Prelude.{if◌then◌else◌}
 use Rattle.std.specs.Ordering.{int_eq}
 use Rattle.order_ints.specs.declared.atom.Atom.{Atom}
 use Rattle.order_ints.specs.declared.atom.Atom.TheVariants.{True, False}

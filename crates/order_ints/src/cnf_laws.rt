@@ -1,6 +1,10 @@
 //! Laws of the definitions on clauses, each the contract of a function that does nothing.
 
-ghost use Rattle.order_ints.specs.CnfLaws.{LitNegation, AtomNegation, LitAgreement, AtomAgreement, ClauseAgreement, ClausesAgreement, AtomClauseAgreement, AtomClausesAgreement, ClauseOfParts, AtomClauseOfParts, ClausesOfParts, AtomClausesOfParts, ResolvedTruth, EmptyView, ResolvedRange, GreaterBound, OrderedTruth, OrderedRange, OrderedForm};
+ghost use Rattle.order_ints.specs.CnfLaws.{LitNegation, AtomNegation, LitAgreement, AtomAgreement, ClauseAgreement};
+ghost use Rattle.order_ints.specs.CnfLaws.{ClausesAgreement, AtomClauseAgreement, AtomClausesAgreement, ClauseOfParts};
+ghost use Rattle.order_ints.specs.CnfLaws.{AtomClauseOfParts, ClausesOfParts, AtomClausesOfParts, ResolvedTruth};
+ghost use Rattle.order_ints.specs.CnfLaws.{EmptyView, ResolvedRange, GreaterBound, OrderedTruth, OrderedRange};
+ghost use Rattle.order_ints.specs.CnfLaws.{OrderedForm};
 
 /// A negation has the negated truth.
 pub fn negation_law()

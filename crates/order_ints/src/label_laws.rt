@@ -1,7 +1,10 @@
 //! Laws of views whose labels label themselves, for proofs of crates above. Each function does nothing;
 //! its contract is the law.
 
-ghost use Rattle.order_ints.specs.LabelLaws.{LabelResolves, LabelNegation, LabelsBelow, ResolvesToLabel, ResolvesOnce, ResolvesNegation, EmptyLabelled, OwnLabelsLength, OldKeepLabels, LabelsStay, AddedLabels, AddedResolve, AddedMet, AddedLabelled, MoreIsLater, LaterThanItself, LaterThanLater, LaterResolves, LaterMeets};
+ghost use Rattle.order_ints.specs.LabelLaws.{LabelResolves, LabelNegation, LabelsBelow, ResolvesToLabel, ResolvesOnce};
+ghost use Rattle.order_ints.specs.LabelLaws.{ResolvesNegation, EmptyLabelled, OwnLabelsLength, OldKeepLabels};
+ghost use Rattle.order_ints.specs.LabelLaws.{LabelsStay, AddedLabels, AddedResolve, AddedMet, AddedLabelled};
+ghost use Rattle.order_ints.specs.LabelLaws.{MoreIsLater, LaterThanItself, LaterThanLater, LaterResolves, LaterMeets};
 
 /// What labels are, and what atoms resolve to.
 pub fn label_law()

@@ -1,7 +1,9 @@
 //! Laws of literals, atoms and integers in the order encoding, for proofs of crates above. Each
 //! function does nothing; its contract is the law.
 
-ghost use Rattle.std.specs.Prelude.{◌≡◌, ℕ, ◌+◌, ◌≤◌, Bool, not, ◌&&◌, ◌↔◌, ℤ, pos, neg_ℤ, ◌+ℤ◌, ◌-ℤ◌, ◌*ℤ◌, ◌≤ℤ◌, ◌<ℤ◌, int_le, List, ◌∷◌, ◌++◌, map, Contains, IsTrue};
+ghost use Rattle.std.specs.Prelude.{◌≡◌, ℕ, ◌+◌, ◌≤◌, Bool, not, ◌&&◌, ◌↔◌, ℤ, pos};
+ghost use Rattle.std.specs.Prelude.{neg_ℤ, ◌+ℤ◌, ◌-ℤ◌, ◌*ℤ◌, ◌≤ℤ◌, ◌<ℤ◌, int_le};
+ghost use Rattle.std.specs.Prelude.{List, ◌∷◌, ◌++◌, map, Contains, IsTrue};
 ghost use Rattle.std.specs.List.{AllByRecursion};
 ghost use Rattle.order_ints.specs.Label.{own_labels};
 ghost use Rattle.order_ints.specs.declared.atom.Atom.{Atom};

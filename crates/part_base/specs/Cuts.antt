@@ -1,10 +1,12 @@
 -- A core that is a long list and is split at its front: some parts, and what is left of the list.
-use Rattle.std.specs.Prelude.{◌≡◌, ◌⊎◌, ℕ, ℤ, Bool, ◌+◌, ◌<◌, ◌≤◌, List, [], ◌∷◌, ◌++◌, drop, length, Contains}
+use Rattle.std.specs.Prelude.{◌≡◌, ◌⊎◌, ℕ, ℤ, Bool, ◌+◌, ◌<◌, ◌≤◌, List, [], ◌∷◌}
+use Rattle.std.specs.Prelude.{◌++◌, drop, length, Contains}
 use Rattle.order_ints.specs.declared.atom.Atom.{Atom}
 use Rattle.order_ints.specs.declared.order_int.OrdInt.{OrdInt}
 use Rattle.core_forms.specs.declared.form.Core.{Core}
-use Rattle.core_forms.specs.declared.form.Core.TheVariants.{Ladder, Clause, Parity, Conj, Comp, LeqR, EqR, Sum3, Count, Sum, Max, AllDiff, Amo, Prod, DivMod, Lex}
-use Rattle.core_forms.specs.Settled.{IsSettledCore}
+use Rattle.core_forms.specs.declared.form.Core.TheVariants.{Ladder, Clause, Parity, Conj, Comp, LeqR, EqR, Sum3, Count}
+use Rattle.core_forms.specs.declared.form.Core.TheVariants.{Sum, Max, AllDiff, Amo, Prod, DivMod, Lex}
+use Rattle.core_forms.specs.Stable.{IsStableCore}
 use Rattle.core_forms.specs.Variables.{core_vars}
 use Rattle.part_base.specs.declared.cut.Coming.{Coming}
 use Rattle.part_base.specs.declared.cut.Coming.TheVariants.{Member, Integer, Nothing}
@@ -13,10 +15,13 @@ use Rattle.part_base.specs.declared.parts.Parts.{Parts}
 
 -- what comes is of the kind of the list's members, and nothing comes behind an order of words
 pub data CanCome (coming : Coming) (core : Core) : Type 0 where
-  by_parity : (a : Atom) (ls : List Atom) (odd : Bool) → coming ≡ Member a → core ≡ Parity ls odd → CanCome coming core
+  by_parity : (a : Atom) (ls : List Atom) (odd : Bool) → coming ≡ Member a → core ≡ Parity ls odd
+      → CanCome coming core
   by_amo : (a : Atom) (ls : List Atom) → coming ≡ Member a → core ≡ Amo ls → CanCome coming core
-  by_sum : (a : OrdInt) (ints : List OrdInt) (k : ℤ) → coming ≡ Integer a → core ≡ Sum ints k → CanCome coming core
-  by_words : (r : Atom) (strict : Bool) (front back : List OrdInt) → core ≡ Lex r strict front back → CanCome coming core
+  by_sum : (a : OrdInt) (ints : List OrdInt) (k : ℤ) → coming ≡ Integer a → core ≡ Sum ints k
+      → CanCome coming core
+  by_words : (r : Atom) (strict : Bool) (front back : List OrdInt) → core ≡ Lex r strict front back
+      → CanCome coming core
 
 abbrev pub with_member : List Atom → Coming → List Atom
 with_member ls (Member a) = ls ++ a ∷ []
@@ -47,8 +52,8 @@ longer_of coming (Prod a b c) = Prod a b c
 longer_of coming (DivMod a b q r) = DivMod a b q r
 longer_of coming (Lex r strict front back) = Lex r strict front back
 
--- the list without its first members: two of a parity or a sum, three of at-most-one, and one of both lists of an order of words,
--- whose truth another atom then is
+-- the list without its first members: two of a parity or a sum, three of at-most-one, and one of both lists of an order
+-- of words, whose truth another atom then is
 abbrev pub shorter_of : Atom → Core → Core
 shorter_of head (Ladder a) = Ladder a
 shorter_of head (Clause ls) = Clause ls
@@ -71,11 +76,13 @@ shorter_of head (Lex r strict front back) = Lex head strict (drop 1 front) (drop
 abbrev pub rest_of : Cut → Core → Core
 rest_of cut core = shorter_of cut.head (longer_of cut.coming core)
 
--- A cut makes the parts of a core: those in front, what is left of the list, and those behind it. The variables of what is left are the
--- core's and fresh ones, which are those from next on; and it is settled where the core is.
+-- A cut makes the parts of a core: those in front, what is left of the list, and those behind it. The variables of what
+-- is left are the core's and fresh ones, which are those from next on; and it is stable where the core is.
 pub record IsCut (next : ℕ) (core : Core) (parts : Parts) (cut : Cut) : Type 0 where
   pub cores : parts.cores ≡ cut.front ++ rest_of cut core ∷ cut.back
   pub fresh : parts.fresh ≡ cut.fresh
   pub comes : CanCome cut.coming core
-  pub vars : (v : ℕ) → Contains (core_vars (rest_of cut core)) v → Contains (core_vars core) v ⊎ ((next ≤ v) × (v < next + cut.fresh))
-  pub settled : (view : List Atom) → next ≡ length view + 1 → IsSettledCore view core → IsSettledCore view (rest_of cut core)
+  pub vars : (v : ℕ) → Contains (core_vars (rest_of cut core)) v → Contains (core_vars core) v
+      ⊎ ((next ≤ v) × (v < next + cut.fresh))
+  pub stable : (view : List Atom) → next ≡ length view + 1 → IsStableCore view core
+      → IsStableCore view (rest_of cut core)

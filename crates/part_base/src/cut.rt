@@ -21,8 +21,9 @@ pub enum Coming {
     Nothing,
 }
 
-/// The parts of a core that is a long list, but for the list itself: that part is made of the core once it is used up, without a
-/// copy. A list of n members is split some n times, so each of them costs what leaves and what comes, and not what stays.
+/// The parts of a core that is a long list, but for the list itself: that part is made of the core once it is used up,
+/// without a copy. A list of n members is split some n times, so each of them costs what leaves and what comes, and not
+/// what stays.
 #[derive(Debug, Drop)]
 pub struct Cut {
     /// The parts before what is left of the list, in order.
@@ -59,8 +60,8 @@ fn put_integer(ints: &mut Sequence<OrdInt>, coming: Coming) -> Result<(), AllocE
     }
 }
 
-/// The list takes what comes behind its members. For want of memory it stays. It takes constant time, but where the list's memory is
-/// moved to grow.
+/// The list takes what comes behind its members. For want of memory it stays. It takes constant time, but where the
+/// list's memory is moved to grow.
 pub fn put_behind(core: &mut Core, coming: Coming) -> Result<(), AllocError>
     ensures longer { OnOk result (core.new ≡ longer_of coming core.old) }
     ensures stays { OnErr result (core.new ≡ core.old) }
@@ -86,8 +87,8 @@ pub fn take_behind(core: &mut Core)
     }
 }
 
-/// The first members of a list leave: two of a parity or a sum, three of at-most-one, and the first pair of an order of words, whose
-/// truth becomes another atom. It takes constant time.
+/// The first members of a list leave: two of a parity or a sum, three of at-most-one, and the first pair of an order of
+/// words, whose truth becomes another atom. It takes constant time.
 pub fn drop_before(core: &mut Core, head: Atom)
     ensures { core.new ≡ shorter_of head core.old }
 {

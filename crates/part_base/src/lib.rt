@@ -10,7 +10,7 @@
 //! What it promises: `put_behind` puts a member behind the list (`longer`) or, where memory is
 //! refused, leaves it (`stays`); `take_behind` undoes it; `drop_before` takes the first members
 //! away. `IsCut` is what a cut says: the rest has the core's variables and fresh ones alone, and is
-//! settled where the core is. Laws: `parts_law` (what makes parts those of a core), `fresh_law`.
+//! stable where the core is. Laws: `parts_law` (what makes parts those of a core), `fresh_law`.
 //!
 //! `network_encode` and `decompose` make parts of their forms by these definitions, and
 //! `step_kernel` takes them from `core_parts`; what stands above names a form's parts no more.

@@ -1,5 +1,7 @@
 -- Clauses in one flat list of packed literals, with a table of their places.
-use Rattle.std.specs.Prelude.{◌≡◌, ◌==◌, ℕ, ◌+◌, ◌*◌, ◌/◌, ◌%◌, ◌<◌, ◌≤◌, Bool, true, false, List, [], ◌∷◌, map, length, slice_range, slice_index_or, if◌then◌else◌}
+use Rattle.std.specs.Prelude.{◌≡◌, ◌==◌, ℕ, ◌+◌, ◌*◌, ◌/◌, ◌%◌, ◌<◌, ◌≤◌, Bool}
+use Rattle.std.specs.Prelude.{true, false, List, [], ◌∷◌, map, length, slice_range, slice_index_or}
+use Rattle.std.specs.Prelude.{if◌then◌else◌}
 use Rattle.order_ints.specs.declared.literal.Lit.{Lit}
 use Rattle.proof_check.specs.declared.arena.Place.{Place}
 use Rattle.proof_check.specs.Named.{Named}

@@ -1,5 +1,6 @@
 -- The state of the checker as a proof, and what its answers tell.
-use Rattle.std.specs.Prelude.{◌≡◌, ℕ, ◌+◌, ◌≤◌, ◌^◌, Bool, false, Option, None, Some, Result, Ok, Err, List, [], ◌∷◌, length, take, drop}
+use Rattle.std.specs.Prelude.{◌≡◌, ℕ, ◌+◌, ◌≤◌, ◌^◌, Bool, false, Option, None, Some, Result, Ok}
+use Rattle.std.specs.Prelude.{Err, List, [], ◌∷◌, length, take, drop}
 use Rattle.order_ints.specs.declared.literal.Lit.{Lit}
 use Rattle.order_ints.specs.Place.{ClausesBelow}
 use Rattle.proof_check.specs.declared.fault.ProofFault.{ProofFault}

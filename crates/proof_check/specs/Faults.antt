@@ -1,5 +1,6 @@
 -- The first fault of a proof line, in the order of the tests; `None` where it is accepted. Places count from 1.
-use Rattle.std.specs.Prelude.{ℕ, ◌+◌, Bool, true, false, not, ◌&&◌, nat_le, nat_lt, ℤ, pos, negsuc, Option, None, Some, List, [], ◌∷◌, map, if◌then◌else◌}
+use Rattle.std.specs.Prelude.{ℕ, ◌+◌, Bool, true, false, not, ◌&&◌, nat_le, nat_lt, ℤ, pos, negsuc, Option}
+use Rattle.std.specs.Prelude.{None, Some, List, [], ◌∷◌, map, if◌then◌else◌}
 use Rattle.order_ints.specs.declared.literal.Lit.{Lit}
 use Rattle.order_ints.specs.Truth.{not_lit}
 use Rattle.proof_check.specs.declared.standing.Standing.{Standing}
@@ -37,12 +38,14 @@ by_standing (UnitFor l) last place next = if last then Some (Hint place) else ne
 by_standing Neither last place next = Some (Hint place)
 
 -- a hint names a live clause
-abbrev pub by_clause : Values → ℕ → Option (List Lit) → Bool → ℕ → (Lit → Option ProofFault) → Option ProofFault
+abbrev pub by_clause : Values → ℕ → Option (List Lit) → Bool → ℕ → (Lit → Option ProofFault)
+    → Option ProofFault
 by_clause f id None last place next = Some (Absent id)
 by_clause f id (Some c) last place next = by_standing (standing f c) last place next
 
 -- and it isn't negative
-abbrev pub by_hint : List Named → Values → ℤ → Bool → ℕ → (Lit → Option ProofFault) → Option ProofFault
+abbrev pub by_hint : List Named → Values → ℤ → Bool → ℕ → (Lit → Option ProofFault)
+    → Option ProofFault
 by_hint live f (pos id) last place next = by_clause f id (clause_at live id) last place next
 by_hint live f (negsuc n) last place next = Some Rat
 

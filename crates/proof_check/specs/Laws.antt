@@ -42,12 +42,14 @@ CnfStays = (p q : Proof) (line : ProofLine) → take_line p line ≡ Ok q → q.
 
 -- a proof of some lines goes on by one more
 abbrev pub LinesGoOn : Type 0
-LinesGoOn = (p q r : Proof) (lines : List ProofLine) (line : ProofLine) → take_lines p lines ≡ Ok q → take_line q line ≡ Ok r →
+LinesGoOn = (p q r : Proof) (lines : List ProofLine) (line : ProofLine) → take_lines p lines ≡ Ok q
+    → take_line q line ≡ Ok r →
     take_lines p (lines ++ line ∷ []) ≡ Ok r
 
 -- the literals of a clause have no fault exactly where their variables are those of the CNF and differ
 abbrev pub LitsFit : Type 0
-LitsFit = (vars : ℕ) (lits : List Lit) → (lits_fault vars [] lits 1 ≡ None) ↔ (ClauseBelow (vars + 1) lits × VarsDiffer lits)
+LitsFit = (vars : ℕ) (lits : List Lit) → (lits_fault vars [] lits 1 ≡ None) ↔
+    (ClauseBelow (vars + 1) lits × VarsDiffer lits)
 
 -- the text of a line that can be read is that of no other, with its line feed or without
 abbrev pub TextTellsLine : Type 0

@@ -1,5 +1,6 @@
 -- Clauses by their ids.
-use Rattle.std.specs.Prelude.{◌≡◌, ◌==◌, ℕ, ◌+◌, Bool, Option, None, Some, is_some, List, [], ◌∷◌, map, if◌then◌else◌}
+use Rattle.std.specs.Prelude.{◌≡◌, ◌==◌, ℕ, ◌+◌, Bool, Option, None, Some, is_some, List, [], ◌∷◌}
+use Rattle.std.specs.Prelude.{map, if◌then◌else◌}
 use Rattle.order_ints.specs.declared.literal.Lit.{Lit}
 
 -- a clause and its id

@@ -1,5 +1,6 @@
 -- Partial values: a variable has a truth value, or none yet.
-use Rattle.std.specs.Prelude.{◌≡◌, ◌==◌, ℕ, Bool, false, not, ◌||◌, Option, None, Some, is_none, option_map, List, [], ◌∷◌, if◌then◌else◌}
+use Rattle.std.specs.Prelude.{◌≡◌, ◌==◌, ℕ, Bool, false, not, ◌||◌, Option, None, Some, is_none}
+use Rattle.std.specs.Prelude.{option_map, List, [], ◌∷◌, if◌then◌else◌}
 use Rattle.std.specs.Bool.{beq}
 use Rattle.order_ints.specs.declared.literal.Lit.{Lit}
 

@@ -3,7 +3,9 @@
 //! A literal takes four bytes and a clause 24. Ids ascend and may skip, so a clause is found by halving the table.
 //! A clause that is deleted stays, marked, since it is still known; nothing is ever moved.
 
-ghost use Rattle.std.specs.Prelude.{◌≡◌, ◌≢◌, ◌≤◌, ◌<◌, ◌+◌, ◌^◌, ◌++◌, ◌∷◌, [], ℕ, None, Some, true, false, is_some, IsTrue, map, length, vec_len, vec_capacity, slice_index, slice_range, IfOk, OnOk, OnErr, IfSome, IfNone};
+ghost use Rattle.std.specs.Prelude.{◌≡◌, ◌≢◌, ◌≤◌, ◌<◌, ◌+◌, ◌^◌, ◌++◌, ◌∷◌};
+ghost use Rattle.std.specs.Prelude.{[], ℕ, None, Some, true, false, is_some, IsTrue, map, length, vec_len};
+ghost use Rattle.std.specs.Prelude.{vec_capacity, slice_index, slice_range, IfOk, OnOk, OnErr, IfSome, IfNone};
 ghost use Rattle.order_ints.specs.Place.{ClauseBelow};
 ghost use Rattle.std.specs.List.{list_any};
 ghost use Rattle.order_ints.specs.OrderedClauses as ordered;
@@ -11,7 +13,8 @@ ghost use Rattle.proof_check.specs.Named.{clause_at, literals_of};
 ghost use Rattle.proof_check.specs.New.{lies_within};
 ghost use Rattle.proof_check.specs.Known as known;
 ghost use Rattle.proof_check.specs.Arena as arena;
-ghost use Rattle.proof_check.specs.Arena.{AreWithin, Ascend, kept_in, clauses_in, place_ids, kept_ids, last_from, live_in, nth_kept, life_to, IsLiveAt};
+ghost use Rattle.proof_check.specs.Arena.{AreWithin, Ascend, kept_in, clauses_in, place_ids, kept_ids, last_from};
+ghost use Rattle.proof_check.specs.Arena.{live_in, nth_kept, life_to, IsLiveAt};
 
 use order_ints::Lit;
 use std::alloc::{AllocError, Global};
@@ -188,7 +191,8 @@ fn same_literals(lits: &[Lit], codes: &[u32]) -> bool
 /// Whether a place has exactly these literals.
 fn has_clause(codes: &[u32], places: &[Place], lits: &[Lit]) -> bool
     requires { AreWithin codes.now places.now }
-    ensures { result ≡ list_any (known.same_literals lits.now) (literals_of (clauses_in (kept_in codes.now places.now))) }
+    ensures { result ≡ list_any (known.same_literals lits.now)
+        (literals_of (clauses_in (kept_in codes.now places.now))) }
 {
     for place in places {
         if same_literals(lits, part(codes, *place)) {

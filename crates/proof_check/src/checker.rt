@@ -1,6 +1,7 @@
 //! The checker of proofs: it takes line by line, and keeps nothing of a line but its clause.
 
-ghost use Rattle.std.specs.Prelude.{◌≡◌, ◌≤◌, ◌+◌, ◌^◌, ℕ, None, length, Ok, IfOk, IfErr, OnOk, OnErr};
+ghost use Rattle.std.specs.Prelude.{◌≡◌, ◌≤◌, ◌+◌, ◌^◌, ℕ, None, length, Ok, IfOk, IfErr, OnOk};
+ghost use Rattle.std.specs.Prelude.{OnErr};
 ghost use Rattle.order_ints.specs.Place.{InRange, ClausesBelow};
 ghost use Rattle.proof_check.specs.declared.line.ProofLine.TheVariants.{Add, Delete};
 ghost use Rattle.proof_check.specs.Named.{numbered, literals_of};
@@ -102,8 +103,8 @@ impl Checker {
         })
     }
 
-    /// Takes the next line. It looks at the clause's literals and at those of the clauses that the hints name, each once,
-    /// and finds these by halving. Where the line has a fault, and where memory is wanting, nothing is changed.
+    /// Takes the next line. It looks at the clause's literals and at those of the clauses that the hints name, each
+    /// once, and finds these by halving. Where the line has a fault, and where memory is wanting, nothing is changed.
     pub fn take(&mut self, line: &ProofLine) -> Result<(), TakeFault>
         ensures taken { OnOk result (take_line self.old line.now ≡ Ok self.new) }
         ensures refused { OnErr result (self.new ≡ self.old) }

@@ -9,7 +9,8 @@ use std::alloc::{AllocError, AllocFailed};
 pub enum ProofFault {
     /// The id isn't above all ids so far.
     Id,
-    /// The literal at the place has a variable above the variables of the CNF, or one that stands earlier in the clause.
+    /// The literal at the place has a variable above the variables of the CNF, or one that stands earlier in the
+    /// clause.
     Lit(u64),
     /// A hint is negative.
     Rat,

@@ -1,10 +1,11 @@
 //! The test of an addition: the clause is denied, and its hints must refute that.
 //!
 //! That a clause follows where unit propagation from its negation fails is due to Goldberg and Novikov (2003); that the
-//! ids of the clauses that propagate are written beside it, so that none is sought, to Cruz-Filipe, Heule, Hunt, Kaufmann
-//! and Schneider-Kamp (2017).
+//! ids of the clauses that propagate are written beside it, so that none is sought, to Cruz-Filipe, Heule, Hunt,
+//! Kaufmann and Schneider-Kamp (2017).
 
-ghost use Rattle.std.specs.Prelude.{◌≡◌, ◌+◌, ◌<◌, ◌&&◌, nat_lt, nat_le, [], None, Some, Option, drop, length, OnOk, IfErr, IfOk};
+ghost use Rattle.std.specs.Prelude.{◌≡◌, ◌+◌, ◌<◌, ◌&&◌, nat_lt, nat_le, [], None, Some, Option};
+ghost use Rattle.std.specs.Prelude.{drop, length, OnOk, IfErr, IfOk};
 ghost use Rattle.std.specs.Option.{ForSome};
 ghost use Rattle.order_ints.specs.declared.literal.Lit.{Lit};
 ghost use Rattle.order_ints.specs.Place.{ClausesBelow};
@@ -59,7 +60,8 @@ fn test_id(
 ) -> Result<Option<Lit>, ProofFault>
     requires { ClausesBelow (length values.now) (literals_of (clauses_in arena.now)) }
     ensures told { (next : Lit → Option ProofFault)
-        → by_clause (value_at values.now) id (clause_at (live_in arena.now) id) last place next ≡ goes_on result next }
+        → by_clause (value_at values.now) id (clause_at (live_in arena.now) id) last place next
+        ≡ goes_on result next }
     ensures below { IfOk result (λ found. ForSome found (λ l. l.var < length values.now)) }
 {
     let Some(i) = arena.find_live(id) else {

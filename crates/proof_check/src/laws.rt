@@ -1,9 +1,10 @@
 //! Laws of proofs, each the contract of a function that does nothing.
 
-ghost use Rattle.proof_check.specs.Laws.{StartImplied, LineImplied, AddedImplied, KnownImplied, CnfStays, LinesGoOn, LitsFit, TextTellsLine, BytesTellLine};
+ghost use Rattle.proof_check.specs.Laws.{StartImplied, LineImplied, AddedImplied, KnownImplied, CnfStays, LinesGoOn};
+ghost use Rattle.proof_check.specs.Laws.{LitsFit, TextTellsLine, BytesTellLine};
 
-/// What a proof without a fault implies: each valuation that satisfies the CNF satisfies every clause that was added, and
-/// every known one.
+/// What a proof without a fault implies: each valuation that satisfies the CNF satisfies every clause that was added,
+/// and every known one.
 pub fn implied_laws()
     ensures start { StartImplied }
     ensures line { LineImplied }

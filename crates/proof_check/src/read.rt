@@ -3,13 +3,16 @@
 //! A text of many lines is read into the same room line by line, so that a line takes no memory once the longest
 //! one was read.
 
-ghost use Rattle.std.specs.Prelude.{◌≡◌, ◌<◌, ◌^◌, ◌⊎◌, ◌↔◌, ◌∷◌, ◌++◌, List, ℕ, ℤ, [], Some, codes, slice_index_or, IsTrue, IfSome, IfNone, OnOk, IfOk, IfErr, MatchResult};
+ghost use Rattle.std.specs.Prelude.{◌≡◌, ◌<◌, ◌^◌, ◌⊎◌, ◌↔◌, ◌∷◌, ◌++◌, List, ℕ};
+ghost use Rattle.std.specs.Prelude.{ℤ, [], Some, codes, slice_index_or, IsTrue, IfSome, IfNone, OnOk, IfOk, IfErr};
+ghost use Rattle.std.specs.Prelude.{MatchResult};
 ghost use Rattle.bee_text.specs.Words.{split_blanks};
 ghost use Rattle.std.specs.Fmt.{decimal, signed_decimal};
 ghost use Rattle.order_ints.specs.declared.literal.Lit.{Lit};
 ghost use Rattle.proof_check.specs.declared.line.ProofLine.{ProofLine};
 ghost use Rattle.proof_check.specs.declared.fault.ProofTextFault.TheVariants.{Form, Memory};
-ghost use Rattle.proof_check.specs.Lines.{literal_word, list_words, line_words, Each, IsReadableLit, IsReadableId, IsReadableHint, IsReadable, AreBytesOf, IsTextOf};
+ghost use Rattle.proof_check.specs.Lines.{literal_word, list_words, line_words, Each, IsReadableLit, IsReadableId};
+ghost use Rattle.proof_check.specs.Lines.{IsReadableHint, IsReadable, AreBytesOf, IsTextOf};
 ghost use Rattle.proof_check.specs.Room.{line_in};
 
 use crate::fault::ProofTextFault;
@@ -125,7 +128,8 @@ fn read_addition(words: &mut Words<'_>, room: &mut LineRoom) -> Result<(), Proof
         × Each IsReadableLit room.new.lits.items × Each IsReadableHint room.new.hints.items) }
     ensures complete { (ls : List Lit) (hs : List ℤ) → Each IsReadableLit ls → Each IsReadableHint hs
         → words.old ≡ list_words literal_word ls (list_words signed_decimal hs [])
-        → MatchResult result (λ _. (room.new.lits.items ≡ ls) × (room.new.hints.items ≡ hs)) (λ e. e ≡ Memory) }
+        → MatchResult result (λ _. (room.new.lits.items ≡ ls)
+        × (room.new.hints.items ≡ hs)) (λ e. e ≡ Memory) }
     ensures fault { IfErr result (λ e. (e ≡ Form 1) ⊎ (e ≡ Memory)) }
 {
     match read_literals(words, &mut room.lits) {
@@ -233,8 +237,8 @@ impl LineRoom {
         }
     }
 
-    /// Reads a line without its line feed, and says what it is; its lists are then here, in place of what was before. It
-    /// passes over each byte a few times.
+    /// Reads a line without its line feed, and says what it is; its lists are then here, in place of what was before.
+    /// It passes over each byte a few times.
     pub fn read_bytes(&mut self, bytes: &[u8]) -> Result<LineHead, ProofTextFault>
         ensures read { IfOk result (λ head. AreBytesOf (line_in head self.new) bytes.now) }
         ensures complete { (line : ProofLine) → AreBytesOf line bytes.now
@@ -285,7 +289,8 @@ fn without_line_feed(text: &[u8]) -> Option<&[u8]>
 /// The line whose text, with its line feed, the bytes are.
 pub fn read_line(alloc: Global, text: &[u8]) -> Result<ProofLine, ProofTextFault>
     ensures read { IfOk result (λ line. IsTextOf line text.now) }
-    ensures complete { (line : ProofLine) → IsTextOf line text.now → MatchResult result (λ l. l ≡ line) (λ e. e ≡ Memory) }
+    ensures complete { (line : ProofLine) → IsTextOf line text.now
+        → MatchResult result (λ l. l ≡ line) (λ e. e ≡ Memory) }
     ensures fault { IfErr result (λ e. (e ≡ Form 1) ⊎ (e ≡ Memory)) }
 {
     let mut room = LineRoom::new(alloc);

@@ -1,6 +1,7 @@
 //! The words of literals, hints and ids.
 
-ghost use Rattle.std.specs.Prelude.{◌≡◌, ◌<◌, ◌≤◌, ◌^◌, ◌↔◌, ◌++◌, ◌∷◌, drop, ℕ, ℤ, Some, IfSome, IsTrue, OnOk};
+ghost use Rattle.std.specs.Prelude.{◌≡◌, ◌<◌, ◌≤◌, ◌^◌, ◌↔◌, ◌++◌, ◌∷◌, drop, ℕ};
+ghost use Rattle.std.specs.Prelude.{ℤ, Some, IfSome, IsTrue, OnOk};
 ghost use Rattle.std.specs.Fmt.{decimal, signed_decimal};
 ghost use Rattle.order_ints.specs.declared.literal.Lit.{Lit};
 ghost use Rattle.proof_check.specs.Lines.{literal_word, IsReadableLit, IsReadableHint, IsReadableId};

@@ -73,7 +73,8 @@ pub fn push_deletion(out: &mut Vec<u8>, at: u64, ids: &[u64]) -> Result<(), Allo
     Ok(())
 }
 
-/// Appends the text of a line, with its line feed. Where an id or a hint is 0, it is the text of no line that can be read.
+/// Appends the text of a line, with its line feed. Where an id or a hint is 0, it is the text of no line that can be
+/// read.
 pub fn push_line(out: &mut Vec<u8>, line: &ProofLine) -> Result<(), AllocError>
     ensures { OnOk result (out.new.items ≡ out.old.items ++ line_text line.now) }
 {

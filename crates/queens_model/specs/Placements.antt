@@ -1,5 +1,6 @@
 -- What a placement of queens is.
-use Rattle.std.specs.Prelude.{◌≢◌, ℕ, ◌+◌, ◌*◌, ◌<◌, ℤ, pos, ◌+ℤ◌, ◌-ℤ◌, ◌≤ℤ◌, List}
+use Rattle.std.specs.Prelude.{◌≢◌, ℕ, ◌+◌, ◌*◌, ◌<◌, ℤ, pos, ◌+ℤ◌, ◌-ℤ◌, ◌≤ℤ◌}
+use Rattle.std.specs.Prelude.{List}
 use Rattle.model_meaning.specs.Terms.{value_at}
 use Rattle.model_meaning.specs.Solutions.{IsSolution}
 use Rattle.queens_model.specs.Queens.{queens}

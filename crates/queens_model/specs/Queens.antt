@@ -1,5 +1,5 @@
--- The model of the queens: on a board with so many rows and columns there is one queen in each row, and no two of them attack
--- each other. For each row i, counted from 1, it has the items
+-- The model of the queens: on a board with so many rows and columns there is one queen in each row, and no two of them
+-- attack each other. For each row i, counted from 1, it has the items
 --
 --     new_int(qi,1,N)
 --     new_int(ai,1+i,N+i)
@@ -13,7 +13,8 @@
 --     int_array_allDiff([a1,..,aN])
 --     int_array_allDiff([d1,..,dN])
 --     solve satisfy
-use Rattle.std.specs.Prelude.{ℕ, zero, suc, ◌+◌, ◌*◌, ℤ, pos, ◌+ℤ◌, ◌-ℤ◌, neg_ℤ, List, [], ◌∷◌, ◌++◌, codes, decimal, None}
+use Rattle.std.specs.Prelude.{ℕ, zero, suc, ◌+◌, ◌*◌, ℤ, pos, ◌+ℤ◌, ◌-ℤ◌, neg_ℤ, List, []}
+use Rattle.std.specs.Prelude.{◌∷◌, ◌++◌, codes, decimal, None}
 use Rattle.model_meaning.specs.declared.model.Kind.TheVariants.{Range}
 use Rattle.model_meaning.specs.declared.model.Decl.{Decl}
 use Rattle.model_meaning.specs.declared.model.Stmt.{Stmt}
@@ -25,8 +26,8 @@ use Rattle.model_meaning.specs.declared.what.What.TheVariants.{IntOp, IntAllDiff
 use Rattle.model_meaning.specs.declared.statement.Arithmetic.TheVariants.{Plus}
 use Rattle.model_meaning.specs.declared.statement.AllDifferent.TheVariants.{Plain}
 
--- Rows are counted from 0 here, and row k has the number k + 1 in its names. The places of its integers are 3k, 3k + 1 and
--- 3k + 2, and its items have the numbers 5k + 1 to 5k + 5.
+-- Rows are counted from 0 here, and row k has the number k + 1 in its names. The places of its integers are 3k, 3k + 1
+-- and 3k + 2, and its items have the numbers 5k + 1 to 5k + 5.
 
 -- the integer of a row that a letter names, item n
 abbrev pub integer : ℕ → List ℕ → ℕ → ℤ → ℤ → Decl
@@ -51,7 +52,8 @@ sum_is n left z value = record { number = n; what = IntOp (codes "int_plus") Plu
 
 -- the statements of a row
 abbrev pub row_sums : ℕ → List Stmt
-row_sums k = sum_is (5 * k + 3) (3 * k) (pos (k + 1)) (3 * k + 1) ∷ sum_is (5 * k + 5) (3 * k) (neg_ℤ (pos (k + 1))) (3 * k + 2) ∷ []
+row_sums k = sum_is (5 * k + 3) (3 * k) (pos (k + 1)) (3 * k + 1)
+    ∷ sum_is (5 * k + 5) (3 * k) (neg_ℤ (pos (k + 1))) (3 * k + 2) ∷ []
 
 -- item n: members differ
 abbrev pub differ : ℕ → List IntTerm → Stmt
@@ -76,6 +78,9 @@ members_of letter (suc k) = members_of letter k ++ Of (3 * k + letter) ∷ []
 abbrev pub queens : ℕ → Model
 queens size = record {
   decls = integers_of size size;
-  stmts = sums_of size ++ (differ (5 * size + 1) (members_of 0 size) ∷ differ (5 * size + 2) (members_of 1 size) ∷ differ (5 * size + 3) (members_of 2 size) ∷ []);
+  stmts =
+      sums_of size
+      ++ (differ (5 * size + 1) (members_of 0 size) ∷ differ (5 * size + 2) (members_of 1 size)
+      ∷ differ (5 * size + 3) (members_of 2 size) ∷ []);
   goal = Satisfy;
 }

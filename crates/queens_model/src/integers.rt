@@ -1,6 +1,7 @@
 //! The integers of the rows.
 
-ghost use Rattle.std.specs.Prelude.{◌≡◌, ◌≤◌, ◌<◌, ◌^◌, ◌++◌, ◌+◌, decimal, pos, IfOk, OnOk};
+ghost use Rattle.std.specs.Prelude.{◌≡◌, ◌≤◌, ◌<◌, ◌^◌, ◌++◌, ◌+◌, decimal, pos, IfOk};
+ghost use Rattle.std.specs.Prelude.{OnOk};
 ghost use Rattle.queens_model.specs.Queens.{column, sum, difference, row_integers, integers_of};
 
 use bee_text::{push_bytes, push_number};

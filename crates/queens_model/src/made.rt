@@ -25,8 +25,8 @@ fn model(alloc: Global, size: u64) -> Result<Model, AllocError>
     })
 }
 
-/// The model of so many queens. It has three integers and two statements for each row, and three statements more. It takes memory
-/// for these alone.
+/// The model of so many queens. It has three integers and two statements for each row, and three statements more. It
+/// takes memory for these alone.
 pub fn queens(alloc: Global, size: u64) -> Result<Model, AllocError>
     requires least { 4 ≤ size }
     requires most { size ≤ 24 }

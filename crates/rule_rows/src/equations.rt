@@ -1,4 +1,5 @@
-//! Equations worked out by hand: what is found at a core, equations that are instances there, and equations that are not.
+//! Equations worked out by hand: what is found at a core, equations that are instances there, and equations that are
+//! not.
 
 ghost use Rattle.std.specs.Prelude.{◌≡◌, ◌<◌};
 ghost use Rattle.core_forms.specs.WellFormed.{IsWellFormed};
@@ -21,8 +22,8 @@ use std::test::Fail;
 /// A core, what is found at it, instances, and equations that are none, with a semicolon between them.
 pub(super) type Row = (&'static str, &'static str, &'static str, &'static str);
 
-/// Which rules are asked: those of forms and of orders of integers, those of members that differ, those of sums, counts, maxima
-/// and products, or those of truth tables.
+/// Which rules are asked: those of forms and of orders of integers, those of members that differ, those of sums,
+/// counts, maxima and products, or those of truth tables.
 #[derive(Clone, Copy, Debug)]
 enum Rules {
     Equality,

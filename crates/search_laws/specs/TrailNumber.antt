@@ -1,6 +1,7 @@
 -- The trail as a binary number of as many digits as there are variables: 0 for an entry that has a reason, 1 for one
 -- that was decided and for a place that is free.
-use Rattle.std.specs.Prelude.{ℕ, zero, suc, ◌+◌, ◌^◌, ◌<◌, ◌≤◌, Bool, true, false, List, [], ◌∷◌, ◌++◌, length, if◌then◌else◌}
+use Rattle.std.specs.Prelude.{ℕ, zero, suc, ◌+◌, ◌^◌, ◌<◌, ◌≤◌, Bool, true, false, List, []}
+use Rattle.std.specs.Prelude.{◌∷◌, ◌++◌, length, if◌then◌else◌}
 
 -- the number of a trail of which each entry says whether it was decided
 abbrev pub trail_number : ℕ → List Bool → ℕ
@@ -10,7 +11,8 @@ trail_number (suc vars) (decided ∷ entries) = (if decided then 2 ^ vars else 0
 
 -- an assignment never raises the number
 abbrev pub NeverRises : Type 0
-NeverRises = (vars : ℕ) (entries more : List Bool) → trail_number vars (entries ++ more) ≤ trail_number vars entries
+NeverRises = (vars : ℕ) (entries more : List Bool)
+    → trail_number vars (entries ++ more) ≤ trail_number vars entries
 
 -- where a decision, with all behind it, gives way to an entry that has a reason, the number falls
 abbrev pub FallsWhenTurned : Type 0

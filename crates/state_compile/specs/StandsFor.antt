@@ -9,11 +9,12 @@ use Rattle.step_kernel.specs.Models.{IsModel}
 use Rattle.step_kernel.specs.CnfOf.{cnf_of}
 
 -- The satisfying valuations of the last state's CNF that meet its store, cut to the variables of the first state, are
--- exactly the models of that: each of them is one, and each model can be changed beyond the variables so that it is one of
--- them.
+-- exactly the models of that: each of them is one, and each model can be changed beyond the variables so that it is one
+-- of them.
 pub record CnfStandsFor (start last : Kernel) : Type 0 where
   pub back : (σ : Valuation) → MeetsView σ last.view → Satisfies σ (cnf_of last) → IsModel start σ
-  pub forth : (σ : Valuation) → IsModel start σ → (τ : Valuation) × Agree (length start.view + 1) σ τ × MeetsView τ last.view × Satisfies τ (cnf_of last)
+  pub forth : (σ : Valuation) → IsModel start σ → (τ : Valuation) × Agree (length start.view + 1) σ τ
+      × MeetsView τ last.view × Satisfies τ (cnf_of last)
 
 -- a valuation read by a view: each variable is as true as its label
 abbrev pub read_by : List Atom → Valuation → Valuation

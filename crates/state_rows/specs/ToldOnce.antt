@@ -26,4 +26,5 @@ IsToldOnce core e = (core ≡ told_core) × (e ≡ told_equation)
 -- the form of the core states it
 pub told_once_is_instance : (core : Core) (e : Equation) → IsToldOnce core e → is_instance_at core e ≡ true
 told_once_is_instance core e told =
-    subst (λ c. is_instance_at c e ≡ true) (sym told.0) (subst (λ f. is_instance_at told_core f ≡ true) (sym told.1) refl)
+    subst (λ c. is_instance_at c e ≡ true) (sym told.0)
+    (subst (λ f. is_instance_at told_core f ≡ true) (sym told.1) refl)

@@ -1,4 +1,5 @@
-//! Merges of classes: a table worked out by hand, a walk, random merges compared with a plain program, and refused memory.
+//! Merges of classes: a table worked out by hand, a walk, random merges compared with a plain program, and refused
+//! memory.
 
 ghost use Rattle.std.specs.Prelude.{◌↔◌, ◌+◌, ◌<◌, IsTrue};
 ghost use Rattle.order_ints.specs.Place.{AtomBelow};
@@ -291,8 +292,8 @@ fn grow_twice(rt: &impl Abort, store: &mut EqStore, labels: &[Atom]) -> Result<(
     Ok(())
 }
 
-// `rt try --test --fail-alloc N` refuses the Nth allocation: one of the three of `with`, or one of the three of `grow`. What is
-// refused is asked for again.
+// `rt try --test --fail-alloc N` refuses the Nth allocation: one of the three of `with`, or one of the three of `grow`.
+// What is refused is asked for again.
 #[test]
 fn growth_is_refused(rt: HostRuntime) -> Result<(), Fail> {
     let mut store = small(rt.alloc())?;

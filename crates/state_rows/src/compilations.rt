@@ -1,11 +1,11 @@
-//! Compilations from cores to clauses, worked out by hand: the lines of the ledger, and the last state. Each split is that of the
-//! least compound core, what its parts tell comes behind it, and each encoding is that of the least core.
+//! Compilations from cores to clauses, worked out by hand: the lines of the ledger, and the last state. Each split is
+//! that of the least compound core, what its parts tell comes behind it, and each encoding is that of the least core.
 
 use crate::ledgers::Row;
 
 pub(super) static BY_TABLES: [Row; 6] = [
-    // The first split hands the occurrences of its core on. Then an atom is told False that the core had and its rest has not, and one that
-    // the rest has.
+    // The first split hands the occurrences of its core on. Then an atom is told False that the core had and its rest
+    // has not, and one that the rest has.
     (
         39,
         &[

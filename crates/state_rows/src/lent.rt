@@ -1,5 +1,5 @@
-//! Which pending cores a state lends as it has them, since trimming would leave them as they were made, and which are cut
-//! at their front.
+//! Which pending cores a state lends as it has them, since trimming would leave them as they were made, and which are
+//! cut at their front.
 
 use crate::step_faults::apply;
 use crate::steps_made::{cut_at, started};
@@ -26,7 +26,7 @@ fn lent(alloc: Global, state: &mut State) -> Result<Vec<u8>, AllocError> {
     let mut text = Vec::new(alloc);
     for place in 0..state.ids() {
         let id = place + 1;
-        if state.settle(id) {
+        if state.mark_stable(id) {
             push_blank(&mut text)?;
             push_number(&mut text, u128::from(id))?;
         }
@@ -35,7 +35,7 @@ fn lent(alloc: Global, state: &mut State) -> Result<Vec<u8>, AllocError> {
 }
 
 #[test]
-fn settled_cores_are_lent(rt: HostRuntime) -> io::Result<()> {
+fn stable_cores_are_lent(rt: HostRuntime) -> io::Result<()> {
     let alloc = rt.alloc();
     let cores = [
         "Parity even 1,2",
@@ -57,7 +57,7 @@ fn settled_cores_are_lent(rt: HostRuntime) -> io::Result<()> {
     Ok(())
 }
 
-/// Compound cores that are settled, and whether they are cut: lists of the least lengths, and others.
+/// Compound cores that are stable, and whether they are cut: lists of the least lengths, and others.
 static CUT: [(&str, bool); 7] = [
     ("Parity odd 1,2,3,4", true),
     ("Amo 1,2,3,4,5", true),
@@ -71,7 +71,7 @@ static CUT: [(&str, bool); 7] = [
 /// Whether a core over six variables is cut.
 fn is_cut(rt: &impl Abort, alloc: Global, core: &str) -> io::Result<bool> {
     let mut state = started(rt, alloc, 6, &[core])?;
-    assert!(rt; state.settle(1), "{core}");
+    assert!(rt; state.mark_stable(1), "{core}");
     let cut = cut_at(&mut state, 1)?;
     Ok(cut.is_some())
 }

@@ -244,8 +244,8 @@ fn grow_twice(rt: &impl Abort, occurrences: &mut Occurrences) -> Result<(), Allo
     Ok(())
 }
 
-// `rt try --test --fail-alloc N` refuses the Nth allocation: one of those of `with` or of `grow`. What is refused is asked
-// for again.
+// `rt try --test --fail-alloc N` refuses the Nth allocation: one of those of `with` or of `grow`. What is refused is
+// asked for again.
 #[test]
 fn growth_is_refused(rt: HostRuntime) -> Result<(), AllocError> {
     assert!(rt; Occurrences::with(rt.alloc(), 1 << 31).is_err());

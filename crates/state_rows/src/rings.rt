@@ -1,4 +1,5 @@
-//! Moves of nodes between rings: a table worked out by hand, random moves compared with plain vectors, and refused memory.
+//! Moves of nodes between rings: a table worked out by hand, random moves compared with plain vectors, and refused
+//! memory.
 
 ghost use Rattle.std.specs.Prelude.{◌≡◌, ◌≢◌, ◌+◌, ◌^◌, ◌<◌, ◌≤◌, length, IsTrue};
 ghost use Rattle.index_ring.specs.Lists.{IsFree};
@@ -214,8 +215,8 @@ fn grow_twice(rt: &impl Abort, rings: &mut Rings) -> Result<(), AllocError> {
     Ok(())
 }
 
-// `rt try --test --fail-alloc N` refuses the Nth allocation: one of the two of `with`, or one of the two of `grow`. What is
-// refused is asked for again.
+// `rt try --test --fail-alloc N` refuses the Nth allocation: one of the two of `with`, or one of the two of `grow`.
+// What is refused is asked for again.
 #[test]
 fn growth_is_refused(rt: HostRuntime) -> Result<(), AllocError> {
     let mut rings = small(rt.alloc())?;

@@ -1,5 +1,5 @@
-//! Worklists and compilations: the lines of the ledger, and the state they lead to. Where memory is refused it is asked for once
-//! more, and the ledger must still lead to the state.
+//! Worklists and compilations: the lines of the ledger, and the state they lead to. Where memory is refused it is asked
+//! for once more, and the ledger must still lead to the state.
 
 ghost use Rattle.std.specs.Prelude.{◌≡◌, ◌<◌};
 

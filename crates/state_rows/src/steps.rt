@@ -23,8 +23,8 @@ static BY_FORM: [(&str, &str); 4] = [
     ),
 ];
 
-/// Equations by the order of an integer. The smaller class gets the other's label, and a class that becomes constant loses
-/// the steps of the integer.
+/// Equations by the order of an integer. The smaller class gets the other's label, and a class that becomes constant
+/// loses the steps of the integer.
 static BY_ORDER: [(&str, &str); 4] = [
     (
         "start",

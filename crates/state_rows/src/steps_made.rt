@@ -95,7 +95,7 @@ fn parts_at(rt: &impl Abort, alloc: Global, state: &mut State, id: u64) -> Resul
     ensures parts { IfOk result (λ parts. ArePartsAt state.old id parts) }
     ensures stays { state.new ≡ state.old }
 {
-    if state.settle(id) {
+    if state.mark_stable(id) {
         if let Some(core) = state.core(id) {
             return parts_of_lent(rt, state, id, core);
         }
@@ -105,12 +105,12 @@ fn parts_at(rt: &impl Abort, alloc: Global, state: &mut State, id: u64) -> Resul
     state.parts_of(id, core)
 }
 
-/// How a pending core is cut, where it is settled and a long list.
+/// How a pending core is cut, where it is stable and a long list.
 pub(super) fn cut_at(state: &mut State, id: u64) -> Result<Option<Cut>, AllocError>
     ensures cut { IfOk result (λ made. IfSome made (λ cut. IsCutAt state.old id cut)) }
     ensures stays { state.new ≡ state.old }
 {
-    if state.settle(id) {
+    if state.mark_stable(id) {
         return state.cut_of(id);
     }
     Ok(None)

@@ -21,8 +21,10 @@ AreOrdered σ [] = Unit {0}
 AreOrdered σ (values.Bool a ∷ entries) = AreOrdered σ entries
 AreOrdered σ (values.Int a ∷ entries) = IsOrdered σ a × AreOrdered σ entries
 
--- the least and the greatest value of each integer of a map are in the limit of numerals, and each step raises the value
+-- the least and the greatest value of each integer of a map are in the limit of numerals, and each step raises the
+-- value
 abbrev pub AreInLimit : List MapValue → Type 0
 AreInLimit [] = Unit {0}
 AreInLimit (values.Bool a ∷ entries) = AreInLimit entries
-AreInLimit (values.Int a ∷ entries) = (InLimit (low_of a) × InLimit (high_of a) × AreRising a.steps) × AreInLimit entries
+AreInLimit (values.Int a ∷ entries) = (InLimit (low_of a) × InLimit (high_of a) × AreRising a.steps)
+    × AreInLimit entries

@@ -1,5 +1,6 @@
 -- The linear rule: members with steps are added up, and those without are one number.
-use Rattle.std.specs.Prelude.{ℕ, ◌-◌, ◌≤◌, ℤ, pos, ◌+ℤ◌, neg_ℤ, Bool, true, false, List, [], ◌∷◌, ◌++◌, length, if◌then◌else◌}
+use Rattle.std.specs.Prelude.{ℕ, ◌-◌, ◌≤◌, ℤ, pos, ◌+ℤ◌, neg_ℤ, Bool, true, false, List, []}
+use Rattle.std.specs.Prelude.{◌∷◌, ◌++◌, length, if◌then◌else◌}
 use Rattle.order_ints.specs.declared.atom.Atom.{Atom}
 use Rattle.order_ints.specs.declared.order_int.OrdInt.{OrdInt}
 use Rattle.order_ints.specs.OrderChange.{negated_of, scaled_of}
@@ -29,7 +30,8 @@ with_steps (a ∷ ints) = if has_steps a.steps then a ∷ with_steps ints else w
 -- the members that have none, which are constants, added up
 abbrev pub constant_of_members : List OrdInt → ℤ
 constant_of_members [] = pos 0
-constant_of_members (a ∷ ints) = if has_steps a.steps then constant_of_members ints else a.base +ℤ constant_of_members ints
+constant_of_members (a ∷ ints) = if has_steps a.steps then constant_of_members ints
+    else a.base +ℤ constant_of_members ints
 
 -- the members of a linear statement: the scaled integers and, last, minus the right side
 abbrev pub linear_members : List OrdInt → OrdInt → List OrdInt
@@ -60,8 +62,8 @@ linear_made vars relation.Lt ints a = compared_sum vars relation.Lt (linear_memb
 linear_made vars relation.Gt ints a = compared_sum vars relation.Gt (linear_members ints a)
 linear_made vars relation.Neq ints a = compared_sum vars relation.Neq (linear_members ints a)
 
--- an integer that may be added up with 16,777,216 others: it is sound, and no value is above 2 ^ 60 in absolute value, as
--- it is so of the multiple of an integer in the limit of numerals by a numeral
+-- an integer that may be added up with 16,777,216 others: it is sound, and no value is above 2 ^ 60 in absolute value,
+-- as it is so of the multiple of an integer in the limit of numerals by a numeral
 abbrev pub IsSummand : OrdInt → Type 0
 IsSummand a = IsSound a × (greatest_abs a ≤ 1152921504606846976)
 

@@ -1,6 +1,7 @@
 -- What a statement is lowered to, line by line of the table of statements: the number of variables behind its fresh
 -- ones, and its cores.
-use Rattle.std.specs.Prelude.{ℕ, ◌+◌, ◌/◌, min, ℤ, pos, ◌-ℤ◌, true, false, List, [], ◌∷◌, ◌++◌, length, map, Option, if◌then◌else◌}
+use Rattle.std.specs.Prelude.{ℕ, ◌+◌, ◌/◌, min, ℤ, pos, ◌-ℤ◌, true, false, List, [], ◌∷◌}
+use Rattle.std.specs.Prelude.{◌++◌, length, map, Option, if◌then◌else◌}
 use Rattle.order_ints.specs.declared.atom.Atom.{Atom}
 use Rattle.order_ints.specs.declared.atom.Atom.TheVariants.{True}
 use Rattle.order_ints.specs.declared.order_int.OrdInt.{OrdInt}
@@ -79,7 +80,8 @@ array_cores operator.Iff atoms = equal_cores atoms
 -- all are true, none is true, and z is the truth of one of these
 abbrev pub all_equal_cores : Atom → Atom → List Atom → Atom → List Core
 all_equal_cores all none atoms z =
-    core.Conj all atoms ∷ core.Conj none (map not_atom atoms) ∷ core.Conj (not_atom z) (not_atom all ∷ not_atom none ∷ []) ∷ []
+    core.Conj all atoms ∷ core.Conj none (map not_atom atoms)
+    ∷ core.Conj (not_atom z) (not_atom all ∷ not_atom none ∷ []) ∷ []
 
 -- lines 5 and 7: z is the truth of an operator of a list
 abbrev pub operator_made : ℕ → Operator → List Atom → Atom → MadeCores
@@ -100,7 +102,8 @@ abbrev pub compared_count : ℕ → Relation → List Atom → OrdInt → MadeCo
 compared_count vars rel atoms a = record {
   vars = vars + length atoms;
   cores =
-      core.Count atoms (fresh_range vars (length atoms)) ∷ comparison_core rel True (fresh_range vars (length atoms)) a ∷ [];
+      core.Count atoms (fresh_range vars (length atoms))
+      ∷ comparison_core rel True (fresh_range vars (length atoms)) a ∷ [];
 }
 
 -- the number of true members is compared
@@ -163,15 +166,18 @@ different_made vars all_different.Reified ints z cs = difference_made vars ints 
 different_made vars all_different.Conditional ints z cs = made_here vars (core.AllDiff ints cs ∷ [])
 
 -- r is the truth of the order of two lists, or it is True
-abbrev pub order_core : List MapValue → Order → List BoolTerm → List BoolTerm → List IntTerm → List IntTerm → Option BoolTerm → Core
+abbrev pub order_core : List MapValue → Order → List BoolTerm → List BoolTerm → List IntTerm → List IntTerm
+    → Option BoolTerm → Core
 order_core entries o xs ys is js z =
-    core.Lex (if o.reified then atom_or_true entries z else True) o.strict (word_of entries o.of_booleans xs is) (word_of entries o.of_booleans ys js)
+    core.Lex (if o.reified then atom_or_true entries z else True) o.strict (word_of entries o.of_booleans xs is)
+    (word_of entries o.of_booleans ys js)
 
 -- a statement, behind so many variables
 abbrev pub made_of : ℕ → List MapValue → What → MadeCores
 made_of vars entries (BoolToInt x i) = made_here vars (bit_core (atom_of entries x) (integer_of entries i) ∷ [])
 made_of vars entries (BoolEq x y) = made_here vars (equal_core (atom_of entries x) (atom_of entries y) ∷ [])
-made_of vars entries (BoolOp name op x y z) = operator_made vars op (atom_of entries x ∷ atom_of entries y ∷ []) (atom_of entries z)
+made_of vars entries (BoolOp name op x y z) =
+    operator_made vars op (atom_of entries x ∷ atom_of entries y ∷ []) (atom_of entries z)
 made_of vars entries (BoolArray name op xs) = made_here vars (array_cores op (atoms_of entries xs))
 made_of vars entries (BoolArrayReified name op xs z) = operator_made vars op (atoms_of entries xs) (atom_of entries z)
 made_of vars entries (Compare name rel i j) =
@@ -179,13 +185,18 @@ made_of vars entries (Compare name rel i j) =
 made_of vars entries (CompareReified name rel i j z) =
     made_here vars (comparison_core rel (atom_of entries z) (integer_of entries i) (integer_of entries j) ∷ [])
 made_of vars entries (BoolSum name rel xs i) = count_made vars rel (atoms_of entries xs) (integer_of entries i)
-made_of vars entries (BoolLinear name rel cs xs i) = linear_made vars rel (scaled_truths entries cs xs) (integer_of entries i)
+made_of vars entries (BoolLinear name rel cs xs i) =
+    linear_made vars rel (scaled_truths entries cs xs) (integer_of entries i)
 made_of vars entries (IntSum name rel is i) = linear_made vars rel (integers_of entries is) (integer_of entries i)
-made_of vars entries (IntLinear name rel cs is i) = linear_made vars rel (scaled_integers entries cs is) (integer_of entries i)
+made_of vars entries (IntLinear name rel cs is i) =
+    linear_made vars rel (scaled_integers entries cs is) (integer_of entries i)
 made_of vars entries (IntOp name o i j k) =
     operation_made vars o (integer_of entries i) (integer_of entries j) (integer_of entries k)
-made_of vars entries (Absolute i j) = made_here vars (absolute_core (integer_of entries i) (integer_of entries j) ∷ [])
+made_of vars entries (Absolute i j) =
+    made_here vars (absolute_core (integer_of entries i) (integer_of entries j) ∷ [])
 made_of vars entries (IntArray name o is i) = aggregate_made vars o (integers_of entries is) (integer_of entries i)
-made_of vars entries (IntAllDifferent name d is z xs) = different_made vars d (integers_of entries is) (atom_or_true entries z) (atoms_of entries (terms_or_none xs))
+made_of vars entries (IntAllDifferent name d is z xs) =
+    different_made vars d (integers_of entries is) (atom_or_true entries z) (atoms_of entries (terms_or_none xs))
 made_of vars entries (Lexicographic name o xs ys is js z) =
-    made_here vars (order_core entries o (terms_or_none xs) (terms_or_none ys) (terms_or_none is) (terms_or_none js) z ∷ [])
+    made_here vars (order_core entries o (terms_or_none xs) (terms_or_none ys) (terms_or_none is) (terms_or_none js) z
+    ∷ [])

@@ -15,22 +15,24 @@ use Rattle.statement_lower.specs.Entries.{AreOrdered}
 use Rattle.statement_lower.specs.Lines.{made_of}
 
 -- Cores over m variables, of which those beyond `vars` are fresh, stand for a property of the others, where C holds:
--- each valuation that meets them has it, and each one that has it can be changed at the fresh variables so that it meets
--- them.
-pub record Lowers (vars m : ℕ) (C : Valuation → Type 0) (cores : List Core) (P : Valuation → Type 0) : Type 0 where
+-- each valuation that meets them has it, and each one that has it can be changed at the fresh variables so that it
+-- meets them.
+pub record Lowers (vars m : ℕ) (C : Valuation → Type 0) (cores : List Core) (P : Valuation → Type 0)
+    : Type 0 where
   pub more : vars ≤ m
   pub below : CoresBelow (m + 1) cores
   pub well_formed : AreWellFormed cores
   pub implies : (σ : Valuation) → C σ → MeetsAll σ cores → P σ
   pub extends : (σ : Valuation) → C σ → P σ → (τ : Valuation) × Agree (vars + 1) σ τ × MeetsAll τ cores
 
--- where the integers of the declared names are ordered, the cores of a statement stand for its being true of the numbers
--- that the names have
+-- where the integers of the declared names are ordered, the cores of a statement stand for its being true of the
+-- numbers that the names have
 abbrev pub LineLaw : Type 0
 LineLaw =
     (vars n : ℕ) (ds : List Decl) (entries : List MapValue) (w : What)
     → EntriesFit (vars + 1) ds entries → WhatFits ds n w → WhatInLimit w
-    → Lowers vars (made_of vars entries w).vars (λ σ. AreOrdered σ entries) (made_of vars entries w).cores (λ σ. Holds (numbers_of σ entries) w)
+    → Lowers vars (made_of vars entries w).vars (λ σ. AreOrdered σ entries) (made_of vars entries w).cores
+    (λ σ. Holds (numbers_of σ entries) w)
 
 -- a statement keeps the variables so far
 abbrev pub VariablesLaw : Type 0

@@ -23,7 +23,8 @@ vars_behind_sum vars a b = vars + steps_of (fresh_sum vars a b)
 
 -- two integers and a number, added up, stand in a relation to 0: the first and the number to the second negated
 abbrev pub last_made : ℕ → Relation → ℤ → OrdInt → OrdInt → MadeCores
-last_made vars rel k a b = record { vars = vars; cores = comparison_core rel True (shifted_of a k) (negated_of b) ∷ [] }
+last_made vars rel k a b =
+    record { vars = vars; cores = comparison_core rel True (shifted_of a k) (negated_of b) ∷ [] }
 
 -- the first member, or 0 where there is none
 abbrev pub first_or_zero : List OrdInt → OrdInt
@@ -34,11 +35,12 @@ first_or_zero (a ∷ rest) = a
 abbrev pub with_first : Core → MadeCores → MadeCores
 with_first first made = record { vars = made.vars; cores = first ∷ made.cores }
 
--- So many times the first two members make way for a fresh sum behind the others; then the first two and a number, added up,
--- stand in a relation to 0. One that is missing is the constant 0.
+-- So many times the first two members make way for a fresh sum behind the others; then the first two and a number,
+-- added up, stand in a relation to 0. One that is missing is the constant 0.
 abbrev pub queue_made : ℕ → ℕ → Relation → ℤ → List OrdInt → MadeCores
 queue_made times vars rel k [] = last_made vars rel k (constant_of (pos 0)) (constant_of (pos 0))
 queue_made times vars rel k (a ∷ []) = last_made vars rel k a (constant_of (pos 0))
 queue_made zero vars rel k (a ∷ b ∷ rest) = last_made vars rel k a b
 queue_made (suc times) vars rel k (a ∷ b ∷ rest) =
-    with_first (core.Sum3 a b (fresh_sum vars a b)) (queue_made times (vars_behind_sum vars a b) rel k (rest ++ fresh_sum vars a b ∷ []))
+    with_first (core.Sum3 a b (fresh_sum vars a b))
+    (queue_made times (vars_behind_sum vars a b) rel k (rest ++ fresh_sum vars a b ∷ []))

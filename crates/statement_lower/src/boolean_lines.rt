@@ -3,7 +3,8 @@
 ghost use Rattle.std.specs.Prelude.{◌≡◌, ◌+◌, ◌<◌, ◌^◌, ◌∷◌, ◌++◌, [], IfOk};
 ghost use Rattle.statement_lower.specs.Terms.{atom_of, atoms_of};
 ghost use Rattle.statement_lower.specs.Fresh.{fresh_atom, second_fresh_atom};
-ghost use Rattle.statement_lower.specs.Lines.{equal_core, equal_cores, array_cores, all_equal_cores, made_here, operator_made};
+ghost use Rattle.statement_lower.specs.Lines.{equal_core, equal_cores, array_cores, all_equal_cores, made_here};
+ghost use Rattle.statement_lower.specs.Lines.{operator_made};
 
 use crate::made::MadeCores;
 use crate::terms::{atom_of, atoms_of, negated_atoms};
@@ -42,7 +43,8 @@ pub fn equal_made(
     left: BoolTerm,
     right: BoolTerm,
 ) -> Result<MadeCores, AllocError>
-    ensures { IfOk result (λ m. m ≡ made_here vars (equal_core (atom_of entries.now left) (atom_of entries.now right) ∷ [])) }
+    ensures { IfOk result
+        (λ m. m ≡ made_here vars (equal_core (atom_of entries.now left) (atom_of entries.now right) ∷ [])) }
 {
     let core = equal_core(alloc, atom_of(entries, left), atom_of(entries, right))?;
     MadeCores::of_core(alloc, vars, core)
@@ -140,8 +142,11 @@ pub fn pair_made(
     right: BoolTerm,
     truth: BoolTerm,
 ) -> Result<MadeCores, AllocError>
-    requires room { (operator_made vars operator (atom_of entries.now left ∷ atom_of entries.now right ∷ []) (atom_of entries.now truth)).vars < 2 ^ 27 }
-    ensures { IfOk result (λ m. m ≡ operator_made vars operator (atom_of entries.now left ∷ atom_of entries.now right ∷ []) (atom_of entries.now truth)) }
+    requires room { (operator_made vars operator (atom_of entries.now left ∷ atom_of entries.now right ∷ [])
+        (atom_of entries.now truth)).vars < 2 ^ 27 }
+    ensures { IfOk result
+        (λ m. m ≡ operator_made vars operator (atom_of entries.now left ∷ atom_of entries.now right ∷ [])
+        (atom_of entries.now truth)) }
 {
     let atoms = vec![in alloc; atom_of(entries, left), atom_of(entries, right)]?;
     let truth = atom_of(entries, truth);
@@ -157,8 +162,10 @@ pub fn truth_made(
     members: &[BoolTerm],
     truth: BoolTerm,
 ) -> Result<MadeCores, AllocError>
-    requires room { (operator_made vars operator (atoms_of entries.now members.now) (atom_of entries.now truth)).vars < 2 ^ 27 }
-    ensures { IfOk result (λ m. m ≡ operator_made vars operator (atoms_of entries.now members.now) (atom_of entries.now truth)) }
+    requires room { (operator_made vars operator (atoms_of entries.now members.now) (atom_of entries.now truth)).vars
+        < 2 ^ 27 }
+    ensures { IfOk result
+        (λ m. m ≡ operator_made vars operator (atoms_of entries.now members.now) (atom_of entries.now truth)) }
 {
     let atoms = atoms_of(alloc, entries, members)?;
     operator_made(alloc, vars, operator, atoms, atom_of(entries, truth))

@@ -1,7 +1,8 @@
-//! A sum that is compared: the first two members make way for a fresh integer behind the others, which is their sum, until
-//! two are left.
+//! A sum that is compared: the first two members make way for a fresh integer behind the others, which is their sum,
+//! until two are left.
 
-ghost use Rattle.std.specs.Prelude.{◌≡◌, ◌+◌, ◌<◌, ◌^◌, ◌∷◌, ◌++◌, [], drop, unsigned_abs, IfOk, OnOk};
+ghost use Rattle.std.specs.Prelude.{◌≡◌, ◌+◌, ◌<◌, ◌^◌, ◌∷◌, ◌++◌, [], drop, unsigned_abs};
+ghost use Rattle.std.specs.Prelude.{IfOk, OnOk};
 ghost use Rattle.order_ints.specs.declared.atom.Atom.TheVariants.{True};
 ghost use Rattle.order_ints.specs.OrderRange.{IsBounded};
 ghost use Rattle.order_ints.specs.OrderChange.{shifted_of, negated_of};
@@ -63,8 +64,10 @@ impl Queue {
         requires limit { greatest_abs a + greatest_abs b < 2 ^ 100 }
         requires room { vars_behind_sum self.old.vars a b < 2 ^ 27 }
         ensures vars { OnOk result (self.new.vars ≡ vars_behind_sum self.old.vars a b) }
-        ensures members { OnOk result (self.new.members.items ≡ self.old.members.items ++ fresh_sum self.old.vars a b ∷ []) }
-        ensures cores { OnOk result (self.new.cores.items ≡ self.old.cores.items ++ Sum3 a b (fresh_sum self.old.vars a b) ∷ []) }
+        ensures members { OnOk result (self.new.members.items ≡ self.old.members.items ++ fresh_sum self.old.vars a b
+            ∷ []) }
+        ensures cores { OnOk result (self.new.cores.items ≡ self.old.cores.items ++ Sum3 a b (fresh_sum self.old.vars a b)
+            ∷ []) }
     {
         let sum = fresh_sum(alloc, self.vars, &a, &b)?;
         self.vars += sum.steps.len() as u32;
@@ -85,7 +88,8 @@ fn last_core(
     requires a { IsBounded a.now }
     requires b { IsBounded b.now }
     requires limit { IsBounded (shifted_of a.now constant) }
-    ensures { IfOk result (λ core. core ≡ comparison_core relation True (shifted_of a.now constant) (negated_of b.now)) }
+    ensures { IfOk result
+        (λ core. core ≡ comparison_core relation True (shifted_of a.now constant) (negated_of b.now)) }
 {
     comparison_core(
         alloc,

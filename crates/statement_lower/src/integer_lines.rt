@@ -7,7 +7,8 @@ ghost use Rattle.model_meaning.specs.Limits.{TermInLimit, TermsInLimit};
 ghost use Rattle.statement_lower.specs.Terms.{atom_of, atoms_of, integer_of, integers_of};
 ghost use Rattle.statement_lower.specs.Entries.{AreInLimit};
 ghost use Rattle.statement_lower.specs.Comparison.{comparison_core};
-ghost use Rattle.statement_lower.specs.Lines.{made_here, bit_core, compared_count, count_made, most_remainder, most_quotient, least_core, operation_made, absolute_core, aggregate_made};
+ghost use Rattle.statement_lower.specs.Lines.{made_here, bit_core, compared_count, count_made, most_remainder};
+ghost use Rattle.statement_lower.specs.Lines.{most_quotient, least_core, operation_made, absolute_core, aggregate_made};
 
 use crate::fresh::{fresh_range, most_quotient, most_remainder};
 use crate::linear_lines::sum_made;
@@ -30,7 +31,8 @@ pub fn bit_made(
     truth: BoolTerm,
     number: IntTerm,
 ) -> Result<MadeCores, AllocError>
-    ensures { IfOk result (λ m. m ≡ made_here vars (bit_core (atom_of entries.now truth) (integer_of entries.now number) ∷ [])) }
+    ensures { IfOk result
+        (λ m. m ≡ made_here vars (bit_core (atom_of entries.now truth) (integer_of entries.now number) ∷ [])) }
 {
     let integer = integer_of(alloc, entries, number)?;
     let bit = OrdInt::of_atom(alloc, atom_of(entries, truth))?;
@@ -67,7 +69,10 @@ pub fn comparison_made(
     left: IntTerm,
     right: IntTerm,
 ) -> Result<MadeCores, AllocError>
-    ensures { IfOk result (λ m. m ≡ made_here vars (comparison_core relation truth (integer_of entries.now left) (integer_of entries.now right) ∷ [])) }
+    ensures { IfOk result
+        (λ m. m
+        ≡ made_here vars (comparison_core relation truth (integer_of entries.now left) (integer_of entries.now right)
+        ∷ [])) }
 {
     let left = integer_of(alloc, entries, left)?;
     let right = integer_of(alloc, entries, right)?;
@@ -85,7 +90,11 @@ pub fn reified_made(
     right: IntTerm,
     truth: BoolTerm,
 ) -> Result<MadeCores, AllocError>
-    ensures { IfOk result (λ m. m ≡ made_here vars (comparison_core relation (atom_of entries.now truth) (integer_of entries.now left) (integer_of entries.now right) ∷ [])) }
+    ensures { IfOk result
+        (λ m. m
+        ≡ made_here vars
+        (comparison_core relation (atom_of entries.now truth) (integer_of entries.now left)
+        (integer_of entries.now right) ∷ [])) }
 {
     let truth = atom_of(entries, truth);
     comparison_made(alloc, entries, vars, relation, truth, left, right)
@@ -122,8 +131,10 @@ pub fn count_made(
     members: &[BoolTerm],
     bound: IntTerm,
 ) -> Result<MadeCores, AllocError>
-    requires { (count_made vars relation (atoms_of entries.now members.now) (integer_of entries.now bound)).vars < 2 ^ 27 }
-    ensures { IfOk result (λ m. m ≡ count_made vars relation (atoms_of entries.now members.now) (integer_of entries.now bound)) }
+    requires { (count_made vars relation (atoms_of entries.now members.now) (integer_of entries.now bound)).vars
+        < 2 ^ 27 }
+    ensures { IfOk result
+        (λ m. m ≡ count_made vars relation (atoms_of entries.now members.now) (integer_of entries.now bound)) }
 {
     let atoms = atoms_of(alloc, entries, members)?;
     let bound = integer_of(alloc, entries, bound)?;
@@ -150,7 +161,9 @@ fn lesser_core(
     value: IntTerm,
 ) -> Result<Core, AllocError>
     requires { AreInLimit entries.now }
-    ensures { IfOk result (λ core. core ≡ least_core (integer_of entries.now left ∷ integer_of entries.now right ∷ []) (integer_of entries.now value)) }
+    ensures { IfOk result
+        (λ core. core ≡ least_core (integer_of entries.now left ∷ integer_of entries.now right ∷ [])
+        (integer_of entries.now value)) }
 {
     let a = negated_integer_of(alloc, entries, left)?;
     let b = negated_integer_of(alloc, entries, right)?;
@@ -187,7 +200,9 @@ fn quotient_made(
 ) -> Result<MadeCores, AllocError>
     requires entries { AreInLimit entries.now }
     requires room { vars + most_remainder (integer_of entries.now left) (integer_of entries.now right) < 2 ^ 27 }
-    ensures { IfOk result (λ m. m ≡ operation_made vars Div (integer_of entries.now left) (integer_of entries.now right) (integer_of entries.now value)) }
+    ensures { IfOk result
+        (λ m. m ≡ operation_made vars Div (integer_of entries.now left) (integer_of entries.now right)
+        (integer_of entries.now value)) }
 {
     let a = bounded_integer_of(alloc, entries, left)?;
     let b = bounded_integer_of(alloc, entries, right)?;
@@ -209,7 +224,9 @@ fn remainder_made(
 ) -> Result<MadeCores, AllocError>
     requires entries { AreInLimit entries.now }
     requires room { vars + most_quotient (integer_of entries.now left) (integer_of entries.now right) < 2 ^ 27 }
-    ensures { IfOk result (λ m. m ≡ operation_made vars Mod (integer_of entries.now left) (integer_of entries.now right) (integer_of entries.now value)) }
+    ensures { IfOk result
+        (λ m. m ≡ operation_made vars Mod (integer_of entries.now left) (integer_of entries.now right)
+        (integer_of entries.now value)) }
 {
     let a = bounded_integer_of(alloc, entries, left)?;
     let b = bounded_integer_of(alloc, entries, right)?;
@@ -231,8 +248,11 @@ pub fn operation_made(
     value: IntTerm,
 ) -> Result<MadeCores, AllocError>
     requires entries { AreInLimit entries.now }
-    requires room { (operation_made vars operation (integer_of entries.now left) (integer_of entries.now right) (integer_of entries.now value)).vars < 2 ^ 27 }
-    ensures { IfOk result (λ m. m ≡ operation_made vars operation (integer_of entries.now left) (integer_of entries.now right) (integer_of entries.now value)) }
+    requires room { (operation_made vars operation (integer_of entries.now left) (integer_of entries.now right)
+        (integer_of entries.now value)).vars < 2 ^ 27 }
+    ensures { IfOk result
+        (λ m. m ≡ operation_made vars operation (integer_of entries.now left) (integer_of entries.now right)
+        (integer_of entries.now value)) }
 {
     let core = match operation {
         Arithmetic::Plus => {
@@ -263,7 +283,9 @@ pub fn absolute_made(
     value: IntTerm,
 ) -> Result<MadeCores, AllocError>
     requires { AreInLimit entries.now }
-    ensures { IfOk result (λ m. m ≡ made_here vars (absolute_core (integer_of entries.now operand) (integer_of entries.now value) ∷ [])) }
+    ensures { IfOk result
+        (λ m. m
+        ≡ made_here vars (absolute_core (integer_of entries.now operand) (integer_of entries.now value) ∷ [])) }
 {
     let a = integer_of(alloc, entries, operand)?;
     let b = negated_integer_of(alloc, entries, operand)?;
@@ -280,7 +302,8 @@ fn least_core(
     value: IntTerm,
 ) -> Result<Core, AllocError>
     requires { AreInLimit entries.now }
-    ensures { IfOk result (λ core. core ≡ least_core (integers_of entries.now members.now) (integer_of entries.now value)) }
+    ensures { IfOk result
+        (λ core. core ≡ least_core (integers_of entries.now members.now) (integer_of entries.now value)) }
 {
     let ints = negated_integers_of(alloc, entries, members)?;
     let c = negated_integer_of(alloc, entries, value)?;
@@ -300,8 +323,11 @@ pub fn aggregate_made(
     requires members { TermsInLimit members.now }
     requires few { length members.now ≤ 16777216 }
     requires value { TermInLimit value }
-    requires room { (aggregate_made vars operation (integers_of entries.now members.now) (integer_of entries.now value)).vars < 2 ^ 27 }
-    ensures { IfOk result (λ m. m ≡ aggregate_made vars operation (integers_of entries.now members.now) (integer_of entries.now value)) }
+    requires room { (aggregate_made vars operation (integers_of entries.now members.now) (integer_of entries.now value)).vars
+        < 2 ^ 27 }
+    ensures { IfOk result
+        (λ m. m ≡ aggregate_made vars operation (integers_of entries.now members.now)
+        (integer_of entries.now value)) }
 {
     match operation {
         Aggregate::Plus => sum_made(alloc, entries, vars, Relation::Eq, members, value),

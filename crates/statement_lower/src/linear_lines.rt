@@ -1,6 +1,7 @@
 //! The cores of the lines over sums.
 
-ghost use Rattle.std.specs.Prelude.{◌≡◌, ◌+◌, ◌<◌, ◌≤◌, ◌^◌, neg_ℤ, length, unsigned_abs, IfOk};
+ghost use Rattle.std.specs.Prelude.{◌≡◌, ◌+◌, ◌<◌, ◌≤◌, ◌^◌, neg_ℤ, length, unsigned_abs};
+ghost use Rattle.std.specs.Prelude.{IfOk};
 ghost use Rattle.core_forms.specs.declared.form.Core.TheVariants.{Sum};
 ghost use Rattle.model_meaning.specs.Limits.{AllInLimit, TermInLimit, TermsInLimit};
 ghost use Rattle.statement_lower.specs.Terms.{integer_of, integers_of};
@@ -72,8 +73,11 @@ pub fn truths_made(
     requires coefficients { AllInLimit coefficients.now }
     requires few { length members.now ≤ 16777216 }
     requires bound { TermInLimit bound }
-    requires room { (linear_made vars relation (scaled_truths entries.now coefficients.now members.now) (integer_of entries.now bound)).vars < 2 ^ 27 }
-    ensures { IfOk result (λ m. m ≡ linear_made vars relation (scaled_truths entries.now coefficients.now members.now) (integer_of entries.now bound)) }
+    requires room { (linear_made vars relation (scaled_truths entries.now coefficients.now members.now)
+        (integer_of entries.now bound)).vars < 2 ^ 27 }
+    ensures { IfOk result
+        (λ m. m ≡ linear_made vars relation (scaled_truths entries.now coefficients.now members.now)
+        (integer_of entries.now bound)) }
 {
     let ints = scaled_truths(alloc, entries, coefficients, members)?;
     linear_made(alloc, entries, vars, relation, ints, bound)
@@ -92,8 +96,10 @@ pub fn sum_made(
     requires members { TermsInLimit members.now }
     requires few { length members.now ≤ 16777216 }
     requires bound { TermInLimit bound }
-    requires room { (linear_made vars relation (integers_of entries.now members.now) (integer_of entries.now bound)).vars < 2 ^ 27 }
-    ensures { IfOk result (λ m. m ≡ linear_made vars relation (integers_of entries.now members.now) (integer_of entries.now bound)) }
+    requires room { (linear_made vars relation (integers_of entries.now members.now) (integer_of entries.now bound)).vars
+        < 2 ^ 27 }
+    ensures { IfOk result
+        (λ m. m ≡ linear_made vars relation (integers_of entries.now members.now) (integer_of entries.now bound)) }
 {
     let ints = integers_of(alloc, entries, members)?.into_vec();
     linear_made(alloc, entries, vars, relation, ints, bound)
@@ -114,8 +120,11 @@ pub fn multiples_made(
     requires members { TermsInLimit members.now }
     requires few { length members.now ≤ 16777216 }
     requires bound { TermInLimit bound }
-    requires room { (linear_made vars relation (scaled_integers entries.now coefficients.now members.now) (integer_of entries.now bound)).vars < 2 ^ 27 }
-    ensures { IfOk result (λ m. m ≡ linear_made vars relation (scaled_integers entries.now coefficients.now members.now) (integer_of entries.now bound)) }
+    requires room { (linear_made vars relation (scaled_integers entries.now coefficients.now members.now)
+        (integer_of entries.now bound)).vars < 2 ^ 27 }
+    ensures { IfOk result
+        (λ m. m ≡ linear_made vars relation (scaled_integers entries.now coefficients.now members.now)
+        (integer_of entries.now bound)) }
 {
     let ints = scaled_integers(alloc, entries, coefficients, members)?;
     linear_made(alloc, entries, vars, relation, ints, bound)

@@ -36,8 +36,11 @@ pub fn different_made(
     truth: Atom,
     conditions: &[BoolTerm],
 ) -> Result<MadeCores, AllocError>
-    requires room { (different_made vars kind (integers_of entries.now members.now) truth (atoms_of entries.now conditions.now)).vars < 2 ^ 27 }
-    ensures { IfOk result (λ m. m ≡ different_made vars kind (integers_of entries.now members.now) truth (atoms_of entries.now conditions.now)) }
+    requires room { (different_made vars kind (integers_of entries.now members.now) truth
+        (atoms_of entries.now conditions.now)).vars < 2 ^ 27 }
+    ensures { IfOk result
+        (λ m. m ≡ different_made vars kind (integers_of entries.now members.now) truth
+        (atoms_of entries.now conditions.now)) }
 {
     let ints = integers_of(alloc, entries, members)?;
     match kind {
@@ -104,7 +107,11 @@ pub fn order_made(
     lists: &OrderLists<'_>,
     truth: &Option<Apart<BoolTerm>>,
 ) -> Result<MadeCores, AllocError>
-    ensures { IfOk result (λ m. m ≡ made_here vars (order_core entries.now order lists.now.left_truths.now lists.now.right_truths.now lists.now.left_numbers.now lists.now.right_numbers.now truth.now ∷ [])) }
+    ensures { IfOk result
+        (λ m. m
+        ≡ made_here vars
+        (order_core entries.now order lists.now.left_truths.now lists.now.right_truths.now lists.now.left_numbers.now
+        lists.now.right_numbers.now truth.now ∷ [])) }
 {
     let booleans = order.of_booleans;
     let front = word_of(

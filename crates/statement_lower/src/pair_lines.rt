@@ -4,7 +4,8 @@ ghost use Rattle.std.specs.Prelude.{◌≡◌, ◌+◌, ◌<◌, ◌^◌, ◌∷
 ghost use Rattle.order_ints.specs.Truth.{not_atom};
 ghost use Rattle.core_forms.specs.declared.form.Core.TheVariants.{EqR};
 ghost use Rattle.statement_lower.specs.Fresh.{fresh_atom};
-ghost use Rattle.statement_lower.specs.Pairs.{each_vars, each_atoms, each_equal, pairs_vars, pairs_atoms, pairs_equal, difference_made};
+ghost use Rattle.statement_lower.specs.Pairs.{each_vars, each_atoms, each_equal, pairs_vars, pairs_atoms, pairs_equal};
+ghost use Rattle.statement_lower.specs.Pairs.{difference_made};
 
 use crate::made::MadeCores;
 use bee_list::Sequence;
@@ -41,8 +42,10 @@ impl Pairs {
     fn add(&mut self, alloc: Global, a: &OrdInt, b: &OrdInt) -> Result<(), AllocError>
         requires room { self.old.vars + 1 < 2 ^ 27 }
         ensures vars { OnOk result (self.new.vars ≡ self.old.vars + 1) }
-        ensures apart { OnOk result (self.new.apart.items ≡ self.old.apart.items ++ not_atom (fresh_atom self.old.vars) ∷ []) }
-        ensures cores { OnOk result (self.new.cores.items ≡ self.old.cores.items ++ EqR (fresh_atom self.old.vars) a.now b.now ∷ []) }
+        ensures apart { OnOk result (self.new.apart.items ≡ self.old.apart.items ++ not_atom (fresh_atom self.old.vars)
+            ∷ []) }
+        ensures cores { OnOk result (self.new.cores.items ≡ self.old.cores.items
+            ++ EqR (fresh_atom self.old.vars) a.now b.now ∷ []) }
     {
         let equal = Atom::Of(Lit::of(self.vars + 1, true));
         let core = Core::eq_r(alloc, equal, a.clone()?, b.clone()?)?;
@@ -56,8 +59,10 @@ impl Pairs {
     fn add_each(&mut self, alloc: Global, a: &OrdInt, others: &[OrdInt]) -> Result<(), AllocError>
         requires room { each_vars self.old.vars others.now < 2 ^ 27 }
         ensures vars { OnOk result (self.new.vars ≡ each_vars self.old.vars others.now) }
-        ensures apart { OnOk result (self.new.apart.items ≡ self.old.apart.items ++ map not_atom (each_atoms self.old.vars others.now)) }
-        ensures cores { OnOk result (self.new.cores.items ≡ self.old.cores.items ++ each_equal self.old.vars a.now others.now) }
+        ensures apart { OnOk result (self.new.apart.items ≡ self.old.apart.items
+            ++ map not_atom (each_atoms self.old.vars others.now)) }
+        ensures cores { OnOk result (self.new.cores.items ≡ self.old.cores.items
+            ++ each_equal self.old.vars a.now others.now) }
     {
         let mut rest = others;
         while let Some((b, later)) = rest.split_first() {
@@ -71,7 +76,8 @@ impl Pairs {
     fn add_all(&mut self, alloc: Global, ints: &[OrdInt]) -> Result<(), AllocError>
         requires room { pairs_vars self.old.vars ints.now < 2 ^ 27 }
         ensures vars { OnOk result (self.new.vars ≡ pairs_vars self.old.vars ints.now) }
-        ensures apart { OnOk result (self.new.apart.items ≡ self.old.apart.items ++ map not_atom (pairs_atoms self.old.vars ints.now)) }
+        ensures apart { OnOk result (self.new.apart.items ≡ self.old.apart.items
+            ++ map not_atom (pairs_atoms self.old.vars ints.now)) }
         ensures cores { OnOk result (self.new.cores.items ≡ self.old.cores.items ++ pairs_equal self.old.vars ints.now) }
     {
         let mut rest = ints;

@@ -1,6 +1,7 @@
 //! The members of linear statements.
 
-ghost use Rattle.std.specs.Prelude.{◌≡◌, ◌+◌, ◌<◌, ◌≤◌, ◌^◌, length, unsigned_abs, IfOk, IfSome};
+ghost use Rattle.std.specs.Prelude.{◌≡◌, ◌+◌, ◌<◌, ◌≤◌, ◌^◌, length, unsigned_abs, IfOk};
+ghost use Rattle.std.specs.Prelude.{IfSome};
 ghost use Rattle.order_ints.specs.OrderChange.{scaled_of};
 ghost use Rattle.core_forms.specs.WellFormed.{AreSound, greatest_abs, abs_total};
 ghost use Rattle.model_meaning.specs.Limits.{InLimit, AllInLimit, TermInLimit, TermsInLimit};
@@ -140,8 +141,10 @@ pub fn linear_members(
     requires ints { AreSummands ints.items }
     requires few { length ints.items ≤ 16777216 }
     requires right { TermInLimit right }
-    ensures ints { IfOk result (λ s. s.ints.items ≡ with_steps (linear_members ints.items (integer_of entries.now right))) }
-    ensures constant { IfOk result (λ s. s.constant ≡ constant_of_members (linear_members ints.items (integer_of entries.now right))) }
+    ensures ints { IfOk result
+        (λ s. s.ints.items ≡ with_steps (linear_members ints.items (integer_of entries.now right))) }
+    ensures constant { IfOk result
+        (λ s. s.constant ≡ constant_of_members (linear_members ints.items (integer_of entries.now right))) }
     ensures range { IfOk result (λ s. unsigned_abs s.constant < 2 ^ 85) }
     ensures sound { IfOk result (λ s. AreSound s.ints.items) }
     ensures limit { IfOk result (λ s. abs_total s.ints.items + unsigned_abs s.constant < 2 ^ 85) }

@@ -8,9 +8,9 @@ use Rattle.std.proofs.Math.Seq.{get_or-append_seam}
 use Rattle.order_ints.specs.declared.atom.Atom.{Atom}
 use Rattle.order_ints.specs.Label.{own_labels, with_own_labels}
 use Rattle.core_forms.specs.declared.form.Core.{Core}
-use Rattle.core_forms.specs.Settled.{IsSettledCore}
+use Rattle.core_forms.specs.Stable.{IsStableCore}
 use Rattle.core_forms.specs.Trimmed.{trimmed_core}
-use Rattle.core_forms.proofs.Settling.{settled_core, settled_further}
+use Rattle.core_forms.proofs.Stability.{stable_core, stable_further}
 use Rattle.part_base.specs.declared.cut.Cut.{Cut}
 use Rattle.part_base.specs.declared.parts.Parts.{Parts}
 use Rattle.part_base.specs.Cuts.{rest_of}
@@ -19,19 +19,19 @@ use Rattle.ledger_text.specs.declared.line.Line.TheVariants.{Split}
 use Rattle.step_kernel.specs.declared.fault.StepFault.TheVariants.{AfterBottom, NotCompound}
 use Rattle.step_kernel.specs.Cursor.{gone_first, kernel_of}
 use Rattle.step_kernel.specs.Kernel.{Kernel, core_at, trimmed_at, IsKernel}
-use Rattle.step_kernel.specs.SettledMarks.{Rounds, IsMarked, AreSettledMarks}
+use Rattle.step_kernel.specs.StableMarks.{Rounds, IsMarked, AreStableMarks}
 use Rattle.step_kernel.specs.SplitAt.{IsCutAt}
 use Rattle.step_kernel.specs.Steps.{without, divided, unless_fault, step_at, step}
 use Rattle.core_parts.specs.Parts.{parts_at}
 use Rattle.step_kernel.proofs.Cursors.{gone-without, gone-append}
 use Rattle.step_kernel.proofs.Holes.{below-there}
-use Rattle.step_kernel.proofs.SettledLaws.{at-next, settled-more, settled-divided}
+use Rattle.step_kernel.proofs.StableLaws.{at-next, stable-more, stable-divided}
 use Rattle.step_kernel.proofs.Splits.{divided-from, divided-room, there-bounds}
 use Rattle.step_kernel.proofs.There.{there-divided}
 
--- a settled core is as the store has it
-pub settled-there : (k : Kernel) (id : ℕ) (core : Core) → core_at k.cores id ≡ Some core → IsSettledCore k.view core → trimmed_at k id ≡ Some core
-settled-there k id core there settled = ap (option_map (trimmed_core k.view)) there ∙ ap Some (settled_core k.view core settled)
+-- a stable core is as the store has it
+pub stable-there : (k : Kernel) (id : ℕ) (core : Core) → core_at k.cores id ≡ Some core → IsStableCore k.view core → trimmed_at k id ≡ Some core
+stable-there k id core there stable = ap (option_map (trimmed_core k.view)) there ∙ ap Some (stable_core k.view core stable)
 
 abbrev pub the : Core → Option Core → Core
 the core None = core
@@ -58,7 +58,7 @@ module _ (k : Kernel) (is : IsKernel k) (id : ℕ) (cut : Cut) (at : IsCutAt k i
   parts = parts_at (length k.view + 1) at.core
 
   there : trimmed_at k id ≡ Some at.core
-  there = settled-there k id at.core at.there at.settled
+  there = stable-there k id at.core at.there at.stable
 
   pub cut-divided : IsKernel (divided k id parts)
   cut-divided = there-divided k id at.core is there at.compound
@@ -96,7 +96,7 @@ module _ (k : Kernel) (is : IsKernel k) (id : ℕ) (cut : Cut) (at : IsCutAt k i
       let grown : new.view ≡ old.view ++ own_labels (length old.view + 1) parts.fresh = view ∙ ap (λ (n : ℕ). old.view ++ own_labels (length old.view + 1) n) (sym at.is.fresh) in
       divided-from k id parts old new cs (fs ++ Some rest ∷ bs) made ls b same grown once ds bounds.0 high
 
-  -- what is left of the list is settled, too
+  -- what is left of the list is stable, too
   rest-place : get_or (divided k id parts).cores (length k.cores + length cut.front) None ≡ Some (rest_of cut at.core)
   rest-place =
       let before : length (without k.cores id ++ map Some cut.front) ≡ length k.cores + length cut.front =
@@ -107,20 +107,20 @@ module _ (k : Kernel) (is : IsKernel k) (id : ℕ) (cut : Cut) (at : IsCutAt k i
       ∙ ap (λ (i : ℕ). get_or ((without k.cores id ++ map Some cut.front) ++ Some (rest_of cut at.core) ∷ map Some cut.back) i None) (sym before)
       ∙ get_or-append_seam (without k.cores id ++ map Some cut.front) (Some (rest_of cut at.core)) (map Some cut.back) None
 
-  pub rest-settled : (core : Core) → get_or (divided k id parts).cores (length k.cores + length cut.front) None ≡ Some core → IsSettledCore (divided k id parts).view core
-  rest-settled core is-there =
+  pub rest-stable : (core : Core) → get_or (divided k id parts).cores (length k.cores + length cut.front) None ≡ Some core → IsStableCore (divided k id parts).view core
+  rest-stable core is-there =
       let same : Some (rest_of cut at.core) ≡ Some core = sym rest-place ∙ is-there in
       let below = (below-there (divided k id parts).cores (length k.cores + length cut.front + 1) core
       (at-next (divided k id parts).cores (length k.cores + length cut.front) (Some core) is-there) (length (divided k id parts).view + 1) cut-divided.below).0 in
-      settled_further k.view parts.fresh (length (divided k id parts).view + 1) core below
-      (subst (IsSettledCore k.view) (ap (the core) same) (at.is.settled k.view refl at.settled))
+      stable_further k.view parts.fresh (length (divided k id parts).view + 1) core below
+      (subst (IsStableCore k.view) (ap (the core) same) (at.is.stable k.view refl at.stable))
 
-  pub cut-settled : (old new : Rounds) → AreSettledMarks k.view k.cores old
+  pub cut-stable : (old new : Rounds) → AreStableMarks k.view k.cores old
       → ((place : ℕ) → IsMarked new place → IsMarked old place ⊎ (place ≡ length k.cores + length cut.front))
-      → AreSettledMarks (divided k id parts).view (divided k id parts).cores new
-  cut-settled old new before marked =
-      settled-more (divided k id parts).view (divided k id parts).cores old new (length k.cores + length cut.front) marked
-      (settled-divided k id parts old is before)
+      → AreStableMarks (divided k id parts).view (divided k id parts).cores new
+  cut-stable old new before marked =
+      stable-more (divided k id parts).view (divided k id parts).cores old new (length k.cores + length cut.front) marked
+      (stable-divided k id parts old is before)
       (omega (
         arith,
         length-append (without k.cores id) (map Some parts.cores),
@@ -129,4 +129,4 @@ module _ (k : Kernel) (is : IsKernel k) (id : ℕ) (cut : Cut) (at : IsCutAt k i
         length-append (map Some cut.front) (Some (rest_of cut at.core) ∷ map Some cut.back),
         length-map {B = Option Core} cut.front Some,
       ))
-      rest-settled
+      rest-stable

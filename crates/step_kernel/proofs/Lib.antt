@@ -15,5 +15,5 @@ pub mod Outcomes
 pub mod LeastCompound
 pub mod CnfLaws
 mod Rounds
-mod SettledLaws
+mod StableLaws
 pub mod CutSplits

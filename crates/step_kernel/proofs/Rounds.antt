@@ -3,7 +3,7 @@ use Rattle.std.proofs.Common.{◌≡◌, ◌≢◌, ◌⊎◌, inl, inr, ℕ, �
 use Rattle.std.proofs.lemmas.Bool.{cases_lt}
 use Rattle.std.proofs.lemmas.Bool.Decides.{eqb_tells}
 use Rattle.std.proofs.lemmas.List.{get_or_past, get_or-set_same, get_or-set_other}
-use Rattle.step_kernel.specs.SettledMarks.{AreRounds}
+use Rattle.step_kernel.specs.StableMarks.{AreRounds}
 
 -- rounds with no others behind them than 0 are the same rounds
 pub grown : (old new : List ℕ) (n i : ℕ) → length old ≤ n → length new ≡ n

@@ -1,5 +1,6 @@
 -- What contracts see of the state of a compilation.
-use Rattle.std.specs.Prelude.{ℕ, ◌+◌, ◌-◌, ◌^◌, ◌≤◌, ◌==◌, Bool, false, List, [], ◌∷◌, map, length, slice_index_or, Option, None, Some, option_map, if◌then◌else◌}
+use Rattle.std.specs.Prelude.{ℕ, ◌+◌, ◌-◌, ◌^◌, ◌≤◌, ◌==◌, Bool, false, List, [], ◌∷◌}
+use Rattle.std.specs.Prelude.{map, length, slice_index_or, Option, None, Some, option_map, if◌then◌else◌}
 use Rattle.order_ints.specs.declared.atom.Atom.{Atom}
 use Rattle.order_ints.specs.Place.{AtomClausesBelow}
 use Rattle.order_ints.specs.Label.{IsLabelled, own_labels}
@@ -8,8 +9,9 @@ use Rattle.core_forms.specs.Trimmed.{trimmed_core}
 use Rattle.core_forms.specs.Cores.{CoresBelow, AreWellFormed, costs_of}
 use Rattle.direct_encode.specs.Literals.{literals}
 
--- The state: for each variable its label, which together are the store; for each id, from 1 on, its core as it was made,
--- or nothing where that is no longer pending; the clauses; and bottom, which is set where a contradiction was found.
+-- The state: for each variable its label, which together are the store; for each id, from 1 on, its core as it was
+-- made, or nothing where that is no longer pending; the clauses; and bottom, which is set where a contradiction was
+-- found.
 pub record Kernel : Type 0 where
   pub view : List Atom
   pub cores : List (Option Core)
@@ -34,8 +36,8 @@ pending (Some core ∷ cores) = core ∷ pending cores
 abbrev pub trimmed_costs : List Atom → List Core → ℕ
 trimmed_costs view cores = costs_of (map (trimmed_core view) cores)
 
--- variables, costs of the pending cores as the store has them, and literals of the clauses, counted together: what no step
--- raises
+-- variables, costs of the pending cores as the store has them, and literals of the clauses, counted together: what no
+-- step raises
 abbrev pub potential : Kernel → ℕ
 potential k = length k.view + trimmed_costs k.view (pending k.cores) + literals k.clauses
 
@@ -43,8 +45,8 @@ potential k = length k.view + trimmed_costs k.view (pending k.cores) + literals 
 abbrev pub most_potential : ℕ
 most_potential = 2 ^ 26
 
--- labels label themselves; the pending cores are well formed; they and the clauses are over the variables; and the state is
--- not too large
+-- labels label themselves; the pending cores are well formed; they and the clauses are over the variables; and the
+-- state is not too large
 pub record IsKernel (k : Kernel) : Type 0 where
   pub labelled : IsLabelled k.view
   pub formed : AreWellFormed (pending k.cores)

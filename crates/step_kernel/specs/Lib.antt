@@ -5,6 +5,6 @@ pub mod Steps
 pub mod CnfOf
 pub mod Least
 pub mod Pieces
-pub mod SettledMarks
+pub mod StableMarks
 pub mod Cursor
 pub mod SplitAt

@@ -1,5 +1,6 @@
 -- The steps of a compilation.
-use Rattle.std.specs.Prelude.{◌≡◌, ℕ, ◌+◌, ◌-◌, true, List, [], ◌∷◌, ◌++◌, map, length, slice_set, Option, None, Some, if◌then◌else◌}
+use Rattle.std.specs.Prelude.{◌≡◌, ℕ, ◌+◌, ◌-◌, true, List, [], ◌∷◌, ◌++◌, map, length}
+use Rattle.std.specs.Prelude.{slice_set, Option, None, Some, if◌then◌else◌}
 use Rattle.std.specs.declared.result.Result.{Result}
 use Rattle.std.specs.declared.result.Result.TheVariants.{Ok, Err}
 use Rattle.order_ints.specs.Truth.{not_atom}
@@ -16,7 +17,8 @@ use Rattle.ledger_text.specs.declared.line.Line.TheVariants.{Equate, Split, Enco
 use Rattle.step_kernel.specs.declared.fault.StepFault.{StepFault}
 use Rattle.step_kernel.specs.declared.fault.ApplyFault.{ApplyFault}
 use Rattle.step_kernel.specs.declared.fault.ApplyFault.TheVariants.{Step, Memory}
-use Rattle.step_kernel.specs.declared.fault.StepFault.TheVariants.{AfterBottom, NoSuch, NotInstance, NotCompound, NotBasic}
+use Rattle.step_kernel.specs.declared.fault.StepFault.TheVariants.{AfterBottom, NoSuch, NotInstance, NotCompound}
+use Rattle.step_kernel.specs.declared.fault.StepFault.TheVariants.{NotBasic}
 use Rattle.step_kernel.specs.Kernel.{Kernel, trimmed_at}
 use Rattle.core_rules.specs.Instances.{is_instance_at}
 use Rattle.core_parts.specs.Parts.{parts_at, is_compound_of}
@@ -39,11 +41,15 @@ without cores id = slice_set cores (id - 1) None
 
 -- an equation: where its atoms are opposite, bottom is set; else the two become one in the store
 abbrev pub equated : Kernel → Equation → Kernel
-equated k e = if same_atom e.a (not_atom e.b) then record k { bottom = true } else record k { view = merged k.view e.a e.b }
+equated k e = if same_atom e.a (not_atom e.b) then record k { bottom = true }
+    else record k { view = merged k.view e.a e.b }
 
 -- a core is split: the parts take the next ids in order, and each fresh variable is its own label
 abbrev pub divided : Kernel → ℕ → Parts → Kernel
-divided k id parts = record k { view = with_own_labels k.view parts.fresh; cores = without k.cores id ++ map Some parts.cores }
+divided k id parts = record k {
+  view = with_own_labels k.view parts.fresh;
+  cores = without k.cores id ++ map Some parts.cores;
+}
 
 -- a core is encoded: its clauses come behind those that are there
 abbrev pub encoded : Kernel → ℕ → Core → Kernel
@@ -64,8 +70,8 @@ step_at k line None = Err (NoSuch (id_of line))
 step_at k line (Some core) = unless_fault (fault_at line core) (after k line core)
 
 -- One step: the state after a line, or what stands against it. At bottom there is no step; else the line's core must be
--- pending; an equation must be an instance at it as the store has it, a core that is split compound, and one that is encoded
--- basic.
+-- pending; an equation must be an instance at it as the store has it, a core that is split compound, and one that is
+-- encoded basic.
 abbrev pub step : Kernel → Line → Result Kernel StepFault
 step k line = if k.bottom then Err AfterBottom else step_at k line (trimmed_at k (id_of line))
 

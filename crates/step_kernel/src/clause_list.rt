@@ -1,6 +1,7 @@
 //! Clauses in one flat list of atoms.
 
-ghost use Rattle.std.specs.Prelude.{◌≡◌, ◌+◌, ◌++◌, ◌^◌, ◌<◌, ◌≤◌, [], length, filter_map, vec_len, vec_capacity, OnOk, OnErr};
+ghost use Rattle.std.specs.Prelude.{◌≡◌, ◌+◌, ◌++◌, ◌^◌, ◌<◌, ◌≤◌, [], length, filter_map};
+ghost use Rattle.std.specs.Prelude.{vec_len, vec_capacity, OnOk, OnErr};
 ghost use Rattle.order_ints.specs.OrderedClauses.{ordered_clause};
 ghost use Rattle.direct_encode.specs.Literals.{literals};
 ghost use Rattle.step_kernel.specs.Pieces.{pieces, all_lengths};

@@ -1,6 +1,7 @@
 //! Where the first pending core stands.
 
-ghost use Rattle.std.specs.Prelude.{◌≡◌, ◌-◌, ◌≤◌, length, slice_index_or, slice_set, vec_len, vec_capacity, None, Some};
+ghost use Rattle.std.specs.Prelude.{◌≡◌, ◌-◌, ◌≤◌, length, slice_index_or, slice_set, vec_len};
+ghost use Rattle.std.specs.Prelude.{vec_capacity, None, Some};
 ghost use Rattle.step_kernel.specs.Cursor.{gone_first};
 ghost use Rattle.step_kernel.specs.Steps.{without};
 

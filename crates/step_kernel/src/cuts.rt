@@ -1,13 +1,15 @@
 //! Splits of cores that are long lists, at their front.
 
-ghost use Rattle.std.specs.Prelude.{◌≡◌, ◌+◌, ◌^◌, ◌<◌, ◌≤◌, ◌++◌, ◌∷◌, true, false, length, slice_index_or, slice_set, vec_len, vec_capacity, None, Some, Ok, IfOk, IfErr, IfSome, OnOk, OnErr, IsTrue};
+ghost use Rattle.std.specs.Prelude.{◌≡◌, ◌+◌, ◌^◌, ◌<◌, ◌≤◌, ◌++◌, ◌∷◌, true, false};
+ghost use Rattle.std.specs.Prelude.{length, slice_index_or, slice_set, vec_len, vec_capacity, None, Some, Ok, IfOk};
+ghost use Rattle.std.specs.Prelude.{IfErr, IfSome, OnOk, OnErr, IsTrue};
 ghost use Rattle.order_ints.specs.Label.{with_own_labels};
-ghost use Rattle.core_forms.specs.Settled.{IsSettledCore};
+ghost use Rattle.core_forms.specs.Stable.{IsStableCore};
 ghost use Rattle.part_base.specs.Cuts.{CanCome, longer_of};
 ghost use Rattle.core_parts.specs.Parts.{is_compound_of};
 ghost use Rattle.ledger_text.specs.declared.line.Line.TheVariants.{Split};
 ghost use Rattle.step_kernel.specs.Kernel.{core_at, IsKernel};
-ghost use Rattle.step_kernel.specs.SplitAt.{IsSettledAt, IsCutAt};
+ghost use Rattle.step_kernel.specs.SplitAt.{IsStableAt, IsCutAt};
 ghost use Rattle.step_kernel.specs.Steps.{step};
 
 use crate::cursor::{put_core, take_core, take_out};
@@ -19,7 +21,8 @@ use equation_store::EqStore;
 use part_base::{Coming, Cut, drop_before, put_behind, take_behind};
 use std::alloc::{AllocError, Global};
 
-/// A list with what comes behind it, and a store with that many variables more. For want of memory both are as they were.
+/// A list with what comes behind it, and a store with that many variables more. For want of memory both are as they
+/// were.
 fn lengthen(core: Core, coming: Coming, store: &mut EqStore, fresh: u32) -> Result<Core, Core>
     requires comes { CanCome coming core }
     requires room { length store.old.view + fresh ≤ 2 ^ 27 }
@@ -59,10 +62,10 @@ fn put_parts(
 }
 
 impl State {
-    /// How a compound core that is settled is cut.
+    /// How a compound core that is stable is cut.
     fn cut_core(&self, id: u64, core: &Core) -> Result<Option<Cut>, AllocError>
         requires there { core_at self.now.cores id ≡ Some core.now }
-        requires settled { IsSettledCore self.now.view core.now }
+        requires stable { IsStableCore self.now.view core.now }
         requires compound { is_compound_of core.now ≡ true }
         ensures { IfOk result (λ made. IfSome made (λ cut. IsCutAt self.now id cut)) }
     {
@@ -70,10 +73,10 @@ impl State {
         cut(alloc, core, self.vars() + 1)
     }
 
-    /// How a pending core that is settled is split at its front, where it is a long list. It takes the time and the memory of what
-    /// leaves and comes.
+    /// How a pending core that is stable is split at its front, where it is a long list. It takes the time and the
+    /// memory of what leaves and comes.
     pub fn cut_of(&self, id: u64) -> Result<Option<Cut>, AllocError>
-        requires { IsSettledAt self.now id }
+        requires { IsStableAt self.now id }
         ensures { IfOk result (λ made. IfSome made (λ cut. IsCutAt self.now id cut)) }
     {
         match self.core(id) {
@@ -88,8 +91,8 @@ impl State {
         }
     }
 
-    /// Makes the step of a split of a core that is cut at its front: what is left of its list is made of the core itself. Where memory
-    /// is wanting, the state stays as it was. It takes the time of what leaves and comes.
+    /// Makes the step of a split of a core that is cut at its front: what is left of its list is made of the core
+    /// itself. Where memory is wanting, the state stays as it was. It takes the time of what leaves and comes.
     pub fn split_cut(&mut self, id: u64, cut: Cut) -> Result<(), AllocError>
         requires kernel { IsKernel self.old }
         requires running { self.old.bottom ≡ false }
@@ -109,7 +112,7 @@ impl State {
         let back = all_pending(alloc, back.into_vec())?;
         let more = front.len() + 1 + back.len();
         self.cores.reserve(more)?;
-        self.settled.grow(more)?;
+        self.stable.grow(more)?;
         let Some(core) = take_core(&mut self.cores, id) else {
             return Err(AllocError);
         };
@@ -119,7 +122,7 @@ impl State {
                 let there = self.cores.len() + front.len();
                 put_parts(&mut self.cores, front, rest, back);
                 self.first = take_out(&mut self.cores, id, self.first);
-                self.settled.mark(there);
+                self.stable.mark(there);
                 Ok(())
             }
             Err(core) => {
@@ -129,7 +132,8 @@ impl State {
         }
     }
 
-    /// Makes the step of a split at the front, where the pending core is settled and a long list, and tells whether it did so.
+    /// Makes the step of a split at the front, where the pending core is stable and a long list, and tells whether it
+    /// did so.
     pub(crate) fn try_cut(&mut self, id: u64) -> Result<bool, AllocError>
         requires kernel { IsKernel self.old }
         requires running { self.old.bottom ≡ false }
@@ -137,7 +141,7 @@ impl State {
         ensures undone { IfOk result (λ done. done ≡ false → self.new ≡ self.old) }
         ensures stays { OnErr result (self.new ≡ self.old) }
     {
-        if !self.settle(id) {
+        if !self.mark_stable(id) {
             return Ok(false);
         }
         match self.cut_of(id)? {

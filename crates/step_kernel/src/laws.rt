@@ -23,7 +23,8 @@ pub fn step_law()
 
 /// So does a ledger that is replayed.
 pub fn replay_law()
-    ensures kernel { (k new : Kernel) (lines : List Line) → IsKernel k → replay k lines ≡ Ok new → IsKernel new }
+    ensures kernel { (k new : Kernel) (lines : List Line) → IsKernel k → replay k lines ≡ Ok new
+        → IsKernel new }
     ensures models { (k new : Kernel) (lines : List Line) → IsKernel k → replay k lines ≡ Ok new → Keeps k new }
     ensures later { (k new : Kernel) (lines : List Line) → IsKernel k → replay k lines ≡ Ok new
         → (length k.view ≤ length new.view) × IsLater k.view new.view }

@@ -17,7 +17,7 @@
 //! model, once no core is pending (`models`). Laws: `step_law`, `replay_law`, `start_law`: nothing
 //! that a step makes passes the bound on variables, costs and literals that held at the start.
 //!
-//! `SettledMarks` says which cores are known to stand as the store has them; a mark only saves a
+//! `StableMarks` says which cores are known to stand as the store has them; a mark only saves a
 //! walk and changes no answer, so a wrong body there may still prove. "Steps" of `docs/CORES.md`
 //! says the same in words.
 #![tactic(auto)]
@@ -29,7 +29,7 @@ mod cuts;
 mod fault;
 pub mod laws;
 mod lists;
-mod settled_marks;
+mod stable_marks;
 mod state;
 mod steps;
 

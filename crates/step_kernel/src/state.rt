@@ -1,13 +1,14 @@
 //! The state of a compilation.
 
-ghost use Rattle.std.specs.Prelude.{◌≡◌, ◌+◌, ◌^◌, ◌<◌, ◌≤◌, false, [], map, length, Some, Ok, Err, IfOk, IfSome, OnOk, OnErr, MatchResult, IsTrue, option_copied};
+ghost use Rattle.std.specs.Prelude.{◌≡◌, ◌+◌, ◌^◌, ◌<◌, ◌≤◌, false, [], map, length, Some, Ok};
+ghost use Rattle.std.specs.Prelude.{Err, IfOk, IfSome, OnOk, OnErr, MatchResult, IsTrue, option_copied};
 ghost use Rattle.order_ints.specs.declared.cnf.Cnf.{Cnf};
 ghost use Rattle.order_ints.specs.Label.{own_labels};
 ghost use Rattle.order_ints.specs.Place.{InRange};
 ghost use Rattle.core_forms.specs.Cores.{CoresBelow, AreWellFormed, costs_of};
 ghost use Rattle.step_kernel.specs.declared.fault.ApplyFault.TheVariants.{Step, Memory};
 ghost use Rattle.step_kernel.specs.Kernel.{core_at, trimmed_at, started, most_potential, IsKernel};
-ghost use Rattle.step_kernel.specs.SplitAt.{IsSettledAt};
+ghost use Rattle.step_kernel.specs.SplitAt.{IsStableAt};
 ghost use Rattle.step_kernel.specs.Models.{Keeps};
 ghost use Rattle.step_kernel.specs.Steps.{step};
 ghost use Rattle.step_kernel.specs.CnfOf.{cnf_of};
@@ -16,10 +17,10 @@ ghost use Rattle.step_kernel.specs.Least.{least_of, least_compound_of};
 use crate::clause_list::ClauseList;
 use crate::fault::{ApplyFault, StepFault};
 use crate::lists::all_pending;
-use crate::settled_marks::SettledMarks;
+use crate::stable_marks::StableMarks;
 use bee_list::Sequence;
 use clause_order::OrderedClauses;
-use core_forms::{Core, Equation, is_basic, is_settled, trim};
+use core_forms::{Core, Equation, is_basic, is_stable, trim};
 use core_parts::{is_compound, parts};
 use core_rules::is_instance;
 use equation_store::{EqStore, Merged};
@@ -38,7 +39,7 @@ pub struct State {
     pub(crate) clauses: ClauseList,
     pub(crate) bottom: bool,
     pub(crate) first: usize,
-    pub(crate) settled: SettledMarks,
+    pub(crate) stable: StableMarks,
 }
 
 impl Model for State {
@@ -49,7 +50,7 @@ impl Model for State {
 
     ghost view = { λ s. kernel_of s.store s.cores.items s.clauses s.bottom };
 
-    ghost invariant = { λ s. IsState (kernel_of s.store s.cores.items s.clauses s.bottom) s.first s.settled };
+    ghost invariant = { λ s. IsState (kernel_of s.store s.cores.items s.clauses s.bottom) s.first s.stable };
 }
 
 impl State {
@@ -104,22 +105,22 @@ impl State {
         self.cores[id as usize - 1].as_ref()
     }
 
-    /// Whether there is a pending core at a place that is seen to be settled.
-    fn is_settled_at(&self, place: usize) -> bool
+    /// Whether there is a pending core at a place that is seen to be stable.
+    fn is_stable_at(&self, place: usize) -> bool
         requires { place < length self.now.cores }
-        ensures { IsTrue result → IsSettledAt self.now (place + 1) }
+        ensures { IsTrue result → IsStableAt self.now (place + 1) }
     {
         match &self.cores[place] {
-            Some(core) => self.settled.is_marked(place) || is_settled(core, self.store.view()),
+            Some(core) => self.stable.is_marked(place) || is_stable(core, self.store.view()),
             None => false,
         }
     }
 
-    /// Whether the pending core with an id is seen to be settled, so that nothing is to be trimmed and its order tells nothing.
-    /// It takes one pass over the core, and constant time where that was seen before and no equation has been made since, or where
-    /// the core is what is left of such a one that was split at its front.
-    pub fn settle(&mut self, id: u64) -> bool
-        ensures settled { IsTrue result → IsSettledAt self.old id }
+    /// Whether the pending core with an id is seen to be stable, so that nothing is to be trimmed and its order tells
+    /// nothing. It takes one pass over the core, and constant time where that was seen before and no equation has been
+    /// made since, or where the core is what is left of such a one that was split at its front.
+    pub fn mark_stable(&mut self, id: u64) -> bool
+        ensures stable { IsTrue result → IsStableAt self.old id }
         ensures stays { self.new ≡ self.old }
         ensures kernel { IsKernel self.old }
     {
@@ -127,9 +128,9 @@ impl State {
             return false;
         }
         let place = id as usize - 1;
-        let is = self.is_settled_at(place);
+        let is = self.is_stable_at(place);
         if is {
-            self.settled.mark(place);
+            self.stable.mark(place);
         }
         is
     }
@@ -156,15 +157,15 @@ impl State {
     {
         let store = EqStore::with(alloc, vars)?;
         let cores = all_pending(alloc, cores)?;
-        let mut settled = SettledMarks::new(alloc);
-        settled.grow(cores.len())?;
+        let mut stable = StableMarks::new(alloc);
+        stable.grow(cores.len())?;
         Ok(State {
             store,
             cores,
             clauses: ClauseList::new(alloc),
             bottom: false,
             first: 0,
-            settled,
+            stable,
         })
     }
 

@@ -1,6 +1,7 @@
 //! The three kinds of step.
 
-ghost use Rattle.std.specs.Prelude.{◌≡◌, ◌+◌, ◌^◌, ◌≤◌, true, length, Some, false, Ok, IfOk, OnOk, OnErr, IfErr};
+ghost use Rattle.std.specs.Prelude.{◌≡◌, ◌+◌, ◌^◌, ◌≤◌, true, length, Some, false, Ok, IfOk, OnOk};
+ghost use Rattle.std.specs.Prelude.{OnErr, IfErr};
 ghost use Rattle.order_ints.specs.Label.{IsLabel};
 ghost use Rattle.core_forms.specs.Basic.{is_basic_of};
 ghost use Rattle.core_forms.specs.Cost.{cost_of};
@@ -47,7 +48,7 @@ impl State {
         if let Merged::Clash = self.store.merge(e.a, e.b) {
             self.bottom = true;
         }
-        self.settled.clear();
+        self.stable.clear();
     }
 
     /// Takes a core, which stands here as the store has it, out of the pending ones and puts its clauses
@@ -78,7 +79,7 @@ impl State {
         let Parts { cores, fresh } = parts;
         let mut cores = all_pending(alloc, cores.into_vec())?;
         self.cores.reserve(cores.len())?;
-        self.settled.grow(cores.len())?;
+        self.stable.grow(cores.len())?;
         self.store.grow(fresh)?;
         self.cores.append(&mut cores).unwrap();
         self.first = take_out(&mut self.cores, id, self.first);
@@ -192,7 +193,7 @@ impl State {
         }
     }
 
-    /// The step of a split, at the front where the core is settled and a long list.
+    /// The step of a split, at the front where the core is stable and a long list.
     fn make_split(&mut self, id: u64) -> Result<(), ApplyFault>
         requires kernel { IsKernel self.old }
         requires running { self.old.bottom ≡ false }
@@ -223,9 +224,9 @@ impl State {
         }
     }
 
-    /// Makes the step of a line. The line's core is trimmed once; a long list that is settled is split at its front without that. An equation costs the size of its core and
-    /// a walk of the class that loses, a split its parts, an encoding its clauses. Where the line is no step,
-    /// or memory is wanting, the state stays as it was.
+    /// Makes the step of a line. The line's core is trimmed once; a long list that is stable is split at its front
+    /// without that. An equation costs the size of its core and a walk of the class that loses, a split its parts, an
+    /// encoding its clauses. Where the line is no step, or memory is wanting, the state stays as it was.
     pub fn apply(&mut self, line: &Line) -> Result<(), ApplyFault>
         ensures step { OnOk result (step self.old line.now ≡ Ok self.new) }
         ensures fault { IfErr result (IsFaultOf (step self.old line.now)) }

@@ -1,5 +1,6 @@
 -- The equations that a core of at most eight variables implies.
-use Rattle.std.specs.Prelude.{◌≡◌, ℕ, ◌^◌, ◌≤◌, nat_eq, nat_le, Bool, true, false, not, ◌&&◌, ◌||◌, List, [], ◌∷◌, length, Option, None, Some, if◌then◌else◌}
+use Rattle.std.specs.Prelude.{◌≡◌, ℕ, ◌^◌, ◌≤◌, nat_eq, nat_le, Bool, true, false, not, ◌&&◌}
+use Rattle.std.specs.Prelude.{◌||◌, List, [], ◌∷◌, length, Option, None, Some, if◌then◌else◌}
 use Rattle.order_ints.specs.declared.atom.Atom.{Atom}
 use Rattle.order_ints.specs.declared.atom.Atom.TheVariants.{True, False, Of}
 use Rattle.order_ints.specs.Same.{same_atom}
@@ -47,7 +48,8 @@ are_equal_over core vars a b =
 
 abbrev pub is_instance_of : Core → Equation → Bool
 is_instance_of core e =
-    (is_table e.rule && not (same_atom e.a e.b)) && (nat_le (length (own_vars core)) 8 && are_equal_over core (own_vars core) e.a e.b)
+    (is_table e.rule && not (same_atom e.a e.b))
+    && (nat_le (length (own_vars core)) 8 && are_equal_over core (own_vars core) e.a e.b)
 
 -- the first of listed pairs, as an equation
 abbrev pub first_equation : List (Atom × Atom) → Option Equation

@@ -7,7 +7,8 @@ use Rattle.order_ints.specs.declared.atom.Atom.TheVariants.{True, False, Of}
 abbrev pub pairs_with : Atom → List ℕ → List (Atom × Atom)
 pairs_with a [] = []
 pairs_with a (v ∷ vars) =
-    (a, Of (record { var = v; positive = true })) ∷ (a, Of (record { var = v; positive = false })) ∷ pairs_with a vars
+    (a, Of (record { var = v; positive = true })) ∷ (a, Of (record { var = v; positive = false }))
+    ∷ pairs_with a vars
 
 -- each listed variable with each literal over a later one
 abbrev pub pairs_among : List ℕ → List (Atom × Atom)

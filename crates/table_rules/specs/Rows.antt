@@ -1,5 +1,6 @@
 -- The rows of a core's truth table, and what they leave of equations.
-use Rattle.std.specs.Prelude.{ℕ, zero, suc, ◌/◌, ◌%◌, nat_eq, Bool, true, not, ◌&&◌, ◌||◌, List, [], ◌∷◌, length, if◌then◌else◌}
+use Rattle.std.specs.Prelude.{ℕ, zero, suc, ◌/◌, ◌%◌, nat_eq, Bool, true, not, ◌&&◌, ◌||◌, List, []}
+use Rattle.std.specs.Prelude.{◌∷◌, length, if◌then◌else◌}
 use Rattle.std.specs.Bool.{beq}
 use Rattle.std.specs.List.{filter}
 use Rattle.order_ints.specs.declared.atom.Atom.{Atom}
@@ -24,7 +25,8 @@ are_equal_in σ p = beq (atom_truth σ p.0) (atom_truth σ p.1)
 abbrev pub are_equal_below : Core → List ℕ → Atom × Atom → ℕ → Bool
 are_equal_below core vars p zero = true
 are_equal_below core vars p (suc number) =
-    are_equal_below core vars p number && (not (core_truth (valuation_in vars number) core) || are_equal_in (valuation_in vars number) p)
+    are_equal_below core vars p number
+    && (not (core_truth (valuation_in vars number) core) || are_equal_in (valuation_in vars number) p)
 
 -- what these rows leave of listed pairs, row by row
 abbrev pub left_below : Core → List ℕ → List (Atom × Atom) → ℕ → List (Atom × Atom)

@@ -1,10 +1,12 @@
 //! Finding an equation that a core of at most eight variables implies, and testing one.
 
-ghost use Rattle.std.specs.Prelude.{◌≡◌, ◌+◌, ◌↔◌, ◌≤◌, true, false, length, IfOk, IsNone, IfSome};
+ghost use Rattle.std.specs.Prelude.{◌≡◌, ◌+◌, ◌↔◌, ◌≤◌, true, false, length, IfOk, IsNone};
+ghost use Rattle.std.specs.Prelude.{IfSome};
 ghost use Rattle.core_forms.specs.declared.equation.Equation.{Equation};
 ghost use Rattle.core_forms.specs.WellFormed.{IsWellFormed};
 ghost use Rattle.rule_base.specs.Found.{IsImplied};
-ghost use Rattle.table_rules.specs.Instances.{has_var, is_over, are_equal_over, first_equation, found_over, found_at, is_instance_of};
+ghost use Rattle.table_rules.specs.Instances.{has_var, is_over, are_equal_over, first_equation, found_over, found_at};
+ghost use Rattle.table_rules.specs.Instances.{is_instance_of};
 
 use crate::pairs::pairs_over;
 use crate::rows::{are_equal, keep_implied};

@@ -1,5 +1,6 @@
 -- The first fault of a list of items.
-use Rattle.std.specs.Prelude.{ℕ, ◌==◌, ℤ, pos, int_lt, Bool, true, false, not, ◌&&◌, ◌||◌, List, [], ◌∷◌, length, slice_get, Option, Some, None, is_some, if◌then◌else◌}
+use Rattle.std.specs.Prelude.{ℕ, ◌==◌, ℤ, pos, int_lt, Bool, true, false, not, ◌&&◌, ◌||◌, List, []}
+use Rattle.std.specs.Prelude.{◌∷◌, length, slice_get, Option, Some, None, is_some, if◌then◌else◌}
 use Rattle.bumblebee_reader.specs.declared.syntax.Term.{Term}
 use Rattle.bumblebee_reader.specs.declared.syntax.Term.TheVariants as term
 use Rattle.bumblebee_reader.specs.declared.syntax.Arg.{Arg}
@@ -16,11 +17,13 @@ use Rattle.model_meaning.specs.declared.statement.Statement.{Statement}
 use Rattle.model_meaning.specs.declared.statement.Statement.TheVariants as statement
 use Rattle.model_meaning.specs.declared.model.Decl.{Decl}
 use Rattle.typed_model.specs.declared.fault.TypeFault.{TypeFault}
-use Rattle.typed_model.specs.declared.fault.TypeFault.TheVariants.{NoGoal, Unknown, Undeclared, Kind, Twice, Lengths, EmptyDomain, DivDomain}
+use Rattle.typed_model.specs.declared.fault.TypeFault.TheVariants.{NoGoal, Unknown, Undeclared, Kind, Twice, Lengths}
+use Rattle.typed_model.specs.declared.fault.TypeFault.TheVariants.{EmptyDomain, DivDomain}
 use Rattle.model_meaning.specs.Names.{statement_of}
 use Rattle.model_meaning.specs.Signatures.{signature}
 use Rattle.model_meaning.specs.Places.{place_of, low_of, is_constant}
-use Rattle.typed_model.specs.Scope.{kind_of, is_bool, is_int, is_unknown, numeral, term_unknown, terms_unknown, is_truth, is_number, is_numeral, all_truths, all_numbers, all_numerals}
+use Rattle.typed_model.specs.Scope.{kind_of, is_bool, is_int, is_unknown, numeral, term_unknown, terms_unknown}
+use Rattle.typed_model.specs.Scope.{is_truth, is_number, is_numeral, all_truths, all_numbers, all_numerals}
 
 -- Undeclared: a name in the arguments isn't declared.
 
@@ -40,8 +43,8 @@ has_undeclared ds ws [] = false
 has_undeclared ds [] (a ∷ rest) = arg_unknown ds a || has_undeclared ds [] rest
 has_undeclared ds (w ∷ ws) (a ∷ rest) = (not (declares w a) && arg_unknown ds a) || has_undeclared ds ws rest
 
--- what a call's arguments are to be: those of its statement's signature, but that a list of numerals may stand in place of
--- the two numerals of `new_int`
+-- what a call's arguments are to be: those of its statement's signature, but that a list of numerals may stand in place
+-- of the two numerals of `new_int`
 abbrev pub wanted_of : Statement → Option Arg → List Wanted
 wanted_of statement.NewInt (Some (arg.Many ts)) = wanted.NewName ∷ wanted.Numerals ∷ []
 wanted_of s a = signature s
@@ -102,7 +105,8 @@ is_empty (Some (arg.Many xs)) = length xs == 0
 is_empty a = false
 
 abbrev pub has_wrong_lengths : Statement → List Arg → Bool
-has_wrong_lengths s args = lists_differ (slice_get args 0) (slice_get args 1) || (wants_member s && is_empty (slice_get args 0))
+has_wrong_lengths s args = lists_differ (slice_get args 0) (slice_get args 1)
+    || (wants_member s && is_empty (slice_get args 0))
 
 -- EmptyDomain: the least value of a new integer is above its greatest, or none is listed.
 
@@ -133,7 +137,8 @@ least_in ds (Some (arg.One (term.Plain name))) = low_of (kind_of name ds)
 least_in ds a = numeral_in a
 
 abbrev pub division_domain : List Decl → Statement → List Arg → Bool
-division_domain ds s args = divides s && (int_lt (least_in ds (slice_get args 0)) (pos 0) || int_lt (least_in ds (slice_get args 1)) (pos 1))
+division_domain ds s args = divides s
+    && (int_lt (least_in ds (slice_get args 0)) (pos 0) || int_lt (least_in ds (slice_get args 1)) (pos 1))
 
 -- The faults of one item, in their order.
 

@@ -1,5 +1,6 @@
 -- The model of a list of items.
-use Rattle.std.specs.Prelude.{◌≡◌, ◌⊎◌, ℕ, ◌+◌, ℤ, pos, false, List, [], ◌∷◌, ◌++◌, map, slice_get, Option, Some, None, is_some, if◌then◌else◌}
+use Rattle.std.specs.Prelude.{◌≡◌, ◌⊎◌, ℕ, ◌+◌, ℤ, pos, false, List, [], ◌∷◌, ◌++◌, map}
+use Rattle.std.specs.Prelude.{slice_get, Option, Some, None, is_some, if◌then◌else◌}
 use Rattle.std.specs.Option.{unwrap_or}
 use Rattle.bumblebee_reader.specs.declared.syntax.Term.{Term}
 use Rattle.bumblebee_reader.specs.declared.syntax.Term.TheVariants as term
@@ -84,7 +85,8 @@ name_in a = None
 
 -- the declaration of a name that isn't declared yet
 abbrev pub declare_name : ℕ → List Decl → List ℕ → Kind → List Decl
-declare_name n ds name k = if is_some (place_of name ds) then [] else record { number = n; name = name; kind = k } ∷ []
+declare_name n ds name k = if is_some (place_of name ds) then [] else record { number = n; name = name; kind = k }
+    ∷ []
 
 abbrev pub declare : ℕ → List Decl → Option (List ℕ) → Kind → List Decl
 declare n ds None k = []
@@ -97,7 +99,8 @@ domain_in a b = kind.Range (numeral_in a) (numeral_in b)
 
 unfoldable pub declare_by : ℕ → List Decl → Statement → List Arg → List Decl
 declare_by n ds statement.NewBool args = declare n ds (name_in (slice_get args 0)) kind.Bool
-declare_by n ds statement.NewInt args = declare n ds (name_in (slice_get args 0)) (domain_in (slice_get args 1) (slice_get args 2))
+declare_by n ds statement.NewInt args =
+    declare n ds (name_in (slice_get args 0)) (domain_in (slice_get args 1) (slice_get args 2))
 declare_by n ds statement.BoolToInt args = declare n ds (name_in (slice_get args 1)) (kind.Range (pos 0) (pos 1))
 declare_by n ds s args = []
 
@@ -112,9 +115,14 @@ declarations_of n ds (item.Goal k objective second) = []
 -- What an item states, among the declarations that there are after it.
 
 abbrev pub all_different_what : List Decl → List ℕ → AllDifferent → List Arg → What
-all_different_what ds name all_different.Plain args = IntAllDifferent name all_different.Plain (numbers_in ds (slice_get args 0)) None None
-all_different_what ds name all_different.Reified args = IntAllDifferent name all_different.Reified (numbers_in ds (slice_get args 0)) (Some (truth_in ds (slice_get args 1))) None
-all_different_what ds name all_different.Conditional args = IntAllDifferent name all_different.Conditional (numbers_in ds (slice_get args 0)) None (Some (truths_in ds (slice_get args 1)))
+all_different_what ds name all_different.Plain args =
+    IntAllDifferent name all_different.Plain (numbers_in ds (slice_get args 0)) None None
+all_different_what ds name all_different.Reified args =
+    IntAllDifferent name all_different.Reified (numbers_in ds (slice_get args 0))
+    (Some (truth_in ds (slice_get args 1))) None
+all_different_what ds name all_different.Conditional args =
+    IntAllDifferent name all_different.Conditional (numbers_in ds (slice_get args 0)) None
+    (Some (truths_in ds (slice_get args 1)))
 
 abbrev pub order_what : List Decl → List ℕ → Order → List Arg → What
 order_what ds name o args =
@@ -128,20 +136,37 @@ order_what ds name o args =
 unfoldable pub what_of : List Decl → List ℕ → Statement → List Arg → Option What
 what_of ds name statement.NewBool args = None
 what_of ds name statement.NewInt args = None
-what_of ds name statement.BoolToInt args = Some (BoolToInt (truth_in ds (slice_get args 0)) (number_in ds (slice_get args 1)))
+what_of ds name statement.BoolToInt args =
+    Some (BoolToInt (truth_in ds (slice_get args 0)) (number_in ds (slice_get args 1)))
 what_of ds name statement.BoolEq args = Some (BoolEq (truth_in ds (slice_get args 0)) (truth_in ds (slice_get args 1)))
-what_of ds name (statement.BoolOp op) args = Some (BoolOp name op (truth_in ds (slice_get args 0)) (truth_in ds (slice_get args 1)) (truth_in ds (slice_get args 2)))
+what_of ds name (statement.BoolOp op) args =
+    Some (BoolOp name op (truth_in ds (slice_get args 0)) (truth_in ds (slice_get args 1))
+    (truth_in ds (slice_get args 2)))
 what_of ds name (statement.BoolArray op) args = Some (BoolArray name op (truths_in ds (slice_get args 0)))
-what_of ds name (statement.BoolArrayReified op) args = Some (BoolArrayReified name op (truths_in ds (slice_get args 0)) (truth_in ds (slice_get args 1)))
-what_of ds name (statement.Compare rel) args = Some (Compare name rel (number_in ds (slice_get args 0)) (number_in ds (slice_get args 1)))
-what_of ds name (statement.CompareReified rel) args = Some (CompareReified name rel (number_in ds (slice_get args 0)) (number_in ds (slice_get args 1)) (truth_in ds (slice_get args 2)))
-what_of ds name (statement.BoolSum rel) args = Some (BoolSum name rel (truths_in ds (slice_get args 0)) (number_in ds (slice_get args 1)))
-what_of ds name (statement.BoolLinear rel) args = Some (BoolLinear name rel (numerals_in (slice_get args 0)) (truths_in ds (slice_get args 1)) (number_in ds (slice_get args 2)))
-what_of ds name (statement.IntSum rel) args = Some (IntSum name rel (numbers_in ds (slice_get args 0)) (number_in ds (slice_get args 1)))
-what_of ds name (statement.IntLinear rel) args = Some (IntLinear name rel (numerals_in (slice_get args 0)) (numbers_in ds (slice_get args 1)) (number_in ds (slice_get args 2)))
-what_of ds name (statement.IntOp o) args = Some (IntOp name o (number_in ds (slice_get args 0)) (number_in ds (slice_get args 1)) (number_in ds (slice_get args 2)))
-what_of ds name statement.Absolute args = Some (Absolute (number_in ds (slice_get args 0)) (number_in ds (slice_get args 1)))
-what_of ds name (statement.IntArray o) args = Some (IntArray name o (numbers_in ds (slice_get args 0)) (number_in ds (slice_get args 1)))
+what_of ds name (statement.BoolArrayReified op) args =
+    Some (BoolArrayReified name op (truths_in ds (slice_get args 0)) (truth_in ds (slice_get args 1)))
+what_of ds name (statement.Compare rel) args =
+    Some (Compare name rel (number_in ds (slice_get args 0)) (number_in ds (slice_get args 1)))
+what_of ds name (statement.CompareReified rel) args =
+    Some (CompareReified name rel (number_in ds (slice_get args 0)) (number_in ds (slice_get args 1))
+    (truth_in ds (slice_get args 2)))
+what_of ds name (statement.BoolSum rel) args =
+    Some (BoolSum name rel (truths_in ds (slice_get args 0)) (number_in ds (slice_get args 1)))
+what_of ds name (statement.BoolLinear rel) args =
+    Some (BoolLinear name rel (numerals_in (slice_get args 0)) (truths_in ds (slice_get args 1))
+    (number_in ds (slice_get args 2)))
+what_of ds name (statement.IntSum rel) args =
+    Some (IntSum name rel (numbers_in ds (slice_get args 0)) (number_in ds (slice_get args 1)))
+what_of ds name (statement.IntLinear rel) args =
+    Some (IntLinear name rel (numerals_in (slice_get args 0)) (numbers_in ds (slice_get args 1))
+    (number_in ds (slice_get args 2)))
+what_of ds name (statement.IntOp o) args =
+    Some (IntOp name o (number_in ds (slice_get args 0)) (number_in ds (slice_get args 1))
+    (number_in ds (slice_get args 2)))
+what_of ds name statement.Absolute args =
+    Some (Absolute (number_in ds (slice_get args 0)) (number_in ds (slice_get args 1)))
+what_of ds name (statement.IntArray o) args =
+    Some (IntArray name o (numbers_in ds (slice_get args 0)) (number_in ds (slice_get args 1)))
 what_of ds name (statement.IntAllDifferent d) args = Some (all_different_what ds name d args)
 what_of ds name (statement.Lexicographic o) args = Some (order_what ds name o args)
 
@@ -186,7 +211,8 @@ decls_from n ds (i ∷ items) = decls_from (n + 1) (ds ++ declarations_of n ds i
 
 unfoldable pub stmts_from : ℕ → List Decl → List Item → List Stmt
 stmts_from n ds [] = []
-stmts_from n ds (i ∷ items) = statements_of n (ds ++ declarations_of n ds i) i ++ stmts_from (n + 1) (ds ++ declarations_of n ds i) items
+stmts_from n ds (i ∷ items) = statements_of n (ds ++ declarations_of n ds i) i
+    ++ stmts_from (n + 1) (ds ++ declarations_of n ds i) items
 
 unfoldable pub goal_from : ℕ → List Decl → Option Goal → List Item → Option Goal
 goal_from n ds g [] = g
@@ -196,7 +222,9 @@ goal_from n ds g (i ∷ items) = goal_from (n + 1) (ds ++ declarations_of n ds i
 -- no item has one, that there is no goal
 unfoldable pub first_fault_from : ℕ → List Decl → Option Goal → List Item → Option TypeFault
 first_fault_from n ds g [] = if is_some g then None else Some (NoGoal n)
-first_fault_from n ds g (i ∷ items) = first_of (item_fault n (is_some g) ds i) (first_fault_from (n + 1) (ds ++ declarations_of n ds i) (goal_after g ds i) items)
+first_fault_from n ds g (i ∷ items) =
+    first_of (item_fault n (is_some g) ds i)
+    (first_fault_from (n + 1) (ds ++ declarations_of n ds i) (goal_after g ds i) items)
 
 -- the first fault of a list of items; they are numbered from 1
 abbrev pub first_fault : List Item → Option TypeFault

@@ -24,7 +24,8 @@ LimitLaw = (items : List Item) → ItemsInLimit items → terms_of items ≤ 167
 abbrev pub SizeLaw : Type 0
 SizeLaw =
     (items : List Item)
-    → (length (model_of items).decls ≤ length items) × (length (model_of items).stmts ≤ length items) × (members_of (model_of items).stmts ≤ terms_of items)
+    → (length (model_of items).decls ≤ length items) × (length (model_of items).stmts ≤ length items)
+    × (members_of (model_of items).stmts ≤ terms_of items)
 
 -- the items of a text have at most as many terms as it has bytes
 abbrev pub TextSizeLaw : Type 0

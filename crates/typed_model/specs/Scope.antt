@@ -1,5 +1,6 @@
 -- The names that are declared so far, and what terms mean among them.
-use Rattle.std.specs.Prelude.{ℕ, ℤ, pos, Bool, true, false, not, ◌&&◌, ◌||◌, List, [], ◌∷◌, slice_get, Option, Some, None, is_some, if◌then◌else◌}
+use Rattle.std.specs.Prelude.{ℕ, ℤ, pos, Bool, true, false, not, ◌&&◌, ◌||◌, List, [], ◌∷◌, slice_get}
+use Rattle.std.specs.Prelude.{Option, Some, None, is_some, if◌then◌else◌}
 use Rattle.std.specs.Option.{option_and_then, option_map, option_map_or}
 use Rattle.bumblebee_reader.specs.declared.syntax.Term.{Term}
 use Rattle.bumblebee_reader.specs.declared.syntax.Term.TheVariants as term
@@ -102,7 +103,8 @@ abbrev pub place_or_zero : List ℕ → List Decl → ℕ
 place_or_zero name ds = option_map_or (λ p. p) (place_of name ds) 0
 
 abbrev pub truth : List Decl → Term → BoolTerm
-truth ds (term.Plain name) = if is_constant name then bool_term.Const (is_true name) else bool_term.Of (place_or_zero name ds) true
+truth ds (term.Plain name) = if is_constant name then bool_term.Const (is_true name)
+    else bool_term.Of (place_or_zero name ds) true
 truth ds (term.Minus name) = bool_term.Of (place_or_zero name ds) false
 truth ds (term.Number n) = bool_term.Const false
 

@@ -20,7 +20,9 @@ pub record Taken : Type 0 where
 -- the fault of the first item that has one; that there is no goal is no item's fault
 unfoldable pub fault_from : ℕ → List Decl → Option Goal → List Item → Option TypeFault
 fault_from n ds g [] = None
-fault_from n ds g (i ∷ items) = first_of (item_fault n (is_some g) ds i) (fault_from (n + 1) (ds ++ declarations_of n ds i) (goal_after g ds i) items)
+fault_from n ds g (i ∷ items) =
+    first_of (item_fault n (is_some g) ds i)
+    (fault_from (n + 1) (ds ++ declarations_of n ds i) (goal_after g ds i) items)
 
 abbrev pub fault_of : List Item → Option TypeFault
 fault_of items = fault_from 1 [] None items

@@ -2,7 +2,12 @@
 
 ghost use Rattle.std.specs.Prelude.{◌≡◌, slice_get};
 ghost use Rattle.model_meaning.specs.Places.{place_of};
-ghost use Rattle.typed_model.specs.Faults.{declares, arg_unknown, has_undeclared, one_fits, many_fit, arg_fits, fit, is_declaration, names_declared, declares_twice, lists_differ, wants_member, is_empty, has_wrong_lengths, numeral_in, declares_integer, wanted_of, lacks_value, empty_domain, divides, least_in, division_domain, statement_fault, objective_unknown, second_fits, objectives_fit, goal_fault, item_fault};
+ghost use Rattle.typed_model.specs.Faults.{declares, arg_unknown, has_undeclared, one_fits, many_fit, arg_fits, fit};
+ghost use Rattle.typed_model.specs.Faults.{is_declaration, names_declared, declares_twice, lists_differ, wants_member};
+ghost use Rattle.typed_model.specs.Faults.{is_empty, has_wrong_lengths, numeral_in, declares_integer, wanted_of};
+ghost use Rattle.typed_model.specs.Faults.{lacks_value, empty_domain, divides, least_in, division_domain};
+ghost use Rattle.typed_model.specs.Faults.{statement_fault, objective_unknown, second_fits, objectives_fit, goal_fault};
+ghost use Rattle.typed_model.specs.Faults.{item_fault};
 
 use crate::fault::TypeFault;
 use crate::names::statement_of;
@@ -96,8 +101,8 @@ fn arg_fits(scope: &Scope, wanted: Wanted, arg: &Arg) -> bool
     }
 }
 
-/// What a call's arguments are to be: those of its statement's signature, but that a list of numerals may stand in place
-/// of the two numerals of `new_int`.
+/// What a call's arguments are to be: those of its statement's signature, but that a list of numerals may stand in
+/// place of the two numerals of `new_int`.
 fn wanted_of(statement: Statement, args: &[Arg]) -> &'static [Wanted]
     ensures { result.now ≡ wanted_of statement (slice_get args.now 1) }
 {

@@ -2,7 +2,8 @@
 
 ghost use Rattle.std.specs.Prelude.{◌≡◌, ◌++◌, OnOk, IfOk, slice_get};
 ghost use Rattle.std.specs.Option.{option_copied};
-ghost use Rattle.typed_model.specs.Items.{declare_name, declare, domain_in, declare_by, objective_place, second_place, goal_of, name_in};
+ghost use Rattle.typed_model.specs.Items.{declare_name, declare, domain_in, declare_by, objective_place, second_place};
+ghost use Rattle.typed_model.specs.Items.{goal_of, name_in};
 
 use crate::call::numerals;
 use crate::faults::numeral_in;

@@ -3,7 +3,9 @@
 ghost use Rattle.std.specs.Prelude.{◌≡◌};
 ghost use Rattle.std.specs.Option.{option_copied, option_and_then};
 ghost use Rattle.std.specs.Str.{bytes_eq};
-ghost use Rattle.model_meaning.specs.Names.{after, between, relation_of, operator_of, arithmetic_of, aggregate_of, all_different_of, order_of, lone_statement, operator_statement, relation_statement, operation_statement, statement_of};
+ghost use Rattle.model_meaning.specs.Names.{after, between, relation_of, operator_of, arithmetic_of, aggregate_of};
+ghost use Rattle.model_meaning.specs.Names.{all_different_of, order_of, lone_statement, operator_statement};
+ghost use Rattle.model_meaning.specs.Names.{relation_statement, operation_statement, statement_of};
 
 use model_meaning::{Aggregate, AllDifferent, Arithmetic, Operator, Order, Relation, Statement};
 

@@ -1,9 +1,12 @@
 //! The names that are declared so far, and what terms mean among them.
 
-ghost use Rattle.std.specs.Prelude.{◌≡◌, ◌∷◌, ◌++◌, [], ℤ, List, pos, OnOk, IfOk, None, is_some, slice_get};
+ghost use Rattle.std.specs.Prelude.{◌≡◌, ◌∷◌, ◌++◌, [], ℤ, List, pos, OnOk, IfOk, None, is_some};
+ghost use Rattle.std.specs.Prelude.{slice_get};
 ghost use Rattle.std.specs.Option.{option_copied, option_map};
 ghost use Rattle.model_meaning.specs.Places.{place_of, low_of, is_true, is_constant};
-ghost use Rattle.typed_model.specs.Scope.{sort_of, sort_is_bool, sort_is_int, kind_of, is_bool, is_int, is_unknown, term_unknown, terms_unknown, is_truth, is_number, is_numeral, all_truths, all_numbers, all_numerals, place_or_zero, truth, number, numeral};
+ghost use Rattle.typed_model.specs.Scope.{sort_of, sort_is_bool, sort_is_int, kind_of, is_bool, is_int, is_unknown};
+ghost use Rattle.typed_model.specs.Scope.{term_unknown, terms_unknown, is_truth, is_number, is_numeral, all_truths};
+ghost use Rattle.typed_model.specs.Scope.{all_numbers, all_numerals, place_or_zero, truth, number, numeral};
 
 use crate::names::is;
 use bumblebee_reader::{Name, Term};

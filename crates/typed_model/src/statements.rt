@@ -1,8 +1,12 @@
 //! The statement of an item.
 
 ghost use Rattle.std.specs.Prelude.{◌≡◌, IfOk, slice_get, None, Some, if◌then◌else◌};
-ghost use Rattle.model_meaning.specs.declared.what.What.TheVariants.{BoolToInt, BoolEq, BoolOp, BoolArray, BoolArrayReified, Compare, CompareReified, BoolSum, BoolLinear, IntSum, IntLinear, IntOp, Absolute, IntArray, Lexicographic};
-ghost use Rattle.typed_model.specs.Items.{truth_in, number_in, truths_in, numbers_in, numerals_in, all_different_what, order_what, what_of};
+ghost use Rattle.model_meaning.specs.declared.what.What.TheVariants.{BoolToInt, BoolEq, BoolOp, BoolArray};
+ghost use Rattle.model_meaning.specs.declared.what.What.TheVariants.{BoolArrayReified, Compare, CompareReified};
+ghost use Rattle.model_meaning.specs.declared.what.What.TheVariants.{BoolSum, BoolLinear, IntSum, IntLinear, IntOp};
+ghost use Rattle.model_meaning.specs.declared.what.What.TheVariants.{Absolute, IntArray, Lexicographic};
+ghost use Rattle.typed_model.specs.Items.{truth_in, number_in, truths_in, numbers_in, numerals_in, all_different_what};
+ghost use Rattle.typed_model.specs.Items.{order_what, what_of};
 
 use crate::call::Call;
 use bee_list::Apart;
@@ -13,7 +17,8 @@ use std::alloc::AllocError;
 
 /// The statement `bool2int`.
 fn bool_to_int(call: &Call<'_>) -> What
-    ensures { result ≡ BoolToInt (truth_in call.now.scope.now (slice_get call.now.args.now 0)) (number_in call.now.scope.now (slice_get call.now.args.now 1)) }
+    ensures { result ≡ BoolToInt (truth_in call.now.scope.now (slice_get call.now.args.now 0))
+        (number_in call.now.scope.now (slice_get call.now.args.now 1)) }
 {
     What::BoolToInt {
         truth: call.truth(0),
@@ -23,7 +28,8 @@ fn bool_to_int(call: &Call<'_>) -> What
 
 /// The statement `bool_eq`.
 fn bool_eq(call: &Call<'_>) -> What
-    ensures { result ≡ BoolEq (truth_in call.now.scope.now (slice_get call.now.args.now 0)) (truth_in call.now.scope.now (slice_get call.now.args.now 1)) }
+    ensures { result ≡ BoolEq (truth_in call.now.scope.now (slice_get call.now.args.now 0))
+        (truth_in call.now.scope.now (slice_get call.now.args.now 1)) }
 {
     What::BoolEq {
         left: call.truth(0),
@@ -33,7 +39,10 @@ fn bool_eq(call: &Call<'_>) -> What
 
 /// The statement `bool_OP_reif`.
 fn pair(call: &Call<'_>, operator: Operator) -> Result<What, AllocError>
-    ensures { IfOk result (λ w. w ≡ BoolOp call.now.name.now operator (truth_in call.now.scope.now (slice_get call.now.args.now 0)) (truth_in call.now.scope.now (slice_get call.now.args.now 1)) (truth_in call.now.scope.now (slice_get call.now.args.now 2))) }
+    ensures { IfOk result
+        (λ w. w ≡ BoolOp call.now.name.now operator (truth_in call.now.scope.now (slice_get call.now.args.now 0))
+        (truth_in call.now.scope.now (slice_get call.now.args.now 1))
+        (truth_in call.now.scope.now (slice_get call.now.args.now 2))) }
 {
     Ok(What::BoolOp {
         name: call.own_name()?,
@@ -46,7 +55,9 @@ fn pair(call: &Call<'_>, operator: Operator) -> Result<What, AllocError>
 
 /// The statement `int_REL`.
 fn compare(call: &Call<'_>, relation: Relation) -> Result<What, AllocError>
-    ensures { IfOk result (λ w. w ≡ Compare call.now.name.now relation (number_in call.now.scope.now (slice_get call.now.args.now 0)) (number_in call.now.scope.now (slice_get call.now.args.now 1))) }
+    ensures { IfOk result
+        (λ w. w ≡ Compare call.now.name.now relation (number_in call.now.scope.now (slice_get call.now.args.now 0))
+        (number_in call.now.scope.now (slice_get call.now.args.now 1))) }
 {
     Ok(What::Compare {
         name: call.own_name()?,
@@ -58,7 +69,11 @@ fn compare(call: &Call<'_>, relation: Relation) -> Result<What, AllocError>
 
 /// The statement `int_REL_reif`.
 fn compare_reified(call: &Call<'_>, relation: Relation) -> Result<What, AllocError>
-    ensures { IfOk result (λ w. w ≡ CompareReified call.now.name.now relation (number_in call.now.scope.now (slice_get call.now.args.now 0)) (number_in call.now.scope.now (slice_get call.now.args.now 1)) (truth_in call.now.scope.now (slice_get call.now.args.now 2))) }
+    ensures { IfOk result
+        (λ w. w ≡ CompareReified call.now.name.now relation
+        (number_in call.now.scope.now (slice_get call.now.args.now 0))
+        (number_in call.now.scope.now (slice_get call.now.args.now 1))
+        (truth_in call.now.scope.now (slice_get call.now.args.now 2))) }
 {
     Ok(What::CompareReified {
         name: call.own_name()?,
@@ -71,7 +86,10 @@ fn compare_reified(call: &Call<'_>, relation: Relation) -> Result<What, AllocErr
 
 /// The statement of an operation on two integers.
 fn operation(call: &Call<'_>, operation: Arithmetic) -> Result<What, AllocError>
-    ensures { IfOk result (λ w. w ≡ IntOp call.now.name.now operation (number_in call.now.scope.now (slice_get call.now.args.now 0)) (number_in call.now.scope.now (slice_get call.now.args.now 1)) (number_in call.now.scope.now (slice_get call.now.args.now 2))) }
+    ensures { IfOk result
+        (λ w. w ≡ IntOp call.now.name.now operation (number_in call.now.scope.now (slice_get call.now.args.now 0))
+        (number_in call.now.scope.now (slice_get call.now.args.now 1))
+        (number_in call.now.scope.now (slice_get call.now.args.now 2))) }
 {
     Ok(What::IntOp {
         name: call.own_name()?,
@@ -84,7 +102,8 @@ fn operation(call: &Call<'_>, operation: Arithmetic) -> Result<What, AllocError>
 
 /// The statement `int_abs`.
 fn absolute(call: &Call<'_>) -> What
-    ensures { result ≡ Absolute (number_in call.now.scope.now (slice_get call.now.args.now 0)) (number_in call.now.scope.now (slice_get call.now.args.now 1)) }
+    ensures { result ≡ Absolute (number_in call.now.scope.now (slice_get call.now.args.now 0))
+        (number_in call.now.scope.now (slice_get call.now.args.now 1)) }
 {
     What::Absolute {
         operand: call.number(0),
@@ -94,7 +113,9 @@ fn absolute(call: &Call<'_>) -> What
 
 /// The statement `bool_array_OP`.
 fn array(call: &Call<'_>, operator: Operator) -> Result<What, AllocError>
-    ensures { IfOk result (λ w. w ≡ BoolArray call.now.name.now operator (truths_in call.now.scope.now (slice_get call.now.args.now 0))) }
+    ensures { IfOk result
+        (λ w. w ≡ BoolArray call.now.name.now operator
+        (truths_in call.now.scope.now (slice_get call.now.args.now 0))) }
 {
     let members = call.truths(0)?;
     let name = call.own_name()?;
@@ -107,7 +128,10 @@ fn array(call: &Call<'_>, operator: Operator) -> Result<What, AllocError>
 
 /// The statement `bool_array_OP_reif`.
 fn array_reified(call: &Call<'_>, operator: Operator) -> Result<What, AllocError>
-    ensures { IfOk result (λ w. w ≡ BoolArrayReified call.now.name.now operator (truths_in call.now.scope.now (slice_get call.now.args.now 0)) (truth_in call.now.scope.now (slice_get call.now.args.now 1))) }
+    ensures { IfOk result
+        (λ w. w ≡ BoolArrayReified call.now.name.now operator
+        (truths_in call.now.scope.now (slice_get call.now.args.now 0))
+        (truth_in call.now.scope.now (slice_get call.now.args.now 1))) }
 {
     let members = call.truths(0)?;
     let name = call.own_name()?;
@@ -121,7 +145,9 @@ fn array_reified(call: &Call<'_>, operator: Operator) -> Result<What, AllocError
 
 /// The statement `bool_array_sum_REL`.
 fn count(call: &Call<'_>, relation: Relation) -> Result<What, AllocError>
-    ensures { IfOk result (λ w. w ≡ BoolSum call.now.name.now relation (truths_in call.now.scope.now (slice_get call.now.args.now 0)) (number_in call.now.scope.now (slice_get call.now.args.now 1))) }
+    ensures { IfOk result
+        (λ w. w ≡ BoolSum call.now.name.now relation (truths_in call.now.scope.now (slice_get call.now.args.now 0))
+        (number_in call.now.scope.now (slice_get call.now.args.now 1))) }
 {
     let members = call.truths(0)?;
     let name = call.own_name()?;
@@ -135,7 +161,10 @@ fn count(call: &Call<'_>, relation: Relation) -> Result<What, AllocError>
 
 /// The statement `bool_array_pb_REL`.
 fn pseudo_boolean(call: &Call<'_>, relation: Relation) -> Result<What, AllocError>
-    ensures { IfOk result (λ w. w ≡ BoolLinear call.now.name.now relation (numerals_in (slice_get call.now.args.now 0)) (truths_in call.now.scope.now (slice_get call.now.args.now 1)) (number_in call.now.scope.now (slice_get call.now.args.now 2))) }
+    ensures { IfOk result
+        (λ w. w ≡ BoolLinear call.now.name.now relation (numerals_in (slice_get call.now.args.now 0))
+        (truths_in call.now.scope.now (slice_get call.now.args.now 1))
+        (number_in call.now.scope.now (slice_get call.now.args.now 2))) }
 {
     let coefficients = call.numerals(0)?;
     let members = call.truths(1)?;
@@ -151,7 +180,9 @@ fn pseudo_boolean(call: &Call<'_>, relation: Relation) -> Result<What, AllocErro
 
 /// The statement `int_array_sum_REL`.
 fn sum(call: &Call<'_>, relation: Relation) -> Result<What, AllocError>
-    ensures { IfOk result (λ w. w ≡ IntSum call.now.name.now relation (numbers_in call.now.scope.now (slice_get call.now.args.now 0)) (number_in call.now.scope.now (slice_get call.now.args.now 1))) }
+    ensures { IfOk result
+        (λ w. w ≡ IntSum call.now.name.now relation (numbers_in call.now.scope.now (slice_get call.now.args.now 0))
+        (number_in call.now.scope.now (slice_get call.now.args.now 1))) }
 {
     let members = call.numbers(0)?;
     let name = call.own_name()?;
@@ -165,7 +196,10 @@ fn sum(call: &Call<'_>, relation: Relation) -> Result<What, AllocError>
 
 /// The statement `int_array_lin_REL`.
 fn linear(call: &Call<'_>, relation: Relation) -> Result<What, AllocError>
-    ensures { IfOk result (λ w. w ≡ IntLinear call.now.name.now relation (numerals_in (slice_get call.now.args.now 0)) (numbers_in call.now.scope.now (slice_get call.now.args.now 1)) (number_in call.now.scope.now (slice_get call.now.args.now 2))) }
+    ensures { IfOk result
+        (λ w. w ≡ IntLinear call.now.name.now relation (numerals_in (slice_get call.now.args.now 0))
+        (numbers_in call.now.scope.now (slice_get call.now.args.now 1))
+        (number_in call.now.scope.now (slice_get call.now.args.now 2))) }
 {
     let coefficients = call.numerals(0)?;
     let members = call.numbers(1)?;
@@ -181,7 +215,10 @@ fn linear(call: &Call<'_>, relation: Relation) -> Result<What, AllocError>
 
 /// The statement of an operation on a list of integers.
 fn aggregate(call: &Call<'_>, operation: Aggregate) -> Result<What, AllocError>
-    ensures { IfOk result (λ w. w ≡ IntArray call.now.name.now operation (numbers_in call.now.scope.now (slice_get call.now.args.now 0)) (number_in call.now.scope.now (slice_get call.now.args.now 1))) }
+    ensures { IfOk result
+        (λ w. w ≡ IntArray call.now.name.now operation
+        (numbers_in call.now.scope.now (slice_get call.now.args.now 0))
+        (number_in call.now.scope.now (slice_get call.now.args.now 1))) }
 {
     let members = call.numbers(0)?;
     let name = call.own_name()?;
@@ -219,7 +256,10 @@ fn truths_order(
     order: Order,
     truth: Option<Apart<BoolTerm>>,
 ) -> Result<What, AllocError>
-    ensures { IfOk result (λ w. w ≡ Lexicographic call.now.name.now order (Some (truths_in call.now.scope.now (slice_get call.now.args.now 0))) (Some (truths_in call.now.scope.now (slice_get call.now.args.now 1))) None None truth) }
+    ensures { IfOk result
+        (λ w. w ≡ Lexicographic call.now.name.now order
+        (Some (truths_in call.now.scope.now (slice_get call.now.args.now 0)))
+        (Some (truths_in call.now.scope.now (slice_get call.now.args.now 1))) None None truth) }
 {
     let left = call.truths_apart(0)?;
     let right = call.truths_apart(1)?;
@@ -241,7 +281,10 @@ fn numbers_order(
     order: Order,
     truth: Option<Apart<BoolTerm>>,
 ) -> Result<What, AllocError>
-    ensures { IfOk result (λ w. w ≡ Lexicographic call.now.name.now order None None (Some (numbers_in call.now.scope.now (slice_get call.now.args.now 0))) (Some (numbers_in call.now.scope.now (slice_get call.now.args.now 1))) truth) }
+    ensures { IfOk result
+        (λ w. w ≡ Lexicographic call.now.name.now order None None
+        (Some (numbers_in call.now.scope.now (slice_get call.now.args.now 0)))
+        (Some (numbers_in call.now.scope.now (slice_get call.now.args.now 1))) truth) }
 {
     let left = call.numbers_apart(0)?;
     let right = call.numbers_apart(1)?;
@@ -259,7 +302,9 @@ fn numbers_order(
 
 /// The truth of an order, where a Boolean is it.
 fn order_truth(call: &Call<'_>, order: Order) -> Result<Option<Apart<BoolTerm>>, AllocError>
-    ensures { IfOk result (λ t. t ≡ (if order.reified then Some (truth_in call.now.scope.now (slice_get call.now.args.now 2)) else None)) }
+    ensures { IfOk result
+        (λ t. t
+        ≡ (if order.reified then Some (truth_in call.now.scope.now (slice_get call.now.args.now 2)) else None)) }
 {
     if order.reified {
         let truth = call.truth_apart(2)?;

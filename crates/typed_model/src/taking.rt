@@ -1,11 +1,13 @@
 //! The typing of items that come one at a time.
 
-ghost use Rattle.std.specs.Prelude.{◌≡◌, ◌++◌, ◌∷◌, [], List, None, Some, Err, IfOk, IfErr, OnOk, OnErr};
+ghost use Rattle.std.specs.Prelude.{◌≡◌, ◌++◌, ◌∷◌, [], List, None, Some, Err, IfOk, IfErr, OnOk};
+ghost use Rattle.std.specs.Prelude.{OnErr};
 ghost use Rattle.bumblebee_reader.specs.declared.syntax.Item.{Item};
 ghost use Rattle.typed_model.specs.declared.fault.TypeFault.{TypeFault};
 ghost use Rattle.typed_model.specs.declared.fault.TypeFault.TheVariants.{Memory};
 ghost use Rattle.model_meaning.specs.Names.{statement_of};
-ghost use Rattle.typed_model.specs.Items.{declare_if, declarations_of, what_of, state, state_if, statements_of, goal_after, first_fault, model_of, IsFaultOf};
+ghost use Rattle.typed_model.specs.Items.{declare_if, declarations_of, what_of, state, state_if, statements_of};
+ghost use Rattle.typed_model.specs.Items.{goal_after, first_fault, model_of, IsFaultOf};
 ghost use Rattle.typed_model.specs.Taken.{HasTaken, with_item};
 ghost use Rattle.model_meaning.specs.WellTyped.{WellTyped};
 
@@ -31,7 +33,8 @@ fn state(
     statement: Statement,
     args: &[Arg],
 ) -> Result<(), AllocError>
-    ensures { OnOk result (stmts.new.items ≡ stmts.old.items ++ state number (what_of scope.now name.now statement args.now)) }
+    ensures { OnOk result (stmts.new.items ≡ stmts.old.items
+        ++ state number (what_of scope.now name.now statement args.now)) }
 {
     let call = Call {
         alloc,
@@ -58,7 +61,8 @@ fn take_call(
     args: &[Arg],
 ) -> Result<(), AllocError>
     ensures decls { OnOk result (scope.new ≡ scope.old ++ declare_if number scope.old (statement_of name.now) args.now) }
-    ensures stmts { OnOk result (stmts.new.items ≡ stmts.old.items ++ state_if number scope.new name.now (statement_of name.now) args.now) }
+    ensures stmts { OnOk result (stmts.new.items ≡ stmts.old.items
+        ++ state_if number scope.new name.now (statement_of name.now) args.now) }
 {
     match statement_of(name.as_bytes()) {
         Some(statement) => {
@@ -150,7 +154,8 @@ impl Typing {
 
     /// Takes one more item, in the time that its own size takes.
     pub fn take(&mut self, alloc: Global, item: &Item) -> Result<(), AllocError>
-        ensures taken { (items : List Item) → HasTaken self.old items → OnOk result (HasTaken self.new (items ++ item.now ∷ [])) }
+        ensures taken { (items : List Item) → HasTaken self.old items
+            → OnOk result (HasTaken self.new (items ++ item.now ∷ [])) }
         ensures kept { (f : TypeFault) → self.old.fault ≡ Some f → self.new ≡ self.old }
         ensures failed { OnErr result (self.new.fault ≡ Some Memory) }
     {
@@ -172,7 +177,8 @@ impl Typing {
 
     /// The model of the items that were taken, or their first fault.
     pub fn finish(self) -> Result<Model, TypeFault>
-        ensures accepted { (items : List Item) → HasTaken self items → IfOk result (λ m. first_fault items ≡ None) }
+        ensures accepted { (items : List Item) → HasTaken self items
+            → IfOk result (λ m. first_fault items ≡ None) }
         ensures model { (items : List Item) → HasTaken self items → IfOk result (λ m. m ≡ model_of items) }
         ensures typed { (items : List Item) → HasTaken self items → IfOk result WellTyped }
         ensures fault { (items : List Item) → HasTaken self items → IfErr result (λ e. IsFaultOf e items) }

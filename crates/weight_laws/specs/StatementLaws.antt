@@ -12,16 +12,16 @@ use Rattle.statement_lower.specs.Lines.{made_of}
 use Rattle.model_weight.specs.Statements.{weight_of_what}
 use Rattle.weight_laws.specs.Size.{size_of_made}
 
--- What a statement is lowered to behind so many variables is no larger than these and its weight. The entries are those of the
--- declarations so far, of which it speaks; its weight is that among these and any that are behind them.
+-- What a statement is lowered to behind so many variables is no larger than these and its weight. The entries are those
+-- of the declarations so far, of which it speaks; its weight is that among these and any that are behind them.
 abbrev pub StatementSizeLaw : Type 0
 StatementSizeLaw =
     (vars m n : ℕ) (ds more : List Decl) (entries : List MapValue) (w : What)
     → EntriesFit m ds entries → WhatFits ds n w
     → size_of_made (made_of vars entries w) ≤ vars + weight_of_what (ds ++ more) w
 
--- The statement is lowered without a fresh integer for a linear sum: it is no linear sum, or one that is compared by equality, which is one
--- core.
+-- The statement is lowered without a fresh integer for a linear sum: it is no linear sum, or one that is compared by
+-- equality, which is one core.
 abbrev pub HasNoFreshSum : What → Type 0
 HasNoFreshSum (BoolLinear name rel cs xs i) = rel ≡ relation.Eq
 HasNoFreshSum (IntSum name rel is i) = rel ≡ relation.Eq

@@ -44,7 +44,8 @@ pub(super) fn is_top<T: TruthValues>(ints: &[OrdInt], c: &OrdInt, sigma: T) -> b
 /// Whether a condition is true and an integer has this value.
 fn has_value<T: TruthValues>(condition: Atom, value: i128, a: &OrdInt, sigma: T) -> bool
     requires sound { IsSound a.now }
-    ensures { result ≡ (atom_truth (T.valuation sigma) condition && int_eq value (value_of (T.valuation sigma) a.now)) }
+    ensures { result ≡ (atom_truth (T.valuation sigma) condition
+        && int_eq value (value_of (T.valuation sigma) a.now)) }
 {
     condition.holds(sigma) && are_same(value, a.value(sigma))
 }
@@ -53,7 +54,8 @@ fn has_value<T: TruthValues>(condition: Atom, value: i128, a: &OrdInt, sigma: T)
 fn is_alone<T: TruthValues>(value: i128, ints: &[OrdInt], conditions: &[Atom], sigma: T) -> bool
     requires sound { AreSound ints.now }
     requires lengths { length ints.now ≡ length conditions.now }
-    ensures { result ≡ none_equal value (values (T.valuation sigma) ints.now) (truths (T.valuation sigma) conditions.now) }
+    ensures { result ≡ none_equal value (values (T.valuation sigma) ints.now)
+        (truths (T.valuation sigma) conditions.now) }
 {
     for i in 0..ints.len() {
         if has_value(conditions[i], value, &ints[i], sigma) {
@@ -74,7 +76,9 @@ fn is_free<T: TruthValues>(
     requires sound_a { IsSound a.now }
     requires sound { AreSound ints.now }
     requires lengths { length ints.now ≡ length conditions.now }
-    ensures { result ≡ (not (atom_truth (T.valuation sigma) condition) || none_equal (value_of (T.valuation sigma) a.now) (values (T.valuation sigma) ints.now) (truths (T.valuation sigma) conditions.now)) }
+    ensures { result ≡ (not (atom_truth (T.valuation sigma) condition)
+        || none_equal (value_of (T.valuation sigma) a.now) (values (T.valuation sigma) ints.now)
+        (truths (T.valuation sigma) conditions.now)) }
 {
     !condition.holds(sigma) || is_alone(a.value(sigma), ints, conditions, sigma)
 }

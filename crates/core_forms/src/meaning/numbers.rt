@@ -80,7 +80,8 @@ fn is_divided<T: TruthValues>(a: &OrdInt, b: &OrdInt, q: &OrdInt, r: &OrdInt, si
     requires ordered_b { IsOrdered (T.valuation sigma) b.now }
     requires ordered_q { IsOrdered (T.valuation sigma) q.now }
     requires ordered_r { IsOrdered (T.valuation sigma) r.now }
-    ensures { result ≡ is_division (value_of (T.valuation sigma) a.now) (value_of (T.valuation sigma) b.now) (value_of (T.valuation sigma) q.now) (value_of (T.valuation sigma) r.now) }
+    ensures { result ≡ is_division (value_of (T.valuation sigma) a.now) (value_of (T.valuation sigma) b.now)
+        (value_of (T.valuation sigma) q.now) (value_of (T.valuation sigma) r.now) }
 {
     let (b, q, r) = (b.value(sigma), q.value(sigma), r.value(sigma));
     divides(a.value(sigma), b, q, r)

@@ -75,7 +75,8 @@ fn multiplies<T: TruthValues>(a: &OrdInt, b: &OrdInt, c: &OrdInt, sigma: T) -> b
     requires small { HasSmallProducts a.now b.now }
     requires ordered_a { IsOrdered (T.valuation sigma) a.now }
     requires ordered_b { IsOrdered (T.valuation sigma) b.now }
-    ensures { result ≡ int_eq (value_of (T.valuation sigma) a.now *ℤ value_of (T.valuation sigma) b.now) (value_of (T.valuation sigma) c.now) }
+    ensures { result ≡ int_eq (value_of (T.valuation sigma) a.now *ℤ value_of (T.valuation sigma) b.now)
+        (value_of (T.valuation sigma) c.now) }
 {
     are_same(product(a.value(sigma), b.value(sigma)), c.value(sigma))
 }

@@ -2,9 +2,10 @@
 
 ghost use Rattle.std.specs.Prelude.{◌≡◌, ◌≤◌, IfOk, map, length};
 ghost use Rattle.order_ints.specs.View.{resolve};
-ghost use Rattle.core_forms.specs.Trimmed.{without_false, without_constants, constant_trues, turned, tidied_clause, tidied_members};
+ghost use Rattle.core_forms.specs.Trimmed.{without_false, without_constants, constant_trues, turned, tidied_clause};
+ghost use Rattle.core_forms.specs.Trimmed.{tidied_members};
 
-use super::settled::are_settled;
+use super::stable::are_stable;
 use bee_list::Sequence;
 use order_ints::{Atom, resolve};
 use std::alloc::{AllocError, Global};
@@ -71,7 +72,7 @@ pub(super) fn trimmed_members(
     Ok(Sequence::from_vec(kept))
 }
 
-#[tactic(auto, using(crate::proofs::Settling::settled_false))]
+#[tactic(auto, using(crate::proofs::Stability::stable_false))]
 /// The atoms that are not False.
 pub(super) fn without_false(
     alloc: Global,
@@ -81,7 +82,7 @@ pub(super) fn without_false(
     ensures { IfOk result (λ kept. kept ≡ without_false (map (resolve view.now) atoms.now)) }
 {
     let mut kept = Vec::with_capacity(alloc, atoms.len())?;
-    if are_settled(atoms, view) {
+    if are_stable(atoms, view) {
         kept.extend_from_slice(atoms)?;
         return Ok(Sequence::from_vec(kept));
     }
@@ -95,7 +96,7 @@ pub(super) fn without_false(
     Ok(Sequence::from_vec(kept))
 }
 
-#[tactic(auto, using(crate::proofs::Settling::settled_constants, crate::proofs::Settling::settled_trues))]
+#[tactic(auto, using(crate::proofs::Stability::stable_constants, crate::proofs::Stability::stable_trues))]
 /// The atoms that are no constants, and how many are True.
 pub(super) fn only_literals(
     alloc: Global,
@@ -107,7 +108,7 @@ pub(super) fn only_literals(
     ensures range { IfOk result (λ kept. kept.1 ≤ length atoms.now) }
 {
     let mut kept = Vec::with_capacity(alloc, atoms.len())?;
-    if are_settled(atoms, view) {
+    if are_stable(atoms, view) {
         kept.extend_from_slice(atoms)?;
         return Ok((Sequence::from_vec(kept), 0));
     }

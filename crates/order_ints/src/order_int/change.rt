@@ -1,6 +1,7 @@
 //! The negation, the shift and the multiples of an integer.
 
-ghost use Rattle.std.specs.Prelude.{◌≡◌, ℕ, ◌^◌, ◌<◌, ◌*◌, ◌≤◌, neg_ℤ, ◌+ℤ◌, ◌*ℤ◌, IfOk, IsOk, map, reverse};
+ghost use Rattle.std.specs.Prelude.{◌≡◌, ℕ, ◌^◌, ◌<◌, ◌*◌, ◌≤◌, neg_ℤ, ◌+ℤ◌};
+ghost use Rattle.std.specs.Prelude.{◌*ℤ◌, IfOk, IsOk, map, reverse};
 ghost use Rattle.order_ints.specs.Truth.{Valuation};
 ghost use Rattle.order_ints.specs.OrderValue.{value_of, IsOrdered};
 ghost use Rattle.order_ints.specs.OrderRange.{weights, IsBounded, AreRising, IntBelow};

@@ -1,12 +1,16 @@
 //! The integers that are made of a value, of an atom, and of values with fresh variables.
 
-ghost use Rattle.std.specs.Prelude.{◌≡◌, ℕ, suc, ◌+◌, ◌-◌, ◌^◌, ◌<◌, ◌≤◌, ℤ, pos, ◌+ℤ◌, ◌-ℤ◌, ◌<ℤ◌, unsigned_abs, IfOk, length, map, if◌then◌else◌};
+ghost use Rattle.std.specs.Prelude.{◌≡◌, ℕ, suc, ◌+◌, ◌-◌, ◌^◌, ◌<◌, ◌≤◌, ℤ, pos};
+ghost use Rattle.std.specs.Prelude.{◌+ℤ◌, ◌-ℤ◌, ◌<ℤ◌, unsigned_abs, IfOk, length, map};
+ghost use Rattle.std.specs.Prelude.{if◌then◌else◌};
 ghost use Rattle.order_ints.specs.Label.{own_labels};
 ghost use Rattle.order_ints.specs.Truth.{Valuation, atom_truth};
 ghost use Rattle.order_ints.specs.OrderValue.{value_of, IsOrdered};
 ghost use Rattle.order_ints.specs.OrderRange.{IsBounded, AreRising, IntBelow};
 ghost use Rattle.order_ints.specs.OrderLevels.{values_of};
-ghost use Rattle.order_ints.specs.OrderMade.{constant_of, integer_of_atom, unit_steps, steps_between, AscendFrom, unit_range_of, integer_of_values, values_from, AreAscending, AreSmall, AreVars};
+ghost use Rattle.order_ints.specs.OrderMade.{constant_of, integer_of_atom, unit_steps, steps_between, AscendFrom};
+ghost use Rattle.order_ints.specs.OrderMade.{unit_range_of, integer_of_values, values_from, AreAscending, AreSmall};
+ghost use Rattle.order_ints.specs.OrderMade.{AreVars};
 
 use super::OrdInt;
 use super::signed::gap;

@@ -6,8 +6,8 @@ use Rattle.step_kernel.specs.Kernel.{Kernel, IsKernel}
 use Rattle.step_kernel.specs.Steps.{divided, without}
 use Rattle.step_kernel.specs.Cursor.{kernel_of, gone_first}
 use Rattle.step_kernel.proofs.Cursors.{gone-append}
-use Rattle.step_kernel.specs.SettledMarks.{AreSettledMarks}
-use Rattle.step_kernel.proofs.SettledLaws.{settled-fewer, settled-divided}
+use Rattle.step_kernel.specs.StableMarks.{AreStableMarks}
+use Rattle.step_kernel.proofs.StableLaws.{stable-fewer, stable-divided}
 use Rattle.step_kernel.proofs.Splits.{divided-from, divided-room}
 use Rattle.step_kernel.proofs.state.State.divide.Goals as goal
 use Rattle.step_kernel.proofs.state.State.divide.Goals.{After-take_out-arg-1, After-drop-cores-2}
@@ -42,14 +42,14 @@ pub invariant_of-self-2 : goal.invariant_of-self-2
 invariant_of-self-2 c = record {
   kernel = subst IsKernel (sym (made c)) c.requires.kernel;
   cursor = c.take_out-self-inside.ensures.gone;
-  settled =
+  stable =
       let kernel : IsKernel c.args.self.now = subst IsKernel c.self.view_is c.self.invariant.kernel in
-      let before : AreSettledMarks c.args.self.now.view c.args.self.now.cores c.self.inside.settled =
-      subst (λ (k : Kernel). AreSettledMarks k.view k.cores c.self.inside.settled) c.self.view_is c.self.invariant.settled in
+      let before : AreStableMarks c.args.self.now.view c.args.self.now.cores c.self.inside.stable =
+      subst (λ (k : Kernel). AreStableMarks k.view k.cores c.self.inside.stable) c.self.view_is c.self.invariant.stable in
       let new = divided c.args.self.now c.args.id c.args.parts in
-      subst (λ (k : Kernel). AreSettledMarks k.view k.cores c.grow.new.self) (sym (made c))
-      (settled-fewer new.view new.cores c.self.inside.settled c.grow.new.self c.grow.ensures
-      (settled-divided c.args.self.now c.args.id c.args.parts c.self.inside.settled kernel before));
+      subst (λ (k : Kernel). AreStableMarks k.view k.cores c.grow.new.self) (sym (made c))
+      (stable-fewer new.view new.cores c.self.inside.stable c.grow.new.self c.grow.ensures
+      (stable-divided c.args.self.now c.args.id c.args.parts c.self.inside.stable kernel before));
 }
 
 pub returns-clause-divided : goal.returns-clause-divided

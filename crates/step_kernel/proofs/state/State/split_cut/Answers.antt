@@ -7,10 +7,10 @@ use Rattle.core_parts.specs.Parts.{parts_at}
 use Rattle.part_base.specs.Cuts.{CanCome, shorter_of, rest_of}
 use Rattle.step_kernel.specs.Cursor.{gone_first, kernel_of}
 use Rattle.step_kernel.specs.Kernel.{Kernel, IsKernel}
-use Rattle.step_kernel.specs.SettledMarks.{AreSettledMarks}
+use Rattle.step_kernel.specs.StableMarks.{AreStableMarks}
 use Rattle.step_kernel.specs.Steps.{without, divided}
-use Rattle.step_kernel.proofs.SettledLaws.{settled-fewer}
-use Rattle.step_kernel.proofs.CutSplits.{the, place-there, put-back, gone-cut, cut-room, cut-divided, cut-step, cut-made, cut-settled}
+use Rattle.step_kernel.proofs.StableLaws.{stable-fewer}
+use Rattle.step_kernel.proofs.CutSplits.{the, place-there, put-back, gone-cut, cut-room, cut-divided, cut-step, cut-made, cut-stable}
 use Rattle.step_kernel.proofs.state.State.split_cut.Goals as goal
 use Rattle.step_kernel.proofs.state.State.split_cut.Goals.{After-mark, After-drop-front-in-Err-1}
 
@@ -60,9 +60,9 @@ pub invariant_of-self-in-Ok : goal.invariant_of-self-in-Ok
 invariant_of-self-in-Ok c = record {
   kernel = subst IsKernel (sym (made c)) (cut-divided c.args.self.now c.requires.kernel c.args.id c.args.cut c.requires.cut);
   cursor = c.take_out-self-inside.ensures.gone;
-  settled =
-      let before : AreSettledMarks c.args.self.now.view c.args.self.now.cores c.self.inside.settled =
-      subst (λ (k : Kernel). AreSettledMarks k.view k.cores c.self.inside.settled) c.self.view_is c.self.invariant.settled in
+  stable =
+      let before : AreStableMarks c.args.self.now.view c.args.self.now.cores c.self.inside.stable =
+      subst (λ (k : Kernel). AreStableMarks k.view k.cores c.self.inside.stable) c.self.view_is c.self.invariant.stable in
       let place : c.len-in-Ok.result + c.len-in-Ok-2.result ≡ length c.args.self.now.cores + length c.args.cut.front =
       omega (
         arith,
@@ -74,8 +74,8 @@ invariant_of-self-in-Ok c = record {
         length-map {B = Option Core} c.args.cut.front Some,
         ap (λ (k : Kernel). length k.cores) c.self.view_is,
       ) in
-      subst (λ (k : Kernel). AreSettledMarks k.view k.cores c.mark.new.self) (sym (made c))
-      (cut-settled c.args.self.now c.requires.kernel c.args.id c.args.cut c.requires.cut c.self.inside.settled c.mark.new.self before
+      subst (λ (k : Kernel). AreStableMarks k.view k.cores c.mark.new.self) (sym (made c))
+      (cut-stable c.args.self.now c.requires.kernel c.args.id c.args.cut c.requires.cut c.self.inside.stable c.mark.new.self before
       (λ other m. ⊎_elim (λ h. inl (c.grow.ensures other h)) (λ e. inr (e ∙ place)) (c.mark.ensures other m)));
 }
 
@@ -104,9 +104,9 @@ invariant_of-self-in-Err-1 c =
     record {
       kernel = subst IsKernel (sym (kept c)) c.requires.kernel;
       cursor = c.self.invariant.cursor ∙ ap (λ (k : Kernel). gone_first k.cores) same;
-      settled =
-          subst (λ (k : Kernel). AreSettledMarks k.view k.cores c.grow.new.self) same
-          (settled-fewer c.self.inside.store.view c.self.inside.cores.items c.self.inside.settled c.grow.new.self c.grow.ensures c.self.invariant.settled);
+      stable =
+          subst (λ (k : Kernel). AreStableMarks k.view k.cores c.grow.new.self) same
+          (stable-fewer c.self.inside.store.view c.self.inside.cores.items c.self.inside.stable c.grow.new.self c.grow.ensures c.self.invariant.stable);
     }
 
 pub returns-in-Err-clause-stays : goal.returns-in-Err-clause-stays

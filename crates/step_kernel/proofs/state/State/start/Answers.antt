@@ -3,7 +3,7 @@ use Rattle.order_ints.specs.Label.{own_labels}
 use Rattle.step_kernel.specs.Kernel.{started, IsKernel}
 use Rattle.step_kernel.specs.Cursor.{kernel_of, gone_first}
 use Rattle.step_kernel.proofs.Cursors.{gone-pending}
-use Rattle.step_kernel.proofs.SettledLaws.{settled-none}
+use Rattle.step_kernel.proofs.StableLaws.{stable-none}
 use Rattle.step_kernel.proofs.Started.{started-kernel, same-kernel}
 use Rattle.step_kernel.proofs.state.State.start.Goals as goal
 use Rattle.step_kernel.proofs.state.State.start.Goals.{After-new}
@@ -19,7 +19,7 @@ pub invariant_of-result : goal.invariant_of-result
 invariant_of-result c = record {
   kernel = made c;
   cursor = sym (ap gone_first c.in_ok-cores.ensures ∙ gone-pending c.args.cores.items);
-  settled = settled-none c.in_ok-store.store.view c.in_ok-cores.cores.items c.grow.new.self (λ place m. c.new-settled.ensures place (c.grow.ensures place m));
+  stable = stable-none c.in_ok-store.store.view c.in_ok-cores.cores.items c.grow.new.self (λ place m. c.new-stable.ensures place (c.grow.ensures place m));
 }
 
 pub returns-clause-kernel : goal.returns-clause-kernel

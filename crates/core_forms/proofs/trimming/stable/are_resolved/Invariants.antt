@@ -1,6 +1,6 @@
 use Rattle.std.proofs.Common.{◌≡◌, drop, map}
 use Rattle.order_ints.specs.View.{resolve}
-use Rattle.core_forms.proofs.trimming.settled.are_resolved.Given as goal
+use Rattle.core_forms.proofs.trimming.stable.are_resolved.Given as goal
 
 -- where what is left stays, all does
 abbrev pub invariant-loop-atom : goal.invariant-loop-atom

@@ -1,4 +1,4 @@
--- Marked cores stay settled, step by step.
+-- Marked cores stay stable, step by step.
 use Rattle.std.proofs.Common.{◌≡◌, ◌≢◌, ◌⊎◌, ℕ, ◌+◌, ◌-◌, ◌<◌, ◌≤◌, ◌==◌, Bool, true, false, List, ◌++◌, map, length, get_or, set, eqb, refl, sym, ap, ◌∙◌, arith, ⊎_elim, Option, Some, None}
 use Rattle.std.specs.Prelude.{slice_index_or, if◌then◌else◌}
 use Rattle.std.proofs.lemmas.Bool.{cases_lt}
@@ -8,11 +8,11 @@ use Rattle.std.proofs.lemmas.List.{get_or_past, get_or-set_same, get_or-set_othe
 use Rattle.order_ints.specs.declared.atom.Atom.{Atom}
 use Rattle.order_ints.specs.Label.{with_own_labels}
 use Rattle.core_forms.specs.declared.form.Core.{Core}
-use Rattle.core_forms.specs.Settled.{IsSettledCore}
-use Rattle.core_forms.proofs.Settling.{settled_further}
+use Rattle.core_forms.specs.Stable.{IsStableCore}
+use Rattle.core_forms.proofs.Stability.{stable_further}
 use Rattle.part_base.specs.declared.parts.Parts.{Parts}
 use Rattle.step_kernel.specs.Kernel.{Kernel, core_at, IsKernel}
-use Rattle.step_kernel.specs.SettledMarks.{Rounds, IsMarked, AreSettledMarks}
+use Rattle.step_kernel.specs.StableMarks.{Rounds, IsMarked, AreStableMarks}
 use Rattle.step_kernel.specs.Steps.{without, divided}
 use Rattle.step_kernel.proofs.Holes.{below-there}
 
@@ -24,17 +24,17 @@ at-next cores place x is = by (place + 1 == 0) refl
     by true t = absurd (grind (arith, nat_tests, t))
     by false t = let e : place + 1 - 1 ≡ place = omega arith in ap (λ (i : ℕ). get_or cores i None) e ∙ is
 
-pub settled-none : (view : List Atom) (cores : List (Option Core)) (marks : Rounds) → ((place : ℕ) → IsMarked marks place → ⊥) → AreSettledMarks view cores marks
-settled-none view cores marks none place m = absurd (none place m)
+pub stable-none : (view : List Atom) (cores : List (Option Core)) (marks : Rounds) → ((place : ℕ) → IsMarked marks place → ⊥) → AreStableMarks view cores marks
+stable-none view cores marks none place m = absurd (none place m)
 
-pub settled-fewer : (view : List Atom) (cores : List (Option Core)) (old new : Rounds) → ((place : ℕ) → IsMarked new place → IsMarked old place)
-    → AreSettledMarks view cores old → AreSettledMarks view cores new
-settled-fewer view cores old new fewer h place m = h place (fewer place m)
+pub stable-fewer : (view : List Atom) (cores : List (Option Core)) (old new : Rounds) → ((place : ℕ) → IsMarked new place → IsMarked old place)
+    → AreStableMarks view cores old → AreStableMarks view cores new
+stable-fewer view cores old new fewer h place m = h place (fewer place m)
 
--- a place is marked besides, where a core is settled
-pub settled-more : (view : List Atom) (cores : List (Option Core)) (old new : Rounds) (more : ℕ) → ((place : ℕ) → IsMarked new place → IsMarked old place ⊎ (place ≡ more))
-    → AreSettledMarks view cores old → more < length cores → ((core : Core) → get_or cores more None ≡ Some core → IsSettledCore view core) → AreSettledMarks view cores new
-settled-more view cores old new more marked h inside is place m =
+-- a place is marked besides, where a core is stable
+pub stable-more : (view : List Atom) (cores : List (Option Core)) (old new : Rounds) (more : ℕ) → ((place : ℕ) → IsMarked new place → IsMarked old place ⊎ (place ≡ more))
+    → AreStableMarks view cores old → more < length cores → ((core : Core) → get_or cores more None ≡ Some core → IsStableCore view core) → AreStableMarks view cores new
+stable-more view cores old new more marked h inside is place m =
     ⊎_elim (h place) (λ (e : place ≡ more). (omega (arith, e, inside), λ core at. is core (ap (λ (i : ℕ). get_or cores i None) (sym e) ∙ at))) (marked place m)
 
 left-there : (cores : List (Option Core)) (i place : ℕ) (core : Core) → get_or (set cores i None) place None ≡ Some core → get_or cores place None ≡ Some core
@@ -47,21 +47,21 @@ left-there cores i place core is =
         ⊎_elim (λ (low : i < length cores). get_or-set_same cores i None None low)
         (λ (high : length cores ≤ i). get_or_past (set cores i None) i None (omega (arith, high, length-set cores i None))) h
 
-pub settled-without : (view : List Atom) (cores : List (Option Core)) (marks : Rounds) (id : ℕ) → AreSettledMarks view cores marks → AreSettledMarks view (without cores id) marks
-settled-without view cores marks id h place m =
+pub stable-without : (view : List Atom) (cores : List (Option Core)) (marks : Rounds) (id : ℕ) → AreStableMarks view cores marks → AreStableMarks view (without cores id) marks
+stable-without view cores marks id h place m =
     let at = h place m in (omega (arith, at.0, length-set cores (id - 1) None), λ core is. at.1 core (left-there cores (id - 1) place core is))
 
--- a split: what was marked is settled under more variables
-pub settled-divided : (k : Kernel) (id : ℕ) (parts : Parts) (marks : Rounds) → IsKernel k → AreSettledMarks k.view k.cores marks
-    → AreSettledMarks (divided k id parts).view (divided k id parts).cores marks
-settled-divided k id parts marks is h place m = (omega (arith, inside, length-append (without k.cores id) (map Some parts.cores)), there)
+-- a split: what was marked is stable under more variables
+pub stable-divided : (k : Kernel) (id : ℕ) (parts : Parts) (marks : Rounds) → IsKernel k → AreStableMarks k.view k.cores marks
+    → AreStableMarks (divided k id parts).view (divided k id parts).cores marks
+stable-divided k id parts marks is h place m = (omega (arith, inside, length-append (without k.cores id) (map Some parts.cores)), there)
   where
     inside : place < length (without k.cores id)
-    inside = (settled-without k.view k.cores marks id h place m).0
+    inside = (stable-without k.view k.cores marks id h place m).0
 
-    there : (core : Core) → get_or (without k.cores id ++ map Some parts.cores) place None ≡ Some core → IsSettledCore (with_own_labels k.view parts.fresh) core
+    there : (core : Core) → get_or (without k.cores id ++ map Some parts.cores) place None ≡ Some core → IsStableCore (with_own_labels k.view parts.fresh) core
     there core at =
         let before : get_or k.cores place None ≡ Some core =
         left-there k.cores (id - 1) place core (sym (get_or_append_left (without k.cores id) (map Some parts.cores) None place inside) ∙ at) in
         let below = (below-there k.cores (place + 1) core (at-next k.cores place (Some core) before) (length k.view + 1) is.below).0 in
-        settled_further k.view parts.fresh (length k.view + 1) core below ((h place m).1 core before)
+        stable_further k.view parts.fresh (length k.view + 1) core below ((h place m).1 core before)

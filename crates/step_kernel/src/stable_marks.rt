@@ -1,21 +1,21 @@
-//! Marks of the cores that were seen to be settled.
+//! Marks of the cores that were seen to be stable.
 
 ghost use Rattle.std.specs.Prelude.{ℕ, ◌≡◌, ◌⊎◌, IsTrue};
-ghost use Rattle.step_kernel.specs.SettledMarks.{IsMarked};
+ghost use Rattle.step_kernel.specs.StableMarks.{IsMarked};
 
 use std::alloc::{AllocError, Global};
 use std::marker::Model;
 
-/// A mark for each place, in four bytes: the round in which it was set. It counts in that round alone, so all marks are taken away at
-/// once, in constant time.
+/// A mark for each place, in four bytes: the round in which it was set. It counts in that round alone, so all marks are
+/// taken away at once, in constant time.
 #[derive(Drop)]
-pub struct SettledMarks {
+pub struct StableMarks {
     rounds: Vec<u32>,
     round: u32,
 }
 
-impl Model for SettledMarks {
-    ghost use Rattle.step_kernel.specs.SettledMarks.{Rounds, AreRounds};
+impl Model for StableMarks {
+    ghost use Rattle.step_kernel.specs.StableMarks.{Rounds, AreRounds};
 
     ghost Value = { Rounds };
 
@@ -24,12 +24,12 @@ impl Model for SettledMarks {
     ghost invariant = { λ s. AreRounds (record { rounds = s.rounds.items; round = s.round }) };
 }
 
-impl SettledMarks {
+impl StableMarks {
     /// No place.
-    pub fn new(alloc: Global) -> SettledMarks
+    pub fn new(alloc: Global) -> StableMarks
         ensures { (place : ℕ) → IsMarked result place → ⊥ }
     {
-        SettledMarks {
+        StableMarks {
             rounds: Vec::new(alloc),
             round: 1,
         }

@@ -4,14 +4,15 @@ ghost use Rattle.std.specs.Prelude.{◌≡◌, IsTrue, false, map};
 ghost use Rattle.order_ints.specs.Truth.{not_atom};
 ghost use Rattle.order_ints.specs.Same.{same_atom};
 ghost use Rattle.order_ints.specs.View.{resolve};
-ghost use Rattle.core_forms.specs.Settled.{IsSettled, AreSettled, AreSettledBehind, IsSettledInt, AreSettledInts, IsSettledCore};
+ghost use Rattle.core_forms.specs.Stable.{IsStable, AreStable, AreStableBehind, IsStableInt, AreStableInts};
+ghost use Rattle.core_forms.specs.Stable.{IsStableCore};
 
 use crate::form::Core;
 use order_ints::{Atom, OrdInt, label_of, resolve};
 
 /// Whether the view has an atom as it is, and that is no constant.
-fn is_settled_atom(view: &[Atom], atom: Atom) -> bool
-    ensures { IsTrue result → IsSettled view.now atom }
+fn is_stable_atom(view: &[Atom], atom: Atom) -> bool
+    ensures { IsTrue result → IsStable view.now atom }
 {
     let Atom::Of(literal) = atom else {
         return false;
@@ -23,11 +24,11 @@ fn is_settled_atom(view: &[Atom], atom: Atom) -> bool
 }
 
 /// Whether the view has all these atoms as they are, and none is a constant, so that they stay as they are.
-pub(super) fn are_settled(atoms: &[Atom], view: &[Atom]) -> bool
-    ensures { IsTrue result → AreSettled view.now atoms.now }
+pub(super) fn are_stable(atoms: &[Atom], view: &[Atom]) -> bool
+    ensures { IsTrue result → AreStable view.now atoms.now }
 {
     for atom in atoms {
-        if !is_settled_atom(view, *atom) {
+        if !is_stable_atom(view, *atom) {
             return false;
         }
     }
@@ -54,21 +55,21 @@ fn are_resolved(atoms: &[Atom], view: &[Atom]) -> bool
 }
 
 /// Whether a step behind one with another atom is merged with nothing, and follows from nothing.
-fn is_settled_behind(view: &[Atom], before: Atom, atom: Atom) -> bool
+fn is_stable_behind(view: &[Atom], before: Atom, atom: Atom) -> bool
     ensures { IsTrue result → (same_atom before atom ≡ false) × (same_atom atom (not_atom before) ≡ false)
-        × IsSettled view.now atom }
+        × IsStable view.now atom }
 {
-    before != atom && atom != before.not() && is_settled_atom(view, atom)
+    before != atom && atom != before.not() && is_stable_atom(view, atom)
 }
 
-/// Whether the steps stay as they are. No settled atom is False, so that the first one may be any.
-fn is_settled_int(a: &OrdInt, view: &[Atom]) -> bool
-    ensures { IsTrue result → IsSettledInt view.now a.now }
+/// Whether the steps stay as they are. No stable atom is False, so that the first one may be any.
+fn is_stable_int(a: &OrdInt, view: &[Atom]) -> bool
+    ensures { IsTrue result → IsStableInt view.now a.now }
 {
     let steps = a.steps.as_slice();
     let mut before = Atom::False;
     for step in steps {
-        if !is_settled_behind(view, before, step.0) {
+        if !is_stable_behind(view, before, step.0) {
             return false;
         }
         before = step.0;
@@ -77,11 +78,11 @@ fn is_settled_int(a: &OrdInt, view: &[Atom]) -> bool
 }
 
 /// Whether all these integers stay as they are.
-fn are_settled_ints(ints: &[OrdInt], view: &[Atom]) -> bool
-    ensures { IsTrue result → AreSettledInts view.now ints.now }
+fn are_stable_ints(ints: &[OrdInt], view: &[Atom]) -> bool
+    ensures { IsTrue result → AreStableInts view.now ints.now }
 {
     for a in ints {
-        if !is_settled_int(a, view) {
+        if !is_stable_int(a, view) {
             return false;
         }
     }
@@ -89,29 +90,28 @@ fn are_settled_ints(ints: &[OrdInt], view: &[Atom]) -> bool
 }
 
 /// Whether two lists of integers stay as they are.
-fn are_settled_words(front: &[OrdInt], back: &[OrdInt], view: &[Atom]) -> bool
-    ensures { IsTrue result → AreSettledInts view.now front.now × AreSettledInts view.now back.now }
+fn are_stable_words(front: &[OrdInt], back: &[OrdInt], view: &[Atom]) -> bool
+    ensures { IsTrue result → AreStableInts view.now front.now × AreStableInts view.now back.now }
 {
-    are_settled_ints(front, view) && are_settled_ints(back, view)
+    are_stable_ints(front, view) && are_stable_ints(back, view)
 }
 
 /// Whether a core stays as it is, for the forms that may have long lists.
-pub(super) fn is_settled_form(core: &Core, view: &[Atom]) -> bool
-    ensures { IsTrue result → IsSettledCore view.now core.now }
+pub(super) fn is_stable_form(core: &Core, view: &[Atom]) -> bool
+    ensures { IsTrue result → IsStableCore view.now core.now }
 {
     match core {
-        Core::Parity(atoms, _) => are_settled(atoms.as_slice(), view),
-        Core::Amo(atoms) => are_settled(atoms.as_slice(), view),
-        Core::Count(atoms, c) => are_settled(atoms.as_slice(), view)
-            && is_settled_int(c.get(), view),
-        Core::Sum(ints, _) => are_settled_ints(ints.as_slice(), view),
+        Core::Parity(atoms, _) => are_stable(atoms.as_slice(), view),
+        Core::Amo(atoms) => are_stable(atoms.as_slice(), view),
+        Core::Count(atoms, c) => are_stable(atoms.as_slice(), view) && is_stable_int(c.get(), view),
+        Core::Sum(ints, _) => are_stable_ints(ints.as_slice(), view),
         Core::AllDiff(ints, conditions) => {
             are_resolved(conditions.get().as_slice(), view)
-                && are_settled_ints(ints.as_slice(), view)
+                && are_stable_ints(ints.as_slice(), view)
         }
         Core::Lex(r, _, front, back) => {
             is_resolved(view, *r)
-                && are_settled_words(front.get().as_slice(), back.get().as_slice(), view)
+                && are_stable_words(front.get().as_slice(), back.get().as_slice(), view)
         }
         _ => false,
     }

@@ -24,6 +24,10 @@
 #   all_true    a count of Booleans at its greatest value
 #   one_true    at most one of them, of which one is true
 #   near_top    a sum of digits just below its greatest value
+#   twins       integers that differ, two and two of them with the same two values
+#   chasing     two integers each less than the other
+#   greatest_word  an order of two words of digits, of which the first has its greatest digits
+#   few_names   an order of two long words over four names
 # Words name the families to be timed; without words all are. `measure.py` says what is printed, `models.py` has the models.
 # Wants python3.
 set -eu
@@ -51,9 +55,13 @@ families=(
   sevenfold:500,2000,8000
   greatest:500,2000,8000
   conjuncts:2000,8000,32000
-  all_true:2000,8000,32000
+  all_true:2000,8000,16000
   one_true:2000,8000,16000
   near_top:500,2000,4000
+  twins:500,2000,4000
+  chasing:1000,2000,4000
+  greatest_word:200,800,1600
+  few_names:1000,4000
 )
 chosen=()
 for family in "${families[@]}"; do

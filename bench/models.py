@@ -177,6 +177,30 @@ def one_true(size):
 def near_top(size):
     return over(size, "new_int({},0,9)", f"int_array_sum_eq({{}},{9 * size - 3})")
 
+# Integers that differ, two and two of them with the same two values.
+def twins(size):
+    names = [name(n) for n in range(size)]
+    yield from (f"new_int({it},{n - n % 2},{n - n % 2 + 1})" for n, it in enumerate(names))
+    yield f"int_array_allDiff({joined(names)})"
+
+# Two integers each less than the other.
+def chasing(size):
+    yield f"new_int(a,0,{size}) new_int(b,0,{size}) int_lt(a,b) int_lt(b,a)"
+
+# An order of two words of digits up to 2, where the first one has its greatest digits.
+def greatest_word(size):
+    names = [name(n) for n in range(2 * size)]
+    yield from (f"new_int({it},0,2)" for it in names)
+    yield from (f"int_eq({it},2)" for it in names[:size])
+    yield f"int_arrays_lex({joined(names[:size])},{joined(names[size:])})"
+
+# An order of two long words over four names.
+def few_names(size):
+    chance = random.Random(1)
+    names = [name(n) for n in range(4)]
+    yield from (f"new_bool({it})" for it in names)
+    yield f"bool_arrays_lexLt({joined(chance.choices(names, k=size))},{joined(chance.choices(names, k=size))})"
+
 def empty(_):
     return ()
 

@@ -34,7 +34,7 @@ impl Search<'_> {
         analyse(&mut self.walker, &self.db, conflict)?;
         self.raised
             .gather(&self.db, self.walker.seen(), self.walker.lits())?;
-        self.order.bump(&mut self.raised.list);
+        self.order.bump(&self.db, &mut self.raised.list);
         self.candidates.uses.use_all(self.walker.hints());
         self.lesson()
     }

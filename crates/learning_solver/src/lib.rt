@@ -33,6 +33,7 @@ mod learning;
 mod lesson;
 mod listed;
 mod order;
+mod phases;
 mod profile;
 mod raising;
 mod reduce;
@@ -46,5 +47,6 @@ mod tunables;
 
 pub use found::Found;
 pub use order::Order;
+pub use phases::Aim;
 pub use sight::analyse;
 pub use solver::Solver;

@@ -11,6 +11,7 @@ ghost use Rattle.learning_solver.specs.Outcome.{Answers, most_learned};
 
 use crate::found::Found;
 use crate::order::Order;
+use crate::phases::Aim;
 use crate::search::Search;
 use crate::task::Task;
 use bee_list::Sequence;
@@ -80,6 +81,13 @@ impl<'a> Solver<'a> {
     {
         let Solver { search } = self;
         search.into_order()
+    }
+
+    /// The next calls look for this. At first solvers look for a refutation.
+    pub fn set_aim(&mut self, aim: Aim)
+        ensures { self.new ≡ self.old }
+    {
+        self.search.order.set_aim(aim);
     }
 
     /// Searches for truth values that satisfy the CNF and the assumption, or for a clause that refutes them, until the log

@@ -6,6 +6,9 @@ pub mod Denials
 pub mod Rups
 pub mod Additions
 mod Started
+mod TwoTiers
+mod Reasons
+mod Copied
 mod Spelled
 mod Taking
 mod Taken

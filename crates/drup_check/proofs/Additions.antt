@@ -149,7 +149,7 @@ module _ (old mid next new : ClauseLists) (r : ℕ) (lits : List Lit) (bottom : 
       listed-same next.clauses new.clauses clauses cs
       (λ c live. add-listed old.clauses next.clauses r 0 lits was-dead at-reference elsewhere cs listed one c live (cases_eq c r))
 
-  pub stored-refutes : (c : ℕ) → IsLive new.clauses c × IsFalse new.trail.entries (lits_of new.clauses c) → IsKept Refutes old new lits
+  pub stored-refutes : (c : ℕ) → IsLive new.clauses c × IsFalse new.trail.entries (lits_of new.clauses c) → IsTakenIn true old new lits
   stored-refutes c found = λ cs listed one. false-shows new c low db found.0 found.1 cs (now-listed cs listed one)
 
   pub stored-takes : IsComplete new.trail.entries new.clauses → TakesIn old new lits
@@ -175,7 +175,7 @@ taken-same old new ordered lits same false h = record {
 pub kept-same : (old new : ClauseLists) (ordered lits : List Lit) → SameSet ordered lits → (kept : Kept) → IsKept kept old new ordered → IsKept kept old new lits
 kept-same old new ordered lits same Idle h = taken-same old new ordered lits same false h
 kept-same old new ordered lits same (Stored r) h = taken-same old new ordered lits same false h
-kept-same old new ordered lits same Refutes h = taken-same old new ordered lits same true h
+kept-same old new ordered lits same (Refutes r) h = taken-same old new ordered lits same true h
 
 -- a clause with a literal and its negation need not be stored
 pub idle-takes : (s : ClauseLists) (lits : List Lit) → HasOpposites lits → s.trail.level ≡ 0 → IsComplete s.trail.entries s.clauses → TakesIn s s lits

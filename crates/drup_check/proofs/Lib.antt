@@ -8,10 +8,10 @@ pub mod Additions
 mod Started
 mod TwoTiers
 mod Reasons
-mod Copied
+mod CopiedLists
 mod Spelled
 mod Taking
-mod Taken
+pub mod Taken
 mod Checked
 pub mod Exact
 pub mod Proved

@@ -12,7 +12,7 @@ use Rattle.drup_check.specs.Taken.{IsSpelled, SaysOn, GoesOn, Misfits}
 use Rattle.drup_check.proofs.Members.{member-cases, no-member}
 use Rattle.drup_check.proofs.Taking.{deletes, no_deletion, adds, no_addition, not_shown, said, none_said}
 
-below-each : (n : ℕ) (c : List Lit) → ClauseBelow n c → (l : Lit) → Contains c l → LitBelow n l
+pub below-each : (n : ℕ) (c : List Lit) → ClauseBelow n c → (l : Lit) → Contains c l → LitBelow n l
 below-each n [] h l has = absurd (no-member l has)
 below-each n (m ∷ c) h l has =
     ⊎_elim

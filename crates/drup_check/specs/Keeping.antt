@@ -25,4 +25,4 @@ IsTakenIn false old new lits = TakesIn old new lits
 abbrev pub IsKept : Kept → ClauseLists → ClauseLists → List Lit → Type 0
 IsKept Idle = IsTakenIn false
 IsKept (Stored _) = IsTakenIn false
-IsKept Refutes = IsTakenIn true
+IsKept (Refutes _) = IsTakenIn true

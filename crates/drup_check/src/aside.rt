@@ -24,7 +24,7 @@ fn is_reason(db: &ClauseDb, c: ClauseRef) -> bool
 }
 
 /// Whether a clause is there, and no literal is true for it.
-pub(crate) fn may_leave(db: &ClauseDb, c: ClauseRef) -> bool
+pub fn may_leave(db: &ClauseDb, c: ClauseRef) -> bool
     requires { IsDb db.now.clauses db.now.trail }
     ensures live { IsTrue result → IsLive db.now.clauses c }
     ensures unused { IsTrue result → IsUnused db.now.trail.entries c }
@@ -33,7 +33,7 @@ pub(crate) fn may_leave(db: &ClauseDb, c: ClauseRef) -> bool
 }
 
 /// The literals of a clause.
-pub(crate) fn copied(
+pub fn copied(
     alloc: Global,
     db: &ClauseDb,
     c: ClauseRef,

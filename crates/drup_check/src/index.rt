@@ -11,7 +11,7 @@ use std::alloc::{AllocError, Global};
 /// The references of clauses by sums over their literals, which are the same in any order. Of two clauses with one sum the one
 /// that came last is found.
 #[derive(Drop)]
-pub(crate) struct ClauseIndex {
+pub struct ClauseIndex {
     references: IndexMap<u64, ClauseRef>,
 }
 
@@ -46,14 +46,14 @@ fn sum_at(db: &ClauseDb, c: ClauseRef) -> u64
 
 impl ClauseIndex {
     /// No clause.
-    pub(crate) fn new(alloc: Global) -> ClauseIndex {
+    pub fn new(alloc: Global) -> ClauseIndex {
         ClauseIndex {
             references: IndexMap::new(alloc),
         }
     }
 
     /// The clauses of a store.
-    pub(crate) fn of(alloc: Global, db: &ClauseDb) -> Result<ClauseIndex, AllocError> {
+    pub fn of(alloc: Global, db: &ClauseDb) -> Result<ClauseIndex, AllocError> {
         let mut index = ClauseIndex::new(alloc);
         for c in 0..db.references() {
             if db.is_live(c) {
@@ -64,13 +64,13 @@ impl ClauseIndex {
     }
 
     /// Notes where a clause stands.
-    pub(crate) fn note(&mut self, lits: &[Lit], c: ClauseRef) -> Result<(), AllocError> {
+    pub fn note(&mut self, lits: &[Lit], c: ClauseRef) -> Result<(), AllocError> {
         self.references.insert(sum_of(lits), c)?;
         Ok(())
     }
 
     /// Forgets where a clause stands, and answers it.
-    pub(crate) fn take(&mut self, lits: &[Lit]) -> Option<ClauseRef> {
+    pub fn take(&mut self, lits: &[Lit]) -> Option<ClauseRef> {
         self.references.swap_remove(&sum_of(lits))
     }
 }

@@ -20,8 +20,8 @@ pub enum Kept {
     Idle,
     /// It is stored under a reference.
     Stored(ClauseRef),
-    /// The clauses show the empty one with it.
-    Refutes,
+    /// It is stored under a reference, and the clauses show the empty one with it.
+    Refutes(ClauseRef),
 }
 
 /// A clause with each literal once; none where it has a literal and its negation.
@@ -44,7 +44,7 @@ fn store(db: &mut ClauseDb, lits: &[Lit]) -> Result<Kept, AllocError>
     db.reserve(lits.len(), 1)?;
     let reference = db.add(lits, 0);
     match db.propagate() {
-        Some(_) => Ok(Kept::Refutes),
+        Some(_) => Ok(Kept::Refutes(reference)),
         None => Ok(Kept::Stored(reference)),
     }
 }

@@ -33,8 +33,11 @@ mod store;
 mod tiers;
 mod words;
 
+pub use aside::{copied, may_leave};
 pub use check::check_drup;
 pub use fault::DrupFault;
+pub use index::ClauseIndex;
 pub use keeping::{Kept, keep};
 pub use laws::{proved_laws, shown_laws};
-pub use shown::is_shown;
+pub use shown::{deny_all, is_shown};
+pub use words::read_clause;

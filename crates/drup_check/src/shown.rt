@@ -31,8 +31,9 @@ fn deny(db: &mut ClauseDb, l: Lit) -> bool
     }
 }
 
-/// Denies literals, one after another, with what follows, until one is true or a clause is false.
-fn deny_all(db: &mut ClauseDb, lits: &[Lit]) -> bool
+/// Denies literals, one after another, with what follows, until one is true or a clause is false. The answer says whether it came to
+/// that. The levels that it begins are left, for a look at the reasons; a clause that is false is told by `propagate` again.
+pub fn deny_all(db: &mut ClauseDb, lits: &[Lit]) -> bool
     requires lits { (l : Lit) → Contains lits.now l → LitBelow (db.old.trail.vars + 1) l }
     requires complete { IsComplete db.old.trail.entries db.old.clauses }
     ensures denying { Denying lits.now db.old db.new }

@@ -75,7 +75,7 @@ impl Tiers {
         ensures vars { IfOk result (λ _. self.new.db.trail.vars ≡ self.old.db.trail.vars) }
     {
         match keep(alloc, &mut self.db, lits)? {
-            Kept::Refutes => Ok(true),
+            Kept::Refutes(_) => Ok(true),
             Kept::Idle => Ok(false),
             Kept::Stored(reference) => {
                 self.index.note(lits, reference)?;

@@ -1,7 +1,7 @@
 use Rattle.std.proofs.Common.{◌≡◌, ◌+◌, ◌++◌, List, drop, refl, sym, subst, ◌∙◌, arith}
 use Rattle.order_ints.specs.declared.literal.Lit.{Lit}
 use Rattle.clause_arena.specs.Clauses.{lits_of}
-use Rattle.drup_check.proofs.Copied.{copied-more, copied-all}
+use Rattle.drup_check.proofs.CopiedLists.{copied-more, copied-all}
 use Rattle.drup_check.proofs.aside.copied.Goals as goal
 
 pub loop-place-preserved : goal.loop-place-preserved

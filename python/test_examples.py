@@ -14,6 +14,8 @@ FIRST_LINES = {
     "golfers": "SATISFIABLE",
     "packing": "OPTIMUM 5",
     "tour": "OPTIMUM 87",
+    "exams": "OPTIMUM 4 22",
+    "domination": "OPTIMUM 8",
 }
 
 

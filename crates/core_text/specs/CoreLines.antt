@@ -18,7 +18,7 @@ use Rattle.model_meaning.specs.declared.model.Decl.{Decl}
 use Rattle.model_meaning.specs.declared.model.Model.{Model}
 use Rattle.model_meaning.specs.Domains.{in_domains}
 use Rattle.model_meaning.specs.Solutions.{AllHold}
-use Rattle.model_parts.specs.Only.{is_listed, numbers_of, chosen, only, all_but}
+use Rattle.model_parts.specs.Only.{is_listed, numbers_of, only, all_but}
 use Rattle.step_kernel.specs.Kernel.{Kernel}
 use Rattle.step_kernel.specs.CnfOf.{cnf_of}
 use Rattle.proof_check.specs.Lrat.{Proof, proof_of}
@@ -30,10 +30,11 @@ use Rattle.core_text.specs.declared.verdict.CoreVerdict.TheVariants.{Satisfiable
 use Rattle.core_text.specs.declared.part.Part.{Part}
 use Rattle.core_text.specs.declared.part.Part.TheVariants as part
 
--- What is known of a text behind some of its lines: the part that comes next, the verdict, the statements that were named, the
+-- What is known of a text behind some of its lines: the model, with all statements or with those that were named; the part that comes next, the verdict, the statements that were named, the
 -- statement that was named last, how many assignments were begun behind the derivation, the values of the last one, the state of the
 -- compilation, and how far the derivation has come.
 pub record Standing : Type 0 where
+  pub model : Model
   pub part : Part
   pub verdict : CoreVerdict
   pub core : List ℕ
@@ -44,8 +45,9 @@ pub record Standing : Type 0 where
   pub proof : Option Proof
 
 -- before the first line; statements are numbered from 1
-abbrev pub start_standing : Standing
-start_standing = record {
+abbrev pub start_standing : Model → Standing
+start_standing model = record {
+  model = model;
   part = part.Version;
   verdict = Satisfiable;
   core = [];
@@ -101,19 +103,20 @@ HasNamed (Core k) n = n ≡ k
 HasNamed (Unknown b) n = Unit {0}
 
 -- the next statement is named, one of the model behind those before it
-pub record IsNamed (model : Model) (s : Standing) (line : List ℕ) (t : Standing) : Type 0 where
+pub record IsNamed (s : Standing) (line : List ℕ) (t : Standing) : Type 0 where
   pub number : ℕ
+  pub small : number < 2 ^ 64
   pub spelled : line ≡ statement_line number
   pub room : MayName s.verdict (length s.core)
   pub above : s.now < number
-  pub named : IsTrue (is_listed number (numbers_of model.stmts))
+  pub named : IsTrue (is_listed number (numbers_of s.model.stmts))
   pub behind : t ≡ record s { core = s.core ++ number ∷ []; now = number }
 
 -- the ledger of the model with the named statements begins
-pub record IsLedgerBegin (model : Model) (s : Standing) (line : List ℕ) (t : Standing) : Type 0 where
+pub record IsLedgerBegin (s : Standing) (line : List ℕ) (t : Standing) : Type 0 where
   pub spelled : line ≡ codes "ledger"
   pub complete : HasNamed s.verdict (length s.core)
-  pub behind : t ≡ record s { part = part.Ledger; kernel = Some (start_of (only model s.core)) }
+  pub behind : t ≡ record s { model = only s.model s.core; part = part.Ledger; kernel = Some (start_of (only s.model s.core)) }
 
 -- a step of it
 pub record IsStep (s : Standing) (line : List ℕ) (t : Standing) : Type 0 where
@@ -160,37 +163,37 @@ abbrev pub GoesOn : Standing → List ℕ → Standing → Type 0
 GoesOn s line t = Continues s (next_without s.verdict s.core s.begun) line t
 
 -- the value of the next name
-pub record IsValue (model : Model) (s : Standing) (line : List ℕ) (t : Standing) : Type 0 where
+pub record IsValue (s : Standing) (line : List ℕ) (t : Standing) : Type 0 where
   pub decl : Decl
-  pub turn : slice_get model.decls (length s.values) ≡ Some decl
+  pub turn : slice_get s.model.decls (length s.values) ≡ Some decl
   pub value : ℤ
   pub told : IsValueLine decl line value
   pub behind : t ≡ record s { values = s.values ++ value ∷ [] }
 
 -- the statements that an assignment must meet: all, or those of the part but the one that was named last
-abbrev pub MeetsStatements : Model → Standing → CoreVerdict → Type 0
-MeetsStatements model s Satisfiable = AllHold s.values model.stmts
-MeetsStatements model s (Core k) = AllHold s.values (all_but s.now (chosen s.core model.stmts))
-MeetsStatements model s (Unknown n) = ⊥
+abbrev pub MeetsStatements : Standing → CoreVerdict → Type 0
+MeetsStatements s Satisfiable = AllHold s.values s.model.stmts
+MeetsStatements s (Core k) = AllHold s.values (all_but s.now s.model.stmts)
+MeetsStatements s (Unknown n) = ⊥
 
 -- each name has a value of its domain, and the statements hold
-pub record IsMet (model : Model) (s : Standing) : Type 0 where
-  pub all : length s.values ≡ length model.decls
-  pub in_domains : IsTrue (in_domains model.decls s.values)
-  pub holds : MeetsStatements model s s.verdict
+pub record IsMet (s : Standing) : Type 0 where
+  pub all : length s.values ≡ length s.model.decls
+  pub in_domains : IsTrue (in_domains s.model.decls s.values)
+  pub holds : MeetsStatements s s.verdict
 
 -- which line may stand next, part by part
-abbrev pub NextIn : Model → Standing → Part → List ℕ → Standing → Type 0
-NextIn model s part.Version line t = (line ≡ version_line) × (t ≡ record s { part = part.Verdict })
-NextIn model s part.Verdict line t = IsVerdict s line t
-NextIn model s part.Statements line t = IsNamed model s line t ⊎ IsLedgerBegin model s line t
-NextIn model s part.Ledger line t = IsStep s line t ⊎ IsProofBegin s line t
-NextIn model s part.Proof line t = IsDerived s line t ⊎ (IsConcluded s.verdict s.proof × GoesOn s line t)
-NextIn model s part.Values line t = IsValue model s line t ⊎ (IsMet model s × GoesOn s line t)
-NextIn model s part.End line t = ⊥
+abbrev pub NextIn : Standing → Part → List ℕ → Standing → Type 0
+NextIn s part.Version line t = (line ≡ version_line) × (t ≡ record s { part = part.Verdict })
+NextIn s part.Verdict line t = IsVerdict s line t
+NextIn s part.Statements line t = IsNamed s line t ⊎ IsLedgerBegin s line t
+NextIn s part.Ledger line t = IsStep s line t ⊎ IsProofBegin s line t
+NextIn s part.Proof line t = IsDerived s line t ⊎ (IsConcluded s.verdict s.proof × GoesOn s line t)
+NextIn s part.Values line t = IsValue s line t ⊎ (IsMet s × GoesOn s line t)
+NextIn s part.End line t = ⊥
 
-abbrev pub IsNext : Model → Standing → List ℕ → Standing → Type 0
-IsNext model s line t = NextIn model s s.part line t
+abbrev pub IsNext : Standing → List ℕ → Standing → Type 0
+IsNext s line t = NextIn s s.part line t
 
 -- the text may end behind its last line
 abbrev pub IsEnd : Standing → Type 0

@@ -3,7 +3,7 @@ use Rattle.std.specs.Prelude.{◌≡◌, ℕ, ◌≤◌, List, length, ℤ, IsTr
 use Rattle.model_meaning.specs.declared.model.Model.{Model}
 use Rattle.model_meaning.specs.Domains.{in_domains}
 use Rattle.model_meaning.specs.Solutions.{AllHold, IsSolution}
-use Rattle.model_meaning.specs.Limits.{InLimits}
+use Rattle.model_meaning.specs.Limits.{DeclsInLimit, InLimits}
 use Rattle.model_meaning.specs.WellTyped.{WellTyped}
 use Rattle.model_lower.specs.Weighed.{most_weight}
 use Rattle.model_parts.specs.Only.{is_listed, chosen, only, all_but}
@@ -33,13 +33,13 @@ Says model s (Unknown n) = Unit {0}
 -- Bytes are the text of a core, with its verdict and its statements.
 pub record IsCoreText (model : Model) (text : List ℕ) (v : CoreVerdict) : Type 0 where
   pub stands : Standing
-  pub whole : IsWhole (IsNext model) IsEnd start_standing text stands
+  pub whole : IsWhole IsNext IsEnd (start_standing model) text stands
   pub verdict : stands.verdict ≡ v
 
 -- what the text of a core says of a model that is taken is true, whoever wrote it
 abbrev pub CoreLaw : Type 0
 CoreLaw = (model : Model) (text : List ℕ) (s : Standing) → WellTyped model → InLimits model → core_weight model ≤ most_weight
-    → IsWhole (IsNext model) IsEnd start_standing text s → Says model s s.verdict
+    → IsWhole IsNext IsEnd (start_standing model) text s → Says model s s.verdict
 
 -- each part of a core that lacks one of its statements has a solution
 abbrev pub Irreducible : Type 0
@@ -48,4 +48,4 @@ Irreducible = (model : Model) (core fewer : List ℕ) (n : ℕ) → IsCore model
 
 -- a line leads to one standing, so a text is whole with one verdict, or has one first line that fails, and never both
 abbrev pub OneNext : Type 0
-OneNext = (model : Model) → InLimits model → (s t u : Standing) (line : List ℕ) → IsNext model s line t → IsNext model s line u → t ≡ u
+OneNext = (s t u : Standing) (line : List ℕ) → DeclsInLimit s.model.decls → IsNext s line t → IsNext s line u → t ≡ u

@@ -1,5 +1,5 @@
 -- The first broken statement, one left aside, among those from a place on.
-use Rattle.std.proofs.Common.{◌≡◌, ℕ, zero, suc, ◌+◌, ◌<◌, ℤ, Bool, true, false, List, [], ◌∷◌, drop, length, Option, Some, None, refl, ap, arith, add-one}
+use Rattle.std.proofs.Common.{◌≡◌, ℕ, zero, suc, ◌+◌, ◌<◌, ℤ, Bool, true, false, List, [], ◌∷◌, drop, length, Option, Some, None, refl, arith, add-one}
 use Rattle.std.specs.Prelude.{◌==◌, ◌||◌, slice_get, slice_index_or, IfSome, MatchOption, if◌then◌else◌}
 use Rattle.model_meaning.specs.declared.model.Stmt.{Stmt}
 use Rattle.model_meaning.specs.Holds.{holds}

@@ -1,10 +1,10 @@
 -- Chosen statements before and from a number on, among statements whose numbers ascend.
-use Rattle.std.proofs.Common.{◌≡◌, ℕ, ◌+◌, ◌≤◌, ◌<◌, Bool, true, false, List, [], ◌∷◌, refl, ap, sym, ◌∙◌, arith}
-use Rattle.std.specs.Prelude.{◌==◌, nat_lt, if◌then◌else◌}
+use Rattle.std.proofs.Common.{◌≡◌, ℕ, ◌+◌, ◌≤◌, Bool, true, false, List, [], ◌∷◌, refl, ap, arith}
+use Rattle.std.specs.Prelude.{nat_lt, if◌then◌else◌}
 use Rattle.model_meaning.specs.declared.model.Decl.{Decl}
 use Rattle.model_meaning.specs.declared.model.Stmt.{Stmt}
 use Rattle.model_meaning.specs.WellTyped.{StmtsFit}
-use Rattle.model_items.specs.Items.{stmts_before, stmts_from, behind_declared}
+use Rattle.model_items.specs.Items.{stmts_before, stmts_from}
 use Rattle.model_parts.specs.Only.{is_listed, chosen}
 
 -- numbers ascend from n on

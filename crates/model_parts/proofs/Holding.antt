@@ -19,9 +19,10 @@ all-chosen part a (s ∷ ss) = by_test (is_listed s.number part) (all-chosen par
     by_test false k = (λ h. (λ e. absurd (cc), k.0 h), λ h. k.1 h.1)
 
 pub only-solutions : (model : Model) (part : List ℕ) (a : List ℤ) → IsSolution (only model part) a ↔ (IsTrue (in_domains model.decls a) × ChosenHold part a model.stmts)
-only-solutions model part a =
-    (λ h. (h.in_domains, (all-chosen part a model.stmts).0 h.holds),
-    λ h. record { in_domains = h.0; holds = (all-chosen part a model.stmts).1 h.1 })
+only-solutions model part a = (
+  λ h. (h.in_domains, (all-chosen part a model.stmts).0 h.holds),
+  λ h. record { in_domains = h.0; holds = (all-chosen part a model.stmts).1 h.1 },
+)
 
 pub fewer-hold : (part fewer : List ℕ) (a : List ℤ) (ss : List Stmt) → IsWithin fewer part → ChosenHold part a ss → ChosenHold fewer a ss
 fewer-hold part fewer a [] w h = tt

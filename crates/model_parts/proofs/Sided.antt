@@ -2,7 +2,7 @@
 use Rattle.std.proofs.Common.{◌≡◌, ℕ, zero, suc, ◌+◌, ◌<◌, Bool, true, false, List, [], ◌∷◌, ◌++◌, drop, length, refl, append_assoc, add-one, arith}
 use Rattle.std.specs.Prelude.{slice_index_or}
 use Rattle.model_meaning.specs.declared.model.Stmt.{Stmt}
-use Rattle.model_parts.specs.Sides.{kept_of, left_of, IsNextMoved, IsSided}
+use Rattle.model_parts.specs.Sides.{kept_of, left_of, IsSided}
 
 kept-none : (ms : List Bool) → kept_of ms [] ≡ []
 kept-none [] = refl

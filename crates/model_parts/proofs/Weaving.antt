@@ -1,16 +1,14 @@
 -- Statements that are divided by marks, and put together again.
 use Rattle.std.proofs.Common.{◌≡◌, ℕ, ◌+◌, ◌≤◌, Bool, true, false, List, [], ◌∷◌, map, Result, Ok, Err, refl, ap, sym, ◌∙◌, arith}
-use Rattle.std.specs.Prelude.{◌==◌, ◌||◌, not, IfOk, if◌then◌else◌}
+use Rattle.std.specs.Prelude.{◌==◌, not, IfOk, if◌then◌else◌}
 use Rattle.std.specs.declared.alloc.AllocError.{AllocError}
-use Rattle.model_meaning.specs.declared.model.Goal.{Goal}
-use Rattle.model_meaning.specs.declared.model.Decl.{Decl}
 use Rattle.model_meaning.specs.declared.model.Stmt.{Stmt}
 use Rattle.model_meaning.specs.declared.model.Model.{Model}
 use Rattle.model_meaning.specs.WellTyped.{WellTyped}
 use Rattle.model_parts.specs.declared.divided.DividedModel.{DividedModel}
 use Rattle.model_parts.specs.Only.{is_listed, numbers_of, chosen, only}
 use Rattle.model_parts.specs.Sides.{kept_of, left_of, woven, IsDivided, IsMoved}
-use Rattle.model_parts.proofs.Chosen.{Rise, fit-rise, rise-less}
+use Rattle.model_parts.proofs.Chosen.{Rise, fit-rise}
 
 none : (ms : List Bool) → woven ms [] [] ≡ []
 none [] = refl
@@ -81,7 +79,7 @@ model-same a b d s g = λ i. record { decls = d i; stmts = s i; goal = g i }
 pub part-only : (model : Model) (d : DividedModel) → WellTyped model → IsDivided model d → d.part ≡ only model (numbers_of d.part.stmts)
 part-only model d typed h =
     let kept : chosen (numbers_of d.part.stmts) model.stmts ≡ d.part.stmts =
-        rw h.kept (kept-chosen 1 d.out.items model.stmts (fit-rise model.decls 1 model.stmts typed.stmts)) in
+    rw h.kept (kept-chosen 1 d.out.items model.stmts (fit-rise model.decls 1 model.stmts typed.stmts)) in
     model-same d.part (only model (numbers_of d.part.stmts)) h.decls (sym kept) h.goal
 
 pub marked-only : (model : Model) (d : DividedModel) (part : List ℕ)

@@ -1,5 +1,5 @@
 -- What a part of a model weighs.
-use Rattle.std.proofs.Common.{◌≡◌, ℕ, zero, suc, ◌+◌, ◌≤◌, ℤ, pos, Bool, true, false, List, [], ◌∷◌, ◌++◌, map, Option, Some, None, refl, ap, sym, subst, ◌∙◌, arith}
+use Rattle.std.proofs.Common.{◌≡◌, ℕ, zero, suc, ◌+◌, ◌≤◌, Bool, true, false, List, [], ◌∷◌, ◌++◌, map, refl, sym, subst, arith}
 use Rattle.std.specs.Prelude.{◌==◌, nat_lt, slice_get, IfSome, if◌then◌else◌}
 use Rattle.model_meaning.specs.declared.what.What.{What}
 use Rattle.model_meaning.specs.declared.what.What.TheVariants.{BoolToInt}

@@ -1,5 +1,5 @@
 -- The model with a part of its statements, which is a list of their numbers.
-use Rattle.std.specs.Prelude.{ℕ, ◌==◌, Bool, true, false, not, ◌||◌, List, [], ◌∷◌, map, if◌then◌else◌}
+use Rattle.std.specs.Prelude.{ℕ, ◌==◌, Bool, false, ◌||◌, List, [], ◌∷◌, map, if◌then◌else◌}
 use Rattle.model_meaning.specs.declared.model.Goal.TheVariants.{Satisfy}
 use Rattle.model_meaning.specs.declared.model.Stmt.{Stmt}
 use Rattle.model_meaning.specs.declared.model.Model.{Model}

@@ -1,5 +1,5 @@
 -- What is known of a model with a part of its statements.
-use Rattle.std.specs.Prelude.{◌≡◌, ◌↔◌, ◌≤◌, ℕ, ℤ, Bool, true, false, List, [], ◌∷◌, IsTrue, IsFalse}
+use Rattle.std.specs.Prelude.{◌↔◌, ◌≤◌, ℕ, ℤ, List, [], ◌∷◌, IsTrue, IsFalse}
 use Rattle.model_meaning.specs.declared.model.Stmt.{Stmt}
 use Rattle.model_meaning.specs.declared.model.Model.{Model}
 use Rattle.model_meaning.specs.Domains.{in_domains}

@@ -1,5 +1,5 @@
 -- Statements that are divided by marks, one for each place: those that are marked are left out, the others are kept.
-use Rattle.std.specs.Prelude.{◌≡◌, ℕ, Bool, true, false, List, [], ◌∷◌, ◌++◌}
+use Rattle.std.specs.Prelude.{◌≡◌, Bool, true, false, List, [], ◌∷◌, ◌++◌}
 use Rattle.model_meaning.specs.declared.model.Goal.TheVariants.{Satisfy}
 use Rattle.model_meaning.specs.declared.model.Stmt.{Stmt}
 use Rattle.model_meaning.specs.declared.model.Model.{Model}
@@ -42,10 +42,6 @@ pub record IsDivided (model : Model) (d : DividedModel) : Type 0 where
   pub goal : d.part.goal ≡ Satisfy
   pub kept : d.part.stmts ≡ kept_of d.out.items model.stmts
   pub left : d.left.items ≡ left_of d.out.items model.stmts
-
--- the model whose division it is
-abbrev pub whole_of : DividedModel → Model
-whole_of d = record { decls = d.part.decls; stmts = woven d.out.items d.part.stmts d.left.items; goal = Satisfy }
 
 -- its statements are put on two sides anew by other marks
 pub record IsMoved (old : DividedModel) (marks : List Bool) (d : DividedModel) : Type 0 where

@@ -53,11 +53,7 @@ fn move_rest(to: &mut Vec<Stmt>, from: &mut Vec<Stmt>) -> Result<(), AllocError>
 }
 
 /// The statements by their marks.
-pub(crate) fn part_by(
-    alloc: Global,
-    stmts: Vec<Stmt>,
-    marks: &[bool],
-) -> Result<Sides, AllocError>
+pub(crate) fn part_by(alloc: Global, stmts: Vec<Stmt>, marks: &[bool]) -> Result<Sides, AllocError>
     ensures kept { IfOk result (λ s. s.kept.items ≡ kept_of marks.now stmts.items) }
     ensures left { IfOk result (λ s. s.left.items ≡ left_of marks.now stmts.items) }
 {

@@ -7,8 +7,8 @@ use Rattle.drup_check.specs.Stored.{SameSet, IsHeld, IsListed, AreListed}
 use Rattle.drup_check.specs.declared.keeping.Kept.{Kept}
 use Rattle.drup_check.specs.declared.keeping.Kept.TheVariants.{Idle, Stored, Refutes}
 
--- A store takes a clause in: it holds what it held, and the clause; any list that has its clauses, and the new one, has those behind it; and at
--- level 0 no clause is false or unit.
+-- A store takes a clause in: it holds what it held, and the clause; any list that has its clauses, and the new one, has
+-- those behind it; and at level 0 no clause is false or unit.
 pub record TakesIn (old new : ClauseLists) (lits : List Lit) : Type 0 where
   pub stays : (d : List Lit) → IsHeld old.clauses d → IsHeld new.clauses d
   pub comes : (d : List Lit) → SameSet lits d → IsHeld new.clauses d

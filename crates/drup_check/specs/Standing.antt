@@ -9,13 +9,14 @@ use Rattle.drup_check.specs.declared.tiers.Tiers.{Tiers}
 use Rattle.drup_check.specs.declared.tiers.Trial.{Trial}
 use Rattle.drup_check.specs.declared.tiers.Trial.TheVariants.{Shown, Missing, Refuted}
 
--- The listed clauses are those that are watched and those that were deleted, but for those with a literal and its negation, which may be left out.
--- At level 0 no watched clause is false or unit.
+-- The listed clauses are those that are watched and those that were deleted, but for those with a literal and its
+-- negation, which may be left out. At level 0 no watched clause is false or unit.
 pub record Stands (s : Tiers) (cs : List (List Lit)) : Type 0 where
   pub held : (d : List Lit) → Contains cs d → IsHeld s.db.clauses d ⊎ IsListed s.gone.items d
   pub listed : AreListed s.db.clauses cs
   pub gone : (g : List Lit) → Contains s.gone.items g → IsListed cs g
-  pub in_range : (g : List Lit) → Contains s.gone.items g → (l : Lit) → Contains g l → LitBelow (s.db.trail.vars + 1) l
+  pub in_range : (g : List Lit) → Contains s.gone.items g → (l : Lit) → Contains g l
+      → LitBelow (s.db.trail.vars + 1) l
   pub bottom : s.db.trail.level ≡ 0
   pub complete : IsComplete s.db.trail.entries s.db.clauses
 

@@ -39,7 +39,8 @@ AreHeld clauses cs = (d : List Lit) → Contains cs d → IsHeld clauses d
 abbrev pub AreListed : List Clause → List (List Lit) → Type 0
 AreListed clauses cs = (c : ℕ) → IsLive clauses c → IsListed cs (lits_of clauses c)
 
--- a clause put in order: its literals, of which no two have one variable; nothing where it has a literal and its negation
+-- a clause put in order: its literals, of which no two have one variable; nothing where it has a literal and its
+-- negation
 abbrev pub IsOrderedAs : List Lit → Option (List Lit) → Type 0
 IsOrderedAs lits None = HasOpposites lits
 IsOrderedAs lits (Some ordered) = IsApart ordered × SameSet ordered lits

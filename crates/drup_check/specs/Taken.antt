@@ -14,7 +14,8 @@ IsSpelled true vars words = (clause : List Lit) × SpellsClause vars words claus
 IsSpelled false vars words = (clause : List Lit) → SpellsClause vars words clause → ⊥
 
 -- the words say clauses, and the store stands for them
-pub record SaysOn (vars : ℕ) (cs : List (List Lit)) (words : List (List ℕ)) (refuted : Bool) (s : Tiers) : Type 0 where
+pub record SaysOn (vars : ℕ) (cs : List (List Lit)) (words : List (List ℕ)) (refuted : Bool) (s : Tiers)
+    : Type 0 where
   pub clauses : List (List Lit)
   pub says : Says vars cs words clauses
   pub stands : StandsAs refuted s clauses

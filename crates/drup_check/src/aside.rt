@@ -33,11 +33,7 @@ pub fn may_leave(db: &ClauseDb, c: ClauseRef) -> bool
 }
 
 /// The literals of a clause.
-pub fn copied(
-    alloc: Global,
-    db: &ClauseDb,
-    c: ClauseRef,
-) -> Result<Sequence<Lit>, AllocError>
+pub fn copied(alloc: Global, db: &ClauseDb, c: ClauseRef) -> Result<Sequence<Lit>, AllocError>
     requires { IsLive db.now.clauses c }
     ensures { IfOk result (λ lits. lits ≡ lits_of db.now.clauses c) }
 {

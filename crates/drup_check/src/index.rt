@@ -8,8 +8,8 @@ use indexmap::IndexMap;
 use order_ints::Lit;
 use std::alloc::{AllocError, Global};
 
-/// The references of clauses by sums over their literals, which are the same in any order. Of two clauses with one sum the one
-/// that came last is found.
+/// The references of clauses by sums over their literals, which are the same in any order. Of two clauses with one sum
+/// the one that came last is found.
 #[derive(Drop)]
 pub struct ClauseIndex {
     references: IndexMap<u64, ClauseRef>,

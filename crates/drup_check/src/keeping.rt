@@ -49,8 +49,8 @@ fn store(db: &mut ClauseDb, lits: &[Lit]) -> Result<Kept, AllocError>
     }
 }
 
-/// Adds a clause to those of a store. A clause with a literal and its negation is not stored. Where memory is wanting the
-/// store is as it was. It takes the time of one sort of the literals, and of the propagation.
+/// Adds a clause to those of a store. A clause with a literal and its negation is not stored. Where memory is wanting
+/// the store is as it was. It takes the time of one sort of the literals, and of the propagation.
 pub fn keep(alloc: Global, db: &mut ClauseDb, lits: &[Lit]) -> Result<Kept, AllocError>
     requires lits { (l : Lit) → Contains lits.now l → LitBelow (db.old.trail.vars + 1) l }
     requires bottom { db.old.trail.level ≡ 0 }

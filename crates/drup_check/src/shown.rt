@@ -31,8 +31,9 @@ fn deny(db: &mut ClauseDb, l: Lit) -> bool
     }
 }
 
-/// Denies literals, one after another, with what follows, until one is true or a clause is false. The answer says whether it came to
-/// that. The levels that it begins are left, for a look at the reasons; a clause that is false is told by `propagate` again.
+/// Denies literals, one after another, with what follows, until one is true or a clause is false. The answer says
+/// whether it came to that. The levels that it begins are left, for a look at the reasons; a clause that is false is
+/// told by `propagate` again.
 pub fn deny_all(db: &mut ClauseDb, lits: &[Lit]) -> bool
     requires lits { (l : Lit) → Contains lits.now l → LitBelow (db.old.trail.vars + 1) l }
     requires complete { IsComplete db.old.trail.entries db.old.clauses }
@@ -49,8 +50,8 @@ pub fn deny_all(db: &mut ClauseDb, lits: &[Lit]) -> bool
     false
 }
 
-/// Whether the clauses of a store show a clause, by complete propagation behind the denial of its literals. The trail is as it was
-/// then. It takes time for each clause that watches what has become false, and no memory.
+/// Whether the clauses of a store show a clause, by complete propagation behind the denial of its literals. The trail
+/// is as it was then. It takes time for each clause that watches what has become false, and no memory.
 pub fn is_shown(db: &mut ClauseDb, lits: &[Lit]) -> bool
     requires bottom { db.old.trail.level ≡ 0 }
     requires lits { (l : Lit) → Contains lits.now l → LitBelow (db.old.trail.vars + 1) l }

@@ -1,6 +1,7 @@
 //! The clauses that a proof has so far.
 
-ghost use Rattle.std.specs.Prelude.{◌≡◌, ◌+◌, ◌≤◌, ◌^◌, ◌↔◌, ◌∷◌, ◌++◌, [], List, Contains, IfOk, IsTrue, MatchBool};
+ghost use Rattle.std.specs.Prelude.{◌≡◌, ◌+◌, ◌≤◌, ◌^◌, ◌↔◌, ◌∷◌, ◌++◌, [], List};
+ghost use Rattle.std.specs.Prelude.{Contains, IfOk, IsTrue, MatchBool};
 ghost use Rattle.bee_text.specs.Gaps.{words_of};
 ghost use Rattle.order_ints.specs.declared.literal.Lit.{Lit};
 ghost use Rattle.order_ints.specs.Place.{LitBelow, InRange};
@@ -55,7 +56,8 @@ impl ProofStore {
         requires lits { (l : Lit) → Contains lits.now l → LitBelow (self.old.tiers.db.trail.vars + 1) l }
         requires stands { (cs : List (List Lit)) × StandsAs self.old.refuted self.old.tiers cs }
         ensures taken { IfOk result (λ taken. (cs : List (List Lit)) → StandsAs self.old.refuted self.old.tiers cs
-            → MatchBool taken (Rup cs lits.now × StandsAs self.new.refuted self.new.tiers (cs ++ lits.now ∷ [])) (Rup cs lits.now → ⊥)) }
+            → MatchBool taken (Rup cs lits.now × StandsAs self.new.refuted self.new.tiers (cs ++ lits.now ∷ []))
+            (Rup cs lits.now → ⊥)) }
         ensures vars { IfOk result (λ _. self.new.tiers.db.trail.vars ≡ self.old.tiers.db.trail.vars) }
     {
         if self.refuted {
@@ -116,7 +118,8 @@ impl ProofStore {
         requires words { words_of line.now ≡ first.now ∷ words_of behind.now }
         requires stands { (cs : List (List Lit)) × StandsAs self.old.refuted self.old.tiers cs }
         ensures taken { IfOk result (λ taken. (cs : List (List Lit)) → StandsAs self.old.refuted self.old.tiers cs
-            → MatchBool taken (SaysOn self.old.tiers.db.trail.vars cs (words_of line.now) self.new.refuted self.new.tiers)
+            → MatchBool taken
+            (SaysOn self.old.tiers.db.trail.vars cs (words_of line.now) self.new.refuted self.new.tiers)
             ((after : List (List Lit)) → Says self.old.tiers.db.trail.vars cs (words_of line.now) after → ⊥)) }
         ensures vars { IfOk result (λ _. self.new.tiers.db.trail.vars ≡ self.old.tiers.db.trail.vars) }
     {

@@ -1,6 +1,7 @@
 //! Two tiers of clauses: those that are watched, and beside them those that were deleted.
 
-ghost use Rattle.std.specs.Prelude.{◌≡◌, ◌+◌, ◌≤◌, ◌^◌, ◌∷◌, ◌++◌, [], List, Contains, IfOk, IsTrue};
+ghost use Rattle.std.specs.Prelude.{◌≡◌, ◌+◌, ◌≤◌, ◌^◌, ◌∷◌, ◌++◌, [], List, Contains};
+ghost use Rattle.std.specs.Prelude.{IfOk, IsTrue};
 ghost use Rattle.order_ints.specs.declared.literal.Lit.{Lit};
 ghost use Rattle.order_ints.specs.Place.{LitBelow, InRange};
 ghost use Rattle.clause_rings.specs.Clauses.{AreApartIn, IsComplete};
@@ -58,7 +59,8 @@ impl Tiers {
         requires stands { (cs : List (List Lit)) × Stands self.old cs }
         ensures stands { (cs : List (List Lit)) → Stands self.old cs → Stands self.new cs }
         ensures shown { (cs : List (List Lit)) → Stands self.old cs → IsTrue result → Rup cs lits.now }
-        ensures all { (cs : List (List Lit)) → Stands self.old cs → self.old.gone.items ≡ [] → Rup cs lits.now → IsTrue result }
+        ensures all { (cs : List (List Lit)) → Stands self.old cs → self.old.gone.items ≡ [] → Rup cs lits.now
+            → IsTrue result }
         ensures gone { self.new.gone ≡ self.old.gone }
         ensures vars { self.new.db.trail.vars ≡ self.old.db.trail.vars }
     {
@@ -99,7 +101,8 @@ impl Tiers {
     /// Puts all deleted clauses back. The answer says whether the clauses show the empty one.
     pub(crate) fn bring_back(&mut self, alloc: Global) -> Result<bool, AllocError>
         requires stands { (cs : List (List Lit)) × Stands self.old cs }
-        ensures stands { IfOk result (λ refuted. (cs : List (List Lit)) → Stands self.old cs → IsBroughtBack refuted self.new cs) }
+        ensures stands { IfOk result (λ refuted. (cs : List (List Lit)) → Stands self.old cs
+            → IsBroughtBack refuted self.new cs) }
         ensures vars { IfOk result (λ _. self.new.db.trail.vars ≡ self.old.db.trail.vars) }
     {
         while let Some(clause) = self.gone.pop() {
@@ -125,12 +128,13 @@ impl Tiers {
         }
     }
 
-    /// Whether the clauses show a clause: first those that are watched, and then all. It takes the time of propagation from the
-    /// denial of the literals; where the watched ones don't show it, all that were deleted come back.
+    /// Whether the clauses show a clause: first those that are watched, and then all. It takes the time of propagation
+    /// from the denial of the literals; where the watched ones don't show it, all that were deleted come back.
     pub(crate) fn try_clause(&mut self, alloc: Global, lits: &[Lit]) -> Result<Trial, AllocError>
         requires lits { (l : Lit) → Contains lits.now l → LitBelow (self.old.db.trail.vars + 1) l }
         requires stands { (cs : List (List Lit)) × Stands self.old cs }
-        ensures tried { IfOk result (λ trial. (cs : List (List Lit)) → Stands self.old cs → IsTried trial self.new cs lits.now) }
+        ensures tried { IfOk result (λ trial. (cs : List (List Lit)) → Stands self.old cs
+            → IsTried trial self.new cs lits.now) }
         ensures vars { IfOk result (λ _. self.new.db.trail.vars ≡ self.old.db.trail.vars) }
     {
         if self.shows(lits) {

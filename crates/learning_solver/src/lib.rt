@@ -24,6 +24,7 @@
 #![tactic(auto)]
 
 mod adding;
+mod bumping;
 mod candidates;
 mod deciding;
 mod deletable;
@@ -35,7 +36,6 @@ mod listed;
 mod order;
 mod phases;
 mod profile;
-mod raising;
 mod reduce;
 mod restarts;
 mod running;

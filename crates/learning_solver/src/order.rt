@@ -5,7 +5,8 @@
 //! in which order the variables of a conflict move, and which of the first free ones is decided. That was faster than
 //! either alone, and than a heap.
 
-ghost use Rattle.std.specs.Prelude.{◌≡◌, ◌+◌, ◌^◌, ◌≤◌, ◌<◌, ◌⊎◌, ◌↔◌, ℕ, length, All, IsTrue, IfOk, IfSome, IsNone, Option, Some, None};
+ghost use Rattle.std.specs.Prelude.{◌≡◌, ◌+◌, ◌^◌, ◌≤◌, ◌<◌, ◌⊎◌, ◌↔◌, ℕ, length};
+ghost use Rattle.std.specs.Prelude.{All, IsTrue, IfOk, IfSome, IsNone, Option, Some, None};
 ghost use Rattle.std.specs.Option.{ForSome};
 ghost use Rattle.index_ring.specs.Lists.{IsRings, Stands, list_of, first_in, no_lists};
 ghost use Rattle.literal_trail.specs.Trail.{entry_of};
@@ -230,13 +231,13 @@ impl Order {
     }
 
     /// Bumps the variables of a conflict, and puts them in front, the most active one first. It sorts them.
-    pub fn bump(&mut self, db: &ClauseDb, raised: &mut Vec<u32>)
+    pub fn bump(&mut self, db: &ClauseDb, bumped: &mut Vec<u32>)
         ensures { self.new ≡ self.old }
     {
         self.phases.note_conflict(db);
         let activity = self.activity.as_slice();
-        raised.sort_unstable_by_key(|v| activity.get(*v as usize).copied());
-        for v in raised.iter() {
+        bumped.sort_unstable_by_key(|v| activity.get(*v as usize).copied());
+        for v in bumped.iter() {
             if *v > 0 && *v <= self.vars {
                 self.put_in_front(*v);
             }

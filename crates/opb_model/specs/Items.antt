@@ -1,5 +1,6 @@
 -- The items of a pseudo-Boolean file's model: what its text says.
-use Rattle.std.specs.Prelude.{ℕ, zero, suc, ◌+◌, List, [], ◌∷◌, ◌++◌, map, codes, Option, Some, None, if◌then◌else◌}
+use Rattle.std.specs.Prelude.{ℕ, zero, suc, ◌+◌, List, [], ◌∷◌, ◌++◌, map, codes, Option, Some, None}
+use Rattle.std.specs.Prelude.{if◌then◌else◌}
 use Rattle.bumblebee_reader.specs.declared.syntax.Term.{Term as Word}
 use Rattle.bumblebee_reader.specs.declared.syntax.Term.TheVariants as word
 use Rattle.bumblebee_reader.specs.declared.syntax.Arg.TheVariants.{One, Many}
@@ -29,11 +30,13 @@ abbrev pub coefficient_word : Term → Word
 coefficient_word t = word.Number t.coefficient
 
 abbrev pub literal_word : Term → Word
-literal_word t = if t.literal.positive then word.Plain (variable_name t.literal.index) else word.Minus (variable_name t.literal.index)
+literal_word t = if t.literal.positive then word.Plain (variable_name t.literal.index)
+    else word.Minus (variable_name t.literal.index)
 
 -- a sum stands to a number, or to the cost, as it is to
 abbrev pub sum_item : Comparison → List Term → Word → Item
-sum_item c terms bound = Call (sum_name c) (Many (map coefficient_word terms) ∷ Many (map literal_word terms) ∷ One bound ∷ [])
+sum_item c terms bound =
+    Call (sum_name c) (Many (map coefficient_word terms) ∷ Many (map literal_word terms) ∷ One bound ∷ [])
 
 -- the cost, and that it is the sum of the objective
 abbrev pub cost_item : Objective → Item
@@ -57,7 +60,9 @@ goal_item (Some o) = Goal Minimize (Some cost_name) None
 
 -- all items, and the text that says them
 abbrev pub items_of : Opb → List Item
-items_of opb = variable_items 1 opb.vars ++ (cost_items opb.objective ++ (constraint_items opb.constraints ++ goal_item opb.objective ∷ []))
+items_of opb =
+    variable_items 1 opb.vars
+    ++ (cost_items opb.objective ++ (constraint_items opb.constraints ++ goal_item opb.objective ∷ []))
 
 abbrev pub syntax_of : Opb → Syntax
 syntax_of opb = record { items = items_of opb }

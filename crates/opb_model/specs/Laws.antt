@@ -18,7 +18,8 @@ pub record IsSaid (opb : Opb) : Type 0 where
 abbrev pub TextSays : Type 0
 TextSays = (opb : Opb) → OpbFits opb → IsSaid opb
 
--- The solutions of the model are the assignments that satisfy the file, with what they cost, and each of these is one solution.
+-- The solutions of the model are the assignments that satisfy the file, with what they cost, and each of these is one
+-- solution.
 abbrev pub SolutionsAreThose : Type 0
 SolutionsAreThose =
     (opb : Opb) → OpbFits opb

@@ -4,7 +4,8 @@ use Rattle.model_meaning.specs.Terms.{as_number}
 use Rattle.opb_front.specs.declared.items.Opb.{Opb}
 use Rattle.opb_front.specs.Solutions.{Solves, costs}
 
--- what an assignment of the file is in the model: each truth value as a number, and then the cost, where there is an objective
+-- what an assignment of the file is in the model: each truth value as a number, and then the cost, where there is an
+-- objective
 abbrev pub numbers_of : Opb → List Bool → List ℤ
 numbers_of opb b = map as_number b ++ costs opb.objective b
 

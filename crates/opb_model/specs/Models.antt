@@ -1,6 +1,8 @@
--- The model of a pseudo-Boolean file. A Boolean of the name `xi` stands for the variable of index i, and where there is an
--- objective, an integer of the name `o` for the cost. The place of `xi` is i - 1, since each variable is declared, in order.
-use Rattle.std.specs.Prelude.{ℕ, zero, suc, ◌+◌, ◌-◌, ℤ, List, [], ◌∷◌, ◌++◌, map, codes, decimal, Option, Some, None}
+-- The model of a pseudo-Boolean file. A Boolean of the name `xi` stands for the variable of index i, and where there is
+-- an objective, an integer of the name `o` for the cost. The place of `xi` is i - 1, since each variable is declared,
+-- in order.
+use Rattle.std.specs.Prelude.{ℕ, zero, suc, ◌+◌, ◌-◌, ℤ, List, [], ◌∷◌, ◌++◌, map, codes, decimal}
+use Rattle.std.specs.Prelude.{Option, Some, None}
 use Rattle.model_meaning.specs.declared.what.BoolTerm.{BoolTerm}
 use Rattle.model_meaning.specs.declared.what.BoolTerm.TheVariants as bool_term
 use Rattle.model_meaning.specs.declared.what.IntTerm.{IntTerm}
@@ -72,7 +74,8 @@ members terms = map member terms
 
 -- a sum stands to a number, or to the cost, as it is to, item n
 abbrev pub sum : ℕ → Comparison → List Term → IntTerm → Stmt
-sum n c terms bound = record { number = n; what = BoolLinear (sum_name c) (relation_of c) (coefficients terms) (members terms) bound }
+sum n c terms bound =
+    record { number = n; what = BoolLinear (sum_name c) (relation_of c) (coefficients terms) (members terms) bound }
 
 -- the cost at this place is the sum of the objective
 abbrev pub cost_stmts : ℕ → ℕ → Option Objective → List Stmt
@@ -98,6 +101,7 @@ goal_of place (Some o) = goal.Minimize place None
 abbrev pub opb_model : Opb → Model
 opb_model opb = record {
   decls = variables_from 1 opb.vars ++ cost_decls (opb.vars + 1) opb.objective;
-  stmts = cost_stmts (opb.vars + 2) opb.vars opb.objective ++ constraint_stmts (first_constraint opb.vars opb.objective) opb.constraints;
+  stmts = cost_stmts (opb.vars + 2) opb.vars opb.objective
+      ++ constraint_stmts (first_constraint opb.vars opb.objective) opb.constraints;
   goal = goal_of opb.vars opb.objective;
 }

@@ -1,5 +1,6 @@
 -- A text of which no more may be written than so many bytes.
-use Rattle.std.specs.Prelude.{◌≡◌, ℕ, ◌<◌, Bool, true, false, List, [], ◌∷◌, ◌++◌, length, map, codes}
+use Rattle.std.specs.Prelude.{◌≡◌, ℕ, ◌<◌, Bool, true, false, List, [], ◌∷◌, ◌++◌, length, map}
+use Rattle.std.specs.Prelude.{codes}
 use Rattle.std.specs.List.{flat_map}
 use Rattle.bumblebee_reader.specs.Canonical.{terms_text, item_line}
 use Rattle.opb_front.specs.declared.items.Term.{Term}
@@ -15,7 +16,9 @@ sum_front c terms =
 
 -- the lines behind those of the variables
 abbrev pub other_lines : Opb → List ℕ
-other_lines opb = flat_map item_line (cost_items opb.objective ++ (constraint_items opb.constraints ++ goal_item opb.objective ∷ []))
+other_lines opb =
+    flat_map item_line
+    (cost_items opb.objective ++ (constraint_items opb.constraints ++ goal_item opb.objective ∷ []))
 
 -- lines were appended, all of them, or not, since the text would be too long
 abbrev pub IsWritten : List ℕ → List ℕ → ℕ → List ℕ → Bool → Type 0

@@ -2,7 +2,8 @@
 
 ghost use Rattle.std.specs.Prelude.{◌≡◌, ◌≤◌, ◌<◌, ◌^◌, ◌+◌, ◌++◌, length, map, IfOk, OnOk};
 ghost use Rattle.opb_front.specs.Fits.{TermsFit};
-ghost use Rattle.opb_model.specs.Models.{relation_of, sum_name, coefficients, member, members, sum, cost_stmts, constraint_stmts, first_constraint};
+ghost use Rattle.opb_model.specs.Models.{relation_of, sum_name, coefficients, member, members, sum, cost_stmts};
+ghost use Rattle.opb_model.specs.Models.{constraint_stmts, first_constraint};
 
 use bee_list::Sequence;
 use bumblebee_reader::Name;

@@ -5,7 +5,8 @@ ghost use Rattle.std.specs.List.{flat_map};
 ghost use Rattle.bumblebee_reader.specs.Canonical.{item_line, term_text, terms_text};
 ghost use Rattle.bumblebee_reader.specs.declared.syntax.Term.TheVariants.{Number};
 ghost use Rattle.opb_model.specs.Models.{variable_name};
-ghost use Rattle.opb_model.specs.Items.{variable_item, coefficient_word, literal_word, constraint_item, cost_item, cost_items, goal_item};
+ghost use Rattle.opb_model.specs.Items.{variable_item, coefficient_word, literal_word, constraint_item, cost_item};
+ghost use Rattle.opb_model.specs.Items.{cost_items, goal_item};
 ghost use Rattle.opb_model.specs.Written.{sum_front};
 
 use crate::statements::sum_name;

@@ -80,8 +80,8 @@ const RULER: &str =
 const TWO_SEARCHES: &str =
     "new_int(a,0,2) new_int(b,0,2) new_int(c,0,2) new_int(d,0,3) new_int(t,0,9) new_int(u,0,3) int_array_allDiff([a,b,c]) int_array_plus([a,b,c,d],t) new_bool(p11) new_bool(p12) new_bool(p21) new_bool(p22) new_bool(p31) new_bool(p32) new_bool(q) bool_array_or([p11,p12]) bool_array_or([p21,p22]) bool_array_or([p31,p32]) bool_array_or([-p11,-p21,q]) bool_array_or([-p11,-p31,q]) bool_array_or([-p21,-p31,q]) bool_array_or([-p12,-p22,q]) bool_array_or([-p12,-p32,q]) bool_array_or([-p22,-p32,q]) bool2int(q,u) solve minimize t then u";
 
-/// Models and budgets, with restarts or without, and the verdict. The pigeons take six learned clauses, and two searches
-/// eight together.
+/// Models and budgets, with restarts or without, and the verdict. The pigeons take six learned clauses, and two
+/// searches eight together.
 static BUDGETS: [(&str, u64, bool, &str); 12] = [
     (PIGEONS, 1, true, "UNKNOWN 1"),
     (PIGEONS, 1, false, "UNKNOWN 1"),

@@ -2,7 +2,7 @@ use Rattle.std.proofs.Common.{◌≤◌, ◌<◌, length, sym, subst, arith}
 use Rattle.std.proofs.lemmas.List.Elements.{Contains-get_or}
 use Rattle.order_ints.specs.declared.literal.Lit.{Lit}
 use Rattle.clause_arena.specs.Clauses.{lits_of, lit_in, no_lit}
-use Rattle.learning_solver.proofs.raising.Raised.put_clause.Goals as goal
+use Rattle.learning_solver.proofs.bumping.Bumped.put_clause.Goals as goal
 
 pub level_of-requires : goal.level_of-requires
 level_of-requires c =

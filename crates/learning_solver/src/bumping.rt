@@ -12,18 +12,18 @@ use std::alloc::{AllocError, Global};
 /// The variables of a conflict. Its room is kept for the next one: a byte for each variable, and four for each that
 /// is bumped.
 #[derive(Drop)]
-pub struct Raised {
+pub struct Bumped {
     /// The variables, each once.
     pub list: Vec<u32>,
     /// Whether a variable stands in the list.
     marks: Vec<bool>,
 }
 
-impl Raised {
+impl Bumped {
     /// None of the variables 1 to `vars`.
-    pub fn with(alloc: Global, vars: u32) -> Result<Raised, AllocError> {
+    pub fn with(alloc: Global, vars: u32) -> Result<Bumped, AllocError> {
         let marks = vec![in alloc; false; vars as usize + 1]?;
-        Ok(Raised {
+        Ok(Bumped {
             list: Vec::new(alloc),
             marks,
         })

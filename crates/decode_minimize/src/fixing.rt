@@ -1,9 +1,9 @@
-//! Clauses, and that an objective is settled.
+//! Clauses, and that an objective is fixed.
 
 ghost use Rattle.std.specs.Prelude.{◌≡◌, ◌+◌, ◌++◌, ◌≤◌, IfOk};
 ghost use Rattle.answer_document.specs.Valid.{atom_clauses};
 ghost use Rattle.learning_solver.specs.Log.{additions};
-ghost use Rattle.decode_minimize.specs.Settling.{adds_clause};
+ghost use Rattle.decode_minimize.specs.Fixing.{adds_clause};
 
 use answer_document::with_atom;
 use order_ints::{Atom, Cnf};
@@ -11,7 +11,7 @@ use proof_check::ProofLine;
 use std::alloc::{AllocError, Global};
 
 /// The CNF with the clause of an atom behind its own: none of True, and the empty one of False.
-pub fn settle(alloc: Global, cnf: Cnf, atom: Atom) -> Result<Cnf, AllocError>
+pub fn fix(alloc: Global, cnf: Cnf, atom: Atom) -> Result<Cnf, AllocError>
     ensures { IfOk result (λ all. all ≡ record { vars = cnf.vars; clauses = cnf.clauses ++ atom_clauses atom }) }
 {
     let Cnf { vars, clauses } = cnf;

@@ -1,6 +1,6 @@
 use Rattle.std.proofs.Common.{◌≡◌, ◌+◌, ◌≤◌, drop}
 use Rattle.learning_solver.specs.Log.{additions}
-use Rattle.decode_minimize.proofs.settling.additions.Given as goal
+use Rattle.decode_minimize.proofs.fixing.additions.Given as goal
 
 -- those so far and those of the lines left are all
 abbrev pub invariant-loop-line : goal.invariant-loop-line

@@ -1,6 +1,5 @@
 -- Which equations say what the others leave a member, or that each member is True or False.
-use Rattle.std.specs.Prelude.{◌==◌, List, [], ◌∷◌, ◌++◌, map, length, ℤ, pos, ◌+ℤ◌, ◌-ℤ◌}
-use Rattle.std.specs.Prelude.{if◌then◌else◌}
+use Rattle.std.specs.Prelude.{◌==◌, List, [], ◌∷◌, ◌++◌, map, length, ℤ, pos, ◌+ℤ◌, ◌-ℤ◌, if◌then◌else◌}
 use Rattle.std.specs.Ordering.{int_eq}
 use Rattle.order_ints.specs.declared.atom.Atom.{Atom}
 use Rattle.order_ints.specs.declared.atom.Atom.TheVariants.{True, False, Of}
@@ -9,8 +8,7 @@ use Rattle.order_ints.specs.Same.{is_true}
 use Rattle.order_ints.specs.OrderRange.{low_of, high_of}
 use Rattle.order_ints.specs.OrderLevels.{at_of}
 use Rattle.core_forms.specs.declared.form.Core.{Core}
-use Rattle.core_forms.specs.declared.form.Core.TheVariants.{Ladder, Clause, Parity, Conj, Comp, LeqR, EqR, Sum3, Count}
-use Rattle.core_forms.specs.declared.form.Core.TheVariants.{Sum, Max, AllDiff, Amo, Prod, DivMod, Lex}
+use Rattle.core_forms.specs.declared.form.Core.TheVariants.{Ladder, Clause, Parity, Conj, Comp, LeqR, EqR, Sum3, Count, Sum, Max, AllDiff, Amo, Prod, DivMod, Lex}
 use Rattle.rule_base.specs.Pairs.{only_if}
 use Rattle.rule_base.specs.Stated.{all_equal}
 use Rattle.arith_rules.specs.SumRows.{lows_of, highs_of}
@@ -23,8 +21,8 @@ literals (True ∷ atoms) = literals atoms
 literals (False ∷ atoms) = literals atoms
 literals (Of l ∷ atoms) = Of l ∷ literals atoms
 
--- of integers that make up k, where their greatest values add up to `highs`: that each is at least what the others
--- leave it; and where their least values add up to `lows`: that it is more than that
+-- of integers that make up k, where their greatest values add up to `highs`: that each is at least what the others leave it; and where their
+-- least values add up to `lows`: that it is more than that
 abbrev pub lower_atoms : ℤ → ℤ → List OrdInt → List Atom
 lower_atoms k highs ints = map (λ a. at_of a (k -ℤ (highs -ℤ high_of a))) ints
 
@@ -57,9 +55,8 @@ count_bounds ls c =
     if int_eq (low_of c) (pos (length ls)) then members_bound ls c True
     else only_if (int_eq (high_of c) (pos 0)) (members_bound ls c False)
 
--- What is told once those before it are made, where the atoms of the core are literals of different variables: the
--- members of a conjunction that is true; those of a count at its least or greatest value; and what a sum, or a maximum,
--- leaves its members.
+-- What is told once those before it are made, where the atoms of the core are literals of different variables: the members of a conjunction that is
+-- true; those of a count at its least or greatest value; and what a sum, or a maximum, leaves its members.
 abbrev pub bound_pairs : Core → List (Atom × Atom)
 bound_pairs (Ladder a) = []
 bound_pairs (Clause ls) = []

@@ -1,7 +1,5 @@
--- Which values two members of an all-different constraint take that have the same two values, where each has the one
--- that the other has not.
-use Rattle.std.specs.Prelude.{ℕ, zero, suc, Bool, false, ◌&&◌, ◌||◌, List, [], ◌∷◌, ℤ, Option, None}
-use Rattle.std.specs.Prelude.{Some, if◌then◌else◌}
+-- Which values two members of an all-different constraint take that have the same two values, where each has the one that the other has not.
+use Rattle.std.specs.Prelude.{ℕ, zero, suc, Bool, false, ◌&&◌, ◌||◌, List, [], ◌∷◌, ℤ, Option, None, Some, if◌then◌else◌}
 use Rattle.std.specs.Option.{option_or}
 use Rattle.std.specs.Ordering.{int_eq, is_eq}
 use Rattle.order_ints.specs.declared.atom.Atom.{Atom}
@@ -19,12 +17,10 @@ abbrev pub first_weight : List (Atom × ℕ) → ℕ
 first_weight [] = 0
 first_weight (s ∷ steps) = s.1
 
--- the lower one of the two values of the member at a place, and by what the other one is greater, if it is sure and has
--- two
+-- the lower one of the two values of the member at a place, and by what the other one is greater, if it is sure and has two
 abbrev pub choice_at : List OrdInt → List Atom → ℕ → Option (ℤ × ℕ)
 choice_at ints cs i =
-    if is_sure cs i && has_two_values (int_at ints i)
-    then Some (low_of (int_at ints i), first_weight (int_at ints i).steps) else None
+    if is_sure cs i && has_two_values (int_at ints i) then Some (low_of (int_at ints i), first_weight (int_at ints i).steps) else None
 
 abbrev pub is_choice : ℤ × ℕ → Option (ℤ × ℕ) → Bool
 is_choice key None = false
@@ -48,8 +44,7 @@ twin_at ints cs i = twin_by ints cs i (choice_at ints cs i)
 abbrev pub is_of_twin : List OrdInt → ℕ → ℤ → Option ℕ → Bool
 is_of_twin ints i v None = false
 is_of_twin ints i v (Some j) =
-    same_atom (first_atom (int_at ints j).steps) (not_atom (first_atom (int_at ints i).steps))
-    && (int_eq (low_of (int_at ints i)) v || int_eq (high_of (int_at ints i)) v)
+    same_atom (first_atom (int_at ints j).steps) (not_atom (first_atom (int_at ints i).steps)) && (int_eq (low_of (int_at ints i)) v || int_eq (high_of (int_at ints i)) v)
 
 -- it is so of one of the members at the first places
 abbrev pub is_shared_before : List OrdInt → List Atom → ℕ → ℤ → Bool

@@ -1,7 +1,6 @@
 //! The equations that say what the others leave a member, or that each member is True or False.
 
-ghost use Rattle.std.specs.Prelude.{◌≡◌, ◌+◌, ◌^◌, ◌<◌, ◌++◌, ◌∷◌, [], map, pos};
-ghost use Rattle.std.specs.Prelude.{◌+ℤ◌, ◌-ℤ◌, unsigned_abs, IfOk, OnOk};
+ghost use Rattle.std.specs.Prelude.{◌≡◌, ◌+◌, ◌^◌, ◌<◌, ◌++◌, ◌∷◌, [], map, pos, ◌+ℤ◌, ◌-ℤ◌, unsigned_abs, IfOk, OnOk};
 ghost use Rattle.order_ints.specs.OrderRange.{IsBounded, low_of, high_of};
 ghost use Rattle.order_ints.specs.OrderLevels.{at_of};
 ghost use Rattle.core_forms.specs.WellFormed.{IsWellFormed, AreSound, abs_total};
@@ -12,8 +11,7 @@ ghost use Rattle.rule_base.specs.Pairs.{only_if};
 ghost use Rattle.rule_base.specs.Stated.{all_equal};
 ghost use Rattle.equation_runs.specs.FreeAtoms.{are_free};
 ghost use Rattle.equation_runs.specs.RunRows.{equation_of};
-ghost use Rattle.equation_runs.specs.BoundRows.{literals, lower_atoms, upper_atoms, free_bound, ints_bound};
-ghost use Rattle.equation_runs.specs.BoundRows.{members_bound, count_bounds, bound_pairs};
+ghost use Rattle.equation_runs.specs.BoundRows.{literals, lower_atoms, upper_atoms, free_bound, ints_bound, members_bound, count_bounds, bound_pairs};
 
 use crate::free::{are_all_free, are_free, are_free_beside, are_ints_free};
 use crate::links::push_pair;
@@ -202,8 +200,7 @@ fn push_upper(
     requires all { (unsigned_abs all.now.low < 2 ^ 100) × (unsigned_abs all.now.high < 2 ^ 100) }
     requires k { unsigned_abs k.now < 2 ^ 100 }
     ensures { OnOk result (run.new.items
-        ≡ run.old.items ++ map (equation_of Form)
-        (ints_bound ints.now (literals (upper_atoms k.now all.now.low ints.now)) False)) }
+        ≡ run.old.items ++ map (equation_of Form) (ints_bound ints.now (literals (upper_atoms k.now all.now.low ints.now)) False)) }
 {
     let upper = upper_literals(alloc, ints, all, k)?;
     if !upper.is_empty() {
@@ -247,8 +244,7 @@ fn above_atom(a: &OrdInt, range: &Range) -> Atom
 fn above_literals(alloc: Global, ints: &[OrdInt], range: &Range) -> Result<Vec<Atom>, AllocError>
     requires ints { AreSound ints.now }
     requires range { unsigned_abs range.now.high < 2 ^ 100 }
-    ensures { IfOk result
-        (λ found. found.items ≡ literals (map (λ a. at_of a (range.now.high +ℤ pos 1)) ints.now)) }
+    ensures { IfOk result (λ found. found.items ≡ literals (map (λ a. at_of a (range.now.high +ℤ pos 1)) ints.now)) }
 {
     let mut found = Vec::new(alloc);
     for a in ints {

@@ -1,7 +1,6 @@
 //! The equations that all-different tells at the values of its constants, and of members with the same two values.
 
-ghost use Rattle.std.specs.Prelude.{◌≡◌, ◌<◌, ◌^◌, ◌++◌, ◌&&◌, ◌||◌, ℤ, length, map};
-ghost use Rattle.std.specs.Prelude.{unsigned_abs, IfOk, IfSome, OnOk};
+ghost use Rattle.std.specs.Prelude.{◌≡◌, ◌<◌, ◌^◌, ◌++◌, ◌&&◌, ◌||◌, ℤ, length, map, unsigned_abs, IfOk, IfSome, OnOk};
 ghost use Rattle.std.specs.BTreeSet.{contains};
 ghost use Rattle.std.specs.Ordering.{int_cmp};
 ghost use Rattle.core_forms.specs.WellFormed.{IsSound, AreSound};
@@ -11,9 +10,7 @@ ghost use Rattle.order_ints.specs.OrderLevels.{values_of};
 ghost use Rattle.rule_base.specs.Constant.{is_constant};
 ghost use Rattle.rule_base.specs.Pairs.{only_if};
 ghost use Rattle.equation_runs.specs.RunRows.{equation_of};
-ghost use Rattle.equation_runs.specs.DifferentRuns.{constant_at, is_held, is_shared, is_open, is_spent, apart_pair};
-ghost use Rattle.equation_runs.specs.DifferentRuns.{apart_pairs, condition_pair, excluded_pairs, member_pairs};
-ghost use Rattle.equation_runs.specs.DifferentRuns.{members_pairs, different_pairs};
+ghost use Rattle.equation_runs.specs.DifferentRuns.{constant_at, is_held, is_shared, is_open, is_spent, apart_pair, apart_pairs, condition_pair, excluded_pairs, member_pairs, members_pairs, different_pairs};
 
 use crate::links::push_pair;
 use crate::twins::shared_values;
@@ -244,8 +241,7 @@ fn push_members(
 fn taken_values(alloc: Global, ints: &[OrdInt], conditions: &[Atom]) -> Result<Taken, AllocError>
     requires lengths { length ints.now ≡ length conditions.now }
     requires sound { AreSound ints.now }
-    ensures held { IfOk result (λ taken. (v : ℤ)
-        → contains int_cmp taken.held v ≡ is_held ints.now conditions.now v) }
+    ensures held { IfOk result (λ taken. (v : ℤ) → contains int_cmp taken.held v ≡ is_held ints.now conditions.now v) }
     ensures shared { IfOk result
         (λ taken. (v : ℤ) → contains int_cmp taken.shared v ≡ is_shared ints.now conditions.now v) }
 {

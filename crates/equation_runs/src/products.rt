@@ -1,7 +1,6 @@
 //! The equations of a product by a constant.
 
-ghost use Rattle.std.specs.Prelude.{◌≡◌, ◌^◌, ◌<◌, ◌++◌, map, pos, ◌≤ℤ◌, ◌<ℤ◌};
-ghost use Rattle.std.specs.Prelude.{unsigned_abs, OnOk};
+ghost use Rattle.std.specs.Prelude.{◌≡◌, ◌^◌, ◌<◌, ◌++◌, map, pos, ◌≤ℤ◌, ◌<ℤ◌, unsigned_abs, OnOk};
 ghost use Rattle.order_ints.specs.OrderRange.{low_of};
 ghost use Rattle.core_forms.specs.WellFormed.{IsSound, HasSmallProducts};
 ghost use Rattle.core_forms.specs.declared.equation.Rule.TheVariants.{Form};
@@ -89,8 +88,7 @@ fn push_scaled_by(
     requires c { IsSound c.now }
     requires multiples { HasSmallMultiples (low_of by.now) b.now }
     ensures { OnOk result (run.new.items
-        ≡ run.old.items ++ map (equation_of Form)
-        (only_if (is_constant by.now) (scaled_equations (low_of by.now) b.now c.now))) }
+        ≡ run.old.items ++ map (equation_of Form) (only_if (is_constant by.now) (scaled_equations (low_of by.now) b.now c.now))) }
 {
     if is_constant(by) {
         let k = by.low();

@@ -1,7 +1,6 @@
 //! Which values members with the same two values take.
 
-ghost use Rattle.std.specs.Prelude.{◌≡◌, ◌<◌, ◌+◌, ◌^◌, ◌||◌, ℤ, ℕ, Some, length};
-ghost use Rattle.std.specs.Prelude.{unsigned_abs, IfOk, IfSome, MatchOption, OnOk};
+ghost use Rattle.std.specs.Prelude.{◌≡◌, ◌<◌, ◌+◌, ◌^◌, ◌||◌, ℤ, ℕ, Some, length, unsigned_abs, IfOk, IfSome, MatchOption, OnOk};
 ghost use Rattle.std.specs.BTreeMap.{get, Updates};
 ghost use Rattle.std.specs.BTreeSet.{contains};
 ghost use Rattle.std.specs.Ordering.{int_cmp, int_eq};
@@ -61,8 +60,7 @@ fn earlier_twin(
     requires ints { place < length ints.now }
     requires conditions { place < length conditions.now }
     requires sound { AreSound ints.now }
-    requires firsts { (key : ℤ × ℕ) → get pair_cmp firsts.old key
-        ≡ first_with ints.now conditions.now place key }
+    requires firsts { (key : ℤ × ℕ) → get pair_cmp firsts.old key ≡ first_with ints.now conditions.now place key }
     ensures twin { IfOk result (λ twin. twin ≡ twin_at ints.now conditions.now place) }
     ensures firsts { OnOk result ((key : ℤ × ℕ)
         → get pair_cmp firsts.new key ≡ first_with ints.now conditions.now (place + 1) key) }

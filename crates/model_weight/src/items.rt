@@ -26,8 +26,9 @@ fn declaration_weight(kind: &Kind) -> u128
     }
 }
 
-/// An item, which weighs nothing where its integer is its Boolean.
-fn item_weight(alloc: Global, decls: &[Decl], item: &Item<'_>) -> Result<u128, AllocError>
+/// The weight of an item among declarations; it is 0 where its integer is its Boolean. A weight that does not fit 128
+/// bits would be given as 2^128 - 1. It takes time linear in the item.
+pub fn item_weight(alloc: Global, decls: &[Decl], item: &Item<'_>) -> Result<u128, AllocError>
     requires decls { DeclsInLimit decls.now }
     requires item { ItemInLimit (lent_item item.now) }
     ensures { IfOk result (λ weight. weight ≡ saturated (weight_of_item decls.now (lent_item item.now))) }

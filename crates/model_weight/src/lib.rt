@@ -8,7 +8,7 @@
 //!
 //! What it promises: `weight` is exactly the weight of a model within the limits (`weight`), and
 //! the weight itself, not 2^128 - 1, where declarations, statements and members together are fewer
-//! than 2^45 (`exact`). Laws: `fits_law` (such a model weighs less than 2^128), `queue_law`
+//! than 2^45 (`exact`); `item_weight` is that of one item. Laws: `fits_law` (such a model weighs less than 2^128), `queue_law`
 //! (narrower members weigh no more).
 //!
 //! It counts by the declared domains, so a bound that is known belongs into `new_int`. A fresh sum
@@ -30,5 +30,5 @@ mod orders;
 mod pairs;
 mod shapes;
 
-pub use items::weight;
+pub use items::{item_weight, weight};
 pub use laws::{fits_law, queue_law};

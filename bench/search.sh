@@ -14,7 +14,7 @@ folder=$(mktemp -d)
 trap 'rm -rf "$folder"' EXIT
 git init -q "$folder"
 tar -C "$top" --exclude=out -c crates crates.txt | tar -C "$folder" -x
-echo 'searching: order_ints proof_check clause_rings learning_solver sat_front drup_check' >>"$folder/crates.txt"
+echo 'searching: order_ints proof_check clause_rings learning_solver sat_front' >>"$folder/crates.txt"
 bench=$folder/crates/searching
 mkdir -p "$bench/src" "$bench/proofs/search" "$bench/proofs/search_text"
 cat >"$bench/src/main.rt" <<'RT'
@@ -89,7 +89,7 @@ use Rattle.std.proofs.Common.{ℕ, zero, suc, ◌<◌, List, [], ◌∷◌, leng
 use Rattle.order_ints.specs.declared.literal.Lit.{Lit}
 use Rattle.order_ints.specs.OrderedClauses.{ClausesAscend}
 use Rattle.clause_rings.specs.Clauses.{IsApart}
-use Rattle.drup_check.proofs.Additions.{ascend-apart}
+use Rattle.clause_rings.proofs.Ascending.{ascend-apart}
 use Rattle.searching.proofs.search.Goals as goal
 
 clauses-apart : (cs : List (List Lit)) → ClausesAscend cs → (k : ℕ) → k < length cs → IsApart (get_or cs k [])

@@ -30,7 +30,7 @@ use Rattle.answer_document.specs.declared.verdict.Verdict.{Verdict}
 use Rattle.answer_document.specs.declared.verdict.Verdict.TheVariants.{Satisfiable, Unsatisfiable, Optimum, Unknown}
 use Rattle.answer_document.specs.declared.document.Document.{Document}
 use Rattle.answer_document.specs.Verdicts.{numbers_in, numbers_with, HaveSecond, BoundsFit, VerdictFits}
-use Rattle.answer_document.specs.BoundAtoms.{integer_named, at_least, at_most, first_bound, second_bound, settled}
+use Rattle.answer_document.specs.BoundAtoms.{integer_named, at_least, at_most, first_bound, second_bound, fixed}
 use Rattle.answer_document.specs.Claims.{IsSolutionAt, IsOptimum, Claims}
 use Rattle.answer_document.specs.Valid.{IsShown, first_shown, second_shown, second_cnf, IsDerived, IsSecond, AreShown, IsCertified, AnswerHolds, IsValid}
 use Rattle.answer_document.specs.Laws.{ClaimLaw}
@@ -95,7 +95,7 @@ module _ (model : Model) (typed : WellTyped model) (limits : InLimits model) (li
   -- no value of the objectives is better than the bounds that are true of it
   pub not-better : (goal : Goal) → GoalFits model.decls goal → (m : ℤ) (second : Option ℤ) → BoundsFit goal (record { first = m; second = second })
       → atom_truth w.valuation (resolve last.view (first_bound goal (lowered_of model).map.entries m)) ≡ true
-      → ((n : ℤ) → second ≡ Some n → atom_truth w.valuation (resolve last.view (settled goal (lowered_of model).map.entries m)) ≡ true
+      → ((n : ℤ) → second ≡ Some n → atom_truth w.valuation (resolve last.view (fixed goal (lowered_of model).map.entries m)) ≡ true
       → atom_truth w.valuation (resolve last.view (second_bound goal (lowered_of model).map.entries n)) ≡ true)
       → is_better goal (objective goal x) (numbers_with m second) ≡ false
   not-better Satisfy fits m second have first behind = absurd have
@@ -125,9 +125,9 @@ module _ (model : Model) (typed : WellTyped model) (limits : InLimits model) (li
     first-true m h = shown-true (cnf_of c.last) d.proof c.proof c.accepted given.valuation given.satisfies (first_shown model c.last m) h
 
     second-true : (b : Bounds) (lines : List ProofLine) (s : IsSecond model c.last c.proof b lines) (n : ℤ) → IsShown s.proof (second_shown model c.last n)
-        → atom_truth given.valuation (resolve c.last.view (settled model.goal (lowered_of model).map.entries b.first)) ≡ true → atom_truth given.valuation (second_shown model c.last n) ≡ true
+        → atom_truth given.valuation (resolve c.last.view (fixed model.goal (lowered_of model).map.entries b.first)) ≡ true → atom_truth given.valuation (second_shown model c.last n) ≡ true
     second-true b lines s n h no_worse =
-        let atom = resolve c.last.view (settled model.goal (lowered_of model).map.entries b.first) in
+        let atom = resolve c.last.view (fixed model.goal (lowered_of model).map.entries b.first) in
         shown-true (second_cnf model c.last b.first) lines s.proof s.accepted given.valuation
         (with-atom-true given.valuation (cnf_of c.last).clauses atom given.satisfies no_worse) (second_shown model c.last n) h
 
@@ -144,7 +144,7 @@ module _ (model : Model) (typed : WellTyped model) (limits : InLimits model) (li
     best-by m (Some n) None have h = absurd h
     best-by m (Some n) (Some lines) have h =
         not-better model typed limits light c.last x given model.goal typed.goal m (Some n) have (first-true m h.0.bound)
-        (λ k e. subst (λ z. atom_truth given.valuation (resolve c.last.view (settled model.goal (lowered_of model).map.entries m)) ≡ true → atom_truth given.valuation (second_shown model c.last z) ≡ true)
+        (λ k e. subst (λ z. atom_truth given.valuation (resolve c.last.view (fixed model.goal (lowered_of model).map.entries m)) ≡ true → atom_truth given.valuation (second_shown model c.last z) ≡ true)
         (same n k e) (second-true (record { first = m; second = Some n }) lines h.0 n h.1))
       where
         same : (n k : ℤ) → Some n ≡ Some k → n ≡ k

@@ -22,8 +22,8 @@ at_most a m = not_atom (at_of a (m +ℤ pos 1))
 abbrev pub integer_named : List MapValue → ℕ → OrdInt
 integer_named entries place = integer_at (slice_get entries place)
 
--- The bound of the first objective at a number: it is no better. So it is at least the number where the least is sought, and at
--- most where the greatest is.
+-- The bound of the first objective at a number: it is no better. So it is at least the number where the least is
+-- sought, and at most where the greatest is.
 abbrev pub first_bound : Goal → List MapValue → ℤ → Atom
 first_bound Satisfy entries m = False
 first_bound (Minimize place second) entries m = at_least (integer_named entries place) m
@@ -44,7 +44,7 @@ second_bound (Minimize place second) entries n = second_least entries second n
 second_bound (Maximize place second) entries n = second_most entries second n
 
 -- the first objective is no worse than a number: what holds of it while the second one is sought
-abbrev pub settled : Goal → List MapValue → ℤ → Atom
-settled Satisfy entries m = True
-settled (Minimize place second) entries m = at_most (integer_named entries place) m
-settled (Maximize place second) entries m = at_least (integer_named entries place) m
+abbrev pub fixed : Goal → List MapValue → ℤ → Atom
+fixed Satisfy entries m = True
+fixed (Minimize place second) entries m = at_most (integer_named entries place) m
+fixed (Maximize place second) entries m = at_least (integer_named entries place) m

@@ -15,12 +15,13 @@ pub record IsSolutionAt (model : Model) (a : List ℤ) (b : Bounds) : Type 0 whe
 -- and no solution has better ones
 pub record IsOptimum (model : Model) (a : List ℤ) (b : Bounds) : Type 0 where
   pub solution : IsSolutionAt model a b
-  pub best : (other : List ℤ) → IsSolution model other → IsFalse (is_better model.goal (objective model.goal other) (numbers_in b))
+  pub best : (other : List ℤ) → IsSolution model other
+      → IsFalse (is_better model.goal (objective model.goal other) (numbers_in b))
 
--- What is claimed. SATISFIABLE: the assignment is a solution. UNSATISFIABLE: there is none. OPTIMUM: the assignment is a solution
--- with the stated values of the objectives, and none has better ones. UNKNOWN with a best solution: the assignment is a solution with the
--- stated values; without one nothing is claimed. An answer with an assignment where none belongs, or without one where one
--- does, claims what can't be.
+-- What is claimed. SATISFIABLE: the assignment is a solution. UNSATISFIABLE: there is none. OPTIMUM: the assignment is
+-- a solution with the stated values of the objectives, and none has better ones. UNKNOWN with a best solution: the
+-- assignment is a solution with the stated values; without one nothing is claimed. An answer with an assignment where
+-- none belongs, or without one where one does, claims what can't be.
 abbrev pub Claims : Model → Verdict → Option (List ℤ) → Type 0
 Claims model Satisfiable (Some a) = IsSolution model a
 Claims model Satisfiable None = ⊥

@@ -12,8 +12,10 @@
 --     LINE                           for each line of the second derivation, where there is one
 --     end
 --
--- NUMBER .. is one number for each objective. After SATISFIABLE the lines from `ledger` to those before `end` are left out.
-use Rattle.std.specs.Prelude.{ℕ, Bool, true, false, List, [], ◌∷◌, ◌++◌, codes, map, Option, Some, None, if◌then◌else◌}
+-- NUMBER .. is one number for each objective. After SATISFIABLE the lines from `ledger` to those before `end` are left
+-- out.
+use Rattle.std.specs.Prelude.{ℕ, Bool, true, false, List, [], ◌∷◌, ◌++◌, codes, map, Option, Some, None}
+use Rattle.std.specs.Prelude.{if◌then◌else◌}
 use Rattle.bee_text.specs.Lines.{join_lines}
 use Rattle.bee_text.specs.Words.{join_words}
 use Rattle.model_meaning.specs.declared.model.Decl.{Decl}

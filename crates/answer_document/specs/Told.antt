@@ -1,5 +1,6 @@
 -- What the text of a document tells: its verdict and assignment, and its certificate where it has one.
-use Rattle.std.specs.Prelude.{◌≡◌, ◌⊎◌, ℕ, ◌<◌, ◌^◌, true, List, [], ◌∷◌, map, ℤ, pos, Option, Some, None}
+use Rattle.std.specs.Prelude.{◌≡◌, ◌⊎◌, ℕ, ◌<◌, ◌^◌, true, List, [], ◌∷◌, map, ℤ, pos}
+use Rattle.std.specs.Prelude.{Option, Some, None}
 use Rattle.bee_text.specs.Lines.{AreLines}
 use Rattle.model_meaning.specs.declared.model.Assignment.{Assignment}
 use Rattle.model_meaning.specs.declared.model.Decl.{Decl}
@@ -69,10 +70,12 @@ pub record SameAnswer (d e : Document) : Type 0 where
 
 -- for the same declarations a text is that of one answer, whatever is sought
 abbrev pub TextTellsAnswer : Type 0
-TextTellsAnswer = (decls : List Decl) (goal other : Goal) (d e : Document) → AreNames decls → IsWritable decls d → IsWritable decls e
+TextTellsAnswer = (decls : List Decl) (goal other : Goal) (d e : Document) → AreNames decls → IsWritable decls d
+    → IsWritable decls e
     → document_text decls goal d ≡ document_text decls other e → SameAnswer d e
 
 -- so a valid answer has one verdict and one assignment
 abbrev pub ValidTellsAnswer : Type 0
-ValidTellsAnswer = (model : Model) (text : List ℕ) (v w : Verdict) (a b : Option (List ℤ)) → AreNames model.decls → IsValid model text v a → IsValid model text w b
+ValidTellsAnswer = (model : Model) (text : List ℕ) (v w : Verdict) (a b : Option (List ℤ)) → AreNames model.decls
+    → IsValid model text v a → IsValid model text w b
     → (v ≡ w) × (a ≡ b)

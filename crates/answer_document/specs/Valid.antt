@@ -1,5 +1,6 @@
 -- When a text is a valid answer to a model.
-use Rattle.std.specs.Prelude.{◌≡◌, ◌⊎◌, ℕ, ◌+◌, List, [], ◌∷◌, ◌++◌, length, ℤ, Option, Some, None, Ok, IsTrue, IfSome, FitsSigned}
+use Rattle.std.specs.Prelude.{◌≡◌, ◌⊎◌, ℕ, ◌+◌, List, [], ◌∷◌, ◌++◌, length, ℤ, Option}
+use Rattle.std.specs.Prelude.{Some, None, Ok, IsTrue, IfSome, FitsSigned}
 use Rattle.std.specs.Int.{w64}
 use Rattle.std.specs.Option.{option_map}
 use Rattle.order_ints.specs.declared.literal.Lit.{Lit}
@@ -26,7 +27,7 @@ use Rattle.answer_document.specs.declared.verdict.Verdict.TheVariants.{Satisfiab
 use Rattle.answer_document.specs.declared.document.Document.{Document}
 use Rattle.answer_document.specs.Verdicts.{VerdictFits}
 use Rattle.answer_document.specs.Claims.{IsSolutionAt}
-use Rattle.answer_document.specs.BoundAtoms.{first_bound, second_bound, settled}
+use Rattle.answer_document.specs.BoundAtoms.{first_bound, second_bound, fixed}
 use Rattle.answer_document.specs.DocumentText.{document_text}
 
 -- the state with which the compilation of a model begins
@@ -52,12 +53,13 @@ atom_clauses True = []
 atom_clauses False = [] ∷ []
 atom_clauses (Of l) = (l ∷ []) ∷ []
 
--- The CNF over which a second objective is sought: that of the last state, and at its end the clause that the first one is no worse
--- than a number.
+-- The CNF over which a second objective is sought: that of the last state, and at its end the clause that the first one
+-- is no worse than a number.
 abbrev pub second_cnf : Model → Kernel → ℤ → Cnf
 second_cnf model last m = record {
   vars = (cnf_of last).vars;
-  clauses = (cnf_of last).clauses ++ atom_clauses (resolve last.view (settled model.goal (lowered_of model).map.entries m));
+  clauses =
+      (cnf_of last).clauses ++ atom_clauses (resolve last.view (fixed model.goal (lowered_of model).map.entries m));
 }
 
 -- the ledger leads from the lowered model to a last state, and the proof is one from its CNF
@@ -67,25 +69,29 @@ pub record IsDerived (model : Model) (d : Document) : Type 0 where
   pub proof : Proof
   pub accepted : take_lines (proof_of (cnf_of last)) d.proof ≡ Ok proof
 
--- the first proof shows that the first objective is no better than its number, and the second proof is one from the CNF in which
--- it is no worse
+-- the first proof shows that the first objective is no better than its number, and the second proof is one from the CNF
+-- in which it is no worse
 pub record IsSecond (model : Model) (last : Kernel) (first : Proof) (b : Bounds) (lines : List ProofLine) : Type 0 where
   pub bound : IsShown first (first_shown model last b.first)
   pub proof : Proof
   pub accepted : take_lines (proof_of (second_cnf model last b.first)) lines ≡ Ok proof
 
 -- the bound of each objective is shown, that of the second one by the second proof
-abbrev pub AreShown : (model : Model) (last : Kernel) (first : Proof) (b : Bounds) → Option ℤ → Option (List ProofLine) → Type 0
+abbrev pub AreShown : (model : Model) (last : Kernel) (first : Proof) (b : Bounds) → Option ℤ
+    → Option (List ProofLine) → Type 0
 AreShown model last first b None None = IsShown first (first_shown model last b.first)
 AreShown model last first b None (Some lines) = ⊥
 AreShown model last first b (Some n) None = ⊥
-AreShown model last first b (Some n) (Some lines) = (s : IsSecond model last first b lines) × IsShown s.proof (second_shown model last n)
+AreShown model last first b (Some n) (Some lines) = (s : IsSecond model last first b lines)
+    × IsShown s.proof (second_shown model last n)
 
 -- the additions of both proofs together are so many; a second proof stands only where there are two objectives
-abbrev pub AreAdded : (model : Model) (last : Kernel) (first : Proof) (n : ℕ) (b : Bounds) → Option ℤ → Option (List ProofLine) → Type 0
+abbrev pub AreAdded : (model : Model) (last : Kernel) (first : Proof) (n : ℕ) (b : Bounds) → Option ℤ
+    → Option (List ProofLine) → Type 0
 AreAdded model last first n b second None = length first.added ≡ n
 AreAdded model last first n b None (Some lines) = ⊥
-AreAdded model last first n b (Some m) (Some lines) = (s : IsSecond model last first b lines) × (length first.added + length s.proof.added ≡ n)
+AreAdded model last first n b (Some m) (Some lines) = (s : IsSecond model last first b lines)
+    × (length first.added + length s.proof.added ≡ n)
 
 -- without a best solution there is one proof
 abbrev pub AreAddedAlone : Proof → ℕ → Option (List ProofLine) → Type 0
@@ -98,7 +104,8 @@ IsCertified model d Satisfiable = Unit {0}
 IsCertified model d Unsatisfiable = (c : IsDerived model d) × IsTrue (known c.proof []) × (d.second ≡ None)
 IsCertified model d (Optimum b) = (c : IsDerived model d) × AreShown model c.last c.proof b b.second d.second
 IsCertified model d (Unknown n None) = (c : IsDerived model d) × AreAddedAlone c.proof n d.second
-IsCertified model d (Unknown n (Some b)) = (c : IsDerived model d) × AreAdded model c.last c.proof n b b.second d.second
+IsCertified model d (Unknown n (Some b)) = (c : IsDerived model d)
+    × AreAdded model c.last c.proof n b b.second d.second
 
 -- an assignment stands exactly where the verdict has one; it is a solution, with the stated values of the objectives
 abbrev pub AnswerHolds : Model → Verdict → Option (List ℤ) → Type 0
@@ -155,8 +162,9 @@ pub record IsReadableDocument (d : Document) : Type 0 where
 abbrev pub numbers_given : Option Assignment → Option (List ℤ)
 numbers_given a = option_map (λ (given : Assignment). given.values) a
 
--- Bytes are a valid answer to a model, with a verdict and an assignment: they are the text of a document with these, the verdict
--- fits the goal, the assignment is a solution with the stated values of the objectives, and the certificate shows the verdict.
+-- Bytes are a valid answer to a model, with a verdict and an assignment: they are the text of a document with these,
+-- the verdict fits the goal, the assignment is a solution with the stated values of the objectives, and the certificate
+-- shows the verdict.
 pub record IsValid (model : Model) (text : List ℕ) (v : Verdict) (a : Option (List ℤ)) : Type 0 where
   pub document : Document
   pub spelled : text ≡ document_text model.decls model.goal document

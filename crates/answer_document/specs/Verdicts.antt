@@ -1,5 +1,6 @@
 -- How verdicts are spelled, and which verdict fits which goal.
-use Rattle.std.specs.Prelude.{◌≡◌, ℕ, ◌≤◌, ◌<◌, ◌^◌, Bool, true, false, List, [], ◌∷◌, codes, ℤ, Option, Some, None, IfSome}
+use Rattle.std.specs.Prelude.{◌≡◌, ℕ, ◌≤◌, ◌<◌, ◌^◌, Bool, true, false, List, [], ◌∷◌}
+use Rattle.std.specs.Prelude.{codes, ℤ, Option, Some, None, IfSome}
 use Rattle.std.specs.Fmt.{decimal, signed_decimal}
 use Rattle.bee_text.specs.Words.{join_words}
 use Rattle.model_meaning.specs.declared.model.Goal.{Goal}
@@ -54,8 +55,8 @@ BoundsFit Satisfy b = ⊥
 BoundsFit (Minimize place second) b = HaveSecond second b.second
 BoundsFit (Maximize place second) b = HaveSecond second b.second
 
--- which verdict fits a goal: a solution alone where nothing is sought of it, an optimum and a best solution where something
--- is, with one number for each objective; a number of learned clauses is from 1 and below 2 ^ 63
+-- which verdict fits a goal: a solution alone where nothing is sought of it, an optimum and a best solution where
+-- something is, with one number for each objective; a number of learned clauses is from 1 and below 2 ^ 63
 abbrev pub VerdictFits : Goal → Verdict → Type 0
 VerdictFits goal Satisfiable = goal ≡ Satisfy
 VerdictFits goal Unsatisfiable = Unit {0}

@@ -15,9 +15,10 @@ pub struct Document {
     pub assignment: Option<Assignment>,
     /// The steps of the compilation. The text leaves them out where a solution alone is what was asked for.
     pub ledger: Sequence<Line>,
-    /// The derivation over the CNF of the compilation's last state. The text leaves it out where it leaves out the ledger.
+    /// The derivation over the CNF of the compilation's last state. The text leaves it out where it leaves out the
+    /// ledger.
     pub proof: Sequence<ProofLine>,
-    /// Where there are two objectives, and the first one is settled: the derivation over that CNF and the clause that the first
-    /// objective is no worse than its settled value.
+    /// Where there are two objectives, and the first one is fixed: the derivation over that CNF and the clause that the
+    /// first objective is no worse than its fixed value.
     pub second: Option<Sequence<ProofLine>>,
 }

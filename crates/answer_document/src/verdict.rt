@@ -18,7 +18,7 @@ pub enum Verdict {
     Unsatisfiable,
     /// The answer gives a solution with these values of the objectives, and no solution has better ones.
     Optimum(Bounds),
-    /// So many clauses were learned, and the search was given up; where a solution is known the answer gives the best one,
-    /// which has these values of the objectives.
+    /// So many clauses were learned, and the search was given up; where a solution is known the answer gives the best
+    /// one, which has these values of the objectives.
     Unknown(u64, Option<Bounds>),
 }

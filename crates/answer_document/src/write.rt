@@ -7,7 +7,8 @@ ghost use Rattle.ledger_text.specs.Steps.{step_text};
 ghost use Rattle.proof_check.specs.Lines.{line_bytes};
 ghost use Rattle.name_map.specs.ValueLines.{declared_line, declared_lines};
 ghost use Rattle.answer_document.specs.Verdicts.{bound_words, verdict_text};
-ghost use Rattle.answer_document.specs.DocumentText.{version_line, best_lines, assignment_lines, second_lines, certificate_lines, certificate_of, document_text};
+ghost use Rattle.answer_document.specs.DocumentText.{version_line, best_lines, assignment_lines, second_lines};
+ghost use Rattle.answer_document.specs.DocumentText.{certificate_lines, certificate_of, document_text};
 
 use crate::document::Document;
 use crate::verdict::{Bounds, Verdict};
@@ -81,8 +82,8 @@ fn push_declared(out: &mut Vec<u8>, decl: &Decl, value: i64) -> Result<(), Alloc
     end_line(out)
 }
 
-/// Writes the lines of the names.
-fn push_values(out: &mut Vec<u8>, decls: &[Decl], values: &[i64]) -> Result<(), AllocError>
+/// Writes the lines of the names, one for each value.
+pub fn push_values(out: &mut Vec<u8>, decls: &[Decl], values: &[i64]) -> Result<(), AllocError>
     requires { length decls.now ≡ length values.now }
     ensures { OnOk result (out.new.items ≡ out.old.items ++ join_lines (declared_lines decls.now values.now)) }
 {
@@ -126,7 +127,7 @@ pub fn push_ledger(out: &mut Vec<u8>, ledger: &[Line]) -> Result<(), AllocError>
 }
 
 /// Writes the lines of a derivation.
-fn push_proof(out: &mut Vec<u8>, proof: &[ProofLine]) -> Result<(), AllocError>
+pub fn push_proof(out: &mut Vec<u8>, proof: &[ProofLine]) -> Result<(), AllocError>
     ensures { OnOk result (out.new.items ≡ out.old.items ++ join_lines (map line_bytes proof.now)) }
 {
     for line in proof {
@@ -181,8 +182,8 @@ fn push_head(out: &mut Vec<u8>, goal: Goal, verdict: Verdict) -> Result<(), Allo
     push_best(out, verdict)
 }
 
-/// Writes the document of an answer to a model with these declarations and this goal. The statements of the model aren't looked at.
-/// One pass over what is written.
+/// Writes the document of an answer to a model with these declarations and this goal. The statements of the model
+/// aren't looked at. One pass over what is written.
 pub fn push_document(
     out: &mut Vec<u8>,
     decls: &[Decl],

@@ -81,7 +81,7 @@ const DERIVED: &str =
     "new_bool(a) new_bool(b) bool2int(a,x) bool_array_or([a,b]) bool_array_or([a,-b]) solve minimize x";
 
 /// Where a is false b is true.
-const SETTLED: &str =
+const FIXED: &str =
     "new_bool(a) bool2int(a,x) new_bool(b) bool2int(b,y) bool_array_or([a,b]) solve minimize x then y";
 
 static OPTIMA: [(&str, &str, &str); 17] = [
@@ -133,33 +133,33 @@ static OPTIMA: [(&str, &str, &str); 17] = [
     ),
     // The second derivation has the clause that a is false, under the id behind the CNF's.
     (
-        SETTLED,
+        FIXED,
         "bee 2\nOPTIMUM 0 1\na = false\nx = 0\nb = true\ny = 1\nledger\nenc 1\nproof\nsecond\n3 2 0 2 1 0\nend\n",
         "Optimum(Bounds { first: 0, second: Some(1) })",
     ),
     (
-        SETTLED,
+        FIXED,
         "bee 2\nOPTIMUM 0 1\na = false\nx = 0\nb = true\ny = 1\nledger\nenc 1\nproof\nsecond\nend\n",
         "11 Open",
     ),
     (
-        SETTLED,
+        FIXED,
         "bee 2\nOPTIMUM 0 1\na = false\nx = 0\nb = true\ny = 1\nledger\nenc 1\nproof\n3 2 0 2 1 0\n",
         "10 Proof(Absent(2))",
     ),
     (
-        SETTLED,
+        FIXED,
         "bee 2\nOPTIMUM 0 1\na = false\nx = 0\nb = true\ny = 1\nledger\nenc 1\nproof\nsecond\nsecond\n",
         "11 Shape",
     ),
-    // The first objective isn't settled.
+    // The first objective isn't fixed.
     (
-        SETTLED,
+        FIXED,
         "bee 2\nOPTIMUM 1 0\na = true\nx = 1\nb = false\ny = 0\nledger\nenc 1\nproof\nsecond\n",
         "10 Open",
     ),
     (
-        SETTLED,
+        FIXED,
         "bee 2\nOPTIMUM 0 0\na = false\nx = 0\nb = true\ny = 1\nledger\n",
         "7 Objective",
     ),
@@ -211,7 +211,7 @@ static GIVEN_UP: [(&str, &str, &str); 17] = [
     (LEAST, "bee 1\nUNKNOWN 1\nbest  2\n", "3 Shape"),
     (LEAST, "bee 1\nUNKNOWN 1\nbest\n", "3 Shape"),
     (LEAST, "bee 1\nUNKNOWN 1\nbest 2\nbest 2\n", "4 Shape"),
-    // One derivation is enough, and two stand only where the first objective is settled.
+    // One derivation is enough, and two stand only where the first objective is fixed.
     (
         TWO,
         "bee 2\nUNKNOWN 1\nbest 0 2\nx = 0\ny = 2\nledger\nenc 1\nenc 2\nproof\n3 1 -2 0 1 0\nend\n",

@@ -152,7 +152,7 @@ static PROOFS: [Row; 12] = [
     (
         DRUP,
         PAIRS,
-        "s UNSATISFIABLE\n5 1 0 1 2 0\n6 0 5 3 4 0\n",
+        "s UNSATISFIABLE\n5 2 0 1 3 0\n6 0 5 2 4 0\n",
         ("refused", 1),
         1,
         "REFUSED 1\n",

@@ -52,7 +52,7 @@ static ROWS: [Row; 9] = [
         PAIRS,
         ("done", 0),
         0,
-        "s UNSATISFIABLE\n5 1 0 1 2 0\n6 0 5 3 4 0\n",
+        "s UNSATISFIABLE\n5 2 0 1 3 0\n6 0 5 2 4 0\n",
         "",
     ),
     (
@@ -68,7 +68,7 @@ static ROWS: [Row; 9] = [
         PIGEONS,
         ("unknown", 1),
         8,
-        "s UNKNOWN\n10 -2 0 7 8 2 3 6 0\n",
+        "s UNKNOWN\n10 -5 0 5 6 1 2 7 0\n",
         "",
     ),
     (
@@ -76,7 +76,7 @@ static ROWS: [Row; 9] = [
         PIGEONS,
         ("done", 0),
         0,
-        "s UNSATISFIABLE\n10 -2 0 7 8 2 3 6 0\n11 0 10 1 4 2 5 3 9 0\n",
+        "s UNSATISFIABLE\n10 -5 0 5 6 1 2 7 0\n11 0 10 3 8 1 9 2 4 0\n",
         "",
     ),
     (

@@ -7,4 +7,5 @@ use Rattle.check_mode.specs.CheckMode.{HaveEnd}
 
 -- it cannot be that two texts have no end of check mode, neither a fault of the model nor an end of both
 abbrev pub CheckAnswers : Type 0
-CheckAnswers = (texts : Texts) → ((fault : ModelFault) → HasFault texts.first fault → ⊥) → ((end : End ModelFault) → HaveEnd texts end → ⊥) → ⊥
+CheckAnswers = (texts : Texts) → ((fault : ModelFault) → HasFault texts.first fault → ⊥)
+    → ((end : End ModelFault) → HaveEnd texts end → ⊥) → ⊥

@@ -22,9 +22,10 @@ HaveEnd texts (Wrote Done) = IsAnswered texts
 HaveEnd texts (Wrote (Refused line)) = FailsBehind line texts
 HaveEnd texts end = ⊥
 
--- A run in check mode, with the names of the model and of the answer. Of the text of the model one byte more than the limit is read at most; it
--- is fit where it says a model that is compiled, and else its fault is the first that it has. The text that is given for the two tells the verdict
--- of an answer that is valid, which is then true whoever wrote it, or the first line of the answer that fails.
+-- A run in check mode, with the names of the model and of the answer. Of the text of the model one byte more than the
+-- limit is read at most; it is fit where it says a model that is compiled, and else its fault is the first that it has.
+-- The text that is given for the two tells the verdict of an answer that is valid, which is then true whoever wrote it,
+-- or the first line of the answer that fails.
 pub record CheckMode (input second : List ℕ) (end : End ModelFault) (seen : Seen) : Type 0 where
   pub run : TwoTextRun (Some (longest_text + 1)) HasModel Gives HasFault input second end seen
   pub faulty : Answers (ToldUnder input seen) (IsFaultEnd HasFault) (ReadFailed input seen) end seen

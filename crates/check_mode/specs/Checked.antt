@@ -1,5 +1,5 @@
--- What the text of a model and that of an answer give: the verdict of an answer that is valid, which is then true, or the line of it that fails.
--- Of two texts that of the model is the first, and that of the answer the second.
+-- What the text of a model and that of an answer give: the verdict of an answer that is valid, which is then true, or
+-- the line of it that fails. Of two texts that of the model is the first, and that of the answer the second.
 use Rattle.std.specs.Prelude.{◌≡◌, ℕ, List, [], ◌∷◌, ◌++◌, codes, ℤ, Option}
 use Rattle.model_meaning.specs.declared.model.Model.{Model}
 use Rattle.model_texts.specs.HeldModels.{HoldsModel}
@@ -35,13 +35,15 @@ IsChecking model answer Done written = TellsAnswer model answer written
 IsChecking model answer (Refused line) written = TellsRefusal model answer written line
 IsChecking model answer (Unknown count) written = ⊥
 
--- the first text says a model that is compiled, for which the second is a valid answer, and the written line tells its verdict
+-- the first text says a model that is compiled, for which the second is a valid answer, and the written line tells its
+-- verdict
 pub record IsAccepted (texts : Texts) (written : List ℕ) : Type 0 where
   pub model : Model
   pub held : HoldsModel texts.first model
   pub tells : TellsAnswer model texts.second written
 
--- the first text says a model that is compiled, for which the second is no valid answer, and the written line tells its first line that fails
+-- the first text says a model that is compiled, for which the second is no valid answer, and the written line tells its
+-- first line that fails
 pub record IsTurnedDown (line : ℕ) (texts : Texts) (written : List ℕ) : Type 0 where
   pub model : Model
   pub held : HoldsModel texts.first model

@@ -7,7 +7,8 @@
 //! What `check` promises is the record `CheckMode`: on `Done` the second text is a valid answer to
 //! the model, and what it says is true, whoever wrote it; on `Refused(n)` it is none, and line n is
 //! its first that fails; a model with a first fault gives it, and the second text was not asked
-//! for. `answer_law`: it cannot be that two texts have no end.
+//! for. `answer_law`: it cannot be that two texts have no end. Why a line is refused (`Why`) goes into
+//! a cell of the caller, who may say it beside; no clause speaks of it.
 //!
 //! This is the program's reason to be: who believes this mode and the meaning of models needs to
 //! believe no solver, this one included.

@@ -5,14 +5,20 @@ ghost use Rattle.check_mode.specs.CheckMode.{CheckMode};
 
 use crate::making::check_text;
 use bee_outside::{Shelf, Sink};
+use ledger_check::Why;
 use model_texts::{HeldModel, LONGEST_TEXT, ModelFault, ModelTextFault, held_model};
 use std::alloc::{AllocError, Global};
+use std::cell::Cell;
 use text_modes::{End, Outcome, TwoTexts, run_two};
 
-/// The text of a model is read first, and then that of an answer. Its fault is that of the model.
-struct Checking;
+/// The text of a model is read first, and then that of an answer. Its fault is that of the model. What stands against a
+/// line of the answer that is refused goes beside, into a cell, since no clause speaks of it.
+#[derive(Drop)]
+struct Checking<'a> {
+    noted: &'a Cell<Option<Why>>,
+}
 
-impl TwoTexts for Checking {
+impl TwoTexts for Checking<'_> {
     ghost use Rattle.std.specs.Prelude.{◌+◌, Some};
     ghost use Rattle.model_texts.specs.ModelTexts.{longest_text, HasFault};
     ghost use Rattle.model_texts.specs.HeldModels.{HoldsLowered};
@@ -58,22 +64,24 @@ impl TwoTexts for Checking {
         held: HeldModel,
         answer: &[u8],
     ) -> Result<(Outcome, Vec<u8>), AllocError> {
-        check_text(alloc, held, answer)
+        check_text(alloc, held, answer, self.noted)
     }
 }
 
-/// Reads the text of a model and judges it, and then reads the text of an answer and checks it; makes the line that tells what came of that, and
-/// then writes it. Where both have one name, the answer is what the reading of the model left: on a shelf that tells its
-/// bytes, nothing, which is refused at line 1.
+/// Reads the text of a model and judges it, and then reads the text of an answer and checks it; makes the line that
+/// tells what came of that, and then writes it. Where both have one name, the answer is what the reading of the model
+/// left: on a shelf that tells its bytes, nothing, which is refused at line 1. What stands against a line that is
+/// refused is put into the cell.
 pub fn check<S: Shelf, O: Sink>(
     alloc: Global,
     input: &str,
     second: &str,
     shelf: &mut S,
     out: &mut O,
+    noted: &Cell<Option<Why>>,
 ) -> End<ModelFault>
     ensures { CheckMode input.now second.now result (seen (shelf_shown S.left S.faults)
         (sink_shown O.taken O.flushed O.faults) shelf.old shelf.new out.old out.new) }
 {
-    run_two(alloc, &Checking, input, second, shelf, out)
+    run_two(alloc, &Checking { noted }, input, second, shelf, out)
 }

@@ -16,8 +16,9 @@ HasEnd text (Wrote Done) = (length text ≤ longest_text) × IsCompilable text
 HasEnd text (Fault fault) = HasFault text fault
 HasEnd text end = ⊥
 
--- A run in compile mode, with the name of the model, of whose text one byte more than the limit is read at most. The text that is
--- given for it is the compiled text of the model that it says (`IsHeadline`), and its fault is the first that it has.
+-- A run in compile mode, with the name of the model, of whose text one byte more than the limit is read at most. The
+-- text that is given for it is the compiled text of the model that it says (`IsHeadline`), and its fault is the first
+-- that it has.
 pub record CompileMode (input : List ℕ) (end : End ModelFault) (seen : Seen) : Type 0 where
   pub run : OneTextRun (Some (longest_text + 1)) Gives HasFault input end seen
   pub answers : Answers (ToldUnder input seen) HasEnd (ReadFailed input seen) end seen

@@ -26,8 +26,8 @@ entries_of (d ∷ decls) (v ∷ values) = record { name = d.name; value = v } �
 abbrev pub written_of : Compiled → CnfText
 written_of c = record { entries = entries_of c.decls c.map.entries; ledger = c.ledger; cnf = c.cnf }
 
--- the compiled text of a model: of names as the last store has them, of a ledger that leads through a whole compilation from
--- the lowered model to a last state, and of the CNF of that
+-- the compiled text of a model: of names as the last store has them, of a ledger that leads through a whole compilation
+-- from the lowered model to a last state, and of the CNF of that
 pub record IsCompiledText (model : Model) (written : List ℕ) : Type 0 where
   pub compiled : Compiled
   pub is : IsCompiled IsInstance model compiled

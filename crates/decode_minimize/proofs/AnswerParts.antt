@@ -27,7 +27,7 @@ use Rattle.proof_check.specs.Lrat.{Proof, proof_of, after_line}
 use Rattle.learning_solver.specs.Log.{additions, after_lines, proof_behind}
 use Rattle.std.proofs.lemmas.List.{length-append}
 use Rattle.answer_document.specs.declared.verdict.Bounds.{Bounds}
-use Rattle.answer_document.specs.BoundAtoms.{integer_named, first_bound, second_bound, settled}
+use Rattle.answer_document.specs.BoundAtoms.{integer_named, first_bound, second_bound, fixed}
 use Rattle.answer_document.specs.Verdicts.{HaveSecond, BoundsFit}
 use Rattle.answer_document.specs.Valid.{AreReadableSteps, FitValues, FitAssignment, numbers_given}
 use Rattle.decode_minimize.specs.declared.objective.Direction.{Direction}
@@ -48,9 +48,9 @@ pub second-bound-is : (d : Direction) (place other : ℕ) (entries : List MapVal
 second-bound-is Least place other entries n = refl
 second-bound-is Greatest place other entries n = refl
 
-pub settled-is : (d : Direction) (place : ℕ) (second : Option ℕ) (entries : List MapValue) (m : ℤ) → settled (goal_of d place second) entries m ≡ no_worse_of d (integer_named entries place) m
-settled-is Least place second entries m = refl
-settled-is Greatest place second entries m = refl
+pub fixed-is : (d : Direction) (place : ℕ) (second : Option ℕ) (entries : List MapValue) (m : ℤ) → fixed (goal_of d place second) entries m ≡ no_worse_of d (integer_named entries place) m
+fixed-is Least place second entries m = refl
+fixed-is Greatest place second entries m = refl
 
 pub paid-towards : (d : Direction) (place : ℕ) (second : Option ℕ) (entries : List MapValue) (budget most : ℕ) (b : Bounds) (lines : Option (List ProofLine))
     → IsPaidBehind entries budget most d place second b lines → IsPaidTowards entries budget most b lines (goal_of d place second)

@@ -50,7 +50,7 @@ use Rattle.answer_document.specs.declared.verdict.Bounds.{Bounds}
 use Rattle.answer_document.specs.declared.verdict.Verdict.{Verdict}
 use Rattle.answer_document.specs.declared.verdict.Verdict.TheVariants.{Satisfiable, Unsatisfiable, Optimum, Unknown}
 use Rattle.answer_document.specs.declared.document.Document.{Document}
-use Rattle.answer_document.specs.BoundAtoms.{integer_named, first_bound, second_bound, settled}
+use Rattle.answer_document.specs.BoundAtoms.{integer_named, first_bound, second_bound, fixed}
 use Rattle.answer_document.specs.Verdicts.{numbers_with, BoundsFit, VerdictFits}
 use Rattle.answer_document.specs.Claims.{IsSolutionAt}
 use Rattle.answer_document.specs.Valid.{start_of, IsShown, first_shown, second_shown, second_cnf, atom_clauses, IsDerived, IsSecond, AreShown, AreAdded, AreAddedAlone, IsCertified, AnswerHolds, AreReadableSteps, AreReadableLines, IsReadableSecond, FitNumbers, FitAssignment, stated, numbers_given}
@@ -58,12 +58,12 @@ use Rattle.decode_minimize.specs.declared.objective.Direction.{Direction}
 use Rattle.decode_minimize.specs.declared.options.Options.{Options}
 use Rattle.decode_minimize.specs.declared.solved.Solved.{Solved}
 use Rattle.decode_minimize.specs.Objectives.{bound_of, IsObjective}
-use Rattle.decode_minimize.specs.Solved.{Problem, IsDerivation, IsReadFrom, HasBounds, HasSecond, IsOptimal, IsFirstShown, IsSpentFirst, IsSpentSecond, IsSolvedAny, IsSolvedBest, settled_cnf, second_named, second_added, value_under, values_count, values_in}
+use Rattle.decode_minimize.specs.Solved.{Problem, IsDerivation, IsReadFrom, HasBounds, HasSecond, IsOptimal, IsFirstShown, IsSpentFirst, IsSpentSecond, IsSolvedAny, IsSolvedBest, fixed_cnf, second_named, second_added, value_under, values_count, values_in}
 use Rattle.decode_minimize.specs.Answers.{IsBudget, values_at, second_values, most_rounds, IsDecided, IsSpent, IsFreshSecond, IsOpenBehind, IsOpen, IsPaidFor, IsPaidBehind, IsPaidTowards, IsPaid}
 use Rattle.decode_minimize.specs.Answering.{problem_at}
 use Rattle.decode_minimize.proofs.Entries.{entries-objectives, count-at, numbers-fit}
 use Rattle.decode_minimize.proofs.Rounding.{some-value}
-use Rattle.decode_minimize.proofs.AnswerParts.{goal_of, paid-towards, first-bound-is, second-bound-is, settled-is, objective-is, bounds-fit, goal-fits, rounds-is, number-from, readable-steps, added-behind, given-length, none-length, given-fits, none-fits, fit-second, have-second, fewer-than-most}
+use Rattle.decode_minimize.proofs.AnswerParts.{goal_of, paid-towards, first-bound-is, second-bound-is, fixed-is, objective-is, bounds-fit, goal-fits, rounds-is, number-from, readable-steps, added-behind, given-length, none-length, given-fits, none-fits, fit-second, have-second, fewer-than-most}
 
 abbrev pub document_of : Solved → List Line → Document
 document_of s ledger = record { verdict = s.verdict; assignment = s.assignment; ledger = ledger; proof = s.proof; second = s.second }
@@ -230,10 +230,10 @@ module _ (told : Core → Equation → Type 0) (model : Model) (typed : WellType
       first-is : (m : ℤ) → first_shown model last m ≡ resolve last.view (bound_of d first_integer m)
       first-is m = ap (λ (g : Goal). resolve last.view (first_bound g entries m)) is ∙ ap (resolve last.view) (first-bound-is d place second entries m)
 
-      second-cnf-is : (m : ℤ) → second_cnf model last m ≡ settled_cnf problem d first_integer m
+      second-cnf-is : (m : ℤ) → second_cnf model last m ≡ fixed_cnf problem d first_integer m
       second-cnf-is m =
-          ap (λ (g : Goal). record { vars = (cnf_of last).vars; clauses = (cnf_of last).clauses ++ atom_clauses (resolve last.view (settled g entries m)) }) is
-          ∙ ap (λ (a : Atom). record { vars = (cnf_of last).vars; clauses = (cnf_of last).clauses ++ atom_clauses (resolve last.view a) }) (settled-is d place second entries m)
+          ap (λ (g : Goal). record { vars = (cnf_of last).vars; clauses = (cnf_of last).clauses ++ atom_clauses (resolve last.view (fixed g entries m)) }) is
+          ∙ ap (λ (a : Atom). record { vars = (cnf_of last).vars; clauses = (cnf_of last).clauses ++ atom_clauses (resolve last.view a) }) (fixed-is d place second entries m)
 
       first-derived : (b : Bounds) → IsFirstShown problem d first_integer s b → IsShown (proof_behind (cnf_of last) s.proof) (first_shown model last b.first)
       first-derived b h = subst (IsShown (proof_behind (cnf_of last) s.proof)) (sym (first-is b.first)) h
@@ -241,8 +241,8 @@ module _ (told : Core → Equation → Type 0) (model : Model) (typed : WellType
       abbrev second-derived : (b : Bounds) (lines : List ProofLine) → HasSecond problem d first_integer s b lines → IsSecond model last (proof_behind (cnf_of last) s.proof) b lines
       second-derived b lines h = record {
         bound = first-derived b h.first;
-        proof = proof_behind (settled_cnf problem d first_integer b.first) lines;
-        accepted = subst (λ (f : Cnf). take_lines (proof_of f) lines ≡ Ok (proof_behind (settled_cnf problem d first_integer b.first) lines)) (sym (second-cnf-is b.first)) h.derivation.accepted;
+        proof = proof_behind (fixed_cnf problem d first_integer b.first) lines;
+        accepted = subst (λ (f : Cnf). take_lines (proof_of f) lines ≡ Ok (proof_behind (fixed_cnf problem d first_integer b.first) lines)) (sym (second-cnf-is b.first)) h.derivation.accepted;
       }
 
       second-fresh : (b : Bounds) (lines : List ProofLine) → HasSecond problem d first_integer s b lines → IsFreshSecond model last (Some b) s.second
@@ -316,7 +316,7 @@ module _ (told : Core → Equation → Type 0) (model : Model) (typed : WellType
             none e = cc
         both-added n same (Some other) e h =
             let one = second-derived b h.lines h.has in
-            let more : length one.proof.added ≡ additions h.lines = added-behind (settled_cnf problem d first_integer b.first) h.lines in
+            let more : length one.proof.added ≡ additions h.lines = added-behind (fixed_cnf problem d first_integer b.first) h.lines in
             let both : length (proof_behind (cnf_of last) s.proof).added + length one.proof.added ≡ n = omega (arith, added-behind (cnf_of last) s.proof, more, h.spent, same) in
             subst (λ (x : Option ℤ). AreAdded model last (proof_behind (cnf_of last) s.proof) n b x s.second) (sym e)
             (subst (λ (y : Option (List ProofLine)). AreAdded model last (proof_behind (cnf_of last) s.proof) n b (Some (value_under problem values (integer_named entries other))) y) (sym h.has.is) (one, both))
@@ -340,8 +340,8 @@ module _ (told : Core → Equation → Type 0) (model : Model) (typed : WellType
             subst (λ (y : Option (List ProofLine)). IsOpenBehind model last s.proof b y b.second) (sym h.has.is)
             (subst (λ (x : Option ℤ). IsOpenBehind model last s.proof b (Some h.lines) x) (sym h.number_is)
             (λ shown. h.unshown
-            (subst (λ (a : OrdInt). IsShown (proof_behind (settled_cnf problem d first_integer b.first) h.lines) (resolve last.view (bound_of d a m))) same
-            (subst (IsShown (proof_behind (settled_cnf problem d first_integer b.first) h.lines)) here
+            (subst (λ (a : OrdInt). IsShown (proof_behind (fixed_cnf problem d first_integer b.first) h.lines) (resolve last.view (bound_of d a m))) same
+            (subst (IsShown (proof_behind (fixed_cnf problem d first_integer b.first) h.lines)) here
             (subst (λ (f : Cnf). IsShown (proof_behind f h.lines) (second_shown model last m)) (second-cnf-is b.first) shown)))))
           where
             some : Some (integer_named entries other) ≡ Some h.other → integer_named entries other ≡ h.other

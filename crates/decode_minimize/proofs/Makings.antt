@@ -33,7 +33,7 @@ use Rattle.decode_minimize.specs.declared.solved.Progress.{Progress}
 use Rattle.decode_minimize.specs.declared.solved.Solved.{Solved}
 use Rattle.decode_minimize.specs.Objectives.{better_left, bound_of, no_worse_of}
 use Rattle.decode_minimize.specs.Rounds.{AreSatisfying}
-use Rattle.decode_minimize.specs.Solved.{Problem, problem_of, IsSolvable, IsSeekable, IsDerivation, IsProgress, IsRefuted, IsGivenUp, IsReadFrom, HasBounds, IsFirstShown, HasSecond, IsSolvedAny, IsSolvedBest, IsAnySolved, IsBestSolved, IsMadeOf, settled_cnf, second_added, values_count, values_in, verdict_on}
+use Rattle.decode_minimize.specs.Solved.{Problem, problem_of, IsSolvable, IsSeekable, IsDerivation, IsProgress, IsRefuted, IsGivenUp, IsReadFrom, HasBounds, IsFirstShown, HasSecond, IsSolvedAny, IsSolvedBest, IsAnySolved, IsBestSolved, IsMadeOf, fixed_cnf, second_added, values_count, values_in, verdict_on}
 use Rattle.decode_minimize.proofs.Ready.{solvable-with}
 use Rattle.decode_minimize.proofs.Rounding.{some-value}
 use Rattle.decode_minimize.proofs.Sound.{shown-true, with-atom-true, with-atom-parts, exact-value, own-no-worse}
@@ -190,54 +190,54 @@ no-worse-below : (n : ℕ) (d : Direction) (a : OrdInt) (m : ℤ) → IntBelow n
 no-worse-below n Least a m h = AtomBelow-not_atom n (at_of a (m +ℤ pos 1)) (AtomBelow-at_of n a (m +ℤ pos 1) h)
 no-worse-below n Greatest a m h = AtomBelow-at_of n a m h
 
--- the clauses with that of a settled objective
+-- the clauses with that of a fixed objective
 module _ (cnf : Cnf) (sought : Sought) (options : Options) (r : Progress) (seekable : IsSeekable cnf sought) (progress : IsProgress cnf sought options r) where
-  abbrev settled_atom : Atom
-  settled_atom = resolve sought.view.now (no_worse_of sought.direction sought.integer.now r.best.number)
+  abbrev fixed_atom : Atom
+  fixed_atom = resolve sought.view.now (no_worse_of sought.direction sought.integer.now r.best.number)
 
-  abbrev settled : Cnf
-  settled = record { vars = cnf.vars; clauses = cnf.clauses ++ atom_clauses settled_atom }
+  abbrev fixed : Cnf
+  fixed = record { vars = cnf.vars; clauses = cnf.clauses ++ atom_clauses fixed_atom }
 
   pub found-fits : FitsSigned w64 r.best.number
   found-fits = subst (FitsSigned w64) (sym progress.number) (value-fits (read_by sought.view.now (valuation_of r.best.values)) sought.integer.now seekable.objective.least seekable.objective.greatest)
 
-  pub settled-is : (made : Cnf) (worse resolved : Atom) → made ≡ record { vars = cnf.vars; clauses = cnf.clauses ++ atom_clauses resolved } → resolved ≡ resolve sought.view.now worse
-      → worse ≡ no_worse_of sought.direction sought.integer.now (to_z w64 (of_z w64 r.best.number)) → made ≡ settled
-  settled-is made worse resolved e f g =
+  pub fixed-is : (made : Cnf) (worse resolved : Atom) → made ≡ record { vars = cnf.vars; clauses = cnf.clauses ++ atom_clauses resolved } → resolved ≡ resolve sought.view.now worse
+      → worse ≡ no_worse_of sought.direction sought.integer.now (to_z w64 (of_z w64 r.best.number)) → made ≡ fixed
+  fixed-is made worse resolved e f g =
       e ∙ ap (λ (a : Atom). record { vars = cnf.vars; clauses = cnf.clauses ++ atom_clauses a })
       (f ∙ ap (resolve sought.view.now) (g ∙ ap (no_worse_of sought.direction sought.integer.now) (to_z-of_z w64 r.best.number found-fits)))
 
-  pub settled-solvable : IsSolvable cnf → IsSolvable settled
-  settled-solvable is =
+  pub fixed-solvable : IsSolvable cnf → IsSolvable fixed
+  fixed-solvable is =
       let n = length sought.view.now + 1 in
       let here = AtomBelow-resolve n sought.view.now seekable.labels (no_worse_of sought.direction sought.integer.now r.best.number)
       (no-worse-below n sought.direction sought.integer.now r.best.number seekable.objective.below) in
-      solvable-with cnf settled_atom is (subst (λ (v : ℕ). AtomBelow (v + 1) settled_atom) (sym seekable.vars) here)
+      solvable-with cnf fixed_atom is (subst (λ (v : ℕ). AtomBelow (v + 1) fixed_atom) (sym seekable.vars) here)
 
-  pub settled-satisfying : AreSatisfying settled r.best.values
-  settled-satisfying =
+  pub fixed-satisfying : AreSatisfying fixed r.best.values
+  fixed-satisfying =
       let σ = valuation_of r.best.values in
       let ordered : IsOrdered (read_by sought.view.now σ) sought.integer.now = seekable.ordered σ progress.values.satisfies in
       let own : atom_truth (read_by sought.view.now σ) (no_worse_of sought.direction sought.integer.now r.best.number) ≡ true =
       subst (λ (z : ℤ). atom_truth (read_by sought.view.now σ) (no_worse_of sought.direction sought.integer.now z) ≡ true) (sym progress.number) (own-no-worse sought.direction (read_by sought.view.now σ) sought.integer.now ordered) in
       record {
         count = progress.values.count;
-        satisfies = with-atom-true σ cnf.clauses settled_atom progress.values.satisfies
+        satisfies = with-atom-true σ cnf.clauses fixed_atom progress.values.satisfies
             (sym (read-atom sought.view.now σ (no_worse_of sought.direction sought.integer.now r.best.number)) ∙ own);
       }
 
-  pub settled-seekable : (behind : Sought) → IsSeekable cnf behind → IsSeekable settled behind
-  settled-seekable behind is = record {
+  pub fixed-seekable : (behind : Sought) → IsSeekable cnf behind → IsSeekable fixed behind
+  fixed-seekable behind is = record {
     vars = is.vars;
     labels = is.labels;
     objective = is.objective;
-    ordered = λ σ h. is.ordered σ (with-atom-parts σ cnf.clauses settled_atom h).0;
+    ordered = λ σ h. is.ordered σ (with-atom-parts σ cnf.clauses fixed_atom h).0;
   }
 
   -- truth values that satisfy them give the first objective its number
-  module _ (shown : r.is_best ≡ true) (values : List Bool) (satisfying : AreSatisfying settled values) where
+  module _ (shown : r.is_best ≡ true) (values : List Bool) (satisfying : AreSatisfying fixed values) where
     pub front-satisfying : AreSatisfying cnf values
-    front-satisfying = record { count = satisfying.count; satisfies = (with-atom-parts (valuation_of values) cnf.clauses settled_atom satisfying.satisfies).0 }
+    front-satisfying = record { count = satisfying.count; satisfies = (with-atom-parts (valuation_of values) cnf.clauses fixed_atom satisfying.satisfies).0 }
 
     pub same-first : r.best.number ≡ value_of (read_by sought.view.now (valuation_of values)) sought.integer.now
     same-first =
@@ -247,7 +247,7 @@ module _ (cnf : Cnf) (sought : Sought) (options : Options) (r : Progress) (seeka
         let no_worse = no_worse_of sought.direction sought.integer.now r.best.number in
         let better : atom_truth σ (resolve sought.view.now bound) ≡ true =
         shown-true cnf r.proof.lines (proof_behind cnf r.proof.lines) progress.derivation.accepted σ front-satisfying.satisfies (resolve sought.view.now bound) (progress.shown shown) in
-        let worse : atom_truth σ (resolve sought.view.now no_worse) ≡ true = (with-atom-parts σ cnf.clauses settled_atom satisfying.satisfies).1 in
+        let worse : atom_truth σ (resolve sought.view.now no_worse) ≡ true = (with-atom-parts σ cnf.clauses fixed_atom satisfying.satisfies).1 in
         exact-value τ sought.integer.now r.best.number (seekable.ordered σ front-satisfying.satisfies) sought.direction
         (read-atom sought.view.now σ bound ∙ better) (read-atom sought.view.now σ no_worse ∙ worse)
 
@@ -258,12 +258,12 @@ both-searches a b m x y n first rest within second = omega (arith, first, rest, 
 both-paid : (a b i m x y n : ℕ) → x ≤ a * m → y ≡ n - x → x ≤ n → y + i * m < (b + 1) * m → n + i * m < (a + b + 1) * m
 both-paid a b i m x y n first rest within second = omega (arith, first, rest, within, second)
 
--- two objectives, where the first one is settled
+-- two objectives, where the first one is fixed
 module _ (names : Names) (cnf : Cnf) (sought behind : Sought) (options left : Options) (r last : Progress) (view : sought.view.now ≡ names.view.now) (view_behind : behind.view.now ≡ names.view.now)
     (direction : behind.direction ≡ sought.direction) (seekable : IsSeekable cnf sought) (progress : IsProgress cnf sought options r) (shown : r.is_best ≡ true)
     (budget : left.budget ≡ options.budget - additions r.proof.lines) (restart : left.restart ≡ options.restart) where
-  abbrev both_settled : Cnf
-  both_settled = record { vars = cnf.vars; clauses = cnf.clauses ++ atom_clauses (resolve sought.view.now (no_worse_of sought.direction sought.integer.now r.best.number)) }
+  abbrev both_fixed : Cnf
+  both_fixed = record { vars = cnf.vars; clauses = cnf.clauses ++ atom_clauses (resolve sought.view.now (no_worse_of sought.direction sought.integer.now r.best.number)) }
 
   abbrev both_bounds : Bounds
   both_bounds = record { first = r.best.number; second = Some last.best.number }
@@ -271,9 +271,9 @@ module _ (names : Names) (cnf : Cnf) (sought behind : Sought) (options left : Op
   abbrev both_problem : Problem
   both_problem = problem_of names cnf
 
-  module _ (second : IsProgress both_settled behind left last) (s : Solved) where
-    same-settled : settled_cnf both_problem sought.direction sought.integer.now r.best.number ≡ both_settled
-    same-settled = ap (λ (v : List Atom). record { vars = cnf.vars; clauses = cnf.clauses ++ atom_clauses (resolve v (no_worse_of sought.direction sought.integer.now r.best.number)) }) (sym view)
+  module _ (second : IsProgress both_fixed behind left last) (s : Solved) where
+    same-fixed : fixed_cnf both_problem sought.direction sought.integer.now r.best.number ≡ both_fixed
+    same-fixed = ap (λ (v : List Atom). record { vars = cnf.vars; clauses = cnf.clauses ++ atom_clauses (resolve v (no_worse_of sought.direction sought.integer.now r.best.number)) }) (sym view)
 
     has-bounds : HasBounds both_problem last.best.values sought.integer.now (Some behind.integer.now) both_bounds
     has-bounds = record {
@@ -291,7 +291,7 @@ module _ (names : Names) (cnf : Cnf) (sought behind : Sought) (options left : Op
         is = made.second;
         first = subst (λ (l : List ProofLine). IsShown (proof_behind cnf l) (resolve names.view.now (bound_of sought.direction sought.integer.now r.best.number))) (sym made.proof)
             (subst (λ (w : List Atom). IsShown (proof_behind cnf r.proof.lines) (resolve w (bound_of sought.direction sought.integer.now r.best.number))) view (progress.shown shown));
-        derivation = subst (λ (f : Cnf). IsDerivation f last.proof.lines) (sym same-settled) second.derivation;
+        derivation = subst (λ (f : Cnf). IsDerivation f last.proof.lines) (sym same-fixed) second.derivation;
       }
 
       both-within : additions s.proof + second_added s.second ≤ options.budget
@@ -318,14 +318,14 @@ module _ (names : Names) (cnf : Cnf) (sought behind : Sought) (options left : Op
               (last.best.values, has-read v made, has-bounds, (last.proof.lines, has-second v made, λ n is. best-second n is));
         }
       where
-        best-second : (n : ℤ) → Some last.best.number ≡ Some n → IsShown (proof_behind (settled_cnf both_problem sought.direction sought.integer.now r.best.number) last.proof.lines) (resolve names.view.now (bound_of sought.direction behind.integer.now n))
+        best-second : (n : ℤ) → Some last.best.number ≡ Some n → IsShown (proof_behind (fixed_cnf both_problem sought.direction sought.integer.now r.best.number) last.proof.lines) (resolve names.view.now (bound_of sought.direction behind.integer.now n))
         best-second n is =
             let same : last.best.number ≡ n = cc in
-            let P : ℤ → Type 0 = λ z. IsShown (proof_behind (settled_cnf both_problem sought.direction sought.integer.now r.best.number) last.proof.lines) (resolve names.view.now (bound_of sought.direction behind.integer.now z)) in
+            let P : ℤ → Type 0 = λ z. IsShown (proof_behind (fixed_cnf both_problem sought.direction sought.integer.now r.best.number) last.proof.lines) (resolve names.view.now (bound_of sought.direction behind.integer.now z)) in
             let here = second.shown e in
-            let one = subst (λ (d : Direction). IsShown (proof_behind both_settled last.proof.lines) (resolve behind.view.now (bound_of d behind.integer.now last.best.number))) direction here in
-            let two = subst (λ (w : List Atom). IsShown (proof_behind both_settled last.proof.lines) (resolve w (bound_of sought.direction behind.integer.now last.best.number))) view_behind one in
-            subst P same (subst (λ (f : Cnf). IsShown (proof_behind f last.proof.lines) (resolve names.view.now (bound_of sought.direction behind.integer.now last.best.number))) (sym same-settled) two)
+            let one = subst (λ (d : Direction). IsShown (proof_behind both_fixed last.proof.lines) (resolve behind.view.now (bound_of d behind.integer.now last.best.number))) direction here in
+            let two = subst (λ (w : List Atom). IsShown (proof_behind both_fixed last.proof.lines) (resolve w (bound_of sought.direction behind.integer.now last.best.number))) view_behind one in
+            subst P same (subst (λ (f : Cnf). IsShown (proof_behind f last.proof.lines) (resolve names.view.now (bound_of sought.direction behind.integer.now last.best.number))) (sym same-fixed) two)
     both-by false e made =
         let v = Unknown options.budget (Some both_bounds) in
         let spent = second.spent e in
@@ -355,9 +355,9 @@ module _ (names : Names) (cnf : Cnf) (sought behind : Sought) (options left : Op
                   (subst (λ (d : Direction). additions last.proof.lines + better_left d behind.integer.now last.best.number * most_learned options.restart cnf.vars < (values_count behind.integer.now + 1) * most_learned options.restart cnf.vars) direction
                   (subst (λ (m : ℕ). additions last.proof.lines + better_left behind.direction behind.integer.now last.best.number * m < (values_count behind.integer.now + 1) * m) most (second.paid e)));
               unshown = λ shown. second.unshown e
-                  (subst (λ (w : List Atom). IsShown (proof_behind both_settled last.proof.lines) (resolve w (bound_of behind.direction behind.integer.now last.best.number))) (sym view_behind)
-                  (subst (λ (d : Direction). IsShown (proof_behind both_settled last.proof.lines) (resolve names.view.now (bound_of d behind.integer.now last.best.number))) (sym direction)
-                  (subst (λ (f : Cnf). IsShown (proof_behind f last.proof.lines) (resolve names.view.now (bound_of sought.direction behind.integer.now last.best.number))) same-settled shown)));
+                  (subst (λ (w : List Atom). IsShown (proof_behind both_fixed last.proof.lines) (resolve w (bound_of behind.direction behind.integer.now last.best.number))) (sym view_behind)
+                  (subst (λ (d : Direction). IsShown (proof_behind both_fixed last.proof.lines) (resolve names.view.now (bound_of d behind.integer.now last.best.number))) (sym direction)
+                  (subst (λ (f : Cnf). IsShown (proof_behind f last.proof.lines) (resolve names.view.now (bound_of sought.direction behind.integer.now last.best.number))) same-fixed shown)));
             }),
           );
         }
@@ -372,7 +372,7 @@ pub both-made : (names : Names) (cnf made : Cnf) (sought behind : Sought) (optio
     → made ≡ record { vars = cnf.vars; clauses = cnf.clauses ++ atom_clauses (resolve sought.view.now (no_worse_of sought.direction sought.integer.now r.best.number)) } → IsProgress made behind left last
     → number ≡ r.best.number → IsMadeOf names last.best.values (verdict_on last.is_best (record { first = number; second = Some last.best.number }) options) r.proof.lines (Some last.proof.lines) s
     → IsBestSolved (problem_of names cnf) options sought.direction sought.integer.now (Some behind.integer.now) s
-both-made names cnf made sought behind options left r last number s view view_behind direction seekable progress shown budget restart settled second same is =
+both-made names cnf made sought behind options left r last number s view view_behind direction seekable progress shown budget restart fixed second same is =
     both-solved names cnf sought behind options left r last view view_behind direction seekable progress shown budget restart
-    (subst (λ (f : Cnf). IsProgress f behind left last) settled second) s
+    (subst (λ (f : Cnf). IsProgress f behind left last) fixed second) s
     (subst (λ (z : ℤ). IsMadeOf names last.best.values (verdict_on last.is_best (record { first = z; second = Some last.best.number }) options) r.proof.lines (Some last.proof.lines) s) same is)

@@ -1,4 +1,4 @@
--- What a derivation shows is true, and what a settled objective says.
+-- What a derivation shows is true, and what a fixed objective says.
 use Rattle.std.proofs.Common.{◌≡◌, Bool, true, false, not, List, [], ◌∷◌, ◌++◌, Ok, refl, sym, ap, ◌∙◌, subst, ⊎_elim, ℤ, pos, ◌+ℤ◌, ◌≤ℤ◌, arith}
 use Rattle.std.specs.Prelude.{IsTrue, ◌&&◌, ◌||◌, ◌<ℤ◌}
 use Rattle.std.proofs.lemmas.Bool.{false≢true}

@@ -44,6 +44,8 @@ pub record IsReady (l : Lowered) : Type 0 where
   pub ordered : (σ : Valuation) → MeetsAll σ l.cores → AreOrdered σ l.map.entries
 
 -- an answer to each model that is lowered to this, and has this goal
-abbrev pub IsAnswerOf : (Core → Equation → Type 0) → Lowered → Goal → Options → Document → ℕ → ℕ → Type 0
+abbrev pub IsAnswerOf : (Core → Equation → Type 0) → Lowered → Goal → Options → Document → ℕ → ℕ
+    → Type 0
 IsAnswerOf told l goal options d counter now =
-    (model : Model) → WellTyped model → InLimits model → weight_of model ≤ most_weight → l ≡ lowered_of model → goal ≡ model.goal → IsAnswer told model options d counter now
+    (model : Model) → WellTyped model → InLimits model → weight_of model ≤ most_weight
+    → l ≡ lowered_of model → goal ≡ model.goal → IsAnswer told model options d counter now

@@ -1,5 +1,6 @@
 -- What an answer to a model is, beside being valid: where its parts come from, and what it may have cost.
-use Rattle.std.specs.Prelude.{◌≡◌, ◌↔◌, ℕ, ◌+◌, ◌*◌, ◌≤◌, ◌<◌, ◌^◌, List, length, ℤ, slice_get, Option, Some, None, IfSome}
+use Rattle.std.specs.Prelude.{◌≡◌, ◌↔◌, ℕ, ◌+◌, ◌*◌, ◌≤◌, ◌<◌, ◌^◌, List, length}
+use Rattle.std.specs.Prelude.{ℤ, slice_get, Option, Some, None, IfSome}
 use Rattle.order_ints.specs.declared.atom.Atom.TheVariants.{False}
 use Rattle.order_ints.specs.declared.order_int.MapValue.{MapValue}
 use Rattle.order_ints.specs.declared.order_int.OrdInt.{OrdInt}
@@ -29,7 +30,8 @@ use Rattle.answer_document.specs.declared.verdict.Verdict.TheVariants.{Satisfiab
 use Rattle.answer_document.specs.declared.document.Document.{Document}
 use Rattle.answer_document.specs.BoundAtoms.{integer_named}
 use Rattle.answer_document.specs.DocumentText.{document_text}
-use Rattle.answer_document.specs.Valid.{start_of, IsShown, first_shown, second_shown, second_cnf, numbers_given, stated, IsValid}
+use Rattle.answer_document.specs.Valid.{start_of, IsShown, first_shown, second_shown, second_cnf, numbers_given, stated}
+use Rattle.answer_document.specs.Valid.{IsValid}
 use Rattle.decode_minimize.specs.declared.objective.Direction.{Direction}
 use Rattle.decode_minimize.specs.declared.objective.Direction.TheVariants.{Least, Greatest}
 use Rattle.decode_minimize.specs.declared.options.Options.{Options}
@@ -83,13 +85,18 @@ IsFreshSecond model last bounds None = Unit {0}
 IsFreshSecond model last None (Some lines) = ⊥
 IsFreshSecond model last (Some b) (Some lines) = IsFreshLog (second_cnf model last b.first) lines
 
--- the bound of the objective that was sought last is not shown: that of the second one, where there is a second derivation
-abbrev pub IsOpenBehind : Model → Kernel → List ProofLine → Bounds → Option (List ProofLine) → Option ℤ → Type 0
-IsOpenBehind model last proof b None second = IsShown (proof_behind (cnf_of last) proof) (first_shown model last b.first) → ⊥
+-- the bound of the objective that was sought last is not shown: that of the second one, where there is a second
+-- derivation
+abbrev pub IsOpenBehind : Model → Kernel → List ProofLine → Bounds → Option (List ProofLine) → Option ℤ
+    → Type 0
+IsOpenBehind model last proof b None second =
+    IsShown (proof_behind (cnf_of last) proof) (first_shown model last b.first) → ⊥
 IsOpenBehind model last proof b (Some lines) None = ⊥
-IsOpenBehind model last proof b (Some lines) (Some n) = IsShown (proof_behind (second_cnf model last b.first) lines) (second_shown model last n) → ⊥
+IsOpenBehind model last proof b (Some lines) (Some n) =
+    IsShown (proof_behind (second_cnf model last b.first) lines) (second_shown model last n) → ⊥
 
--- Where the search was given up, what was derived shows neither that there is no solution, nor that the one that is given is best.
+-- Where the search was given up, what was derived shows neither that there is no solution, nor that the one that is
+-- given is best.
 abbrev pub IsOpen : Model → Kernel → Document → Verdict → Type 0
 IsOpen model last d Satisfiable = Unit {0}
 IsOpen model last d Unsatisfiable = Unit {0}
@@ -98,8 +105,8 @@ IsOpen model last d (Unknown n None) = IsShown (proof_behind (cnf_of last) d.pro
 IsOpen model last d (Unknown n (Some b)) = IsOpenBehind model last d.proof b d.second b.second
 
 -- How good the solution is that is given where the search was given up. Each search but the last left out a value, and
--- those that are still better than what is given were not left out: so with them, the budget is less than the most that a
--- search may need for each value of the objectives that were sought, and for one search more.
+-- those that are still better than what is given were not left out: so with them, the budget is less than the most that
+-- a search may need for each value of the objectives that were sought, and for one search more.
 abbrev pub IsPaidFor : ℕ → ℕ → ℕ → Direction → OrdInt → ℤ → Type 0
 IsPaidFor budget most values d a m = budget + better_left d a m * most < (values + 1) * most
 
@@ -108,13 +115,15 @@ abbrev pub values_named : List MapValue → ℕ → ℕ
 values_named entries place = values_count (integer_named entries place)
 
 -- of the objective that was sought last: the second one, where there is a second derivation
-abbrev pub IsPaidBehind : List MapValue → ℕ → ℕ → Direction → ℕ → Option ℕ → Bounds → Option (List ProofLine) → Type 0
+abbrev pub IsPaidBehind : List MapValue → ℕ → ℕ → Direction → ℕ → Option ℕ → Bounds
+    → Option (List ProofLine) → Type 0
 IsPaidBehind entries budget most d place second b None =
     IsPaidFor budget most (values_named entries place) d (integer_named entries place) b.first
 IsPaidBehind entries budget most d place None b (Some lines) = ⊥
 IsPaidBehind entries budget most d place (Some other) b (Some lines) =
     (n : ℤ) → b.second ≡ Some n
-    → IsPaidFor budget most (values_named entries place + values_named entries other) d (integer_named entries other) n
+    → IsPaidFor budget most (values_named entries place + values_named entries other) d (integer_named entries other)
+    n
 
 abbrev pub IsPaidTowards : List MapValue → ℕ → ℕ → Bounds → Option (List ProofLine) → Goal → Type 0
 IsPaidTowards entries budget most b lines Satisfy = ⊥
@@ -130,25 +139,28 @@ IsPaid entries budget most goal lines (Optimum b) = Unit {0}
 IsPaid entries budget most goal lines (Unknown n None) = Unit {0}
 IsPaid entries budget most goal lines (Unknown n (Some b)) = IsPaidTowards entries budget most b lines goal
 
--- An answer to a model, where a counter has risen from one number to another. Its ledger is that of a whole compilation, whatever
--- the verdict, and the last state's CNF stands for exactly the solutions.
-pub record IsAnswer (told : Core → Equation → Type 0) (model : Model) (options : Options) (d : Document) (counter now : ℕ) : Type 0 where
+-- An answer to a model, where a counter has risen from one number to another. Its ledger is that of a whole
+-- compilation, whatever the verdict, and the last state's CNF stands for exactly the solutions.
+pub record IsAnswer (told : Core → Equation → Type 0) (model : Model) (options : Options) (d : Document)
+    (counter now : ℕ) : Type 0 where
   pub last : Kernel
   pub compilation : IsCompilation told (start_of model) d.ledger last
-  pub solutions : (a : List ℤ) → IsSolution model a ↔ ((σ : Valuation) × Satisfies σ (cnf_of last) × (a ≡ numbers_at model last σ))
+  pub solutions : (a : List ℤ) → IsSolution model a ↔
+      ((σ : Valuation) × Satisfies σ (cnf_of last) × (a ≡ numbers_at model last σ))
   -- its text is a valid answer, with its verdict and its assignment
   pub valid : IsValid model (document_text model.decls model.goal d) d.verdict (numbers_given d.assignment)
   pub count : IfSome d.assignment (λ (a : Assignment). length model.decls ≡ length a.values)
   -- each addition of a derivation is new among the clauses that live before it, and deletions name additions alone
   pub fresh : IsFreshLog (cnf_of last) d.proof
   pub second : IsFreshSecond model last (stated d.verdict) d.second
-  -- no more clauses are added than the budget has, exactly as many where the search was given up, which it never is where the
-  -- budget is as great as the most that the rounds may need
+  -- no more clauses are added than the budget has, exactly as many where the search was given up, which it never is
+  -- where the budget is as great as the most that the rounds may need
   pub within : all_additions d ≤ options.budget
   -- nor more than the rounds may need with these options, whatever the budget
   pub most : all_additions d ≤ most_learned options.restart (cnf_of last).vars * most_rounds model.decls model.goal
   pub spent : IsSpent options.budget (all_additions d) d.verdict
-  pub enough : most_learned options.restart (cnf_of last).vars * most_rounds model.decls model.goal ≤ options.budget → IsDecided d.verdict
+  pub enough : most_learned options.restart (cnf_of last).vars * most_rounds model.decls model.goal ≤ options.budget
+      → IsDecided d.verdict
   pub unshown : IsOpen model last d d.verdict
   -- and a solution that is given then is as good as the searches were many
   pub paid : IsPaid (lowered_of model).map.entries options.budget (most_learned options.restart (cnf_of last).vars)

@@ -23,7 +23,8 @@ IsAsked s asked (Better values) = IsSolution s.cnf asked values
 IsAsked s asked Shown = (id : ℕ) × IsRefutation s.cnf s.log asked id
 IsAsked s asked Spent = NoneRefutes s.cnf s.log asked
 
--- A bound is broken by truth values that satisfy the CNF; or it is shown by the log; or it is not, which one that is True always is.
+-- A bound is broken by truth values that satisfy the CNF; or it is shown by the log; or it is not, which one that is
+-- True always is.
 abbrev pub IsRound : Logged → Atom → Round → Type 0
 IsRound s bound (Better values) = AreSatisfying s.cnf values × (atom_truth (valuation_of values) bound ≡ false)
 IsRound s bound Shown = IsShown (proof_behind s.cnf s.log) bound

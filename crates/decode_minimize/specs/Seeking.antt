@@ -17,8 +17,8 @@ use Rattle.decode_minimize.specs.declared.improving.Turn.TheVariants.{Better, Sh
 use Rattle.decode_minimize.specs.Objectives.{better_left, bound_of, IsObjective}
 use Rattle.decode_minimize.specs.Rounds.{AreSatisfying}
 
--- what a solver seeks is an integer over its variables, ordered as a view reads a valuation that satisfies its CNF; and the best
--- solution so far is one
+-- what a solver seeks is an integer over its variables, ordered as a view reads a valuation that satisfies its CNF; and
+-- the best solution so far is one
 pub record IsSeeking (s : Logged) (sought : Sought) (best : Best) : Type 0 where
   pub vars : s.cnf.vars ≡ length sought.view.now
   pub labels : AtomsBelow (length sought.view.now + 1) sought.view.now
@@ -33,26 +33,36 @@ left sought best = better_left sought.direction sought.integer.now best.number
 
 -- the log shows that no value is better
 abbrev pub IsBestShown : Logged → Sought → Best → Type 0
-IsBestShown s sought best = IsShown (proof_behind s.cnf s.log) (resolve sought.view.now (bound_of sought.direction sought.integer.now best.number))
+IsBestShown s sought best =
+    IsShown (proof_behind s.cnf s.log)
+    (resolve sought.view.now (bound_of sought.direction sought.integer.now best.number))
 
--- What a round costs is at most a search for each value that it leaves out. Where the budget was spent, so many clauses are fewer,
--- a value was left, and the log shows nothing of it.
+-- What a round costs is at most a search for each value that it leaves out. Where the budget was spent, so many clauses
+-- are fewer, a value was left, and the log shows nothing of it.
 abbrev pub IsTurned : Logged → Logged → Sought → Options → Best → Best → Turn → Type 0
 IsTurned old new sought options was is Better =
     (left sought is < left sought was)
-    × (additions new.log + left sought is * most_learned options.restart old.cnf.vars ≤ additions old.log + left sought was * most_learned options.restart old.cnf.vars)
+    × (additions new.log + left sought is * most_learned options.restart old.cnf.vars
+    ≤ additions old.log + left sought was * most_learned options.restart old.cnf.vars)
 IsTurned old new sought options was is Shown =
-    IsBestShown new sought is × (additions new.log ≤ additions old.log + left sought was * most_learned options.restart old.cnf.vars) × (is ≡ was)
+    IsBestShown new sought is
+    × (additions new.log ≤ additions old.log + left sought was * most_learned options.restart old.cnf.vars)
+    × (is ≡ was)
 IsTurned old new sought options was is Spent =
-    (additions new.log ≡ options.budget) × (1 ≤ left sought was) × (additions new.log < additions old.log + most_learned options.restart old.cnf.vars)
+    (additions new.log ≡ options.budget) × (1 ≤ left sought was)
+    × (additions new.log < additions old.log + most_learned options.restart old.cnf.vars)
     × (IsBestShown new sought is → ⊥) × (is ≡ was)
 
--- Rounds to their end. No more values are better than the solution that is kept than were better than the first one; and each search
--- but the last is paid for by a value that is left out, so what a round found is not given up again.
-pub record IsImproved (old new : Logged) (sought : Sought) (options : Options) (was is : Best) (shown : Bool) : Type 0 where
+-- Rounds to their end. No more values are better than the solution that is kept than were better than the first one;
+-- and each search but the last is paid for by a value that is left out, so what a round found is not given up again.
+pub record IsImproved (old new : Logged) (sought : Sought) (options : Options) (was is : Best) (shown : Bool)
+    : Type 0 where
   pub best : shown ≡ true → IsBestShown new sought is
   pub most : additions new.log ≤ additions old.log + left sought was * most_learned options.restart old.cnf.vars
-  pub spent : shown ≡ false → (additions new.log ≡ options.budget) × (additions new.log < additions old.log + left sought was * most_learned options.restart old.cnf.vars)
+  pub spent : shown ≡ false → (additions new.log ≡ options.budget)
+      × (additions new.log < additions old.log + left sought was * most_learned options.restart old.cnf.vars)
   pub no_worse : left sought is ≤ left sought was
-  pub paid : shown ≡ false → additions new.log + left sought is * most_learned options.restart old.cnf.vars < additions old.log + left sought was * most_learned options.restart old.cnf.vars + most_learned options.restart old.cnf.vars
+  pub paid : shown ≡ false → additions new.log + left sought is * most_learned options.restart old.cnf.vars
+      < additions old.log + left sought was * most_learned options.restart old.cnf.vars
+      + most_learned options.restart old.cnf.vars
   pub unshown : shown ≡ false → IsBestShown new sought is → ⊥

@@ -1,5 +1,6 @@
 -- What solving gives, over what is to be solved alone: no model is known here.
-use Rattle.std.specs.Prelude.{◌≡◌, ◌⊎◌, ℕ, ◌+◌, ◌*◌, ◌<◌, ◌≤◌, ◌^◌, ◌++◌, Bool, true, false, List, length, ℤ, Option, Some, None, Ok, if◌then◌else◌}
+use Rattle.std.specs.Prelude.{◌≡◌, ◌⊎◌, ℕ, ◌+◌, ◌*◌, ◌<◌, ◌≤◌, ◌^◌, ◌++◌, Bool}
+use Rattle.std.specs.Prelude.{true, false, List, length, ℤ, Option, Some, None, Ok, if◌then◌else◌}
 use Rattle.std.specs.Option.{option_map}
 use Rattle.order_ints.specs.declared.atom.Atom.{Atom}
 use Rattle.order_ints.specs.declared.atom.Atom.TheVariants as atom
@@ -89,10 +90,18 @@ pub record IsProgress (cnf : Cnf) (sought : Sought) (options : Options) (r : Pro
   pub number : r.best.number ≡ value_of (read_by sought.view.now (valuation_of r.best.values)) sought.integer.now
   pub within : additions r.proof.lines ≤ options.budget
   pub most : additions r.proof.lines ≤ values_count sought.integer.now * most_learned options.restart cnf.vars
-  pub shown : r.is_best ≡ true → IsShown (proof_behind cnf r.proof.lines) (resolve sought.view.now (bound_of sought.direction sought.integer.now r.best.number))
-  pub spent : r.is_best ≡ false → (additions r.proof.lines ≡ options.budget) × (additions r.proof.lines < values_count sought.integer.now * most_learned options.restart cnf.vars)
-  pub paid : r.is_best ≡ false → additions r.proof.lines + better_left sought.direction sought.integer.now r.best.number * most_learned options.restart cnf.vars < (values_count sought.integer.now + 1) * most_learned options.restart cnf.vars
-  pub unshown : r.is_best ≡ false → IsShown (proof_behind cnf r.proof.lines) (resolve sought.view.now (bound_of sought.direction sought.integer.now r.best.number)) → ⊥
+  pub shown : r.is_best ≡ true
+      → IsShown (proof_behind cnf r.proof.lines)
+      (resolve sought.view.now (bound_of sought.direction sought.integer.now r.best.number))
+  pub spent : r.is_best ≡ false → (additions r.proof.lines ≡ options.budget)
+      × (additions r.proof.lines < values_count sought.integer.now * most_learned options.restart cnf.vars)
+  pub paid : r.is_best ≡ false
+      → additions r.proof.lines + better_left sought.direction sought.integer.now r.best.number
+      * most_learned options.restart cnf.vars < (values_count sought.integer.now + 1)
+      * most_learned options.restart cnf.vars
+  pub unshown : r.is_best ≡ false
+      → IsShown (proof_behind cnf r.proof.lines)
+      (resolve sought.view.now (bound_of sought.direction sought.integer.now r.best.number)) → ⊥
 
 -- and before any is known
 pub record IsRefuted (cnf : Cnf) (options : Options) (proof : List ProofLine) : Type 0 where
@@ -131,34 +140,39 @@ abbrev pub IsFirstShown : Problem → Direction → OrdInt → Solved → Bounds
 IsFirstShown p d a s b = IsShown (proof_behind p.cnf s.proof) (resolve p.view (bound_of d a b.first))
 
 -- the clauses, and that it is no worse
-abbrev pub settled_cnf : Problem → Direction → OrdInt → ℤ → Cnf
-settled_cnf p d a m = record {
+abbrev pub fixed_cnf : Problem → Direction → OrdInt → ℤ → Cnf
+fixed_cnf p d a m = record {
   vars = p.cnf.vars;
   clauses = p.cnf.clauses ++ atom_clauses (resolve p.view (no_worse_of d a m));
 }
 
 -- a second derivation is one from these
-pub record HasSecond (p : Problem) (d : Direction) (a : OrdInt) (s : Solved) (b : Bounds) (lines : List ProofLine) : Type 0 where
+pub record HasSecond (p : Problem) (d : Direction) (a : OrdInt) (s : Solved) (b : Bounds) (lines : List ProofLine)
+    : Type 0 where
   pub is : s.second ≡ Some lines
   pub first : IsFirstShown p d a s b
-  pub derivation : IsDerivation (settled_cnf p d a b.first) lines
+  pub derivation : IsDerivation (fixed_cnf p d a b.first) lines
 
 -- no solution has better values
 abbrev pub IsOptimal : Problem → Direction → OrdInt → Option OrdInt → Solved → Bounds → Type 0
 IsOptimal p d a None s b = (s.second ≡ None) × IsFirstShown p d a s b
 IsOptimal p d a (Some other) s b = (lines : List ProofLine) × HasSecond p d a s b lines
-    × ((n : ℤ) → b.second ≡ Some n → IsShown (proof_behind (settled_cnf p d a b.first) lines) (resolve p.view (bound_of d other n)))
+    × ((n : ℤ) → b.second ≡ Some n
+    → IsShown (proof_behind (fixed_cnf p d a b.first) lines) (resolve p.view (bound_of d other n)))
 
--- The budget is spent on the first objective, or on both. What was derived does not show that no solution is better; and each search
--- but the last is paid for by a value that is no better than the one that is given.
-pub record IsSpentFirst (p : Problem) (options : Options) (d : Direction) (a : OrdInt) (s : Solved) (b : Bounds) : Type 0 where
+-- The budget is spent on the first objective, or on both. What was derived does not show that no solution is better;
+-- and each search but the last is paid for by a value that is no better than the one that is given.
+pub record IsSpentFirst (p : Problem) (options : Options) (d : Direction) (a : OrdInt) (s : Solved) (b : Bounds)
+    : Type 0 where
   pub alone : s.second ≡ None
   pub spent : additions s.proof ≡ options.budget
   pub early : options.budget < values_count a * most_learned options.restart p.cnf.vars
-  pub paid : options.budget + better_left d a b.first * most_learned options.restart p.cnf.vars < (values_count a + 1) * most_learned options.restart p.cnf.vars
+  pub paid : options.budget + better_left d a b.first * most_learned options.restart p.cnf.vars
+      < (values_count a + 1) * most_learned options.restart p.cnf.vars
   pub unshown : IsFirstShown p d a s b → ⊥
 
-pub record IsSpentSecond (p : Problem) (options : Options) (d : Direction) (a : OrdInt) (second : Option OrdInt) (s : Solved) (b : Bounds) : Type 0 where
+pub record IsSpentSecond (p : Problem) (options : Options) (d : Direction) (a : OrdInt) (second : Option OrdInt)
+    (s : Solved) (b : Bounds) : Type 0 where
   pub other : OrdInt
   pub is : second ≡ Some other
   pub lines : List ProofLine
@@ -167,8 +181,10 @@ pub record IsSpentSecond (p : Problem) (options : Options) (d : Direction) (a : 
   pub early : options.budget < (values_count a + values_count other) * most_learned options.restart p.cnf.vars
   pub number : ℤ
   pub number_is : b.second ≡ Some number
-  pub paid : options.budget + better_left d other number * most_learned options.restart p.cnf.vars < (values_count a + values_count other + 1) * most_learned options.restart p.cnf.vars
-  pub unshown : IsShown (proof_behind (settled_cnf p d a b.first) lines) (resolve p.view (bound_of d other number)) → ⊥
+  pub paid : options.budget + better_left d other number * most_learned options.restart p.cnf.vars
+      < (values_count a + values_count other + 1) * most_learned options.restart p.cnf.vars
+  pub unshown : IsShown (proof_behind (fixed_cnf p d a b.first) lines) (resolve p.view (bound_of d other number))
+      → ⊥
 
 -- there is no assignment, and no second derivation
 abbrev pub IsBare : Solved → Type 0
@@ -183,12 +199,14 @@ IsSolvedAny p options s (Unknown n None) = IsBare s × (n ≡ options.budget) ×
 IsSolvedAny p options s (Unknown n (Some b)) = ⊥
 
 -- a best one is sought
-abbrev pub IsSolvedBest : Problem → Options → Direction → OrdInt → Option OrdInt → Solved → Verdict → Type 0
+abbrev pub IsSolvedBest : Problem → Options → Direction → OrdInt → Option OrdInt → Solved → Verdict
+    → Type 0
 IsSolvedBest p options d a second s Satisfiable = ⊥
 IsSolvedBest p options d a second s Unsatisfiable = IsBare s × IsShown (proof_behind p.cnf s.proof) atom.False
 IsSolvedBest p options d a second s (Optimum b) =
     (values : List Bool) × IsReadFrom p s values × HasBounds p values a second b × IsOptimal p d a second s b
-IsSolvedBest p options d a second s (Unknown n None) = IsBare s × (n ≡ options.budget) × IsGivenUp p.cnf options s.proof
+IsSolvedBest p options d a second s (Unknown n None) = IsBare s × (n ≡ options.budget)
+    × IsGivenUp p.cnf options s.proof
 IsSolvedBest p options d a second s (Unknown n (Some b)) =
     (values : List Bool) × IsReadFrom p s values × HasBounds p values a second b × (n ≡ options.budget)
     × (IsSpentFirst p options d a s b ⊎ IsSpentSecond p options d a second s b)
@@ -199,7 +217,8 @@ second_added None = 0
 second_added (Some lines) = additions lines
 
 -- what holds of the derivations, of so many rounds at most, and what the verdict says
-pub record IsSolved (p : Problem) (options : Options) (s : Solved) (rounds : ℕ) (claims : Verdict → Type 0) : Type 0 where
+pub record IsSolved (p : Problem) (options : Options) (s : Solved) (rounds : ℕ) (claims : Verdict → Type 0)
+    : Type 0 where
   pub derivation : IsDerivation p.cnf s.proof
   pub within : additions s.proof + second_added s.second ≤ options.budget
   pub most : additions s.proof + second_added s.second ≤ rounds * most_learned options.restart p.cnf.vars
@@ -215,7 +234,8 @@ abbrev pub IsAnySolved : Problem → Options → Solved → Type 0
 IsAnySolved p options s = IsSolved p options s 1 (IsSolvedAny p options s)
 
 abbrev pub IsBestSolved : Problem → Options → Direction → OrdInt → Option OrdInt → Solved → Type 0
-IsBestSolved p options d a second s = IsSolved p options s (values_count a + values_in second) (IsSolvedBest p options d a second s)
+IsBestSolved p options d a second s =
+    IsSolved p options s (values_count a + values_in second) (IsSolvedBest p options d a second s)
 
 -- the integer of a second objective, where there is one
 abbrev pub second_named : List MapValue → Option ℕ → Option OrdInt
@@ -223,13 +243,17 @@ second_named entries second = option_map (integer_named entries) second
 
 abbrev pub IsSolvedFor : Problem → Options → Goal → Solved → Type 0
 IsSolvedFor p options Satisfy s = IsAnySolved p options s
-IsSolvedFor p options (Minimize place second) s = IsBestSolved p options Least (integer_named p.entries place) (second_named p.entries second) s
-IsSolvedFor p options (Maximize place second) s = IsBestSolved p options Greatest (integer_named p.entries place) (second_named p.entries second) s
+IsSolvedFor p options (Minimize place second) s =
+    IsBestSolved p options Least (integer_named p.entries place) (second_named p.entries second) s
+IsSolvedFor p options (Maximize place second) s =
+    IsBestSolved p options Greatest (integer_named p.entries place) (second_named p.entries second) s
 
 -- what is made of truth values, a verdict and derivations
-pub record IsMadeOf (names : Names) (values : List Bool) (v : Verdict) (lines : List ProofLine) (behind : Option (List ProofLine)) (s : Solved) : Type 0 where
+pub record IsMadeOf (names : Names) (values : List Bool) (v : Verdict) (lines : List ProofLine)
+    (behind : Option (List ProofLine)) (s : Solved) : Type 0 where
   pub verdict : s.verdict ≡ v
-  pub numbers : numbers_given s.assignment ≡ Some (numbers_of (read_by names.view.now (valuation_of values)) names.map.now.entries)
+  pub numbers : numbers_given s.assignment ≡ Some
+      (numbers_of (read_by names.view.now (valuation_of values)) names.map.now.entries)
   pub proof : s.proof ≡ lines
   pub second : s.second ≡ behind
 

@@ -63,8 +63,8 @@ struct SizedDocument {
     size: CnfSize,
 }
 
-/// Solves the clauses of the last state of a compilation. At bottom there is no solution, and nothing is to be derived: the CNF
-/// is the empty clause alone.
+/// Solves the clauses of the last state of a compilation. At bottom there is no solution, and nothing is to be derived:
+/// the CNF is the empty clause alone.
 fn solve_state(
     alloc: Global,
     state: &State,
@@ -110,7 +110,8 @@ fn answer_lowered<F: Oracle<L>, L: Ledger>(
     requires ready { IsReady lowered }
     requires budget { IsBudget options.budget }
     ensures answer { IfOk result (λ a. IsAnswerOf F.told lowered goal options a.document steps.old steps.new) }
-    ensures size { IfOk result (λ a. (last : Kernel) → IsCompilation F.told (started lowered.vars lowered.cores) a.document.ledger last
+    ensures size { IfOk result (λ a. (last : Kernel)
+        → IsCompilation F.told (started lowered.vars lowered.cores) a.document.ledger last
         → a.size ≡ size_of (cnf_of last)) }
 {
     let Lowered { vars, map, cores } = lowered;
@@ -131,10 +132,10 @@ fn answer_lowered<F: Oracle<L>, L: Ledger>(
 }
 
 /// The answer to a model: whether it has a solution, or which is a best one, with a certificate. The model is compiled
-/// as by `compile`, and the clauses are solved. An objective is sought in rounds, each of which asks for a
-/// better value than the best one so far, by the same solver; a second objective by a new solver, over the clauses and that the
-/// first one is settled, with what the first one left of the budget. No round is made where the store
-/// already excludes a better value.
+/// as by `compile`, and the clauses are solved. An objective is sought in rounds, each of which asks for a better value
+/// than the best one so far, by the same solver; a second objective by a new solver, over the clauses and that the
+/// first one is fixed, with what the first one left of the budget. No round is made where the store already excludes a
+/// better value.
 ///
 /// It fails with the model's weight where that is above 67,108,864, and for want of memory.
 pub fn answer<F: Oracle<L>, L: Ledger>(
@@ -156,8 +157,8 @@ pub fn answer<F: Oracle<L>, L: Ledger>(
     Ok(answered.document)
 }
 
-/// The answer to a model that is used up: each statement is let go as soon as it is lowered, and the declarations are given
-/// back. Else it is as `answer`.
+/// The answer to a model that is used up: each statement is let go as soon as it is lowered, and the declarations are
+/// given back. Else it is as `answer`.
 pub fn answer_owned<F: Oracle<L>, L: Ledger>(
     alloc: Global,
     model: Model,

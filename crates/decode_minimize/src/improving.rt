@@ -51,7 +51,8 @@ pub enum Turn {
 fn take(sought: &Sought<'_>, best: &mut Best, values: Sequence<bool>)
     requires { IsObjective (length sought.now.view.now + 1) sought.now.integer.now }
     ensures values { best.new.values ≡ values }
-    ensures number { best.new.number ≡ value_of (read_by sought.now.view.now (valuation_of values)) sought.now.integer.now }
+    ensures number { best.new.number ≡ value_of (read_by sought.now.view.now (valuation_of values))
+        sought.now.integer.now }
 {
     let number = value_under(sought.integer, sought.view, values.as_slice());
     *best = Best { values, number };

@@ -26,12 +26,12 @@
 
 mod answering;
 mod asking;
+mod fixing;
 mod improving;
 mod objective;
 mod options;
 mod rounds;
 mod seeker;
-mod settling;
 mod solved;
 mod solving;
 

@@ -1,6 +1,7 @@
 //! A solver that is asked for better and better solutions, and what is the best that it was told or found.
 
-ghost use Rattle.std.specs.Prelude.{◌≡◌, ◌+◌, ◌<◌, ◌≤◌, ◌^◌, [], None, Some, Ok, IfOk, IfSome, length};
+ghost use Rattle.std.specs.Prelude.{◌≡◌, ◌+◌, ◌<◌, ◌≤◌, ◌^◌, [], None, Some, Ok, IfOk, IfSome};
+ghost use Rattle.std.specs.Prelude.{length};
 ghost use Rattle.order_ints.specs.Place.{AtomBelow, InRange};
 ghost use Rattle.order_ints.specs.View.{resolve};
 ghost use Rattle.clause_rings.specs.Clauses.{AreApartIn};

@@ -27,7 +27,7 @@ pub struct Solved {
     pub assignment: Option<Assignment>,
     /// The derivation over the clauses.
     pub proof: Sequence<ProofLine>,
-    /// The derivation over the clauses and that the first objective is settled.
+    /// The derivation over the clauses and that the first objective is fixed.
     pub second: Option<Sequence<ProofLine>>,
 }
 

@@ -8,14 +8,15 @@ ghost use Rattle.state_compile.specs.StandsFor.{read_by};
 ghost use Rattle.model_decode.specs.Short.{AreShort};
 ghost use Rattle.answer_document.specs.BoundAtoms.{integer_named};
 ghost use Rattle.decode_minimize.specs.Objectives.{IsObjective};
-ghost use Rattle.decode_minimize.specs.Solved.{problem_of, IsProblem, IsSeekable, IsProgress, IsAnySolved, IsBestSolved, IsSolvedFor, IsMadeOf, second_named, verdict_on};
+ghost use Rattle.decode_minimize.specs.Solved.{problem_of, IsProblem, IsSeekable, IsProgress, IsAnySolved};
+ghost use Rattle.decode_minimize.specs.Solved.{IsBestSolved, IsSolvedFor, IsMadeOf, second_named, verdict_on};
 
 use crate::asking::{Round, ask_bound};
+use crate::fixing::{additions, fix};
 use crate::improving::{Best, Sought};
 use crate::objective::{Direction, integer_named, no_worse_of, value_under};
 use crate::options::Options;
 use crate::rounds::{first_rounds, rounds_behind};
-use crate::settling::{additions, settle};
 use crate::solved::{First, Names, Progress, Solved};
 use answer_document::{Bounds, Verdict};
 use bee_list::Sequence;
@@ -40,7 +41,12 @@ pub fn refuted(proof: Sequence<ProofLine>) -> Solved
 
 /// That the budget is spent, and no solution known.
 fn given_up(proof: Sequence<ProofLine>, options: Options) -> Solved
-    ensures { result ≡ record { verdict = Verdict.Unknown options.budget None; assignment = None; proof = proof; second = None } }
+    ensures { result ≡ record {
+      verdict = Verdict.Unknown options.budget None;
+      assignment = None;
+      proof = proof;
+      second = None;
+    } }
 {
     Solved {
         verdict: Verdict::Unknown(options.budget, None),
@@ -119,7 +125,10 @@ fn with_one(
     options: Options,
 ) -> Result<Solved, AllocError>
     requires { AreShort names.now.map.now.entries }
-    ensures { IfOk result (IsMadeOf names.now progress.best.values (verdict_on progress.is_best (record { first = progress.best.number; second = None }) options) progress.proof.lines None) }
+    ensures { IfOk result
+        (IsMadeOf names.now progress.best.values
+        (verdict_on progress.is_best (record { first = progress.best.number; second = None }) options)
+        progress.proof.lines None) }
 {
     let Progress {
         proof,
@@ -147,7 +156,8 @@ fn solve_one(
     requires problem { IsProblem (problem_of names.now cnf.now) }
     requires view { sought.now.view.now ≡ names.now.view.now }
     requires seekable { IsSeekable cnf.now sought.now }
-    ensures { IfOk result (IsBestSolved (problem_of names.now cnf.now) options sought.now.direction sought.now.integer.now None) }
+    ensures { IfOk result
+        (IsBestSolved (problem_of names.now cnf.now) options sought.now.direction sought.now.integer.now None) }
 {
     match first_rounds(alloc, cnf, sought, options)? {
         First::Refuted(proof) => Ok(refuted(proof)),
@@ -170,7 +180,14 @@ fn with_first(
     requires short { AreShort names.now.map.now.entries }
     requires objective { IsObjective (length behind.now.view.now + 1) behind.now.integer.now }
     ensures { IfOk result (IsMadeOf names.now progress.best.values
-        (Verdict.Unknown options.budget (Some (record { first = progress.best.number; second = Some (value_of (read_by behind.now.view.now (valuation_of progress.best.values)) behind.now.integer.now) })))
+        (Verdict.Unknown options.budget
+        (Some
+        (record {
+          first = progress.best.number;
+          second =
+              Some (value_of (read_by behind.now.view.now (valuation_of progress.best.values))
+              behind.now.integer.now);
+        })))
         progress.proof.lines None) }
 {
     let Progress { proof, best, .. } = progress;
@@ -195,7 +212,10 @@ fn with_two(
     options: Options,
 ) -> Result<Solved, AllocError>
     requires { AreShort names.now.map.now.entries }
-    ensures { IfOk result (IsMadeOf names.now progress.best.values (verdict_on progress.is_best (record { first = number; second = Some progress.best.number }) options) proof (Some progress.proof.lines)) }
+    ensures { IfOk result
+        (IsMadeOf names.now progress.best.values
+        (verdict_on progress.is_best (record { first = number; second = Some progress.best.number }) options) proof
+        (Some progress.proof.lines)) }
 {
     let Progress {
         proof: second,
@@ -219,8 +239,8 @@ fn with_two(
     Ok(solved)
 }
 
-/// The best value of a second objective where the first one is settled. Its derivation is one over the clauses and that, with
-/// what is left of the budget.
+/// The best value of a second objective where the first one is fixed. Its derivation is one over the clauses and that,
+/// with what is left of the budget.
 fn solve_behind(
     alloc: Global,
     cnf: Cnf,
@@ -238,12 +258,14 @@ fn solve_behind(
     requires seekable_behind { IsSeekable cnf behind.now }
     requires progress { IsProgress cnf sought.now options progress }
     requires shown { progress.is_best ≡ true }
-    ensures { IfOk result (IsBestSolved (problem_of names.now cnf) options sought.now.direction sought.now.integer.now (Some behind.now.integer.now)) }
+    ensures { IfOk result
+        (IsBestSolved (problem_of names.now cnf) options sought.now.direction sought.now.integer.now
+        (Some behind.now.integer.now)) }
 {
     let Progress { proof, best, .. } = progress;
     let Best { values, number } = best;
-    let settled = no_worse_of(sought.direction, sought.integer, number);
-    let cnf = settle(alloc, cnf, resolve(sought.view, settled))?;
+    let fixed = no_worse_of(sought.direction, sought.integer, number);
+    let cnf = fix(alloc, cnf, resolve(sought.view, fixed))?;
     let left = Options {
         budget: options.budget - additions(proof.lines()),
         restart: options.restart,
@@ -268,7 +290,9 @@ fn solve_two(
     requires direction { behind.now.direction ≡ sought.now.direction }
     requires seekable { IsSeekable cnf sought.now }
     requires seekable_behind { IsSeekable cnf behind.now }
-    ensures { IfOk result (IsBestSolved (problem_of names.now cnf) options sought.now.direction sought.now.integer.now (Some behind.now.integer.now)) }
+    ensures { IfOk result
+        (IsBestSolved (problem_of names.now cnf) options sought.now.direction sought.now.integer.now
+        (Some behind.now.integer.now)) }
 {
     match first_rounds(alloc, &cnf, sought, options)? {
         First::Refuted(proof) => Ok(refuted(proof)),
@@ -296,7 +320,9 @@ fn solve_best(
     options: Options,
 ) -> Result<Solved, AllocError>
     requires { IsProblem (problem_of names.now cnf) }
-    ensures { IfOk result (IsBestSolved (problem_of names.now cnf) options direction (integer_named names.now.map.now.entries place) (second_named names.now.map.now.entries second)) }
+    ensures { IfOk result
+        (IsBestSolved (problem_of names.now cnf) options direction (integer_named names.now.map.now.entries place)
+        (second_named names.now.map.now.entries second)) }
 {
     let zero = OrdInt::constant(alloc, 0)?;
     let entries = names.map.entries.as_slice();

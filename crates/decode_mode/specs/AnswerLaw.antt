@@ -7,4 +7,5 @@ use Rattle.decode_mode.specs.DecodeMode.{HaveEnd}
 
 -- the compiled text has a fault, or both have an end of decode mode
 abbrev pub DecodeAnswers : Type 0
-DecodeAnswers = (texts : Texts) → ((line : ℕ) × TextFails texts.first line) ⊎ ((end : End ℕ) × HaveEnd texts end)
+DecodeAnswers = (texts : Texts) → ((line : ℕ) × TextFails texts.first line)
+    ⊎ ((end : End ℕ) × HaveEnd texts end)

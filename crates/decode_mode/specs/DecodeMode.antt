@@ -16,9 +16,9 @@ HaveEnd texts (Wrote Done) = InForm texts
 HaveEnd texts (Wrote (Refused line)) = FailsBehind line texts
 HaveEnd texts end = ⊥
 
--- A run in decode mode, with the names of the compiled text and of the answer. The compiled text, which may have any length, is fit
--- where it is in form, and its fault is the first line that fails; the text that is given for the two tells the values of the
--- names, or the first line of the answer that fails.
+-- A run in decode mode, with the names of the compiled text and of the answer. The compiled text, which may have any
+-- length, is fit where it is in form, and its fault is the first line that fails; the text that is given for the two
+-- tells the values of the names, or the first line of the answer that fails.
 pub record DecodeMode (input second : List ℕ) (end : End ℕ) (seen : Seen) : Type 0 where
   pub run : TwoTextRun None HasForm Gives TextFails input second end seen
   pub faulty : Answers (ToldUnder input seen) (IsFaultEnd TextFails) (ReadFailed input seen) end seen

@@ -1,5 +1,5 @@
--- What a compiled text and a SAT solver's answer give: the values of the names, or the line of the answer that fails. Of two texts
--- the compiled one is the first, and the answer the second.
+-- What a compiled text and a SAT solver's answer give: the values of the names, or the line of the answer that fails.
+-- Of two texts the compiled one is the first, and the answer the second.
 use Rattle.std.specs.Prelude.{◌≡◌, ℕ, Bool, List}
 use Rattle.order_ints.specs.Truth.{valuation_of}
 use Rattle.dimacs_out.specs.declared.text.CnfText.{CnfText}

@@ -9,8 +9,8 @@ use dimacs_read::{CompiledTextFault, read_values};
 use std::alloc::{AllocError, Global};
 use text_modes::{Outcome, refusal};
 
-/// What is written for a compiled text and an answer: the lines that tell the values of the names, or the line that tells
-/// which line of the answer fails first.
+/// What is written for a compiled text and an answer: the lines that tell the values of the names, or the line that
+/// tells which line of the answer fails first.
 pub(crate) fn decode_text(
     alloc: Global,
     held: &CnfText,

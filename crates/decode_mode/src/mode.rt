@@ -58,9 +58,9 @@ impl TwoTexts for Decoding {
     }
 }
 
-/// Reads the compiled text whole, tests its form, and then does so with the answer; makes the whole text, and then writes it.
-/// The fault of the compiled text is the first line that fails. Where both have one name, the answer is what the
-/// reading of the compiled text left: on a shelf that tells its bytes, nothing.
+/// Reads the compiled text whole, tests its form, and then does so with the answer; makes the whole text, and then
+/// writes it. The fault of the compiled text is the first line that fails. Where both have one name, the answer is what
+/// the reading of the compiled text left: on a shelf that tells its bytes, nothing.
 pub fn decode<S: Shelf, O: Sink>(
     alloc: Global,
     input: &str,

@@ -1,9 +1,8 @@
 -- A clause more in a store.
-use Rattle.std.proofs.Common.{◌≡◌, ◌≢◌, ℕ, ◌-◌, ◌<◌, Bool, true, false, List, [], ◌∷◌, ◌++◌, length, set, map, refl, sym, ap, ◌∙◌, subst, ◌⊎◌, inl, inr, ⊎_elim, Option, Some, None}
-use Rattle.std.specs.Prelude.{Contains, IfSome, IfNone, is_some, option_and_then, option_map, if◌then◌else◌}
+use Rattle.std.proofs.Common.{◌≡◌, ◌≢◌, ℕ, ◌<◌, Bool, true, false, List, [], ◌∷◌, length, set, map, refl, sym, ap, ◌∙◌, subst, ◌⊎◌, inl, inr, ⊎_elim, Option, Some, None}
+use Rattle.std.specs.Prelude.{Contains, option_and_then, option_map, if◌then◌else◌}
 use Rattle.std.proofs.lemmas.Bool.{or_cases, or_left, or_right, false≢true, cases_eq}
 use Rattle.std.proofs.lemmas.List.{get_or-set_other, get_or-set_same}
-use Rattle.std.proofs.lemmas.List.Elements.{Contains-append_left, Contains-append_right, Contains-append_cases}
 use Rattle.order_ints.specs.declared.literal.Lit.{Lit}
 use Rattle.order_ints.specs.declared.atom.Atom.{Atom}
 use Rattle.order_ints.specs.declared.atom.Atom.TheVariants.{Of}
@@ -18,12 +17,16 @@ use Rattle.clause_arena.specs.Clauses.{Clause, no_clause, live_clause, clause_at
 use Rattle.clause_rings.specs.Clauses.{ClauseLists, SameClauses, Follows, IsComplete, IsDb, HasRoomMore, with_clause}
 use Rattle.clause_rings.proofs.Ascending.{ascend-apart}
 use Rattle.clause_rings.proofs.Widened.{wider-at}
-use Rattle.drup_check.specs.Stored.{SameSet, HasOpposites, IsStored, IsListed, Holds, IsOrderedAs, StandsAs}
+use Rattle.drup_check.specs.Stored.{SameSet, HasOpposites, IsStored, IsHeld, IsListed, AreListed, IsOrderedAs}
+use Rattle.drup_check.specs.Keeping.{TakesIn, IsTakenIn, IsKept}
+use Rattle.drup_check.specs.declared.keeping.Kept.{Kept}
+use Rattle.drup_check.specs.declared.keeping.Kept.TheVariants.{Idle, Stored, Refutes}
+use Rattle.drup_check.specs.Rup.{Rup}
 use Rattle.drup_check.proofs.Members.{member-cases, member-first, member-more, no-member}
-use Rattle.drup_check.proofs.Permuted.{holds-same}
+use Rattle.drup_check.proofs.Permuted.{listed-same, held-same}
 use Rattle.drup_check.proofs.Denials.{denying-none}
 use Rattle.drup_check.proofs.Trails.{follows-same}
-use Rattle.drup_check.proofs.Rups.{shown-by}
+use Rattle.drup_check.proofs.Rups.{shown-sound}
 
 -- what is among literals
 has-told : (x : Lit) (ys : List Lit) → has_lit x ys ≡ true → Contains ys x
@@ -80,8 +83,11 @@ ordered-as ls kept e =
     let P : Option (List Lit) → Type 0 = IsOrderedAs ls in
     subst P (sym whole) (ordered-by ls (has_opposites (by_variable ls)) refl)
 
+same-listed : (cs : List (List Lit)) (ordered lits : List Lit) → SameSet ordered lits → IsListed cs lits → IsListed cs ordered
+same-listed cs ordered lits same one = record { clause = one.clause; is_in = one.is_in; same = λ l. ((λ has. (one.same l).0 ((same l).0 has)), (λ has. (same l).1 ((one.same l).1 has))) }
+
 -- a store with one clause more holds it
-module _ (old new : List Clause) (r id : ℕ) (lits d : List Lit) (cs : List (List Lit)) (dead : (clause_at old r).live ≡ false) (here : clause_at new r ≡ live_clause id lits) (others : (c : ℕ) → c ≢ r → clause_at new c ≡ clause_at old c) (same : SameSet lits d) (holds : Holds old cs) where
+module _ (old new : List Clause) (r id : ℕ) (lits : List Lit) (dead : (clause_at old r).live ≡ false) (here : clause_at new r ≡ live_clause id lits) (others : (c : ℕ) → c ≢ r → clause_at new c ≡ clause_at old c) where
   add-stored : (x : List Lit) → IsStored old x → IsStored new x
   add-stored x st =
       let differs : st.reference ≢ r = λ e. false≢true (sym dead ∙ (let P : ℕ → Type 0 = λ c. (clause_at old c).live ≡ true in subst P e st.live)) in
@@ -92,40 +98,25 @@ module _ (old new : List Clause) (r id : ℕ) (lits d : List Lit) (cs : List (Li
         same = (let P : List Lit → Type 0 = λ ls. SameSet ls x in subst P (sym (ap (λ (y : Clause). y.lits) stays)) st.same);
       }
 
-  add-here : IsStored new d
-  add-here = record { reference = r; live = ap (λ (y : Clause). y.live) here; same = (let P : List Lit → Type 0 = λ ls. SameSet ls d in subst P (sym (ap (λ (y : Clause). y.lits) here)) same) }
+  pub add-held : (x : List Lit) → IsHeld old x → IsHeld new x
+  add-held x (inl st) = inl (add-stored x st)
+  add-held x (inr o) = inr o
 
-  add-listed : (c : ℕ) → IsLive new c → (c ≡ r) ⊎ (c ≢ r) → IsListed (cs ++ d ∷ []) (lits_of new c)
-  add-listed c live (inl e) =
+  pub add-here : (d : List Lit) → SameSet lits d → IsHeld new d
+  add-here d same = inl (record { reference = r; live = ap (λ (y : Clause). y.live) here; same = (let P : List Lit → Type 0 = λ ls. SameSet ls d in subst P (sym (ap (λ (y : Clause). y.lits) here)) same) })
+
+  pub add-listed : (cs : List (List Lit)) → AreListed old cs → IsListed cs lits → (c : ℕ) → IsLive new c → (c ≡ r) ⊎ (c ≢ r) → IsListed cs (lits_of new c)
+  add-listed cs listed one c live (inl e) =
       let whole : clause_at new c ≡ live_clause id lits = (let P : ℕ → Type 0 = λ n. clause_at new n ≡ live_clause id lits in subst P (sym e) here) in
-      record { clause = d; is_in = Contains-append_right cs (d ∷ []) d (member-first d []); same = (let P : List Lit → Type 0 = λ ls. SameSet ls d in subst P (sym (ap (λ (y : Clause). y.lits) whole)) same) }
-  add-listed c live (inr ne) =
+      record { clause = one.clause; is_in = one.is_in; same = (let P : List Lit → Type 0 = λ ls. SameSet ls one.clause in subst P (sym (ap (λ (y : Clause). y.lits) whole)) one.same) }
+  add-listed cs listed one c live (inr ne) =
       let stays = others c ne in
-      let is = holds.listed c (sym (ap (λ (y : Clause). y.live) stays) ∙ live) in
-      record { clause = is.clause; is_in = Contains-append_left cs (d ∷ []) is.clause is.is_in; same = (let P : List Lit → Type 0 = λ ls. SameSet ls is.clause in subst P (sym (ap (λ (y : Clause). y.lits) stays)) is.same) }
+      let is = listed c (sym (ap (λ (y : Clause). y.live) stays) ∙ live) in
+      record { clause = is.clause; is_in = is.is_in; same = (let P : List Lit → Type 0 = λ ls. SameSet ls is.clause in subst P (sym (ap (λ (y : Clause). y.lits) stays)) is.same) }
 
-  pub add-holds : Holds new (cs ++ d ∷ [])
-  add-holds = record {
-    stored = λ x has.
-        ⊎_elim
-        (λ (before : Contains cs x). ⊎_elim (λ (st : IsStored old x). inl (add-stored x st)) (λ (o : HasOpposites x). inr o) (holds.stored x before))
-        (λ (last : Contains (d ∷ []) x).
-        ⊎_elim (λ (e : d ≡ x). inl (let P : List Lit → Type 0 = IsStored new in subst P e add-here)) (λ (nowhere : Contains [] x). absurd (no-member x nowhere)) (member-cases d [] x last))
-        (Contains-append_cases cs (d ∷ []) x has);
-    listed = λ c live. add-listed c live (cases_eq c r);
-  }
-
--- a clause with a literal and its negation need not be stored
-pub drop-holds : (clauses : List Clause) (cs : List (List Lit)) (d : List Lit) → HasOpposites d → Holds clauses cs → Holds clauses (cs ++ d ∷ [])
-drop-holds clauses cs d o holds = record {
-  stored = λ x has.
-      ⊎_elim
-      (λ (before : Contains cs x). holds.stored x before)
-      (λ (last : Contains (d ∷ []) x).
-      ⊎_elim (λ (e : d ≡ x). inr (let P : List Lit → Type 0 = HasOpposites in subst P e o)) (λ (nowhere : Contains [] x). absurd (no-member x nowhere)) (member-cases d [] x last))
-      (Contains-append_cases cs (d ∷ []) x has);
-  listed = λ c live. let is = holds.listed c live in record { clause = is.clause; is_in = Contains-append_left cs (d ∷ []) is.clause is.is_in; same = is.same };
-}
+-- where a listed clause is false, the list shows the empty one
+pub false-shows : (s : ClauseLists) (c : ℕ) → s.trail.level ≡ 0 → IsDb s.clauses s.trail → IsLive s.clauses c → IsFalse s.trail.entries (lits_of s.clauses c) → (cs : List (List Lit)) → AreListed s.clauses cs → Rup cs []
+false-shows s c low db live fails cs listed = shown-sound s s [] low db (denying-none [] s) db true (inr (record { reference = c; live = live; is_false = fails })) cs listed refl
 
 -- the moves that store a clause
 module _ (old mid next new : ClauseLists) (r : ℕ) (lits : List Lit) (bottom : old.trail.level ≡ 0) (room : HasRoomMore old mid) (inside : r < length mid.clauses) (dead : (clause_at mid.clauses r).live ≡ false) (comes : next ≡ with_clause mid r 0 lits) (clauses : SameClauses next.clauses new.clauses) (follows : Follows new.clauses next.trail new.trail) (db : IsDb new.clauses new.trail) where
@@ -144,19 +135,54 @@ module _ (old mid next new : ClauseLists) (r : ℕ) (lits : List Lit) (bottom : 
   set-at : next.clauses ≡ set mid.clauses r (live_clause 0 lits)
   set-at = ap (λ (s : ClauseLists). s.clauses) comes
 
-  pub stored-holds : (cs : List (List Lit)) (d : List Lit) → Holds old.clauses cs → SameSet lits d → Holds new.clauses (cs ++ d ∷ [])
-  stored-holds cs d holds same =
-      holds-same next.clauses new.clauses clauses (cs ++ d ∷ [])
-      (add-holds old.clauses next.clauses r 0 lits d cs (sym (ap (λ (y : Clause). y.live) (mid-at r)) ∙ dead)
-      (ap (λ (ks : List Clause). clause_at ks r) set-at ∙ get_or-set_same mid.clauses r (live_clause 0 lits) no_clause inside)
-      (λ c ne. ap (λ (ks : List Clause). clause_at ks c) set-at ∙ get_or-set_other mid.clauses r c (live_clause 0 lits) no_clause ne ∙ mid-at c) same holds)
+  was-dead : (clause_at old.clauses r).live ≡ false
+  was-dead = sym (ap (λ (y : Clause). y.live) (mid-at r)) ∙ dead
 
-  pub stored-stands : (found : Option ℕ) → IfSome found (λ c. IsLive new.clauses c × IsFalse new.trail.entries (lits_of new.clauses c)) → IfNone found (IsComplete new.trail.entries new.clauses)
-      → (b : Bool) → b ≡ is_some found → (cs : List (List Lit)) (d : List Lit) → Holds old.clauses cs → SameSet lits d → StandsAs b new (cs ++ d ∷ [])
-  stored-stands (Some c) some none b is cs d holds same =
-      let P : Bool → Type 0 = λ x. StandsAs x new (cs ++ d ∷ []) in
-      subst P (sym is)
-      ((shown-by new new [] low db (denying-none [] new) db true (inr (record { reference = c; live = some.0; is_false = some.1 })) (cs ++ d ∷ []) (stored-holds cs d holds same)).0 refl)
-  stored-stands None some none b is cs d holds same =
-      let P : Bool → Type 0 = λ x. StandsAs x new (cs ++ d ∷ []) in
-      subst P (sym is) (record { holds = stored-holds cs d holds same; bottom = low; complete = none })
+  at-reference : clause_at next.clauses r ≡ live_clause 0 lits
+  at-reference = ap (λ (ks : List Clause). clause_at ks r) set-at ∙ get_or-set_same mid.clauses r (live_clause 0 lits) no_clause inside
+
+  elsewhere : (c : ℕ) → c ≢ r → clause_at next.clauses c ≡ clause_at old.clauses c
+  elsewhere c ne = ap (λ (ks : List Clause). clause_at ks c) set-at ∙ get_or-set_other mid.clauses r c (live_clause 0 lits) no_clause ne ∙ mid-at c
+
+  now-listed : (cs : List (List Lit)) → AreListed old.clauses cs → IsListed cs lits → AreListed new.clauses cs
+  now-listed cs listed one =
+      listed-same next.clauses new.clauses clauses cs
+      (λ c live. add-listed old.clauses next.clauses r 0 lits was-dead at-reference elsewhere cs listed one c live (cases_eq c r))
+
+  pub stored-refutes : (c : ℕ) → IsLive new.clauses c × IsFalse new.trail.entries (lits_of new.clauses c) → IsTakenIn true old new lits
+  stored-refutes c found = λ cs listed one. false-shows new c low db found.0 found.1 cs (now-listed cs listed one)
+
+  pub stored-takes : IsComplete new.trail.entries new.clauses → TakesIn old new lits
+  stored-takes none = record {
+    stays = λ d h. held-same next.clauses new.clauses clauses d (add-held old.clauses next.clauses r 0 lits was-dead at-reference elsewhere d h);
+    comes = λ d same. held-same next.clauses new.clauses clauses d (add-here old.clauses next.clauses r 0 lits was-dead at-reference elsewhere d same);
+    listed = now-listed;
+    bottom = low;
+    complete = none;
+  }
+
+-- other words for the literals
+pub taken-same : (old new : ClauseLists) (ordered lits : List Lit) → SameSet ordered lits → (b : Bool) → IsTakenIn b old new ordered → IsTakenIn b old new lits
+taken-same old new ordered lits same true h = λ cs listed one. h cs listed (same-listed cs ordered lits same one)
+taken-same old new ordered lits same false h = record {
+  stays = h.stays;
+  comes = λ d is. h.comes d (λ l. ((λ has. (is l).0 ((same l).0 has)), (λ has. (same l).1 ((is l).1 has))));
+  listed = λ cs listed one. h.listed cs listed (same-listed cs ordered lits same one);
+  bottom = h.bottom;
+  complete = h.complete;
+}
+
+pub kept-same : (old new : ClauseLists) (ordered lits : List Lit) → SameSet ordered lits → (kept : Kept) → IsKept kept old new ordered → IsKept kept old new lits
+kept-same old new ordered lits same Idle h = taken-same old new ordered lits same false h
+kept-same old new ordered lits same (Stored r) h = taken-same old new ordered lits same false h
+kept-same old new ordered lits same (Refutes r) h = taken-same old new ordered lits same true h
+
+-- a clause with a literal and its negation need not be stored
+pub idle-takes : (s : ClauseLists) (lits : List Lit) → HasOpposites lits → s.trail.level ≡ 0 → IsComplete s.trail.entries s.clauses → TakesIn s s lits
+idle-takes s lits o bottom complete = record {
+  stays = λ d h. h;
+  comes = λ d same. inr (record { lit = o.lit; is_in = (same o.lit).0 o.is_in; negated_in = (same (not_lit o.lit)).0 o.negated_in });
+  listed = λ cs listed one. listed;
+  bottom = bottom;
+  complete = complete;
+}

@@ -7,25 +7,25 @@ use Rattle.bee_text.specs.Lines.{IsLine, join_lines, lines_of}
 use Rattle.bee_text.proofs.LineLemmas.{lines_of-cut}
 use Rattle.order_ints.specs.declared.literal.Lit.{Lit}
 use Rattle.order_ints.specs.declared.cnf.Cnf.{Cnf}
-use Rattle.clause_rings.specs.Clauses.{ClauseLists}
+use Rattle.drup_check.specs.declared.tiers.Tiers.{Tiers}
 use Rattle.line_texts.proofs.ReadTo.{ReadTo, nothing_read, line_read, line_fails, end_fails}
 use Rattle.line_texts.proofs.Fronts.{misfit_first, missing_first}
 use Rattle.sat_front.specs.Closed.{closed}
-use Rattle.drup_check.specs.Stored.{StandsAs}
+use Rattle.drup_check.specs.Standing.{StandsAs}
 use Rattle.drup_check.specs.DrupLines.{NextClauses, ShowEmpty, IsDrup, DrupFails}
 use Rattle.drup_check.specs.Taken.{GoesOn, Misfits}
 
 -- so many lines are read, the rest is left, and the store stands for the clauses so far
-pub record Checked (cnf : Cnf) (text rest : List ℕ) (read : ℕ) (refuted : Bool) (s : ClauseLists) : Type 0 where
+pub record Checked (cnf : Cnf) (text rest : List ℕ) (read : ℕ) (refuted : Bool) (s : Tiers) : Type 0 where
   pub clauses : List (List Lit)
   pub lead : ReadTo (NextClauses cnf.vars) cnf.clauses (closed text) (closed rest) read clauses
   pub stands : StandsAs refuted s clauses
-  pub vars : s.trail.vars ≡ cnf.vars
+  pub vars : s.db.trail.vars ≡ cnf.vars
 
-pub checked_none : (cnf : Cnf) (text : List ℕ) (refuted : Bool) (s : ClauseLists) → StandsAs refuted s cnf.clauses → s.trail.vars ≡ cnf.vars → Checked cnf text text 0 refuted s
+pub checked_none : (cnf : Cnf) (text : List ℕ) (refuted : Bool) (s : Tiers) → StandsAs refuted s cnf.clauses → s.db.trail.vars ≡ cnf.vars → Checked cnf text text 0 refuted s
 checked_none cnf text refuted s st vars = record { clauses = cnf.clauses; lead = nothing_read (NextClauses cnf.vars) cnf.clauses (closed text); stands = st; vars = vars }
 
-module _ (cnf : Cnf) (text rest : List ℕ) (read : ℕ) (refuted : Bool) (s : ClauseLists) (h : Checked cnf text rest read refuted s) where
+module _ (cnf : Cnf) (text rest : List ℕ) (read : ℕ) (refuted : Bool) (s : Tiers) (h : Checked cnf text rest read refuted s) where
   -- nothing is left
   pub is_whole : closed rest ≡ [] → ((cs : List (List Lit)) → StandsAs refuted s cs → ShowEmpty cs) → IsDrup cnf text
   is_whole none empty = (
@@ -46,7 +46,7 @@ module _ (cnf : Cnf) (text rest : List ℕ) (read : ℕ) (refuted : Bool) (s : C
       (end_fails (NextClauses cnf.vars) cnf.clauses ShowEmpty (closed text) [] read number h.clauses (subst P none h.lead) refl n (λ e shown. early h.clauses h.stands shown))
 
   module _ (line later : List ℕ) (number : ℕ) (is : IsLine line) (cut : closed rest ≡ line ++ 10 ∷ closed later) (n : number ≡ read + 1) where
-    pub line_checked : (again : Bool) (t : ClauseLists) → ((cs : List (List Lit)) → StandsAs refuted s cs → GoesOn s.trail.vars cs line again t) → t.trail.vars ≡ s.trail.vars → Checked cnf text later number again t
+    pub line_checked : (again : Bool) (t : Tiers) → ((cs : List (List Lit)) → StandsAs refuted s cs → GoesOn s.db.trail.vars cs line again t) → t.db.trail.vars ≡ s.db.trail.vars → Checked cnf text later number again t
     line_checked again t goes vars =
         let on = goes h.clauses h.stands in
         record {
@@ -57,14 +57,14 @@ module _ (cnf : Cnf) (text rest : List ℕ) (read : ℕ) (refuted : Bool) (s : C
           vars = vars ∙ h.vars;
         }
 
-    pub line_refused : ((cs : List (List Lit)) → StandsAs refuted s cs → Misfits s.trail.vars cs line) → DrupFails cnf text number
+    pub line_refused : ((cs : List (List Lit)) → StandsAs refuted s cs → Misfits s.db.trail.vars cs line) → DrupFails cnf text number
     line_refused misfits =
         misfit_first (NextClauses cnf.vars) ShowEmpty cnf.clauses (closed text) number (λ _ _ (_ : Bool). Unit {0}) true
         (line_fails (NextClauses cnf.vars) cnf.clauses (λ _ _ (_ : Bool). Unit {0}) (closed text) (closed rest) line (closed later) read number h.clauses true h.lead
         (ap lines_of cut ∙ lines_of-cut line (closed later) is) n (subst (λ (v : ℕ). Misfits v h.clauses line) h.vars (misfits h.clauses h.stands)) tt)
 
 -- what came of a line, by the answer
-module _ (vars : ℕ) (line : List ℕ) (b : Bool) (old : ClauseLists) (r : Bool) (new : ClauseLists) where
+module _ (vars : ℕ) (line : List ℕ) (b : Bool) (old : Tiers) (r : Bool) (new : Tiers) where
   abbrev Takes : Bool → Type 0
   Takes taken = (cs : List (List Lit)) → StandsAs b old cs → MatchBool taken (GoesOn vars cs line r new) (Misfits vars cs line)
 

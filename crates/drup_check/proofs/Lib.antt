@@ -6,9 +6,12 @@ pub mod Denials
 pub mod Rups
 pub mod Additions
 mod Started
+mod TwoTiers
+mod Reasons
+mod CopiedLists
 mod Spelled
 mod Taking
-mod Taken
+pub mod Taken
 mod Checked
 pub mod Exact
 pub mod Proved

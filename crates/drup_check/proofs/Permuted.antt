@@ -1,5 +1,5 @@
 -- Clauses whose literals change places.
-use Rattle.std.proofs.Common.{ℕ, List, refl, sym, ◌∙◌, ◌⊎◌, inl, inr}
+use Rattle.std.proofs.Common.{ℕ, List, refl, sym, ◌∙◌, inl, inr}
 use Rattle.std.specs.Prelude.{Contains}
 use Rattle.std.proofs.lemmas.List.Sorted.{Contains-permutation, IsPermutation-sym, IsPermutation-refl, IsPermutation-trans}
 use Rattle.order_ints.specs.declared.literal.Lit.{Lit}
@@ -7,7 +7,7 @@ use Rattle.literal_trail.specs.declared.entry.Entry.{Entry}
 use Rattle.literal_trail.specs.Standing.{IsQuiet}
 use Rattle.clause_arena.specs.Clauses.{Clause, lits_of}
 use Rattle.clause_rings.specs.Clauses.{SameClauses, IsComplete}
-use Rattle.drup_check.specs.Stored.{IsStored, HasOpposites, Holds}
+use Rattle.drup_check.specs.Stored.{IsHeld, AreListed}
 
 pub same-clauses : (cs : List Clause) → SameClauses cs cs
 same-clauses cs = record { count = refl; each = λ c. record { id = refl; live = refl; lits = IsPermutation-refl (lits_of cs c) } }
@@ -33,14 +33,11 @@ module _ (old new : List Clause) (s : SameClauses old new) where
         not_unit = λ u is. quiet.not_unit u (record { is_in = there c u is.is_in; free = is.free; others = λ l has other. is.others l (here c l has) other });
       }
 
-  pub holds-same : (cs : List (List Lit)) → Holds old cs → Holds new cs
-  holds-same cs h = record {
-    stored = λ d has. by d (h.stored d has);
-    listed = λ c live.
-        let is = h.listed c (sym (s.each c).live ∙ live) in
-        record { clause = is.clause; is_in = is.is_in; same = λ l. ((λ has. (is.same l).0 (there c l has)), (λ has. here c l ((is.same l).1 has))) };
-  }
-    where
-      by : (d : List Lit) → IsStored old d ⊎ HasOpposites d → IsStored new d ⊎ HasOpposites d
-      by d (inl x) = inl (record { reference = x.reference; live = (s.each x.reference).live ∙ x.live; same = λ l. ((λ has. (x.same l).0 (there x.reference l has)), (λ has. here x.reference l ((x.same l).1 has))) })
-      by d (inr x) = inr x
+  pub listed-same : (cs : List (List Lit)) → AreListed old cs → AreListed new cs
+  listed-same cs h c live =
+      let is = h c (sym (s.each c).live ∙ live) in
+      record { clause = is.clause; is_in = is.is_in; same = λ l. ((λ has. (is.same l).0 (there c l has)), (λ has. here c l ((is.same l).1 has))) }
+
+  pub held-same : (d : List Lit) → IsHeld old d → IsHeld new d
+  held-same d (inl x) = inl (record { reference = x.reference; live = (s.each x.reference).live ∙ x.live; same = λ l. ((λ has. (x.same l).0 (there x.reference l has)), (λ has. here x.reference l ((x.same l).1 has))) })
+  held-same d (inr x) = inr x

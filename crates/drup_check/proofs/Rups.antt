@@ -13,11 +13,11 @@ use Rattle.literal_trail.proofs.Levels.{levelled-above, up_to-whole}
 use Rattle.clause_arena.specs.Clauses.{lits_of}
 use Rattle.clause_rings.specs.Clauses.{ClauseLists, IsComplete, IsDb}
 use Rattle.drup_check.specs.Rup.{Derived, denied, unit, Rup, falsified, opposed}
-use Rattle.drup_check.specs.Stored.{IsStored, HasOpposites, Holds}
+use Rattle.drup_check.specs.Stored.{IsStored, HasOpposites, AreHeld, AreListed}
 use Rattle.drup_check.specs.Denying.{IsNegation, Denying, DenialOf}
 use Rattle.drup_check.proofs.Members.{member-cases, no-member, lit-cases}
 use Rattle.drup_check.proofs.Trails.{not-not, true-given, truth-negated}
-use Rattle.drup_check.proofs.Permuted.{holds-same}
+use Rattle.drup_check.proofs.Permuted.{listed-same, held-same}
 
 -- what is false by derived entries has a derived negation
 false-derived : (cs : List (List Lit)) (lits : List Lit) (es : List Entry) → ((e : Entry) → Contains es e → Derived cs lits e.lit) → (k : Lit) → truth_in es k ≡ Some false → Derived cs lits (not_lit k)
@@ -38,7 +38,7 @@ none-decided t cs db bottom e has none =
     let top = db.trail.top has.0 has.1 in
     omega (arith, above, top, bottom)
 
-module _ (old new : ClauseLists) (lits : List Lit) (cs : List (List Lit)) (bottom : old.trail.level ≡ 0) (old_db : IsDb old.clauses old.trail) (moved : Denying lits old new) (db : IsDb new.clauses new.trail) (holds : Holds new.clauses cs) where
+module _ (old new : ClauseLists) (lits : List Lit) (cs : List (List Lit)) (bottom : old.trail.level ≡ 0) (old_db : IsDb old.clauses old.trail) (moved : Denying lits old new) (db : IsDb new.clauses new.trail) (are_listed : AreListed new.clauses cs) where
   abbrev Done : List Entry → Type 0
   Done es = (e : Entry) → Contains es e → Derived cs lits e.lit
 
@@ -52,7 +52,7 @@ module _ (old new : ClauseLists) (lits : List Lit) (cs : List (List Lit)) (botto
       (moved.decided x there is)
   by-reason before rest x cut all (Some c) is =
       let r = db.reasons before rest x c cut is in
-      let listed = holds.listed c r.0 in
+      let listed = are_listed c r.0 in
       unit listed.clause x.lit listed.is_in ((listed.same x.lit).0 r.1.is_in) (λ k has other. false-derived cs lits before all k (r.1.others k ((listed.same k).1 has) other))
 
   done-more : (before : List Entry) (x : Entry) → Done before → Derived cs lits x.lit → Done (before ++ x ∷ [])
@@ -77,7 +77,7 @@ module _ (old new : ClauseLists) (lits : List Lit) (cs : List (List Lit)) (botto
   sound : DenialOf lits new true → Rup cs lits
   sound (inl t) = opposed t.lit (true-derived cs lits new.trail.entries all-derived t.lit t.is_true) (denied t.lit t.is_in)
   sound (inr c) =
-      let listed = holds.listed c.reference c.live in
+      let listed = are_listed c.reference c.live in
       falsified listed.clause listed.is_in (λ k has. false-derived cs lits new.trail.entries all-derived k (c.is_false k ((listed.same k).1 has)))
 
 -- a literal is true, false or free
@@ -86,7 +86,7 @@ by-truth (Some true) t f n = t refl
 by-truth (Some false) t f n = f refl
 by-truth None t f n = n refl
 
-module _ (s : ClauseLists) (lits : List Lit) (cs : List (List Lit)) (holds : Holds s.clauses cs) (fails : IsFalse s.trail.entries lits) (quiet : IsComplete s.trail.entries s.clauses) where
+module _ (s : ClauseLists) (lits : List Lit) (cs : List (List Lit)) (held : AreHeld s.clauses cs) (fails : IsFalse s.trail.entries lits) (quiet : IsComplete s.trail.entries s.clauses) where
   abbrev Holding : Lit → Type 0
   Holding l = truth_in s.trail.entries l ≡ Some true
 
@@ -137,22 +137,24 @@ module _ (s : ClauseLists) (lits : List Lit) (cs : List (List Lit)) (holds : Hol
       ⊎_elim
       (λ (st : IsStored s.clauses d). unit-stored d m st in_d (λ k has other. negated-false k (each k has other)))
       (λ (o : HasOpposites d). unit-opposites d m o each)
-      (holds.stored d in_cs)
+      (held d in_cs)
 
   none-shown : Rup cs lits → ⊥
   none-shown (falsified d in_cs rest) =
       ⊎_elim
       (λ (st : IsStored s.clauses d). (quiet st.reference st.live).not_false (λ k has. negated-false k (true-by (not_lit k) (rest k ((st.same k).0 has)))))
       (λ (o : HasOpposites d). never-both (not_lit o.lit) (true-by (not_lit o.lit) (rest o.lit o.is_in)) (true-by (not_lit (not_lit o.lit)) (rest (not_lit o.lit) o.negated_in)))
-      (holds.stored d in_cs)
+      (held d in_cs)
   none-shown (opposed l one other) = never-both l (true-by l one) (true-by (not_lit l) other)
 
-pub shown-by : (old new : ClauseLists) (lits : List Lit) → old.trail.level ≡ 0 → IsDb old.clauses old.trail → Denying lits old new → IsDb new.clauses new.trail → (b : Bool) → DenialOf lits new b
-    → (cs : List (List Lit)) → Holds old.clauses cs → (IsTrue b → Rup cs lits) × (Rup cs lits → IsTrue b)
-shown-by old new lits bottom old_db moved db true d cs holds =
-    ((λ e. sound old new lits cs bottom old_db moved db (holds-same old.clauses new.clauses moved.clauses cs holds) d), (λ r. refl))
-shown-by old new lits bottom old_db moved db false d cs holds =
-    ((λ e. absurd (false≢true e)), (λ r. absurd (none-shown new lits cs (holds-same old.clauses new.clauses moved.clauses cs holds) d.0 d.1 r)))
+pub shown-sound : (old new : ClauseLists) (lits : List Lit) → old.trail.level ≡ 0 → IsDb old.clauses old.trail → Denying lits old new → IsDb new.clauses new.trail → (b : Bool) → DenialOf lits new b
+    → (cs : List (List Lit)) → AreListed old.clauses cs → IsTrue b → Rup cs lits
+shown-sound old new lits bottom old_db moved db true d cs listed e = sound old new lits cs bottom old_db moved db (listed-same old.clauses new.clauses moved.clauses cs listed) d
+shown-sound old new lits bottom old_db moved db false d cs listed e = absurd (false≢true e)
+
+pub shown-all : (old new : ClauseLists) (lits : List Lit) → Denying lits old new → (b : Bool) → DenialOf lits new b → (cs : List (List Lit)) → AreHeld old.clauses cs → Rup cs lits → IsTrue b
+shown-all old new lits moved true d cs held r = refl
+shown-all old new lits moved false d cs held r = absurd (none-shown new lits cs (λ x has. held-same old.clauses new.clauses moved.clauses x (held x has)) d.0 d.1 r)
 
 -- the trail at level 0 is as it was
 pub trail-same : (old new : ClauseLists) (lits : List Lit) → old.trail.level ≡ 0 → IsDb old.clauses old.trail → Denying lits old new → record { vars = new.trail.vars; entries = up_to 0 new.trail.entries; level = 0 } ≡ old.trail

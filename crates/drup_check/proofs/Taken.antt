@@ -4,15 +4,15 @@ use Rattle.std.specs.Prelude.{Contains, MatchBool}
 use Rattle.bee_text.specs.Gaps.{words_of}
 use Rattle.order_ints.specs.declared.literal.Lit.{Lit}
 use Rattle.order_ints.specs.Place.{LitBelow, ClauseBelow}
-use Rattle.clause_rings.specs.Clauses.{ClauseLists}
+use Rattle.drup_check.specs.declared.tiers.Tiers.{Tiers}
 use Rattle.drup_check.specs.Rup.{Rup}
-use Rattle.drup_check.specs.Stored.{StandsAs}
+use Rattle.drup_check.specs.Standing.{StandsAs}
 use Rattle.drup_check.specs.DrupLines.{SpellsClause, Says}
-use Rattle.drup_check.specs.Taken.{SaysOn, GoesOn, Misfits}
+use Rattle.drup_check.specs.Taken.{IsSpelled, SaysOn, GoesOn, Misfits}
 use Rattle.drup_check.proofs.Members.{member-cases, no-member}
-use Rattle.drup_check.proofs.Taking.{adds, no_addition, not_shown, said, none_said}
+use Rattle.drup_check.proofs.Taking.{deletes, no_deletion, adds, no_addition, not_shown, said, none_said}
 
-below-each : (n : ℕ) (c : List Lit) → ClauseBelow n c → (l : Lit) → Contains c l → LitBelow n l
+pub below-each : (n : ℕ) (c : List Lit) → ClauseBelow n c → (l : Lit) → Contains c l → LitBelow n l
 below-each n [] h l has = absurd (no-member l has)
 below-each n (m ∷ c) h l has =
     ⊎_elim
@@ -28,7 +28,7 @@ module _ (vars given : ℕ) (words : List (List ℕ)) (lits slice : List Lit) (s
   pub spelled-below : (l : Lit) → Contains slice l → LitBelow (vars + 1) l
   spelled-below = below-each (vars + 1) slice spells.below
 
-  pub said-taken : vars ≤ 2 ^ 27 → (first : List ℕ) (behind : List (List ℕ)) → words ≡ first ∷ behind → (first ≡ codes "d" → ⊥) → (b : Bool) (old : ClauseLists) (r : Bool) (new : ClauseLists) (taken : Bool)
+  pub said-taken : vars ≤ 2 ^ 27 → (first : List ℕ) (behind : List (List ℕ)) → words ≡ first ∷ behind → (first ≡ codes "d" → ⊥) → (b : Bool) (old : Tiers) (r : Bool) (new : Tiers) (taken : Bool)
       → ((cs : List (List Lit)) → StandsAs b old cs → MatchBool taken (Rup cs slice × StandsAs r new (cs ++ slice ∷ [])) (Rup cs slice → ⊥))
       → (cs : List (List Lit)) → StandsAs b old cs → MatchBool taken (SaysOn vars cs words r new) ((after : List (List Lit)) → Says vars cs words after → ⊥)
   said-taken small first behind cut other b old r new true h cs st =
@@ -37,7 +37,15 @@ module _ (vars given : ℕ) (words : List (List ℕ)) (lits slice : List Lit) (s
   said-taken small first behind cut other b old r new false h cs st =
       no_addition vars cs words first behind cut other (not_shown vars cs words first behind cut small slice spells (h cs st))
 
-pub line-taken : (vars : ℕ) (line first : List ℕ) (behind : List (List ℕ)) → words_of line ≡ first ∷ behind → (first ≡ codes "c" → ⊥) → (b : Bool) (old : ClauseLists) (r : Bool) (new : ClauseLists) (taken : Bool)
+-- what comes of a deletion
+pub deletion-taken : (vars : ℕ) (words : List (List ℕ)) (first : List ℕ) (behind : List (List ℕ)) → words ≡ first ∷ behind → first ≡ codes "d" → (b : Bool) (old : Tiers) (r : Bool) (new : Tiers) (taken : Bool) → IsSpelled taken vars behind
+    → ((cs : List (List Lit)) → StandsAs b old cs → StandsAs r new cs)
+    → (cs : List (List Lit)) → StandsAs b old cs → MatchBool taken (SaysOn vars cs words r new) ((after : List (List Lit)) → Says vars cs words after → ⊥)
+deletion-taken vars words first behind cut is b old r new true spelled stays cs st =
+    record { clauses = cs; says = deletes vars cs words first behind cut is spelled.0 spelled.1; stands = stays cs st }
+deletion-taken vars words first behind cut is b old r new false spelled stays cs st = no_deletion vars cs words first behind cut is spelled
+
+pub line-taken : (vars : ℕ) (line first : List ℕ) (behind : List (List ℕ)) → words_of line ≡ first ∷ behind → (first ≡ codes "c" → ⊥) → (b : Bool) (old : Tiers) (r : Bool) (new : Tiers) (taken : Bool)
     → ((cs : List (List Lit)) → StandsAs b old cs → MatchBool taken (SaysOn vars cs (words_of line) r new) ((after : List (List Lit)) → Says vars cs (words_of line) after → ⊥))
     → (cs : List (List Lit)) → StandsAs b old cs → MatchBool taken (GoesOn vars cs line r new) (Misfits vars cs line)
 line-taken vars line first behind cut other b old r new true h cs st =

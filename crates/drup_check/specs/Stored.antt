@@ -1,10 +1,9 @@
 -- Listed clauses as a store has them.
-use Rattle.std.specs.Prelude.{◌≡◌, ◌↔◌, ◌⊎◌, ℕ, Bool, true, false, List, [], Contains, Option, None, Some}
+use Rattle.std.specs.Prelude.{◌↔◌, ◌⊎◌, ℕ, List, Contains, Option, None, Some}
 use Rattle.order_ints.specs.declared.literal.Lit.{Lit}
 use Rattle.order_ints.specs.Truth.{not_lit}
 use Rattle.clause_arena.specs.Clauses.{Clause, IsLive, lits_of}
-use Rattle.clause_rings.specs.Clauses.{ClauseLists, IsApart, IsComplete}
-use Rattle.drup_check.specs.Rup.{Rup}
+use Rattle.clause_rings.specs.Clauses.{IsApart}
 
 -- the same literals, in any order, each any number of times
 abbrev pub SameSet : List Lit → List Lit → Type 0
@@ -28,23 +27,20 @@ pub record IsListed (cs : List (List Lit)) (lits : List Lit) : Type 0 where
   pub is_in : Contains cs clause
   pub same : SameSet lits clause
 
--- the live clauses are those that are listed, but for those with a literal and its negation, which may be left out
-pub record Holds (clauses : List Clause) (cs : List (List Lit)) : Type 0 where
-  pub stored : (d : List Lit) → Contains cs d → IsStored clauses d ⊎ HasOpposites d
-  pub listed : (c : ℕ) → IsLive clauses c → IsListed cs (lits_of clauses c)
+-- a live clause has these literals, or a literal and its negation are among them, so that none need have them
+abbrev pub IsHeld : List Clause → List Lit → Type 0
+IsHeld clauses d = IsStored clauses d ⊎ HasOpposites d
 
--- a clause put in order: its literals, of which no two have one variable; nothing where it has a literal and its negation
+-- each listed clause is held
+abbrev pub AreHeld : List Clause → List (List Lit) → Type 0
+AreHeld clauses cs = (d : List Lit) → Contains cs d → IsHeld clauses d
+
+-- each live clause is listed
+abbrev pub AreListed : List Clause → List (List Lit) → Type 0
+AreListed clauses cs = (c : ℕ) → IsLive clauses c → IsListed cs (lits_of clauses c)
+
+-- a clause put in order: its literals, of which no two have one variable; nothing where it has a literal and its
+-- negation
 abbrev pub IsOrderedAs : List Lit → Option (List Lit) → Type 0
 IsOrderedAs lits None = HasOpposites lits
 IsOrderedAs lits (Some ordered) = IsApart ordered × SameSet ordered lits
-
--- the store holds listed clauses at level 0, and no clause is false or unit
-pub record Stands (s : ClauseLists) (cs : List (List Lit)) : Type 0 where
-  pub holds : Holds s.clauses cs
-  pub bottom : s.trail.level ≡ 0
-  pub complete : IsComplete s.trail.entries s.clauses
-
--- listed clauses show the empty one, or the store holds them
-abbrev pub StandsAs : Bool → ClauseLists → List (List Lit) → Type 0
-StandsAs true s cs = Rup cs []
-StandsAs false s cs = Stands s cs

@@ -1,21 +1,27 @@
 -- What comes of a line, for the clauses so far and the store that stands for them.
-use Rattle.std.specs.Prelude.{◌≡◌, ℕ, Bool, List}
+use Rattle.std.specs.Prelude.{◌≡◌, ℕ, Bool, true, false, List}
 use Rattle.order_ints.specs.declared.literal.Lit.{Lit}
 use Rattle.order_ints.specs.declared.cnf.Cnf.{Cnf}
-use Rattle.clause_rings.specs.Clauses.{ClauseLists}
-use Rattle.drup_check.specs.DrupLines.{Says, NextClauses, DrupFails}
-use Rattle.drup_check.specs.Stored.{StandsAs}
+use Rattle.drup_check.specs.DrupLines.{SpellsClause, Says, NextClauses, DrupFails}
+use Rattle.drup_check.specs.Standing.{StandsAs}
+use Rattle.drup_check.specs.declared.tiers.Tiers.{Tiers}
 use Rattle.drup_check.specs.declared.fault.DrupFault.{DrupFault}
 use Rattle.drup_check.specs.declared.fault.DrupFault.TheVariants.{Refused, Memory}
 
+-- whether the words spell a clause
+abbrev pub IsSpelled : Bool → ℕ → List (List ℕ) → Type 0
+IsSpelled true vars words = (clause : List Lit) × SpellsClause vars words clause
+IsSpelled false vars words = (clause : List Lit) → SpellsClause vars words clause → ⊥
+
 -- the words say clauses, and the store stands for them
-pub record SaysOn (vars : ℕ) (cs : List (List Lit)) (words : List (List ℕ)) (refuted : Bool) (s : ClauseLists) : Type 0 where
+pub record SaysOn (vars : ℕ) (cs : List (List Lit)) (words : List (List ℕ)) (refuted : Bool) (s : Tiers)
+    : Type 0 where
   pub clauses : List (List Lit)
   pub says : Says vars cs words clauses
   pub stands : StandsAs refuted s clauses
 
 -- the line may stand next, and the store stands for the clauses behind it
-pub record GoesOn (vars : ℕ) (cs : List (List Lit)) (line : List ℕ) (refuted : Bool) (s : ClauseLists) : Type 0 where
+pub record GoesOn (vars : ℕ) (cs : List (List Lit)) (line : List ℕ) (refuted : Bool) (s : Tiers) : Type 0 where
   pub clauses : List (List Lit)
   pub next : NextClauses vars cs line clauses
   pub stands : StandsAs refuted s clauses

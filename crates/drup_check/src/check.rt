@@ -30,17 +30,20 @@ fn first_refused(alloc: Global, cnf: &Cnf, text: &[u8]) -> Result<Option<u64>, A
         }
         rest = behind;
     }
-    if store.is_refuted() {
+    let behind_last = read + 1;
+    let refuted = store.is_refuted(alloc)?;
+    if refuted {
         Ok(None)
     } else {
-        Ok(Some(read + 1))
+        Ok(Some(behind_last))
     }
 }
 
-/// Checks a proof from a CNF by clauses that reverse unit propagation shows. A clause with a literal and its negation may stand in
-/// it, and a literal more than once. Deletions have no effect, so a clause that is deleted may be used later. Once the clauses show
-/// the empty one, of each further line only its form and its variables are tested. Each clause takes the time of propagation from the
-/// denial of its literals, and stays in memory to the end.
+/// Checks a proof from a CNF by clauses that reverse unit propagation shows. A clause with a literal and its negation
+/// may stand in it, and a literal more than once. Deletions have no effect but on time, so a clause that is deleted may
+/// be used later. Once the clauses show the empty one, of each further line only its form and its variables are tested.
+/// Each clause takes the time of propagation from the denial of its literals, over the clauses that are not deleted;
+/// where these don't show it, all deleted ones come back. Each clause stays in memory to the end.
 pub fn check_drup(alloc: Global, cnf: &Cnf, text: &[u8]) -> Result<(), DrupFault>
     requires few { cnf.now.vars ≤ 2 ^ 27 }
     requires in_range { InRange cnf.now }

@@ -8,8 +8,8 @@ use std::alloc::{AllocError, AllocFailed};
 /// Why a text is no proof.
 #[derive(Clone, Copy, Debug, PartialEq, Eq)]
 pub enum DrupFault {
-    /// The first line that doesn't fit, or whose clause isn't shown, counted from 1. Where the clauses of all lines don't show
-    /// the empty one, it is the line behind the last.
+    /// The first line that doesn't fit, or whose clause isn't shown, counted from 1. Where the clauses of all lines
+    /// don't show the empty one, it is the line behind the last.
     Refused(u64),
     /// Memory was wanting.
     Memory,

@@ -1,11 +1,11 @@
 //! Whether the clauses of a store show a clause.
 
-ghost use Rattle.std.specs.Prelude.{◌≡◌, ◌+◌, ◌↔◌, ◌∷◌, [], List, IsTrue, Contains};
+ghost use Rattle.std.specs.Prelude.{◌≡◌, ◌+◌, ◌∷◌, [], List, IsTrue, Contains};
 ghost use Rattle.order_ints.specs.declared.literal.Lit.{Lit};
 ghost use Rattle.order_ints.specs.Place.{LitBelow};
 ghost use Rattle.clause_rings.specs.Clauses.{IsDb, IsComplete, SameClauses};
 ghost use Rattle.drup_check.specs.Rup.{Rup};
-ghost use Rattle.drup_check.specs.Stored.{Holds};
+ghost use Rattle.drup_check.specs.Stored.{AreListed, AreHeld};
 ghost use Rattle.drup_check.specs.Denying.{Denying, DenialOf};
 
 use clause_rings::ClauseDb;
@@ -31,8 +31,10 @@ fn deny(db: &mut ClauseDb, l: Lit) -> bool
     }
 }
 
-/// Denies literals, one after another, with what follows, until one is true or a clause is false.
-fn deny_all(db: &mut ClauseDb, lits: &[Lit]) -> bool
+/// Denies literals, one after another, with what follows, until one is true or a clause is false. The answer says
+/// whether it came to that. The levels that it begins are left, for a look at the reasons; a clause that is false is
+/// told by `propagate` again.
+pub fn deny_all(db: &mut ClauseDb, lits: &[Lit]) -> bool
     requires lits { (l : Lit) → Contains lits.now l → LitBelow (db.old.trail.vars + 1) l }
     requires complete { IsComplete db.old.trail.entries db.old.clauses }
     ensures denying { Denying lits.now db.old db.new }
@@ -48,13 +50,14 @@ fn deny_all(db: &mut ClauseDb, lits: &[Lit]) -> bool
     false
 }
 
-/// Whether the clauses of a store show a clause, by complete propagation behind the denial of its literals. The trail is as it was
-/// then. It takes time for each clause that watches what has become false, and no memory.
+/// Whether the clauses of a store show a clause, by complete propagation behind the denial of its literals. The trail
+/// is as it was then. It takes time for each clause that watches what has become false, and no memory.
 pub fn is_shown(db: &mut ClauseDb, lits: &[Lit]) -> bool
     requires bottom { db.old.trail.level ≡ 0 }
     requires lits { (l : Lit) → Contains lits.now l → LitBelow (db.old.trail.vars + 1) l }
     requires complete { IsComplete db.old.trail.entries db.old.clauses }
-    ensures shown { (cs : List (List Lit)) → Holds db.old.clauses cs → IsTrue result ↔ Rup cs lits.now }
+    ensures sound { (cs : List (List Lit)) → AreListed db.old.clauses cs → IsTrue result → Rup cs lits.now }
+    ensures shown { (cs : List (List Lit)) → AreHeld db.old.clauses cs → Rup cs lits.now → IsTrue result }
     ensures clauses { SameClauses db.old.clauses db.new.clauses }
     ensures trail { db.new.trail ≡ db.old.trail }
     ensures complete { IsComplete db.new.trail.entries db.new.clauses }

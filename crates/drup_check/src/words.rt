@@ -10,12 +10,9 @@ use order_ints::Lit;
 use sat_front::{is_word, literal_within};
 use std::alloc::{AllocError, Global};
 
-/// The clause that the words of a text spell, none where they spell none.
-pub(crate) fn read_clause(
-    alloc: Global,
-    vars: u32,
-    text: &[u8],
-) -> Result<Option<Vec<Lit>>, AllocError>
+/// The clause that the words of a text spell, with 0 behind its literals, none where they spell none or a variable is
+/// above their number.
+pub fn read_clause(alloc: Global, vars: u32, text: &[u8]) -> Result<Option<Vec<Lit>>, AllocError>
     requires { vars ≤ 2 ^ 27 }
     ensures { IfOk result
         (λ read. MatchOption read ((clause : List Lit) → SpellsClause vars (words_of text.now) clause → ⊥)

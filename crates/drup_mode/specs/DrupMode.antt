@@ -21,10 +21,11 @@ HaveEnd texts end = ⊥
 abbrev pub AreFit : Texts → Type 0
 AreFit texts = HasCnf texts.first
 
--- A run in drup mode, with the names of the CNF's text and of the proof. Of the CNF's text one byte more than the limit is read at most; it is
--- fit where it lists clauses, and else its fault is the first that it has. The proof may have any length. The text that is given for the
--- two says that the proof is valid, and then no valuation satisfies the listed clauses; or it tells the first line of the proof that fails.
--- Each two texts of which the first is fit have one of these ends, unless memory is wanting or a fault of the outside ends the run.
+-- A run in drup mode, with the names of the CNF's text and of the proof. Of the CNF's text one byte more than the limit
+-- is read at most; it is fit where it lists clauses, and else its fault is the first that it has. The proof may have
+-- any length. The text that is given for the two says that the proof is valid, and then no valuation satisfies the
+-- listed clauses; or it tells the first line of the proof that fails. Each two texts of which the first is fit have one
+-- of these ends, unless memory is wanting or a fault of the outside ends the run.
 pub record DrupMode (input second : List ℕ) (end : End CnfTextFault) (seen : Seen) : Type 0 where
   pub run : TwoTextRun (Some (longest_text + 1)) HasCnf Gives HasFault input second end seen
   pub faulty : Answers (ToldUnder input seen) (IsFaultEnd HasFault) (ReadFailed input seen) end seen

@@ -1,5 +1,5 @@
--- What a CNF's text and a proof give: that the proof is valid, so that no valuation satisfies the clauses of the text, or the line of it that
--- fails. Of two texts that of the CNF is the first, and the proof the second.
+-- What a CNF's text and a proof give: that the proof is valid, so that no valuation satisfies the clauses of the text,
+-- or the line of it that fails. Of two texts that of the CNF is the first, and the proof the second.
 use Rattle.std.specs.Prelude.{◌≡◌, ℕ, List, [], ◌∷◌, ◌++◌, codes, IsTrue}
 use Rattle.order_ints.specs.declared.literal.Lit.{Lit}
 use Rattle.order_ints.specs.declared.cnf.Cnf.{Cnf}
@@ -36,15 +36,16 @@ IsCheck cnf proof (Unknown count) written = ⊥
 abbrev pub AreUnsatisfiable : List (List Lit) → Type 0
 AreUnsatisfiable clauses = (σ : Valuation) → IsTrue (clauses_truth σ clauses) → ⊥
 
--- The first text lists clauses, from whose CNF the second is a valid proof, and the written line says so. No valuation satisfies the clauses
--- that are listed.
+-- The first text lists clauses, from whose CNF the second is a valid proof, and the written line says so. No valuation
+-- satisfies the clauses that are listed.
 pub record IsAccepted (texts : Texts) (written : List ℕ) : Type 0 where
   pub cnf : Cnf
   pub held : HoldsCnf texts.first cnf
   pub tells : TellsProof cnf texts.second written
   pub none : AreUnsatisfiable held.is.draft.listed.clauses
 
--- the first text lists clauses, from whose CNF the second is no valid proof, and the written line tells its first line that fails
+-- the first text lists clauses, from whose CNF the second is no valid proof, and the written line tells its first line
+-- that fails
 pub record IsTurnedDown (line : ℕ) (texts : Texts) (written : List ℕ) : Type 0 where
   pub cnf : Cnf
   pub held : HoldsCnf texts.first cnf

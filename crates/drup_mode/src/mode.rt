@@ -57,9 +57,10 @@ impl TwoTexts for Proving {
     }
 }
 
-/// Reads a CNF's text, and then a proof, which may have any length, and checks it; makes the line that tells what came of that, and
-/// then writes it. Where both have one name, the proof is what the reading of the CNF left: on a shelf that tells its bytes,
-/// nothing, which is a proof exactly where the clauses show the empty one, and else is refused at line 1.
+/// Reads a CNF's text, and then a proof, which may have any length, and checks it; makes the line that tells what came
+/// of that, and then writes it. Where both have one name, the proof is what the reading of the CNF left: on a shelf
+/// that tells its bytes, nothing, which is a proof exactly where the clauses show the empty one, and else is refused at
+/// line 1.
 pub fn drup<S: Shelf, O: Sink>(
     alloc: Global,
     input: &str,

@@ -28,4 +28,5 @@ Stands t assumption Holds = IsTrueIn t assumption
 -- the value of each variable that has one
 pub record AreValues (t : Trail) (values : List Bool) : Type 0 where
   pub count : length values ≡ t.vars
-  pub each : (v : ℕ) (b : Bool) → 1 ≤ v → v ≤ t.vars → value_in t.entries v ≡ Some b → valuation_of values v ≡ b
+  pub each : (v : ℕ) (b : Bool) → 1 ≤ v → v ≤ t.vars → value_in t.entries v ≡ Some b
+      → valuation_of values v ≡ b

@@ -28,7 +28,8 @@ pub record IsRefuting (clauses : List Clause) (assumption : Option Lit) (id : �
 
 -- no live clause refutes
 abbrev pub NoneStands : List Clause → Option Lit → Type 0
-NoneStands clauses assumption = (last : Option Lit) → Refutes assumption (last_lits last) → (c : ℕ) → IsLive clauses c → lits_of clauses c ≢ last_lits last
+NoneStands clauses assumption = (last : Option Lit) → Refutes assumption (last_lits last) → (c : ℕ)
+    → IsLive clauses c → lits_of clauses c ≢ last_lits last
 
 -- the literal is the negated assumption, and true at level 0 by a clause
 pub record IsDenied (t : Trail) (assumption : Option Lit) (denied : Lit) (reason : ℕ) : Type 0 where

@@ -16,4 +16,5 @@ pub record IsKept (live : List Named) (clauses : List Clause) : Type 0 where
 
 -- an id above those of the CNF is that of one reference alone
 pub record AreOnce (base : ℕ) (clauses : List Clause) : Type 0 where
-  pub alone : (c d : ℕ) → IsLive clauses c → IsLive clauses d → base < (clause_at clauses c).id → (clause_at clauses c).id ≡ (clause_at clauses d).id → c ≡ d
+  pub alone : (c d : ℕ) → IsLive clauses c → IsLive clauses d → base < (clause_at clauses c).id
+      → (clause_at clauses c).id ≡ (clause_at clauses d).id → c ≡ d

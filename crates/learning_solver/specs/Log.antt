@@ -1,5 +1,7 @@
--- The log of a search: a proof whose additions are new and whose deletions name additions alone, behind the greatest id so far.
-use Rattle.std.specs.Prelude.{◌≡◌, ℕ, ◌+◌, ◌<◌, ◌≤◌, Ok, Some, IsTrue, List, [], ◌∷◌, ◌++◌, length}
+-- The log of a search: a proof whose additions are new and whose deletions name additions alone, behind the greatest id
+-- so far.
+use Rattle.std.specs.Prelude.{◌≡◌, ℕ, ◌+◌, ◌<◌, ◌≤◌, Ok, Some, IsTrue, List, [], ◌∷◌}
+use Rattle.std.specs.Prelude.{◌++◌, length}
 use Rattle.order_ints.specs.declared.literal.Lit.{Lit}
 use Rattle.order_ints.specs.declared.cnf.Cnf.{Cnf}
 use Rattle.proof_check.specs.declared.line.ProofLine.{ProofLine}
@@ -31,7 +33,8 @@ abbrev pub AreAdded : Proof → List ℕ → Type 0
 AreAdded p [] = Unit {0}
 AreAdded p (id ∷ ids) = IsTrue (has_id p.added id) × AreAdded p ids
 
--- an addition is new among the clauses that live before it; a deletion begins with the greatest id so far, and names additions alone
+-- an addition is new among the clauses that live before it; a deletion begins with the greatest id so far, and names
+-- additions alone
 abbrev pub IsFresh : Proof → ProofLine → Type 0
 IsFresh p (Add id lits hints) = New p.live lits
 IsFresh p (Delete at ids) = (at ≡ p.last) × AreAdded p ids

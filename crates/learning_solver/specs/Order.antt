@@ -1,5 +1,5 @@
 -- What the order of decisions keeps: a ring with each variable.
-use Rattle.std.specs.Prelude.{◌≡◌, ◌≢◌, ℕ, ◌+◌, ◌≤◌, Bool, List, length, None}
+use Rattle.std.specs.Prelude.{◌≡◌, ◌≢◌, ℕ, ◌+◌, ◌≤◌, List, length, None}
 use Rattle.index_ring.specs.Lists.{RingLists, IsRings, IsFree, Stands}
 use Rattle.literal_trail.specs.Trail.{Trail, entry_of}
 
@@ -11,11 +11,10 @@ pub record IsRing (vars : ℕ) (ring : RingLists) : Type 0 where
   pub all : (v : ℕ) → 1 ≤ v → v ≤ vars → Stands ring 0 v
   pub others : IsFree ring 0
 
--- and an activity and a phase for each; the search for a free one begins at one of them, or at the front
-pub record IsOrder (vars : ℕ) (ring : RingLists) (activity : List ℕ) (phases : List Bool) (start : ℕ) : Type 0 where
+-- and an activity for each; the search for a free one begins at one of them, or at the front
+pub record IsOrder (vars : ℕ) (ring : RingLists) (activity : List ℕ) (start : ℕ) : Type 0 where
   pub ringed : IsRing vars ring
   pub activities : length activity ≡ vars + 1
-  pub signed : length phases ≡ vars + 1
   pub started : start ≤ vars
 
 -- a variable has no entry

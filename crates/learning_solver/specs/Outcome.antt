@@ -1,5 +1,6 @@
 -- What a search finds, and how many clauses it may need.
-use Rattle.std.specs.Prelude.{◌≡◌, ◌⊎◌, ℕ, ◌+◌, ◌*◌, ◌^◌, Bool, true, false, Option, None, Some, List, [], ◌∷◌, length, if◌then◌else◌}
+use Rattle.std.specs.Prelude.{◌≡◌, ◌⊎◌, ℕ, ◌+◌, ◌*◌, ◌^◌, Bool, true, false, Option, None}
+use Rattle.std.specs.Prelude.{Some, List, [], ◌∷◌, length, if◌then◌else◌}
 use Rattle.order_ints.specs.declared.literal.Lit.{Lit}
 use Rattle.order_ints.specs.declared.cnf.Cnf.{Cnf}
 use Rattle.order_ints.specs.Truth.{Valuation, valuation_of, lit_truth, not_lit}
@@ -35,7 +36,8 @@ pub record IsRefutation (cnf : Cnf) (log : List ProofLine) (assumption : Option 
 
 -- no clause of the CNF or of the log refutes: neither the empty one nor the negated assumption alone is known
 abbrev pub NoneRefutes : Cnf → List ProofLine → Option Lit → Type 0
-NoneRefutes cnf log assumption = (lits : List Lit) → Refutes assumption lits → known (proof_behind cnf log) lits ≡ false
+NoneRefutes cnf log assumption = (lits : List Lit) → Refutes assumption lits
+    → known (proof_behind cnf log) lits ≡ false
 
 -- a number of clauses that a search over so many variables never exceeds, with restarts and without
 abbrev pub most_learned : Bool → ℕ → ℕ

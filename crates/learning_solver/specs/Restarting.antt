@@ -4,8 +4,8 @@ use Rattle.search_laws.specs.Luby.{stretch_length}
 use Rattle.search_laws.specs.Stretches.{stretches_total, AreShort}
 use Rattle.learning_solver.specs.declared.restarts.Restarts.{Restarts}
 
--- the clauses that were added are those of the stretches that are done and of this one, which has fewer than there are numbers of
--- trails above that of this one
+-- the clauses that were added are those of the stretches that are done and of this one, which has fewer than there are
+-- numbers of trails above that of this one
 pub record AreStretched (vars added height : ℕ) (p : Restarts) : Type 0 where
   pub sum : added ≡ p.start + (stretches_total p.stretches + p.learned)
   pub short : AreShort (2 ^ vars) p.stretches
@@ -20,5 +20,7 @@ pub record SameCall (old new : Restarts) : Type 0 where
 
 -- a clause is counted, and where its stretch is done the next one begins
 abbrev pub Counts : Restarts → Restarts → Bool → Type 0
-Counts old new false = (new ≡ record old { learned = old.learned + 1 }) × (old.restart ≡ true → old.learned + 1 < stretch_length (old.stretches + 1))
-Counts old new true = (new ≡ record old { stretches = old.stretches + 1; learned = 0 }) × (old.restart ≡ true) × (stretch_length (old.stretches + 1) ≤ old.learned + 1)
+Counts old new false = (new ≡ record old { learned = old.learned + 1 })
+    × (old.restart ≡ true → old.learned + 1 < stretch_length (old.stretches + 1))
+Counts old new true = (new ≡ record old { stretches = old.stretches + 1; learned = 0 }) × (old.restart ≡ true)
+    × (stretch_length (old.stretches + 1) ≤ old.learned + 1)

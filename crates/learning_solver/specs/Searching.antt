@@ -1,5 +1,7 @@
 -- What a search keeps.
-use Rattle.std.specs.Prelude.{◌≡◌, ℕ, ◌+◌, ◌-◌, ◌*◌, ◌<◌, ◌≤◌, ◌^◌, ◌++◌, ◌∷◌, [], map, pos, vec_len, vec_capacity, Bool, true, Option, None, Some, Result, Ok, Err, List, length, FitsSigned}
+use Rattle.std.specs.Prelude.{◌≡◌, ℕ, ◌+◌, ◌-◌, ◌*◌, ◌<◌, ◌≤◌, ◌^◌, ◌++◌}
+use Rattle.std.specs.Prelude.{◌∷◌, [], map, pos, vec_len, vec_capacity, Bool, true, Option, None, Some, Result}
+use Rattle.std.specs.Prelude.{Ok, Err, List, length, FitsSigned}
 use Rattle.std.specs.Int.{w64}
 use Rattle.std.specs.declared.alloc.AllocError.{AllocError}
 use Rattle.order_ints.specs.declared.literal.Lit.{Lit}
@@ -63,7 +65,8 @@ pub record IsLeft (task : Task) (p : Restarts) (s : Search) : Type 0 where
 abbrev pub Says : Task → Restarts → Search → Found → Type 0
 Says task p s (Sat values) = IsSolution s.cnf.now task.assumption values
 Says task p s (Refuted id) = IsRefutation s.cnf.now s.lines.items task.assumption id
-Says task p s Spent = (s.added ≡ task.budget) × (s.added < p.start + most_learned p.restart s.cnf.now.vars) × NoneRefutes s.cnf.now s.lines.items task.assumption
+Says task p s Spent = (s.added ≡ task.budget) × (s.added < p.start + most_learned p.restart s.cnf.now.vars)
+    × NoneRefutes s.cnf.now s.lines.items task.assumption
 
 -- an outcome of a search that stopped
 abbrev pub IsOutcome : Task → Restarts → Search → Found → Type 0
@@ -116,8 +119,8 @@ pub record Takes (old new : Search) (lesson : Lesson) (c : ℕ) : Type 0 where
   pub id : (clause_at new.db.clauses c).id ≡ lesson.id
   pub lits : lits_of new.db.clauses c ≡ lesson.lits
 
--- what a learned clause is, beside being ready: it has no fault, is new, and is false by one literal of the current level and others
--- of levels up to the one to jump back to
+-- what a learned clause is, beside being ready: it has no fault, is new, and is false by one literal of the current
+-- level and others of levels up to the one to jump back to
 pub record Teaches (s : Search) (lesson : Lesson) : Type 0 where
   pub fault : addition_fault (proof_behind s.cnf.now s.lines.items) lesson.id lesson.lits lesson.hints ≡ None
   pub new : New (proof_behind s.cnf.now s.lines.items).live lesson.lits
@@ -132,7 +135,8 @@ pub record TurnsBack (old new : Search) (lesson : Lesson) : Type 0 where
   pub lines : new.lines.items ≡ old.lines.items ++ Add lesson.id lesson.lits lesson.hints ∷ []
   pub added : new.added ≡ old.added + 1
   pub falls : height new.db.trail < height old.db.trail
-  pub assumed : (a : Option Lit) → (1 ≤ old.db.trail.level → IsAssumed old.db.trail a) → 1 ≤ new.db.trail.level → IsAssumed new.db.trail a
+  pub assumed : (a : Option Lit) → (1 ≤ old.db.trail.level → IsAssumed old.db.trail a)
+      → 1 ≤ new.db.trail.level → IsAssumed new.db.trail a
 
 -- clauses that were learned may have gone from store and log
 pub record Forgets (old new : Search) : Type 0 where
@@ -150,5 +154,7 @@ pub record BeginsAnew (old new : Search) : Type 0 where
 
 -- the outcome of a whole call
 abbrev pub IsAnswered : Task → Bool → Search → Search → Result Found AllocError → Type 0
-IsAnswered task restart old new (Ok found) = IsOutcome task (record { start = old.added; restart = restart; stretches = 0; learned = 0 }) new found
-IsAnswered task restart old new (Err e) = IsLeft task (record { start = old.added; restart = restart; stretches = 0; learned = 0 }) new
+IsAnswered task restart old new (Ok found) =
+    IsOutcome task (record { start = old.added; restart = restart; stretches = 0; learned = 0 }) new found
+IsAnswered task restart old new (Err e) =
+    IsLeft task (record { start = old.added; restart = restart; stretches = 0; learned = 0 }) new

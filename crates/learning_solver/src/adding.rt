@@ -1,6 +1,7 @@
 //! Jumping back, and adding a clause to store and log at once.
 
-ghost use Rattle.std.specs.Prelude.{◌≡◌, ◌+◌, ◌<◌, ◌≤◌, IfOk, IfSome, None, vec_len, vec_capacity, length, ◌^◌, FitsSigned};
+ghost use Rattle.std.specs.Prelude.{◌≡◌, ◌+◌, ◌<◌, ◌≤◌, IfOk, IfSome, None, vec_len, vec_capacity};
+ghost use Rattle.std.specs.Prelude.{length, ◌^◌, FitsSigned};
 ghost use Rattle.std.specs.Int.{w64};
 ghost use Rattle.proof_check.specs.Lines.{Each};
 ghost use Rattle.proof_check.specs.Lrat.{addition_fault};
@@ -70,7 +71,8 @@ impl Search<'_> {
             ≡ (proof_behind self.old.cnf.now self.old.lines.items).last + 1 }
         requires small { lesson.id < 2 ^ 64 }
         requires hints { Each (FitsSigned w64) lesson.hints }
-        requires fault { addition_fault (proof_behind self.old.cnf.now self.old.lines.items) lesson.id lesson.lits lesson.hints
+        requires fault { addition_fault (proof_behind self.old.cnf.now self.old.lines.items) lesson.id lesson.lits
+            lesson.hints
             ≡ None }
         requires new { New (proof_behind self.old.cnf.now self.old.lines.items).live lesson.lits }
         requires may_come { MayCome self.old.db.trail lesson.lits }

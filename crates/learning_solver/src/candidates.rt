@@ -1,7 +1,7 @@
-//! The learned clauses that may be deleted, and when some are. A clause whose literals are of few levels is likely to be of use again
-//! (Audemard and Simon, 2009), and so is one that a conflict used lately; half of the others go, those of the most levels first,
-//! of these the longest, and of these the oldest.
-//! Nothing is promised of the table: a clause is looked at again when it goes.
+//! The learned clauses that may be deleted, and when some are. A clause whose literals are of few levels is likely to
+//! be of use again (Audemard and Simon, 2009), and so is one that a conflict used lately; half of the others go, those
+//! of the most levels first, of these the longest, and of these the oldest. Nothing is promised of the table: a clause
+//! is looked at again when it goes.
 
 ghost use Rattle.clause_rings.specs.Clauses.{IsDb};
 
@@ -94,8 +94,8 @@ impl Candidates {
         }
     }
 
-    /// Counts a conflict, and keeps in mind the clause that was learned from it, unless that is never deleted. Where memory is
-    /// wanting it stays for good.
+    /// Counts a conflict, and keeps in mind the clause that was learned from it, unless that is never deleted. Where
+    /// memory is wanting it stays for good.
     pub fn note(&mut self, clause: u32, id: u64, size: usize, glue: u32) {
         self.conflicts = self.conflicts.saturating_add(1);
         if size <= SHORT || glue <= GOOD_GLUE || self.uses.reach(id).is_err() {
@@ -119,8 +119,8 @@ impl Candidates {
         }
     }
 
-    /// Puts those that may go behind the others, those of the most levels last, of these the longest, and of these the oldest. It
-    /// tells how many are to go: half of them.
+    /// Puts those that may go behind the others, those of the most levels last, of these the longest, and of these the
+    /// oldest. It tells how many are to go: half of them.
     pub fn line_up(&mut self, db: &ClauseDb) -> usize
         requires { IsDb db.now.clauses db.now.trail }
     {

@@ -1,6 +1,7 @@
 //! Decisions: the assumption first, then what the order picks, until every variable has a value.
 
-ghost use Rattle.std.specs.Prelude.{◌≡◌, ◌+◌, ◌<◌, ◌≤◌, ◌⊎◌, ℕ, length, IfOk, IfSome, None, Some, Ok};
+ghost use Rattle.std.specs.Prelude.{◌≡◌, ◌+◌, ◌<◌, ◌≤◌, ◌⊎◌, ℕ, length, IfOk, IfSome, None};
+ghost use Rattle.std.specs.Prelude.{Some, Ok};
 ghost use Rattle.std.specs.Option.{ForSome};
 ghost use Rattle.order_ints.specs.Place.{LitBelow};
 ghost use Rattle.clause_rings.specs.Clauses.{IsComplete};

@@ -1,7 +1,8 @@
-//! The last clause of a refutation: the empty one, or the negated assumption alone. Where a live clause is it already, that one is
-//! named, since another one would not be new.
+//! The last clause of a refutation: the empty one, or the negated assumption alone. Where a live clause is it already,
+//! that one is named, since another one would not be new.
 
-ghost use Rattle.std.specs.Prelude.{◌≡◌, ◌≢◌, ◌↔◌, ◌+◌, ◌<◌, ◌≤◌, ◌∷◌, [], ℕ, length, IsTrue, IsNone, IfSome, IfOk, OnOk, None, Some, Ok};
+ghost use Rattle.std.specs.Prelude.{◌≡◌, ◌≢◌, ◌↔◌, ◌+◌, ◌<◌, ◌≤◌, ◌∷◌, [], ℕ};
+ghost use Rattle.std.specs.Prelude.{length, IsTrue, IsNone, IfSome, IfOk, OnOk, None, Some, Ok};
 ghost use Rattle.order_ints.specs.Truth.{not_lit};
 ghost use Rattle.clause_arena.specs.Clauses.{clause_at, IsLive, lits_of};
 ghost use Rattle.literal_trail.specs.Standing.{IsFalse};
@@ -100,7 +101,9 @@ impl Search<'_> {
         requires is_false { IsFalse self.old.db.trail.entries (lits_of self.old.db.clauses conflict) }
         requires bottom { self.old.db.trail.level ≡ 0 }
         ensures ready { IfOk result (IsReady self.new) }
-        ensures refuted { OnOk result (IsRefuted self.old.db.trail (named_in self.old.db.clauses) (named_in self.old.db.clauses conflict) [] self.new.walker) }
+        ensures refuted { OnOk result
+            (IsRefuted self.old.db.trail (named_in self.old.db.clauses) (named_in self.old.db.clauses conflict) []
+            self.new.walker) }
         ensures stays { Stays self.old self.new }
         ensures search { IsSearch self.new }
     {
@@ -113,7 +116,9 @@ impl Search<'_> {
         requires search { IsSearch self.old }
         requires forced { (e : Entry) × IsForced self.old.db.trail.entries denied.var e reason × (e.lit ≡ denied) }
         ensures ready { IfOk result (IsReady self.new) }
-        ensures refuted { OnOk result (IsRefuted self.old.db.trail (named_in self.old.db.clauses) (named_in self.old.db.clauses reason) (denied ∷ []) self.new.walker) }
+        ensures refuted { OnOk result
+            (IsRefuted self.old.db.trail (named_in self.old.db.clauses) (named_in self.old.db.clauses reason)
+            (denied ∷ []) self.new.walker) }
         ensures stays { Stays self.old self.new }
         ensures search { IsSearch self.new }
     {

@@ -1,6 +1,6 @@
 //! Learning from a conflict. The clause that is learned is false as the trail stands, by one literal of the current
-//! level, and unit at an earlier one: the search goes back there, where the clause makes that literal false (Marques-Silva and
-//! Sakallah 1996). How the clause comes about is told in the crate of the analysis.
+//! level, and unit at an earlier one: the search goes back there, where the clause makes that literal false
+//! (Marques-Silva and Sakallah 1996). How the clause comes about is told in the crate of the analysis.
 
 ghost use Rattle.std.specs.Prelude.{◌≡◌, ◌+◌, ◌<◌, ◌≤◌, ◌^◌, IfOk, OnOk};
 ghost use Rattle.clause_arena.specs.Clauses.{IsLive, lits_of};
@@ -8,7 +8,8 @@ ghost use Rattle.literal_trail.specs.Standing.{IsFalse};
 ghost use Rattle.conflict_analysis.specs.Analysis.{IsAnalysed};
 ghost use Rattle.learning_solver.specs.Sight.{named_in};
 ghost use Rattle.learning_solver.specs.Restarting.{SameCall};
-ghost use Rattle.learning_solver.specs.Searching.{IsSearch, IsReady, Stays, IsRunning, IsTurned, GoesForward, Teaches, TurnsBack, BeginsAnew, Forgets};
+ghost use Rattle.learning_solver.specs.Searching.{IsSearch, IsReady, Stays, IsRunning, IsTurned, GoesForward, Teaches};
+ghost use Rattle.learning_solver.specs.Searching.{TurnsBack, BeginsAnew, Forgets};
 
 use crate::found::Found;
 use crate::lesson::Lesson;
@@ -27,14 +28,16 @@ impl Search<'_> {
         requires is_false { IsFalse self.old.db.trail.entries (lits_of self.old.db.clauses conflict) }
         requires above { 1 ≤ self.old.db.trail.level }
         ensures ready { IfOk result (IsReady self.new) }
-        ensures analysed { OnOk result (IsAnalysed self.old.db.trail (named_in self.old.db.clauses) (named_in self.old.db.clauses conflict) self.new.walker) }
+        ensures analysed { OnOk result
+            (IsAnalysed self.old.db.trail (named_in self.old.db.clauses) (named_in self.old.db.clauses conflict)
+            self.new.walker) }
         ensures stays { Stays self.old self.new }
         ensures search { IsSearch self.new }
     {
         analyse(&mut self.walker, &self.db, conflict)?;
-        self.raised
+        self.bumped
             .gather(&self.db, self.walker.seen(), self.walker.lits())?;
-        self.order.bump(&mut self.raised.list);
+        self.order.bump(&self.db, &mut self.bumped.list);
         self.candidates.uses.use_all(self.walker.hints());
         self.lesson()
     }

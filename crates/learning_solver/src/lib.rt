@@ -3,14 +3,17 @@
 //!
 //! Conflict-driven clause learning: propagate; at a conflict learn a clause and jump back; else
 //! decide (Marques-Silva and Sakallah, 1996). Decisions are by a queue whose front is moved to what
-//! conflicts met (VMTF: Ryan, 2004; Biere and Fröhlich, 2015), of the first eight free ones the
-//! most active (activities: Moskewicz and others, 2001), with the sign that a variable had last
-//! (Pipatsrisawat and Darwiche, 2007). Restarts come by Luby's sequence. Learned clauses go at
-//! restarts, half of those with most levels first (Audemard and Simon, 2009), with a line in the
-//! log each. A clause, its line and the room for both are made before anything changes (`Lesson`),
-//! so wherever memory is refused the log is whole and the call may be made again. The CNF is
-//! borrowed, and what was learned stays for the next call: each round of an optimum goes on where
-//! the last one ended.
+//! conflicts met (VMTF: Ryan, 2004; Biere and Fröhlich, 2015) and to the reasons of what they
+//! learned (Liang and others, 2016), of the first eight free ones the most active (activities:
+//! Moskewicz and others, 2001); at first the last variable comes first. A variable gets the phase
+//! that it had last (Pipatsrisawat and Darwiche, 2007), or, where a solution is looked for
+//! (`set_aim`), in the longest trail without a conflict (Biere and others, 2020). Restarts come by
+//! Luby's sequence. Learned clauses go at restarts, half of those with most levels first (Audemard
+//! and Simon, 2009), then the longest, with a line in the log each. A solver `with_first` decides
+//! listed literals before all others, never restarts, and deletes often: for one solution after
+//! another; its order and phases go on in the next one (`into_order`, `anew`). A clause, its line
+//! and the room for both are made before anything changes (`Lesson`), so wherever memory is refused
+//! the log is whole and the call may be made again.
 //!
 //! What `solve` promises: the log is accepted to its last line (`accepted`), its additions are new
 //! and its deletions name additions alone (`fresh`); values satisfy CNF and assumption, and a
@@ -18,12 +21,13 @@
 //! the budget (`spent`), and no call adds more than 2^V clauses, or (V+1) * 2^V with restarts
 //! (`most`).
 //!
-//! Free to be tuned, since no clause names them: decisions, phases, which clauses go, and the
-//! tables behind both, which have no invariant: a clause is tested anew when it goes
-//! (`is_deletable`).
+//! Free to be tuned (`tunables`), since no clause names them: decisions, phases, which clauses go,
+//! and the tables behind them, which have no invariant: a clause is tested anew when it goes
+//! (`is_deletable`), a variable when it is decided.
 #![tactic(auto)]
 
 mod adding;
+mod bumping;
 mod candidates;
 mod deciding;
 mod deletable;
@@ -33,8 +37,8 @@ mod learning;
 mod lesson;
 mod listed;
 mod order;
+mod phases;
 mod profile;
-mod raising;
 mod reduce;
 mod restarts;
 mod running;
@@ -46,5 +50,6 @@ mod tunables;
 
 pub use found::Found;
 pub use order::Order;
+pub use phases::Aim;
 pub use sight::analyse;
 pub use solver::Solver;

@@ -3,15 +3,17 @@
 //! and Froehlich 2015). Beside it each variable has an activity, which newer conflicts bump by more, as in VSIDS
 //! (Moskewicz and others 2001) in the form of MiniSat (Een and Soerensson 2003), but in whole numbers: they decide
 //! in which order the variables of a conflict move, and which of the first free ones is decided. That was faster than
-//! either alone, and than a heap. A variable gets the phase that it had last (Pipatsrisawat and Darwiche 2007).
+//! either alone, and than a heap.
 
-ghost use Rattle.std.specs.Prelude.{◌≡◌, ◌+◌, ◌^◌, ◌≤◌, ◌<◌, ◌⊎◌, ◌↔◌, ℕ, length, All, IsTrue, IfOk, IfSome, IsNone, Option, Some, None};
+ghost use Rattle.std.specs.Prelude.{◌≡◌, ◌+◌, ◌^◌, ◌≤◌, ◌<◌, ◌⊎◌, ◌↔◌, ℕ, length};
+ghost use Rattle.std.specs.Prelude.{All, IsTrue, IfOk, IfSome, IsNone, Option, Some, None};
 ghost use Rattle.std.specs.Option.{ForSome};
 ghost use Rattle.index_ring.specs.Lists.{IsRings, Stands, list_of, first_in, no_lists};
 ghost use Rattle.literal_trail.specs.Trail.{entry_of};
 ghost use Rattle.learning_solver.specs.Order.{IsRing, IsFreeIn, AllGiven};
 
 use crate::listed::Listed;
+use crate::phases::{Aim, Phases};
 use crate::profile::Profile;
 use crate::tunables::{FIRST_GAIN, GAIN_PARTS, LOOKED_AT, MOST_GAIN, MOST_PLACES, SCALE};
 use clause_rings::ClauseDb;
@@ -20,13 +22,13 @@ use order_ints::Lit;
 use std::alloc::{AllocError, Global};
 use std::marker::Model;
 
-/// The order of the variables 1 to `vars`, their activities and phases. Some 17 bytes a variable.
+/// The order of the variables 1 to `vars`, their activities and phases. Some 21 bytes a variable.
 #[derive(Drop)]
 pub struct Order {
     vars: u32,
     ring: Rings,
     activity: Vec<u64>,
-    phases: Vec<bool>,
+    phases: Phases,
     gain: u64,
     /// No variable before this one is free, as far as is known; 0 for the front.
     start: u32,
@@ -44,7 +46,7 @@ impl Model for Order {
 
     ghost view = { λ o. o.vars };
 
-    ghost invariant = { λ o. IsOrder o.vars o.ring o.activity.items o.phases.items o.start };
+    ghost invariant = { λ o. IsOrder o.vars o.ring o.activity.items o.start };
 }
 
 /// Puts the variables into the ring, the last one in front: where a CNF was compiled, it has the most fresh variables
@@ -144,7 +146,7 @@ impl Order {
         let places = vars as usize + 1;
         let mut ring = Rings::with(alloc, 1, vars + 1)?;
         let activity = vec![in alloc; 0; places]?;
-        let phases = vec![in alloc; false; places]?;
+        let phases = Phases::with(alloc, vars)?;
         push_all(&mut ring, vars);
         Ok(Order {
             vars,
@@ -188,7 +190,7 @@ impl Order {
         let first = self.first(db)?;
         self.start = first;
         let var = most_active(&self.ring, self.activity.as_slice(), db, first);
-        Some(Lit::of(var, self.phases[var as usize]))
+        Some(Lit::of(var, self.phases.of(var)))
     }
 
     /// The first free variable, sought from where the last search ended, and then from the front.
@@ -211,23 +213,31 @@ impl Order {
     {
         self.start = 0;
         self.listed.rewind();
+        self.phases.change();
+    }
+
+    /// The next calls look for this.
+    pub fn set_aim(&mut self, aim: Aim)
+        ensures { self.new ≡ self.old }
+    {
+        self.phases.set_aim(aim);
     }
 
     /// Keeps the phase of a literal whose variable becomes free.
     pub fn save(&mut self, l: Lit)
-        requires { l.var ≤ self.old }
         ensures { self.new ≡ self.old }
     {
-        self.phases[l.var as usize] = l.positive;
+        self.phases.save(l);
     }
 
     /// Bumps the variables of a conflict, and puts them in front, the most active one first. It sorts them.
-    pub fn bump(&mut self, raised: &mut Vec<u32>)
+    pub fn bump(&mut self, db: &ClauseDb, bumped: &mut Vec<u32>)
         ensures { self.new ≡ self.old }
     {
+        self.phases.note_conflict(db);
         let activity = self.activity.as_slice();
-        raised.sort_unstable_by_key(|v| activity.get(*v as usize).copied());
-        for v in raised.iter() {
+        bumped.sort_unstable_by_key(|v| activity.get(*v as usize).copied());
+        for v in bumped.iter() {
             if *v > 0 && *v <= self.vars {
                 self.put_in_front(*v);
             }

@@ -4,9 +4,9 @@ ghost use Rattle.std.specs.Prelude.{◌≡◌, ◌≤◌, ◌^◌, [], IfOk};
 ghost use Rattle.order_ints.specs.Place.{InRange};
 ghost use Rattle.clause_rings.specs.Clauses.{AreApartIn};
 
+use crate::bumping::Bumped;
 use crate::candidates::Candidates;
 use crate::order::Order;
-use crate::raising::Raised;
 use bee_list::Sequence;
 use clause_rings::ClauseDb;
 use conflict_analysis::Walker;
@@ -26,7 +26,7 @@ pub struct Search<'a> {
     /// The order of decisions.
     pub order: Order,
     /// The variables of a conflict.
-    pub raised: Raised,
+    pub bumped: Bumped,
     /// The learned clauses that may be deleted.
     pub candidates: Candidates,
     /// The log.
@@ -52,7 +52,7 @@ impl<'a> Search<'a> {
     {
         let db = ClauseDb::with(alloc, cnf)?;
         let walker = Walker::with(alloc, cnf.vars)?;
-        let raised = Raised::with(alloc, cnf.vars)?;
+        let bumped = Bumped::with(alloc, cnf.vars)?;
         let lines = Vec::new(alloc);
         let base = cnf.clauses.len() as u64;
         Ok(Search {
@@ -60,7 +60,7 @@ impl<'a> Search<'a> {
             db,
             walker,
             order,
-            raised,
+            bumped,
             candidates: Candidates::new(alloc, base),
             lines,
             base,

@@ -55,15 +55,16 @@ impl Reasons for Sight<'_> {
     }
 }
 
-/// Learns a clause at a clause of a store that is false, above level 0, as a search does. The walker shows it. It takes the time of
-/// `Walker::analyse`, and the store stays as it is.
+/// Learns a clause at a clause of a store that is false, above level 0, as a search does. The walker shows it. It takes
+/// the time of `Walker::analyse`, and the store stays as it is.
 pub fn analyse(walker: &mut Walker, db: &ClauseDb, conflict: u32) -> Result<(), AllocError>
     requires db { IsDb db.now.clauses db.now.trail }
     requires live { IsLive db.now.clauses conflict }
     requires is_false { IsFalse db.now.trail.entries (lits_of db.now.clauses conflict) }
     requires above { 1 ≤ db.now.trail.level }
     requires vars { walker.old.vars ≡ db.now.trail.vars }
-    ensures analysed { OnOk result (IsAnalysed db.now.trail (named_in db.now.clauses) (named_in db.now.clauses conflict) walker.new) }
+    ensures analysed { OnOk result
+        (IsAnalysed db.now.trail (named_in db.now.clauses) (named_in db.now.clauses conflict) walker.new) }
     ensures vars { walker.new.vars ≡ walker.old.vars }
 {
     walker.analyse(&Sight { db }, conflict, db.level())

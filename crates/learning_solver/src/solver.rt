@@ -11,6 +11,7 @@ ghost use Rattle.learning_solver.specs.Outcome.{Answers, most_learned};
 
 use crate::found::Found;
 use crate::order::Order;
+use crate::phases::Aim;
 use crate::search::Search;
 use crate::task::Task;
 use bee_list::Sequence;
@@ -48,9 +49,9 @@ impl<'a> Solver<'a> {
         Solver::anew(alloc, cnf, order)
     }
 
-    /// A solver of a CNF, with an empty log, for one solution after another: it decides the literals of a list first, as
-    /// the list gives them, restarts never, whatever is asked for, and deletes learned clauses often. Literals of other
-    /// variables than the CNF's are passed over. It copies the list.
+    /// A solver of a CNF, with an empty log, for one solution after another: it decides the literals of a list first,
+    /// as the list gives them, restarts never, whatever is asked for, and deletes learned clauses often. Literals of
+    /// other variables than the CNF's are passed over. It copies the list.
     pub fn with_first(alloc: Global, cnf: &'a Cnf, first: &[Lit]) -> Result<Solver<'a>, AllocError>
         requires vars { cnf.now.vars ≤ 2 ^ 27 }
         requires in_range { InRange cnf.now }
@@ -82,8 +83,15 @@ impl<'a> Solver<'a> {
         search.into_order()
     }
 
-    /// Searches for truth values that satisfy the CNF and the assumption, or for a clause that refutes them, until the log
-    /// has as many additions as the budget. It may be called again, whatever it answered.
+    /// The next calls look for this. At first solvers look for a refutation.
+    pub fn set_aim(&mut self, aim: Aim)
+        ensures { self.new ≡ self.old }
+    {
+        self.search.order.set_aim(aim);
+    }
+
+    /// Searches for truth values that satisfy the CNF and the assumption, or for a clause that refutes them, until the
+    /// log has as many additions as the budget. It may be called again, whatever it answered.
     pub fn solve(
         &mut self,
         assumption: Option<Lit>,
@@ -97,8 +105,8 @@ impl<'a> Solver<'a> {
         ensures cnf { self.new.cnf ≡ self.old.cnf }
         ensures log { GoesOn self.old.log self.new.log }
 
-        // The log is accepted to its last line; its additions are new where they stand, its deletions name additions alone,
-        // behind the last id, and each line can be read back from its text.
+        // The log is accepted to its last line; its additions are new where they stand, its deletions name additions
+        // alone, behind the last id, and each line can be read back from its text.
         ensures accepted { Lrat self.new.cnf self.new.log }
         ensures fresh { IsFreshLog self.new.cnf self.new.log }
         ensures readable { Each IsReadable self.new.log }

@@ -32,3 +32,6 @@ pub const LOOKED_AT: u32 = 8;
 
 /// And at how many places of the ring at most.
 pub const MOST_PLACES: u32 = 256;
+
+/// Where a solution is looked for, how many conflicts pass before phases change, and by how many more each time.
+pub const PHASE_CHANGE: u64 = 1_000;

@@ -35,7 +35,7 @@ use Rattle.model_lower.specs.Lowering.{lowered_of}
 use Rattle.model_lower.specs.Weighed.{most_weight}
 use Rattle.model_lower.proofs.LoweringLaw.{lowering_law}
 use Rattle.step_kernel.specs.Kernel.{Kernel, IsKernel}
-use Rattle.answer_document.specs.BoundAtoms.{integer_named, settled}
+use Rattle.answer_document.specs.BoundAtoms.{integer_named, fixed}
 use Rattle.ledger_check.specs.declared.reading.Reading.{Reading}
 use Rattle.ledger_check.specs.Items.{Standing}
 use Rattle.ledger_check.specs.Taken.{AreWithin, IsWithin, IsLater, begun, standing_of}
@@ -72,15 +72,15 @@ within-later old new h later =
     subst (λ es. AreWithin (length new.state.view + 1) es) (sym (ap (λ m. m.entries) later.1))
     (within-up (length old.state.view + 1) (length new.state.view + 1) old.map.entries (omega (arith, later.0)) h)
 
--- the atom of a settled objective is one of the state
-settled-below : (n : ℕ) (goal : Goal) (entries : List MapValue) (m : ℤ) → AreWithin n entries → AtomBelow n (settled goal entries m)
-settled-below n Satisfy entries m h = tt
-settled-below n (Minimize place second) entries m h =
+-- the atom of a fixed objective is one of the state
+fixed-below : (n : ℕ) (goal : Goal) (entries : List MapValue) (m : ℤ) → AreWithin n entries → AtomBelow n (fixed goal entries m)
+fixed-below n Satisfy entries m h = tt
+fixed-below n (Minimize place second) entries m h =
     AtomBelow-not_atom n (at_of (integer_named entries place) (m +ℤ pos 1)) (AtomBelow-at_of n (integer_named entries place) (m +ℤ pos 1) (h place).1)
-settled-below n (Maximize place second) entries m h = AtomBelow-at_of n (integer_named entries place) m (h place).1
+fixed-below n (Maximize place second) entries m h = AtomBelow-at_of n (integer_named entries place) m (h place).1
 
-pub settled-resolved : (k : Kernel) (goal : Goal) (entries : List MapValue) (m : ℤ) → IsKernel k → AreWithin (length k.view + 1) entries → AtomBelow (length k.view + 1) (resolve k.view (settled goal entries m))
-settled-resolved k goal entries m is h = AtomBelow-resolve (length k.view + 1) k.view (labels_below k.view is.labelled) (settled goal entries m) (settled-below (length k.view + 1) goal entries m h)
+pub fixed-resolved : (k : Kernel) (goal : Goal) (entries : List MapValue) (m : ℤ) → IsKernel k → AreWithin (length k.view + 1) entries → AtomBelow (length k.view + 1) (resolve k.view (fixed goal entries m))
+fixed-resolved k goal entries m is h = AtomBelow-resolve (length k.view + 1) k.view (labels_below k.view is.labelled) (fixed goal entries m) (fixed-below (length k.view + 1) goal entries m h)
 
 -- the clause of an atom of the state behind its CNF
 with-atom : (n : ℕ) (cs : List (List Lit)) (a : Atom) → ClausesBelow n cs → AtomBelow n a → ClausesBelow n (cs ++ atom_clauses a)
@@ -89,8 +89,8 @@ with-atom n [] False h k = (tt, tt)
 with-atom n [] (Of l) h k = ((k, tt), tt)
 with-atom n (c ∷ cs) a h k = (h.0, with-atom n cs a h.1 k)
 
-pub settled-range : (n : ℕ) (cnf : Cnf) (all : List (List Lit)) (a : Atom) → cnf.vars ≡ n → InRange cnf → AtomBelow (n + 1) a → all ≡ cnf.clauses ++ atom_clauses a → ClausesBelow (cnf.vars + 1) all
-settled-range n cnf all a vars range below is =
+pub fixed-range : (n : ℕ) (cnf : Cnf) (all : List (List Lit)) (a : Atom) → cnf.vars ≡ n → InRange cnf → AtomBelow (n + 1) a → all ≡ cnf.clauses ++ atom_clauses a → ClausesBelow (cnf.vars + 1) all
+fixed-range n cnf all a vars range below is =
     subst (λ (cs : List (List Lit)). ClausesBelow (cnf.vars + 1) cs) (sym is)
     (with-atom (cnf.vars + 1) cnf.clauses a range (subst (λ (m : ℕ). AtomBelow (m + 1) a) (sym vars) below))
 

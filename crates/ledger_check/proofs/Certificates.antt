@@ -28,7 +28,7 @@ use Rattle.answer_document.specs.Valid.{start_of, stated, IsShown, first_shown, 
 use Rattle.ledger_check.specs.declared.part.Part.TheVariants as part
 use Rattle.ledger_check.specs.declared.fault.Why.TheVariants as why
 use Rattle.ledger_check.specs.Items.{Standing, may_have_second, must_have_second}
-use Rattle.ledger_check.specs.Tests.{when, is_shown, is_first_shown, is_second_shown, is_optimal, is_concluded, additions_in, is_refuted, line_taken, settled_cnf, second_begun, values_fault}
+use Rattle.ledger_check.specs.Tests.{when, is_shown, is_first_shown, is_second_shown, is_optimal, is_concluded, additions_in, is_refuted, line_taken, fixed_cnf, second_begun, values_fault}
 use Rattle.ledger_check.specs.Fronts.{head_lines, ledger_lines, proof_lines, more_lines, answer_of, assignment_of, IsFresh, IsFitting, HasAnswer, IsAnswered, AtBest, AtUnanswered, AtValues, AtLedger, AtProof, AtSecond, AtEnd, KnownIn}
 use Rattle.ledger_check.proofs.Answers.{answered, answered-alone}
 use Rattle.ledger_check.proofs.Stepping.{when-ok, replayed-more, lines-more, steps-more, readable-more, ledger-longer, proof-longer, more-longer}
@@ -138,7 +138,7 @@ module _ (model : Model) (s : Standing) (lines : List (List ℕ)) (line : List �
 
   -- the second derivation begins, and goes on
   pub second-begun : AtProof model lines s → (b : Bounds) → stated s.verdict ≡ Some b → may_have_second s.verdict ≡ true → is_first_shown model s s.first b.first ≡ true → line ≡ codes "second"
-      → AtSecond model all (record s { part = part.Second; second = Some (proof_of (settled_cnf model s b.first)) })
+      → AtSecond model all (record s { part = part.Second; second = Some (proof_of (fixed_cnf model s b.first)) })
   second-begun at b told two shown is = record {
     answered = at.answered;
     entries = at.entries;
@@ -156,7 +156,7 @@ module _ (model : Model) (s : Standing) (lines : List (List ℕ)) (line : List �
     shown = shown;
     more = [];
     readable_more = tt;
-    furthest = proof_of (settled_cnf model s b.first);
+    furthest = proof_of (fixed_cnf model s b.first);
     second = refl;
     accepted_more = refl;
     read = one-more lines (head_lines model s.verdict s.values ++ (ledger_lines at.ledger ++ proof_lines at.proof)) line (codes "second") at.read is
@@ -184,7 +184,7 @@ module _ (model : Model) (s : Standing) (lines : List (List ℕ)) (line : List �
     readable_more = readable-more at.more l at.readable_more form;
     furthest = q;
     second = refl;
-    accepted_more = lines-more (proof_of (settled_cnf model s at.bounds.first)) at.more l at.furthest at.accepted_more ∙ sym (ap (λ o. line_taken o l) at.second) ∙ made;
+    accepted_more = lines-more (proof_of (fixed_cnf model s at.bounds.first)) at.more l at.furthest at.accepted_more ∙ sym (ap (λ o. line_taken o l) at.second) ∙ made;
     read = one-more lines (head_lines model s.verdict s.values ++ (ledger_lines at.ledger ++ (proof_lines at.proof ++ more_lines at.more))) line (line_bytes l) at.read is
         ∙ more-longer (head_lines model s.verdict s.values) (ledger_lines at.ledger) (proof_lines at.proof) at.more l;
   }

@@ -20,11 +20,11 @@ use Rattle.answer_document.specs.declared.document.Document.{Document}
 use Rattle.answer_document.specs.Verdicts.{verdict_text, is_certified, VerdictFits}
 use Rattle.answer_document.specs.DocumentText.{version_line, best_lines, assignment_lines, certificate_lines, document_lines}
 use Rattle.name_map.specs.ValueLines.{declared_lines}
-use Rattle.answer_document.specs.BoundAtoms.{first_bound, second_bound, settled}
+use Rattle.answer_document.specs.BoundAtoms.{first_bound, second_bound, fixed}
 use Rattle.answer_document.specs.Valid.{stated, IsShown, first_shown, second_shown, second_cnf, atom_clauses, IsDerived, IsSecond, AreShown, AreAdded, IsCertified, AnswerHolds, numbers_given, FitNumbers, FitValues, FitAssignment}
 use Rattle.ledger_check.specs.declared.part.Part.TheVariants as part
 use Rattle.ledger_check.specs.Items.{Standing, may_have_second, must_have_second}
-use Rattle.ledger_check.specs.Tests.{is_shown, is_first_shown, is_second_shown, is_optimal, is_concluded, additions_in, is_refuted, settled_cnf, values_fault}
+use Rattle.ledger_check.specs.Tests.{is_shown, is_first_shown, is_second_shown, is_optimal, is_concluded, additions_in, is_refuted, fixed_cnf, values_fault}
 use Rattle.ledger_check.specs.Fronts.{head_lines, ledger_lines, proof_lines, more_lines, answer_of, assignment_of, IsAnswered, AtValues, AtProof, AtSecond, AtEnd}
 use Rattle.ledger_check.proofs.Answers.{answered-alone}
 use Rattle.ledger_check.proofs.Heads.{declared_lines-nil}
@@ -175,7 +175,7 @@ module _ (model : Model) (s : Standing) (lines : List (List ℕ)) (line : List �
   is-second at = record {
     bound = first-is-shown at.reached at.bounds.first at.entries at.first at.shown;
     proof = at.furthest;
-    accepted = ap (λ es. take_lines (proof_of (record { vars = (cnf_of s.kernel).vars; clauses = (cnf_of s.kernel).clauses ++ atom_clauses (resolve s.kernel.view (settled model.goal es at.bounds.first)) })) at.more) (sym at.entries)
+    accepted = ap (λ es. take_lines (proof_of (record { vars = (cnf_of s.kernel).vars; clauses = (cnf_of s.kernel).clauses ++ atom_clauses (resolve s.kernel.view (fixed model.goal es at.bounds.first)) })) at.more) (sym at.entries)
         ∙ at.accepted_more;
   }
 

@@ -15,7 +15,7 @@ use Rattle.ledger_check.specs.declared.fault.Why.{Why}
 use Rattle.ledger_check.specs.declared.fault.Why.TheVariants as why
 use Rattle.ledger_check.specs.declared.told.Told.{Told}
 use Rattle.ledger_check.specs.Items.{Item, Version, Answer, Best, Value, LedgerBegins, Step, ProofBegins, Derived, SecondBegins, End, Standing, item_line, MayStandIn}
-use Rattle.ledger_check.specs.Tests.{start_standing, when, with_value, second_begun, told_of, taken_in, behind_verdict, is_first_shown, settled_cnf}
+use Rattle.ledger_check.specs.Tests.{start_standing, when, with_value, second_begun, told_of, taken_in, behind_verdict, is_first_shown, fixed_cnf}
 use Rattle.ledger_check.specs.Reading.{IsNext, IsEnd}
 use Rattle.ledger_check.specs.Fronts.{answer_of, AtStart, AtProof, AtEnd, KnownIn, Known}
 use Rattle.ledger_check.proofs.Heads.{version-read, verdict-read, best-read, value-read}
@@ -33,7 +33,7 @@ value-ok : (s t : Standing) (o : Option ℤ) → with_value s o ≡ Ok t → (z 
 value-ok s t None e = absurd (err-ok t why.Value e)
 value-ok s t (Some z) e = (z, refl, ok-same (record s { values = s.values ++ z ∷ [] }) t e)
 
-begun-ok : (model : Model) (s t : Standing) (o : Option Bounds) → second_begun model s o ≡ Ok t → (b : Bounds) × (o ≡ Some b) × (when (is_first_shown model s s.first b.first) why.Open (record s { part = part.Second; second = Some (proof_of (settled_cnf model s b.first)) }) ≡ Ok t)
+begun-ok : (model : Model) (s t : Standing) (o : Option Bounds) → second_begun model s o ≡ Ok t → (b : Bounds) × (o ≡ Some b) × (when (is_first_shown model s s.first b.first) why.Open (record s { part = part.Second; second = Some (proof_of (fixed_cnf model s b.first)) }) ≡ Ok t)
 begun-ok model s t None e = absurd (err-ok t why.Open e)
 begun-ok model s t (Some b) e = (b, refl, e)
 

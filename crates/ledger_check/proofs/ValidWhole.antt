@@ -42,7 +42,7 @@ use Rattle.ledger_check.specs.declared.part.Part.TheVariants as part
 use Rattle.ledger_check.specs.declared.fault.Why.{Why}
 use Rattle.ledger_check.specs.declared.fault.Why.TheVariants as why
 use Rattle.ledger_check.specs.Items.{Item, Version, Answer, Best, LedgerBegins, ProofBegins, SecondBegins, End, Standing, HasNumbers, IsVerdictLine, may_have_second, must_have_second, MayStand, item_line}
-use Rattle.ledger_check.specs.Tests.{start_standing, has_objective, verdict_fits, behind_verdict, same_numbers, objective_fault, statement_fault, values_fault, is_shown, is_first_shown, is_second_shown, is_optimal, is_concluded, additions_in, when, unless, taken, second_begun, settled_cnf}
+use Rattle.ledger_check.specs.Tests.{start_standing, has_objective, verdict_fits, behind_verdict, same_numbers, objective_fault, statement_fault, values_fault, is_shown, is_first_shown, is_second_shown, is_optimal, is_concluded, additions_in, when, unless, taken, second_begun, fixed_cnf}
 use Rattle.ledger_check.specs.Reading.{IsNext, IsEnd}
 use Rattle.ledger_check.proofs.Backward.{standing, values-lead, ledger-lead, proof-lead, more-lead}
 
@@ -162,7 +162,7 @@ module _ (model : Model) where
     end-of-two : (b : Bounds) (more : List ProofLine) (s : IsSecond model c.last c.proof b more) → stated v ≡ Some b → may_have_second v ≡ true → IsReadableSecond (Some more)
         → is_concluded model (behind_second s.proof) v ≡ true → EndsFrom behind_proof (codes "second" ∷ (map line_bytes more ++ codes "end" ∷ [])) v
     end-of-two b more s told two fits concluded =
-        let begun = proof_of (settled_cnf model behind_proof b.first) in
+        let begun = proof_of (fixed_cnf model behind_proof b.first) in
         behind-line behind_proof (behind_second begun) (codes "second") (map line_bytes more ++ codes "end" ∷ []) v
         (record {
           item = SecondBegins;

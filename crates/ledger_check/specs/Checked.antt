@@ -25,8 +25,8 @@ pub record IsAnswer (model : Model) (text : List ℕ) (v : Verdict) : Type 0 whe
   pub valid : IsValid model text v assignment
   pub true_claims : Claims model v assignment
 
--- The line of a number is the first that fails: the lines before it lead somewhere, from where it isn't the next, for this cause; or
--- all lines lead somewhere, and the line of this number, the one behind them, is missing.
+-- The line of a number is the first that fails: the lines before it lead somewhere, from where it isn't the next, for
+-- this cause; or all lines lead somewhere, and the line of this number, the one behind them, is missing.
 abbrev pub IsFirstFault : Model → List ℕ → ℕ → Why → Type 0
 IsFirstFault model text line why =
     MisfitAt (IsNext model) (IsBecause model) (start_standing model) text line why
@@ -42,10 +42,11 @@ abbrev pub IsJudged : Model → List ℕ → Judgement → Type 0
 IsJudged model text (Valid v) = IsAnswer model text v
 IsJudged model text (judged.Refused line why) = IsRefused model text line why
 
--- The model weighs too much, and its weight is told where it has 128 bits, as that of each text has; or it does not, and the text
--- is refused; or memory was wanting.
+-- The model weighs too much, and its weight is told where it has 128 bits, as that of each text has; or it does not,
+-- and the text is refused; or memory was wanting.
 abbrev pub IsFaultOf : CheckFault → Model → List ℕ → Type 0
-IsFaultOf (TooHeavy w) model text = (most_weight < weight_of model) × (weight_of model < 2 ^ 128 → w ≡ weight_of model)
+IsFaultOf (TooHeavy w) model text = (most_weight < weight_of model)
+    × (weight_of model < 2 ^ 128 → w ≡ weight_of model)
 IsFaultOf (Refused line why) model text = (weight_of model ≤ most_weight) × IsRefused model text line why
 IsFaultOf Memory model text = Unit {0}
 

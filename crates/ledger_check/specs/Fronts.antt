@@ -1,5 +1,6 @@
 -- What is known of a document behind its first lines, part by part.
-use Rattle.std.specs.Prelude.{◌≡◌, ℕ, ◌+◌, Bool, true, false, not, List, [], ◌∷◌, ◌++◌, codes, map, length, ℤ, Option, None, Some, Ok, IsTrue}
+use Rattle.std.specs.Prelude.{◌≡◌, ℕ, ◌+◌, Bool, true, false, not, List, [], ◌∷◌, ◌++◌, codes}
+use Rattle.std.specs.Prelude.{map, length, ℤ, Option, None, Some, Ok, IsTrue}
 use Rattle.model_meaning.specs.declared.model.Assignment.{Assignment}
 use Rattle.model_meaning.specs.declared.model.Decl.{Decl}
 use Rattle.model_meaning.specs.declared.model.Model.{Model}
@@ -20,15 +21,17 @@ use Rattle.answer_document.specs.declared.document.Document.{Document}
 use Rattle.answer_document.specs.Verdicts.{verdict_text, is_certified, VerdictFits}
 use Rattle.answer_document.specs.DocumentText.{version_line, best_lines, document_lines}
 use Rattle.name_map.specs.ValueLines.{declared_lines}
-use Rattle.answer_document.specs.Valid.{start_of, stated, FitNumbers, FitValues, AreReadableSteps, AreReadableLines, IsReadableDocument, AnswerHolds, IsCertified, numbers_given}
+use Rattle.answer_document.specs.Valid.{start_of, stated, FitNumbers, FitValues, AreReadableSteps, AreReadableLines}
+use Rattle.answer_document.specs.Valid.{IsReadableDocument, AnswerHolds, IsCertified, numbers_given}
 use Rattle.ledger_check.specs.declared.part.Part.{Part}
 use Rattle.ledger_check.specs.declared.part.Part.TheVariants as part
 use Rattle.ledger_check.specs.Items.{Standing, may_have_second}
-use Rattle.ledger_check.specs.Tests.{is_first_shown, settled_cnf}
+use Rattle.ledger_check.specs.Tests.{is_first_shown, fixed_cnf}
 
 -- the lines up to the last value
 abbrev pub head_lines : Model → Verdict → List ℤ → List (List ℕ)
-head_lines model v values = version_line model.goal ∷ verdict_text v ∷ (best_lines v ++ declared_lines model.decls values)
+head_lines model v values = version_line model.goal ∷ verdict_text v
+    ∷ (best_lines v ++ declared_lines model.decls values)
 
 -- the lines of the derivations, each behind the line that begins it
 abbrev pub ledger_lines : List Line → List (List ℕ)
@@ -165,8 +168,9 @@ pub record AtSecond (model : Model) (lines : List (List ℕ)) (s : Standing) : T
   pub readable_more : AreReadableLines more
   pub furthest : Proof
   pub second : s.second ≡ Some furthest
-  pub accepted_more : take_lines (proof_of (settled_cnf model s bounds.first)) more ≡ Ok furthest
-  pub read : lines ≡ head_lines model s.verdict s.values ++ (ledger_lines ledger ++ (proof_lines proof ++ more_lines more))
+  pub accepted_more : take_lines (proof_of (fixed_cnf model s bounds.first)) more ≡ Ok furthest
+  pub read : lines ≡ head_lines model s.verdict s.values
+      ++ (ledger_lines ledger ++ (proof_lines proof ++ more_lines more))
 
 -- the lines are those of a document that says a valid answer
 pub record AtEnd (model : Model) (lines : List (List ℕ)) (s : Standing) : Type 0 where

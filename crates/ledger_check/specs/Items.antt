@@ -1,5 +1,7 @@
 -- What a line of a document says, how it is spelled, and which may stand where.
-use Rattle.std.specs.Prelude.{◌≡◌, ℕ, ◌<◌, ◌^◌, Bool, true, false, List, [], ◌∷◌, ◌++◌, codes, slice_get, length, ℤ, Option, Some, None, is_some, FitsSigned, IfSome, if◌then◌else◌}
+use Rattle.std.specs.Prelude.{◌≡◌, ℕ, ◌<◌, ◌^◌, Bool, true, false, List, [], ◌∷◌, ◌++◌, codes}
+use Rattle.std.specs.Prelude.{slice_get, length, ℤ, Option, Some, None, is_some, FitsSigned, IfSome}
+use Rattle.std.specs.Prelude.{if◌then◌else◌}
 use Rattle.std.specs.Int.{w64}
 use Rattle.std.specs.Fmt.{signed_decimal}
 use Rattle.order_ints.specs.declared.order_int.MapValue.{MapValue}
@@ -22,8 +24,9 @@ use Rattle.ledger_check.specs.declared.told.Told.TheVariants.{Truth, Number}
 use Rattle.ledger_check.specs.declared.part.Part.{Part}
 use Rattle.ledger_check.specs.declared.part.Part.TheVariants as part
 
--- what a line says: the version, 2 or else 1; a verdict; the values of a best solution; the value of the next name; that the ledger begins,
--- or a step of it; that the derivation begins, or the second one, or a line of either; that the document ends
+-- what a line says: the version, 2 or else 1; a verdict; the values of a best solution; the value of the next name;
+-- that the ledger begins, or a step of it; that the derivation begins, or the second one, or a line of either; that the
+-- document ends
 pub data Item : Type 0 where
   Version : Bool → Item
   Answer : Verdict → Item
@@ -36,8 +39,9 @@ pub data Item : Type 0 where
   SecondBegins : Item
   End : Item
 
--- What is known of a document behind some of its lines: the part that comes next, the verdict, the values that were read, the
--- state of the compilation, what the names stand for in the lowered model, and how far the derivations have come.
+-- What is known of a document behind some of its lines: the part that comes next, the verdict, the values that were
+-- read, the state of the compilation, what the names stand for in the lowered model, and how far the derivations have
+-- come.
 pub record Standing : Type 0 where
   pub part : Part
   pub verdict : Verdict
@@ -70,7 +74,8 @@ item_line model s (Derived line) = line_bytes line
 item_line model s SecondBegins = codes "second"
 item_line model s End = codes "end"
 
--- the numbers of bounds have 64 bits with their sign, and there is a second one exactly where the goal has two objectives
+-- the numbers of bounds have 64 bits with their sign, and there is a second one exactly where the goal has two
+-- objectives
 abbrev pub HaveNumbers : Bool → Bounds → Type 0
 HaveNumbers two b = FitsSigned w64 b.first × IfSome b.second (FitsSigned w64) × (is_some b.second ≡ two)
 

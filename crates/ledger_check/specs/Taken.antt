@@ -1,5 +1,6 @@
 -- How far a text was read, as a standing, and what comes of the next line.
-use Rattle.std.specs.Prelude.{◌≡◌, ℕ, ◌+◌, ◌≤◌, List, [], length, slice_get, Option, Some, None, Result, Ok, Err}
+use Rattle.std.specs.Prelude.{◌≡◌, ℕ, ◌+◌, ◌≤◌, List, [], length, slice_get, Option, Some, None}
+use Rattle.std.specs.Prelude.{Result, Ok, Err}
 use Rattle.order_ints.specs.declared.order_int.MapValue.{MapValue}
 use Rattle.order_ints.specs.OrderRange.{IsBounded, IntBelow}
 use Rattle.statement_lower.specs.Terms.{integer_at}
@@ -65,7 +66,8 @@ Takes model s line t (Some why) = IsMisfitFor model s line why
 
 -- each integer that names stand for is bounded, over variables below a number
 abbrev pub AreWithin : ℕ → List MapValue → Type 0
-AreWithin n entries = (place : ℕ) → IsBounded (integer_at (slice_get entries place)) × IntBelow n (integer_at (slice_get entries place))
+AreWithin n entries = (place : ℕ) → IsBounded (integer_at (slice_get entries place))
+    × IntBelow n (integer_at (slice_get entries place))
 
 abbrev pub IsWithin : Reading → Type 0
 IsWithin r = AreWithin (length r.state.view + 1) r.map.entries

@@ -1,5 +1,7 @@
 -- What is made of a line that may stand where it stands, or what stands against it.
-use Rattle.std.specs.Prelude.{◌≡◌, ◌==◌, ℕ, ◌+◌, ◌^◌, nat_le, nat_lt, Bool, true, false, not, ◌&&◌, ◌||◌, List, [], ◌∷◌, ◌++◌, length, slice_get, ℤ, pos, Option, Some, None, is_none, is_some, Result, Ok, Err, if◌then◌else◌}
+use Rattle.std.specs.Prelude.{◌≡◌, ◌==◌, ℕ, ◌+◌, ◌^◌, nat_le, nat_lt, Bool, true, false, not}
+use Rattle.std.specs.Prelude.{◌&&◌, ◌||◌, List, [], ◌∷◌, ◌++◌, length, slice_get, ℤ, pos, Option}
+use Rattle.std.specs.Prelude.{Some, None, is_none, is_some, Result, Ok, Err, if◌then◌else◌}
 use Rattle.std.specs.Bool.{beq}
 use Rattle.std.specs.Ordering.{int_eq}
 use Rattle.order_ints.specs.declared.atom.Atom.{Atom}
@@ -30,7 +32,7 @@ use Rattle.answer_document.specs.declared.verdict.Verdict.{Verdict}
 use Rattle.answer_document.specs.declared.verdict.Verdict.TheVariants.{Satisfiable, Unsatisfiable, Optimum, Unknown}
 use Rattle.answer_document.specs.Verdicts.{numbers_in}
 use Rattle.answer_document.specs.DocumentText.{has_second}
-use Rattle.answer_document.specs.BoundAtoms.{first_bound, second_bound, settled}
+use Rattle.answer_document.specs.BoundAtoms.{first_bound, second_bound, fixed}
 use Rattle.answer_document.specs.Valid.{start_of, atom_clauses, stated}
 use Rattle.ledger_check.specs.declared.part.Part.{Part}
 use Rattle.ledger_check.specs.declared.part.Part.TheVariants as part
@@ -38,7 +40,8 @@ use Rattle.ledger_check.specs.declared.fault.Why.{Why}
 use Rattle.ledger_check.specs.declared.fault.Why.TheVariants as why
 use Rattle.ledger_check.specs.declared.told.Told.TheVariants.{Truth, Number}
 use Rattle.ledger_check.specs.declared.told.Told.{Told}
-use Rattle.ledger_check.specs.Items.{Item, Version, Answer, Best, Value, LedgerBegins, Step, ProofBegins, Derived, SecondBegins, End, Standing}
+use Rattle.ledger_check.specs.Items.{Item, Version, Answer, Best, Value, LedgerBegins, Step, ProofBegins, Derived}
+use Rattle.ledger_check.specs.Items.{SecondBegins, End, Standing}
 
 -- before the first line
 abbrev pub start_standing : Model → Standing
@@ -104,10 +107,12 @@ same_numbers [] (y ∷ ys) = false
 same_numbers (x ∷ xs) [] = false
 same_numbers (x ∷ xs) (y ∷ ys) = int_eq x y && same_numbers xs ys
 
--- what stands against the values: the first statement that doesn't hold, or stated numbers that the objectives don't have
+-- what stands against the values: the first statement that doesn't hold, or stated numbers that the objectives don't
+-- have
 abbrev pub objective_fault : Goal → List ℤ → Option Bounds → Option Why
 objective_fault goal values None = None
-objective_fault goal values (Some b) = if same_numbers (objective goal values) (numbers_in b) then None else Some why.Objective
+objective_fault goal values (Some b) = if same_numbers (objective goal values) (numbers_in b) then None
+    else Some why.Objective
 
 abbrev pub statement_fault : Option ℕ → Option Why → Option Why
 statement_fault None behind = behind
@@ -115,7 +120,8 @@ statement_fault (Some n) behind = Some (why.Statement n)
 
 abbrev pub values_fault : Model → Standing → Option Why
 values_fault model s =
-    if in_domains model.decls s.values then statement_fault (first_broken s.values model.stmts) (objective_fault model.goal s.values (stated s.verdict)) else Some why.Value
+    if in_domains model.decls s.values then statement_fault (first_broken s.values model.stmts)
+    (objective_fault model.goal s.values (stated s.verdict)) else Some why.Value
 
 -- whether an atom is shown by a proof
 abbrev pub is_shown : Proof → Atom → Bool
@@ -182,30 +188,35 @@ line_taken None line = Err Id
 line_taken (Some p) line = take_line p line
 
 -- the CNF over which the second objective is sought
-abbrev pub settled_cnf : Model → Standing → ℤ → Cnf
-settled_cnf model s m = record {
+abbrev pub fixed_cnf : Model → Standing → ℤ → Cnf
+fixed_cnf model s m = record {
   vars = (cnf_of s.kernel).vars;
-  clauses = (cnf_of s.kernel).clauses ++ atom_clauses (resolve s.kernel.view (settled model.goal s.entries m));
+  clauses = (cnf_of s.kernel).clauses ++ atom_clauses (resolve s.kernel.view (fixed model.goal s.entries m));
 }
 
 -- the second derivation begins
 abbrev pub second_begun : Model → Standing → Option Bounds → Result Standing Why
 second_begun model s None = Err why.Open
 second_begun model s (Some b) =
-    when (is_first_shown model s s.first b.first) why.Open (record s { part = part.Second; second = Some (proof_of (settled_cnf model s b.first)) })
+    when (is_first_shown model s s.first b.first) why.Open
+    (record s { part = part.Second; second = Some (proof_of (fixed_cnf model s b.first)) })
 
 -- What is made of what a line says, part by part.
 abbrev pub taken_in : Model → Standing → Part → Item → Result Standing Why
-taken_in model s part.Version (Version two) = when (beq two (has_second model.goal)) why.Goal (record s { part = part.Verdict })
-taken_in model s part.Verdict (Answer v) = when (verdict_fits model.goal v) why.Goal (record s { part = behind_verdict v; verdict = v })
-taken_in model s part.Best (Best b) = when (has_objective model.goal) why.Goal (record s { part = part.Values; verdict = with_best s.verdict b })
+taken_in model s part.Version (Version two) =
+    when (beq two (has_second model.goal)) why.Goal (record s { part = part.Verdict })
+taken_in model s part.Verdict (Answer v) =
+    when (verdict_fits model.goal v) why.Goal (record s { part = behind_verdict v; verdict = v })
+taken_in model s part.Best (Best b) =
+    when (has_objective model.goal) why.Goal (record s { part = part.Values; verdict = with_best s.verdict b })
 taken_in model s part.Best LedgerBegins = Ok (record s { part = part.Ledger })
 taken_in model s part.Values (Value t) = with_value s (told_of (slice_get model.decls (length s.values)) t)
 taken_in model s part.Values LedgerBegins = unless (values_fault model s) (record s { part = part.Ledger })
 taken_in model s part.Values End = unless (values_fault model s) (record s { part = part.End })
 taken_in model s part.Unanswered LedgerBegins = Ok (record s { part = part.Ledger })
 taken_in model s part.Ledger (Step line) = with_kernel s (step s.kernel line)
-taken_in model s part.Ledger ProofBegins = Ok (record s { part = part.Proof; first = Some (proof_of (cnf_of s.kernel)) })
+taken_in model s part.Ledger ProofBegins =
+    Ok (record s { part = part.Proof; first = Some (proof_of (cnf_of s.kernel)) })
 taken_in model s part.Proof (Derived line) = with_first s (line_taken s.first line)
 taken_in model s part.Proof SecondBegins = second_begun model s (stated s.verdict)
 taken_in model s part.Proof End = when (is_concluded model s s.verdict) why.Open (record s { part = part.End })

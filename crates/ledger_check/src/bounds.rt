@@ -6,7 +6,8 @@ ghost use Rattle.order_ints.specs.OrderRange.{IsBounded};
 ghost use Rattle.order_ints.specs.Place.{AtomBelow};
 ghost use Rattle.step_kernel.specs.CnfOf.{cnf_of};
 ghost use Rattle.proof_check.specs.Lrat.{proof_of};
-ghost use Rattle.answer_document.specs.BoundAtoms.{integer_named, at_least, at_most, first_bound, second_least, second_most, second_bound, settled};
+ghost use Rattle.answer_document.specs.BoundAtoms.{integer_named, at_least, at_most, first_bound, second_least};
+ghost use Rattle.answer_document.specs.BoundAtoms.{second_most, second_bound, fixed};
 ghost use Rattle.answer_document.specs.Valid.{atom_clauses, stated};
 ghost use Rattle.ledger_check.specs.Tests.{is_shown};
 
@@ -91,9 +92,9 @@ pub(crate) fn second_bound(goal: Goal, entries: &[MapValue], number: i64) -> Ato
 }
 
 /// The atom that is true where the first objective is no worse than a number.
-pub(crate) fn settled(goal: Goal, entries: &[MapValue], number: i64) -> Atom
+pub(crate) fn fixed(goal: Goal, entries: &[MapValue], number: i64) -> Atom
     requires { (place : ℕ) → IsBounded (integer_named entries.now place) }
-    ensures { result ≡ settled goal entries.now number }
+    ensures { result ≡ fixed goal entries.now number }
 {
     match goal {
         Goal::Satisfy => Atom::True,
@@ -135,7 +136,7 @@ pub(crate) fn checker_of(alloc: Global, state: &Replay) -> Result<Checker, Alloc
 }
 
 /// The checker of derivations from the CNF of a state and the clause of an atom behind it.
-pub(crate) fn settled_checker(
+pub(crate) fn fixed_checker(
     alloc: Global,
     state: &Replay,
     atom: Atom,

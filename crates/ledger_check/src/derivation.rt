@@ -9,11 +9,13 @@ ghost use Rattle.proof_check.specs.Room.{line_in};
 ghost use Rattle.proof_check.specs.Lrat.{proof_of};
 ghost use Rattle.answer_document.specs.Valid.{stated};
 ghost use Rattle.ledger_check.specs.Items.{may_have_second, must_have_second};
-ghost use Rattle.ledger_check.specs.Tests.{with_kernel, with_first, with_second, line_taken, second_begun, is_concluded, is_first_shown, is_second_shown, is_optimal, is_refuted, additions_in, when};
+ghost use Rattle.ledger_check.specs.Tests.{with_kernel, with_first, with_second, line_taken, second_begun};
+ghost use Rattle.ledger_check.specs.Tests.{is_concluded, is_first_shown, is_second_shown, is_optimal, is_refuted};
+ghost use Rattle.ledger_check.specs.Tests.{additions_in, when};
 ghost use Rattle.ledger_check.specs.Taken.{standing_of, Took, Takes, Derives, IsWithin, IsLater};
 
 use crate::bounds::{
-    adds_up, checker_of, first_bound, is_shown, second_bound, settled, settled_checker, stated,
+    adds_up, checker_of, first_bound, fixed, fixed_checker, is_shown, second_bound, stated,
 };
 use crate::fault::Why;
 use crate::part::Part;
@@ -143,7 +145,8 @@ impl Reading {
 
     /// Takes a step of the compilation.
     fn take_step(&mut self, line: &Line) -> Result<Option<Why>, AllocError>
-        ensures took { IfOk result (λ o. Took (with_kernel (standing_of self.old) (step self.old.state line.now)) (standing_of self.new) o) }
+        ensures took { IfOk result
+            (λ o. Took (with_kernel (standing_of self.old) (step self.old.state line.now)) (standing_of self.new) o) }
         ensures later { IsLater self.old self.new }
     {
         let _vars = self.state.vars();
@@ -156,7 +159,10 @@ impl Reading {
 
     /// Begins the derivation.
     fn begin_proof(&mut self) -> Result<Option<Why>, AllocError>
-        ensures took { IfOk result (λ o. Took (Ok (record (standing_of self.old) { part = Part.Proof; first = Some (proof_of (cnf_of self.old.state)) })) (standing_of self.new) o) }
+        ensures took { IfOk result
+            (λ o. Took
+            (Ok (record (standing_of self.old) { part = Part.Proof; first = Some (proof_of (cnf_of self.old.state)) }))
+            (standing_of self.new) o) }
         ensures later { IsLater self.old self.new }
     {
         let alloc = *self.values.allocator();
@@ -168,7 +174,9 @@ impl Reading {
 
     /// Takes a line of the derivation.
     fn take_first(&mut self, head: LineHead, room: &LineRoom) -> Result<Option<Why>, AllocError>
-        ensures took { IfOk result (λ o. Took (with_first (standing_of self.old) (line_taken self.old.first (line_in head room.now))) (standing_of self.new) o) }
+        ensures took { IfOk result
+            (λ o. Took (with_first (standing_of self.old) (line_taken self.old.first (line_in head room.now)))
+            (standing_of self.new) o) }
         ensures later { IsLater self.old self.new }
     {
         match derive(&mut self.first, head, room)? {
@@ -179,7 +187,9 @@ impl Reading {
 
     /// Takes a line of the second derivation.
     fn take_second(&mut self, head: LineHead, room: &LineRoom) -> Result<Option<Why>, AllocError>
-        ensures took { IfOk result (λ o. Took (with_second (standing_of self.old) (line_taken self.old.second (line_in head room.now))) (standing_of self.new) o) }
+        ensures took { IfOk result
+            (λ o. Took (with_second (standing_of self.old) (line_taken self.old.second (line_in head room.now)))
+            (standing_of self.new) o) }
         ensures later { IsLater self.old self.new }
     {
         match derive(&mut self.second, head, room)? {
@@ -189,17 +199,18 @@ impl Reading {
     }
 
     /// Begins the second derivation, where the first bound is shown.
-    fn settle(&mut self, model: &Model, bounds: Bounds) -> Result<Option<Why>, AllocError>
+    fn fix(&mut self, model: &Model, bounds: Bounds) -> Result<Option<Why>, AllocError>
         requires { IsWithin self.old }
-        ensures took { IfOk result (λ o. Took (second_begun model.now (standing_of self.old) (Some bounds)) (standing_of self.new) o) }
+        ensures took { IfOk result
+            (λ o. Took (second_begun model.now (standing_of self.old) (Some bounds)) (standing_of self.new) o) }
         ensures later { IsLater self.old self.new }
     {
         if !self.is_first_shown(model, bounds.first) {
             return Ok(Some(Why::Open));
         }
         let alloc = *self.values.allocator();
-        let bound = settled(model.goal, self.map.entries.as_slice(), bounds.first);
-        let checker = settled_checker(alloc, &self.state, resolve(self.state.view(), bound))?;
+        let bound = fixed(model.goal, self.map.entries.as_slice(), bounds.first);
+        let checker = fixed_checker(alloc, &self.state, resolve(self.state.view(), bound))?;
         self.second = Some(checker);
         self.part = Part::Second;
         Ok(None)
@@ -208,19 +219,23 @@ impl Reading {
     /// Begins the second derivation.
     fn begin_second(&mut self, model: &Model) -> Result<Option<Why>, AllocError>
         requires { IsWithin self.old }
-        ensures took { IfOk result (λ o. Took (second_begun model.now (standing_of self.old) (stated self.old.verdict)) (standing_of self.new) o) }
+        ensures took { IfOk result
+            (λ o. Took (second_begun model.now (standing_of self.old) (stated self.old.verdict)) (standing_of self.new)
+            o) }
         ensures later { IsLater self.old self.new }
     {
         match stated(self.verdict) {
             None => Ok(Some(Why::Open)),
-            Some(bounds) => self.settle(model, bounds),
+            Some(bounds) => self.fix(model, bounds),
         }
     }
 
     /// Ends the document, where what was derived shows the verdict.
     fn finish(&mut self, model: &Model) -> Option<Why>
         requires { IsWithin self.old }
-        ensures took { Took (when (is_concluded model.now (standing_of self.old) self.old.verdict) Why.Open (record (standing_of self.old) { part = Part.End })) (standing_of self.new) result }
+        ensures took { Took
+            (when (is_concluded model.now (standing_of self.old) self.old.verdict) Why.Open
+            (record (standing_of self.old) { part = Part.End })) (standing_of self.new) result }
         ensures later { IsLater self.old self.new }
     {
         if !self.is_concluded(model) {

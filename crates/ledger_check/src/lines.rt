@@ -1,6 +1,7 @@
 //! Reading the lines up to the last value.
 
-ghost use Rattle.std.specs.Prelude.{◌≡◌, ◌↔◌, ℕ, ◌++◌, List, Bool, IfSome, Some, None, IsNone, IsTrue, MatchOption, codes, if◌then◌else◌};
+ghost use Rattle.std.specs.Prelude.{◌≡◌, ◌↔◌, ℕ, ◌++◌, List, Bool, IfSome, Some, None, IsNone};
+ghost use Rattle.std.specs.Prelude.{IsTrue, MatchOption, codes, if◌then◌else◌};
 ghost use Rattle.answer_document.specs.declared.verdict.Bounds.{Bounds};
 ghost use Rattle.answer_document.specs.declared.verdict.Verdict.{Verdict};
 ghost use Rattle.answer_document.specs.Verdicts.{verdict_text};

@@ -1,11 +1,13 @@
 //! Taking the lines up to the last value.
 
-ghost use Rattle.std.specs.Prelude.{◌≡◌, ◌<◌, ◌&&◌, int_le, List, ℕ, ℤ, IfOk, Some, None, MatchOption, IfSome, length, slice_get, if◌then◌else◌};
+ghost use Rattle.std.specs.Prelude.{◌≡◌, ◌<◌, ◌&&◌, int_le, List, ℕ, ℤ, IfOk, Some, None};
+ghost use Rattle.std.specs.Prelude.{MatchOption, IfSome, length, slice_get, if◌then◌else◌};
 ghost use Rattle.model_meaning.specs.Domains.{domain};
 ghost use Rattle.model_meaning.specs.Integers.{is_member};
 ghost use Rattle.answer_document.specs.DocumentText.{is_there, has_second};
 ghost use Rattle.ledger_check.specs.Items.{Version, Answer, Best, Value, LedgerBegins, IsNameLeft};
-ghost use Rattle.ledger_check.specs.Tests.{has_objective, is_count, verdict_fits, behind_verdict, with_best, told_number, with_value, taken_in};
+ghost use Rattle.ledger_check.specs.Tests.{has_objective, is_count, verdict_fits, behind_verdict, with_best};
+ghost use Rattle.ledger_check.specs.Tests.{told_number, with_value, taken_in};
 ghost use Rattle.ledger_check.specs.Taken.{standing_of, Took, Takes, IsLater};
 
 use crate::fault::Why;
@@ -121,7 +123,8 @@ fn told_number(kind: &Kind, told: Told) -> Option<i64>
 impl Reading {
     /// Takes a version.
     fn take_version(&mut self, model: &Model, two: bool) -> Option<Why>
-        ensures took { Took (taken_in model.now (standing_of self.old) Part.Version (Version two)) (standing_of self.new) result }
+        ensures took { Took (taken_in model.now (standing_of self.old) Part.Version (Version two)) (standing_of self.new)
+            result }
         ensures later { IsLater self.old self.new }
     {
         if two != has_second(model.goal) {
@@ -133,7 +136,8 @@ impl Reading {
 
     /// Takes a verdict.
     fn take_verdict(&mut self, model: &Model, verdict: Verdict) -> Option<Why>
-        ensures took { Took (taken_in model.now (standing_of self.old) Part.Verdict (Answer verdict)) (standing_of self.new) result }
+        ensures took { Took (taken_in model.now (standing_of self.old) Part.Verdict (Answer verdict)) (standing_of self.new)
+            result }
         ensures later { IsLater self.old self.new }
     {
         if !verdict_fits(model.goal, verdict) {
@@ -146,7 +150,8 @@ impl Reading {
 
     /// Takes a best solution's values.
     fn take_best(&mut self, model: &Model, bounds: Bounds) -> Option<Why>
-        ensures took { Took (taken_in model.now (standing_of self.old) Part.Best (Best bounds)) (standing_of self.new) result }
+        ensures took { Took (taken_in model.now (standing_of self.old) Part.Best (Best bounds)) (standing_of self.new)
+            result }
         ensures later { IsLater self.old self.new }
     {
         if !has_objective(model.goal) {
@@ -159,7 +164,8 @@ impl Reading {
 
     /// Takes the value of a name.
     fn take_value(&mut self, kind: &Kind, told: Told) -> Result<Option<Why>, AllocError>
-        ensures took { IfOk result (λ o. Took (with_value (standing_of self.old) (told_number kind.now told)) (standing_of self.new) o) }
+        ensures took { IfOk result
+            (λ o. Took (with_value (standing_of self.old) (told_number kind.now told)) (standing_of self.new) o) }
         ensures later { IsLater self.old self.new }
     {
         match told_number(kind, told) {

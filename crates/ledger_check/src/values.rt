@@ -1,6 +1,7 @@
 //! The tests behind the last value: domains, statements, and the stated values of the objectives.
 
-ghost use Rattle.std.specs.Prelude.{◌≡◌, ◌<◌, ◌∷◌, [], ℕ, ℤ, List, IfOk, Some, true, false, length, if◌then◌else◌};
+ghost use Rattle.std.specs.Prelude.{◌≡◌, ◌<◌, ◌∷◌, [], ℕ, ℤ, List, IfOk, Some, true, false, length};
+ghost use Rattle.std.specs.Prelude.{if◌then◌else◌};
 ghost use Rattle.model_meaning.specs.Domains.{in_domains};
 ghost use Rattle.model_meaning.specs.Limits.{InLimits};
 ghost use Rattle.model_meaning.specs.Solutions.{objective, first_broken, second_value};
@@ -33,7 +34,8 @@ fn value_at(values: &[i64], place: usize) -> i64
 
 /// Whether the objectives at one place or two have the stated values.
 fn has_values(values: &[i64], place: usize, second: Option<usize>, bounds: Bounds) -> bool
-    ensures { result ≡ same_numbers (value_at values.now place ∷ second_value second values.now) (numbers_in bounds) }
+    ensures { result ≡ same_numbers (value_at values.now place ∷ second_value second values.now)
+        (numbers_in bounds) }
 {
     match (second, bounds.second) {
         (None, None) => value_at(values, place) == bounds.first,
@@ -114,7 +116,10 @@ impl Reading {
     /// Goes on behind the last value, where nothing stands against the values.
     fn pass_values(&mut self, model: &Model, next: Part) -> Result<Option<Why>, AllocError>
         requires { InLimits model.now }
-        ensures took { IfOk result (λ o. Took (unless (values_fault model.now (standing_of self.old)) (record (standing_of self.old) { part = next })) (standing_of self.new) o) }
+        ensures took { IfOk result
+            (λ o. Took
+            (unless (values_fault model.now (standing_of self.old)) (record (standing_of self.old) { part = next }))
+            (standing_of self.new) o) }
         ensures later { IsLater self.old self.new }
     {
         match self.values_fault(model)? {

@@ -8,8 +8,8 @@
 //!
 //! What it promises: `weight` is exactly the weight of a model within the limits (`weight`), and
 //! the weight itself, not 2^128 - 1, where declarations, statements and members together are fewer
-//! than 2^45 (`exact`); `item_weight` is that of one item. Laws: `fits_law` (such a model weighs less than 2^128), `queue_law`
-//! (narrower members weigh no more).
+//! than 2^45 (`exact`); `item_weight` is that of one item. Laws: `fits_law` (such a model weighs
+//! less than 2^128), `queue_law` (narrower members weigh no more).
 //!
 //! It counts by the declared domains, so a bound that is known belongs into `new_int`. A fresh sum
 //! counts with the lesser of its pairs of values and its span by the common divisor, which is a

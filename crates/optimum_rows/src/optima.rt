@@ -80,20 +80,20 @@ const RULER: &str =
 const TWO_SEARCHES: &str =
     "new_int(a,0,2) new_int(b,0,2) new_int(c,0,2) new_int(d,0,3) new_int(t,0,9) new_int(u,0,3) int_array_allDiff([a,b,c]) int_array_plus([a,b,c,d],t) new_bool(p11) new_bool(p12) new_bool(p21) new_bool(p22) new_bool(p31) new_bool(p32) new_bool(q) bool_array_or([p11,p12]) bool_array_or([p21,p22]) bool_array_or([p31,p32]) bool_array_or([-p11,-p21,q]) bool_array_or([-p11,-p31,q]) bool_array_or([-p21,-p31,q]) bool_array_or([-p12,-p22,q]) bool_array_or([-p12,-p32,q]) bool_array_or([-p22,-p32,q]) bool2int(q,u) solve minimize t then u";
 
-/// Models and budgets, with restarts or without, and the verdict. The pigeons take seven learned clauses, the first
-/// search of two takes four, and the second one two.
+/// Models and budgets, with restarts or without, and the verdict. The pigeons take six learned clauses, and two
+/// searches eight together.
 static BUDGETS: [(&str, u64, bool, &str); 12] = [
     (PIGEONS, 1, true, "UNKNOWN 1"),
     (PIGEONS, 1, false, "UNKNOWN 1"),
-    (PIGEONS, 6, true, "UNKNOWN 6"),
-    (PIGEONS, 7, true, "UNSATISFIABLE"),
+    (PIGEONS, 5, true, "UNKNOWN 5"),
+    (PIGEONS, 6, true, "UNSATISFIABLE"),
     (PIGEONS, 4_096, false, "UNSATISFIABLE"),
     (PIGEONS, 53_248, true, "UNSATISFIABLE"),
-    (RULER, 1, true, "UNKNOWN 1, best 6"),
-    (TWO_SEARCHES, 1, true, "UNKNOWN 1"),
+    (RULER, 2, true, "UNKNOWN 2, best 8"),
+    (TWO_SEARCHES, 1, true, "UNKNOWN 1, best 3 1"),
     (TWO_SEARCHES, 3, true, "UNKNOWN 3, best 3 1"),
-    (TWO_SEARCHES, 5, true, "UNKNOWN 5, best 3 1"),
-    (TWO_SEARCHES, 6, true, "OPTIMUM 3 1"),
+    (TWO_SEARCHES, 7, true, "UNKNOWN 7, best 3 1"),
+    (TWO_SEARCHES, 8, true, "OPTIMUM 3 1"),
     (TWO_SEARCHES, 1_000, true, "OPTIMUM 3 1"),
 ];
 

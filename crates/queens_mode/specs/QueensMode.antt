@@ -19,9 +19,10 @@ use Rattle.queens_model.specs.Queens.{queens}
 use Rattle.queens_model.specs.Placements.{IsPlacement}
 use Rattle.queens_mode.specs.Summary.{values_of, summary_text}
 
--- The text that is written for a board of this size tells an answer to the model of its queens, which is valid and true, whatever the
--- verdict is; its numbers of variables and clauses are those of the CNF of the state to which the ledger leads. After SATISFIABLE the
--- columns are those of the solution, which are a placement, and the ledger is written; after another verdict the document is.
+-- The text that is written for a board of this size tells an answer to the model of its queens, which is valid and
+-- true, whatever the verdict is; its numbers of variables and clauses are those of the CNF of the state to which the
+-- ledger leads. After SATISFIABLE the columns are those of the solution, which are a placement, and the ledger is
+-- written; after another verdict the document is.
 pub record IsPlaced (options : Options) (size : ℕ) (outcome : Outcome) (written : List ℕ) : Type 0 where
   pub document : Document
   pub before : ℕ
@@ -32,8 +33,8 @@ pub record IsPlaced (options : Options) (size : ℕ) (outcome : Outcome) (writte
   pub writes : written ≡ summary_text size (queens size).decls (size_of (cnf_of is.last)) document
   pub outcome_is : outcome ≡ outcome_of document.verdict
 
--- A run in the mode of queens, with how the answer is sought and the size of the board. No text is read, and nothing but want of memory
--- and faults of writing keeps it from ending in a text.
+-- A run in the mode of queens, with how the answer is sought and the size of the board. No text is read, and nothing
+-- but want of memory and faults of writing keeps it from ending in a text.
 pub record QueensMode {F : Type 0} (options : Options) (size : ℕ) (end : End F) (seen : Seen) : Type 0 where
   pub run : NoTextRun (IsPlaced options size) end seen
   pub finishes : Finishes NothingRead NothingRead ⊥ end seen

@@ -11,7 +11,8 @@
 --     end
 --
 -- The lines from `columns` on stand after SATISFIABLE. After another verdict the document of the answer stands there.
-use Rattle.std.specs.Prelude.{ℕ, zero, suc, ◌+◌, ◌*◌, List, [], ◌∷◌, ◌++◌, codes, map, ℤ, Option, Some, None}
+use Rattle.std.specs.Prelude.{ℕ, zero, suc, ◌+◌, ◌*◌, List, [], ◌∷◌, ◌++◌, codes, map, ℤ, Option}
+use Rattle.std.specs.Prelude.{Some, None}
 use Rattle.std.specs.Fmt.{decimal, signed_decimal}
 use Rattle.bee_text.specs.Lines.{join_lines}
 use Rattle.ledger_text.specs.declared.line.Line.{Line}

@@ -40,8 +40,9 @@ impl NoText for Placing {
     }
 }
 
-/// Makes the model of the queens of a board, seeks an answer to it, makes the whole text of that, and then writes it. The end tells
-/// whether the budget was spent. The shelf is not asked, so it shows the same behind the run, whatever that is.
+/// Makes the model of the queens of a board, seeks an answer to it, makes the whole text of that, and then writes it.
+/// The end tells whether the budget was spent. The shelf is not asked, so it shows the same behind the run, whatever
+/// that is.
 pub fn queens<F, O: Sink>(alloc: Global, size: u64, options: Options, out: &mut O) -> End<F>
     requires least { 4 ≤ size }
     requires most { size ≤ 24 }

@@ -3,7 +3,8 @@
 ghost use Rattle.std.specs.Prelude.{◌≡◌, ◌∷◌, ◌++◌, ◌≤◌, [], length, IfOk, IfSome, OnOk};
 ghost use Rattle.bee_text.specs.Lines.{join_lines};
 ghost use Rattle.model_meaning.specs.Terms.{value_at};
-ghost use Rattle.queens_mode.specs.Summary.{equations_in, count_line, head_lines, values_of, columns_line, solution_lines, rest_text, summary_text};
+ghost use Rattle.queens_mode.specs.Summary.{equations_in, count_line, head_lines, values_of, columns_line};
+ghost use Rattle.queens_mode.specs.Summary.{solution_lines, rest_text, summary_text};
 
 use answer_document::{Document, Verdict, push_document, push_ledger, push_verdict};
 use bee_text::{end_line, push_blank, push_bytes, push_number, push_signed};
@@ -115,7 +116,8 @@ fn push_rest(
 ) -> Result<(), AllocError>
     requires most { size ≤ 24 }
     requires count { IfSome document.now.assignment (λ a. length decls.now ≡ length a.values) }
-    ensures { OnOk result (out.new.items ≡ out.old.items ++ rest_text size decls.now document.now document.now.verdict) }
+    ensures { OnOk result (out.new.items ≡ out.old.items
+        ++ rest_text size decls.now document.now document.now.verdict) }
 {
     match document.verdict {
         Verdict::Satisfiable => push_solution(out, size, document),

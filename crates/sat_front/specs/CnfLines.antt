@@ -7,7 +7,8 @@
 --
 -- How many clauses there are is not compared with CLAUSES. Words stand apart by blanks, tabs and carriage returns. The
 -- last line may lack its line feed.
-use Rattle.std.specs.Prelude.{◌≡◌, ◌⊎◌, ℕ, ◌+◌, ◌<◌, ◌≤◌, ◌^◌, Bool, true, false, List, [], ◌∷◌, ◌++◌, map, codes, Option, None, Some}
+use Rattle.std.specs.Prelude.{◌≡◌, ◌⊎◌, ℕ, ◌+◌, ◌<◌, ◌≤◌, ◌^◌, Bool, true, false, List}
+use Rattle.std.specs.Prelude.{[], ◌∷◌, ◌++◌, map, codes, Option, None, Some}
 use Rattle.std.specs.Str.{bytes_eq}
 use Rattle.std.specs.Fmt.{decimal}
 use Rattle.bee_text.specs.Gaps.{words_of}
@@ -104,7 +105,8 @@ IsComplete s = ((vars : ℕ) × (s.vars ≡ Some vars)) × (s.listed.begun ≡ [
 abbrev pub NextAt : Bool → Draft → List ℕ → Draft → Type 0
 NextAt true s line t = IsComplete s × (t ≡ s)
 NextAt false s line t =
-    ((is_skipped (words_of line) ≡ true) × (t ≡ s)) ⊎ ((is_skipped (words_of line) ≡ false) × Says s (words_of line) t)
+    ((is_skipped (words_of line) ≡ true) × (t ≡ s))
+    ⊎ ((is_skipped (words_of line) ≡ false) × Says s (words_of line) t)
 
 abbrev pub NextLine : Draft → List ℕ → Draft → Type 0
 NextLine s line t = NextAt s.ended s line t

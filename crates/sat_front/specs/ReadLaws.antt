@@ -9,7 +9,8 @@ use Rattle.sat_front.specs.CnfLines.{IsCnfText}
 
 -- the CNF is as true as the clauses that the text lists
 abbrev pub SameTruth : Type 0
-SameTruth = (text : List ℕ) (cnf : Cnf) (is : IsCnfText text cnf) (σ : Valuation) → clauses_truth σ cnf.clauses ≡ clauses_truth σ is.draft.listed.clauses
+SameTruth = (text : List ℕ) (cnf : Cnf) (is : IsCnfText text cnf) (σ : Valuation)
+    → clauses_truth σ cnf.clauses ≡ clauses_truth σ is.draft.listed.clauses
 
 -- its variables are from 1 to their number, of which there are not too many
 abbrev pub ReadInRange : Type 0
@@ -17,4 +18,5 @@ ReadInRange = (text : List ℕ) (cnf : Cnf) → IsCnfText text cnf → InRange c
 
 -- in each clause the variables ascend, and no clause occurs twice
 abbrev pub ReadInOrder : Type 0
-ReadInOrder = (text : List ℕ) (cnf : Cnf) → IsCnfText text cnf → ClausesAscend cnf.clauses × ClausesDiffer cnf.clauses
+ReadInOrder = (text : List ℕ) (cnf : Cnf) → IsCnfText text cnf → ClausesAscend cnf.clauses
+    × ClausesDiffer cnf.clauses

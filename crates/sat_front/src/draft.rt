@@ -1,8 +1,10 @@
 //! A CNF's text, as far as it is read.
 
-ghost use Rattle.std.specs.Prelude.{◌≡◌, ◌≤◌, ◌↔◌, ◌∷◌, [], false, Some, IfOk, IsTrue, MatchBool};
+ghost use Rattle.std.specs.Prelude.{◌≡◌, ◌≤◌, ◌↔◌, ◌∷◌, [], false, Some, IfOk, IsTrue};
+ghost use Rattle.std.specs.Prelude.{MatchBool};
 ghost use Rattle.bee_text.specs.Gaps.{words_of};
-ghost use Rattle.sat_front.specs.CnfLines.{Listed, nothing_listed, with_literal, with_end, Lists, Draft, nothing_read, Says, IsComplete, NextLine};
+ghost use Rattle.sat_front.specs.CnfLines.{Listed, nothing_listed, with_literal, with_end, Lists, Draft, nothing_read};
+ghost use Rattle.sat_front.specs.CnfLines.{Says, IsComplete, NextLine};
 
 use crate::literals::literal_within;
 use crate::words::{is_word, read_header};

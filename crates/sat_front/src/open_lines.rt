@@ -9,8 +9,8 @@ use bee_text::Lines;
 use line_texts::{LineTaken, LineTaker, TextEnd};
 use std::alloc::{AllocError, Global};
 
-/// The first line of a text and what stands behind it, none where the text is empty. Bytes behind the last line feed are a
-/// line, too. It looks at each byte of the line once.
+/// The first line of a text and what stands behind it, none where the text is empty. Bytes behind the last line feed
+/// are a line, too. It looks at each byte of the line once.
 pub fn cut_line(text: &[u8]) -> Option<(&[u8], &[u8])>
     ensures { MatchOption result (closed text.now ≡ [])
         (λ cut. IsLine cut.0.now × (closed text.now ≡ cut.0.now ++ 10 ∷ closed cut.1.now)) }
@@ -41,8 +41,8 @@ fn end_behind<T: LineTaker>(taker: &T, read: u64) -> TextEnd<T::Cause>
     }
 }
 
-/// Takes the lines of a text, to its end or to the first that isn't the next. It looks at each byte once, beside what the
-/// lines' taker does.
+/// Takes the lines of a text, to its end or to the first that isn't the next. It looks at each byte once, beside what
+/// the lines' taker does.
 pub(crate) fn read_open_lines<T: LineTaker>(
     alloc: Global,
     text: &[u8],

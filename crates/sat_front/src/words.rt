@@ -1,6 +1,7 @@
 //! The words of a line.
 
-ghost use Rattle.std.specs.Prelude.{◌≡◌, ◌↔◌, ℕ, ◌+◌, ◌<◌, ◌≤◌, ◌^◌, ◌∷◌, [], IsTrue, MatchOption};
+ghost use Rattle.std.specs.Prelude.{◌≡◌, ◌↔◌, ℕ, ◌+◌, ◌<◌, ◌≤◌, ◌^◌, ◌∷◌, []};
+ghost use Rattle.std.specs.Prelude.{IsTrue, MatchOption};
 ghost use Rattle.std.specs.Fmt.{decimal};
 ghost use Rattle.bee_text.specs.Gaps.{words_of};
 ghost use Rattle.sat_front.specs.CnfLines.{AreNumbers, IsHeader};

@@ -1,5 +1,6 @@
 -- What the mode writes for a text.
-use Rattle.std.specs.Prelude.{◌≡◌, ◌⊎◌, ℕ, ◌<◌, ◌≤◌, Bool, true, false, List, [], length, IsTrue}
+use Rattle.std.specs.Prelude.{◌≡◌, ◌⊎◌, ℕ, ◌<◌, ◌≤◌, Bool, true, false, List, [], length}
+use Rattle.std.specs.Prelude.{IsTrue}
 use Rattle.order_ints.specs.declared.literal.Lit.{Lit}
 use Rattle.order_ints.specs.declared.cnf.Cnf.{Cnf}
 use Rattle.order_ints.specs.Truth.{Valuation, valuation_of}
@@ -23,16 +24,17 @@ pub record TellsValues (vars : ℕ) (clauses : List (List Lit)) (written : List 
   pub satisfies : IsTrue (clauses_truth (valuation_of values) clauses)
   pub writes : written ≡ values_text values
 
--- The lines are a proof from the CNF, in the form of LRAT. Each added clause is new among those that live before it, and only added ones
--- are deleted. The checker reads each line's text as that line.
+-- The lines are a proof from the CNF, in the form of LRAT. Each added clause is new among those that live before it,
+-- and only added ones are deleted. The checker reads each line's text as that line.
 pub record IsProof (cnf : Cnf) (log : List ProofLine) : Type 0 where
   pub accepted : Lrat cnf log
   pub fresh : IsFreshLog cnf log
   pub readable : Each IsReadable log
 
--- the written text tells a proof of the empty clause from the CNF, in no more added clauses than the budget has or any search needs, and
--- no valuation satisfies the listed clauses
-pub record TellsRefutation (options : SearchOptions) (cnf : Cnf) (clauses : List (List Lit)) (written : List ℕ) : Type 0 where
+-- the written text tells a proof of the empty clause from the CNF, in no more added clauses than the budget has or any
+-- search needs, and no valuation satisfies the listed clauses
+pub record TellsRefutation (options : SearchOptions) (cnf : Cnf) (clauses : List (List Lit)) (written : List ℕ)
+    : Type 0 where
   pub log : List ProofLine
   pub proof : IsProof cnf log
   pub empty : known (proof_behind cnf log) [] ≡ true
@@ -41,8 +43,8 @@ pub record TellsRefutation (options : SearchOptions) (cnf : Cnf) (clauses : List
   pub none : (σ : Valuation) → IsTrue (clauses_truth σ clauses) → ⊥
   pub writes : written ≡ refutation_text log
 
--- the written text tells a proof of as many added clauses as the budget has, which are fewer than any search needs, and neither the CNF nor
--- the proof has the empty clause
+-- the written text tells a proof of as many added clauses as the budget has, which are fewer than any search needs, and
+-- neither the CNF nor the proof has the empty clause
 pub record TellsUnknown (options : SearchOptions) (cnf : Cnf) (count : ℕ) (written : List ℕ) : Type 0 where
   pub log : List ProofLine
   pub proof : IsProof cnf log
@@ -54,7 +56,8 @@ pub record TellsUnknown (options : SearchOptions) (cnf : Cnf) (count : ℕ) (wri
 
 -- what is written for a CNF and the clauses that a text lists for it, by its outcome
 abbrev pub Tells : SearchOptions → Cnf → List (List Lit) → Outcome → List ℕ → Type 0
-Tells options cnf clauses Done written = TellsValues cnf.vars clauses written ⊎ TellsRefutation options cnf clauses written
+Tells options cnf clauses Done written = TellsValues cnf.vars clauses written
+    ⊎ TellsRefutation options cnf clauses written
 Tells options cnf clauses (Unknown count) written = TellsUnknown options cnf count written
 Tells options cnf clauses (Refused line) written = ⊥
 

@@ -43,8 +43,8 @@ impl OneText for Searching {
     }
 }
 
-/// Reads a CNF's text, searches for values or a refutation, makes the whole text of what was found, and then writes it. The end
-/// tells whether the budget was spent.
+/// Reads a CNF's text, searches for values or a refutation, makes the whole text of what was found, and then writes it.
+/// The end tells whether the budget was spent.
 pub fn sat<S: Shelf, O: Sink>(
     alloc: Global,
     input: &str,

@@ -35,7 +35,7 @@ fn check_row<R: Abort>(
 static ALL_TWO: &str = "p cnf 2 4\n1 2 0\n1 -2 0\n-1 2 0\n-1 -2 0\n";
 
 /// Proofs from these.
-static OF_TWO: [(&str, &str); 39] = [
+static OF_TWO: [(&str, &str); 41] = [
     ("d 1 2 0\n1 0\n0\n", "accepted"),
     ("d 1 2 0\n", "line 2"),
     ("", "line 1"),
@@ -52,6 +52,9 @@ static OF_TWO: [(&str, &str); 39] = [
         "accepted",
     ),
     ("d 1 0\n1 0\nd 1 0\n0\n", "accepted"),
+    // What was deleted shows the empty clause behind the last line, and a line is refused only with all of it.
+    ("d 2 -1 0\n1 0\n", "accepted"),
+    ("d 2 1 0\nd 1 -2 0\n0\n", "line 3"),
     ("d 0\n", "line 2"),
     // Lines that say nothing, and words apart by any blanks.
     ("c 0\n\n \t\r\n\t1  0 \r\nc", "accepted"),

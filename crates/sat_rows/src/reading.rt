@@ -48,7 +48,8 @@ static LISTED: [(&str, &str); 22] = [
     ("p cnf 3 0", "3"),
     ("p cnf 2 1\n1 2 0", "2, 1 2"),
     ("p cnf 2 1\n1 2\n0", "2, 1 2"),
-    // A clause over three lines, with others between them that say nothing, two clauses on a line, and the end of one before another.
+    // A clause over three lines, with others between them that say nothing, two clauses on a line, and the end of one
+    // before another.
     ("p cnf 3 1\n1\n2\n3 0\n", "3, 1 2 3"),
     ("p cnf 3 1\n1\nc 2 0\n\n \t\r\n3 0\n", "3, 1 3"),
     ("p cnf 3 2\n1 2 0 -3 0\n", "3, 1 2, -3"),
@@ -59,7 +60,8 @@ static LISTED: [(&str, &str); 22] = [
     // The empty clause.
     ("p cnf 2 1\n0\n", "2,"),
     ("p cnf 2 2\n0 0\n1 0\n", "2,, 1"),
-    // What is put in order: literals by their variables, each once, no clause twice, and none with a literal and its negation.
+    // What is put in order: literals by their variables, each once, no clause twice, and none with a literal and its
+    // negation.
     ("p cnf 3 4\n3 -1 3 0\n1 -1 0\n-1 3 0\n2 0\n", "3, -1 3, 2"),
     // Words apart by any blanks, and lines that end in carriage returns.
     ("c\r\np  cnf\t2  1\r\n 1\t2  0 \r\n", "2, 1 2"),

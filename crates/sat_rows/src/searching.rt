@@ -1,5 +1,5 @@
-//! Texts of plain CNFs that are searched: the clauses that are learned, with their hints in order, worked out by hand, and what comes of
-//! searches. At first the variables are decided false, the last one first.
+//! Texts of plain CNFs that are searched: the clauses that are learned, with their hints in order, worked out by hand,
+//! and what comes of searches. At first the variables are decided false, the last one first.
 
 use bee_outside::{MemShelf, MemSink};
 use sat_mode::{SearchOptions, sat};
@@ -33,8 +33,8 @@ fn search_row<R: Abort>(rt: &R, alloc: Global, row: Row) -> Result<(), Fail> {
     Ok(())
 }
 
-/// A clause is learned at the first conflict, and nothing fails any more but at the last two variables, so that the budget of one clause
-/// is spent, and that clause is shown. Its hints are the clauses by their numbers.
+/// A clause is learned at the first conflict, and nothing fails any more but at the last two variables, so that the
+/// budget of one clause is spent, and that clause is shown. Its hints are the clauses by their numbers.
 static LEARNED: [Row; 12] = [
     (
         "p cnf 4 6\n3 4 0 -3 4 0\n1 2 0 -1 2 0 1 -2 0 -1 -2 0\n",

@@ -1,5 +1,6 @@
-//! Conflicts worked out by hand: the clause that is learned, its hints in order, the level to jump back to, the number of levels, and
-//! the variables that the walk met. One walker takes all rows, each twice, so that nothing may be left behind by the one before.
+//! Conflicts worked out by hand: the clause that is learned, its hints in order, the level to jump back to, the number
+//! of levels, and the variables that the walk met. One walker takes all rows, each twice, so that nothing may be left
+//! behind by the one before.
 
 ghost use Rattle.std.specs.Prelude.{◌≡◌};
 
@@ -128,7 +129,8 @@ static ROWS: [Row; 14] = [
         glue: 2,
         seen: &[2, 3, 4, 5, 6],
     },
-    // Level 0 stands in the hints, each reason behind those that it needs, and neither in the clause nor among its levels.
+    // Level 0 stands in the hints, each reason behind those that it needs, and neither in the clause nor among its
+    // levels.
     Row {
         clauses: &[&[9], &[8, -9], &[-1, -2, 3], &[-2, 4], &[-3, -4, -8]],
         decisions: &[1, 2],
@@ -178,7 +180,8 @@ fn decide(db: &mut ClauseDb, decisions: &[i32]) -> Result<(), Fail> {
     Ok(())
 }
 
-/// Propagates, and learns a clause at the one that is false. The answer is whether one of nine variables is, above level 0.
+/// Propagates, and learns a clause at the one that is false. The answer is whether one of nine variables is, above
+/// level 0.
 fn analysed(walker: &mut Walker, db: &mut ClauseDb) -> Result<bool, AllocError>
     requires { walker.old.vars ≡ 9 }
     ensures { walker.new.vars ≡ 9 }

@@ -1,4 +1,5 @@
-//! One solver that is asked again and again: what it answers each time, worked out by hand, and its log, which a checker takes whole.
+//! One solver that is asked again and again: what it answers each time, worked out by hand, and its log, which a
+//! checker takes whole.
 
 ghost use Rattle.std.specs.Prelude.{◌≡◌, ◌≤◌, ◌^◌};
 ghost use Rattle.order_ints.specs.Place.{InRange};
@@ -19,7 +20,8 @@ type Ask = (i32, u64, &'static str);
 type Row = (u32, &'static [&'static [i32]], &'static [Ask]);
 
 static ROWS: [Row; 5] = [
-    // Behind each answer each other one: what was learned under one assumption serves the next, and no clause comes twice.
+    // Behind each answer each other one: what was learned under one assumption serves the next, and no clause comes
+    // twice.
     (
         2,
         &[&[-1, 2], &[-1, -2]],
@@ -36,7 +38,8 @@ static ROWS: [Row; 5] = [
             (1, u64::MAX, "refuted by 3\n"),
         ],
     ),
-    // The last clause meets the budget, and stays the answer whatever is assumed; what denies an assumption is told at once.
+    // The last clause meets the budget, and stays the answer whatever is assumed; what denies an assumption is told at
+    // once.
     (
         2,
         &[&[1, 2], &[1, -2], &[-1, 2], &[-1, -2]],
@@ -85,7 +88,8 @@ static ROWS: [Row; 5] = [
     ),
 ];
 
-/// Asks a solver of so many variables; the answer is none where the variable isn't there, or more clauses were added than the budget has.
+/// Asks a solver of so many variables; the answer is none where the variable isn't there, or more clauses were added
+/// than the budget has.
 pub(super) fn asked(
     solver: &mut Solver<'_>,
     vars: u32,

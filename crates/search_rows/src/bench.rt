@@ -120,8 +120,8 @@ impl Bench {
         Ok(Some(id_of(&self.db, found)))
     }
 
-    /// Makes a move where it may be made, in the store and beside it, and compares both. The answer is the id of a clause that is
-    /// false, 0 for none; none where the move may not be made.
+    /// Makes a move where it may be made, in the store and beside it, and compares both. The answer is the id of a
+    /// clause that is false, 0 for none; none where the move may not be made.
     pub(super) fn play(&mut self, alloc: Global, step: Move<'_>) -> Result<Option<u64>, Fail> {
         let answer = match step {
             Move::Add(id, numbers) => self.add(alloc, id, numbers)?,

@@ -8,8 +8,8 @@ use std::alloc::{AllocError, Global};
 use std::process::Abort;
 use std::test::Fail;
 
-/// A move, the id of the clause that is false, 0 for none, the level, and the literals that are true, each with its level and the id
-/// of its reason, 0 for none.
+/// A move, the id of the clause that is false, 0 for none, the level, and the literals that are true, each with its
+/// level and the id of its reason, 0 for none.
 type Row = (Move<'static>, u64, u32, &'static [(i32, u32, u64)]);
 
 /// Clauses that come and go at any level.
@@ -199,7 +199,8 @@ fn delete_half(db: &mut ClauseDb) {
     }
 }
 
-/// Many clauses come, half of them go, and half as many come. The answer is the references before and after, and the room in between.
+/// Many clauses come, half of them go, and half as many come. The answer is the references before and after, and the
+/// room in between.
 fn references_and_room(db: &mut ClauseDb) -> Result<(u32, u32, u32), Fail> {
     come(db, 1..MANY + 1)?;
     let before = db.references();

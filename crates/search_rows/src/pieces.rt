@@ -1,4 +1,5 @@
-//! One long search in pieces: a solver whose budget is met again and again. Where its log first deletes clauses is counted by hand.
+//! One long search in pieces: a solver whose budget is met again and again. Where its log first deletes clauses is
+//! counted by hand.
 
 ghost use Rattle.std.specs.Prelude.{◌≡◌, ◌≤◌, ◌^◌, IfOk};
 ghost use Rattle.order_ints.specs.Place.{InRange};
@@ -68,9 +69,10 @@ fn pigeons(alloc: Global) -> Result<Cnf, Fail>
     cnf_of(42, clauses)
 }
 
-/// How many calls there are and how many clauses each one may add, how many one more call may, the number of an assumption, 0 for none,
-/// and behind how many additions the first clause is deleted. A call restarts behind 64 additions of its own, and then behind 64, 128, 64,
-/// 64 and 128 more; at the first restart behind 300 conflicts some clauses go.
+/// How many calls there are and how many clauses each one may add, how many one more call may, the number of an
+/// assumption, 0 for none, and behind how many additions the first clause is deleted. A call restarts behind 64
+/// additions of its own, and then behind 64, 128, 64, 64 and 128 more; at the first restart behind 300 conflicts some
+/// clauses go.
 type Row = (u64, u64, u64, i32, Option<usize>);
 
 static ROWS: [Row; 7] = [
@@ -129,7 +131,8 @@ fn is_refuted(alloc: Global, cnf: &Cnf, solver: &mut Solver<'_>) -> Result<bool,
     Ok(matches!(last, Some(Found::Refuted(_))) && are_taken(alloc, cnf, solver.log())?)
 }
 
-/// Asks in pieces, and then to the end. The answer is behind how many lines the log first deletes, where it does so in the pieces.
+/// Asks in pieces, and then to the end. The answer is behind how many lines the log first deletes, where it does so in
+/// the pieces.
 fn pieces_row(alloc: Global, cnf: &Cnf, row: Row) -> Result<Option<usize>, Fail>
     requires vars { cnf.now.vars ≡ 42 }
     requires in_range { InRange cnf.now }

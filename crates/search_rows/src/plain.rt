@@ -49,8 +49,8 @@ pub(super) fn clause(known: &[Known], at: Option<ClauseRef>) -> Option<&Known> {
     known.iter().find(|clause| Some(clause.at) == at)
 }
 
-/// Takes over what was made true: literals by clauses that were unit for them, and then one that was decided. The answer is whether it
-/// was so.
+/// Takes over what was made true: literals by clauses that were unit for them, and then one that was decided. The
+/// answer is whether it was so.
 pub(super) fn follow(
     db: &ClauseDb,
     known: &[Known],

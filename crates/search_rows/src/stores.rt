@@ -1,4 +1,5 @@
-//! What may be done to a clause store: each condition of a call is tested, and the call is left out where one doesn't hold.
+//! What may be done to a clause store: each condition of a call is tested, and the call is left out where one doesn't
+//! hold.
 
 ghost use Rattle.std.specs.Prelude.{◌≡◌, ◌+◌, ◌≤◌, ◌<◌, IsTrue, IfSome, None, length};
 ghost use Rattle.order_ints.specs.Place.{LitBelow};
@@ -115,8 +116,8 @@ pub(super) fn back(db: &mut ClauseDb, level: u32) -> bool {
     true
 }
 
-/// Propagates, and begins a level with a literal, if one is given that is free and no clause is false. The answer is the clause that is
-/// false, and the literal that began a level.
+/// Propagates, and begins a level with a literal, if one is given that is free and no clause is false. The answer is
+/// the clause that is false, and the literal that began a level.
 pub(super) fn propagate(db: &mut ClauseDb, next: Option<Lit>) -> (Option<ClauseRef>, Option<Lit>) {
     match (db.propagate(), next) {
         (None, Some(l)) if is_free(db, l) => {

@@ -14,7 +14,8 @@ use order_ints::{Cnf, Lit};
 use std::alloc::{AllocError, Global};
 use std::test::Fail;
 
-/// Whether a valuation, a digit for each variable, satisfies clauses of literals' numbers and one more literal, 0 for none.
+/// Whether a valuation, a digit for each variable, satisfies clauses of literals' numbers and one more literal, 0 for
+/// none.
 fn is_model(clauses: &[Vec<i32>], values: u32, assumption: i32) -> bool {
     let holds = |number: i32| {
         let digit = 1u32.wrapping_shl(number.unsigned_abs().wrapping_sub(1));
@@ -66,7 +67,8 @@ fn answered(
     }
 }
 
-/// Asks for no assumption, and for each literal of a small CNF, those of variable 1 alone of others, with or without restarts.
+/// Asks for no assumption, and for each literal of a small CNF, those of variable 1 alone of others, with or without
+/// restarts.
 fn valuations_row(alloc: Global, cnf: &Cnf, clauses: &[Vec<i32>], restart: bool) -> Result<(), Fail>
     requires vars { cnf.now.vars ≤ 2 ^ 27 }
     requires in_range { InRange cnf.now }

@@ -1,4 +1,5 @@
--- The answer to the model that a text says.
+-- The answer to the model that a text holds. Which text holds which model is a parameter: that of a model says it, and
+-- that of a pseudo-Boolean file stands for one.
 use Rattle.std.specs.Prelude.{◌≡◌, ℕ, ◌≤◌, List, length, Option}
 use Rattle.model_meaning.specs.declared.model.Model.{Model}
 use Rattle.bee_compile.specs.Compiled.{IsInstance}
@@ -30,14 +31,24 @@ pub record IsAnswerText (options : Options) (model : Model) (outcome : Outcome) 
   pub writes : written ≡ document_text model.decls model.goal document
   pub outcome_is : outcome ≡ outcome_of document.verdict
 
--- the text of an answer to the model that a text says
-pub record Answers (options : Options) (text : List ℕ) (outcome : Outcome) (written : List ℕ) : Type 0 where
+-- the text of an answer to the model that a text holds
+pub record AnswersHeld (Holds : List ℕ → Model
+    → Type 0) (options : Options) (text : List ℕ) (outcome : Outcome) (written : List ℕ) : Type 0 where
   pub model : Model
-  pub held : HoldsModel text model
+  pub held : Holds text model
   pub is : IsAnswerText options model outcome written
 
--- The text that was read is within the limit and says a model without fault, and the written text is that of an answer to the model: it is
--- valid (`is.is.valid`), and what it says is true.
-pub record IsSolved (options : Options) (text : List ℕ) (outcome : Outcome) (written : List ℕ) : Type 0 where
-  pub answer : Answers options text outcome written
+-- The text that was read holds a model, and the written text is that of an answer to the model: it is valid
+-- (`is.is.valid`), and what it says is true.
+pub record IsSolvedHeld (Holds : List ℕ → Model
+    → Type 0) (options : Options) (text : List ℕ) (outcome : Outcome) (written : List ℕ) : Type 0 where
+  pub answer : AnswersHeld Holds options text outcome written
   pub true_claims : Claims answer.model answer.is.document.verdict (numbers_given answer.is.document.assignment)
+
+-- The same of a text within the limit that says a model without fault.
+
+abbrev pub Answers : Options → List ℕ → Outcome → List ℕ → Type 0
+Answers = AnswersHeld HoldsModel
+
+abbrev pub IsSolved : Options → List ℕ → Outcome → List ℕ → Type 0
+IsSolved = IsSolvedHeld HoldsModel

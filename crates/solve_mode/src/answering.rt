@@ -50,9 +50,11 @@ fn answer_with<L: Ledger>(
     requires parts { blank.parts ≡ L.parts }
     requires some { 0 < L.parts }
     ensures light { IfOk result (λ a. weight_of model ≤ most_weight) }
-    ensures answer { IfOk result (λ a. (before after : ℕ) × IsAnswer IsInstance model options a.document before after) }
+    ensures answer { IfOk result (λ a. (before after : ℕ)
+        × IsAnswer IsInstance model options a.document before after) }
     ensures decls { IfOk result (λ a. a.decls ≡ model.decls) }
-    ensures size { IfOk result (λ a. (last : Kernel) → IsCompilation IsInstance (start_of model) a.document.ledger last
+    ensures size { IfOk result (λ a. (last : Kernel)
+        → IsCompilation IsInstance (start_of model) a.document.ledger last
         → a.size ≡ size_of (cnf_of last)) }
     ensures heavy { IfErr result (λ e. IsFaultOf e model) }
 {
@@ -70,11 +72,13 @@ pub fn answer_model(
     requires limits { InLimits model }
     requires budget { IsBudget options.budget }
     ensures light { IfOk result (λ a. weight_of model ≤ most_weight) }
-    ensures answer { IfOk result (λ a. (before after : ℕ) × IsAnswer IsInstance model options a.document before after) }
+    ensures answer { IfOk result (λ a. (before after : ℕ)
+        × IsAnswer IsInstance model options a.document before after) }
     ensures decls { IfOk result (λ a. a.decls ≡ model.decls) }
 
     // The size is that of the CNF of the state to which the ledger leads.
-    ensures size { IfOk result (λ a. (last : Kernel) → IsCompilation IsInstance (start_of model) a.document.ledger last
+    ensures size { IfOk result (λ a. (last : Kernel)
+        → IsCompilation IsInstance (start_of model) a.document.ledger last
         → a.size ≡ size_of (cnf_of last)) }
     ensures heavy { IfErr result (λ e. IsFaultOf e model) }
 {

@@ -11,7 +11,9 @@
 //! the budget is as great as a stated number of the model's size.
 //!
 //! `answer_model` opens the counter of questions and is used by `queens_mode`, too; `outcome_of`
-//! says which verdicts are `Done`.
+//! says which verdicts are `Done`. `write_answer` and the record are shared with `opb_mode`, whose
+//! texts stand for models in another way: which text holds which model is a parameter of the record
+//! (`SolveRun`).
 #![tactic(auto)]
 
 mod answering;
@@ -19,4 +21,5 @@ mod making;
 mod mode;
 
 pub use answering::{answer_model, outcome_of};
+pub use making::write_answer;
 pub use mode::solve;

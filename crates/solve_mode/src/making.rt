@@ -19,8 +19,8 @@ use model_texts::{ModelTextFault, lower_fault, model_of};
 use std::alloc::{AllocError, Global};
 use text_modes::Outcome;
 
-/// The text of the answer to a model.
-fn write_answer(
+/// The text of the answer to a model, with what its verdict says of the run.
+pub fn write_answer(
     alloc: Global,
     model: Model,
     options: Options,

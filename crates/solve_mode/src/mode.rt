@@ -60,8 +60,8 @@ impl OneText for Solving {
     }
 }
 
-/// Reads the text of a model, seeks an answer to it, makes the whole text of that, and then writes it. The end tells whether the
-/// budget was spent.
+/// Reads the text of a model, seeks an answer to it, makes the whole text of that, and then writes it. The end tells
+/// whether the budget was spent.
 pub fn solve<S: Shelf, O: Sink>(
     alloc: Global,
     input: &str,

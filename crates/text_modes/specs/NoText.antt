@@ -1,4 +1,5 @@
--- What a run promises in a mode that reads no text. The mode gives one relation: the text that is written, with its outcome.
+-- What a run promises in a mode that reads no text. The mode gives one relation: the text that is written, with its
+-- outcome.
 use Rattle.std.specs.Prelude.{◌≡◌, ℕ, List}
 use Rattle.text_modes.specs.Seen.{ShelfShown, SinkShown, Seen}
 use Rattle.text_modes.specs.Ends.{IsSilent, count_written}

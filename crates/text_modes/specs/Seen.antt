@@ -1,8 +1,8 @@
 -- What the outside shows of a run.
 use Rattle.std.specs.Prelude.{◌≡◌, ℕ, List, Option}
 
--- What a shelf shows at one moment: the bytes left under each name, and the faults under it. It speaks of every name, so that a
--- mode with two names says of each what it promises, also where both are one.
+-- What a shelf shows at one moment: the bytes left under each name, and the faults under it. It speaks of every name,
+-- so that a mode with two names says of each what it promises, also where both are one.
 pub record ShelfShown : Type 0 where
   pub left : List ℕ → Option (List ℕ)
   pub faults : List ℕ → ℕ
@@ -26,10 +26,12 @@ pub record Untouched (seen : Seen) : Type 0 where
   pub out : seen.out_after ≡ seen.out_before
 
 -- by the meanings of a shelf, and by those of a sink
-abbrev pub shelf_shown : {S : Type 0} → (S → List ℕ → Option (List ℕ)) → (S → List ℕ → ℕ) → S → ShelfShown
+abbrev pub shelf_shown : {S : Type 0} → (S → List ℕ → Option (List ℕ)) → (S → List ℕ → ℕ) → S
+    → ShelfShown
 shelf_shown left faults shelf = record { left = left shelf; faults = faults shelf }
 
-abbrev pub sink_shown : {O : Type 0} → (O → Option (List ℕ)) → (O → Option ℕ) → (O → ℕ) → O → SinkShown
+abbrev pub sink_shown : {O : Type 0} → (O → Option (List ℕ)) → (O → Option ℕ) → (O → ℕ) → O
+    → SinkShown
 sink_shown taken flushed faults sink = record { taken = taken sink; flushed = flushed sink; faults = faults sink }
 
 -- a shelf and a sink before a run and after it

@@ -20,8 +20,8 @@ pub trait NoText {
         ensures { IfOk result (λ made. gives self.now made.0 made.1.items) };
 }
 
-/// Makes the whole text that is written, and then writes it. The shelf isn't asked for anything, so it shows the same after the
-/// run as before it, whatever that is.
+/// Makes the whole text that is written, and then writes it. The shelf isn't asked for anything, so it shows the same
+/// after the run as before it, whatever that is.
 pub fn run_none<F, M: NoText, O: Sink>(alloc: Global, mode: &M, out: &mut O) -> End<F>
     ensures { (shelf : ShelfShown) → NoTextRun (M.gives mode.now) result
         (unread shelf (sink_shown O.taken O.flushed O.faults out.old) (sink_shown O.taken O.flushed O.faults out.new)) }

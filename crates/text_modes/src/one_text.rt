@@ -10,8 +10,9 @@ use crate::ends::{End, Made};
 use bee_outside::{Failed, ReadText, Shelf, ShelfFault, Sink, read_all, write_all};
 use std::alloc::{AllocError, Global};
 
-/// A mode that reads one text, and writes another one for it. It has three meanings: how many bytes are read at most, so that a
-/// text that has so many is too long; which text is written for which text, with which outcome; and which fault a text has.
+/// A mode that reads one text, and writes another one for it. It has three meanings: how many bytes are read at most,
+/// so that a text that has so many is too long; which text is written for which text, with which outcome; and which
+/// fault a text has.
 pub trait OneText {
     ghost use Rattle.std.specs.Prelude.{ℕ, List, Option};
     ghost use Rattle.text_modes.specs.declared.ends.Outcome.{Outcome};
@@ -31,7 +32,8 @@ pub trait OneText {
 
     /// The fault of a text that has so many bytes; where there is no limit, any.
     fn too_long(&self) -> Self::Fault
-        ensures { (n : ℕ) (text : List ℕ) → most self.now ≡ Some n → n ≤ length text → has_fault self.now text result };
+        ensures { (n : ℕ) (text : List ℕ) → most self.now ≡ Some n → n ≤ length text
+            → has_fault self.now text result };
 
     /// The text that is written for one, or its fault.
     fn make(&self, alloc: Global, text: &[u8]) -> Result<Made<Self::Fault>, AllocError>
@@ -69,7 +71,8 @@ pub fn run_one<M: OneText, S: Shelf, O: Sink>(
     out: &mut O,
 ) -> End<M::Fault>
     ensures { OneTextRun (M.most mode.now) (M.gives mode.now) (M.has_fault mode.now) input.now result
-        (seen (shelf_shown S.left S.faults) (sink_shown O.taken O.flushed O.faults) shelf.old shelf.new out.old out.new) }
+        (seen (shelf_shown S.left S.faults) (sink_shown O.taken O.flushed O.faults) shelf.old shelf.new out.old
+        out.new) }
 {
     let text = match read_all(alloc, shelf, input, mode.limit()) {
         Ok(ReadText::Whole(text)) => text,

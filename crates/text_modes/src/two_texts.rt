@@ -10,9 +10,9 @@ use crate::whole_text::read_whole;
 use bee_outside::{Failed, ReadText, Shelf, ShelfFault, Sink, read_all, write_all};
 use std::alloc::{AllocError, Global};
 
-/// A mode that reads two texts, and writes a third one for them. It has four meanings: how many bytes of the first are read at most,
-/// so that a text that has so many is too long; what the first one holds; which fault it has; and which text is written
-/// for which two, with which outcome.
+/// A mode that reads two texts, and writes a third one for them. It has four meanings: how many bytes of the first are
+/// read at most, so that a text that has so many is too long; what the first one holds; which fault it has; and which
+/// text is written for which two, with which outcome.
 pub trait TwoTexts {
     ghost use Rattle.std.specs.Prelude.{ℕ, List, Option};
     ghost use Rattle.text_modes.specs.declared.ends.Outcome.{Outcome};
@@ -38,7 +38,8 @@ pub trait TwoTexts {
 
     /// The fault of a text that has so many bytes; where there is no limit, any.
     fn too_long(&self) -> Self::Fault
-        ensures { (n : ℕ) (text : List ℕ) → most self.now ≡ Some n → n ≤ length text → has_fault self.now text result };
+        ensures { (n : ℕ) (text : List ℕ) → most self.now ≡ Some n → n ≤ length text
+            → has_fault self.now text result };
 
     /// What the first text holds, or its fault.
     fn judge(
@@ -57,7 +58,8 @@ pub trait TwoTexts {
         second: &[u8],
     ) -> Result<(Outcome, Vec<u8>), AllocError>
         requires { (first : List ℕ) × holds self.now first held }
-        ensures { IfOk result (λ made. GivesBehind (holds self.now) (gives self.now) held second.now made.0 made.1.items) };
+        ensures { IfOk result
+            (λ made. GivesBehind (holds self.now) (gives self.now) held second.now made.0 made.1.items) };
 }
 
 /// Reads the first text, judges it, and lets its bytes go.
@@ -107,9 +109,9 @@ fn write_made<M: TwoTexts, O: Sink>(
     }
 }
 
-/// Reads the first text and judges it, reads the second one, makes the whole text that is written for them, and then writes
-/// that. Where both have one name, the second text is what the reading of the first left: on a shelf that tells its
-/// bytes, nothing, if it was read to its end.
+/// Reads the first text and judges it, reads the second one, makes the whole text that is written for them, and then
+/// writes that. Where both have one name, the second text is what the reading of the first left: on a shelf that tells
+/// its bytes, nothing, if it was read to its end.
 pub fn run_two<M: TwoTexts, S: Shelf, O: Sink>(
     alloc: Global,
     mode: &M,
@@ -118,8 +120,10 @@ pub fn run_two<M: TwoTexts, S: Shelf, O: Sink>(
     shelf: &mut S,
     out: &mut O,
 ) -> End<M::Fault>
-    ensures { TwoTextRun (M.most mode.now) (HoldsSome (M.holds mode.now)) (M.gives mode.now) (M.has_fault mode.now) input.now second.now result
-        (seen (shelf_shown S.left S.faults) (sink_shown O.taken O.flushed O.faults) shelf.old shelf.new out.old out.new) }
+    ensures { TwoTextRun (M.most mode.now) (HoldsSome (M.holds mode.now)) (M.gives mode.now) (M.has_fault mode.now)
+        input.now second.now result
+        (seen (shelf_shown S.left S.faults) (sink_shown O.taken O.flushed O.faults) shelf.old shelf.new out.old
+        out.new) }
 {
     let held = match read_first(alloc, mode, input, shelf) {
         Ok(held) => held,

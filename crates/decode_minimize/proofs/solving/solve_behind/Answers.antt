@@ -4,32 +4,32 @@ use Rattle.order_ints.specs.declared.cnf.Cnf.{Cnf}
 use Rattle.learning_solver.specs.Log.{additions}
 use Rattle.decode_minimize.specs.Rounds.{AreSatisfying}
 use Rattle.decode_minimize.specs.Solved.{IsSolvable, IsSeekable}
-use Rattle.decode_minimize.proofs.Makings.{found-fits, settled-is, settled-solvable, settled-satisfying, settled-seekable, both-made}
+use Rattle.decode_minimize.proofs.Makings.{found-fits, fixed-is, fixed-solvable, fixed-satisfying, fixed-seekable, both-made}
 use Rattle.decode_minimize.proofs.solving.solve_behind.Goals as goal
 
 pub rounds_behind-requires-clause-solvable : goal.rounds_behind-requires-clause-solvable
 rounds_behind-requires-clause-solvable c =
-    let made = settled-is c.args.cnf c.args.sought.now c.args.options c.args.progress c.requires.seekable c.requires.progress c.in_ok-cnf.cnf c.no_worse_of-settled.result c.resolve.result c.in_ok-cnf.ensures
-    c.resolve.ensures c.no_worse_of-settled.ensures in
-    subst IsSolvable (sym made) (settled-solvable c.args.cnf c.args.sought.now c.args.options c.args.progress c.requires.seekable c.requires.progress c.requires.problem.solvable)
+    let made = fixed-is c.args.cnf c.args.sought.now c.args.options c.args.progress c.requires.seekable c.requires.progress c.in_ok-cnf.cnf c.no_worse_of-fixed.result c.resolve.result c.in_ok-cnf.ensures
+    c.resolve.ensures c.no_worse_of-fixed.ensures in
+    subst IsSolvable (sym made) (fixed-solvable c.args.cnf c.args.sought.now c.args.options c.args.progress c.requires.seekable c.requires.progress c.requires.problem.solvable)
 
 pub rounds_behind-requires-clause-seekable : goal.rounds_behind-requires-clause-seekable
 rounds_behind-requires-clause-seekable c =
-    let made = settled-is c.args.cnf c.args.sought.now c.args.options c.args.progress c.requires.seekable c.requires.progress c.in_ok-cnf.cnf c.no_worse_of-settled.result c.resolve.result c.in_ok-cnf.ensures
-    c.resolve.ensures c.no_worse_of-settled.ensures in
+    let made = fixed-is c.args.cnf c.args.sought.now c.args.options c.args.progress c.requires.seekable c.requires.progress c.in_ok-cnf.cnf c.no_worse_of-fixed.result c.resolve.result c.in_ok-cnf.ensures
+    c.resolve.ensures c.no_worse_of-fixed.ensures in
     subst (λ (f : Cnf). IsSeekable f c.args.behind.now) (sym made)
-    (settled-seekable c.args.cnf c.args.sought.now c.args.options c.args.progress c.requires.seekable c.requires.progress c.args.behind.now c.requires.seekable_behind)
+    (fixed-seekable c.args.cnf c.args.sought.now c.args.options c.args.progress c.requires.seekable c.requires.progress c.args.behind.now c.requires.seekable_behind)
 
 pub rounds_behind-requires-clause-satisfying : goal.rounds_behind-requires-clause-satisfying
 rounds_behind-requires-clause-satisfying c =
-    let made = settled-is c.args.cnf c.args.sought.now c.args.options c.args.progress c.requires.seekable c.requires.progress c.in_ok-cnf.cnf c.no_worse_of-settled.result c.resolve.result c.in_ok-cnf.ensures
-    c.resolve.ensures c.no_worse_of-settled.ensures in
-    subst (λ (f : Cnf). AreSatisfying f c.args.progress.best.values) (sym made) (settled-satisfying c.args.cnf c.args.sought.now c.args.options c.args.progress c.requires.seekable c.requires.progress)
+    let made = fixed-is c.args.cnf c.args.sought.now c.args.options c.args.progress c.requires.seekable c.requires.progress c.in_ok-cnf.cnf c.no_worse_of-fixed.result c.resolve.result c.in_ok-cnf.ensures
+    c.resolve.ensures c.no_worse_of-fixed.ensures in
+    subst (λ (f : Cnf). AreSatisfying f c.args.progress.best.values) (sym made) (fixed-satisfying c.args.cnf c.args.sought.now c.args.options c.args.progress c.requires.seekable c.requires.progress)
 
 pub returns : goal.returns
 returns c =
-    let made = settled-is c.args.cnf c.args.sought.now c.args.options c.args.progress c.requires.seekable c.requires.progress c.in_ok-cnf.cnf c.no_worse_of-settled.result c.resolve.result c.in_ok-cnf.ensures
-    c.resolve.ensures c.no_worse_of-settled.ensures in
+    let made = fixed-is c.args.cnf c.args.sought.now c.args.options c.args.progress c.requires.seekable c.requires.progress c.in_ok-cnf.cnf c.no_worse_of-fixed.result c.resolve.result c.in_ok-cnf.ensures
+    c.resolve.ensures c.no_worse_of-fixed.ensures in
     let fits = found-fits c.args.cnf c.args.sought.now c.args.options c.args.progress c.requires.seekable c.requires.progress in
     let count : c.additions.result ≡ additions c.args.progress.proof.lines = c.additions.ensures ∙ ap additions c.lines.ensures in
     both-made c.args.names.now c.args.cnf c.in_ok-cnf.cnf c.args.sought.now c.args.behind.now c.args.options (record { budget = c.args.options.budget - c.additions.result; restart = c.args.options.restart })

@@ -4,7 +4,7 @@ use Rattle.drup_check.proofs.Checked.{Checked}
 use Rattle.drup_check.proofs.check.first_refused.Given as goal
 
 abbrev pub invariant-loop-line : goal.invariant-loop-line
-invariant-loop-line l = Checked l.cnf l.text l.rest l.read l.store.refuted l.store.db
+invariant-loop-line l = Checked l.cnf l.text l.rest l.read l.store.refuted l.store.tiers
 
 abbrev pub decreases-loop-line : goal.decreases-loop-line
 decreases-loop-line l = length (closed l.rest)

@@ -4,12 +4,15 @@ use Rattle.literal_trail.specs.Trail.{Trail}
 use Rattle.clause_arena.specs.Clauses.{Clause}
 use Rattle.clause_rings.specs.Clauses.{ClauseLists, IsComplete}
 use Rattle.drup_check.proofs.Permuted.{complete-same}
-use Rattle.drup_check.proofs.Rups.{shown-by, trail-same}
+use Rattle.drup_check.proofs.Rups.{shown-sound, shown-all, trail-same}
 use Rattle.drup_check.proofs.shown.is_shown.Goals as goal
 
+pub returns-clause-sound : goal.returns-clause-sound
+returns-clause-sound c =
+    shown-sound c.args.db.now c.deny_all-shown.new.db c.args.lits.now c.requires.bottom c.vars-vars.ensures.db c.deny_all-shown.ensures.denying c.deny_all-shown.ensures.db c.deny_all-shown.result c.deny_all-shown.ensures.denied
+
 pub returns-clause-shown : goal.returns-clause-shown
-returns-clause-shown c =
-    shown-by c.args.db.now c.deny_all-shown.new.db c.args.lits.now c.requires.bottom c.vars-vars.ensures.db c.deny_all-shown.ensures.denying c.deny_all-shown.ensures.db c.deny_all-shown.result c.deny_all-shown.ensures.denied
+returns-clause-shown c = shown-all c.args.db.now c.deny_all-shown.new.db c.args.lits.now c.deny_all-shown.ensures.denying c.deny_all-shown.result c.deny_all-shown.ensures.denied
 
 pub returns-clause-trail : goal.returns-clause-trail
 returns-clause-trail c =

@@ -1,20 +1,35 @@
-use Rattle.std.proofs.Common.{◌+◌, sym, subst}
-use Rattle.order_ints.specs.Place.{LitBelow}
-use Rattle.literal_trail.specs.Trail.{Trail}
-use Rattle.drup_check.proofs.Started.{any-shown, not-shown, shown-kept}
+use Rattle.std.proofs.Common.{subst}
+use Rattle.drup_check.specs.Standing.{IsTried}
+use Rattle.drup_check.specs.declared.tiers.Trial.{Trial}
+use Rattle.drup_check.proofs.Started.{any-shown, all-shown, still-stands}
 use Rattle.drup_check.proofs.store.ProofStore.take_clause.Goals as goal
 
 pub returns-then-self-clause-taken : goal.returns-then-self-clause-taken
-returns-then-self-clause-taken c = any-shown c.args.self.now.refuted c.args.self.now.db c.args.lits.now c.if-self.true
+returns-then-self-clause-taken c = any-shown c.args.self.now.refuted c.args.self.now.tiers c.args.lits.now c.if-self.true
 
-pub returns-then-not-is_shown-clause-taken : goal.returns-then-not-is_shown-clause-taken
-returns-then-not-is_shown-clause-taken c =
-    not-shown c.args.self.now.refuted c.is_shown.result c.args.self.now.db c.args.lits.now c.if-self.false c.if-not-is_shown.true c.is_shown.ensures.shown
+pub try_clause-requires-clause-stands : goal.try_clause-requires-clause-stands
+try_clause-requires-clause-stands c = (c.requires.stands.0, still-stands c.args.self.now.refuted c.args.self.now.tiers c.if-self.false c.requires.stands.0 c.requires.stands.1)
 
-pub keep-requires-clause-lits : goal.keep-requires-clause-lits
-keep-requires-clause-lits c = λ l has. subst (λ (t : Trail). LitBelow (t.vars + 1) l) (sym c.is_shown.ensures.trail) (c.requires.lits l has)
+pub keep-requires-clause-stands : goal.keep-requires-clause-stands
+keep-requires-clause-stands c =
+    let cs = c.requires.stands.0 in
+    let st = still-stands c.args.self.now.refuted c.args.self.now.tiers c.if-self.false cs c.requires.stands.1 in
+    let tried = subst (λ (t : Trial). IsTried t c.try_clause.new.self cs c.args.lits.now) c.in-Shown.is (c.in_ok-try_clause.ensures.tried cs st) in
+    (cs, tried.1)
 
-pub returns-clause-taken : goal.returns-clause-taken
-returns-clause-taken c =
-    shown-kept c.args.self.now.refuted c.is_shown.result c.in_ok-self.field-0 c.args.self.now.db c.is_shown.new.db c.keep.new.db c.args.lits.now c.if-self.false c.if-not-is_shown.false c.is_shown.ensures.shown c.is_shown.ensures.clauses
-    c.is_shown.ensures.trail c.is_shown.ensures.complete c.in_ok-self.ensures.stands
+pub returns-in-Missing-clause-taken : goal.returns-in-Missing-clause-taken
+returns-in-Missing-clause-taken c = λ cs st.
+    subst (λ (t : Trial). IsTried t c.try_clause.new.self cs c.args.lits.now) c.in-Missing.is
+    (c.in_ok-try_clause.ensures.tried cs (still-stands c.args.self.now.refuted c.args.self.now.tiers c.if-self.false cs st))
+
+pub returns-in-Refuted-clause-taken : goal.returns-in-Refuted-clause-taken
+returns-in-Refuted-clause-taken c = λ cs st.
+    all-shown cs c.args.lits.now
+    (subst (λ (t : Trial). IsTried t c.try_clause.new.self cs c.args.lits.now) c.in-Refuted.is
+    (c.in_ok-try_clause.ensures.tried cs (still-stands c.args.self.now.refuted c.args.self.now.tiers c.if-self.false cs st)))
+
+pub returns-in_ok-self-in-Shown-clause-taken : goal.returns-in_ok-self-in-Shown-clause-taken
+returns-in_ok-self-in-Shown-clause-taken c = λ cs st.
+    let tried = subst (λ (t : Trial). IsTried t c.try_clause.new.self cs c.args.lits.now) c.in-Shown.is
+    (c.in_ok-try_clause.ensures.tried cs (still-stands c.args.self.now.refuted c.args.self.now.tiers c.if-self.false cs st)) in
+    (tried.0, c.in_ok-self-in-Shown.ensures.stands cs tried.1)

@@ -9,6 +9,6 @@ pub returns-else-is_word-clause-taken : goal.returns-else-is_word-clause-taken
 returns-else-is_word-clause-taken c =
     IfOk-weaker c.take_said.result _ _
     (λ taken h.
-    line-taken c.args.self.now.db.trail.vars c.args.line.now c.in-Some.first.now (words_of c.in-Some.behind.now) c.in-Some.ensures.words (λ e. true≢false (sym (c.is_word.ensures.1 e) ∙ c.if-is_word.false))
-    c.args.self.now.refuted c.args.self.now.db c.take_said.new.self.refuted c.take_said.new.self.db taken h)
+    line-taken c.args.self.now.tiers.db.trail.vars c.args.line.now c.in-Some.first.now (words_of c.in-Some.behind.now) c.in-Some.ensures.words (λ e. true≢false (sym (c.is_word.ensures.1 e) ∙ c.if-is_word.false))
+    c.args.self.now.refuted c.args.self.now.tiers c.take_said.new.self.refuted c.take_said.new.self.tiers taken h)
     c.take_said.ensures.taken

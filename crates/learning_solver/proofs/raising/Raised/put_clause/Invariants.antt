@@ -1,4 +1,0 @@
-use Rattle.learning_solver.proofs.raising.Raised.put_clause.Given as goal
-
-abbrev pub invariant-loop-place : goal.invariant-loop-place
-invariant-loop-place l = Unit {0}

@@ -1,0 +1,5 @@
+pub mod Models
+pub mod Items
+pub mod Written
+pub mod Meaning
+pub mod Laws

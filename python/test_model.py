@@ -5,6 +5,7 @@ import os
 import random
 import re
 import stat
+import subprocess
 import tempfile
 import unittest
 from pathlib import Path
@@ -24,6 +25,13 @@ def line_here():
     """The file and the line that calls this."""
     frame = inspect.currentframe().f_back
     return f"{Path(frame.f_code.co_filename).name}:{frame.f_lineno}"
+
+
+def weighed(text):
+    """The lines that `bee weigh` writes of a text."""
+    words = [PROGRAM, "weigh", "stdin"]
+    ran = subprocess.run(words, input=text, capture_output=True, text=True, check=True)
+    return ran.stdout.splitlines()
 
 
 class Texts(unittest.TestCase):
@@ -156,6 +164,22 @@ class Weights(unittest.TestCase):
                     solve_text(f"{heavy}\n{model.text()}", program=PROGRAM)
                 weight = int(re.search(r"weight (\d+)", str(refused.exception))[1])
                 self.assertEqual(weight - 67_108_864, model.weight())
+
+    def test_items_weigh_what_the_program_says(self):
+        """`bee weigh` beside the layer's own weights, item by item, of light models and heavy ones."""
+        for at, generate in enumerate(test_constraints.GENERATORS):
+            case = generate(random.Random(at))
+            model = Model()
+            model.add(case.make(declare(model, case.domains)))
+            if at % 2:
+                model.int("heavy", 1, 22_369_623)
+            items = [(number, it.weight) for number, it in enumerate(model.written().items, 1)]
+            lines = [f"weight {model.weight()} of {weights.LIMIT}"] + [
+                f"item {number} {weight} {100 * weight // model.weight()}%"
+                for number, weight in sorted(items, key=lambda it: -it[1])[:10]
+            ]
+            with self.subTest(constraint=generate.__name__, round=at):
+                self.assertEqual(weighed(model.text()), lines)
 
     def test_a_heavy_model_is_refused_with_its_lines(self):
         model = Model()

@@ -3,7 +3,7 @@ use Rattle.std.proofs.Common.{◌≡◌, ℕ, List, Some, None, refl, sym, subst
 use Rattle.std.specs.Prelude.{Option, option_map}
 use Rattle.command_words.specs.declared.command.Command.{Command}
 use Rattle.command_words.specs.declared.command.Options.{Options as Words}
-use Rattle.command_words.specs.Request.{Request, Compile, Solve, Check, Decode, Queens, Sat, Drup, request_of}
+use Rattle.command_words.specs.Request.{Request, Compile, Weigh, Solve, Check, Decode, Queens, Sat, Drup, request_of}
 use Rattle.command_words.specs.Line.{request}
 use Rattle.command_words.specs.Limits.{KeepsLimits}
 use Rattle.command_words.proofs.RequestLimits.{requests_keep_limits}
@@ -11,6 +11,7 @@ use Rattle.text_modes.specs.Seen.{Seen, Untouched}
 use Rattle.text_modes.specs.declared.ends.End.{End}
 use Rattle.text_modes.specs.declared.ends.End.TheVariants as end
 use Rattle.compile_mode.proofs.Ends as compiling
+use Rattle.weigh_mode.proofs.Ends as weighing
 use Rattle.solve_mode.proofs.Ends as solving
 use Rattle.check_mode.proofs.Ends as checking
 use Rattle.decode_mode.proofs.Ends as decoding
@@ -29,6 +30,7 @@ use Rattle.bee_cli.specs.declared.status.Status.TheVariants.{Memory}
 pub unread : (request : Option Request) (seen : Seen) → Untouched seen → Obeys request Memory seen
 unread None seen same = same
 unread (Some (Compile input)) seen same = (end.Memory, refl, compiling.idle input seen same)
+unread (Some (Weigh input)) seen same = (end.Memory, refl, weighing.idle input seen same)
 unread (Some (Solve input options)) seen same = (end.Memory, refl, solving.idle (search_options options) input seen same)
 unread (Some (Check input second)) seen same = (end.Memory, refl, checking.idle input second seen same)
 unread (Some (Decode input second)) seen same = (end.Memory, refl, decoding.idle input second seen same)

@@ -1,9 +1,10 @@
 -- What a run promises, by what the words ask for.
 use Rattle.std.specs.Prelude.{◌≡◌, Bool, true, false, Option, Some}
 use Rattle.command_words.specs.declared.command.Options.{Options as Words}
-use Rattle.command_words.specs.Request.{Request, Compile, Solve, Check, Decode, Queens, Sat, Drup}
+use Rattle.command_words.specs.Request.{Request, Compile, Weigh, Solve, Check, Decode, Queens, Sat, Drup}
 use Rattle.text_modes.specs.Seen.{Seen, Untouched}
 use Rattle.compile_mode.specs.CompileMode.{CompileMode}
+use Rattle.weigh_mode.specs.WeighMode.{WeighMode}
 use Rattle.decode_minimize.specs.declared.options.Options.{Options}
 use Rattle.solve_mode.specs.SolveMode.{SolveMode}
 use Rattle.check_mode.specs.CheckMode.{CheckMode}
@@ -26,6 +27,7 @@ clause_options words = record { budget = words.budget; restart = words.restart }
 -- the words ask for a mode that is built
 abbrev pub is_built : Option Request → Bool
 is_built (Some (Compile input)) = true
+is_built (Some (Weigh input)) = true
 is_built (Some (Solve input options)) = true
 is_built (Some (Check input second)) = true
 is_built (Some (Decode input second)) = true
@@ -37,6 +39,7 @@ is_built request = false
 -- a mode that is built has one record of clauses, over the end of the run, of which the status tells
 abbrev pub Obeys : Option Request → Status → Seen → Type 0
 Obeys (Some (Compile input)) status seen = Ended model_fault (λ end. CompileMode input end seen) status
+Obeys (Some (Weigh input)) status seen = Ended model_fault (λ end. WeighMode input end seen) status
 Obeys (Some (Solve input options)) status seen = Ended model_fault (λ end. SolveMode (search_options options) input end seen) status
 Obeys (Some (Check input second)) status seen = Ended model_fault (λ end. CheckMode input second end seen) status
 Obeys (Some (Decode input second)) status seen = Ended cnf_fault (λ end. DecodeMode input second end seen) status

@@ -19,6 +19,7 @@ use queens_mode::queens;
 use sat_mode::{SearchOptions, sat};
 use solve_mode::solve;
 use std::alloc::{AllocError, Global};
+use weigh_mode::weigh;
 
 /// How an answer is sought, as the words say it.
 fn search_options(options: Options) -> decode_minimize::Options
@@ -55,6 +56,7 @@ fn obey<S: Shelf, O: Sink>(
 {
     match command {
         Command::Compile { input } => model_status(compile(alloc, input, shelf, out)),
+        Command::Weigh { input } => model_status(weigh(alloc, input, shelf, out)),
         Command::Solve { input, options } => {
             model_status(solve(alloc, input, search_options(*options), shelf, out))
         }

@@ -66,4 +66,6 @@ mod timetable_examples;
 #[cfg(test)]
 mod wanted;
 #[cfg(test)]
+mod weigh;
+#[cfg(test)]
 mod words;

@@ -18,6 +18,7 @@ fn words_of(alloc: Global, line: &str) -> Result<Vec<String>, AllocError> {
 fn mode_of<'a>(command: &Command<'a>) -> (&'static str, &'a str) {
     match *command {
         Command::Compile { input } => ("compile", input),
+        Command::Weigh { input } => ("weigh", input),
         Command::Solve { input, .. } => ("solve", input),
         Command::Check { input, .. } => ("check", input),
         Command::Decode { input, .. } => ("decode", input),
@@ -71,7 +72,7 @@ type Named = (
     Option<&'static str>,
 );
 
-static NAMES: [Named; 11] = [
+static NAMES: [Named; 12] = [
     ("bee compile m.bee", "compile", "m.bee", None),
     ("bee compile stdin --budget 5", "compile", "stdin", None),
     (
@@ -86,6 +87,7 @@ static NAMES: [Named; 11] = [
         "m.bee",
         None,
     ),
+    ("bee weigh m.bee", "weigh", "m.bee", None),
     ("bee solve m.bee", "solve", "m.bee", None),
     ("bee sat m.cnf", "sat", "m.cnf", None),
     ("bee check m.bee a.txt", "check", "m.bee", Some("a.txt")),

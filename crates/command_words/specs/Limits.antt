@@ -1,7 +1,7 @@
 -- What a command that the words ask for keeps to.
 use Rattle.std.specs.Prelude.{◌≡◌, ℕ, ◌≤◌, ◌<◌, ◌^◌, List, Some}
 use Rattle.clap.specs.Words.{Text}
-use Rattle.command_words.specs.Request.{Request, Compile, Solve, Check, Decode, Queens, Sat, Drup, OpbModel, Opb}
+use Rattle.command_words.specs.Request.{Request, Compile, Weigh, Solve, Check, Decode, Queens, Sat, Drup, OpbModel, Opb}
 use Rattle.command_words.specs.Line.{request}
 
 -- a budget is from 1 and below 2 ^ 63
@@ -11,6 +11,7 @@ IsBudget budget = (1 ≤ budget) × (budget < 2 ^ 63)
 -- the numbers of a command are in their limits
 abbrev pub KeepsLimits : Request → Type 0
 KeepsLimits (Compile input) = Unit {0}
+KeepsLimits (Weigh input) = Unit {0}
 KeepsLimits (Solve input options) = IsBudget options.budget
 KeepsLimits (Check input second) = Unit {0}
 KeepsLimits (Decode input second) = Unit {0}

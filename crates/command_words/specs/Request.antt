@@ -10,6 +10,7 @@ use Rattle.command_words.specs.Numeral.{number_within}
 -- a command, with its names as texts
 pub data Request : Type 0 where
   Compile : (input : Text) → Request
+  Weigh : (input : Text) → Request
   Solve : (input : Text) (options : Options) → Request
   Check : (input second : Text) → Request
   Decode : (input second : Text) → Request
@@ -21,6 +22,7 @@ pub data Request : Type 0 where
 
 abbrev pub request_of : Command → Request
 request_of (command.Compile input) = Compile input.now
+request_of (command.Weigh input) = Weigh input.now
 request_of (command.Solve input options) = Solve input.now options
 request_of (command.Check input second) = Check input.now second.now
 request_of (command.Decode input second) = Decode input.now second.now
@@ -66,6 +68,7 @@ queens_size value = option_and_then size_of (lone_input value)
 abbrev pub mode_requested : Option Text → (Text → Option Text) → Options → Option Request
 mode_requested mode value options =
     if is_word (codes "compile") mode then option_map Compile (lone_input value)
+    else if is_word (codes "weigh") mode then option_map Weigh (lone_input value)
     else if is_word (codes "solve") mode then option_map (λ input. Solve input options) (lone_input value)
     else if is_word (codes "check") mode then option_map (λ names. Check names.0 names.1) (both_inputs value)
     else if is_word (codes "decode") mode then option_map (λ names. Decode names.0 names.1) (both_inputs value)
@@ -76,7 +79,7 @@ mode_requested mode value options =
     else if is_word (codes "opb") mode then option_map (λ input. Opb input options) (lone_input value)
     else None
 
--- what the words ask for, by the values of words and options: `compile`, `solve`, `queens`, `sat`, `opbmodel` and `opb` with one
--- name or number, `check`, `decode` and `drup` with two names
+-- what the words ask for, by the values of words and options: `compile`, `weigh`, `solve`, `queens`, `sat`, `opbmodel`
+-- and `opb` with one name or number, `check`, `decode` and `drup` with two names
 abbrev pub requested : (Text → Option Text) → Option Request
 requested value = option_and_then (mode_requested (value (codes "mode")) value) (options_of value)

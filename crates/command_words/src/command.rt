@@ -18,6 +18,11 @@ pub enum Command<'a> {
         /// The name of the model's text.
         input: &'a str,
     },
+    /// The model is weighed.
+    Weigh {
+        /// The name of the model's text.
+        input: &'a str,
+    },
     /// The model is solved.
     Solve {
         /// The name of the model's text.

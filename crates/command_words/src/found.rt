@@ -67,6 +67,9 @@ pub fn found_command<'a>(matches: &ArgMatches<'a>) -> Option<Command<'a>>
     if is_word("compile", mode) {
         let input = lone_input(matches)?;
         Some(Command::Compile { input })
+    } else if is_word("weigh", mode) {
+        let input = lone_input(matches)?;
+        Some(Command::Weigh { input })
     } else if is_word("solve", mode) {
         let input = lone_input(matches)?;
         Some(Command::Solve { input, options })

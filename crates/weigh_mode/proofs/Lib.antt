@@ -1,0 +1,4 @@
+mod Sorting
+mod Walks
+pub mod Ends
+mod Answered

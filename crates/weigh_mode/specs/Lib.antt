@@ -1,0 +1,5 @@
+pub mod Heaviest
+pub mod Kept
+pub mod WeighingText
+pub mod WeighMode
+pub mod AnswerLaws

@@ -15,9 +15,11 @@
 //! It is the shortest mode over two texts: begin here to write a further one.
 #![tactic(auto)]
 
+mod fault;
 mod laws;
 mod making;
 mod mode;
 
+pub use fault::RefusedValues;
 pub use laws::answer_law;
 pub use mode::decode;

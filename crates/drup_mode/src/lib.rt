@@ -14,9 +14,11 @@
 //! What is written is made by `refusal` of `text_modes`, as in each mode that judges a second text.
 #![tactic(auto)]
 
+mod fault;
 mod laws;
 mod making;
 mod mode;
 
+pub use fault::RefusedProof;
 pub use laws::empty_law;
 pub use mode::drup;

@@ -68,10 +68,10 @@ impl TwoTexts for Checking<'_> {
     }
 }
 
-/// Reads the text of a model and judges it, and then reads the text of an answer and checks it; makes the line that tells
-/// what came of that, and then writes it. Where both have one name, the answer is what the reading of the model left: on a
-/// shelf that tells its bytes, nothing, which is refused at line 1. What stands against a line that is refused is put into
-/// the cell.
+/// Reads the text of a model and judges it, and then reads the text of an answer and checks it; makes the line that
+/// tells what came of that, and then writes it. Where both have one name, the answer is what the reading of the model
+/// left: on a shelf that tells its bytes, nothing, which is refused at line 1. What stands against a line that is
+/// refused is put into the cell.
 pub fn check<S: Shelf, O: Sink>(
     alloc: Global,
     input: &str,

@@ -11,8 +11,8 @@ use std::alloc::{AllocError, Global};
 use std::cell::Cell;
 use text_modes::{Outcome, refusal};
 
-/// What is written for a compiled text and an answer: the lines that tell the values of the names, or the line that tells
-/// which line of the answer fails first; what stands against that line is put into the cell.
+/// What is written for a compiled text and an answer: the lines that tell the values of the names, or the line that
+/// tells which line of the answer fails first; what stands against that line is put into the cell.
 pub(crate) fn decode_text(
     alloc: Global,
     held: &CnfText,

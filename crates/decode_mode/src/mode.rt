@@ -12,8 +12,8 @@ use std::alloc::{AllocError, Global};
 use std::cell::Cell;
 use text_modes::{End, Outcome, TwoTexts, run_two};
 
-/// A compiled text is read first, and then an answer. Its fault is the first line that fails. What stands against a line of
-/// the answer goes beside, into a cell, since no clause speaks of it.
+/// A compiled text is read first, and then an answer. Its fault is the first line that fails. What stands against a
+/// line of the answer goes beside, into a cell, since no clause speaks of it.
 #[derive(Drop)]
 struct Decoding<'a> {
     noted: &'a Cell<Option<RefusedValues>>,
@@ -64,10 +64,10 @@ impl TwoTexts for Decoding<'_> {
     }
 }
 
-/// Reads the compiled text whole, tests its form, and then does so with the answer; makes the whole text, and then writes it.
-/// The fault of the compiled text is the first line that fails. Where both have one name, the answer is what the
-/// reading of the compiled text left: on a shelf that tells its bytes, nothing. What stands against a line of the answer is
-/// put into the cell.
+/// Reads the compiled text whole, tests its form, and then does so with the answer; makes the whole text, and then
+/// writes it. The fault of the compiled text is the first line that fails. Where both have one name, the answer is
+/// what the reading of the compiled text left: on a shelf that tells its bytes, nothing. What stands against a line of
+/// the answer is put into the cell.
 pub fn decode<S: Shelf, O: Sink>(
     alloc: Global,
     input: &str,

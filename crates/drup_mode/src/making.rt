@@ -23,8 +23,8 @@ fn acceptance(alloc: Global) -> Result<Vec<u8>, AllocError>
     Ok(out)
 }
 
-/// What is written for a CNF and a proof: that it is valid, or the line that tells which line of it fails first; what stands
-/// against that line is put into the cell.
+/// What is written for a CNF and a proof: that it is valid, or the line that tells which line of it fails first; what
+/// stands against that line is put into the cell.
 pub(crate) fn check_text(
     alloc: Global,
     cnf: &Cnf,

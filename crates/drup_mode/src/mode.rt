@@ -12,8 +12,8 @@ use std::alloc::{AllocError, Global};
 use std::cell::Cell;
 use text_modes::{End, Outcome, TwoTexts, run_two};
 
-/// A CNF's text is read first, and then a proof. Its fault is that of the CNF's text. What stands against a line of the
-/// proof goes beside, into a cell, since no clause speaks of it.
+/// A CNF's text is read first, and then a proof. Its fault is that of the CNF's text. What stands against a line of
+/// the proof goes beside, into a cell, since no clause speaks of it.
 #[derive(Drop)]
 struct Proving<'a> {
     noted: &'a Cell<Option<RefusedProof>>,
@@ -63,10 +63,10 @@ impl TwoTexts for Proving<'_> {
     }
 }
 
-/// Reads a CNF's text, and then a proof, which may have any length, and checks it; makes the line that tells what came of that, and
-/// then writes it. Where both have one name, the proof is what the reading of the CNF left: on a shelf that tells its bytes,
-/// nothing, which is a proof exactly where the clauses show the empty one, and else is refused at line 1.
-/// What stands against a line of the proof is put into the cell.
+/// Reads a CNF's text, and then a proof, which may have any length, and checks it; makes the line that tells what came
+/// of that, and then writes it. Where both have one name, the proof is what the reading of the CNF left: on a shelf
+/// that tells its bytes, nothing, which is a proof exactly where the clauses show the empty one, and else is refused
+/// at line 1. What stands against a line of the proof is put into the cell.
 pub fn drup<S: Shelf, O: Sink>(
     alloc: Global,
     input: &str,

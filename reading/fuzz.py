@@ -57,7 +57,8 @@ class Trial:
         code = self.runs[number].wait(timeout=600)
         out, err = (open(self.path(f"{number}.{end}"), "rb").read() for end in ("out", "err"))
         self.want(code in codes, f"{mode} ended with {code}: {err[-300:]!r}")
-        self.want(not err, f"{mode} wrote on standard error: {err[:300]!r}")
+        # Where a line is refused, and only there, a line says why.
+        self.want(bool(err) == (code == 1), f"{mode} wrote on standard error: {err[:300]!r}")
         return out
 
     def stop(self):

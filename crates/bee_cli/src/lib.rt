@@ -21,6 +21,7 @@
 
 mod exit_code;
 mod laws;
+mod noting;
 mod reason;
 mod reporting;
 mod running;

@@ -1,5 +1,7 @@
 //! Why a line of a second text is refused, in words.
 
+use decode_mode::RefusedValues;
+use drup_mode::RefusedProof;
 use ledger_check::Why;
 use proof_check::ProofFault;
 use std::fmt;
@@ -11,18 +13,18 @@ use step_kernel::StepFault;
 pub enum Reason {
     /// What stands against a line of an answer.
     Answer(Why),
-    /// A solver's values end too early, or go on otherwise, or do not satisfy the clauses.
-    Values,
-    /// A proof ends too early, or goes on otherwise, or with a clause that isn't shown.
-    Proof,
+    /// What stands against a line of a solver's values.
+    Values(RefusedValues),
+    /// What stands against a line of a proof.
+    Proof(RefusedProof),
 }
 
 impl Display for Reason {
     fn fmt<W: fmt::Write>(&self, f: &mut fmt::Formatter<W>) -> fmt::Result {
         match self {
             Reason::Answer(why) => say_why(*why, f),
-            Reason::Values => write!(f, "no line of values that satisfy the clauses"),
-            Reason::Proof => write!(f, "no clause that unit propagation shows"),
+            Reason::Values(fault) => say_values(*fault, f),
+            Reason::Proof(fault) => say_clauses(*fault, f),
         }
     }
 }
@@ -63,5 +65,21 @@ fn say_proof<W: fmt::Write>(fault: ProofFault, f: &mut fmt::Formatter<W>) -> fmt
         ProofFault::Rat => write!(f, "a hint is negative"),
         ProofFault::Absent(id) => write!(f, "no clause {id} is there"),
         ProofFault::Hint(place) => write!(f, "hint {place} is not unit"),
+    }
+}
+
+/// Says what stands against a line of values.
+fn say_values<W: fmt::Write>(fault: RefusedValues, f: &mut fmt::Formatter<W>) -> fmt::Result {
+    match fault {
+        RefusedValues::Misfit => write!(f, "not the next line of values that satisfy the clauses"),
+        RefusedValues::Missing => write!(f, "the values do not end"),
+    }
+}
+
+/// Says what stands against a line of a proof by unit propagation.
+fn say_clauses<W: fmt::Write>(fault: RefusedProof, f: &mut fmt::Formatter<W>) -> fmt::Result {
+    match fault {
+        RefusedProof::Unshown => write!(f, "no clause that unit propagation shows"),
+        RefusedProof::Missing => write!(f, "the empty clause is not shown"),
     }
 }

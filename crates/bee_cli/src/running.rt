@@ -5,25 +5,20 @@ ghost use Rattle.command_words.specs.Request.{request_of};
 ghost use Rattle.command_words.specs.Limits.{KeepsLimits};
 ghost use Rattle.command_words.specs.Line.{request};
 ghost use Rattle.text_modes.specs.Seen.{seen, shelf_shown, sink_shown};
-ghost use Rattle.check_mode.specs.CheckMode.{CheckMode};
 ghost use Rattle.bee_cli.specs.Obeyed.{search_options, clause_options, is_built, Obeys};
 
+use crate::noting::{check_noting, decode_noting, drup_noting};
 use crate::reason::Reason;
 use crate::reporting::report;
 use crate::status::{Status, clauses_status, cnf_status, model_status};
 use bee_outside::{Shelf, Sink};
-use check_mode::check;
 use command_words::{Command, Options, read_command};
 use compile_mode::compile;
-use decode_mode::decode;
-use drup_mode::drup;
-use model_texts::ModelFault;
 use queens_mode::queens;
 use sat_mode::{SearchOptions, sat};
 use solve_mode::solve;
 use std::alloc::{AllocError, Global};
 use std::cell::Cell;
-use text_modes::End;
 use weigh_mode::weigh;
 
 /// How an answer is sought, as the words say it.
@@ -44,26 +39,6 @@ fn clause_options(options: Options) -> SearchOptions
         budget: options.budget,
         restart: options.restart,
     }
-}
-
-/// Checks an answer, and keeps what stands against a line of it.
-fn check_noting<S: Shelf, O: Sink>(
-    alloc: Global,
-    input: &str,
-    second: &str,
-    shelf: &mut S,
-    out: &mut O,
-    reason: &Cell<Option<Reason>>,
-) -> End<ModelFault>
-    ensures { CheckMode input.now second.now result (seen (shelf_shown S.left S.faults)
-        (sink_shown O.taken O.flushed O.faults) shelf.old shelf.new out.old out.new) }
-{
-    let noted = Cell::new(None);
-    let end = check(alloc, input, second, shelf, out, &noted);
-    if let Some(why) = noted.get() {
-        reason.set(Some(Reason::Answer(why)));
-    }
-    end
 }
 
 /// What comes of a command. Why a line is refused is put into the cell.
@@ -90,8 +65,7 @@ fn obey<S: Shelf, O: Sink>(
             model_status(check_noting(alloc, input, second, shelf, out, reason))
         }
         Command::Decode { input, second } => {
-            reason.set(Some(Reason::Values));
-            cnf_status(decode(alloc, input, second, shelf, out))
+            cnf_status(decode_noting(alloc, input, second, shelf, out, reason))
         }
         Command::Queens { size, options } => {
             model_status(queens(alloc, *size, search_options(*options), out))
@@ -100,8 +74,7 @@ fn obey<S: Shelf, O: Sink>(
             clauses_status(sat(alloc, input, clause_options(*options), shelf, out))
         }
         Command::Drup { input, second } => {
-            reason.set(Some(Reason::Proof));
-            clauses_status(drup(alloc, input, second, shelf, out))
+            clauses_status(drup_noting(alloc, input, second, shelf, out, reason))
         }
     }
 }

@@ -36,20 +36,26 @@ static VALUES: [(&str, &str, &str); 5] = [
     ("c bee 1\np cnf 0 0\n", "s SATISFIABLE\nv 0\n", ""),
 ];
 
-/// Answers, and the line at which each is refused.
-static ANSWERS: [(&str, u128); 10] = [
-    ("s UNSATISFIABLE\n", 1),
-    ("", 1),
-    // A variable that is missing, a false clause, the first or the second, one above the variables, and one that stands twice.
-    ("s SATISFIABLE\nv 1 -2 -3 4 5 0\n", 2),
-    ("s SATISFIABLE\nv -1 2 -3 4 5 6 0\n", 2),
-    ("s SATISFIABLE\nv -1 -2 3 4 5 6 0\n", 2),
-    ("s SATISFIABLE\nv 1 -2 -3 4 5 -6 7 0\n", 2),
-    ("s SATISFIABLE\nv 1\nv 1 -2 -3 4 5 -6 0\n", 3),
+/// What is said of a line that doesn't fit, and of one that isn't there.
+const MISFIT: &str = "not the next line of values that satisfy the clauses";
+
+const MISSING: &str = "the values do not end";
+
+/// Answers, the line at which each is refused, and what is said of it.
+static ANSWERS: [(&str, u128, &str); 10] = [
+    ("s UNSATISFIABLE\n", 1, MISFIT),
+    ("", 1, MISSING),
+    // A variable that is missing, a false clause, the first or the second, one above the variables, and one that stands
+    // twice.
+    ("s SATISFIABLE\nv 1 -2 -3 4 5 0\n", 2, MISFIT),
+    ("s SATISFIABLE\nv -1 2 -3 4 5 6 0\n", 2, MISFIT),
+    ("s SATISFIABLE\nv -1 -2 3 4 5 6 0\n", 2, MISFIT),
+    ("s SATISFIABLE\nv 1 -2 -3 4 5 -6 7 0\n", 2, MISFIT),
+    ("s SATISFIABLE\nv 1\nv 1 -2 -3 4 5 -6 0\n", 3, MISFIT),
     // A last line without line feed, no end, and something behind it.
-    ("s SATISFIABLE\nv 1 -2 -3 4 5 -6 0", 2),
-    ("c\ns SATISFIABLE\nv 1 -2 -3\n", 4),
-    ("s SATISFIABLE\nv 1 -2 -3 4 5 -6 0\nv 0\n", 3),
+    ("s SATISFIABLE\nv 1 -2 -3 4 5 -6 0", 2, MISSING),
+    ("c\ns SATISFIABLE\nv 1 -2 -3\n", 4, MISSING),
+    ("s SATISFIABLE\nv 1 -2 -3 4 5 -6 0\nv 0\n", 3, MISFIT),
 ];
 
 /// Texts that are not compiled ones, and the line at which each is refused.
@@ -122,12 +128,16 @@ fn values_are_told(rt: HostRuntime) -> Result<(), Fail> {
     Ok(())
 }
 
-/// Asserts that an answer is refused at a line.
-fn answer_row(rt: &impl Abort, alloc: Global, answer: &str, line: u128) -> Result<(), Fail> {
+/// Asserts that an answer is refused at a line, and why.
+fn answer_row(
+    rt: &impl Abort,
+    alloc: Global,
+    answer: &str,
+    line: u128,
+    why: &str,
+) -> Result<(), Fail> {
     let told = format!(in alloc; "REFUSED {line}\n")?;
-    let cause = format!(in alloc;
-        "bee: line {line}: no line of values that satisfy the clauses\n"
-    )?;
+    let cause = format!(in alloc; "bee: line {line}: {why}\n")?;
     let wanted = Wanted {
         status: ("refused", line),
         code: 1,
@@ -139,8 +149,8 @@ fn answer_row(rt: &impl Abort, alloc: Global, answer: &str, line: u128) -> Resul
 
 #[test]
 fn other_answers_are_refused(rt: HostRuntime) -> Result<(), Fail> {
-    for (answer, line) in &ANSWERS {
-        answer_row(&rt, rt.alloc(), answer, *line)?;
+    for (answer, line, why) in &ANSWERS {
+        answer_row(&rt, rt.alloc(), answer, *line, why)?;
     }
     Ok(())
 }

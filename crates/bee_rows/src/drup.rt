@@ -127,7 +127,7 @@ static PROOFS: [Row; 12] = [
         ("refused", 3),
         1,
         "REFUSED 3\n",
-        "bee: line 3: no clause that unit propagation shows\n",
+        "bee: line 3: the empty clause is not shown\n",
     ),
     (
         DRUP,
@@ -136,7 +136,7 @@ static PROOFS: [Row; 12] = [
         ("refused", 1),
         1,
         "REFUSED 1\n",
-        "bee: line 1: no clause that unit propagation shows\n",
+        "bee: line 1: the empty clause is not shown\n",
     ),
     (
         DRUP,
@@ -242,7 +242,7 @@ static TEXTS: [Row; 11] = [
         ("refused", 1),
         1,
         "REFUSED 1\n",
-        "bee: line 1: no clause that unit propagation shows\n",
+        "bee: line 1: the empty clause is not shown\n",
     ),
     (
         &["bee", "drup", "m.cnf", "m.cnf"],

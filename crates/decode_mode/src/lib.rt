@@ -10,14 +10,17 @@
 //! the second an answer in form that satisfies its clauses, and the written lines tell what each
 //! name has under it; on `Refused(n)` line n of the second is the first that fails; a first text
 //! out of form gives the line that fails. `answer_law`: each two texts have one end. The law that
-//! composes compiling and decoding stands in `bee_cli` (`decoding_law`).
+//! composes compiling and decoding stands in `bee_cli` (`decoding_law`). Why a line is refused
+//! (`RefusedValues`) goes into a cell of the caller; no clause speaks of it.
 //!
 //! It is the shortest mode over two texts: begin here to write a further one.
 #![tactic(auto)]
 
+mod fault;
 mod laws;
 mod making;
 mod mode;
 
+pub use fault::RefusedValues;
 pub use laws::answer_law;
 pub use mode::decode;

@@ -11,12 +11,15 @@
 //! gives it. `empty_law`: an empty second text, as it is where it has the first one's name, is a
 //! proof where the clauses show the empty one by themselves, and else fails at line 1.
 //!
+//! Why a line is refused (`RefusedProof`) goes into a cell of the caller; no clause speaks of it.
 //! What is written is made by `refusal` of `text_modes`, as in each mode that judges a second text.
 #![tactic(auto)]
 
+mod fault;
 mod laws;
 mod making;
 mod mode;
 
+pub use fault::RefusedProof;
 pub use laws::empty_law;
 pub use mode::drup;

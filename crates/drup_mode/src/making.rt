@@ -5,10 +5,12 @@ ghost use Rattle.order_ints.specs.Place.{InRange};
 ghost use Rattle.order_ints.specs.OrderedClauses.{ClausesAscend};
 ghost use Rattle.drup_mode.specs.Proved.{accepted_text, IsCheck};
 
+use crate::fault::{RefusedProof, fault_at};
 use bee_text::{end_line, push_bytes};
 use drup_check::{DrupFault, check_drup};
 use order_ints::Cnf;
 use std::alloc::{AllocError, Global};
+use std::cell::Cell;
 use text_modes::{Outcome, refusal};
 
 /// The line that tells that a proof is valid.
@@ -21,11 +23,13 @@ fn acceptance(alloc: Global) -> Result<Vec<u8>, AllocError>
     Ok(out)
 }
 
-/// What is written for a CNF and a proof: that it is valid, or the line that tells which line of it fails first.
+/// What is written for a CNF and a proof: that it is valid, or the line that tells which line of it fails first; what
+/// stands against that line is put into the cell.
 pub(crate) fn check_text(
     alloc: Global,
     cnf: &Cnf,
     proof: &[u8],
+    noted: &Cell<Option<RefusedProof>>,
 ) -> Result<(Outcome, Vec<u8>), AllocError>
     requires few { cnf.now.vars ≤ 67108864 }
     requires in_range { InRange cnf.now }
@@ -38,6 +42,7 @@ pub(crate) fn check_text(
             Ok((Outcome::Done, text))
         }
         Err(DrupFault::Refused(line)) => {
+            noted.set(Some(fault_at(proof, line)));
             let text = refusal(alloc, line)?;
             Ok((Outcome::Refused(line), text))
         }

@@ -7,7 +7,8 @@ pub mod Faulty
 pub mod ByLines
 pub mod Whole
 pub mod Ends
-mod Fitting
+pub mod OneFault
+pub mod Fitting
 mod Taken
 mod LineRun
 mod Kept

@@ -1,0 +1,2 @@
+mod WithUnit
+mod Steps

@@ -1,0 +1,94 @@
+//! The derivation of a refutation.
+
+ghost use Rattle.std.specs.Prelude.{◌≡◌, ℕ, ◌≤◌, ◌^◌, IfOk, IfErr, IfSome, IsErrAnd};
+ghost use Rattle.order_ints.specs.Place.{InRange};
+ghost use Rattle.clause_rings.specs.Clauses.{AreApartIn};
+ghost use Rattle.drup_check.specs.DrupLines.{IsDrup, DrupFails};
+ghost use Rattle.drup_check.specs.Taken.{DrupFaultOf, IsRefusalAt};
+ghost use Rattle.drup_check.specs.declared.fault.DrupFault.TheVariants.{Memory};
+ghost use Rattle.proof_import.specs.Assumed.{with_assumed, IsAssumable, IsDerived};
+
+use crate::assumed::with_assumed;
+use crate::finder::found_lines;
+use crate::taken::are_taken;
+use crate::trimming::trimmed;
+use bee_list::Sequence;
+use drup_check::{DrupFault, check_drup};
+use order_ints::{Cnf, Lit};
+use proof_check::ProofLine;
+use std::alloc::{AllocError, Global};
+
+/// The lines with hints that a text of clauses gives, and whether the checker takes them.
+fn derived(
+    alloc: Global,
+    cnf: &Cnf,
+    whole: &Cnf,
+    assumed: Option<Lit>,
+    text: &[u8],
+) -> Result<Option<Sequence<ProofLine>>, AllocError>
+    requires few { whole.now.vars ≤ 2 ^ 27 }
+    requires in_range { InRange whole.now }
+    requires apart { AreApartIn whole.now }
+    requires small { cnf.now.vars ≤ 2 ^ 27 }
+    requires below { InRange cnf.now }
+    ensures { IfOk result (λ found. IfSome found (λ lines. IsDerived cnf.now assumed lines)) }
+{
+    let found = found_lines(alloc, whole, text)?;
+    let lines = trimmed(alloc, found, cnf.clauses.len() as u64, assumed)?;
+    if are_taken(alloc, cnf, assumed, lines.as_slice())? {
+        Ok(Some(lines))
+    } else {
+        Ok(None)
+    }
+}
+
+/// The same, of a text that is judged first.
+fn judged(
+    alloc: Global,
+    cnf: &Cnf,
+    whole: &Cnf,
+    assumed: Option<Lit>,
+    text: &[u8],
+) -> Result<Sequence<ProofLine>, DrupFault>
+    requires few { whole.now.vars ≤ 2 ^ 27 }
+    requires in_range { InRange whole.now }
+    requires apart { AreApartIn whole.now }
+    requires small { cnf.now.vars ≤ 2 ^ 27 }
+    requires below { InRange cnf.now }
+    ensures derived { IfOk result (IsDerived cnf.now assumed) }
+    ensures accepted { IfOk result (λ _. IsDrup whole.now text.now) }
+    ensures fault { IfErr result (DrupFaultOf whole.now text.now) }
+    ensures complete { IsDrup whole.now text.now → IfErr result (λ e. e ≡ Memory) }
+    ensures exact { (line : ℕ) → DrupFails whole.now text.now line → IsErrAnd result (IsRefusalAt line) }
+{
+    match check_drup(alloc, whole, text) {
+        Err(fault) => Err(fault),
+        Ok(()) => match derived(alloc, cnf, whole, assumed, text)? {
+            Some(lines) => Ok(lines),
+            None => Err(DrupFault::Memory),
+        },
+    }
+}
+
+/// The derivation from a CNF that a refutation of it, or of it with an assumed literal, gives: lines with hints, of which only those
+/// stay that the last one needs, and where the literal was used, its negation joins the clause. The text has lines of DRUP. It takes
+/// the time of `check_drup` twice, and of each hint.
+pub fn import_drup(
+    alloc: Global,
+    cnf: &Cnf,
+    assumed: Option<Lit>,
+    text: &[u8],
+) -> Result<Sequence<ProofLine>, DrupFault>
+    requires few { cnf.now.vars ≤ 2 ^ 27 }
+    requires in_range { InRange cnf.now }
+    requires apart { AreApartIn cnf.now }
+    requires assumable { IsAssumable cnf.now assumed }
+    ensures derived { IfOk result (IsDerived cnf.now assumed) }
+    ensures accepted { IfOk result (λ _. IsDrup (with_assumed cnf.now assumed) text.now) }
+    ensures fault { IfErr result (DrupFaultOf (with_assumed cnf.now assumed) text.now) }
+    ensures complete { IsDrup (with_assumed cnf.now assumed) text.now → IfErr result (λ e. e ≡ Memory) }
+    ensures exact { (line : ℕ) → DrupFails (with_assumed cnf.now assumed) text.now line → IsErrAnd result (IsRefusalAt line) }
+{
+    let whole = with_assumed(alloc, cnf, assumed)?;
+    judged(alloc, cnf, &whole, assumed, text)
+}

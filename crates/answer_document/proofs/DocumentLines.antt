@@ -31,16 +31,16 @@ use Rattle.answer_document.specs.Told.{AreNames, FitsCount}
 use Rattle.answer_document.proofs.SpelledWords.{signed-word, bounds-words, verdict-are-words, step-are-words, line-are-words}
 
 -- lines behind lines
-lines-append : (xs ys : List (List ℕ)) → AreLines xs → AreLines ys → AreLines (xs ++ ys)
+pub lines-append : (xs ys : List (List ℕ)) → AreLines xs → AreLines ys → AreLines (xs ++ ys)
 lines-append xs ys h k = list_all-append (lacks 10) xs ys ∙ and_from (list_all (lacks 10) xs) (list_all (lacks 10) ys) h k
 
-line-more : (line : List ℕ) (lines : List (List ℕ)) → IsLine line → AreLines lines → AreLines (line ∷ lines)
+pub line-more : (line : List ℕ) (lines : List (List ℕ)) → IsLine line → AreLines lines → AreLines (line ∷ lines)
 line-more line lines h k = and_from (lacks 10 line) (list_all (lacks 10) lines) h k
 
 text-append : (v w : List ℕ) → IsLine v → IsLine w → IsLine (v ++ w)
 text-append v w h k = list_all-append (λ b. not (b == 10)) v w ∙ and_from (lacks 10 v) (lacks 10 w) h k
 
-words-text : (ws : List (List ℕ)) → AreWords ws → IsLine (join_words ws)
+pub words-text : (ws : List (List ℕ)) → AreWords ws → IsLine (join_words ws)
 words-text ws h = join_words_line ws (words_lines ws h)
 
 -- the head
@@ -68,7 +68,7 @@ value-is-line kind.Bool z h = by (int_eq z (pos 0))
 value-is-line (kind.Range low high) z h = word_line (signed_decimal z) (signed-word z h)
 value-is-line (kind.Listed values) z h = word_line (signed_decimal z) (signed-word z h)
 
-values-are-lines : (ds : List Decl) (zs : List ℤ) → AreNames ds → FitValues zs → AreLines (declared_lines ds zs)
+pub values-are-lines : (ds : List Decl) (zs : List ℤ) → AreNames ds → FitValues zs → AreLines (declared_lines ds zs)
 values-are-lines [] zs names h = refl
 values-are-lines (d ∷ ds) [] names h = refl
 values-are-lines (d ∷ ds) (z ∷ zs) names h =
@@ -82,11 +82,11 @@ assignment-are-lines ds None names h = refl
 assignment-are-lines ds (Some a) names h = values-are-lines ds a.values names h
 
 -- the certificate
-steps-are-lines : (ledger : List Line) → AreReadableSteps ledger → AreLines (map step_text ledger)
+pub steps-are-lines : (ledger : List Line) → AreReadableSteps ledger → AreLines (map step_text ledger)
 steps-are-lines [] h = refl
 steps-are-lines (l ∷ ledger) h = line-more (step_text l) (map step_text ledger) (words-text (step_words l) (step-are-words l h.0)) (steps-are-lines ledger h.1)
 
-proof-are-lines : (proof : List ProofLine) → AreReadableLines proof → AreLines (map line_bytes proof)
+pub proof-are-lines : (proof : List ProofLine) → AreReadableLines proof → AreLines (map line_bytes proof)
 proof-are-lines [] h = refl
 proof-are-lines (l ∷ proof) h = line-more (line_bytes l) (map line_bytes proof) (words-text (line_words l) (line-are-words l h.0)) (proof-are-lines proof h.1)
 

@@ -1,7 +1,7 @@
-mod Witnesses
+pub mod Witnesses
 mod BoundLaws
 mod OrderLaws
-mod Shown
+pub mod Shown
 pub mod ClaimLaws
 mod AgreementLaws
 mod WrittenLines

@@ -28,4 +28,4 @@ pub use atom_clause::with_atom;
 pub use document::Document;
 pub use laws::{agreement_law, claim_law, text_law};
 pub use verdict::{Bounds, Verdict};
-pub use write::{push_document, push_ledger, push_verdict, write_document};
+pub use write::{push_document, push_ledger, push_proof, push_values, push_verdict, write_document};

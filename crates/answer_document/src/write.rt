@@ -81,8 +81,8 @@ fn push_declared(out: &mut Vec<u8>, decl: &Decl, value: i64) -> Result<(), Alloc
     end_line(out)
 }
 
-/// Writes the lines of the names.
-fn push_values(out: &mut Vec<u8>, decls: &[Decl], values: &[i64]) -> Result<(), AllocError>
+/// Writes the lines of the names, one for each value.
+pub fn push_values(out: &mut Vec<u8>, decls: &[Decl], values: &[i64]) -> Result<(), AllocError>
     requires { length decls.now ≡ length values.now }
     ensures { OnOk result (out.new.items ≡ out.old.items ++ join_lines (declared_lines decls.now values.now)) }
 {
@@ -126,7 +126,7 @@ pub fn push_ledger(out: &mut Vec<u8>, ledger: &[Line]) -> Result<(), AllocError>
 }
 
 /// Writes the lines of a derivation.
-fn push_proof(out: &mut Vec<u8>, proof: &[ProofLine]) -> Result<(), AllocError>
+pub fn push_proof(out: &mut Vec<u8>, proof: &[ProofLine]) -> Result<(), AllocError>
     ensures { OnOk result (out.new.items ≡ out.old.items ++ join_lines (map line_bytes proof.now)) }
 {
     for line in proof {

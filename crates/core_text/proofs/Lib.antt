@@ -1,0 +1,4 @@
+pub mod Words
+pub mod OneLine
+pub mod Standings
+pub mod CoreLaws

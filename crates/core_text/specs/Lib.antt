@@ -1,0 +1,3 @@
+pub mod CoreLines
+pub mod CoreSays
+pub mod CoreDocuments

@@ -1,0 +1,29 @@
+//! The text of a core: which statements of a model have no solution together, and what shows it.
+//!
+//! A text says SATISFIABLE, with a solution; or CORE, with the numbers of some statements, a ledger
+//! and a derivation in the form of LRAT that show that the model with these statements alone has no
+//! solution, and for each of them an assignment that meets all others, so that none can be spared;
+//! or UNKNOWN, where a search was given up. That each statement is needed is shown by such a
+//! witness and not by a search, so a reader tests it at once.
+//!
+//! The text is defined by its lines alone (`specs/CoreLines.antt`): which line may stand next, and
+//! what stands behind it. So validity is said of bytes, and a checker has nothing to interpret.
+//!
+//! What it promises: `core_law`, that what a whole text says is true of the model, whoever wrote it
+//! (`says`), and that each part of a core that lacks one of its statements has a solution
+//! (`irreducible`). `one_line_law`: a line leads to one standing, so a text has one verdict, or one
+//! first line that fails.
+//!
+//! The lines of ledger and derivation are those of `certificate_lines`. A further part of the text
+//! is a case of `Part` and of `NextIn`.
+#![tactic(auto)]
+
+mod document;
+mod laws;
+mod part;
+mod verdict;
+
+pub use document::CoreDocument;
+pub use laws::{core_law, one_line_law};
+pub use part::Part;
+pub use verdict::CoreVerdict;

@@ -1,0 +1,19 @@
+-- What no part of a model weighs more than.
+use Rattle.std.specs.Prelude.{ℕ, ◌+◌, List, [], ◌∷◌}
+use Rattle.model_meaning.specs.declared.model.Model.{Model}
+use Rattle.model_items.specs.Items.{ModelItem, Declaration, Statement, Definition, items_of_model}
+use Rattle.model_weight.specs.Weight.{weight_of}
+
+-- how many items are a `bool2int` that declares its integer
+abbrev pub definitions_at : ModelItem → ℕ
+definitions_at (Declaration d) = 0
+definitions_at (Statement s) = 0
+definitions_at (Definition d s) = 1
+
+abbrev pub definitions_in : List ModelItem → ℕ
+definitions_in [] = 0
+definitions_in (i ∷ items) = definitions_at i + definitions_in items
+
+-- each of them may leave an integer with a variable of its own
+abbrev pub core_weight : Model → ℕ
+core_weight model = weight_of model + definitions_in (items_of_model model)

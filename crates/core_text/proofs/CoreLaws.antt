@@ -15,7 +15,7 @@ use Rattle.core_text.proofs.Standings.{Stands, StandsIn, stands-next}
 module _ (model : Model) (typed : WellTyped model) (limits : InLimits model) (light : core_weight model ≤ most_weight) where
   lead-stands : (lines : List (List ℕ)) (s t : Standing) → Stands model s → Lead IsNext s lines t → Stands model t
   lead-stands [] s t stands e = subst (λ (u : Standing). Stands model u) e stands
-  lead-stands (line ∷ lines) s t stands lead = lead-stands lines lead.0 t (stands-next model typed limits light s lead.0 line stands lead.1.0) lead.1.1
+  lead-stands (line ∷ lines) s t stands lead = lead-stands lines lead.0 t (stands-next model typed limits light s lead.0 line stands lead.1) lead.2
 
 pub core-law : CoreLaw
 core-law model text s typed limits light whole =

@@ -5,6 +5,7 @@ use Rattle.model_meaning.specs.declared.model.Decl.{Decl}
 use Rattle.model_meaning.specs.Limits.{KindInLimit, DeclsInLimit}
 use Rattle.step_kernel.specs.Kernel.{Kernel}
 use Rattle.step_kernel.specs.CnfOf.{cnf_of}
+use Rattle.proof_check.specs.Lines.{line_bytes}
 use Rattle.proof_check.specs.Lrat.{Proof, proof_of}
 use Rattle.certificate_lines.specs.CertificateLines.{IsStepLine, IsDerivedLine, IsValueLine}
 use Rattle.certificate_lines.proofs.LineLaws.{one-value, one-step, one-derivation, no-step}
@@ -22,7 +23,7 @@ some-same x y o p q = cc
 -- a line of a derivation begins with a digit
 derived-letter : (p next : Proof) (line : List ℕ) → IsDerivedLine p line next → 58 ≤ first_byte line → ⊥
 derived-letter p next line h letter =
-    let same : first_byte line ≡ first_byte _ = ap first_byte h.bytes.1 in
+    let same : first_byte line ≡ first_byte (line_bytes h.entry) = ap first_byte h.bytes.1 in
     let digit = line-begins h.entry h.bytes.0 in
     omega (arith, same, letter, digit)
 

@@ -28,14 +28,14 @@ certificate_lines d =
 
 -- each statement with its assignment
 abbrev pub witness_lines : List Decl → List ℕ → List Assignment → List (List ℕ)
-witness_lines decls [] as = []
+witness_lines decls [] given = []
 witness_lines decls (n ∷ ns) [] = []
-witness_lines decls (n ∷ ns) (a ∷ as) = without_line n ∷ (declared_lines decls a.values ++ witness_lines decls ns as)
+witness_lines decls (n ∷ ns) (a ∷ given) = without_line n ∷ (declared_lines decls a.values ++ witness_lines decls ns given)
 
 -- the lines of a solution
 abbrev pub solution_lines : List Decl → List Assignment → List (List ℕ)
 solution_lines decls [] = []
-solution_lines decls (a ∷ as) = declared_lines decls a.values
+solution_lines decls (a ∷ given) = declared_lines decls a.values
 
 -- what stands behind the verdict
 abbrev pub behind_lines : List Decl → CoreDocument → CoreVerdict → List (List ℕ)
@@ -71,15 +71,15 @@ pub record IsWitness (model : Model) (core : List ℕ) (n : ℕ) (a : Assignment
 
 abbrev pub AreWitnesses : Model → List ℕ → List ℕ → List Assignment → Type 0
 AreWitnesses model core [] [] = Unit {0}
-AreWitnesses model core [] (a ∷ as) = ⊥
+AreWitnesses model core [] (a ∷ given) = ⊥
 AreWitnesses model core (n ∷ ns) [] = ⊥
-AreWitnesses model core (n ∷ ns) (a ∷ as) = IsWitness model core n a × AreWitnesses model core ns as
+AreWitnesses model core (n ∷ ns) (a ∷ given) = IsWitness model core n a × AreWitnesses model core ns given
 
 -- one assignment, which is a solution
 abbrev pub IsOneSolution : Model → List Assignment → Type 0
 IsOneSolution model [] = ⊥
 IsOneSolution model (a ∷ []) = IsSolution model a.values
-IsOneSolution model (a ∷ b ∷ as) = ⊥
+IsOneSolution model (a ∷ b ∷ given) = ⊥
 
 -- the document of a verdict
 abbrev pub IsDocumentOf : Model → CoreDocument → CoreVerdict → Type 0

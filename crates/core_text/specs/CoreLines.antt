@@ -154,10 +154,17 @@ next_without Satisfiable core begun = None
 next_without (Core k) core begun = slice_get core begun
 next_without (Unknown n) core begun = None
 
--- it begins, or the text ends
+-- it begins, or the text ends: the line that tells it, and what stands behind it
+abbrev pub next_line : Option ℕ → List ℕ
+next_line (Some n) = without_line n
+next_line None = codes "end"
+
+abbrev pub advanced : Standing → Option ℕ → Standing
+advanced s (Some n) = record s { part = part.Values; now = n; begun = s.begun + 1; values = [] }
+advanced s None = record s { part = part.End }
+
 abbrev pub Continues : Standing → Option ℕ → List ℕ → Standing → Type 0
-Continues s (Some n) line t = (line ≡ without_line n) × (t ≡ record s { part = part.Values; now = n; begun = s.begun + 1; values = [] })
-Continues s None line t = (line ≡ codes "end") × (t ≡ record s { part = part.End })
+Continues s next line t = (line ≡ next_line next) × (t ≡ advanced s next)
 
 abbrev pub GoesOn : Standing → List ℕ → Standing → Type 0
 GoesOn s line t = Continues s (next_without s.verdict s.core s.begun) line t

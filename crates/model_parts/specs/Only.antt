@@ -18,8 +18,9 @@ abbrev pub chosen : List ℕ → List Stmt → List Stmt
 chosen part [] = []
 chosen part (s ∷ ss) = if is_listed s.number part then s ∷ chosen part ss else chosen part ss
 
--- The statements outside of the part are left out, and any solution serves. The declarations stay with their names, numbers
--- and domains, so a `bool2int` that declares its integer, and is left out, leaves the declaration of an integer from 0 to 1.
+-- The statements outside of the part are left out, and any solution serves. The declarations stay with their names,
+-- numbers and domains, so a `bool2int` that declares its integer, and is left out, leaves the declaration of an
+-- integer from 0 to 1.
 abbrev pub only : Model → List ℕ → Model
 only model part = record { decls = model.decls; stmts = chosen part model.stmts; goal = Satisfy }
 

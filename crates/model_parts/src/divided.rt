@@ -9,8 +9,8 @@ use bee_list::Sequence;
 use model_meaning::{Decl, Goal, Model, Stmt};
 use std::alloc::{AllocError, Global};
 
-/// A model whose statements are on two sides: those of the part that is asked about, and those that are left out. It owns
-/// them all.
+/// A model whose statements are on two sides: those of the part that is asked about, and those that are left out. It
+/// owns them all.
 #[derive(Drop)]
 pub struct DividedModel {
     /// The declarations, and the statements that are kept.
@@ -64,8 +64,8 @@ impl DividedModel {
         Ok(DividedModel { part, left, out })
     }
 
-    /// Moves each statement to its side: it is left out where its place is marked, counted from the first statement of the whole
-    /// model, and else kept. It takes time linear in their number.
+    /// Moves each statement to its side: it is left out where its place is marked, counted from the first statement
+    /// of the whole model, and else kept. It takes time linear in their number.
     pub fn choose(self, alloc: Global, out: Vec<bool>) -> Result<DividedModel, AllocError>
         ensures divided { (model : AnyModel) → IsDivided model self → IfOk result (IsDivided model) }
         ensures moved { IfOk result (IsMoved self out.items) }

@@ -1,5 +1,5 @@
 -- What the text of a core says is true.
-use Rattle.std.proofs.Common.{◌≡◌, ℕ, ◌≤◌, List, [], ◌∷◌, refl, subst}
+use Rattle.std.proofs.Common.{ℕ, ◌≤◌, List, [], ◌∷◌, refl, subst}
 use Rattle.model_meaning.specs.declared.model.Model.{Model}
 use Rattle.model_meaning.specs.Limits.{InLimits}
 use Rattle.model_meaning.specs.WellTyped.{WellTyped}

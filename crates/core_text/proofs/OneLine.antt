@@ -1,5 +1,5 @@
 -- A line leads to one standing.
-use Rattle.std.proofs.Common.{◌≡◌, ◌⊎◌, inl, inr, ℕ, zero, suc, ◌+◌, ◌<◌, ◌≤◌, ◌^◌, List, [], ◌∷◌, ◌++◌, get_or, codes, length, Option, Some, None, refl, sym, ap, subst, ◌∙◌, arith}
+use Rattle.std.proofs.Common.{◌≡◌, ◌⊎◌, inl, inr, ℕ, zero, suc, ◌≤◌, List, [], ◌∷◌, ◌++◌, codes, length, Option, Some, None, sym, ap, subst, ◌∙◌, arith}
 use Rattle.std.specs.Prelude.{slice_get, ℤ}
 use Rattle.model_meaning.specs.declared.model.Decl.{Decl}
 use Rattle.model_meaning.specs.Limits.{KindInLimit, DeclsInLimit}
@@ -13,7 +13,7 @@ use Rattle.answer_document.proofs.ProofLinesTell.{line-begins}
 use Rattle.core_text.specs.declared.verdict.CoreVerdict.{CoreVerdict}
 use Rattle.core_text.specs.declared.part.Part.{Part}
 use Rattle.core_text.specs.declared.part.Part.TheVariants as part
-use Rattle.core_text.specs.CoreLines.{Standing, IsVerdict, IsNamed, IsLedgerBegin, IsStep, IsProofBegin, IsDerived, IsValue, IsMet, Continues, GoesOn, NextIn, IsNext, behind_verdict, next_without}
+use Rattle.core_text.specs.CoreLines.{Standing, IsVerdict, IsNamed, IsLedgerBegin, IsStep, IsProofBegin, IsDerived, IsValue, IsMet, Continues, GoesOn, NextIn, behind_verdict, next_without}
 use Rattle.core_text.specs.CoreSays.{OneNext}
 use Rattle.core_text.proofs.Words.{first_byte, verdict-tells, number-tells, statement-no-ledger}
 

@@ -25,8 +25,8 @@ use Rattle.core_text.specs.declared.verdict.CoreVerdict.{CoreVerdict}
 use Rattle.core_text.specs.declared.verdict.CoreVerdict.TheVariants.{Satisfiable, Core, Unknown}
 use Rattle.core_text.specs.declared.part.Part.{Part}
 use Rattle.core_text.specs.declared.part.Part.TheVariants as part
-use Rattle.core_text.specs.CoreLines.{Standing, start_standing, IsVerdict, IsNamed, IsLedgerBegin, IsStep, IsProofBegin, IsDerived, IsConcluded, HasNamed, behind_verdict, next_without, Continues, GoesOn, IsValue, IsMet, MeetsStatements, NextIn, IsNext}
-use Rattle.core_text.specs.CoreSays.{IsNeeded, IsCore, Says}
+use Rattle.core_text.specs.CoreLines.{Standing, IsVerdict, IsNamed, IsLedgerBegin, IsStep, IsProofBegin, IsDerived, IsConcluded, HasNamed, behind_verdict, next_without, Continues, GoesOn, IsValue, IsMet, MeetsStatements, NextIn, IsNext}
+use Rattle.core_text.specs.CoreSays.{IsNeeded, Says}
 
 some-is : {A : Type 0} (x y : A) → Some x ≡ Some y → x ≡ y
 some-is x y e = cc

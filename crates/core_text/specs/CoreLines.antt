@@ -30,9 +30,10 @@ use Rattle.core_text.specs.declared.verdict.CoreVerdict.TheVariants.{Satisfiable
 use Rattle.core_text.specs.declared.part.Part.{Part}
 use Rattle.core_text.specs.declared.part.Part.TheVariants as part
 
--- What is known of a text behind some of its lines: the model, with all statements or with those that were named; the part that comes next, the verdict, the statements that were named, the
--- statement that was named last, how many assignments were begun behind the derivation, the values of the last one, the state of the
--- compilation, and how far the derivation has come.
+-- What is known of a text behind some of its lines: the model, with all statements or with those that were named; the
+-- part that comes next, the verdict, the statements that were named, the statement that was named last, how many
+-- assignments were begun behind the derivation, the values of the last one, the state of the compilation, and how far
+-- the derivation has come.
 pub record Standing : Type 0 where
   pub model : Model
   pub part : Part

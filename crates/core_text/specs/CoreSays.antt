@@ -9,7 +9,7 @@ use Rattle.model_lower.specs.Weighed.{most_weight}
 use Rattle.model_parts.specs.Only.{is_listed, chosen, only, all_but}
 use Rattle.model_parts.specs.PartLaws.{IsWithin}
 use Rattle.model_parts.specs.CoreWeight.{core_weight}
-use Rattle.line_texts.specs.LineByLine.{IsWhole, FirstMisfit}
+use Rattle.line_texts.specs.LineByLine.{IsWhole}
 use Rattle.core_text.specs.declared.verdict.CoreVerdict.{CoreVerdict}
 use Rattle.core_text.specs.declared.verdict.CoreVerdict.TheVariants.{Satisfiable, Core, Unknown}
 use Rattle.core_text.specs.CoreLines.{Standing, start_standing, IsNext, IsEnd}
@@ -43,7 +43,8 @@ CoreLaw = (model : Model) (text : List ℕ) (s : Standing) → WellTyped model �
 
 -- each part of a core that lacks one of its statements has a solution
 abbrev pub Irreducible : Type 0
-Irreducible = (model : Model) (core fewer : List ℕ) (n : ℕ) → IsCore model core → IsWithin fewer core → IsTrue (is_listed n core) → IsFalse (is_listed n fewer)
+Irreducible = (model : Model) (core fewer : List ℕ) (n : ℕ)
+    → IsCore model core → IsWithin fewer core → IsTrue (is_listed n core) → IsFalse (is_listed n fewer)
     → (a : List ℤ) × IsSolution (only model fewer) a
 
 -- a line leads to one standing, so a text is whole with one verdict, or has one first line that fails, and never both

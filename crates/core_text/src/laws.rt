@@ -2,8 +2,8 @@
 
 ghost use Rattle.core_text.specs.CoreSays.{CoreLaw, Irreducible, OneNext};
 
-/// What the text of a core says of a model that is taken is true, whoever wrote it; and each part of a core that lacks one of
-/// its statements has a solution.
+/// What the text of a core says of a model that is taken is true, whoever wrote it; and each part of a core that
+/// lacks one of its statements has a solution.
 pub fn core_law()
     ensures says { CoreLaw }
     ensures irreducible { Irreducible }

@@ -7,6 +7,7 @@ pub enum CoreVerdict {
     Satisfiable,
     /// So many of its statements have no solution together, and each of them is needed for that.
     Core(u64),
-    /// It is open whether a part of its statements has a solution: after so many learned clauses the search was given up.
+    /// It is open whether a part of its statements has a solution: after so many learned clauses the search was given
+    /// up.
     Unknown(u64),
 }

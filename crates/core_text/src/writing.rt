@@ -185,14 +185,10 @@ fn push_head(out: &mut Vec<u8>, verdict: CoreVerdict) -> Result<(), AllocError>
     Ok(())
 }
 
-/// The text of a core of a model with these declarations. The statements of the model aren't looked at. One pass over what is
-/// written, which is held in memory once.
+/// The text of a core of a model with these declarations. The statements of the model aren't looked at. One pass over
+/// what is written, which is held in memory once.
 #[tactic(auto, using(crate::proofs::Written::joined))]
-pub fn write_core(
-    alloc: Global,
-    decls: &[Decl],
-    d: &CoreDocument,
-) -> Result<Vec<u8>, AllocError>
+pub fn write_core(alloc: Global, decls: &[Decl], d: &CoreDocument) -> Result<Vec<u8>, AllocError>
     requires { AreWhole decls.now d.now.assignments }
     ensures { IfOk result (λ text. text.items ≡ core_text decls.now d.now) }
 {

@@ -9,8 +9,8 @@ use Rattle.model_parts.specs.Sides.{IsDivided}
 
 -- it is the model with the statements that it has
 abbrev pub PartIsOnly : Type 0
-PartIsOnly = (model : Model) (d : DividedModel) → WellTyped model → IsDivided model d
-    → d.part ≡ only model (numbers_of d.part.stmts)
+PartIsOnly = (model : Model) (d : DividedModel)
+    → WellTyped model → IsDivided model d → d.part ≡ only model (numbers_of d.part.stmts)
 
 -- it is the model with the listed statements, where the others are marked
 abbrev pub MarkedIsChosen : Type 0

@@ -19,8 +19,8 @@ chosen part [] = []
 chosen part (s ∷ ss) = if is_listed s.number part then s ∷ chosen part ss else chosen part ss
 
 -- The statements outside of the part are left out, and any solution serves. The declarations stay with their names,
--- numbers and domains, so a `bool2int` that declares its integer, and is left out, leaves the declaration of an integer
--- from 0 to 1.
+-- numbers and domains, so a `bool2int` that declares its integer, and is left out, leaves the declaration of an
+-- integer from 0 to 1.
 abbrev pub only : Model → List ℕ → Model
 only model part = record { decls = model.decls; stmts = chosen part model.stmts; goal = Satisfy }
 

@@ -34,16 +34,15 @@ OnlySolutions = (model : Model) (part : List ℕ) (a : List ℤ)
 
 -- where a part holds, each part of it does
 abbrev pub FewerHold : Type 0
-FewerHold = (part fewer : List ℕ) (a : List ℤ) (ss : List Stmt) → IsWithin fewer part → ChosenHold part a ss
-    → ChosenHold fewer a ss
+FewerHold = (part fewer : List ℕ) (a : List ℤ) (ss : List Stmt)
+    → IsWithin fewer part → ChosenHold part a ss → ChosenHold fewer a ss
 
 -- where all of its statements but one hold, each part of it that lacks this one does
 abbrev pub OthersHold : Type 0
-OthersHold = (part fewer : List ℕ) (n : ℕ) (a : List ℤ) (ss : List Stmt) → IsWithin fewer part
-    → IsFalse (is_listed n fewer)
+OthersHold = (part fewer : List ℕ) (n : ℕ) (a : List ℤ) (ss : List Stmt)
+    → IsWithin fewer part → IsFalse (is_listed n fewer)
     → AllHold a (all_but n (chosen part ss)) → ChosenHold fewer a ss
 
 -- it weighs at most as much as any part may
 abbrev pub ChosenWeight : Type 0
-ChosenWeight = (model : Model) (part : List ℕ) → WellTyped model
-    → weight_of (only model part) ≤ core_weight model
+ChosenWeight = (model : Model) (part : List ℕ) → WellTyped model → weight_of (only model part) ≤ core_weight model

@@ -64,8 +64,8 @@ impl DividedModel {
         Ok(DividedModel { part, left, out })
     }
 
-    /// Moves each statement to its side: it is left out where its place is marked, counted from the first statement of
-    /// the whole model, and else kept. It takes time linear in their number.
+    /// Moves each statement to its side: it is left out where its place is marked, counted from the first statement
+    /// of the whole model, and else kept. It takes time linear in their number.
     pub fn choose(self, alloc: Global, out: Vec<bool>) -> Result<DividedModel, AllocError>
         ensures divided { (model : AnyModel) → IsDivided model self → IfOk result (IsDivided model) }
         ensures moved { IfOk result (IsMoved self out.items) }

@@ -22,9 +22,9 @@ fn definitions_at(item: &Item<'_>) -> u128
     }
 }
 
-/// The model's weight, and one for each `bool2int` that declares its integer: where that is left out, the integer takes
-/// a variable of its own. No part of the model weighs more. A number that doesn't fit 128 bits would be given as 2^128
-/// - 1. It takes as long as `weight`.
+/// The model's weight, and one for each `bool2int` that declares its integer: where that is left out, the integer
+/// takes a variable of its own. No part of the model weighs more. A number that doesn't fit 128 bits would be given
+/// as 2^128 - 1. It takes as long as `weight`.
 pub fn core_weight(alloc: Global, model: &Model) -> Result<u128, AllocError>
     requires { InLimits model.now }
     ensures { IfOk result (λ weight. weight ≡ saturated (core_weight model.now)) }

@@ -1,4 +1,4 @@
-use Rattle.std.proofs.Common.{ℕ, ◌++◌, map, refl, arith}
+use Rattle.std.proofs.Common.{◌++◌, map, refl, arith}
 use Rattle.std.specs.Prelude.{slice_index_or}
 use Rattle.bee_text.specs.Lines.{join_lines}
 use Rattle.core_text.specs.CoreLines.{statement_line}

@@ -11,7 +11,8 @@ use Rattle.check_mode.specs.CheckMode.{HasModel, HaveEnd}
 -- what is written for a model in solve mode is accepted in check mode, whatever the options and the outcome were
 abbrev pub SolvedIsAccepted : Type 0
 SolvedIsAccepted =
-    (options : Options) (outcome : Outcome) (texts : Texts) → IsSolved options texts.first outcome texts.second → HaveEnd texts (Wrote Done)
+    (options : Options) (outcome : Outcome) (texts : Texts) → IsSolved options texts.first outcome texts.second
+    → HaveEnd texts (Wrote Done)
 
 -- a text without a line is refused at line 1, as the second text is where it has the name of the first
 abbrev pub EmptyIsRefused : Type 0

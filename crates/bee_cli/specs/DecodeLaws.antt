@@ -16,7 +16,8 @@ use Rattle.model_texts.specs.ModelTexts.{longest_text}
 use Rattle.compile_mode.specs.Compiled.{Compiles}
 use Rattle.decode_mode.specs.Decoded.{HasForm, IsDecoded}
 
--- the written lines tell this assignment: it is what the names of the compiled text have under a valuation, and so are the lines
+-- the written lines tell this assignment: it is what the names of the compiled text have under a valuation, and so are
+-- the lines
 pub record TellsAssignment (compiled written : List ℕ) (a : List ℤ) : Type 0 where
   pub held : CnfText
   pub form : IsTextOf held compiled
@@ -24,11 +25,12 @@ pub record TellsAssignment (compiled written : List ℕ) (a : List ℤ) : Type 0
   pub gives : a ≡ numbers_of valuation (values_of held.entries)
   pub writes : written ≡ values_text valuation held.entries
 
--- where a text stands for exactly the solutions of a model, as what is written in compile mode does, the values that are
--- written for it are one of them
+-- where a text stands for exactly the solutions of a model, as what is written in compile mode does, the values that
+-- are written for it are one of them
 abbrev pub DecodedSolves : Type 0
 DecodedSolves =
-    (model : Model) (texts : Texts) (written : List ℕ) → ((a : List ℤ) → StandsFor texts.first a ↔ IsSolution model a)
+    (model : Model) (texts : Texts) (written : List ℕ)
+    → ((a : List ℤ) → StandsFor texts.first a ↔ IsSolution model a)
     → IsDecoded texts written → (a : List ℤ) × (IsSolution model a × TellsAssignment texts.first written a)
 
 -- the text is the lines of a solution
@@ -39,10 +41,12 @@ pub record TellsSolution (model : Model) (written : List ℕ) : Type 0 where
 
 -- what is compiled is in form for decoding
 abbrev pub CompiledIsRead : Type 0
-CompiledIsRead = (text compiled : List ℕ) → length text ≤ longest_text → Compiles text compiled → HasForm compiled
+CompiledIsRead = (text compiled : List ℕ) → length text ≤ longest_text → Compiles text compiled
+    → HasForm compiled
 
 -- from a model to its compiled text, and with an answer in form back to its names: the lines of a solution of the model
 abbrev pub DecodedIsSolution : Type 0
 DecodedIsSolution =
-    (text : List ℕ) (texts : Texts) (written : List ℕ) → length text ≤ longest_text → (c : Compiles text texts.first) → IsDecoded texts written
+    (text : List ℕ) (texts : Texts) (written : List ℕ) → length text ≤ longest_text
+    → (c : Compiles text texts.first) → IsDecoded texts written
     → TellsSolution c.model written

@@ -40,10 +40,13 @@ is_built request = false
 abbrev pub Obeys : Option Request → Status → Seen → Type 0
 Obeys (Some (Compile input)) status seen = Ended model_fault (λ end. CompileMode input end seen) status
 Obeys (Some (Weigh input)) status seen = Ended model_fault (λ end. WeighMode input end seen) status
-Obeys (Some (Solve input options)) status seen = Ended model_fault (λ end. SolveMode (search_options options) input end seen) status
+Obeys (Some (Solve input options)) status seen =
+    Ended model_fault (λ end. SolveMode (search_options options) input end seen) status
 Obeys (Some (Check input second)) status seen = Ended model_fault (λ end. CheckMode input second end seen) status
 Obeys (Some (Decode input second)) status seen = Ended cnf_fault (λ end. DecodeMode input second end seen) status
-Obeys (Some (Queens size options)) status seen = Ended model_fault (λ end. QueensMode (search_options options) size end seen) status
-Obeys (Some (Sat input options)) status seen = Ended clauses_fault (λ end. SatMode (clause_options options) input end seen) status
+Obeys (Some (Queens size options)) status seen =
+    Ended model_fault (λ end. QueensMode (search_options options) size end seen) status
+Obeys (Some (Sat input options)) status seen =
+    Ended clauses_fault (λ end. SatMode (clause_options options) input end seen) status
 Obeys (Some (Drup input second)) status seen = Ended clauses_fault (λ end. DrupMode input second end seen) status
 Obeys request status seen = Untouched seen

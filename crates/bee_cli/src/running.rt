@@ -100,10 +100,9 @@ fn follow<S: Shelf, O: Sink>(
     }
 }
 
-/// Does what the words say, from the shelf to `out`, and says on `err` in one line why nothing came of it, or why a line
-/// of the second text was refused.
-/// A fault of `err` changes no status. The whole text is made before the first byte of it is written, so
-/// `out` has a byte of it only where the run ends in `Done` or in `Write`.
+/// Does what the words say, from the shelf to `out`, and says on `err` in one line why nothing came of it, or why a
+/// line of the second text was refused. A fault of `err` changes no status. The whole text is made before the first
+/// byte of it is written, so `out` has a byte of it only where the run ends in `Done` or in `Write`.
 pub fn run<S: Shelf, O: Sink, E: Sink>(
     alloc: Global,
     words: &Vec<String>,

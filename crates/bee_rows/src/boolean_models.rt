@@ -1,5 +1,5 @@
-//! Small models of declarations, of operations on Booleans and of comparisons, with the numbers of their solutions, counted
-//! apart from the program.
+//! Small models of declarations, of operations on Booleans and of comparisons, with the numbers of their solutions,
+//! counted apart from the program.
 
 use crate::solution_sets::{Row, check};
 use std::test::Fail;

@@ -210,7 +210,8 @@ fn writings_fail(
     Ok(())
 }
 
-/// Asserts what comes of a row where one call fails, and those for errors do or don't. This is what comes of it where none does.
+/// Asserts what comes of a row where one call fails, and those for errors do or don't. This is what comes of it where
+/// none does.
 fn each_fails(
     rt: &impl Abort,
     alloc: Global,
@@ -262,7 +263,8 @@ fn number_behind(front: &[u8], byte: u8) -> u128 {
     (count as u128).saturating_add(1)
 }
 
-/// The fault of a text that is cut: between two items the goal is missing, and within one its end is at the line that was begun.
+/// The fault of a text that is cut: between two items the goal is missing, and within one its end is at the line that
+/// was begun.
 fn cut_fault(front: &[u8]) -> (&'static str, u128) {
     if front.is_empty()
         || front.ends_with(b"\n")

@@ -48,7 +48,8 @@ fn checked(
     )
 }
 
-/// The words, the text of the CNF, that of the proof, the status with its number, the exit code, what is written, and what is told of a fault.
+/// The words, the text of the CNF, that of the proof, the status with its number, the exit code, what is written, and
+/// what is told of a fault.
 type Row = (
     &'static [&'static str],
     &'static str,

@@ -39,8 +39,8 @@ fn solve_row(rt: &impl Abort, alloc: Global, text: &str, verdict: &str) -> Resul
     accepted(rt, alloc, text, run.out.taken(), verdict)
 }
 
-/// Asserts that each example is compiled with its line, that nothing is on the sink for errors, and that it is solved with its
-/// verdict, by an answer that is accepted.
+/// Asserts that each example is compiled with its line, that nothing is on the sink for errors, and that it is solved
+/// with its verdict, by an answer that is accepted.
 pub(super) fn check(rt: &impl Abort, alloc: Global, rows: &[Row]) -> Result<(), Fail> {
     for (text, line, verdict) in rows {
         compile_row(rt, alloc, text, line)?;

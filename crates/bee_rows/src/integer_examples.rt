@@ -191,8 +191,8 @@ int_leq(c3_end,done)
 solve minimize done
 ";
 
-/// A count by hand from the tables in `docs/CORES.md` agrees with this. All different integers take a mark for each value
-/// that a member has left.
+/// A count by hand from the tables in `docs/CORES.md` agrees with this. All different integers take a mark for each
+/// value that a member has left.
 #[test]
 fn counted_examples_are_compiled(rt: HostRuntime) -> Result<(), Fail> {
     let rows = [(QUEENS, "\np cnf 396 852\n", "SATISFIABLE")];

@@ -1,5 +1,5 @@
-//! Small models of integers whose domains are listed, one for each line of the table of statements that has integers, with the
-//! numbers of their solutions, counted apart from the program.
+//! Small models of integers whose domains are listed, one for each line of the table of statements that has integers,
+//! with the numbers of their solutions, counted apart from the program.
 
 use crate::solution_sets::{Row, check};
 use std::test::Fail;

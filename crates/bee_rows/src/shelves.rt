@@ -167,7 +167,8 @@ fn temporary(rt: &HostRuntime, name: &str) -> Result<String, Fail> {
     Ok(format!(in rt.alloc(); "{}/{name}_{number}", folder.display())?)
 }
 
-/// Whether two readings of a file, which is then there no more, and a reading of a file that isn't there answer what they are to.
+/// Whether two readings of a file, which is then there no more, and a reading of a file that isn't there answer what
+/// they are to.
 fn file_stays_open<S: Shelf>(rt: &HostRuntime, shelf: &mut S, path: &str) -> Result<bool, Fail> {
     let typed = reads(rt.alloc(), shelf, "stdin", None, "whole", "typed in");
     let first = reads(rt.alloc(), shelf, path, Some(2), "cut", "a ");
@@ -176,8 +177,8 @@ fn file_stays_open<S: Shelf>(rt: &HostRuntime, shelf: &mut S, path: &str) -> Res
     Ok(typed && first && second)
 }
 
-/// Whether readings of standard input and of files answer what they are to, and how many faults were counted before and behind
-/// the reading of one that isn't there.
+/// Whether readings of standard input and of files answer what they are to, and how many faults were counted before and
+/// behind the reading of one that isn't there.
 fn host_readings(rt: &HostRuntime, path: &str) -> Result<(bool, u64, u64), Fail> {
     let mut shelf = HostShelf::new(rt.alloc(), rt, b"typed in".as_slice());
     let stays = file_stays_open(rt, &mut shelf, path)?;

@@ -204,8 +204,8 @@ int_eq(r9c9,9)
 solve satisfy
 ";
 
-/// A count by hand from the tables in `docs/CORES.md` agrees with these. All different integers take a mark for each value
-/// that a member has left, and where equations fill a square, each member has one and no clause is left.
+/// A count by hand from the tables in `docs/CORES.md` agrees with these. All different integers take a mark for each
+/// value that a member has left, and where equations fill a square, each member has one and no clause is left.
 #[test]
 fn squares_are_compiled(rt: HostRuntime) -> Result<(), Fail> {
     let rows = [

@@ -1,5 +1,6 @@
 -- What the words of the command line ask for, by the values of words and options.
-use Rattle.std.specs.Prelude.{ℕ, Bool, false, not, codes, bytes_eq, Option, Some, None, is_some, option_map, option_and_then, if◌then◌else◌}
+use Rattle.std.specs.Prelude.{ℕ, Bool, false, not, codes, bytes_eq, Option, Some, None, is_some, option_map}
+use Rattle.std.specs.Prelude.{option_and_then, if◌then◌else◌}
 use Rattle.std.specs.Option.{option_map_or}
 use Rattle.clap.specs.Words.{Text}
 use Rattle.command_words.specs.declared.command.Options.{Options}
@@ -73,7 +74,7 @@ mode_requested mode value options =
     else if is_word (codes "drup") mode then option_map (λ names. Drup names.0 names.1) (both_inputs value)
     else None
 
--- what the words ask for, by the values of words and options: `compile`, `weigh`, `solve`, `queens` and `sat` with one name
--- or number, `check`, `decode` and `drup` with two names
+-- what the words ask for, by the values of words and options: `compile`, `weigh`, `solve`, `queens` and `sat` with one
+-- name or number, `check`, `decode` and `drup` with two names
 abbrev pub requested : (Text → Option Text) → Option Request
 requested value = option_and_then (mode_requested (value (codes "mode")) value) (options_of value)

@@ -32,7 +32,8 @@ certificate_lines statements ledger proof =
 abbrev pub witness_lines : List Decl → List ℕ → List Assignment → List (List ℕ)
 witness_lines decls [] given = []
 witness_lines decls (n ∷ ns) [] = []
-witness_lines decls (n ∷ ns) (a ∷ given) = without_line n ∷ (declared_lines decls a.values ++ witness_lines decls ns given)
+witness_lines decls (n ∷ ns) (a ∷ given) = without_line n
+    ∷ (declared_lines decls a.values ++ witness_lines decls ns given)
 
 -- the lines of a solution
 abbrev pub solution_lines : List Decl → List Assignment → List (List ℕ)
@@ -93,7 +94,8 @@ IsOneSolution model (a ∷ b ∷ given) = ⊥
 abbrev pub IsDocumentOf : Model → CoreDocument → CoreVerdict → Type 0
 IsDocumentOf model d Satisfiable = IsOneSolution model d.assignments
 IsDocumentOf model d (Core k) =
-    (s : IsShownBy model d) × IsTrue (known s.proof []) × (length d.statements ≡ k) × AreWitnesses model d.statements d.statements d.assignments
+    (s : IsShownBy model d) × IsTrue (known s.proof []) × (length d.statements ≡ k)
+    × AreWitnesses model d.statements d.statements d.assignments
 IsDocumentOf model d (Unknown n) = (s : IsShownBy model d) × (length s.proof.added ≡ n)
 
 -- the document of a core, whose verdict can be told

@@ -12,7 +12,8 @@
 --     end
 --
 -- SATISFIABLE is followed by the values of a solution alone.
-use Rattle.std.specs.Prelude.{◌≡◌, ◌⊎◌, ℕ, ◌+◌, ◌<◌, ◌≤◌, ◌^◌, List, [], ◌∷◌, ◌++◌, codes, length, slice_get, ℤ, Option, Some, None, IsTrue}
+use Rattle.std.specs.Prelude.{◌≡◌, ◌⊎◌, ℕ, ◌+◌, ◌<◌, ◌≤◌, ◌^◌, List, [], ◌∷◌}
+use Rattle.std.specs.Prelude.{◌++◌, codes, length, slice_get, ℤ, Option, Some, None, IsTrue}
 use Rattle.std.specs.Fmt.{decimal}
 use Rattle.model_meaning.specs.declared.model.Decl.{Decl}
 use Rattle.model_meaning.specs.declared.model.Model.{Model}
@@ -117,7 +118,11 @@ pub record IsNamed (s : Standing) (line : List ℕ) (t : Standing) : Type 0 wher
 pub record IsLedgerBegin (s : Standing) (line : List ℕ) (t : Standing) : Type 0 where
   pub spelled : line ≡ codes "ledger"
   pub complete : HasNamed s.verdict (length s.core)
-  pub behind : t ≡ record s { model = only s.model s.core; part = part.Ledger; kernel = Some (start_of (only s.model s.core)) }
+  pub behind : t ≡ record s {
+    model = only s.model s.core;
+    part = part.Ledger;
+    kernel = Some (start_of (only s.model s.core));
+  }
 
 -- a step of it
 pub record IsStep (s : Standing) (line : List ℕ) (t : Standing) : Type 0 where

@@ -38,7 +38,8 @@ pub record IsCoreText (model : Model) (text : List ℕ) (v : CoreVerdict) : Type
 
 -- what the text of a core says of a model that is taken is true, whoever wrote it
 abbrev pub CoreLaw : Type 0
-CoreLaw = (model : Model) (text : List ℕ) (s : Standing) → WellTyped model → InLimits model → core_weight model ≤ most_weight
+CoreLaw = (model : Model) (text : List ℕ) (s : Standing) → WellTyped model → InLimits model
+    → core_weight model ≤ most_weight
     → IsWhole IsNext IsEnd (start_standing model) text s → Says model s s.verdict
 
 -- each part of a core that lacks one of its statements has a solution
@@ -49,4 +50,5 @@ Irreducible = (model : Model) (core fewer : List ℕ) (n : ℕ)
 
 -- a line leads to one standing, so a text is whole with one verdict, or has one first line that fails, and never both
 abbrev pub OneNext : Type 0
-OneNext = (s t u : Standing) (line : List ℕ) → DeclsInLimit s.model.decls → IsNext s line t → IsNext s line u → t ≡ u
+OneNext = (s t u : Standing) (line : List ℕ) → DeclsInLimit s.model.decls → IsNext s line t → IsNext s line u
+    → t ≡ u

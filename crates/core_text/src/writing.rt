@@ -7,7 +7,8 @@ ghost use Rattle.name_map.specs.ValueLines.{declared_lines};
 ghost use Rattle.ledger_text.specs.Steps.{step_text};
 ghost use Rattle.proof_check.specs.Lines.{line_bytes};
 ghost use Rattle.core_text.specs.CoreLines.{version_line, verdict_line, statement_line, without_line};
-ghost use Rattle.core_text.specs.CoreDocuments.{certificate_lines, witness_lines, solution_lines, behind_lines, core_text, AreWhole};
+ghost use Rattle.core_text.specs.CoreDocuments.{certificate_lines, witness_lines, solution_lines, behind_lines};
+ghost use Rattle.core_text.specs.CoreDocuments.{core_text, AreWhole};
 
 use crate::document::CoreDocument;
 use crate::verdict::CoreVerdict;
@@ -95,7 +96,8 @@ fn push_certificate(
     ledger: &[Line],
     proof: &[ProofLine],
 ) -> Result<(), AllocError>
-    ensures { OnOk result (out.new.items ≡ out.old.items ++ join_lines (certificate_lines statements.now ledger.now proof.now)) }
+    ensures { OnOk result (out.new.items ≡ out.old.items
+        ++ join_lines (certificate_lines statements.now ledger.now proof.now)) }
 {
     push_statements(out, statements)?;
     push_steps(out, ledger)?;
@@ -112,7 +114,8 @@ fn push_witness(
     values: &[i64],
 ) -> Result<(), AllocError>
     requires { length decls.now ≡ length values.now }
-    ensures { OnOk result (out.new.items ≡ out.old.items ++ join_lines (without_line number ∷ declared_lines decls.now values.now)) }
+    ensures { OnOk result (out.new.items ≡ out.old.items
+        ++ join_lines (without_line number ∷ declared_lines decls.now values.now)) }
 {
     push_numbered(out, b"without ", number)?;
     push_values(out, decls, values)?;
@@ -128,7 +131,8 @@ fn push_witnesses(
     assignments: &[Assignment],
 ) -> Result<(), AllocError>
     requires { AreWhole decls.now assignments.now }
-    ensures { OnOk result (out.new.items ≡ out.old.items ++ join_lines (witness_lines decls.now statements.now assignments.now)) }
+    ensures { OnOk result (out.new.items ≡ out.old.items
+        ++ join_lines (witness_lines decls.now statements.now assignments.now)) }
 {
     for i in 0..statements.len() {
         if i >= assignments.len() {
@@ -178,7 +182,8 @@ fn push_behind(out: &mut Vec<u8>, decls: &[Decl], d: &CoreDocument) -> Result<()
 /// Writes the first lines.
 #[tactic(auto, using(crate::proofs::Written::joined))]
 fn push_head(out: &mut Vec<u8>, verdict: CoreVerdict) -> Result<(), AllocError>
-    ensures { OnOk result (out.new.items ≡ out.old.items ++ join_lines (version_line ∷ verdict_line verdict ∷ [])) }
+    ensures { OnOk result (out.new.items ≡ out.old.items
+        ++ join_lines (version_line ∷ verdict_line verdict ∷ [])) }
 {
     push_bytes(out, b"bee core 1\n")?;
     push_verdict_line(out, verdict)?;

@@ -45,4 +45,5 @@ OthersHold = (part fewer : List ℕ) (n : ℕ) (a : List ℤ) (ss : List Stmt)
 
 -- it weighs at most as much as any part may
 abbrev pub ChosenWeight : Type 0
-ChosenWeight = (model : Model) (part : List ℕ) → WellTyped model → weight_of (only model part) ≤ core_weight model
+ChosenWeight = (model : Model) (part : List ℕ) → WellTyped model
+    → weight_of (only model part) ≤ core_weight model

@@ -1,6 +1,7 @@
 //! Laws of parts, for proofs of crates above. The function does nothing; its contract is the laws.
 
-ghost use Rattle.model_parts.specs.PartLaws.{OnlyTyped, OnlyInLimits, OnlySolutions, FewerHold, OthersHold, ChosenWeight};
+ghost use Rattle.model_parts.specs.PartLaws.{OnlyTyped, OnlyInLimits, OnlySolutions, FewerHold, OthersHold};
+ghost use Rattle.model_parts.specs.PartLaws.{ChosenWeight};
 ghost use Rattle.model_parts.specs.DividedLaws.{PartIsOnly, MarkedIsChosen};
 
 /// A model with a part of its statements is well typed and in the limits where the model is; its solutions are the

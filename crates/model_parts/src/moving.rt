@@ -1,6 +1,7 @@
 //! Statements that are put on two sides by marks, and together again.
 
-ghost use Rattle.std.specs.Prelude.{◌≡◌, ◌++◌, ◌∷◌, [], true, false, reverse, IfOk, OnOk, if◌then◌else◌};
+ghost use Rattle.std.specs.Prelude.{◌≡◌, ◌++◌, ◌∷◌, [], true, false, reverse, IfOk, OnOk};
+ghost use Rattle.std.specs.Prelude.{if◌then◌else◌};
 ghost use Rattle.model_parts.specs.Sides.{kept_of, left_of, woven, IsNextMoved, IsSided};
 
 use model_meaning::Stmt;
@@ -33,7 +34,8 @@ fn side_next(
     stmts: &mut Vec<Stmt>,
 ) -> Result<(), AllocError>
     ensures { OnOk result
-        (IsSided mark kept.old.items left.old.items (reverse stmts.old.items) kept.new.items left.new.items (reverse stmts.new.items)) }
+        (IsSided mark kept.old.items left.old.items (reverse stmts.old.items) kept.new.items left.new.items
+        (reverse stmts.new.items)) }
 {
     if mark {
         move_next(left, stmts)

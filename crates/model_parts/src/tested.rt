@@ -1,6 +1,7 @@
 //! Whether an assignment meets all statements but one.
 
-ghost use Rattle.std.specs.Prelude.{◌≡◌, ◌↔◌, ◌+◌, ◌<◌, ◌||◌, IsTrue, IsNone, Some, None, MatchOption, drop, length, if◌then◌else◌};
+ghost use Rattle.std.specs.Prelude.{◌≡◌, ◌↔◌, ◌+◌, ◌<◌, ◌||◌, IsTrue, IsNone, Some, None};
+ghost use Rattle.std.specs.Prelude.{MatchOption, drop, length, if◌then◌else◌};
 ghost use Rattle.model_meaning.specs.Limits.{InLimits};
 ghost use Rattle.model_meaning.specs.Domains.{in_domains};
 ghost use Rattle.model_meaning.specs.Solutions.{AllHold, first_broken};
@@ -21,7 +22,8 @@ fn broken_at(model: &Model, place: usize, number: u64, a: &Assignment) -> Option
     requires domains { IsTrue (in_domains model.now.decls a.now.values) }
     requires place { place < length model.now.stmts }
     ensures { MatchOption result
-        (first_broken a.now.values (all_but number (drop place model.now.stmts)) ≡ first_broken a.now.values (all_but number (drop (place + 1) model.now.stmts)))
+        (first_broken a.now.values (all_but number (drop place model.now.stmts))
+        ≡ first_broken a.now.values (all_but number (drop (place + 1) model.now.stmts)))
         (λ n. first_broken a.now.values (all_but number (drop place model.now.stmts)) ≡ Some n) }
 {
     let stmts = model.stmts.as_slice();

@@ -237,8 +237,8 @@ impl Finder {
     }
 }
 
-/// The clauses that a text adds, up to the empty one, each with its hints. The clauses of the CNF have the ids from 1 on, and those that
-/// are added the next ones.
+/// The clauses that a text adds, up to the empty one, each with its hints. The clauses of the CNF have the ids from 1
+/// on, and those that are added the next ones.
 pub(crate) fn found_lines(
     alloc: Global,
     cnf: &Cnf,

@@ -70,9 +70,9 @@ fn judged(
     }
 }
 
-/// The derivation from a CNF that a refutation of it, or of it with an assumed literal, gives: lines with hints, of which only those
-/// stay that the last one needs, and where the literal was used, its negation joins the clause. The text has lines of DRUP. It takes
-/// the time of `check_drup` twice, and of each hint.
+/// The derivation from a CNF that a refutation of it, or of it with an assumed literal, gives: lines with hints, of
+/// which only those stay that the last one needs, and where the literal was used, its negation joins the clause. The
+/// text has lines of DRUP. It takes the time of `check_drup` twice, and of each hint.
 pub fn import_drup(
     alloc: Global,
     cnf: &Cnf,
@@ -87,7 +87,8 @@ pub fn import_drup(
     ensures accepted { IfOk result (λ _. IsDrup (with_assumed cnf.now assumed) text.now) }
     ensures fault { IfErr result (DrupFaultOf (with_assumed cnf.now assumed) text.now) }
     ensures complete { IsDrup (with_assumed cnf.now assumed) text.now → IfErr result (λ e. e ≡ Memory) }
-    ensures exact { (line : ℕ) → DrupFails (with_assumed cnf.now assumed) text.now line → IsErrAnd result (IsRefusalAt line) }
+    ensures exact { (line : ℕ) → DrupFails (with_assumed cnf.now assumed) text.now line
+        → IsErrAnd result (IsRefusalAt line) }
 {
     let whole = with_assumed(alloc, cnf, assumed)?;
     judged(alloc, cnf, &whole, assumed, text)

@@ -73,7 +73,8 @@ fn first_held(db: &ClauseDb, met: &Met) -> Option<(ClauseRef, u32)> {
     None
 }
 
-/// The ids of the reasons back from a clause that is false before a place of the trail, the last one first. A denied literal needs none.
+/// The ids of the reasons back from a clause that is false before a place of the trail, the last one first. A denied
+/// literal needs none.
 fn back_from(
     alloc: Global,
     db: &ClauseDb,
@@ -101,9 +102,9 @@ fn back_from(
     Ok(hints)
 }
 
-/// The ids of the clauses that show a clause whose literals are denied: reasons in the order in which they became so, and last the
-/// clause that is false. Where one of the literals became true for a clause, that is the last one: with all literals denied it
-/// is false.
+/// The ids of the clauses that show a clause whose literals are denied: reasons in the order in which they became so,
+/// and last the clause that is false. Where one of the literals became true for a clause, that is the last one: with
+/// all literals denied it is false.
 pub(crate) fn hints_behind(
     alloc: Global,
     db: &ClauseDb,

@@ -44,8 +44,8 @@ fn take_all(checker: &mut Checker, lines: &[ProofLine]) -> Result<bool, AllocErr
     Ok(true)
 }
 
-/// Whether lines are a proof from a CNF that refutes it, or an assumed literal. It takes the time of a copy of the CNF, and of the
-/// clauses that the hints name.
+/// Whether lines are a proof from a CNF that refutes it, or an assumed literal. It takes the time of a copy of the CNF,
+/// and of the clauses that the hints name.
 pub(crate) fn are_taken(
     alloc: Global,
     cnf: &Cnf,

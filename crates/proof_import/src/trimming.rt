@@ -132,8 +132,8 @@ fn joined(alloc: Global, lits: &[Lit], further: Option<Lit>) -> Result<Sequence<
     Ok(Sequence::from_vec(out))
 }
 
-/// The lines that the last one needs, with ids behind those that are given. Where the assumed literal was used, its negation joins the
-/// clause.
+/// The lines that the last one needs, with ids behind those that are given. Where the assumed literal was used, its
+/// negation joins the clause.
 pub(crate) fn trimmed(
     alloc: Global,
     found: Vec<FoundLine>,

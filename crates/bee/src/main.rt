@@ -29,7 +29,7 @@ fn refused(error: &io::Error) -> Status {
 
 /// Ends before the call, and says why.
 fn ended<E: Sink>(alloc: Global, status: &Status, err: &mut E) -> ExitCode {
-    report(alloc, status, err);
+    report(alloc, status, None, err);
     ExitCode::from(code(status))
 }
 

@@ -14,12 +14,14 @@
 //! writes is accepted, and an empty text is refused at line 1. `docs/PROVED.md` has it mode by
 //! mode.
 //!
-//! The lines on standard error have no clause; rows show them. A further mode is a case of
+//! The lines on standard error have no clause; rows show them. Why a line is refused goes from its
+//! mode into a cell, and from there into words (`Reason`). A further mode is a case of
 //! `is_built`, `Obeys`, the statuses and `obey`.
 #![tactic(auto)]
 
 mod exit_code;
 mod laws;
+mod reason;
 mod reporting;
 mod running;
 mod status;
@@ -27,6 +29,7 @@ mod status;
 pub use exit_code::code;
 pub use laws::{checking_law, decoding_law};
 pub use model_texts::ModelFault;
+pub use reason::Reason;
 pub use reporting::report;
 pub use running::run;
 pub use status::Status;

@@ -1,14 +1,22 @@
 //! The line on the sink for errors.
 
+use crate::reason::Reason;
 use crate::status::Status;
 use bee_outside::{Sink, write_all};
 use std::alloc::Global;
 
-/// Says in one line why nothing came of a run. A fault of the sink, and want of memory for the line, are
-/// passed over.
-pub fn report<E: Sink>(alloc: Global, status: &Status, err: &mut E) {
+/// Says in one line why nothing came of a run, or why a line was refused. A fault of the sink, and want of memory for
+/// the line, are passed over.
+pub fn report<E: Sink>(alloc: Global, status: &Status, reason: Option<Reason>, err: &mut E) {
     match status {
-        Status::Done | Status::Refused(_) | Status::Unknown(_) => {}
+        Status::Done | Status::Unknown(_) => {}
+        Status::Refused(line) => {
+            if let Some(reason) = reason {
+                if let Ok(line) = format!(in alloc; "bee: line {line}: {reason}\n") {
+                    say(err, line.as_bytes());
+                }
+            }
+        }
         Status::Usage => say(
             err,
             b"bee: usage: bee MODE INPUT [SECOND] [--budget N] [--no-restart]\n",

@@ -5,8 +5,10 @@ ghost use Rattle.command_words.specs.Request.{request_of};
 ghost use Rattle.command_words.specs.Limits.{KeepsLimits};
 ghost use Rattle.command_words.specs.Line.{request};
 ghost use Rattle.text_modes.specs.Seen.{seen, shelf_shown, sink_shown};
+ghost use Rattle.check_mode.specs.CheckMode.{CheckMode};
 ghost use Rattle.bee_cli.specs.Obeyed.{search_options, clause_options, is_built, Obeys};
 
+use crate::reason::Reason;
 use crate::reporting::report;
 use crate::status::{Status, clauses_status, cnf_status, model_status};
 use bee_outside::{Shelf, Sink};
@@ -15,10 +17,13 @@ use command_words::{Command, Options, read_command};
 use compile_mode::compile;
 use decode_mode::decode;
 use drup_mode::drup;
+use model_texts::ModelFault;
 use queens_mode::queens;
 use sat_mode::{SearchOptions, sat};
 use solve_mode::solve;
 use std::alloc::{AllocError, Global};
+use std::cell::Cell;
+use text_modes::End;
 use weigh_mode::weigh;
 
 /// How an answer is sought, as the words say it.
@@ -41,12 +46,33 @@ fn clause_options(options: Options) -> SearchOptions
     }
 }
 
-/// What comes of a command.
+/// Checks an answer, and keeps what stands against a line of it.
+fn check_noting<S: Shelf, O: Sink>(
+    alloc: Global,
+    input: &str,
+    second: &str,
+    shelf: &mut S,
+    out: &mut O,
+    reason: &Cell<Option<Reason>>,
+) -> End<ModelFault>
+    ensures { CheckMode input.now second.now result (seen (shelf_shown S.left S.faults)
+        (sink_shown O.taken O.flushed O.faults) shelf.old shelf.new out.old out.new) }
+{
+    let noted = Cell::new(None);
+    let end = check(alloc, input, second, shelf, out, &noted);
+    if let Some(why) = noted.get() {
+        reason.set(Some(Reason::Answer(why)));
+    }
+    end
+}
+
+/// What comes of a command. Why a line is refused is put into the cell.
 fn obey<S: Shelf, O: Sink>(
     alloc: Global,
     command: &Command<'_>,
     shelf: &mut S,
     out: &mut O,
+    reason: &Cell<Option<Reason>>,
 ) -> Status
     requires { KeepsLimits (request_of command.now) }
     ensures usage { result ≢ Status.Memory →
@@ -60,34 +86,49 @@ fn obey<S: Shelf, O: Sink>(
         Command::Solve { input, options } => {
             model_status(solve(alloc, input, search_options(*options), shelf, out))
         }
-        Command::Check { input, second } => model_status(check(alloc, input, second, shelf, out)),
-        Command::Decode { input, second } => cnf_status(decode(alloc, input, second, shelf, out)),
+        Command::Check { input, second } => {
+            model_status(check_noting(alloc, input, second, shelf, out, reason))
+        }
+        Command::Decode { input, second } => {
+            reason.set(Some(Reason::Values));
+            cnf_status(decode(alloc, input, second, shelf, out))
+        }
         Command::Queens { size, options } => {
             model_status(queens(alloc, *size, search_options(*options), out))
         }
         Command::Sat { input, options } => {
             clauses_status(sat(alloc, input, clause_options(*options), shelf, out))
         }
-        Command::Drup { input, second } => clauses_status(drup(alloc, input, second, shelf, out)),
+        Command::Drup { input, second } => {
+            reason.set(Some(Reason::Proof));
+            clauses_status(drup(alloc, input, second, shelf, out))
+        }
     }
 }
 
 /// What comes of the words.
 #[tactic(auto, using(crate::proofs::Obeyings::keeps))]
-fn follow<S: Shelf, O: Sink>(alloc: Global, words: &[String], shelf: &mut S, out: &mut O) -> Status
+fn follow<S: Shelf, O: Sink>(
+    alloc: Global,
+    words: &[String],
+    shelf: &mut S,
+    out: &mut O,
+    reason: &Cell<Option<Reason>>,
+) -> Status
     ensures usage { result ≢ Status.Memory →
         (result ≡ Status.Usage) ↔ IsFalse (is_built (request (map string_bytes words.now))) }
     ensures obeys { Obeys (request (map string_bytes words.now)) result (seen (shelf_shown S.left S.faults)
         (sink_shown O.taken O.flushed O.faults) shelf.old shelf.new out.old out.new) }
 {
     match read_command(alloc, words) {
-        Ok(Some(command)) => obey(alloc, &command, shelf, out),
+        Ok(Some(command)) => obey(alloc, &command, shelf, out, reason),
         Ok(None) => Status::Usage,
         Err(AllocError) => Status::Memory,
     }
 }
 
-/// Does what the words say, from the shelf to `out`, and says on `err` in one line why nothing came of it.
+/// Does what the words say, from the shelf to `out`, and says on `err` in one line why nothing came of it, or why a line
+/// of the second text was refused.
 /// A fault of `err` changes no status. The whole text is made before the first byte of it is written, so
 /// `out` has a byte of it only where the run ends in `Done` or in `Write`.
 pub fn run<S: Shelf, O: Sink, E: Sink>(
@@ -106,7 +147,8 @@ pub fn run<S: Shelf, O: Sink, E: Sink>(
     ensures obeys { Obeys (request (map string_bytes words.now.items)) result (seen (shelf_shown S.left S.faults)
         (sink_shown O.taken O.flushed O.faults) shelf.old shelf.new out.old out.new) }
 {
-    let status = follow(alloc, words.as_slice(), shelf, out);
-    report(alloc, &status, err);
+    let reason = Cell::new(None);
+    let status = follow(alloc, words.as_slice(), shelf, out, &reason);
+    report(alloc, &status, reason.get(), err);
     status
 }

@@ -125,11 +125,14 @@ fn values_are_told(rt: HostRuntime) -> Result<(), Fail> {
 /// Asserts that an answer is refused at a line.
 fn answer_row(rt: &impl Abort, alloc: Global, answer: &str, line: u128) -> Result<(), Fail> {
     let told = format!(in alloc; "REFUSED {line}\n")?;
+    let cause = format!(in alloc;
+        "bee: line {line}: no line of values that satisfy the clauses\n"
+    )?;
     let wanted = Wanted {
         status: ("refused", line),
         code: 1,
         out: told.as_bytes(),
-        err: b"",
+        err: cause.as_bytes(),
     };
     decode_shows(rt, alloc, SUM, answer, &wanted)
 }

@@ -107,7 +107,7 @@ static PROOFS: [Row; 12] = [
         ("refused", 1),
         1,
         "REFUSED 1\n",
-        "",
+        "bee: line 1: no clause that unit propagation shows\n",
     ),
     // A clause that may be added, since no other one has its literal's negation, but that isn't shown.
     (
@@ -117,7 +117,7 @@ static PROOFS: [Row; 12] = [
         ("refused", 2),
         1,
         "REFUSED 2\n",
-        "",
+        "bee: line 2: no clause that unit propagation shows\n",
     ),
     // The clauses don't show the empty one.
     (
@@ -127,9 +127,17 @@ static PROOFS: [Row; 12] = [
         ("refused", 3),
         1,
         "REFUSED 3\n",
-        "",
+        "bee: line 3: no clause that unit propagation shows\n",
     ),
-    (DRUP, PAIRS, "", ("refused", 1), 1, "REFUSED 1\n", ""),
+    (
+        DRUP,
+        PAIRS,
+        "",
+        ("refused", 1),
+        1,
+        "REFUSED 1\n",
+        "bee: line 1: no clause that unit propagation shows\n",
+    ),
     (
         DRUP,
         PAIRS,
@@ -137,7 +145,7 @@ static PROOFS: [Row; 12] = [
         ("refused", 2),
         1,
         "REFUSED 2\n",
-        "",
+        "bee: line 2: no clause that unit propagation shows\n",
     ),
     (
         DRUP,
@@ -146,7 +154,7 @@ static PROOFS: [Row; 12] = [
         ("refused", 2),
         1,
         "REFUSED 2\n",
-        "",
+        "bee: line 2: no clause that unit propagation shows\n",
     ),
     // What `bee sat` writes for them: a first line that is no clause.
     (
@@ -156,7 +164,7 @@ static PROOFS: [Row; 12] = [
         ("refused", 1),
         1,
         "REFUSED 1\n",
-        "",
+        "bee: line 1: no clause that unit propagation shows\n",
     ),
 ];
 
@@ -234,7 +242,7 @@ static TEXTS: [Row; 11] = [
         ("refused", 1),
         1,
         "REFUSED 1\n",
-        "",
+        "bee: line 1: no clause that unit propagation shows\n",
     ),
     (
         &["bee", "drup", "m.cnf", "m.cnf"],

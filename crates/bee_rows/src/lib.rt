@@ -18,6 +18,8 @@ mod answering;
 #[cfg(test)]
 mod boolean_models;
 #[cfg(test)]
+mod causes;
+#[cfg(test)]
 mod compile;
 #[cfg(test)]
 mod damage;

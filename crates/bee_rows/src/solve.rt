@@ -355,7 +355,7 @@ fn one_name_for_both_is_refused(rt: HostRuntime) -> Result<(), Fail> {
         status: ("refused", 1),
         code: 1,
         out: b"REFUSED 1\n",
-        err: b"",
+        err: b"bee: line 1: not the next line of an answer\n",
     };
     shows(&rt, &run, &wanted, &[PAIRS]);
     Ok(())

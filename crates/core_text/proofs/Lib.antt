@@ -2,3 +2,4 @@ pub mod Words
 pub mod OneLine
 pub mod Standings
 pub mod CoreLaws
+pub mod Written

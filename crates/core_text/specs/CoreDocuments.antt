@@ -8,10 +8,12 @@ use Rattle.model_meaning.specs.Domains.{in_domains}
 use Rattle.model_meaning.specs.Solutions.{AllHold, IsSolution}
 use Rattle.model_parts.specs.Only.{is_listed, numbers_of, chosen, only, all_but}
 use Rattle.name_map.specs.ValueLines.{declared_lines}
+use Rattle.ledger_text.specs.declared.line.Line.{Line}
 use Rattle.ledger_text.specs.Steps.{step_text}
 use Rattle.step_kernel.specs.Kernel.{Kernel}
 use Rattle.step_kernel.specs.Steps.{replay}
 use Rattle.step_kernel.specs.CnfOf.{cnf_of}
+use Rattle.proof_check.specs.declared.line.ProofLine.{ProofLine}
 use Rattle.proof_check.specs.Lines.{line_bytes}
 use Rattle.proof_check.specs.Lrat.{Proof, proof_of, take_lines}
 use Rattle.proof_check.specs.Known.{known}
@@ -22,9 +24,9 @@ use Rattle.core_text.specs.declared.document.CoreDocument.{CoreDocument}
 use Rattle.core_text.specs.CoreLines.{version_line, verdict_line, statement_line, without_line, VerdictFits}
 
 -- the lines of the part, its ledger and the derivation
-abbrev pub certificate_lines : CoreDocument → List (List ℕ)
-certificate_lines d =
-    map statement_line d.statements ++ (codes "ledger" ∷ (map step_text d.ledger ++ (codes "proof" ∷ map line_bytes d.proof)))
+abbrev pub certificate_lines : List ℕ → List Line → List ProofLine → List (List ℕ)
+certificate_lines statements ledger proof =
+    map statement_line statements ++ ((codes "ledger" ∷ map step_text ledger) ++ (codes "proof" ∷ map line_bytes proof))
 
 -- each statement with its assignment
 abbrev pub witness_lines : List Decl → List ℕ → List Assignment → List (List ℕ)
@@ -40,14 +42,20 @@ solution_lines decls (a ∷ given) = declared_lines decls a.values
 -- what stands behind the verdict
 abbrev pub behind_lines : List Decl → CoreDocument → CoreVerdict → List (List ℕ)
 behind_lines decls d Satisfiable = solution_lines decls d.assignments
-behind_lines decls d (Core k) = certificate_lines d ++ witness_lines decls d.statements d.assignments
-behind_lines decls d (Unknown n) = certificate_lines d
+behind_lines decls d (Core k) =
+    certificate_lines d.statements d.ledger d.proof ++ witness_lines decls d.statements d.assignments
+behind_lines decls d (Unknown n) = certificate_lines d.statements d.ledger d.proof
 
 abbrev pub core_lines : List Decl → CoreDocument → List (List ℕ)
-core_lines decls d = version_line ∷ verdict_line d.verdict ∷ (behind_lines decls d d.verdict ++ codes "end" ∷ [])
+core_lines decls d = (version_line ∷ verdict_line d.verdict ∷ []) ++ (behind_lines decls d d.verdict ++ codes "end" ∷ [])
 
 abbrev pub core_text : List Decl → CoreDocument → List ℕ
 core_text decls d = join_lines (core_lines decls d)
+
+-- each assignment has a value for each declared name
+abbrev pub AreWhole : List Decl → List Assignment → Type 0
+AreWhole decls [] = Unit {0}
+AreWhole decls (a ∷ given) = (length decls ≡ length a.values) × AreWhole decls given
 
 -- a part of a model: numbers of its statements, ascending from n on
 abbrev pub ArePart : Model → ℕ → List ℕ → Type 0

@@ -1,5 +1,5 @@
 -- Each text has an answer, and a weight that is told is the one of the refusal.
-use Rattle.std.proofs.Common.{◌≡◌, ℕ, ◌⊎◌, inl, inr, ◌≤◌, List, ◌∷◌, ◌++◌, map, length, ap, sym, ◌∙◌}
+use Rattle.std.proofs.Common.{◌≡◌, ℕ, inl, inr, List, ◌∷◌, ◌++◌, map, ap, sym, ◌∙◌}
 use Rattle.text_modes.specs.declared.ends.Outcome.TheVariants.{Done}
 use Rattle.text_modes.specs.declared.ends.End.{End}
 use Rattle.text_modes.specs.declared.ends.End.TheVariants.{Wrote, Fault}
@@ -8,12 +8,12 @@ use Rattle.model_meaning.specs.declared.model.Model.{Model}
 use Rattle.model_weight.specs.Weight.{weight_of}
 use Rattle.model_texts.specs.declared.fault.ModelFault.{ModelFault}
 use Rattle.model_texts.specs.declared.fault.ModelFault.TheVariants as fault
-use Rattle.model_texts.specs.ModelTexts.{longest_text, IsModelOf, HasFault}
+use Rattle.model_texts.specs.ModelTexts.{HasFault}
 use Rattle.model_texts.proofs.FaultOrModel.{FaultOrModel, fault_or_model}
 use Rattle.model_texts.proofs.OneModel.{one_model}
 use Rattle.weigh_mode.specs.Heaviest.{heaviest_items}
-use Rattle.weigh_mode.specs.WeighingText.{weight_line, item_line, weighing_text}
-use Rattle.weigh_mode.specs.WeighMode.{HasFormFault, IsWeighed, HasEnd}
+use Rattle.weigh_mode.specs.WeighingText.{weight_line, item_line}
+use Rattle.weigh_mode.specs.WeighMode.{HasEnd}
 use Rattle.weigh_mode.specs.AnswerLaws.{WeighAnswers, WeighsAsRefused}
 
 faulty : (text : List ℕ) (f : ModelFault) → HasFault text f → (end : End ModelFault) × HasEnd text end

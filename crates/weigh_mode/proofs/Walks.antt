@@ -1,5 +1,5 @@
 -- What is kept on a walk along the items of a model.
-use Rattle.std.proofs.Common.{arith, ◌≡◌, ℕ, ◌<◌, ◌^◌, List, [], ◌∷◌, take, ap, ap₂, subst, sym, ◌∙◌}
+use Rattle.std.proofs.Common.{arith, ◌≡◌, ◌<◌, ◌^◌, List, [], ◌∷◌, take, ap, ap₂, subst, sym, ◌∙◌}
 use Rattle.model_meaning.specs.declared.model.Decl.{Decl}
 use Rattle.model_meaning.specs.declared.model.Stmt.{Stmt}
 use Rattle.model_meaning.specs.declared.model.Model.{Model}

@@ -1,5 +1,5 @@
 -- An item that comes behind those that are kept by their weight.
-use Rattle.std.specs.Prelude.{ℕ, zero, suc, nat_lt, List, [], ◌∷◌, if◌then◌else◌}
+use Rattle.std.specs.Prelude.{ℕ, suc, nat_lt, List, [], ◌∷◌, if◌then◌else◌}
 use Rattle.weigh_mode.specs.declared.heaviest.WeighedItem.{WeighedItem}
 
 -- an item in front of the first one that is less heavy

@@ -1,5 +1,5 @@
 -- The text that tells what a model weighs.
-use Rattle.std.specs.Prelude.{ℕ, ◌*◌, ◌/◌, List, [], ◌∷◌, ◌++◌, map, codes}
+use Rattle.std.specs.Prelude.{ℕ, ◌*◌, ◌/◌, List, ◌∷◌, ◌++◌, map, codes}
 use Rattle.std.specs.Fmt.{decimal}
 use Rattle.bee_text.specs.Lines.{join_lines}
 use Rattle.core_cost.specs.Saturated.{saturated}

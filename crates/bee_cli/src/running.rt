@@ -15,6 +15,7 @@ use command_words::{Command, Options, read_command};
 use compile_mode::compile;
 use decode_mode::decode;
 use drup_mode::drup;
+use opb_mode::{opb, opb_model_text};
 use queens_mode::queens;
 use sat_mode::{SearchOptions, sat};
 use solve_mode::solve;
@@ -67,6 +68,10 @@ fn obey<S: Shelf, O: Sink>(
             clauses_status(sat(alloc, input, clause_options(*options), shelf, out))
         }
         Command::Drup { input, second } => clauses_status(drup(alloc, input, second, shelf, out)),
+        Command::OpbModel { input } => model_status(opb_model_text(alloc, input, shelf, out)),
+        Command::Opb { input, options } => {
+            model_status(opb(alloc, input, search_options(*options), shelf, out))
+        }
     }
 }
 

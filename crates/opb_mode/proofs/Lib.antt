@@ -1,0 +1,4 @@
+pub mod Shapes
+pub mod Faults
+pub mod Ends
+pub mod Verdicts

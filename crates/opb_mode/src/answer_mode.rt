@@ -1,0 +1,78 @@
+//! The mode `opb`.
+
+ghost use Rattle.text_modes.specs.Seen.{seen, shelf_shown, sink_shown};
+ghost use Rattle.decode_minimize.specs.Answers.{IsBudget};
+ghost use Rattle.opb_mode.specs.OpbMode.{OpbMode};
+
+use crate::making::file_answer_text;
+use bee_outside::{Shelf, Sink};
+use decode_minimize::Options;
+use model_texts::{LONGEST_TEXT, ModelFault, ModelTextFault};
+use std::alloc::{AllocError, Global};
+use std::marker::Model;
+use text_modes::{End, Made, OneText, run_one};
+
+/// The text of a file is read, and that of the answer to its model is written.
+#[derive(Drop)]
+struct SolvingFile {
+    options: Options,
+}
+
+impl Model for SolvingFile {
+    ghost use Rattle.decode_minimize.specs.Answers.{IsBudget};
+    ghost use Rattle.decode_minimize.specs.declared.options.Options.{Options};
+
+    ghost Value = { Options };
+
+    ghost view = { λ s. s.options };
+
+    ghost invariant = { λ s. IsBudget s.options.budget };
+}
+
+impl OneText for SolvingFile {
+    ghost use Rattle.std.specs.Prelude.{◌+◌, Some};
+    ghost use Rattle.model_texts.specs.ModelTexts.{longest_text};
+    ghost use Rattle.opb_mode.specs.Files.{HasOpbFault};
+    ghost use Rattle.opb_mode.specs.OpbMode.{IsSolvedFile};
+
+    type Fault = ModelFault;
+
+    ghost most = { λ _. Some (longest_text + 1) };
+
+    ghost gives = { λ options. IsSolvedFile options };
+
+    ghost has_fault = { λ _. HasOpbFault };
+
+    fn limit(&self) -> Option<usize> {
+        Some(LONGEST_TEXT + 1)
+    }
+
+    fn too_long(&self) -> ModelFault {
+        ModelFault::TooLong
+    }
+
+    #[tactic(auto, using(crate::proofs::Faults::opb_had, crate::proofs::Faults::within_limit))]
+    fn make(&self, alloc: Global, text: &[u8]) -> Result<Made<ModelFault>, AllocError> {
+        match file_answer_text(alloc, text, self.options) {
+            Ok((outcome, written)) => Ok(Made::Text(outcome, written)),
+            Err(ModelTextFault::Model(fault)) => Ok(Made::Fault(fault)),
+            Err(ModelTextFault::Memory) => Err(AllocError),
+        }
+    }
+}
+
+/// Reads the text of a pseudo-Boolean file, seeks an answer to its model, makes the whole text of that, and then writes it. The end
+/// tells whether the budget was spent.
+pub fn opb<S: Shelf, O: Sink>(
+    alloc: Global,
+    input: &str,
+    options: Options,
+    shelf: &mut S,
+    out: &mut O,
+) -> End<ModelFault>
+    requires { IsBudget options.budget }
+    ensures { OpbMode options input.now result (seen (shelf_shown S.left S.faults)
+        (sink_shown O.taken O.flushed O.faults) shelf.old shelf.new out.old out.new) }
+{
+    run_one(alloc, &SolvingFile { options }, input, shelf, out)
+}

@@ -63,7 +63,7 @@ module _ (text : List ℕ) (within : length text ≤ longest_text) where
 
   said : (opb : Opb) → IsOpbText text opb → Ended
   said opb says = ⊎_elim
-      (λ (long : longest_text < length (opb_text opb)). (Fault fault.TooLong, inr (within, (opb, (says, long)))))
+      (λ (long : longest_text < length (opb_text opb)). (Fault fault.TooLong, inr (within, (opb, says, long))))
       (λ (short : length (opb_text opb) ≤ longest_text). (Wrote Done, (opb, record { within = within; says = says; short = short })))
       (cases_lt longest_text (length (opb_text opb)))
 

@@ -66,7 +66,7 @@ opb_cause text (text_fault.Model f) h = inl h
 opb_cause text text_fault.Memory h = tt
 
 heavy : (text : List ℕ) (opb : Opb) → HoldsFile text opb → (f : LowerFault) → IsFaultOf f (opb_model opb) → IsOpbCause text (lower_fault_of f)
-heavy text opb h (TooHeavy w) k = inr (opb, (h, (k.0, k.1 (exact (opb_text opb) (opb_model opb) h.short (said text opb h.says)))))
+heavy text opb h (TooHeavy w) k = inr (opb, h, k.0, k.1 (exact (opb_text opb) (opb_model opb) h.short (said text opb h.says)))
 heavy text opb h Memory k = tt
 
 pub heavy_cause : (text : List ℕ) (opb : Opb) (m : Model) (f : LowerFault) (e : ModelTextFault) → HoldsFile text opb → m ≡ opb_model opb → IsFaultOf f m → e ≡ lower_fault_of f
@@ -87,7 +87,7 @@ pub written_text : (text : List ℕ) (opb : Opb) (written : List ℕ) → length
 written_text text opb written within says e short = model_said text opb written (held text opb written within says e short) e
 
 pub too_long : (text : List ℕ) (opb : Opb) → IsOpbText text opb → longest_text < length (opb_text opb) → IsFileCause text (text_fault.Model fault.TooLong)
-too_long text opb says long = (opb, (says, long))
+too_long text opb says long = (opb, says, long)
 
 -- the answer to the model
 

@@ -2,4 +2,4 @@ use Rattle.opb_mode.proofs.Shapes.{well}
 use Rattle.opb_mode.proofs.making.file_answer_text.Goals as goal
 
 pub write_answer-requires-clause-typed : goal.write_answer-requires-clause-typed
-write_answer-requires-clause-typed c = well c.args.text.now c.in_ok-opb.opb c.in-Ok.model c.in_ok-opb.ensures.file c.in-Ok.ensures
+write_answer-requires-clause-typed c = well c.args.text.now c.in_ok-opb.opb c.in-Ok.model c.in_ok-opb.ensures.file c.in-Ok.ensures.model

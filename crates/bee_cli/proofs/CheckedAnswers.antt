@@ -1,9 +1,12 @@
 -- What checking makes of answers.
-use Rattle.std.proofs.Common.{◌≡◌, ℕ, List, [], ℤ, Option, refl, sym, subst, inr, map}
+use Rattle.std.proofs.Common.{◌≡◌, ℕ, ◌≤◌, List, [], length, ℤ, Option, refl, sym, ap, ◌∙◌, subst, inr, map}
 use Rattle.model_meaning.specs.declared.model.Decl.{Decl}
 use Rattle.model_meaning.specs.declared.model.Model.{Model}
 use Rattle.answer_document.specs.Valid.{IsValid, numbers_given}
+use Rattle.model_texts.specs.ModelTexts.{longest_text, IsModelOf}
 use Rattle.model_texts.proofs.ModelShapes.{names}
+use Rattle.opb_front.proofs.Ends.{said_same}
+use Rattle.opb_model.specs.Models.{opb_model}
 use Rattle.ledger_check.specs.declared.fault.Why.TheVariants.{Shape}
 use Rattle.ledger_check.specs.declared.part.Part.{Part}
 use Rattle.ledger_check.specs.declared.part.Part.TheVariants.{Version, End}
@@ -11,7 +14,7 @@ use Rattle.ledger_check.specs.Tests.{start_standing}
 use Rattle.ledger_check.specs.Checked.{IsFirstFault, IsRefused}
 use Rattle.ledger_check.proofs.DocumentLines.{declared-lines}
 use Rattle.check_mode.proofs.Refusals.{first_fault_refused}
-use Rattle.bee_cli.specs.CheckLaws.{SolvedIsAccepted, EmptyIsRefused}
+use Rattle.bee_cli.specs.CheckLaws.{SolvedIsAccepted, FileAnswerIsAccepted, EmptyIsRefused}
 
 pub solved_is_accepted : SolvedIsAccepted
 solved_is_accepted options outcome texts h =
@@ -20,6 +23,21 @@ solved_is_accepted options outcome texts h =
     record {
       model = answer.model;
       held = answer.held;
+      verdict = d.verdict;
+      assignment = numbers_given d.assignment;
+      valid = subst (λ (t : List ℕ). IsValid answer.model t d.verdict (numbers_given d.assignment)) (sym answer.is.writes) answer.is.is.valid;
+    }
+
+pub file_answer_is_accepted : FileAnswerIsAccepted
+file_answer_is_accepted options outcome file texts m h =
+    let answer = h.answer in
+    let d = answer.is.document in
+    let same : answer.held.opb ≡ m.opb = said_same file answer.held.opb m.opb answer.held.file.says m.file.says in
+    let model_is : answer.model ≡ opb_model m.opb = answer.held.model_is ∙ ap opb_model same in
+    let within = subst (λ (t : List ℕ). length t ≤ longest_text) (sym m.canonical) m.file.short in
+    record {
+      model = answer.model;
+      held = record { within = within; says = subst (λ (n : Model). IsModelOf texts.first n) (sym model_is) m.says; light = answer.held.light };
       verdict = d.verdict;
       assignment = numbers_given d.assignment;
       valid = subst (λ (t : List ℕ). IsValid answer.model t d.verdict (numbers_given d.assignment)) (sym answer.is.writes) answer.is.is.valid;

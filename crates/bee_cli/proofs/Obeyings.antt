@@ -3,7 +3,7 @@ use Rattle.std.proofs.Common.{◌≡◌, ℕ, List, Some, None, refl, sym, subst
 use Rattle.std.specs.Prelude.{Option, option_map}
 use Rattle.command_words.specs.declared.command.Command.{Command}
 use Rattle.command_words.specs.declared.command.Options.{Options as Words}
-use Rattle.command_words.specs.Request.{Request, Compile, Weigh, Solve, Check, Decode, Queens, Sat, Drup, request_of}
+use Rattle.command_words.specs.Request.{Request, Compile, Weigh, Solve, Check, Decode, Queens, Sat, Drup, OpbModel, Opb, request_of}
 use Rattle.command_words.specs.Line.{request}
 use Rattle.command_words.specs.Limits.{KeepsLimits}
 use Rattle.command_words.proofs.RequestLimits.{requests_keep_limits}
@@ -19,6 +19,7 @@ use Rattle.queens_mode.specs.QueensMode.{QueensMode}
 use Rattle.queens_mode.proofs.Ends as placing
 use Rattle.sat_mode.proofs.Ends as searching
 use Rattle.drup_mode.proofs.Ends as proving
+use Rattle.opb_mode.proofs.Ends as files
 use Rattle.model_texts.specs.declared.fault.ModelFault.{ModelFault}
 use Rattle.decode_minimize.specs.declared.options.Options.{Options}
 use Rattle.bee_cli.specs.Statuses.{model_fault, status_of}
@@ -37,6 +38,8 @@ unread (Some (Decode input second)) seen same = (end.Memory, refl, decoding.idle
 unread (Some (Queens size options)) seen same = (end.Memory, refl, placing.idle (search_options options) size seen same)
 unread (Some (Sat input options)) seen same = (end.Memory, refl, searching.idle (clause_options options) input seen same)
 unread (Some (Drup input second)) seen same = (end.Memory, refl, proving.idle input second seen same)
+unread (Some (OpbModel input)) seen same = (end.Memory, refl, files.model_idle input seen same)
+unread (Some (Opb input options)) seen same = (end.Memory, refl, files.idle (search_options options) input seen same)
 
 -- queens are placed, by the options that the words say
 pub queens_obeyed : (words : Words) (options : Options) (size : ℕ) (ending : End ModelFault) (status : Status) (seen : Seen) → options ≡ search_options words → QueensMode options size ending seen → status ≡ status_of model_fault ending

@@ -14,6 +14,7 @@ use crate::status::{Status, clauses_status, cnf_status, model_status};
 use bee_outside::{Shelf, Sink};
 use command_words::{Command, Options, read_command};
 use compile_mode::compile;
+use opb_mode::{opb, opb_model_text};
 use queens_mode::queens;
 use sat_mode::{SearchOptions, sat};
 use solve_mode::solve;
@@ -75,6 +76,10 @@ fn obey<S: Shelf, O: Sink>(
         }
         Command::Drup { input, second } => {
             clauses_status(drup_noting(alloc, input, second, shelf, out, reason))
+        }
+        Command::OpbModel { input } => model_status(opb_model_text(alloc, input, shelf, out)),
+        Command::Opb { input, options } => {
+            model_status(opb(alloc, input, search_options(*options), shelf, out))
         }
     }
 }

@@ -48,6 +48,8 @@ mod listed_models;
 #[cfg(test)]
 mod matrix_examples;
 #[cfg(test)]
+mod opb;
+#[cfg(test)]
 mod outside;
 #[cfg(test)]
 mod queens;

@@ -25,6 +25,8 @@ fn mode_of<'a>(command: &Command<'a>) -> (&'static str, &'a str) {
         Command::Queens { .. } => ("queens", ""),
         Command::Sat { input, .. } => ("sat", input),
         Command::Drup { input, .. } => ("drup", input),
+        Command::OpbModel { input } => ("opbmodel", input),
+        Command::Opb { input, .. } => ("opb", input),
     }
 }
 
@@ -51,7 +53,8 @@ fn options_of(command: &Command<'_>) -> Option<(u64, bool)> {
     match *command {
         Command::Solve { options, .. }
         | Command::Queens { options, .. }
-        | Command::Sat { options, .. } => Some((options.budget, options.restart)),
+        | Command::Sat { options, .. }
+        | Command::Opb { options, .. } => Some((options.budget, options.restart)),
         _ => None,
     }
 }

@@ -6,7 +6,7 @@ use Rattle.std.proofs.lemmas.Bool.Decides.{nat_tests}
 use Rattle.clap.specs.Words.{Text}
 use Rattle.command_words.specs.declared.command.Options.{Options}
 use Rattle.command_words.specs.Numeral.{is_numeral, is_within, read_on, number_within}
-use Rattle.command_words.specs.Request.{Request, Compile, Weigh, Solve, Check, Decode, Queens, Sat, Drup, is_word, budget_of, size_of, options_of, lone_input, both_inputs, queens_size, mode_requested, requested}
+use Rattle.command_words.specs.Request.{Request, Compile, Weigh, Solve, Check, Decode, Queens, Sat, Drup, OpbModel, Opb, is_word, budget_of, size_of, options_of, lone_input, both_inputs, queens_size, mode_requested, requested}
 use Rattle.command_words.specs.Line.{is_taken, value_of}
 use Rattle.command_words.specs.Limits.{IsBudget, KeepsLimits, RequestsKeepLimits}
 
@@ -80,8 +80,10 @@ module _ (value : Text → Option Text) (o : Options) (given : IsBudget o.budget
       (choose (is_word (codes "decode") word) (option_map (λ names. Decode names.0 names.1) (both_inputs value)) _ (mapped (λ names. Decode names.0 names.1) KeepsLimits (λ _. tt) (both_inputs value) asked)
       (choose (is_word (codes "queens") word) (option_map (λ size. Queens size o) (queens_size value)) _ (queens (queens_size value) refl)
       (choose (is_word (codes "sat") word) (option_map (λ input. Sat input o) (lone_input value)) _ (mapped (λ input. Sat input o) KeepsLimits (λ _. given) (lone_input value) asked)
-      (choose (is_word (codes "drup") word) (option_map (λ names. Drup names.0 names.1) (both_inputs value)) None (mapped (λ names. Drup names.0 names.1) KeepsLimits (λ _. tt) (both_inputs value) asked)
-      (λ e. absurd (let c = e in cc)))))))))
+      (choose (is_word (codes "drup") word) (option_map (λ names. Drup names.0 names.1) (both_inputs value)) _ (mapped (λ names. Drup names.0 names.1) KeepsLimits (λ _. tt) (both_inputs value) asked)
+      (choose (is_word (codes "opbmodel") word) (option_map OpbModel (lone_input value)) _ (mapped OpbModel KeepsLimits (λ _. tt) (lone_input value) asked)
+      (choose (is_word (codes "opb") word) (option_map (λ input. Opb input o) (lone_input value)) None (mapped (λ input. Opb input o) KeepsLimits (λ _. given) (lone_input value) asked)
+      (λ e. absurd (let c = e in cc)))))))))))
 
 values : (value : Text → Option Text) (asked : Request) → requested value ≡ Some asked → KeepsLimits asked
 values value asked e = by (options_of value) refl e

@@ -1,7 +1,7 @@
 -- What a command that the words ask for keeps to.
 use Rattle.std.specs.Prelude.{◌≡◌, ℕ, ◌≤◌, ◌<◌, ◌^◌, List, Some}
 use Rattle.clap.specs.Words.{Text}
-use Rattle.command_words.specs.Request.{Request, Compile, Weigh, Solve, Check, Decode, Queens, Sat, Drup}
+use Rattle.command_words.specs.Request.{Request, Compile, Weigh, Solve, Check, Decode, Queens, Sat, Drup, OpbModel, Opb}
 use Rattle.command_words.specs.Line.{request}
 
 -- a budget is from 1 and below 2 ^ 63
@@ -18,6 +18,8 @@ KeepsLimits (Decode input second) = Unit {0}
 KeepsLimits (Queens size options) = (4 ≤ size) × (size ≤ 24) × IsBudget options.budget
 KeepsLimits (Sat input options) = IsBudget options.budget
 KeepsLimits (Drup input second) = Unit {0}
+KeepsLimits (OpbModel input) = Unit {0}
+KeepsLimits (Opb input options) = IsBudget options.budget
 
 -- the words ask for no other command
 abbrev pub RequestsKeepLimits : Type 0

@@ -18,6 +18,8 @@ pub data Request : Type 0 where
   Queens : (size : ℕ) (options : Options) → Request
   Sat : (input : Text) (options : Options) → Request
   Drup : (input second : Text) → Request
+  OpbModel : (input : Text) → Request
+  Opb : (input : Text) (options : Options) → Request
 
 abbrev pub request_of : Command → Request
 request_of (command.Compile input) = Compile input.now
@@ -28,6 +30,8 @@ request_of (command.Decode input second) = Decode input.now second.now
 request_of (command.Queens size options) = Queens size options
 request_of (command.Sat input options) = Sat input.now options
 request_of (command.Drup input second) = Drup input.now second.now
+request_of (command.OpbModel input) = OpbModel input.now
+request_of (command.Opb input options) = Opb input.now options
 
 -- a word stands and is this one
 abbrev pub is_word : Text → Option Text → Bool
@@ -72,9 +76,11 @@ mode_requested mode value options =
     else if is_word (codes "queens") mode then option_map (λ size. Queens size options) (queens_size value)
     else if is_word (codes "sat") mode then option_map (λ input. Sat input options) (lone_input value)
     else if is_word (codes "drup") mode then option_map (λ names. Drup names.0 names.1) (both_inputs value)
+    else if is_word (codes "opbmodel") mode then option_map OpbModel (lone_input value)
+    else if is_word (codes "opb") mode then option_map (λ input. Opb input options) (lone_input value)
     else None
 
--- what the words ask for, by the values of words and options: `compile`, `weigh`, `solve`, `queens` and `sat` with one
--- name or number, `check`, `decode` and `drup` with two names
+-- what the words ask for, by the values of words and options: `compile`, `weigh`, `solve`, `queens`, `sat`, `opbmodel`
+-- and `opb` with one name or number, `check`, `decode` and `drup` with two names
 abbrev pub requested : (Text → Option Text) → Option Request
 requested value = option_and_then (mode_requested (value (codes "mode")) value) (options_of value)

@@ -65,4 +65,16 @@ pub enum Command<'a> {
         /// The name of the proof's text.
         second: &'a str,
     },
+    /// The model of a pseudo-Boolean file is written.
+    OpbModel {
+        /// The name of the file's text.
+        input: &'a str,
+    },
+    /// The model of a pseudo-Boolean file is solved.
+    Opb {
+        /// The name of the file's text.
+        input: &'a str,
+        /// How.
+        options: Options,
+    },
 }

@@ -89,6 +89,12 @@ pub fn found_command<'a>(matches: &ArgMatches<'a>) -> Option<Command<'a>>
     } else if is_word("drup", mode) {
         let (input, second) = both_inputs(matches)?;
         Some(Command::Drup { input, second })
+    } else if is_word("opbmodel", mode) {
+        let input = lone_input(matches)?;
+        Some(Command::OpbModel { input })
+    } else if is_word("opb", mode) {
+        let input = lone_input(matches)?;
+        Some(Command::Opb { input, options })
     } else {
         None
     }

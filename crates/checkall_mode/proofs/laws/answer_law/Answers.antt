@@ -1,0 +1,5 @@
+use Rattle.checkall_mode.proofs.Answered.{check-answered}
+use Rattle.checkall_mode.proofs.laws.answer_law.Goals as goal
+
+pub returns : goal.returns
+returns c = check-answered

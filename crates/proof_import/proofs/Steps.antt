@@ -1,5 +1,5 @@
 -- Lines that are taken one after another, and literals that are tested one after another.
-use Rattle.std.proofs.Common.{◌≡◌, ℕ, ◌+◌, ◌<◌, List, [], ◌∷◌, length, get_or, ap, ◌∙◌, subst, ⊎_elim, arith, Ok}
+use Rattle.std.proofs.Common.{◌≡◌, ℕ, ◌+◌, ◌<◌, List, ◌∷◌, length, get_or, ap, ◌∙◌, subst, ⊎_elim, arith, Ok}
 use Rattle.std.specs.Prelude.{Result, Contains}
 use Rattle.std.proofs.lemmas.Bool.{cases_eq}
 use Rattle.std.proofs.lemmas.List.{get_or_default}

@@ -7,4 +7,5 @@ use Rattle.checkall_mode.specs.CheckAllMode.{HaveEnd}
 
 -- it cannot be that two texts have no end of checkall mode, neither a fault of the model nor an end of both
 abbrev pub CheckAllAnswers : Type 0
-CheckAllAnswers = (texts : Texts) → ((fault : ModelFault) → HasFault texts.first fault → ⊥) → ((end : End ModelFault) → HaveEnd texts end → ⊥) → ⊥
+CheckAllAnswers = (texts : Texts) → ((fault : ModelFault) → HasFault texts.first fault → ⊥)
+    → ((end : End ModelFault) → HaveEnd texts end → ⊥) → ⊥

@@ -1,17 +1,18 @@
 //! One round: whether a bound can be broken.
 
-ghost use Rattle.std.specs.Prelude.{◌≡◌, ◌+◌, ◌<◌, ◌≤◌, Ok, IfOk};
+ghost use Rattle.std.specs.Prelude.{◌≡◌, ◌+◌, ◌<◌, ◌≤◌, ◌^◌, [], Ok, IfOk};
 ghost use Rattle.std.specs.Option.{ForSome};
-ghost use Rattle.order_ints.specs.Place.{AtomBelow, LitBelow};
+ghost use Rattle.order_ints.specs.Place.{AtomBelow, LitBelow, InRange};
+ghost use Rattle.clause_rings.specs.Clauses.{AreApartIn};
 ghost use Rattle.learning_solver.specs.Log.{additions};
 ghost use Rattle.learning_solver.specs.Outcome.{most_learned};
 ghost use Rattle.decode_minimize.specs.Rounds.{IsAsked, IsRound};
 
 use crate::options::Options;
 use bee_list::Sequence;
-use learning_solver::{Found, Solver};
-use order_ints::{Atom, Lit};
-use std::alloc::AllocError;
+use learning_solver::{Aim, Found, Solver};
+use order_ints::{Atom, Cnf, Lit};
+use std::alloc::{AllocError, Global};
 
 /// What a round found.
 #[derive(Debug, Drop)]
@@ -22,6 +23,18 @@ pub enum Round {
     Shown,
     /// The budget is spent.
     Spent,
+}
+
+/// A solver of which any values are asked first.
+pub fn solver_of<'a>(alloc: Global, cnf: &'a Cnf) -> Result<Solver<'a>, AllocError>
+    requires vars { cnf.now.vars ≤ 2 ^ 27 }
+    requires in_range { InRange cnf.now }
+    requires differ { AreApartIn cnf.now }
+    ensures { IfOk result (λ s. s ≡ record { cnf = cnf.entry.now; log = [] }) }
+{
+    let mut solver = Solver::with(alloc, cnf)?;
+    solver.set_aim(Aim::Solution);
+    Ok(solver)
 }
 
 /// Asks for truth values under an assumption, if any.

@@ -13,12 +13,12 @@ ghost use Rattle.decode_minimize.specs.Objectives.{bound_of, IsObjective};
 ghost use Rattle.decode_minimize.specs.Rounds.{IsRound};
 ghost use Rattle.decode_minimize.specs.Incumbents.{incumbent_behind};
 
-use crate::asking::{Round, ask_bound};
+use crate::asking::{Round, ask_bound, solver_of};
 use crate::improving::{Best, Sought};
 use crate::objective::value_under;
 use crate::options::Options;
 use bee_list::Sequence;
-use learning_solver::Solver;
+use learning_solver::{Aim, Solver};
 use order_ints::{Atom, Cnf};
 use proof_check::ProofLine;
 use std::alloc::{AllocError, Global};
@@ -47,7 +47,7 @@ impl<'a> Seeker<'a> {
         ensures solver { IfOk result (λ s. s.solver ≡ record { cnf = cnf.entry.now; log = [] }) }
         ensures incumbent { IfOk result (λ s. s.incumbent ≡ None) }
     {
-        let solver = Solver::with(alloc, cnf)?;
+        let solver = solver_of(alloc, cnf)?;
         Ok(Seeker {
             solver,
             incumbent: None,
@@ -67,6 +67,15 @@ impl<'a> Seeker<'a> {
             solver,
             incumbent: Some(best.number),
         })
+    }
+
+    /// Where a solution is known, saved phases are near it, and the last round, which finds none, is the longest.
+    fn set_aim(&mut self)
+        ensures { self.new ≡ self.old }
+    {
+        if self.incumbent.is_some() {
+            self.solver.set_aim(Aim::Refutation);
+        }
     }
 
     /// Asks for a solution that breaks a bound, which is that of the incumbent, where there is one: so what is found is
@@ -93,6 +102,7 @@ impl<'a> Seeker<'a> {
             ≤ additions self.old.solver.log + most_learned options.restart self.old.solver.cnf.vars }
         ensures unasked { bound ≡ Atom.True → additions self.new.solver.log ≡ additions self.old.solver.log }
     {
+        self.set_aim();
         let round = ask_bound(&mut self.solver, bound, options)?;
         self.incumbent = seen(sought, self.incumbent, &round);
         Ok(round)

@@ -11,7 +11,7 @@ ghost use Rattle.decode_minimize.specs.Objectives.{IsObjective};
 ghost use Rattle.decode_minimize.specs.Solved.{problem_of, IsProblem, IsSeekable, IsProgress, IsAnySolved};
 ghost use Rattle.decode_minimize.specs.Solved.{IsBestSolved, IsSolvedFor, IsMadeOf, second_named, verdict_on};
 
-use crate::asking::{Round, ask_bound};
+use crate::asking::{Round, ask_bound, solver_of};
 use crate::fixing::{additions, fix};
 use crate::improving::{Best, Sought};
 use crate::objective::{Direction, integer_named, no_worse_of, value_under};
@@ -20,7 +20,6 @@ use crate::rounds::{first_rounds, rounds_behind};
 use crate::solved::{First, Names, Progress, Solved};
 use answer_document::{Bounds, Verdict};
 use bee_list::Sequence;
-use learning_solver::Solver;
 use model_decode::decode;
 use model_meaning::Goal;
 use order_ints::{Atom, Cnf, OrdInt, resolve};
@@ -87,7 +86,7 @@ fn solve_any(
     requires { IsProblem (problem_of names.now cnf.now) }
     ensures { IfOk result (IsAnySolved (problem_of names.now cnf.now) options) }
 {
-    let mut solver = Solver::with(alloc, cnf)?;
+    let mut solver = solver_of(alloc, cnf)?;
     match ask_bound(&mut solver, Atom::False, options)? {
         Round::Shown => Ok(refuted(solver.into_log())),
         Round::Spent => Ok(given_up(solver.into_log(), options)),

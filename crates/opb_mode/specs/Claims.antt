@@ -15,10 +15,12 @@ pub record SolvesAt (opb : Opb) (a : List ℤ) (stated : Bounds) : Type 0 where
 -- and no assignment that satisfies the file costs less
 pub record IsLeast (opb : Opb) (a : List ℤ) (stated : Bounds) : Type 0 where
   pub solves : SolvesAt opb a stated
-  pub least : (b : List Bool) (cost : ℤ) → Solves opb b → costs opb.objective b ≡ cost ∷ [] → stated.first ≤ℤ cost
+  pub least : (b : List Bool) (cost : ℤ) → Solves opb b → costs opb.objective b ≡ cost ∷ []
+      → stated.first ≤ℤ cost
 
--- What is claimed. SATISFIABLE: the assignment satisfies the file. UNSATISFIABLE: none does. OPTIMUM: the assignment satisfies the file at the
--- stated cost, and none costs less. UNKNOWN with a best solution: the assignment satisfies the file at the stated cost.
+-- What is claimed. SATISFIABLE: the assignment satisfies the file. UNSATISFIABLE: none does. OPTIMUM: the assignment
+-- satisfies the file at the stated cost, and none costs less. UNKNOWN with a best solution: the assignment satisfies
+-- the file at the stated cost.
 abbrev pub FileClaims : Opb → Verdict → Option (List ℤ) → Type 0
 FileClaims opb Satisfiable (Some a) = SolvesAs opb a
 FileClaims opb Unsatisfiable None = (b : List Bool) → Solves opb b → ⊥

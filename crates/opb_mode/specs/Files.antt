@@ -38,11 +38,13 @@ IsFileFault text f = ⊥
 
 -- a text is too long, or within the limit and has this fault first
 abbrev pub HasFileFault : List ℕ → ModelFault → Type 0
-HasFileFault text f = ((longest_text < length text) × (f ≡ fault.TooLong)) ⊎ ((length text ≤ longest_text) × IsFileFault text f)
+HasFileFault text f = ((longest_text < length text) × (f ≡ fault.TooLong))
+    ⊎ ((length text ≤ longest_text) × IsFileFault text f)
 
 -- a text has no such fault, but its model is too heavy
 abbrev pub IsHeavyFile : List ℕ → ModelFault → Type 0
-IsHeavyFile text (fault.TooHeavy weight) = (opb : Opb) × HoldsFile text opb × (most_weight < weight_of (opb_model opb)) × (weight ≡ weight_of (opb_model opb))
+IsHeavyFile text (fault.TooHeavy weight) = (opb : Opb) × HoldsFile text opb
+    × (most_weight < weight_of (opb_model opb)) × (weight ≡ weight_of (opb_model opb))
 IsHeavyFile text f = ⊥
 
 -- the first fault of a text that is to be solved

@@ -16,5 +16,6 @@ OpbModelAnswers = (text : List ℕ) → (end : End ModelFault) × HasEnd text en
 -- the verdict of what is written in the mode opb is true of the file
 abbrev pub VerdictTrueOfFile : Type 0
 VerdictTrueOfFile =
-    (options : Options) (text : List ℕ) (outcome : Outcome) (written : List ℕ) → (h : IsSolvedFile options text outcome written)
+    (options : Options) (text : List ℕ) (outcome : Outcome) (written : List ℕ)
+    → (h : IsSolvedFile options text outcome written)
     → FileClaims h.answer.held.opb h.answer.is.document.verdict (numbers_given h.answer.is.document.assignment)

@@ -32,8 +32,8 @@ HasEnd text (Wrote Done) = (opb : Opb) × HoldsFile text opb
 HasEnd text (Fault fault) = HasFileFault text fault
 HasEnd text end = ⊥
 
--- A run in the mode opbmodel, with the name of the file, of whose text one byte more than the limit is read at most. The text that is
--- given for it is that of the file's model, and its fault is the first that it has.
+-- A run in the mode opbmodel, with the name of the file, of whose text one byte more than the limit is read at most.
+-- The text that is given for it is that of the file's model, and its fault is the first that it has.
 pub record OpbModelMode (input : List ℕ) (end : End ModelFault) (seen : Seen) : Type 0 where
   pub run : OneTextRun (Some (longest_text + 1)) Gives HasFileFault input end seen
   pub answers : Answers (ToldUnder input seen) HasEnd (ReadFailed input seen) end seen

@@ -61,8 +61,8 @@ impl OneText for SolvingFile {
     }
 }
 
-/// Reads the text of a pseudo-Boolean file, seeks an answer to its model, makes the whole text of that, and then writes it. The end
-/// tells whether the budget was spent.
+/// Reads the text of a pseudo-Boolean file, seeks an answer to its model, makes the whole text of that, and then writes
+/// it. The end tells whether the budget was spent.
 pub fn opb<S: Shelf, O: Sink>(
     alloc: Global,
     input: &str,

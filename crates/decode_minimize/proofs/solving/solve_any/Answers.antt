@@ -10,7 +10,7 @@ use Rattle.decode_minimize.proofs.Rounding.{first-refuted, first-given_up, first
 use Rattle.decode_minimize.proofs.Makings.{any-refuted, any-given_up, any-solution}
 use Rattle.decode_minimize.proofs.solving.solve_any.Goals as goal
 
-pub solver_of-requires-clause-differ : goal.with-requires-clause-differ
+pub solver_of-requires-clause-differ : goal.solver_of-requires-clause-differ
 solver_of-requires-clause-differ c = solvable-apart c.args.cnf.now c.requires.solvable
 
 pub returns-in-Shown : goal.returns-in-Shown

@@ -15,7 +15,10 @@ def total(terms):
 
 
 def spelled(objective, constraints):
-    lines = [f"min: {total(objective)} ;"] if objective else []
+    # other solvers want the numbers of variables and constraints in the first line
+    names = {name.lstrip("~") for terms in [objective or [], *(it[0] for it in constraints)] for _, name in terms}
+    lines = [f"* #variable= {max(int(name[1:]) for name in names)} #constraint= {len(constraints)}"]
+    lines += [f"min: {total(objective)} ;"] if objective else []
     return "\n".join(lines + [f"{total(terms)} {relation} {bound} ;" for terms, relation, bound in constraints]) + "\n"
 
 

@@ -65,7 +65,7 @@ class Proof:
         """Takes a line, or tells that it is none."""
         words = line.split(b" ")
         if words[1:2] == [b"d"]:
-            return words[-1] == b"0" and number(words[0], 1, 2**64 - 1) is not None and self.delete(words[2:-1])
+            return words[-1] == b"0" and number(words[0], 0, 2**64 - 1) is not None and self.delete(words[2:-1])
         numbers = [number(word) for word in words[1:]]
         if None in numbers or numbers[-1:] != [0] or numbers.count(0) != 2:
             return False

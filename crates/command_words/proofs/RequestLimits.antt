@@ -6,7 +6,11 @@ use Rattle.std.proofs.lemmas.Bool.Decides.{nat_tests}
 use Rattle.clap.specs.Words.{Text}
 use Rattle.command_words.specs.declared.command.Options.{Options}
 use Rattle.command_words.specs.Numeral.{is_numeral, is_within, read_on, number_within}
-use Rattle.command_words.specs.Request.{Request, Compile, Weigh, Solve, Check, Decode, Queens, Sat, Drup, OpbModel, Opb, is_word, budget_of, size_of, options_of, lone_input, both_inputs, queens_size, mode_requested, requested}
+use Rattle.command_words.specs.Request.{Request, Compile, Weigh, Solve, Check, Decode, Queens, Sat, Drup, OpbModel, Opb}
+use Rattle.command_words.specs.Request.{All, CheckAll, Core, CheckCore, Certify}
+use Rattle.command_words.specs.Request.{is_word, budget_of, size_of, options_of, lone_input, both_inputs, queens_size}
+use Rattle.command_words.specs.Request.{reading_of, reading_requested, searching_of, searching_requested, queens_requested}
+use Rattle.command_words.specs.Request.{checking_of, checking_requested, or_else, mode_requested, requested}
 use Rattle.command_words.specs.Line.{is_taken, value_of}
 use Rattle.command_words.specs.Limits.{IsBudget, KeepsLimits, RequestsKeepLimits}
 
@@ -66,24 +70,56 @@ module _ (value : Text → Option Text) (o : Options) (given : IsBudget o.budget
       subst KeepsLimits same (s.0, s.1, given)
   queens None is e = absurd (let c = e in cc)
 
-  choose : (t : Bool) (first other : Option Request) → (first ≡ Some asked → KeepsLimits asked) → (other ≡ Some asked → KeepsLimits asked)
-      → (if t then first else other) ≡ Some asked → KeepsLimits asked
-  choose true first other p q e = p e
+  -- one request is chosen by a word
+  choose : (t : Bool) (first : Request) (other : Option Request) → KeepsLimits first → (other ≡ Some asked → KeepsLimits asked)
+      → (if t then Some first else other) ≡ Some asked → KeepsLimits asked
+  choose true first other p q e = let same : first ≡ asked = cc in subst KeepsLimits same p
   choose false first other p q e = q e
+
+  reading : (word : Option Text) (input : Text) → reading_of word input ≡ Some asked → KeepsLimits asked
+  reading word input =
+      choose (is_word (codes "compile") word) (Compile input) _ tt
+      (choose (is_word (codes "weigh") word) (Weigh input) _ tt
+      (choose (is_word (codes "opbmodel") word) (OpbModel input) None tt (λ e. absurd (let c = e in cc))))
+
+  searching : (word : Option Text) (input : Text) → searching_of word o input ≡ Some asked → KeepsLimits asked
+  searching word input =
+      choose (is_word (codes "solve") word) (Solve input o) _ given
+      (choose (is_word (codes "sat") word) (Sat input o) _ given
+      (choose (is_word (codes "opb") word) (Opb input o) _ given
+      (choose (is_word (codes "all") word) (All input o) _ given
+      (choose (is_word (codes "core") word) (Core input o) None given (λ e. absurd (let c = e in cc))))))
+
+  checking : (word : Option Text) (names : Text × Text) → checking_of word names ≡ Some asked → KeepsLimits asked
+  checking word names =
+      choose (is_word (codes "check") word) (Check names.0 names.1) _ tt
+      (choose (is_word (codes "decode") word) (Decode names.0 names.1) _ tt
+      (choose (is_word (codes "drup") word) (Drup names.0 names.1) _ tt
+      (choose (is_word (codes "checkall") word) (CheckAll names.0 names.1) _ tt
+      (choose (is_word (codes "checkcore") word) (CheckCore names.0 names.1) _ tt
+      (choose (is_word (codes "certify") word) (Certify names.0 names.1) None tt (λ e. absurd (let c = e in cc)))))))
+
+  -- what is asked of a value that is there
+  given_value : {A : Type 0} (f : A → Option Request) → ((a : A) → f a ≡ Some asked → KeepsLimits asked)
+      → (x : Option A) → option_and_then f x ≡ Some asked → KeepsLimits asked
+  given_value f all (Some a) e = all a e
+  given_value f all None e = absurd (let c = e in cc)
+
+  placing : (t : Bool) → (if t then option_map (λ size. Queens size o) (queens_size value) else None) ≡ Some asked → KeepsLimits asked
+  placing true e = queens (queens_size value) refl e
+  placing false e = absurd (let c = e in cc)
+
+  either : (first other : Option Request) → (first ≡ Some asked → KeepsLimits asked) → (other ≡ Some asked → KeepsLimits asked)
+      → or_else first other ≡ Some asked → KeepsLimits asked
+  either (Some it) other p q e = p e
+  either None other p q e = q e
 
   mode : (word : Option Text) → mode_requested word value o ≡ Some asked → KeepsLimits asked
   mode word =
-      choose (is_word (codes "compile") word) (option_map Compile (lone_input value)) _ (mapped Compile KeepsLimits (λ _. tt) (lone_input value) asked)
-      (choose (is_word (codes "weigh") word) (option_map Weigh (lone_input value)) _ (mapped Weigh KeepsLimits (λ _. tt) (lone_input value) asked)
-      (choose (is_word (codes "solve") word) (option_map (λ input. Solve input o) (lone_input value)) _ (mapped (λ input. Solve input o) KeepsLimits (λ _. given) (lone_input value) asked)
-      (choose (is_word (codes "check") word) (option_map (λ names. Check names.0 names.1) (both_inputs value)) _ (mapped (λ names. Check names.0 names.1) KeepsLimits (λ _. tt) (both_inputs value) asked)
-      (choose (is_word (codes "decode") word) (option_map (λ names. Decode names.0 names.1) (both_inputs value)) _ (mapped (λ names. Decode names.0 names.1) KeepsLimits (λ _. tt) (both_inputs value) asked)
-      (choose (is_word (codes "queens") word) (option_map (λ size. Queens size o) (queens_size value)) _ (queens (queens_size value) refl)
-      (choose (is_word (codes "sat") word) (option_map (λ input. Sat input o) (lone_input value)) _ (mapped (λ input. Sat input o) KeepsLimits (λ _. given) (lone_input value) asked)
-      (choose (is_word (codes "drup") word) (option_map (λ names. Drup names.0 names.1) (both_inputs value)) _ (mapped (λ names. Drup names.0 names.1) KeepsLimits (λ _. tt) (both_inputs value) asked)
-      (choose (is_word (codes "opbmodel") word) (option_map OpbModel (lone_input value)) _ (mapped OpbModel KeepsLimits (λ _. tt) (lone_input value) asked)
-      (choose (is_word (codes "opb") word) (option_map (λ input. Opb input o) (lone_input value)) None (mapped (λ input. Opb input o) KeepsLimits (λ _. given) (lone_input value) asked)
-      (λ e. absurd (let c = e in cc)))))))))))
+      either (checking_requested word value) _ (given_value (checking_of word) (checking word) (both_inputs value))
+      (either (reading_requested word value) _ (given_value (reading_of word) (reading word) (lone_input value))
+      (either (searching_requested word value o) (queens_requested word value o) (given_value (searching_of word o) (searching word) (lone_input value))
+      (placing (is_word (codes "queens") word))))
 
 values : (value : Text → Option Text) (asked : Request) → requested value ≡ Some asked → KeepsLimits asked
 values value asked e = by (options_of value) refl e

@@ -2,6 +2,7 @@
 use Rattle.std.specs.Prelude.{◌≡◌, ℕ, ◌≤◌, ◌<◌, ◌^◌, List, Some}
 use Rattle.clap.specs.Words.{Text}
 use Rattle.command_words.specs.Request.{Request, Compile, Weigh, Solve, Check, Decode, Queens, Sat, Drup, OpbModel, Opb}
+use Rattle.command_words.specs.Request.{All, CheckAll, Core, CheckCore, Certify}
 use Rattle.command_words.specs.Line.{request}
 
 -- a budget is from 1 and below 2 ^ 63
@@ -20,6 +21,11 @@ KeepsLimits (Sat input options) = IsBudget options.budget
 KeepsLimits (Drup input second) = Unit {0}
 KeepsLimits (OpbModel input) = Unit {0}
 KeepsLimits (Opb input options) = IsBudget options.budget
+KeepsLimits (All input options) = IsBudget options.budget
+KeepsLimits (CheckAll input second) = Unit {0}
+KeepsLimits (Core input options) = IsBudget options.budget
+KeepsLimits (CheckCore input second) = Unit {0}
+KeepsLimits (Certify input second) = Unit {0}
 
 -- the words ask for no other command
 abbrev pub RequestsKeepLimits : Type 0

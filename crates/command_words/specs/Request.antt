@@ -20,6 +20,11 @@ pub data Request : Type 0 where
   Drup : (input second : Text) → Request
   OpbModel : (input : Text) → Request
   Opb : (input : Text) (options : Options) → Request
+  All : (input : Text) (options : Options) → Request
+  CheckAll : (input second : Text) → Request
+  Core : (input : Text) (options : Options) → Request
+  CheckCore : (input second : Text) → Request
+  Certify : (input second : Text) → Request
 
 abbrev pub request_of : Command → Request
 request_of (command.Compile input) = Compile input.now
@@ -32,6 +37,11 @@ request_of (command.Sat input options) = Sat input.now options
 request_of (command.Drup input second) = Drup input.now second.now
 request_of (command.OpbModel input) = OpbModel input.now
 request_of (command.Opb input options) = Opb input.now options
+request_of (command.All input options) = All input.now options
+request_of (command.CheckAll input second) = CheckAll input.now second.now
+request_of (command.Core input options) = Core input.now options
+request_of (command.CheckCore input second) = CheckCore input.now second.now
+request_of (command.Certify input second) = Certify input.now second.now
 
 -- a word stands and is this one
 abbrev pub is_word : Text → Option Text → Bool
@@ -65,22 +75,61 @@ both_inputs value =
 abbrev pub queens_size : (Text → Option Text) → Option ℕ
 queens_size value = option_and_then size_of (lone_input value)
 
--- what a mode asks for, with these options
-abbrev pub mode_requested : Option Text → (Text → Option Text) → Options → Option Request
-mode_requested mode value options =
-    if is_word (codes "compile") mode then option_map Compile (lone_input value)
-    else if is_word (codes "weigh") mode then option_map Weigh (lone_input value)
-    else if is_word (codes "solve") mode then option_map (λ input. Solve input options) (lone_input value)
-    else if is_word (codes "check") mode then option_map (λ names. Check names.0 names.1) (both_inputs value)
-    else if is_word (codes "decode") mode then option_map (λ names. Decode names.0 names.1) (both_inputs value)
-    else if is_word (codes "queens") mode then option_map (λ size. Queens size options) (queens_size value)
-    else if is_word (codes "sat") mode then option_map (λ input. Sat input options) (lone_input value)
-    else if is_word (codes "drup") mode then option_map (λ names. Drup names.0 names.1) (both_inputs value)
-    else if is_word (codes "opbmodel") mode then option_map OpbModel (lone_input value)
-    else if is_word (codes "opb") mode then option_map (λ input. Opb input options) (lone_input value)
+-- what a mode asks for that reads one text and doesn't search
+abbrev pub reading_of : Option Text → Text → Option Request
+reading_of mode input =
+    if is_word (codes "compile") mode then Some (Compile input)
+    else if is_word (codes "weigh") mode then Some (Weigh input)
+    else if is_word (codes "opbmodel") mode then Some (OpbModel input)
     else None
 
--- what the words ask for, by the values of words and options: `compile`, `weigh`, `solve`, `queens`, `sat`, `opbmodel`
--- and `opb` with one name or number, `check`, `decode` and `drup` with two names
+abbrev pub reading_requested : Option Text → (Text → Option Text) → Option Request
+reading_requested mode value = option_and_then (reading_of mode) (lone_input value)
+
+-- what a mode asks for that reads one text and searches, with these options
+abbrev pub searching_of : Option Text → Options → Text → Option Request
+searching_of mode options input =
+    if is_word (codes "solve") mode then Some (Solve input options)
+    else if is_word (codes "sat") mode then Some (Sat input options)
+    else if is_word (codes "opb") mode then Some (Opb input options)
+    else if is_word (codes "all") mode then Some (All input options)
+    else if is_word (codes "core") mode then Some (Core input options)
+    else None
+
+abbrev pub searching_requested : Option Text → (Text → Option Text) → Options → Option Request
+searching_requested mode value options = option_and_then (searching_of mode options) (lone_input value)
+
+-- what the mode asks for that places queens
+abbrev pub queens_requested : Option Text → (Text → Option Text) → Options → Option Request
+queens_requested mode value options =
+    if is_word (codes "queens") mode then option_map (λ size. Queens size options) (queens_size value) else None
+
+-- what a mode asks for that reads two texts
+abbrev pub checking_of : Option Text → Text × Text → Option Request
+checking_of mode names =
+    if is_word (codes "check") mode then Some (Check names.0 names.1)
+    else if is_word (codes "decode") mode then Some (Decode names.0 names.1)
+    else if is_word (codes "drup") mode then Some (Drup names.0 names.1)
+    else if is_word (codes "checkall") mode then Some (CheckAll names.0 names.1)
+    else if is_word (codes "checkcore") mode then Some (CheckCore names.0 names.1)
+    else if is_word (codes "certify") mode then Some (Certify names.0 names.1)
+    else None
+
+abbrev pub checking_requested : Option Text → (Text → Option Text) → Option Request
+checking_requested mode value = option_and_then (checking_of mode) (both_inputs value)
+
+-- the first request, if there is one, and else the other
+abbrev pub or_else : Option Request → Option Request → Option Request
+or_else (Some asked) other = Some asked
+or_else None other = other
+
+-- what a mode asks for, with these options; each mode is one of one kind
+abbrev pub mode_requested : Option Text → (Text → Option Text) → Options → Option Request
+mode_requested mode value options =
+    or_else (checking_requested mode value)
+    (or_else (reading_requested mode value)
+    (or_else (searching_requested mode value options) (queens_requested mode value options)))
+
+-- what the words ask for, by the values of words and options: modes with one name or number, and with two names
 abbrev pub requested : (Text → Option Text) → Option Request
 requested value = option_and_then (mode_requested (value (codes "mode")) value) (options_of value)

@@ -77,4 +77,39 @@ pub enum Command<'a> {
         /// How.
         options: Options,
     },
+    /// All solutions of the model are listed.
+    All {
+        /// The name of the model's text.
+        input: &'a str,
+        /// How.
+        options: Options,
+    },
+    /// A list of the model's solutions is checked.
+    CheckAll {
+        /// The name of the model's text.
+        input: &'a str,
+        /// The name of the list's text.
+        second: &'a str,
+    },
+    /// A part of the model's statements is sought that has no solution.
+    Core {
+        /// The name of the model's text.
+        input: &'a str,
+        /// How.
+        options: Options,
+    },
+    /// The text of such a part is checked.
+    CheckCore {
+        /// The name of the model's text.
+        input: &'a str,
+        /// The name of the part's text.
+        second: &'a str,
+    },
+    /// What another solver found about the model's clauses becomes an answer.
+    Certify {
+        /// The name of the model's text.
+        input: &'a str,
+        /// The name of the text of what was found.
+        second: &'a str,
+    },
 }

@@ -3,7 +3,8 @@
 ghost use Rattle.std.specs.Prelude.{◌≡◌, codes, option_map};
 ghost use Rattle.clap.specs.Words.{first_value, found_of};
 ghost use Rattle.command_words.specs.Request.{is_word, options_of, lone_input, both_inputs, queens_size, request_of};
-ghost use Rattle.command_words.specs.Request.{requested};
+ghost use Rattle.command_words.specs.Request.{reading_requested, searching_requested, queens_requested};
+ghost use Rattle.command_words.specs.Request.{checking_requested, mode_requested, requested};
 
 use crate::command::{Command, Options};
 use crate::numbers::{budget, size};
@@ -59,43 +60,110 @@ fn queens_size(matches: &ArgMatches<'_>) -> Option<u64>
     size(word)
 }
 
+/// The command of a mode that reads one text and doesn't search.
+fn reading_command<'a>(mode: Option<&str>, matches: &ArgMatches<'a>) -> Option<Command<'a>>
+    ensures { option_map request_of result
+        ≡ reading_requested (option_map (λ s. s.now) mode.entry) (first_value (found_of matches.now)) }
+{
+    let input = lone_input(matches)?;
+    if is_word("compile", mode) {
+        Some(Command::Compile { input })
+    } else if is_word("weigh", mode) {
+        Some(Command::Weigh { input })
+    } else if is_word("opbmodel", mode) {
+        Some(Command::OpbModel { input })
+    } else {
+        None
+    }
+}
+
+/// The command of a mode that reads one text and searches.
+fn searching_command<'a>(
+    mode: Option<&str>,
+    matches: &ArgMatches<'a>,
+    options: Options,
+) -> Option<Command<'a>>
+    ensures { option_map request_of result
+        ≡ searching_requested (option_map (λ s. s.now) mode.entry) (first_value (found_of matches.now)) options }
+{
+    let input = lone_input(matches)?;
+    if is_word("solve", mode) {
+        Some(Command::Solve { input, options })
+    } else if is_word("sat", mode) {
+        Some(Command::Sat { input, options })
+    } else if is_word("opb", mode) {
+        Some(Command::Opb { input, options })
+    } else if is_word("all", mode) {
+        Some(Command::All { input, options })
+    } else if is_word("core", mode) {
+        Some(Command::Core { input, options })
+    } else {
+        None
+    }
+}
+
+/// The command that places queens.
+fn queens_command<'a>(
+    mode: Option<&str>,
+    matches: &ArgMatches<'a>,
+    options: Options,
+) -> Option<Command<'a>>
+    ensures { option_map request_of result
+        ≡ queens_requested (option_map (λ s. s.now) mode.entry) (first_value (found_of matches.now)) options }
+{
+    if is_word("queens", mode) {
+        let size = queens_size(matches)?;
+        Some(Command::Queens { size, options })
+    } else {
+        None
+    }
+}
+
+/// The command of a mode that reads two texts.
+fn checking_command<'a>(mode: Option<&str>, matches: &ArgMatches<'a>) -> Option<Command<'a>>
+    ensures { option_map request_of result
+        ≡ checking_requested (option_map (λ s. s.now) mode.entry) (first_value (found_of matches.now)) }
+{
+    let (input, second) = both_inputs(matches)?;
+    if is_word("check", mode) {
+        Some(Command::Check { input, second })
+    } else if is_word("decode", mode) {
+        Some(Command::Decode { input, second })
+    } else if is_word("drup", mode) {
+        Some(Command::Drup { input, second })
+    } else if is_word("checkall", mode) {
+        Some(Command::CheckAll { input, second })
+    } else if is_word("checkcore", mode) {
+        Some(Command::CheckCore { input, second })
+    } else if is_word("certify", mode) {
+        Some(Command::Certify { input, second })
+    } else {
+        None
+    }
+}
+
+/// The command of a mode.
+fn mode_command<'a>(matches: &ArgMatches<'a>, options: Options) -> Option<Command<'a>>
+    ensures { option_map request_of result
+        ≡ mode_requested (first_value (found_of matches.now) (codes "mode")) (first_value (found_of matches.now)) options }
+{
+    let mode = matches.get_str("mode");
+    if let Some(command) = checking_command(mode, matches) {
+        return Some(command);
+    }
+    if let Some(command) = reading_command(mode, matches) {
+        return Some(command);
+    }
+    if let Some(command) = searching_command(mode, matches, options) {
+        return Some(command);
+    }
+    queens_command(mode, matches, options)
+}
+
 /// The command.
 pub fn found_command<'a>(matches: &ArgMatches<'a>) -> Option<Command<'a>>
     ensures { option_map request_of result ≡ requested (first_value (found_of matches.now)) }
 {
     let options = found_options(matches)?;
-    let mode = matches.get_str("mode");
-    if is_word("compile", mode) {
-        let input = lone_input(matches)?;
-        Some(Command::Compile { input })
-    } else if is_word("weigh", mode) {
-        let input = lone_input(matches)?;
-        Some(Command::Weigh { input })
-    } else if is_word("solve", mode) {
-        let input = lone_input(matches)?;
-        Some(Command::Solve { input, options })
-    } else if is_word("check", mode) {
-        let (input, second) = both_inputs(matches)?;
-        Some(Command::Check { input, second })
-    } else if is_word("decode", mode) {
-        let (input, second) = both_inputs(matches)?;
-        Some(Command::Decode { input, second })
-    } else if is_word("queens", mode) {
-        let size = queens_size(matches)?;
-        Some(Command::Queens { size, options })
-    } else if is_word("sat", mode) {
-        let input = lone_input(matches)?;
-        Some(Command::Sat { input, options })
-    } else if is_word("drup", mode) {
-        let (input, second) = both_inputs(matches)?;
-        Some(Command::Drup { input, second })
-    } else if is_word("opbmodel", mode) {
-        let input = lone_input(matches)?;
-        Some(Command::OpbModel { input })
-    } else if is_word("opb", mode) {
-        let input = lone_input(matches)?;
-        Some(Command::Opb { input, options })
-    } else {
-        None
-    }
+    mode_command(matches, options)
 }

@@ -2,10 +2,9 @@
 
 ghost use Rattle.std.specs.Prelude.{◌≤◌};
 
-use crate::answering::SOLVE;
-use crate::outside::{AMPLE, Outside, Shown, run_files, run_over};
 use crate::solve::PIGEONS;
-use crate::wanted::{Wanted, shows};
+use crate::wanted::shows;
+use run_shown::{AMPLE, Outside, SOLVE, Shown, Wanted, run_files, run_over};
 use std::alloc::{AllocError, Global};
 use std::process::Abort;
 use std::test::Fail;

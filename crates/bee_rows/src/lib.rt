@@ -1,22 +1,17 @@
 //! Rows of the program's one call, over a shelf and sinks in memory: runs of each mode with all
-//! that they read, wrote and ended with, the models of `examples/`, the words, and the outside
-//! itself.
+//! that they read, wrote and ended with, the words, and the outside itself.
 //!
-//! Here is shown what no contract says: the lines on standard error, that runs succeed where memory
-//! is there, and that the definitions say what is meant by whole models whose solutions are known.
-//! There is a run of each mode in which each call of the outside fails in turn, and a model that is
-//! cut at each byte.
+//! Here is shown what no contract says: the lines on standard error, and that runs succeed where
+//! memory is there. There is a run of each mode in which each call of the outside fails in turn,
+//! and a model that is cut at each byte.
 //!
 //! They stand apart from the crates of the program, so that proving them proves none of those anew.
-//! They are the longest proof of the gate, so what a run is made of and how it is compared stand in
-//! functions of their own, and a row is a line of a table. The scripts that fuzz the built program
-//! stand in `reading/` and are no part of the gate.
+//! What a run is made of and how it is compared stand in `run_shown`, and a row is a line of a
+//! table. Models whose solutions are known, and those of `examples/`, are rows of `model_rows`,
+//! which is proved beside this crate. The scripts that fuzz the built program stand in `reading/`
+//! and are no part of the gate.
 #![tactic(auto)]
 
-#[cfg(test)]
-mod answering;
-#[cfg(test)]
-mod boolean_models;
 #[cfg(test)]
 mod causes;
 #[cfg(test)]
@@ -26,31 +21,9 @@ mod damage;
 #[cfg(test)]
 mod decode;
 #[cfg(test)]
-mod design_examples;
-#[cfg(test)]
 mod drup;
 #[cfg(test)]
-mod example_rows;
-#[cfg(test)]
-mod examples;
-#[cfg(test)]
-mod integer_examples;
-#[cfg(test)]
-mod integer_models;
-#[cfg(test)]
-mod large_shops;
-#[cfg(test)]
-mod large_squares;
-#[cfg(test)]
-mod list_models;
-#[cfg(test)]
-mod listed_models;
-#[cfg(test)]
-mod matrix_examples;
-#[cfg(test)]
 mod opb;
-#[cfg(test)]
-mod outside;
 #[cfg(test)]
 mod queens;
 #[cfg(test)]
@@ -58,15 +31,9 @@ mod sat;
 #[cfg(test)]
 mod shelves;
 #[cfg(test)]
-mod solution_sets;
-#[cfg(test)]
 mod solve;
 #[cfg(test)]
-mod square_examples;
-#[cfg(test)]
 mod texts;
-#[cfg(test)]
-mod timetable_examples;
 #[cfg(test)]
 mod wanted;
 #[cfg(test)]

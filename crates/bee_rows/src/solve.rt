@@ -1,9 +1,7 @@
 //! Solve mode, and check mode over what it writes.
 
-use crate::answering::{SOLVE, accepted, checked, solved};
-use crate::examples::half_of_forty;
-use crate::outside::Shown;
-use crate::wanted::{Wanted, shows};
+use crate::wanted::{accepted, shows};
+use run_shown::{SOLVE, Shown, Wanted, checked, solved};
 use std::alloc::Global;
 use std::process::Abort;
 use std::test::Fail;
@@ -325,27 +323,6 @@ fn documents_are_checked(rt: HostRuntime) -> Result<(), Fail> {
         document_row(&rt, rt.alloc(), row)?;
     }
     Ok(())
-}
-
-/// How many lines of a text end in certain bytes.
-fn lines_ending(text: &[u8], end: &[u8]) -> usize {
-    text.split(|b| *b == b'\n')
-        .filter(|line| line.ends_with(end))
-        .count()
-}
-
-/// Solves a model, counts the Booleans that are true, and checks the answer.
-fn count_row(rt: &impl Abort, alloc: Global, model: &str, count: usize) -> Result<(), Fail> {
-    let run = solved(alloc, SOLVE, model)?;
-    assert_eq!(rt; run.status, ("done", 0));
-    assert_eq!(rt; lines_ending(run.out.taken(), b" = true"), count);
-    accepted(rt, alloc, model, run.out.taken(), "SATISFIABLE")
-}
-
-#[test]
-fn half_of_forty_are_true(rt: HostRuntime) -> Result<(), Fail> {
-    let model = half_of_forty(rt.alloc())?;
-    count_row(&rt, rt.alloc(), model.as_str(), 20)
 }
 
 #[test]

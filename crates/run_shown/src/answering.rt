@@ -1,16 +1,14 @@
 //! Solving a model, and checking an answer to it.
 
 use crate::outside::{AMPLE, Shown, run_files, run_over};
-use crate::wanted::{Wanted, shows};
+use crate::wanted::Wanted;
 use std::alloc::{AllocError, Global};
-use std::process::Abort;
-use std::test::Fail;
 
 /// The words that solve a model.
-pub(super) const SOLVE: &[&str] = &["bee", "solve", "m.bee"];
+pub const SOLVE: &[&str] = &["bee", "solve", "m.bee"];
 
 /// Checks a document for a model.
-pub(super) fn checked(alloc: Global, model: &str, document: &[u8]) -> Result<Shown, AllocError> {
+pub fn checked(alloc: Global, model: &str, document: &[u8]) -> Result<Shown, AllocError> {
     run_files(
         alloc,
         &["bee", "check", "m.bee", "a.txt"],
@@ -19,14 +17,13 @@ pub(super) fn checked(alloc: Global, model: &str, document: &[u8]) -> Result<Sho
     )
 }
 
-/// Asserts that what was written is accepted for a model, by the words of a verdict.
-pub(super) fn accepted(
-    rt: &impl Abort,
+/// What differs where a document is to be accepted for a model, by the words of a verdict; none where it is.
+pub fn acceptance(
     alloc: Global,
     model: &str,
-    written: &[u8],
+    document: &[u8],
     verdict: &str,
-) -> Result<(), Fail> {
+) -> Result<Option<&'static str>, AllocError> {
     let told = format!(in alloc; "ACCEPTED {verdict}\n")?;
     let wanted = Wanted {
         status: ("done", 0),
@@ -34,12 +31,11 @@ pub(super) fn accepted(
         out: told.as_bytes(),
         err: b"",
     };
-    let run = checked(alloc, model, written)?;
-    shows(rt, &run, &wanted, &[model]);
-    Ok(())
+    let run = checked(alloc, model, document)?;
+    Ok(run.difference(&wanted))
 }
 
 /// Solves a model.
-pub(super) fn solved(alloc: Global, words: &[&str], model: &str) -> Result<Shown, AllocError> {
+pub fn solved(alloc: Global, words: &[&str], model: &str) -> Result<Shown, AllocError> {
     run_over(alloc, words, model.as_bytes(), AMPLE)
 }

@@ -1,8 +1,8 @@
 //! Models of `examples/`, with their numbers of variables and clauses, counted by hand from the tables of
 //! declarations, equations and clauses in `docs/CORES.md`; and a count so long that the sum of its halves is split.
 
-use crate::example_rows::{check, has_line};
-use crate::outside::{AMPLE, Shown, compile_over};
+use crate::example_rows::{accepted, check, has_line};
+use run_shown::{AMPLE, SOLVE, Shown, compile_over, solved};
 use std::alloc::{AllocError, Global};
 use std::process::Abort;
 use std::test::Fail;
@@ -328,7 +328,7 @@ fn between(alloc: Global, before: &str, after: &str) -> Result<String, AllocErro
 }
 
 /// Forty Booleans, of which twenty are true.
-pub(super) fn half_of_forty(alloc: Global) -> Result<String, AllocError> {
+fn half_of_forty(alloc: Global) -> Result<String, AllocError> {
     let declared = between(alloc, "new_bool(", ")\n")?;
     let names = between(alloc, ",", "")?;
     let members = names.trim_start_matches(',');
@@ -359,4 +359,25 @@ fn a_long_count_is_split(rt: HostRuntime) -> Result<(), Fail> {
     ];
     let text = half_of_forty(rt.alloc())?;
     lines_row(&rt, rt.alloc(), text.as_str(), lines.as_slice())
+}
+
+/// How many lines of a text end in certain bytes.
+fn lines_ending(text: &[u8], end: &[u8]) -> usize {
+    text.split(|b| *b == b'\n')
+        .filter(|line| line.ends_with(end))
+        .count()
+}
+
+/// Solves a model, counts the Booleans that are true, and checks the answer.
+fn count_row(rt: &impl Abort, alloc: Global, model: &str, count: usize) -> Result<(), Fail> {
+    let run = solved(alloc, SOLVE, model)?;
+    assert_eq!(rt; run.status, ("done", 0));
+    assert_eq!(rt; lines_ending(run.out.taken(), b" = true"), count);
+    accepted(rt, alloc, model, run.out.taken(), "SATISFIABLE")
+}
+
+#[test]
+fn half_of_forty_are_true(rt: HostRuntime) -> Result<(), Fail> {
+    let model = half_of_forty(rt.alloc())?;
+    count_row(&rt, rt.alloc(), model.as_str(), 20)
 }

@@ -1,7 +1,6 @@
 //! Rows of examples: what a compiled text says of its variables and clauses, and the verdict of an answer.
 
-use crate::answering::{SOLVE, accepted, solved};
-use crate::outside::{AMPLE, Shown, compile_over};
+use run_shown::{AMPLE, SOLVE, Shown, acceptance, compile_over, solved};
 use std::alloc::Global;
 use std::process::Abort;
 use std::test::Fail;
@@ -30,6 +29,19 @@ fn has_compiled(rt: &impl Abort, run: &Shown, line: &str) {
 fn compile_row(rt: &impl Abort, alloc: Global, text: &str, line: &str) -> Result<(), Fail> {
     let run = compile_over(alloc, text, AMPLE)?;
     has_compiled(rt, &run, line);
+    Ok(())
+}
+
+/// Asserts that what was written is accepted for a model, by the words of a verdict.
+pub(super) fn accepted(
+    rt: &impl Abort,
+    alloc: Global,
+    model: &str,
+    written: &[u8],
+    verdict: &str,
+) -> Result<(), Fail> {
+    let difference = acceptance(alloc, model, written, verdict)?;
+    assert_eq!(rt; difference, None, "{model}");
     Ok(())
 }
 

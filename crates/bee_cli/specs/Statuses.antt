@@ -17,26 +17,26 @@ outcome_status outcome.Done = Done
 outcome_status (outcome.Refused line) = Refused line
 outcome_status (outcome.Unknown count) = Unknown count
 
--- of any run, by what a fault of its first text is called
-abbrev pub status_of : {F : Type 0} → (F → ModelFault) → End F → Status
+-- of any run, by the status that a fault of its first text has
+abbrev pub status_of : {F : Type 0} → (F → Status) → End F → Status
 status_of called (end.Wrote outcome) = outcome_status outcome
-status_of called (end.Fault fault) = Model (called fault)
+status_of called (end.Fault fault) = called fault
 status_of called end.Read = Read
 status_of called end.Write = Write
 status_of called end.Memory = Memory
 
 -- the fault of the text of a model, and that of a compiled text, the first line that fails
-abbrev pub model_fault : ModelFault → ModelFault
-model_fault fault = fault
+abbrev pub model_fault : ModelFault → Status
+model_fault fault = Model fault
 
-abbrev pub cnf_fault : ℕ → ModelFault
-cnf_fault line = Cnf line
+abbrev pub cnf_fault : ℕ → Status
+cnf_fault line = Model (Cnf line)
 
 -- the fault of the text of a plain CNF
-abbrev pub clauses_fault : CnfTextFault → ModelFault
-clauses_fault clauses.TooLong = TooLong
-clauses_fault (clauses.Form line) = Cnf line
+abbrev pub clauses_fault : CnfTextFault → Status
+clauses_fault clauses.TooLong = Model TooLong
+clauses_fault (clauses.Form line) = Model (Cnf line)
 
 -- a run had an end of which this holds, and this is its status
-abbrev pub Ended : {F : Type 0} → (F → ModelFault) → (End F → Type 0) → Status → Type 0
+abbrev pub Ended : {F : Type 0} → (F → Status) → (End F → Type 0) → Status → Type 0
 Ended {F} called IsEnd status = (end : End F) × (status ≡ status_of called end) × IsEnd end

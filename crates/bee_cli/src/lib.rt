@@ -21,7 +21,6 @@
 
 mod exit_code;
 mod laws;
-mod noting;
 mod reason;
 mod reporting;
 mod running;

@@ -4,9 +4,45 @@ use decode_mode::RefusedValues;
 use drup_mode::RefusedProof;
 use ledger_check::Why;
 use proof_check::ProofFault;
+use std::cell::Cell;
 use std::fmt;
 use std::fmt::Display;
 use step_kernel::StepFault;
+
+/// Where each mode that refuses a line of a second text puts what stands against it.
+pub(crate) struct Reasons {
+    /// For a line of an answer.
+    pub(crate) answer: Cell<Option<Why>>,
+    /// For a line of a solver's values.
+    pub(crate) values: Cell<Option<RefusedValues>>,
+    /// For a line of a proof.
+    pub(crate) proof: Cell<Option<RefusedProof>>,
+}
+
+impl Reasons {
+    /// No line is refused.
+    pub(crate) fn none() -> Reasons {
+        Reasons {
+            answer: Cell::new(None),
+            values: Cell::new(None),
+            proof: Cell::new(None),
+        }
+    }
+
+    /// Why the line is refused that is, if one is.
+    pub(crate) fn told(&self) -> Option<Reason> {
+        if let Some(why) = self.answer.get() {
+            return Some(Reason::Answer(why));
+        }
+        if let Some(fault) = self.values.get() {
+            return Some(Reason::Values(fault));
+        }
+        if let Some(fault) = self.proof.get() {
+            return Some(Reason::Proof(fault));
+        }
+        None
+    }
+}
 
 /// Why a line is refused, by the mode that refuses it.
 #[derive(Clone, Copy, Debug, PartialEq, Eq)]

@@ -7,19 +7,20 @@ ghost use Rattle.command_words.specs.Line.{request};
 ghost use Rattle.text_modes.specs.Seen.{seen, shelf_shown, sink_shown};
 ghost use Rattle.bee_cli.specs.Obeyed.{search_options, clause_options, is_built, Obeys};
 
-use crate::noting::{check_noting, decode_noting, drup_noting};
-use crate::reason::Reason;
+use crate::reason::Reasons;
 use crate::reporting::report;
 use crate::status::{Status, clauses_status, cnf_status, model_status};
 use bee_outside::{Shelf, Sink};
+use check_mode::check;
 use command_words::{Command, Options, read_command};
 use compile_mode::compile;
+use decode_mode::decode;
+use drup_mode::drup;
 use opb_mode::{opb, opb_model_text};
 use queens_mode::queens;
 use sat_mode::{SearchOptions, sat};
 use solve_mode::solve;
 use std::alloc::{AllocError, Global};
-use std::cell::Cell;
 use weigh_mode::weigh;
 
 /// How an answer is sought, as the words say it.
@@ -42,13 +43,13 @@ fn clause_options(options: Options) -> SearchOptions
     }
 }
 
-/// What comes of a command. Why a line is refused is put into the cell.
+/// What comes of a command. Why a line is refused is put into a cell.
 fn obey<S: Shelf, O: Sink>(
     alloc: Global,
     command: &Command<'_>,
     shelf: &mut S,
     out: &mut O,
-    reason: &Cell<Option<Reason>>,
+    reasons: &Reasons,
 ) -> Status
     requires { KeepsLimits (request_of command.now) }
     ensures usage { result ≢ Status.Memory →
@@ -63,10 +64,10 @@ fn obey<S: Shelf, O: Sink>(
             model_status(solve(alloc, input, search_options(*options), shelf, out))
         }
         Command::Check { input, second } => {
-            model_status(check_noting(alloc, input, second, shelf, out, reason))
+            model_status(check(alloc, input, second, shelf, out, &reasons.answer))
         }
         Command::Decode { input, second } => {
-            cnf_status(decode_noting(alloc, input, second, shelf, out, reason))
+            cnf_status(decode(alloc, input, second, shelf, out, &reasons.values))
         }
         Command::Queens { size, options } => {
             model_status(queens(alloc, *size, search_options(*options), out))
@@ -75,7 +76,7 @@ fn obey<S: Shelf, O: Sink>(
             clauses_status(sat(alloc, input, clause_options(*options), shelf, out))
         }
         Command::Drup { input, second } => {
-            clauses_status(drup_noting(alloc, input, second, shelf, out, reason))
+            clauses_status(drup(alloc, input, second, shelf, out, &reasons.proof))
         }
         Command::OpbModel { input } => model_status(opb_model_text(alloc, input, shelf, out)),
         Command::Opb { input, options } => {
@@ -91,7 +92,7 @@ fn follow<S: Shelf, O: Sink>(
     words: &[String],
     shelf: &mut S,
     out: &mut O,
-    reason: &Cell<Option<Reason>>,
+    reasons: &Reasons,
 ) -> Status
     ensures usage { result ≢ Status.Memory →
         (result ≡ Status.Usage) ↔ IsFalse (is_built (request (map string_bytes words.now))) }
@@ -99,7 +100,7 @@ fn follow<S: Shelf, O: Sink>(
         (sink_shown O.taken O.flushed O.faults) shelf.old shelf.new out.old out.new) }
 {
     match read_command(alloc, words) {
-        Ok(Some(command)) => obey(alloc, &command, shelf, out, reason),
+        Ok(Some(command)) => obey(alloc, &command, shelf, out, reasons),
         Ok(None) => Status::Usage,
         Err(AllocError) => Status::Memory,
     }
@@ -124,8 +125,8 @@ pub fn run<S: Shelf, O: Sink, E: Sink>(
     ensures obeys { Obeys (request (map string_bytes words.now.items)) result (seen (shelf_shown S.left S.faults)
         (sink_shown O.taken O.flushed O.faults) shelf.old shelf.new out.old out.new) }
 {
-    let reason = Cell::new(None);
-    let status = follow(alloc, words.as_slice(), shelf, out, &reason);
-    report(alloc, &status, reason.get(), err);
+    let reasons = Reasons::none();
+    let status = follow(alloc, words.as_slice(), shelf, out, &reasons);
+    report(alloc, &status, reasons.told(), err);
     status
 }

@@ -68,13 +68,14 @@ pub(crate) fn cnf_status(end: End<u64>) -> Status
     }
 }
 
-/// What a fault of the text of a plain CNF is called.
-fn clauses_fault(fault: CnfTextFault) -> ModelFault
-    ensures { result ≡ clauses_fault fault }
+/// The status of a fault of the text of a plain CNF.
+fn clauses_fault(fault: CnfTextFault) -> Status
+    ensures status { result ≡ clauses_fault fault }
+    ensures built { result ≢ Status.Usage }
 {
     match fault {
-        CnfTextFault::TooLong => ModelFault::TooLong,
-        CnfTextFault::Form(line) => ModelFault::Cnf(line),
+        CnfTextFault::TooLong => Status::Model(ModelFault::TooLong),
+        CnfTextFault::Form(line) => Status::Model(ModelFault::Cnf(line)),
     }
 }
 
@@ -85,7 +86,7 @@ pub(crate) fn clauses_status(end: End<CnfTextFault>) -> Status
 {
     match end {
         End::Wrote(outcome) => outcome_status(outcome),
-        End::Fault(fault) => Status::Model(clauses_fault(fault)),
+        End::Fault(fault) => clauses_fault(fault),
         End::Read => Status::Read,
         End::Write => Status::Write,
         End::Memory => Status::Memory,

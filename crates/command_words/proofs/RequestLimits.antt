@@ -6,7 +6,7 @@ use Rattle.std.proofs.lemmas.Bool.Decides.{nat_tests}
 use Rattle.clap.specs.Words.{Text}
 use Rattle.command_words.specs.declared.command.Options.{Options}
 use Rattle.command_words.specs.Numeral.{is_numeral, is_within, read_on, number_within}
-use Rattle.command_words.specs.Request.{Request, Compile, Weigh, Solve, Check, Decode, Queens, Sat, Drup, OpbModel, Opb, is_word, budget_of, size_of, options_of, lone_input, both_inputs, queens_size, mode_requested, requested}
+use Rattle.command_words.specs.Request.{Request, Compile, Weigh, Solve, Check, Decode, Queens, Sat, Drup, OpbModel, Opb, is_word, budget_of, size_of, options_with, options_of, has_search, lone_input, both_inputs, queens_size, mode_requested, requested}
 use Rattle.command_words.specs.Line.{is_taken, value_of}
 use Rattle.command_words.specs.Limits.{IsBudget, KeepsLimits, RequestsKeepLimits}
 
@@ -39,16 +39,16 @@ budget (Some word) n e =
     (p.0, omega (arith, p.1))
 
 -- the options that words give have a budget
-options : (value : Text → Option Text) (o : Options) → options_of value ≡ Some o → IsBudget o.budget
+options : (value : Text → Option Text) (o : Options) → options_of value ≡ Some o → IsBudget o.search.budget
 options value o e = by (budget_of (value (codes "budget"))) refl e
   where
     made : ℕ → Options
-    made n = record { budget = n; restart = not (is_word (codes "true") (value (codes "no-restart"))) }
+    made = options_with value
 
-    by : (b : Option ℕ) → budget_of (value (codes "budget")) ≡ b → option_map made b ≡ Some o → IsBudget o.budget
+    by : (b : Option ℕ) → budget_of (value (codes "budget")) ≡ b → option_map made b ≡ Some o → IsBudget o.search.budget
     by (Some n) is f =
         let same : made n ≡ o = cc in
-        subst (λ (x : Options). IsBudget x.budget) same (budget (value (codes "budget")) n is)
+        subst (λ (x : Options). IsBudget x.search.budget) same (budget (value (codes "budget")) n is)
     by None is f = absurd (let c = f in cc)
 
 size : (value : Text → Option Text) (n : ℕ) → queens_size value ≡ Some n → (4 ≤ n) × (n ≤ 24)
@@ -58,7 +58,7 @@ size value n e = by (lone_input value) e
     by (Some word) f = number 4 24 word n f
     by None f = absurd (let c = f in cc)
 
-module _ (value : Text → Option Text) (o : Options) (given : IsBudget o.budget) (asked : Request) where
+module _ (value : Text → Option Text) (o : Options) (given : IsBudget o.search.budget) (asked : Request) where
   queens : (n : Option ℕ) → queens_size value ≡ n → option_map (λ size. Queens size o) n ≡ Some asked → KeepsLimits asked
   queens (Some n) is e =
       let same : Queens n o ≡ asked = cc in
@@ -73,7 +73,8 @@ module _ (value : Text → Option Text) (o : Options) (given : IsBudget o.budget
 
   mode : (word : Option Text) → mode_requested word value o ≡ Some asked → KeepsLimits asked
   mode word =
-      choose (is_word (codes "compile") word) (option_map Compile (lone_input value)) _ (mapped Compile KeepsLimits (λ _. tt) (lone_input value) asked)
+      choose (o.progress && not (has_search word)) None _ (λ e. absurd (let c = e in cc))
+      (choose (is_word (codes "compile") word) (option_map Compile (lone_input value)) _ (mapped Compile KeepsLimits (λ _. tt) (lone_input value) asked)
       (choose (is_word (codes "weigh") word) (option_map Weigh (lone_input value)) _ (mapped Weigh KeepsLimits (λ _. tt) (lone_input value) asked)
       (choose (is_word (codes "solve") word) (option_map (λ input. Solve input o) (lone_input value)) _ (mapped (λ input. Solve input o) KeepsLimits (λ _. given) (lone_input value) asked)
       (choose (is_word (codes "check") word) (option_map (λ names. Check names.0 names.1) (both_inputs value)) _ (mapped (λ names. Check names.0 names.1) KeepsLimits (λ _. tt) (both_inputs value) asked)
@@ -83,7 +84,7 @@ module _ (value : Text → Option Text) (o : Options) (given : IsBudget o.budget
       (choose (is_word (codes "drup") word) (option_map (λ names. Drup names.0 names.1) (both_inputs value)) _ (mapped (λ names. Drup names.0 names.1) KeepsLimits (λ _. tt) (both_inputs value) asked)
       (choose (is_word (codes "opbmodel") word) (option_map OpbModel (lone_input value)) _ (mapped OpbModel KeepsLimits (λ _. tt) (lone_input value) asked)
       (choose (is_word (codes "opb") word) (option_map (λ input. Opb input o) (lone_input value)) None (mapped (λ input. Opb input o) KeepsLimits (λ _. given) (lone_input value) asked)
-      (λ e. absurd (let c = e in cc)))))))))))
+      (λ e. absurd (let c = e in cc))))))))))))
 
 values : (value : Text → Option Text) (asked : Request) → requested value ≡ Some asked → KeepsLimits asked
 values value asked e = by (options_of value) refl e

@@ -1,5 +1,5 @@
 -- What the words of the command line ask for, by the values of words and options.
-use Rattle.std.specs.Prelude.{ℕ, Bool, false, not, codes, bytes_eq, Option, Some, None, is_some, option_map}
+use Rattle.std.specs.Prelude.{ℕ, Bool, false, ◌&&◌, ◌||◌, not, codes, bytes_eq, Option, Some, None, is_some, option_map}
 use Rattle.std.specs.Prelude.{option_and_then, if◌then◌else◌}
 use Rattle.std.specs.Option.{option_map_or}
 use Rattle.clap.specs.Words.{Text}
@@ -46,11 +46,20 @@ budget_of (Some word) = number_within 1 9223372036854775807 word
 abbrev pub size_of : Text → Option ℕ
 size_of word = number_within 4 24 word
 
--- The options. There are none where a budget is given that is none. A flag that is given has the value `true`.
+-- a flag that is given has the value `true`
+abbrev pub is_given : (Text → Option Text) → Text → Bool
+is_given value id = is_word (codes "true") (value id)
+
+-- the options, where the budget is one
+abbrev pub options_with : (Text → Option Text) → ℕ → Options
+options_with value budget = record {
+  search = record { budget = budget; restart = not (is_given value (codes "no-restart")) };
+  progress = is_given value (codes "progress");
+}
+
+-- The options. There are none where a budget is given that is none.
 abbrev pub options_of : (Text → Option Text) → Option Options
-options_of value =
-    option_map (λ budget. record { budget = budget; restart = not (is_word (codes "true") (value (codes "no-restart"))) })
-    (budget_of (value (codes "budget")))
+options_of value = option_map (options_with value) (budget_of (value (codes "budget")))
 
 -- the first name, where no second one is given
 abbrev pub lone_input : (Text → Option Text) → Option Text
@@ -65,10 +74,17 @@ both_inputs value =
 abbrev pub queens_size : (Text → Option Text) → Option ℕ
 queens_size value = option_and_then size_of (lone_input value)
 
--- what a mode asks for, with these options
+-- a mode makes a search, of which progress can be told
+abbrev pub has_search : Option Text → Bool
+has_search mode =
+    is_word (codes "solve") mode || is_word (codes "queens") mode || is_word (codes "sat") mode
+    || is_word (codes "opb") mode
+
+-- what a mode asks for, with these options; nothing, where the progress of no search is asked for
 abbrev pub mode_requested : Option Text → (Text → Option Text) → Options → Option Request
 mode_requested mode value options =
-    if is_word (codes "compile") mode then option_map Compile (lone_input value)
+    if options.progress && not (has_search mode) then None
+    else if is_word (codes "compile") mode then option_map Compile (lone_input value)
     else if is_word (codes "weigh") mode then option_map Weigh (lone_input value)
     else if is_word (codes "solve") mode then option_map (λ input. Solve input options) (lone_input value)
     else if is_word (codes "check") mode then option_map (λ names. Check names.0 names.1) (both_inputs value)

@@ -3,11 +3,12 @@
 ghost use Rattle.std.specs.Prelude.{◌≡◌, codes, option_map};
 ghost use Rattle.clap.specs.Words.{first_value, found_of};
 ghost use Rattle.command_words.specs.Request.{is_word, options_of, lone_input, both_inputs, queens_size, request_of};
-ghost use Rattle.command_words.specs.Request.{requested};
+ghost use Rattle.command_words.specs.Request.{has_search, requested};
 
 use crate::command::{Command, Options};
 use crate::numbers::{budget, size};
 use clap::ArgMatches;
+use search_options::SearchOptions;
 
 /// Whether a word stands and is this one.
 fn is_word(text: &str, word: Option<&str>) -> bool
@@ -25,10 +26,12 @@ fn found_options(matches: &ArgMatches<'_>) -> Option<Options>
 {
     let budget = budget(matches.get_str("budget"))?;
     let is_fixed = is_word("true", matches.get_str("no-restart"));
-    Some(Options {
+    let search = SearchOptions {
         budget,
         restart: !is_fixed,
-    })
+    };
+    let progress = is_word("true", matches.get_str("progress"));
+    Some(Options { search, progress })
 }
 
 /// The first name, where no second one is given.
@@ -59,12 +62,22 @@ fn queens_size(matches: &ArgMatches<'_>) -> Option<u64>
     size(word)
 }
 
+/// Whether a mode makes a search, of which progress can be told.
+fn has_search(mode: Option<&str>) -> bool
+    ensures { result ≡ has_search (option_map (λ s. s.now) mode.entry) }
+{
+    is_word("solve", mode) || is_word("queens", mode) || is_word("sat", mode) || is_word("opb", mode)
+}
+
 /// The command.
 pub fn found_command<'a>(matches: &ArgMatches<'a>) -> Option<Command<'a>>
     ensures { option_map request_of result ≡ requested (first_value (found_of matches.now)) }
 {
     let options = found_options(matches)?;
     let mode = matches.get_str("mode");
+    if options.progress && !has_search(mode) {
+        return None;
+    }
     if is_word("compile", mode) {
         let input = lone_input(matches)?;
         Some(Command::Compile { input })

@@ -29,11 +29,13 @@ mod asking;
 mod fixing;
 mod improving;
 mod objective;
-mod options;
 mod rounds;
 mod seeker;
 mod solved;
 mod solving;
+mod telling;
+mod watching;
 
-pub use answering::{AnsweredModel, CnfSize, answer, answer_owned};
-pub use options::Options;
+pub use answering::{AnsweredModel, CnfSize, answer, answer_owned, answer_owned_watched, answer_watched};
+pub use search_options::SearchOptions as Options;
+pub use watching::SolutionWatcher;

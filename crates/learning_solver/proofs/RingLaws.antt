@@ -5,7 +5,7 @@ use Rattle.std.specs.Option.{option_map}
 use Rattle.std.proofs.Math.ListN.{length-set}
 use Rattle.std.proofs.lemmas.Bool.{cases_eq, cases_lt, cond-true, cond-false, eq-eqb, ne_eqb}
 use Rattle.std.proofs.lemmas.List.{get_or-map, length-map}
-use Rattle.index_ring.specs.Lists.{RingLists, IsRings, IsFree, Stands, list_of, times, times_in_all, without, unlinked, pushed_front, pushed_back, no_lists, first_in, after_in}
+use Rattle.index_ring.specs.Lists.{RingLists, IsRings, IsFree, Stands, list_of, times, times_in_all, without, unlinked, pushed_front, no_lists, first_in, after_in}
 use Rattle.index_ring.proofs.Times.{times-same, times-other, times-append, times-without, all-set, all-get, all-without, all-empty, get-set, cut}
 use Rattle.index_ring.proofs.Seen.{after_in-cut}
 use Rattle.literal_trail.specs.declared.entry.Entry.{Entry}

@@ -11,6 +11,7 @@ use crate::profile::Profile;
 use crate::restarts::Restarts;
 use crate::search::Search;
 use crate::task::Task;
+use search_watcher::Watcher;
 use std::alloc::AllocError;
 
 impl Search<'_> {
@@ -29,8 +30,34 @@ impl Search<'_> {
         }
     }
 
+    /// One turn, and where it added a clause the watcher is told how many the log has.
+    fn watched_turn<W: Watcher>(
+        &mut self,
+        task: Task,
+        restarts: &mut Restarts,
+        watcher: &mut W,
+    ) -> Result<Option<Found>, AllocError>
+        requires running { IsRunning task restarts.old self.old }
+        requires in_range { ForSome task.assumption (LitBelow (self.old.cnf.now.vars + 1)) }
+        ensures turned { IsTurned task self.old restarts.new self.new result }
+        ensures forward { GoesForward self.old self.new }
+        ensures same_call { SameCall restarts.old restarts.new }
+    {
+        let before = self.added;
+        let turned = self.turn(task, restarts);
+        if before < self.added {
+            watcher.learned(self.added);
+        }
+        turned
+    }
+
     /// Searches until there is an answer. Where decisions go along a list there is no restart.
-    pub fn find_answer(&mut self, task: Task, restart: bool) -> Result<Found, AllocError>
+    pub fn find_answer<W: Watcher>(
+        &mut self,
+        task: Task,
+        restart: bool,
+        watcher: &mut W,
+    ) -> Result<Found, AllocError>
         requires search { IsSearch self.old }
         requires budget { self.old.added ≤ task.budget }
         requires in_range { ForSome task.assumption (LitBelow (self.old.cnf.now.vars + 1)) }
@@ -38,13 +65,18 @@ impl Search<'_> {
         ensures forward { GoesForward self.old self.new }
     {
         match self.order.profile() {
-            Profile::Activity => self.run(task, restart),
-            Profile::InOrder => self.run(task, false),
+            Profile::Activity => self.run(task, restart, watcher),
+            Profile::InOrder => self.run(task, false, watcher),
         }
     }
 
     /// Searches until there is an answer, with restarts or without.
-    fn run(&mut self, task: Task, restart: bool) -> Result<Found, AllocError>
+    fn run<W: Watcher>(
+        &mut self,
+        task: Task,
+        restart: bool,
+        watcher: &mut W,
+    ) -> Result<Found, AllocError>
         requires search { IsSearch self.old }
         requires budget { self.old.added ≤ task.budget }
         requires in_range { ForSome task.assumption (LitBelow (self.old.cnf.now.vars + 1)) }
@@ -54,7 +86,7 @@ impl Search<'_> {
         self.jump_back(0);
         let mut restarts = Restarts::new(self.added, restart);
         loop {
-            match self.turn(task, &mut restarts) {
+            match self.watched_turn(task, &mut restarts, watcher) {
                 Ok(None) => {}
                 Ok(Some(found)) => return Ok(found),
                 Err(AllocError) => return Err(AllocError),

@@ -7,7 +7,7 @@ use Rattle.learning_solver.proofs.RunLaws.{goes-on-same}
 use Rattle.learning_solver.proofs.search.Search.run.Goals as goal
 
 pub loop-found-init : goal.loop-found-init
-loop-found-init c =
+loop-found-init g c =
     let old = c.args.self.now in
     let s = c.jump_back.new.self in
     let alike = c.jump_back.ensures.jumped.same in

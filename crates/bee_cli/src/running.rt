@@ -5,50 +5,48 @@ ghost use Rattle.command_words.specs.Request.{request_of};
 ghost use Rattle.command_words.specs.Limits.{KeepsLimits};
 ghost use Rattle.command_words.specs.Line.{request};
 ghost use Rattle.text_modes.specs.Seen.{seen, shelf_shown, sink_shown};
-ghost use Rattle.bee_cli.specs.Obeyed.{search_options, clause_options, is_built, Obeys};
+ghost use Rattle.bee_cli.specs.Obeyed.{is_built, Obeys};
 
 use crate::noting::{check_noting, decode_noting, drup_noting};
+use crate::progress::Progress;
 use crate::reason::Reason;
 use crate::reporting::report;
 use crate::status::{Status, clauses_status, cnf_status, model_status};
 use bee_outside::{Shelf, Sink};
-use command_words::{Command, Options, read_command};
+use command_words::{Command, read_command};
 use compile_mode::compile;
 use opb_mode::{opb, opb_model_text};
 use queens_mode::queens;
-use sat_mode::{SearchOptions, sat};
+use sat_mode::sat;
 use solve_mode::solve;
 use std::alloc::{AllocError, Global};
-use std::cell::Cell;
+use std::cell::{Cell, RefCell};
 use weigh_mode::weigh;
 
-/// How an answer is sought, as the words say it.
-fn search_options(options: Options) -> decode_minimize::Options
-    ensures { result ≡ search_options options }
-{
-    decode_minimize::Options {
-        budget: options.budget,
-        restart: options.restart,
-    }
-}
-
-/// How clauses are searched, as the words say it.
-fn clause_options(options: Options) -> SearchOptions
-    ensures { result ≡ clause_options options }
-{
-    SearchOptions {
-        budget: options.budget,
-        restart: options.restart,
+/// Whether the progress of the search is asked for.
+fn asks_progress(command: &Command<'_>) -> bool {
+    match command {
+        Command::Solve { options, .. }
+        | Command::Queens { options, .. }
+        | Command::Sat { options, .. }
+        | Command::Opb { options, .. } => options.progress,
+        Command::Compile { .. }
+        | Command::Weigh { .. }
+        | Command::Check { .. }
+        | Command::Decode { .. }
+        | Command::Drup { .. }
+        | Command::OpbModel { .. } => false,
     }
 }
 
 /// What comes of a command. Why a line is refused is put into the cell.
-fn obey<S: Shelf, O: Sink>(
+fn obey<S: Shelf, O: Sink, E: Sink>(
     alloc: Global,
     command: &Command<'_>,
     shelf: &mut S,
     out: &mut O,
     reason: &Cell<Option<Reason>>,
+    progress: &RefCell<Progress<'_, E>>,
 ) -> Status
     requires { KeepsLimits (request_of command.now) }
     ensures usage { result ≢ Status.Memory →
@@ -60,7 +58,7 @@ fn obey<S: Shelf, O: Sink>(
         Command::Compile { input } => model_status(compile(alloc, input, shelf, out)),
         Command::Weigh { input } => model_status(weigh(alloc, input, shelf, out)),
         Command::Solve { input, options } => {
-            model_status(solve(alloc, input, search_options(*options), shelf, out))
+            model_status(solve(alloc, input, options.search, shelf, out, progress))
         }
         Command::Check { input, second } => {
             model_status(check_noting(alloc, input, second, shelf, out, reason))
@@ -69,29 +67,30 @@ fn obey<S: Shelf, O: Sink>(
             cnf_status(decode_noting(alloc, input, second, shelf, out, reason))
         }
         Command::Queens { size, options } => {
-            model_status(queens(alloc, *size, search_options(*options), out))
+            model_status(queens(alloc, *size, options.search, out, progress))
         }
         Command::Sat { input, options } => {
-            clauses_status(sat(alloc, input, clause_options(*options), shelf, out))
+            clauses_status(sat(alloc, input, options.search, shelf, out, progress))
         }
         Command::Drup { input, second } => {
             clauses_status(drup_noting(alloc, input, second, shelf, out, reason))
         }
         Command::OpbModel { input } => model_status(opb_model_text(alloc, input, shelf, out)),
         Command::Opb { input, options } => {
-            model_status(opb(alloc, input, search_options(*options), shelf, out))
+            model_status(opb(alloc, input, options.search, shelf, out, progress))
         }
     }
 }
 
 /// What comes of the words.
 #[tactic(auto, using(crate::proofs::Obeyings::keeps))]
-fn follow<S: Shelf, O: Sink>(
+fn follow<S: Shelf, O: Sink, E: Sink>(
     alloc: Global,
     words: &[String],
     shelf: &mut S,
     out: &mut O,
     reason: &Cell<Option<Reason>>,
+    err: &mut E,
 ) -> Status
     ensures usage { result ≢ Status.Memory →
         (result ≡ Status.Usage) ↔ IsFalse (is_built (request (map string_bytes words.now))) }
@@ -99,7 +98,10 @@ fn follow<S: Shelf, O: Sink>(
         (sink_shown O.taken O.flushed O.faults) shelf.old shelf.new out.old out.new) }
 {
     match read_command(alloc, words) {
-        Ok(Some(command)) => obey(alloc, &command, shelf, out, reason),
+        Ok(Some(command)) => {
+            let progress = RefCell::new(Progress::new(alloc, err, asks_progress(&command)));
+            obey(alloc, &command, shelf, out, reason, &progress)
+        }
         Ok(None) => Status::Usage,
         Err(AllocError) => Status::Memory,
     }
@@ -125,7 +127,7 @@ pub fn run<S: Shelf, O: Sink, E: Sink>(
         (sink_shown O.taken O.flushed O.faults) shelf.old shelf.new out.old out.new) }
 {
     let reason = Cell::new(None);
-    let status = follow(alloc, words.as_slice(), shelf, out, &reason);
+    let status = follow(alloc, words.as_slice(), shelf, out, &reason, err);
     report(alloc, &status, reason.get(), err);
     status
 }

@@ -52,6 +52,8 @@ mod opb;
 #[cfg(test)]
 mod outside;
 #[cfg(test)]
+mod progress;
+#[cfg(test)]
 mod queens;
 #[cfg(test)]
 mod sat;

@@ -22,7 +22,7 @@ use crate::watching::SolutionWatcher;
 use answer_document::Document;
 use bee_list::Sequence;
 use fixpoint_queue::Oracle;
-use model_lower::{LowerFault, Lowered, lower, lower_owned};
+use model_lower::{LowerFault, Lowered, LoweredModel, lower, lower_owned};
 use model_meaning::{Decl, Goal, Model};
 use rule_base::Steps;
 use search_watcher::Silent;
@@ -119,9 +119,9 @@ fn answer_lowered<F: Oracle<L>, L: Ledger, W: SolutionWatcher>(
     requires budget { IsBudget options.budget }
     requires heard { AreDecodedHeard W.heard posed.decls.now posed.goal posed.lowered }
     ensures answer { IfOk result
-        (λ a. IsAnswerOf F.told posed.lowered posed.goal options a.document steps.old steps.new) }
+        (λ a. IsAnswerOf F.told posed.entry.lowered posed.entry.goal options a.document steps.old steps.new) }
     ensures size { IfOk result (λ a. (last : Kernel)
-        → IsCompilation F.told (started posed.lowered.vars posed.lowered.cores) a.document.ledger last
+        → IsCompilation F.told (started posed.entry.lowered.vars posed.entry.lowered.cores) a.document.ledger last
         → a.size ≡ size_of (cnf_of last)) }
 {
     let Posed {

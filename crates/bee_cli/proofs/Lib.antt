@@ -2,3 +2,4 @@ mod DecodedSolutions
 mod RoundTrip
 mod Obeyings
 mod CheckedAnswers
+mod Told

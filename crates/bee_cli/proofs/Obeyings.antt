@@ -1,5 +1,5 @@
 -- What a run promises where its mode never began, and what a command keeps to.
-use Rattle.std.proofs.Common.{◌≡◌, ℕ, List, Some, None, refl, sym, subst}
+use Rattle.std.proofs.Common.{◌≡◌, ℕ, List, Some, None, refl, sym}
 use Rattle.std.specs.Prelude.{Option, option_map}
 use Rattle.command_words.specs.declared.command.Command.{Command}
 use Rattle.command_words.specs.declared.command.Options.{Options as Words}
@@ -21,9 +21,8 @@ use Rattle.sat_mode.proofs.Ends as searching
 use Rattle.drup_mode.proofs.Ends as proving
 use Rattle.opb_mode.proofs.Ends as files
 use Rattle.model_texts.specs.declared.fault.ModelFault.{ModelFault}
-use Rattle.decode_minimize.specs.declared.options.Options.{Options}
 use Rattle.bee_cli.specs.Statuses.{model_fault, status_of}
-use Rattle.bee_cli.specs.Obeyed.{search_options, clause_options, Obeys}
+use Rattle.bee_cli.specs.Obeyed.{Obeys}
 use Rattle.bee_cli.specs.declared.status.Status.{Status}
 use Rattle.bee_cli.specs.declared.status.Status.TheVariants.{Memory}
 
@@ -32,19 +31,19 @@ pub unread : (request : Option Request) (seen : Seen) → Untouched seen → Obe
 unread None seen same = same
 unread (Some (Compile input)) seen same = (end.Memory, refl, compiling.idle input seen same)
 unread (Some (Weigh input)) seen same = (end.Memory, refl, weighing.idle input seen same)
-unread (Some (Solve input options)) seen same = (end.Memory, refl, solving.idle (search_options options) input seen same)
+unread (Some (Solve input options)) seen same = (end.Memory, refl, solving.idle options.search input seen same)
 unread (Some (Check input second)) seen same = (end.Memory, refl, checking.idle input second seen same)
 unread (Some (Decode input second)) seen same = (end.Memory, refl, decoding.idle input second seen same)
-unread (Some (Queens size options)) seen same = (end.Memory, refl, placing.idle (search_options options) size seen same)
-unread (Some (Sat input options)) seen same = (end.Memory, refl, searching.idle (clause_options options) input seen same)
+unread (Some (Queens size options)) seen same = (end.Memory, refl, placing.idle options.search size seen same)
+unread (Some (Sat input options)) seen same = (end.Memory, refl, searching.idle options.search input seen same)
 unread (Some (Drup input second)) seen same = (end.Memory, refl, proving.idle input second seen same)
 unread (Some (OpbModel input)) seen same = (end.Memory, refl, files.model_idle input seen same)
-unread (Some (Opb input options)) seen same = (end.Memory, refl, files.idle (search_options options) input seen same)
+unread (Some (Opb input options)) seen same = (end.Memory, refl, files.idle options.search input seen same)
 
--- queens are placed, by the options that the words say
-pub queens_obeyed : (words : Words) (options : Options) (size : ℕ) (ending : End ModelFault) (status : Status) (seen : Seen) → options ≡ search_options words → QueensMode options size ending seen → status ≡ status_of model_fault ending
+-- queens are placed
+pub queens_obeyed : (words : Words) (size : ℕ) (ending : End ModelFault) (status : Status) (seen : Seen) → QueensMode words.search size ending seen → status ≡ status_of model_fault ending
     → Obeys (Some (Queens size words)) status seen
-queens_obeyed words options size ending status seen same run is = (ending, is, subst (λ (o : Options). QueensMode o size ending seen) same run)
+queens_obeyed words size ending status seen run is = (ending, is, run)
 
 -- the command that the words give keeps to its limits
 pub keeps : (words : List (List ℕ)) (command : Command) → option_map request_of (Some command) ≡ request words → KeepsLimits (request_of command)

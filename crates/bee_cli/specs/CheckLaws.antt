@@ -4,7 +4,7 @@ use Rattle.text_modes.specs.TwoTexts.{Texts}
 use Rattle.text_modes.specs.declared.ends.Outcome.{Outcome}
 use Rattle.text_modes.specs.declared.ends.Outcome.TheVariants.{Done, Refused}
 use Rattle.text_modes.specs.declared.ends.End.TheVariants.{Wrote}
-use Rattle.decode_minimize.specs.declared.options.Options.{Options}
+use Rattle.search_options.specs.declared.options.SearchOptions.{SearchOptions}
 use Rattle.solve_mode.specs.Solved.{IsSolved}
 use Rattle.check_mode.specs.CheckMode.{HasModel, HaveEnd}
 use Rattle.opb_mode.specs.OpbModelMode.{IsModelText}
@@ -13,14 +13,14 @@ use Rattle.opb_mode.specs.OpbMode.{IsSolvedFile}
 -- what is written for a model in solve mode is accepted in check mode, whatever the options and the outcome were
 abbrev pub SolvedIsAccepted : Type 0
 SolvedIsAccepted =
-    (options : Options) (outcome : Outcome) (texts : Texts) → IsSolved options texts.first outcome texts.second
+    (options : SearchOptions) (outcome : Outcome) (texts : Texts) → IsSolved options texts.first outcome texts.second
     → HaveEnd texts (Wrote Done)
 
 -- What is written for a pseudo-Boolean file in the mode opb is accepted in check mode as an answer to what is written
 -- for it in the mode opbmodel, whatever the options and the outcome were.
 abbrev pub FileAnswerIsAccepted : Type 0
 FileAnswerIsAccepted =
-    (options : Options) (outcome : Outcome) (file : List ℕ) (texts : Texts) → IsModelText file texts.first
+    (options : SearchOptions) (outcome : Outcome) (file : List ℕ) (texts : Texts) → IsModelText file texts.first
     → IsSolvedFile options file outcome texts.second
     → HaveEnd texts (Wrote Done)
 

@@ -1,3 +1,4 @@
+pub mod Progress
 pub mod Statuses
 pub mod Codes
 pub mod Obeyed

@@ -1,30 +1,19 @@
 -- What a run promises, by what the words ask for.
 use Rattle.std.specs.Prelude.{◌≡◌, Bool, true, false, Option, Some}
-use Rattle.command_words.specs.declared.command.Options.{Options as Words}
 use Rattle.command_words.specs.Request.{Request, Compile, Weigh, Solve, Check, Decode, Queens, Sat, Drup, OpbModel, Opb}
 use Rattle.text_modes.specs.Seen.{Seen, Untouched}
 use Rattle.compile_mode.specs.CompileMode.{CompileMode}
 use Rattle.weigh_mode.specs.WeighMode.{WeighMode}
-use Rattle.decode_minimize.specs.declared.options.Options.{Options}
 use Rattle.solve_mode.specs.SolveMode.{SolveMode}
 use Rattle.check_mode.specs.CheckMode.{CheckMode}
 use Rattle.decode_mode.specs.DecodeMode.{DecodeMode}
 use Rattle.queens_mode.specs.QueensMode.{QueensMode}
-use Rattle.sat_mode.specs.declared.options.SearchOptions.{SearchOptions}
 use Rattle.sat_mode.specs.SatMode.{SatMode}
 use Rattle.drup_mode.specs.DrupMode.{DrupMode}
 use Rattle.opb_mode.specs.OpbModelMode.{OpbModelMode}
 use Rattle.opb_mode.specs.OpbMode.{OpbMode}
 use Rattle.bee_cli.specs.Statuses.{model_fault, cnf_fault, clauses_fault, Ended}
 use Rattle.bee_cli.specs.declared.status.Status.{Status}
-
--- how an answer is sought, as the words say it
-abbrev pub search_options : Words → Options
-search_options words = record { budget = words.budget; restart = words.restart }
-
--- how clauses are searched, as the words say it
-abbrev pub clause_options : Words → SearchOptions
-clause_options words = record { budget = words.budget; restart = words.restart }
 
 -- the words ask for a mode that is built
 abbrev pub is_built : Option Request → Bool
@@ -45,15 +34,15 @@ abbrev pub Obeys : Option Request → Status → Seen → Type 0
 Obeys (Some (Compile input)) status seen = Ended model_fault (λ end. CompileMode input end seen) status
 Obeys (Some (Weigh input)) status seen = Ended model_fault (λ end. WeighMode input end seen) status
 Obeys (Some (Solve input options)) status seen =
-    Ended model_fault (λ end. SolveMode (search_options options) input end seen) status
+    Ended model_fault (λ end. SolveMode options.search input end seen) status
 Obeys (Some (Check input second)) status seen = Ended model_fault (λ end. CheckMode input second end seen) status
 Obeys (Some (Decode input second)) status seen = Ended cnf_fault (λ end. DecodeMode input second end seen) status
 Obeys (Some (Queens size options)) status seen =
-    Ended model_fault (λ end. QueensMode (search_options options) size end seen) status
+    Ended model_fault (λ end. QueensMode options.search size end seen) status
 Obeys (Some (Sat input options)) status seen =
-    Ended clauses_fault (λ end. SatMode (clause_options options) input end seen) status
+    Ended clauses_fault (λ end. SatMode options.search input end seen) status
 Obeys (Some (Drup input second)) status seen = Ended clauses_fault (λ end. DrupMode input second end seen) status
 Obeys (Some (OpbModel input)) status seen = Ended model_fault (λ end. OpbModelMode input end seen) status
 Obeys (Some (Opb input options)) status seen =
-    Ended model_fault (λ end. OpbMode (search_options options) input end seen) status
+    Ended model_fault (λ end. OpbMode options.search input end seen) status
 Obeys request status seen = Untouched seen

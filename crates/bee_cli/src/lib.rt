@@ -14,13 +14,16 @@
 //! writes is accepted, and an empty text is refused at line 1. `docs/PROVED.md` has it mode by
 //! mode.
 //!
-//! The lines on standard error have no clause; rows show them. Why a line is refused goes from its
+//! What is told while a search goes on (`Progress`) is told of solutions of the model alone: its `heard` is
+//! that, and each block is a stated text of one. That it is told, and when, has no clause, as the other
+//! lines on standard error; rows show them. Why a line is refused goes from its
 //! mode into a cell, and from there into words (`Reason`). A further mode is a case of
 //! `is_built`, `Obeys`, the statuses and `obey`.
 #![tactic(auto)]
 
 mod exit_code;
 mod laws;
+mod progress;
 mod reason;
 mod reporting;
 mod running;

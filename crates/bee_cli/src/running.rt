@@ -5,51 +5,50 @@ ghost use Rattle.command_words.specs.Request.{request_of};
 ghost use Rattle.command_words.specs.Limits.{KeepsLimits};
 ghost use Rattle.command_words.specs.Line.{request};
 ghost use Rattle.text_modes.specs.Seen.{seen, shelf_shown, sink_shown};
-ghost use Rattle.bee_cli.specs.Obeyed.{search_options, clause_options, is_built, Obeys};
+ghost use Rattle.bee_cli.specs.Obeyed.{is_built, Obeys};
 
+use crate::progress::Progress;
 use crate::reason::Reasons;
 use crate::reporting::report;
 use crate::status::{Status, clauses_status, cnf_status, model_status};
 use bee_outside::{Shelf, Sink};
 use check_mode::check;
-use command_words::{Command, Options, read_command};
+use command_words::{Command, read_command};
 use compile_mode::compile;
 use decode_mode::decode;
 use drup_mode::drup;
 use opb_mode::{opb, opb_model_text};
 use queens_mode::queens;
-use sat_mode::{SearchOptions, sat};
+use sat_mode::sat;
 use solve_mode::solve;
 use std::alloc::{AllocError, Global};
+use std::cell::RefCell;
 use weigh_mode::weigh;
 
-/// How an answer is sought, as the words say it.
-fn search_options(options: Options) -> decode_minimize::Options
-    ensures { result ≡ search_options options }
-{
-    decode_minimize::Options {
-        budget: options.budget,
-        restart: options.restart,
-    }
-}
-
-/// How clauses are searched, as the words say it.
-fn clause_options(options: Options) -> SearchOptions
-    ensures { result ≡ clause_options options }
-{
-    SearchOptions {
-        budget: options.budget,
-        restart: options.restart,
+/// Whether the progress of the search is asked for.
+fn asks_progress(command: &Command<'_>) -> bool {
+    match command {
+        Command::Solve { options, .. }
+        | Command::Queens { options, .. }
+        | Command::Sat { options, .. }
+        | Command::Opb { options, .. } => options.progress,
+        Command::Compile { .. }
+        | Command::Weigh { .. }
+        | Command::Check { .. }
+        | Command::Decode { .. }
+        | Command::Drup { .. }
+        | Command::OpbModel { .. } => false,
     }
 }
 
 /// What comes of a command. Why a line is refused is put into a cell.
-fn obey<S: Shelf, O: Sink>(
+fn obey<S: Shelf, O: Sink, E: Sink>(
     alloc: Global,
     command: &Command<'_>,
     shelf: &mut S,
     out: &mut O,
     reasons: &Reasons,
+    progress: &RefCell<Progress<'_, E>>,
 ) -> Status
     requires { KeepsLimits (request_of command.now) }
     ensures usage { result ≢ Status.Memory →
@@ -61,7 +60,7 @@ fn obey<S: Shelf, O: Sink>(
         Command::Compile { input } => model_status(compile(alloc, input, shelf, out)),
         Command::Weigh { input } => model_status(weigh(alloc, input, shelf, out)),
         Command::Solve { input, options } => {
-            model_status(solve(alloc, input, search_options(*options), shelf, out))
+            model_status(solve(alloc, input, options.search, shelf, out, progress))
         }
         Command::Check { input, second } => {
             model_status(check(alloc, input, second, shelf, out, &reasons.answer))
@@ -70,29 +69,30 @@ fn obey<S: Shelf, O: Sink>(
             cnf_status(decode(alloc, input, second, shelf, out, &reasons.values))
         }
         Command::Queens { size, options } => {
-            model_status(queens(alloc, *size, search_options(*options), out))
+            model_status(queens(alloc, *size, options.search, out, progress))
         }
         Command::Sat { input, options } => {
-            clauses_status(sat(alloc, input, clause_options(*options), shelf, out))
+            clauses_status(sat(alloc, input, options.search, shelf, out, progress))
         }
         Command::Drup { input, second } => {
             clauses_status(drup(alloc, input, second, shelf, out, &reasons.proof))
         }
         Command::OpbModel { input } => model_status(opb_model_text(alloc, input, shelf, out)),
         Command::Opb { input, options } => {
-            model_status(opb(alloc, input, search_options(*options), shelf, out))
+            model_status(opb(alloc, input, options.search, shelf, out, progress))
         }
     }
 }
 
 /// What comes of the words.
 #[tactic(auto, using(crate::proofs::Obeyings::keeps))]
-fn follow<S: Shelf, O: Sink>(
+fn follow<S: Shelf, O: Sink, E: Sink>(
     alloc: Global,
     words: &[String],
     shelf: &mut S,
     out: &mut O,
     reasons: &Reasons,
+    err: &mut E,
 ) -> Status
     ensures usage { result ≢ Status.Memory →
         (result ≡ Status.Usage) ↔ IsFalse (is_built (request (map string_bytes words.now))) }
@@ -100,7 +100,10 @@ fn follow<S: Shelf, O: Sink>(
         (sink_shown O.taken O.flushed O.faults) shelf.old shelf.new out.old out.new) }
 {
     match read_command(alloc, words) {
-        Ok(Some(command)) => obey(alloc, &command, shelf, out, reasons),
+        Ok(Some(command)) => {
+            let progress = RefCell::new(Progress::new(alloc, err, asks_progress(&command)));
+            obey(alloc, &command, shelf, out, reasons, &progress)
+        }
         Ok(None) => Status::Usage,
         Err(AllocError) => Status::Memory,
     }
@@ -126,7 +129,7 @@ pub fn run<S: Shelf, O: Sink, E: Sink>(
         (sink_shown O.taken O.flushed O.faults) shelf.old shelf.new out.old out.new) }
 {
     let reasons = Reasons::none();
-    let status = follow(alloc, words.as_slice(), shelf, out, &reasons);
+    let status = follow(alloc, words.as_slice(), shelf, out, &reasons, err);
     report(alloc, &status, reasons.told(), err);
     status
 }

@@ -261,7 +261,7 @@ static TEXTS: [Row; 11] = [
         ("usage", 0),
         2,
         "",
-        "bee: usage: bee MODE INPUT [SECOND] [--budget N] [--no-restart]\n",
+        "bee: usage: bee MODE INPUT [SECOND] [--budget N] [--no-restart] [--progress]\n",
     ),
     (
         &["bee", "sat", "m.cnf", "m.drup"],
@@ -270,7 +270,7 @@ static TEXTS: [Row; 11] = [
         ("usage", 0),
         2,
         "",
-        "bee: usage: bee MODE INPUT [SECOND] [--budget N] [--no-restart]\n",
+        "bee: usage: bee MODE INPUT [SECOND] [--budget N] [--no-restart] [--progress]\n",
     ),
 ];
 

@@ -25,6 +25,8 @@ mod drup;
 #[cfg(test)]
 mod opb;
 #[cfg(test)]
+mod progress;
+#[cfg(test)]
 mod queens;
 #[cfg(test)]
 mod sat;

@@ -48,13 +48,17 @@ fn size_of(command: &Command<'_>) -> Option<u64> {
     }
 }
 
-/// The budget of a command that solves, and whether the search may begin again.
-fn options_of(command: &Command<'_>) -> Option<(u64, bool)> {
+/// The budget of a command that solves, whether the search may begin again, and whether its progress is told.
+fn options_of(command: &Command<'_>) -> Option<(u64, bool, bool)> {
     match *command {
         Command::Solve { options, .. }
         | Command::Queens { options, .. }
         | Command::Sat { options, .. }
-        | Command::Opb { options, .. } => Some((options.budget, options.restart)),
+        | Command::Opb { options, .. } => Some((
+            options.search.budget,
+            options.search.restart,
+            options.progress,
+        )),
         _ => None,
     }
 }
@@ -135,23 +139,32 @@ fn commands_of_words(rt: HostRuntime) -> Result<(), Fail> {
     Ok(())
 }
 
-/// A line, the budget, whether the search may begin again, and the size of the board.
-type Given = (&'static str, u64, bool, Option<u64>);
+/// A line, the budget, whether the search may begin again and its progress is told, and the size of the board.
+type Given = (&'static str, u64, bool, bool, Option<u64>);
 
-static OPTIONS: [Given; 7] = [
-    ("bee solve m.bee", USUAL, true, None),
-    ("bee solve m.bee --budget 007", 7, true, None),
-    ("bee solve --no-restart m.bee", USUAL, false, None),
-    ("bee sat m.cnf", USUAL, true, None),
-    ("bee sat --no-restart m.cnf --budget=9", 9, false, None),
-    ("bee queens 4", USUAL, true, Some(4)),
-    ("bee queens 024 --budget=2 --no-restart", 2, false, Some(24)),
+static OPTIONS: [Given; 10] = [
+    ("bee solve m.bee", USUAL, true, false, None),
+    ("bee solve m.bee --budget 007", 7, true, false, None),
+    ("bee solve --no-restart m.bee", USUAL, false, false, None),
+    ("bee solve --progress m.bee", USUAL, true, true, None),
+    ("bee sat m.cnf", USUAL, true, false, None),
+    ("bee sat --no-restart m.cnf --budget=9", 9, false, false, None),
+    ("bee opb f.opb --progress --no-restart", USUAL, false, true, None),
+    ("bee queens 4", USUAL, true, false, Some(4)),
+    ("bee --progress queens 5", USUAL, true, true, Some(5)),
+    (
+        "bee queens 024 --budget=2 --no-restart",
+        2,
+        false,
+        false,
+        Some(24),
+    ),
 ];
 
 /// Asserts that a command has the options of a row.
 fn has_options(rt: &impl Abort, command: &Command<'_>, row: &Given) {
-    let (line, budget, restart, size) = *row;
-    assert!(rt; options_of(command) == Some((budget, restart)), "{line}");
+    let (line, budget, restart, progress, size) = *row;
+    assert!(rt; options_of(command) == Some((budget, restart, progress)), "{line}");
     assert!(rt; size_of(command) == size, "{line}");
 }
 
@@ -173,7 +186,7 @@ fn options_of_words(rt: HostRuntime) -> Result<(), Fail> {
     Ok(())
 }
 
-static NO_COMMANDS: [&str; 39] = [
+static NO_COMMANDS: [&str; 43] = [
     "bee",
     "bee compile",
     "bee solve",
@@ -186,6 +199,10 @@ static NO_COMMANDS: [&str; 39] = [
     "bee sat",
     "bee sat m.cnf n.cnf",
     "bee sat m.cnf --budget 0",
+    "bee sat m.cnf --progress --progress",
+    "bee compile m.bee --progress",
+    "bee check m.bee a.txt --progress",
+    "bee opbmodel f.opb --progress",
     "bee SAT m.cnf",
     "bee drup",
     "bee drup m.cnf",

@@ -8,9 +8,9 @@ use Rattle.command_words.specs.declared.command.Options.{Options}
 use Rattle.command_words.specs.Numeral.{is_numeral, is_within, read_on, number_within}
 use Rattle.command_words.specs.Request.{Request, Compile, Weigh, Solve, Check, Decode, Queens, Sat, Drup, OpbModel, Opb}
 use Rattle.command_words.specs.Request.{All, CheckAll, Core, CheckCore, Certify}
-use Rattle.command_words.specs.Request.{is_word, budget_of, size_of, options_of, lone_input, both_inputs, queens_size}
+use Rattle.command_words.specs.Request.{is_word, budget_of, size_of, options_with, options_of, lone_input, both_inputs, queens_size}
 use Rattle.command_words.specs.Request.{reading_of, reading_requested, searching_of, searching_requested, queens_requested}
-use Rattle.command_words.specs.Request.{checking_of, checking_requested, or_else, mode_requested, requested}
+use Rattle.command_words.specs.Request.{checking_of, checking_requested, or_else, idle_requested, mode_requested, requested}
 use Rattle.command_words.specs.Line.{is_taken, value_of}
 use Rattle.command_words.specs.Limits.{IsBudget, KeepsLimits, RequestsKeepLimits}
 
@@ -43,16 +43,16 @@ budget (Some word) n e =
     (p.0, omega (arith, p.1))
 
 -- the options that words give have a budget
-options : (value : Text → Option Text) (o : Options) → options_of value ≡ Some o → IsBudget o.budget
+options : (value : Text → Option Text) (o : Options) → options_of value ≡ Some o → IsBudget o.search.budget
 options value o e = by (budget_of (value (codes "budget"))) refl e
   where
     made : ℕ → Options
-    made n = record { budget = n; restart = not (is_word (codes "true") (value (codes "no-restart"))) }
+    made = options_with value
 
-    by : (b : Option ℕ) → budget_of (value (codes "budget")) ≡ b → option_map made b ≡ Some o → IsBudget o.budget
+    by : (b : Option ℕ) → budget_of (value (codes "budget")) ≡ b → option_map made b ≡ Some o → IsBudget o.search.budget
     by (Some n) is f =
         let same : made n ≡ o = cc in
-        subst (λ (x : Options). IsBudget x.budget) same (budget (value (codes "budget")) n is)
+        subst (λ (x : Options). IsBudget x.search.budget) same (budget (value (codes "budget")) n is)
     by None is f = absurd (let c = f in cc)
 
 size : (value : Text → Option Text) (n : ℕ) → queens_size value ≡ Some n → (4 ≤ n) × (n ≤ 24)
@@ -62,7 +62,7 @@ size value n e = by (lone_input value) e
     by (Some word) f = number 4 24 word n f
     by None f = absurd (let c = f in cc)
 
-module _ (value : Text → Option Text) (o : Options) (given : IsBudget o.budget) (asked : Request) where
+module _ (value : Text → Option Text) (o : Options) (given : IsBudget o.search.budget) (asked : Request) where
   queens : (n : Option ℕ) → queens_size value ≡ n → option_map (λ size. Queens size o) n ≡ Some asked → KeepsLimits asked
   queens (Some n) is e =
       let same : Queens n o ≡ asked = cc in
@@ -114,12 +114,19 @@ module _ (value : Text → Option Text) (o : Options) (given : IsBudget o.budget
   either (Some it) other p q e = p e
   either None other p q e = q e
 
+  idle : (word : Option Text) → idle_requested word value ≡ Some asked → KeepsLimits asked
+  idle word =
+      either (checking_requested word value) (reading_requested word value) (given_value (checking_of word) (checking word) (both_inputs value))
+      (given_value (reading_of word) (reading word) (lone_input value))
+
+  silent : (word : Option Text) (t : Bool) → (if t then None else idle_requested word value) ≡ Some asked → KeepsLimits asked
+  silent word true e = absurd (let c = e in cc)
+  silent word false e = idle word e
+
   mode : (word : Option Text) → mode_requested word value o ≡ Some asked → KeepsLimits asked
   mode word =
-      either (checking_requested word value) _ (given_value (checking_of word) (checking word) (both_inputs value))
-      (either (reading_requested word value) _ (given_value (reading_of word) (reading word) (lone_input value))
-      (either (searching_requested word value o) (queens_requested word value o) (given_value (searching_of word o) (searching word) (lone_input value))
-      (placing (is_word (codes "queens") word))))
+      either (searching_requested word value o) _ (given_value (searching_of word o) (searching word) (lone_input value))
+      (either (queens_requested word value o) _ (placing (is_word (codes "queens") word)) (silent word o.progress))
 
 values : (value : Text → Option Text) (asked : Request) → requested value ≡ Some asked → KeepsLimits asked
 values value asked e = by (options_of value) refl e

@@ -20,7 +20,7 @@ pub found : (f : Found) (words : List Text) → rows_of f ≡ matches_of bee wor
 found f words rows none =
     let value : (id : Text) → first_value f id ≡ value_of words id = λ id. first_value-rows f id ∙ ap (first_of id) rows in
     let taken : is_taken words ≡ true = search (rules, none) in
-    search (rules, taken, value (codes "mode"), value (codes "input"), value (codes "second"), value (codes "budget"))
+    search (rules, taken, value (codes "mode"), value (codes "input"), value (codes "second"), value (codes "budget"), value (codes "no-restart"), value (codes "progress"))
 
 -- clap doesn't take the words where it has a fault
 pub refused : (words : List Text) → fault_of bee words ≢ [] → request words ≡ None

@@ -13,17 +13,17 @@ IsBudget budget = (1 ≤ budget) × (budget < 2 ^ 63)
 abbrev pub KeepsLimits : Request → Type 0
 KeepsLimits (Compile input) = Unit {0}
 KeepsLimits (Weigh input) = Unit {0}
-KeepsLimits (Solve input options) = IsBudget options.budget
+KeepsLimits (Solve input options) = IsBudget options.search.budget
 KeepsLimits (Check input second) = Unit {0}
 KeepsLimits (Decode input second) = Unit {0}
-KeepsLimits (Queens size options) = (4 ≤ size) × (size ≤ 24) × IsBudget options.budget
-KeepsLimits (Sat input options) = IsBudget options.budget
+KeepsLimits (Queens size options) = (4 ≤ size) × (size ≤ 24) × IsBudget options.search.budget
+KeepsLimits (Sat input options) = IsBudget options.search.budget
 KeepsLimits (Drup input second) = Unit {0}
 KeepsLimits (OpbModel input) = Unit {0}
-KeepsLimits (Opb input options) = IsBudget options.budget
-KeepsLimits (All input options) = IsBudget options.budget
+KeepsLimits (Opb input options) = IsBudget options.search.budget
+KeepsLimits (All input options) = IsBudget options.search.budget
 KeepsLimits (CheckAll input second) = Unit {0}
-KeepsLimits (Core input options) = IsBudget options.budget
+KeepsLimits (Core input options) = IsBudget options.search.budget
 KeepsLimits (CheckCore input second) = Unit {0}
 KeepsLimits (Certify input second) = Unit {0}
 

@@ -1,4 +1,4 @@
--- The command line `bee MODE INPUT [SECOND] [--budget N] [--no-restart]`, as clap reads it.
+-- The command line `bee MODE INPUT [SECOND] [--budget N] [--no-restart] [--progress]`, as clap reads it.
 use Rattle.std.specs.Prelude.{Bool, true, List, codes, Option, Some, None, if◌then◌else◌}
 use Rattle.clap.specs.Words.{App, Rule, Text, new_app, new_rule, with_rule, matches_of, fault_of, first_of}
 use Rattle.clap.specs.declared.builder.ArgAction.TheVariants.{Set, SetTrue}
@@ -26,10 +26,12 @@ bee =
     with_rule
     (with_rule
     (with_rule
+    (with_rule
     (with_rule (with_rule (new_app (codes "bee")) (required_word (codes "mode"))) (required_word (codes "input")))
     (optional_word (codes "second")))
     (option_with_value (codes "budget")))
-    (flag (codes "no-restart"))
+    (flag (codes "no-restart")))
+    (flag (codes "progress"))
 
 -- clap takes the words: they name what the command has, what must stand is there, nothing is said twice, and
 -- no help is asked for

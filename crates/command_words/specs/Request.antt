@@ -1,5 +1,5 @@
 -- What the words of the command line ask for, by the values of words and options.
-use Rattle.std.specs.Prelude.{ℕ, Bool, false, not, codes, bytes_eq, Option, Some, None, is_some, option_map}
+use Rattle.std.specs.Prelude.{ℕ, Bool, false, ◌&&◌, ◌||◌, not, codes, bytes_eq, Option, Some, None, is_some, option_map}
 use Rattle.std.specs.Prelude.{option_and_then, if◌then◌else◌}
 use Rattle.std.specs.Option.{option_map_or}
 use Rattle.clap.specs.Words.{Text}
@@ -56,11 +56,20 @@ budget_of (Some word) = number_within 1 9223372036854775807 word
 abbrev pub size_of : Text → Option ℕ
 size_of word = number_within 4 24 word
 
--- The options. There are none where a budget is given that is none. A flag that is given has the value `true`.
+-- a flag that is given has the value `true`
+abbrev pub is_given : (Text → Option Text) → Text → Bool
+is_given value id = is_word (codes "true") (value id)
+
+-- the options, where the budget is one
+abbrev pub options_with : (Text → Option Text) → ℕ → Options
+options_with value budget = record {
+  search = record { budget = budget; restart = not (is_given value (codes "no-restart")) };
+  progress = is_given value (codes "progress");
+}
+
+-- The options. There are none where a budget is given that is none.
 abbrev pub options_of : (Text → Option Text) → Option Options
-options_of value =
-    option_map (λ budget. record { budget = budget; restart = not (is_word (codes "true") (value (codes "no-restart"))) })
-    (budget_of (value (codes "budget")))
+options_of value = option_map (options_with value) (budget_of (value (codes "budget")))
 
 -- the first name, where no second one is given
 abbrev pub lone_input : (Text → Option Text) → Option Text
@@ -123,12 +132,16 @@ abbrev pub or_else : Option Request → Option Request → Option Request
 or_else (Some asked) other = Some asked
 or_else None other = other
 
--- what a mode asks for, with these options; each mode is one of one kind
+-- what a mode asks for that makes no search
+abbrev pub idle_requested : Option Text → (Text → Option Text) → Option Request
+idle_requested mode value = or_else (checking_requested mode value) (reading_requested mode value)
+
+-- what a mode asks for, with these options; nothing, where the progress of no search is asked for
 abbrev pub mode_requested : Option Text → (Text → Option Text) → Options → Option Request
 mode_requested mode value options =
-    or_else (checking_requested mode value)
-    (or_else (reading_requested mode value)
-    (or_else (searching_requested mode value options) (queens_requested mode value options)))
+    or_else (searching_requested mode value options)
+    (or_else (queens_requested mode value options)
+    (if options.progress then None else idle_requested mode value))
 
 -- what the words ask for, by the values of words and options: modes with one name or number, and with two names
 abbrev pub requested : (Text → Option Text) → Option Request

@@ -1,16 +1,18 @@
 //! What the words ask for.
 
+use search_options::SearchOptions;
+
 /// How a model is solved.
 #[derive(Clone, Copy, Debug, PartialEq, Eq)]
 pub struct Options {
-    /// How many clauses may be learned; from 1 to 9,223,372,036,854,775,807.
-    pub budget: u64,
-    /// Whether the search may begin again with what it learned.
-    pub restart: bool,
+    /// How its search is made.
+    pub search: SearchOptions,
+    /// Whether what the search finds is told while it goes on.
+    pub progress: bool,
 }
 
-/// A command of the program. Both options may stand with each mode; a mode that doesn't solve has no use
-/// for them.
+/// A command of the program. How a search is made may stand with each mode; a mode that doesn't search has no use for
+/// it. That its progress is told stands with a mode that searches alone.
 #[derive(Clone, Copy, Debug, PartialEq, Eq)]
 pub enum Command<'a> {
     /// The model is compiled to clauses.

@@ -4,11 +4,12 @@ ghost use Rattle.std.specs.Prelude.{◌≡◌, codes, option_map};
 ghost use Rattle.clap.specs.Words.{first_value, found_of};
 ghost use Rattle.command_words.specs.Request.{is_word, options_of, lone_input, both_inputs, queens_size, request_of};
 ghost use Rattle.command_words.specs.Request.{reading_requested, searching_requested, queens_requested};
-ghost use Rattle.command_words.specs.Request.{checking_requested, mode_requested, requested};
+ghost use Rattle.command_words.specs.Request.{checking_requested, idle_requested, mode_requested, requested};
 
 use crate::command::{Command, Options};
 use crate::numbers::{budget, size};
 use clap::ArgMatches;
+use search_options::SearchOptions;
 
 /// Whether a word stands and is this one.
 fn is_word(text: &str, word: Option<&str>) -> bool
@@ -26,10 +27,12 @@ fn found_options(matches: &ArgMatches<'_>) -> Option<Options>
 {
     let budget = budget(matches.get_str("budget"))?;
     let is_fixed = is_word("true", matches.get_str("no-restart"));
-    Some(Options {
+    let search = SearchOptions {
         budget,
         restart: !is_fixed,
-    })
+    };
+    let progress = is_word("true", matches.get_str("progress"));
+    Some(Options { search, progress })
 }
 
 /// The first name, where no second one is given.
@@ -142,22 +145,34 @@ fn checking_command<'a>(mode: Option<&str>, matches: &ArgMatches<'a>) -> Option<
     }
 }
 
-/// The command of a mode.
-fn mode_command<'a>(matches: &ArgMatches<'a>, options: Options) -> Option<Command<'a>>
+/// The command of a mode that makes no search.
+fn idle_command<'a>(mode: Option<&str>, matches: &ArgMatches<'a>) -> Option<Command<'a>>
     ensures { option_map request_of result
-        ≡ mode_requested (first_value (found_of matches.now) (codes "mode")) (first_value (found_of matches.now)) options }
+        ≡ idle_requested (option_map (λ s. s.now) mode.entry) (first_value (found_of matches.now)) }
 {
-    let mode = matches.get_str("mode");
     if let Some(command) = checking_command(mode, matches) {
         return Some(command);
     }
-    if let Some(command) = reading_command(mode, matches) {
-        return Some(command);
-    }
+    reading_command(mode, matches)
+}
+
+/// The command of a mode. The progress of a search stands with a mode that makes one alone.
+fn mode_command<'a>(matches: &ArgMatches<'a>, options: Options) -> Option<Command<'a>>
+    ensures { option_map request_of result
+        ≡ mode_requested (first_value (found_of matches.now) (codes "mode")) (first_value (found_of matches.now))
+        options }
+{
+    let mode = matches.get_str("mode");
     if let Some(command) = searching_command(mode, matches, options) {
         return Some(command);
     }
-    queens_command(mode, matches, options)
+    if let Some(command) = queens_command(mode, matches, options) {
+        return Some(command);
+    }
+    if options.progress {
+        return None;
+    }
+    idle_command(mode, matches)
 }
 
 /// The command.

@@ -7,7 +7,7 @@ ghost use Rattle.command_words.specs.Line.{bee};
 use clap::{Arg, ArgAction, Command};
 use std::alloc::{AllocError, Global};
 
-/// The command `bee MODE INPUT [SECOND] [--budget N] [--no-restart]`.
+/// The command `bee MODE INPUT [SECOND] [--budget N] [--no-restart] [--progress]`.
 pub fn bee<'a>(alloc: Global) -> Result<Command<'a>, AllocError>
     ensures { IfOk result (λ c. app_of c ≡ bee) }
 {
@@ -24,10 +24,14 @@ pub fn bee<'a>(alloc: Global) -> Result<Command<'a>, AllocError>
     let no_restart = Arg::new(alloc, "no-restart")
         .long("no-restart")
         .action(ArgAction::SetTrue);
+    let progress = Arg::new(alloc, "progress")
+        .long("progress")
+        .action(ArgAction::SetTrue);
     Command::new(alloc, "bee")
         .arg(mode)?
         .arg(input)?
         .arg(second)?
         .arg(budget)?
-        .arg(no_restart)
+        .arg(no_restart)?
+        .arg(progress)
 }

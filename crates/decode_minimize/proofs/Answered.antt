@@ -55,7 +55,7 @@ use Rattle.answer_document.specs.Verdicts.{numbers_with, BoundsFit, VerdictFits}
 use Rattle.answer_document.specs.Claims.{IsSolutionAt}
 use Rattle.answer_document.specs.Valid.{start_of, IsShown, first_shown, second_shown, second_cnf, atom_clauses, IsDerived, IsSecond, AreShown, AreAdded, AreAddedAlone, IsCertified, AnswerHolds, AreReadableSteps, AreReadableLines, IsReadableSecond, FitNumbers, FitAssignment, stated, numbers_given}
 use Rattle.decode_minimize.specs.declared.objective.Direction.{Direction}
-use Rattle.decode_minimize.specs.declared.options.Options.{Options}
+use Rattle.search_options.specs.declared.options.SearchOptions.{SearchOptions}
 use Rattle.decode_minimize.specs.declared.solved.Solved.{Solved}
 use Rattle.decode_minimize.specs.Objectives.{bound_of, IsObjective}
 use Rattle.decode_minimize.specs.Solved.{Problem, IsDerivation, IsReadFrom, HasBounds, HasSecond, IsOptimal, IsFirstShown, IsSpentFirst, IsSpentSecond, IsSolvedAny, IsSolvedBest, fixed_cnf, second_named, second_added, value_under, values_count, values_in}
@@ -69,7 +69,7 @@ abbrev pub document_of : Solved → List Line → Document
 document_of s ledger = record { verdict = s.verdict; assignment = s.assignment; ledger = ledger; proof = s.proof; second = s.second }
 
 -- what an answer with a verdict is made of
-pub record Parts (model : Model) (last : Kernel) (options : Options) (ledger : List Line) (s : Solved) (v : Verdict) : Type 0 where
+pub record Parts (model : Model) (last : Kernel) (options : SearchOptions) (ledger : List Line) (s : Solved) (v : Verdict) : Type 0 where
   pub fits : VerdictFits model.goal v
   pub answer : AnswerHolds model v (numbers_given s.assignment)
   pub certificate : IsCertified model (document_of s ledger) v
@@ -84,7 +84,7 @@ pub record Parts (model : Model) (last : Kernel) (options : Options) (ledger : L
   pub readable : IsReadableSecond s.second
 
 module _ (told : Core → Equation → Type 0) (model : Model) (typed : WellTyped model) (limits : InLimits model) (light : weight_of model ≤ most_weight)
-    (options : Options) (budget : IsBudget options.budget) (last : Kernel) (ledger : List Line) (compilation : IsCompilation told (start_of model) ledger last) where
+    (options : SearchOptions) (budget : IsBudget options.budget) (last : Kernel) (ledger : List Line) (compilation : IsCompilation told (start_of model) ledger last) where
   abbrev entries : List MapValue
   entries = (lowered_of model).map.entries
 

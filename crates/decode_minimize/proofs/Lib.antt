@@ -5,8 +5,9 @@ mod Ready
 mod Sound
 mod Rounding
 mod Makings
+mod Hearing
 mod Entries
-mod AnswerParts
-mod Answered
-mod Lowerings
+pub mod AnswerParts
+pub mod Answered
+pub mod Lowerings
 mod Sizes

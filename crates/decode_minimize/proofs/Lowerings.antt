@@ -37,7 +37,7 @@ use Rattle.answer_document.specs.declared.verdict.Verdict.TheVariants.{Unsatisfi
 use Rattle.answer_document.specs.BoundAtoms.{integer_named}
 use Rattle.answer_document.specs.Valid.{start_of}
 use Rattle.decode_minimize.specs.declared.objective.Direction.TheVariants.{Least, Greatest}
-use Rattle.decode_minimize.specs.declared.options.Options.{Options}
+use Rattle.search_options.specs.declared.options.SearchOptions.{SearchOptions}
 use Rattle.decode_minimize.specs.declared.solved.Names.{Names}
 use Rattle.decode_minimize.specs.declared.solved.Solved.{Solved}
 use Rattle.decode_minimize.specs.Solved.{problem_of, IsProblem, IsDerivation, IsRefuted, IsSolvedFor, second_named, second_added}
@@ -93,7 +93,7 @@ pub same-problem : (names : Names) (cnf : Cnf) (entries : List MapValue) (k : Ke
 same-problem names cnf entries k map view shape = cc
 
 -- at bottom the empty clause stands in the CNF, and nothing is to be derived
-refuted-at : (options : Options) (k : Kernel) → k.bottom ≡ true → IsRefuted (cnf_of k) options []
+refuted-at : (options : SearchOptions) (k : Kernel) → k.bottom ≡ true → IsRefuted (cnf_of k) options []
 refuted-at options k bottom = record {
   derivation = record { accepted = refl; fresh = tt; readable = tt };
   within = omega arith;
@@ -101,7 +101,7 @@ refuted-at options k bottom = record {
   shown = subst (λ (b : Bool). known (proof_of (record { vars = length k.view; clauses = if b then [] ∷ [] else ordered_clauses k.view k.clauses })) [] ≡ true) (sym bottom) refl;
 }
 
-pub bottom-solved : (entries : List MapValue) (k : Kernel) (options : Options) (goal : Goal) (s : Solved) → k.bottom ≡ true → s ≡ record { verdict = Unsatisfiable; assignment = None; proof = []; second = None }
+pub bottom-solved : (entries : List MapValue) (k : Kernel) (options : SearchOptions) (goal : Goal) (s : Solved) → k.bottom ≡ true → s ≡ record { verdict = Unsatisfiable; assignment = None; proof = []; second = None }
     → IsSolvedFor (problem_at entries k) options goal s
 bottom-solved entries k options Satisfy s bottom is = any-refuted (problem_at entries k) options s [] is (refuted-at options k bottom)
 bottom-solved entries k options (Minimize place second) s bottom is =
@@ -110,7 +110,7 @@ bottom-solved entries k options (Maximize place second) s bottom is =
     best-refuted (problem_at entries k) options s [] Greatest (integer_named entries place) (second_named entries second) is (refuted-at options k bottom)
 
 -- What is solved answers each model that is lowered to this.
-module _ (told : Core → Equation → Type 0) (options : Options) (budget : IsBudget options.budget) (last : Kernel) (ledger : List Line)
+module _ (told : Core → Equation → Type 0) (options : SearchOptions) (budget : IsBudget options.budget) (last : Kernel) (ledger : List Line)
     (few : length last.cores < 2 ^ 64) (s : Solved) (counter now : ℕ) where
   module _ (model : Model) (typed : WellTyped model) (limits : InLimits model) (light : weight_of model ≤ most_weight) (compilation : IsCompilation told (start_of model) ledger last)
       (asked : now ≤ counter + 3 * most_questions (start_of model) ledger last) where

@@ -26,7 +26,7 @@ use Rattle.answer_document.specs.declared.verdict.Verdict.TheVariants.{Satisfiab
 use Rattle.answer_document.specs.Valid.{IsShown, atom_clauses}
 use Rattle.decode_minimize.specs.declared.objective.Direction.{Direction}
 use Rattle.decode_minimize.specs.declared.objective.Direction.TheVariants.{Least, Greatest}
-use Rattle.decode_minimize.specs.declared.options.Options.{Options}
+use Rattle.search_options.specs.declared.options.SearchOptions.{SearchOptions}
 use Rattle.decode_minimize.specs.declared.improving.Sought.{Sought}
 use Rattle.decode_minimize.specs.declared.solved.Names.{Names}
 use Rattle.decode_minimize.specs.declared.solved.Progress.{Progress}
@@ -41,10 +41,10 @@ use Rattle.decode_minimize.proofs.Sound.{shown-true, with-atom-true, with-atom-p
 abbrev refuted_solved : List ProofLine → Solved
 refuted_solved proof = record { verdict = Unsatisfiable; assignment = None; proof = proof; second = None }
 
-abbrev given_up_solved : List ProofLine → Options → Solved
+abbrev given_up_solved : List ProofLine → SearchOptions → Solved
 given_up_solved proof options = record { verdict = Unknown options.budget None; assignment = None; proof = proof; second = None }
 
-module _ (p : Problem) (options : Options) (s : Solved) (proof : List ProofLine) where
+module _ (p : Problem) (options : SearchOptions) (s : Solved) (proof : List ProofLine) where
   -- one search is no more than one for each value
   one-of-many : (a : OrdInt) (second : Option OrdInt) (x : ℕ) → x ≤ most_learned options.restart p.cnf.vars → x + 0 ≤ (values_count a + values_in second) * most_learned options.restart p.cnf.vars
   one-of-many a second x most =
@@ -85,7 +85,7 @@ made-read : (names : Names) (cnf : Cnf) (values : List Bool) (v : Verdict) (proo
     → AreSatisfying cnf values → IsReadFrom (problem_of names cnf) s values
 made-read names cnf values v proof second s made satisfying = record { satisfying = satisfying; numbers = made.numbers }
 
-pub any-solution : (names : Names) (cnf : Cnf) (options : Options) (values : List Bool) (proof : List ProofLine) (s : Solved) → IsMadeOf names values Satisfiable proof None s → AreSatisfying cnf values
+pub any-solution : (names : Names) (cnf : Cnf) (options : SearchOptions) (values : List Bool) (proof : List ProofLine) (s : Solved) → IsMadeOf names values Satisfiable proof None s → AreSatisfying cnf values
     → IsDerivation cnf proof → additions proof ≤ options.budget → additions proof ≤ most_learned options.restart cnf.vars → IsAnySolved (problem_of names cnf) options s
 any-solution names cnf options values proof s made satisfying derivation within most = record {
   derivation = made-derivation names values Satisfiable proof None s cnf made derivation;
@@ -95,7 +95,7 @@ any-solution names cnf options values proof s made satisfying derivation within 
 }
 
 -- what is read by one view is read by the same one
-module _ (names : Names) (cnf : Cnf) (sought : Sought) (options : Options) (view : sought.view.now ≡ names.view.now) (r : Progress) (progress : IsProgress cnf sought options r) where
+module _ (names : Names) (cnf : Cnf) (sought : Sought) (options : SearchOptions) (view : sought.view.now ≡ names.view.now) (r : Progress) (progress : IsProgress cnf sought options r) where
   abbrev solving : Problem
   solving = problem_of names cnf
 
@@ -191,7 +191,7 @@ no-worse-below n Least a m h = AtomBelow-not_atom n (at_of a (m +ℤ pos 1)) (At
 no-worse-below n Greatest a m h = AtomBelow-at_of n a m h
 
 -- the clauses with that of a fixed objective
-module _ (cnf : Cnf) (sought : Sought) (options : Options) (r : Progress) (seekable : IsSeekable cnf sought) (progress : IsProgress cnf sought options r) where
+module _ (cnf : Cnf) (sought : Sought) (options : SearchOptions) (r : Progress) (seekable : IsSeekable cnf sought) (progress : IsProgress cnf sought options r) where
   abbrev fixed_atom : Atom
   fixed_atom = resolve sought.view.now (no_worse_of sought.direction sought.integer.now r.best.number)
 
@@ -259,7 +259,7 @@ both-paid : (a b i m x y n : ℕ) → x ≤ a * m → y ≡ n - x → x ≤ n �
 both-paid a b i m x y n first rest within second = omega (arith, first, rest, within, second)
 
 -- two objectives, where the first one is fixed
-module _ (names : Names) (cnf : Cnf) (sought behind : Sought) (options left : Options) (r last : Progress) (view : sought.view.now ≡ names.view.now) (view_behind : behind.view.now ≡ names.view.now)
+module _ (names : Names) (cnf : Cnf) (sought behind : Sought) (options left : SearchOptions) (r last : Progress) (view : sought.view.now ≡ names.view.now) (view_behind : behind.view.now ≡ names.view.now)
     (direction : behind.direction ≡ sought.direction) (seekable : IsSeekable cnf sought) (progress : IsProgress cnf sought options r) (shown : r.is_best ≡ true)
     (budget : left.budget ≡ options.budget - additions r.proof.lines) (restart : left.restart ≡ options.restart) where
   abbrev both_fixed : Cnf
@@ -367,7 +367,7 @@ module _ (names : Names) (cnf : Cnf) (sought behind : Sought) (options left : Op
     both-solved made = both-by last.is_best refl made
 
 -- the same, of what the code has: the clauses as they were made, and the number as its bits
-pub both-made : (names : Names) (cnf made : Cnf) (sought behind : Sought) (options left : Options) (r last : Progress) (number : ℤ) (s : Solved) → sought.view.now ≡ names.view.now → behind.view.now ≡ names.view.now
+pub both-made : (names : Names) (cnf made : Cnf) (sought behind : Sought) (options left : SearchOptions) (r last : Progress) (number : ℤ) (s : Solved) → sought.view.now ≡ names.view.now → behind.view.now ≡ names.view.now
     → behind.direction ≡ sought.direction → IsSeekable cnf sought → IsProgress cnf sought options r → r.is_best ≡ true → left.budget ≡ options.budget - additions r.proof.lines → left.restart ≡ options.restart
     → made ≡ record { vars = cnf.vars; clauses = cnf.clauses ++ atom_clauses (resolve sought.view.now (no_worse_of sought.direction sought.integer.now r.best.number)) } → IsProgress made behind left last
     → number ≡ r.best.number → IsMadeOf names last.best.values (verdict_on last.is_best (record { first = number; second = Some last.best.number }) options) r.proof.lines (Some last.proof.lines) s

@@ -16,7 +16,7 @@ use Rattle.proof_check.specs.Lrat.{Lrat}
 use Rattle.learning_solver.specs.Log.{additions, proof_behind, IsFreshLog}
 use Rattle.learning_solver.specs.Outcome.{Logged, most_learned}
 use Rattle.answer_document.specs.Valid.{IsShown, AreReadableLines}
-use Rattle.decode_minimize.specs.declared.options.Options.{Options}
+use Rattle.search_options.specs.declared.options.SearchOptions.{SearchOptions}
 use Rattle.decode_minimize.specs.declared.improving.Sought.{Sought}
 use Rattle.decode_minimize.specs.declared.improving.Best.{Best}
 use Rattle.decode_minimize.specs.declared.asking.Round.TheVariants as round
@@ -69,7 +69,7 @@ paid-searches w c i m x y few one most =
     let more : m * (w + 1) ≤ m * c = mul-le-mul_left m few in
     omega (arith, one, most, more)
 
-pub progress-from : (first new : Logged) (sought : Sought) (options : Options) (best is : Best) (shown : Bool) (proof : SeekerLog)
+pub progress-from : (first new : Logged) (sought : Sought) (options : SearchOptions) (best is : Best) (shown : Bool) (proof : SeekerLog)
     → IsSeeking first sought best → additions first.log ≤ most_learned options.restart first.cnf.vars → new.cnf ≡ first.cnf → additions new.log ≤ options.budget
     → IsSeeking new sought is → IsImproved first new sought options best is shown → proof.lines ≡ new.log → proof.incumbent ≡ Some is.number → Lrat new.cnf proof.lines → IsFreshLog new.cnf proof.lines → AreReadableLines proof.lines
     → IsProgress first.cnf sought options (record { proof = proof; best = is; is_best = shown })
@@ -97,7 +97,7 @@ progress-from first new sought options best is shown proof seeking before cnf wi
     }
 
 -- the first round of a new solver
-module _ (cnf : Cnf) (old new : Logged) (options : Options) (start : old ≡ new_solver cnf) (same : new.cnf ≡ old.cnf) where
+module _ (cnf : Cnf) (old new : Logged) (options : SearchOptions) (start : old ≡ new_solver cnf) (same : new.cnf ≡ old.cnf) where
   of-cnf : new.cnf ≡ cnf
   of-cnf = same ∙ ap (λ (s : Logged). s.cnf) start
 

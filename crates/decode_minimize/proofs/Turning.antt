@@ -24,7 +24,7 @@ use Rattle.std.specs.Prelude.{pos, ◌+ℤ◌}
 use Rattle.answer_document.specs.Valid.{IsShown}
 use Rattle.decode_minimize.specs.declared.objective.Direction.{Direction}
 use Rattle.decode_minimize.specs.declared.objective.Direction.TheVariants.{Least, Greatest}
-use Rattle.decode_minimize.specs.declared.options.Options.{Options}
+use Rattle.search_options.specs.declared.options.SearchOptions.{SearchOptions}
 use Rattle.decode_minimize.specs.declared.improving.Sought.{Sought}
 use Rattle.decode_minimize.specs.declared.improving.Best.{Best}
 use Rattle.decode_minimize.specs.declared.improving.Turn.TheVariants as turn
@@ -89,7 +89,7 @@ seeking-on old new sought best is cnf = record {
   number = is.number;
 }
 
-module _ (old new : Logged) (sought : Sought) (options : Options) (was : Best) (seeking : IsSeeking old sought was) (cnf : new.cnf ≡ old.cnf) where
+module _ (old new : Logged) (sought : Sought) (options : SearchOptions) (was : Best) (seeking : IsSeeking old sought was) (cnf : new.cnf ≡ old.cnf) where
   abbrev search_most : ℕ
   search_most = most_learned options.restart old.cnf.vars
 
@@ -145,7 +145,7 @@ module _ (old new : Logged) (sought : Sought) (options : Options) (was : Best) (
   )
 
 -- one turn after another
-module _ (first old new : Logged) (sought : Sought) (options : Options) (start was is : Best) (one : old.cnf ≡ first.cnf)
+module _ (first old new : Logged) (sought : Sought) (options : SearchOptions) (start was is : Best) (one : old.cnf ≡ first.cnf)
     (so_far : additions old.log + left sought was * most_learned options.restart first.cnf.vars ≤ additions first.log + left sought start * most_learned options.restart first.cnf.vars)
     (fewer : left sought was ≤ left sought start) where
   same-most : most_learned options.restart old.cnf.vars ≡ most_learned options.restart first.cnf.vars

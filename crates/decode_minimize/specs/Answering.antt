@@ -20,7 +20,7 @@ use Rattle.step_kernel.specs.CnfOf.{cnf_of}
 use Rattle.model_decode.specs.Short.{AreShort}
 use Rattle.answer_document.specs.declared.document.Document.{Document}
 use Rattle.answer_document.specs.BoundAtoms.{integer_named}
-use Rattle.decode_minimize.specs.declared.options.Options.{Options}
+use Rattle.search_options.specs.declared.options.SearchOptions.{SearchOptions}
 use Rattle.decode_minimize.specs.declared.answering.CnfSize.{CnfSize}
 use Rattle.decode_minimize.specs.Objectives.{IsObjective}
 use Rattle.decode_minimize.specs.Solved.{Problem}
@@ -44,7 +44,7 @@ pub record IsReady (l : Lowered) : Type 0 where
   pub ordered : (σ : Valuation) → MeetsAll σ l.cores → AreOrdered σ l.map.entries
 
 -- an answer to each model that is lowered to this, and has this goal
-abbrev pub IsAnswerOf : (Core → Equation → Type 0) → Lowered → Goal → Options → Document → ℕ → ℕ
+abbrev pub IsAnswerOf : (Core → Equation → Type 0) → Lowered → Goal → SearchOptions → Document → ℕ → ℕ
     → Type 0
 IsAnswerOf told l goal options d counter now =
     (model : Model) → WellTyped model → InLimits model → weight_of model ≤ most_weight

@@ -34,7 +34,7 @@ use Rattle.answer_document.specs.Valid.{start_of, IsShown, first_shown, second_s
 use Rattle.answer_document.specs.Valid.{IsValid}
 use Rattle.decode_minimize.specs.declared.objective.Direction.{Direction}
 use Rattle.decode_minimize.specs.declared.objective.Direction.TheVariants.{Least, Greatest}
-use Rattle.decode_minimize.specs.declared.options.Options.{Options}
+use Rattle.search_options.specs.declared.options.SearchOptions.{SearchOptions}
 use Rattle.decode_minimize.specs.Objectives.{better_left}
 use Rattle.decode_minimize.specs.Solved.{values_count, second_added}
 
@@ -141,7 +141,7 @@ IsPaid entries budget most goal lines (Unknown n (Some b)) = IsPaidTowards entri
 
 -- An answer to a model, where a counter has risen from one number to another. Its ledger is that of a whole
 -- compilation, whatever the verdict, and the last state's CNF stands for exactly the solutions.
-pub record IsAnswer (told : Core → Equation → Type 0) (model : Model) (options : Options) (d : Document)
+pub record IsAnswer (told : Core → Equation → Type 0) (model : Model) (options : SearchOptions) (d : Document)
     (counter now : ℕ) : Type 0 where
   pub last : Kernel
   pub compilation : IsCompilation told (start_of model) d.ledger last

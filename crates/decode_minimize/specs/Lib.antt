@@ -4,5 +4,6 @@ pub mod Incumbents
 pub mod Seeking
 pub mod Fixing
 pub mod Solved
+pub mod Heard
 pub mod Answers
 pub mod Answering

@@ -9,7 +9,7 @@ use Rattle.state_compile.specs.StandsFor.{read_by}
 use Rattle.learning_solver.specs.Log.{additions, proof_behind}
 use Rattle.learning_solver.specs.Outcome.{Logged, most_learned}
 use Rattle.answer_document.specs.Valid.{IsShown}
-use Rattle.decode_minimize.specs.declared.options.Options.{Options}
+use Rattle.search_options.specs.declared.options.SearchOptions.{SearchOptions}
 use Rattle.decode_minimize.specs.declared.improving.Sought.{Sought}
 use Rattle.decode_minimize.specs.declared.improving.Best.{Best}
 use Rattle.decode_minimize.specs.declared.improving.Turn.{Turn}
@@ -39,7 +39,7 @@ IsBestShown s sought best =
 
 -- What a round costs is at most a search for each value that it leaves out. Where the budget was spent, so many clauses
 -- are fewer, a value was left, and the log shows nothing of it.
-abbrev pub IsTurned : Logged → Logged → Sought → Options → Best → Best → Turn → Type 0
+abbrev pub IsTurned : Logged → Logged → Sought → SearchOptions → Best → Best → Turn → Type 0
 IsTurned old new sought options was is Better =
     (left sought is < left sought was)
     × (additions new.log + left sought is * most_learned options.restart old.cnf.vars
@@ -55,7 +55,7 @@ IsTurned old new sought options was is Spent =
 
 -- Rounds to their end. No more values are better than the solution that is kept than were better than the first one;
 -- and each search but the last is paid for by a value that is left out, so what a round found is not given up again.
-pub record IsImproved (old new : Logged) (sought : Sought) (options : Options) (was is : Best) (shown : Bool)
+pub record IsImproved (old new : Logged) (sought : Sought) (options : SearchOptions) (was is : Best) (shown : Bool)
     : Type 0 where
   pub best : shown ≡ true → IsBestShown new sought is
   pub most : additions new.log ≤ additions old.log + left sought was * most_learned options.restart old.cnf.vars

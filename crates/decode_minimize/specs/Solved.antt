@@ -31,7 +31,7 @@ use Rattle.answer_document.specs.BoundAtoms.{integer_named}
 use Rattle.answer_document.specs.Valid.{IsShown, AreReadableLines, atom_clauses, numbers_given}
 use Rattle.decode_minimize.specs.declared.objective.Direction.{Direction}
 use Rattle.decode_minimize.specs.declared.objective.Direction.TheVariants.{Least, Greatest}
-use Rattle.decode_minimize.specs.declared.options.Options.{Options}
+use Rattle.search_options.specs.declared.options.SearchOptions.{SearchOptions}
 use Rattle.decode_minimize.specs.declared.improving.Sought.{Sought}
 use Rattle.decode_minimize.specs.declared.solved.Names.{Names}
 use Rattle.decode_minimize.specs.declared.solved.Progress.{Progress}
@@ -83,7 +83,7 @@ values_count a = length (values_of a)
 
 -- The rounds of an objective, from a solution on. The solution that is kept has the value of the last one that was
 -- found, and each that a round finds is better than all before it.
-pub record IsProgress (cnf : Cnf) (sought : Sought) (options : Options) (r : Progress) : Type 0 where
+pub record IsProgress (cnf : Cnf) (sought : Sought) (options : SearchOptions) (r : Progress) : Type 0 where
   pub derivation : IsDerivation cnf r.proof.lines
   pub values : AreSatisfying cnf r.best.values
   pub kept : r.proof.incumbent ≡ Some r.best.number
@@ -104,19 +104,19 @@ pub record IsProgress (cnf : Cnf) (sought : Sought) (options : Options) (r : Pro
       (resolve sought.view.now (bound_of sought.direction sought.integer.now r.best.number)) → ⊥
 
 -- and before any is known
-pub record IsRefuted (cnf : Cnf) (options : Options) (proof : List ProofLine) : Type 0 where
+pub record IsRefuted (cnf : Cnf) (options : SearchOptions) (proof : List ProofLine) : Type 0 where
   pub derivation : IsDerivation cnf proof
   pub within : additions proof ≤ options.budget
   pub most : additions proof ≤ most_learned options.restart cnf.vars
   pub shown : IsShown (proof_behind cnf proof) atom.False
 
-pub record IsGivenUp (cnf : Cnf) (options : Options) (proof : List ProofLine) : Type 0 where
+pub record IsGivenUp (cnf : Cnf) (options : SearchOptions) (proof : List ProofLine) : Type 0 where
   pub derivation : IsDerivation cnf proof
   pub spent : additions proof ≡ options.budget
   pub early : additions proof < most_learned options.restart cnf.vars
   pub unshown : IsShown (proof_behind cnf proof) atom.False → ⊥
 
-abbrev pub IsFirst : Cnf → Sought → Options → First → Type 0
+abbrev pub IsFirst : Cnf → Sought → SearchOptions → First → Type 0
 IsFirst cnf sought options (Refuted proof) = IsRefuted cnf options proof
 IsFirst cnf sought options (GivenUp proof) = IsGivenUp cnf options proof
 IsFirst cnf sought options (Found r) = IsProgress cnf sought options r
@@ -162,7 +162,7 @@ IsOptimal p d a (Some other) s b = (lines : List ProofLine) × HasSecond p d a s
 
 -- The budget is spent on the first objective, or on both. What was derived does not show that no solution is better;
 -- and each search but the last is paid for by a value that is no better than the one that is given.
-pub record IsSpentFirst (p : Problem) (options : Options) (d : Direction) (a : OrdInt) (s : Solved) (b : Bounds)
+pub record IsSpentFirst (p : Problem) (options : SearchOptions) (d : Direction) (a : OrdInt) (s : Solved) (b : Bounds)
     : Type 0 where
   pub alone : s.second ≡ None
   pub spent : additions s.proof ≡ options.budget
@@ -171,7 +171,7 @@ pub record IsSpentFirst (p : Problem) (options : Options) (d : Direction) (a : O
       < (values_count a + 1) * most_learned options.restart p.cnf.vars
   pub unshown : IsFirstShown p d a s b → ⊥
 
-pub record IsSpentSecond (p : Problem) (options : Options) (d : Direction) (a : OrdInt) (second : Option OrdInt)
+pub record IsSpentSecond (p : Problem) (options : SearchOptions) (d : Direction) (a : OrdInt) (second : Option OrdInt)
     (s : Solved) (b : Bounds) : Type 0 where
   pub other : OrdInt
   pub is : second ≡ Some other
@@ -191,7 +191,7 @@ abbrev pub IsBare : Solved → Type 0
 IsBare s = (numbers_given s.assignment ≡ None) × (s.second ≡ None)
 
 -- any solution serves
-abbrev pub IsSolvedAny : Problem → Options → Solved → Verdict → Type 0
+abbrev pub IsSolvedAny : Problem → SearchOptions → Solved → Verdict → Type 0
 IsSolvedAny p options s Satisfiable = (values : List Bool) × IsReadFrom p s values × (s.second ≡ None)
 IsSolvedAny p options s Unsatisfiable = IsBare s × IsShown (proof_behind p.cnf s.proof) atom.False
 IsSolvedAny p options s (Optimum b) = ⊥
@@ -199,7 +199,7 @@ IsSolvedAny p options s (Unknown n None) = IsBare s × (n ≡ options.budget) ×
 IsSolvedAny p options s (Unknown n (Some b)) = ⊥
 
 -- a best one is sought
-abbrev pub IsSolvedBest : Problem → Options → Direction → OrdInt → Option OrdInt → Solved → Verdict
+abbrev pub IsSolvedBest : Problem → SearchOptions → Direction → OrdInt → Option OrdInt → Solved → Verdict
     → Type 0
 IsSolvedBest p options d a second s Satisfiable = ⊥
 IsSolvedBest p options d a second s Unsatisfiable = IsBare s × IsShown (proof_behind p.cnf s.proof) atom.False
@@ -217,7 +217,7 @@ second_added None = 0
 second_added (Some lines) = additions lines
 
 -- what holds of the derivations, of so many rounds at most, and what the verdict says
-pub record IsSolved (p : Problem) (options : Options) (s : Solved) (rounds : ℕ) (claims : Verdict → Type 0)
+pub record IsSolved (p : Problem) (options : SearchOptions) (s : Solved) (rounds : ℕ) (claims : Verdict → Type 0)
     : Type 0 where
   pub derivation : IsDerivation p.cnf s.proof
   pub within : additions s.proof + second_added s.second ≤ options.budget
@@ -230,10 +230,10 @@ values_in None = 0
 values_in (Some a) = values_count a
 
 -- any solution serves; or a best one is sought, of one objective or two
-abbrev pub IsAnySolved : Problem → Options → Solved → Type 0
+abbrev pub IsAnySolved : Problem → SearchOptions → Solved → Type 0
 IsAnySolved p options s = IsSolved p options s 1 (IsSolvedAny p options s)
 
-abbrev pub IsBestSolved : Problem → Options → Direction → OrdInt → Option OrdInt → Solved → Type 0
+abbrev pub IsBestSolved : Problem → SearchOptions → Direction → OrdInt → Option OrdInt → Solved → Type 0
 IsBestSolved p options d a second s =
     IsSolved p options s (values_count a + values_in second) (IsSolvedBest p options d a second s)
 
@@ -241,7 +241,7 @@ IsBestSolved p options d a second s =
 abbrev pub second_named : List MapValue → Option ℕ → Option OrdInt
 second_named entries second = option_map (integer_named entries) second
 
-abbrev pub IsSolvedFor : Problem → Options → Goal → Solved → Type 0
+abbrev pub IsSolvedFor : Problem → SearchOptions → Goal → Solved → Type 0
 IsSolvedFor p options Satisfy s = IsAnySolved p options s
 IsSolvedFor p options (Minimize place second) s =
     IsBestSolved p options Least (integer_named p.entries place) (second_named p.entries second) s
@@ -258,5 +258,5 @@ pub record IsMadeOf (names : Names) (values : List Bool) (v : Verdict) (lines : 
   pub second : s.second ≡ behind
 
 -- the verdict on a solution that is known
-abbrev pub verdict_on : Bool → Bounds → Options → Verdict
+abbrev pub verdict_on : Bool → Bounds → SearchOptions → Verdict
 verdict_on is_best b options = if is_best then Optimum b else Unknown options.budget (Some b)

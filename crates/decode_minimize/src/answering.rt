@@ -12,18 +12,20 @@ ghost use Rattle.step_kernel.specs.Kernel.{Kernel, started};
 ghost use Rattle.step_kernel.specs.CnfOf.{cnf_of};
 ghost use Rattle.state_compile.specs.Compilation.{IsCompilation};
 ghost use Rattle.answer_document.specs.Valid.{start_of};
+ghost use Rattle.decode_minimize.specs.Heard.{AreHeard, AreDecodedHeard, IsHeard};
 ghost use Rattle.decode_minimize.specs.Answering.{IsReady, IsAnswerOf, problem_at, size_of};
 
-use crate::options::Options;
+use search_options::SearchOptions;
 use crate::solved::{Names, Solved};
 use crate::solving::{refuted, solve};
+use crate::watching::SolutionWatcher;
 use answer_document::Document;
 use bee_list::Sequence;
 use fixpoint_queue::Oracle;
-use model_lower::{LowerFault, Lowered, lower, lower_owned};
+use model_lower::{LowerFault, Lowered, LoweredModel, lower, lower_owned};
 use model_meaning::{Decl, Goal, Model};
-use name_map::NameMap;
 use rule_base::Steps;
+use search_watcher::Silent;
 use state_compile::compile_state;
 use std::alloc::{AllocError, Global};
 use std::sync::ledger::Ledger;
@@ -63,22 +65,32 @@ struct SizedDocument {
     size: CnfSize,
 }
 
+/// A model that is lowered, with its names and what is sought of them.
+#[derive(Drop)]
+struct Posed<'a> {
+    lowered: Lowered,
+    decls: &'a [Decl],
+    goal: Goal,
+}
+
 /// Solves the clauses of the last state of a compilation. At bottom there is no solution, and nothing is to be derived:
 /// the CNF is the empty clause alone.
-fn solve_state(
-    alloc: Global,
+fn solve_state<W: SolutionWatcher>(
     state: &State,
-    map: &NameMap,
-    goal: Goal,
-    options: Options,
+    names: &Names<'_>,
+    options: SearchOptions,
+    watcher: &mut W,
 ) -> Result<SolvedState, AllocError>
-    requires { IsProblem (problem_at map.now.entries state.now) }
-    ensures solved { IfOk result (λ s. IsSolvedFor (problem_at map.now.entries state.now) options goal s.solved) }
+    requires view { names.now.view.now ≡ state.now.view }
+    requires problem { IsProblem (problem_at names.now.map.now.entries state.now) }
+    requires heard { IsHeard W.heard (cnf_of state.now) names.now }
+    ensures solved { IfOk result
+        (λ s. IsSolvedFor (problem_at names.now.map.now.entries state.now) options names.now.goal s.solved) }
     ensures size { IfOk result (λ s. s.size ≡ size_of (cnf_of state.now)) }
 {
     if state.bottom() {
         return Ok(SolvedState {
-            solved: refuted(Sequence::from_vec(Vec::new(alloc))),
+            solved: refuted(Sequence::from_vec(Vec::new(names.alloc))),
             size: CnfSize {
                 variables: state.vars(),
                 clauses: 1,
@@ -90,35 +102,45 @@ fn solve_state(
         variables: cnf.vars,
         clauses: cnf.clauses.len(),
     };
-    let names = Names {
-        map,
-        view: state.view(),
-    };
-    let solved = solve(alloc, cnf, &names, goal, options)?;
+    let solved = solve(cnf, names, names.goal, options, watcher)?;
     Ok(SolvedState { solved, size })
 }
 
 /// The answer to a model that is lowered.
-fn answer_lowered<F: Oracle<L>, L: Ledger>(
+fn answer_lowered<F: Oracle<L>, L: Ledger, W: SolutionWatcher>(
     alloc: Global,
-    lowered: Lowered,
-    goal: Goal,
-    options: Options,
+    posed: Posed<'_>,
+    options: SearchOptions,
     oracle: F,
     steps: &mut Steps<L>,
+    watcher: &mut W,
 ) -> Result<SizedDocument, AllocError>
-    requires ready { IsReady lowered }
+    requires ready { IsReady posed.lowered }
     requires budget { IsBudget options.budget }
-    ensures answer { IfOk result (λ a. IsAnswerOf F.told lowered goal options a.document steps.old steps.new) }
+    requires heard { AreDecodedHeard W.heard posed.decls.now posed.goal posed.lowered }
+    ensures answer { IfOk result
+        (λ a. IsAnswerOf F.told posed.entry.lowered posed.entry.goal options a.document steps.old steps.new) }
     ensures size { IfOk result (λ a. (last : Kernel)
-        → IsCompilation F.told (started lowered.vars lowered.cores) a.document.ledger last
+        → IsCompilation F.told (started posed.entry.lowered.vars posed.entry.lowered.cores) a.document.ledger last
         → a.size ≡ size_of (cnf_of last)) }
 {
+    let Posed {
+        lowered,
+        decls,
+        goal,
+    } = posed;
     let Lowered { vars, map, cores } = lowered;
     let state = State::start(alloc, vars, cores.into_vec())?;
     let compilation = compile_state(alloc, state, oracle, steps)?;
     let _ids = compilation.state.ids();
-    let made = solve_state(alloc, &compilation.state, &map, goal, options)?;
+    let names = Names {
+        alloc,
+        decls,
+        goal,
+        map: &map,
+        view: compilation.state.view(),
+    };
+    let made = solve_state(&compilation.state, &names, options, watcher)?;
     Ok(SizedDocument {
         document: Document {
             verdict: made.solved.verdict,
@@ -137,11 +159,41 @@ fn answer_lowered<F: Oracle<L>, L: Ledger>(
 /// first one is fixed, with what the first one left of the budget. No round is made where the store already excludes a
 /// better value.
 ///
+/// Each solution of an objective's rounds is told, when it is found, to a watcher that listens; and how many clauses were
+/// learned. Where any solution serves, it is the answer itself, and isn't told before.
+///
 /// It fails with the model's weight where that is above 67,108,864, and for want of memory.
+pub fn answer_watched<F: Oracle<L>, L: Ledger, W: SolutionWatcher>(
+    alloc: Global,
+    model: &Model,
+    options: SearchOptions,
+    oracle: F,
+    steps: &mut Steps<L>,
+    watcher: &mut W,
+) -> Result<Document, LowerFault>
+    requires typed { WellTyped model.now }
+    requires limits { InLimits model.now }
+    requires budget { IsBudget options.budget }
+    requires heard { AreHeard W.heard model.now }
+    ensures light { IfOk result (λ d. weight_of model.now ≤ most_weight) }
+    ensures answer { IfOk result (λ d. IsAnswer F.told model.now options d steps.old steps.new) }
+    ensures heavy { IfErr result (λ e. IsFaultOf e model.now) }
+{
+    let lowered = lower(alloc, model)?;
+    let posed = Posed {
+        lowered,
+        decls: model.decls.as_slice(),
+        goal: model.goal,
+    };
+    let answered = answer_lowered(alloc, posed, options, oracle, steps, watcher)?;
+    Ok(answered.document)
+}
+
+/// The answer to a model, as by `answer_watched`, of which nobody is told.
 pub fn answer<F: Oracle<L>, L: Ledger>(
     alloc: Global,
     model: &Model,
-    options: Options,
+    options: SearchOptions,
     oracle: F,
     steps: &mut Steps<L>,
 ) -> Result<Document, LowerFault>
@@ -152,17 +204,53 @@ pub fn answer<F: Oracle<L>, L: Ledger>(
     ensures answer { IfOk result (λ d. IsAnswer F.told model.now options d steps.old steps.new) }
     ensures heavy { IfErr result (λ e. IsFaultOf e model.now) }
 {
-    let lowered = lower(alloc, model)?;
-    let answered = answer_lowered(alloc, lowered, model.goal, options, oracle, steps)?;
-    Ok(answered.document)
+    answer_watched(alloc, model, options, oracle, steps, &mut Silent)
 }
 
 /// The answer to a model that is used up: each statement is let go as soon as it is lowered, and the declarations are
-/// given back. Else it is as `answer`.
+/// given back. Else it is as `answer_watched`.
+pub fn answer_owned_watched<F: Oracle<L>, L: Ledger, W: SolutionWatcher>(
+    alloc: Global,
+    model: Model,
+    options: SearchOptions,
+    oracle: F,
+    steps: &mut Steps<L>,
+    watcher: &mut W,
+) -> Result<AnsweredModel, LowerFault>
+    requires typed { WellTyped model }
+    requires limits { InLimits model }
+    requires budget { IsBudget options.budget }
+    requires heard { AreHeard W.heard model }
+    ensures light { IfOk result (λ a. weight_of model ≤ most_weight) }
+    ensures answer { IfOk result (λ a. IsAnswer F.told model options a.document steps.old steps.new) }
+    ensures decls { IfOk result (λ a. a.decls ≡ model.decls) }
+
+    // The size is that of the CNF of the state to which the ledger leads.
+    ensures size { IfOk result (λ a. (last : Kernel) → IsCompilation F.told (start_of model) a.document.ledger last
+        → a.size ≡ size_of (cnf_of last)) }
+    ensures heavy { IfErr result (λ e. IsFaultOf e model) }
+{
+    let goal = model.goal;
+    let held = lower_owned(alloc, model)?;
+    let LoweredModel { lowered, decls } = held;
+    let posed = Posed {
+        lowered,
+        decls: decls.as_slice(),
+        goal,
+    };
+    let answered = answer_lowered(alloc, posed, options, oracle, steps, watcher)?;
+    Ok(AnsweredModel {
+        document: answered.document,
+        size: answered.size,
+        decls,
+    })
+}
+
+/// The answer to a model that is used up, as by `answer_owned_watched`, of which nobody is told.
 pub fn answer_owned<F: Oracle<L>, L: Ledger>(
     alloc: Global,
     model: Model,
-    options: Options,
+    options: SearchOptions,
     oracle: F,
     steps: &mut Steps<L>,
 ) -> Result<AnsweredModel, LowerFault>
@@ -178,12 +266,5 @@ pub fn answer_owned<F: Oracle<L>, L: Ledger>(
         → a.size ≡ size_of (cnf_of last)) }
     ensures heavy { IfErr result (λ e. IsFaultOf e model) }
 {
-    let goal = model.goal;
-    let held = lower_owned(alloc, model)?;
-    let answered = answer_lowered(alloc, held.lowered, goal, options, oracle, steps)?;
-    Ok(AnsweredModel {
-        document: answered.document,
-        size: answered.size,
-        decls: held.decls,
-    })
+    answer_owned_watched(alloc, model, options, oracle, steps, &mut Silent)
 }

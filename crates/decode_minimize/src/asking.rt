@@ -8,10 +8,11 @@ ghost use Rattle.learning_solver.specs.Log.{additions};
 ghost use Rattle.learning_solver.specs.Outcome.{most_learned};
 ghost use Rattle.decode_minimize.specs.Rounds.{IsAsked, IsRound};
 
-use crate::options::Options;
+use search_options::SearchOptions;
 use bee_list::Sequence;
 use learning_solver::{Aim, Found, Solver};
 use order_ints::{Atom, Cnf, Lit};
+use search_watcher::Watcher;
 use std::alloc::{AllocError, Global};
 
 /// What a round found.
@@ -38,7 +39,12 @@ pub fn solver_of<'a>(alloc: Global, cnf: &'a Cnf) -> Result<Solver<'a>, AllocErr
 }
 
 /// Asks for truth values under an assumption, if any.
-fn ask(solver: &mut Solver<'_>, assumed: Option<Lit>, options: Options) -> Result<Round, AllocError>
+fn ask<W: Watcher>(
+    solver: &mut Solver<'_>,
+    assumed: Option<Lit>,
+    options: SearchOptions,
+    watcher: &mut W,
+) -> Result<Round, AllocError>
     requires in_range { ForSome assumed (LitBelow (solver.old.cnf.vars + 1)) }
     requires budget { additions solver.old.log ≤ options.budget }
     ensures cnf { solver.new.cnf ≡ solver.old.cnf }
@@ -50,7 +56,7 @@ fn ask(solver: &mut Solver<'_>, assumed: Option<Lit>, options: Options) -> Resul
     ensures most { additions solver.new.log
         ≤ additions solver.old.log + most_learned options.restart solver.old.cnf.vars }
 {
-    match solver.solve(assumed, options.budget, options.restart)? {
+    match solver.solve_watched(assumed, options.budget, options.restart, watcher)? {
         Found::Sat(values) => Ok(Round::Better(values)),
         Found::Refuted(_) => Ok(Round::Shown),
         Found::Spent => Ok(Round::Spent),
@@ -58,10 +64,11 @@ fn ask(solver: &mut Solver<'_>, assumed: Option<Lit>, options: Options) -> Resul
 }
 
 /// Asks for truth values that break a bound. Nothing is asked where the bound is True.
-pub fn ask_bound(
+pub fn ask_bound<W: Watcher>(
     solver: &mut Solver<'_>,
     bound: Atom,
-    options: Options,
+    options: SearchOptions,
+    watcher: &mut W,
 ) -> Result<Round, AllocError>
     requires below { AtomBelow (solver.old.cnf.vars + 1) bound }
     requires budget { additions solver.old.log ≤ options.budget }
@@ -78,11 +85,11 @@ pub fn ask_bound(
     match bound {
         Atom::True => Ok(Round::Shown),
         Atom::False => {
-            let round = ask(solver, None, options)?;
+            let round = ask(solver, None, options, watcher)?;
             Ok(round)
         }
         Atom::Of(literal) => {
-            let round = ask(solver, Some(literal.negated()), options)?;
+            let round = ask(solver, Some(literal.negated()), options, watcher)?;
             Ok(round)
         }
     }

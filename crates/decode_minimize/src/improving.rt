@@ -7,16 +7,21 @@ ghost use Rattle.state_compile.specs.StandsFor.{read_by};
 ghost use Rattle.decode_minimize.specs.Objectives.{IsObjective};
 ghost use Rattle.learning_solver.specs.Log.{additions};
 ghost use Rattle.decode_minimize.specs.Seeking.{IsSeeking, IsTurned, IsImproved};
+ghost use Rattle.decode_minimize.specs.Heard.{IsHeard};
 
 use crate::asking::Round;
 use crate::objective::{Direction, bound_of, value_under};
-use crate::options::Options;
+use search_options::SearchOptions;
 use crate::seeker::Seeker;
+use crate::solved::Names;
+use crate::telling::tell;
+use crate::watching::SolutionWatcher;
 use bee_list::Sequence;
 use order_ints::{Atom, OrdInt, resolve};
 use std::alloc::AllocError;
 
-/// What is sought: the best value of an integer, whose variables a view reads.
+/// What is sought: the best value of an integer, whose variables a view reads; and the names by which solutions are
+/// told.
 #[derive(Clone, Copy, Debug)]
 pub struct Sought<'a> {
     /// The integer.
@@ -25,6 +30,8 @@ pub struct Sought<'a> {
     pub view: &'a [Atom],
     /// Which of its values is best.
     pub direction: Direction,
+    /// The names that have values in a solution.
+    pub names: Names<'a>,
 }
 
 /// The best solution so far.
@@ -58,16 +65,18 @@ fn take(sought: &Sought<'_>, best: &mut Best, values: Sequence<bool>)
     *best = Best { values, number };
 }
 
-/// One round: asks for a better value than the best one so far.
-fn improve_once(
+/// One round: asks for a better value than the best one so far, and tells of it.
+fn improve_once<W: SolutionWatcher>(
     seeker: &mut Seeker<'_>,
     sought: &Sought<'_>,
     best: &mut Best,
-    options: Options,
+    options: SearchOptions,
+    watcher: &mut W,
 ) -> Result<Turn, AllocError>
     requires seeking { IsSeeking seeker.old.solver sought.now best.old }
     requires kept { seeker.old.incumbent ≡ Some best.old.number }
     requires budget { additions seeker.old.solver.log ≤ options.budget }
+    requires heard { IsHeard W.heard seeker.old.solver.cnf sought.now.names }
     ensures cnf { seeker.new.solver.cnf ≡ seeker.old.solver.cnf }
     ensures within { additions seeker.new.solver.log ≤ options.budget }
     ensures seeking { IfOk result (λ t. IsSeeking seeker.new.solver sought.now best.new) }
@@ -79,9 +88,10 @@ fn improve_once(
         sought.view,
         bound_of(sought.direction, sought.integer, best.number),
     );
-    match seeker.ask(sought, bound, options)? {
+    match seeker.ask(sought, bound, options, watcher)? {
         Round::Better(values) => {
             take(sought, best, values);
+            tell(&sought.names, best.values.as_slice(), watcher);
             Ok(Turn::Better)
         }
         Round::Shown => Ok(Turn::Shown),
@@ -91,15 +101,17 @@ fn improve_once(
 
 /// Rounds until no better value is there, or the budget is spent; whether the former. Each round takes one search, and
 /// each but the last finds a better value. What is best at the end is the last solution that a round found.
-pub fn improve(
+pub fn improve<W: SolutionWatcher>(
     seeker: &mut Seeker<'_>,
     sought: &Sought<'_>,
     best: &mut Best,
-    options: Options,
+    options: SearchOptions,
+    watcher: &mut W,
 ) -> Result<bool, AllocError>
     requires seeking { IsSeeking seeker.old.solver sought.now best.old }
     requires kept { seeker.old.incumbent ≡ Some best.old.number }
     requires budget { additions seeker.old.solver.log ≤ options.budget }
+    requires heard { IsHeard W.heard seeker.old.solver.cnf sought.now.names }
     ensures cnf { seeker.new.solver.cnf ≡ seeker.old.solver.cnf }
     ensures within { additions seeker.new.solver.log ≤ options.budget }
     ensures seeking { IfOk result (λ shown. IsSeeking seeker.new.solver sought.now best.new) }
@@ -108,7 +120,7 @@ pub fn improve(
         (IsImproved seeker.old.solver seeker.new.solver sought.now options best.old best.new) }
 {
     loop {
-        match improve_once(seeker, sought, best, options)? {
+        match improve_once(seeker, sought, best, options, watcher)? {
             Turn::Better => {}
             Turn::Shown => return Ok(true),
             Turn::Spent => return Ok(false),

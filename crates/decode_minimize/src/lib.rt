@@ -20,6 +20,10 @@
 //! It asks for a better one alone, and whoever makes the rounds can't change it: so that the solution
 //! that is kept has this value (`kept`) says that none that was found is better.
 //!
+//! Who watches (`SolutionWatcher`) is told each solution that a round found, and how many clauses were
+//! learned. What may be told is a ghost member of the watcher, of which `answer_watched` asks only that
+//! every solution of the model may: so nothing else is told. A watcher changes nothing that is answered.
+//!
 //! How a round searches is `learning_solver`'s; which bound it asks for is `ask_bound`, here.
 //! Clauses, ledger and derivations go into the document as they are; nothing is made again for it.
 #![tactic(auto)]
@@ -29,11 +33,13 @@ mod asking;
 mod fixing;
 mod improving;
 mod objective;
-mod options;
 mod rounds;
 mod seeker;
 mod solved;
 mod solving;
+mod telling;
+mod watching;
 
-pub use answering::{AnsweredModel, CnfSize, answer, answer_owned};
-pub use options::Options;
+pub use answering::{AnsweredModel, CnfSize, answer, answer_owned, answer_owned_watched, answer_watched};
+pub use search_options::SearchOptions as Options;
+pub use watching::SolutionWatcher;

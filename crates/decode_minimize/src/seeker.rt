@@ -16,11 +16,12 @@ ghost use Rattle.decode_minimize.specs.Incumbents.{incumbent_behind};
 use crate::asking::{Round, ask_bound, solver_of};
 use crate::improving::{Best, Sought};
 use crate::objective::value_under;
-use crate::options::Options;
+use search_options::SearchOptions;
 use bee_list::Sequence;
 use learning_solver::{Aim, Solver};
 use order_ints::{Atom, Cnf};
 use proof_check::ProofLine;
+use search_watcher::Watcher;
 use std::alloc::{AllocError, Global};
 
 /// A solver that seeks the best value of an integer, and its incumbent: the value of the last solution that it found,
@@ -80,11 +81,12 @@ impl<'a> Seeker<'a> {
 
     /// Asks for a solution that breaks a bound, which is that of the incumbent, where there is one: so what is found is
     /// better, and is the incumbent from then on.
-    pub fn ask(
+    pub fn ask<W: Watcher>(
         &mut self,
         sought: &Sought<'_>,
         bound: Atom,
-        options: Options,
+        options: SearchOptions,
+        watcher: &mut W,
     ) -> Result<Round, AllocError>
         requires objective { IsObjective (length sought.now.view.now + 1) sought.now.integer.now }
         requires below { AtomBelow (self.old.solver.cnf.vars + 1) bound }
@@ -103,7 +105,7 @@ impl<'a> Seeker<'a> {
         ensures unasked { bound ≡ Atom.True → additions self.new.solver.log ≡ additions self.old.solver.log }
     {
         self.set_aim();
-        let round = ask_bound(&mut self.solver, bound, options)?;
+        let round = ask_bound(&mut self.solver, bound, options, watcher)?;
         self.incumbent = seen(sought, self.incumbent, &round);
         Ok(round)
     }

@@ -4,14 +4,21 @@ use crate::improving::Best;
 use crate::seeker::SeekerLog;
 use answer_document::Verdict;
 use bee_list::Sequence;
-use model_meaning::Assignment;
+use model_meaning::{Assignment, Decl, Goal};
 use name_map::NameMap;
 use order_ints::Atom;
 use proof_check::ProofLine;
+use std::alloc::Global;
 
-/// What the names of a model stand for, and the store by which that is read.
+/// The names of a model, what they stand for, and the store by which that is read.
 #[derive(Clone, Copy, Debug)]
 pub struct Names<'a> {
+    /// The memory for what is made of them.
+    pub alloc: Global,
+    /// The declared names.
+    pub decls: &'a [Decl],
+    /// What is sought of their values.
+    pub goal: Goal,
     /// What each declared name stands for.
     pub map: &'a NameMap,
     /// The label of each variable, that of variable 1 first.

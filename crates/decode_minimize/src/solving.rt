@@ -9,22 +9,25 @@ ghost use Rattle.model_decode.specs.Short.{AreShort};
 ghost use Rattle.answer_document.specs.BoundAtoms.{integer_named};
 ghost use Rattle.decode_minimize.specs.Objectives.{IsObjective};
 ghost use Rattle.decode_minimize.specs.Solved.{problem_of, IsProblem, IsSeekable, IsProgress, IsAnySolved};
+ghost use Rattle.decode_minimize.specs.Heard.{IsHeard};
 ghost use Rattle.decode_minimize.specs.Solved.{IsBestSolved, IsSolvedFor, IsMadeOf, second_named, verdict_on};
 
 use crate::asking::{Round, ask_bound, solver_of};
 use crate::fixing::{additions, fix};
 use crate::improving::{Best, Sought};
 use crate::objective::{Direction, integer_named, no_worse_of, value_under};
-use crate::options::Options;
+use search_options::SearchOptions;
 use crate::rounds::{first_rounds, rounds_behind};
 use crate::solved::{First, Names, Progress, Solved};
+use crate::watching::SolutionWatcher;
 use answer_document::{Bounds, Verdict};
 use bee_list::Sequence;
 use model_decode::decode;
 use model_meaning::Goal;
 use order_ints::{Atom, Cnf, OrdInt, resolve};
 use proof_check::ProofLine;
-use std::alloc::{AllocError, Global};
+use search_watcher::Watcher;
+use std::alloc::AllocError;
 
 /// That there is no solution.
 pub fn refuted(proof: Sequence<ProofLine>) -> Solved
@@ -39,7 +42,7 @@ pub fn refuted(proof: Sequence<ProofLine>) -> Solved
 }
 
 /// That the budget is spent, and no solution known.
-fn given_up(proof: Sequence<ProofLine>, options: Options) -> Solved
+fn given_up(proof: Sequence<ProofLine>, options: SearchOptions) -> Solved
     ensures { result ≡ record {
       verdict = Verdict.Unknown options.budget None;
       assignment = None;
@@ -57,7 +60,6 @@ fn given_up(proof: Sequence<ProofLine>, options: Options) -> Solved
 
 /// A verdict with the solution that truth values give.
 fn with_solution(
-    alloc: Global,
     names: &Names<'_>,
     values: &[bool],
     verdict: Verdict,
@@ -67,7 +69,7 @@ fn with_solution(
     requires { AreShort names.now.map.now.entries }
     ensures { IfOk result (IsMadeOf names.now values.now verdict proof second) }
 {
-    let assignment = decode(alloc, names.map, names.view, values)?;
+    let assignment = decode(names.alloc, names.map, names.view, values)?;
     Ok(Solved {
         verdict,
         assignment: Some(assignment),
@@ -77,23 +79,22 @@ fn with_solution(
 }
 
 /// Any solution.
-fn solve_any(
-    alloc: Global,
+fn solve_any<W: Watcher>(
     cnf: &Cnf,
     names: &Names<'_>,
-    options: Options,
+    options: SearchOptions,
+    watcher: &mut W,
 ) -> Result<Solved, AllocError>
     requires { IsProblem (problem_of names.now cnf.now) }
     ensures { IfOk result (IsAnySolved (problem_of names.now cnf.now) options) }
 {
-    let mut solver = solver_of(alloc, cnf)?;
-    match ask_bound(&mut solver, Atom::False, options)? {
+    let mut solver = solver_of(names.alloc, cnf)?;
+    match ask_bound(&mut solver, Atom::False, options, watcher)? {
         Round::Shown => Ok(refuted(solver.into_log())),
         Round::Spent => Ok(given_up(solver.into_log(), options)),
         Round::Better(values) => {
             let proof = solver.into_log();
             let solved = with_solution(
-                alloc,
                 names,
                 values.as_slice(),
                 Verdict::Satisfiable,
@@ -106,7 +107,7 @@ fn solve_any(
 }
 
 /// The verdict on a solution with these values of the objectives.
-fn verdict_on(is_best: bool, bounds: Bounds, options: Options) -> Verdict
+fn verdict_on(is_best: bool, bounds: Bounds, options: SearchOptions) -> Verdict
     ensures { result ≡ verdict_on is_best bounds options }
 {
     if is_best {
@@ -118,10 +119,9 @@ fn verdict_on(is_best: bool, bounds: Bounds, options: Options) -> Verdict
 
 /// What the rounds of one objective came to.
 fn with_one(
-    alloc: Global,
     names: &Names<'_>,
     progress: Progress,
-    options: Options,
+    options: SearchOptions,
 ) -> Result<Solved, AllocError>
     requires { AreShort names.now.map.now.entries }
     ensures { IfOk result
@@ -140,29 +140,30 @@ fn with_one(
     };
     let verdict = verdict_on(is_best, bounds, options);
     let proof = proof.into_lines();
-    let solved = with_solution(alloc, names, best.values.as_slice(), verdict, proof, None)?;
+    let solved = with_solution(names, best.values.as_slice(), verdict, proof, None)?;
     Ok(solved)
 }
 
 /// The best value of one objective.
-fn solve_one(
-    alloc: Global,
+fn solve_one<W: SolutionWatcher>(
     cnf: &Cnf,
     names: &Names<'_>,
     sought: &Sought<'_>,
-    options: Options,
+    options: SearchOptions,
+    watcher: &mut W,
 ) -> Result<Solved, AllocError>
     requires problem { IsProblem (problem_of names.now cnf.now) }
     requires view { sought.now.view.now ≡ names.now.view.now }
     requires seekable { IsSeekable cnf.now sought.now }
+    requires heard { IsHeard W.heard cnf.now sought.now.names }
     ensures { IfOk result
         (IsBestSolved (problem_of names.now cnf.now) options sought.now.direction sought.now.integer.now None) }
 {
-    match first_rounds(alloc, cnf, sought, options)? {
+    match first_rounds(cnf, sought, options, watcher)? {
         First::Refuted(proof) => Ok(refuted(proof)),
         First::GivenUp(proof) => Ok(given_up(proof, options)),
         First::Found(progress) => {
-            let solved = with_one(alloc, names, progress, options)?;
+            let solved = with_one(names, progress, options)?;
             Ok(solved)
         }
     }
@@ -170,11 +171,10 @@ fn solve_one(
 
 /// What the rounds of a first objective came to where the budget is spent on it.
 fn with_first(
-    alloc: Global,
     names: &Names<'_>,
     behind: &Sought<'_>,
     progress: Progress,
-    options: Options,
+    options: SearchOptions,
 ) -> Result<Solved, AllocError>
     requires short { AreShort names.now.map.now.entries }
     requires objective { IsObjective (length behind.now.view.now + 1) behind.now.integer.now }
@@ -197,18 +197,17 @@ fn with_first(
     };
     let verdict = Verdict::Unknown(options.budget, Some(bounds));
     let proof = proof.into_lines();
-    let solved = with_solution(alloc, names, best.values.as_slice(), verdict, proof, None)?;
+    let solved = with_solution(names, best.values.as_slice(), verdict, proof, None)?;
     Ok(solved)
 }
 
 /// What the rounds of a second objective came to, behind those of a first one, which has this number.
 fn with_two(
-    alloc: Global,
     names: &Names<'_>,
     number: i64,
     proof: Sequence<ProofLine>,
     progress: Progress,
-    options: Options,
+    options: SearchOptions,
 ) -> Result<Solved, AllocError>
     requires { AreShort names.now.map.now.entries }
     ensures { IfOk result
@@ -228,7 +227,6 @@ fn with_two(
     let verdict = verdict_on(is_best, bounds, options);
     let second = second.into_lines();
     let solved = with_solution(
-        alloc,
         names,
         best.values.as_slice(),
         verdict,
@@ -240,14 +238,14 @@ fn with_two(
 
 /// The best value of a second objective where the first one is fixed. Its derivation is one over the clauses and that,
 /// with what is left of the budget.
-fn solve_behind(
-    alloc: Global,
+fn solve_behind<W: SolutionWatcher>(
     cnf: Cnf,
     names: &Names<'_>,
     sought: &Sought<'_>,
     behind: &Sought<'_>,
     progress: Progress,
-    options: Options,
+    options: SearchOptions,
+    watcher: &mut W,
 ) -> Result<Solved, AllocError>
     requires problem { IsProblem (problem_of names.now cnf) }
     requires view { sought.now.view.now ≡ names.now.view.now }
@@ -257,6 +255,7 @@ fn solve_behind(
     requires seekable_behind { IsSeekable cnf behind.now }
     requires progress { IsProgress cnf sought.now options progress }
     requires shown { progress.is_best ≡ true }
+    requires heard { IsHeard W.heard cnf behind.now.names }
     ensures { IfOk result
         (IsBestSolved (problem_of names.now cnf) options sought.now.direction sought.now.integer.now
         (Some behind.now.integer.now)) }
@@ -264,24 +263,24 @@ fn solve_behind(
     let Progress { proof, best, .. } = progress;
     let Best { values, number } = best;
     let fixed = no_worse_of(sought.direction, sought.integer, number);
-    let cnf = fix(alloc, cnf, resolve(sought.view, fixed))?;
-    let left = Options {
+    let cnf = fix(names.alloc, cnf, resolve(sought.view, fixed))?;
+    let left = SearchOptions {
         budget: options.budget - additions(proof.lines()),
         restart: options.restart,
     };
-    let last = rounds_behind(alloc, &cnf, behind, values, left)?;
-    let solved = with_two(alloc, names, number, proof.into_lines(), last, options)?;
+    let last = rounds_behind(&cnf, behind, values, left, watcher)?;
+    let solved = with_two(names, number, proof.into_lines(), last, options)?;
     Ok(solved)
 }
 
 /// The best values of two objectives.
-fn solve_two(
-    alloc: Global,
+fn solve_two<W: SolutionWatcher>(
     cnf: Cnf,
     names: &Names<'_>,
     sought: &Sought<'_>,
     behind: &Sought<'_>,
-    options: Options,
+    options: SearchOptions,
+    watcher: &mut W,
 ) -> Result<Solved, AllocError>
     requires problem { IsProblem (problem_of names.now cnf) }
     requires view { sought.now.view.now ≡ names.now.view.now }
@@ -289,19 +288,21 @@ fn solve_two(
     requires direction { behind.now.direction ≡ sought.now.direction }
     requires seekable { IsSeekable cnf sought.now }
     requires seekable_behind { IsSeekable cnf behind.now }
+    requires heard { IsHeard W.heard cnf sought.now.names }
+    requires heard_behind { IsHeard W.heard cnf behind.now.names }
     ensures { IfOk result
         (IsBestSolved (problem_of names.now cnf) options sought.now.direction sought.now.integer.now
         (Some behind.now.integer.now)) }
 {
-    match first_rounds(alloc, &cnf, sought, options)? {
+    match first_rounds(&cnf, sought, options, watcher)? {
         First::Refuted(proof) => Ok(refuted(proof)),
         First::GivenUp(proof) => Ok(given_up(proof, options)),
         First::Found(progress) => {
             if progress.is_best {
-                let solved = solve_behind(alloc, cnf, names, sought, behind, progress, options)?;
+                let solved = solve_behind(cnf, names, sought, behind, progress, options, watcher)?;
                 Ok(solved)
             } else {
-                let solved = with_first(alloc, names, behind, progress, options)?;
+                let solved = with_first(names, behind, progress, options)?;
                 Ok(solved)
             }
         }
@@ -309,30 +310,32 @@ fn solve_two(
 }
 
 /// The best values of the integers at one place or two.
-fn solve_best(
-    alloc: Global,
+fn solve_best<W: SolutionWatcher>(
     cnf: Cnf,
     names: &Names<'_>,
     direction: Direction,
     place: usize,
     second: Option<usize>,
-    options: Options,
+    options: SearchOptions,
+    watcher: &mut W,
 ) -> Result<Solved, AllocError>
-    requires { IsProblem (problem_of names.now cnf) }
+    requires problem { IsProblem (problem_of names.now cnf) }
+    requires heard { IsHeard W.heard cnf names.now }
     ensures { IfOk result
         (IsBestSolved (problem_of names.now cnf) options direction (integer_named names.now.map.now.entries place)
         (second_named names.now.map.now.entries second)) }
 {
-    let zero = OrdInt::constant(alloc, 0)?;
+    let zero = OrdInt::constant(names.alloc, 0)?;
     let entries = names.map.entries.as_slice();
     let sought = Sought {
         integer: integer_named(entries, place, &zero),
         view: names.view,
         direction,
+        names: *names,
     };
     match second {
         None => {
-            let solved = solve_one(alloc, &cnf, names, &sought, options)?;
+            let solved = solve_one(&cnf, names, &sought, options, watcher)?;
             Ok(solved)
         }
         Some(other) => {
@@ -340,42 +343,44 @@ fn solve_best(
                 integer: integer_named(entries, other, &zero),
                 view: names.view,
                 direction,
+                names: *names,
             };
-            let solved = solve_two(alloc, cnf, names, &sought, &behind, options)?;
+            let solved = solve_two(cnf, names, &sought, &behind, options, watcher)?;
             Ok(solved)
         }
     }
 }
 
 /// Solves clauses for a goal.
-pub fn solve(
-    alloc: Global,
+pub fn solve<W: SolutionWatcher>(
     cnf: Cnf,
     names: &Names<'_>,
     goal: Goal,
-    options: Options,
+    options: SearchOptions,
+    watcher: &mut W,
 ) -> Result<Solved, AllocError>
-    requires { IsProblem (problem_of names.now cnf) }
+    requires problem { IsProblem (problem_of names.now cnf) }
+    requires heard { IsHeard W.heard cnf names.now }
     ensures { IfOk result (IsSolvedFor (problem_of names.now cnf) options goal) }
 {
     match goal {
         Goal::Satisfy => {
-            let solved = solve_any(alloc, &cnf, names, options)?;
+            let solved = solve_any(&cnf, names, options, watcher)?;
             Ok(solved)
         }
         Goal::Minimize(place, second) => {
-            let solved = solve_best(alloc, cnf, names, Direction::Least, place, second, options)?;
+            let solved = solve_best(cnf, names, Direction::Least, place, second, options, watcher)?;
             Ok(solved)
         }
         Goal::Maximize(place, second) => {
             let solved = solve_best(
-                alloc,
                 cnf,
                 names,
                 Direction::Greatest,
                 place,
                 second,
                 options,
+                watcher,
             )?;
             Ok(solved)
         }

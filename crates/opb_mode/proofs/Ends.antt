@@ -13,7 +13,7 @@ use Rattle.text_modes.proofs.Idle.{one_idle}
 use Rattle.model_texts.specs.declared.fault.ModelFault.{ModelFault}
 use Rattle.model_texts.specs.declared.fault.ModelFault.TheVariants as fault
 use Rattle.model_texts.specs.ModelTexts.{longest_text}
-use Rattle.decode_minimize.specs.declared.options.Options.{Options}
+use Rattle.search_options.specs.declared.options.SearchOptions.{SearchOptions}
 use Rattle.solve_mode.proofs.Ends.{run_mode, run_idle, given_held}
 use Rattle.opb_front.specs.declared.fault.OpbFault.{OpbFault}
 use Rattle.opb_front.specs.declared.fault.OpbFault.TheVariants as opb_fault
@@ -84,14 +84,14 @@ each_answered text = ⊎_elim
 
 -- The mode opb.
 
-pub mode : (options : Options) (input : List ℕ) (end : End ModelFault) (seen : Seen) → OneTextRun (Some (longest_text + 1)) (IsSolvedFile options) HasOpbFault input end seen
+pub mode : (options : SearchOptions) (input : List ℕ) (end : End ModelFault) (seen : Seen) → OneTextRun (Some (longest_text + 1)) (IsSolvedFile options) HasOpbFault input end seen
     → OpbMode options input end seen
 mode = run_mode HoldsFileModel HasOpbFault held_or_fault one_opb_fault
 
-pub idle : (options : Options) (input : List ℕ) (seen : Seen) → Untouched seen → OpbMode options input Memory seen
+pub idle : (options : SearchOptions) (input : List ℕ) (seen : Seen) → Untouched seen → OpbMode options input Memory seen
 idle = run_idle HoldsFileModel HasOpbFault held_or_fault one_opb_fault
 
-pub given_file : (options : Options) (text : List ℕ) (outcome : Outcome) (written : List ℕ) → AnswersFile options text outcome written → IsSolvedFile options text outcome written
+pub given_file : (options : SearchOptions) (text : List ℕ) (outcome : Outcome) (written : List ℕ) → AnswersFile options text outcome written → IsSolvedFile options text outcome written
 given_file options text outcome written h =
     let held = h.held in
     given_held HoldsFileModel options text outcome written h (well text held.opb h.model held.file held.model_is) (limits text held.opb h.model held.file held.model_is) held.light

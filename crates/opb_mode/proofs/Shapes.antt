@@ -9,7 +9,7 @@ use Rattle.model_lower.specs.declared.fault.LowerFault.TheVariants.{TooHeavy, Me
 use Rattle.model_lower.specs.Faults.{IsFaultOf}
 use Rattle.model_lower.specs.Weighed.{most_weight}
 use Rattle.model_weight.specs.Weight.{weight_of}
-use Rattle.decode_minimize.specs.declared.options.Options.{Options}
+use Rattle.search_options.specs.declared.options.SearchOptions.{SearchOptions}
 use Rattle.solve_mode.specs.Solved.{IsAnswerText}
 use Rattle.model_texts.specs.declared.model_text.ModelTextFault.{ModelTextFault}
 use Rattle.model_texts.specs.declared.model_text.ModelTextFault.TheVariants as text_fault
@@ -91,7 +91,7 @@ too_long text opb says long = (opb, says, long)
 
 -- the answer to the model
 
-pub answered : (options : Options) (text : List ℕ) (opb : Opb) (m : Model) (outcome : Outcome) (written : List ℕ) → HoldsFile text opb → m ≡ opb_model opb → weight_of m ≤ most_weight
+pub answered : (options : SearchOptions) (text : List ℕ) (opb : Opb) (m : Model) (outcome : Outcome) (written : List ℕ) → HoldsFile text opb → m ≡ opb_model opb → weight_of m ≤ most_weight
     → IsAnswerText options m outcome written → AnswersFile options text outcome written
 answered options text opb m outcome written h e light is =
     record { model = m; held = record { opb = opb; file = h; model_is = e; light = light }; is = is }

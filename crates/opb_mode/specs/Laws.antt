@@ -4,7 +4,7 @@ use Rattle.text_modes.specs.declared.ends.Outcome.{Outcome}
 use Rattle.text_modes.specs.declared.ends.End.{End}
 use Rattle.model_texts.specs.declared.fault.ModelFault.{ModelFault}
 use Rattle.answer_document.specs.Valid.{numbers_given}
-use Rattle.decode_minimize.specs.declared.options.Options.{Options}
+use Rattle.search_options.specs.declared.options.SearchOptions.{SearchOptions}
 use Rattle.opb_mode.specs.OpbModelMode.{HasEnd}
 use Rattle.opb_mode.specs.OpbMode.{IsSolvedFile}
 use Rattle.opb_mode.specs.Claims.{FileClaims}
@@ -16,6 +16,6 @@ OpbModelAnswers = (text : List ℕ) → (end : End ModelFault) × HasEnd text en
 -- the verdict of what is written in the mode opb is true of the file
 abbrev pub VerdictTrueOfFile : Type 0
 VerdictTrueOfFile =
-    (options : Options) (text : List ℕ) (outcome : Outcome) (written : List ℕ)
+    (options : SearchOptions) (text : List ℕ) (outcome : Outcome) (written : List ℕ)
     → (h : IsSolvedFile options text outcome written)
     → FileClaims h.answer.held.opb h.answer.is.document.verdict (numbers_given h.answer.is.document.assignment)

@@ -2,34 +2,39 @@
 
 ghost use Rattle.text_modes.specs.Seen.{seen, shelf_shown, sink_shown};
 ghost use Rattle.decode_minimize.specs.Answers.{IsBudget};
+ghost use Rattle.decode_minimize.specs.Heard.{HearsAll};
 ghost use Rattle.opb_mode.specs.OpbMode.{OpbMode};
 
-use crate::making::file_answer_text;
+use crate::making::told_text;
 use bee_outside::{Shelf, Sink};
-use decode_minimize::Options;
+use decode_minimize::SolutionWatcher;
+use search_options::SearchOptions;
 use model_texts::{LONGEST_TEXT, ModelFault, ModelTextFault};
 use std::alloc::{AllocError, Global};
+use std::cell::RefCell;
 use std::marker::Model;
 use text_modes::{End, Made, OneText, run_one};
 
 /// The text of a file is read, and that of the answer to its model is written.
 #[derive(Drop)]
-struct SolvingFile {
-    options: Options,
+struct SolvingFile<'a, W: SolutionWatcher> {
+    options: SearchOptions,
+    watcher: &'a RefCell<W>,
 }
 
-impl Model for SolvingFile {
+impl<'a, W: SolutionWatcher> Model for SolvingFile<'a, W> {
     ghost use Rattle.decode_minimize.specs.Answers.{IsBudget};
-    ghost use Rattle.decode_minimize.specs.declared.options.Options.{Options};
+    ghost use Rattle.decode_minimize.specs.Heard.{HearsAll};
+    ghost use Rattle.search_options.specs.declared.options.SearchOptions.{SearchOptions};
 
-    ghost Value = { Options };
+    ghost Value = { SearchOptions };
 
     ghost view = { λ s. s.options };
 
-    ghost invariant = { λ s. IsBudget s.options.budget };
+    ghost invariant = { λ s. IsBudget s.options.budget × HearsAll W.heard };
 }
 
-impl OneText for SolvingFile {
+impl<W: SolutionWatcher> OneText for SolvingFile<'_, W> {
     ghost use Rattle.std.specs.Prelude.{◌+◌, Some};
     ghost use Rattle.model_texts.specs.ModelTexts.{longest_text};
     ghost use Rattle.opb_mode.specs.Files.{HasOpbFault};
@@ -53,7 +58,7 @@ impl OneText for SolvingFile {
 
     #[tactic(auto, using(crate::proofs::Faults::opb_had, crate::proofs::Faults::within_limit))]
     fn make(&self, alloc: Global, text: &[u8]) -> Result<Made<ModelFault>, AllocError> {
-        match file_answer_text(alloc, text, self.options) {
+        match told_text(alloc, text, self.options, self.watcher) {
             Ok((outcome, written)) => Ok(Made::Text(outcome, written)),
             Err(ModelTextFault::Model(fault)) => Ok(Made::Fault(fault)),
             Err(ModelTextFault::Memory) => Err(AllocError),
@@ -63,16 +68,18 @@ impl OneText for SolvingFile {
 
 /// Reads the text of a pseudo-Boolean file, seeks an answer to its model, makes the whole text of that, and then writes
 /// it. The end tells whether the budget was spent.
-pub fn opb<S: Shelf, O: Sink>(
+pub fn opb<S: Shelf, O: Sink, W: SolutionWatcher>(
     alloc: Global,
     input: &str,
-    options: Options,
+    options: SearchOptions,
     shelf: &mut S,
     out: &mut O,
+    watcher: &RefCell<W>,
 ) -> End<ModelFault>
-    requires { IsBudget options.budget }
+    requires budget { IsBudget options.budget }
+    requires heard { HearsAll W.heard }
     ensures { OpbMode options input.now result (seen (shelf_shown S.left S.faults)
         (sink_shown O.taken O.flushed O.faults) shelf.old shelf.new out.old out.new) }
 {
-    run_one(alloc, &SolvingFile { options }, input, shelf, out)
+    run_one(alloc, &SolvingFile { options, watcher }, input, shelf, out)
 }

@@ -6,14 +6,18 @@ ghost use Rattle.opb_front.specs.Grammar.{IsOpbText};
 ghost use Rattle.opb_mode.specs.Files.{HoldsFile, IsFileCause, IsOpbCause, file_fault_of};
 ghost use Rattle.opb_mode.specs.OpbModelMode.{IsModelText};
 ghost use Rattle.decode_minimize.specs.Answers.{IsBudget};
+ghost use Rattle.decode_minimize.specs.Heard.{HearsAll};
 ghost use Rattle.opb_mode.specs.OpbMode.{AnswersFile};
 
-use decode_minimize::Options;
+use decode_minimize::SolutionWatcher;
+use search_options::SearchOptions;
 use model_texts::{LONGEST_TEXT, ModelFault, ModelTextFault, lower_fault};
 use opb_front::{Opb, OpbFault, read_opb};
 use opb_model::{model_text, opb_model};
+use search_watcher::Silent;
 use solve_mode::write_answer;
 use std::alloc::{AllocError, Global};
+use std::cell::RefCell;
 use text_modes::Outcome;
 
 /// What a fault of a file makes of a text.
@@ -71,13 +75,15 @@ fn held_file(alloc: Global, text: &[u8]) -> Result<Opb, ModelTextFault>
 
 #[tactic(auto, using(crate::proofs::Shapes::few, crate::proofs::Shapes::well, crate::proofs::Shapes::limits, crate::proofs::Shapes::answered, crate::proofs::Shapes::heavy_cause, crate::proofs::Shapes::opb_cause))]
 /// The text of the answer to the model of the file that a text says. What was read is let go once the model is made.
-pub(crate) fn file_answer_text(
+fn file_answer_text<W: SolutionWatcher>(
     alloc: Global,
     text: &[u8],
-    options: Options,
+    options: SearchOptions,
+    watcher: &mut W,
 ) -> Result<(Outcome, Vec<u8>), ModelTextFault>
     requires short { length text.now ≤ longest_text }
     requires budget { IsBudget options.budget }
+    requires heard { HearsAll W.heard }
     ensures solved { IfOk result (λ made. AnswersFile options text.now made.0 made.1.items) }
     ensures fault { IfErr result (IsOpbCause text.now) }
 {
@@ -87,8 +93,27 @@ pub(crate) fn file_answer_text(
         Err(AllocError) => return Err(ModelTextFault::Memory),
     };
     drop(opb);
-    match write_answer(alloc, model, options) {
+    match write_answer(alloc, model, options, watcher) {
         Ok(written) => Ok(written),
         Err(fault) => Err(lower_fault(fault)),
+    }
+}
+
+/// The same, of which a watcher in a cell is told. Where the cell is in use, which it isn't, nobody is.
+pub(crate) fn told_text<W: SolutionWatcher>(
+    alloc: Global,
+    text: &[u8],
+    options: SearchOptions,
+    watcher: &RefCell<W>,
+) -> Result<(Outcome, Vec<u8>), ModelTextFault>
+    requires short { length text.now ≤ longest_text }
+    requires budget { IsBudget options.budget }
+    requires heard { HearsAll W.heard }
+    ensures solved { IfOk result (λ made. AnswersFile options text.now made.0 made.1.items) }
+    ensures fault { IfErr result (IsOpbCause text.now) }
+{
+    match watcher.try_borrow_mut() {
+        Ok(mut watcher) => file_answer_text(alloc, text, options, &mut *watcher),
+        Err(_) => file_answer_text(alloc, text, options, &mut Silent),
     }
 }

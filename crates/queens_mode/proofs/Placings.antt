@@ -18,7 +18,7 @@ use Rattle.answer_document.specs.Valid.{start_of, numbers_given}
 use Rattle.answer_document.proofs.ClaimLaws.{claim_law}
 use Rattle.decode_minimize.specs.declared.answering.AnsweredModel.{AnsweredModel}
 use Rattle.decode_minimize.specs.declared.answering.CnfSize.{CnfSize}
-use Rattle.decode_minimize.specs.declared.options.Options.{Options}
+use Rattle.search_options.specs.declared.options.SearchOptions.{SearchOptions}
 use Rattle.decode_minimize.specs.Answers.{IsAnswer}
 use Rattle.decode_minimize.specs.Answering.{size_of}
 use Rattle.bee_compile.specs.Compiled.{IsInstance}
@@ -30,7 +30,7 @@ use Rattle.queens_mode.specs.Summary.{values_of, summary_text}
 use Rattle.queens_mode.specs.QueensMode.{IsPlaced}
 
 -- an answer to a model by all rules, whatever its counter counted
-abbrev IsAnswered : Options → AnsweredModel → Model → Type 0
+abbrev IsAnswered : SearchOptions → AnsweredModel → Model → Type 0
 IsAnswered options a model = (before : ℕ) × (after : ℕ) × IsAnswer IsInstance model options a.document before after
 
 -- and the size of its CNF
@@ -42,7 +42,7 @@ placed-by : (size : ℕ) (a : Option Assignment) → Claims (queens size) Satisf
 placed-by size None h = absurd h
 placed-by size (Some a) h = solutions_place_queens size a.values h
 
-pub placed : (options : Options) (size : ℕ) (model : Model) (a : AnsweredModel) (outcome : Outcome) (written : List ℕ) → model ≡ queens size → WellTyped model → InLimits model → weight_of model ≤ most_weight
+pub placed : (options : SearchOptions) (size : ℕ) (model : Model) (a : AnsweredModel) (outcome : Outcome) (written : List ℕ) → model ≡ queens size → WellTyped model → InLimits model → weight_of model ≤ most_weight
     → IsAnswered options a model → a.decls ≡ model.decls → IsSized a model → written ≡ summary_text size a.decls a.size a.document → outcome ≡ outcome_of a.document.verdict → IsPlaced options size outcome written
 placed options size model a outcome written same typed limits light answered decls sized writes outcome_is =
     let here : IsAnswered options a (queens size) = subst (IsAnswered options a) same answered in

@@ -10,7 +10,7 @@ use Rattle.answer_document.specs.declared.document.Document.{Document}
 use Rattle.answer_document.specs.declared.verdict.Verdict.TheVariants.{Satisfiable}
 use Rattle.answer_document.specs.Claims.{Claims}
 use Rattle.answer_document.specs.Valid.{numbers_given}
-use Rattle.decode_minimize.specs.declared.options.Options.{Options}
+use Rattle.search_options.specs.declared.options.SearchOptions.{SearchOptions}
 use Rattle.decode_minimize.specs.Answers.{IsBudget, IsAnswer}
 use Rattle.decode_minimize.specs.Answering.{size_of}
 use Rattle.bee_compile.specs.Compiled.{IsInstance}
@@ -23,7 +23,7 @@ use Rattle.queens_mode.specs.Summary.{values_of, summary_text}
 -- true, whatever the verdict is; its numbers of variables and clauses are those of the CNF of the state to which the
 -- ledger leads. After SATISFIABLE the columns are those of the solution, which are a placement, and the ledger is
 -- written; after another verdict the document is.
-pub record IsPlaced (options : Options) (size : ℕ) (outcome : Outcome) (written : List ℕ) : Type 0 where
+pub record IsPlaced (options : SearchOptions) (size : ℕ) (outcome : Outcome) (written : List ℕ) : Type 0 where
   pub document : Document
   pub before : ℕ
   pub after : ℕ
@@ -35,13 +35,13 @@ pub record IsPlaced (options : Options) (size : ℕ) (outcome : Outcome) (writte
 
 -- A run in the mode of queens, with how the answer is sought and the size of the board. No text is read, and nothing
 -- but want of memory and faults of writing keeps it from ending in a text.
-pub record QueensMode {F : Type 0} (options : Options) (size : ℕ) (end : End F) (seen : Seen) : Type 0 where
+pub record QueensMode {F : Type 0} (options : SearchOptions) (size : ℕ) (end : End F) (seen : Seen) : Type 0 where
   pub run : NoTextRun (IsPlaced options size) end seen
   pub finishes : Finishes NothingRead NothingRead ⊥ end seen
 
 -- a board, and how its queens are sought
 pub record Task : Type 0 where
-  pub options : Options
+  pub options : SearchOptions
   pub size : ℕ
 
 -- its numbers are in their limits

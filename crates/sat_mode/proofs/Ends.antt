@@ -11,7 +11,7 @@ use Rattle.text_modes.proofs.Idle.{one_idle}
 use Rattle.sat_front.specs.declared.text_fault.CnfTextFault.{CnfTextFault}
 use Rattle.sat_front.specs.HeldCnfs.{longest_text, HasCnf, HasFault}
 use Rattle.sat_front.proofs.TextFaults.{fit_or_fault, one_fault}
-use Rattle.sat_mode.specs.declared.options.SearchOptions.{SearchOptions}
+use Rattle.search_options.specs.declared.options.SearchOptions.{SearchOptions}
 use Rattle.sat_mode.specs.Found.{IsSolved}
 use Rattle.sat_mode.specs.SatMode.{SatMode}
 

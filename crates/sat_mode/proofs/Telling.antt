@@ -19,7 +19,7 @@ use Rattle.learning_solver.specs.declared.found.Found.TheVariants.{Sat, Spent}
 use Rattle.text_modes.specs.declared.ends.Outcome.{Outcome}
 use Rattle.text_modes.specs.declared.ends.Outcome.TheVariants.{Done, Refused, Unknown}
 use Rattle.learning_solver.proofs.KnownLaws.{known-named}
-use Rattle.sat_mode.specs.declared.options.SearchOptions.{SearchOptions}
+use Rattle.search_options.specs.declared.options.SearchOptions.{SearchOptions}
 use Rattle.sat_mode.specs.Texts.{values_text, refutation_text, unknown_text}
 use Rattle.sat_mode.specs.Found.{IsProof, Tells}
 

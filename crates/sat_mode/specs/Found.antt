@@ -14,7 +14,7 @@ use Rattle.learning_solver.specs.Outcome.{most_learned}
 use Rattle.text_modes.specs.declared.ends.Outcome.{Outcome}
 use Rattle.text_modes.specs.declared.ends.Outcome.TheVariants.{Done, Refused, Unknown}
 use Rattle.sat_front.specs.HeldCnfs.{HoldsCnf}
-use Rattle.sat_mode.specs.declared.options.SearchOptions.{SearchOptions}
+use Rattle.search_options.specs.declared.options.SearchOptions.{SearchOptions}
 use Rattle.sat_mode.specs.Texts.{values_text, refutation_text, unknown_text}
 
 -- the written text tells a value for each variable, under which each listed clause is true

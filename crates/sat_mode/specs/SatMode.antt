@@ -7,7 +7,7 @@ use Rattle.text_modes.specs.OneText.{OneTextRun}
 use Rattle.text_modes.specs.declared.ends.End.{End}
 use Rattle.sat_front.specs.declared.text_fault.CnfTextFault.{CnfTextFault}
 use Rattle.sat_front.specs.HeldCnfs.{longest_text, HasCnf, HasFault}
-use Rattle.sat_mode.specs.declared.options.SearchOptions.{SearchOptions}
+use Rattle.search_options.specs.declared.options.SearchOptions.{SearchOptions}
 use Rattle.sat_mode.specs.Found.{IsSolved}
 
 -- A run in sat mode, with how the clauses are searched and the name of the text, of which one byte more than the limit

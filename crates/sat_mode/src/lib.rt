@@ -11,14 +11,12 @@
 //! proof that adds exactly b clauses, b being the budget; each added clause is new, and only added
 //! ones are deleted; a text that lists no clauses gives its first fault.
 //!
-//! How clauses are searched is `SearchOptions`, from the words. "What `bee sat` writes" of
+//! How clauses are searched is `SearchOptions` of `search_options`, from the words. "What `bee sat` writes" of
 //! `docs/FORMATS.md` has the form of the texts.
 #![tactic(auto)]
 
 mod making;
 mod mode;
-mod options;
 mod writing;
 
 pub use mode::sat;
-pub use options::SearchOptions;

@@ -14,7 +14,7 @@ use Rattle.model_texts.specs.declared.fault.ModelFault.{ModelFault}
 use Rattle.model_texts.specs.ModelTexts.{longest_text, IsFirstFault, HasFault}
 use Rattle.model_texts.proofs.FirstFaults.{one_text_fault, no_text_fault}
 use Rattle.model_texts.proofs.ModelShapes.{typed, limited}
-use Rattle.decode_minimize.specs.declared.options.Options.{Options}
+use Rattle.search_options.specs.declared.options.SearchOptions.{SearchOptions}
 use Rattle.model_meaning.specs.declared.model.Model.{Model}
 use Rattle.model_meaning.specs.WellTyped.{WellTyped}
 use Rattle.model_meaning.specs.Limits.{InLimits}
@@ -29,11 +29,11 @@ use Rattle.solve_mode.specs.SolveMode.{HasModel, SolveRun, SolveMode}
 module _ (Holds : List ℕ → Model → Type 0) (Faulty : List ℕ → ModelFault → Type 0)
     (held_or_fault : (text : List ℕ) (fault : ModelFault) → HoldsSome Holds text → Faulty text fault → ⊥)
     (one_fault : (text : List ℕ) (f g : ModelFault) → Faulty text f → Faulty text g → f ≡ g) where
-  fit : (options : Options) (text : List ℕ) (outcome : Outcome) (written : List ℕ) → IsSolvedHeld Holds options text outcome written → HoldsSome Holds text
+  fit : (options : SearchOptions) (text : List ℕ) (outcome : Outcome) (written : List ℕ) → IsSolvedHeld Holds options text outcome written → HoldsSome Holds text
   fit options text outcome written h = (h.answer.model, h.answer.held)
 
   -- what is said of each end decides which end a told text has
-  pub run_mode : (options : Options) (input : List ℕ) (end : End ModelFault) (seen : Seen) → OneTextRun (Some (longest_text + 1)) (IsSolvedHeld Holds options) Faulty input end seen
+  pub run_mode : (options : SearchOptions) (input : List ℕ) (end : End ModelFault) (seen : Seen) → OneTextRun (Some (longest_text + 1)) (IsSolvedHeld Holds options) Faulty input end seen
       → SolveRun Holds Faulty options input end seen
   run_mode options input end seen r = record {
     run = r;
@@ -42,16 +42,16 @@ module _ (Holds : List ℕ → Model → Type 0) (Faulty : List ℕ → ModelFau
   }
 
   -- where memory is wanting before the mode begins
-  pub run_idle : (options : Options) (input : List ℕ) (seen : Seen) → Untouched seen → SolveRun Holds Faulty options input Memory seen
+  pub run_idle : (options : SearchOptions) (input : List ℕ) (seen : Seen) → Untouched seen → SolveRun Holds Faulty options input Memory seen
   run_idle options input seen same = run_mode options input Memory seen (one_idle (Some (longest_text + 1)) Faulty seen same (IsSolvedHeld Holds options) input)
 
 fit_or_fault : (text : List ℕ) (fault : ModelFault) → HasModel text → HasFault text fault → ⊥
 fit_or_fault text fault h k = no_text_fault text fault h.0 h.1.within h.1.says h.1.light k
 
-pub mode : (options : Options) (input : List ℕ) (end : End ModelFault) (seen : Seen) → OneTextRun (Some (longest_text + 1)) (IsSolved options) HasFault input end seen → SolveMode options input end seen
+pub mode : (options : SearchOptions) (input : List ℕ) (end : End ModelFault) (seen : Seen) → OneTextRun (Some (longest_text + 1)) (IsSolved options) HasFault input end seen → SolveMode options input end seen
 mode = run_mode HoldsModel HasFault fit_or_fault one_text_fault
 
-pub idle : (options : Options) (input : List ℕ) (seen : Seen) → Untouched seen → SolveMode options input Memory seen
+pub idle : (options : SearchOptions) (input : List ℕ) (seen : Seen) → Untouched seen → SolveMode options input Memory seen
 idle = run_idle HoldsModel HasFault fit_or_fault one_text_fault
 
 -- a text below the limit and one byte is within it
@@ -63,12 +63,12 @@ pub had_fault : (text : List ℕ) (f : ModelFault) → length text < 16777217 �
 had_fault text f h first = inr (within_limit text h, first)
 
 -- what an answer says is true
-pub given_held : (Holds : List ℕ → Model → Type 0) (options : Options) (text : List ℕ) (outcome : Outcome) (written : List ℕ) (h : AnswersHeld Holds options text outcome written)
+pub given_held : (Holds : List ℕ → Model → Type 0) (options : SearchOptions) (text : List ℕ) (outcome : Outcome) (written : List ℕ) (h : AnswersHeld Holds options text outcome written)
     → WellTyped h.model → InLimits h.model → weight_of h.model ≤ most_weight → IsSolvedHeld Holds options text outcome written
 given_held Holds options text outcome written h well limits light =
     let d = h.is.document in
     record { answer = h; true_claims = claim_law h.model _ d.verdict (numbers_given d.assignment) well limits light h.is.is.valid }
 
-pub given_text : (options : Options) (text : List ℕ) (outcome : Outcome) (written : List ℕ) → Answers options text outcome written → IsSolved options text outcome written
+pub given_text : (options : SearchOptions) (text : List ℕ) (outcome : Outcome) (written : List ℕ) → Answers options text outcome written → IsSolved options text outcome written
 given_text options text outcome written h =
     given_held HoldsModel options text outcome written h (typed text h.model h.held.says) (limited text h.model h.held.within h.held.says) h.held.light

@@ -9,7 +9,7 @@ use Rattle.text_modes.specs.declared.ends.End.{End}
 use Rattle.model_texts.specs.declared.fault.ModelFault.{ModelFault}
 use Rattle.model_texts.specs.ModelTexts.{longest_text, HasFault}
 use Rattle.model_texts.specs.HeldModels.{HoldsModel}
-use Rattle.decode_minimize.specs.declared.options.Options.{Options}
+use Rattle.search_options.specs.declared.options.SearchOptions.{SearchOptions}
 use Rattle.model_meaning.specs.declared.model.Model.{Model}
 use Rattle.solve_mode.specs.Solved.{IsSolvedHeld}
 
@@ -22,11 +22,11 @@ HasModel = HoldsSome HoldsModel
 -- holds (`IsSolvedHeld`), and its fault is the first that it has. A text that holds a model is answered, by a verdict
 -- or by the budget that is spent, unless memory is wanting.
 pub record SolveRun (Holds : List ℕ → Model → Type 0) (Fails : List ℕ → ModelFault
-    → Type 0) (options : Options) (input : List ℕ) (end : End ModelFault) (seen : Seen) : Type 0 where
+    → Type 0) (options : SearchOptions) (input : List ℕ) (end : End ModelFault) (seen : Seen) : Type 0 where
   pub run : OneTextRun (Some (longest_text + 1)) (IsSolvedHeld Holds options) Fails input end seen
   pub faulty : Answers (ToldUnder input seen) (IsFaultEnd Fails) (ReadFailed input seen) end seen
   pub finishes : Finishes (ToldUnder input seen) (HoldsSome Holds) (ReadFailed input seen) end seen
 
 -- a run in solve mode: the text says the model
-abbrev pub SolveMode : Options → List ℕ → End ModelFault → Seen → Type 0
+abbrev pub SolveMode : SearchOptions → List ℕ → End ModelFault → Seen → Type 0
 SolveMode = SolveRun HoldsModel HasFault

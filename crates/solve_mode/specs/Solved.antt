@@ -10,7 +10,7 @@ use Rattle.answer_document.specs.declared.document.Document.{Document}
 use Rattle.answer_document.specs.DocumentText.{document_text}
 use Rattle.answer_document.specs.Valid.{numbers_given}
 use Rattle.answer_document.specs.Claims.{Claims}
-use Rattle.decode_minimize.specs.declared.options.Options.{Options}
+use Rattle.search_options.specs.declared.options.SearchOptions.{SearchOptions}
 use Rattle.decode_minimize.specs.Answers.{IsAnswer}
 use Rattle.text_modes.specs.declared.ends.Outcome.{Outcome}
 use Rattle.text_modes.specs.declared.ends.Outcome.TheVariants.{Done, Unknown}
@@ -23,7 +23,7 @@ outcome_of (verdict.Optimum b) = Done
 outcome_of (verdict.Unknown n best) = Unknown n
 
 -- the text of an answer to a model, by all rules, with what its verdict says of the run
-pub record IsAnswerText (options : Options) (model : Model) (outcome : Outcome) (written : List ℕ) : Type 0 where
+pub record IsAnswerText (options : SearchOptions) (model : Model) (outcome : Outcome) (written : List ℕ) : Type 0 where
   pub document : Document
   pub before : ℕ
   pub after : ℕ
@@ -33,7 +33,7 @@ pub record IsAnswerText (options : Options) (model : Model) (outcome : Outcome) 
 
 -- the text of an answer to the model that a text holds
 pub record AnswersHeld (Holds : List ℕ → Model
-    → Type 0) (options : Options) (text : List ℕ) (outcome : Outcome) (written : List ℕ) : Type 0 where
+    → Type 0) (options : SearchOptions) (text : List ℕ) (outcome : Outcome) (written : List ℕ) : Type 0 where
   pub model : Model
   pub held : Holds text model
   pub is : IsAnswerText options model outcome written
@@ -41,14 +41,14 @@ pub record AnswersHeld (Holds : List ℕ → Model
 -- The text that was read holds a model, and the written text is that of an answer to the model: it is valid
 -- (`is.is.valid`), and what it says is true.
 pub record IsSolvedHeld (Holds : List ℕ → Model
-    → Type 0) (options : Options) (text : List ℕ) (outcome : Outcome) (written : List ℕ) : Type 0 where
+    → Type 0) (options : SearchOptions) (text : List ℕ) (outcome : Outcome) (written : List ℕ) : Type 0 where
   pub answer : AnswersHeld Holds options text outcome written
   pub true_claims : Claims answer.model answer.is.document.verdict (numbers_given answer.is.document.assignment)
 
 -- The same of a text within the limit that says a model without fault.
 
-abbrev pub Answers : Options → List ℕ → Outcome → List ℕ → Type 0
+abbrev pub Answers : SearchOptions → List ℕ → Outcome → List ℕ → Type 0
 Answers = AnswersHeld HoldsModel
 
-abbrev pub IsSolved : Options → List ℕ → Outcome → List ℕ → Type 0
+abbrev pub IsSolved : SearchOptions → List ℕ → Outcome → List ℕ → Type 0
 IsSolved = IsSolvedHeld HoldsModel

@@ -12,11 +12,13 @@ ghost use Rattle.state_compile.specs.Compilation.{IsCompilation};
 ghost use Rattle.answer_document.specs.Valid.{start_of};
 ghost use Rattle.decode_minimize.specs.Answers.{IsBudget, IsAnswer};
 ghost use Rattle.decode_minimize.specs.Answering.{size_of};
+ghost use Rattle.decode_minimize.specs.Heard.{AreHeard};
 ghost use Rattle.bee_compile.specs.Compiled.{IsInstance};
 ghost use Rattle.solve_mode.specs.Solved.{outcome_of};
 
 use answer_document::Verdict;
-use decode_minimize::{AnsweredModel, Options, answer_owned};
+use decode_minimize::{AnsweredModel, SolutionWatcher, answer_owned_watched};
+use search_options::SearchOptions;
 use model_lower::LowerFault;
 use model_meaning::Model;
 use rule_base::Steps;
@@ -37,15 +39,17 @@ pub fn outcome_of(verdict: Verdict) -> Outcome
 }
 
 /// The answer to a model, by all rules, with a counter of its own.
-fn answer_with<L: Ledger>(
+fn answer_with<L: Ledger, W: SolutionWatcher>(
     alloc: Global,
     blank: Blank,
     model: Model,
-    options: Options,
+    options: SearchOptions,
+    watcher: &mut W,
 ) -> Result<AnsweredModel, LowerFault>
     requires typed { WellTyped model }
     requires limits { InLimits model }
     requires budget { IsBudget options.budget }
+    requires heard { AreHeard W.heard model }
     requires name { blank.name ≡ L.name }
     requires parts { blank.parts ≡ L.parts }
     requires some { 0 < L.parts }
@@ -59,18 +63,20 @@ fn answer_with<L: Ledger>(
     ensures heavy { IfErr result (λ e. IsFaultOf e model) }
 {
     let mut steps = Steps::<L>::open(blank);
-    answer_owned(alloc, model, options, TableP, &mut steps)
+    answer_owned_watched(alloc, model, options, TableP, &mut steps, watcher)
 }
 
-/// The answer to a model, by all rules. Each statement is let go when it is lowered.
-pub fn answer_model(
+/// The answer to a model, by all rules. Each statement is let go when it is lowered, and each better solution is told.
+pub fn answer_model<W: SolutionWatcher>(
     alloc: Global,
     model: Model,
-    options: Options,
+    options: SearchOptions,
+    watcher: &mut W,
 ) -> Result<AnsweredModel, LowerFault>
     requires typed { WellTyped model }
     requires limits { InLimits model }
     requires budget { IsBudget options.budget }
+    requires heard { AreHeard W.heard model }
     ensures light { IfOk result (λ a. weight_of model ≤ most_weight) }
     ensures answer { IfOk result (λ a. (before after : ℕ)
         × IsAnswer IsInstance model options a.document before after) }
@@ -82,5 +88,5 @@ pub fn answer_model(
         → a.size ≡ size_of (cnf_of last)) }
     ensures heavy { IfErr result (λ e. IsFaultOf e model) }
 {
-    answer_with::<Brand>(alloc, Blank::new(1), model, options)
+    answer_with::<Brand, W>(alloc, Blank::new(1), model, options, watcher)
 }

@@ -2,34 +2,39 @@
 
 ghost use Rattle.text_modes.specs.Seen.{seen, shelf_shown, sink_shown};
 ghost use Rattle.decode_minimize.specs.Answers.{IsBudget};
+ghost use Rattle.decode_minimize.specs.Heard.{HearsAll};
 ghost use Rattle.solve_mode.specs.SolveMode.{SolveMode};
 
-use crate::making::solve_text;
+use crate::making::told_text;
 use bee_outside::{Shelf, Sink};
-use decode_minimize::Options;
+use decode_minimize::SolutionWatcher;
+use search_options::SearchOptions;
 use model_texts::{LONGEST_TEXT, ModelFault, ModelTextFault};
 use std::alloc::{AllocError, Global};
+use std::cell::RefCell;
 use std::marker::Model;
 use text_modes::{End, Made, OneText, run_one};
 
 /// The text of a model is read, and that of its answer is written.
 #[derive(Drop)]
-struct Solving {
-    options: Options,
+struct Solving<'a, W: SolutionWatcher> {
+    options: SearchOptions,
+    watcher: &'a RefCell<W>,
 }
 
-impl Model for Solving {
+impl<'a, W: SolutionWatcher> Model for Solving<'a, W> {
     ghost use Rattle.decode_minimize.specs.Answers.{IsBudget};
-    ghost use Rattle.decode_minimize.specs.declared.options.Options.{Options};
+    ghost use Rattle.decode_minimize.specs.Heard.{HearsAll};
+    ghost use Rattle.search_options.specs.declared.options.SearchOptions.{SearchOptions};
 
-    ghost Value = { Options };
+    ghost Value = { SearchOptions };
 
     ghost view = { λ s. s.options };
 
-    ghost invariant = { λ s. IsBudget s.options.budget };
+    ghost invariant = { λ s. IsBudget s.options.budget × HearsAll W.heard };
 }
 
-impl OneText for Solving {
+impl<W: SolutionWatcher> OneText for Solving<'_, W> {
     ghost use Rattle.std.specs.Prelude.{◌+◌, Some};
     ghost use Rattle.model_texts.specs.ModelTexts.{longest_text, HasFault};
     ghost use Rattle.solve_mode.specs.Solved.{IsSolved};
@@ -52,7 +57,7 @@ impl OneText for Solving {
 
     #[tactic(auto, using(crate::proofs::Ends::given_text, crate::proofs::Ends::had_fault, crate::proofs::Ends::within_limit))]
     fn make(&self, alloc: Global, text: &[u8]) -> Result<Made<ModelFault>, AllocError> {
-        match solve_text(alloc, text, self.options) {
+        match told_text(alloc, text, self.options, self.watcher) {
             Ok((outcome, written)) => Ok(Made::Text(outcome, written)),
             Err(ModelTextFault::Model(fault)) => Ok(Made::Fault(fault)),
             Err(ModelTextFault::Memory) => Err(AllocError),
@@ -62,16 +67,18 @@ impl OneText for Solving {
 
 /// Reads the text of a model, seeks an answer to it, makes the whole text of that, and then writes it. The end tells
 /// whether the budget was spent.
-pub fn solve<S: Shelf, O: Sink>(
+pub fn solve<S: Shelf, O: Sink, W: SolutionWatcher>(
     alloc: Global,
     input: &str,
-    options: Options,
+    options: SearchOptions,
     shelf: &mut S,
     out: &mut O,
+    watcher: &RefCell<W>,
 ) -> End<ModelFault>
-    requires { IsBudget options.budget }
+    requires budget { IsBudget options.budget }
+    requires heard { HearsAll W.heard }
     ensures { SolveMode options input.now result (seen (shelf_shown S.left S.faults)
         (sink_shown O.taken O.flushed O.faults) shelf.old shelf.new out.old out.new) }
 {
-    run_one(alloc, &Solving { options }, input, shelf, out)
+    run_one(alloc, &Solving { options, watcher }, input, shelf, out)
 }

@@ -6,7 +6,7 @@ use Rattle.decode_minimize.proofs.improving.improve.Given as goal
 
 -- the searches so far, and one for each value that is left, are no more than one for each value that was left at first
 abbrev pub invariant-loop : goal.invariant-loop
-invariant-loop l = record {
+invariant-loop g l = record {
   cnf : l.seeker.solver.cnf ≡ l.fn.seeker.solver.cnf;
   within : additions l.seeker.solver.log ≤ l.options.budget;
   seeking : IsSeeking l.seeker.solver l.sought l.best;
@@ -16,4 +16,4 @@ invariant-loop l = record {
 }
 
 abbrev pub decreases-loop : goal.decreases-loop
-decreases-loop l = left l.sought l.best
+decreases-loop g l = left l.sought l.best

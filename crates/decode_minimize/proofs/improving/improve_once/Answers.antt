@@ -1,37 +1,39 @@
-use Rattle.std.proofs.Common.{◌≡◌, ◌+◌, Option, Some, ℤ, sym, ap, ◌∙◌, subst, Ok}
+use Rattle.std.proofs.Common.{◌≡◌, ◌+◌, Bool, List, Option, Some, ℤ, sym, ap, ◌∙◌, subst, Ok}
 use Rattle.std.specs.Prelude.{IfSome}
 use Rattle.order_ints.specs.declared.atom.Atom.{Atom}
+use Rattle.order_ints.specs.declared.cnf.Cnf.{Cnf}
 use Rattle.order_ints.specs.View.{resolve}
 use Rattle.order_ints.specs.Place.{AtomBelow}
 use Rattle.decode_minimize.specs.declared.asking.Round.{Round}
 use Rattle.decode_minimize.specs.declared.asking.Round.TheVariants.{Better, Shown, Spent}
 use Rattle.decode_minimize.specs.Incumbents.{incumbent_behind}
 use Rattle.decode_minimize.specs.Objectives.{bound_of}
-use Rattle.decode_minimize.specs.Rounds.{IsRound}
+use Rattle.decode_minimize.specs.Rounds.{AreSatisfying, IsRound}
+use Rattle.decode_minimize.proofs.Hearing.{told-values}
 use Rattle.decode_minimize.proofs.Turning.{asked_bound, asked-is, asked-below, better-turned, shown-turned, spent-turned}
 use Rattle.decode_minimize.proofs.improving.improve_once.Goals as goal
 
 pub ask-requires-clause-below : goal.ask-requires-clause-below
-ask-requires-clause-below c =
+ask-requires-clause-below g c =
     let is : c.resolve-bound.result ≡ asked_bound c.args.sought.now c.args.best.now = asked-is c.args.seeker.now.solver c.args.sought.now c.args.best.now c.requires.seeking c.bound_of.result c.resolve-bound.result c.bound_of.ensures c.resolve-bound.ensures in
     subst (AtomBelow (c.args.seeker.now.solver.cnf.vars + 1)) (sym is) (asked-below c.args.seeker.now.solver c.args.sought.now c.args.best.now c.requires.seeking)
 
 pub returns-in-Better-clause-turned : goal.returns-in-Better-clause-turned
-returns-in-Better-clause-turned c =
+returns-in-Better-clause-turned g c =
     let is : c.resolve-bound.result ≡ asked_bound c.args.sought.now c.args.best.now = asked-is c.args.seeker.now.solver c.args.sought.now c.args.best.now c.requires.seeking c.bound_of.result c.resolve-bound.result c.bound_of.ensures c.resolve-bound.ensures in
     let found = subst (λ (r : Round). IsRound c.ask.new.self.solver c.resolve-bound.result r) c.in-Better.is c.in_ok-values.ensures.round in
     better-turned c.args.seeker.now.solver c.ask.new.self.solver c.args.sought.now c.args.options c.args.best.now c.requires.seeking c.ask.ensures.cnf c.in-Better.values c.take.new.best
     c.take.ensures.values c.take.ensures.number (subst (λ (b : Atom). IsRound c.ask.new.self.solver b (Better c.in-Better.values)) is found) c.ask.ensures.most
 
 pub returns-in-Shown-clause-turned : goal.returns-in-Shown-clause-turned
-returns-in-Shown-clause-turned c =
+returns-in-Shown-clause-turned g c =
     let is : c.resolve-bound.result ≡ asked_bound c.args.sought.now c.args.best.now = asked-is c.args.seeker.now.solver c.args.sought.now c.args.best.now c.requires.seeking c.bound_of.result c.resolve-bound.result c.bound_of.ensures c.resolve-bound.ensures in
     let found = subst (λ (r : Round). IsRound c.ask.new.self.solver c.resolve-bound.result r) c.in-Shown.is c.in_ok-values.ensures.round in
     shown-turned c.args.seeker.now.solver c.ask.new.self.solver c.args.sought.now c.args.options c.args.best.now c.requires.seeking c.ask.ensures.cnf c.ask.ensures.most
     (λ e. c.ask.ensures.unasked (is ∙ e)) (subst (λ (b : Atom). IsRound c.ask.new.self.solver b Shown) is found)
 
 pub returns-in-Spent-clause-turned : goal.returns-in-Spent-clause-turned
-returns-in-Spent-clause-turned c =
+returns-in-Spent-clause-turned g c =
     let is : c.resolve-bound.result ≡ asked_bound c.args.sought.now c.args.best.now = asked-is c.args.seeker.now.solver c.args.sought.now c.args.best.now c.requires.seeking c.bound_of.result c.resolve-bound.result c.bound_of.ensures c.resolve-bound.ensures in
     let found = subst (λ (r : Round). IsRound c.ask.new.self.solver c.resolve-bound.result r) c.in-Spent.is c.in_ok-values.ensures.round in
     let was = c.in_ok-values.was ∙ ap Ok c.in-Spent.is in
@@ -40,16 +42,25 @@ returns-in-Spent-clause-turned c =
 
 -- the bound that is asked for is that of the incumbent
 pub ask-requires-clause-better : goal.ask-requires-clause-better
-ask-requires-clause-better c =
+ask-requires-clause-better g c =
     let is : c.resolve-bound.result ≡ asked_bound c.args.sought.now c.args.best.now = asked-is c.args.seeker.now.solver c.args.sought.now c.args.best.now c.requires.seeking c.bound_of.result c.resolve-bound.result c.bound_of.ensures c.resolve-bound.ensures in
     subst (λ (o : Option ℤ). IfSome o (λ n. c.resolve-bound.result ≡ resolve c.args.sought.now.view.now (bound_of c.args.sought.now.direction c.args.sought.now.integer.now n))) (sym c.requires.kept) is
 
 pub returns-in-Better-clause-kept : goal.returns-in-Better-clause-kept
-returns-in-Better-clause-kept c =
+returns-in-Better-clause-kept g c =
     c.in_ok-values.ensures.incumbent ∙ ap (incumbent_behind c.args.sought.now c.args.seeker.now.incumbent) c.in-Better.is ∙ ap (λ (n : ℤ). Some n) (sym c.take.ensures.number)
 
 pub returns-in-Shown-clause-kept : goal.returns-in-Shown-clause-kept
-returns-in-Shown-clause-kept c = c.in_ok-values.ensures.incumbent ∙ ap (incumbent_behind c.args.sought.now c.args.seeker.now.incumbent) c.in-Shown.is ∙ c.requires.kept
+returns-in-Shown-clause-kept g c = c.in_ok-values.ensures.incumbent ∙ ap (incumbent_behind c.args.sought.now c.args.seeker.now.incumbent) c.in-Shown.is ∙ c.requires.kept
 
 pub returns-in-Spent-clause-kept : goal.returns-in-Spent-clause-kept
-returns-in-Spent-clause-kept c = c.in_ok-values.ensures.incumbent ∙ ap (incumbent_behind c.args.sought.now c.args.seeker.now.incumbent) c.in-Spent.is ∙ c.requires.kept
+returns-in-Spent-clause-kept g c = c.in_ok-values.ensures.incumbent ∙ ap (incumbent_behind c.args.sought.now c.args.seeker.now.incumbent) c.in-Spent.is ∙ c.requires.kept
+
+pub tell-requires-clause-short : goal.tell-requires-clause-short
+tell-requires-clause-short g c = c.requires.heard.short
+
+pub tell-requires-clause-heard : goal.tell-requires-clause-heard
+tell-requires-clause-heard g c =
+    let found = subst (λ (r : Round). IsRound c.ask.new.self.solver c.resolve-bound.result r) c.in-Better.is c.in_ok-values.ensures.round in
+    told-values g.W.SolutionWatcher.heard c.args.seeker.now.solver.cnf c.args.sought.now.names c.requires.heard c.in-Better.values c.as_slice.result.now
+    (subst (λ (f : Cnf). AreSatisfying f c.in-Better.values) c.ask.ensures.cnf found.0) (c.as_slice.ensures ∙ c.take.ensures.values)

@@ -1,33 +1,37 @@
 use Rattle.std.proofs.Common.{◌≡◌, Some, Option, Ok, ℤ, sym, ap, ◌∙◌, subst}
 use Rattle.std.specs.Prelude.{IfSome}
 use Rattle.order_ints.specs.declared.atom.Atom.TheVariants.{False}
+use Rattle.order_ints.specs.declared.cnf.Cnf.{Cnf}
 use Rattle.order_ints.specs.View.{resolve}
 use Rattle.decode_minimize.specs.declared.asking.Round.{Round}
+use Rattle.learning_solver.specs.Outcome.{Logged}
+use Rattle.decode_minimize.specs.Heard.{IsHeard}
 use Rattle.decode_minimize.specs.Incumbents.{incumbent_behind}
 use Rattle.decode_minimize.specs.Objectives.{bound_of}
 use Rattle.decode_minimize.specs.Rounds.{IsRound}
 use Rattle.decode_minimize.specs.Solved.{IsRefuted, IsGivenUp}
 use Rattle.decode_minimize.proofs.Ready.{solvable-apart}
-use Rattle.decode_minimize.proofs.Rounding.{first-refuted, first-given_up, first-seeking}
+use Rattle.decode_minimize.proofs.Rounding.{first-refuted, first-given_up, first-seeking, first-satisfying}
+use Rattle.decode_minimize.proofs.Hearing.{told-values}
 use Rattle.decode_minimize.proofs.rounds.first_rounds.Goals as goal
 
 pub with-requires-clause-differ : goal.with-requires-clause-differ
-with-requires-clause-differ c = solvable-apart c.args.cnf.now c.requires.solvable
+with-requires-clause-differ g c = solvable-apart c.args.cnf.now c.requires.solvable
 
 -- no solution is known before the first round
 pub ask-requires-clause-better : goal.ask-requires-clause-better
-ask-requires-clause-better c =
+ask-requires-clause-better g c =
     subst (λ (o : Option ℤ). IfSome o (λ n. False ≡ resolve c.args.sought.now.view.now (bound_of c.args.sought.now.direction c.args.sought.now.integer.now n))) (sym c.in_ok-seeker.ensures.incumbent) tt
 
 pub returns-in-Shown : goal.returns-in-Shown
-returns-in-Shown c =
+returns-in-Shown g c =
     let shown = subst (λ (r : Round). IsRound c.ask.new.self.solver False r) c.in-Shown.is c.in_ok-ask.ensures.round in
     subst (IsRefuted c.args.cnf.now c.args.options) (sym c.into_lines.ensures)
     (first-refuted c.args.cnf.now c.in_ok-seeker.seeker.solver c.ask.new.self.solver c.args.options c.in_ok-seeker.ensures.solver c.ask.ensures.cnf c.into_log.result.lines c.into_log.ensures.lines
     c.into_log.ensures.accepted c.into_log.ensures.fresh c.into_log.ensures.readable c.ask.ensures.within c.ask.ensures.most shown)
 
 pub returns-in-Spent : goal.returns-in-Spent
-returns-in-Spent c =
+returns-in-Spent g c =
     let was = c.in_ok-ask.was ∙ ap Ok c.in-Spent.is in
     let unshown = subst (λ (r : Round). IsRound c.ask.new.self.solver False r) c.in-Spent.is c.in_ok-ask.ensures.round in
     subst (IsGivenUp c.args.cnf.now c.args.options) (sym c.into_lines-in-Spent.ensures)
@@ -35,11 +39,25 @@ returns-in-Spent c =
     c.into_log-in-Spent.ensures.accepted c.into_log-in-Spent.ensures.fresh c.into_log-in-Spent.ensures.readable (c.ask.ensures.spent was) (c.ask.ensures.spent_early was) unshown)
 
 pub rounds_from-requires-clause-seeking : goal.rounds_from-requires-clause-seeking
-rounds_from-requires-clause-seeking c =
+rounds_from-requires-clause-seeking g c =
     let found = subst (λ (r : Round). IsRound c.ask.new.self.solver False r) c.in-Better.is c.in_ok-ask.ensures.round in
     first-seeking c.args.cnf.now c.in_ok-seeker.seeker.solver c.ask.new.self.solver c.args.options c.in_ok-seeker.ensures.solver c.ask.ensures.cnf c.args.sought.now c.in-Better.values c.best_of-best.result
     c.requires.seekable found c.best_of-best.ensures.values c.best_of-best.ensures.number
 
 pub rounds_from-requires-clause-kept : goal.rounds_from-requires-clause-kept
-rounds_from-requires-clause-kept c =
+rounds_from-requires-clause-kept g c =
     c.in_ok-ask.ensures.incumbent ∙ ap (incumbent_behind c.args.sought.now c.in_ok-seeker.seeker.incumbent) c.in-Better.is ∙ ap (λ (n : ℤ). Some n) (sym c.best_of-best.ensures.number)
+
+pub tell-requires-clause-short : goal.tell-requires-clause-short
+tell-requires-clause-short g c = c.requires.heard.short
+
+pub tell-requires-clause-heard : goal.tell-requires-clause-heard
+tell-requires-clause-heard g c =
+    let found = subst (λ (r : Round). IsRound c.ask.new.self.solver False r) c.in-Better.is c.in_ok-ask.ensures.round in
+    told-values g.W.SolutionWatcher.heard c.args.cnf.now c.args.sought.now.names c.requires.heard c.in-Better.values c.as_slice.result.now
+    (first-satisfying c.args.cnf.now c.in_ok-seeker.seeker.solver c.ask.new.self.solver c.args.options c.in_ok-seeker.ensures.solver c.ask.ensures.cnf c.in-Better.values found)
+    (c.as_slice.ensures ∙ c.best_of-best.ensures.values)
+
+pub rounds_from-requires-clause-heard : goal.rounds_from-requires-clause-heard
+rounds_from-requires-clause-heard g c =
+    subst (λ (f : Cnf). IsHeard g.W.SolutionWatcher.heard f c.args.sought.now.names) (sym (c.ask.ensures.cnf ∙ ap (λ (s : Logged). s.cnf) c.in_ok-seeker.ensures.solver)) c.requires.heard

@@ -11,17 +11,17 @@ use Rattle.decode_minimize.proofs.Makings.{any-refuted, any-given_up, any-soluti
 use Rattle.decode_minimize.proofs.solving.solve_any.Goals as goal
 
 pub solver_of-requires-clause-differ : goal.solver_of-requires-clause-differ
-solver_of-requires-clause-differ c = solvable-apart c.args.cnf.now c.requires.solvable
+solver_of-requires-clause-differ g c = solvable-apart c.args.cnf.now c.requires.solvable
 
 pub returns-in-Shown : goal.returns-in-Shown
-returns-in-Shown c =
+returns-in-Shown g c =
     let shown = subst (λ (r : Round). IsRound c.ask_bound.new.solver False r) c.in-Shown.is c.in_ok-ask_bound.ensures.round in
     any-refuted (problem_of c.args.names.now c.args.cnf.now) c.args.options c.refuted.result c.into_log.result c.refuted.ensures
     (first-refuted c.args.cnf.now c.in_ok-solver.solver c.ask_bound.new.solver c.args.options c.in_ok-solver.ensures c.ask_bound.ensures.cnf c.into_log.result c.into_log.ensures.log c.into_log.ensures.accepted
     c.into_log.ensures.fresh c.into_log.ensures.readable c.ask_bound.ensures.within c.ask_bound.ensures.most shown)
 
 pub returns-in-Spent : goal.returns-in-Spent
-returns-in-Spent c =
+returns-in-Spent g c =
     let was = c.in_ok-ask_bound.was ∙ ap Ok c.in-Spent.is in
     let unshown = subst (λ (r : Round). IsRound c.ask_bound.new.solver False r) c.in-Spent.is c.in_ok-ask_bound.ensures.round in
     any-given_up (problem_of c.args.names.now c.args.cnf.now) c.args.options c.given_up.result c.into_log-in-Spent.result c.given_up.ensures
@@ -29,7 +29,7 @@ returns-in-Spent c =
     c.into_log-in-Spent.ensures.accepted c.into_log-in-Spent.ensures.fresh c.into_log-in-Spent.ensures.readable (c.ask_bound.ensures.spent was) (c.ask_bound.ensures.spent_early was) unshown)
 
 pub returns-in_ok-solved-in-Better : goal.returns-in_ok-solved-in-Better
-returns-in_ok-solved-in-Better c =
+returns-in_ok-solved-in-Better g c =
     let found = subst (λ (r : Round). IsRound c.ask_bound.new.solver False r) c.in-Better.is c.in_ok-ask_bound.ensures.round in
     let made = subst (λ (v : List Bool). IsMadeOf c.args.names.now v Satisfiable c.into_log-proof.result None c.in_ok-solved-in-Better.solved) c.as_slice.ensures c.in_ok-solved-in-Better.ensures in
     let within : additions c.into_log-proof.result ≤ c.args.options.budget = omega (arith, ap additions c.into_log-proof.ensures.log, c.ask_bound.ensures.within) in

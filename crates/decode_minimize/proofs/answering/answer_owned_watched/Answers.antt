@@ -3,7 +3,8 @@ use Rattle.model_lower.specs.declared.state.Lowered.{Lowered}
 use Rattle.step_kernel.specs.Kernel.{Kernel, started}
 use Rattle.state_compile.specs.Compilation.{IsCompilation}
 use Rattle.decode_minimize.proofs.Lowerings.{lowered-ready}
-use Rattle.decode_minimize.proofs.answering.answer_owned.Goals as goal
+use Rattle.decode_minimize.proofs.Hearing.{decoded-heard}
+use Rattle.decode_minimize.proofs.answering.answer_owned_watched.Goals as goal
 
 pub answer_lowered-requires-clause-ready : goal.answer_lowered-requires-clause-ready
 answer_lowered-requires-clause-ready g c =
@@ -17,3 +18,7 @@ pub returns-clause-size : goal.returns-clause-size
 returns-clause-size g c = λ last compilation.
     let start = ap (λ (l : Lowered). started l.vars l.cores) c.in_ok-held.ensures.shape in
     c.in_ok-answered.ensures.size last (subst (λ (k : Kernel). IsCompilation g.F.Oracle.told k c.in_ok-answered.answered.document.ledger last) (sym start) compilation)
+
+pub answer_lowered-requires-clause-heard : goal.answer_lowered-requires-clause-heard
+answer_lowered-requires-clause-heard g c =
+    decoded-heard g.W.SolutionWatcher.heard c.args.model c.in_ok-held.held.lowered c.requires.typed c.requires.limits c.in_ok-held.ensures.light c.in_ok-held.ensures.shape c.requires.heard

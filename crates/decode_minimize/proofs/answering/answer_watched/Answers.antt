@@ -1,6 +1,7 @@
 use Rattle.std.proofs.Common.{refl}
 use Rattle.decode_minimize.proofs.Lowerings.{lowered-ready}
-use Rattle.decode_minimize.proofs.answering.answer.Goals as goal
+use Rattle.decode_minimize.proofs.Hearing.{decoded-heard}
+use Rattle.decode_minimize.proofs.answering.answer_watched.Goals as goal
 
 pub answer_lowered-requires-clause-ready : goal.answer_lowered-requires-clause-ready
 answer_lowered-requires-clause-ready g c =
@@ -9,3 +10,7 @@ answer_lowered-requires-clause-ready g c =
 pub returns-clause-answer : goal.returns-clause-answer
 returns-clause-answer g c =
     c.in_ok-answered.ensures.answer c.args.model.now c.requires.typed c.requires.limits c.in_ok-lowered.ensures.light c.in_ok-lowered.ensures.shape refl
+
+pub answer_lowered-requires-clause-heard : goal.answer_lowered-requires-clause-heard
+answer_lowered-requires-clause-heard g c =
+    decoded-heard g.W.SolutionWatcher.heard c.args.model.now c.in_ok-lowered.lowered c.requires.typed c.requires.limits c.in_ok-lowered.ensures.light c.in_ok-lowered.ensures.shape c.requires.heard

@@ -1,0 +1,143 @@
+//! What a search finds, told on the sink for errors while it goes on.
+
+ghost use Rattle.std.specs.Prelude.{◌≡◌, ◌∷◌, ◌++◌, length, IfOk, OnOk};
+ghost use Rattle.std.specs.Fmt.{signed_decimal};
+ghost use Rattle.model_meaning.specs.Terms.{value_at};
+ghost use Rattle.bee_cli.specs.Progress.{objective_words, block_text, count_text};
+
+use answer_document::push_values;
+use bee_outside::{Sink, write_all};
+use bee_text::{push_blank, push_bytes, push_number, push_signed};
+use decode_minimize::SolutionWatcher;
+use model_meaning::{Assignment, Decl, Goal};
+use search_watcher::Watcher;
+use std::alloc::{AllocError, Global};
+
+/// After how many learned clauses their number is told. It may be changed: no clause names it.
+const TOLD_EACH: u64 = 10_000;
+
+/// A watcher over a sink. Each block is made whole in memory, and then written and flushed; where memory is wanting for
+/// one, or the sink fails, it is silent from then on, and nothing else comes of that.
+pub(crate) struct Progress<'a, E> {
+    alloc: Global,
+    err: &'a mut E,
+    speaks: bool,
+    learned: u64,
+}
+
+impl<'a, E: Sink> Progress<'a, E> {
+    /// A watcher that speaks, or one that is silent.
+    pub(crate) fn new(alloc: Global, err: &'a mut E, speaks: bool) -> Progress<'a, E> {
+        Progress {
+            alloc,
+            err,
+            speaks,
+            learned: 0,
+        }
+    }
+
+    /// Writes a block.
+    fn say(&mut self, block: Result<Vec<u8>, AllocError>) {
+        self.speaks = match block {
+            Ok(text) => write_all(self.err, text.as_slice()).is_ok(),
+            Err(AllocError) => false,
+        };
+    }
+}
+
+impl<E: Sink> Watcher for Progress<'_, E> {
+    // A second objective's solver counts from 1 again, so the calls are counted here.
+    fn learned(&mut self, _count: u64) {
+        self.learned = self.learned.saturating_add(1);
+        if self.speaks && self.learned % TOLD_EACH == 0 {
+            let line = count_line(self.alloc, self.learned);
+            self.say(line);
+        }
+    }
+}
+
+impl<E: Sink> SolutionWatcher for Progress<'_, E> {
+    ghost use Rattle.bee_cli.specs.Progress.{AreOfSolution};
+
+    ghost heard = { AreOfSolution };
+
+    fn listens(&self) -> bool {
+        self.speaks
+    }
+
+    #[tactic(auto, using(crate::proofs::Told::as_many))]
+    fn better(&mut self, decls: &[Decl], goal: Goal, solution: &Assignment) {
+        let block = best_block(
+            self.alloc,
+            decls,
+            goal,
+            solution.values.as_slice(),
+            self.learned,
+        );
+        self.say(block);
+    }
+}
+
+/// The line of how many clauses were learned.
+fn count_line(alloc: Global, learned: u64) -> Result<Vec<u8>, AllocError>
+    ensures { IfOk result (λ text. text.items ≡ count_text learned) }
+{
+    let mut out = Vec::new(alloc);
+    push_bytes(&mut out, b"bee: ")?;
+    push_number(&mut out, u128::from(learned))?;
+    push_bytes(&mut out, b" clauses learned\n")?;
+    Ok(out)
+}
+
+/// The block of a better solution.
+fn best_block(
+    alloc: Global,
+    decls: &[Decl],
+    goal: Goal,
+    values: &[i64],
+    learned: u64,
+) -> Result<Vec<u8>, AllocError>
+    requires { length decls.now ≡ length values.now }
+    ensures { IfOk result (λ text. text.items ≡ block_text decls.now goal values.now learned) }
+{
+    let mut out = Vec::new(alloc);
+    push_bytes(&mut out, b"bee: best")?;
+    push_objective(&mut out, goal, values)?;
+    push_bytes(&mut out, b", ")?;
+    push_number(&mut out, u128::from(learned))?;
+    push_bytes(&mut out, b" clauses learned\n")?;
+    push_values(&mut out, decls, values)?;
+    Ok(out)
+}
+
+/// Writes the values of the objectives, each behind a blank.
+fn push_objective(out: &mut Vec<u8>, goal: Goal, values: &[i64]) -> Result<(), AllocError>
+    ensures { OnOk result (out.new.items ≡ out.old.items ++ objective_words goal values.now) }
+{
+    match goal {
+        Goal::Satisfy => Ok(()),
+        Goal::Minimize(place, None) | Goal::Maximize(place, None) => push_value(out, values, place),
+        Goal::Minimize(place, Some(other)) | Goal::Maximize(place, Some(other)) => {
+            push_value(out, values, place)?;
+            push_value(out, values, other)
+        }
+    }
+}
+
+/// Writes the value at a place, behind a blank.
+fn push_value(out: &mut Vec<u8>, values: &[i64], place: usize) -> Result<(), AllocError>
+    ensures { OnOk result (out.new.items ≡ out.old.items ++ 32 ∷ signed_decimal (value_at values.now place)) }
+{
+    push_blank(out)?;
+    push_signed(out, i128::from(value_at(values, place)))
+}
+
+/// The value at a place, and 0 past the last one.
+fn value_at(values: &[i64], place: usize) -> i64
+    ensures { result ≡ value_at values.now place }
+{
+    match values.get(place) {
+        Some(value) => *value,
+        None => 0,
+    }
+}

@@ -15,7 +15,6 @@ ghost use Rattle.answer_document.specs.Valid.{start_of};
 ghost use Rattle.decode_minimize.specs.Heard.{AreHeard, AreDecodedHeard, IsHeard};
 ghost use Rattle.decode_minimize.specs.Answering.{IsReady, IsAnswerOf, problem_at, size_of};
 
-use search_options::SearchOptions;
 use crate::solved::{Names, Solved};
 use crate::solving::{refuted, solve};
 use crate::watching::SolutionWatcher;
@@ -25,6 +24,7 @@ use fixpoint_queue::Oracle;
 use model_lower::{LowerFault, Lowered, LoweredModel, lower, lower_owned};
 use model_meaning::{Decl, Goal, Model};
 use rule_base::Steps;
+use search_options::SearchOptions;
 use search_watcher::Silent;
 use state_compile::compile_state;
 use std::alloc::{AllocError, Global};

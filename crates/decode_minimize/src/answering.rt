@@ -15,7 +15,6 @@ ghost use Rattle.answer_document.specs.Valid.{start_of};
 ghost use Rattle.decode_minimize.specs.Heard.{AreHeard, AreDecodedHeard, IsHeard};
 ghost use Rattle.decode_minimize.specs.Answering.{IsReady, IsAnswerOf, problem_at, size_of};
 
-use search_options::SearchOptions;
 use crate::solved::{Names, Solved};
 use crate::solving::{refuted, solve};
 use crate::watching::SolutionWatcher;
@@ -25,6 +24,7 @@ use fixpoint_queue::Oracle;
 use model_lower::{LowerFault, Lowered, LoweredModel, lower, lower_owned};
 use model_meaning::{Decl, Goal, Model};
 use rule_base::Steps;
+use search_options::SearchOptions;
 use search_watcher::Silent;
 use state_compile::compile_state;
 use std::alloc::{AllocError, Global};
@@ -159,8 +159,8 @@ fn answer_lowered<F: Oracle<L>, L: Ledger, W: SolutionWatcher>(
 /// first one is fixed, with what the first one left of the budget. No round is made where the store already excludes a
 /// better value.
 ///
-/// Each solution of an objective's rounds is told, when it is found, to a watcher that listens; and how many clauses were
-/// learned. Where any solution serves, it is the answer itself, and isn't told before.
+/// Each solution of an objective's rounds is told, when it is found, to a watcher that listens; and so is how many
+/// clauses were learned. Where any solution serves, it is the answer itself, and isn't told before.
 ///
 /// It fails with the model's weight where that is above 67,108,864, and for want of memory.
 pub fn answer_watched<F: Oracle<L>, L: Ledger, W: SolutionWatcher>(

@@ -8,10 +8,10 @@ ghost use Rattle.learning_solver.specs.Log.{additions};
 ghost use Rattle.learning_solver.specs.Outcome.{most_learned};
 ghost use Rattle.decode_minimize.specs.Rounds.{IsAsked, IsRound};
 
-use search_options::SearchOptions;
 use bee_list::Sequence;
 use learning_solver::{Aim, Found, Solver};
 use order_ints::{Atom, Cnf, Lit};
+use search_options::SearchOptions;
 use search_watcher::Watcher;
 use std::alloc::{AllocError, Global};
 

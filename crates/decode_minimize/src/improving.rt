@@ -11,13 +11,13 @@ ghost use Rattle.decode_minimize.specs.Heard.{IsHeard};
 
 use crate::asking::Round;
 use crate::objective::{Direction, bound_of, value_under};
-use search_options::SearchOptions;
 use crate::seeker::Seeker;
 use crate::solved::Names;
 use crate::telling::tell;
 use crate::watching::SolutionWatcher;
 use bee_list::Sequence;
 use order_ints::{Atom, OrdInt, resolve};
+use search_options::SearchOptions;
 use std::alloc::AllocError;
 
 /// What is sought: the best value of an integer, whose variables a view reads; and the names by which solutions are

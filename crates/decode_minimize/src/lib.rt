@@ -40,6 +40,8 @@ mod solving;
 mod telling;
 mod watching;
 
-pub use answering::{AnsweredModel, CnfSize, answer, answer_owned, answer_owned_watched, answer_watched};
+pub use answering::{
+    AnsweredModel, CnfSize, answer, answer_owned, answer_owned_watched, answer_watched,
+};
 pub use search_options::SearchOptions as Options;
 pub use watching::SolutionWatcher;

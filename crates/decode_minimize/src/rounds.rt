@@ -15,13 +15,13 @@ ghost use Rattle.decode_minimize.specs.Solved.{IsSolvable, IsSeekable, IsProgres
 use crate::asking::Round;
 use crate::improving::{Best, Sought, improve};
 use crate::objective::value_under;
-use search_options::SearchOptions;
 use crate::seeker::Seeker;
 use crate::solved::{First, Progress};
 use crate::telling::tell;
 use crate::watching::SolutionWatcher;
 use bee_list::Sequence;
 use order_ints::{Atom, Cnf};
+use search_options::SearchOptions;
 use std::alloc::AllocError;
 
 /// A solution, with its value of what is sought.

@@ -16,11 +16,11 @@ ghost use Rattle.decode_minimize.specs.Incumbents.{incumbent_behind};
 use crate::asking::{Round, ask_bound, solver_of};
 use crate::improving::{Best, Sought};
 use crate::objective::value_under;
-use search_options::SearchOptions;
 use bee_list::Sequence;
 use learning_solver::{Aim, Solver};
 use order_ints::{Atom, Cnf};
 use proof_check::ProofLine;
+use search_options::SearchOptions;
 use search_watcher::Watcher;
 use std::alloc::{AllocError, Global};
 

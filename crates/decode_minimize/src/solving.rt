@@ -16,7 +16,6 @@ use crate::asking::{Round, ask_bound, solver_of};
 use crate::fixing::{additions, fix};
 use crate::improving::{Best, Sought};
 use crate::objective::{Direction, integer_named, no_worse_of, value_under};
-use search_options::SearchOptions;
 use crate::rounds::{first_rounds, rounds_behind};
 use crate::solved::{First, Names, Progress, Solved};
 use crate::watching::SolutionWatcher;
@@ -26,6 +25,7 @@ use model_decode::decode;
 use model_meaning::Goal;
 use order_ints::{Atom, Cnf, OrdInt, resolve};
 use proof_check::ProofLine;
+use search_options::SearchOptions;
 use search_watcher::Watcher;
 use std::alloc::AllocError;
 
@@ -226,13 +226,7 @@ fn with_two(
     };
     let verdict = verdict_on(is_best, bounds, options);
     let second = second.into_lines();
-    let solved = with_solution(
-        names,
-        best.values.as_slice(),
-        verdict,
-        proof,
-        Some(second),
-    )?;
+    let solved = with_solution(names, best.values.as_slice(), verdict, proof, Some(second))?;
     Ok(solved)
 }
 
@@ -369,7 +363,15 @@ pub fn solve<W: SolutionWatcher>(
             Ok(solved)
         }
         Goal::Minimize(place, second) => {
-            let solved = solve_best(cnf, names, Direction::Least, place, second, options, watcher)?;
+            let solved = solve_best(
+                cnf,
+                names,
+                Direction::Least,
+                place,
+                second,
+                options,
+                watcher,
+            )?;
             Ok(solved)
         }
         Goal::Maximize(place, second) => {

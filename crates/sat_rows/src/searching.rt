@@ -2,8 +2,11 @@
 //! and what comes of searches. At first the variables are decided false, the last one first.
 
 use bee_outside::{MemShelf, MemSink};
-use sat_mode::{SearchOptions, sat};
+use sat_mode::sat;
+use search_options::SearchOptions;
+use search_watcher::Silent;
 use std::alloc::{AllocError, Global};
+use std::cell::RefCell;
 use std::process::Abort;
 use std::test::Fail;
 
@@ -19,7 +22,8 @@ fn searched(alloc: Global, text: &str, budget: u64, restart: bool) -> Result<Mem
     let mut shelf = MemShelf::with(vec![in alloc; file]?, 65_536, Vec::new(alloc));
     let mut out = MemSink::with(alloc, 1_048_576, 65_536, Vec::new(alloc))?;
     let options = SearchOptions { budget, restart };
-    let _end = sat(alloc, "m.cnf", options, &mut shelf, &mut out);
+    let watcher = RefCell::new(Silent);
+    let _end = sat(alloc, "m.cnf", options, &mut shelf, &mut out, &watcher);
     Ok(out)
 }
 

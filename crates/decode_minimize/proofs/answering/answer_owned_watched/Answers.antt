@@ -1,7 +1,9 @@
-use Rattle.std.proofs.Common.{refl, sym, ap, subst}
+use Rattle.std.proofs.Common.{List, refl, sym, ap, ◌∙◌, subst}
 use Rattle.model_lower.specs.declared.state.Lowered.{Lowered}
 use Rattle.step_kernel.specs.Kernel.{Kernel, started}
 use Rattle.state_compile.specs.Compilation.{IsCompilation}
+use Rattle.model_meaning.specs.declared.model.Decl.{Decl}
+use Rattle.decode_minimize.specs.Heard.{AreDecodedHeard}
 use Rattle.decode_minimize.proofs.Lowerings.{lowered-ready}
 use Rattle.decode_minimize.proofs.Hearing.{decoded-heard}
 use Rattle.decode_minimize.proofs.answering.answer_owned_watched.Goals as goal
@@ -21,4 +23,5 @@ returns-clause-size g c = λ last compilation.
 
 pub answer_lowered-requires-clause-heard : goal.answer_lowered-requires-clause-heard
 answer_lowered-requires-clause-heard g c =
-    decoded-heard g.W.SolutionWatcher.heard c.args.model c.in_ok-held.held.lowered c.requires.typed c.requires.limits c.in_ok-held.ensures.light c.in_ok-held.ensures.shape c.requires.heard
+    subst (λ (ds : List Decl). AreDecodedHeard g.W.SolutionWatcher.heard ds c.args.model.goal c.in_ok-held.held.lowered) (sym (c.as_slice.ensures ∙ c.in_ok-held.ensures.decls))
+    (decoded-heard g.W.SolutionWatcher.heard c.args.model c.in_ok-held.held.lowered c.requires.typed c.requires.limits c.in_ok-held.ensures.light c.in_ok-held.ensures.shape c.requires.heard)

@@ -1,4 +1,6 @@
-use Rattle.std.proofs.Common.{refl}
+use Rattle.std.proofs.Common.{List, refl, sym, subst}
+use Rattle.model_meaning.specs.declared.model.Decl.{Decl}
+use Rattle.decode_minimize.specs.Heard.{AreDecodedHeard}
 use Rattle.decode_minimize.proofs.Lowerings.{lowered-ready}
 use Rattle.decode_minimize.proofs.Hearing.{decoded-heard}
 use Rattle.decode_minimize.proofs.answering.answer_watched.Goals as goal
@@ -13,4 +15,5 @@ returns-clause-answer g c =
 
 pub answer_lowered-requires-clause-heard : goal.answer_lowered-requires-clause-heard
 answer_lowered-requires-clause-heard g c =
-    decoded-heard g.W.SolutionWatcher.heard c.args.model.now c.in_ok-lowered.lowered c.requires.typed c.requires.limits c.in_ok-lowered.ensures.light c.in_ok-lowered.ensures.shape c.requires.heard
+    subst (λ (ds : List Decl). AreDecodedHeard g.W.SolutionWatcher.heard ds c.args.model.now.goal c.in_ok-lowered.lowered) (sym c.as_slice.ensures)
+    (decoded-heard g.W.SolutionWatcher.heard c.args.model.now c.in_ok-lowered.lowered c.requires.typed c.requires.limits c.in_ok-lowered.ensures.light c.in_ok-lowered.ensures.shape c.requires.heard)

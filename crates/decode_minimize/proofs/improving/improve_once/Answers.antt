@@ -1,4 +1,4 @@
-use Rattle.std.proofs.Common.{◌≡◌, ◌+◌, Bool, List, Option, Some, ℤ, sym, ap, ◌∙◌, subst, Ok}
+use Rattle.std.proofs.Common.{◌≡◌, ◌+◌, Option, Some, ℤ, sym, ap, ◌∙◌, subst, Ok}
 use Rattle.std.specs.Prelude.{IfSome}
 use Rattle.order_ints.specs.declared.atom.Atom.{Atom}
 use Rattle.order_ints.specs.declared.cnf.Cnf.{Cnf}

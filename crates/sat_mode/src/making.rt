@@ -7,11 +7,11 @@ ghost use Rattle.text_modes.specs.Ends.{IsMade};
 ghost use Rattle.sat_front.specs.HeldCnfs.{longest_text, HasFault};
 ghost use Rattle.sat_mode.specs.Found.{Tells, IsSolved};
 
-use search_options::SearchOptions;
 use crate::writing::{write_refutation, write_unknown, write_values};
 use learning_solver::{Found, Solver};
 use order_ints::Cnf;
 use sat_front::{CnfFault, CnfTextFault, read_cnf};
+use search_options::SearchOptions;
 use search_watcher::Watcher;
 use std::alloc::{AllocError, Global};
 use text_modes::{Made, Outcome};

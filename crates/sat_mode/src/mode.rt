@@ -4,9 +4,9 @@ ghost use Rattle.text_modes.specs.Seen.{seen, shelf_shown, sink_shown};
 ghost use Rattle.sat_mode.specs.SatMode.{SatMode};
 
 use crate::making::solve_text;
-use search_options::SearchOptions;
 use bee_outside::{Shelf, Sink};
 use sat_front::{CnfTextFault, LONGEST_TEXT};
+use search_options::SearchOptions;
 use search_watcher::{Silent, Watcher};
 use std::alloc::{AllocError, Global};
 use std::cell::RefCell;

@@ -3,8 +3,8 @@
 ghost use Rattle.std.specs.Prelude.{◌≡◌, codes, option_map};
 ghost use Rattle.clap.specs.Words.{first_value, found_of};
 ghost use Rattle.command_words.specs.Request.{is_word, options_of, lone_input, both_inputs, queens_size, request_of};
-ghost use Rattle.command_words.specs.Request.{reading_requested, searching_requested, queens_requested};
-ghost use Rattle.command_words.specs.Request.{checking_requested, idle_requested, mode_requested, requested};
+ghost use Rattle.command_words.specs.Request.{reading_requested, searching_requested, series_requested, queens_requested};
+ghost use Rattle.command_words.specs.Request.{checking_requested, untold_requested, mode_requested, requested};
 
 use crate::command::{Command, Options};
 use crate::numbers::{budget, size};
@@ -80,7 +80,7 @@ fn reading_command<'a>(mode: Option<&str>, matches: &ArgMatches<'a>) -> Option<C
     }
 }
 
-/// The command of a mode that reads one text and searches.
+/// The command of a mode that reads one text and makes one search.
 fn searching_command<'a>(
     mode: Option<&str>,
     matches: &ArgMatches<'a>,
@@ -96,7 +96,22 @@ fn searching_command<'a>(
         Some(Command::Sat { input, options })
     } else if is_word("opb", mode) {
         Some(Command::Opb { input, options })
-    } else if is_word("all", mode) {
+    } else {
+        None
+    }
+}
+
+/// The command of a mode that reads one text and makes many searches.
+fn series_command<'a>(
+    mode: Option<&str>,
+    matches: &ArgMatches<'a>,
+    options: Options,
+) -> Option<Command<'a>>
+    ensures { option_map request_of result
+        ≡ series_requested (option_map (λ s. s.now) mode.entry) (first_value (found_of matches.now)) options }
+{
+    let input = lone_input(matches)?;
+    if is_word("all", mode) {
         Some(Command::All { input, options })
     } else if is_word("core", mode) {
         Some(Command::Core { input, options })
@@ -145,18 +160,25 @@ fn checking_command<'a>(mode: Option<&str>, matches: &ArgMatches<'a>) -> Option<
     }
 }
 
-/// The command of a mode that makes no search.
-fn idle_command<'a>(mode: Option<&str>, matches: &ArgMatches<'a>) -> Option<Command<'a>>
+/// The command of a mode that makes no search, or many.
+fn untold_command<'a>(
+    mode: Option<&str>,
+    matches: &ArgMatches<'a>,
+    options: Options,
+) -> Option<Command<'a>>
     ensures { option_map request_of result
-        ≡ idle_requested (option_map (λ s. s.now) mode.entry) (first_value (found_of matches.now)) }
+        ≡ untold_requested (option_map (λ s. s.now) mode.entry) (first_value (found_of matches.now)) options }
 {
     if let Some(command) = checking_command(mode, matches) {
         return Some(command);
     }
-    reading_command(mode, matches)
+    if let Some(command) = reading_command(mode, matches) {
+        return Some(command);
+    }
+    series_command(mode, matches, options)
 }
 
-/// The command of a mode. The progress of a search stands with a mode that makes one alone.
+/// The command of a mode. That the progress is told stands with a mode that makes one search alone.
 fn mode_command<'a>(matches: &ArgMatches<'a>, options: Options) -> Option<Command<'a>>
     ensures { option_map request_of result
         ≡ mode_requested (first_value (found_of matches.now) (codes "mode")) (first_value (found_of matches.now))
@@ -172,7 +194,7 @@ fn mode_command<'a>(matches: &ArgMatches<'a>, options: Options) -> Option<Comman
     if options.progress {
         return None;
     }
-    idle_command(mode, matches)
+    untold_command(mode, matches, options)
 }
 
 /// The command.

@@ -5,7 +5,7 @@
 //! callers see is a command with its names as texts. A budget or a size outside its limits makes no
 //! command, so that a mode never gets one. A mode that is not built is no command either.
 //!
-//! What it promises: `read_command` gives exactly the command that the words ask for, one of ten
+//! What it promises: `read_command` gives exactly the command that the words ask for, one of its
 //! modes with its names or its number and with its options, or none where clap does not take the
 //! words, they are no command, or a number is outside its limits (its one clause, over clap's own
 //! definitions of what it takes and finds). `limits_law`: the budget and the size of each command

@@ -148,8 +148,20 @@ static OPTIONS: [Given; 10] = [
     ("bee solve --no-restart m.bee", USUAL, false, false, None),
     ("bee solve --progress m.bee", USUAL, true, true, None),
     ("bee sat m.cnf", USUAL, true, false, None),
-    ("bee sat --no-restart m.cnf --budget=9", 9, false, false, None),
-    ("bee opb f.opb --progress --no-restart", USUAL, false, true, None),
+    (
+        "bee sat --no-restart m.cnf --budget=9",
+        9,
+        false,
+        false,
+        None,
+    ),
+    (
+        "bee opb f.opb --progress --no-restart",
+        USUAL,
+        false,
+        true,
+        None,
+    ),
     ("bee queens 4", USUAL, true, false, Some(4)),
     ("bee --progress queens 5", USUAL, true, true, Some(5)),
     (
@@ -164,7 +176,10 @@ static OPTIONS: [Given; 10] = [
 /// Asserts that a command has the options of a row.
 fn has_options(rt: &impl Abort, command: &Command<'_>, row: &Given) {
     let (line, budget, restart, progress, size) = *row;
-    assert!(rt; options_of(command) == Some((budget, restart, progress)), "{line}");
+    assert!(rt;
+        options_of(command) == Some((budget, restart, progress)),
+        "{line}"
+    );
     assert!(rt; size_of(command) == size, "{line}");
 }
 

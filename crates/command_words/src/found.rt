@@ -66,7 +66,10 @@ fn queens_size(matches: &ArgMatches<'_>) -> Option<u64>
 fn has_search(mode: Option<&str>) -> bool
     ensures { result ≡ has_search (option_map (λ s. s.now) mode.entry) }
 {
-    is_word("solve", mode) || is_word("queens", mode) || is_word("sat", mode) || is_word("opb", mode)
+    is_word("solve", mode)
+        || is_word("queens", mode)
+        || is_word("sat", mode)
+        || is_word("opb", mode)
 }
 
 /// The command.

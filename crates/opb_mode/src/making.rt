@@ -10,10 +10,10 @@ ghost use Rattle.decode_minimize.specs.Heard.{HearsAll};
 ghost use Rattle.opb_mode.specs.OpbMode.{AnswersFile};
 
 use decode_minimize::SolutionWatcher;
-use search_options::SearchOptions;
 use model_texts::{LONGEST_TEXT, ModelFault, ModelTextFault, lower_fault};
 use opb_front::{Opb, OpbFault, read_opb};
 use opb_model::{model_text, opb_model};
+use search_options::SearchOptions;
 use search_watcher::Silent;
 use solve_mode::write_answer;
 use std::alloc::{AllocError, Global};

@@ -7,9 +7,9 @@ ghost use Rattle.queens_mode.specs.QueensMode.{IsPlaced};
 
 use crate::summary::write_summary;
 use decode_minimize::SolutionWatcher;
-use search_options::SearchOptions;
 use model_lower::LowerFault;
 use queens_model::queens;
+use search_options::SearchOptions;
 use solve_mode::{answer_model, outcome_of};
 use std::alloc::{AllocError, Global};
 use text_modes::Outcome;

@@ -18,11 +18,11 @@ ghost use Rattle.solve_mode.specs.Solved.{outcome_of};
 
 use answer_document::Verdict;
 use decode_minimize::{AnsweredModel, SolutionWatcher, answer_owned_watched};
-use search_options::SearchOptions;
 use model_lower::LowerFault;
 use model_meaning::Model;
 use rule_base::Steps;
 use rule_oracle::TableP;
+use search_options::SearchOptions;
 use std::alloc::Global;
 use std::marker::Brand;
 use std::sync::ledger::{Blank, Ledger};

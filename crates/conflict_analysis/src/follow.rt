@@ -11,13 +11,14 @@ ghost use Rattle.conflict_analysis.specs.Seeking.{AreOrdered};
 use crate::marks::Marks;
 use crate::meeting::resolve;
 use crate::reasons::Reasons;
+use smallvec::SmallVec;
 use std::alloc::AllocError;
 
 /// Resolves the variables of a list that are met, from its end, with their reasons. Each stands behind those that
 /// its reason needs, so what is met at last are the variables that stay.
 pub fn follow<T: Reasons>(
     marks: &mut Marks,
-    hints: &mut Vec<u64>,
+    hints: &mut SmallVec<u64, 16>,
     source: &T,
     minimiser: &Marks,
     order: &[u32],

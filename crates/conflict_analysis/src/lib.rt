@@ -8,6 +8,7 @@
 //! found once. The hints are the reasons, turned round, each where it is unit, and the conflict
 //! last. The glue is the number of levels (Audemard and Simon, 2009). Marks are kept from one
 //! analysis to the next and cleared by their list, so a refusal of memory leaves nothing to undo.
+//! The hints stand inline until a list has more than 16, which was measured to cost next to nothing.
 //!
 //! What it promises of `analyse` of a `Walker`: the clause follows from the conflict and the
 //! reasons that the hints name (`IsLearned`, which speaks of no walk), its first literal is false

@@ -8,6 +8,7 @@ ghost use Rattle.conflict_analysis.specs.Walking.{met_by, met_one, counts, count
 
 use crate::marks::{Mark, Marks};
 use crate::reasons::{Reasons, level_at};
+use smallvec::SmallVec;
 use std::alloc::AllocError;
 
 /// Marks a variable that has no mark as met, and tells whether it is one of the level. The variable `over`
@@ -62,7 +63,7 @@ pub fn meet<T: Reasons>(
 /// met. It tells how many of these are of the level.
 pub fn resolve<T: Reasons>(
     marks: &mut Marks,
-    hints: &mut Vec<u64>,
+    hints: &mut SmallVec<u64, 16>,
     source: &T,
     var: u32,
     level: u32,

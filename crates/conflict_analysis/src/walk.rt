@@ -15,6 +15,7 @@ use crate::marks::{Mark, Marks};
 use crate::meeting::{meet, resolve};
 use crate::reasons::Reasons;
 use order_ints::Lit;
+use smallvec::SmallVec;
 use std::alloc::AllocError;
 
 /// Walks down the trail from a conflict, and gives the literal of the current level that is left. What is
@@ -22,7 +23,7 @@ use std::alloc::AllocError;
 /// in the order of the walk.
 pub fn walk<T: Reasons>(
     marks: &mut Marks,
-    hints: &mut Vec<u64>,
+    hints: &mut SmallVec<u64, 16>,
     source: &T,
     conflict: u32,
     level: u32,

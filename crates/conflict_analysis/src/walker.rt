@@ -17,16 +17,17 @@ use crate::collect::{collect, count_levels};
 use crate::reasons::Reasons;
 use crate::work::Work;
 use order_ints::Lit;
+use smallvec::SmallVec;
 use std::alloc::{AllocError, Global};
 use std::marker::Model;
 
 /// What analyses use, kept from one to the next: some ten bytes for each variable. It shows what the last one
 /// found.
-#[derive(Debug, Drop)]
+#[derive(Debug)]
 pub struct Walker {
     work: Work,
     lits: Vec<Lit>,
-    hints: Vec<u64>,
+    hints: SmallVec<u64, 16>,
     seen: Vec<u32>,
     jump: u32,
     glue: u32,
@@ -51,6 +52,21 @@ impl Model for Walker {
     ghost invariant = { λ w. IsWork w.work };
 }
 
+/// By hand, so that a function in which a walker falls out of use need not tell how its hints are kept.
+impl Drop for Walker {
+    fn drop(self) {
+        let Walker {
+            work,
+            lits,
+            hints,
+            seen,
+            jump,
+            glue,
+        } = self;
+        drop((work, lits, hints, seen, jump, glue));
+    }
+}
+
 impl Walker {
     /// Room for the variables 1 to `vars`.
     pub fn with(alloc: Global, vars: u32) -> Result<Walker, AllocError>
@@ -60,7 +76,7 @@ impl Walker {
         Ok(Walker {
             work,
             lits: Vec::new(alloc),
-            hints: Vec::new(alloc),
+            hints: SmallVec::new(alloc),
             seen: Vec::new(alloc),
             jump: 0,
             glue: 0,

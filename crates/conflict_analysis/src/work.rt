@@ -22,6 +22,7 @@ use crate::minimiser::Minimiser;
 use crate::reasons::Reasons;
 use crate::walk::walk;
 use order_ints::Lit;
+use smallvec::SmallVec;
 use std::alloc::{AllocError, Global};
 
 /// What is marked in an analysis.
@@ -36,7 +37,7 @@ pub struct Work {
 }
 
 /// Turns the hints round.
-fn turn(hints: &mut Vec<u64>)
+fn turn(hints: &mut SmallVec<u64, 16>)
     ensures { hints.new.items ≡ reverse hints.old.items }
 {
     hints.as_mut_slice().reverse();
@@ -75,7 +76,7 @@ impl Work {
     /// Resolves what those that stay imply, and puts the hints into their order.
     fn resolve_implied<T: Reasons>(
         &mut self,
-        hints: &mut Vec<u64>,
+        hints: &mut SmallVec<u64, 16>,
         source: &T,
     ) -> Result<(), AllocError>
         requires trail { IsTrail (T.trail source.now) }
@@ -111,7 +112,7 @@ impl Work {
     /// met. `seen` is what the walk met.
     pub fn learn<T: Reasons>(
         &mut self,
-        hints: &mut Vec<u64>,
+        hints: &mut SmallVec<u64, 16>,
         seen: &mut Vec<u32>,
         source: &T,
         conflict: u32,
@@ -145,7 +146,7 @@ impl Work {
     /// Resolves all that a clause needs at level 0, but the variable `over`, which may be 0 for none.
     pub fn derive<T: Reasons>(
         &mut self,
-        hints: &mut Vec<u64>,
+        hints: &mut SmallVec<u64, 16>,
         source: &T,
         conflict: u32,
         over: u32,

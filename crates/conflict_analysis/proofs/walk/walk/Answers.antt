@@ -18,7 +18,7 @@ pub loop-ahead-init : goal.loop-ahead-init
 loop-ahead-init g c = record {
   walking = step-start (g.T.Reasons.trail c.args.source.now) c.requires.trail (g.T.Reasons.named c.args.source.now) (g.T.Reasons.lives c.args.source.now) c.requires.reasons
       (g.T.Reasons.named c.args.source.now c.args.conflict) c.args.marks.now.cells c.meet.new.marks.cells c.push.new.self.items c.in_ok-ahead.ahead c.len-place.result
-      c.requires.blank c.requires.conflict c.in_ok-ahead.ensures.marks (c.in_ok-push.ensures.items ∙ ap (λ (xs : List ℕ). xs ++ c.id.result ∷ []) c.requires.hints ∙ ap (λ (n : ℕ). n ∷ []) c.id.ensures) (c.in_ok-ahead.ensures.count ∙ ap (λ (n : ℕ). counts (g.T.Reasons.trail c.args.source.now).entries n c.args.marks.now.cells 0 (g.T.Reasons.named c.args.source.now c.args.conflict).lits) c.requires.level) c.len-place.ensures;
+      c.requires.blank c.requires.conflict c.in_ok-ahead.ensures.marks (c.in_ok-push.ensures.ok ∙ ap (λ (xs : List ℕ). xs ++ c.id.result ∷ []) c.requires.hints ∙ ap (λ (n : ℕ). n ∷ []) c.id.ensures) (c.in_ok-ahead.ensures.count ∙ ap (λ (n : ℕ). counts (g.T.Reasons.trail c.args.source.now).entries n c.args.marks.now.cells 0 (g.T.Reasons.named c.args.source.now c.args.conflict).lits) c.requires.level) c.len-place.ensures;
   size = c.meet.ensures.size;
 }
 

@@ -18,6 +18,7 @@ const TOLD_EACH: u64 = 10_000;
 
 /// A watcher over a sink. Each block is made whole in memory, and then written and flushed; where memory is wanting for
 /// one, or the sink fails, it is silent from then on, and nothing else comes of that.
+#[derive(Drop)]
 pub(crate) struct Progress<'a, E> {
     alloc: Global,
     err: &'a mut E,

@@ -10,6 +10,7 @@ use std::fmt::Display;
 use step_kernel::StepFault;
 
 /// Where each mode that refuses a line of a second text puts what stands against it.
+#[derive(Drop)]
 pub(crate) struct Reasons {
     /// For a line of an answer.
     pub(crate) answer: Cell<Option<Why>>,

@@ -1,5 +1,5 @@
 -- The numbers of a command that the words ask for are in their limits.
-use Rattle.std.proofs.Common.{arith, ◌≡◌, ℕ, ◌≤◌, Bool, true, false, List, refl, subst, Option, Some, None}
+use Rattle.std.proofs.Common.{arith, ◌≡◌, ℕ, ◌≤◌, ◌<◌, ◌^◌, Bool, true, false, List, refl, subst, Option, Some, None}
 use Rattle.std.specs.Prelude.{◌&&◌, nat_le, codes, not, option_map, option_and_then, if◌then◌else◌}
 use Rattle.std.proofs.lemmas.Bool.{and_parts}
 use Rattle.std.proofs.lemmas.Bool.Decides.{nat_tests}
@@ -7,10 +7,10 @@ use Rattle.clap.specs.Words.{Text}
 use Rattle.command_words.specs.declared.command.Options.{Options}
 use Rattle.command_words.specs.Numeral.{is_numeral, is_within, read_on, number_within}
 use Rattle.command_words.specs.Request.{Request, Compile, Weigh, Solve, Check, Decode, Queens, Sat, Drup, OpbModel, Opb}
-use Rattle.command_words.specs.Request.{All, CheckAll, Core, CheckCore, Certify}
+use Rattle.command_words.specs.Request.{All, CheckAll, Core, CheckCore, Bound, Certify}
 use Rattle.command_words.specs.Request.{is_word, budget_of, size_of, options_with, options_of, lone_input, both_inputs, queens_size}
 use Rattle.command_words.specs.Request.{reading_of, reading_requested, searching_of, searching_requested, queens_requested}
-use Rattle.command_words.specs.Request.{checking_of, checking_requested, or_else, series_of, series_requested, untold_requested, mode_requested, requested}
+use Rattle.command_words.specs.Request.{checking_of, checking_requested, bound_of, bound_requested, or_else, series_of, series_requested, untold_requested, mode_requested, requested}
 use Rattle.command_words.specs.Line.{is_taken, value_of}
 use Rattle.command_words.specs.Limits.{IsBudget, KeepsLimits, RequestsKeepLimits}
 
@@ -117,11 +117,23 @@ module _ (value : Text → Option Text) (o : Options) (given : IsBudget o.search
   either (Some it) other p q e = p e
   either None other p q e = q e
 
+  bounded : (n : Option ℕ) (word : Text) (input : Text) → bound_of word ≡ n → option_map (Bound input) n ≡ Some asked → KeepsLimits asked
+  bounded (Some n) word input is e =
+      let same : Bound input n ≡ asked = cc in
+      let small : n < 2 ^ 63 = omega (arith, (number 0 9223372036854775807 word n is).1) in
+      subst KeepsLimits same small
+  bounded None word input is e = absurd (let c = e in cc)
+
+  bounding : (t : Bool) → (if t then option_and_then (λ names. option_map (Bound names.0) (bound_of names.1)) (both_inputs value) else None) ≡ Some asked → KeepsLimits asked
+  bounding true e = given_value (λ names. option_map (Bound names.0) (bound_of names.1)) (λ names. bounded (bound_of names.1) names.1 names.0 refl) (both_inputs value) e
+  bounding false e = absurd (let c = e in cc)
+
   untold : (word : Option Text) → untold_requested word value o ≡ Some asked → KeepsLimits asked
   untold word =
       either (checking_requested word value) _ (given_value (checking_of word) (checking word) (both_inputs value))
-      (either (reading_requested word value) (series_requested word value o) (given_value (reading_of word) (reading word) (lone_input value))
-      (given_value (series_of word o) (series word) (lone_input value)))
+      (either (reading_requested word value) _ (given_value (reading_of word) (reading word) (lone_input value))
+      (either (series_requested word value o) (bound_requested word value) (given_value (series_of word o) (series word) (lone_input value))
+      (bounding (is_word (codes "bound") word))))
 
   silent : (word : Option Text) (t : Bool) → (if t then None else untold_requested word value o) ≡ Some asked → KeepsLimits asked
   silent word true e = absurd (let c = e in cc)

@@ -2,7 +2,7 @@
 use Rattle.std.specs.Prelude.{◌≡◌, ℕ, ◌≤◌, ◌<◌, ◌^◌, List, Some}
 use Rattle.clap.specs.Words.{Text}
 use Rattle.command_words.specs.Request.{Request, Compile, Weigh, Solve, Check, Decode, Queens, Sat, Drup, OpbModel, Opb}
-use Rattle.command_words.specs.Request.{All, CheckAll, Core, CheckCore, Certify}
+use Rattle.command_words.specs.Request.{All, CheckAll, Core, CheckCore, Bound, Certify}
 use Rattle.command_words.specs.Line.{request}
 
 -- a budget is from 1 and below 2 ^ 63
@@ -25,6 +25,7 @@ KeepsLimits (All input options) = IsBudget options.search.budget
 KeepsLimits (CheckAll input second) = Unit {0}
 KeepsLimits (Core input options) = IsBudget options.search.budget
 KeepsLimits (CheckCore input second) = Unit {0}
+KeepsLimits (Bound input number) = number < 2 ^ 63
 KeepsLimits (Certify input second) = Unit {0}
 
 -- the words ask for no other command

@@ -24,6 +24,7 @@ pub data Request : Type 0 where
   CheckAll : (input second : Text) → Request
   Core : (input : Text) (options : Options) → Request
   CheckCore : (input second : Text) → Request
+  Bound : (input : Text) (number : ℕ) → Request
   Certify : (input second : Text) → Request
 
 abbrev pub request_of : Command → Request
@@ -41,6 +42,7 @@ request_of (command.All input options) = All input.now options
 request_of (command.CheckAll input second) = CheckAll input.now second.now
 request_of (command.Core input options) = Core input.now options
 request_of (command.CheckCore input second) = CheckCore input.now second.now
+request_of (command.Bound input number) = Bound input.now number
 request_of (command.Certify input second) = Certify input.now second.now
 
 -- a word stands and is this one
@@ -55,6 +57,10 @@ budget_of (Some word) = number_within 1 9223372036854775807 word
 -- the size of a board that a word says, from 4 to 24
 abbrev pub size_of : Text → Option ℕ
 size_of word = number_within 4 24 word
+
+-- the number that a word says, below 2 ^ 63
+abbrev pub bound_of : Text → Option ℕ
+bound_of word = number_within 0 9223372036854775807 word
 
 -- a flag that is given has the value `true`
 abbrev pub is_given : (Text → Option Text) → Text → Bool
@@ -135,6 +141,13 @@ checking_of mode names =
 abbrev pub checking_requested : Option Text → (Text → Option Text) → Option Request
 checking_requested mode value = option_and_then (checking_of mode) (both_inputs value)
 
+-- what the mode asks for that bounds an objective: a text's name and a number
+abbrev pub bound_requested : Option Text → (Text → Option Text) → Option Request
+bound_requested mode value =
+    if is_word (codes "bound") mode
+    then option_and_then (λ names. option_map (Bound names.0) (bound_of names.1)) (both_inputs value)
+    else None
+
 -- the first request, if there is one, and else the other
 abbrev pub or_else : Option Request → Option Request → Option Request
 or_else (Some asked) other = Some asked
@@ -144,7 +157,8 @@ or_else None other = other
 abbrev pub untold_requested : Option Text → (Text → Option Text) → Options → Option Request
 untold_requested mode value options =
     or_else (checking_requested mode value)
-    (or_else (reading_requested mode value) (series_requested mode value options))
+    (or_else (reading_requested mode value)
+    (or_else (series_requested mode value options) (bound_requested mode value)))
 
 -- what a mode asks for, with these options; the progress of one search alone can be asked for
 abbrev pub mode_requested : Option Text → (Text → Option Text) → Options → Option Request

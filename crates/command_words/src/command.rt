@@ -107,6 +107,13 @@ pub enum Command<'a> {
         /// The name of the part's text.
         second: &'a str,
     },
+    /// The model is compiled, with the clause that its objective is better than a number.
+    Bound {
+        /// The name of the model's text.
+        input: &'a str,
+        /// The number; below 2^63.
+        number: u64,
+    },
     /// What another solver found about the model's clauses becomes an answer.
     Certify {
         /// The name of the model's text.

@@ -4,10 +4,10 @@ ghost use Rattle.std.specs.Prelude.{◌≡◌, codes, option_map};
 ghost use Rattle.clap.specs.Words.{first_value, found_of};
 ghost use Rattle.command_words.specs.Request.{is_word, options_of, lone_input, both_inputs, queens_size, request_of};
 ghost use Rattle.command_words.specs.Request.{reading_requested, searching_requested, series_requested, queens_requested};
-ghost use Rattle.command_words.specs.Request.{checking_requested, untold_requested, mode_requested, requested};
+ghost use Rattle.command_words.specs.Request.{checking_requested, bound_requested, untold_requested, mode_requested, requested};
 
 use crate::command::{Command, Options};
-use crate::numbers::{budget, size};
+use crate::numbers::{bound, budget, size};
 use clap::ArgMatches;
 use search_options::SearchOptions;
 
@@ -160,6 +160,20 @@ fn checking_command<'a>(mode: Option<&str>, matches: &ArgMatches<'a>) -> Option<
     }
 }
 
+/// The command that bounds an objective.
+fn bound_command<'a>(mode: Option<&str>, matches: &ArgMatches<'a>) -> Option<Command<'a>>
+    ensures { option_map request_of result
+        ≡ bound_requested (option_map (λ s. s.now) mode.entry) (first_value (found_of matches.now)) }
+{
+    if is_word("bound", mode) {
+        let (input, word) = both_inputs(matches)?;
+        let number = bound(word)?;
+        Some(Command::Bound { input, number })
+    } else {
+        None
+    }
+}
+
 /// The command of a mode that makes no search, or many.
 fn untold_command<'a>(
     mode: Option<&str>,
@@ -175,7 +189,10 @@ fn untold_command<'a>(
     if let Some(command) = reading_command(mode, matches) {
         return Some(command);
     }
-    series_command(mode, matches, options)
+    if let Some(command) = series_command(mode, matches, options) {
+        return Some(command);
+    }
+    bound_command(mode, matches)
 }
 
 /// The command of a mode. That the progress is told stands with a mode that makes one search alone.

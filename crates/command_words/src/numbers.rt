@@ -2,13 +2,13 @@
 
 ghost use Rattle.std.specs.Prelude.{◌≡◌, option_map};
 ghost use Rattle.command_words.specs.Numeral.{number_within};
-ghost use Rattle.command_words.specs.Request.{budget_of, size_of};
+ghost use Rattle.command_words.specs.Request.{budget_of, size_of, bound_of};
 
 /// The budget where none is given.
 const USUAL_BUDGET: u64 = 1_000_000;
 
-/// The greatest budget.
-const GREATEST_BUDGET: u64 = 9_223_372_036_854_775_807;
+/// The greatest budget, and the greatest number.
+const GREATEST_NUMBER: u64 = 9_223_372_036_854_775_807;
 
 /// The number that a word says in digits, where it is in the limits; leading zeros are allowed, and a sign
 /// is not.
@@ -34,7 +34,7 @@ pub fn budget(word: Option<&str>) -> Option<u64>
     ensures { result ≡ budget_of (option_map (λ s. s.now) word.entry) }
 {
     match word {
-        Some(text) => number_within(1, GREATEST_BUDGET, text),
+        Some(text) => number_within(1, GREATEST_NUMBER, text),
         None => Some(USUAL_BUDGET),
     }
 }
@@ -44,4 +44,11 @@ pub fn size(word: &str) -> Option<u64>
     ensures { result ≡ size_of word.now }
 {
     number_within(4, 24, word)
+}
+
+/// The number that a word says, where it fits 63 bits.
+pub fn bound(word: &str) -> Option<u64>
+    ensures { result ≡ bound_of word.now }
+{
+    number_within(0, GREATEST_NUMBER, word)
 }

@@ -23,6 +23,8 @@ mod decode;
 #[cfg(test)]
 mod drup;
 #[cfg(test)]
+mod lists_and_cores;
+#[cfg(test)]
 mod opb;
 #[cfg(test)]
 mod progress;

@@ -13,7 +13,7 @@ const PAIR: &str = "new_bool(a) new_bool(b) bool_array_or([a,b]) solve satisfy\n
 const BOTH: &str = "new_bool(a) bool_array_or([a]) bool_array_or([-a]) solve satisfy\n";
 
 /// Two objectives.
-const TWO: &str = "new_int(x,0,2) new_int(y,0,2) solve minimize x minimize y\n";
+const TWO: &str = "new_int(x,0,2) new_int(y,0,2) solve minimize x then y\n";
 
 /// All solutions of the pair.
 const LIST: &str =

@@ -82,10 +82,23 @@ class Bases:
         return [(cnf, path, proof) for _, cnf, path, _, proof in self.solved() if proof is not None]
 
     def found(self):
-        for text, _, _, told, proof in self.solved():
-            if proof is None and "satisfy" not in text:
-                continue
-            yield text, self.path(text.encode()), told if proof is None else proof
+        """Values alone, a refutation alone, and of one objective the values of `bee solve` and a refutation of better ones."""
+        for text, cnf, _, told, proof in self.solved():
+            if "then" not in text and "minimize" not in text and "maximize" not in text:
+                yield (text, cnf), self.path(text.encode()), told if proof is None else proof
+            elif "then" not in text:
+                yield (text, cnf), self.path(text.encode()), self.best(text, cnf, told)
+
+    def best(self, text, cnf, told):
+        """Values that are best, and the refutation of better ones."""
+        model, compiled, path = model_of(text), Compiled(cnf), self.path(text.encode())
+        while True:
+            value = compiled.names[model.objectives[0]].value(values(compiled, told))
+            asked, proof = self.path(self.run("bound", path, str(value))), f"{self.folder}/proof"
+            ran = subprocess.run(["cadical", "-q", "--plain", "--no-binary", asked, proof], capture_output=True, check=False)
+            if ran.returncode == 20:
+                return told + open(proof, "rb").read()
+            told = ran.stdout
 
 
 def said(reading):
@@ -104,9 +117,12 @@ class Kept:
         self.kind = kind
         if kind in ("values", "drup"):
             self.compiled = Compiled(source)
-        else:
-            self.model = model_of(source)
-            self.compilation = Compilation(self.model)
+            return
+        if kind == "found":
+            source, compiled = source
+            self.compiled = Compiled(compiled)
+        self.model = model_of(source)
+        self.compilation = Compilation(self.model)
 
     def said(self, text):
         return said(lambda: getattr(self, self.kind)(text))
@@ -127,7 +143,15 @@ class Kept:
         drup(self.compiled.vars, self.compiled.clauses, text)
 
     def found(self, text):
-        return found(self.model, self.compilation, text)
+        return "ACCEPTED " + found(self.model, self.compiled, text)
+
+    def told(self, ran):
+        """What the program said: the document of `certify` by its verdict, as the reading has it."""
+        if ran.returncode == 0 and self.kind == "found":
+            return self.answer(ran.stdout)
+        if ran.returncode == 0 and self.kind == "values":
+            return "ACCEPTED"
+        return ran.stdout.decode().split("\n")[0]
 
 
 MODES = {"answer": "check", "list": "checkall", "core": "checkcore", "values": "decode", "drup": "drup", "found": "certify"}
@@ -145,9 +169,7 @@ def compared(job):
             second.write(text)
             second.flush()
             ran = subprocess.run([program, MODES[kind], path, second.name], capture_output=True, timeout=600, check=False)
-            told = ran.stdout.decode().split("\n")[0]
-            if kind in ("values", "found") and ran.returncode == 0:
-                told = "ACCEPTED"
+            told = kept.told(ran)
             if told != wanted or ran.returncode != wanted.startswith("REFUSED"):
                 return counts, f"{kind}, of {source!r}: {text!r}: {told!r} with {ran.returncode}, wanted {wanted!r}"
             counts[wanted.startswith("REFUSED")] += 1

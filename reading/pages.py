@@ -9,7 +9,7 @@ What is run, in the order of a page and in one folder:
   a fence with a goal, by `bee solve` and `bee check`
   a fence in Python, as a script
 What is compared:
-  `prints X` in the text before or behind a block: the last line that the block printed
+  `prints X` in the text behind a block: the first line that the block printed, or the last one
   a fence behind a block of commands: all that it printed
   a fence's last comment: its verdict, and its values where they have no choice
   exit codes: 0; also 8 where a budget is named, and 10, 20 and 30 of other solvers, 1 of grep
@@ -80,12 +80,10 @@ class Page:
             if line.startswith("usage:") or (code and not allowed) or "command not found" in line or "No such file" in line:
                 self.fault(f"{line} in\n{script}")
 
-    def compare_last(self, said):
-        """The last line that was printed is what the page says."""
-        if self.printed is None:
-            return
+    def compare_line(self, said):
+        """The first line that was printed is what the page says, or the last one."""
         lines = self.printed.splitlines() or [""]
-        if lines[-1] != said:
+        if said not in (lines[0], lines[-1]):
             self.fault(f"printed {lines[-1]!r}, and the page says {said!r}")
 
     def compare_all(self, said):
@@ -126,7 +124,7 @@ class Page:
             text = source.read()
         for script in BEFORE.get(self.name, []):
             self.run(script)
-        before, kind_before, said_before = "", "", None
+        before, kind_before = "", ""
         for kind, language, content in parts(text):
             file = re.search(r"`([\w.]+\.\w+)`[:,]?\s*$", before)
             commands = kind == "block" and self.is_command(content) and not re.search(OWN, content)
@@ -134,10 +132,8 @@ class Page:
                 if kind_before == "block":
                     told = re.search(r"^.{0,200}?\bprints? `([^`]+)`", content.strip().split("\n\n")[0], re.S)
                     if told and self.printed is not None:
-                        self.compare_last(told[1])
+                        self.compare_line(told[1])
                 self.inline(content)
-                last = re.findall(r"prints `([^`]+)`", content)
-                said_before = last[-1] if last and content.rstrip().endswith((":", ",")) else None
             elif file and not commands and kind in ("fence", "block") and language == "":
                 self.write(file[1], content)
             elif commands:

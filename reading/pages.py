@@ -9,8 +9,8 @@ What is run, in the order of a page and in one folder:
   a fence with a goal, by `bee solve` and `bee check`
   a fence in Python, as a script
 What is compared:
-  `prints X` in the text behind a block: the first line that the block printed, or the last one
-  a fence behind a block of commands: all that it printed
+  `prints X` in the text before a block, or behind it: a line that the block printed; behind it the first one, or the last
+  a fence behind a block of commands: what it printed, or its end
   a fence's last comment: its verdict, and its values where they have no choice
   exit codes: 0; also 8 where a budget is named, and 10, 20 and 30 of other solvers, 1 of grep
 A command that isn't there is told and passed over. Wants python3 and git; the other solvers of the pages where they are to be run."""
@@ -86,8 +86,14 @@ class Page:
         if said not in (lines[0], lines[-1]):
             self.fault(f"printed {lines[-1]!r}, and the page says {said!r}")
 
+    def compare_announced(self, before):
+        """Each line that the text before a block says is printed is one of those that were, where the text leads to the block."""
+        for said in re.findall(r"\bprints `([^`]+)`", before.strip().split("\n\n")[-1]) if before.rstrip().endswith((":", ",")) else []:
+            if self.printed is not None and said not in self.printed.splitlines():
+                self.fault(f"printed {self.printed[:300]!r}, and the page says {said!r}")
+
     def compare_all(self, said):
-        if self.printed is not None and self.printed != said:
+        if self.printed is not None and not self.printed.endswith(said):
             self.fault(f"printed {self.printed!r}, and the page says {said!r}")
 
     def write(self, file, text):
@@ -129,7 +135,7 @@ class Page:
             file = re.search(r"`([\w.]+\.\w+)`[:,]?\s*$", before)
             commands = kind == "block" and self.is_command(content) and not re.search(OWN, content)
             if kind == "text":
-                if kind_before == "block":
+                if kind_before == "commands":
                     told = re.search(r"^.{0,200}?\bprints? `([^`]+)`", content.strip().split("\n\n")[0], re.S)
                     if told and self.printed is not None:
                         self.compare_line(told[1])
@@ -139,9 +145,10 @@ class Page:
             elif commands:
                 self.printed = None
                 self.run(content)
+                self.compare_announced(before)
             elif kind == "block" and before.rstrip().endswith("prints"):
                 self.compare_all(content.rstrip("\n") + "\n")
-            elif kind == "fence" and kind_before == "block" and self.printed is not None:
+            elif kind == "fence" and kind_before == "commands" and self.printed is not None:
                 self.compare_all(content)
             elif kind == "fence" and language == "python":
                 self.write("page.py", content)
@@ -149,7 +156,7 @@ class Page:
             elif kind == "fence" and re.search(r"^solve ", content, re.M):
                 self.solve(content)
             before = content if kind == "text" else before if commands else ""
-            kind_before = "block" if commands else kind
+            kind_before = "commands" if commands else kind
         print(f"{self.name}: {self.count} scripts were run, {self.faults} faults" + (f"; not there: {', '.join(sorted(self.missing))}" if self.missing else ""), flush=True)
         return self.faults
 

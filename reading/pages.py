@@ -71,7 +71,7 @@ class Page:
             return
         trap = "trap 'echo \"code $? of $BASH_COMMAND\" >&2' ERR\nset -o errtrace\n"
         how = {**os.environ, "BEE": f"{self.folder}/crates/bee/out/bee"}
-        ran = subprocess.run(["bash", "-c", trap + script], cwd=self.folder, capture_output=True, text=True, env=how, timeout=1200)
+        ran = subprocess.run(["bash", "-c", trap + script], cwd=self.folder, stdin=subprocess.DEVNULL, capture_output=True, text=True, env=how, timeout=1200)
         self.count += 1
         self.printed = ran.stdout
         for line in ran.stderr.splitlines():
@@ -103,7 +103,7 @@ class Page:
     def solve(self, text):
         """A model of the page, by solve and check, beside what its last comment says."""
         self.write("page.bee", text)
-        self.run("./bee solve page.bee > page.answer\n./bee check page.bee page.answer")
+        self.run("bee=crates/bee/out/bee\n$bee solve page.bee > page.answer\n$bee check page.bee page.answer")
         said = (self.printed or "").strip()
         if not said.startswith("ACCEPTED"):
             self.fault(f"{said!r} of the answer to\n{text}")

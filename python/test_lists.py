@@ -71,7 +71,7 @@ class Lists(unittest.TestCase):
         self.assertFalse(listed)
 
     def test_spent_budget(self):
-        listed = pigeons(7, 8).all(budget=1, program=PROGRAM)
+        listed = pigeons(7, 6).all(budget=1, program=PROGRAM)
         self.assertEqual((listed.verdict, listed.count_of_clauses), ("PARTIAL", 1))
         self.assertFalse(listed.is_complete)
 
@@ -116,7 +116,7 @@ class Cores(unittest.TestCase):
         """At random: no assignment meets those that are named, and some are left out."""
         left_out = 0
         for at in range(30):
-            rng, model, tests = random.Random(at), Model(), []
+            rng, model = random.Random(at), Model()
             names = {it: model.int(it, 0, 3) for it in "wxyz"}
             for _ in range(12):
                 some = rng.sample([*names.values()], 2)

@@ -88,13 +88,13 @@ def compare_found(trial, path, text, changed="nothing"):
 
 
 def make(trial):
-    kinds = list(KINDS)
+    kinds, draws = list(KINDS), 0
     while True:
-        maker = Maker(trial.chance, kinds[trial.index % len(kinds)])
-        if len(maker.model.objectives) < 2:
+        maker, draws = Maker(trial.chance, kinds[trial.index % len(kinds)]), draws + 1
+        trial.known = set(maker.model.solutions())
+        if len(maker.model.objectives) < 2 and (trial.known or draws > 3):
             break
     trial.model, text = maker.model, maker.text()
-    trial.known = set(trial.model.solutions())
     path = trial.path("model", text.encode())
     _, trial.cnf = trial.run("compile", path)
     trial.compiled, trial.compilation = Compiled(trial.cnf), Compilation(trial.model)

@@ -55,7 +55,7 @@ class Bases:
         """What a mode writes of each model, with a large budget and with one clause."""
         for text in MODELS:
             path = self.path(text.encode())
-            for told in {self.run(mode, path), self.run(mode, path, "--budget", "1")}:
+            for told in dict.fromkeys((self.run(mode, path), self.run(mode, path, "--budget", "1"))):
                 yield text, path, told
 
     def answer(self):

@@ -1,6 +1,6 @@
 #!/usr/bin/env python3
-"""Makes answers of the refutations of another solver and prints what that took: certifying.py BEE [whole] [FAMILY[:SIZE,..] ..]; `certify.sh` says what is
-printed."""
+"""Makes answers of the refutations of another solver and prints what that took: certifying.py BEE [whole]
+[FAMILY[:SIZE,..] ..]; `certify.sh` says what is printed."""
 import os, re, subprocess, sys, tempfile
 
 from timing import Stopped, chosen, compiled, exponent, least, ratio, shown, written

@@ -1,5 +1,6 @@
 #!/usr/bin/env python3
-"""Lists the solutions of models and prints what that took: listing.py BEE [whole] [FAMILY[:SIZE,..] ..]; `all.sh` says what is printed."""
+"""Lists the solutions of models and prints what that took: listing.py BEE [whole] [FAMILY[:SIZE,..] ..]; `all.sh` says
+what is printed."""
 import os, re, shutil, subprocess, sys, tempfile
 
 from timing import Stopped, chosen, compact, compiled, exponent, least, ratio, shown, written

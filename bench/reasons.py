@@ -1,5 +1,6 @@
 #!/usr/bin/env python3
-"""Seeks the cores of models without solution and prints what that took: reasons.py BEE [whole] [FAMILY[:SIZE,..] ..]; `core.sh` says what is printed."""
+"""Seeks the cores of models without solution and prints what that took: reasons.py BEE [whole] [FAMILY[:SIZE,..] ..];
+`core.sh` says what is printed."""
 import os, random, re, shutil, sys, tempfile
 
 from timing import Stopped, chosen, compact, compiled, exponent, least, ratio, shown, written

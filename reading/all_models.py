@@ -1,9 +1,12 @@
 #!/usr/bin/env python3
-"""Tries `bee all` on small models, made at random from a seed: all_models.py [COUNT [SEED [PROCESSES [FIRST]]]], 500 models of seed 1 by three processes
-without words. Each model has a statement of a given kind, all kinds in turn. Compared are, with the solutions that trying all assignments finds:
-  all        the list, with a large budget and with one of 1 to 4: each solution once, all of them where it says ALL, and the budget where it says PARTIAL
-  checkall   each list, as it stands and with a byte, a line, a number and a line of its ledger changed: the verdict, or the line that is refused, by the
-             reading of `list_reading.py`; and each such list with a ledger of steps in any order
+"""Tries `bee all` on small models, made at random from a seed: all_models.py [COUNT [SEED [PROCESSES [FIRST]]]], 500
+models of seed 1 by three processes without words. Each model has a statement of a given kind, all kinds in turn.
+Compared are, with the solutions that trying all assignments finds:
+  all        the list, with a large budget and with one of 1 to 4: each solution once, all of them where it says ALL,
+             and the budget where it says PARTIAL
+  checkall   each list, as it stands and with a byte, a line, a number and a line of its ledger changed: the verdict,
+             or the line that is refused, by the reading of `list_reading.py`; and each such list with a ledger of
+             steps in any order
 BEE names another program that is tried. Wants python3."""
 from answer_reading import Refused
 from fuzz_changes import CHANGES, one_step, wandered

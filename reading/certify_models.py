@@ -1,11 +1,13 @@
 #!/usr/bin/env python3
-"""Tries `bee certify` on small models, made at random from a seed: certify_models.py [COUNT [SEED [PROCESSES [FIRST]]]], 500 models of seed 1 by three processes
-without words. Each model has a statement of a given kind, all kinds in turn, and one objective at most. cadical is asked for values of the clauses, and where
-something is sought for better ones, by `bee bound`, until it refutes that there are any. Compared are
+"""Tries `bee certify` on small models, made at random from a seed: certify_models.py [COUNT [SEED [PROCESSES
+[FIRST]]]], 500 models of seed 1 by three processes without words. Each model has a statement of a given kind, all
+kinds in turn, and one objective at most. cadical is asked for values of the clauses, and where something is sought for
+better ones, by `bee bound`, until it refutes that there are any. Compared are
   decode   the solution that the values tell: one of those that trying all assignments finds
   bound    the solutions of the clauses with "better than": those of the model with a better objective
-  certify  what cadical found, as it stands and with a byte, a line and a number changed: the verdict, or the line that is refused, by the reading of
-           `found_reading.py`; each document by that of `answer_reading.py` and by `bee check`, and its verdict beside all assignments
+  certify  what cadical found, as it stands and with a byte, a line and a number changed: the verdict, or the line that
+           is refused, by the reading of `found_reading.py`; each document by that of `answer_reading.py` and by `bee
+           check`, and its verdict beside all assignments
 BEE names another program that is tried. Wants python3 and cadical."""
 import re, subprocess
 

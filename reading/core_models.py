@@ -1,10 +1,13 @@
 #!/usr/bin/env python3
-"""Tries `bee core` on small models without a solution, made at random from a seed: core_models.py [COUNT [SEED [PROCESSES [FIRST]]]], 300 models of seed 1 by
-three processes without words; one in six is left with its solutions. Each model has a statement of a given kind, all kinds in turn. Compared are
-  core       the text, with a large budget and with one of 1 to 4: SATISFIABLE exactly where trying all assignments finds a solution; of the statements of a
-             CORE, that no assignment in the domains meets them, and that without any one of them some assignment does; the budget where it says UNKNOWN
-  checkcore  each text, as it stands and with a byte, a line and a number changed: the verdict, or the line that is refused, by the reading of
-             `core_text_reading.py`; and each such text of the same statements with a ledger of steps in any order
+"""Tries `bee core` on small models without a solution, made at random from a seed: core_models.py [COUNT [SEED
+[PROCESSES [FIRST]]]], 300 models of seed 1 by three processes without words; one in six is left with its solutions.
+Each model has a statement of a given kind, all kinds in turn. Compared are
+  core       the text, with a large budget and with one of 1 to 4: SATISFIABLE exactly where trying all assignments
+             finds a solution; of the statements of a CORE, that no assignment in the domains meets them, and that
+             without any one of them some assignment does; the budget where it says UNKNOWN
+  checkcore  each text, as it stands and with a byte, a line and a number changed: the verdict, or the line that is
+             refused, by the reading of `core_text_reading.py`; and each such text of the same statements with a ledger
+             of steps in any order
 BEE names another program that is tried. Wants python3."""
 import itertools
 

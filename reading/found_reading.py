@@ -1,4 +1,5 @@
-"""Reads what another solver found about the clauses of a model, for `bee certify`, as `docs/FORMATS.md` has it, with code of its own."""
+"""Reads what another solver found about the clauses of a model, for `bee certify`, as `docs/FORMATS.md` has it, with
+code of its own."""
 from answer_reading import Refused, values
 from drup_reading import drup, words_of
 from integers import opposite

@@ -1,7 +1,8 @@
 #!/usr/bin/env python3
-"""Cuts and changes texts that the program reads behind a model or clauses: hostile.py [CHANGES [SEED [PROCESSES [KIND ..]]]], 10,000 changes of the texts of each
-kind by three processes of seed 1 without words. The texts are small ones of each verdict, written by the program, or by another solver. Each is cut at
-every byte, and changed at places at random: a byte, a line or a number, also several times. What the program says of it, `ACCEPTED` or the line that is
+"""Cuts and changes texts that the program reads behind a model or clauses: hostile.py [CHANGES [SEED [PROCESSES [KIND
+..]]]], 10,000 changes of the texts of each kind by three processes of seed 1 without words. The texts are small ones
+of each verdict, written by the program, or by another solver. Each is cut at every byte, and changed at places at
+random: a byte, a line or a number, also several times. What the program says of it, `ACCEPTED` or the line that is
 refused, is compared with the reading of this folder. The kinds:
   answer   `bee check` beside `answer_reading.py`
   list     `bee checkall` beside `list_reading.py`

@@ -1,4 +1,5 @@
-"""Reads the text of a model, as `docs/LANGUAGE.md` has the language, to a model of `small_models.py`. The text has no fault."""
+"""Reads the text of a model, as `docs/LANGUAGE.md` has the language, to a model of `small_models.py`. The text has no
+fault."""
 import re
 
 from small_models import Model

@@ -1,19 +1,24 @@
 #!/usr/bin/env python3
-"""Runs the commands of the pages in a clean clone, and compares what a page says was printed: pages.py [PAGE ..]; without words README.md, docs/LANGUAGE.md,
-docs/SOLVERS.md, docs/PYTHON.md and examples/README.md. The program is BEE, or the one that `./bee` has built; the clone's `./bee` runs a copy of it.
+"""Runs the commands of the pages in a clean clone, and compares what a page says was printed: pages.py [PAGE ..];
+without words README.md, docs/LANGUAGE.md, docs/SOLVERS.md, docs/PYTHON.md and examples/README.md. The program is BEE,
+or the one that `./bee` has built; the clone's `./bee` runs a copy of it.
 
 What is run, in the order of a page and in one folder:
-  a block that is set in by four blanks, and whose first word is that of a command, as a script; one before which a file is named is written to that file, and
+  a block that is set in by four blanks, and whose first word is that of a command, as a script; one before which a
+  file is named is written to that file, and
   so is such a fence
-  commands in the text itself, by `./bee` or another solver, unless they have a word in capitals, which stands for what the reader has
+  commands in the text itself, by `./bee` or another solver, unless they have a word in capitals, which stands for what
+  the reader has
   a fence with a goal, by `bee solve` and `bee check`
   a fence in Python, as a script
 What is compared:
-  `prints X` in the text before a block, or behind it: a line that the block printed; behind it the first one, or the last
+  `prints X` in the text before a block, or behind it: a line that the block printed; behind it the first one, or the
+  last
   a fence behind a block of commands: what it printed, or its end
   a fence's last comment: its verdict, and its values where they have no choice
   exit codes: 0; also 8 where a budget is named, and 10, 20 and 30 of other solvers, 1 of grep
-A command that isn't there is told and passed over. Wants python3 and git; the other solvers of the pages where they are to be run."""
+A command that isn't there is told and passed over. Wants python3 and git; the other solvers of the pages where they
+are to be run."""
 import os, re, shutil, subprocess, sys, tempfile
 
 from trials import TOP, program

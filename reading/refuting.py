@@ -1,4 +1,5 @@
-"""Texts that the program does not write: lists and cores behind ledgers of any steps, with refutations of a plain search, and such as were given up."""
+"""Texts that the program does not write: lists and cores behind ledgers of any steps, with refutations of a plain
+search, and such as were given up."""
 from core_text_reading import only
 from ledger_reading import Compilation, Steps
 

@@ -1,5 +1,5 @@
-"""Runs the program on texts, several models side by side, and counts what came of it. A script hands `tried` what is done with one of its models;
-the program is BEE, or the one that `./bee` builds."""
+"""Runs the program on texts, several models side by side, and counts what came of it. A script hands `tried` what is
+done with one of its models; the program is BEE, or the one that `./bee` builds."""
 import collections, multiprocessing, os, random, subprocess, sys, tempfile
 
 TOP = os.path.dirname(os.path.dirname(os.path.abspath(__file__)))

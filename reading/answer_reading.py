@@ -104,11 +104,11 @@ class Proof:
         return atom == "T" or frozenset() in self.known or (atom != "F" and frozenset([atom]) in self.known)
 
 
-class Answer:
-    """Reads an answer, line by line. `verdict` gives the words of its verdict, and raises Refused with the first line that fails."""
+class Lines:
+    """Takes the lines of a text of a model, one after another. Raises Refused with the first one that fails."""
 
-    def __init__(self, model, steps, text):
-        self.model, self.steps = model, steps
+    def __init__(self, model, text):
+        self.model = model
         self.rest = text.split(b"\n")
         self.tail = self.rest.pop()
         self.rest.reverse()
@@ -123,6 +123,52 @@ class Answer:
     def want(self, holds):
         if not holds:
             raise Refused(self.place)
+
+    def want_end(self, line):
+        """The line is the last one, and nothing stands behind it."""
+        self.want(line == b"end")
+        if self.rest or self.tail:
+            raise Refused(self.place + 1)
+
+    def value(self, line, name):
+        """The value of a name that a line tells, one of its domain; or none."""
+        values, words = self.model.domains[name], line.split(b" = ")
+        if len(words) != 2 or words[0] != name.encode():
+            return None
+        told = {b"false": False, b"true": True}.get(words[1]) if isinstance(values[0], bool) else number(words[1])
+        return told if told in values else None
+
+    def solution(self, line):
+        """The values of all names from this line on, and the line behind them."""
+        env = {}
+        for name in self.model.domains:
+            env[name] = self.value(line, name)
+            self.want(env[name] is not None)
+            line = self.next()
+        return env, line
+
+    def ledger(self, line, steps):
+        """Makes the steps of a ledger that begins with this line."""
+        self.want(line == b"ledger")
+        line = self.next()
+        while line != b"proof":
+            self.want(steps.apply(line))
+            line = self.next()
+
+    def derivation(self, proof):
+        """Takes the lines of a derivation, and gives the one behind it."""
+        line = self.next()
+        while proof.take(line):
+            line = self.next()
+        return line
+
+
+class Answer(Lines):
+    """Reads an answer, line by line. `verdict` gives the words of its verdict, and raises Refused with the first line that fails."""
+
+    def __init__(self, model, steps, text):
+        super().__init__(model, text)
+        self.steps = steps
 
     def verdict(self):
         goals = len(self.model.objectives)
@@ -144,12 +190,10 @@ class Answer:
             bounds = self.bounds(line.split(b" ")[1:])
             line = self.next()
         if kind == b"SATISFIABLE" or bounds is not None:
-            line = self.solution(line, bounds)
+            line = self.best(line, bounds)
         if kind != b"SATISFIABLE":
             line = self.certificate(line, kind, bounds, spent)
-        self.want(line == b"end")
-        if self.rest or self.tail:
-            raise Refused(self.place + 1)
+        self.want_end(line)
         return " ".join(word.decode() for word in words)
 
     def bounds(self, words):
@@ -157,25 +201,15 @@ class Answer:
         self.want(None not in numbers and numbers and len(numbers) == len(self.model.objectives))
         return numbers
 
-    def solution(self, line, bounds):
-        env = {}
-        for name, values in self.model.domains.items():
-            words = line.split(b" = ")
-            self.want(len(words) == 2 and words[0] == name.encode())
-            value = {b"false": False, b"true": True}.get(words[1]) if isinstance(values[0], bool) else number(words[1])
-            self.want(value is not None and value in values)
-            env[name] = value
-            line = self.next()
+    def best(self, line, bounds):
+        """A solution whose objectives have these values, where there are some."""
+        env, line = self.solution(line)
         self.want(self.model.holds(env))
         self.want(bounds is None or [env[name] for name in self.model.objectives] == bounds)
         return line
 
     def certificate(self, line, kind, bounds, spent):
-        self.want(line == b"ledger")
-        line = self.next()
-        while line != b"proof":
-            self.want(self.steps.apply(line))
-            line = self.next()
+        self.ledger(line, self.steps)
         variables, clauses = self.steps.cnf()
         proof = Proof(variables, clauses)
         line = self.derivation(proof)
@@ -194,14 +228,6 @@ class Answer:
             self.want(additions == spent)
         else:
             self.want(proof.shows(self.bound(len(bounds) - 1, bounds)))
-        return line
-
-    def derivation(self, proof):
-        """Takes the lines of a derivation, and gives the one behind it."""
-        line = self.next()
-        while line not in (b"second", b"end"):
-            self.want(proof.take(line))
-            line = self.next()
         return line
 
     def bound(self, place, bounds):

@@ -315,3 +315,13 @@ class Steps:
         """What a name stands for in the last state: an atom or an integer."""
         entry = self.compilation.names[name]
         return entry.resolved(self.state.label).trimmed() if isinstance(entry, Integer) else self.state.label(entry)
+
+    def block(self, values):
+        """The clause, in order, that leaves out the assignment of these values and no other."""
+        atoms = []
+        for entry, value in zip(self.compilation.names.values(), values):
+            if isinstance(entry, Integer):
+                atoms += [opposite(entry.at(value)), entry.at(value + 1)]
+            else:
+                atoms.append(opposite(entry) if value else entry)
+        return in_order([atoms], self.state.label)[0]

@@ -8,17 +8,20 @@ from .differing import all_different
 from .expressions import all_of, any_of, total, weighted_sum
 from .functions import absolute, element, maximum, minimum
 from .lines import ModelError
-from .model import Model
+from .model import Constraint, Model
 from .ordering import lex_less, lex_less_or_equal
 from .resources import cumulative
-from .running import Answer, ProgramError
+from .running import Answer, Core, ProgramError, Solutions
 from .tables import table
 
 __all__ = [
     "Answer",
+    "Constraint",
+    "Core",
     "Model",
     "ModelError",
     "ProgramError",
+    "Solutions",
     "absolute",
     "all_different",
     "all_of",

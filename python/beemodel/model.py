@@ -26,7 +26,7 @@ from .expressions import (
     whole,
 )
 from .lines import ModelError, line_of_script, refused
-from .running import Answer, solve_text
+from .running import Answer, Core, Solutions, all_text, core_text, solve_text
 from .translation import Integer, Item, Translation
 
 # So many bytes of a text are read.
@@ -38,6 +38,13 @@ class Constraint(NamedTuple):
 
     truth: Truth
     line: str
+
+    def __str__(self) -> str:
+        return f"{self.line}: {self.truth}"
+
+
+# A constraint with its place among those of its model.
+Placed = tuple[int, Constraint]
 
 
 class Goal(NamedTuple):
@@ -143,6 +150,19 @@ class Model:
     def written(self) -> Written:
         """The model in statements. An error names the constraint and its line."""
         domains, rest = self.narrowed()
+        return self.written_with(domains, rest, self.goal)
+
+    def written_apart(self) -> Written:
+        """The model without its goal, and with a statement for each constraint: no domain is
+        narrowed."""
+        variables = self.variables.items()
+        domains = {n: it.domain for n, it in variables if isinstance(it, IntegerVariable)}
+        return self.written_with(domains, list(enumerate(self.constraints)), None)
+
+    def written_with(
+        self, domains: dict[str, Domain], rest: list[Placed], goal: Optional[Goal]
+    ) -> Written:
+        """The variables with these domains, these constraints and this goal in statements."""
         translation = Translation(self, domains)
         for name, variable in self.variables.items():
             translation.line, translation.subject = variable.line, name
@@ -153,19 +173,21 @@ class Model:
                 if not domains[name]:
                     domains[name] = variable.domain[:1]
                     translation.clause([])
-        for it in rest:
+        for place, it in rest:
+            translation.constraint = place
             translation.line, translation.subject = it.line, it.truth
             it.truth.post(translation)
-        goal = self.written_goal(translation)
-        return Written(translation.finish(), goal)
+        translation.constraint = None
+        sought = self.written_goal(translation, goal)
+        return Written(translation.finish(), sought)
 
-    def written_goal(self, translation: Translation) -> str:
+    def written_goal(self, translation: Translation, goal: Optional[Goal]) -> str:
         """The last item of the text."""
-        if self.goal is None:
+        if goal is None:
             return "solve satisfy"
-        translation.line, translation.subject = self.goal.line, f"{self.goal.direction}"
-        names = [self.objective(translation, it) for it in self.goal.objectives]
-        return f"solve {self.goal.direction} {' then '.join(names)}"
+        translation.line, translation.subject = goal.line, f"{goal.direction}"
+        names = [self.objective(translation, it) for it in goal.objectives]
+        return f"solve {goal.direction} {' then '.join(names)}"
 
     def objective(self, translation: Translation, number: Number) -> str:
         """The declared integer that is an objective."""
@@ -176,17 +198,17 @@ class Model:
         translation.declare_integer(name, made.domain)
         return name
 
-    def narrowed(self) -> tuple[dict[str, Domain], list[Constraint]]:
+    def narrowed(self) -> tuple[dict[str, Domain], list[Placed]]:
         """The domains without the values that constraints on one variable rule out, and the
         constraints that are left. The weight is counted by the declared domains, so that this is
         lighter."""
-        rest: list[Constraint] = []
+        rest: list[Placed] = []
         bounds: dict[str, list[Comparison]] = {}
-        for constraint in self.constraints:
+        for place, constraint in enumerate(self.constraints):
             for truth in members(constraint.truth, AllOf):
                 atom = self.only_variable(truth)
                 if atom is None:
-                    rest.append(Constraint(truth, constraint.line))
+                    rest.append((place, Constraint(truth, constraint.line)))
                 else:
                     bounds.setdefault(atom.name, []).append(truth)
         domains = {
@@ -229,7 +251,56 @@ class Model:
         BEE, or `bee` at the top of the repository. With a folder, the model's text and the answer
         stay there.
         """
-        written = self.written()
+        answer = solve_text(self.checked_text(self.written()), budget, program, folder)
+        if answer.values is not None:
+            answer.values = self.own(answer.values)
+        return answer
+
+    def all(
+        self,
+        budget: Optional[int] = None,
+        program: Optional[str] = None,
+        folder: Union[str, Path, None] = None,
+    ) -> Solutions:
+        """Runs `bee all` and then `bee checkall`: every solution, whatever the goal is, as a list
+        that was accepted.
+
+        Solutions that differ only in what the layer itself declares are one. The arguments are
+        those of `solve`.
+        """
+        written = self.written_with(*self.narrowed(), None)
+        found = all_text(self.checked_text(written), budget, program, folder)
+        each = {tuple(own.values()): own for own in map(self.own, found.values)}
+        found.values = list(each.values())
+        return found
+
+    def core(
+        self,
+        budget: Optional[int] = None,
+        program: Optional[str] = None,
+        folder: Union[str, Path, None] = None,
+    ) -> Core:
+        """Runs `bee core` and then `bee checkcore`: where there is no solution, constraints that
+        cannot hold together.
+
+        Of the statements that they are written in none of the core's can be left out. The
+        arguments are those of `solve`.
+        """
+        written = self.written_apart()
+        found = core_text(self.checked_text(written), budget, program, folder)
+        if found.values is not None:
+            found.values = self.own(found.values)
+        if found.statements is not None:
+            places = {written.items[number - 1].constraint for number in found.statements}
+            found.constraints = [self.constraints[it] for it in sorted(places - {None})]
+        return found
+
+    def own(self, values: dict[str, Union[int, bool]]) -> dict[str, Union[int, bool]]:
+        """The values of the model's own names, in their order."""
+        return {name: values[name] for name in self.variables}
+
+    def checked_text(self, written: Written) -> str:
+        """The text, where the program can take it."""
         weight = sum(it.weight for it in written.items)
         if weight > weights.LIMIT:
             shares = ", ".join(f"{line} {part}" for line, part in heaviest_lines(written.items)[:3])
@@ -238,10 +309,7 @@ class Model:
         text = written.text()
         if len(text) > LONGEST:
             raise ModelError(f"the text has {len(text)} bytes; at most {LONGEST} are read")
-        answer = solve_text(text, budget, program, folder)
-        if answer.values is not None:
-            answer.values = {name: answer.values[name] for name in self.variables}
-        return answer
+        return text
 
 
 def narrowed_domain(variable: IntegerVariable, comparisons: Sequence[Comparison]) -> Domain:

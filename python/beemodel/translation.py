@@ -1,14 +1,15 @@
 """The statements of a model, as they are written out.
 
 Declarations come first, then what the Booleans of comparisons with constants are, then the
-statements of the constraints, and the goal at the end. Each item is kept with its weight and the
-script's line it comes from.
+statements of the constraints, and the goal at the end. Each item is kept with its weight, the
+script's line it comes from, and the constraint that it states; one that says what an expression
+is states none, since each assignment of the script's variables meets it by a value of its own.
 """
 from __future__ import annotations
 
 from bisect import bisect_left
-from collections.abc import Sequence
-from typing import TYPE_CHECKING, NamedTuple, Union
+from collections.abc import Callable, Sequence
+from typing import TYPE_CHECKING, NamedTuple, Optional, TypeVar, Union
 
 from . import weights
 from .cuts import Cuts
@@ -20,6 +21,7 @@ if TYPE_CHECKING:
     from .model import Model
 
 Argument = Union[str, int, Sequence[Union[str, int]]]
+Made = TypeVar("Made")
 
 
 class Integer(NamedTuple):
@@ -42,11 +44,13 @@ class Integer(NamedTuple):
 
 
 class Item(NamedTuple):
-    """A declaration or a statement: its text, its weight, and the line of the script."""
+    """A declaration or a statement: its text, its weight, the line of the script, and the place of
+    the constraint that it states, if it states one."""
 
     text: str
     weight: int
     line: str
+    constraint: Optional[int] = None
 
 
 class Translation:
@@ -57,6 +61,7 @@ class Translation:
         self.domains = domains
         self.line = ""
         self.subject: object = ""
+        self.constraint: Optional[int] = None
         self.declarations: list[Item] = []
         self.channels: list[Item] = []
         self.statements: list[Item] = []
@@ -81,10 +86,17 @@ class Translation:
 
     # Items.
 
+    def defined(self, make: Callable[[Translation], Made]) -> Made:
+        """What is made of an expression, by statements that state no constraint."""
+        constraint, self.constraint = self.constraint, None
+        made = make(self)
+        self.constraint = constraint
+        return made
+
     def item(self, weight: int, name: str, arguments: tuple[Argument, ...]) -> Item:
         """An item of the text."""
         shown = ",".join(self.argument(it) for it in arguments)
-        return Item(f"{name}({shown})", weight, self.line)
+        return Item(f"{name}({shown})", weight, self.line, self.constraint)
 
     def argument(self, argument: Argument) -> str:
         """An argument of a statement: a name, a numeral, or a list of them."""
@@ -153,7 +165,7 @@ class Translation:
     def literal(self, truth: Number) -> str:
         """The Boolean term of an expression, made once."""
         if truth not in self.literals:
-            self.literals[truth] = truth.literal(self)
+            self.literals[truth] = self.defined(truth.literal)
         return self.literals[truth]
 
     def clause(self, literals: Sequence[str]) -> None:
@@ -182,7 +194,7 @@ class Translation:
             made = self.fresh_boolean()
             size = len(members)
             weight = weights.conjunction(size) if "and" in name else weights.parity(size + 1)
-            self.say(weight, name, members, made)
+            self.defined(lambda it: it.say(weight, name, members, made))
             self.literals[key] = made
         return self.literals[key]
 
@@ -257,7 +269,7 @@ class Translation:
     def integer(self, number: Number) -> Integer:
         """The integer of an expression, made once."""
         if number not in self.integers:
-            self.integers[number] = number.integer(self)
+            self.integers[number] = self.defined(number.integer)
         return self.integers[number]
 
     def integer_of_literal(self, literal: str) -> Integer:
@@ -267,7 +279,7 @@ class Translation:
             return Integer(str(value), range(value, value + 1))
         if ("number", literal) not in self.integers:
             made = Integer(self.fresh_name(), range(0, 2))
-            self.declarations.append(self.item(0, "bool2int", (literal, made.term)))
+            self.declarations.append(Item(f"bool2int({literal},{made.term})", 0, self.line))
             self.literal_of_integer[made.term] = literal
             self.integers["number", literal] = made
         return self.integers["number", literal]
@@ -308,6 +320,7 @@ class Translation:
 
     def finish(self) -> list[Item]:
         """All items but the goal, in an order in which each name is declared before it is used."""
+        self.constraint = None
         for cuts in list(self.cuts.values()):
             self.subject = cuts.integer.term
             self.line = self.lines[cuts.integer.term]

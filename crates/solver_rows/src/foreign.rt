@@ -1,4 +1,4 @@
-//! Proofs that cadical 1.5.3 wrote (`cadical --plain --no-binary`), made LRAT by `bench/lrat.py`.
+//! Proofs that cadical 1.5.3 wrote (`cadical --plain --no-binary`), with hints that unit propagation finds.
 
 use crate::clauses::cnf;
 use proof_check::{Checker, LineRoom};

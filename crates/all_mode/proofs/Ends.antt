@@ -12,9 +12,8 @@ use Rattle.model_texts.specs.declared.fault.ModelFault.{ModelFault}
 use Rattle.model_texts.specs.ModelTexts.{longest_text, IsFirstFault, HasFault}
 use Rattle.model_texts.proofs.FirstFaults.{one_text_fault, no_text_fault}
 use Rattle.decode_minimize.specs.declared.options.Options.{Options}
-use Rattle.all_mode.specs.Listed.{ListsHeld, IsListed}
+use Rattle.all_mode.specs.Listed.{IsListed}
 use Rattle.all_mode.specs.AllMode.{HasModel, AllMode}
-use Rattle.all_mode.proofs.Lists.{given-list}
 
 fit : (options : Options) (text : List ℕ) (outcome : Outcome) (written : List ℕ) → IsListed options text outcome written → HasModel text
 fit options text outcome written h = (h.lists.model, h.lists.held)
@@ -41,7 +40,3 @@ within_limit text h = omega arith
 -- the fault of a text within the limit
 pub had_fault : (text : List ℕ) (f : ModelFault) → length text < 16777217 → IsFirstFault text f → HasFault text f
 had_fault text f h first = inr (within_limit text h, first)
-
--- what is listed for a text
-pub given_text : (options : Options) (text : List ℕ) (outcome : Outcome) (written : List ℕ) → ListsHeld options text outcome written → IsListed options text outcome written
-given_text = given-list

@@ -26,7 +26,7 @@ use Rattle.list_text.specs.declared.document.ListDoc.{ListDoc}
 use Rattle.list_text.specs.ListText.{additions_in, verdict_of, list_text}
 use Rattle.list_text.specs.Valid.{IsValidList, ListHolds}
 use Rattle.list_text.proofs.Truths.{list-law}
-use Rattle.list_text.proofs.Written.{written-law}
+use Rattle.list_text.specs.Laws.{WrittenLaw}
 use Rattle.list_answer.specs.ListAnswer.{IsListOf}
 use Rattle.list_answer.proofs.Concluded.{additions-same}
 use Rattle.all_mode.specs.Listed.{outcome_of, SaysVerdict, IsListText, ListsHeld, IsListed}
@@ -39,8 +39,8 @@ says-verdict budget count added true outcome is spent = subst (λ (o : Outcome).
 says-verdict budget count added false outcome is spent =
     subst (λ (o : Outcome). SaysVerdict budget o count (Partial count added)) (sym is) (refl, ap (λ (n : ℕ). Partial count n) (spent refl))
 
-pub given-list : (options : Options) (text : List ℕ) (outcome : Outcome) (written : List ℕ) → ListsHeld options text outcome written → IsListed options text outcome written
-given-list options text outcome written h =
+pub given-list : WrittenLaw → (options : Options) (text : List ℕ) (outcome : Outcome) (written : List ℕ) → ListsHeld options text outcome written → IsListed options text outcome written
+given-list written-law options text outcome written h =
     let model = h.model in
     let d = h.is.document in
     let limits = limited text model h.held.within h.held.says in

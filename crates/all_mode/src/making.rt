@@ -8,11 +8,11 @@ ghost use Rattle.model_lower.specs.Weighed.{most_weight};
 ghost use Rattle.model_lower.specs.Faults.{IsFaultOf};
 ghost use Rattle.model_texts.specs.ModelTexts.{longest_text, IsCauseOf};
 ghost use Rattle.decode_minimize.specs.Answers.{IsBudget};
-ghost use Rattle.all_mode.specs.Listed.{outcome_of, IsListText, ListsHeld};
+ghost use Rattle.all_mode.specs.Listed.{outcome_of, IsListText, IsListed};
 
 use crate::answering::list_model;
 use decode_minimize::Options;
-use list_text::write_list;
+use list_text::{write_list, written_law};
 use model_lower::LowerFault;
 use model_meaning::Model;
 use model_texts::{ModelTextFault, lower_fault, model_of};
@@ -56,9 +56,11 @@ pub(crate) fn all_text(
 ) -> Result<(Outcome, Vec<u8>), ModelTextFault>
     requires short { length text.now ≤ longest_text }
     requires budget { IsBudget options.budget }
-    ensures listed { IfOk result (λ made. ListsHeld options text.now made.0 made.1.items) }
+    ensures listed { IfOk result (λ made. IsListed options text.now made.0 made.1.items) }
     ensures fault { IfErr result (λ e. IsCauseOf e text.now) }
 {
+    // The law that the text of a list is whole; it does nothing.
+    written_law();
     let model = model_of(alloc, text)?;
     match write_solutions(alloc, &model, options) {
         Ok(written) => Ok(written),

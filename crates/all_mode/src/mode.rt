@@ -50,7 +50,7 @@ impl OneText for Listing {
         ModelFault::TooLong
     }
 
-    #[tactic(auto, using(crate::proofs::Ends::given_text, crate::proofs::Ends::had_fault, crate::proofs::Ends::within_limit))]
+    #[tactic(auto, using(crate::proofs::Ends::had_fault, crate::proofs::Ends::within_limit))]
     fn make(&self, alloc: Global, text: &[u8]) -> Result<Made<ModelFault>, AllocError> {
         match all_text(alloc, text, self.options) {
             Ok((outcome, written)) => Ok(Made::Text(outcome, written)),

@@ -1,0 +1,3 @@
+pub mod Listed
+pub mod AllMode
+pub mod AllLaws

@@ -1,6 +1,7 @@
 -- The documents of cores, of solutions, and of searches that were given up.
-use Rattle.std.proofs.Common.{◌≡◌, ℕ, zero, suc, ◌+◌, ◌<◌, ◌≤◌, ◌^◌, Bool, true, false, List, [], ◌∷◌, length, Option, Some, None, refl, ap, sym, ◌∙◌, subst, arith}
-use Rattle.std.specs.Prelude.{◌==◌, ◌||◌, IsTrue, Ok, replicate}
+use Rattle.std.proofs.Common.{Result, Ok, Err, ◌≡◌, ℕ, zero, suc, ◌+◌, ◌<◌, ◌≤◌, ◌^◌, Bool, true, false, List, [], ◌∷◌, length, Option, Some, None, refl, ap, sym, ◌∙◌, subst, arith}
+use Rattle.std.specs.Prelude.{◌==◌, ◌||◌, IsTrue, IfOk, replicate}
+use Rattle.std.specs.declared.alloc.AllocError.{AllocError}
 use Rattle.core_forms.specs.declared.equation.Equation.{Equation}
 use Rattle.core_forms.specs.declared.form.Core.{Core}
 use Rattle.ledger_text.specs.declared.line.Line.{Line}
@@ -29,10 +30,12 @@ use Rattle.core_text.specs.declared.verdict.CoreVerdict.TheVariants.{Satisfiable
 use Rattle.core_text.specs.declared.document.CoreDocument.{CoreDocument}
 use Rattle.core_text.specs.CoreDocuments.{ArePart, IsShownBy, AreWitnesses, IsCoreDocument}
 use Rattle.core_extract.specs.declared.reduction.SpentPart.{SpentPart}
+use Rattle.core_extract.specs.declared.settling.Progress.{Progress}
 use Rattle.core_extract.specs.declared.extracting.ExtractedCore.{ExtractedCore}
-use Rattle.core_extract.specs.Parts.{satisfying, part_of, AreFound}
-use Rattle.core_extract.specs.Extracted.{IsAnswered, IsSpentPart, IsExtracted, ExtractsFrom, solution_document, spent_document}
-use Rattle.core_extract.proofs.Divisions.{model-same}
+use Rattle.core_extract.specs.Parts.{satisfying, whole_of, part_of, AreFound, numbers_before}
+use Rattle.core_extract.specs.Extracted.{IsAnswered, IsGivenUp, IsSpentPart, IsProgress, IsExtracted, IsExtractedFrom, ExtractsFrom, solution_document, spent_document}
+use Rattle.core_extract.proofs.Divisions.{model-same, part-is}
+use Rattle.core_extract.proofs.Marks.{before-all}
 
 -- The numbers of a part ascend, and are some of the model's.
 
@@ -192,3 +195,46 @@ solution-from told whole options e a n is h decls model typed same =
       (record { document = record { fits = tt; document = record { in_domains = here.in_domains; holds = all } }; certificate = tt }),
       decls ∙ ap (λ (w : Model). w.decls) same,
     )
+
+-- the core that the last pass comes to
+pub core-of : (told : Core → Equation → Type 0) (options : Options) (p : Progress) (e : ExtractedCore) (ns : List ℕ) → IsProgress told options (length p.reduction.out.items) p
+    → length p.reduction.out.items ≡ length (numbers_of (whole_of p.reduction.model).stmts) → ns ≡ numbers_of p.reduction.model.part.stmts → length ns < 2 ^ 64
+    → e.document ≡ record { verdict = CoreOf (length ns); statements = ns; ledger = p.reduction.certificate.ledger; proof = p.reduction.certificate.proof; assignments = p.given.items }
+    → e.decls ≡ p.reduction.model.part.decls → ExtractsFrom told (whole_of p.reduction.model) options e
+core-of told options p e ns is count numbers small document decls =
+    let whole = whole_of p.reduction.model in
+    let out = p.reduction.out.items in
+    let kept : ns ≡ numbers_of (kept_of out whole.stmts) =
+    numbers ∙ (ap (λ (m : Model). numbers_of m.stmts) (part-is p.reduction.model is.reduced.fit) ∙ ap (λ (o : List Bool). numbers_of (kept_of o whole.stmts)) is.reduced.out) in
+    let front : numbers_before (length out) out whole.stmts ≡ ns = before-all (length out) out whole.stmts (omega (arith, count)) ∙ sym kept in
+    let found : AreFound (part_of whole out) ns p.given.items = subst (λ (ms : List ℕ). AreFound (part_of whole out) ms p.given.items) front is.found in
+    core-from told whole options e out (length ns) (ap (λ (d : CoreDocument). d.verdict) document) small (ap (λ (d : CoreDocument). length d.statements) document)
+    (ap (λ (d : CoreDocument). d.statements) document ∙ kept)
+    (subst (λ (d : CoreDocument). IsAnswered told (part_of whole out) options d.ledger d.proof verdict.Unsatisfiable) (sym document) is.reduced.refutation)
+    (subst (λ (d : CoreDocument). AreFound (part_of whole out) d.statements d.assignments) (sym document) found) decls
+
+pub extracts-as : (told : Core → Equation → Type 0) (options : Options) (a b : Model) (r : Result ExtractedCore AllocError) → a ≡ b → IfOk r (ExtractsFrom told a options) → IfOk r (ExtractsFrom told b options)
+extracts-as told options a b r e h = subst (λ (w : Model). IfOk r (ExtractsFrom told w options)) e h
+
+pub extracted-as : (told : Core → Equation → Type 0) (options : Options) (a b : Model) (e : ExtractedCore) → a ≡ b → ExtractsFrom told a options e → ExtractsFrom told b options e
+extracted-as told options a b e same h = subst (λ (w : Model). ExtractsFrom told w options e) same h
+
+-- for the model itself
+pub extracted-from : (told : Core → Equation → Type 0) (options : Options) (model : Model) (whole : Model) (r : Result ExtractedCore AllocError) → WellTyped model → whole ≡ satisfying model
+    → IfOk r (ExtractsFrom told whole options) → IfOk r (IsExtractedFrom told model options)
+extracted-from told options model whole (Err e) typed same h = tt
+extracted-from told options model whole (Ok e) typed same h = h model typed same
+
+pub solved-light : (told : Core → Equation → Type 0) (options : Options) (model whole : Model) (r : Result ExtractedCore AllocError) (a : Assignment) (n : ℕ) → WellTyped model → whole ≡ satisfying model
+    → IsSolution (part_of whole (replicate n false)) a.values → IfOk r (λ e. e.document ≡ solution_document a) → IfOk r (λ e. e.decls ≡ whole.decls) → IfOk r (IsExtractedFrom told model options)
+solved-light told options model whole (Err e) a n typed same h document decls = tt
+solved-light told options model whole (Ok e) a n typed same h document decls = solution-from told whole options e a n document h decls model typed same
+
+-- the whole model, of which it is open whether it has a solution
+pub spent-whole : (told : Core → Equation → Type 0) (options : Options) (whole : Model) (s : SpentPart) (n : ℕ) → s.statements ≡ numbers_of whole.stmts
+    → IsGivenUp told (part_of whole (replicate n false)) options s.certificate → IsSpentPart told whole options s
+spent-whole told options whole s n numbers given = record {
+  out = replicate n false;
+  numbers = numbers ∙ ap numbers_of (sym (kept-all n whole.stmts));
+  given_up = given;
+}

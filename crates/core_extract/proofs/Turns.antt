@@ -12,11 +12,13 @@ use Rattle.decode_minimize.specs.declared.options.Options.{Options}
 use Rattle.core_extract.specs.declared.reduction.Reduction.{Reduction}
 use Rattle.core_extract.specs.declared.reduction.SpentPart.{SpentPart}
 use Rattle.core_extract.specs.declared.reduction.Attempt.{Attempt}
+use Rattle.core_extract.specs.declared.choosing.Choice.{Choice}
+use Rattle.core_extract.specs.declared.choosing.Choice.TheVariants as choice
 use Rattle.core_extract.specs.declared.settling.Progress.{Progress}
 use Rattle.core_extract.specs.declared.settling.Turn.{Turn}
 use Rattle.core_extract.specs.declared.settling.Turn.TheVariants as turn
 use Rattle.core_extract.specs.Parts.{whole_of, part_of, MeetsOthers, AreFound, numbers_before}
-use Rattle.core_extract.specs.Extracted.{IsReduced, IsSameModel, IsSpentPart, IsAttempt, IsProgress, GoesOn, IsTurn}
+use Rattle.core_extract.specs.Extracted.{IsReduced, IsSameModel, IsSpentPart, IsAttempt, IsChoice, IsProgress, GoesOn, IsTurn}
 use Rattle.core_extract.proofs.Marks.{found-fewer, found-more, solved-meets, before-set, before-out, before-kept}
 
 pub attempt-as : (told : Core → Equation → Type 0) (options : Options) (old : Reduction) (out : List Bool) (a b : Attempt) → a ≡ b → IsAttempt told options old out a → IsAttempt told options old out b
@@ -34,6 +36,10 @@ same-behind a b c h k = record { whole = k.whole ∙ h.whole; count = k.count �
 -- a search that was given up, of another part of the same model
 pub spent-of : (told : Core → Equation → Type 0) (options : Options) (a b : Model) (s : SpentPart) → a ≡ b → IsSpentPart told a options s → IsSpentPart told b options s
 spent-of told options a b s e h = subst (λ (m : Model). IsSpentPart told m options s) e h
+
+pub choice-behind : (told : Core → Equation → Type 0) (options : Options) (a b : Reduction) (c : Choice) → IsSameModel a b → IsChoice told options b c → IsChoice told options a c
+choice-behind told options a b (choice.Part r) same h = (h.0, same-behind a b r same h.1)
+choice-behind told options a b (choice.Spent r s) same h = (spent-of told options (whole_of b.model) (whole_of a.model) s same.whole h.0, h.1 ∙ same.whole)
 
 set-length : (out : List Bool) (i : ℕ) → length (slice_set out i true) ≡ length out
 set-length out i = grind arith

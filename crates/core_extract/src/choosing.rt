@@ -168,11 +168,11 @@ fn leave_out<F: Oracle<L>, L: Ledger>(
     ensures { IfOk result (IsLeaving F.told asker.now.options reduction) }
 {
     let group = group_of(asker.alloc, reduction.out.as_slice(), witnesses, size)?;
-    let Group { out, count } = group;
+    let count = group.count;
     if count == 0 {
         return Ok(Leaving::Done(reduction));
     }
-    let attempt = reduction.attempt(asker, out, steps)?;
+    let attempt = reduction.attempt(asker, group.out, steps)?;
     match attempt {
         Attempt::Smaller(smaller) => Ok(Leaving::Next(smaller, size.saturating_mul(2))),
         Attempt::Solved(same, a) => {
@@ -232,6 +232,7 @@ pub(crate) fn make_smaller<F: Oracle<L>, L: Ledger>(
     ensures { IfOk result (IsChoice F.told asker.now.options reduction) }
 {
     let grown = grow(reduction, asker, steps)?;
-    let again = grow(grown, asker, steps)?;
-    leave_out_groups(again, asker, numbers, witnesses, steps)
+    let smaller = grow(grown, asker, steps)?;
+    let choice = leave_out_groups(smaller, asker, numbers, witnesses, steps)?;
+    Ok(choice)
 }

@@ -1,6 +1,6 @@
 -- The documents of cores, of solutions, and of searches that were given up.
 use Rattle.std.proofs.Common.{Result, Ok, Err, ◌≡◌, ℕ, zero, suc, ◌+◌, ◌<◌, ◌≤◌, ◌^◌, Bool, true, false, List, [], ◌∷◌, length, Option, Some, None, refl, ap, sym, ◌∙◌, subst, arith}
-use Rattle.std.specs.Prelude.{◌==◌, ◌||◌, IsTrue, IfOk, replicate}
+use Rattle.std.specs.Prelude.{ℤ, ◌==◌, ◌||◌, ◌&&◌, IsTrue, IfOk, replicate}
 use Rattle.std.specs.declared.alloc.AllocError.{AllocError}
 use Rattle.core_forms.specs.declared.equation.Equation.{Equation}
 use Rattle.core_forms.specs.declared.form.Core.{Core}
@@ -12,6 +12,9 @@ use Rattle.model_meaning.specs.declared.model.Goal.TheVariants.{Satisfy}
 use Rattle.model_meaning.specs.declared.model.Stmt.{Stmt}
 use Rattle.model_meaning.specs.declared.model.Model.{Model}
 use Rattle.model_meaning.specs.declared.model.Assignment.{Assignment}
+use Rattle.model_meaning.specs.declared.model.Decl.{Decl}
+use Rattle.model_meaning.specs.Integers.{is_member}
+use Rattle.model_meaning.specs.Domains.{domain, in_domains}
 use Rattle.model_meaning.specs.Solutions.{AllHold, IsSolution}
 use Rattle.model_meaning.specs.WellTyped.{WellTyped}
 use Rattle.model_parts.specs.Only.{is_listed, numbers_of, chosen, only, all_but}
@@ -28,7 +31,7 @@ use Rattle.decode_minimize.specs.declared.options.Options.{Options}
 use Rattle.decode_minimize.specs.Answers.{IsBudget}
 use Rattle.core_text.specs.declared.verdict.CoreVerdict.TheVariants.{Satisfiable, Core as CoreOf, Unknown}
 use Rattle.core_text.specs.declared.document.CoreDocument.{CoreDocument}
-use Rattle.core_text.specs.CoreDocuments.{ArePart, IsShownBy, AreWitnesses, IsCoreDocument}
+use Rattle.core_text.specs.CoreDocuments.{ArePart, IsShownBy, AreWitnesses, AreWhole}
 use Rattle.core_extract.specs.declared.reduction.SpentPart.{SpentPart}
 use Rattle.core_extract.specs.declared.settling.Progress.{Progress}
 use Rattle.core_extract.specs.declared.extracting.ExtractedCore.{ExtractedCore}
@@ -95,6 +98,23 @@ module _ (model : Model) where
       witnesses ns given h.1,
     )
 
+-- each assignment in the domains has a value for each name
+behind : (x y : Bool) → (x && y) ≡ true → y ≡ true
+behind true y e = e
+behind false y e = absurd (cc)
+
+domains-length : (ds : List Decl) (a : List ℤ) → in_domains ds a ≡ true → length ds ≡ length a
+domains-length [] [] e = refl
+domains-length [] (z ∷ a) e = absurd (cc)
+domains-length (d ∷ ds) [] e = absurd (cc)
+domains-length (d ∷ ds) (z ∷ a) e = ap suc (domains-length ds a (behind (is_member z (domain d.kind)) (in_domains ds a) e))
+
+found-whole : (p : Model) (ns : List ℕ) (given : List Assignment) → AreFound p ns given → AreWhole p.decls given
+found-whole p [] [] h = tt
+found-whole p [] (a ∷ given) h = absurd h
+found-whole p (n ∷ ns) [] h = absurd h
+found-whole p (n ∷ ns) (a ∷ given) h = (domains-length p.decls a.values h.0.in_domains, found-whole p ns given h.1)
+
 -- What was answered about a part shows what its document says.
 module _ (told : Core → Equation → Type 0) (model : Model) (options : Options) (d : CoreDocument) (part : ArePart model 0 d.statements) where
   module _ (v : Verdict) (h : IsAnswered told (only model d.statements) options d.ledger d.proof v) where
@@ -142,17 +162,22 @@ module _ (told : Core → Equation → Type 0) (model : Model) (options : Option
       (witnesses model typed out d.statements d.assignments found) in
       record {
         document = rw is (record { fits = small; document = (shown.0, shown.1, count, given) });
+        whole = found-whole (part_of model out) d.statements d.assignments found;
         certificate = rw is here;
       }
 
   -- a search that was given up
-  pub spent-extracted : (d : CoreDocument) (out : List Bool) → IsBudget options.budget → d.verdict ≡ Unknown options.budget → d.statements ≡ numbers_of (kept_of out model.stmts)
+  pub spent-extracted : (d : CoreDocument) (out : List Bool) → IsBudget options.budget → d.verdict ≡ Unknown options.budget → d.assignments ≡ [] → d.statements ≡ numbers_of (kept_of out model.stmts)
       → IsAnswered told (part_of model out) options d.ledger d.proof (verdict.Unknown options.budget None) → IsExtracted told model options d
-  spent-extracted d out budget is numbers given =
+  spent-extracted d out budget is none numbers given =
       let only-is : part_of model out ≡ only model d.statements = part-only model typed out ∙ ap (only model) (sym numbers) in
       let part : ArePart model 0 d.statements = subst (ArePart model 0) (sym numbers) (are-part model typed out) in
       let here = subst (λ (m : Model). IsAnswered told m options d.ledger d.proof (verdict.Unknown options.budget None)) only-is given in
-      rw is (record { document = record { fits = (budget.0, budget.1); document = spent-shown told model options d part options.budget here }; certificate = (refl, here) })
+      record {
+        document = rw is (record { fits = (budget.0, budget.1); document = spent-shown told model options d part options.budget here });
+        whole = rw none tt;
+        certificate = rw is (refl, here);
+      }
 
 -- what is extracted from each model that a whole one is but for its goal
 pub core-from : (told : Core → Equation → Type 0) (whole : Model) (options : Options) (e : ExtractedCore) (out : List Bool) (k : ℕ) → e.document.verdict ≡ CoreOf k → k < 2 ^ 64
@@ -174,7 +199,7 @@ pub spent-from : (told : Core → Equation → Type 0) (whole : Model) (options 
 spent-from told whole options e s budget is h decls model typed same =
     (
       subst (IsExtracted told model options) (sym is)
-      (spent-extracted told model options typed (spent_document options.budget s) h.out budget refl
+      (spent-extracted told model options typed (spent_document options.budget s) h.out budget refl refl
       (subst (λ (w : Model). s.statements ≡ numbers_of (kept_of h.out w.stmts)) same h.numbers)
       (subst (λ (w : Model). IsAnswered told (part_of w h.out) options s.certificate.ledger s.certificate.proof (verdict.Unknown options.budget None)) same h.given_up)),
       decls ∙ ap (λ (w : Model). w.decls) same,
@@ -192,7 +217,9 @@ solution-from told whole options e a n is h decls model typed same =
     let all : AllHold a.values model.stmts = subst (AllHold a.values) (kept-all n model.stmts) here.holds in
     (
       subst (IsExtracted told model options) (sym is)
-      (record { document = record { fits = tt; document = record { in_domains = here.in_domains; holds = all } }; certificate = tt }),
+      (record { document = record { fits = tt; document = record { in_domains = here.in_domains; holds = all } };
+      whole = (domains-length model.decls a.values here.in_domains, tt);
+      certificate = tt }),
       decls ∙ ap (λ (w : Model). w.decls) same,
     )
 

@@ -22,7 +22,7 @@ use Rattle.decode_minimize.specs.Answers.{IsAnswer}
 use Rattle.core_text.specs.declared.verdict.CoreVerdict.{CoreVerdict}
 use Rattle.core_text.specs.declared.verdict.CoreVerdict.TheVariants as core
 use Rattle.core_text.specs.declared.document.CoreDocument.{CoreDocument}
-use Rattle.core_text.specs.CoreDocuments.{IsCoreDocument}
+use Rattle.core_text.specs.CoreDocuments.{IsCoreDocument, AreWhole}
 use Rattle.core_extract.specs.declared.reply.Certificate.{Certificate}
 use Rattle.core_extract.specs.declared.reply.Reply.{Reply}
 use Rattle.core_extract.specs.declared.reply.Reply.TheVariants.{Solved, Refuted, Spent}
@@ -155,10 +155,11 @@ CertificateComes told model options d (core.Core k) =
 CertificateComes told model options d (core.Unknown n) = (n ≡ options.budget)
     × IsAnswered told (only model d.statements) options d.ledger d.proof (verdict.Unknown n None)
 
--- what is extracted: the document of a solution, a core, or a search that was given up
+-- what is extracted: the document of a solution, a core, or a search that was given up, which can be written
 pub record IsExtracted (told : Core → Equation → Type 0) (model : Model) (options : Options) (d : CoreDocument)
     : Type 0 where
   pub document : IsCoreDocument model d
+  pub whole : AreWhole model.decls d.assignments
   pub certificate : CertificateComes told model options d d.verdict
 
 -- with the declarations of the model

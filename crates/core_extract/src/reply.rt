@@ -20,6 +20,7 @@ use std::cell::Cell;
 use std::sync::ledger::Ledger;
 
 /// How questions are asked: with which budget for each, and by which rules.
+#[derive(Drop)]
 pub(crate) struct Asker<F> {
     /// Where memory is taken.
     pub(crate) alloc: Global,

@@ -66,6 +66,7 @@ fn changed(
 }
 
 /// What is known of statements that are needed, and whose assignments are still to be changed.
+#[derive(Drop)]
 struct Rotation<'a> {
     numbers: &'a [u64],
     waiting: Vec<(u64, Assignment)>,

@@ -41,11 +41,11 @@ fewer-hold a n (false ∷ ms) (suc i) (s ∷ ss) h = under a n s (kept_of ms ss)
 
 all-hold : (a : List ℤ) (n : ℕ) (ss : List Stmt) → AllHold a ss → AllHold a (all_but n ss)
 all-hold a n [] h = tt
-all-hold a n (s ∷ ss) h = by_test (s.number == n)
+all-hold a n (s ∷ ss) h = by_test (s.number == n) h.0 (all-hold a n ss h.1)
   where
-    by_test : (b : Bool) → AllHold a (if b then all_but n ss else s ∷ all_but n ss)
-    by_test true = all-hold a n ss h.1
-    by_test false = (h.0, all-hold a n ss h.1)
+    by_test : (b : Bool) → Holds a s.what → AllHold a (all_but n ss) → AllHold a (if b then all_but n ss else s ∷ all_but n ss)
+    by_test true k rest = rest
+    by_test false k rest = (k, rest)
 
 same : (n : ℕ) → (n == n) ≡ true
 same n = grind arith
@@ -58,15 +58,14 @@ left-out a d (m ∷ ms) i [] l h = tt
 left-out a d (true ∷ ms) zero (s ∷ ss) l h = all-hold a s.number (kept_of ms ss) h
 left-out a d (false ∷ ms) zero (s ∷ ss) l h = rw (same s.number) (all-hold a s.number (kept_of ms ss) h)
 left-out a d (true ∷ ms) (suc i) (s ∷ ss) l h = left-out a d ms i ss (omega arith) h
-left-out a d (false ∷ ms) (suc i) (s ∷ ss) l h =
-    by_test (s.number == slice_index_or (numbers_of ss) i d)
+left-out a d (false ∷ ms) (suc i) (s ∷ ss) l h = by_test (s.number == slice_index_or (numbers_of ss) i d) h.0 (left-out a d ms i ss (omega arith) h.1)
   where
     n : ℕ
     n = slice_index_or (numbers_of ss) i d
 
-    by_test : (b : Bool) → AllHold a (if b then all_but n (kept_of ms ss) else s ∷ all_but n (kept_of ms ss))
-    by_test true = left-out a d ms i ss (omega arith) h.1
-    by_test false = (h.0, left-out a d ms i ss (omega arith) h.1)
+    by_test : (b : Bool) → Holds a s.what → AllHold a (all_but n (kept_of ms ss)) → AllHold a (if b then all_but n (kept_of ms ss) else s ∷ all_but n (kept_of ms ss))
+    by_test true k rest = rest
+    by_test false k rest = (k, rest)
 
 pub found-fewer : (m : Model) (out : List Bool) (i : ℕ) (ns : List ℕ) (given : List Assignment) → AreFound (part_of m out) ns given → AreFound (part_of m (slice_set out i true)) ns given
 found-fewer m out i [] [] h = tt

@@ -13,7 +13,7 @@ ghost use Rattle.core_extract.specs.Extracted.{solution_document, spent_document
 ghost use Rattle.core_extract.specs.Extracted.{IsExtracted};
 
 use crate::choosing::{Choice, make_smaller};
-use crate::reduction::{Reduction, SpentPart, numbers_in, numbers_of_part, question};
+use crate::reduction::{Asked, Reduction, SpentPart, numbers_in, numbers_of_part, question};
 use crate::reply::{Asker, Reply};
 use crate::settling::{Progress, Turn, settle};
 use crate::witnesses::Witnesses;
@@ -209,11 +209,15 @@ fn extract_light<F: Oracle<L>, L: Ledger>(
     let out = vec![in asker.alloc; false; numbers.len()]?;
     let whole = DividedModel::new(asker.alloc, model);
     let asked = question(asker, whole, out.as_slice(), steps)?;
-    match asked.reply {
-        Reply::Solved(a) => solved(asker, asked.model, a),
+    let Asked {
+        model: divided,
+        reply,
+    } = asked;
+    match reply {
+        Reply::Solved(a) => solved(asker, divided, a),
         Reply::Refuted(certificate) => {
             let reduction = Reduction {
-                model: asked.model,
+                model: divided,
                 out,
                 certificate,
             };
@@ -224,7 +228,7 @@ fn extract_light<F: Oracle<L>, L: Ledger>(
                 statements: Sequence::from_vec(numbers),
                 certificate,
             };
-            Ok(given_up(asker, asked.model, spent))
+            Ok(given_up(asker, divided, spent))
         }
     }
 }

@@ -124,15 +124,15 @@ pub(crate) fn names_of(alloc: Global, what: &What) -> Result<Vec<usize>, AllocEr
 
 /// A value that a name may be tried at in place of another one: one of the first few of its domain, counted by turns. A
 /// Boolean has one, and of an integer the neighbours come first, and then the values from the least on.
-pub(crate) fn value_at(kind: &Kind, now: i64, turn: usize) -> Option<i64> {
+pub(crate) fn value_at(kind: &Kind, now: i64, turn: u8) -> Option<i64> {
     match kind {
         Kind::Bool if turn == 0 => Some(if now == 0 { 1 } else { 0 }),
         Kind::Bool => None,
         Kind::Range { low, .. } => match turn {
             0 => now.checked_sub(1),
             1 => now.checked_add(1),
-            _ => low.checked_add(turn as i64 - 2),
+            _ => low.checked_add(i64::from(turn).saturating_sub(2)),
         },
-        Kind::Listed { values } => values.as_slice().get(turn).copied(),
+        Kind::Listed { values } => values.as_slice().get(usize::from(turn)).copied(),
     }
 }

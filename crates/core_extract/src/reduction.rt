@@ -146,14 +146,18 @@ impl Reduction {
             certificate,
         } = self;
         let asked = question(asker, model, out.as_slice(), steps)?;
-        match asked.reply {
+        let Asked {
+            model: divided,
+            reply,
+        } = asked;
+        match reply {
             Reply::Refuted(shown) => Ok(Attempt::Smaller(Reduction {
-                model: asked.model,
+                model: divided,
                 out,
                 certificate: shown,
             })),
             Reply::Solved(a) => {
-                let model = divide(asker.alloc, asked.model, before.as_slice())?;
+                let model = divide(asker.alloc, divided, before.as_slice())?;
                 let same = Reduction {
                     model,
                     out: before,
@@ -162,8 +166,8 @@ impl Reduction {
                 Ok(Attempt::Solved(same, a))
             }
             Reply::Spent(shown) => {
-                let numbers = numbers_of_part(asker.alloc, &asked.model)?;
-                let model = divide(asker.alloc, asked.model, before.as_slice())?;
+                let numbers = numbers_of_part(asker.alloc, &divided)?;
+                let model = divide(asker.alloc, divided, before.as_slice())?;
                 let same = Reduction {
                     model,
                     out: before,

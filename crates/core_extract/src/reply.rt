@@ -56,14 +56,18 @@ pub enum Reply {
 fn reply_of(document: Document) -> Reply
     ensures { result ≡ reply_of document }
 {
-    let certificate = Certificate {
-        ledger: document.ledger,
-        proof: document.proof,
-    };
-    match document.verdict {
+    let Document {
+        verdict,
+        assignment,
+        ledger,
+        proof,
+        ..
+    } = document;
+    let certificate = Certificate { ledger, proof };
+    match verdict {
         Verdict::Unsatisfiable => Reply::Refuted(certificate),
         Verdict::Unknown(_, _) => Reply::Spent(certificate),
-        Verdict::Satisfiable | Verdict::Optimum(_) => match document.assignment {
+        Verdict::Satisfiable | Verdict::Optimum(_) => match assignment {
             Some(a) => Reply::Solved(a),
             None => Reply::Spent(certificate),
         },

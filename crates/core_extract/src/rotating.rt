@@ -11,7 +11,7 @@ use model_parts::first_broken_but;
 use std::alloc::{AllocError, Global};
 
 /// How many values of a name are tried.
-const MOST_VALUES: usize = 8;
+const MOST_VALUES: u8 = 8;
 
 /// How many names of a statement are tried.
 const MOST_NAMES: usize = 32;

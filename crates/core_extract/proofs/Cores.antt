@@ -17,6 +17,7 @@ use Rattle.model_meaning.specs.Integers.{is_member}
 use Rattle.model_meaning.specs.Domains.{domain, in_domains}
 use Rattle.model_meaning.specs.Solutions.{AllHold, IsSolution}
 use Rattle.model_meaning.specs.WellTyped.{WellTyped}
+use Rattle.model_parts.specs.declared.divided.DividedModel.{DividedModel}
 use Rattle.model_parts.specs.Only.{is_listed, numbers_of, chosen, only, all_but}
 use Rattle.model_parts.specs.Sides.{kept_of}
 use Rattle.model_parts.proofs.Chosen.{Rise, fit-rise, rise-less}
@@ -31,12 +32,14 @@ use Rattle.decode_minimize.specs.declared.options.Options.{Options}
 use Rattle.decode_minimize.specs.Answers.{IsBudget}
 use Rattle.core_text.specs.declared.verdict.CoreVerdict.TheVariants.{Satisfiable, Core as CoreOf, Unknown}
 use Rattle.core_text.specs.declared.document.CoreDocument.{CoreDocument}
-use Rattle.core_text.specs.CoreDocuments.{ArePart, IsShownBy, AreWitnesses, AreWhole}
+use Rattle.core_text.specs.CoreDocuments.{ArePart, IsShownBy, IsDocumentOf, AreWitnesses, AreWhole}
+use Rattle.core_text.specs.CoreLines.{VerdictFits}
 use Rattle.core_extract.specs.declared.reduction.SpentPart.{SpentPart}
+use Rattle.core_extract.specs.declared.reply.Reply.TheVariants.{Solved, Spent}
 use Rattle.core_extract.specs.declared.settling.Progress.{Progress}
 use Rattle.core_extract.specs.declared.extracting.ExtractedCore.{ExtractedCore}
-use Rattle.core_extract.specs.Parts.{satisfying, whole_of, part_of, AreFound, numbers_before}
-use Rattle.core_extract.specs.Extracted.{IsAnswered, IsGivenUp, IsSpentPart, IsProgress, IsExtracted, IsExtractedFrom, ExtractsFrom, solution_document, spent_document}
+use Rattle.core_extract.specs.Parts.{satisfying, whole_of, part_of, IsAnew, AreFound, numbers_before}
+use Rattle.core_extract.specs.Extracted.{IsAnswered, IsGivenUp, IsSpentPart, IsProgress, CertificateComes, IsExtracted, IsExtractedFrom, ExtractsFrom, IsReply, core_document, solution_document, spent_document}
 use Rattle.core_extract.proofs.Divisions.{model-same, part-is}
 use Rattle.core_extract.proofs.Marks.{before-all}
 
@@ -138,6 +141,7 @@ module _ (told : Core → Equation → Type 0) (model : Model) (options : Option
     }
 
   pub core-shown : IsAnswered told (only model d.statements) options d.ledger d.proof verdict.Unsatisfiable → (s : IsShownBy model d) × IsTrue (known s.proof [])
+  unfolding shown certified
   core-shown h = let c = certified verdict.Unsatisfiable h in (shown verdict.Unsatisfiable h c.0, c.1)
 
   alone : (p : Proof) (n : ℕ) (o : Option (List ProofLine)) → AreAddedAlone p n o → length p.added ≡ n
@@ -145,6 +149,7 @@ module _ (told : Core → Equation → Type 0) (model : Model) (options : Option
   alone p n (Some lines) h = absurd h
 
   pub spent-shown : (n : ℕ) → IsAnswered told (only model d.statements) options d.ledger d.proof (verdict.Unknown n None) → (s : IsShownBy model d) × (length s.proof.added ≡ n)
+  unfolding shown certified
   spent-shown n h =
       let c = certified (verdict.Unknown n None) h in
       (shown (verdict.Unknown n None) h c.0, alone c.0.proof n h.document.second c.1)
@@ -161,9 +166,12 @@ module _ (told : Core → Equation → Type 0) (model : Model) (options : Option
       let given : AreWitnesses model d.statements d.statements d.assignments = subst (λ (ns : List ℕ). AreWitnesses model ns d.statements d.assignments) (sym numbers)
       (witnesses model typed out d.statements d.assignments found) in
       record {
-        document = rw is (record { fits = small; document = (shown.0, shown.1, count, given) });
+        document = record {
+          fits = subst VerdictFits (sym is) small;
+          document = subst (IsDocumentOf model d) (sym is) (shown.0, shown.1, count, given);
+        };
         whole = found-whole (part_of model out) d.statements d.assignments found;
-        certificate = rw is here;
+        certificate = subst (CertificateComes told model options d) (sym is) here;
       }
 
   -- a search that was given up
@@ -174,9 +182,12 @@ module _ (told : Core → Equation → Type 0) (model : Model) (options : Option
       let part : ArePart model 0 d.statements = subst (ArePart model 0) (sym numbers) (are-part model typed out) in
       let here = subst (λ (m : Model). IsAnswered told m options d.ledger d.proof (verdict.Unknown options.budget None)) only-is given in
       record {
-        document = rw is (record { fits = (budget.0, budget.1); document = spent-shown told model options d part options.budget here });
-        whole = rw none tt;
-        certificate = rw is (refl, here);
+        document = record {
+          fits = subst VerdictFits (sym is) (budget.0, budget.1);
+          document = subst (IsDocumentOf model d) (sym is) (spent-shown told model options d part options.budget here);
+        };
+        whole = subst (AreWhole model.decls) (sym none) tt;
+        certificate = subst (CertificateComes told model options d) (sym is) (refl, here);
       }
 
 -- what is extracted from each model that a whole one is but for its goal
@@ -226,7 +237,7 @@ solution-from told whole options e a n is h decls model typed same =
 -- the core that the last pass comes to
 pub core-of : (told : Core → Equation → Type 0) (options : Options) (p : Progress) (e : ExtractedCore) (ns : List ℕ) → IsProgress told options (length p.reduction.out.items) p
     → length p.reduction.out.items ≡ length (numbers_of (whole_of p.reduction.model).stmts) → ns ≡ numbers_of p.reduction.model.part.stmts → length ns < 2 ^ 64
-    → e.document ≡ record { verdict = CoreOf (length ns); statements = ns; ledger = p.reduction.certificate.ledger; proof = p.reduction.certificate.proof; assignments = p.given.items }
+    → e.document ≡ core_document ns p.reduction.certificate p.given.items
     → e.decls ≡ p.reduction.model.part.decls → ExtractsFrom told (whole_of p.reduction.model) options e
 core-of told options p e ns is count numbers small document decls =
     let whole = whole_of p.reduction.model in
@@ -265,3 +276,22 @@ spent-whole told options whole s n numbers given = record {
   numbers = numbers ∙ ap numbers_of (sym (kept-all n whole.stmts));
   given_up = given;
 }
+
+-- the same of the first question, whose marks are all unset
+module _ (told : Core → Equation → Type 0) (options : Options) (model : Model) (d new : DividedModel) (marks : List Bool) (n : ℕ) (anew : IsAnew d marks new) (unset : marks ≡ replicate n false)
+    (same : whole_of d ≡ satisfying model) where
+  pub first-whole : whole_of new ≡ satisfying model
+  first-whole = anew.whole ∙ same
+
+  pub first-spent : (s : SpentPart) → s.statements ≡ numbers_of model.stmts → IsReply told (part_of (whole_of d) marks) options (Spent s.certificate) → IsSpentPart told (whole_of new) options s
+  first-spent s numbers reply =
+      spent-whole told options (whole_of new) s n (numbers ∙ ap (λ (m : Model). numbers_of m.stmts) (sym first-whole))
+      (subst (λ (m : Model). IsGivenUp told (part_of m (replicate n false)) options s.certificate) (sym anew.whole)
+      (subst (λ (o : List Bool). IsGivenUp told (part_of (whole_of d) o) options s.certificate) unset reply))
+
+  pub first-solved : (typed : WellTyped model) (a : Assignment) (r : Result ExtractedCore AllocError) → IsReply told (part_of (whole_of d) marks) options (Solved a)
+      → IfOk r (λ e. e.document ≡ solution_document a) → IfOk r (λ e. e.decls ≡ (whole_of new).decls) → IfOk r (IsExtractedFrom told model options)
+  first-solved typed a r reply document decls =
+      solved-light told options model (whole_of new) r a n typed first-whole
+      (subst (λ (m : Model). IsSolution (part_of m (replicate n false)) a.values) (sym anew.whole)
+      (subst (λ (o : List Bool). IsSolution (part_of (whole_of d) o) a.values) unset reply.0)) document decls

@@ -1,6 +1,6 @@
 -- What comes of a statement in the last pass.
 use Rattle.std.proofs.Common.{◌≡◌, ℕ, ◌+◌, ◌<◌, Bool, true, false, List, [], ◌∷◌, ◌++◌, length, refl, sym, ap, ◌∙◌, subst, arith}
-use Rattle.std.proofs.lemmas.List.{get_or-set_same}
+use Rattle.std.proofs.lemmas.List.{get_or-set_same, length-set}
 use Rattle.std.specs.Prelude.{slice_index_or, slice_set}
 use Rattle.core_forms.specs.declared.equation.Equation.{Equation}
 use Rattle.core_forms.specs.declared.form.Core.{Core}
@@ -42,13 +42,13 @@ choice-behind told options a b (choice.Part r) same h = (h.0, same-behind a b r 
 choice-behind told options a b (choice.Spent r s) same h = (spent-of told options (whole_of b.model) (whole_of a.model) s same.whole h.0, h.1 ∙ same.whole)
 
 set-length : (out : List Bool) (i : ℕ) → length (slice_set out i true) ≡ length out
-set-length out i = grind arith
+set-length out i = length-set out i true
 
 module _ (told : Core → Equation → Type 0) (options : Options) (place : ℕ) (old : Progress) (is : IsProgress told options place old) (below : place < length old.reduction.out.items) where
-  whole : Model
+  abbrev pub whole : Model
   whole = whole_of old.reduction.model
 
-  out : List Bool
+  abbrev pub out : List Bool
   out = old.reduction.out.items
 
   -- it was left out before
@@ -74,7 +74,7 @@ module _ (told : Core → Equation → Type 0) (options : Options) (place : ℕ)
       )
 
   module _ (kept : slice_index_or out place false ≡ false) (named : place < length (numbers_of whole.stmts)) (d : ℕ) where
-    n : ℕ
+    abbrev pub n : ℕ
     n = slice_index_or (numbers_of whole.stmts) place d
 
     -- it has its assignment

@@ -171,7 +171,16 @@ abbrev pub ExtractsFrom : (Core → Equation → Type 0) → Model → Options �
 ExtractsFrom told whole options e = (model : Model) → WellTyped model → whole ≡ satisfying model
     → IsExtractedFrom told model options e
 
--- the document of a solution, and of a search that was given up
+-- the document of a core, of a solution, and of a search that was given up
+abbrev pub core_document : List ℕ → Certificate → List Assignment → CoreDocument
+core_document numbers c given = record {
+  verdict = core.Core (length numbers);
+  statements = numbers;
+  ledger = c.ledger;
+  proof = c.proof;
+  assignments = given;
+}
+
 abbrev pub solution_document : Assignment → CoreDocument
 solution_document a = record {
   verdict = core.Satisfiable;

@@ -3,7 +3,7 @@
 //! First a part grows from nothing by what its solutions break, which finds small parts by small questions. Then groups
 //! of statements are left out of it, twice as many after each that can be spared.
 
-ghost use Rattle.std.specs.Prelude.{◌≡◌, length, IfOk};
+ghost use Rattle.std.specs.Prelude.{◌≡◌, length, IfOk, IsTrue};
 ghost use Rattle.model_meaning.specs.Limits.{InLimits};
 ghost use Rattle.decode_minimize.specs.Answers.{IsBudget};
 ghost use Rattle.core_extract.specs.Extracted.{IsReduced, IsSameModel, IsChoice, IsGrowth, IsLeaving};
@@ -75,6 +75,13 @@ fn take_in(part: &Model, out: &[bool], a: &Assignment, left: &mut [bool])
     }
 }
 
+/// Whether there are as many marks.
+fn same_length(left: &[bool], out: &[bool]) -> bool
+    ensures { IsTrue result → length left.now ≡ length out.now }
+{
+    left.len() == out.len()
+}
+
 /// Asks about what was taken in so far, and takes in what its solution breaks.
 fn grow_once<F: Oracle<L>, L: Ledger>(
     reduction: Reduction,
@@ -84,9 +91,11 @@ fn grow_once<F: Oracle<L>, L: Ledger>(
 ) -> Result<Growth, AllocError>
     requires reduced { IsReduced F.told asker.now.options reduction }
     requires budget { IsBudget asker.now.options.budget }
-    requires count { length left.old ≡ length reduction.out.items }
     ensures { IfOk result (IsGrowth F.told asker.now.options reduction) }
 {
+    if !same_length(left, reduction.out.as_slice()) {
+        return Ok(Growth::Ended(reduction));
+    }
     let out = Vec::from_slice(asker.alloc, left)?;
     let attempt = reduction.attempt(asker, out, steps)?;
     match attempt {
@@ -154,6 +163,11 @@ fn fewer(size: usize) -> usize {
     if size < 8 { 1 } else { size / 4 }
 }
 
+/// How many are left out behind a solution: as many, where it breaks a single statement.
+fn next_size(single: bool, size: usize) -> usize {
+    if single { size } else { fewer(size) }
+}
+
 /// Asks about the part without a group.
 fn leave_out<F: Oracle<L>, L: Ledger>(
     reduction: Reduction,
@@ -177,8 +191,7 @@ fn leave_out<F: Oracle<L>, L: Ledger>(
         Attempt::Smaller(smaller) => Ok(Leaving::Next(smaller, size.saturating_mul(2))),
         Attempt::Solved(same, a) => {
             let single = keep(asker.alloc, same.part(), numbers, witnesses, a)?;
-            let next = if single { size } else { fewer(size) };
-            Ok(Leaving::Next(same, next))
+            Ok(Leaving::Next(same, next_size(single, size)))
         }
         Attempt::Spent(same, spent) => {
             if count == 1 {

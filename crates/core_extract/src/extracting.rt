@@ -1,6 +1,6 @@
 //! Why a model has no solution.
 
-ghost use Rattle.std.specs.Prelude.{◌≡◌, ◌≤◌, length, IfOk, IfErr};
+ghost use Rattle.std.specs.Prelude.{◌≡◌, ◌≤◌, ◌<◌, ◌^◌, length, IfOk, IfErr};
 ghost use Rattle.model_meaning.specs.WellTyped.{WellTyped};
 ghost use Rattle.model_meaning.specs.Limits.{InLimits};
 ghost use Rattle.model_lower.specs.Weighed.{most_weight};
@@ -9,12 +9,12 @@ ghost use Rattle.model_parts.specs.CoreWeight.{core_weight};
 ghost use Rattle.decode_minimize.specs.Answers.{IsBudget};
 ghost use Rattle.core_extract.specs.Parts.{whole_of};
 ghost use Rattle.core_extract.specs.Extracted.{IsReduced, IsSpentPart, IsProgress, IsFaultOf};
-ghost use Rattle.core_extract.specs.Extracted.{solution_document, spent_document, ExtractsFrom, IsExtractedFrom};
+ghost use Rattle.core_extract.specs.Extracted.{core_document, solution_document, spent_document, ExtractsFrom, IsExtractedFrom};
 ghost use Rattle.core_extract.specs.Extracted.{IsExtracted};
 
 use crate::choosing::{Choice, make_smaller};
 use crate::reduction::{Asked, Reduction, SpentPart, numbers_in, numbers_of_part, question};
-use crate::reply::{Asker, Reply};
+use crate::reply::{Asker, Certificate, Reply};
 use crate::settling::{Progress, Turn, settle};
 use crate::witnesses::Witnesses;
 use bee_list::Sequence;
@@ -88,6 +88,25 @@ fn spent_document(alloc: Global, spent: SpentPart, budget: u64) -> CoreDocument
     }
 }
 
+/// The document of a core.
+fn core_document(
+    numbers: Vec<u64>,
+    certificate: Certificate,
+    given: Vec<Assignment>,
+) -> CoreDocument
+    ensures document { result ≡ core_document numbers.items certificate given.items }
+    ensures small { length numbers.items < 2 ^ 64 }
+{
+    let count = numbers.len() as u64;
+    CoreDocument {
+        verdict: CoreVerdict::Core(count),
+        statements: Sequence::from_vec(numbers),
+        ledger: certificate.ledger,
+        proof: certificate.proof,
+        assignments: Sequence::from_vec(given),
+    }
+}
+
 /// What is extracted where a search was given up.
 fn given_up<F: Oracle<L>, L: Ledger>(
     asker: &Asker<F>,
@@ -137,15 +156,8 @@ fn core_of<F: Oracle<L>, L: Ledger>(
     let Reduction {
         model, certificate, ..
     } = reduction;
-    let document = CoreDocument {
-        verdict: CoreVerdict::Core(numbers.len() as u64),
-        statements: Sequence::from_vec(numbers),
-        ledger: certificate.ledger,
-        proof: certificate.proof,
-        assignments: Sequence::from_vec(given),
-    };
     Ok(ExtractedCore {
-        document,
+        document: core_document(numbers, certificate, given),
         decls: model.into_decls(),
         questions: asker.asked.get(),
     })

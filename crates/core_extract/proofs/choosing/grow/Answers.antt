@@ -15,4 +15,4 @@ returns-in-Ended-clause-same g c =
 pub loop-preserved : goal.loop-preserved
 loop-preserved g c =
     let h = growth-as g.F.Oracle.told c.args.asker.now.options c.loop.reduction _ _ c.in-Further.is c.in_ok-growth.ensures in
-    record { reduced = h.0; same = same-behind c.args.reduction c.loop.reduction c.in-Further.same c.loop.invariant.same h.1; count = ? }
+    record { reduced = h.0; same = same-behind c.args.reduction c.loop.reduction c.in-Further.same c.loop.invariant.same h.1 }

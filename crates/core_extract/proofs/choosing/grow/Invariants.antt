@@ -1,4 +1,3 @@
-use Rattle.std.proofs.Common.{◌≡◌, length}
 use Rattle.core_extract.specs.Extracted.{IsReduced, IsSameModel}
 use Rattle.core_extract.proofs.choosing.grow.Given as goal
 
@@ -6,5 +5,4 @@ abbrev pub invariant-loop : goal.invariant-loop
 invariant-loop g l = record {
   reduced : IsReduced g.F.Oracle.told l.asker.options l.reduction;
   same : IsSameModel l.fn.reduction l.reduction;
-  count : length l.left.items ≡ length l.fn.reduction.out.items;
 }

@@ -1,4 +1,4 @@
-use Rattle.std.proofs.Common.{List, sym, refl, ap, subst, ◌∙◌}
+use Rattle.std.proofs.Common.{List, [], sym, refl, ap, subst, ◌∙◌}
 use Rattle.model_meaning.specs.declared.model.Model.{Model}
 use Rattle.model_meaning.specs.declared.model.Assignment.{Assignment}
 use Rattle.model_parts.specs.Only.{numbers_of}

@@ -26,5 +26,5 @@ returns-in_ok-model-in-Spent g c =
     let back = anew-as old.model c.in_ok-model-in-Spent.model _ old.out.items c.as_slice-in-Spent.ensures.value
     (anew-behind old.model c.in_ok-asked.asked.model c.in_ok-model-in-Spent.model c.args.out.items _ at c.in_ok-model-in-Spent.ensures) in
     let reply = reply-as g.F.Oracle.told c.args.asker.now.options (whole_of old.model) _ c.args.out.items _ _ c.as_slice.ensures.value c.in-Spent.is c.in_ok-asked.ensures.reply in
-    let numbers = numbers-as old.model c.in_ok-asked.asked.model c.args.out.items _ at c.in_ok-numbers.ensures in
+    let numbers = numbers-as old.model c.in_ok-asked.asked.model c.args.out.items _ at c.in_ok-numbers-in-Spent.ensures in
     spent g.F.Oracle.told c.args.asker.now.options old _ _ c.args.out.items c.requires.reduced back refl refl (c.from_vec.ensures ∙ numbers) reply

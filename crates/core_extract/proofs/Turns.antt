@@ -44,6 +44,14 @@ choice-behind told options a b (choice.Spent r s) same h = (spent-of told option
 set-length : (out : List Bool) (i : ℕ) → length (slice_set out i true) ≡ length out
 set-length out i = length-set out i true
 
+-- what was found, in a part that is the same
+found-at : (i : ℕ) (m n : Model) (o q : List Bool) (gs hs : List Assignment) → m ≡ n → o ≡ q → gs ≡ hs → AreFound (part_of n q) (numbers_before i q n.stmts) hs
+    → AreFound (part_of m o) (numbers_before i o m.stmts) gs
+found-at i m n o q gs hs e f h is =
+    subst (λ (x : Model). AreFound (part_of x o) (numbers_before i o x.stmts) gs) (sym e)
+    (subst (λ (x : List Bool). AreFound (part_of n x) (numbers_before i x n.stmts) gs) (sym f)
+    (subst (λ (x : List Assignment). AreFound (part_of n q) (numbers_before i q n.stmts) x) (sym h) is))
+
 module _ (told : Core → Equation → Type 0) (options : Options) (place : ℕ) (old : Progress) (is : IsProgress told options place old) (below : place < length old.reduction.out.items) where
   abbrev pub whole : Model
   whole = whole_of old.reduction.model
@@ -69,7 +77,10 @@ module _ (told : Core → Equation → Type 0) (options : Options) (place : ℕ)
       let found : AreFound (part_of whole (slice_set out place true)) (numbers_before (place + 1) (slice_set out place true) whole.stmts) old.given.items =
       subst (λ (ns : List ℕ). AreFound (part_of whole (slice_set out place true)) ns old.given.items) (sym front) (found-fewer whole out place (numbers_before place out whole.stmts) old.given.items is.found) in
       (
-        record { reduced = reduced; found = rw (same, marks, given) found },
+        record {
+          reduced = reduced;
+          found = found-at (place + 1) (whole_of p.reduction.model) whole p.reduction.out.items (slice_set out place true) p.given.items old.given.items same marks given found;
+        },
         record { whole = same; count = ap length marks ∙ set-length out place },
       )
 
@@ -84,7 +95,13 @@ module _ (told : Core → Equation → Type 0) (options : Options) (place : ℕ)
         let found : AreFound (part_of whole out) (numbers_before (place + 1) out whole.stmts) (old.given.items ++ a ∷ []) =
         subst (λ (ns : List ℕ). AreFound (part_of whole out) ns (old.given.items ++ a ∷ [])) (sym (before-kept d place out whole.stmts below named kept))
         (found-more (part_of whole out) n a (numbers_before place out whole.stmts) old.given.items is.found meets) in
-        (record { reduced = reduced; found = rw (same, marks, given) found }, record { whole = same; count = ap length marks })
+        (
+          record {
+            reduced = reduced;
+            found = found-at (place + 1) (whole_of p.reduction.model) whole p.reduction.out.items out p.given.items (old.given.items ++ a ∷ []) same marks given found;
+          },
+          record { whole = same; count = ap length marks },
+        )
 
     pub solved-one : (p : Progress) (a : Assignment) → IsReduced told options p.reduction → whole_of p.reduction.model ≡ whole → p.reduction.out.items ≡ out → p.given.items ≡ old.given.items ++ a ∷ []
         → IsSolution (part_of whole (slice_set out place true)) a.values → IsTurn told options (place + 1) old (turn.Next p)

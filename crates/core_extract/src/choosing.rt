@@ -83,6 +83,30 @@ fn same_length(left: &[bool], out: &[bool]) -> bool
 }
 
 /// Asks about what was taken in so far, and takes in what its solution breaks.
+fn grow_by<F: Oracle<L>, L: Ledger>(
+    reduction: Reduction,
+    asker: &Asker<F>,
+    left: &mut [bool],
+    steps: &mut Steps<L>,
+) -> Result<Growth, AllocError>
+    requires reduced { IsReduced F.told asker.now.options reduction }
+    requires budget { IsBudget asker.now.options.budget }
+    requires count { length left.old ≡ length reduction.out.items }
+    ensures { IfOk result (IsGrowth F.told asker.now.options reduction) }
+{
+    let out = Vec::from_slice(asker.alloc, left)?;
+    let attempt = reduction.attempt(asker, out, steps)?;
+    match attempt {
+        Attempt::Smaller(smaller) => Ok(Growth::Ended(smaller)),
+        Attempt::Solved(same, a) => {
+            take_in(same.part(), same.out.as_slice(), &a, left);
+            Ok(Growth::Further(same))
+        }
+        Attempt::Spent(same, _) => Ok(Growth::Ended(same)),
+    }
+}
+
+/// One more question, where there are as many marks as the part has.
 fn grow_once<F: Oracle<L>, L: Ledger>(
     reduction: Reduction,
     asker: &Asker<F>,
@@ -93,18 +117,10 @@ fn grow_once<F: Oracle<L>, L: Ledger>(
     requires budget { IsBudget asker.now.options.budget }
     ensures { IfOk result (IsGrowth F.told asker.now.options reduction) }
 {
-    if !same_length(left, reduction.out.as_slice()) {
-        return Ok(Growth::Ended(reduction));
-    }
-    let out = Vec::from_slice(asker.alloc, left)?;
-    let attempt = reduction.attempt(asker, out, steps)?;
-    match attempt {
-        Attempt::Smaller(smaller) => Ok(Growth::Ended(smaller)),
-        Attempt::Solved(same, a) => {
-            take_in(same.part(), same.out.as_slice(), &a, left);
-            Ok(Growth::Further(same))
-        }
-        Attempt::Spent(same, _) => Ok(Growth::Ended(same)),
+    if same_length(left, reduction.out.as_slice()) {
+        grow_by(reduction, asker, left, steps)
+    } else {
+        Ok(Growth::Ended(reduction))
     }
 }
 

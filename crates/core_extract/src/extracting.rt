@@ -1,6 +1,6 @@
 //! Why a model has no solution.
 
-ghost use Rattle.std.specs.Prelude.{◌≡◌, ◌≤◌, ◌<◌, ◌^◌, length, IfOk, IfErr};
+ghost use Rattle.std.specs.Prelude.{◌≡◌, ◌≤◌, ◌<◌, ◌^◌, false, length, replicate, IfOk, IfErr};
 ghost use Rattle.model_meaning.specs.WellTyped.{WellTyped};
 ghost use Rattle.model_meaning.specs.Limits.{InLimits};
 ghost use Rattle.model_lower.specs.Weighed.{most_weight};
@@ -205,6 +205,14 @@ fn reduce<F: Oracle<L>, L: Ledger>(
     }
 }
 
+/// So many marks, none of which is set.
+fn unset(alloc: Global, count: usize) -> Result<Vec<bool>, AllocError>
+    ensures { IfOk result (λ marks. marks.items ≡ replicate count false) }
+{
+    let marks = vec![in alloc; false; count]?;
+    Ok(marks)
+}
+
 /// What is extracted from a model none of whose parts is too heavy.
 fn extract_light<F: Oracle<L>, L: Ledger>(
     asker: &Asker<F>,
@@ -218,7 +226,7 @@ fn extract_light<F: Oracle<L>, L: Ledger>(
 {
     let stmts = model.stmts.as_slice();
     let numbers = numbers_in(asker.alloc, stmts)?;
-    let out = vec![in asker.alloc; false; numbers.len()]?;
+    let out = unset(asker.alloc, numbers.len())?;
     let whole = DividedModel::new(asker.alloc, model);
     let asked = question(asker, whole, out.as_slice(), steps)?;
     let Asked {

@@ -1,18 +1,8 @@
-use Rattle.std.proofs.Common.{length, ap, ◌∙◌}
-use Rattle.core_extract.proofs.Turns.{attempt-as}
+use Rattle.std.proofs.Common.{length, refl, ap, ◌∙◌}
 use Rattle.core_extract.proofs.choosing.grow_once.Goals as goal
 
-pub returns-in-Smaller : goal.returns-in-Smaller
-returns-in-Smaller g c =
-    let h = attempt-as g.F.Oracle.told c.args.asker.now.options c.args.reduction c.in_ok-out.out.items _ _ c.in-Smaller.is c.in_ok-attempt.ensures in
-    (h.0, record { whole = h.1; count = ap length h.2 ∙ (ap length c.in_ok-out.ensures.items ∙ (c.same_length.ensures c.if-same_length.true ∙ ap length c.as_slice.ensures.value)) })
+pub grow_by-requires-clause-count : goal.grow_by-requires-clause-count
+grow_by-requires-clause-count g c = c.same_length.ensures c.if-same_length.true ∙ ap length c.as_slice.ensures.value
 
-pub returns-in-Solved : goal.returns-in-Solved
-returns-in-Solved g c =
-    let h = attempt-as g.F.Oracle.told c.args.asker.now.options c.args.reduction c.in_ok-out.out.items _ _ c.in-Solved.is c.in_ok-attempt.ensures in
-    (h.0, record { whole = h.1; count = ap length h.2 })
-
-pub returns : goal.returns
-returns g c =
-    let h = attempt-as g.F.Oracle.told c.args.asker.now.options c.args.reduction c.in_ok-out.out.items _ _ c.in-Spent.is c.in_ok-attempt.ensures in
-    (h.0, record { whole = h.1; count = ap length h.2 })
+pub returns-else-same_length : goal.returns-else-same_length
+returns-else-same_length g c = (c.requires.reduced, record { whole = refl; count = refl })

@@ -22,13 +22,13 @@ pub given_up-requires-clause-spent : goal.given_up-requires-clause-spent
 given_up-requires-clause-spent g c =
     let same = new-whole c.args.model c.new-whole.result c.new-whole.ensures.divided c.new-whole.ensures.all in
     first-spent g.F.Oracle.told c.args.asker.now.options c.args.model c.new-whole.result c.in_ok-asked.asked.model c.as_slice.result.now _ c.in_ok-asked.ensures.anew
-    (c.as_slice.ensures.value ∙ c.in_ok-out.ensures.items) same _ (c.from_vec.ensures ∙ (c.in_ok-numbers.ensures ∙ ap numbers_of c.as_slice-stmts.ensures))
+    (c.as_slice.ensures.value ∙ c.in_ok-out.ensures) same _ (c.from_vec.ensures ∙ (c.in_ok-numbers.ensures ∙ ap numbers_of c.as_slice-stmts.ensures))
     (subst (IsReply g.F.Oracle.told (part_of (whole_of c.new-whole.result) c.as_slice.result.now) c.args.asker.now.options) c.in-Spent.is c.in_ok-asked.ensures.reply)
 
 pub returns-in-Solved : goal.returns-in-Solved
 returns-in-Solved g c =
     let same = new-whole c.args.model c.new-whole.result c.new-whole.ensures.divided c.new-whole.ensures.all in
     first-solved g.F.Oracle.told c.args.asker.now.options c.args.model c.new-whole.result c.in_ok-asked.asked.model c.as_slice.result.now _ c.in_ok-asked.ensures.anew
-    (c.as_slice.ensures.value ∙ c.in_ok-out.ensures.items) same c.requires.typed c.in-Solved.a c.solved.result
+    (c.as_slice.ensures.value ∙ c.in_ok-out.ensures) same c.requires.typed c.in-Solved.a c.solved.result
     (subst (IsReply g.F.Oracle.told (part_of (whole_of c.new-whole.result) c.as_slice.result.now) c.args.asker.now.options) c.in-Solved.is c.in_ok-asked.ensures.reply)
     c.solved.ensures.document c.solved.ensures.decls

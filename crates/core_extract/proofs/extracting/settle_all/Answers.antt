@@ -26,7 +26,7 @@ given_up-requires-clause-spent g c =
     let h = turn-as g.F.Oracle.told c.args.asker.now.options _ c.args.reduction _ _ c.in-Spent.is c.in_ok-turn.ensures in
     spent-of g.F.Oracle.told c.args.asker.now.options _ _ c.in-Spent.spent (sym h.1) h.0
 
-pub returns : goal.returns
-returns g c =
+pub returns-in-Spent : goal.returns-in-Spent
+returns-in-Spent g c =
     let h = turn-as g.F.Oracle.told c.args.asker.now.options _ c.args.reduction _ _ c.in-Spent.is c.in_ok-turn.ensures in
     extracted-as g.F.Oracle.told c.args.asker.now.options _ _ c.given_up.result h.1 c.given_up.ensures

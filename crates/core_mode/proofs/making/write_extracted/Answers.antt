@@ -9,8 +9,8 @@ write_core-requires c =
     let d = c.in_ok-extracted.extracted.document in
     subst (λ (ds : List Decl). AreWhole ds d.assignments) (sym (c.as_slice-decls.ensures ∙ c.in_ok-extracted.ensures.decls)) c.in_ok-extracted.ensures.extracted.whole
 
-pub returns-in_ok-text-clause-text : goal.returns-in_ok-text-clause-text
-returns-in_ok-text-clause-text c =
+pub returns-clause-text : goal.returns-clause-text
+returns-clause-text c =
     let d = c.in_ok-extracted.extracted.document in
     record {
       document = d;

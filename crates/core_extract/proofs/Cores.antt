@@ -196,25 +196,23 @@ pub core-from : (told : Core → Equation → Type 0) (whole : Model) (options :
     → IsAnswered told (part_of whole out) options e.document.ledger e.document.proof verdict.Unsatisfiable → AreFound (part_of whole out) e.document.statements e.document.assignments
     → e.decls ≡ whole.decls → ExtractsFrom told whole options e
 core-from told whole options e out k is small count numbers refuted found decls model typed same =
-    let d = e.document in
-    (
+    let d = e.document in (
       core-extracted told model options typed d out k is small count
-      (subst (λ (w : Model). d.statements ≡ numbers_of (kept_of out w.stmts)) same numbers)
-      (subst (λ (w : Model). IsAnswered told (part_of w out) options d.ledger d.proof verdict.Unsatisfiable) same refuted)
-      (subst (λ (w : Model). AreFound (part_of w out) d.statements d.assignments) same found),
+          (subst (λ (w : Model). d.statements ≡ numbers_of (kept_of out w.stmts)) same numbers)
+          (subst (λ (w : Model). IsAnswered told (part_of w out) options d.ledger d.proof verdict.Unsatisfiable) same refuted)
+          (subst (λ (w : Model). AreFound (part_of w out) d.statements d.assignments) same found),
       decls ∙ ap (λ (w : Model). w.decls) same,
     )
 
 pub spent-from : (told : Core → Equation → Type 0) (whole : Model) (options : Options) (e : ExtractedCore) (s : SpentPart) → IsBudget options.budget → e.document ≡ spent_document options.budget s
     → IsSpentPart told whole options s → e.decls ≡ whole.decls → ExtractsFrom told whole options e
-spent-from told whole options e s budget is h decls model typed same =
-    (
-      subst (IsExtracted told model options) (sym is)
+spent-from told whole options e s budget is h decls model typed same = (
+  subst (IsExtracted told model options) (sym is)
       (spent-extracted told model options typed (spent_document options.budget s) h.out budget refl refl
       (subst (λ (w : Model). s.statements ≡ numbers_of (kept_of h.out w.stmts)) same h.numbers)
       (subst (λ (w : Model). IsAnswered told (part_of w h.out) options s.certificate.ledger s.certificate.proof (verdict.Unknown options.budget None)) same h.given_up)),
-      decls ∙ ap (λ (w : Model). w.decls) same,
-    )
+  decls ∙ ap (λ (w : Model). w.decls) same,
+)
 
 pub kept-all : (n : ℕ) (ss : List Stmt) → kept_of (replicate n false) ss ≡ ss
 kept-all zero ss = refl
@@ -225,12 +223,13 @@ pub solution-from : (told : Core → Equation → Type 0) (whole : Model) (optio
     → IsSolution (part_of whole (replicate n false)) a.values → e.decls ≡ whole.decls → ExtractsFrom told whole options e
 solution-from told whole options e a n is h decls model typed same =
     let here : IsSolution (part_of model (replicate n false)) a.values = subst (λ (w : Model). IsSolution (part_of w (replicate n false)) a.values) same h in
-    let all : AllHold a.values model.stmts = subst (AllHold a.values) (kept-all n model.stmts) here.holds in
-    (
+    let all : AllHold a.values model.stmts = subst (AllHold a.values) (kept-all n model.stmts) here.holds in (
       subst (IsExtracted told model options) (sym is)
-      (record { document = record { fits = tt; document = record { in_domains = here.in_domains; holds = all } };
-      whole = (domains-length model.decls a.values here.in_domains, tt);
-      certificate = tt }),
+          (record {
+            document = record { fits = tt; document = record { in_domains = here.in_domains; holds = all } };
+            whole = (domains-length model.decls a.values here.in_domains, tt);
+            certificate = tt;
+          }),
       decls ∙ ap (λ (w : Model). w.decls) same,
     )
 

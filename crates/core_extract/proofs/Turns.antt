@@ -75,8 +75,7 @@ module _ (told : Core → Equation → Type 0) (options : Options) (place : ℕ)
       let front : numbers_before (place + 1) (slice_set out place true) whole.stmts ≡ numbers_before place out whole.stmts =
       before-out place (slice_set out place true) whole.stmts longer set ∙ before-set place out whole.stmts in
       let found : AreFound (part_of whole (slice_set out place true)) (numbers_before (place + 1) (slice_set out place true) whole.stmts) old.given.items =
-      subst (λ (ns : List ℕ). AreFound (part_of whole (slice_set out place true)) ns old.given.items) (sym front) (found-fewer whole out place (numbers_before place out whole.stmts) old.given.items is.found) in
-      (
+      subst (λ (ns : List ℕ). AreFound (part_of whole (slice_set out place true)) ns old.given.items) (sym front) (found-fewer whole out place (numbers_before place out whole.stmts) old.given.items is.found) in (
         record {
           reduced = reduced;
           found = found-at (place + 1) (whole_of p.reduction.model) whole p.reduction.out.items (slice_set out place true) p.given.items old.given.items same marks given found;
@@ -94,8 +93,7 @@ module _ (told : Core → Equation → Type 0) (options : Options) (place : ℕ)
     given-one p a reduced same marks given meets =
         let found : AreFound (part_of whole out) (numbers_before (place + 1) out whole.stmts) (old.given.items ++ a ∷ []) =
         subst (λ (ns : List ℕ). AreFound (part_of whole out) ns (old.given.items ++ a ∷ [])) (sym (before-kept d place out whole.stmts below named kept))
-        (found-more (part_of whole out) n a (numbers_before place out whole.stmts) old.given.items is.found meets) in
-        (
+        (found-more (part_of whole out) n a (numbers_before place out whole.stmts) old.given.items is.found meets) in (
           record {
             reduced = reduced;
             found = found-at (place + 1) (whole_of p.reduction.model) whole p.reduction.out.items out p.given.items (old.given.items ++ a ∷ []) same marks given found;

@@ -9,7 +9,8 @@ ghost use Rattle.model_parts.specs.CoreWeight.{core_weight};
 ghost use Rattle.decode_minimize.specs.Answers.{IsBudget};
 ghost use Rattle.core_extract.specs.Parts.{whole_of};
 ghost use Rattle.core_extract.specs.Extracted.{IsReduced, IsSpentPart, IsProgress, IsFaultOf};
-ghost use Rattle.core_extract.specs.Extracted.{core_document, solution_document, spent_document, ExtractsFrom, IsExtractedFrom};
+ghost use Rattle.core_extract.specs.Extracted.{core_document, solution_document, spent_document};
+ghost use Rattle.core_extract.specs.Extracted.{ExtractsFrom, IsExtractedFrom};
 ghost use Rattle.core_extract.specs.Extracted.{IsExtracted};
 
 use crate::choosing::{Choice, make_smaller};
@@ -154,7 +155,9 @@ fn core_of<F: Oracle<L>, L: Ledger>(
     let Progress { reduction, given } = progress;
     let numbers = numbers_of_part(asker.alloc, &reduction.model)?;
     let Reduction {
-        model, certificate, ..
+        model,
+        certificate,
+        ..
     } = reduction;
     Ok(ExtractedCore {
         document: core_document(numbers, certificate, given),

@@ -87,13 +87,7 @@ pub(crate) fn ask<F: Oracle<L>, L: Ledger>(
     ensures { IfOk result (IsReply F.told model.now asker.now.options) }
 {
     asker.asked.set(asker.asked.get().saturating_add(1));
-    match answer(
-        asker.alloc,
-        model,
-        asker.options,
-        asker.oracle,
-        steps,
-    ) {
+    match answer(asker.alloc, model, asker.options, asker.oracle, steps) {
         Ok(document) => Ok(reply_of(document)),
         Err(_) => Err(AllocError),
     }

@@ -111,8 +111,10 @@ fn try_name(
 ) -> Result<(), AllocError>
     requires { InLimits part.now }
 {
-    let (Some(decl), Some(now)) = (part.decls.as_slice().get(name), a.values.as_slice().get(name))
-    else {
+    let (Some(decl), Some(now)) = (
+        part.decls.as_slice().get(name),
+        a.values.as_slice().get(name),
+    ) else {
         return Ok(());
     };
     for turn in 0..MOST_VALUES {

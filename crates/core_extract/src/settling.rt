@@ -1,7 +1,8 @@
 //! The last pass, on which a core alone rests: each statement of the part gets an assignment that meets all others, or
 //! leaves the part.
 
-ghost use Rattle.std.specs.Prelude.{◌≡◌, ◌+◌, ◌<◌, ◌++◌, ◌∷◌, [], false, length, slice_index_or, IfOk, IfSome, IsTrue};
+ghost use Rattle.std.specs.Prelude.{◌≡◌, ◌+◌, ◌<◌, ◌++◌, ◌∷◌, [], false, length, slice_index_or};
+ghost use Rattle.std.specs.Prelude.{IfOk, IfSome, IsTrue};
 ghost use Rattle.model_meaning.specs.Limits.{InLimits};
 ghost use Rattle.decode_minimize.specs.Answers.{IsBudget};
 ghost use Rattle.model_parts.specs.Only.{numbers_of};

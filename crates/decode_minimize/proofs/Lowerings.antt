@@ -137,6 +137,7 @@ module _ (told : Core → Equation → Type 0) (options : SearchOptions) (budget
         answer = parts.answer;
         certificate = parts.certificate;
       };
+      own = refl;
       count = parts.count;
       fresh = derivation.fresh;
       second = parts.fresh;

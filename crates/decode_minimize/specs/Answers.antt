@@ -149,6 +149,8 @@ pub record IsAnswer (told : Core → Equation → Type 0) (model : Model) (optio
       ((σ : Valuation) × Satisfies σ (cnf_of last) × (a ≡ numbers_at model last σ))
   -- its text is a valid answer, with its verdict and its assignment
   pub valid : IsValid model (document_text model.decls model.goal d) d.verdict (numbers_given d.assignment)
+  -- as the text of this very document, whose parts can be read back and whose certificate shows the verdict
+  pub own : valid.document ≡ d
   pub count : IfSome d.assignment (λ (a : Assignment). length model.decls ≡ length a.values)
   -- each addition of a derivation is new among the clauses that live before it, and deletions name additions alone
   pub fresh : IsFreshLog (cnf_of last) d.proof

@@ -1,0 +1,94 @@
+//! One question: whether a model has a solution.
+
+ghost use Rattle.std.specs.Prelude.{◌≡◌, IfOk};
+ghost use Rattle.model_meaning.specs.WellTyped.{WellTyped};
+ghost use Rattle.model_meaning.specs.Limits.{InLimits};
+ghost use Rattle.model_meaning.specs.declared.model.Goal.TheVariants.{Satisfy};
+ghost use Rattle.decode_minimize.specs.Answers.{IsBudget};
+ghost use Rattle.core_extract.specs.Extracted.{reply_of, IsReply};
+
+use answer_document::{Document, Verdict};
+use bee_list::Sequence;
+use decode_minimize::{Options, answer};
+use fixpoint_queue::Oracle;
+use ledger_text::Line;
+use model_meaning::{Assignment, Model};
+use proof_check::ProofLine;
+use rule_base::Steps;
+use std::alloc::{AllocError, Global};
+use std::cell::Cell;
+use std::sync::ledger::Ledger;
+
+/// How questions are asked: with which budget for each, and by which rules.
+#[derive(Drop)]
+pub(crate) struct Asker<F> {
+    /// Where memory is taken.
+    pub(crate) alloc: Global,
+    /// The budget of each search, and whether it is begun anew from time to time.
+    pub(crate) options: Options,
+    /// What tells equations.
+    pub(crate) oracle: F,
+    /// How many questions were asked.
+    pub(crate) asked: Cell<u64>,
+}
+
+/// Which way a model was compiled, and what was derived from its clauses.
+#[derive(Debug, Drop)]
+pub struct Certificate {
+    /// The steps of the compilation.
+    pub ledger: Sequence<Line>,
+    /// The derivation.
+    pub proof: Sequence<ProofLine>,
+}
+
+/// What is replied to a question.
+#[derive(Debug, Drop)]
+pub enum Reply {
+    /// The model has this solution.
+    Solved(Assignment),
+    /// It has none.
+    Refuted(Certificate),
+    /// The budget was spent.
+    Spent(Certificate),
+}
+
+/// What a document says.
+fn reply_of(document: Document) -> Reply
+    ensures { result ≡ reply_of document }
+{
+    let Document {
+        verdict,
+        assignment,
+        ledger,
+        proof,
+        ..
+    } = document;
+    let certificate = Certificate { ledger, proof };
+    match verdict {
+        Verdict::Unsatisfiable => Reply::Refuted(certificate),
+        Verdict::Unknown(_, _) => Reply::Spent(certificate),
+        Verdict::Satisfiable | Verdict::Optimum(_) => match assignment {
+            Some(a) => Reply::Solved(a),
+            None => Reply::Spent(certificate),
+        },
+    }
+}
+
+/// Asks whether a model has a solution. It costs a compilation and a search.
+pub(crate) fn ask<F: Oracle<L>, L: Ledger>(
+    asker: &Asker<F>,
+    model: &Model,
+    steps: &mut Steps<L>,
+) -> Result<Reply, AllocError>
+    requires typed { WellTyped model.now }
+    requires limits { InLimits model.now }
+    requires goal { model.now.goal ≡ Satisfy }
+    requires budget { IsBudget asker.now.options.budget }
+    ensures { IfOk result (IsReply F.told model.now asker.now.options) }
+{
+    asker.asked.set(asker.asked.get().saturating_add(1));
+    match answer(asker.alloc, model, asker.options, asker.oracle, steps) {
+        Ok(document) => Ok(reply_of(document)),
+        Err(_) => Err(AllocError),
+    }
+}

@@ -1,0 +1,5 @@
+use Rattle.core_mode.proofs.Faults.{either}
+use Rattle.core_mode.proofs.laws.answer_law.Goals as goal
+
+pub returns : goal.returns
+returns c = either

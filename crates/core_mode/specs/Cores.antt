@@ -1,0 +1,35 @@
+-- The core of the model that a text holds.
+use Rattle.std.specs.Prelude.{◌≡◌, ℕ, List}
+use Rattle.model_meaning.specs.declared.model.Model.{Model}
+use Rattle.bee_compile.specs.Compiled.{IsInstance}
+use Rattle.core_text.specs.declared.verdict.CoreVerdict.{CoreVerdict}
+use Rattle.core_text.specs.declared.verdict.CoreVerdict.TheVariants as verdict
+use Rattle.core_text.specs.declared.document.CoreDocument.{CoreDocument}
+use Rattle.core_text.specs.CoreDocuments.{core_text}
+use Rattle.core_extract.specs.Extracted.{IsExtracted}
+use Rattle.core_extract.specs.Claims.{Claims}
+use Rattle.decode_minimize.specs.declared.options.Options.{Options}
+use Rattle.text_modes.specs.declared.ends.Outcome.{Outcome}
+use Rattle.text_modes.specs.declared.ends.Outcome.TheVariants.{Done, Unknown}
+use Rattle.core_mode.specs.CoreTexts.{HoldsWhole}
+
+-- what a verdict says of the run: a search that was given up tells its budget
+abbrev pub outcome_of : CoreVerdict → Outcome
+outcome_of verdict.Satisfiable = Done
+outcome_of (verdict.Core k) = Done
+outcome_of (verdict.Unknown n) = Unknown n
+
+-- the text of what is extracted from a model, by all rules, with what its verdict says of the run; and what it says is
+-- true
+pub record IsCoreText (options : Options) (model : Model) (outcome : Outcome) (written : List ℕ) : Type 0 where
+  pub document : CoreDocument
+  pub is : IsExtracted IsInstance model options document
+  pub claims : Claims model document document.verdict
+  pub writes : written ≡ core_text model.decls document
+  pub outcome_is : outcome ≡ outcome_of document.verdict
+
+-- the text that was read holds a model, and the written text is that of what is extracted from it
+pub record IsCoreHeld (options : Options) (text : List ℕ) (outcome : Outcome) (written : List ℕ) : Type 0 where
+  pub model : Model
+  pub held : HoldsWhole text model
+  pub is : IsCoreText options model outcome written

@@ -1,0 +1,3 @@
+pub mod CoreTexts
+pub mod Cores
+pub mod CoreMode

@@ -1,0 +1,71 @@
+//! From the text of a model to the text of its core.
+
+ghost use Rattle.std.specs.Prelude.{ℕ, ◌≤◌, List, length, IfOk, IfErr};
+ghost use Rattle.model_meaning.specs.WellTyped.{WellTyped};
+ghost use Rattle.model_meaning.specs.Limits.{InLimits};
+ghost use Rattle.model_lower.specs.Weighed.{most_weight};
+ghost use Rattle.model_parts.specs.CoreWeight.{core_weight};
+ghost use Rattle.model_texts.specs.ModelTexts.{longest_text, IsCauseOf};
+ghost use Rattle.decode_minimize.specs.Answers.{IsBudget};
+ghost use Rattle.core_extract.specs.Extracted.{IsFaultOf};
+ghost use Rattle.core_mode.specs.CoreTexts.{IsReasonOf};
+ghost use Rattle.core_mode.specs.Cores.{IsCoreText, IsCoreHeld};
+
+use crate::answering::{extract_model, outcome_of};
+use core_text::write_core;
+use decode_minimize::Options;
+use model_lower::LowerFault;
+use model_meaning::Model;
+use model_texts::{ModelFault, ModelTextFault, lower_fault, model_of};
+use std::alloc::{AllocError, Global};
+use text_modes::Outcome;
+
+/// The text of what is extracted from a model, with what its verdict says of the run.
+fn write_extracted(
+    alloc: Global,
+    model: Model,
+    options: Options,
+) -> Result<(Outcome, Vec<u8>), LowerFault>
+    requires typed { WellTyped model }
+    requires limits { InLimits model }
+    requires budget { IsBudget options.budget }
+    ensures light { IfOk result (λ made. core_weight model ≤ most_weight) }
+    ensures text { IfOk result (λ made. IsCoreText options model made.0 made.1.items) }
+    ensures heavy { IfErr result (λ e. IsFaultOf e model) }
+{
+    let extracted = extract_model(alloc, model, options)?;
+    let decls = extracted.decls.as_slice();
+    let text = write_core(alloc, decls, &extracted.document)?;
+    Ok((outcome_of(extracted.document.verdict), text))
+}
+
+/// Why reading a text gives no model. Reading alone tells no weight, so no text comes to the first arm.
+fn reading_fault(fault: ModelTextFault) -> ModelTextFault
+    ensures { (text : List ℕ) → IsCauseOf fault text → IsReasonOf result text }
+{
+    match fault {
+        ModelTextFault::Model(ModelFault::TooHeavy(_)) => ModelTextFault::Memory,
+        other => other,
+    }
+}
+
+/// The text of what is extracted from the model that a text says.
+pub(crate) fn core_of(
+    alloc: Global,
+    text: &[u8],
+    options: Options,
+) -> Result<(Outcome, Vec<u8>), ModelTextFault>
+    requires short { length text.now ≤ longest_text }
+    requires budget { IsBudget options.budget }
+    ensures held { IfOk result (λ made. IsCoreHeld options text.now made.0 made.1.items) }
+    ensures fault { IfErr result (λ e. IsReasonOf e text.now) }
+{
+    let model = match model_of(alloc, text) {
+        Ok(model) => model,
+        Err(fault) => return Err(reading_fault(fault)),
+    };
+    match write_extracted(alloc, model, options) {
+        Ok(written) => Ok(written),
+        Err(fault) => Err(lower_fault(fault)),
+    }
+}

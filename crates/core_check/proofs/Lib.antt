@@ -1,0 +1,5 @@
+mod Marking
+mod Heading
+mod Verdicts
+mod Placing
+mod Judging

@@ -1,4 +1,4 @@
-mod Marking
+mod Walks
 mod Heading
 mod Verdicts
 mod Placing

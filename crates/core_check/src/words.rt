@@ -26,14 +26,33 @@ fn behind_word<'a>(line: &'a [u8], word: &[u8]) -> Option<&'a [u8]>
     }
 }
 
+/// The number of 64 bits that a word spells.
+fn read_count(word: &[u8]) -> Option<u64>
+    ensures { MatchOption result ((n : ℕ) → n < 2 ^ 64 → word.now ≡ decimal n → ⊥)
+        (λ n. (n < 2 ^ 64) × (word.now ≡ decimal n)) }
+{
+    match read_number(word, u128::from(u64::MAX)) {
+        None => None,
+        Some(number) => Some(number as u64),
+    }
+}
+
 /// The number of 64 bits that stands behind a word, where a line is both.
 pub(crate) fn read_numbered(line: &[u8], word: &[u8]) -> Option<u64>
     ensures { MatchOption result ((n : ℕ) → n < 2 ^ 64 → line.now ≡ word.now ++ decimal n → ⊥)
         (λ n. (n < 2 ^ 64) × (line.now ≡ word.now ++ decimal n)) }
 {
-    let rest = behind_word(line, word)?;
-    let number = read_number(rest, u128::from(u64::MAX))?;
-    Some(number as u64)
+    match behind_word(line, word) {
+        None => None,
+        Some(rest) => read_count(rest),
+    }
+}
+
+/// Whether a number is one of learned clauses: from 1 and below 2 ^ 63.
+fn is_spent(count: u64) -> bool
+    ensures { IsTrue result ↔ ((1 ≤ count) × (count < 2 ^ 63)) }
+{
+    count >= 1 && count < (1 << 63)
 }
 
 /// The number of learned clauses that a line tells.
@@ -42,11 +61,16 @@ fn read_spent(line: &[u8]) -> Option<u64>
         ((n : ℕ) → 1 ≤ n → n < 2 ^ 63 → line.now ≡ codes "UNKNOWN " ++ decimal n → ⊥)
         (λ n. (1 ≤ n) × (n < 2 ^ 63) × (line.now ≡ codes "UNKNOWN " ++ decimal n)) }
 {
-    let count = read_numbered(line, b"UNKNOWN ")?;
-    if count == 0 || count >= (1 << 63) {
-        return None;
+    match read_numbered(line, b"UNKNOWN ") {
+        None => None,
+        Some(count) => {
+            if is_spent(count) {
+                Some(count)
+            } else {
+                None
+            }
+        }
     }
-    Some(count)
 }
 
 /// The verdict that a line tells.

@@ -1,15 +1,21 @@
 -- What comes of the first lines.
-use Rattle.std.proofs.Common.{◌≡◌, ◌⊎◌, inl, inr, ℕ, ◌<◌, ◌^◌, List, [], ◌∷◌, ◌++◌, codes, length, refl, sym, ap, ◌∙◌, subst}
+use Rattle.std.proofs.Common.{◌≡◌, ◌≢◌, ◌⊎◌, inl, inr, ℕ, ◌<◌, ◌≤◌, ◌^◌, Bool, true, false, List, [], ◌∷◌, ◌++◌, codes, length, refl, sym, ap, ◌∙◌, subst}
 use Rattle.std.specs.Prelude.{IsTrue}
+use Rattle.std.proofs.lemmas.Bool.{true≢false}
+use Rattle.model_meaning.specs.declared.model.Stmt.{Stmt}
 use Rattle.model_meaning.specs.declared.model.Model.{Model}
 use Rattle.model_parts.specs.Only.{is_listed, numbers_of}
 use Rattle.core_text.specs.declared.verdict.CoreVerdict.{CoreVerdict}
 use Rattle.core_text.specs.declared.verdict.CoreVerdict.TheVariants.{Satisfiable, Core, Unknown}
-use Rattle.core_text.specs.CoreLines.{Standing, version_line, verdict_line, statement_line, VerdictFits, MayName, HasNamed, IsNamed, IsLedgerBegin, IsNext}
+use Rattle.core_text.specs.CoreLines.{Standing, version_line, verdict_line, statement_line, VerdictFits, MayName, HasNamed, IsNamed, IsLedgerBegin, IsNext, IsEnd}
+use Rattle.core_text.specs.declared.part.Part.TheVariants as part
 use Rattle.core_text.proofs.Words.{number-tells, statement-no-ledger}
 use Rattle.core_check.specs.declared.head.Stage.{Stage}
 use Rattle.core_check.specs.declared.head.Stage.TheVariants as stage
-use Rattle.core_check.specs.Heads.{stage_behind, standing_in}
+use Rattle.core_check.specs.declared.head.Head.{Head}
+use Rattle.core_check.specs.Marks.{IsMarkedTo, AreMarked}
+use Rattle.core_check.specs.Heads.{stage_behind, standing_in, head_standing, IsWalked, IsHeadTaken}
+use Rattle.core_check.proofs.Walks.{named-next, marked-more}
 
 module _ (model : Model) (v : CoreVerdict) (core : List ℕ) (now : ℕ) (at : Stage) (line : List ℕ) where
   abbrev Refused : Type 0
@@ -74,3 +80,34 @@ module _ (model : Model) (v : CoreVerdict) (core : List ℕ) (now : ℕ) (at : S
   name-taken number e small is above room named =
       subst (λ (s : Stage). IsNext (standing_in model v core now s) line (standing_in model v (core ++ number ∷ []) number s)) (sym e)
       (inl (record { number = number; small = small; spelled = is; room = room; above = above; named = named; behind = refl }))
+
+  pub verdict-to : at ≡ stage.Verdict → (w : CoreVerdict) (next : Stage) → VerdictFits w → line ≡ verdict_line w → next ≡ stage_behind w → Leads (standing_in model w core now next)
+  verdict-to e w next fits is behind = subst (λ (s : Stage). Leads (standing_in model w core now s)) (sym behind) (verdict-taken e w fits is)
+
+  -- a number that is named, by what the walk gives
+  module _ (number : ℕ) (e : at ≡ stage.Statements) (small : number < 2 ^ 64) (is : line ≡ statement_line number) (ss : List Stmt) (same : ss ≡ model.stmts) (out new : List Bool) (walked : AreMarked model.stmts core now out) where
+    pub name-unmarked : (b : Bool) → b ≡ false → IsMarkedTo ss out number new b → Refused
+    name-unmarked b none to =
+        let to_false : IsMarkedTo model.stmts out number new false = subst (λ (c : Bool). IsMarkedTo model.stmts out number new c) none (subst (λ (ts : List Stmt). IsMarkedTo ts out number new b) same to) in
+        name-refused number e small is (λ above room named. true≢false (sym named ∙ (named-next model.stmts core now out walked number above ∙ to_false)))
+
+    pub name-marked : (b : Bool) → b ≡ true → IsMarkedTo ss out number new b → now < number → MayName v (length core) → (more : List ℕ) → more ≡ core ++ number ∷ []
+        → Leads (standing_in model v more number at) × AreMarked model.stmts more number new
+    name-marked b some to above room more pushed =
+        let to_true : IsMarkedTo model.stmts out number new true = subst (λ (c : Bool). IsMarkedTo model.stmts out number new c) some (subst (λ (ts : List Stmt). IsMarkedTo ts out number new b) same to) in
+        let listed : is_listed number (numbers_of model.stmts) ≡ true = named-next model.stmts core now out walked number above ∙ to_true.0 in
+        subst (λ (c : List ℕ). Leads (standing_in model v c number at) × AreMarked model.stmts c number new) (sym pushed)
+        (name-taken number e small is above room listed, marked-more model.stmts core now out walked number new above to_true)
+
+-- what a test says of a line
+pub head-refused : (model : Model) (old new : Head) (line : List ℕ) (b : Bool) → b ≡ false → IsHeadTaken model old line new b → (t : Standing) → IsNext (head_standing model old) line t → ⊥
+head-refused model old new line b e h = subst (λ (c : Bool). IsHeadTaken model old line new c) e h
+
+pub head-taken : (model : Model) (old new : Head) (line : List ℕ) (b : Bool) → b ≡ true → IsHeadTaken model old line new b → IsNext (head_standing model old) line (head_standing model new) × IsWalked model new
+head-taken model old new line b e h = subst (λ (c : Bool). IsHeadTaken model old line new c) e h
+
+pub not-ended : (model : Model) (v : CoreVerdict) (core : List ℕ) (now : ℕ) (at : Stage) → at ≢ stage.Done → IsEnd (standing_in model v core now at) → ⊥
+not-ended model v core now stage.Version wanted e = cc
+not-ended model v core now stage.Verdict wanted e = cc
+not-ended model v core now stage.Statements wanted e = cc
+not-ended model v core now stage.Done wanted e = wanted refl

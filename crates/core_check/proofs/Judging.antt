@@ -1,5 +1,7 @@
 -- What the reading of a text comes to.
-use Rattle.std.proofs.Common.{◌≡◌, ℕ, ◌+◌, ◌≤◌, Bool, List, [], ◌∷◌, ◌++◌, length, ℤ, Option, None, Some, refl, sym, ap, ◌∙◌, subst, append_assoc, length-append, arith}
+use Rattle.std.proofs.Common.{◌≡◌, ℕ, ◌+◌, ◌≤◌, Bool, true, List, [], ◌∷◌, ◌++◌, map, drop, length, ℤ, Option, None, Some, Result, Ok, Err, refl, sym, ap, ◌∙◌, subst, append_assoc, length-append, arith}
+use Rattle.std.specs.Prelude.{IfOk}
+use Rattle.std.specs.declared.alloc.AllocError.{AllocError}
 use Rattle.std.specs.List.{list_all}
 use Rattle.std.proofs.lemmas.Bool.{and_from}
 use Rattle.std.proofs.lemmas.List.Folds.{list_all-append}
@@ -10,7 +12,11 @@ use Rattle.model_meaning.specs.Limits.{InLimits}
 use Rattle.model_meaning.specs.WellTyped.{WellTyped}
 use Rattle.model_lower.specs.Weighed.{most_weight}
 use Rattle.model_parts.specs.CoreWeight.{core_weight}
+use Rattle.model_meaning.specs.declared.model.Stmt.{Stmt}
+use Rattle.model_parts.specs.declared.divided.DividedModel.{DividedModel}
+use Rattle.model_parts.specs.Sides.{IsDivided, IsMoved}
 use Rattle.model_parts.specs.Only.{only}
+use Rattle.model_parts.proofs.Weaving.{marked-only}
 use Rattle.step_kernel.specs.Kernel.{Kernel}
 use Rattle.answer_document.specs.Valid.{start_of}
 use Rattle.line_texts.specs.LineByLine.{IsWhole, FirstMisfit, IsMisfit}
@@ -27,7 +33,9 @@ use Rattle.core_text.proofs.OneText.{one-core, no-misfit}
 use Rattle.core_check.specs.declared.checking.CoreJudgement.{CoreJudgement}
 use Rattle.core_check.specs.declared.checking.CoreJudgement.TheVariants as judged
 use Rattle.core_check.specs.Heads.{done_standing}
-use Rattle.core_check.specs.Parts.{IsOfPart}
+use Rattle.core_check.specs.Marks.{AreMarked}
+use Rattle.core_check.specs.Parts.{IsOfPart, IsPartOf}
+use Rattle.core_check.proofs.Walks.{marked-all}
 use Rattle.core_check.specs.Checked.{IsAcceptedCore, IsRefusedCore, IsJudged, IsJudgedBehind, IsRead}
 
 -- a line that isn't the next is the first that fails
@@ -115,3 +123,37 @@ solution-standing model Satisfiable core now values is none =
     λ i. record { model = model; part = part.Values; verdict = Satisfiable; core = core; now = now; begun = 0; values = none i; kernel = None; proof = None }
 solution-standing model (Core n) core now values is none = absurd (cc)
 solution-standing model (Unknown n) core now values is none = absurd (cc)
+
+pub only-solution : (v : CoreVerdict) → (IsOfPart v → ⊥) → v ≡ Satisfiable
+only-solution Satisfiable h = refl
+only-solution (Core k) h = absurd (h tt)
+only-solution (Unknown n) h = absurd (h tt)
+
+-- the divided model has the part of the statements that were named
+pub part-chosen : (model : Model) (out whole : List Bool) (old : DividedModel) (r : Result DividedModel AllocError) → IfOk r (IsDivided model) → IfOk r (IsMoved old whole)
+    → whole ≡ out ++ map (λ (s : Stmt). true) (drop (length out) model.stmts) → IfOk r (IsPartOf model out)
+part-chosen model out whole old (Err e) divided moved is = tt
+part-chosen model out whole old (Ok d) divided moved is = record { divided = divided; marks = moved.out ∙ is }
+
+pub part-is : (model : Model) (d : DividedModel) (core : List ℕ) (now : ℕ) (out : List Bool) → AreMarked model.stmts core now out → IsPartOf model out d → d.part ≡ only model core
+part-is model d core now out walked p = marked-only model d core (marked-all model.stmts core now out walked d.out.items p.marks) p.divided
+
+-- the first line of a text that fails, where the text and its beginning are told by equals
+pub misfit-of : (s t : Standing) (text same : List ℕ) (n : ℕ) → s ≡ t → text ≡ same → FirstMisfit IsNext IsEnd s text n → FirstMisfit IsNext IsEnd t same n
+misfit-of s t text same n p q m = subst (λ (u : Standing). FirstMisfit IsNext IsEnd u same n) p (subst (λ (x : List ℕ). FirstMisfit IsNext IsEnd s x n) q m)
+
+pub read-of : (s t u : Standing) (text same rest : List ℕ) (read : ℕ) → s ≡ t → text ≡ same → ReadTo IsNext s text rest read u → ReadTo IsNext t same rest read u
+read-of s t u text same rest read p q r = subst (λ (v : Standing). ReadTo IsNext v same rest read u) p (subst (λ (x : List ℕ). ReadTo IsNext s x rest read u) q r)
+
+pub ok-behind : (s t : Standing) (text rest : List ℕ) (read : ℕ) → ReadTo IsNext s text rest read t → (r : Result CoreJudgement AllocError) → IfOk r (IsJudgedBehind t rest read) → IfOk r (IsRead s text)
+ok-behind s t text rest read h (Err e) j = tt
+ok-behind s t text rest read h (Ok v) j = judged-behind s t text rest read h v j
+
+pub ok-judged : (model : Model) (text : List ℕ) → WellTyped model → InLimits model → core_weight model ≤ most_weight → (r : Result CoreJudgement AllocError) → IfOk r (IsRead (start_standing model) text) → IfOk r (IsJudged model text)
+ok-judged model text typed limits light (Err e) h = tt
+ok-judged model text typed limits light (Ok j) h = read-judged model text typed limits light j h
+
+pub ok-complete : (model : Model) (text : List ℕ) → WellTyped model → InLimits model → core_weight model ≤ most_weight → (v : CoreVerdict) → IsCoreText model text v → (r : Result CoreJudgement AllocError)
+    → IfOk r (IsRead (start_standing model) text) → IfOk r (λ (j : CoreJudgement). j ≡ judged.Valid v)
+ok-complete model text typed limits light v is (Err e) h = tt
+ok-complete model text typed limits light v is (Ok j) h = read-complete model text typed limits light j v h is

@@ -1,6 +1,7 @@
 -- What comes of the lines behind the named statements.
-use Rattle.std.proofs.Common.{◌≡◌, ◌⊎◌, ◌↔◌, inl, inr, ℕ, zero, suc, ◌+◌, ◌<◌, ◌≤◌, Bool, true, false, List, [], ◌∷◌, ◌++◌, codes, length, ℤ, Option, None, Some, MatchOption, refl, sym, ap, ◌∙◌, subst, arith}
+use Rattle.std.proofs.Common.{◌≡◌, ◌⊎◌, ◌↔◌, inl, inr, ℕ, zero, suc, ◌+◌, ◌<◌, ◌≤◌, Bool, true, false, List, [], ◌∷◌, ◌++◌, codes, length, ℤ, Option, None, Some, MatchOption, ⊎_elim, refl, sym, ap, ◌∙◌, subst, arith}
 use Rattle.std.specs.Prelude.{slice_get, IsTrue}
+use Rattle.std.proofs.lemmas.Bool.{true≢false, cases_lt}
 use Rattle.model_meaning.specs.declared.model.Decl.{Decl}
 use Rattle.model_meaning.specs.declared.model.Model.{Model}
 use Rattle.model_meaning.specs.Domains.{in_domains}
@@ -127,6 +128,13 @@ module _ (s : Standing) (line : List ℕ) where
 
 pub met : (s : Standing) → IsTrue (in_domains s.model.decls s.values) → MeetsStatements s s.verdict → IsMet s
 met s inside holds = record { all = all-valued s.model.decls s.values inside; in_domains = inside; holds = holds }
+
+pub not-inside : (s : Standing) → in_domains s.model.decls s.values ≡ false → IsTrue false ↔ IsMet s
+not-inside s out = (λ e. absurd (true≢false (sym e)), λ m. absurd (true≢false (sym m.in_domains ∙ out)))
+
+-- a test that fails
+pub no-more : (a n : ℕ) (b : Bool) → (IsTrue b ↔ (a < n)) → b ≡ false → n ≤ a
+no-more a n b test e = ⊎_elim (λ (l : a < n). absurd (true≢false (sym (test.1 l) ∙ e))) (λ (l : n ≤ a). l) (cases_lt a n)
 
 -- the value of the next name
 

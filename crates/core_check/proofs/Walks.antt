@@ -4,7 +4,8 @@ use Rattle.std.specs.Prelude.{nat_lt, slice_get, if◌then◌else◌}
 use Rattle.std.proofs.lemmas.Bool.{false≢true}
 use Rattle.model_meaning.specs.declared.model.Decl.{Decl}
 use Rattle.model_meaning.specs.declared.model.Stmt.{Stmt}
-use Rattle.model_meaning.specs.WellTyped.{StmtsFit}
+use Rattle.model_meaning.specs.declared.model.Model.{Model}
+use Rattle.model_meaning.specs.WellTyped.{StmtsFit, WellTyped}
 use Rattle.model_items.specs.Items.{stmts_from}
 use Rattle.model_parts.specs.Only.{is_listed, numbers_of}
 use Rattle.model_parts.proofs.Chosen.{Rise, fit-rise}
@@ -248,6 +249,11 @@ module _ (ss : List Stmt) (core : List ℕ) (now : ℕ) (out : List Bool) (h : A
 
 pub none-marked : (ds : List Decl) (ss : List Stmt) → StmtsFit ds 1 ss → AreMarked ss [] 0 []
 none-marked ds ss h = record { front = []; rest = ss; parts = refl; marks = refl; below = tt; named = tt; rise = fit-rise ds 1 ss h }
+
+pub start-marked : (model : Model) (core : List ℕ) (out : List Bool) → core ≡ [] → out ≡ [] → WellTyped model → AreMarked model.stmts core 0 out
+start-marked model core out no-core no-out typed =
+    subst (λ (c : List ℕ). AreMarked model.stmts c 0 out) (sym no-core)
+    (subst (λ (o : List Bool). AreMarked model.stmts [] 0 o) (sym no-out) (none-marked model.decls model.stmts typed.stmts))
 
 -- What the walk gives.
 

@@ -47,11 +47,11 @@ standing_in model v core now stage.Statements = record (base model v core now) {
 standing_in model v core now stage.Done = done_standing model v core now
 
 abbrev pub head_standing : Model → Head → Standing
-head_standing model h = standing_in model h.verdict h.core.items h.now h.stage
+head_standing model h = standing_in model h.verdict h.core.items h.last h.stage
 
 -- statements are marked up to the one that was named last
 abbrev pub IsWalked : Model → Head → Type 0
-IsWalked model h = AreMarked model.stmts h.core.items h.now h.out.items
+IsWalked model h = AreMarked model.stmts h.core.items h.last h.out.items
 
 -- a line leads to what stands behind it, or leads nowhere
 abbrev pub IsHeadTaken : Model → Head → List ℕ → Head → Bool → Type 0

@@ -1,6 +1,6 @@
 //! Checking the text of a core.
 
-ghost use Rattle.std.specs.Prelude.{◌≡◌, ◌+◌, ◌<◌, ◌≤◌, ◌^◌, IfOk, IfErr, MatchResult, length};
+ghost use Rattle.std.specs.Prelude.{◌≡◌, ◌↔◌, ◌+◌, ◌<◌, ◌≤◌, ◌^◌, IfOk, IfErr, IsTrue, MatchResult, length};
 ghost use Rattle.model_meaning.specs.WellTyped.{WellTyped};
 ghost use Rattle.model_meaning.specs.Limits.{InLimits};
 ghost use Rattle.model_weight.specs.Weight.{weight_of};
@@ -60,6 +60,14 @@ fn start_state(alloc: Global, model: &Model) -> Result<Replay, AllocError>
     }
 }
 
+/// The number of a line behind so many.
+fn line_behind(read: usize, line: u64) -> u64
+    requires { read + line < 2 ^ 64 }
+    ensures { result ≡ read + line }
+{
+    read as u64 + line
+}
+
 /// What comes of the lines behind so many.
 fn judge(
     alloc: Global,
@@ -69,12 +77,13 @@ fn judge(
     read: usize,
 ) -> Result<CoreJudgement, AllocError>
     requires limits { InLimits model.now }
-    requires small { read + length rest.now < 2 ^ 64 - 1 }
+    requires small { read + length rest.now + 1 < 2 ^ 64 }
     ensures { IfOk result (IsJudgedBehind (standing_of model.now reading.old) rest.now read) }
 {
-    match read_text(alloc, model, reading, rest)? {
-        None => Ok(CoreJudgement::Valid(reading.verdict)),
-        Some(line) => Ok(CoreJudgement::Refused(read as u64 + line)),
+    match read_text(alloc, model, reading, rest) {
+        Ok(None) => Ok(CoreJudgement::Valid(reading.verdict)),
+        Ok(Some(line)) => Ok(CoreJudgement::Refused(line_behind(read, line))),
+        Err(_) => Err(AllocError),
     }
 }
 
@@ -102,13 +111,13 @@ fn judge_part(
     requires walked { IsWalked model head }
     requires done { head.stage ≡ Stage.Done }
     requires part { IsOfPart head.verdict }
-    requires small { read + length rest.now < 2 ^ 64 - 1 }
+    requires small { read + length rest.now + 1 < 2 ^ 64 }
     ensures { IfOk result (IsJudgedBehind (head_standing model head) rest.now read) }
 {
     let Head {
         verdict,
         core,
-        now,
+        last,
         out,
         ..
     } = head;
@@ -119,7 +128,7 @@ fn judge_part(
         place: Place::Ledger,
         verdict,
         core,
-        now,
+        last,
         begun: 0,
         given: Assignment {
             values: Sequence::from_vec(Vec::new(alloc)),
@@ -140,15 +149,15 @@ fn judge_solution(
 ) -> Result<CoreJudgement, AllocError>
     requires limits { InLimits model.now }
     requires done { head.stage ≡ Stage.Done }
-    requires solution { head.verdict ≡ CoreVerdict.Satisfiable }
-    requires small { read + length rest.now < 2 ^ 64 - 1 }
+    requires solution { IsOfPart head.verdict → ⊥ }
+    requires small { read + length rest.now + 1 < 2 ^ 64 }
     ensures { IfOk result (IsJudgedBehind (head_standing model.now head) rest.now read) }
 {
     let mut reading = Reading {
         place: Place::Values,
         verdict: head.verdict,
         core: head.core,
-        now: head.now,
+        last: head.last,
         begun: 0,
         given: Assignment {
             values: Sequence::from_vec(Vec::new(alloc)),
@@ -157,6 +166,17 @@ fn judge_solution(
         proof: None,
     };
     judge(alloc, model, &mut reading, rest, read)
+}
+
+/// Whether a verdict is shown of a part.
+fn is_of_part(verdict: CoreVerdict) -> bool
+    ensures { IsTrue result ↔ IsOfPart verdict }
+{
+    match verdict {
+        CoreVerdict::Satisfiable => false,
+        CoreVerdict::Core(_) => true,
+        CoreVerdict::Unknown(_) => true,
+    }
 }
 
 /// What comes of the lines behind the first ones.
@@ -172,13 +192,13 @@ fn judge_behind(
     requires light { core_weight model ≤ most_weight }
     requires walked { IsWalked model head }
     requires done { head.stage ≡ Stage.Done }
-    requires small { read + length rest.now < 2 ^ 64 - 1 }
+    requires small { read + length rest.now + 1 < 2 ^ 64 }
     ensures { IfOk result (IsJudgedBehind (head_standing model head) rest.now read) }
 {
-    match head.verdict {
-        CoreVerdict::Satisfiable => judge_solution(alloc, &model, head, rest, read),
-        CoreVerdict::Core(_) => judge_part(alloc, model, head, rest, read),
-        CoreVerdict::Unknown(_) => judge_part(alloc, model, head, rest, read),
+    if is_of_part(head.verdict) {
+        judge_part(alloc, model, head, rest, read)
+    } else {
+        judge_solution(alloc, &model, head, rest, read)
     }
 }
 
@@ -191,9 +211,10 @@ fn judge_text(alloc: Global, model: Model, text: &[u8]) -> Result<CoreJudgement,
 {
     let mut head = Head::new(alloc);
     let mut lines = Lines::new(text);
-    match read_head(&model, &mut head, &mut lines)? {
-        Front::Fails(line) => Ok(CoreJudgement::Refused(line)),
-        Front::Leads(read) => judge_behind(alloc, model, head, lines.rest(), read),
+    match read_head(&model, &mut head, &mut lines) {
+        Ok(Front::Fails(line)) => Ok(CoreJudgement::Refused(line)),
+        Ok(Front::Leads(read)) => judge_behind(alloc, model, head, lines.rest(), read),
+        Err(_) => Err(AllocError),
     }
 }
 

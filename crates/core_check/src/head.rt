@@ -1,6 +1,6 @@
 //! Taking the lines up to the one behind the named statements.
 
-ghost use Rattle.std.specs.Prelude.{◌≡◌, ◌≢◌, ◌↔◌, length, codes, IfOk, IsTrue};
+ghost use Rattle.std.specs.Prelude.{◌≡◌, ◌≢◌, ◌↔◌, ◌<◌, length, codes, IfOk, IsTrue};
 ghost use Rattle.model_meaning.specs.declared.model.Model.{Model as AnyModel};
 ghost use Rattle.model_meaning.specs.WellTyped.{WellTyped};
 ghost use Rattle.core_text.specs.CoreLines.{start_standing, statement_line, MayName, HasNamed};
@@ -34,7 +34,7 @@ pub(crate) struct Head {
     pub(crate) stage: Stage,
     pub(crate) verdict: CoreVerdict,
     pub(crate) core: Vec<u64>,
-    pub(crate) now: u64,
+    pub(crate) last: u64,
     pub(crate) out: Vec<bool>,
 }
 
@@ -83,16 +83,18 @@ fn stage_behind(verdict: CoreVerdict) -> Stage
 impl Head {
     /// Before the first line.
     pub(crate) fn new(alloc: Global) -> Head
-        ensures open { result.stage ≢ Stage.Done }
+        ensures wanted { result.stage ≢ Stage.Done }
         ensures start { (model : AnyModel) → head_standing model result ≡ start_standing model }
         ensures walked { (model : AnyModel) → WellTyped model → IsWalked model result }
     {
+        let core = Vec::new(alloc);
+        let out = Vec::new(alloc);
         Head {
             stage: Stage::Version,
             verdict: CoreVerdict::Satisfiable,
-            core: Vec::new(alloc),
-            now: 0,
-            out: Vec::new(alloc),
+            core,
+            last: 0,
+            out,
         }
     }
 
@@ -139,6 +141,13 @@ impl Head {
         true
     }
 
+    /// Whether a number may be named behind those that were.
+    fn may_take(&self, number: u64) -> bool
+        ensures { IsTrue result ↔ ((self.now.last < number) × MayName self.now.verdict (length self.now.core.items)) }
+    {
+        self.last < number && may_name(self.verdict, self.core.len())
+    }
+
     /// Takes the line that names the statement of a number.
     fn name(&mut self, model: &Model, line: &[u8], number: u64) -> Result<bool, AllocError>
         requires stage { self.old.stage ≡ Stage.Statements }
@@ -146,14 +155,15 @@ impl Head {
         requires line { line.now ≡ statement_line number }
         ensures { IfOk result (IsHeadTaken model.now self.old line.now self.new) }
     {
-        if number <= self.now || !may_name(self.verdict, self.core.len()) {
+        if !self.may_take(number) {
             return Ok(false);
         }
-        if !mark(model.stmts.as_slice(), &mut self.out, number)? {
+        let marked = mark(model.stmts.as_slice(), &mut self.out, number)?;
+        if !marked {
             return Ok(false);
         }
         self.core.push(number)?;
-        self.now = number;
+        self.last = number;
         Ok(true)
     }
 
@@ -172,9 +182,16 @@ impl Head {
         }
     }
 
+    /// Whether none of the first lines is wanted any more.
+    fn is_done(&self) -> bool
+        ensures { IsTrue result ↔ (self.now.stage ≡ Stage.Done) }
+    {
+        self.stage == Stage::Done
+    }
+
     /// Takes a line, where it is the next; the answer says whether it is.
     fn take_line(&mut self, model: &Model, line: &[u8]) -> Result<bool, AllocError>
-        requires open { self.old.stage ≢ Stage.Done }
+        requires wanted { self.old.stage ≢ Stage.Done }
         requires walked { IsWalked model.now self.old }
         ensures { IfOk result (IsHeadTaken model.now self.old line.now self.new) }
     {
@@ -194,7 +211,7 @@ pub(crate) fn read_head(
     lines: &mut Lines<'_>,
 ) -> Result<Front, AllocError>
     requires none { lines.old.read ≡ 0 }
-    requires open { head.old.stage ≢ Stage.Done }
+    requires wanted { head.old.stage ≢ Stage.Done }
     requires walked { IsWalked model.now head.old }
     ensures { IfOk result (IsFront model.now head.old lines.old.rest head.new lines.new.rest) }
 {
@@ -204,7 +221,7 @@ pub(crate) fn read_head(
             return Ok(Front::Fails(line.number as u64));
         }
         read = line.number;
-        if head.stage == Stage::Done {
+        if head.is_done() {
             return Ok(Front::Leads(read));
         }
     }

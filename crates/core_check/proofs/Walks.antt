@@ -1,5 +1,5 @@
 -- Marks of statements, up to the one that is named.
-use Rattle.std.proofs.Common.{◌≡◌, ℕ, zero, suc, ◌+◌, ◌<◌, ◌≤◌, Bool, true, false, not, ◌||◌, ◌==◌, List, [], ◌∷◌, ◌++◌, map, drop, length, append_assoc, refl, sym, ap, ◌∙◌, subst, arith}
+use Rattle.std.proofs.Common.{◌≡◌, ℕ, zero, suc, ◌+◌, ◌<◌, ◌≤◌, Bool, true, false, not, ◌||◌, ◌==◌, List, [], ◌∷◌, ◌++◌, map, drop, length, append_assoc, length-append, refl, sym, ap, ◌∙◌, subst, arith}
 use Rattle.std.specs.Prelude.{nat_lt, slice_get, if◌then◌else◌}
 use Rattle.std.proofs.lemmas.Bool.{false≢true}
 use Rattle.model_meaning.specs.declared.model.Decl.{Decl}
@@ -77,15 +77,17 @@ unlisted-above n m (s ∷ ss) l h =
 -- among statements whose numbers ascend a number is listed where the first that isn't below it has it
 listed-from : (n m : ℕ) (ss : List Stmt) → Rise m ss → is_listed n (numbers_of ss) ≡ begins_with n (stmts_from n ss)
 listed-from n m [] h = refl
-listed-from n m (s ∷ ss) h = by (nat_lt s.number n) refl (s.number == n) refl
+listed-from n m (s ∷ ss) h = by (nat_lt s.number n) refl (s.number == n) refl (listed-from n (s.number + 1) ss h.1)
   where
-    by : (b : Bool) → nat_lt s.number n ≡ b → (c : Bool) → (s.number == n) ≡ c → is_listed n (numbers_of (s ∷ ss)) ≡ begins_with n (if b then stmts_from n ss else s ∷ ss)
-    by true less c e = or-right (n == s.number) (is_listed n (numbers_of ss)) (begins_with n (stmts_from n ss)) (greater n s.number (less-than s.number n less)) (listed-from n (s.number + 1) ss h.1)
-    by false less true e = or-left (n == s.number) (is_listed n (numbers_of ss)) (equal n s.number (sym (same s.number n e))) ∙ sym e
-    by false less false e = or-false (n == s.number) (is_listed n (numbers_of ss)) (apart e) (unlisted-above n (s.number + 1) ss (let l = at-least s.number n less in omega (arith, l)) h.1) ∙ sym e
-      where
-        apart : (s.number == n) ≡ false → (n == s.number) ≡ false
-        apart e = grind arith
+    apart : (s.number == n) ≡ false → (n == s.number) ≡ false
+    apart e = grind arith
+
+    by : (b : Bool) → nat_lt s.number n ≡ b → (c : Bool) → (s.number == n) ≡ c → is_listed n (numbers_of ss) ≡ begins_with n (stmts_from n ss)
+        → is_listed n (numbers_of (s ∷ ss)) ≡ begins_with n (if b then stmts_from n ss else s ∷ ss)
+    by true less c e rest = or-right (n == s.number) (is_listed n (numbers_of ss)) (begins_with n (stmts_from n ss)) (greater n s.number (less-than s.number n less)) rest
+    by false less true e rest = or-left (n == s.number) (is_listed n (numbers_of ss)) (equal n s.number (sym (same s.number n e))) ∙ sym e
+    by false less false e rest =
+        or-false (n == s.number) (is_listed n (numbers_of ss)) (apart e) (unlisted-above n (s.number + 1) ss (let l = at-least s.number n less in omega (arith, l)) h.1) ∙ sym e
 
 unlisted-core : (x b : ℕ) (core : List ℕ) → b ≤ x → NumbersBelow b core → is_listed x core ≡ false
 unlisted-core x b [] l h = refl
@@ -99,11 +101,11 @@ listed-push x n (m ∷ core) e = ap (λ b. (x == m) || b) (listed-push x n core 
 
 listed-last : (n : ℕ) (core : List ℕ) → is_listed n (core ++ n ∷ []) ≡ true
 listed-last n [] = or-left (n == n) false (equal n n refl)
-listed-last n (m ∷ core) = by (n == m)
+listed-last n (m ∷ core) = by (n == m) (listed-last n core)
   where
-    by : (b : Bool) → (b || is_listed n (core ++ n ∷ [])) ≡ true
-    by true = refl
-    by false = listed-last n core
+    by : (b : Bool) → is_listed n (core ++ n ∷ []) ≡ true → (b || is_listed n (core ++ n ∷ [])) ≡ true
+    by true rest = refl
+    by false rest = rest
 
 below-more : (m n : ℕ) (ss : List Stmt) → m ≤ n → AreBelow m ss → AreBelow n ss
 below-more m n [] l h = tt
@@ -140,11 +142,11 @@ record IsCut (m n : ℕ) (ss : List Stmt) : Type 0 where
 
 cut : (m n : ℕ) (ss : List Stmt) → Rise m ss → begins_with n (stmts_from n ss) ≡ true → IsCut m n ss
 cut m n [] h e = absurd (false≢true e)
-cut m n (s ∷ ss) h e = by (nat_lt s.number n) refl e
+cut m n (s ∷ ss) h e = by (nat_lt s.number n) refl e (λ f. cut (s.number + 1) n ss h.1 f)
   where
-    by : (b : Bool) → nat_lt s.number n ≡ b → begins_with n (if b then stmts_from n ss else s ∷ ss) ≡ true → IsCut m n (s ∷ ss)
-    by true less e =
-        let r = cut (s.number + 1) n ss h.1 e in
+    by : (b : Bool) → nat_lt s.number n ≡ b → begins_with n (if b then stmts_from n ss else s ∷ ss) ≡ true → (begins_with n (stmts_from n ss) ≡ true → IsCut (s.number + 1) n ss) → IsCut m n (s ∷ ss)
+    by true less e rest =
+        let r = rest e in
         let l : m ≤ s.number = h.0 in
         record {
           skipped = s ∷ r.skipped;
@@ -157,7 +159,7 @@ cut m n (s ∷ ss) h e = by (nat_lt s.number n) refl e
           below = (less-than s.number n less, r.below);
           rise = r.rise;
         }
-    by false less e = record {
+    by false less e rest = record {
       skipped = [];
       named = s;
       others = ss;
@@ -257,25 +259,36 @@ start-marked model core out no-core no-out typed =
 
 -- What the walk gives.
 
-pub marks-pushed : (n : ℕ) (out mid : List Bool) (s : Stmt) (ss : List Stmt) → s.number < n → mid ≡ out ++ true ∷ [] → out ++ marks_before n (s ∷ ss) ≡ mid ++ marks_before n ss
-marks-pushed n out mid s ss l e =
-    let less : nat_lt s.number n ≡ true = grind arith in
-    rw less (sym (append_assoc out (true ∷ []) (marks_before n ss)) ∙ ap (λ bs. bs ++ marks_before n ss) (sym e))
+slice-drop : (ss : List Stmt) (k j i : ℕ) → i ≡ k + j → slice_get ss i ≡ slice_get (drop k ss) j
+slice-drop ss zero j i e = let same : i ≡ j = omega (arith, e) in ap (slice_get ss) same
+slice-drop [] (suc k) j i e = refl
+slice-drop (s ∷ ss) (suc k) j zero e = absurd (omega (arith, e))
+slice-drop (s ∷ ss) (suc k) j (suc i) e = slice-drop ss k j i (omega (arith, e))
 
-pub marks-end : (n : ℕ) (s : Stmt) (ss : List Stmt) → n ≤ s.number → marks_before n (s ∷ ss) ≡ []
-marks-end n s ss l = let less : nat_lt s.number n ≡ false = grind arith in rw less refl
+number-at : (n : ℕ) (ts : List Stmt) → has_number n (slice_get ts (length (marks_before n ts))) ≡ begins_with n (stmts_from n ts)
+number-at n [] = refl
+number-at n (s ∷ ts) = by (nat_lt s.number n) (number-at n ts)
+  where
+    by : (b : Bool) → has_number n (slice_get ts (length (marks_before n ts))) ≡ begins_with n (stmts_from n ts)
+        → has_number n (slice_get (s ∷ ts) (length (if b then true ∷ marks_before n ts else []))) ≡ begins_with n (if b then stmts_from n ts else s ∷ ts)
+    by true rest = rest
+    by false rest = refl
 
 -- the statement behind those that are marked is the first that isn't below a number
-pub number-behind : (n : ℕ) (ss : List Stmt) (k : ℕ) → has_number n (slice_get ss (k + length (marks_before n (drop k ss)))) ≡ begins_with n (stmts_from n (drop k ss))
-number-behind n ss zero = at ss
-  where
-    at : (ts : List Stmt) → has_number n (slice_get ts (length (marks_before n ts))) ≡ begins_with n (stmts_from n ts)
-    at [] = refl
-    at (s ∷ ts) = by (nat_lt s.number n) (at ts)
-      where
-        by : (b : Bool) → has_number n (slice_get ts (length (marks_before n ts))) ≡ begins_with n (stmts_from n ts)
-            → has_number n (slice_get (s ∷ ts) (length (if b then true ∷ marks_before n ts else []))) ≡ begins_with n (if b then stmts_from n ts else s ∷ ts)
-        by true rest = rest
-        by false rest = refl
-number-behind n [] (suc k) = refl
-number-behind n (s ∷ ss) (suc k) = number-behind n ss k
+number-behind : (n : ℕ) (ss : List Stmt) (k i : ℕ) → i ≡ k + length (marks_before n (drop k ss)) → has_number n (slice_get ss i) ≡ begins_with n (stmts_from n (drop k ss))
+number-behind n ss k i e = ap (has_number n) (slice-drop ss k (length (marks_before n (drop k ss))) i e) ∙ number-at n (drop k ss)
+
+-- what a test of the statement behind the marks comes to
+module _ (ss : List Stmt) (old mid new : List Bool) (n : ℕ) (b : Bool) (walked : mid ≡ old ++ marks_before n (drop (length old) ss)) (test : b ≡ has_number n (slice_get ss (length mid))) where
+  at : length mid ≡ length old + length (marks_before n (drop (length old) ss))
+  at = ap length walked ∙ length-append old (marks_before n (drop (length old) ss))
+
+  tested : b ≡ begins_with n (stmts_from n (drop (length old) ss))
+  tested = test ∙ number-behind n ss (length old) (length mid) at
+
+  pub not-marked : b ≡ false → IsMarkedTo ss old n new false
+  not-marked e = sym tested ∙ e
+
+  pub now-marked : b ≡ true → new ≡ mid ++ false ∷ [] → IsMarkedTo ss old n new true
+  now-marked e pushed =
+      (sym tested ∙ e, pushed ∙ (ap (λ (bs : List Bool). bs ++ false ∷ []) walked ∙ append_assoc old (marks_before n (drop (length old) ss)) (false ∷ [])))

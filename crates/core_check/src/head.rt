@@ -1,6 +1,6 @@
 //! Taking the lines up to the one behind the named statements.
 
-ghost use Rattle.std.specs.Prelude.{◌≡◌, ◌≢◌, ◌↔◌, ◌<◌, length, codes, IfOk, IsTrue};
+ghost use Rattle.std.specs.Prelude.{◌≡◌, ◌≢◌, ◌↔◌, ◌<◌, ◌^◌, length, codes, IfOk, IsTrue};
 ghost use Rattle.model_meaning.specs.declared.model.Model.{Model as AnyModel};
 ghost use Rattle.model_meaning.specs.WellTyped.{WellTyped};
 ghost use Rattle.core_text.specs.CoreLines.{start_standing, statement_line, MayName, HasNamed};
@@ -211,6 +211,7 @@ pub(crate) fn read_head(
     lines: &mut Lines<'_>,
 ) -> Result<Front, AllocError>
     requires none { lines.old.read ≡ 0 }
+    requires short { length lines.old.rest < 2 ^ 63 }
     requires wanted { head.old.stage ≢ Stage.Done }
     requires walked { IsWalked model.now head.old }
     ensures { IfOk result (IsFront model.now head.old lines.old.rest head.new lines.new.rest) }

@@ -7,19 +7,28 @@ ghost use Rattle.core_check.specs.Marks.{marks_before, has_number, IsMarkedTo};
 use model_meaning::Stmt;
 use std::alloc::AllocError;
 
+/// Marks those of some statements up to the first whose number is at least this one.
+fn mark_lesser(stmts: &[Stmt], out: &mut Vec<bool>, number: u64) -> Result<(), AllocError>
+    ensures { OnOk result (out.new.items ≡ out.old.items ++ marks_before number stmts.now) }
+{
+    let mut rest = stmts;
+    while let [first, others @ ..] = rest {
+        if first.number >= number {
+            return Ok(());
+        }
+        out.push(true)?;
+        rest = others;
+    }
+    Ok(())
+}
+
 /// Marks the statements up to the first whose number is at least this one.
 fn mark_before(stmts: &[Stmt], out: &mut Vec<bool>, number: u64) -> Result<(), AllocError>
     requires { length out.old.items ≤ length stmts.now }
     ensures { OnOk result
         (out.new.items ≡ out.old.items ++ marks_before number (drop (length out.old.items) stmts.now)) }
 {
-    for stmt in &stmts[out.len()..] {
-        if stmt.number >= number {
-            return Ok(());
-        }
-        out.push(true)?;
-    }
-    Ok(())
+    mark_lesser(&stmts[out.len()..], out, number)
 }
 
 /// Whether the statement at a place has a number.
@@ -47,14 +56,23 @@ pub(crate) fn mark(
     Ok(true)
 }
 
+/// Marks some statements.
+fn mark_all(stmts: &[Stmt], out: &mut Vec<bool>) -> Result<(), AllocError>
+    ensures { OnOk result (out.new.items ≡ out.old.items ++ map (λ (s : AnyStmt). true) stmts.now) }
+{
+    let mut rest = stmts;
+    while let [_first, others @ ..] = rest {
+        out.push(true)?;
+        rest = others;
+    }
+    Ok(())
+}
+
 /// Marks all statements that are left.
 pub(crate) fn mark_rest(stmts: &[Stmt], out: &mut Vec<bool>) -> Result<(), AllocError>
     requires { length out.old.items ≤ length stmts.now }
     ensures { OnOk result (out.new.items
         ≡ out.old.items ++ map (λ (s : AnyStmt). true) (drop (length out.old.items) stmts.now)) }
 {
-    for _stmt in &stmts[out.len()..] {
-        out.push(true)?;
-    }
-    Ok(())
+    mark_all(&stmts[out.len()..], out)
 }

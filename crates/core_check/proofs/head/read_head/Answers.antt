@@ -1,4 +1,4 @@
-use Rattle.std.proofs.Common.{◌+◌, refl, sym, ap, ◌∙◌}
+use Rattle.std.proofs.Common.{◌+◌, refl, sym, ap, ◌∙◌, arith}
 use Rattle.std.proofs.lemmas.Bool.{true≢false}
 use Rattle.line_texts.proofs.ReadTo.{line_read}
 use Rattle.core_text.specs.CoreLines.{IsNext}
@@ -48,3 +48,9 @@ returns c =
     let end = c.in_default.ensures.none in
     end-refused (head_standing m c.args.head.now) (head_standing m h) c.args.lines.now.rest c.loop-line.lines.rest c.loop-line.read (c.loop-line.read + 1) inv.read end.0 refl
     (λ none ended. not-ended m h.verdict h.core.items h.last h.stage inv.wanted ended)
+
+pub overflow_add-result : goal.overflow_add-result
+overflow_add-result c =
+    let most = c.loop-line.invariant.read.most in
+    let short = c.requires.short in
+    omega (arith, most, short)

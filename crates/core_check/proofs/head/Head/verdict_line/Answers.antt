@@ -9,4 +9,4 @@ returns-in-None c =
 pub returns-in-Some : goal.returns-in-Some
 returns-in-Some c =
     let h = c.args.self.now in
-    (verdict-to c.args.model.now h.verdict h.core.items h.last h.stage c.args.line.now c.requires.stage c.in-Some.verdict c.stage_behind.result c.in-Some.ensures.0 c.in-Some.ensures.1 c.stage_behind.ensures, c.requires.walked)
+    (verdict-to c.args.model.now h.verdict h.core.items h.last h.stage c.args.line.now c.requires.stage c.in-Some.verdict c.stage_behind-self.result c.in-Some.ensures.0 c.in-Some.ensures.1 c.stage_behind-self.ensures, c.requires.walked)

@@ -38,6 +38,13 @@ fn is_at(stmts: &[Stmt], place: usize, number: u64) -> bool
     place < stmts.len() && stmts[place].number == number
 }
 
+/// How many statements are marked.
+fn count_of(out: &Vec<bool>) -> usize
+    ensures { result ≡ length out.now.items }
+{
+    out.len()
+}
+
 /// Marks the statements before the one of a number, and keeps that one; the answer says whether it is there. It looks
 /// at no statement twice, and no further than that one.
 pub(crate) fn mark(
@@ -49,7 +56,7 @@ pub(crate) fn mark(
     ensures { IfOk result (IsMarkedTo stmts.now out.old.items number out.new.items) }
 {
     mark_before(stmts, out, number)?;
-    if !is_at(stmts, out.len(), number) {
+    if !is_at(stmts, count_of(out), number) {
         return Ok(false);
     }
     out.push(false)?;

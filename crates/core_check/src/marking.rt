@@ -47,11 +47,7 @@ fn count_of(out: &Vec<bool>) -> usize
 
 /// Marks the statements before the one of a number, and keeps that one; the answer says whether it is there. It looks
 /// at no statement twice, and no further than that one.
-pub(crate) fn mark(
-    stmts: &[Stmt],
-    out: &mut Vec<bool>,
-    number: u64,
-) -> Result<bool, AllocError>
+pub(crate) fn mark(stmts: &[Stmt], out: &mut Vec<bool>, number: u64) -> Result<bool, AllocError>
     requires { length out.old.items ≤ length stmts.now }
     ensures { IfOk result (IsMarkedTo stmts.now out.old.items number out.new.items) }
 {

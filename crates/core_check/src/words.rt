@@ -63,13 +63,7 @@ fn read_spent(line: &[u8]) -> Option<u64>
 {
     match read_numbered(line, b"UNKNOWN ") {
         None => None,
-        Some(count) => {
-            if is_spent(count) {
-                Some(count)
-            } else {
-                None
-            }
-        }
+        Some(count) => { if is_spent(count) { Some(count) } else { None } }
     }
 }
 

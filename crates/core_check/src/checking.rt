@@ -234,8 +234,8 @@ pub fn check_text(alloc: Global, model: Model, text: &[u8]) -> Result<CoreJudgem
     judge_text(alloc, model, text)
 }
 
-/// Whether a text is that of a core of a model, as by `check_text`. The model is weighed first, and refused where a part
-/// of it may weigh too much, whatever the text is.
+/// Whether a text is that of a core of a model, as by `check_text`. The model is weighed first, and refused where a
+/// part of it may weigh too much, whatever the text is.
 pub fn check_core(alloc: Global, model: Model, text: &[u8]) -> Result<CoreVerdict, CoreFault>
     requires typed { WellTyped model }
     requires limits { InLimits model }

@@ -19,10 +19,12 @@ fn check_row<R: Abort>(
 }
 
 /// Two names and three statements, of which the first and the last have no solution together.
-const TWO: &str = "new_bool(a)\nnew_bool(b)\nbool_array_or([a])\nbool_array_or([b])\nbool_array_or([-a])\nsolve satisfy\n";
+const TWO: &str =
+    "new_bool(a)\nnew_bool(b)\nbool_array_or([a])\nbool_array_or([b])\nbool_array_or([-a])\nsolve satisfy\n";
 
 /// Its core.
-const CORE: &str = "bee core 1\nCORE 2\nstatement 3\nstatement 5\nledger\neq 1 form 1 T\neq 2 form T F\nproof\nwithout 3\na = false\nb = false\nwithout 5\na = true\nb = true\nend\n";
+const CORE: &str =
+    "bee core 1\nCORE 2\nstatement 3\nstatement 5\nledger\neq 1 form 1 T\neq 2 form T F\nproof\nwithout 3\na = false\nb = false\nwithout 5\na = true\nb = true\nend\n";
 
 /// Texts over this model, and what comes of them.
 static TEXTS: [(&str, &str); 41] = [
@@ -54,9 +56,18 @@ static TEXTS: [(&str, &str); 41] = [
     ("bee core 1\nUNKNOWN 2\nstatement 0\n", "REFUSED 3\n"),
     ("bee core 1\nCORE 2\nstatement 03\n", "REFUSED 3\n"),
     // One that was named, one before it, one too many, one too few.
-    ("bee core 1\nCORE 2\nstatement 3\nstatement 3\n", "REFUSED 4\n"),
-    ("bee core 1\nUNKNOWN 1\nstatement 5\nstatement 3\n", "REFUSED 4\n"),
-    ("bee core 1\nCORE 1\nstatement 3\nstatement 5\n", "REFUSED 4\n"),
+    (
+        "bee core 1\nCORE 2\nstatement 3\nstatement 3\n",
+        "REFUSED 4\n",
+    ),
+    (
+        "bee core 1\nUNKNOWN 1\nstatement 5\nstatement 3\n",
+        "REFUSED 4\n",
+    ),
+    (
+        "bee core 1\nCORE 1\nstatement 3\nstatement 5\n",
+        "REFUSED 4\n",
+    ),
     ("bee core 1\nCORE 2\nstatement 3\nledger\n", "REFUSED 4\n"),
     // A step that is none; none at all, so that the empty clause isn't known; a search that wasn't given up.
     (
@@ -119,14 +130,25 @@ static TEXTS: [(&str, &str); 41] = [
         "REFUSED 15\n",
     ),
     // It has no solution.
-    ("bee core 1\nSATISFIABLE\na = true\nb = true\nend\n", "REFUSED 5\n"),
+    (
+        "bee core 1\nSATISFIABLE\na = true\nb = true\nend\n",
+        "REFUSED 5\n",
+    ),
 ];
 
 /// Other models with their cores.
 static OTHERS: [(&str, &str, &str); 8] = [
     // No name, and nothing stated.
-    ("solve satisfy\n", "bee core 1\nSATISFIABLE\nend\n", "ACCEPTED SATISFIABLE\n"),
-    ("solve satisfy\n", "bee core 1\nCORE 0\nledger\nproof\nend\n", "REFUSED 5\n"),
+    (
+        "solve satisfy\n",
+        "bee core 1\nSATISFIABLE\nend\n",
+        "ACCEPTED SATISFIABLE\n",
+    ),
+    (
+        "solve satisfy\n",
+        "bee core 1\nCORE 0\nledger\nproof\nend\n",
+        "REFUSED 5\n",
+    ),
     // What is sought doesn't matter.
     (
         "new_int(x,0,2)\nint_neq(x,0)\nsolve minimize x\n",

@@ -170,8 +170,7 @@ module _ (model : Model) where
   solution-ends [] h = absurd h
   solution-ends (a ∷ []) h =
       ends-join Satisfiable (at_solution []) (at_solution a.values) (declared_lines model.decls a.values) (codes "end" ∷ [])
-      (values-lead model.decls at_solution (λ values d z line turn told. inl (record { decl = d; turn = turn; value = z; told = told; behind = refl })) [] [] model.decls a.values refl refl h.in_domains)
-      (
+      (values-lead model.decls at_solution (λ values d z line turn told. inl (record { decl = d; turn = turn; value = z; told = told; behind = refl })) [] [] model.decls a.values refl refl h.in_domains) (
         record (at_solution a.values) { part = part.End },
         (
           (
@@ -226,13 +225,11 @@ module _ (model : Model) where
           let start = start_of (only model core) in
           let begun = proof_of (cnf_of last) in
           lead_join IsNext (at_statements [] 0) (map statement_line core) ((codes "ledger" ∷ map step_text ledger) ++ (codes "proof" ∷ map line_bytes proof)) (at_statements core now) (at_proof now reached)
-          (names-lead (length core) room [] 0 core (omega arith) is small)
-          (
+          (names-lead (length core) room [] 0 core (omega arith) is small) (
             at_ledger now start,
             inr (record { spelled = refl; complete = complete; behind = refl }),
             lead_join IsNext (at_ledger now start) (map step_text ledger) (codes "proof" ∷ map line_bytes proof) (at_ledger now last) (at_proof now reached)
-                (ledger-leads IsNext (at_ledger now) (λ k next line step. inl (record { now = k; at = refl; next = next; step = step; behind = refl })) start last ledger steps leads)
-                (
+                (ledger-leads IsNext (at_ledger now) (λ k next line step. inl (record { now = k; at = refl; next = next; step = step; behind = refl })) start last ledger steps leads) (
                   at_proof now begun,
                   inr (record { last = last; at = refl; spelled = refl; behind = refl }),
                   derivation-leads IsNext (at_proof now) (λ p next line derived. inl (record { now = p; at = refl; next = next; derived = derived; behind = refl })) begun reached proof lines accepted,

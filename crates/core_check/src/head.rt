@@ -143,7 +143,8 @@ impl Head {
 
     /// Whether a number may be named behind those that were.
     fn may_take(&self, number: u64) -> bool
-        ensures { IsTrue result ↔ ((self.now.last < number) × MayName self.now.verdict (length self.now.core.items)) }
+        ensures { IsTrue result ↔
+            ((self.now.last < number) × MayName self.now.verdict (length self.now.core.items)) }
     {
         self.last < number && may_name(self.verdict, self.core.len())
     }

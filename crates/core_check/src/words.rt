@@ -1,6 +1,7 @@
 //! Words and numbers of lines.
 
-ghost use Rattle.std.specs.Prelude.{◌≡◌, ◌↔◌, ◌++◌, ◌<◌, ◌≤◌, ◌^◌, ℕ, List, IsTrue, MatchOption, codes};
+ghost use Rattle.std.specs.Prelude.{◌≡◌, ◌↔◌, ◌++◌, ◌<◌, ◌≤◌, ◌^◌};
+ghost use Rattle.std.specs.Prelude.{ℕ, List, IsTrue, MatchOption, codes};
 ghost use Rattle.std.specs.Fmt.{decimal};
 ghost use Rattle.core_text.specs.declared.verdict.CoreVerdict.{CoreVerdict};
 ghost use Rattle.core_text.specs.CoreLines.{verdict_line, without_line, VerdictFits};

@@ -17,17 +17,17 @@ use Rattle.core_text.specs.CoreLines.{Standing, IsVerdict, IsNamed, IsLedgerBegi
 use Rattle.core_text.specs.CoreSays.{OneNext}
 use Rattle.core_text.proofs.Words.{first_byte, verdict-tells, number-tells, statement-no-ledger}
 
-some-same : {A : Type 0} (x y : A) (o : Option A) → o ≡ Some x → o ≡ Some y → x ≡ y
+pub some-same : {A : Type 0} (x y : A) (o : Option A) → o ≡ Some x → o ≡ Some y → x ≡ y
 some-same x y o p q = cc
 
 -- a line of a derivation begins with a digit
-derived-letter : (p next : Proof) (line : List ℕ) → IsDerivedLine p line next → 58 ≤ first_byte line → ⊥
+pub derived-letter : (p next : Proof) (line : List ℕ) → IsDerivedLine p line next → 58 ≤ first_byte line → ⊥
 derived-letter p next line h letter =
     let same : first_byte line ≡ first_byte (line_bytes h.entry) = ap first_byte h.bytes.1 in
     let digit = line-begins h.entry h.bytes.0 in
     omega (arith, same, letter, digit)
 
-continues-letter : (s t : Standing) (o : Option ℕ) (line : List ℕ) → Continues s o line t → 58 ≤ first_byte line
+pub continues-letter : (s t : Standing) (o : Option ℕ) (line : List ℕ) → Continues s o line t → 58 ≤ first_byte line
 continues-letter s t (Some n) line h = rw h.0 (omega arith)
 continues-letter s t None line h = rw h.0 (omega arith)
 
@@ -35,12 +35,12 @@ continues-one : (s t u : Standing) (o : Option ℕ) (line : List ℕ) → Contin
 continues-one s t u (Some n) line p q = p.1 ∙ sym q.1
 continues-one s t u None line p q = p.1 ∙ sym q.1
 
-limit-at : (ds : List Decl) (i : ℕ) (d : Decl) → DeclsInLimit ds → slice_get ds i ≡ Some d → KindInLimit d.kind
+pub limit-at : (ds : List Decl) (i : ℕ) (d : Decl) → DeclsInLimit ds → slice_get ds i ≡ Some d → KindInLimit d.kind
 limit-at [] i d h e = absurd (cc)
 limit-at (x ∷ ds) zero d h e = let same : x ≡ d = cc in subst (λ (y : Decl). KindInLimit y.kind) same h.0
 limit-at (x ∷ ds) (suc i) d h e = limit-at ds i d h.1 e
 
-no-turn : (ds : List Decl) (i : ℕ) (d : Decl) → slice_get ds i ≡ Some d → i ≡ length ds → ⊥
+pub no-turn : (ds : List Decl) (i : ℕ) (d : Decl) → slice_get ds i ≡ Some d → i ≡ length ds → ⊥
 no-turn [] i d e l = cc
 no-turn (x ∷ ds) zero d e l = omega (arith, l)
 no-turn (x ∷ ds) (suc i) d e l = no-turn ds i d e (omega (arith, l))

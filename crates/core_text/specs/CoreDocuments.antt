@@ -1,5 +1,5 @@
 -- The text of a core's document, and which documents are written.
-use Rattle.std.specs.Prelude.{◌≡◌, ℕ, ◌<◌, List, [], ◌∷◌, ◌++◌, codes, map, length, Ok, IsTrue}
+use Rattle.std.specs.Prelude.{◌≡◌, ℕ, ◌<◌, ◌^◌, List, [], ◌∷◌, ◌++◌, codes, map, length, Ok, IsTrue}
 use Rattle.bee_text.specs.Lines.{join_lines}
 use Rattle.model_meaning.specs.declared.model.Decl.{Decl}
 use Rattle.model_meaning.specs.declared.model.Assignment.{Assignment}
@@ -62,6 +62,11 @@ AreWhole decls (a ∷ given) = (length decls ≡ length a.values) × AreWhole de
 abbrev pub ArePart : Model → ℕ → List ℕ → Type 0
 ArePart model n [] = Unit {0}
 ArePart model n (m ∷ ms) = (n < m) × IsTrue (is_listed m (numbers_of model.stmts)) × ArePart model m ms
+
+-- each number has 64 bits
+abbrev pub AreNumbers : List ℕ → Type 0
+AreNumbers [] = Unit {0}
+AreNumbers (n ∷ ns) = (n < 2 ^ 64) × AreNumbers ns
 
 -- the ledger leads from the model with the part to a last state, and the derivation is one from its clauses
 pub record IsShownBy (model : Model) (d : CoreDocument) : Type 0 where

@@ -10,9 +10,12 @@ use Rattle.model_parts.specs.Only.{is_listed, chosen, only, all_but}
 use Rattle.model_parts.specs.PartLaws.{IsWithin}
 use Rattle.model_parts.specs.CoreWeight.{core_weight}
 use Rattle.line_texts.specs.LineByLine.{IsWhole}
+use Rattle.answer_document.specs.Told.{AreNames}
 use Rattle.core_text.specs.declared.verdict.CoreVerdict.{CoreVerdict}
 use Rattle.core_text.specs.declared.verdict.CoreVerdict.TheVariants.{Satisfiable, Core, Unknown}
+use Rattle.core_text.specs.declared.document.CoreDocument.{CoreDocument}
 use Rattle.core_text.specs.CoreLines.{Standing, start_standing, IsNext, IsEnd}
+use Rattle.core_text.specs.CoreDocuments.{core_text, AreNumbers, IsCoreDocument}
 
 -- for a statement of a part some assignment in the domains meets all other statements of the part
 pub record IsNeeded (model : Model) (core : List ℕ) (n : ℕ) : Type 0 where
@@ -52,3 +55,8 @@ Irreducible = (model : Model) (core fewer : List ℕ) (n : ℕ)
 abbrev pub OneNext : Type 0
 OneNext = (s t u : Standing) (line : List ℕ) → DeclsInLimit s.model.decls → IsNext s line t → IsNext s line u
     → t ≡ u
+
+-- the text of a document of a core is whole, and tells its verdict
+abbrev pub WrittenLaw : Type 0
+WrittenLaw = (model : Model) (d : CoreDocument) → InLimits model → AreNames model.decls → AreNumbers d.statements
+    → IsCoreDocument model d → IsCoreText model (core_text model.decls d) d.verdict

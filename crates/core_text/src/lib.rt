@@ -12,7 +12,8 @@
 //! What it promises: `core_law`, that what a whole text says is true of the model, whoever wrote it
 //! (`says`), and that each part of a core that lacks one of its statements has a solution
 //! (`irreducible`). `one_line_law`: a line leads to one standing, so a text has one verdict, or one
-//! first line that fails. `write_core` gives exactly the text of a document (its one clause).
+//! first line that fails. `write_core` gives exactly the text of a document (its one clause), and
+//! `written_law` says that such a text is whole, with the document's verdict.
 //!
 //! The lines of ledger and derivation are those of `certificate_lines`. A further part of the text
 //! is a case of `Part` and of `NextIn`.
@@ -25,7 +26,7 @@ mod verdict;
 mod writing;
 
 pub use document::CoreDocument;
-pub use laws::{core_law, one_line_law};
+pub use laws::{core_law, one_line_law, written_law};
 pub use part::Part;
 pub use verdict::CoreVerdict;
 pub use writing::{push_verdict, write_core};

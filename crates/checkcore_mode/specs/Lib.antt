@@ -1,0 +1,3 @@
+pub mod Checked
+pub mod CheckCoreMode
+pub mod AnswerLaw

@@ -1,0 +1,5 @@
+mod Walks
+mod Heading
+mod Verdicts
+mod Placing
+mod Judging

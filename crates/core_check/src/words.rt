@@ -1,0 +1,103 @@
+//! Words and numbers of lines.
+
+ghost use Rattle.std.specs.Prelude.{◌≡◌, ◌↔◌, ◌++◌, ◌<◌, ◌≤◌, ◌^◌};
+ghost use Rattle.std.specs.Prelude.{ℕ, List, IsTrue, MatchOption, codes};
+ghost use Rattle.std.specs.Fmt.{decimal};
+ghost use Rattle.core_text.specs.declared.verdict.CoreVerdict.{CoreVerdict};
+ghost use Rattle.core_text.specs.CoreLines.{verdict_line, without_line, VerdictFits};
+ghost use Rattle.core_text.proofs.Words.{first_byte};
+
+use bee_text::read_number;
+use certificate_lines::is;
+use core_text::CoreVerdict;
+
+/// What stands behind a word at the front of a line.
+fn behind_word<'a>(line: &'a [u8], word: &[u8]) -> Option<&'a [u8]>
+    ensures { MatchOption result ((rest : List ℕ) → line.now ≡ word.now ++ rest → ⊥)
+        (λ rest. line.now ≡ word.now ++ rest.now) }
+{
+    let length = word.len();
+    if line.len() < length {
+        return None;
+    }
+    if is(&line[..length], word) {
+        Some(&line[length..])
+    } else {
+        None
+    }
+}
+
+/// The number of 64 bits that a word spells.
+fn read_count(word: &[u8]) -> Option<u64>
+    ensures { MatchOption result ((n : ℕ) → n < 2 ^ 64 → word.now ≡ decimal n → ⊥)
+        (λ n. (n < 2 ^ 64) × (word.now ≡ decimal n)) }
+{
+    match read_number(word, u128::from(u64::MAX)) {
+        None => None,
+        Some(number) => Some(number as u64),
+    }
+}
+
+/// The number of 64 bits that stands behind a word, where a line is both.
+pub(crate) fn read_numbered(line: &[u8], word: &[u8]) -> Option<u64>
+    ensures { MatchOption result ((n : ℕ) → n < 2 ^ 64 → line.now ≡ word.now ++ decimal n → ⊥)
+        (λ n. (n < 2 ^ 64) × (line.now ≡ word.now ++ decimal n)) }
+{
+    match behind_word(line, word) {
+        None => None,
+        Some(rest) => read_count(rest),
+    }
+}
+
+/// Whether a number is one of learned clauses: from 1 and below 2 ^ 63.
+fn is_spent(count: u64) -> bool
+    ensures { IsTrue result ↔ ((1 ≤ count) × (count < 2 ^ 63)) }
+{
+    count >= 1 && count < (1 << 63)
+}
+
+/// The number of learned clauses that a line tells.
+fn read_spent(line: &[u8]) -> Option<u64>
+    ensures { MatchOption result
+        ((n : ℕ) → 1 ≤ n → n < 2 ^ 63 → line.now ≡ codes "UNKNOWN " ++ decimal n → ⊥)
+        (λ n. (1 ≤ n) × (n < 2 ^ 63) × (line.now ≡ codes "UNKNOWN " ++ decimal n)) }
+{
+    match read_numbered(line, b"UNKNOWN ") {
+        None => None,
+        Some(count) => { if is_spent(count) { Some(count) } else { None } }
+    }
+}
+
+/// The verdict that a line tells.
+pub(crate) fn read_verdict(line: &[u8]) -> Option<CoreVerdict>
+    ensures { MatchOption result ((v : CoreVerdict) → VerdictFits v → line.now ≡ verdict_line v → ⊥)
+        (λ v. VerdictFits v × (line.now ≡ verdict_line v)) }
+{
+    if is(line, b"SATISFIABLE") {
+        return Some(CoreVerdict::Satisfiable);
+    }
+    if let Some(count) = read_numbered(line, b"CORE ") {
+        return Some(CoreVerdict::Core(count));
+    }
+    match read_spent(line) {
+        None => None,
+        Some(count) => Some(CoreVerdict::Unknown(count)),
+    }
+}
+
+/// Whether a line is the one before the assignment of a statement.
+pub(crate) fn is_without(line: &[u8], number: u64) -> bool
+    ensures { IsTrue result ↔ (line.now ≡ without_line number) }
+{
+    match read_numbered(line, b"without ") {
+        None => false,
+        Some(told) => told == number,
+    }
+}
+
+/// Whether a line begins with a letter, as no line of a derivation does.
+pub(crate) fn begins_word(line: &[u8]) -> bool
+    ensures { IsTrue result ↔ (58 ≤ first_byte line.now) }
+{
+    !line.is_empty() && line[0] >= 58
+}

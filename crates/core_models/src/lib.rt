@@ -1,0 +1,20 @@
+//! From a text to the model that it says of which cores are asked, and the first fault of a text
+//! that says none.
+//!
+//! A core is a part of a model's statements, so each part has to be light enough to be compiled: the
+//! weight that counts is that of the heaviest part, which is the model's and one for each `bool2int`
+//! that declares its integer. In all else such a text is as any model's.
+//!
+//! What it promises: `whole_model` gives the model that a text says where no part of it is too
+//! heavy, and else the first fault of the text (`model`, `fault`), of which a weight is told as a
+//! number of 128 bits has it. `fault_law`: a text has one first fault, or it says one such model,
+//! and never both.
+//!
+//! The modes that make cores and that check them stand on it, so that they refuse the same texts.
+#![tactic(auto)]
+
+mod laws;
+mod whole;
+
+pub use laws::fault_law;
+pub use whole::whole_model;

@@ -1,0 +1,4 @@
+mod Gathering
+mod Objectives
+mod Clauses
+mod Judged

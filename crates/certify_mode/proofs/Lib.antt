@@ -1,0 +1,3 @@
+pub mod Ends
+mod TwoFree
+mod Holdings

@@ -1,4 +1,3 @@
 mod Gathering
-mod Objectives
 mod Clauses
 mod Judged

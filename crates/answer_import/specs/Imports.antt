@@ -2,13 +2,10 @@
 use Rattle.std.specs.Prelude.{◌≡◌, ◌≢◌, ◌⊎◌, ℕ, ◌+◌, Bool, true, false, List, [], ◌++◌, length, ℤ, pos}
 use Rattle.std.specs.Prelude.{Option, None, Some}
 use Rattle.bee_text.specs.Lines.{join_lines}
-use Rattle.order_ints.specs.declared.atom.Atom.{Atom}
-use Rattle.order_ints.specs.declared.atom.Atom.TheVariants.{False}
 use Rattle.order_ints.specs.declared.cnf.Cnf.{Cnf}
 use Rattle.order_ints.specs.declared.order_int.MapValue.{MapValue}
 use Rattle.order_ints.specs.Numbers.{numbers_of}
-use Rattle.order_ints.specs.OrderValue.{value_of}
-use Rattle.order_ints.specs.Truth.{valuation_of, not_atom}
+use Rattle.order_ints.specs.Truth.{valuation_of}
 use Rattle.model_meaning.specs.declared.model.Goal.{Goal}
 use Rattle.model_meaning.specs.declared.model.Goal.TheVariants.{Satisfy, Minimize, Maximize}
 use Rattle.model_meaning.specs.declared.model.Model.{Model}
@@ -19,9 +16,9 @@ use Rattle.answer_document.specs.declared.verdict.Bounds.{Bounds}
 use Rattle.answer_document.specs.declared.verdict.Verdict.{Verdict}
 use Rattle.answer_document.specs.declared.verdict.Verdict.TheVariants.{Satisfiable, Unsatisfiable, Optimum}
 use Rattle.answer_document.specs.declared.document.Document.{Document}
-use Rattle.answer_document.specs.BoundAtoms.{integer_named, first_bound}
 use Rattle.answer_document.specs.DocumentText.{document_text}
-use Rattle.answer_document.specs.Valid.{atom_clauses, numbers_given}
+use Rattle.answer_document.specs.Valid.{numbers_given}
+use Rattle.objective_bound.specs.Bounds.{with_atom, value_at, better_than}
 use Rattle.ledger_check.specs.Checked.{IsAnswer}
 use Rattle.answer_import.specs.declared.judging.Found.{Found}
 use Rattle.answer_import.specs.declared.judging.Found.TheVariants as found
@@ -34,20 +31,6 @@ pub record Sought : Type 0 where
   pub cnf : Cnf
   pub entries : List MapValue
   pub goal : Goal
-
--- a CNF, and at its end the clause of an atom
-abbrev pub with_atom : Cnf → Atom → Cnf
-with_atom cnf a = record { vars = cnf.vars; clauses = cnf.clauses ++ atom_clauses a }
-
--- the value of the objective under truth values
-abbrev pub value_at : Goal → List MapValue → List Bool → ℤ
-value_at Satisfy entries values = pos 0
-value_at (Minimize place second) entries values = value_of (valuation_of values) (integer_named entries place)
-value_at (Maximize place second) entries values = value_of (valuation_of values) (integer_named entries place)
-
--- the atom that says that the objective is better than a number
-abbrev pub better_than : Goal → List MapValue → ℤ → Atom
-better_than goal entries m = not_atom (first_bound goal entries m)
 
 -- the clauses, and that the objective is better than under truth values
 abbrev pub better_cnf : Sought → List Bool → Cnf

@@ -18,7 +18,8 @@ use Rattle.answer_document.specs.Valid.{numbers_given}
 use Rattle.answer_import.specs.declared.judging.Found.{Found}
 use Rattle.answer_import.specs.declared.judging.Found.TheVariants.{Shown, Refused}
 use Rattle.answer_import.specs.declared.judging.Task.{Task}
-use Rattle.answer_import.specs.Imports.{Sought, better_cnf, value_at, ShowsBehind, FailsBehind}
+use Rattle.objective_bound.specs.Bounds.{value_at}
+use Rattle.answer_import.specs.Imports.{Sought, better_cnf, ShowsBehind, FailsBehind}
 
 -- clauses that a solver takes, and names that stand for integers over their variables
 pub record IsTask (cnf : Cnf) (entries : List MapValue) : Type 0 where

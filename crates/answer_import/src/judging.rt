@@ -8,7 +8,6 @@ ghost use Rattle.answer_import.specs.Imports.{IsFound};
 ghost use Rattle.answer_import.specs.Judging.{IsTask, sought_in, IsFoundBehind, IsFoundBest, IsFoundAlone, IsFoundRefuted};
 
 use crate::cut::{Cut, cut_front};
-use crate::objective::{better_than, value_at};
 use crate::refuting::refutation;
 use answer_document::{Bounds, Verdict};
 use bee_list::Sequence;
@@ -17,6 +16,7 @@ use drup_check::DrupFault;
 use model_decode::decode;
 use model_meaning::{Assignment, Goal};
 use name_map::NameMap;
+use objective_bound::{better_than, value_at};
 use order_ints::{Atom, Cnf};
 use proof_check::ProofLine;
 use std::alloc::{AllocError, Global};

@@ -12,8 +12,7 @@
 //! What `import_answer` promises (`IsImport`): where it gives an answer, the bytes are a valid one
 //! to the model, whose verdict is true, and is what the text shows; where it gives a line, this is
 //! the first of the text that fails, or the one behind its last where nothing is shown. Else
-//! memory is wanting. `better_than` is the atom that a refutation may assume, for whoever tells a
-//! solver of it.
+//! memory is wanting.
 //!
 //! A further kind of line is a case of `LineKind`, and of `Fronts.antt`.
 #![tactic(auto)]
@@ -21,8 +20,6 @@
 mod cut;
 mod importing;
 mod judging;
-mod objective;
 mod refuting;
 
 pub use importing::{Imported, import_answer};
-pub use objective::better_than;

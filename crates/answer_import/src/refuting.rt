@@ -5,7 +5,7 @@ ghost use Rattle.order_ints.specs.OrderedClauses.{ClausesAscend};
 ghost use Rattle.order_ints.specs.Place.{AtomBelow, InRange};
 ghost use Rattle.drup_check.specs.DrupLines.{IsDrup};
 ghost use Rattle.drup_check.specs.Taken.{DrupFaultOf};
-ghost use Rattle.answer_import.specs.Imports.{with_atom};
+ghost use Rattle.objective_bound.specs.Bounds.{with_atom};
 
 use answer_document::with_atom;
 use bee_list::Sequence;

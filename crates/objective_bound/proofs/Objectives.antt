@@ -24,7 +24,7 @@ use Rattle.name_map.specs.Fits.{ValueFits, ValuesFit}
 use Rattle.statement_lower.specs.Terms.{integer_at}
 use Rattle.model_decode.specs.Short.{IsShort, AreShort}
 use Rattle.answer_document.specs.BoundAtoms.{integer_named}
-use Rattle.answer_import.specs.Imports.{better_than}
+use Rattle.objective_bound.specs.Bounds.{better_than}
 
 zero-bounded : IsBounded (constant_of (pos 0))
 zero-bounded = (omega arith, omega arith)

@@ -6,11 +6,21 @@ ghost use Rattle.order_ints.specs.OrderRange.{IsBounded};
 ghost use Rattle.order_ints.specs.OrderValue.{value_of};
 ghost use Rattle.order_ints.specs.Truth.{valuation_of};
 ghost use Rattle.answer_document.specs.BoundAtoms.{integer_named, at_least, at_most};
-ghost use Rattle.answer_import.specs.Imports.{value_at, better_than};
+ghost use Rattle.objective_bound.specs.Bounds.{has_objective, value_at, better_than};
 
 use model_meaning::Goal;
 use order_ints::{Atom, MapValue, OrdInt};
 use std::alloc::{AllocError, Global};
+
+/// Whether something is sought of a solution.
+pub fn has_objective(goal: Goal) -> bool
+    ensures { result ≡ has_objective goal }
+{
+    match goal {
+        Goal::Satisfy => false,
+        Goal::Minimize(_, _) | Goal::Maximize(_, _) => true,
+    }
+}
 
 /// What a name stands for, as an integer; `zero` for one that stands for none.
 fn integer_named<'a>(entries: &'a [MapValue], place: usize, zero: &'a OrdInt) -> &'a OrdInt
@@ -23,7 +33,7 @@ fn integer_named<'a>(entries: &'a [MapValue], place: usize, zero: &'a OrdInt) ->
     }
 }
 
-/// The value of an integer under truth values. Want of memory is told, too, where it hasn't 64 bits.
+/// The value of an integer under truth values, where it has 64 bits.
 fn value_under(integer: &OrdInt, values: &[bool]) -> Result<i64, AllocError>
     requires { IsBounded integer.now }
     ensures { IfOk result (λ n. n ≡ value_of (valuation_of values.now) integer.now) }
@@ -34,8 +44,9 @@ fn value_under(integer: &OrdInt, values: &[bool]) -> Result<i64, AllocError>
     }
 }
 
-/// The value of the objective under truth values, 0 where there is none.
-pub(crate) fn value_at(
+/// The value of the objective under truth values, 0 where there is none. One pass over the steps of its integer. Want
+/// of memory is told, too, where the value hasn't 64 bits.
+pub fn value_at(
     alloc: Global,
     goal: Goal,
     entries: &[MapValue],
@@ -68,7 +79,8 @@ fn at_most(integer: &OrdInt, number: i64) -> Atom
     integer.at(i128::from(number) + 1).not()
 }
 
-/// The atom that says that the objective of a goal is better than a number; True where none is sought.
+/// The atom that says that the objective of a goal is better than a number; True where none is sought. It walks along
+/// the values of the objective's integer up to the number, and takes no memory that stays.
 pub fn better_than(
     alloc: Global,
     goal: Goal,

@@ -1,0 +1,13 @@
+use Rattle.model_texts.proofs.ModelShapes.{typed, limited}
+use Rattle.model_texts.proofs.HeavyFaults.{heavy_caused}
+use Rattle.bound_mode.proofs.making.bound_text.Goals as goal
+
+pub write_bound-requires-clause-typed : goal.write_bound-requires-clause-typed
+write_bound-requires-clause-typed c = typed c.args.text.now c.in_ok-model.model c.in_ok-model.ensures.model
+
+pub write_bound-requires-clause-limits : goal.write_bound-requires-clause-limits
+write_bound-requires-clause-limits c = limited c.args.text.now c.in_ok-model.model c.requires c.in_ok-model.ensures.model
+
+pub returns-in-Err-clause-fault : goal.returns-in-Err-clause-fault
+returns-in-Err-clause-fault c =
+    heavy_caused c.args.text.now c.in_ok-model.model c.in-Err.fault _ c.requires c.in_ok-model.ensures.model c.in-Err.ensures.heavy c.lower_fault.ensures

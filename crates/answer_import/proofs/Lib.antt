@@ -1,3 +1,4 @@
 mod Gathering
 mod Clauses
 mod Judged
+mod Shorts

@@ -1,14 +1,12 @@
 -- What the names of a model that is compiled stand for, as objectives.
 use Rattle.std.proofs.Common.{◌≡◌, ℕ, zero, suc, ◌+◌, List, [], ◌∷◌, ℤ, pos, ◌+ℤ◌, subst, sym, arith}
-use Rattle.std.specs.Prelude.{Some, ◌≤ℤ◌, FitsSigned}
-use Rattle.std.specs.Int.{w64}
-use Rattle.std.proofs.lemmas.Int.{ints}
+use Rattle.std.specs.Prelude.{Some}
 use Rattle.order_ints.specs.declared.order_int.MapValue.{MapValue}
 use Rattle.order_ints.specs.declared.order_int.MapValue.TheVariants as values
 use Rattle.order_ints.specs.declared.order_int.OrdInt.{OrdInt}
 use Rattle.order_ints.specs.declared.atom.Atom.{Atom}
 use Rattle.order_ints.specs.OrderMade.{constant_of}
-use Rattle.order_ints.specs.OrderRange.{IsBounded, IntBelow, low_of, high_of}
+use Rattle.order_ints.specs.OrderRange.{IsBounded, IntBelow}
 use Rattle.order_ints.specs.OrderLevels.{at_of}
 use Rattle.order_ints.specs.Place.{AtomBelow}
 use Rattle.order_ints.specs.Truth.{not_atom}
@@ -19,10 +17,8 @@ use Rattle.model_meaning.specs.declared.model.Goal.{Goal}
 use Rattle.model_meaning.specs.declared.model.Goal.TheVariants.{Satisfy, Minimize, Maximize}
 use Rattle.model_meaning.specs.declared.model.Kind.{Kind}
 use Rattle.model_meaning.specs.declared.model.Kind.TheVariants as kind
-use Rattle.model_meaning.specs.Limits.{InLimit}
 use Rattle.name_map.specs.Fits.{ValueFits, ValuesFit}
 use Rattle.statement_lower.specs.Terms.{integer_at}
-use Rattle.model_decode.specs.Short.{IsShort, AreShort}
 use Rattle.answer_document.specs.BoundAtoms.{integer_named}
 use Rattle.objective_bound.specs.Bounds.{better_than}
 
@@ -56,24 +52,6 @@ values-below n ds [] h place = tt
 values-below n [] (v ∷ vs) h place = absurd h
 values-below n (d ∷ ds) (v ∷ vs) h zero = value-below n d.kind v h.0
 values-below n (d ∷ ds) (v ∷ vs) h (suc place) = values-below n ds vs h.1 place
-
--- and their values are numbers of 64 bits
-integer-short : (a : OrdInt) (low high : ℤ) → InLimit low → InLimit high → low ≤ℤ low_of a → high_of a ≤ℤ high → FitsSigned w64 (low_of a) × FitsSigned w64 (high_of a)
-integer-short a low high l h least greatest = (omega (arith, ints), omega (arith, ints))
-
-value-short : (n : ℕ) (k : Kind) (v : MapValue) → ValueFits n k v → IsShort v
-value-short n kind.Bool (values.Bool a) h = tt
-value-short n kind.Bool (values.Int a) h = absurd h
-value-short n (kind.Range low high) (values.Bool a) h = absurd h
-value-short n (kind.Range low high) (values.Int a) h = integer-short a low high h.low_in_limit h.high_in_limit h.least h.greatest
-value-short n (kind.Listed vs) (values.Bool a) h = absurd h
-value-short n (kind.Listed vs) (values.Int a) h = integer-short a _ _ h.low_in_limit h.high_in_limit h.least h.greatest
-
-pub values-short : (n : ℕ) (ds : List Decl) (vs : List MapValue) → ValuesFit n ds vs → AreShort vs
-values-short n [] [] h = tt
-values-short n [] (v ∷ vs) h = absurd h
-values-short n (d ∷ ds) [] h = absurd h
-values-short n (d ∷ ds) (v ∷ vs) h = (value-short n d.kind v h.0, values-short n ds vs h.1)
 
 -- that an objective is better is an atom over the variables of its integer
 pub better-below : (n : ℕ) (goal : Goal) (entries : List MapValue) (m : ℤ) → ((place : ℕ) → IntBelow n (integer_named entries place)) → AtomBelow n (better_than goal entries m)

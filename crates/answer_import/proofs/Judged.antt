@@ -1,5 +1,5 @@
 -- What a text comes to, from what its parts come to.
-use Rattle.std.proofs.Common.{◌≡◌, ℕ, ◌+◌, Bool, true, false, List, [], Option, Some, None, refl, sym, ap, subst, ◌∙◌, inl, inr}
+use Rattle.std.proofs.Common.{◌≡◌, ℕ, ◌+◌, Bool, true, false, List, [], ◌∷◌, ◌++◌, Option, Some, None, refl, sym, ap, subst, ◌∙◌, inl, inr}
 use Rattle.bee_text.specs.Lines.{join_lines}
 use Rattle.order_ints.specs.declared.cnf.Cnf.{Cnf}
 use Rattle.order_ints.specs.Numbers.{numbers_of}
@@ -18,8 +18,13 @@ use Rattle.answer_import.specs.Cutting.{HasCut}
 use Rattle.answer_import.specs.Imports.{Sought, TextFails, IsFound}
 use Rattle.answer_import.specs.Judging.{FoundFor, IsFoundBehind, IsFoundBest, IsFoundAlone, IsFoundRefuted}
 
-pub nothing-closed : (rest : List ℕ) → rest ≡ [] → closed rest ≡ []
-nothing-closed rest e = ap closed e
+-- a line stands in a text that is not empty
+line-there : (line behind : List ℕ) → line ++ 10 ∷ behind ≡ [] → ⊥
+line-there [] behind e = absurd (cc)
+line-there (b ∷ line) behind e = absurd (cc)
+
+pub some-text : (text line behind : List ℕ) → text ≡ line ++ 10 ∷ behind → text ≡ [] → ⊥
+some-text text line behind is none = line-there line behind (sym is ∙ none)
 
 -- behind values, by what is sought
 module _ (s : Sought) (values : List Bool) (rest : List ℕ) (lines : ℕ) (given : Assignment) (numbers : given.values ≡ numbers_of (valuation_of values) s.entries) where

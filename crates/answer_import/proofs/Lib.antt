@@ -2,3 +2,4 @@ mod Gathering
 mod Clauses
 mod Judged
 mod Shorts
+mod Belows

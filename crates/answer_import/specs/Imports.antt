@@ -96,10 +96,11 @@ abbrev pub IsFound : Sought → List ℕ → Found → Type 0
 IsFound s text (found.Shown v a proof) = TextShows s text v (numbers_given a)
 IsFound s text (found.Refused line) = TextFails s text line
 
--- The bytes are a valid answer to the model, whose verdict is true; and this verdict is what the text shows, with the
--- numbers of the values that it tells.
+-- The bytes are a valid answer to the model, and the verdict that they tell is true; and they are the text of a document
+-- whose verdict is what the text shows, with the numbers of the values that it tells.
 pub record IsImported (model : Model) (s : Sought) (text : List ℕ) (v : Verdict) (written : List ℕ) : Type 0 where
-  pub answer : IsAnswer model written v
+  pub told : Verdict
+  pub answer : IsAnswer model written told
   pub document : Document
   pub spelled : written ≡ document_text model.decls model.goal document
   pub verdict : document.verdict ≡ v

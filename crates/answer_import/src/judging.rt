@@ -19,6 +19,7 @@ use name_map::NameMap;
 use objective_bound::{better_than, value_at};
 use order_ints::{Atom, Cnf};
 use proof_check::ProofLine;
+use sat_front::cut_line;
 use std::alloc::{AllocError, Global};
 
 /// The clauses of a model, what its names stand for in them, and what is sought.
@@ -52,11 +53,12 @@ fn line_behind(lines: u64, line: u64) -> Result<Found, AllocError>
 fn solution_shown(alloc: Global, cut: &Cut<'_>, given: Assignment) -> Result<Found, AllocError>
     ensures { IfOk result (IsFoundAlone cut.now.rest.now cut.now.front.lines given) }
 {
-    if cut.rest.is_empty() {
-        let proof = Sequence::from_vec(Vec::new(alloc));
-        Ok(Found::Shown(Verdict::Satisfiable, Some(given), proof))
-    } else {
-        line_behind(cut.front.lines, 1)
+    match cut_line(cut.rest) {
+        Some(_) => line_behind(cut.front.lines, 1),
+        None => {
+            let proof = Sequence::from_vec(Vec::new(alloc));
+            Ok(Found::Shown(Verdict::Satisfiable, Some(given), proof))
+        }
     }
 }
 

@@ -13,8 +13,9 @@ use Rattle.bee_compile.specs.Compiled.{IsInstance, IsCompiled}
 use Rattle.model_weight.specs.Weight.{weight_of}
 use Rattle.model_lower.specs.Weighed.{most_weight}
 use Rattle.model_texts.specs.ModelTexts.{longest_text, IsModelOf}
-use Rattle.certify_mode.specs.declared.holding.HeldCompilation.{HeldCompilation}
-use Rattle.certify_mode.specs.Holding.{IsHeld, HoldsLight}
+use Rattle.model_texts.proofs.OneModel.{one_model}
+use Rattle.bee_compile.specs.Fits.{CompiledFits}
+use Rattle.certify_mode.specs.Holding.{HoldsLight}
 
 kernel-ascends : (k : Kernel) → ClausesAscend (cnf_of k).clauses
 kernel-ascends k = by k.bottom
@@ -27,14 +28,13 @@ kernel-ascends k = by k.bottom
 pub ascends : (model : Model) (c : Compiled) → IsCompiled IsInstance model c → ClausesAscend c.cnf.clauses
 ascends model c is = subst (λ (cnf : Cnf). ClausesAscend cnf.clauses) (sym is.cnf) (kernel-ascends is.last)
 
--- a text that says the model holds what is held
-pub held-light : (text : List ℕ) (model : Model) (held : HeldCompilation) → length text ≤ longest_text → IsModelOf text model → IsHeld model held → HoldsLight text held
-held-light text model held short says h = record {
-  model = record {
-    within = short;
-    says = subst (IsModelOf text) (sym h.is) says;
-    light = subst (λ (m : Model). weight_of m ≤ most_weight) (sym h.is) h.light;
-  };
-  compiled = subst (λ (m : Model). IsCompiled IsInstance m held.compiled) (sym h.is) h.compiled;
-  fits = h.fits;
-}
+-- a text holds its model with what that is compiled to, also where it was read twice
+pub held-twin : (text : List ℕ) (model twin : Model) (compiled : Compiled) → length text ≤ longest_text → IsModelOf text model → IsModelOf text twin → weight_of twin ≤ most_weight
+    → IsCompiled IsInstance twin compiled → CompiledFits compiled → HoldsLight text (record { model = model; compiled = compiled })
+held-twin text model twin compiled short says own light is fits =
+    let same : twin ≡ model = one_model text twin model own says in
+    record {
+      model = record { within = short; says = says; light = subst (λ (m : Model). weight_of m ≤ most_weight) same light };
+      compiled = subst (λ (m : Model). IsCompiled IsInstance m compiled) same is;
+      fits = fits;
+    }

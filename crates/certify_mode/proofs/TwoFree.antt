@@ -7,7 +7,7 @@ use Rattle.text_modes.specs.TwoTexts.{Texts, ToldBoth, EitherFailed, Says}
 use Rattle.text_modes.specs.declared.ends.Outcome.{Outcome}
 use Rattle.text_modes.specs.declared.ends.End.{End}
 use Rattle.text_modes.specs.declared.ends.End.TheVariants.{Wrote, Fault, Read, Write, Memory}
-use Rattle.text_modes.proofs.Answering.{told_whole, told_front, OneEnd, met, never, failed, wanting}
+use Rattle.certify_mode.proofs.Answering.{told_whole, told_front, OneEnd, met, never, failed, wanting}
 
 -- Where the first text has one fault, and none where it is fit, as it is where a text is given for two.
 module _ {F : Type 0} (limit : Option ℕ) (IsFit : List ℕ → Type 0) (Gives : Texts → Outcome → List ℕ → Type 0) (HasFault : List ℕ → F → Type 0)

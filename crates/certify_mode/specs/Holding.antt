@@ -1,10 +1,8 @@
 -- The model that a text holds with what it is compiled to, and why a text holds none of which an answer is imported.
-use Rattle.std.specs.Prelude.{◌≡◌, ◌≤◌, ℕ, Bool, true, false, List, is_some}
+use Rattle.std.specs.Prelude.{◌≡◌, ℕ, Bool, true, false, List, is_some}
 use Rattle.model_meaning.specs.declared.model.Goal.{Goal}
 use Rattle.model_meaning.specs.declared.model.Goal.TheVariants.{Satisfy, Minimize, Maximize}
 use Rattle.model_meaning.specs.declared.model.Model.{Model}
-use Rattle.model_weight.specs.Weight.{weight_of}
-use Rattle.model_lower.specs.Weighed.{most_weight}
 use Rattle.model_texts.specs.HeldModels.{HoldsModel}
 use Rattle.model_texts.specs.ModelTexts.{HasFault as HasModelFault}
 use Rattle.bee_compile.specs.Compiled.{IsInstance, IsCompiled}
@@ -18,13 +16,6 @@ abbrev pub has_two : Goal → Bool
 has_two Satisfy = false
 has_two (Minimize place second) = is_some second
 has_two (Maximize place second) = is_some second
-
--- a model that is not too heavy is held with what it is compiled to, by all rules
-pub record IsHeld (model : Model) (held : HeldCompilation) : Type 0 where
-  pub is : held.model ≡ model
-  pub compiled : IsCompiled IsInstance model held.compiled
-  pub fits : CompiledFits held.compiled
-  pub light : weight_of model ≤ most_weight
 
 -- a text says this model, and it is compiled to this
 pub record HoldsLight (text : List ℕ) (held : HeldCompilation) : Type 0 where

@@ -1,15 +1,11 @@
 //! From the text of a model to what it is compiled to.
 
 ghost use Rattle.std.specs.Prelude.{◌≡◌, ◌≤◌, length, IfOk, IfErr};
-ghost use Rattle.model_meaning.specs.WellTyped.{WellTyped};
-ghost use Rattle.model_meaning.specs.Limits.{InLimits};
-ghost use Rattle.model_lower.specs.Faults.{IsFaultOf};
 ghost use Rattle.model_texts.specs.ModelTexts.{longest_text, IsCauseOf};
-ghost use Rattle.certify_mode.specs.Holding.{has_two, IsHeld, HoldsLight};
+ghost use Rattle.certify_mode.specs.Holding.{has_two, HoldsLight};
 
 use bee_compile::Compiled;
 use compile_mode::compile_model;
-use model_lower::LowerFault;
 use model_meaning::{Goal, Model};
 use model_texts::{ModelTextFault, lower_fault, model_of};
 use std::alloc::Global;
@@ -32,19 +28,8 @@ pub(crate) fn has_two(goal: Goal) -> bool
     }
 }
 
-/// A model, and what a copy of it is compiled to.
-fn held(alloc: Global, model: Model) -> Result<HeldCompilation, LowerFault>
-    requires typed { WellTyped model }
-    requires limits { InLimits model }
-    ensures held { IfOk result (IsHeld model) }
-    ensures heavy { IfErr result (λ e. IsFaultOf e model) }
-{
-    let copy = model.clone()?;
-    let compiled = compile_model(alloc, copy)?;
-    Ok(HeldCompilation { model, compiled })
-}
-
-/// The model that a text within the limit says, where it is not too heavy, compiled.
+/// The model that a text within the limit says, where it is not too heavy, compiled. The text is read twice, since the
+/// compiler uses a model up.
 pub(crate) fn held_compilation(
     alloc: Global,
     text: &[u8],
@@ -54,8 +39,9 @@ pub(crate) fn held_compilation(
     ensures fault { IfErr result (λ e. IsCauseOf e text.now) }
 {
     let model = model_of(alloc, text)?;
-    match held(alloc, model) {
-        Ok(made) => Ok(made),
+    let twin = model_of(alloc, text)?;
+    match compile_model(alloc, twin) {
+        Ok(compiled) => Ok(HeldCompilation { model, compiled }),
         Err(fault) => Err(lower_fault(fault)),
     }
 }

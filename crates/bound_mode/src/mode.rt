@@ -12,6 +12,7 @@ use text_modes::{End, Made, OneText, Outcome, run_one};
 
 /// The text of a model is read, and its compiled text is written, with the clause that its objective is better than a
 /// number.
+#[derive(Drop)]
 struct Bounding {
     number: i64,
 }

@@ -30,4 +30,3 @@ values-short n [] [] h = tt
 values-short n [] (v ∷ vs) h = absurd h
 values-short n (d ∷ ds) [] h = absurd h
 values-short n (d ∷ ds) (v ∷ vs) h = (value-short n d.kind v h.0, values-short n ds vs h.1)
-

@@ -80,7 +80,10 @@ pub fn import_answer(
 {
     let goal = model.goal;
     let Compiled {
-        cnf, map, ledger, ..
+        cnf,
+        map,
+        ledger,
+        ..
     } = compiled;
     match judge(alloc, Task { cnf, map, goal }, text)? {
         Found::Refused(line) => Ok(Imported::Refused(line)),

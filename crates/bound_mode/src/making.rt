@@ -77,13 +77,7 @@ pub(crate) fn bound_text(
     let model = model_of(alloc, text)?;
     let seeks = has_objective(model.goal);
     match write_bound(alloc, model, number) {
-        Ok(written) => {
-            if seeks {
-                Ok(Some(written))
-            } else {
-                Ok(None)
-            }
-        }
+        Ok(written) => { if seeks { Ok(Some(written)) } else { Ok(None) } }
         Err(fault) => Err(lower_fault(fault)),
     }
 }

@@ -1,4 +1,4 @@
-mod MapLines
+pub mod MapLines
 pub mod Headline
 pub mod Ends
 mod Answered

@@ -10,8 +10,10 @@
 //! that says no such model gives its first fault. `answer_law`: each text has one end, so what is
 //! told of a text is that end, or memory is wanting.
 //!
-//! The meaning of the text is that of `dimacs_out`; what is sought of a solution is no part of it,
-//! but that each objective is a declared integer.
+//! `compile_model` and `write_compilation` are its two halves, for the modes that ask a solver for
+//! more than the model says, or import what one found. The meaning of the text is that of
+//! `dimacs_out`; what is sought of a solution is no part of it, but that each objective is a
+//! declared integer.
 #![tactic(auto)]
 
 mod entries;
@@ -20,4 +22,5 @@ mod making;
 mod mode;
 
 pub use laws::answer_law;
+pub use making::{compile_model, write_compilation};
 pub use mode::compile;

@@ -46,8 +46,20 @@ fn compile_with<L: Ledger>(
     compile(alloc, model, TableP, &mut steps)
 }
 
-/// The compiled text of what a model is compiled to.
-fn write_compilation(alloc: Global, compiled: Compiled) -> Result<Vec<u8>, AllocError>
+/// What a model is compiled to, by all rules. Each statement is let go when it is lowered.
+pub fn compile_model(alloc: Global, model: Model) -> Result<Compiled, LowerFault>
+    requires typed { WellTyped model }
+    requires limits { InLimits model }
+    ensures light { IfOk result (λ c. weight_of model ≤ most_weight) }
+    ensures compiled { IfOk result (λ c. IsCompiled IsInstance model c) }
+    ensures fits { IfOk result CompiledFits }
+    ensures heavy { IfErr result (λ e. IsFaultOf e model) }
+{
+    compile_with::<Brand>(alloc, Blank::new(1), model)
+}
+
+/// The compiled text of what a model is compiled to. The names and what they stand for move into it.
+pub fn write_compilation(alloc: Global, compiled: Compiled) -> Result<Vec<u8>, AllocError>
     requires { CompiledFits compiled }
     ensures text { IfOk result (λ text. text.items ≡ text_of (written_of compiled)) }
     ensures count { IfOk result (λ text. length compiled.cnf.clauses < 2 ^ 64) }
@@ -68,7 +80,7 @@ fn write_compilation(alloc: Global, compiled: Compiled) -> Result<Vec<u8>, Alloc
     write_compiled(alloc, &held)
 }
 
-/// The compiled text of a model. Each statement is let go when it is lowered.
+/// The compiled text of a model.
 fn write_model(alloc: Global, model: Model) -> Result<Vec<u8>, LowerFault>
     requires typed { WellTyped model }
     requires limits { InLimits model }
@@ -76,7 +88,7 @@ fn write_model(alloc: Global, model: Model) -> Result<Vec<u8>, LowerFault>
     ensures text { IfOk result (λ text. IsCompiledText model text.items) }
     ensures heavy { IfErr result (λ e. IsFaultOf e model) }
 {
-    let compiled = compile_with::<Brand>(alloc, Blank::new(1), model)?;
+    let compiled = compile_model(alloc, model)?;
     Ok(write_compilation(alloc, compiled)?)
 }
 

@@ -1,4 +1,4 @@
-use Rattle.compile_mode.proofs.making.write_model.Given as goal
+use Rattle.compile_mode.proofs.making.compile_model.Given as goal
 
 -- the counter is that of the new ledger
 abbrev pub ghosts-compile_with : goal.ghosts-compile_with

@@ -1,0 +1,5 @@
+mod Gathering
+mod Clauses
+mod Judged
+mod Shorts
+mod Belows

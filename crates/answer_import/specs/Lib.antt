@@ -1,0 +1,5 @@
+pub mod Fronts
+pub mod Cutting
+pub mod Imports
+pub mod Judging
+pub mod Importing

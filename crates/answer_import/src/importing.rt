@@ -1,0 +1,102 @@
+//! From another solver's text to the document of an answer.
+
+ghost use Rattle.std.specs.Prelude.{◌≡◌, ◌≤◌, length, map, IfOk, IfSome, IsTrue};
+ghost use Rattle.bee_text.specs.Lines.{AreLines};
+ghost use Rattle.order_ints.specs.OrderedClauses.{ClausesAscend};
+ghost use Rattle.model_meaning.specs.declared.model.Decl.{Decl};
+ghost use Rattle.model_meaning.specs.WellTyped.{WellTyped};
+ghost use Rattle.model_meaning.specs.Limits.{InLimits};
+ghost use Rattle.bee_compile.specs.Fits.{CompiledFits};
+ghost use Rattle.answer_document.specs.DocumentText.{document_text};
+ghost use Rattle.ledger_check.specs.Checked.{IsAnswer};
+ghost use Rattle.answer_import.specs.Imports.{IsImport};
+ghost use Rattle.answer_import.specs.Importing.{IsWrittenFor, sought_of};
+
+use crate::judging::{Found, Task, judge};
+use answer_document::{Document, Verdict, write_document};
+use bee_compile::Compiled;
+use ledger_check::check;
+use model_meaning::{Assignment, Decl, Model};
+use std::alloc::{AllocError, Global};
+
+/// What another solver's text is imported as.
+#[derive(Debug, Drop)]
+pub enum Imported {
+    /// A valid answer with this verdict.
+    Answer(Verdict, Vec<u8>),
+    /// This line of it is the first that fails, counted from 1.
+    Refused(u64),
+}
+
+/// Whether an assignment, where there is one, has a number for each declared name.
+fn has_numbers(decls: &[Decl], assignment: &Option<Assignment>) -> bool
+    ensures { IsTrue result → IfSome assignment.now (λ a. length decls.now ≡ length a.values) }
+{
+    match assignment {
+        None => true,
+        Some(given) => decls.len() == given.values.as_slice().len(),
+    }
+}
+
+/// The text of a document that the checker of answers takes. Want of memory is told, too, where the checker doesn't
+/// take it, or it hasn't a number for each name.
+fn written(alloc: Global, model: &Model, document: &Document) -> Result<Vec<u8>, AllocError>
+    requires typed { WellTyped model.now }
+    requires limits { InLimits model.now }
+    requires names { AreLines (map (λ (d : Decl). d.name) model.now.decls) }
+    ensures { IfOk result (λ text. IsWrittenFor model.now document.now text.items) }
+{
+    let decls = model.decls.as_slice();
+    if !has_numbers(decls, &document.assignment) {
+        return Err(AllocError);
+    }
+    let text = write_document(alloc, decls, model.goal, document)?;
+    let Ok(verdict) = check(alloc, model, text.as_slice()) else {
+        return Err(AllocError);
+    };
+    if verdict == document.verdict {
+        Ok(text)
+    } else {
+        Err(AllocError)
+    }
+}
+
+/// The answer to a model that another solver's text shows, where the model is compiled: values that satisfy its
+/// clauses, a refutation of them, or values and a refutation of the clauses and that the objective is better. Else the
+/// first line that fails. It takes the time of reading the text, of checking the refutation, and of `check` for the
+/// document.
+pub fn import_answer(
+    alloc: Global,
+    model: &Model,
+    compiled: Compiled,
+    text: &[u8],
+) -> Result<Imported, AllocError>
+    requires typed { WellTyped model.now }
+    requires limits { InLimits model.now }
+    requires names { AreLines (map (λ (d : Decl). d.name) model.now.decls) }
+    requires fits { CompiledFits compiled }
+    requires ascend { ClausesAscend compiled.cnf.clauses }
+    ensures { IfOk result (IsImport model.now (sought_of model.now compiled) text.now) }
+{
+    let goal = model.goal;
+    let Compiled {
+        cnf,
+        map,
+        ledger,
+        ..
+    } = compiled;
+    match judge(alloc, Task { cnf, map, goal }, text)? {
+        Found::Refused(line) => Ok(Imported::Refused(line)),
+        Found::Shown(verdict, assignment, proof) => {
+            let document = Document {
+                verdict,
+                assignment,
+                ledger,
+                proof,
+                second: None,
+            };
+            let text = written(alloc, model, &document)?;
+            Ok(Imported::Answer(verdict, text))
+        }
+    }
+}

@@ -1,0 +1,3 @@
+mod Ordered
+mod Headline
+pub mod Ends

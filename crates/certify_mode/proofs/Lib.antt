@@ -1,0 +1,4 @@
+pub mod Ends
+mod Answering
+mod TwoFree
+mod Holdings

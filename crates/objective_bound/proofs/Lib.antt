@@ -1,0 +1,3 @@
+pub mod Objectives
+pub mod Clauses
+pub mod Betters

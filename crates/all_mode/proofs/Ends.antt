@@ -11,7 +11,7 @@ use Rattle.text_modes.proofs.Idle.{one_idle}
 use Rattle.model_texts.specs.declared.fault.ModelFault.{ModelFault}
 use Rattle.model_texts.specs.ModelTexts.{longest_text, IsFirstFault, HasFault}
 use Rattle.model_texts.proofs.FirstFaults.{one_text_fault, no_text_fault}
-use Rattle.decode_minimize.specs.declared.options.Options.{Options}
+use Rattle.search_options.specs.declared.options.SearchOptions.{SearchOptions as Options}
 use Rattle.all_mode.specs.Listed.{IsListed}
 use Rattle.all_mode.specs.AllMode.{HasModel, AllMode}
 

@@ -17,7 +17,7 @@ use Rattle.model_texts.specs.HeldModels.{HoldsModel}
 use Rattle.model_texts.proofs.ModelShapes.{typed, limited, names}
 use Rattle.model_texts.proofs.FaultOrModel.{FaultOrModel, fault_or_model}
 use Rattle.bee_compile.specs.Compiled.{IsInstance}
-use Rattle.decode_minimize.specs.declared.options.Options.{Options}
+use Rattle.search_options.specs.declared.options.SearchOptions.{SearchOptions as Options}
 use Rattle.solution_blocks.specs.Blocks.{numbers_in}
 use Rattle.list_text.specs.declared.verdict.ListVerdict.{ListVerdict}
 use Rattle.list_text.specs.declared.verdict.ListVerdict.TheVariants.{All, Partial}

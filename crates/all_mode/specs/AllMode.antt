@@ -9,7 +9,7 @@ use Rattle.text_modes.specs.declared.ends.End.{End}
 use Rattle.model_texts.specs.declared.fault.ModelFault.{ModelFault}
 use Rattle.model_texts.specs.ModelTexts.{longest_text, HasFault}
 use Rattle.model_texts.specs.HeldModels.{HoldsModel}
-use Rattle.decode_minimize.specs.declared.options.Options.{Options}
+use Rattle.search_options.specs.declared.options.SearchOptions.{SearchOptions as Options}
 use Rattle.all_mode.specs.Listed.{IsListed}
 
 -- a text says a model that is compiled

@@ -4,7 +4,7 @@ use Rattle.std.specs.Prelude.{if◌then◌else◌}
 use Rattle.model_meaning.specs.declared.model.Model.{Model}
 use Rattle.bee_compile.specs.Compiled.{IsInstance}
 use Rattle.model_texts.specs.HeldModels.{HoldsModel}
-use Rattle.decode_minimize.specs.declared.options.Options.{Options}
+use Rattle.search_options.specs.declared.options.SearchOptions.{SearchOptions as Options}
 use Rattle.solution_blocks.specs.Blocks.{numbers_in}
 use Rattle.list_text.specs.declared.verdict.ListVerdict.{ListVerdict}
 use Rattle.list_text.specs.declared.verdict.ListVerdict.TheVariants.{All, Partial}

@@ -20,7 +20,7 @@ struct Listing {
 
 impl Model for Listing {
     ghost use Rattle.decode_minimize.specs.Answers.{IsBudget};
-    ghost use Rattle.decode_minimize.specs.declared.options.Options.{Options};
+    ghost use Rattle.search_options.specs.declared.options.SearchOptions.{SearchOptions as Options};
 
     ghost Value = { Options };
 

@@ -7,7 +7,7 @@ use Rattle.model_meaning.specs.declared.model.Assignment.{Assignment}
 use Rattle.model_meaning.specs.Solutions.{IsSolution}
 use Rattle.model_parts.specs.declared.divided.DividedModel.{DividedModel}
 use Rattle.model_parts.specs.Only.{numbers_of}
-use Rattle.decode_minimize.specs.declared.options.Options.{Options}
+use Rattle.search_options.specs.declared.options.SearchOptions.{SearchOptions as Options}
 use Rattle.core_extract.specs.declared.reply.Reply.{Reply}
 use Rattle.core_extract.specs.declared.reduction.Reduction.{Reduction}
 use Rattle.core_extract.specs.declared.reduction.SpentPart.{SpentPart}

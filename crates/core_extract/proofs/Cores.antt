@@ -28,7 +28,7 @@ use Rattle.answer_document.specs.declared.verdict.Verdict.{Verdict}
 use Rattle.answer_document.specs.declared.verdict.Verdict.TheVariants as verdict
 use Rattle.answer_document.specs.declared.document.Document.{Document}
 use Rattle.answer_document.specs.Valid.{start_of, IsDerived, IsCertified, IsReadableDocument, AreReadableSteps, AreReadableLines, AreAddedAlone}
-use Rattle.decode_minimize.specs.declared.options.Options.{Options}
+use Rattle.search_options.specs.declared.options.SearchOptions.{SearchOptions as Options}
 use Rattle.decode_minimize.specs.Answers.{IsBudget}
 use Rattle.core_text.specs.declared.verdict.CoreVerdict.TheVariants.{Satisfiable, Core as CoreOf, Unknown}
 use Rattle.core_text.specs.declared.document.CoreDocument.{CoreDocument}

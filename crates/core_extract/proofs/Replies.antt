@@ -12,7 +12,7 @@ use Rattle.answer_document.specs.declared.verdict.Verdict.TheVariants.{Satisfiab
 use Rattle.answer_document.specs.declared.document.Document.{Document}
 use Rattle.answer_document.specs.Verdicts.{VerdictFits}
 use Rattle.answer_document.specs.Valid.{numbers_given, AnswerHolds}
-use Rattle.decode_minimize.specs.declared.options.Options.{Options}
+use Rattle.search_options.specs.declared.options.SearchOptions.{SearchOptions as Options}
 use Rattle.decode_minimize.specs.Answers.{IsAnswer, IsSpent, all_additions}
 use Rattle.core_extract.specs.Extracted.{IsAnswered, IsReply, certificate_of, reply_with, reply_of}
 

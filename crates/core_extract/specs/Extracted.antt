@@ -17,7 +17,7 @@ use Rattle.model_parts.specs.CoreWeight.{core_weight}
 use Rattle.answer_document.specs.declared.verdict.Verdict.{Verdict}
 use Rattle.answer_document.specs.declared.verdict.Verdict.TheVariants as verdict
 use Rattle.answer_document.specs.declared.document.Document.{Document}
-use Rattle.decode_minimize.specs.declared.options.Options.{Options}
+use Rattle.search_options.specs.declared.options.SearchOptions.{SearchOptions as Options}
 use Rattle.decode_minimize.specs.Answers.{IsAnswer}
 use Rattle.core_text.specs.declared.verdict.CoreVerdict.{CoreVerdict}
 use Rattle.core_text.specs.declared.verdict.CoreVerdict.TheVariants as core

@@ -19,9 +19,9 @@ use Rattle.model_texts.specs.declared.model_text.ModelTextFault.TheVariants as t
 use Rattle.model_texts.specs.ModelTexts.{longest_text, IsModelOf, IsFirstFault, IsCauseOf}
 use Rattle.model_texts.specs.HeldModels.{lower_fault_of}
 use Rattle.model_texts.proofs.FirstFaults.{one_text_fault}
-use Rattle.decode_minimize.specs.declared.options.Options.{Options}
+use Rattle.search_options.specs.declared.options.SearchOptions.{SearchOptions as Options}
 use Rattle.core_extract.specs.Extracted.{IsFaultOf}
-use Rattle.core_mode.specs.CoreTexts.{HoldsWhole, IsFirstFaultOf, HasFaultOf, IsReasonOf}
+use Rattle.core_models.specs.CoreTexts.{HoldsWhole, IsFirstFaultOf, HasFaultOf, IsReasonOf}
 use Rattle.core_mode.specs.Cores.{IsCoreHeld}
 use Rattle.core_mode.specs.CoreMode.{CoreMode}
 use Rattle.core_mode.proofs.Faults.{one-fault, held-or-fault}

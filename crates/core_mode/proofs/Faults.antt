@@ -15,7 +15,7 @@ use Rattle.model_texts.specs.HeldModels.{HoldsModel}
 use Rattle.model_texts.proofs.FirstFaults.{one_text_fault, no_text_fault}
 use Rattle.model_texts.proofs.OneModel.{one_model}
 use Rattle.model_texts.proofs.FaultOrModel.{FaultOrModel, fault_or_model}
-use Rattle.core_mode.specs.CoreTexts.{HoldsWhole, IsFirstFaultOf, HasFaultOf}
+use Rattle.core_models.specs.CoreTexts.{HoldsWhole, IsFirstFaultOf, HasFaultOf}
 
 -- no part of a model weighs less than the model
 lighter : (m : Model) (n : ℕ) → core_weight m ≤ n → weight_of m ≤ n

@@ -8,8 +8,8 @@ use Rattle.text_modes.specs.TwoTexts.{HoldsSome}
 use Rattle.text_modes.specs.declared.ends.End.{End}
 use Rattle.model_texts.specs.declared.fault.ModelFault.{ModelFault}
 use Rattle.model_texts.specs.ModelTexts.{longest_text}
-use Rattle.decode_minimize.specs.declared.options.Options.{Options}
-use Rattle.core_mode.specs.CoreTexts.{HoldsWhole, HasFaultOf}
+use Rattle.search_options.specs.declared.options.SearchOptions.{SearchOptions as Options}
+use Rattle.core_models.specs.CoreTexts.{HoldsWhole, HasFaultOf}
 use Rattle.core_mode.specs.Cores.{IsCoreHeld}
 
 -- A run in core mode, with how each search is made and the name of the text, of which one byte more than the limit is

@@ -8,10 +8,10 @@ use Rattle.core_text.specs.declared.document.CoreDocument.{CoreDocument}
 use Rattle.core_text.specs.CoreDocuments.{core_text}
 use Rattle.core_extract.specs.Extracted.{IsExtracted}
 use Rattle.core_extract.specs.Claims.{Claims}
-use Rattle.decode_minimize.specs.declared.options.Options.{Options}
+use Rattle.search_options.specs.declared.options.SearchOptions.{SearchOptions as Options}
 use Rattle.text_modes.specs.declared.ends.Outcome.{Outcome}
 use Rattle.text_modes.specs.declared.ends.Outcome.TheVariants.{Done, Unknown}
-use Rattle.core_mode.specs.CoreTexts.{HoldsWhole}
+use Rattle.core_models.specs.CoreTexts.{HoldsWhole}
 
 -- what a verdict says of the run: a search that was given up tells its budget
 abbrev pub outcome_of : CoreVerdict → Outcome

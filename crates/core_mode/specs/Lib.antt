@@ -1,3 +1,2 @@
-pub mod CoreTexts
 pub mod Cores
 pub mod CoreMode

@@ -8,7 +8,7 @@ ghost use Rattle.model_parts.specs.CoreWeight.{core_weight};
 ghost use Rattle.model_texts.specs.ModelTexts.{longest_text, IsCauseOf};
 ghost use Rattle.decode_minimize.specs.Answers.{IsBudget};
 ghost use Rattle.core_extract.specs.Extracted.{IsFaultOf};
-ghost use Rattle.core_mode.specs.CoreTexts.{IsReasonOf};
+ghost use Rattle.core_models.specs.CoreTexts.{IsReasonOf};
 ghost use Rattle.core_mode.specs.Cores.{IsCoreText, IsCoreHeld};
 
 use crate::answering::{extract_model, outcome_of};

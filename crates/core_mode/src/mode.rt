@@ -20,7 +20,7 @@ struct Extracting {
 
 impl Model for Extracting {
     ghost use Rattle.decode_minimize.specs.Answers.{IsBudget};
-    ghost use Rattle.decode_minimize.specs.declared.options.Options.{Options};
+    ghost use Rattle.search_options.specs.declared.options.SearchOptions.{SearchOptions as Options};
 
     ghost Value = { Options };
 
@@ -32,7 +32,7 @@ impl Model for Extracting {
 impl OneText for Extracting {
     ghost use Rattle.std.specs.Prelude.{◌+◌, Some};
     ghost use Rattle.model_texts.specs.ModelTexts.{longest_text};
-    ghost use Rattle.core_mode.specs.CoreTexts.{HasFaultOf};
+    ghost use Rattle.core_models.specs.CoreTexts.{HasFaultOf};
     ghost use Rattle.core_mode.specs.Cores.{IsCoreHeld};
 
     type Fault = ModelFault;

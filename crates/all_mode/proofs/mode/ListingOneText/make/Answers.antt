@@ -1,5 +1,5 @@
 use Rattle.std.proofs.Common.{◌≡◌, subst}
-use Rattle.decode_minimize.specs.declared.options.Options.{Options}
+use Rattle.search_options.specs.declared.options.SearchOptions.{SearchOptions as Options}
 use Rattle.all_mode.specs.Listed.{IsListed}
 use Rattle.all_mode.proofs.mode.ListingOneText.make.Goals as goal
 

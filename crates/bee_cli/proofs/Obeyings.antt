@@ -4,7 +4,6 @@ use Rattle.std.specs.Prelude.{Option, option_map}
 use Rattle.command_words.specs.declared.command.Command.{Command}
 use Rattle.command_words.specs.declared.command.Options.{Options as Words}
 use Rattle.command_words.specs.Request.{Request, Compile, Weigh, Solve, Check, Decode, Queens, Sat, Drup, OpbModel, Opb, request_of}
-use Rattle.command_words.specs.Request.{All, CheckAll, Core, CheckCore, Certify}
 use Rattle.command_words.specs.Line.{request}
 use Rattle.command_words.specs.Limits.{KeepsLimits}
 use Rattle.command_words.proofs.RequestLimits.{requests_keep_limits}
@@ -21,7 +20,6 @@ use Rattle.queens_mode.proofs.Ends as placing
 use Rattle.sat_mode.proofs.Ends as searching
 use Rattle.drup_mode.proofs.Ends as proving
 use Rattle.opb_mode.proofs.Ends as files
-use Rattle.checkall_mode.proofs.Ends as list_checking
 use Rattle.model_texts.specs.declared.fault.ModelFault.{ModelFault}
 use Rattle.bee_cli.specs.Statuses.{model_fault, status_of}
 use Rattle.bee_cli.specs.Obeyed.{Obeys}
@@ -41,11 +39,6 @@ unread (Some (Sat input options)) seen same = (end.Memory, refl, searching.idle 
 unread (Some (Drup input second)) seen same = (end.Memory, refl, proving.idle input second seen same)
 unread (Some (OpbModel input)) seen same = (end.Memory, refl, files.model_idle input seen same)
 unread (Some (Opb input options)) seen same = (end.Memory, refl, files.idle options.search input seen same)
-unread (Some (CheckAll input second)) seen same = (end.Memory, refl, list_checking.idle input second seen same)
-unread (Some (All input options)) seen same = same
-unread (Some (Core input options)) seen same = same
-unread (Some (CheckCore input second)) seen same = same
-unread (Some (Certify input second)) seen same = same
 
 -- queens are placed
 pub queens_obeyed : (words : Words) (size : ℕ) (ending : End ModelFault) (status : Status) (seen : Seen) → QueensMode words.search size ending seen → status ≡ status_of model_fault ending

@@ -1,7 +1,6 @@
 -- What a run promises, by what the words ask for.
 use Rattle.std.specs.Prelude.{◌≡◌, Bool, true, false, Option, Some}
 use Rattle.command_words.specs.Request.{Request, Compile, Weigh, Solve, Check, Decode, Queens, Sat, Drup, OpbModel, Opb}
-use Rattle.command_words.specs.Request.{CheckAll}
 use Rattle.text_modes.specs.Seen.{Seen, Untouched}
 use Rattle.compile_mode.specs.CompileMode.{CompileMode}
 use Rattle.weigh_mode.specs.WeighMode.{WeighMode}
@@ -13,7 +12,6 @@ use Rattle.sat_mode.specs.SatMode.{SatMode}
 use Rattle.drup_mode.specs.DrupMode.{DrupMode}
 use Rattle.opb_mode.specs.OpbModelMode.{OpbModelMode}
 use Rattle.opb_mode.specs.OpbMode.{OpbMode}
-use Rattle.checkall_mode.specs.CheckAllMode.{CheckAllMode}
 use Rattle.bee_cli.specs.Statuses.{model_fault, cnf_fault, clauses_fault, Ended}
 use Rattle.bee_cli.specs.declared.status.Status.{Status}
 
@@ -29,7 +27,6 @@ is_built (Some (Sat input options)) = true
 is_built (Some (Drup input second)) = true
 is_built (Some (OpbModel input)) = true
 is_built (Some (Opb input options)) = true
-is_built (Some (CheckAll input second)) = true
 is_built request = false
 
 -- a mode that is built has one record of clauses, over the end of the run, of which the status tells
@@ -48,5 +45,4 @@ Obeys (Some (Drup input second)) status seen = Ended clauses_fault (λ end. Drup
 Obeys (Some (OpbModel input)) status seen = Ended model_fault (λ end. OpbModelMode input end seen) status
 Obeys (Some (Opb input options)) status seen =
     Ended model_fault (λ end. OpbMode options.search input end seen) status
-Obeys (Some (CheckAll input second)) status seen = Ended model_fault (λ end. CheckAllMode input second end seen) status
 Obeys request status seen = Untouched seen

@@ -13,7 +13,6 @@ use crate::reporting::report;
 use crate::status::{Status, clauses_status, cnf_status, model_status};
 use bee_outside::{Shelf, Sink};
 use check_mode::check;
-use checkall_mode::check_all;
 use command_words::{Command, read_command};
 use compile_mode::compile;
 use decode_mode::decode;
@@ -38,12 +37,7 @@ fn asks_progress(command: &Command<'_>) -> bool {
         | Command::Check { .. }
         | Command::Decode { .. }
         | Command::Drup { .. }
-        | Command::OpbModel { .. }
-        | Command::All { .. }
-        | Command::CheckAll { .. }
-        | Command::Core { .. }
-        | Command::CheckCore { .. }
-        | Command::Certify { .. } => false,
+        | Command::OpbModel { .. } => false,
     }
 }
 
@@ -87,13 +81,6 @@ fn obey<S: Shelf, O: Sink, E: Sink>(
         Command::Opb { input, options } => {
             model_status(opb(alloc, input, options.search, shelf, out, progress))
         }
-        Command::CheckAll { input, second } => {
-            model_status(check_all(alloc, input, second, shelf, out))
-        }
-        Command::All { .. }
-        | Command::Core { .. }
-        | Command::CheckCore { .. }
-        | Command::Certify { .. } => Status::Usage,
     }
 }
 

@@ -1,9 +1,10 @@
 -- What a run promises where its mode never began, and what a command keeps to.
 use Rattle.std.proofs.Common.{◌≡◌, ℕ, List, Some, None, refl, sym}
-use Rattle.std.specs.Prelude.{Option, option_map}
+use Rattle.std.specs.Prelude.{Option, option_map, pos}
 use Rattle.command_words.specs.declared.command.Command.{Command}
 use Rattle.command_words.specs.declared.command.Options.{Options as Words}
 use Rattle.command_words.specs.Request.{Request, Compile, Weigh, Solve, Check, Decode, Queens, Sat, Drup, OpbModel, Opb, request_of}
+use Rattle.command_words.specs.Request.{All, CheckAll, Core, CheckCore, Bound, Certify}
 use Rattle.command_words.specs.Line.{request}
 use Rattle.command_words.specs.Limits.{KeepsLimits}
 use Rattle.command_words.proofs.RequestLimits.{requests_keep_limits}
@@ -20,6 +21,12 @@ use Rattle.queens_mode.proofs.Ends as placing
 use Rattle.sat_mode.proofs.Ends as searching
 use Rattle.drup_mode.proofs.Ends as proving
 use Rattle.opb_mode.proofs.Ends as files
+use Rattle.all_mode.proofs.Ends as listing
+use Rattle.checkall_mode.proofs.Ends as list_checking
+use Rattle.core_mode.proofs.Ends as explaining
+use Rattle.checkcore_mode.proofs.Ends as core_checking
+use Rattle.bound_mode.proofs.Ends as bounding
+use Rattle.certify_mode.proofs.Ends as certifying
 use Rattle.model_texts.specs.declared.fault.ModelFault.{ModelFault}
 use Rattle.bee_cli.specs.Statuses.{model_fault, status_of}
 use Rattle.bee_cli.specs.Obeyed.{Obeys}
@@ -39,6 +46,12 @@ unread (Some (Sat input options)) seen same = (end.Memory, refl, searching.idle 
 unread (Some (Drup input second)) seen same = (end.Memory, refl, proving.idle input second seen same)
 unread (Some (OpbModel input)) seen same = (end.Memory, refl, files.model_idle input seen same)
 unread (Some (Opb input options)) seen same = (end.Memory, refl, files.idle options.search input seen same)
+unread (Some (All input options)) seen same = (end.Memory, refl, listing.idle options.search input seen same)
+unread (Some (CheckAll input second)) seen same = (end.Memory, refl, list_checking.idle input second seen same)
+unread (Some (Core input options)) seen same = (end.Memory, refl, explaining.idle options.search input seen same)
+unread (Some (CheckCore input second)) seen same = (end.Memory, refl, core_checking.idle input second seen same)
+unread (Some (Bound input number)) seen same = (end.Memory, refl, bounding.idle (pos number) input seen same)
+unread (Some (Certify input second)) seen same = (end.Memory, refl, certifying.idle input second seen same)
 
 -- queens are placed
 pub queens_obeyed : (words : Words) (size : ℕ) (ending : End ModelFault) (status : Status) (seen : Seen) → QueensMode words.search size ending seen → status ≡ status_of model_fault ending

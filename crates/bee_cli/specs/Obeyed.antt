@@ -1,6 +1,7 @@
 -- What a run promises, by what the words ask for.
-use Rattle.std.specs.Prelude.{◌≡◌, Bool, true, false, Option, Some}
+use Rattle.std.specs.Prelude.{◌≡◌, Bool, true, false, Option, Some, pos}
 use Rattle.command_words.specs.Request.{Request, Compile, Weigh, Solve, Check, Decode, Queens, Sat, Drup, OpbModel, Opb}
+use Rattle.command_words.specs.Request.{All, CheckAll, Core, CheckCore, Bound, Certify}
 use Rattle.text_modes.specs.Seen.{Seen, Untouched}
 use Rattle.compile_mode.specs.CompileMode.{CompileMode}
 use Rattle.weigh_mode.specs.WeighMode.{WeighMode}
@@ -12,7 +13,13 @@ use Rattle.sat_mode.specs.SatMode.{SatMode}
 use Rattle.drup_mode.specs.DrupMode.{DrupMode}
 use Rattle.opb_mode.specs.OpbModelMode.{OpbModelMode}
 use Rattle.opb_mode.specs.OpbMode.{OpbMode}
-use Rattle.bee_cli.specs.Statuses.{model_fault, cnf_fault, clauses_fault, Ended}
+use Rattle.all_mode.specs.AllMode.{AllMode}
+use Rattle.checkall_mode.specs.CheckAllMode.{CheckAllMode}
+use Rattle.core_mode.specs.CoreMode.{CoreMode}
+use Rattle.checkcore_mode.specs.CheckCoreMode.{CheckCoreMode}
+use Rattle.bound_mode.specs.BoundMode.{BoundMode}
+use Rattle.certify_mode.specs.CertifyMode.{CertifyMode}
+use Rattle.bee_cli.specs.Statuses.{model_fault, cnf_fault, clauses_fault, certify_fault, bound_fault, Ended}
 use Rattle.bee_cli.specs.declared.status.Status.{Status}
 
 -- the words ask for a mode that is built
@@ -27,6 +34,12 @@ is_built (Some (Sat input options)) = true
 is_built (Some (Drup input second)) = true
 is_built (Some (OpbModel input)) = true
 is_built (Some (Opb input options)) = true
+is_built (Some (All input options)) = true
+is_built (Some (CheckAll input second)) = true
+is_built (Some (Core input options)) = true
+is_built (Some (CheckCore input second)) = true
+is_built (Some (Bound input number)) = true
+is_built (Some (Certify input second)) = true
 is_built request = false
 
 -- a mode that is built has one record of clauses, over the end of the run, of which the status tells
@@ -45,4 +58,10 @@ Obeys (Some (Drup input second)) status seen = Ended clauses_fault (λ end. Drup
 Obeys (Some (OpbModel input)) status seen = Ended model_fault (λ end. OpbModelMode input end seen) status
 Obeys (Some (Opb input options)) status seen =
     Ended model_fault (λ end. OpbMode options.search input end seen) status
+Obeys (Some (All input options)) status seen = Ended model_fault (λ end. AllMode options.search input end seen) status
+Obeys (Some (CheckAll input second)) status seen = Ended model_fault (λ end. CheckAllMode input second end seen) status
+Obeys (Some (Core input options)) status seen = Ended model_fault (λ end. CoreMode options.search input end seen) status
+Obeys (Some (CheckCore input second)) status seen = Ended model_fault (λ end. CheckCoreMode input second end seen) status
+Obeys (Some (Bound input number)) status seen = Ended bound_fault (λ end. BoundMode (pos number) input end seen) status
+Obeys (Some (Certify input second)) status seen = Ended certify_fault (λ end. CertifyMode input second end seen) status
 Obeys request status seen = Untouched seen

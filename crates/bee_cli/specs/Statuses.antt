@@ -8,8 +8,12 @@ use Rattle.model_texts.specs.declared.fault.ModelFault.{ModelFault}
 use Rattle.model_texts.specs.declared.fault.ModelFault.TheVariants.{TooLong, Cnf}
 use Rattle.sat_front.specs.declared.text_fault.CnfTextFault.{CnfTextFault}
 use Rattle.sat_front.specs.declared.text_fault.CnfTextFault.TheVariants as clauses
+use Rattle.certify_mode.specs.declared.fault.CertifyFault.{CertifyFault}
+use Rattle.certify_mode.specs.declared.fault.CertifyFault.TheVariants as certify
+use Rattle.bound_mode.specs.declared.fault.BoundFault.{BoundFault}
+use Rattle.bound_mode.specs.declared.fault.BoundFault.TheVariants as bound
 use Rattle.bee_cli.specs.declared.status.Status.{Status}
-use Rattle.bee_cli.specs.declared.status.Status.TheVariants.{Done, Refused, Model, Read, Write, Memory, Unknown}
+use Rattle.bee_cli.specs.declared.status.Status.TheVariants.{Done, Refused, Model, NoObjective, TwoObjectives, Read, Write, Memory, Unknown}
 
 -- of a run that wrote its text
 abbrev pub outcome_status : Outcome → Status
@@ -36,6 +40,16 @@ cnf_fault line = Model (Cnf line)
 abbrev pub clauses_fault : CnfTextFault → Status
 clauses_fault clauses.TooLong = Model TooLong
 clauses_fault (clauses.Form line) = Model (Cnf line)
+
+-- the fault of a model for which nothing is imported
+abbrev pub certify_fault : CertifyFault → Status
+certify_fault (certify.Model fault) = Model fault
+certify_fault certify.TwoObjectives = TwoObjectives
+
+-- the fault of a model whose objective isn't bounded
+abbrev pub bound_fault : BoundFault → Status
+bound_fault (bound.Model fault) = Model fault
+bound_fault bound.NoObjective = NoObjective
 
 -- a run had an end of which this holds, and this is its status
 abbrev pub Ended : {F : Type 0} → (F → Status) → (End F → Type 0) → Status → Type 0

@@ -13,7 +13,7 @@ pub fn code(status: &Status) -> u8
         Status::Done => 0,
         Status::Refused(_) => 1,
         Status::Usage => 2,
-        Status::Model(_) => 3,
+        Status::Model(_) | Status::NoObjective | Status::TwoObjectives => 3,
         Status::Read => 4,
         Status::Write => 5,
         Status::Memory => 6,

@@ -1,5 +1,6 @@
 //! Why a line of a second text is refused, in words.
 
+use certify_mode::RefusedFinding;
 use decode_mode::RefusedValues;
 use drup_mode::RefusedProof;
 use ledger_check::Why;
@@ -18,6 +19,8 @@ pub(crate) struct Reasons {
     pub(crate) values: Cell<Option<RefusedValues>>,
     /// For a line of a proof.
     pub(crate) proof: Cell<Option<RefusedProof>>,
+    /// For a line of what another solver found.
+    pub(crate) finding: Cell<Option<RefusedFinding>>,
 }
 
 impl Reasons {
@@ -27,6 +30,7 @@ impl Reasons {
             answer: Cell::new(None),
             values: Cell::new(None),
             proof: Cell::new(None),
+            finding: Cell::new(None),
         }
     }
 
@@ -41,6 +45,9 @@ impl Reasons {
         if let Some(fault) = self.proof.get() {
             return Some(Reason::Proof(fault));
         }
+        if let Some(fault) = self.finding.get() {
+            return Some(Reason::Finding(fault));
+        }
         None
     }
 }
@@ -54,6 +61,8 @@ pub enum Reason {
     Values(RefusedValues),
     /// What stands against a line of a proof.
     Proof(RefusedProof),
+    /// What stands against a line of what another solver found.
+    Finding(RefusedFinding),
 }
 
 impl Display for Reason {
@@ -62,6 +71,7 @@ impl Display for Reason {
             Reason::Answer(why) => say_why(*why, f),
             Reason::Values(fault) => say_values(*fault, f),
             Reason::Proof(fault) => say_clauses(*fault, f),
+            Reason::Finding(fault) => say_finding(*fault, f),
         }
     }
 }
@@ -118,5 +128,16 @@ fn say_clauses<W: fmt::Write>(fault: RefusedProof, f: &mut fmt::Formatter<W>) ->
     match fault {
         RefusedProof::Unshown => write!(f, "no clause that unit propagation shows"),
         RefusedProof::Missing => write!(f, "the empty clause is not shown"),
+    }
+}
+
+/// Says what stands against a line of what another solver found.
+fn say_finding<W: fmt::Write>(fault: RefusedFinding, f: &mut fmt::Formatter<W>) -> fmt::Result {
+    match fault {
+        RefusedFinding::Misfit => write!(
+            f,
+            "not the next line of values that satisfy the clauses, nor of a refutation"
+        ),
+        RefusedFinding::Missing => write!(f, "nothing is shown"),
     }
 }

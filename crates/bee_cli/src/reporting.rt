@@ -26,6 +26,8 @@ pub fn report<E: Sink>(alloc: Global, status: &Status, reason: Option<Reason>, e
                 say(err, line.as_bytes());
             }
         }
+        Status::NoObjective => say(err, b"bee: model: no objective\n"),
+        Status::TwoObjectives => say(err, b"bee: model: two objectives\n"),
         Status::Read => say(err, b"bee: read fault\n"),
         Status::Write => say(err, b"bee: write fault\n"),
         Status::Memory => say(err, b"bee: out of memory\n"),

@@ -1,6 +1,6 @@
 //! The program's one call.
 
-ghost use Rattle.std.specs.Prelude.{◌≡◌, ◌≢◌, ◌↔◌, Some, map, string_bytes, IsFalse};
+ghost use Rattle.std.specs.Prelude.{◌≡◌, ◌≢◌, ◌↔◌, ◌<◌, ◌^◌, pos, Some, map, string_bytes, IsFalse};
 ghost use Rattle.command_words.specs.Request.{request_of};
 ghost use Rattle.command_words.specs.Limits.{KeepsLimits};
 ghost use Rattle.command_words.specs.Line.{request};
@@ -10,11 +10,19 @@ ghost use Rattle.bee_cli.specs.Obeyed.{is_built, Obeys};
 use crate::progress::Progress;
 use crate::reason::Reasons;
 use crate::reporting::report;
-use crate::status::{Status, clauses_status, cnf_status, model_status};
+use crate::status::{
+    Status, bound_status, certify_status, clauses_status, cnf_status, model_status,
+};
+use all_mode::list_solutions;
 use bee_outside::{Shelf, Sink};
+use bound_mode::bound;
+use certify_mode::certify;
 use check_mode::check;
+use checkall_mode::check_all;
+use checkcore_mode::check_core;
 use command_words::{Command, read_command};
 use compile_mode::compile;
+use core_mode::core as find_core;
 use decode_mode::decode;
 use drup_mode::drup;
 use opb_mode::{opb, opb_model_text};
@@ -37,8 +45,22 @@ fn asks_progress(command: &Command<'_>) -> bool {
         | Command::Check { .. }
         | Command::Decode { .. }
         | Command::Drup { .. }
-        | Command::OpbModel { .. } => false,
+        | Command::OpbModel { .. }
+        | Command::All { .. }
+        | Command::CheckAll { .. }
+        | Command::Core { .. }
+        | Command::CheckCore { .. }
+        | Command::Bound { .. }
+        | Command::Certify { .. } => false,
     }
+}
+
+/// A number with a sign, which it has none of.
+fn with_sign(number: u64) -> i64
+    requires { number < 2 ^ 63 }
+    ensures { result ≡ pos number }
+{
+    number as i64
 }
 
 /// What comes of a command. Why a line is refused is put into a cell.
@@ -80,6 +102,24 @@ fn obey<S: Shelf, O: Sink, E: Sink>(
         Command::OpbModel { input } => model_status(opb_model_text(alloc, input, shelf, out)),
         Command::Opb { input, options } => {
             model_status(opb(alloc, input, options.search, shelf, out, progress))
+        }
+        Command::All { input, options } => {
+            model_status(list_solutions(alloc, input, options.search, shelf, out))
+        }
+        Command::CheckAll { input, second } => {
+            model_status(check_all(alloc, input, second, shelf, out))
+        }
+        Command::Core { input, options } => {
+            model_status(find_core(alloc, input, options.search, shelf, out))
+        }
+        Command::CheckCore { input, second } => {
+            model_status(check_core(alloc, input, second, shelf, out))
+        }
+        Command::Bound { input, number } => {
+            bound_status(bound(alloc, input, with_sign(*number), shelf, out))
+        }
+        Command::Certify { input, second } => {
+            certify_status(certify(alloc, input, second, shelf, out, &reasons.finding))
         }
     }
 }

@@ -1,8 +1,11 @@
 //! How a run ends.
 
 ghost use Rattle.std.specs.Prelude.{◌≡◌, ◌≢◌};
-ghost use Rattle.bee_cli.specs.Statuses.{status_of, outcome_status, model_fault, cnf_fault, clauses_fault};
+ghost use Rattle.bee_cli.specs.Statuses.{status_of, outcome_status, model_fault, cnf_fault, clauses_fault, certify_fault};
+ghost use Rattle.bee_cli.specs.Statuses.{bound_fault};
 
+use bound_mode::BoundFault;
+use certify_mode::CertifyFault;
 use model_texts::ModelFault;
 use sat_front::CnfTextFault;
 use text_modes::{End, Outcome};
@@ -18,6 +21,10 @@ pub enum Status {
     Usage,
     /// The input was read and is no model that is compiled, no compiled text, or no text of a CNF.
     Model(ModelFault),
+    /// The model has no objective that is bounded.
+    NoObjective,
+    /// The model has two objectives, and what another solver found is imported for one at most.
+    TwoObjectives,
     /// The input could not be read.
     Read,
     /// The text could not be written whole.
@@ -87,6 +94,56 @@ pub(crate) fn clauses_status(end: End<CnfTextFault>) -> Status
     match end {
         End::Wrote(outcome) => outcome_status(outcome),
         End::Fault(fault) => clauses_fault(fault),
+        End::Read => Status::Read,
+        End::Write => Status::Write,
+        End::Memory => Status::Memory,
+    }
+}
+
+/// The status of a fault of a model for which nothing is imported.
+fn certify_fault(fault: CertifyFault) -> Status
+    ensures status { result ≡ certify_fault fault }
+    ensures built { result ≢ Status.Usage }
+{
+    match fault {
+        CertifyFault::Model(fault) => Status::Model(fault),
+        CertifyFault::TwoObjectives => Status::TwoObjectives,
+    }
+}
+
+/// The status of a run over what another solver found.
+pub(crate) fn certify_status(end: End<CertifyFault>) -> Status
+    ensures status { result ≡ status_of certify_fault end }
+    ensures built { result ≢ Status.Usage }
+{
+    match end {
+        End::Wrote(outcome) => outcome_status(outcome),
+        End::Fault(fault) => certify_fault(fault),
+        End::Read => Status::Read,
+        End::Write => Status::Write,
+        End::Memory => Status::Memory,
+    }
+}
+
+/// The status of a fault of a model whose objective isn't bounded.
+fn bound_fault(fault: BoundFault) -> Status
+    ensures status { result ≡ bound_fault fault }
+    ensures built { result ≢ Status.Usage }
+{
+    match fault {
+        BoundFault::Model(fault) => Status::Model(fault),
+        BoundFault::NoObjective => Status::NoObjective,
+    }
+}
+
+/// The status of a run that bounds an objective.
+pub(crate) fn bound_status(end: End<BoundFault>) -> Status
+    ensures status { result ≡ status_of bound_fault end }
+    ensures built { result ≢ Status.Usage }
+{
+    match end {
+        End::Wrote(outcome) => outcome_status(outcome),
+        End::Fault(fault) => bound_fault(fault),
         End::Read => Status::Read,
         End::Write => Status::Write,
         End::Memory => Status::Memory,

@@ -70,6 +70,8 @@ fn described(status: &Status) -> (&'static str, u128) {
         Status::Model(ModelFault::Typed(fault)) => fault_described(fault),
         Status::Model(ModelFault::TooHeavy(weight)) => ("weight", *weight),
         Status::Model(ModelFault::Cnf(line)) => ("cnf", u128::from(*line)),
+        Status::TwoObjectives => ("two objectives", 0),
+        Status::NoObjective => ("no objective", 0),
         Status::Read => ("read", 0),
         Status::Write => ("write", 0),
         Status::Memory => ("memory", 0),

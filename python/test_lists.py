@@ -9,7 +9,7 @@ import unittest
 from pathlib import Path
 
 import test_constraints
-from beemodel import Model, ProgramError, all_different, exactly_one, total
+from beemodel import Model, ModelError, ProgramError, all_different, exactly_one, total
 from trying import PROGRAM, assignments, declare, need_program
 
 # So many cases of each kind of constraint.
@@ -30,6 +30,15 @@ def pigeons(count, holes):
     """So many pigeons, of which no two have one of the holes."""
     model = Model()
     model.add(all_different([model.int(f"p{it}", 1, holes) for it in range(count)]))
+    return model
+
+
+def hard_pigeons():
+    """Seven pigeons and six holes, said by pairs, so that no rule sees it."""
+    model = Model()
+    holes = [model.int(f"pigeon{it}", 1, 6) for it in range(7)]
+    for one, other in itertools.combinations(holes, 2):
+        model.add((one != other) | (one + other == 1))
     return model
 
 
@@ -71,7 +80,7 @@ class Lists(unittest.TestCase):
         self.assertFalse(listed)
 
     def test_spent_budget(self):
-        listed = pigeons(7, 6).all(budget=1, program=PROGRAM)
+        listed = hard_pigeons().all(budget=1, program=PROGRAM)
         self.assertEqual((listed.verdict, listed.count_of_clauses), ("PARTIAL", 1))
         self.assertFalse(listed.is_complete)
 
@@ -141,7 +150,10 @@ class Cores(unittest.TestCase):
             model = Model()
             truths = case.make(declare(model, case.domains))
             model.add(truths)
-            model.add(~it if not isinstance(it, bool) else not it for it in truths[:1])
+            try:
+                model.add(~it if not isinstance(it, bool) else not it for it in truths[:1])
+            except ModelError:
+                continue  # it stands alone
             core = model.core(program=PROGRAM)
             with self.subTest(constraint=generate.__name__):
                 self.assertEqual(core.verdict, "CORE")
@@ -157,11 +169,7 @@ class Cores(unittest.TestCase):
         self.assertEqual((core.constraints, str(core)), (None, "SATISFIABLE"))
 
     def test_spent_budget(self):
-        model = Model()
-        holes = [model.int(f"pigeon{it}", 1, 6) for it in range(7)]
-        for one, other in itertools.combinations(holes, 2):
-            model.add((one != other) | (one + other == 1))
-        core = model.core(budget=1, program=PROGRAM)
+        core = hard_pigeons().core(budget=1, program=PROGRAM)
         self.assertEqual((core.verdict, core.count_of_clauses), ("UNKNOWN", 1))
         self.assertFalse(core)
 

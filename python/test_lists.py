@@ -150,11 +150,11 @@ class Cores(unittest.TestCase):
             model = Model()
             truths = case.make(declare(model, case.domains))
             model.add(truths)
+            model.add(~it if not isinstance(it, bool) else not it for it in truths[:1])
             try:
-                model.add(~it if not isinstance(it, bool) else not it for it in truths[:1])
+                core = model.core(program=PROGRAM)
             except ModelError:
-                continue  # it stands alone
-            core = model.core(program=PROGRAM)
+                continue  # this one stands in no other expression
             with self.subTest(constraint=generate.__name__):
                 self.assertEqual(core.verdict, "CORE")
                 self.assertLessEqual(len(core.constraints), len(model.constraints))

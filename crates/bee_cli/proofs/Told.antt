@@ -4,7 +4,8 @@ use Rattle.std.specs.Prelude.{true, IsTrue}
 use Rattle.std.proofs.lemmas.Bool.{false≢true, and_parts}
 use Rattle.model_meaning.specs.declared.model.Decl.{Decl}
 use Rattle.model_meaning.specs.declared.model.Goal.{Goal}
-use Rattle.model_meaning.specs.Domains.{is_member, domain, in_domains}
+use Rattle.model_meaning.specs.Integers.{is_member}
+use Rattle.model_meaning.specs.Domains.{domain, in_domains}
 use Rattle.decode_minimize.specs.Heard.{HearsAll}
 use Rattle.bee_cli.specs.Progress.{AreOfSolution}
 

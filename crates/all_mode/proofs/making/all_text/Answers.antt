@@ -1,4 +1,5 @@
 use Rattle.model_texts.proofs.ModelShapes.{typed, limited}
+use Rattle.model_texts.proofs.HeavyFaults.{heavy_caused}
 use Rattle.all_mode.proofs.Lists.{given-list}
 use Rattle.all_mode.proofs.making.all_text.Goals as goal
 
@@ -16,3 +17,8 @@ returns-in-Ok-clause-listed c =
       held = record { within = c.requires.short; says = c.in_ok-model.ensures.model; light = c.in-Ok.ensures.light };
       is = c.in-Ok.ensures.text;
     })
+
+pub returns-clause-fault : goal.returns-clause-fault
+returns-clause-fault c =
+    heavy_caused c.args.text.now c.in_ok-model.model c.in-Err.fault _ c.requires.short c.in_ok-model.ensures.model c.in-Err.ensures.heavy
+    c.lower_fault.ensures

@@ -1,0 +1,42 @@
+//! The mode over a shelf and a sink in memory.
+
+use bee_outside::{MemShelf, MemSink};
+use checkcore_mode::check_core;
+use model_texts::ModelFault;
+use std::alloc::{AllocError, Global};
+use text_modes::{End, Outcome};
+
+/// A text under its name.
+fn file(alloc: Global, name: &str, text: &[u8]) -> Result<(String, Vec<u8>), AllocError> {
+    let name = String::from_str(alloc, name)?;
+    let text = Vec::from_slice(alloc, text)?;
+    Ok((name, text))
+}
+
+/// A sink with ample room.
+fn sink(alloc: Global) -> Result<MemSink, AllocError> {
+    MemSink::with(alloc, 1_048_576, 65_536, Vec::new(alloc))
+}
+
+/// The end of a run in words.
+fn told(alloc: Global, end: End<ModelFault>) -> Result<String, AllocError> {
+    match end {
+        End::Wrote(Outcome::Done) => String::from_str(alloc, "done"),
+        End::Wrote(Outcome::Refused(line)) => format!(in alloc; "refused {line}"),
+        End::Wrote(Outcome::Unknown(budget)) => format!(in alloc; "unknown {budget}"),
+        End::Fault(fault) => format!(in alloc; "{fault:?}"),
+        End::Read => String::from_str(alloc, "read"),
+        End::Write => String::from_str(alloc, "write"),
+        End::Memory => String::from_str(alloc, "memory"),
+    }
+}
+
+/// The end of a run that checks a core of a model, and what it wrote.
+pub fn checked(alloc: Global, model: &str, core: &[u8]) -> Result<(String, MemSink), AllocError> {
+    let model = file(alloc, "m.bee", model.as_bytes())?;
+    let core = file(alloc, "m.core", core)?;
+    let mut shelf = MemShelf::with(vec![in alloc; model, core]?, 65_536, Vec::new(alloc));
+    let mut out = sink(alloc)?;
+    let end = check_core(alloc, "m.bee", "m.core", &mut shelf, &mut out);
+    Ok((told(alloc, end)?, out))
+}

@@ -58,9 +58,9 @@ fn told_row(rt: &impl Abort, alloc: Global, row: &Row) -> Result<(), Fail> {
             ..AMPLE
         },
     )?;
-    assert_eq!(rt; silent.err.taken(), b"", "{model}");
+    assert_eq!(rt; silent.err.taken(), b"".as_slice(), "{model}");
     assert_eq!(rt; run.err.taken(), blocks.as_bytes(), "{model}");
-    assert_eq!(rt; failing.err.taken(), b"", "{model}");
+    assert_eq!(rt; failing.err.taken(), b"".as_slice(), "{model}");
     assert_eq!(rt; run.out.taken(), silent.out.taken(), "{model}");
     assert_eq!(rt; failing.out.taken(), silent.out.taken(), "{model}");
     assert_eq!(rt; run.code, silent.code, "{model}");

@@ -206,7 +206,7 @@ fn cut_cores_are_refused(rt: HostRuntime) -> Result<(), Fail> {
         let want = format!(in alloc; "REFUSED {line}\n")?;
         assert_eq!(rt; out.taken(), want.as_bytes(), "{count}");
         if bytes[count] == b'\n' {
-            line += 1;
+            line = line.saturating_add(1);
         }
     }
     Ok(())

@@ -27,6 +27,12 @@ fn mode_of<'a>(command: &Command<'a>) -> (&'static str, &'a str) {
         Command::Drup { input, .. } => ("drup", input),
         Command::OpbModel { input } => ("opbmodel", input),
         Command::Opb { input, .. } => ("opb", input),
+        Command::All { input, .. } => ("all", input),
+        Command::CheckAll { input, .. } => ("checkall", input),
+        Command::Core { input, .. } => ("core", input),
+        Command::CheckCore { input, .. } => ("checkcore", input),
+        Command::Bound { input, .. } => ("bound", input),
+        Command::Certify { input, .. } => ("certify", input),
     }
 }
 
@@ -35,7 +41,10 @@ fn second_of<'a>(command: &Command<'a>) -> Option<&'a str> {
     match *command {
         Command::Check { second, .. }
         | Command::Decode { second, .. }
-        | Command::Drup { second, .. } => Some(second),
+        | Command::Drup { second, .. }
+        | Command::CheckAll { second, .. }
+        | Command::CheckCore { second, .. }
+        | Command::Certify { second, .. } => Some(second),
         _ => None,
     }
 }

@@ -1,10 +1,11 @@
 #!/usr/bin/env python3
 """Proves the libraries of `bee` side by side, and then builds the program and places eight queens, as `rt run` does.
 
-It calls the toolchain's own `rt`, and differs from `rt run` in two ways. Libraries that do not use one another are proved at the same time, as `rt ci`
-proves them: one a processor, as many as memory holds, the longest chain first (the variable RT_JOBS gives another number). And the sum that `rt` keeps of
-what a library is made from, itself and all below it, reads each crate once; `rt` reads a crate once for each path that leads to it.
-Where a toolchain's `rt` is made of other parts, `rt run` builds all.
+It calls the toolchain's own `rt`, and differs from `rt run` in two ways. Libraries that do not use one another are
+proved at the same time, as `rt ci` proves them: one a processor, as many as memory holds, the longest chain first (the
+variable RT_JOBS gives another number). And the sum that `rt` keeps of what a library is made from, itself and all below
+it, reads each crate once; `rt` reads a crate once for each path that leads to it. Where a toolchain's `rt` is made of
+other parts, `rt run` builds all.
 """
 import copy
 import importlib.machinery
@@ -49,7 +50,8 @@ def read_once(plain):
 
 
 def build_library(crate, given, jobs):
-    """Proves a library, unless one below it failed, and prints what its proof said. The answer is whether it is proved."""
+    """Proves a library, unless one below it failed, and prints what its proof said. The answer is whether it is
+    proved."""
     if not all(given[it.name, "proof"] for it in crate.below()):
         return False
     crate = copy.copy(crate)
@@ -98,7 +100,8 @@ def main():
     try:
         return build(os.path.realpath(path))
     except Exception as fault:
-        # A toolchain whose rt is made of other parts still has the command itself, which proves one library after another.
+        # A toolchain whose rt is made of other parts still has the command itself, which proves one library after
+        # another.
         print(f"build.py: not side by side ({type(fault).__name__}: {fault})", flush=True)
         os.execv(path, [path, "run", "--", *ARGUMENTS])
 

@@ -1,6 +1,6 @@
 #!/usr/bin/env python3
-"""Writes what `check.sh` measures: answers.py FAMILY SIZE FILE. The first line says whether the document is given, made by compiling,
-or made of so many lines; then comes the model, and a given document behind a line of its own."""
+"""Writes what `check.sh` measures: answers.py FAMILY SIZE FILE. The first line says whether the document is given, made
+by compiling, or made of so many lines; then comes the model, and a given document behind a line of its own."""
 import os, sys
 
 sys.path.insert(0, os.path.dirname(os.path.abspath(__file__)))

@@ -1,11 +1,13 @@
 #!/usr/bin/env bash
-# Counts the questions that a compilation asks: how often an oracle is asked for an equation at a core. An oracle of its own adds one
-# to a cell, and hands the question on to all the rules. Prints for families of models, of sizes that mostly double, the questions that
-# were asked; the different variables of the cores at which they were asked, as the store had these, together, and once more where a run
-# was taken, which is what was looked at; the cores that were made, by the lowering and by splits; the numbers of their different variables, together; the binary
-# digits of the last number of variables; the bound, which is the cores, and the variables times the digits; and the equations. Behind
-# them stand, for a family of several sizes, the growth exponents of the questions and of what was looked at, from its first size to its
-# last, against the variables of the cores. It stops with an error where more questions were asked than the bound says.
+# Counts the questions that a compilation asks: how often an oracle is asked for an equation at a core. An oracle of its
+# own adds one to a cell, and hands the question on to all the rules. Prints for families of models, of sizes that
+# mostly double, the questions that were asked; the different variables of the cores at which they were asked, as the
+# store had these, together, and once more where a run was taken, which is what was looked at; the cores that were made,
+# by the lowering and by splits; the numbers of their different variables, together; the binary digits of the last
+# number of variables; the bound, which is the cores, and the variables times the digits; and the equations. Behind them
+# stand, for a family of several sizes, the growth exponents of the questions and of what was looked at, from its first
+# size to its last, against the variables of the cores. It stops with an error where more questions were asked than the
+# bound says.
 #   clauses                        clauses of three literals over a tenth as many names
 #   leq_chain                      a chain of `int_leq` over integers of 1,000 values each
 #   upwards, downwards, shuffled   a chain of `bool_eq`, in the order of the names, in the other one, and in none
@@ -17,8 +19,8 @@
 #   count                          a sum of Booleans
 #   linear                         a linear sum of digits with coefficients from 1 to 10
 #   times                          a product of two integers
-# It builds a small program over a copy of the crates, and runs it without a proof, with checks, so the sizes are small. Words name the
-# families to be counted; without words all are. `models.py` has the models. Wants python3 and rt.
+# It builds a small program over a copy of the crates, and runs it without a proof, with checks, so the sizes are small.
+# Words name the families to be counted; without words all are. `models.py` has the models. Wants python3 and rt.
 set -eu
 top=$(cd "$(dirname "${BASH_SOURCE[0]}")/.." && pwd)
 families=(

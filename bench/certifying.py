@@ -60,6 +60,18 @@ def refuted(cnf, proof, log):
         return int(re.search(r"propagations:\s+(\d+)", told.read())[1]), seconds
 
 
+def hinted(answer, path):
+    """The derivation of an answer, as a refutation with hints."""
+    with open(answer) as source, open(path, "w") as text:
+        inside = False
+        for line in source:
+            if line == "end\n":
+                break
+            if inside:
+                text.write(line)
+            inside = inside or line == "proof\n"
+
+
 def lines_in(path):
     with open(path) as text:
         return sum(1 for _ in text)
@@ -67,22 +79,26 @@ def lines_in(path):
 
 def measured(bee, folder, family, size):
     """A line of the table; and what was propagated, with the seconds of the modes."""
-    model, cnf, proof, log, answer = (f"{folder}/{name}" for name in ("it.bee", "it.cnf", "it.drup", "it.log", "it.answer"))
+    names = ("it.bee", "it.cnf", "it.drup", "it.log", "it.answer", "it.lrat")
+    model, cnf, proof, log, answer, hints = (f"{folder}/{name}" for name in names)
     written(model, [*globals()[family + "_" * (family == "random")](size, folder), "solve satisfy"])
     compiled(bee, model, cnf)
     propagated, cadical = refuted(cnf, proof, log)
     _, drup = least([bee, "drup", cnf, proof])
     _, certify = least([bee, "certify", model, proof], answer)
+    hinted(answer, hints)
+    _, again = least([bee, "certify", model, hints], log)
     _, check = least([bee, "check", model, answer])
     print(f"{family}, {size}, {lines_in(proof)}, {os.path.getsize(proof)}, {propagated}, {shown(cadical)}, {shown(drup)}, {ratio(drup, cadical)}, "
-        f"{shown(certify)}, {ratio(certify, cadical)}, {lines_in(answer)}, {os.path.getsize(answer)}, {shown(check)}", flush=True)
+        f"{shown(certify)}, {ratio(certify, cadical)}, {lines_in(answer)}, {os.path.getsize(answer)}, {lines_in(hints)}, {os.path.getsize(hints)}, "
+        f"{shown(again)}, {ratio(again, cadical)}, {shown(check)}", flush=True)
     return propagated, drup, certify
 
 
 def main():
     bee, *words = sys.argv[1:]
     print("family, size, lines of the proof, its bytes, propagated by cadical, cadical, drup, drup/cadical, certify, certify/cadical, lines of the document, "
-        "its bytes, check")
+        "its bytes, lines with hints, their bytes, certify with hints, that/cadical, check")
     grown = []
     with tempfile.TemporaryDirectory() as folder:
         for family, sizes in chosen(FAMILIES, words):

@@ -1,23 +1,28 @@
 #!/usr/bin/env bash
 # Times the writing and the checking of answers, by the crates `answer_document` and `ledger_check`.
-#   pigeons     a refutation of one pigeon more than holes: every clause encoded, and a derivation that goes through the placements
-#               of the first pigeons, and deletes the clauses that it needs no more
-#   count       half of so many Booleans are true: the whole ledger of the compilation, and a derivation that adds each clause once more
+#   pigeons     a refutation of one pigeon more than holes: every clause encoded, and a derivation that goes through the
+#               placements of the first pigeons, and deletes the clauses that it needs no more
+#   count       half of so many Booleans are true: the whole ledger of the compilation, and a derivation that adds each
+#               clause once more
 #   two_equal   the same of two equal integers of so many values, whose one core tells all the equations
 #   text        a document of so many lines for a model without names, which is written alone
-# It prints for each size the lines of the ledger and of the derivation, the bytes, the seconds of writing (of all but the pigeons, whose text
-# `answers.py` puts together), the seconds of checking, and the lines checked in a second; behind them, for each family, the growth exponent of
-# the seconds of checking against the lines, from its first size to its last. It stops with an error where an answer isn't taken. It builds a small program over a copy
-# of the crates: `check.sh` proves and builds it, in which time the crates are proved that weren't yet; `check.sh --try` runs it without proof,
-# slower and with checks, so that the sizes are smaller. Wants python3 and rt.
+# It prints for each size the lines of the ledger and of the derivation, the bytes, the seconds of writing (of all but
+# the pigeons, whose text `answers.py` puts together), the seconds of checking, and the lines checked in a second;
+# behind them, for each family, the growth exponent of the seconds of checking against the lines, from its first size to
+# its last. It stops with an error where an answer isn't taken. It builds a small program over a copy of the crates:
+# `check.sh` proves and builds it, in which time the crates are proved that weren't yet; `check.sh --try` runs it
+# without proof, slower and with checks, so that the sizes are smaller. Wants python3 and rt.
 #
-# `check.sh --solved` times `bee check` beside `bee solve` over what that writes. Words behind it name the families; without words all are taken:
+# `check.sh --solved` times `bee check` beside `bee solve` over what that writes. Words behind it name the families;
+# without words all are taken:
 #   pigeons      seven to nine pigeons in one hole fewer
 #   quasigroup   a Latin square with holes; `spoiled` is the same with two places of a row equal
-#   count        half of 2,000 Booleans are true; `certified` is the same with something to be minimized, so that the ledger stands in the answer
+#   count        half of 2,000 Booleans are true; `certified` is the same with something to be minimized, so that the
+#                ledger stands in the answer
 #   golomb       the shortest ruler of seven marks
 #   queens       sixteen queens, of which two are told to stand in one diagonal; `cornered` are those with too few rows
-# It prints the verdict, the lines of the ledger and of derivations, the bytes, the seconds of both, and the latter beside the former. BEE names another program that is run.
+# It prints the verdict, the lines of the ledger and of derivations, the bytes, the seconds of both, and the latter
+# beside the former. BEE names another program that is run.
 set -eu
 top=$(cd "$(dirname "${BASH_SOURCE[0]}")/.." && pwd)
 if [ "${1:-}" = --solved ]; then

@@ -1,21 +1,34 @@
 #!/usr/bin/env python3
 """Writes a CNF as DIMACS, or a model that is to be compiled: cnfs.py FAMILY SIZE SEED FILE.
-  random      three literals a clause over SIZE variables, 4.26 clauses a variable (Crawford and Auton, 1996)
+  random      three literals a clause over SIZE variables, 4.26 clauses a variable
   pigeons     SIZE pigeons, of which each has one of the holes, one fewer, and no two share one
-  parity      two chains of exclusive ors over the same SIZE variables, in two orders, one of which says that an even number of them is
-              true, the other an odd one (Chew and Sinz, 2020)
+  parity      two chains of exclusive ors over the same SIZE variables, in two orders, one of which says that an even
+              number of them is true, the other an odd one
   mitre       two array multipliers of SIZE bits with the factors interchanged, and some bit of their products differs
-  pebbling    a pyramid of SIZE rows: each place needs the two below it, and has two variables of which one or both are true
-  planted     three literals a clause over SIZE variables, 4.2 clauses a variable, all true under values that were drawn first
+  pebbling    a pyramid of SIZE rows: each place needs the two below it, and has two variables of which one or both are
+              true
+  planted     three literals a clause over SIZE variables, 4.2 clauses a variable, all true under values that were drawn
+              first
   factoring   two factors of SIZE bits, the lesser one first, of the product of two primes of SIZE bits
-  langford    SIZE numbers, each at two places, as far apart as it says (Langford, 1958); there is one where SIZE or SIZE + 1 is four times another
-  costas      a permutation of SIZE in which no two vectors between two places are the same (Costas, 1984)
-  latin       a Latin square of order SIZE, of which two fifths of the places are holes, by one variable for each place and number
+  langford    SIZE numbers, each at two places, as far apart as it says; there is one where SIZE or
+              SIZE + 1 is four times another
+  costas      a permutation of SIZE in which no two vectors between two places are the same
+  latin       a Latin square of order SIZE, of which two fifths of the places are holes, by one variable for each place
+              and number
   colours     a graph of SIZE places and 2.3 edges a place, in three colours
   implications  a chain of SIZE clauses, each the first variable or the negation of the next one
   sparse      three literals a clause, SIZE clauses over two fifths as many variables
-The models are quasigroup (a Latin square of which two fifths are holes), spoiled (two places of a row have one value), golomb (a ruler of
-SIZE marks, not longer than SEED) and jobs (the job shop of six by six, done within SEED)."""
+The models are
+  quasigroup  a Latin square of which two fifths are holes
+  spoiled     one of which two places of a row have one value
+  sudoku      a grid of SIZE by SIZE of which half the places are holes; SIZE is a square number
+  golomb      a ruler of SIZE marks, not longer than SEED
+  jobs        the job shop of SIZE by SIZE, done within SEED
+  packing     SIZE things in SEED bins fewer than the fullest packing that was found first has
+  magic       a magic square
+  golfers     SIZE groups of three play SEED times, and no two meet twice
+  designs     SIZE points, three on each line, and SEED lines through each two of them
+  knapsack    SIZE things, of SEED more in value than the best have: 0 has a solution, 1 has none"""
 import itertools, os, random, sys
 
 sys.path.insert(0, os.path.dirname(os.path.abspath(__file__)))
@@ -235,8 +248,71 @@ def jobs(size, hours):
     yield f"int_leq(end,{hours})"
 
 
-MODELS = {family.__name__: family for family in (quasigroup, spoiled, golomb, jobs)}
-FAMILIES = {family.__name__.rstrip("_"): family for family in (random_, pigeons, parity, mitre, pebbling, planted, factoring, langford, costas, latin, colours, implications, sparse)}
+def sudoku(size, seed):
+    draw, side = random.Random(seed * 1_000_003 + size), round(size**0.5)
+    places = [[f"x{i}_{j}" for j in range(size)] for i in range(size)]
+    numbers = draw.sample(range(1, size + 1), size)
+    yield from (f"new_int({x},1,{size})" for row in places for x in row)
+    blocks = [[places[i + a][j + b] for a in range(side) for b in range(side)]
+        for i in range(0, size, side) for j in range(0, size, side)]
+    for group in [*places, *zip(*places), *blocks]:
+        yield f"int_array_allDiff([{','.join(group)}])"
+    for i, j in itertools.product(range(size), repeat=2):
+        if draw.random() < 0.5:
+            yield f"int_eq({places[i][j]},{numbers[(i * side + i // side + j) % size]})"
+
+
+def packing(size, fewer):
+    yield from optima.packing(size)[:-1]
+    yield f"int_leq(bins,{optima.first_fit(size) - fewer})"
+
+
+def magic(size, seed):
+    yield from models.magic(size)
+
+
+def golfers(groups, weeks):
+    players = range(3 * groups)
+    at = {(p, g, w): f"x{p}_{g}_{w}" for p in players for g in range(groups) for w in range(weeks)}
+    yield from (f"new_bool({x})" for x in at.values())
+    for w in range(weeks):
+        for p in players:
+            yield f"bool_array_sum_eq([{','.join(at[p, g, w] for g in range(groups))}],1)"
+        for g in range(groups):
+            yield f"bool_array_sum_eq([{','.join(at[p, g, w] for p in players)}],3)"
+    for p, q in itertools.combinations(players, 2):
+        meet = []
+        for g, w in itertools.product(range(groups), range(weeks)):
+            meet.append(f"m{p}_{q}_{g}_{w}")
+            yield f"new_bool({meet[-1]})"
+            yield f"bool_and_reif({at[p, g, w]},{at[q, g, w]},{meet[-1]})"
+        yield f"bool_array_sum_leq([{','.join(meet)}],1)"
+
+
+def designs(points, common):
+    through = common * (points - 1) // 2
+    rows = [[f"x{i}_{j}" for j in range(points * through // 3)] for i in range(points)]
+    yield from (f"new_bool({x})" for row in rows for x in row)
+    yield from (f"bool_array_sum_eq([{','.join(row)}],{through})" for row in rows)
+    yield from (f"bool_array_sum_eq([{','.join(column)}],3)" for column in zip(*rows))
+    for (i, one), (j, other) in itertools.combinations(enumerate(rows), 2):
+        both = [f"b{i}_{j}_{k}" for k in range(len(one))]
+        for x, y, b in zip(one, other, both):
+            yield f"new_bool({b})"
+            yield f"bool_and_reif({x},{y},{b})"
+        yield f"bool_array_sum_eq([{','.join(both)}],{common})"
+
+
+def knapsack(size, more):
+    yield from optima.knapsack(size)[:-1]
+    yield f"int_leq({optima.best_knapsack(size) + more},v)"
+
+
+MODELS = {family.__name__: family for family in (
+    quasigroup, spoiled, golomb, jobs, sudoku, packing, magic, golfers, designs, knapsack)}
+FAMILIES = {family.__name__.rstrip("_"): family for family in (
+    random_, pigeons, parity, mitre, pebbling, planted, factoring, langford, costas, latin, colours, implications,
+    sparse)}
 
 
 def main():

@@ -28,8 +28,8 @@
 #   chasing     two integers each less than the other
 #   greatest_word  an order of two words of digits, of which the first has its greatest digits
 #   few_names   an order of two long words over four names
-# Words name the families to be timed; without words all are. `measure.py` says what is printed, `models.py` has the models.
-# Wants python3.
+# Words name the families to be timed; without words all are. `measure.py` says what is printed, `models.py` has the
+# models. Wants python3.
 set -eu
 top=$(cd "$(dirname "${BASH_SOURCE[0]}")/.." && pwd)
 [ -n "${BEE_BUILT:-}" ] || "$top/bee" compile "$top/examples/pigeonhole.bee" >/dev/null
@@ -58,7 +58,7 @@ families=(
   all_true:2000,8000,16000
   one_true:2000,8000,16000
   near_top:500,2000,4000
-  twins:500,2000,4000
+  twins:500,2000,8000
   chasing:1000,2000,4000
   greatest_word:200,800,1600
   few_names:1000,4000

@@ -1,11 +1,12 @@
 #!/usr/bin/env python3
 # Compiles models and prints what that took: measure.py PROGRAM FAMILY:SIZE,SIZE.. ..
 # A line for each model: its family and size, the processor's seconds (the least of nine runs or more, or of as many as
-# twenty seconds hold), the peak memory in MB, and beside both texts and an empty model's memory in bytes for each variable
-# and literal; the variables, the clauses, the cores that were made, the ledger's lines and the equations among them; and the bytes of
-# both texts. A family of several sizes then
-# has its growth exponents from its first model to its last, of the seconds and of the memory against the size, and of the
-# seconds against the bytes of both texts. A model that the program refuses, or that takes longer than ten minutes, ends its family.
+# twenty seconds hold), the peak memory in MB, and beside both texts and an empty model's memory in bytes for each
+# variable and literal; the variables, the clauses, the cores that were made, the ledger's lines and the equations among
+# them; and the bytes of both texts. A family of several sizes then
+# has its growth exponents from its first model to its last, of the seconds and of the memory against the size, and of
+# the seconds against the bytes of both texts. A model that the program refuses, or that takes longer than ten minutes,
+# ends its family.
 import math, os, signal, subprocess, sys, tempfile
 
 HERE = os.path.dirname(os.path.abspath(__file__))
@@ -19,8 +20,8 @@ class Models:
         self.program = program
         self.path, self.out, self.err = (os.path.join(folder, it) for it in ("m.bee", "m.cnf", "err"))
 
-    # A process of its own writes the model, so that this one stays small: what a child shows as its peak begins with that
-    # of its parent.
+    # A process of its own writes the model, so that this one stays small: what a child shows as its peak begins with
+    # that of its parent.
     def write(self, family, size):
         subprocess.run([sys.executable, os.path.join(HERE, "models.py"), family, str(size), self.path], check=True)
 
@@ -42,9 +43,9 @@ class Models:
             runs.append(self.run())
         return min(runs)
 
-    # Variables, clauses, literals, cores (the ledger's greatest id, since each core is split or encoded at the end), the lines of the
-    # ledger, and those of them that are equations. Each equation answers a question; how many more were asked the program
-    # doesn't know, for its counter takes no memory: the bound is proved.
+    # Variables, clauses, literals, cores (the ledger's greatest id, since each core is split or encoded at the end),
+    # the lines of the ledger, and those of them that are equations. Each equation answers a question; how many more
+    # were asked the program doesn't know, for its counter takes no memory: the bound is proved.
     def counts(self):
         variables = clauses = literals = cores = lines = equations = 0
         with open(self.out) as text:

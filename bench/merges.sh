@@ -1,9 +1,9 @@
 #!/usr/bin/env bash
-# Times merges of the crate `equation_store`: from 131,072 to 1,048,576 variables, all merged to one class, in a row, in a balanced
-# tree and in random order. Prints the processor's seconds (the least of three runs), the new labels that were given, the growth
-# exponent of the seconds, and the bytes for each further variable. Beside that it times what memory alone costs: one place of 20 bytes
-# for each merge of the random order, read and written in an array. It builds a small program over a copy of the crates. Wants python3
-# and rt.
+# Times merges of the crate `equation_store`: from 131,072 to 1,048,576 variables, all merged to one class, in a row, in
+# a balanced tree and in random order. Prints the processor's seconds (the least of three runs), the new labels that
+# were given, the growth exponent of the seconds, and the bytes for each further variable. Beside that it times what
+# memory alone costs: one place of 20 bytes for each merge of the random order, read and written in an array. It builds
+# a small program over a copy of the crates. Wants python3 and rt.
 set -eu
 top=$(cd "$(dirname "${BASH_SOURCE[0]}")/.." && pwd)
 folder=$(mktemp -d)
@@ -189,7 +189,8 @@ for order, name in (("r", "row"), ("t", "tree"), ("x", "random")):
         seconds[power], peak[power], n, _ = min(run(order, power) for _ in range(3))
         given = run(order, power, "c")[3]
         print(f"{name:6} {n:8} variables: {seconds[power]:.3f} s, {given} new labels ({given / (n * math.log2(n)):.2f} n log n)")
-    # A peak counts what python held when it began the program, so memory is told of variables past those that take as much.
+    # A peak counts what python held when it began the program, so memory is told of variables past those that take as
+    # much.
     print(f"{name:6} growth exponent {math.log(seconds[9] / seconds[6]) / math.log(8):.2f}, "
           f"{(run(order, 10)[1] - peak[9]) / n:.1f} bytes for each further variable")
 

@@ -1,5 +1,6 @@
 #!/usr/bin/env python3
-# Writes a model of a family: models.py FAMILY SIZE FILE. A number behind these is how many values an integer of `eq_row` has.
+# Writes a model of a family: models.py FAMILY SIZE FILE. A number behind these is how many values an integer of
+# `eq_row` has.
 import random, sys
 
 FIRST = "abcdefghijklmnopqrstuvwxyzABCDEFGHIJKLMNOPQRSTUVWXYZ_"

@@ -1,8 +1,19 @@
 #!/usr/bin/env python3
-# Solves models with objectives and prints what that took: optima.py PROGRAM [FAMILY ..], each family with its sizes.
-# A line for each model: its family and size, the verdict, the variables and clauses that are solved, the clauses that were learned in the first derivation and
-# in the second one, and the processor's seconds. Without words all families are taken. Each answer is checked, which isn't timed.
-import os, random, subprocess, sys, tempfile, time
+"""Solves models with objectives and prints what that took: optima.py PROGRAM [FAMILY[:SIZE,..] ..].
+
+A line for each model: its family and size, the verdict, the variables and clauses that are solved, the clauses that
+were learned in the first derivation and in the second one, and the processor's seconds. Without words all families are
+taken. Each answer is checked, which isn't timed. A run is stopped after SECONDS_EACH seconds (60).
+
+Behind them, for a model with one objective and where cadical is there, the user's seconds of others on its clauses, as
+`bee compile` and `bee bound` write them: of cadical from one value to the next better one, how often it was asked, and
+of the last question alone, which has no solution, the seconds of cadical and of `bee sat`. Where these are as long as
+`bee solve` took, the clauses make the model hard; where they are short, the order of decisions and of questions does.
+"""
+import os, random, re, resource, shutil, subprocess, sys, tempfile
+
+# Seconds after which a run is stopped.
+LIMIT = int(os.environ.get("SECONDS_EACH", "60"))
 
 def golomb(marks):
     ends = {3: 3, 4: 6, 5: 11, 6: 17, 7: 25, 8: 34}[marks] + 4
@@ -41,14 +52,31 @@ JOBS = {
     ],
 }
 
+def shop(size):
+    """The jobs: those above, and at random SIZE jobs on 8 machines, or on 5 where SIZE is 10."""
+    if size in JOBS:
+        return JOBS[size]
+    chance, machines = random.Random(size), 5 if size == 10 else 8
+    return [[(m, chance.randint(1, 9)) for m in chance.sample(range(machines), machines)] for _ in range(size)]
+
+def one_by_one(size):
+    """The hours where each task is begun as early as it can be, the jobs in turn."""
+    free, ready, listed = {}, [0] * len(shop(size)), shop(size)
+    for step in range(len(listed[0])):
+        for j, job in enumerate(listed):
+            machine, hours = job[step]
+            ready[j] = free[machine] = max(ready[j], free.get(machine, 0)) + hours
+    return max(ready)
+
 def jobs(size):
-    horizon = {3: 15, 6: 65}[size]
+    horizon = {3: 15, 6: 65}.get(size) or one_by_one(size)
     lines, tasks = [f"new_int(end,0,{horizon})"], {}
-    for j, job in enumerate(JOBS[size]):
+    for j, job in enumerate(shop(size)):
         before = None
         for machine, hours in job:
             s, e = f"s{j}_{machine}", f"e{j}_{machine}"
-            lines += [f"new_int({s},0,{horizon - hours})", f"new_int({e},{hours},{horizon})", f"int_plus({s},{hours},{e})"]
+            lines += [f"new_int({s},0,{horizon - hours})", f"new_int({e},{hours},{horizon})"]
+            lines.append(f"int_plus({s},{hours},{e})")
             if before:
                 lines.append(f"int_leq({before},{s})")
             before = e
@@ -58,7 +86,8 @@ def jobs(size):
         for i, (s, e) in enumerate(held):
             for t, f in held[i + 1 :]:
                 one, other = f"{s}_{t}", f"{t}_{s}"
-                lines += [f"new_bool({one})", f"int_leq_reif({e},{t},{one})", f"new_bool({other})", f"int_leq_reif({f},{s},{other})"]
+                lines += [f"new_bool({one})", f"int_leq_reif({e},{t},{one})"]
+                lines += [f"new_bool({other})", f"int_leq_reif({f},{s},{other})"]
                 lines.append(f"bool_array_or([{one},{other}])")
     return lines + ["solve minimize end"]
 
@@ -76,35 +105,146 @@ def assignment(size):
         lines.append(f"bool_array_pb_eq([{','.join(map(str, numbers))}],[{every}],{name})")
     return lines + ["solve minimize cost then hours"]
 
-FAMILIES = {"golomb": (golomb, [5, 6, 7, 8]), "knapsack": (knapsack, [10, 20, 30]), "jobs": (jobs, [3, 6]), "assignment": (assignment, [4, 6, 8])}
+# Each worker one task, with costs to 100.
+def costs(size):
+    lines = [line for line in assignment(size)[:-1] if "cost" not in line and "hours" not in line]
+    chance = random.Random(size)
+    every = ",".join(f"x{i}_{j}" for i in range(size) for j in range(size))
+    numbers = ",".join(str(chance.randint(1, 100)) for _ in range(size * size))
+    lines += [f"new_int(cost,0,{20 * size})", f"bool_array_pb_eq([{numbers}],[{every}],cost)"]
+    return lines + ["solve minimize cost"]
+
+ROOM = 100
+
+def things(size):
+    chance = random.Random(size)
+    return [chance.randint(15, 60) for _ in range(size)]
+
+def first_fit(size):
+    """The bins that hold the things where each goes into the first one that has room, the greatest first."""
+    bins = []
+    for thing in sorted(things(size), reverse=True):
+        at = next((k for k, room in enumerate(bins) if thing <= room), len(bins))
+        bins += [ROOM] if at == len(bins) else []
+        bins[at] -= thing
+    return len(bins)
+
+# Things in as few bins as hold them.
+def packing(size):
+    most, sizes = first_fit(size), things(size)
+    lines = [f"new_bool(x{i}_{b})" for i in range(size) for b in range(most)] + [f"new_bool(u{b})" for b in range(most)]
+    for i in range(size):
+        lines.append(f"bool_array_sum_eq([{','.join(f'x{i}_{b}' for b in range(most))}],1)")
+    for b in range(most):
+        held = ",".join(f"x{i}_{b}" for i in range(size))
+        lines.append(f"bool_array_pb_leq([{','.join(map(str, sizes))},{-ROOM}],[{held},u{b}],0)")
+    lines += [f"bool_array_or([u{b - 1},-u{b}])" for b in range(1, most)]
+    lines += [f"new_int(bins,0,{most})", f"bool_array_sum_eq([{','.join(f'u{b}' for b in range(most))}],bins)"]
+    return lines + ["solve minimize bins"]
+
+# The fewest queens that attack or stand on every square of a board.
+def domination(size):
+    squares = [(i, j) for i in range(size) for j in range(size)]
+    lines = [f"new_bool(q{i}_{j})" for i, j in squares]
+    for i, j in squares:
+        near = [f"q{k}_{l}" for k, l in squares if k == i or l == j or abs(k - i) == abs(l - j)]
+        lines.append(f"bool_array_or([{','.join(near)}])")
+    lines += [f"new_int(queens,0,{size})"]
+    lines.append(f"bool_array_sum_eq([{','.join(f'q{i}_{j}' for i, j in squares)}],queens)")
+    return lines + ["solve minimize queens"]
+
+def best_knapsack(size):
+    """The greatest value, found by a table over the weights."""
+    *_, leq, eq, _ = knapsack(size)
+    weights, values = ([int(w) for w in line.split("[")[1].split("]")[0].split(",")] for line in (leq, eq))
+    best = [0] * (int(leq.rstrip(")").split(",")[-1]) + 1)
+    for weight, value in zip(weights, values):
+        for room in range(len(best) - 1, weight - 1, -1):
+            best[room] = max(best[room], best[room - weight] + value)
+    return best[-1]
+
+FAMILIES = {
+    "golomb": (golomb, [5, 6, 7, 8]),
+    "knapsack": (knapsack, [10, 20, 25, 30, 35]),
+    "jobs": (jobs, [3, 6, 8, 10]),
+    "assignment": (assignment, [4, 6, 8]),
+    "costs": (costs, [10, 20]),
+    "packing": (packing, [12, 20]),
+    "domination": (domination, [6, 8]),
+}
+
+def limited():
+    resource.setrlimit(resource.RLIMIT_CPU, (LIMIT, LIMIT))
+
+def run(words, out):
+    """Runs a program, its output into a file. The answer is its code and the user's seconds."""
+    with open(out, "wb") as sink:
+        child = subprocess.Popen(words, stdout=sink, stderr=subprocess.DEVNULL, preexec_fn=limited)
+        _, status, usage = os.wait4(child.pid, 0)
+    return os.waitstatus_to_exitcode(status), usage.ru_utime
+
+def read(path):
+    with open(path) as text:
+        return text.read()
 
 def learned(lines):
     return sum(1 for line in lines if line.split()[1] != "d")
 
+def counts(answer):
+    """The clauses that were learned in both derivations."""
+    lines = answer.splitlines()
+    proof = lines.index("proof") if "proof" in lines else len(lines) - 1
+    second = lines.index("second") if "second" in lines else len(lines) - 1
+    return learned(lines[proof + 1:second]), learned(lines[second + 1:-1])
+
+def by_cadical(program, model, name, folder):
+    """What cadical takes from value to value of an objective: its seconds, the questions, and the seconds of the last
+    one; and those of `bee sat` at that. A plus stands behind what was stopped."""
+    cnf, values, out = (os.path.join(folder, it) for it in ("c", "v", "o"))
+    run([program, "compile", model], cnf)
+    total, asked = 0, 0
+    while total < LIMIT:
+        code, seconds = run(["cadical", "-q", cnf], values)
+        total, asked = total + seconds, asked + 1
+        if code == 20:
+            _, ours = run([program, "sat", cnf], out)
+            end = "" if "s UNSATISFIABLE" in read(out) else "+"
+            return f"{total:.3f} {asked} {seconds:.3f} {ours:.3f}{end}"
+        if code != 10:
+            break
+        run([program, "decode", cnf, values], out)
+        value = re.search(rf"^{name} = (\d+)$", read(out), re.M)[1]
+        run([program, "bound", model, value], cnf)
+    return f"{total:.3f}+ {asked} - -"
+
+def solved(program, family, size, folder):
+    """The line of a model."""
+    model, answer, cnf = (os.path.join(folder, it) for it in ("m.bee", "m.answer", "m.cnf"))
+    lines = FAMILIES[family][0](size)
+    with open(model, "w") as out:
+        out.write("\n".join(lines) + "\n")
+    code, seconds = run([program, "solve", model], answer)
+    run([program, "compile", model], cnf)
+    header = next(line for line in read(cnf).splitlines() if line.startswith("p cnf")).split()[2:]
+    row = f"{family:10} {size:3}  "
+    if code == 0:
+        verdict, (first, second) = read(answer).splitlines()[1], counts(read(answer))
+        row += f"{verdict:18} {' '.join(header):16} {first:7} {second:6} {seconds:8.3f}"
+    else:
+        row += f"{'-':18} {' '.join(header):16} {'-':>7} {'-':>6} {seconds:8.3f}+"
+    if " then " not in lines[-1] and shutil.which("cadical"):
+        row += "  " + by_cadical(program, model, lines[-1].split()[-1], folder)
+    if code == 0:
+        row += "  " + subprocess.run([program, "check", model, answer], capture_output=True, text=True).stdout.strip()
+    return row
+
 def main():
     program, chosen = sys.argv[1], sys.argv[2:] or list(FAMILIES)
     with tempfile.TemporaryDirectory() as folder:
-        model, answer = os.path.join(folder, "m.bee"), os.path.join(folder, "m.answer")
         for family in chosen:
-            make, sizes = FAMILIES[family]
-            for size in sizes:
-                with open(model, "w") as out:
-                    out.write("\n".join(make(size)) + "\n")
-                with open(answer, "wb") as out:
-                    child = subprocess.Popen([program, "solve", model], stdout=out)
-                    _, status, usage = os.wait4(child.pid, 0)
-                with open(answer) as text:
-                    lines = text.read().splitlines()
-                proof = lines.index("proof") if "proof" in lines else len(lines) - 1
-                second = lines.index("second") if "second" in lines else len(lines) - 1
-                taken = subprocess.run([program, "check", model, answer], capture_output=True, text=True).stdout.strip()
-                header = subprocess.run([program, "compile", model], capture_output=True, text=True).stdout
-                counts = next(line for line in header.splitlines() if line.startswith("p cnf")).split()[2:]
-                print(
-                    f"{family:10} {size:3}  {lines[1]:18} {' '.join(counts):16} {learned(lines[proof + 1:second]):7} {learned(lines[second + 1:-1]):6} "
-                    f"{usage.ru_utime + usage.ru_stime:8.3f}  {taken}",
-                    flush=True,
-                )
+            family, _, sizes = family.partition(":")
+            for size in map(int, sizes.split(",")) if sizes else FAMILIES[family][1]:
+                print(solved(program, family, size, folder), flush=True)
 
 if __name__ == "__main__":
     main()

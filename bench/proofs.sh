@@ -1,9 +1,9 @@
 #!/usr/bin/env bash
-# Times the checker of the crate `proof_check` on proofs whose lines follow chains of implications, and prints for each the
-# lines, the hints, the literals that these name, and the seconds and rates of reading the text and of taking the lines.
-# A literal looked at is one of a clause that a hint names, or one of the line's own. It builds a small program over a copy
-# of the crates. Wants python3 and rt. `proofs.sh CNF LRAT` times one proof instead, such as that of `bee sat CNF` behind its
-# first line.
+# Times the checker of the crate `proof_check` on proofs whose lines follow chains of implications, and prints for each
+# the lines, the hints, the literals that these name, and the seconds and rates of reading the text and of taking the
+# lines. A literal looked at is one of a clause that a hint names, or one of the line's own. It builds a small program
+# over a copy of the crates. Wants python3 and rt. `proofs.sh CNF LRAT` times one proof instead, such as that of `bee
+# sat CNF` behind its first line.
 set -eu
 top=$(cd "$(dirname "${BASH_SOURCE[0]}")/.." && pwd)
 folder=$(mktemp -d)

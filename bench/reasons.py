@@ -47,7 +47,8 @@ def clique(nodes):
 
 
 def timetable(statements):
-    """Lessons of classes that have some hours to choose from, until there are so many statements; one teacher has more lessons than hours."""
+    """Lessons of classes that have some hours to choose from, until there are so many statements; one teacher has more
+    lessons than hours."""
     chance, lines, declared = random.Random(statements), [], []
     for group in range(statements // 40):
         lessons = [f"c{group}_{i}" for i in range(8)]
@@ -70,7 +71,8 @@ def jobs(size):
 
 
 def sudoku(order):
-    """A sudoku, filled but for the holes in two fifths of its places, of which one has a digit that stands in its column."""
+    """A sudoku, filled but for the holes in two fifths of its places, of which one has a digit that stands in its
+    column."""
     chance, side = random.Random(order), order * order
     digit = [[(i * order + i // order + j) % side + 1 for j in range(side)] for i in range(side)]
     places = [[f"x{i}_{j}" for j in range(side)] for i in range(side)]

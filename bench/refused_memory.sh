@@ -1,12 +1,18 @@
 #!/usr/bin/env bash
 # Refuses the program memory. Words name the parts; without words both are taken:
-#   runs      for each run below it counts how often memory is asked for, and runs it so often again, each time with another one of these refused; and so often once more, with
-#             each one refused from there on. A run has to end as it does with ample memory, or with code 6 and nothing on standard output. It prints
-#             how many ended so and so, and of the latter how many told it on standard error, which those that could not even read their words need not. The shelf counts an opening that finds no memory as a fault of
-#             reading, so at an opening a run may end with code 4 as well; those ends are counted apart. It stops with an error at another end.
-#   asked     the same for a small program over the crate `learning_solver`, which asks one solver five times about seven pigeons in six holes, under two assumptions and with three budgets, and asks once more, and
-#             once more again, where memory is refused in a call. It has to give the answers that it gives with ample memory and a log that a checker takes, or to end with code 1 and nothing on
-#             standard output, where memory is refused outside the calls or in three of them. It prints how many ended so and so, and in how many a call was refused memory and asked again.
+#   runs      for each run below it counts how often memory is asked for, and runs it so often again, each time with
+#             another one of these refused; and so often once more, with each one refused from there on. A run has to
+#             end as it does with ample memory, or with code 6 and nothing on standard output. It prints how many ended
+#             so and so, and of the latter how many told it on standard error, which those that could not even read
+#             their words need not. The shelf counts an opening that finds no memory as a fault of reading, so at an
+#             opening a run may end with code 4 as well; those ends are counted apart. It stops with an error at another
+#             end.
+#   asked     the same for a small program over the crate `learning_solver`, which asks one solver five times about
+#             seven pigeons in six holes, under two assumptions and with three budgets, and asks once more, and once
+#             more again, where memory is refused in a call. It has to give the answers that it gives with ample memory
+#             and a log that a checker takes, or to end with code 1 and nothing on standard output, where memory is
+#             refused outside the calls or in three of them. It prints how many ended so and so, and in how many a call
+#             was refused memory and asked again.
 # The runs are
 #   times     solve, an optimum of a product of two integers
 #   pigeons   solve --no-restart --budget 4096, four pigeons in three holes
@@ -17,8 +23,15 @@
 #   lists     check of its optimum, whose ledger splits them
 #   two       solve, two objectives
 #   sum       decode, two integers from the values of their clauses
-# What is refused is `malloc` and `realloc` of the C library, by a small library that is put before it. BEE names another program that is tried, ASKING another program of the second part, which else is proved and built
-# over a copy of the crates, and PROCESSES how many runs go on at a time, three without it. Wants cc and python3, and rt.
+#   days      all and checkall of a model with six solutions, and all with one clause learned
+#   broken    core and checkcore of a model whose core has three of eight statements
+#   cover     opbmodel and opb of a pseudo-Boolean file
+#   pairs     certify of a refutation of four clauses
+#   least     certify of values that are best, bound, and weigh
+#   clauses   sat and drup of four clauses
+# What is refused is `malloc` and `realloc` of the C library, by a small library that is put before it. BEE names
+# another program that is tried, ASKING another program of the second part, which else is proved and built over a copy
+# of the crates, and PROCESSES how many runs go on at a time, three without it. Wants cc and python3, and rt.
 set -eu
 top=$(cd "$(dirname "${BASH_SOURCE[0]}")/.." && pwd)
 folder=$(mktemp -d)
@@ -94,10 +107,13 @@ times = path("times.bee", "new_int(x,2,6)\nnew_int(y,2,6)\nint_times(x,y,12)\nin
 holes = path("pigeons.bee", "\n".join([*pigeons(), "solve satisfy\n"]))
 clauses = "".join(f"bool_array_or([{a},{b}])\n" for a, b in (("a", "b"), ("a", "-b"), ("-a", "b"), ("-a", "-b")))
 pairs = path("pairs.bee", f"new_bool(a)\nnew_bool(b)\n{clauses}solve satisfy\n")
-refuted = path("pairs.answer", "bee 1\nUNSATISFIABLE\nledger\nenc 1\nenc 2\nenc 3\nenc 4\nproof\n5 1 0 1 2 0\n6 0 5 3 4 0\nend\n")
+ledger = "".join(f"enc {n}\n" for n in range(1, 5))
+refuted = path("pairs.answer", f"bee 1\nUNSATISFIABLE\nledger\n{ledger}proof\n5 1 0 1 2 0\n6 0 5 3 4 0\nend\n")
 names = [f"b{n}" for n in range(40)]
-half = path("half.bee", "".join(f"new_bool({n})\n" for n in names) + f"bool_array_sum_eq([{','.join(names)}],20)\nsolve satisfy\n")
-two = path("two.bee", "new_int(x,0,3)\nnew_int(y,0,3)\nnew_int(z,-3,0)\nint_plus(x,y,3)\nint_plus(y,z,1)\nsolve maximize z then x\n")
+bools = "".join(f"new_bool({n})\n" for n in names)
+half = path("half.bee", f"{bools}bool_array_sum_eq([{','.join(names)}],20)\nsolve satisfy\n")
+threes = "new_int(x,0,3)\nnew_int(y,0,3)\nnew_int(z,-3,0)\n"
+two = path("two.bee", f"{threes}int_plus(x,y,3)\nint_plus(y,z,1)\nsolve maximize z then x\n")
 sum_text = path("sum.cnf", "c bee 1\nc int x 0 1:1 2:1 3:1\nc int y 0 -3:1 -2:1 -1:1\np cnf 6 2\n1 -2 0\n2 -3 0\n")
 found = path("sum.values", "c found\ns SATISFIABLE\nv 1 -2 -3\nv 4 5 -6 0\n")
 lists = path(
@@ -108,7 +124,24 @@ lists = path(
     + f"bool_arrays_lex([{','.join(names[10:15])}],[{','.join(names[15:20])}])\n"
     + "int_array_sum_eq([x0,x1,x2,x3,x4,x5],7)\nsolve minimize x0\n",
 )
-best = path("lists.answer", subprocess.run([program, "solve", lists], capture_output=True, text=True, check=True).stdout)
+
+def written(name, *words):
+    return path(name, subprocess.run([program, *words], capture_output=True, text=True, check=True).stdout)
+
+
+best = written("lists.answer", "solve", lists)
+walk = "new_int(lunch,11,14)\nnew_int(lecture,9,12)\nnew_int(walk,9,16)\nint_geq(walk,11)\nint_geq(lecture,11)\n"
+apart = "int_gt(lunch,walk)\nint_neq(walk,lecture)\nsolve minimize lunch\n"
+days = path("days.bee", f"{walk}int_gt(lunch,lecture)\n{apart}")
+broken = path("broken.bee", f"{walk}int_lt(lunch,lecture)\n{apart}")
+listed, core = written("days.list", "all", days), written("broken.core", "core", broken)
+cover = path("cover.opb", "min: +3 x1 +2 x2 +4 x3 ;\n+1 x1 +1 x2 +1 ~x3 >= 2 ;\n+1 x1 +1 x3 <= 1 ;\n")
+drup = path("pairs.drup", "1 0\n")
+least = path("least.bee", "new_int(x,0,2)\nint_neq(x,0)\nsolve minimize x\n")
+least_found = path("least.values", "s SATISFIABLE\nv 1 -2 0\n")
+clauses_text = path("pairs.cnf", "p cnf 2 4\n1 2 0\n1 -2 0\n-1 2 0\n-1 -2 0\n")
+# Modes that read two texts.
+SECONDS = ("check", "decode", "checkall", "checkcore", "certify", "drup")
 RUNS = [
     ("times", ["solve", times]),
     ("pigeons", ["solve", holes, "--no-restart", "--budget", "4096"]),
@@ -119,6 +152,19 @@ RUNS = [
     ("lists", ["check", lists, best]),
     ("two", ["solve", two]),
     ("sum", ["decode", sum_text, found]),
+    ("days", ["all", days]),
+    ("days", ["all", days, "--budget", "1"]),
+    ("days", ["checkall", days, listed]),
+    ("broken", ["core", broken]),
+    ("broken", ["checkcore", broken, core]),
+    ("cover", ["opbmodel", cover]),
+    ("cover", ["opb", cover]),
+    ("pairs", ["certify", pairs, drup]),
+    ("least", ["certify", least, least_found]),
+    ("least", ["bound", least, "2"]),
+    ("least", ["weigh", least]),
+    ("clauses", ["sat", clauses_text]),
+    ("clauses", ["drup", clauses_text, drup]),
 ]
 
 
@@ -131,21 +177,26 @@ def run(words, **given):
 TOLD, UNTOLD = ((6, b"", line) for line in (b"bee: out of memory\n", b""))
 # An opening asks for a copy of the name, and the first one for the list of open files as well.
 OPENING = (4, b"", b"bee: read fault\n")
-print(f"{'run':8} {'mode':8} {'asked':>6}  {'one refused':46} each refused from there on")
+print(f"{'run':8} {'mode':9} {'asked':>6}  {'one refused':46} each refused from there on")
 failed = False
 for name, words in RUNS:
     ample = run(words, ASKED=os.path.join(folder, "asked"))
+    if ample[0] not in (0, 8):
+        sys.exit(f"{name}: {words[0]} ended with {ample}")
     asked = int(open(os.path.join(folder, "asked")).read())
-    openings = 3 if words[0] in ("check", "decode") else 2
+    openings = 3 if words[0] in SECONDS else 2
     shown, others = [], {}
     for forever in (False, True):
         with ThreadPool(int(os.environ.get("PROCESSES", 3))) as pool:
-            ends = pool.map(lambda n: run(words, REFUSED_FIRST=str(n), REFUSED_LAST=str(asked if forever else n)), range(1, asked + 1))
+            last = asked if forever else 0
+            refusing = lambda n: run(words, REFUSED_FIRST=str(n), REFUSED_LAST=str(max(n, last)))
+            ends = pool.map(refusing, range(1, asked + 1))
         for n, end in enumerate(ends, 1):
             if end not in (ample, TOLD, UNTOLD) and (end != OPENING or ends.count(OPENING) > openings):
                 others.setdefault(end, []).append(f"{n}{' and on' if forever else ''}")
-        shown.append(f"{ends.count(TOLD)} told, {ends.count(UNTOLD)} untold, {ends.count(OPENING)} read, {ends.count(ample)} as with ample")
-    print(f"{name:8} {words[0]:8} {asked:6}  {shown[0]:46} {shown[1]}", flush=True)
+        told, untold, read = (ends.count(it) for it in (TOLD, UNTOLD, OPENING))
+        shown.append(f"{told} told, {untold} untold, {read} read, {ends.count(ample)} as with ample")
+    print(f"{name:8} {words[0]:9} {asked:6}  {shown[0]:46} {shown[1]}", flush=True)
     for (code, out, err), numbers in sorted(others.items()):
         failed = True
         print(f"  another end, code {code}, {len(out)} bytes, {err[-200:]!r}: {', '.join(numbers)}", flush=True)

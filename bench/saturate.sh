@@ -1,6 +1,7 @@
 #!/usr/bin/env bash
 # Times `bee compile` on models whose compilation is almost all equations:
-#   upwards, downwards, shuffled   a chain of 300,000 `bool_eq`, in the order of the names, in the other one, and in none
+#   upwards, downwards, shuffled   a chain of 300,000 `bool_eq`, in the order of the names, in the other one, and in
+#                                  none
 #   broken                         such a chain whose ends are stated to differ, so that a contradiction is found
 #   eq_row                         a row of a hundred equal integers of 1,000 values each
 #   two_equal                      two equal integers of 10,000 values each

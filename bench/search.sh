@@ -1,9 +1,12 @@
 #!/usr/bin/env bash
-# Times the search of the crate `learning_solver`, and `bee sat`, beside other solvers on the same files. It builds a small program over a
-# copy of the crates, which reads a CNF as `bee sat` does, searches, and writes no proof; the crates that weren't proved yet are proved.
-# `search.py` says what is printed, and `cnfs.py` what the families are. Words behind it name the families; without words all are taken.
-# SEARCH names another such program and BEE another `bee`, so that nothing is built. Wants python3, minisat, and rt; cadical and picosat
-# are timed where they are there.
+# Times the search of the crate `learning_solver`, and `bee sat`, beside other solvers on the same files. It builds a
+# small program over a copy of the crates, which reads a CNF as `bee sat` does, searches, and writes no proof; crates
+# that weren't proved yet are proved. `search.py` says what is printed, and `cnfs.py` what the families are. Words
+# behind it name the families; without words all are taken. SEARCH names another such program, or - for none, and BEE
+# another `bee`: then nothing is built. RUNS is the number of runs of which the least counts (3), and SECONDS_EACH
+# after how many seconds a run is stopped (60). Wants python3, minisat, and rt; cadical and picosat are timed where they
+# are there. All files by one run, with no such program:
+#     env SEARCH=- RUNS=1 SECONDS_EACH=20 bench/search.sh
 set -eu
 top=$(cd "$(dirname "${BASH_SOURCE[0]}")/.." && pwd)
 [ -n "${BEE:-}" ] || { BEE=$top/crates/bee/out/bee; "$top/bee" compile "$top/examples/pigeonhole.bee" >/dev/null; }

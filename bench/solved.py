@@ -1,5 +1,6 @@
 #!/usr/bin/env python3
-"""Times `bee check` beside `bee solve` over what that writes: solved.py PROGRAM [FAMILY ..]. What is printed stands in `check.sh`."""
+"""Times `bee check` beside `bee solve` over what that writes: solved.py PROGRAM [FAMILY ..]. What is printed stands in
+`check.sh`."""
 import os, subprocess, sys, tempfile
 
 sys.path.insert(0, os.path.dirname(os.path.abspath(__file__)))

@@ -71,8 +71,8 @@ def written(path, lines):
 
 
 def chosen(families, words):
-    """The families that words name, each with its sizes: FAMILY or FAMILY:SIZE,SIZE; the word `whole` takes all sizes of those that are named,
-    and without it those of each family that are for a first look."""
+    """The families that words name, each with its sizes: FAMILY or FAMILY:SIZE,SIZE; the word `whole` takes all sizes
+    of those that are named, and without it those of each family that are for a first look."""
     whole = "whole" in words
     named = [it for it in words if it != "whole"] or list(families)
     for word in named:

@@ -1,13 +1,16 @@
 #!/usr/bin/env python3
-"""Times the program over `clause_rings` that `rings.sh` builds: watches.py PROGRAM. For a chain of implications and for random clauses of three
-literals it prints the clauses; the literals that became true where each variable is decided to be false in turn, unless it has a value; the
-user's seconds of the processor that this and its propagation took, as a share of what 1 + N such rounds take above one, where N rounds have ten million
-clauses, so that the reading, the watching of the clauses and the first round aren't in it; the nanoseconds for each literal; and the
-propagations a second beside those of minisat without its preprocessing on the same file, from what it tells, in the seconds behind its reading. Each is the
-least of five runs. Where valgrind is there a second table has, for each literal, the instructions of the second and third round and their misses of a cache of
-a megabyte and of one of 32 behind it: other work on the machine changes none of these. Before both stand the bytes of memory for each clause and literal, from
-the peaks of runs that differ in one of them; and the peak where half of a million clauses go and as many come again, beside that before. With
-GLIBC_TUNABLES=glibc.malloc.hugetlb=1 around it the arrays lie in large pages, where the system gives them to who asks."""
+"""Times the program over `clause_rings` that `rings.sh` builds: watches.py PROGRAM. For a chain of implications and for
+random clauses of three literals it prints the clauses; the literals that became true where each variable is decided to
+be false in turn, unless it has a value; the user's seconds of the processor that this and its propagation took, as a
+share of what 1 + N such rounds take above one, where N rounds have ten million clauses, so that the reading, the
+watching of the clauses and the first round aren't in it; the nanoseconds for each literal; and the propagations a
+second beside those of minisat without its preprocessing on the same file, from what it tells, in the seconds behind its
+reading. Each is the least of five runs. Where valgrind is there a second table has, for each literal, the instructions
+of the second and third round and their misses of a cache of a megabyte and of one of 32 behind it: other work on the
+machine changes none of these. Before both stand the bytes of memory for each clause and literal, from the peaks of runs
+that differ in one of them; and the peak where half of a million clauses go and as many come again, beside that before.
+With GLIBC_TUNABLES=glibc.malloc.hugetlb=1 around it the arrays lie in large pages, where the system gives them to who
+asks."""
 import os, re, shutil, subprocess, sys, tempfile
 
 HERE = os.path.dirname(os.path.abspath(__file__))
@@ -52,7 +55,8 @@ def decided(program, cnf, rounds):
 
 
 def counted(program, cnf):
-    """The literals of two rounds above one, and their instructions and the misses of both caches, as valgrind counts them."""
+    """The literals of two rounds above one, and their instructions and the misses of both caches, as valgrind counts
+    them."""
     with open(cnf) as text:
         lines = text.readlines()
     told = []

@@ -16,6 +16,9 @@ FIRST_LINES = {
     "tour": "OPTIMUM 87",
     "exams": "OPTIMUM 4 22",
     "domination": "OPTIMUM 8",
+    "configuration": "OPTIMUM 1080",
+    "words": "OPTIMUM 68 6",
+    "magic": "SATISFIABLE",
 }
 
 

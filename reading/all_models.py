@@ -34,7 +34,8 @@ def compare_list(trial, path, text, changed="nothing"):
     wanted, listed = reading(trial, text)
     if listed is not None:
         want(set(listed) <= trial.known, f"{wanted}, but no solution is {set(listed) - trial.known}")
-        want("PARTIAL" in wanted or len(listed) == len(trial.known), f"{wanted}, and there are {len(trial.known)} solutions")
+        is_all = len(listed) == len(trial.known)
+        want("PARTIAL" in wanted or is_all, f"{wanted}, and there are {len(trial.known)} solutions")
     trial.compare("checkall", path, text, wanted, changed)
     return wanted
 
@@ -57,20 +58,24 @@ def make(trial):
     trial.compilation = Compilation(trial.model)
     path = trial.path("model", maker.text().encode())
     _, whole = trial.run("all", path)
-    want(compare_list(trial, path, whole) == f"ACCEPTED ALL {len(trial.known)}", f"the list says {whole[:60]!r}, and there are {len(trial.known)}")
+    is_all = compare_list(trial, path, whole) == f"ACCEPTED ALL {len(trial.known)}"
+    want(is_all, f"the list says {whole[:60]!r}, and there are {len(trial.known)}")
     compare_changes(trial, path, whole)
     budget = trial.chance.randint(1, 4)
-    code, spent = trial.run("all", path, "--budget", str(budget), *["--no-restart"] * trial.chance.randint(0, 1), codes=(0, 8))
+    words = ["--budget", str(budget), *["--no-restart"] * trial.chance.randint(0, 1)]
+    code, spent = trial.run("all", path, *words, codes=(0, 8))
     said = compare_list(trial, path, spent)
     want(said.startswith("ACCEPTED"), f"the reading of what all wrote: {said}")
-    want(code == (8 if "PARTIAL" in said else 0) and (code == 0 or said.endswith(f" {budget}")), f"{said} with the exit code {code} and the budget {budget}")
+    is_spent = "PARTIAL" in said and said.endswith(f" {budget}")
+    want(is_spent if code else "PARTIAL" not in said, f"{said} with the exit code {code} and the budget {budget}")
     trial.counts["PARTIAL" if code else "ALL"] += 1
     compare_changes(trial, path, spent)
     trial.counts["solutions"] += len(trial.known)
     ledger = wandered(trial.chance, trial.compilation, trial.chance.choice((2, 10, 40)))
     made = list_text(trial.chance, trial.compilation, trial.model, sorted(trial.known), ledger)
     if made is not None:
-        want(compare_list(trial, path, made, "ledger").startswith("ACCEPTED"), "the reading refuses a list that was made")
+        is_taken = compare_list(trial, path, made, "ledger").startswith("ACCEPTED")
+        want(is_taken, "the reading refuses a list that was made")
         compare_changes(trial, path, made)
 
 

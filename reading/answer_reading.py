@@ -1,5 +1,5 @@
-"""Reads the texts of `docs/FORMATS.md` with code of its own: compiled texts, values of a solver, and answers to a model of `small_models.py`, whose ledger lines
-`ledger_reading.py` takes."""
+"""Reads the texts of `docs/FORMATS.md` with code of its own: compiled texts, values of a solver, and answers to a model
+of `small_models.py`, whose ledger lines `ledger_reading.py` takes."""
 import re
 
 from integers import Integer, is_true, opposite
@@ -78,7 +78,9 @@ class Proof:
 
     def add(self, name, literals, hints):
         variables = {abs(l) for l in literals}
-        if name is None or name <= self.last or len(variables) < len(literals) or not all(1 <= v <= self.vars for v in variables):
+        if name is None or name <= self.last:
+            return False
+        if len(variables) < len(literals) or not all(1 <= v <= self.vars for v in variables):
             return False
         if not self.follows(literals, hints):
             return False
@@ -164,7 +166,8 @@ class Lines:
 
 
 class Answer(Lines):
-    """Reads an answer, line by line. `verdict` gives the words of its verdict, and raises Refused with the first line that fails."""
+    """Reads an answer, line by line. `verdict` gives the words of its verdict, and raises Refused with the first line
+    that fails."""
 
     def __init__(self, model, steps, text):
         super().__init__(model, text)

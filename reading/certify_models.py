@@ -8,14 +8,16 @@ better ones, by `bee bound`, until it refutes that there are any. Compared are
   certify  what cadical found, as it stands and with a byte, a line and a number changed: the verdict, or the line that
            is refused, by the reading of `found_reading.py`; each document by that of `answer_reading.py` and by `bee
            check`, and its verdict beside all assignments
+  hints    the same of the same refutation with hints (LRAT), which the document has
 BEE names another program that is tried. Wants python3 and cadical."""
 import re, subprocess
 
 from answer_reading import Answer, Compiled, Refused
 from clause_search import Search
 from fuzz_changes import CHANGES
-from found_reading import found
+from found_reading import better, found
 from ledger_reading import Compilation, Steps
+from lrat_reading import with_hints
 from small_models import KINDS, Maker
 from trials import tried, want
 
@@ -89,6 +91,16 @@ def compare_found(trial, path, text, changed="nothing"):
     return wanted
 
 
+def hints_of(trial, path, said, values, whole):
+    """What was found, with the refutation that the document has in the place of cadical's; none where it has none."""
+    _, answer = trial.run("certify", path, trial.path("second", whole))
+    more = []
+    if values and trial.model.objectives:
+        more = better(trial.model, trial.compiled, int(said.split(" ")[2]))
+    proof = with_hints(answer, len(trial.compiled.clauses), len(more))
+    return (values or b"") + proof if proof else None
+
+
 def make(trial):
     kinds, draws = list(KINDS), 0
     while True:
@@ -105,7 +117,11 @@ def make(trial):
     said = compare_found(trial, path, whole)
     want(said.startswith("ACCEPTED"), f"{said} of what cadical found")
     trial.counts[said.split(" ")[1]] += 1
-    for text in [whole, *([values, proof] if values and proof else [])]:
+    hinted = hints_of(trial, path, said, values, whole)
+    if hinted:
+        same = compare_found(trial, path, hinted, "form")
+        want(same == said, f"{same} with hints, {said} without")
+    for text in [whole, *([values, proof] if values and proof else []), *([hinted] if hinted else [])]:
         compare_found(trial, path, text, "part")
         for change in CHANGES:
             compare_found(trial, path, change(trial.chance, text + b"\n" * (not re.search(b"\n", text))), change.__name__)

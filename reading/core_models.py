@@ -92,10 +92,12 @@ def make(trial):
     trial.counts[said.split(" ")[1]] += 1
     compare_changes(trial, path, whole)
     budget = trial.chance.randint(1, 4)
-    code, spent = trial.run("core", path, "--budget", str(budget), *["--no-restart"] * trial.chance.randint(0, 1), codes=(0, 8))
+    words = ["--budget", str(budget), *["--no-restart"] * trial.chance.randint(0, 1)]
+    code, spent = trial.run("core", path, *words, codes=(0, 8))
     said = compare_core(trial, path, spent)
     want(said.startswith("ACCEPTED"), f"the reading of what core wrote: {said}")
-    want(said == f"ACCEPTED UNKNOWN {budget}" if code else "UNKNOWN" not in said, f"{said} with the exit code {code} and the budget {budget}")
+    is_right = said == f"ACCEPTED UNKNOWN {budget}" if code else "UNKNOWN" not in said
+    want(is_right, f"{said} with the exit code {code} and the budget {budget}")
     compare_changes(trial, path, spent)
     trial.counts["UNKNOWN"] += code == 8
     if not trial.has_solution:
@@ -109,7 +111,8 @@ def compare_made(trial, path, core):
     ledger = wandered(trial.chance, Compilation(only(trial.model, core)), trial.chance.choice((2, 10, 40)))
     made = core_text(trial.chance, trial.model, core, ledger, witnesses_of(trial.model, core)[0])
     if made is not None:
-        want(compare_core(trial, path, made, "ledger").startswith("ACCEPTED"), "the reading refuses a text that was made")
+        is_taken = compare_core(trial, path, made, "ledger").startswith("ACCEPTED")
+        want(is_taken, "the reading refuses a text that was made")
         compare_changes(trial, path, made)
 
 

@@ -1,9 +1,11 @@
-"""Cores, as `docs/CORES.md` has them, with code of their own: their meaning and trimming. A core is a tuple of its form's name and its members."""
+"""Cores, as `docs/CORES.md` has them, with code of their own: their meaning and trimming. A core is a tuple of its
+form's name and its members."""
 import itertools
 
 from integers import Integer, is_true
 
-# What the members of each form are: I an integer, J a tuple of integers, a an atom, l a tuple of atoms, n what has no atoms.
+# What the members of each form are: I an integer, J a tuple of integers, a an atom, l a tuple of atoms, n what has no
+# atoms.
 FORMS = {
     "Ladder": "I",
     "Clause": "l",
@@ -83,7 +85,8 @@ def meets(core, true):
             return [is_true(atom, true) for atom in member]
         return is_true(member, true) if letter == "a" else member
 
-    return all(a.is_ordered(true) for a in integers(core)) and MEANINGS[core[0]](*(told(*each) for each in members(core)))
+    are_ordered = all(a.is_ordered(true) for a in integers(core))
+    return are_ordered and MEANINGS[core[0]](*(told(*each) for each in members(core)))
 
 
 def resolved(core, label):

@@ -1,8 +1,9 @@
 """Reads what another solver found about the clauses of a model, for `bee certify`, as `docs/FORMATS.md` has it, with
 code of its own."""
 from answer_reading import Refused, values
-from drup_reading import drup, words_of
+from drup_reading import words_of
 from integers import opposite
+from lrat_reading import refutation
 
 
 def better(model, compiled, value):
@@ -31,7 +32,7 @@ def found(model, compiled, text):
     """The words of the verdict that a text shows. Raises Refused with the first line that fails."""
     place, tells, front, rest = cut(text)
     if not tells:
-        drup(compiled.vars, compiled.clauses, text)
+        refutation(compiled.vars, compiled.clauses, text)
         return "UNSATISFIABLE"
     true = values(compiled, front)
     if not model.objectives:
@@ -40,7 +41,7 @@ def found(model, compiled, text):
         return "SATISFIABLE"
     value = compiled.names[model.objectives[0]].value(true)
     try:
-        drup(compiled.vars, compiled.clauses + better(model, compiled, value), rest)
+        refutation(compiled.vars, compiled.clauses + better(model, compiled, value), rest)
     except Refused as refused:
         raise Refused(place + refused.args[0]) from None
     return f"OPTIMUM {value}"

@@ -1,6 +1,6 @@
 #!/usr/bin/env python3
-"""Tries the program on small models, made at random: fuzz.py PROGRAM COUNT SEED FOLDER [PROCESSES [FIRST]]. What is compared with what stands in
-`fuzz.sh`. Each failure is told at once, and its texts are kept in FOLDER."""
+"""Tries the program on small models, made at random: fuzz.py PROGRAM COUNT SEED FOLDER [PROCESSES [FIRST]]. What is
+compared with what stands in `fuzz.sh`. Each failure is told at once, and its texts are kept in FOLDER."""
 import collections, multiprocessing, os, random, subprocess, sys
 
 sys.path.insert(0, os.path.dirname(os.path.abspath(__file__)))
@@ -83,16 +83,17 @@ class Trial:
         model = self.path("model", self.text.encode())
         budget = self.chance.randint(1, 4)
         words = ["--budget", str(budget)] + ["--no-restart"] * self.chance.randint(0, 1)
-        compiling, solving, giving_up = self.start("compile", model), self.start("solve", model), self.start("solve", model, *words)
+        compiling, solving = self.start("compile", model), self.start("solve", model)
+        giving_up = self.start("solve", model, *words)
         self.best = self.model.best(self.known) if self.model.objectives and self.known else None
         self.cnf_text = self.end(compiling)
         self.compare_clauses()
         self.compare_ledger()
         self.compare_answer(model, self.end(solving))
         spent = self.end(giving_up, (0, 8))
-        self.want((self.runs[giving_up[0]].returncode == 8) == spent.split(b"\n")[1].startswith(b"UNKNOWN"), "the exit code is that of another verdict")
-        if self.runs[giving_up[0]].returncode == 8:
-            self.want(spent.split(b"\n")[1] == b"UNKNOWN %d" % budget, "another budget")
+        is_spent, verdict = self.runs[giving_up[0]].returncode == 8, spent.split(b"\n")[1]
+        self.want(is_spent == verdict.startswith(b"UNKNOWN"), "the exit code is that of another verdict")
+        self.want(not is_spent or verdict == b"UNKNOWN %d" % budget, "another budget")
         self.compare_answer(model, spent)
         self.compare_documents(model)
         self.compare_all()
@@ -112,7 +113,8 @@ class Trial:
         self.compiled = Compiled(self.cnf_text)
         self.want(list(self.compiled.names) == list(self.model.domains), "other names")
         found = Search(self.compiled, self.chance).solutions()
-        self.want(set(found) == {tuple(s) for s in self.known}, f"compiled: {sorted(found)}, known: {sorted(self.known)}")
+        known = {tuple(s) for s in self.known}
+        self.want(set(found) == known, f"compiled: {sorted(found)}, known: {sorted(known)}")
         self.counts["solutions"] += len(found)
         if found:
             self.compare_values(self.chance.choice(list(found.values())))
@@ -123,7 +125,8 @@ class Trial:
         if self.chance.random() < 0.5:
             self.chance.shuffle(literals)
         cut = self.chance.randint(0, len(literals))
-        lines = ["c found", "s SATISFIABLE", " ".join(map(str, ["v", *literals[:cut]])), " ".join(map(str, ["v", *literals[cut:], 0]))]
+        parts = [["v", *literals[:cut]], ["v", *literals[cut:], 0]]
+        lines = ["c found", "s SATISFIABLE", *(" ".join(map(str, part)) for part in parts)]
         text = ("\n".join(lines) + "\n").encode()
         self.compare_decoding(cnf, text, True)
         for change in CHANGES:
@@ -133,7 +136,8 @@ class Trial:
         try:
             true = values(self.compiled, text)
             shown = {True: "true", False: "false"}
-            wanted = "".join(f"{name} = {shown[v] if isinstance(v, bool) else v}\n" for name, v in self.compiled.told(true))
+            told = self.compiled.told(true)
+            wanted = "".join(f"{name} = {shown[v] if isinstance(v, bool) else v}\n" for name, v in told)
             self.counts["values taken"] += 1
         except Refused as refused:
             self.want(not whole, "the reading refuses values that it made")
@@ -161,9 +165,12 @@ class Trial:
             core = state.core(int(words[1]))
             self.counts[f"step {' '.join(words[:1] + words[2:3])} {core[0]}"] += 1
             if words[0] == "eq":
-                self.want(is_implied(core, *atom_words(words[3:])) is not False, f"line {place} of the ledger is not implied: {line!r}")
-        self.want(steps.cnf() == (self.compiled.vars, self.compiled.clauses), f"the clauses of the ledger are {steps.cnf()}")
-        self.want(all(steps.entry(name) == entry for name, entry in self.compiled.names.items()), "names stand for something else at the ledger's end")
+                is_shown = is_implied(core, *atom_words(words[3:])) is not False
+                self.want(is_shown, f"line {place} of the ledger is not implied: {line!r}")
+        are_same = steps.cnf() == (self.compiled.vars, self.compiled.clauses)
+        self.want(are_same, f"the clauses of the ledger are {steps.cnf()}")
+        are_kept = all(steps.entry(name) == entry for name, entry in self.compiled.names.items())
+        self.want(are_kept, "names stand for something else at the ledger's end")
 
     def compare_answer(self, model, text):
         """A document of `solve`, as it stands and with changes."""
@@ -173,7 +180,8 @@ class Trial:
         self.compare_changes(model, text, 2)
 
     def compare_documents(self, model):
-        """Documents that `solve` does not write: one behind the whole ledger of the compilation, and one behind a ledger of any steps."""
+        """Documents that `solve` does not write: one behind the whole ledger of the compilation, and one behind a
+        ledger of any steps."""
         wander = wandered(self.chance, self.compilation, self.chance.choice((2, 10, 40)))
         for kind, ledger in (("compiled", self.compiled.ledger), ("wandering", wander)):
             text = document(self.chance, self.compilation, self.model, ledger)

@@ -32,7 +32,8 @@ def one_number(chance, text):
         return one_byte(chance, text)
     told = chance.choice(numerals)
     value = int(told[0])
-    other = chance.choice((value + 1, value - 1, -value, chance.randint(-9, 30), int(chance.choice(numerals)[0]), 2**63, 99999999999999999999))
+    near = (value + 1, value - 1, -value, chance.randint(-9, 30), int(chance.choice(numerals)[0]))
+    other = chance.choice((*near, 2**63, 99999999999999999999))
     return text[: told.start()] + b"%d" % other + text[told.end() :]
 
 
@@ -127,8 +128,8 @@ def wandered(chance, compilation, most):
 
 
 def document(chance, compilation, model, ledger):
-    """A document with a ledger, which is valid: a refutation where the clauses are one, and else a search that was given up behind copies of clauses. None
-    where there is no clause."""
+    """A document with a ledger, which is valid: a refutation where the clauses are one, and else a search that was
+    given up behind copies of clauses. None where there is no clause."""
     state = compilation.first
     for line in ledger:
         state = compilation.step(state, line)

@@ -10,7 +10,8 @@ refused, is compared with the reading of this folder. The kinds:
   values   `bee decode` beside `answer_reading.py`
   drup     `bee drup` beside `drup_reading.py`
   found    `bee certify` beside `found_reading.py`
-BEE names another program that is tried. Wants python3, and cadical for the last three kinds."""
+  opb      `bee opbmodel` beside `opb_reading.py`: the text of the model, or the line and the kind of the fault
+BEE names another program that is tried. Wants python3, and cadical for `values`, `drup` and `found`."""
 import multiprocessing, random, subprocess, sys, tempfile
 
 from answer_reading import Answer, Compiled, Refused, values
@@ -21,18 +22,27 @@ from found_reading import found
 from ledger_reading import Compilation, Steps
 from list_reading import ListText
 from model_reading import model_of
+from opb_reading import count_of, fault, model, read
 from trials import program
 
 PIGEONS = "".join(f"new_int(p{i},1,3)\n" for i in range(4)) + "int_array_allDiff([p0,p1,p2,p3])\nsolve satisfy\n"
 TASKS = "new_int(first,1,3)\nnew_int(second,1,3)\nint_lt(first,second)\nsolve minimize second\n"
 TWO = "new_int(x,0,4)\nnew_int(y,-2,2)\nint_plus(x,y,2)\nint_neq(x,1)\nsolve maximize x then y\n"
-KNAPSACK = "new_bool(a)\nnew_bool(b)\nnew_bool(c)\nnew_int(u,0,12)\nbool_array_pb_leq([3,4,5],[a,b,c],8)\nbool_array_pb_eq([3,4,5],[a,b,c],u)\nsolve maximize u\n"
+THREE = "new_bool(a)\nnew_bool(b)\nnew_bool(c)\n"
+WORTH = "bool_array_pb_leq([3,4,5],[a,b,c],8)\nbool_array_pb_eq([3,4,5],[a,b,c],u)\n"
+KNAPSACK = f"{THREE}new_int(u,0,12)\n{WORTH}solve maximize u\n"
 LISTED = "new_int(x,[-3,0,7])\nnew_bool(b)\nbool2int(b,i)\nint_array_lin_neq([2,1],[x,i],0)\nsolve satisfy\n"
 BROKEN = "new_int(x,1,3)\nnew_bool(b)\nint_gt(x,1)\nint_lt(x,3)\nint_neq(x,2)\nbool_array_or([b,-b])\nsolve satisfy\n"
-CLAUSES = "new_bool(a)\nnew_bool(b)\nnew_bool(c)\n" + "".join(
+CLAUSES = THREE + "".join(
     f"bool_array_or([{x}a,{y}b,{z}c])\n" for x in ("", "-") for y in ("", "-") for z in ("", "-")
 ) + "solve satisfy\n"
 EMPTY = "solve satisfy\n"
+CADICAL = ("cadical", "-q", "--plain", "--no-binary")
+FILES = (
+    "* two of three\nmin: +3 x1 +2 x2 -4 ~x3 ;\n+1 x1 +1 x2 +1 ~x3 >= 2 ;\n+1 x1 +1 x3 <= 1 ;\n",
+    "+2 x1 -3 ~x2 +2 x1 = 1;\r\n* none\n>= 0 ;\n= -03 ;",
+    "",
+)
 MODELS = (PIGEONS, TASKS, TWO, KNAPSACK, LISTED, BROKEN, CLAUSES, EMPTY)
 
 
@@ -73,8 +83,11 @@ class Bases:
         for text in MODELS:
             cnf = self.run("compile", self.path(text.encode()))
             path, proof = self.path(cnf), f"{self.folder}/proof"
-            told = subprocess.run(["cadical", "-q", "--plain", "--no-binary", path, proof], capture_output=True, check=False)
+            told = subprocess.run([*CADICAL, path, proof], capture_output=True, check=False)
             yield text, cnf, path, told.stdout, open(proof, "rb").read() if told.returncode == 20 else None
+
+    def opb(self):
+        return [(None, None, text.encode()) for text in FILES]
 
     def values(self):
         return [(cnf, path, told) for _, cnf, path, told, proof in self.solved() if proof is None]
@@ -83,7 +96,8 @@ class Bases:
         return [(cnf, path, proof) for _, cnf, path, _, proof in self.solved() if proof is not None]
 
     def found(self):
-        """Values alone, a refutation alone, and of one objective the values of `bee solve` and a refutation of better ones."""
+        """Values alone, a refutation alone, and of one objective the values of `bee solve` and a refutation of better
+        ones."""
         for text, cnf, _, told, proof in self.solved():
             if "then" not in text and "minimize" not in text and "maximize" not in text:
                 yield (text, cnf), self.path(text.encode()), told if proof is None else proof
@@ -96,7 +110,7 @@ class Bases:
         while True:
             value = compiled.names[model.objectives[0]].value(values(compiled, told))
             asked, proof = self.path(self.run("bound", path, str(value))), f"{self.folder}/proof"
-            ran = subprocess.run(["cadical", "-q", "--plain", "--no-binary", asked, proof], capture_output=True, check=False)
+            ran = subprocess.run([*CADICAL, asked, proof], capture_output=True, check=False)
             if ran.returncode == 20:
                 return told + open(proof, "rb").read()
             told = ran.stdout
@@ -116,6 +130,8 @@ class Kept:
 
     def __init__(self, kind, source):
         self.kind = kind
+        if kind == "opb":
+            return
         if kind in ("values", "drup"):
             self.compiled = Compiled(source)
             return
@@ -146,8 +162,17 @@ class Kept:
     def found(self, text):
         return "ACCEPTED " + found(self.model, self.compiled, text)
 
+    def opb(self, text):
+        told = fault(text)
+        if told is not None:
+            return f"REFUSED: bee: model: {told}"
+        objective, constraints = read(text.decode("latin-1"))
+        return model(objective, constraints, count_of(objective, constraints))
+
     def told(self, ran):
         """What the program said: the document of `certify` by its verdict, as the reading has it."""
+        if self.kind == "opb":
+            return ran.stdout.decode() if ran.returncode == 0 else f"REFUSED: {ran.stderr.decode().strip()}"
         if ran.returncode == 0 and self.kind == "found":
             return self.answer(ran.stdout)
         if ran.returncode == 0 and self.kind == "values":
@@ -155,11 +180,20 @@ class Kept:
         return ran.stdout.decode().split("\n")[0]
 
 
-MODES = {"answer": "check", "list": "checkall", "core": "checkcore", "values": "decode", "drup": "drup", "found": "certify"}
+MODES = {
+    "answer": "check",
+    "list": "checkall",
+    "core": "checkcore",
+    "values": "decode",
+    "drup": "drup",
+    "found": "certify",
+    "opb": "opbmodel",
+}
 
 
 def compared(job):
-    """Texts beside what they are made of: how many were accepted and refused, and the first one of which two things are said."""
+    """Texts beside what they are made of: how many were accepted and refused, and the first one of which two things are
+    said."""
     program, kind, source, path, texts = job
     kept, counts = Kept(kind, source), [0, 0]
     with tempfile.NamedTemporaryFile() as second:
@@ -169,9 +203,10 @@ def compared(job):
             second.truncate()
             second.write(text)
             second.flush()
-            ran = subprocess.run([program, MODES[kind], path, second.name], capture_output=True, timeout=600, check=False)
-            told = kept.told(ran)
-            if told != wanted or ran.returncode != wanted.startswith("REFUSED"):
+            words = [program, MODES[kind], *[path] * (path is not None), second.name]
+            ran = subprocess.run(words, capture_output=True, timeout=600, check=False)
+            told, code = kept.told(ran), 3 if kind == "opb" else 1
+            if told != wanted or ran.returncode != code * wanted.startswith("REFUSED"):
                 return counts, f"{kind}, of {source!r}: {text!r}: {told!r} with {ran.returncode}, wanted {wanted!r}"
             counts[wanted.startswith("REFUSED")] += 1
     return counts, None
@@ -188,7 +223,8 @@ def jobs(program, kind, bases, times, chance):
     """Some texts a job: the text itself, its cuts, and as many changes as fall to it."""
     texts = list(getattr(bases, kind)())
     for source, path, text in texts:
-        tried = [text[:n] for n in range(len(text) + 1)] + [changed(chance, text) for _ in range(times // len(texts) + 1)]
+        tried = [text[:n] for n in range(len(text) + 1)]
+        tried += [changed(chance, text) for _ in range(times // len(texts) + 1)]
         for at in range(0, len(tried), 200):
             yield program, kind, source, path, tried[at : at + 200]
 

@@ -1,4 +1,5 @@
-"""Atoms and integers in the order encoding, as `docs/CORES.md` has them: `T`, `F`, or a literal, which is a number; a base with steps upwards."""
+"""Atoms and integers in the order encoding, as `docs/CORES.md` has them: `T`, `F`, or a literal, which is a number; a
+base with steps upwards."""
 import typing
 
 

@@ -1,4 +1,5 @@
-"""Lowers a model of `small_models.py`, and makes the steps of ledger lines, as `docs/CORES.md` has both, with code of its own."""
+"""Lowers a model of `small_models.py`, and makes the steps of ledger lines, as `docs/CORES.md` has both, with code of
+its own."""
 import re, typing
 
 from clause_reading import clauses, in_order
@@ -87,9 +88,13 @@ class Lowering:
         elif m := re.fullmatch("int_array_(?:sum_(.*)|plus)", name):
             self.sum(m[1] or "eq", [1] * len(args[0]), self.numbers(args[0]), self.number(args[1]))
         elif "Diff" in name:
-            self.differ(*args) if name.endswith("_reif") else self.add("AllDiff", self.numbers(args[0]), self.conditions(*args))
+            if name.endswith("_reif"):
+                self.differ(*args)
+            else:
+                self.add("AllDiff", self.numbers(args[0]), self.conditions(*args))
         elif m := re.fullmatch("(bool|int)_arrays_lex(Lt)?(_reif)?", name):
-            front, back = (tuple(map(boolean, self.truths(side))) if m[1] == "bool" else self.numbers(side) for side in args[:2])
+            read = (lambda side: tuple(map(boolean, self.truths(side)))) if m[1] == "bool" else self.numbers
+            front, back = (read(side) for side in args[:2])
             self.add("Lex", self.truth(args[2]) if m[3] else "T", bool(m[2]), front, back)
         else:
             self.arithmetic(name, args)
@@ -187,7 +192,8 @@ class Made(typing.NamedTuple):
 
 
 class State(typing.NamedTuple):
-    """A state of a compilation: the label of each variable from 1 on, the pending cores by their ids, how many ids there are, clauses, and bottom."""
+    """A state of a compilation: the label of each variable from 1 on, the pending cores by their ids, how many ids
+    there are, clauses, and bottom."""
 
     labels: tuple
     pending: dict
@@ -239,7 +245,8 @@ class State(typing.NamedTuple):
     def step(self, line):
         """The state behind a ledger line; none where something stands against it."""
         words = line.split(b" ")
-        if self.bottom or not re.fullmatch(rb"[1-9][0-9]*", (words[1:2] or [b""])[0]) or int(words[1]) not in self.pending:
+        name = (words[1:2] or [b""])[0]
+        if self.bottom or not re.fullmatch(rb"[1-9][0-9]*", name) or int(name) not in self.pending:
             return None
         number = int(words[1])
         if words == [b"split", words[1]]:

@@ -1,14 +1,8 @@
-"""Holds `bee opbmodel` and `bee opb` beside a second reading of pseudo-Boolean files, as `docs/FORMATS.md` has them, on small random files whose
-assignments are all tried. Usage: opb_reading.py [COUNT [SEED]]; BEE names the program. It tells each difference with its file, and how many there are."""
+"""Reads pseudo-Boolean files, as `docs/FORMATS.md` has them, with code of its own: what they say, the text of their
+model, their first fault, and their best assignments by trying all. Makes small ones at random."""
 import itertools
-import os
-import random
 import re
-import subprocess
-import sys
-import tempfile
 
-BEE = os.environ.get("BEE", "./bee")
 HOLDS = {">=": lambda a, b: a >= b, "<=": lambda a, b: a <= b, "=": lambda a, b: a == b}
 NAMES = {">=": "geq", "<=": "leq", "=": "eq"}
 
@@ -39,14 +33,21 @@ def read(text):
     return objective, constraints
 
 
+def count_of(objective, constraints):
+    """The greatest index of a file, and so the number of its variables."""
+    sums = [objective or [], *(it for it, _, _ in constraints)]
+    return max((index for it in sums for _, (index, _) in it), default=0)
+
+
 def total(sought, values):
     return sum(c for c, (index, positive) in sought if values[index - 1] == positive)
 
 
 def best(objective, constraints, count):
     """The assignments that satisfy a file, and the least cost where there is an objective."""
-    found = [v for v in itertools.product((False, True), repeat=count) if all(HOLDS[r](total(s, v), b) for s, r, b in constraints)]
-    return set(found), min((total(objective, v) for v in found), default=None) if objective is not None else None
+    every = itertools.product((False, True), repeat=count)
+    found = {v for v in every if all(HOLDS[r](total(s, v), b) for s, r, b in constraints)}
+    return found, None if objective is None else min((total(objective, v) for v in found), default=None)
 
 
 def model(objective, constraints, count):
@@ -63,6 +64,45 @@ def model(objective, constraints, count):
     return "\n".join(lines + ["solve satisfy" if objective is None else "solve minimize o"]) + "\n"
 
 
+# Which tokens fit where, and what fits next: N a number, L a literal, R a comparison.
+PLACES = {
+    "begin": {"min:": "sought", "N": "literal", "R": "bound"},
+    "sought": {"N": "sought literal", ";": "constraint"},
+    "sought literal": {"L": "sought"},
+    "constraint": {"N": "literal", "R": "bound"},
+    "literal": {"L": "terms"},
+    "terms": {"N": "literal", "R": "bound"},
+    "bound": {"N": "end"},
+    "end": {";": "constraint"},
+}
+KINDS = {"N": rb"[+-]?[0-9]+", "L": rb"~?x[1-9][0-9]*", "R": rb">=|<=|=", "min:": rb"min:", ";": rb";"}
+MOST, GREATEST_INDEX = 1_073_741_824, 1_000_000
+
+
+def places(text):
+    """The tokens of a file with their lines."""
+    for place, line in enumerate(text.split(b"\n"), 1):
+        if not line.startswith(b"*"):
+            yield from ((place, it) for it in re.findall(rb";|[^ \t\r;]+", line))
+
+
+def fault(text):
+    """The first fault of a file, as the program tells it, or none."""
+    at, sums = "begin", [0, 0]
+    for place, token in places(text):
+        fits = [kind for kind in PLACES[at] if re.fullmatch(KINDS[kind], token)]
+        if not fits:
+            return f"line {place}: syntax"
+        value = int(re.sub(rb"[~x]", b"", token)) if fits[0] in "NL" else 0
+        if at == "sought" and fits[0] == "N":
+            sums[value < 0] += abs(value)
+        if abs(value) > (GREATEST_INDEX if fits[0] == "L" else MOST) or max(sums) > MOST:
+            return f"line {place}: number"
+        at = PLACES[at][fits[0]]
+    last = text.count(b"\n") + 1
+    return None if at in ("begin", "constraint") else f"line {last}: syntax"
+
+
 def spelled(chance, sought):
     def number(c):
         return ("+" if c >= 0 and chance.random() < 0.7 else "") + str(c)
@@ -71,7 +111,8 @@ def spelled(chance, sought):
 
 
 def made(chance):
-    """A file at random: negative coefficients, negated and repeated literals, sums without a term, all three comparisons, comments and gaps."""
+    """A file at random: negative coefficients, negated and repeated literals, sums without a term, all three
+    comparisons, comments and gaps."""
     count = chance.randint(1, 7)
 
     def some():
@@ -86,50 +127,6 @@ def made(chance):
         sought = some()
         bound = total(sought, planted) + chance.choice((0, 0, 0, 0, 1, -1, 3, -3))
         lines.append(f"{spelled(chance, sought)} {chance.choice(('>=', '<=', '='))} {bound}{chance.choice((' ;', ';'))}")
-    return chance.choice(("\n", "\n", " ", "\n*\n", "\r\n")).join(lines) if not lines or lines[0][0] != "*" else "\n".join(lines)
-
-
-def run(words, **files):
-    with tempfile.TemporaryDirectory() as folder:
-        for name, text in files.items():
-            with open(f"{folder}/{name}", "w", newline="") as file:
-                file.write(text)
-        named = [f"{folder}/{word[1:]}" if word.startswith("@") else word for word in words]
-        return subprocess.run([BEE, *named], capture_output=True, text=True)
-
-
-def difference(text):
-    """What the program does otherwise than this reading, or nothing."""
-    objective, constraints = read(text)
-    count = max((index for s in [objective or [], *(s for s, _, _ in constraints)] for _, (index, _) in s), default=0)
-    wanted = model(objective, constraints, count)
-    written = run(["opbmodel", "@f"], f=text).stdout
-    if written != wanted:
-        return f"model: {written!r} for {wanted!r}"
-    answer = run(["opb", "@f"], f=text).stdout
-    checked = run(["check", "@m", "@a"], m=wanted, a=answer).stdout
-    solutions, least = best(objective, constraints, count)
-    verdict = "UNSATISFIABLE" if not solutions else "SATISFIABLE" if objective is None else f"OPTIMUM {least}"
-    if checked != f"ACCEPTED {verdict}\n":
-        return f"check: {checked!r} for {verdict}"
-    told = {name: value for name, value in re.findall(r"^(\w+) = (\S+)$", answer, re.M)}
-    values = tuple(told[f"x{i}"] == "true" for i in range(1, count + 1)) if solutions else None
-    if solutions and (values not in solutions or (objective is not None and (total(objective, values) != least or told["o"] != str(least)))):
-        return f"values: {told}"
-    return None
-
-
-def main(count="200", seed="1"):
-    differences = 0
-    for number in range(int(count)):
-        text = made(random.Random(f"{seed} {number}"))
-        found = difference(text)
-        if found:
-            differences += 1
-            print(f"file {number}: {text!r}\n  {found}")
-    print(f"{count} files, {differences} differences")
-    return differences > 0
-
-
-if __name__ == "__main__":
-    sys.exit(main(*sys.argv[1:]))
+    if lines and lines[0][0] == "*":
+        return "\n".join(lines)
+    return chance.choice(("\n", "\n", " ", "\n*\n", "\r\n")).join(lines)

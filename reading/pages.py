@@ -45,7 +45,8 @@ def parts(text):
         elif line.startswith("```"):
             fence = [line[3:]]
         else:
-            kind = "block" if line.startswith("    ") and (not kept or kept[-1][0] != "text" or not kept[-1][2].endswith("-\n")) else "text"
+            is_list = bool(kept) and kept[-1][0] == "text" and kept[-1][2].endswith("-\n")
+            kind = "block" if line.startswith("    ") and not is_list else "text"
             if line.strip() or (kept and kept[-1][0] == "text"):
                 if not kept or kept[-1][0] != kind:
                     kept.append((kind, "", ""))
@@ -76,14 +77,21 @@ class Page:
             return
         trap = "trap 'echo \"code $? of $BASH_COMMAND\" >&2' ERR\nset -o errtrace\n"
         how = {**os.environ, "BEE": f"{self.folder}/crates/bee/out/bee"}
-        ran = subprocess.run(["bash", "-c", trap + script], cwd=self.folder, stdin=subprocess.DEVNULL, capture_output=True, text=True, env=how, timeout=1200)
+        called = {"cwd": self.folder, "stdin": subprocess.DEVNULL, "capture_output": True, "text": True, "env": how}
+        ran = subprocess.run(["bash", "-c", trap + script], timeout=1200, check=False, **called)
         self.count += 1
         self.printed = ran.stdout
         for line in ran.stderr.splitlines():
             code = re.match(r"code (\d+) of (.*)", line)
-            allowed = code and ((code[1] == "8" and "--budget" in script) or code[1] in ("10", "20", "30") or (code[1] == "1" and "grep" in code[2]))
-            if line.startswith("usage:") or (code and not allowed) or "command not found" in line or "No such file" in line:
+            failed = code and not self.is_allowed(code[1], code[2], script)
+            if failed or re.match(r"usage:", line) or re.search(r"command not found|No such file", line):
                 self.fault(f"{line} in\n{script}")
+
+    @staticmethod
+    def is_allowed(code, command, script):
+        """Whether a command of a script may end with this code."""
+        is_told = code == "8" and "--budget" in script or code == "1" and "grep" in command
+        return is_told or code in ("10", "20", "30")
 
     def compare_line(self, said):
         """The first line that was printed is what the page says, or the last one."""
@@ -92,8 +100,10 @@ class Page:
             self.fault(f"printed {lines[-1]!r}, and the page says {said!r}")
 
     def compare_announced(self, before):
-        """Each line that the text before a block says is printed is one of those that were, where the text leads to the block."""
-        for said in re.findall(r"\bprints `([^`]+)`", before.strip().split("\n\n")[-1]) if before.rstrip().endswith((":", ",")) else []:
+        """Each line that the text before a block says is printed is one of those that were, where its last sentence
+        leads to the block."""
+        leads, sentence = before.rstrip().endswith((":", ",")), re.split(r"\.\s", before.strip())[-1]
+        for said in re.findall(r"\bprints `([^`]+)`", sentence) if leads else []:
             if self.printed is not None and said not in self.printed.splitlines():
                 self.fault(f"printed {self.printed[:300]!r}, and the page says {said!r}")
 
@@ -127,7 +137,8 @@ class Page:
         """The commands in the text."""
         for script in re.findall(r"`([^`]+)`", text):
             script = " ".join(script.split())
-            if re.match(rf"(\./bee|{'|'.join(SOLVERS)}) \S", script) and not re.search(OWN, script) and "problem" not in script and ".." not in script:
+            is_command = re.match(rf"(\./bee \w+|{'|'.join(SOLVERS)}) \S", script) and not re.search(OWN, script)
+            if is_command and "problem" not in script and ".." not in script:
                 self.run(script)
 
     def go(self):
@@ -162,7 +173,8 @@ class Page:
                 self.solve(content)
             before = content if kind == "text" else before if commands else ""
             kind_before = "commands" if commands else kind
-        print(f"{self.name}: {self.count} scripts were run, {self.faults} faults" + (f"; not there: {', '.join(sorted(self.missing))}" if self.missing else ""), flush=True)
+        missing = f"; not there: {', '.join(sorted(self.missing))}" if self.missing else ""
+        print(f"{self.name}: {self.count} scripts were run, {self.faults} faults{missing}", flush=True)
         return self.faults
 
 

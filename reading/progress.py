@@ -1,8 +1,10 @@
-"""progress.py [SECONDS [MARKS]]: what a long search told stays true and is kept when it is killed.
+"""progress.py [SECONDS [MARKS]]: what a search told is true, and is kept when it is killed.
 
 Seeks a shortest Golomb ruler with so many marks (11), with `--progress` and standard error in a file, and kills the program after so many
 seconds (3). Then each whole block of the file has a better length than the one before, and the values of each satisfy the model: the
 program that BEE names (`./bee` of this repository) answers the model with all names fixed to them with just this length as its optimum.
+Then a list of 16,384 solutions and a core of 45 statements among 85 are sought with the flag: the numbers told of solutions rise to that
+of the list, those of statements fall to that of the core, each question is told, and what is written is what stands without the flag.
 Without the flag, nothing is on standard error."""
 import os
 import re
@@ -12,6 +14,8 @@ import tempfile
 import time
 
 PROGRAM = os.environ.get("BEE", os.path.join(os.path.dirname(os.path.abspath(__file__)), "..", "bee"))
+LISTED = re.compile(r"bee: (\d+) solutions, (\d+) clauses learned")
+LEFT = re.compile(r"bee: (\d+) statements left, (\d+) questions asked")
 HEAD = re.compile(r"bee: best (-?\d+), (\d+) clauses learned")
 COUNT = re.compile(r"bee: (\d+) clauses learned")
 VALUE = re.compile(r"(\w+) = (-?\d+)")
@@ -27,14 +31,31 @@ def ruler(marks):
     return lines + [f"int_array_allDiff([{','.join(names)}])"], names
 
 
-def run(words, text, seconds=None):
+def switches(count):
+    """A model of so many Booleans, which are free."""
+    return "".join(f"new_bool(b{i})\n" for i in range(count)) + "solve satisfy\n"
+
+
+def pigeons(holes, loose):
+    """A model of one pigeon more than there are holes, behind so many clauses of other names."""
+    text = "".join(f"new_bool(c{i})\n" for i in range(loose + 1))
+    text += "".join(f"bool_array_or([c{i},-c{i + 1}])\n" for i in range(loose))
+    seats = [[f"p{i}_{j}" for j in range(holes)] for i in range(holes + 1)]
+    text += "".join(f"new_bool({name})\n" for row in seats for name in row)
+    text += "".join(f"bool_array_or([{','.join(row)}])\n" for row in seats)
+    for column in zip(*seats):
+        text += "".join(f"bool_array_or([-{one},-{other}])\n" for k, one in enumerate(column) for other in column[:k])
+    return text + "solve satisfy\n"
+
+
+def run(words, text, seconds=None, mode="solve"):
     """What the program writes, on both streams, for a model; killed after so many seconds."""
     with tempfile.TemporaryDirectory() as folder:
         model, log = os.path.join(folder, "m.bee"), os.path.join(folder, "log")
         with open(model, "w") as file:
             file.write(text)
         with open(log, "wb") as told:
-            child = subprocess.Popen([PROGRAM, "solve", model, *words], stdout=subprocess.PIPE, stderr=told)
+            child = subprocess.Popen([PROGRAM, mode, model, *words], stdout=subprocess.PIPE, stderr=told)
             if seconds is not None:
                 time.sleep(seconds)
                 child.kill()
@@ -63,6 +84,32 @@ def blocks(told, names):
     return found
 
 
+def numbers(mode, text, form):
+    """The number behind the first word of what a mode writes, and what it told with the flag, by its form."""
+    written, told = run(["--progress"], text, mode=mode)
+    plain, silence = run([], text, mode=mode)
+    assert written == plain and silence == "", silence
+    lines = [line for line in told.split("\n")[:-1] if not COUNT.fullmatch(line)]
+    return int(written.split("\n")[1].split()[1]), [tuple(map(int, form.fullmatch(line).groups())) for line in lines]
+
+
+def listed():
+    """A list: the numbers of solutions rise to its own."""
+    count, told = numbers("all", switches(14), LISTED)
+    found = [solutions for solutions, _ in told]
+    assert found == [*range(1000, count, 1000), count] and count == 1 << 14, (count, found)
+    print(f"{count} solutions, told {len(found)} times")
+
+
+def part():
+    """A core: the numbers of statements fall to its own, and each question is told."""
+    count, told = numbers("core", pigeons(4, 40), LEFT)
+    left = [statements for statements, _ in told]
+    assert left == sorted(left, reverse=True) and left[-1] == count == 45, (count, left)
+    assert [asked for _, asked in told] == list(range(1, len(told) + 1)), told
+    print(f"a core of {count} statements of {left[0]}, {len(told)} questions")
+
+
 def main(seconds="3", marks="11"):
     lines, names = ruler(int(marks))
     goal = f"solve minimize {names[int(marks) - 2]}\n"
@@ -78,6 +125,8 @@ def main(seconds="3", marks="11"):
         assert answer.split("\n")[1] == f"OPTIMUM {length}", (length, answer.split("\n")[:2])
         assert silence == "", silence
     print(f"{len(found)} blocks, lengths {lengths}: each a solution, each better than the one before")
+    listed()
+    part()
 
 
 if __name__ == "__main__":

@@ -71,8 +71,8 @@ def joined(lines):
 
 
 def list_text(chance, compilation, model, solutions, ledger):
-    """A valid list: ALL where the clauses of the ledger and the blocks of all solutions have a short refutation, and else PARTIAL with some of them.
-    None where there is no clause."""
+    """A valid list: ALL where the clauses of the ledger and the blocks of all solutions have a short refutation, and
+    else PARTIAL with some of them. None where there is no clause."""
     steps, listed = Steps(compilation), chance.sample(solutions, len(solutions))
     for line in ledger:
         steps.apply(line)
@@ -91,8 +91,9 @@ def list_text(chance, compilation, model, solutions, ledger):
 
 
 def core_text(chance, model, numbers, ledger, witnesses):
-    """A valid text of a core, these statements of the model: CORE where the clauses of the ledger have a short refutation, and else UNKNOWN. None where
-    there is no clause. Each statement has its witness, which is an assignment that meets the others."""
+    """A valid text of a core, these statements of the model: CORE where the clauses of the ledger have a short
+    refutation, and else UNKNOWN. None where there is no clause. Each statement has its witness, which is an assignment
+    that meets the others."""
     steps = Steps(Compilation(only(model, numbers)))
     for line in ledger:
         steps.apply(line)
@@ -106,4 +107,5 @@ def core_text(chance, model, numbers, ledger, witnesses):
         proof, behind = repeated(chance, variables, clauses), []
         verdict = f"UNKNOWN {len(proof)}"
     told = [f"statement {n}" for n in numbers]
-    return joined(["bee core 1", verdict, *told, "ledger", *(it.decode() for it in ledger), "proof", *proof, *behind, "end"])
+    lines = ["ledger", *(it.decode() for it in ledger), "proof", *proof, *behind, "end"]
+    return joined(["bee core 1", verdict, *told, *lines])

@@ -1,4 +1,5 @@
-"""The equations that the rules of `docs/CORES.md` state of a core, with code of their own: pairs of atoms, in either order. A core is trimmed."""
+"""The equations that the rules of `docs/CORES.md` state of a core, with code of their own: pairs of atoms, in either
+order. A core is trimmed."""
 import collections, functools
 
 from core_reading import integers, meets, variables
@@ -255,7 +256,8 @@ def stated(rule, core):
 
 @functools.lru_cache(20000)
 def truths(core):
-    """Of each literal, `T` and `F` in which of the valuations that meet a core it is true, as the digits of a number; nothing where the core has too many variables."""
+    """Of each literal, `T` and `F` in which of the valuations that meet a core it is true, as the digits of a number;
+    nothing where the core has too many variables."""
     names = variables(core)
     if len(names) > MOST:
         return {}
@@ -281,6 +283,7 @@ def is_instance(rule, core, a, b):
 
 
 def is_implied(core, a, b):
-    """Whether a core implies an equation, as far as its variables are few enough to try all; none where they are not."""
+    """Whether a core implies an equation, as far as its variables are few enough to try all; none where they are
+    not."""
     told = truths(core)
     return told[a] == told[b] if a in told and b in told else None

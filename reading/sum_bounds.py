@@ -1,6 +1,7 @@
 #!/usr/bin/env python3
-"""Tries which sums of two integers are compound, where that is near: sum_bounds.py PROGRAM FOLDER. A document that splits such a sum and then ends fails at its end where
-the sum is compound, and at its `split` where it is basic. It prints how many were tried, and each on which the program and `part_reading.py` differ."""
+"""Tries which sums of two integers are compound, where that is near: sum_bounds.py PROGRAM FOLDER. A document that
+splits such a sum and then ends fails at its end where the sum is compound, and at its `split` where it is basic. It
+prints how many were tried, and each on which the program and `part_reading.py` differ."""
 import os, random, subprocess, sys
 
 sys.path.insert(0, os.path.dirname(os.path.abspath(__file__)))
@@ -46,7 +47,8 @@ def main():
         if told != (b"REFUSED 4\n" if basic else b"REFUSED 5\n"):
             differences += 1
             print(f"split of a sum: {told!r}, where it is {'basic' if basic else 'compound'}: {values}", flush=True)
-    print(f"{tried} sums of two integers, {nears} of them near, {compounds} compound: {differences} differences", flush=True)
+    told = f"{tried} sums of two integers, {nears} of them near, {compounds} compound"
+    print(f"{told}: {differences} differences", flush=True)
     sys.exit(1 if differences else 0)
 
 

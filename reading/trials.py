@@ -40,18 +40,20 @@ class Trial:
         return path
 
     def run(self, *words, codes=(0,)):
-        """The exit code, and what was written; on standard error something stands where the code is above 1, and nothing where it is
-        0 or 8. Why a line is refused some modes tell there, and others don't."""
+        """The exit code, and what was written; on standard error, which is kept, something stands where the code is
+        above 1, and nothing where it is 0 or 8. Why a line is refused some modes tell there, and others don't."""
         ran = subprocess.run([self.program, *words], stdin=subprocess.DEVNULL, capture_output=True, timeout=600)
         self.counts["runs"] += 1
-        want(ran.returncode in codes, f"{words[0]} ended with {ran.returncode}: {ran.stderr[-300:]!r}")
-        want(ran.returncode == 1 or bool(ran.stderr) == (ran.returncode not in (0, 8)), f"{words[0]} wrote on standard error: {ran.stderr[:300]!r}")
-        return ran.returncode, ran.stdout
+        code, self.told = ran.returncode, ran.stderr.decode()
+        want(code in codes, f"{words[0]} ended with {code}: {self.told[-300:]!r}")
+        want(code == 1 or bool(self.told) == (code not in (0, 8)), f"{words[0]} told {self.told[:300]!r}")
+        return code, ran.stdout
 
     def compare(self, mode, model, text, wanted, changed="nothing"):
         """What a checking mode says of a text, beside what the reading says."""
         code, told = self.run(mode, model, self.path("second", text), codes=(0, 1))
-        want(told.decode() == wanted + "\n" and code == wanted.startswith("REFUSED"), f"{mode}: {told!r} and {code}, wanted {wanted!r}")
+        is_told = told.decode() == wanted + "\n" and code == wanted.startswith("REFUSED")
+        want(is_told, f"{mode}: {told!r} and {code}, wanted {wanted!r}")
         self.counts[f"{mode}, {changed.replace('_', ' ')} changed, {wanted.split(' ')[0].lower()}"] += 1
 
 
@@ -72,7 +74,8 @@ def attempt(job):
 
 def tried(make, count):
     """Tries models: SCRIPT [COUNT [SEED [PROCESSES [FIRST]]]]. Ends with 1 where there was a difference."""
-    count, seed, processes, first = (int(word) for word in sys.argv[1:5] + [str(count), "1", "3", "0"][len(sys.argv) - 1 :])
+    words = sys.argv[1:5]
+    count, seed, processes, first = (int(word) for word in words + [str(count), "1", "3", "0"][len(words) :])
     folder = tempfile.mkdtemp()
     jobs = [(make, program(), folder, seed, index) for index in range(first, first + count)]
     counts, failures = collections.Counter(), 0

@@ -1,11 +1,12 @@
 #!/usr/bin/env bash
-# cubes.sh CLAUSES JOBS VARIABLE..: refutes clauses in parts, side by side, and writes one proof of all on standard output.
+# cubes.sh CLAUSES JOBS VARIABLE..: refutes clauses in parts, side by side, and writes one proof of all on standard
+# output.
 #
-# The variables' values split the clauses into cubes, two for each variable. GNU parallel hands these to so many workers at a time;
-# with `--sshloginfile` in PARALLEL the same line runs on many machines that share this folder. A worker is not believed: what it
-# writes is lines of a proof (DRUP), and behind the clauses of each line stand the cube's negated literals, so that they follow
-# without the cube. `bee drup CLAUSES PROOF` checks the whole. It fails where the clauses of a cube have values that satisfy them;
-# the solver's output for that cube is then told.
+# The variables' values split the clauses into cubes, two for each variable. GNU parallel hands these to so many workers
+# at a time; with `--sshloginfile` in PARALLEL the same line runs on many machines that share this folder. A worker is
+# not believed: what it writes is lines of a proof (DRUP), and behind the clauses of each line stand the cube's negated
+# literals, so that they follow without the cube. `bee drup CLAUSES PROOF` checks the whole. It fails where the clauses
+# of a cube have values that satisfy them; the solver's output for that cube is then told.
 #
 # Wants cadical, GNU parallel and awk.
 set -eu

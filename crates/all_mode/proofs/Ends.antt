@@ -1,5 +1,5 @@
 -- What each end says in the mode of all solutions.
-use Rattle.std.proofs.Common.{◌≡◌, ℕ, ◌+◌, ◌<◌, ◌≤◌, List, length, inr, arith}
+use Rattle.std.proofs.Common.{ℕ, ◌+◌, ◌<◌, ◌≤◌, List, length, inr, arith}
 use Rattle.std.specs.Prelude.{Some}
 use Rattle.text_modes.specs.Seen.{Seen, Untouched}
 use Rattle.text_modes.specs.OneText.{OneTextRun}

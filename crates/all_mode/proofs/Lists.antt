@@ -1,34 +1,21 @@
 -- The text of a list is valid, and what it says is true.
-use Rattle.std.proofs.Common.{◌≡◌, ℕ, ◌≤◌, Bool, true, false, List, [], ◌∷◌, map, length, refl, sym, ap, ◌∙◌, subst, inl, inr}
+use Rattle.std.proofs.Common.{◌≡◌, ℕ, Bool, true, false, List, map, length, refl, sym, ap, ◌∙◌, subst, inl, inr}
 use Rattle.std.specs.Prelude.{if◌then◌else◌}
 use Rattle.bee_text.specs.Lines.{AreLines}
-use Rattle.bumblebee_reader.specs.Names.{AreDeclared}
 use Rattle.ledger_check.proofs.DocumentLines.{declared-lines}
 use Rattle.model_meaning.specs.declared.model.Decl.{Decl}
-use Rattle.model_meaning.specs.declared.model.Model.{Model}
-use Rattle.model_meaning.specs.WellTyped.{WellTyped}
-use Rattle.model_meaning.specs.Limits.{InLimits}
 use Rattle.text_modes.specs.declared.ends.Outcome.{Outcome}
-use Rattle.text_modes.specs.declared.ends.Outcome.TheVariants.{Done, Refused, Unknown}
-use Rattle.text_modes.specs.declared.ends.End.TheVariants.{Wrote}
-use Rattle.model_texts.specs.declared.fault.ModelFault.{ModelFault}
-use Rattle.model_texts.specs.ModelTexts.{HasFault}
-use Rattle.model_texts.specs.HeldModels.{HoldsModel}
 use Rattle.model_texts.proofs.ModelShapes.{typed, limited, names}
 use Rattle.model_texts.proofs.FaultOrModel.{FaultOrModel, fault_or_model}
-use Rattle.bee_compile.specs.Compiled.{IsInstance}
 use Rattle.search_options.specs.declared.options.SearchOptions.{SearchOptions as Options}
 use Rattle.solution_blocks.specs.Blocks.{numbers_in}
-use Rattle.list_text.specs.declared.verdict.ListVerdict.{ListVerdict}
 use Rattle.list_text.specs.declared.verdict.ListVerdict.TheVariants.{All, Partial}
-use Rattle.list_text.specs.declared.document.ListDoc.{ListDoc}
 use Rattle.list_text.specs.ListText.{additions_in, verdict_of, list_text}
-use Rattle.list_text.specs.Valid.{IsValidList, ListHolds}
+use Rattle.list_text.specs.Valid.{IsValidList}
 use Rattle.list_text.proofs.Truths.{list-law}
 use Rattle.list_text.specs.Laws.{WrittenLaw}
-use Rattle.list_answer.specs.ListAnswer.{IsListOf}
 use Rattle.list_answer.proofs.Concluded.{additions-same}
-use Rattle.all_mode.specs.Listed.{outcome_of, SaysVerdict, IsListText, ListsHeld, IsListed}
+use Rattle.all_mode.specs.Listed.{outcome_of, SaysVerdict, ListsHeld, IsListed}
 use Rattle.all_mode.specs.AllLaws.{ListsAreAccepted, AllAnswers}
 
 -- the verdict that the outcome tells
@@ -57,7 +44,7 @@ given-list written-law options text outcome written h =
 
 pub lists-accepted : ListsAreAccepted
 lists-accepted options text outcome written h =
-    record { model = h.lists.model; held = h.lists.held; verdict = h.verdict; listed = numbers_in h.lists.is.document.solutions; valid = h.valid }
+    record { model = h.lists.model; held = h.lists.held; verdict = h.verdict; valid = (numbers_in h.lists.is.document.solutions, h.valid) }
 
 pub all-answers : AllAnswers
 all-answers text no-fault none = by (fault_or_model text)

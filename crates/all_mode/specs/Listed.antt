@@ -9,7 +9,7 @@ use Rattle.solution_blocks.specs.Blocks.{numbers_in}
 use Rattle.list_text.specs.declared.verdict.ListVerdict.{ListVerdict}
 use Rattle.list_text.specs.declared.verdict.ListVerdict.TheVariants.{All, Partial}
 use Rattle.list_text.specs.declared.document.ListDoc.{ListDoc}
-use Rattle.list_text.specs.ListText.{verdict_of, list_text}
+use Rattle.list_text.specs.ListText.{list_text}
 use Rattle.list_text.specs.Valid.{IsValidList, ListHolds}
 use Rattle.list_answer.specs.ListAnswer.{IsListOf}
 use Rattle.text_modes.specs.declared.ends.Outcome.{Outcome}
@@ -41,8 +41,8 @@ SaysVerdict budget (Unknown b) count v = (b ≡ budget) × (v ≡ Partial count 
 SaysVerdict budget (Refused line) count v = ⊥
 
 -- The text that was read says a model, and the written text is a valid list of its solutions, with the verdict that the
--- outcome tells, and what it says is true: the listed assignments are solutions, none stands twice, and on ALL there are
--- no others.
+-- outcome tells, and what it says is true: the listed assignments are solutions, none stands twice, and on ALL there
+-- are no others.
 pub record IsListed (options : Options) (text : List ℕ) (outcome : Outcome) (written : List ℕ) : Type 0 where
   pub lists : ListsHeld options text outcome written
   pub verdict : ListVerdict

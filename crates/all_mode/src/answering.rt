@@ -10,6 +10,7 @@ ghost use Rattle.decode_minimize.specs.Answers.{IsBudget};
 ghost use Rattle.bee_compile.specs.Compiled.{IsInstance};
 ghost use Rattle.list_answer.specs.ListAnswer.{IsListOf};
 
+use all_solutions::ListWatcher;
 use decode_minimize::Options;
 use list_answer::list_all;
 use list_text::ListDoc;
@@ -22,11 +23,12 @@ use std::marker::Brand;
 use std::sync::ledger::{Blank, Ledger};
 
 /// The list of all solutions of a model, by all rules, with a counter of its own.
-fn list_with<L: Ledger>(
+fn list_with<L: Ledger, W: ListWatcher>(
     alloc: Global,
     blank: Blank,
     model: &Model,
     options: Options,
+    watcher: &mut W,
 ) -> Result<ListDoc, LowerFault>
     requires typed { WellTyped model.now }
     requires limits { InLimits model.now }
@@ -39,11 +41,16 @@ fn list_with<L: Ledger>(
     ensures heavy { IfErr result (λ e. IsFaultOf e model.now) }
 {
     let mut steps = Steps::<L>::open(blank);
-    list_all(alloc, model, options, TableP, &mut steps)
+    list_all(alloc, model, options, TableP, &mut steps, watcher)
 }
 
 /// The list of all solutions of a model, by all rules.
-pub fn list_model(alloc: Global, model: &Model, options: Options) -> Result<ListDoc, LowerFault>
+pub fn list_model<W: ListWatcher>(
+    alloc: Global,
+    model: &Model,
+    options: Options,
+    watcher: &mut W,
+) -> Result<ListDoc, LowerFault>
     requires typed { WellTyped model.now }
     requires limits { InLimits model.now }
     requires budget { IsBudget options.budget }
@@ -51,5 +58,5 @@ pub fn list_model(alloc: Global, model: &Model, options: Options) -> Result<List
     ensures list { IfOk result (λ d. (before after : ℕ) × IsListOf IsInstance model.now options d before after) }
     ensures heavy { IfErr result (λ e. IsFaultOf e model.now) }
 {
-    list_with::<Brand>(alloc, Blank::new(1), model, options)
+    list_with::<Brand, W>(alloc, Blank::new(1), model, options, watcher)
 }

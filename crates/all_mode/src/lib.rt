@@ -12,6 +12,7 @@
 //! lists solutions alone, each once. `Unknown(b)` comes only where the budget was spent on one
 //! search, and never where it is as great as a stated number of the model's size.
 //! `accepted_law`: what is written `checkall` accepts. `answer_law`: no text is without an answer.
+//! How far the list is goes to a watcher of the caller; no clause speaks of it.
 //!
 //! It is `solve_mode` with another text, but for the model, which is kept: each solution that a
 //! walk finds is tested against it.

@@ -4,21 +4,24 @@ ghost use Rattle.text_modes.specs.Seen.{seen, shelf_shown, sink_shown};
 ghost use Rattle.decode_minimize.specs.Answers.{IsBudget};
 ghost use Rattle.all_mode.specs.AllMode.{AllMode};
 
-use crate::making::all_text;
+use crate::making::told_text;
+use all_solutions::ListWatcher;
 use bee_outside::{Shelf, Sink};
 use decode_minimize::Options;
 use model_texts::{LONGEST_TEXT, ModelFault, ModelTextFault};
 use std::alloc::{AllocError, Global};
+use std::cell::RefCell;
 use std::marker::Model;
 use text_modes::{End, Made, OneText, run_one};
 
 /// The text of a model is read, and that of the list of its solutions is written.
 #[derive(Drop)]
-struct Listing {
+struct Listing<'a, W: ListWatcher> {
     options: Options,
+    watcher: &'a RefCell<W>,
 }
 
-impl Model for Listing {
+impl<'a, W: ListWatcher> Model for Listing<'a, W> {
     ghost use Rattle.decode_minimize.specs.Answers.{IsBudget};
     ghost use Rattle.search_options.specs.declared.options.SearchOptions.{SearchOptions as Options};
 
@@ -29,7 +32,7 @@ impl Model for Listing {
     ghost invariant = { λ s. IsBudget s.options.budget };
 }
 
-impl OneText for Listing {
+impl<W: ListWatcher> OneText for Listing<'_, W> {
     ghost use Rattle.std.specs.Prelude.{◌+◌, Some};
     ghost use Rattle.model_texts.specs.ModelTexts.{longest_text, HasFault};
     ghost use Rattle.all_mode.specs.Listed.{IsListed};
@@ -52,7 +55,7 @@ impl OneText for Listing {
 
     #[tactic(auto, using(crate::proofs::Ends::had_fault, crate::proofs::Ends::within_limit))]
     fn make(&self, alloc: Global, text: &[u8]) -> Result<Made<ModelFault>, AllocError> {
-        match all_text(alloc, text, self.options) {
+        match told_text(alloc, text, self.options, self.watcher) {
             Ok((outcome, written)) => Ok(Made::Text(outcome, written)),
             Err(ModelTextFault::Model(fault)) => Ok(Made::Fault(fault)),
             Err(ModelTextFault::Memory) => Err(AllocError),
@@ -61,17 +64,18 @@ impl OneText for Listing {
 }
 
 /// Reads the text of a model, lists its solutions, makes the whole text of the list, and then writes it. The end tells
-/// whether the budget was spent.
-pub fn list_solutions<S: Shelf, O: Sink>(
+/// whether the budget was spent. How far the list is, the watcher is told.
+pub fn list_solutions<S: Shelf, O: Sink, W: ListWatcher>(
     alloc: Global,
     input: &str,
     options: Options,
     shelf: &mut S,
     out: &mut O,
+    watcher: &RefCell<W>,
 ) -> End<ModelFault>
     requires { IsBudget options.budget }
     ensures { AllMode options input.now result (seen (shelf_shown S.left S.faults)
         (sink_shown O.taken O.flushed O.faults) shelf.old shelf.new out.old out.new) }
 {
-    run_one(alloc, &Listing { options }, input, shelf, out)
+    run_one(alloc, &Listing { options, watcher }, input, shelf, out)
 }

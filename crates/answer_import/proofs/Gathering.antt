@@ -1,11 +1,11 @@
 -- Lines before a refutation, gathered one after another.
-use Rattle.std.proofs.Common.{◌≡◌, ◌⊎◌, ℕ, ◌+◌, Bool, true, false, List, [], ◌∷◌, ◌++◌, codes, length, refl, sym, ap, subst, ◌∙◌, inl, inr, ⊎_elim, append_assoc, length-append, arith}
+use Rattle.std.proofs.Common.{◌≡◌, ◌⊎◌, ℕ, ◌+◌, Bool, true, false, List, [], ◌∷◌, ◌++◌, codes, refl, sym, ap, subst, ◌∙◌, inl, inr, ⊎_elim, append_assoc, length-append}
 use Rattle.bee_text.specs.Gaps.{words_of}
 use Rattle.bee_text.specs.Lines.{IsLine, join_lines}
 use Rattle.bee_text.proofs.LineLemmas.{join_lines-append}
 use Rattle.sat_front.specs.Closed.{closed}
 use Rattle.answer_import.specs.declared.cut.Front.{Front}
-use Rattle.answer_import.specs.Fronts.{IsComment, IsTelling, IsOther, AreBefore, AreComments, SomeTell, IsToldBy, BeginsOther, IsCut}
+use Rattle.answer_import.specs.Fronts.{IsComment, IsTelling, IsOther, AreBefore, AreComments, SomeTell, IsToldBy}
 use Rattle.answer_import.specs.Cutting.{pushed, IsBefore, Takes, IsGathered, IsCutTo, HasCut}
 
 -- a line by its first word

@@ -1,13 +1,11 @@
 -- What a text comes to, from what its parts come to.
-use Rattle.std.proofs.Common.{◌≡◌, ℕ, ◌+◌, Bool, true, false, List, [], ◌∷◌, ◌++◌, Option, Some, None, refl, sym, ap, subst, ◌∙◌, inl, inr}
+use Rattle.std.proofs.Common.{◌≡◌, ℕ, ◌+◌, Bool, true, false, List, [], ◌∷◌, ◌++◌, Option, Some, refl, sym, ap, subst, ◌∙◌, inl, inr}
 use Rattle.bee_text.specs.Lines.{join_lines}
-use Rattle.order_ints.specs.declared.cnf.Cnf.{Cnf}
 use Rattle.order_ints.specs.Numbers.{numbers_of}
 use Rattle.order_ints.specs.Truth.{valuation_of}
 use Rattle.model_meaning.specs.declared.model.Assignment.{Assignment}
 use Rattle.model_meaning.specs.declared.model.Goal.{Goal}
 use Rattle.model_meaning.specs.declared.model.Goal.TheVariants.{Satisfy, Minimize, Maximize}
-use Rattle.sat_front.specs.Closed.{closed}
 use Rattle.dimacs_read.specs.Values.{IsValues, ValuesFail}
 use Rattle.answer_document.specs.Valid.{numbers_given}
 use Rattle.answer_import.specs.declared.cut.Front.{Front}

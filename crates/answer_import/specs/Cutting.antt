@@ -1,5 +1,5 @@
 -- How the lines before a refutation are gathered.
-use Rattle.std.specs.Prelude.{◌≡◌, ◌⊎◌, ◌+◌, Bool, true, false, ℕ, List, [], ◌∷◌, ◌++◌, length}
+use Rattle.std.specs.Prelude.{◌≡◌, ◌+◌, Bool, true, false, ℕ, List, [], ◌∷◌, ◌++◌, length}
 use Rattle.bee_text.specs.Gaps.{words_of}
 use Rattle.bee_text.specs.Lines.{join_lines}
 use Rattle.sat_front.specs.Closed.{closed}

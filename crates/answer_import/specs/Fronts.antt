@@ -5,7 +5,7 @@
 --     any other line           begins the refutation
 --
 -- Words stand apart by blanks, tabs and carriage returns. The last line may lack its line feed.
-use Rattle.std.specs.Prelude.{◌≡◌, ◌⊎◌, Bool, true, false, ℕ, List, [], ◌∷◌, ◌++◌, length, codes}
+use Rattle.std.specs.Prelude.{◌≡◌, ◌⊎◌, Bool, true, false, ℕ, List, [], ◌∷◌, ◌++◌, codes}
 use Rattle.bee_text.specs.Gaps.{words_of}
 use Rattle.bee_text.specs.Lines.{IsLine, join_lines}
 use Rattle.sat_front.specs.Closed.{closed}

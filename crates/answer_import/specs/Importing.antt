@@ -3,16 +3,14 @@ use Rattle.std.specs.Prelude.{◌≡◌, ℕ, List}
 use Rattle.model_meaning.specs.declared.model.Model.{Model}
 use Rattle.bee_compile.specs.declared.compiled.Compiled.{Compiled}
 use Rattle.answer_document.specs.declared.document.Document.{Document}
-use Rattle.answer_document.specs.declared.verdict.Verdict.{Verdict}
 use Rattle.answer_document.specs.DocumentText.{document_text}
 use Rattle.ledger_check.specs.Checked.{IsAnswer}
 use Rattle.answer_import.specs.Imports.{Sought}
 
--- a text is that of a document, and a valid answer with the verdict that it tells
+-- a text is that of a document, and a valid answer with its verdict
 pub record IsWrittenFor (model : Model) (document : Document) (text : List ℕ) : Type 0 where
   pub spelled : text ≡ document_text model.decls model.goal document
-  pub told : Verdict
-  pub answer : IsAnswer model text told
+  pub answer : IsAnswer model text document.verdict
 
 -- what is sought of a model that is compiled
 abbrev pub sought_of : Model → Compiled → Sought

@@ -1,5 +1,5 @@
 -- What another solver's text shows of a model that is compiled, and the first line that fails.
-use Rattle.std.specs.Prelude.{◌≡◌, ◌≢◌, ◌⊎◌, ℕ, ◌+◌, Bool, true, false, List, [], ◌++◌, length, ℤ, pos}
+use Rattle.std.specs.Prelude.{◌≡◌, ◌≢◌, ◌⊎◌, ℕ, ◌+◌, Bool, true, false, List, [], length, ℤ}
 use Rattle.std.specs.Prelude.{Option, None, Some}
 use Rattle.bee_text.specs.Lines.{join_lines}
 use Rattle.order_ints.specs.declared.cnf.Cnf.{Cnf}
@@ -7,12 +7,11 @@ use Rattle.order_ints.specs.declared.order_int.MapValue.{MapValue}
 use Rattle.order_ints.specs.Numbers.{numbers_of}
 use Rattle.order_ints.specs.Truth.{valuation_of}
 use Rattle.model_meaning.specs.declared.model.Goal.{Goal}
-use Rattle.model_meaning.specs.declared.model.Goal.TheVariants.{Satisfy, Minimize, Maximize}
+use Rattle.model_meaning.specs.declared.model.Goal.TheVariants.{Satisfy}
 use Rattle.model_meaning.specs.declared.model.Model.{Model}
 use Rattle.sat_front.specs.Closed.{closed}
 use Rattle.dimacs_read.specs.Values.{IsValues, ValuesFail}
-use Rattle.drup_check.specs.DrupLines.{IsDrup, DrupFails}
-use Rattle.answer_document.specs.declared.verdict.Bounds.{Bounds}
+use Rattle.proof_import.specs.Refutations.{IsRefutation, RefutationFails}
 use Rattle.answer_document.specs.declared.verdict.Verdict.{Verdict}
 use Rattle.answer_document.specs.declared.verdict.Verdict.TheVariants.{Satisfiable, Unsatisfiable, Optimum}
 use Rattle.answer_document.specs.declared.document.Document.{Document}
@@ -40,13 +39,13 @@ better_cnf s values = with_atom s.cnf (better_than s.goal s.entries (value_at s.
 -- clauses and that the objective is better.
 abbrev pub ShowsBehind : Sought → List Bool → List ℕ → Goal → Verdict → Type 0
 ShowsBehind s values rest Satisfy v = (closed rest ≡ []) × (v ≡ Satisfiable)
-ShowsBehind s values rest goal v = IsDrup (better_cnf s values) rest
+ShowsBehind s values rest goal v = IsRefutation (better_cnf s values) rest
     × (v ≡ Optimum (record { first = value_at s.goal s.entries values; second = None }))
 
 -- Line k of what stands behind values is the first that fails.
 abbrev pub FailsBehind : Sought → List Bool → List ℕ → Goal → ℕ → Type 0
 FailsBehind s values rest Satisfy k = (closed rest ≢ []) × (k ≡ 1)
-FailsBehind s values rest goal k = DrupFails (better_cnf s values) rest k
+FailsBehind s values rest goal k = RefutationFails (better_cnf s values) rest k
 
 -- values, which are those of the assignment that is given, and what stands behind them show a verdict
 pub record ShowsValues (s : Sought) (front rest : List ℕ) (v : Verdict) (given : Option (List ℤ)) : Type 0 where
@@ -65,11 +64,11 @@ pub record FailsPast (s : Sought) (front rest : List ℕ) (lines line : ℕ) : T
 
 -- a refutation alone, or behind values
 abbrev pub ShowsFrom : Bool → Sought → List ℕ → List (List ℕ) → List ℕ → Verdict → Option (List ℤ) → Type 0
-ShowsFrom false s text lines rest v given = IsDrup s.cnf text × (v ≡ Unsatisfiable) × (given ≡ None)
+ShowsFrom false s text lines rest v given = IsRefutation s.cnf text × (v ≡ Unsatisfiable) × (given ≡ None)
 ShowsFrom true s text lines rest v given = ShowsValues s (join_lines lines) rest v given
 
 abbrev pub FailsFrom : Bool → Sought → List ℕ → List (List ℕ) → List ℕ → ℕ → Type 0
-FailsFrom false s text lines rest line = DrupFails s.cnf text line
+FailsFrom false s text lines rest line = RefutationFails s.cnf text line
 FailsFrom true s text lines rest line = ValuesFail s.cnf (join_lines lines) line
     ⊎ FailsPast s (join_lines lines) rest (length lines) line
 
@@ -96,11 +95,10 @@ abbrev pub IsFound : Sought → List ℕ → Found → Type 0
 IsFound s text (found.Shown v a proof) = TextShows s text v (numbers_given a)
 IsFound s text (found.Refused line) = TextFails s text line
 
--- The bytes are a valid answer to the model, and the verdict that they tell is true; and they are the text of a document
--- whose verdict is what the text shows, with the numbers of the values that it tells.
+-- The bytes are a valid answer to the model with a verdict that the text shows, and what they say is true; and they are
+-- the text of a document with this verdict, with the numbers of the values that the text tells.
 pub record IsImported (model : Model) (s : Sought) (text : List ℕ) (v : Verdict) (written : List ℕ) : Type 0 where
-  pub told : Verdict
-  pub answer : IsAnswer model written told
+  pub answer : IsAnswer model written v
   pub document : Document
   pub spelled : written ≡ document_text model.decls model.goal document
   pub verdict : document.verdict ≡ v

@@ -11,7 +11,7 @@ use Rattle.order_ints.specs.Truth.{valuation_of}
 use Rattle.model_meaning.specs.declared.model.Assignment.{Assignment}
 use Rattle.model_meaning.specs.declared.model.Goal.{Goal}
 use Rattle.model_decode.specs.Short.{AreShort}
-use Rattle.drup_check.specs.DrupLines.{IsDrup, DrupFails}
+use Rattle.proof_import.specs.Refutations.{IsRefutation, RefutationFails}
 use Rattle.answer_document.specs.declared.verdict.Verdict.TheVariants.{Satisfiable, Unsatisfiable, Optimum}
 use Rattle.answer_document.specs.BoundAtoms.{integer_named}
 use Rattle.answer_document.specs.Valid.{numbers_given}
@@ -44,9 +44,9 @@ IsFoundBehind s values rest lines found = FoundFor s values rest lines s.goal fo
 
 -- where the objective is better than under the values, with this assignment
 abbrev pub IsFoundBest : Sought → List Bool → List ℕ → ℕ → Assignment → Found → Type 0
-IsFoundBest s values rest lines given (Shown v a proof) = IsDrup (better_cnf s values) rest
+IsFoundBest s values rest lines given (Shown v a proof) = IsRefutation (better_cnf s values) rest
     × (v ≡ Optimum (record { first = value_at s.goal s.entries values; second = None })) × (a ≡ Some given)
-IsFoundBest s values rest lines given (Refused line) = (k : ℕ) × DrupFails (better_cnf s values) rest k
+IsFoundBest s values rest lines given (Refused line) = (k : ℕ) × RefutationFails (better_cnf s values) rest k
     × (line ≡ lines + k)
 
 -- where any solution is sought
@@ -56,5 +56,5 @@ IsFoundAlone rest lines given (Refused line) = (closed rest ≢ []) × (line ≡
 
 -- where no values are told
 abbrev pub IsFoundRefuted : Cnf → List ℕ → Found → Type 0
-IsFoundRefuted cnf text (Shown v a proof) = IsDrup cnf text × (v ≡ Unsatisfiable) × (a ≡ None)
-IsFoundRefuted cnf text (Refused line) = DrupFails cnf text line
+IsFoundRefuted cnf text (Shown v a proof) = IsRefutation cnf text × (v ≡ Unsatisfiable) × (a ≡ None)
+IsFoundRefuted cnf text (Refused line) = RefutationFails cnf text line

@@ -13,7 +13,7 @@ ghost use Rattle.answer_import.specs.Imports.{IsImport};
 ghost use Rattle.answer_import.specs.Importing.{IsWrittenFor, sought_of};
 
 use crate::judging::{Found, Task, judge};
-use answer_document::{Document, Verdict, write_document};
+use answer_document::{Bounds, Document, Verdict, write_document};
 use bee_compile::Compiled;
 use ledger_check::check;
 use model_meaning::{Assignment, Decl, Model};
@@ -38,6 +38,31 @@ fn has_numbers(decls: &[Decl], assignment: &Option<Assignment>) -> bool
     }
 }
 
+/// Whether two values of one objective each are the same.
+fn is_same_bounds(a: Bounds, b: Bounds) -> bool
+    ensures { IsTrue result → a ≡ b }
+{
+    if a.first != b.first {
+        return false;
+    }
+    match (a.second, b.second) {
+        (None, None) => true,
+        _ => false,
+    }
+}
+
+/// Whether two verdicts are the same, of those that a text can show.
+fn is_same(a: Verdict, b: Verdict) -> bool
+    ensures { IsTrue result → a ≡ b }
+{
+    match (a, b) {
+        (Verdict::Satisfiable, Verdict::Satisfiable) => true,
+        (Verdict::Unsatisfiable, Verdict::Unsatisfiable) => true,
+        (Verdict::Optimum(bounds), Verdict::Optimum(others)) => is_same_bounds(bounds, others),
+        _ => false,
+    }
+}
+
 /// The text of a document that the checker of answers takes. Want of memory is told, too, where the checker doesn't
 /// take it, or it hasn't a number for each name.
 fn written(alloc: Global, model: &Model, document: &Document) -> Result<Vec<u8>, AllocError>
@@ -54,7 +79,7 @@ fn written(alloc: Global, model: &Model, document: &Document) -> Result<Vec<u8>,
     let Ok(verdict) = check(alloc, model, text.as_slice()) else {
         return Err(AllocError);
     };
-    if verdict == document.verdict {
+    if is_same(verdict, document.verdict) {
         Ok(text)
     } else {
         Err(AllocError)

@@ -4,10 +4,11 @@
 //! or, where an objective is sought, with values and a refutation of the clauses and that it is
 //! better. Nothing of it is believed. The text is cut behind the last line that tells values
 //! (`cut.rt`); these are tested against the clauses (`dimacs_read`) and give the value of the
-//! objective; the refutation is checked and becomes a derivation with hints (`proof_import`). With
-//! the ledger of the compilation this is the document of an answer, and the whole document goes
-//! through `ledger_check` before it is given, so that its truth rests on the checker of answers
-//! alone (a certifying algorithm: McConnell, Mehlhorn, Naeher and Schweitzer, 2011).
+//! objective; the refutation, with hints or without, is checked and becomes a derivation
+//! (`proof_import`). With the ledger of the compilation this is the document of an answer, and the
+//! whole document goes through `ledger_check` before it is given, so that its truth rests on the
+//! checker of answers alone (a certifying algorithm: McConnell, Mehlhorn, Naeher and Schweitzer,
+//! 2011).
 //!
 //! What `import_answer` promises (`IsImport`): where it gives an answer, the bytes are a valid one
 //! to the model, whose verdict is true, and is what the text shows; where it gives a line, this is

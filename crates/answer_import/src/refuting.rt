@@ -3,16 +3,15 @@
 ghost use Rattle.std.specs.Prelude.{◌≤◌, ◌+◌, ◌^◌, IfOk, IfErr};
 ghost use Rattle.order_ints.specs.OrderedClauses.{ClausesAscend};
 ghost use Rattle.order_ints.specs.Place.{AtomBelow, InRange};
-ghost use Rattle.drup_check.specs.DrupLines.{IsDrup};
-ghost use Rattle.drup_check.specs.Taken.{DrupFaultOf};
 ghost use Rattle.objective_bound.specs.Bounds.{with_atom};
+ghost use Rattle.proof_import.specs.Refutations.{IsRefutation, RefutationFaultOf};
 
 use answer_document::with_atom;
 use bee_list::Sequence;
-use drup_check::{DrupFault, check_drup};
+use drup_check::DrupFault;
 use order_ints::{Atom, Cnf};
 use proof_check::ProofLine;
-use proof_import::import_drup;
+use proof_import::{check_refutation, import_refutation};
 use std::alloc::Global;
 
 /// Checks a refutation of clauses among which the empty one is, which needs no derivation.
@@ -24,15 +23,15 @@ fn refutation_of_false(
     requires few { cnf.vars ≤ 2 ^ 27 }
     requires in_range { InRange cnf }
     requires ascend { ClausesAscend cnf.clauses }
-    ensures accepted { IfOk result (λ _. IsDrup (with_atom cnf Atom.False) text.now) }
-    ensures fault { IfErr result (DrupFaultOf (with_atom cnf Atom.False) text.now) }
+    ensures accepted { IfOk result (λ _. IsRefutation (with_atom cnf Atom.False) text.now) }
+    ensures fault { IfErr result (RefutationFaultOf (with_atom cnf Atom.False) text.now) }
 {
     let Cnf { vars, clauses } = cnf;
     let whole = Cnf {
         vars,
         clauses: with_atom(alloc, clauses, Atom::False)?,
     };
-    check_drup(alloc, &whole, text)?;
+    check_refutation(alloc, &whole, text)?;
     Ok(Sequence::from_vec(Vec::new(alloc)))
 }
 
@@ -47,12 +46,12 @@ pub(crate) fn refutation(
     requires in_range { InRange cnf }
     requires ascend { ClausesAscend cnf.clauses }
     requires below { AtomBelow (cnf.vars + 1) atom }
-    ensures accepted { IfOk result (λ _. IsDrup (with_atom cnf atom) text.now) }
-    ensures fault { IfErr result (DrupFaultOf (with_atom cnf atom) text.now) }
+    ensures accepted { IfOk result (λ _. IsRefutation (with_atom cnf atom) text.now) }
+    ensures fault { IfErr result (RefutationFaultOf (with_atom cnf atom) text.now) }
 {
     match atom {
-        Atom::True => import_drup(alloc, &cnf, None, text),
+        Atom::True => import_refutation(alloc, &cnf, None, text),
         Atom::False => refutation_of_false(alloc, cnf, text),
-        Atom::Of(literal) => import_drup(alloc, &cnf, Some(literal), text),
+        Atom::Of(literal) => import_refutation(alloc, &cnf, Some(literal), text),
     }
 }

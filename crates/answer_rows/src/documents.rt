@@ -5,7 +5,8 @@ use std::test::Fail;
 
 /// Two Booleans of which each pair of values is excluded.
 const PAIRS: &str =
-    "new_bool(a) new_bool(b) bool_array_or([a,b]) bool_array_or([a,-b]) bool_array_or([-a,b]) bool_array_or([-a,-b]) solve satisfy";
+    "new_bool(a) new_bool(b) bool_array_or([a,b]) bool_array_or([a,-b]) bool_array_or([-a,b]) bool_array_or([-a,-b]) \
+    solve satisfy";
 
 const REFUTED: &str =
     "bee 1\nUNSATISFIABLE\nledger\nenc 1\nenc 2\nenc 3\nenc 4\nproof\n5 1 0 1 2 0\n6 0 5 3 4 0\nend\n";
@@ -47,7 +48,8 @@ static REFUTATIONS: [(&str, &str, &str); 12] = [
     ),
     (
         PAIRS,
-        "bee 1\nUNSATISFIABLE\nledger\nenc 99999999999999999999\nenc 2\nenc 3\nenc 4\nproof\n5 1 0 1 2 0\n6 0 5 3 4 0\nend\n",
+        "bee 1\nUNSATISFIABLE\nledger\nenc 99999999999999999999\nenc 2\nenc 3\nenc 4\nproof\n5 1 0 1 2 0\n\
+        6 0 5 3 4 0\nend\n",
         "4 Shape",
     ),
     (EMPTY, REFUTED, "5 Step(NoSuch(2))"),

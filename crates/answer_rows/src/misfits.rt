@@ -7,7 +7,8 @@ use std::test::Fail;
 
 /// Two Booleans of which each pair of values is excluded.
 const PAIRS: &str =
-    "new_bool(a) new_bool(b) bool_array_or([a,b]) bool_array_or([a,-b]) bool_array_or([-a,b]) bool_array_or([-a,-b]) solve satisfy";
+    "new_bool(a) new_bool(b) bool_array_or([a,b]) bool_array_or([a,-b]) bool_array_or([-a,b]) bool_array_or([-a,-b]) \
+    solve satisfy";
 
 /// The lines of the ledger, of which the first has the number 4.
 static LEDGERS: [(&str, &str); 20] = [
@@ -270,7 +271,8 @@ static VALUES: [(&str, &str, &str); 22] = [
 static OTHERS: [(&str, &str, &str); 7] = [
     // Of a ledger that ends before the compilation, the core of c is left.
     (
-        "new_bool(a) new_bool(b) bool_array_or([a,b]) bool_array_or([a,-b]) bool_array_or([-a,b]) bool_array_or([-a,-b]) new_bool(c) bool_array_or([a,c]) solve satisfy",
+        "new_bool(a) new_bool(b) bool_array_or([a,b]) bool_array_or([a,-b]) bool_array_or([-a,b]) \
+        bool_array_or([-a,-b]) new_bool(c) bool_array_or([a,c]) solve satisfy",
         "bee 1\nUNSATISFIABLE\nledger\nenc 1\nenc 2\nenc 3\nenc 4\nproof\n5 1 0 1 2 0\n6 0 5 3 4 0\nend\n",
         "Unsatisfiable",
     ),

@@ -35,7 +35,8 @@ struct Row {
 }
 
 const PAIRS: &str =
-    "new_bool(a) new_bool(b) bool_array_or([a,b]) bool_array_or([a,-b]) bool_array_or([-a,b]) bool_array_or([-a,-b]) solve satisfy";
+    "new_bool(a) new_bool(b) bool_array_or([a,b]) bool_array_or([a,-b]) bool_array_or([-a,b]) bool_array_or([-a,-b]) \
+    solve satisfy";
 
 /// All four clauses of it.
 const ENCODED: [Line; 4] = [
@@ -133,7 +134,8 @@ static REFUTATIONS: [Row; 4] = [
             Derived::Add(6, &[], &[5, 3, 4]),
         ],
         second: None,
-        text: "bee 1\nUNSATISFIABLE\nledger\nenc 1\nenc 2\nenc 3\nenc 4\nproof\n5 1 0 1 2 0\n5 d 2 1 0\n9 d 0\n6 0 5 3 4 0\nend\n",
+        text: "bee 1\nUNSATISFIABLE\nledger\nenc 1\nenc 2\nenc 3\nenc 4\nproof\n5 1 0 1 2 0\n5 d 2 1 0\n9 d 0\n\
+        6 0 5 3 4 0\nend\n",
         answer: "Unsatisfiable",
     },
     Row {
@@ -232,7 +234,8 @@ static BOUNDS: [Row; 6] = [
         ledger: &[Line::Encode { id: 1 }, Line::Encode { id: 2 }],
         proof: &[Derived::Add(3, &[1, -2], &[1])],
         second: Some(&[Derived::Add(4, &[-1], &[3])]),
-        text: "bee 2\nUNKNOWN 2\nbest 0 2\nx = 0\ny = 2\nledger\nenc 1\nenc 2\nproof\n3 1 -2 0 1 0\nsecond\n4 -1 0 3 0\nend\n",
+        text: "bee 2\nUNKNOWN 2\nbest 0 2\nx = 0\ny = 2\nledger\nenc 1\nenc 2\nproof\n3 1 -2 0 1 0\nsecond\n\
+        4 -1 0 3 0\nend\n",
         answer: "Unknown(2, Some(Bounds { first: 0, second: Some(2) }))",
     },
     // The greatest numbers, and lines of each kind.
@@ -264,7 +267,10 @@ static BOUNDS: [Row; 6] = [
         ],
         proof: &[Derived::Add(u64::MAX, &[-134_217_728, 1], &[i64::MIN, i64::MAX])],
         second: Some(&[Derived::Delete(1, &[u64::MAX])]),
-        text: "bee 2\nOPTIMUM -9223372036854775808 9223372036854775807\nx = -9223372036854775808\ny = 9223372036854775807\nledger\neq 18446744073709551615 order T -134217728\neq 0 table 1 F\nsplit 7\nproof\n18446744073709551615 -134217728 1 0 -9223372036854775808 9223372036854775807 0\nsecond\n1 d 18446744073709551615 0\nend\n",
+        text: "bee 2\nOPTIMUM -9223372036854775808 9223372036854775807\nx = -9223372036854775808\n\
+        y = 9223372036854775807\nledger\neq 18446744073709551615 order T -134217728\neq 0 table 1 F\nsplit 7\nproof\n\
+        18446744073709551615 -134217728 1 0 -9223372036854775808 9223372036854775807 0\nsecond\n\
+        1 d 18446744073709551615 0\nend\n",
         answer: "3 Value",
     },
 ];

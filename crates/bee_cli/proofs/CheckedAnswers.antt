@@ -24,8 +24,7 @@ solved_is_accepted options outcome texts h =
       model = answer.model;
       held = answer.held;
       verdict = d.verdict;
-      assignment = numbers_given d.assignment;
-      valid = subst (λ (t : List ℕ). IsValid answer.model t d.verdict (numbers_given d.assignment)) (sym answer.is.writes) answer.is.is.valid;
+      valid = (numbers_given d.assignment, subst (λ (t : List ℕ). IsValid answer.model t d.verdict (numbers_given d.assignment)) (sym answer.is.writes) answer.is.is.valid);
     }
 
 pub file_answer_is_accepted : FileAnswerIsAccepted
@@ -39,8 +38,7 @@ file_answer_is_accepted options outcome file texts m h =
       model = answer.model;
       held = record { within = within; says = subst (λ (n : Model). IsModelOf texts.first n) (sym model_is) m.says; light = answer.held.light };
       verdict = d.verdict;
-      assignment = numbers_given d.assignment;
-      valid = subst (λ (t : List ℕ). IsValid answer.model t d.verdict (numbers_given d.assignment)) (sym answer.is.writes) answer.is.is.valid;
+      valid = (numbers_given d.assignment, subst (λ (t : List ℕ). IsValid answer.model t d.verdict (numbers_given d.assignment)) (sym answer.is.writes) answer.is.is.valid);
     }
 
 version_not_end : Version ≡ End → ⊥
@@ -51,7 +49,7 @@ first_missing model = inr (record { number_is = refl; stands = start_standing mo
 
 pub empty_is_refused : EmptyIsRefused
 empty_is_refused texts h e =
-    let model = h.0.model in
-    let lines = declared-lines (map (λ (d : Decl). d.name) model.decls) (names texts.first model h.1.0.says) in
+    let model = h.0 in
+    let lines = declared-lines (map (λ (d : Decl). d.name) model.decls) (names texts.first model h.1.says) in
     let P : List ℕ → Type 0 = λ t. IsRefused model t 1 Shape in
-    record { model = model; held = h.1.0; why = Shape; refused = subst P (sym e) (first_fault_refused model lines [] 1 Shape (first_missing model)) }
+    record { model = model; held = h.1; fails = (Shape, subst P (sym e) (first_fault_refused model lines [] 1 Shape (first_missing model))) }

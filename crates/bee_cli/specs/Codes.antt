@@ -1,7 +1,8 @@
 -- The exit code of each status.
 use Rattle.std.specs.Prelude.{ℕ}
 use Rattle.bee_cli.specs.declared.status.Status.{Status}
-use Rattle.bee_cli.specs.declared.status.Status.TheVariants.{Done, Refused, Usage, Model, NoObjective, TwoObjectives, Read, Write, Memory, Unknown}
+use Rattle.bee_cli.specs.declared.status.Status.TheVariants.{Done, Refused, Usage, Model, NoObjective, TwoObjectives}
+use Rattle.bee_cli.specs.declared.status.Status.TheVariants.{Read, Write, Memory, Unknown}
 
 abbrev pub code_of : Status → ℕ
 code_of Done = 0

@@ -61,7 +61,8 @@ Obeys (Some (Opb input options)) status seen =
 Obeys (Some (All input options)) status seen = Ended model_fault (λ end. AllMode options.search input end seen) status
 Obeys (Some (CheckAll input second)) status seen = Ended model_fault (λ end. CheckAllMode input second end seen) status
 Obeys (Some (Core input options)) status seen = Ended model_fault (λ end. CoreMode options.search input end seen) status
-Obeys (Some (CheckCore input second)) status seen = Ended model_fault (λ end. CheckCoreMode input second end seen) status
+Obeys (Some (CheckCore input second)) status seen =
+    Ended model_fault (λ end. CheckCoreMode input second end seen) status
 Obeys (Some (Bound input number)) status seen = Ended bound_fault (λ end. BoundMode (pos number) input end seen) status
 Obeys (Some (Certify input second)) status seen = Ended certify_fault (λ end. CertifyMode input second end seen) status
 Obeys request status seen = Untouched seen

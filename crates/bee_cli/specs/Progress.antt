@@ -33,3 +33,14 @@ block_text decls goal a learned =
 -- the line of how many clauses were learned
 abbrev pub count_text : ℕ → List ℕ
 count_text learned = codes "bee: " ++ decimal learned ++ codes " clauses learned" ++ 10 ∷ []
+
+-- the line of how many solutions are listed, and how many clauses were learned
+abbrev pub list_text : ℕ → ℕ → List ℕ
+list_text count learned =
+    codes "bee: " ++ decimal count ++ codes " solutions, " ++ decimal learned ++ codes " clauses learned" ++ 10 ∷ []
+
+-- the line of how small a part without a solution is, and how many questions were asked
+abbrev pub part_text : ℕ → ℕ → List ℕ
+part_text left questions =
+    codes "bee: " ++ decimal left ++ codes " statements left, " ++ decimal questions ++ codes " questions asked" ++ 10
+    ∷ []

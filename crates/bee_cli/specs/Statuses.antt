@@ -13,7 +13,8 @@ use Rattle.certify_mode.specs.declared.fault.CertifyFault.TheVariants as certify
 use Rattle.bound_mode.specs.declared.fault.BoundFault.{BoundFault}
 use Rattle.bound_mode.specs.declared.fault.BoundFault.TheVariants as bound
 use Rattle.bee_cli.specs.declared.status.Status.{Status}
-use Rattle.bee_cli.specs.declared.status.Status.TheVariants.{Done, Refused, Model, NoObjective, TwoObjectives, Read, Write, Memory, Unknown}
+use Rattle.bee_cli.specs.declared.status.Status.TheVariants.{Done, Refused, Model, NoObjective, TwoObjectives}
+use Rattle.bee_cli.specs.declared.status.Status.TheVariants.{Read, Write, Memory, Unknown}
 
 -- of a run that wrote its text
 abbrev pub outcome_status : Outcome → Status

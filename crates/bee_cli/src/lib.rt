@@ -15,10 +15,10 @@
 //! mode.
 //!
 //! What is told while a search goes on (`Progress`) is told of solutions of the model alone: its `heard` is
-//! that, and each block is a stated text of one. That it is told, and when, has no clause, as the other
-//! lines on standard error; rows show them. Why a line is refused goes from its
-//! mode into a cell, and from there into words (`Reason`). A further mode is a case of
-//! `is_built`, `Obeys`, the statuses and `obey`.
+//! that, and each block is a stated text of one; of lists and cores numbers alone are told. That it is
+//! told, and when, has no clause, as the other lines on standard error; rows show them. Why a line is
+//! refused goes from its mode into a cell, and from there into words (`Reason`). A further mode is a case
+//! of `is_built`, `Obeys`, the statuses and `obey`.
 #![tactic(auto)]
 
 mod exit_code;

@@ -1,13 +1,15 @@
 //! What a search finds, told on the sink for errors while it goes on.
 
 ghost use Rattle.std.specs.Prelude.{◌≡◌, ◌∷◌, ◌++◌, length, IfOk, OnOk};
-ghost use Rattle.std.specs.Fmt.{signed_decimal};
+ghost use Rattle.std.specs.Fmt.{decimal, signed_decimal};
 ghost use Rattle.model_meaning.specs.Terms.{value_at};
-ghost use Rattle.bee_cli.specs.Progress.{objective_words, block_text, count_text};
+ghost use Rattle.bee_cli.specs.Progress.{objective_words, block_text, count_text, list_text, part_text};
 
+use all_solutions::ListWatcher;
 use answer_document::push_values;
 use bee_outside::{Sink, write_all};
 use bee_text::{push_blank, push_bytes, push_number, push_signed};
+use core_extract::CoreWatcher;
 use decode_minimize::SolutionWatcher;
 use model_meaning::{Assignment, Decl, Goal};
 use search_watcher::Watcher;
@@ -15,6 +17,9 @@ use std::alloc::{AllocError, Global};
 
 /// After how many learned clauses their number is told. It may be changed: no clause names it.
 const TOLD_EACH: u64 = 10_000;
+
+/// After how many solutions of a list their number is told. It may be changed: no clause names it.
+const LISTED_EACH: usize = 1_000;
 
 /// A watcher over a sink. Each block is made whole in memory, and then written and flushed; where memory is wanting for
 /// one, or the sink fails, it is silent from then on, and nothing else comes of that.
@@ -79,6 +84,30 @@ impl<E: Sink> SolutionWatcher for Progress<'_, E> {
     }
 }
 
+impl<E: Sink> ListWatcher for Progress<'_, E> {
+    fn listed(&mut self, count: usize) {
+        if self.speaks && count % LISTED_EACH == 0 {
+            self.walked(count);
+        }
+    }
+
+    fn walked(&mut self, count: usize) {
+        if self.speaks {
+            let line = list_line(self.alloc, count as u64, self.learned);
+            self.say(line);
+        }
+    }
+}
+
+impl<E: Sink> CoreWatcher for Progress<'_, E> {
+    fn asked(&mut self, left: usize, questions: u64) {
+        if self.speaks {
+            let line = part_line(self.alloc, left as u64, questions);
+            self.say(line);
+        }
+    }
+}
+
 /// The line of how many clauses were learned.
 fn count_line(alloc: Global, learned: u64) -> Result<Vec<u8>, AllocError>
     ensures { IfOk result (λ text. text.items ≡ count_text learned) }
@@ -87,6 +116,36 @@ fn count_line(alloc: Global, learned: u64) -> Result<Vec<u8>, AllocError>
     push_bytes(&mut out, b"bee: ")?;
     push_number(&mut out, u128::from(learned))?;
     push_bytes(&mut out, b" clauses learned\n")?;
+    Ok(out)
+}
+
+/// Writes a number, and words behind it.
+fn push_counted(out: &mut Vec<u8>, count: u64, words: &[u8]) -> Result<(), AllocError>
+    ensures { OnOk result (out.new.items ≡ out.old.items ++ decimal count ++ words.now) }
+{
+    push_number(out, u128::from(count))?;
+    push_bytes(out, words)
+}
+
+/// The line of how many solutions are listed.
+fn list_line(alloc: Global, count: u64, learned: u64) -> Result<Vec<u8>, AllocError>
+    ensures { IfOk result (λ text. text.items ≡ list_text count learned) }
+{
+    let mut out = Vec::new(alloc);
+    push_bytes(&mut out, b"bee: ")?;
+    push_counted(&mut out, count, b" solutions, ")?;
+    push_counted(&mut out, learned, b" clauses learned\n")?;
+    Ok(out)
+}
+
+/// The line of how small a part without a solution is.
+fn part_line(alloc: Global, left: u64, questions: u64) -> Result<Vec<u8>, AllocError>
+    ensures { IfOk result (λ text. text.items ≡ part_text left questions) }
+{
+    let mut out = Vec::new(alloc);
+    push_bytes(&mut out, b"bee: ")?;
+    push_counted(&mut out, left, b" statements left, ")?;
+    push_counted(&mut out, questions, b" questions asked\n")?;
     Ok(out)
 }
 

@@ -1,9 +1,11 @@
 //! Why a line of a second text is refused, in words.
 
 use certify_mode::RefusedFinding;
+use core_check::RefusedCore;
 use decode_mode::RefusedValues;
 use drup_mode::RefusedProof;
 use ledger_check::Why;
+use list_check::RefusedList;
 use proof_check::ProofFault;
 use std::cell::Cell;
 use std::fmt;
@@ -21,6 +23,10 @@ pub(crate) struct Reasons {
     pub(crate) proof: Cell<Option<RefusedProof>>,
     /// For a line of what another solver found.
     pub(crate) finding: Cell<Option<RefusedFinding>>,
+    /// For a line of a list of solutions.
+    pub(crate) list: Cell<Option<RefusedList>>,
+    /// For a line of a core.
+    pub(crate) core: Cell<Option<RefusedCore>>,
 }
 
 impl Reasons {
@@ -31,6 +37,8 @@ impl Reasons {
             values: Cell::new(None),
             proof: Cell::new(None),
             finding: Cell::new(None),
+            list: Cell::new(None),
+            core: Cell::new(None),
         }
     }
 
@@ -48,6 +56,12 @@ impl Reasons {
         if let Some(fault) = self.finding.get() {
             return Some(Reason::Finding(fault));
         }
+        if let Some(fault) = self.list.get() {
+            return Some(Reason::List(fault));
+        }
+        if let Some(fault) = self.core.get() {
+            return Some(Reason::Core(fault));
+        }
         None
     }
 }
@@ -63,6 +77,10 @@ pub enum Reason {
     Proof(RefusedProof),
     /// What stands against a line of what another solver found.
     Finding(RefusedFinding),
+    /// What stands against a line of a list of solutions.
+    List(RefusedList),
+    /// What stands against a line of a core.
+    Core(RefusedCore),
 }
 
 impl Display for Reason {
@@ -72,6 +90,8 @@ impl Display for Reason {
             Reason::Values(fault) => say_values(*fault, f),
             Reason::Proof(fault) => say_clauses(*fault, f),
             Reason::Finding(fault) => say_finding(*fault, f),
+            Reason::List(fault) => say_list(*fault, f),
+            Reason::Core(fault) => say_core(*fault, f),
         }
     }
 }
@@ -139,5 +159,33 @@ fn say_finding<W: fmt::Write>(fault: RefusedFinding, f: &mut fmt::Formatter<W>) 
             "not the next line of values that satisfy the clauses, nor of a refutation"
         ),
         RefusedFinding::Missing => write!(f, "nothing is shown"),
+    }
+}
+
+/// Says what stands against a line of a list of solutions.
+fn say_list<W: fmt::Write>(fault: RefusedList, f: &mut fmt::Formatter<W>) -> fmt::Result {
+    match fault {
+        RefusedList::Misfit => write!(f, "not the next line of a list"),
+        RefusedList::Value => write!(f, "no value of the next name"),
+        RefusedList::Statement(number) => write!(f, "statement {number} does not hold"),
+        RefusedList::Repeated => write!(f, "the solution before is listed twice"),
+        RefusedList::Step => write!(f, "no step that is due"),
+        RefusedList::Derived => write!(f, "no line of the derivation"),
+        RefusedList::Open => write!(f, "not shown by the lines before"),
+        RefusedList::Missing => write!(f, "the list does not end"),
+    }
+}
+
+/// Says what stands against a line of a core.
+fn say_core<W: fmt::Write>(fault: RefusedCore, f: &mut fmt::Formatter<W>) -> fmt::Result {
+    match fault {
+        RefusedCore::Misfit => write!(f, "not the next line of a core"),
+        RefusedCore::Named => write!(f, "no further statement of the model"),
+        RefusedCore::Value => write!(f, "no value of the next name"),
+        RefusedCore::Statement(number) => write!(f, "statement {number} does not hold"),
+        RefusedCore::Step => write!(f, "no step that is due"),
+        RefusedCore::Derived => write!(f, "no line of the derivation"),
+        RefusedCore::Open => write!(f, "not shown by the lines before"),
+        RefusedCore::Missing => write!(f, "the core does not end"),
     }
 }

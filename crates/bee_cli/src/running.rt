@@ -39,16 +39,16 @@ fn asks_progress(command: &Command<'_>) -> bool {
         Command::Solve { options, .. }
         | Command::Queens { options, .. }
         | Command::Sat { options, .. }
-        | Command::Opb { options, .. } => options.progress,
+        | Command::Opb { options, .. }
+        | Command::All { options, .. }
+        | Command::Core { options, .. } => options.progress,
         Command::Compile { .. }
         | Command::Weigh { .. }
         | Command::Check { .. }
         | Command::Decode { .. }
         | Command::Drup { .. }
         | Command::OpbModel { .. }
-        | Command::All { .. }
         | Command::CheckAll { .. }
-        | Command::Core { .. }
         | Command::CheckCore { .. }
         | Command::Bound { .. }
         | Command::Certify { .. } => false,
@@ -104,16 +104,16 @@ fn obey<S: Shelf, O: Sink, E: Sink>(
             model_status(opb(alloc, input, options.search, shelf, out, progress))
         }
         Command::All { input, options } => {
-            model_status(list_solutions(alloc, input, options.search, shelf, out))
+            model_status(list_solutions(alloc, input, options.search, shelf, out, progress))
         }
         Command::CheckAll { input, second } => {
-            model_status(check_all(alloc, input, second, shelf, out))
+            model_status(check_all(alloc, input, second, shelf, out, &reasons.list))
         }
         Command::Core { input, options } => {
-            model_status(find_core(alloc, input, options.search, shelf, out))
+            model_status(find_core(alloc, input, options.search, shelf, out, progress))
         }
         Command::CheckCore { input, second } => {
-            model_status(check_core(alloc, input, second, shelf, out))
+            model_status(check_core(alloc, input, second, shelf, out, &reasons.core))
         }
         Command::Bound { input, number } => {
             bound_status(bound(alloc, input, with_sign(*number), shelf, out))

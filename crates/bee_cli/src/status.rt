@@ -1,8 +1,8 @@
 //! How a run ends.
 
 ghost use Rattle.std.specs.Prelude.{◌≡◌, ◌≢◌};
-ghost use Rattle.bee_cli.specs.Statuses.{status_of, outcome_status, model_fault, cnf_fault, clauses_fault, certify_fault};
-ghost use Rattle.bee_cli.specs.Statuses.{bound_fault};
+ghost use Rattle.bee_cli.specs.Statuses.{status_of, outcome_status, model_fault, cnf_fault, clauses_fault};
+ghost use Rattle.bee_cli.specs.Statuses.{certify_fault, bound_fault};
 
 use bound_mode::BoundFault;
 use certify_mode::CertifyFault;

@@ -7,7 +7,8 @@ use std::test::Fail;
 
 /// Two Booleans of which each pair of values is excluded.
 const PAIRS: &str =
-    "new_bool(a) new_bool(b) bool_array_or([a,b]) bool_array_or([a,-b]) bool_array_or([-a,b]) bool_array_or([-a,-b]) solve satisfy";
+    "new_bool(a) new_bool(b) bool_array_or([a,b]) bool_array_or([a,-b]) bool_array_or([-a,b]) bool_array_or([-a,-b]) \
+    solve satisfy";
 
 /// An objective that equations fix at its least value.
 const LEAST: &str = "new_int(x,0,2) int_neq(x,0) solve minimize x";

@@ -2,6 +2,7 @@
 
 ghost use Rattle.std.specs.Prelude.{◌≤◌};
 
+use crate::lists_and_cores::{BOTH, CORE, LIST, PAIR};
 use crate::solve::PIGEONS;
 use crate::wanted::shows;
 use run_shown::{AMPLE, Outside, SOLVE, Shown, Wanted, run_files, run_over};
@@ -17,7 +18,7 @@ struct Row {
 }
 
 /// A run of each mode.
-static RUNS: [Row; 6] = [
+static RUNS: [Row; 12] = [
     Row {
         words: &["bee", "compile", "m.bee"],
         files: &[(
@@ -36,7 +37,8 @@ static RUNS: [Row; 6] = [
         files: &[
             (
                 "m.bee",
-                "new_bool(a)\nnew_bool(b)\nbool_array_or([a,b])\nbool_array_or([a,-b])\nbool_array_or([-a,b])\nbool_array_or([-a,-b])\nsolve satisfy\n",
+                "new_bool(a)\nnew_bool(b)\nbool_array_or([a,b])\nbool_array_or([a,-b])\nbool_array_or([-a,b])\n\
+                bool_array_or([-a,-b])\nsolve satisfy\n",
             ),
             (
                 "a.txt",
@@ -68,6 +70,36 @@ static RUNS: [Row; 6] = [
             ("m.drup", "d 1 2 0\n1 0\n0\n"),
         ],
         step: 4,
+    },
+    Row {
+        words: &["bee", "all", "m.bee"],
+        files: &[("m.bee", PAIR)],
+        step: 16,
+    },
+    Row {
+        words: &["bee", "checkall", "m.bee", "a.txt"],
+        files: &[("m.bee", PAIR), ("a.txt", LIST)],
+        step: 16,
+    },
+    Row {
+        words: &["bee", "core", "m.bee"],
+        files: &[("m.bee", BOTH)],
+        step: 16,
+    },
+    Row {
+        words: &["bee", "checkcore", "m.bee", "a.txt"],
+        files: &[("m.bee", BOTH), ("a.txt", CORE)],
+        step: 16,
+    },
+    Row {
+        words: &["bee", "bound", "m.bee", "2"],
+        files: &[("m.bee", "new_int(x,0,3)\nsolve minimize x\n")],
+        step: 8,
+    },
+    Row {
+        words: &["bee", "certify", "m.bee", "a.txt"],
+        files: &[("m.bee", BOTH), ("a.txt", "0\n")],
+        step: 16,
     },
 ];
 

@@ -8,7 +8,8 @@ use std::test::Fail;
 
 /// Two integers from 0 to 3 whose sum is 3, with the ledger of their compilation.
 const SUM: &str =
-    "c bee 1\nc int x 0 1:1 2:1 3:1\nc int y 0 -3:1 -2:1 -1:1\nc led eq 3 form 4 -3\nc led eq 3 form 5 -2\nc led eq 3 form 6 -1\nc led enc 1\nc led enc 2\nc led enc 3\np cnf 6 2\n1 -2 0\n2 -3 0\n";
+    "c bee 1\nc int x 0 1:1 2:1 3:1\nc int y 0 -3:1 -2:1 -1:1\nc led eq 3 form 4 -3\nc led eq 3 form 5 -2\n\
+    c led eq 3 form 6 -1\nc led enc 1\nc led enc 2\nc led enc 3\np cnf 6 2\n1 -2 0\n2 -3 0\n";
 
 /// What a solver may answer for it.
 const FOUND: &str = "c found\ns SATISFIABLE\nv 1 -2 -3\nv 4 5 -6 0\n";

@@ -16,7 +16,9 @@ const WIDER: &str = "p cnf 3 4\n1 2 0\n1 -2 0\n-1 2 0\n-1 -2 0\n";
 
 /// Four pigeons, of which each sits in one of three holes, and no two in one.
 const PIGEONS: &str =
-    "p cnf 12 22\n1 2 3 0\n4 5 6 0\n7 8 9 0\n10 11 12 0\n-1 -4 0\n-1 -7 0\n-4 -7 0\n-1 -10 0\n-4 -10 0\n-7 -10 0\n-2 -5 0\n-2 -8 0\n-5 -8 0\n-2 -11 0\n-5 -11 0\n-8 -11 0\n-3 -6 0\n-3 -9 0\n-6 -9 0\n-3 -12 0\n-6 -12 0\n-9 -12 0\n";
+    "p cnf 12 22\n1 2 3 0\n4 5 6 0\n7 8 9 0\n10 11 12 0\n-1 -4 0\n-1 -7 0\n-4 -7 0\n-1 -10 0\n-4 -10 0\n-7 -10 0\n\
+    -2 -5 0\n-2 -8 0\n-5 -8 0\n-2 -11 0\n-5 -11 0\n-8 -11 0\n-3 -6 0\n-3 -9 0\n-6 -9 0\n-3 -12 0\n-6 -12 0\n\
+    -9 -12 0\n";
 
 /// What cadical 1.5.3 writes for them with `--plain --no-binary`.
 const PIGEONS_REFUTED: &str =

@@ -15,6 +15,8 @@
 #[cfg(test)]
 mod causes;
 #[cfg(test)]
+mod certify;
+#[cfg(test)]
 mod compile;
 #[cfg(test)]
 mod damage;

@@ -26,7 +26,8 @@ type Row = (&'static str, &'static str, &'static str, &'static str);
 static FILES: [Row; 6] = [
     (
         "* #variable= 2 #constraint= 1\nmin: +1 x1 +2 x2 ;\n+1 x1 +1 x2 >= 1 ;\n",
-        "new_bool(x1)\nnew_bool(x2)\nnew_int(o,0,3)\nbool_array_pb_eq([1,2],[x1,x2],o)\nbool_array_pb_geq([1,1],[x1,x2],1)\nsolve minimize o\n",
+        "new_bool(x1)\nnew_bool(x2)\nnew_int(o,0,3)\nbool_array_pb_eq([1,2],[x1,x2],o)\n\
+        bool_array_pb_geq([1,1],[x1,x2],1)\nsolve minimize o\n",
         "bee 1\nOPTIMUM 1\nx1 = true\nx2 = false\no = 1\nledger\n",
         "OPTIMUM 1",
     ),
@@ -45,7 +46,8 @@ static FILES: [Row; 6] = [
     // The least cost is negative, and the same literal stands twice.
     (
         "min: -3 x1 2 ~x2 -1 x1 ;\n1 x1 1 x2 <= 1 ;",
-        "new_bool(x1)\nnew_bool(x2)\nnew_int(o,-4,2)\nbool_array_pb_eq([-3,2,-1],[x1,-x2,x1],o)\nbool_array_pb_leq([1,1],[x1,x2],1)\nsolve minimize o\n",
+        "new_bool(x1)\nnew_bool(x2)\nnew_int(o,-4,2)\nbool_array_pb_eq([-3,2,-1],[x1,-x2,x1],o)\n\
+        bool_array_pb_leq([1,1],[x1,x2],1)\nsolve minimize o\n",
         "bee 1\nOPTIMUM -2\nx1 = true\nx2 = false\no = -2\nledger\n",
         "OPTIMUM -2",
     ),
@@ -104,7 +106,12 @@ type Faulty = (
 
 /// Coefficients so great that what the sum is made into is too heavy.
 const HEAVY: &str =
-    "1000000000 x1 999999999 x2 999999998 x3 999999997 x4 999999996 x5 999999995 x6 999999994 x7 999999993 x8 999999992 x9 999999991 x10 999999990 x11 999999989 x12 999999988 x13 999999987 x14 999999986 x15 999999985 x16 999999984 x17 999999983 x18 999999982 x19 999999981 x20 999999980 x21 999999979 x22 999999978 x23 999999977 x24 999999976 x25 999999975 x26 999999974 x27 999999973 x28 999999972 x29 999999971 x30 999999970 x31 999999969 x32 999999968 x33 999999967 x34 999999966 x35 999999965 x36 999999964 x37 999999963 x38 999999962 x39 999999961 x40 >= 3 ;";
+    "1000000000 x1 999999999 x2 999999998 x3 999999997 x4 999999996 x5 999999995 x6 999999994 x7 999999993 x8 \
+    999999992 x9 999999991 x10 999999990 x11 999999989 x12 999999988 x13 999999987 x14 999999986 x15 999999985 x16 \
+    999999984 x17 999999983 x18 999999982 x19 999999981 x20 999999980 x21 999999979 x22 999999978 x23 999999977 x24 \
+    999999976 x25 999999975 x26 999999974 x27 999999973 x28 999999972 x29 999999971 x30 999999970 x31 999999969 x32 \
+    999999968 x33 999999967 x34 999999966 x35 999999965 x36 999999964 x37 999999963 x38 999999962 x39 999999961 x40 \
+    >= 3 ;";
 
 const OPB: &[&str] = &["bee", "opb", "f.opb"];
 

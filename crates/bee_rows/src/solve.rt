@@ -38,19 +38,25 @@ static ANSWERS: [Row; 17] = [
         "SATISFIABLE",
     ),
     (
-        "new_int(s,1,9) new_int(e,0,9) new_int(n,0,9) new_int(d,0,9) new_int(m,1,9) new_int(o,0,9) new_int(r,0,9) new_int(y,0,9) int_array_allDiff([s,e,n,d,m,o,r,y]) int_array_lin_eq([1000,91,-90,1,-9000,-900,10,-1],[s,e,n,d,m,o,r,y],0) solve satisfy",
+        "new_int(s,1,9) new_int(e,0,9) new_int(n,0,9) new_int(d,0,9) new_int(m,1,9) new_int(o,0,9) new_int(r,0,9) \
+        new_int(y,0,9) int_array_allDiff([s,e,n,d,m,o,r,y]) \
+        int_array_lin_eq([1000,91,-90,1,-9000,-900,10,-1],[s,e,n,d,m,o,r,y],0) solve satisfy",
         "bee 1\nSATISFIABLE\ns = 9\ne = 5\nn = 6\nd = 7\nm = 1\no = 0\nr = 8\ny = 2\nend\n",
         "SATISFIABLE",
     ),
     // A ruler with four marks, the first at 0.
     (
-        "new_int(a,1,10) new_int(b,1,10) new_int(c,1,10) new_int(p,1,10) new_int(q,1,10) new_int(r,1,10) int_plus(a,p,b) int_plus(a,q,c) int_plus(b,r,c) int_array_allDiff([a,b,c,p,q,r]) solve minimize(c)",
+        "new_int(a,1,10) new_int(b,1,10) new_int(c,1,10) new_int(p,1,10) new_int(q,1,10) new_int(r,1,10) \
+        int_plus(a,p,b) int_plus(a,q,c) int_plus(b,r,c) int_array_allDiff([a,b,c,p,q,r]) solve minimize(c)",
         "bee 1\nOPTIMUM 6\n",
         "OPTIMUM 6",
     ),
     // Three queens on a board of three rows.
     (
-        "new_int(q1,1,3) new_int(q2,1,3) new_int(q3,1,3) new_int(a1,0,2) new_int(a2,-1,1) new_int(a3,-2,0) new_int(d1,2,4) new_int(d2,3,5) new_int(d3,4,6) int_plus(a1,1,q1) int_plus(a2,2,q2) int_plus(a3,3,q3) int_plus(q1,1,d1) int_plus(q2,2,d2) int_plus(q3,3,d3) int_array_allDiff([q1,q2,q3]) int_array_allDiff([a1,a2,a3]) int_array_allDiff([d1,d2,d3]) solve satisfy",
+        "new_int(q1,1,3) new_int(q2,1,3) new_int(q3,1,3) new_int(a1,0,2) new_int(a2,-1,1) new_int(a3,-2,0) \
+        new_int(d1,2,4) new_int(d2,3,5) new_int(d3,4,6) int_plus(a1,1,q1) int_plus(a2,2,q2) int_plus(a3,3,q3) \
+        int_plus(q1,1,d1) int_plus(q2,2,d2) int_plus(q3,3,d3) int_array_allDiff([q1,q2,q3]) \
+        int_array_allDiff([a1,a2,a3]) int_array_allDiff([d1,d2,d3]) solve satisfy",
         "bee 1\nUNSATISFIABLE\nledger\n",
         "UNSATISFIABLE",
     ),
@@ -99,11 +105,15 @@ static ANSWERS: [Row; 17] = [
 
 /// Four pigeons, of which each sits in one of three holes, and no two in one.
 pub(super) const PIGEONS: &str =
-    "new_bool(p11) new_bool(p12) new_bool(p13) new_bool(p21) new_bool(p22) new_bool(p23) new_bool(p31) new_bool(p32) new_bool(p33) new_bool(p41) new_bool(p42) new_bool(p43)
+    "new_bool(p11) new_bool(p12) new_bool(p13) new_bool(p21) new_bool(p22) new_bool(p23) new_bool(p31) new_bool(p32) \
+    new_bool(p33) new_bool(p41) new_bool(p42) new_bool(p43)
 bool_array_or([p11,p12,p13]) bool_array_or([p21,p22,p23]) bool_array_or([p31,p32,p33]) bool_array_or([p41,p42,p43])
-bool_array_or([-p11,-p21]) bool_array_or([-p11,-p31]) bool_array_or([-p11,-p41]) bool_array_or([-p21,-p31]) bool_array_or([-p21,-p41]) bool_array_or([-p31,-p41])
-bool_array_or([-p12,-p22]) bool_array_or([-p12,-p32]) bool_array_or([-p12,-p42]) bool_array_or([-p22,-p32]) bool_array_or([-p22,-p42]) bool_array_or([-p32,-p42])
-bool_array_or([-p13,-p23]) bool_array_or([-p13,-p33]) bool_array_or([-p13,-p43]) bool_array_or([-p23,-p33]) bool_array_or([-p23,-p43]) bool_array_or([-p33,-p43])
+bool_array_or([-p11,-p21]) bool_array_or([-p11,-p31]) bool_array_or([-p11,-p41]) bool_array_or([-p21,-p31]) \
+bool_array_or([-p21,-p41]) bool_array_or([-p31,-p41])
+bool_array_or([-p12,-p22]) bool_array_or([-p12,-p32]) bool_array_or([-p12,-p42]) bool_array_or([-p22,-p32]) \
+bool_array_or([-p22,-p42]) bool_array_or([-p32,-p42])
+bool_array_or([-p13,-p23]) bool_array_or([-p13,-p33]) bool_array_or([-p13,-p43]) bool_array_or([-p23,-p33]) \
+bool_array_or([-p23,-p43]) bool_array_or([-p33,-p43])
 solve satisfy
 ";
 
@@ -134,7 +144,8 @@ static BUDGETS: [Budget; 4] = [
 
 /// Two Booleans of which each pair of values is excluded.
 const PAIRS: &str =
-    "new_bool(a) new_bool(b) bool_array_or([a,b]) bool_array_or([a,-b]) bool_array_or([-a,b]) bool_array_or([-a,-b]) solve satisfy";
+    "new_bool(a) new_bool(b) bool_array_or([a,b]) bool_array_or([a,-b]) bool_array_or([-a,b]) bool_array_or([-a,-b]) \
+    solve satisfy";
 
 /// An objective that equations fix at its least value.
 const LEAST: &str = "new_int(x,0,2) int_neq(x,0) solve minimize x";
@@ -193,7 +204,8 @@ static DOCUMENTS: [Document; 22] = [
     ),
     (
         PAIRS,
-        "bee 1\nUNSATISFIABLE\nledger\nenc 99999999999999999999\nenc 2\nenc 3\nenc 4\nproof\n5 1 0 1 2 0\n6 0 5 3 4 0\nend\n",
+        "bee 1\nUNSATISFIABLE\nledger\nenc 99999999999999999999\nenc 2\nenc 3\nenc 4\nproof\n5 1 0 1 2 0\n\
+        6 0 5 3 4 0\nend\n",
         "refused",
         4,
     ),

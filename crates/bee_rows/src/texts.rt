@@ -70,7 +70,9 @@ static BOOLEANS: [Row; 14] = [
     // A list is in order with itself.
     (
         "new_bool(a)\nnew_bool(b)\nnew_bool(r)\nbool_arrays_lex_reif([a,b],[a,b],r)\nsolve satisfy\n",
-        "c bee 1\nc bool a 1\nc bool b 2\nc bool r T\nc led eq 1 table T 3\nc led split 1\nc led eq 2 table T 4\nc led eq 3 table T 5\nc led eq 4 table T 6\nc led eq 5 form -7 F\nc led split 4\nc led enc 2\nc led enc 3\nc led enc 5\nc led enc 6\nc led enc 7\np cnf 7 0\n",
+        "c bee 1\nc bool a 1\nc bool b 2\nc bool r T\nc led eq 1 table T 3\nc led split 1\nc led eq 2 table T 4\n\
+        c led eq 3 table T 5\nc led eq 4 table T 6\nc led eq 5 form -7 F\nc led split 4\nc led enc 2\nc led enc 3\n\
+        c led enc 5\nc led enc 6\nc led enc 7\np cnf 7 0\n",
     ),
 ];
 
@@ -98,7 +100,8 @@ static INTEGERS: [Row; 15] = [
     // -1, for -2 is other than x, and x is at most -1
     (
         "new_int(x,-2,0)int_neq(-2,x)int_leq(x,-1)solve satisfy",
-        "c bee 1\nc int x -1\nc led eq 2 form T 1\nc led eq 3 form 2 F\nc led enc 1\nc led enc 2\nc led enc 3\np cnf 2 0\n",
+        "c bee 1\nc int x -1\nc led eq 2 form T 1\nc led eq 3 form 2 F\nc led enc 1\nc led enc 2\nc led enc 3\n\
+        p cnf 2 0\n",
     ),
     // Three listed values: other than the middle one, at least it is at least the greatest.
     (
@@ -136,17 +139,21 @@ static INTEGERS: [Row; 15] = [
     // A Boolean declared behind an integer and a statement.
     (
         "new_int(x,1,2)int_neq(x,1)new_bool(b)bool_array_or([-b])solve maximize x",
-        "c bee 1\nc int x 2\nc bool b F\nc led eq 2 form T 1\nc led eq 3 form -2 T\nc led enc 1\nc led enc 2\nc led enc 3\np cnf 2 0\n",
+        "c bee 1\nc int x 2\nc bool b F\nc led eq 2 form T 1\nc led eq 3 form -2 T\nc led enc 1\nc led enc 2\n\
+        c led enc 3\np cnf 2 0\n",
     ),
     // At most itself: told by the truth table of four variables.
     (
         "new_int(i,0,3)\nnew_bool(r)\nint_leq_reif(i,i,r)\nsolve satisfy\n",
-        "c bee 1\nc int i 0 1:1 2:1 3:1\nc bool r T\nc led eq 2 table T 4\nc led enc 1\nc led enc 2\np cnf 4 2\n1 -2 0\n2 -3 0\n",
+        "c bee 1\nc int i 0 1:1 2:1 3:1\nc bool r T\nc led eq 2 table T 4\nc led enc 1\nc led enc 2\np cnf 4 2\n\
+        1 -2 0\n2 -3 0\n",
     ),
     // Nine variables are too many for a truth table.
     (
         "new_int(i,0,8)\nnew_bool(r)\nint_leq_reif(i,i,r)\nsolve satisfy\n",
-        "c bee 1\nc int i 0 1:1 2:1 3:1 4:1 5:1 6:1 7:1 8:1\nc bool r 9\nc led enc 1\nc led enc 2\np cnf 9 16\n1 -2 0\n2 -3 0\n3 -4 0\n4 -5 0\n5 -6 0\n6 -7 0\n7 -8 0\n1 9 0\n-1 2 9 0\n-2 3 9 0\n-3 4 9 0\n-4 5 9 0\n-5 6 9 0\n-6 7 9 0\n-7 8 9 0\n-8 9 0\n",
+        "c bee 1\nc int i 0 1:1 2:1 3:1 4:1 5:1 6:1 7:1 8:1\nc bool r 9\nc led enc 1\nc led enc 2\np cnf 9 16\n\
+        1 -2 0\n2 -3 0\n3 -4 0\n4 -5 0\n5 -6 0\n6 -7 0\n7 -8 0\n1 9 0\n-1 2 9 0\n-2 3 9 0\n-3 4 9 0\n-4 5 9 0\n\
+        -5 6 9 0\n-6 7 9 0\n-7 8 9 0\n-8 9 0\n",
     ),
 ];
 
@@ -155,17 +162,21 @@ static SUMS: [Row; 7] = [
     // 3 3: the third step of x, and then what links the values of x and of y.
     (
         "new_int(x,0,3)\nnew_int(y,0,3)\nint_plus(x,y,6)\nsolve satisfy\n",
-        "c bee 1\nc int x 3\nc int y 3\nc led eq 3 form 1 T\nc led eq 3 form 2 T\nc led eq 3 form 3 T\nc led eq 3 form F -4\nc led eq 3 form F -5\nc led eq 3 form F -6\nc led enc 1\nc led enc 2\nc led enc 3\np cnf 6 0\n",
+        "c bee 1\nc int x 3\nc int y 3\nc led eq 3 form 1 T\nc led eq 3 form 2 T\nc led eq 3 form 3 T\n\
+        c led eq 3 form F -4\nc led eq 3 form F -5\nc led eq 3 form F -6\nc led enc 1\nc led enc 2\nc led enc 3\n\
+        p cnf 6 0\n",
     ),
     // 0 3, 1 2, 2 1, 3 0: y by the negations of the variables of x.
     (
         "new_int(x,0,3)\nnew_int(y,0,3)\nint_plus(x,y,3)\nsolve satisfy\n",
-        "c bee 1\nc int x 0 1:1 2:1 3:1\nc int y 0 -3:1 -2:1 -1:1\nc led eq 3 form 1 -6\nc led eq 3 form 2 -5\nc led eq 3 form 3 -4\nc led enc 1\nc led enc 2\nc led enc 3\np cnf 6 2\n1 -2 0\n2 -3 0\n",
+        "c bee 1\nc int x 0 1:1 2:1 3:1\nc int y 0 -3:1 -2:1 -1:1\nc led eq 3 form 1 -6\nc led eq 3 form 2 -5\n\
+        c led eq 3 form 3 -4\nc led enc 1\nc led enc 2\nc led enc 3\np cnf 6 2\n1 -2 0\n2 -3 0\n",
     ),
     // 1
     (
         "new_int(x,0,3)int_lt(x,2)int_plus(x,x,2)int_eq(x,1)solve satisfy",
-        "c bee 1\nc int x 1\nc led eq 2 form 2 F\nc led eq 2 order 3 F\nc led eq 3 form 1 T\nc led enc 1\nc led enc 2\nc led enc 3\nc led enc 4\np cnf 3 0\n",
+        "c bee 1\nc int x 1\nc led eq 2 form 2 F\nc led eq 2 order 3 F\nc led eq 3 form 1 T\nc led enc 1\n\
+        c led enc 2\nc led enc 3\nc led enc 4\np cnf 3 0\n",
     ),
     // 0
     (
@@ -175,17 +186,26 @@ static SUMS: [Row; 7] = [
     // 1 4, 2 8, 3 12: y by the variables of x, in steps of four.
     (
         "new_int(x,1,3)\nnew_int(y,0,20)\nint_times(x,4,y)\nsolve satisfy\n",
-        "c bee 1\nc int x 1 1:1 2:1\nc int y 4 1:4 2:4\nc led eq 3 form 6 T\nc led eq 3 form 10 1\nc led eq 3 form 14 2\nc led eq 3 form 3 T\nc led eq 3 form 4 T\nc led eq 3 form 5 T\nc led eq 3 form 7 1\nc led eq 3 form 8 1\nc led eq 3 form 9 1\nc led eq 3 form 11 2\nc led eq 3 form 12 2\nc led eq 3 form 13 2\nc led eq 3 form 15 F\nc led eq 3 form 16 F\nc led eq 3 form 17 F\nc led eq 3 form 18 F\nc led eq 3 form 19 F\nc led eq 3 form 20 F\nc led eq 3 form 21 F\nc led eq 3 form 22 F\nc led enc 1\nc led enc 2\nc led enc 3\np cnf 22 1\n1 -2 0\n",
+        "c bee 1\nc int x 1 1:1 2:1\nc int y 4 1:4 2:4\nc led eq 3 form 6 T\nc led eq 3 form 10 1\n\
+        c led eq 3 form 14 2\nc led eq 3 form 3 T\nc led eq 3 form 4 T\nc led eq 3 form 5 T\nc led eq 3 form 7 1\n\
+        c led eq 3 form 8 1\nc led eq 3 form 9 1\nc led eq 3 form 11 2\nc led eq 3 form 12 2\nc led eq 3 form 13 2\n\
+        c led eq 3 form 15 F\nc led eq 3 form 16 F\nc led eq 3 form 17 F\nc led eq 3 form 18 F\nc led eq 3 form 19 F\n\
+        c led eq 3 form 20 F\nc led eq 3 form 21 F\nc led eq 3 form 22 F\nc led enc 1\nc led enc 2\nc led enc 3\n\
+        p cnf 22 1\n1 -2 0\n",
     ),
     // Three members, and two values.
     (
         "new_int(x,0,1)\nnew_int(y,0,1)\nnew_int(z,0,1)\nint_array_allDiff([x,y,z])\nsolve satisfy\n",
-        "c bee 1\nc int x 0 1:1\nc int y 0 -1:1\nc int z 0 -1:1\nc led eq 4 form 1 -2\nc led eq 4 form 1 -3\nc led eq 4 form -1 1\np cnf 3 1\n0\n",
+        "c bee 1\nc int x 0 1:1\nc int y 0 -1:1\nc int z 0 -1:1\nc led eq 4 form 1 -2\nc led eq 4 form 1 -3\n\
+        c led eq 4 form -1 1\np cnf 3 1\n0\n",
     ),
     // Two members, and two values.
     (
         "new_int(x,0,1)\nnew_int(y,0,1)\nint_array_allDiff([x,y])\nsolve satisfy\n",
-        "c bee 1\nc int x 0 1:1\nc int y 0 -1:1\nc led eq 3 form 1 -2\nc led split 3\nc led eq 6 form 3 -1\nc led eq 7 form 4 1\nc led eq 8 form 5 1\nc led eq 9 form 6 -1\nc led enc 1\nc led enc 2\nc led enc 4\nc led enc 5\nc led enc 6\nc led enc 7\nc led enc 8\nc led enc 9\nc led enc 10\nc led enc 11\nc led enc 12\nc led enc 13\np cnf 6 0\n",
+        "c bee 1\nc int x 0 1:1\nc int y 0 -1:1\nc led eq 3 form 1 -2\nc led split 3\nc led eq 6 form 3 -1\n\
+        c led eq 7 form 4 1\nc led eq 8 form 5 1\nc led eq 9 form 6 -1\nc led enc 1\nc led enc 2\nc led enc 4\n\
+        c led enc 5\nc led enc 6\nc led enc 7\nc led enc 8\nc led enc 9\nc led enc 10\nc led enc 11\nc led enc 12\n\
+        c led enc 13\np cnf 6 0\n",
     ),
 ];
 

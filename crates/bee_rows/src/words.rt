@@ -63,7 +63,9 @@ fn options_of(command: &Command<'_>) -> Option<(u64, bool, bool)> {
         Command::Solve { options, .. }
         | Command::Queens { options, .. }
         | Command::Sat { options, .. }
-        | Command::Opb { options, .. } => Some((
+        | Command::Opb { options, .. }
+        | Command::All { options, .. }
+        | Command::Core { options, .. } => Some((
             options.search.budget,
             options.search.restart,
             options.progress,
@@ -88,7 +90,7 @@ type Named = (
     Option<&'static str>,
 );
 
-static NAMES: [Named; 12] = [
+static NAMES: [Named; 18] = [
     ("bee compile m.bee", "compile", "m.bee", None),
     ("bee compile stdin --budget 5", "compile", "stdin", None),
     (
@@ -115,6 +117,22 @@ static NAMES: [Named; 12] = [
         Some("values"),
     ),
     ("bee drup m.cnf m.drup", "drup", "m.cnf", Some("m.drup")),
+    ("bee all m.bee", "all", "m.bee", None),
+    ("bee core m.bee --progress", "core", "m.bee", None),
+    (
+        "bee checkall m.bee a.txt",
+        "checkall",
+        "m.bee",
+        Some("a.txt"),
+    ),
+    (
+        "bee checkcore m.bee a.txt",
+        "checkcore",
+        "m.bee",
+        Some("a.txt"),
+    ),
+    ("bee bound m.bee 7", "bound", "m.bee", None),
+    ("bee certify m.bee a.txt", "certify", "m.bee", Some("a.txt")),
     (
         "bee --budget 1 drup m.cnf --no-restart m.cnf",
         "drup",
@@ -151,7 +169,7 @@ fn commands_of_words(rt: HostRuntime) -> Result<(), Fail> {
 /// A line, the budget, whether the search may begin again and its progress is told, and the size of the board.
 type Given = (&'static str, u64, bool, bool, Option<u64>);
 
-static OPTIONS: [Given; 10] = [
+static OPTIONS: [Given; 14] = [
     ("bee solve m.bee", USUAL, true, false, None),
     ("bee solve m.bee --budget 007", 7, true, false, None),
     ("bee solve --no-restart m.bee", USUAL, false, false, None),
@@ -166,6 +184,16 @@ static OPTIONS: [Given; 10] = [
     ),
     (
         "bee opb f.opb --progress --no-restart",
+        USUAL,
+        false,
+        true,
+        None,
+    ),
+    ("bee all --progress m.bee", USUAL, true, true, None),
+    ("bee all m.bee --budget 3", 3, true, false, None),
+    ("bee core m.bee", USUAL, true, false, None),
+    (
+        "bee core --progress m.bee --no-restart",
         USUAL,
         false,
         true,
@@ -210,7 +238,7 @@ fn options_of_words(rt: HostRuntime) -> Result<(), Fail> {
     Ok(())
 }
 
-static NO_COMMANDS: [&str; 43] = [
+static NO_COMMANDS: [&str; 55] = [
     "bee",
     "bee compile",
     "bee solve",
@@ -227,6 +255,18 @@ static NO_COMMANDS: [&str; 43] = [
     "bee compile m.bee --progress",
     "bee check m.bee a.txt --progress",
     "bee opbmodel f.opb --progress",
+    "bee weigh m.bee --progress",
+    "bee checkall m.bee a.txt --progress",
+    "bee checkcore m.bee a.txt --progress",
+    "bee bound m.bee 7 --progress",
+    "bee certify m.bee a.txt --progress",
+    "bee all m.bee a.txt",
+    "bee core m.bee a.txt",
+    "bee checkall m.bee",
+    "bee checkcore m.bee",
+    "bee bound m.bee",
+    "bee bound m.bee seven",
+    "bee bound m.bee 9223372036854775808",
     "bee SAT m.cnf",
     "bee drup",
     "bee drup m.cnf",

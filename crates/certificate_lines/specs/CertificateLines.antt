@@ -1,4 +1,5 @@
--- Which line may stand next in a ledger or a derivation, and which tells the value of a name, whatever the text around it is.
+-- Which line may stand next in a ledger or a derivation, and which tells the value of a name, whatever the text around
+-- it is.
 use Rattle.std.specs.Prelude.{◌≡◌, ℕ, Bool, true, false, List, ℤ, Result, Ok, IsTrue}
 use Rattle.order_ints.specs.declared.cnf.Cnf.{Cnf}
 use Rattle.model_meaning.specs.declared.model.Decl.{Decl}

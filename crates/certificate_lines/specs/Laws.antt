@@ -9,7 +9,8 @@ use Rattle.certificate_lines.specs.CertificateLines.{IsValueLine, IsStepLine, Is
 
 -- a line tells one value of a name whose numbers are in the limit
 abbrev pub OneValue : Type 0
-OneValue = (d : Decl) (line : List ℕ) (y z : ℤ) → KindInLimit d.kind → IsValueLine d line y → IsValueLine d line z → y ≡ z
+OneValue = (d : Decl) (line : List ℕ) (y z : ℤ) → KindInLimit d.kind → IsValueLine d line y → IsValueLine d line z
+    → y ≡ z
 
 -- a line leads to one state
 abbrev pub OneStep : Type 0
@@ -33,4 +34,5 @@ StepsLead = (start k next : Kernel) (line : List ℕ) → IsLedger start k → I
 
 -- a derivation, and one line more
 abbrev pub DerivationLeads : Type 0
-DerivationLeads = (cnf : Cnf) (p next : Proof) (line : List ℕ) → IsDerivation cnf p → IsDerivedLine p line next → IsDerivation cnf next
+DerivationLeads = (cnf : Cnf) (p next : Proof) (line : List ℕ) → IsDerivation cnf p → IsDerivedLine p line next
+    → IsDerivation cnf next

@@ -13,13 +13,14 @@ use std::alloc::{AllocError, Global};
 pub fn checker_of(alloc: Global, state: &Replay) -> Result<Checker, AllocError>
     ensures { IfOk result (λ c. c ≡ proof_of (cnf_of state.now)) }
 {
+    // Read for the proof alone, which knows the state's invariant from here on.
     let _vars = state.vars();
     let cnf = state.cnf()?;
     Checker::with(alloc, &cnf)
 }
 
-/// Takes a line, where it is one of a derivation and continues the proof; the answer says whether it does. Else, and for want of
-/// memory, the checker stays. The room serves line after line.
+/// Takes a line, where it is one of a derivation and continues the proof; the answer says whether it does. Else, and
+/// for want of memory, the checker stays. The room serves line after line.
 pub fn take_derived(
     checker: &mut Checker,
     room: &mut LineRoom,

@@ -1,6 +1,8 @@
-//! Laws of the lines of certificates, for texts that are made of them. Each function does nothing; its contract is the law.
+//! Laws of the lines of certificates, for texts that are made of them. Each function does nothing; its contract is the
+//! law.
 
-ghost use Rattle.certificate_lines.specs.Laws.{OneValue, OneStep, OneDerivation, NoStep, NoDerivation, StepsLead, DerivationLeads};
+ghost use Rattle.certificate_lines.specs.Laws.{OneValue, OneStep, OneDerivation, NoStep, NoDerivation};
+ghost use Rattle.certificate_lines.specs.Laws.{StepsLead, DerivationLeads};
 
 /// A line tells one value of a name, leads to one state, and continues a derivation in one way.
 pub fn one_line_law()

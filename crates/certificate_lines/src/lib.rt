@@ -15,7 +15,8 @@
 //! the other, are a ledger from the state at the start and a derivation from the CNF.
 //!
 //! Causes are not told, only whether a line is the next one; `ledger_check` tells causes and reads
-//! its lines itself. A text adds what begins a part and what ends it.
+//! its lines itself, but for whether a number is in a domain (`is_value`). A text adds what begins a
+//! part and what ends it.
 #![tactic(auto)]
 
 mod derivation;
@@ -26,4 +27,4 @@ mod values;
 pub use derivation::{checker_of, take_derived};
 pub use laws::{certificate_law, one_line_law, word_law};
 pub use steps::take_step;
-pub use values::{is, read_value};
+pub use values::{is, is_value, read_value};

@@ -36,9 +36,9 @@ fn in_range(low: i64, high: i64, number: i64) -> bool
     low <= number && number <= high
 }
 
-/// Whether a number is in a domain.
+/// Whether a number is in a domain. Of listed values it looks at few, by halving.
 #[tactic(auto, using(model_meaning::proofs::DomainLaws::domains))]
-fn is_value(kind: &Kind, number: i64) -> bool
+pub fn is_value(kind: &Kind, number: i64) -> bool
     ensures { result ≡ is_member number (domain kind.now) }
 {
     match kind {
@@ -51,7 +51,8 @@ fn is_value(kind: &Kind, number: i64) -> bool
 /// The value of a name that a line tells, where it is one of its domain. One pass over the line.
 pub fn read_value(decl: &Decl, line: &[u8]) -> Option<i64>
     requires { KindInLimit decl.now.kind }
-    ensures { MatchOption result ((z : ℤ) → IsValueLine decl.now line.now z → ⊥) (λ z. IsValueLine decl.now line.now z) }
+    ensures { MatchOption result ((z : ℤ) → IsValueLine decl.now line.now z → ⊥)
+        (λ z. IsValueLine decl.now line.now z) }
 {
     let is_boolean = is_boolean_kind(&decl.kind);
     let number = read_value_line(line, decl.name.as_bytes(), is_boolean, LIMIT as u128)?;

@@ -1,5 +1,5 @@
 -- What each end says in certify mode.
-use Rattle.std.proofs.Common.{◌≡◌, ℕ, ◌+◌, ◌<◌, ◌≤◌, Bool, true, false, List, length, refl, sym, ap, subst, ◌∙◌, inr, arith}
+use Rattle.std.proofs.Common.{◌≡◌, ℕ, ◌+◌, ◌<◌, ◌≤◌, List, length, refl, sym, ap, ◌∙◌, inr, arith}
 use Rattle.std.specs.Prelude.{Some}
 use Rattle.std.proofs.lemmas.Bool.{true≢false}
 use Rattle.model_meaning.specs.declared.model.Model.{Model}
@@ -18,10 +18,10 @@ use Rattle.model_texts.proofs.OneModel.{one_model}
 use Rattle.certify_mode.specs.declared.fault.CertifyFault.{CertifyFault}
 use Rattle.certify_mode.specs.declared.fault.CertifyFault.TheVariants.{Model as InModel, TwoObjectives}
 use Rattle.certify_mode.specs.declared.holding.HeldCompilation.{HeldCompilation}
-use Rattle.certify_mode.specs.Holding.{has_two, HoldsLight, HoldsCompiled, HasTwo, HasFault}
+use Rattle.certify_mode.specs.Holding.{has_two, HoldsCompiled, HasTwo, HasFault}
 use Rattle.certify_mode.specs.Certified.{IsCertifying, Gives}
 use Rattle.certify_mode.specs.CertifyMode.{HasModel, CertifyMode}
-use Rattle.certify_mode.proofs.TwoFree.{faulty, finishes}
+use Rattle.text_modes.proofs.TwoFree.{faulty, finishes}
 
 -- a model that is held has no fault
 model_or_fault : (text : List ℕ) (model : Model) (fault : ModelFault) → HoldsModel text model → HasFault text (InModel fault) → ⊥

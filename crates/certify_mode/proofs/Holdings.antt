@@ -2,7 +2,6 @@
 use Rattle.std.proofs.Common.{◌≡◌, ℕ, ◌≤◌, Bool, true, false, List, [], ◌∷◌, length, sym, subst}
 use Rattle.std.specs.Prelude.{if◌then◌else◌}
 use Rattle.order_ints.specs.declared.cnf.Cnf.{Cnf}
-use Rattle.order_ints.specs.declared.literal.Lit.{Lit}
 use Rattle.order_ints.specs.OrderedClauses.{ClausesAscend, ordered_clauses}
 use Rattle.order_ints.proofs.OrderedLaws.{ClausesAscend-ordered_clauses}
 use Rattle.step_kernel.specs.Kernel.{Kernel}

@@ -1,4 +1,2 @@
 pub mod Ends
-mod Answering
-mod TwoFree
 mod Holdings

@@ -1,12 +1,11 @@
 -- A text with a line that fails is no valid answer.
-use Rattle.std.proofs.Common.{◌≡◌, ◌⊎◌, ℕ, List, [], ◌∷◌, map, sym, inl, inr}
+use Rattle.std.proofs.Common.{ℕ, List, [], ◌∷◌, map, sym, inl, inr}
 use Rattle.std.proofs.lemmas.List.{append-nil}
 use Rattle.bee_text.specs.Lines.{AreLines, lines_of}
 use Rattle.line_texts.proofs.Leads.{whole_fits}
 use Rattle.model_meaning.specs.declared.model.Decl.{Decl}
 use Rattle.model_meaning.specs.declared.model.Model.{Model}
 use Rattle.ledger_check.specs.declared.fault.Why.{Why}
-use Rattle.ledger_check.specs.Items.{Standing}
 use Rattle.ledger_check.specs.Tests.{start_standing}
 use Rattle.ledger_check.specs.Reading.{IsNext, IsEnd}
 use Rattle.ledger_check.specs.Checked.{IsFirstFault, IsRefused}

@@ -1,32 +1,40 @@
 -- What a run in check mode promises.
-use Rattle.std.specs.Prelude.{ℕ, ◌+◌, List, Some}
+use Rattle.std.specs.Prelude.{ℕ, List, ℤ, Option}
 use Rattle.text_modes.specs.Seen.{Seen}
-use Rattle.text_modes.specs.Ends.{IsFaultEnd}
-use Rattle.text_modes.specs.Promises.{ToldUnder, ReadFailed, Answers}
-use Rattle.text_modes.specs.TwoTexts.{Texts, HoldsSome, ToldBoth, EitherFailed, TwoTextRun}
-use Rattle.text_modes.specs.declared.ends.Outcome.TheVariants.{Done, Refused}
+use Rattle.text_modes.specs.TwoTexts.{Texts}
 use Rattle.text_modes.specs.declared.ends.End.{End}
-use Rattle.text_modes.specs.declared.ends.End.TheVariants.{Wrote}
 use Rattle.model_texts.specs.declared.fault.ModelFault.{ModelFault}
-use Rattle.model_texts.specs.ModelTexts.{longest_text, HasFault}
-use Rattle.model_texts.specs.HeldModels.{HoldsLowered}
-use Rattle.check_mode.specs.Checked.{Gives, IsAnswered, FailsBehind}
+use Rattle.model_texts.specs.ModelTexts.{IsCauseOf}
+use Rattle.model_texts.specs.HeldModels.{HoldsModel}
+use Rattle.model_checks.specs.Kinds.{Kind}
+use Rattle.model_checks.specs.Kinds as kinds
+use Rattle.model_checks.specs.Checks.{Checks}
+use Rattle.answer_document.specs.declared.verdict.Verdict.{Verdict}
+use Rattle.answer_document.specs.Verdicts.{verdict_text}
+use Rattle.answer_document.specs.Valid.{IsValid}
+use Rattle.ledger_check.specs.declared.fault.Why.{Why}
+use Rattle.ledger_check.specs.Checked.{IsAnswer, IsRefused}
+
+-- Answers as a kind of text: the first text says a model that is compiled, and the second is a valid answer to it, with
+-- some assignment or none, or is refused for some cause.
+abbrev pub answers : Kind Verdict
+answers = record {
+  Holds = HoldsModel;
+  IsCause = IsCauseOf;
+  IsValid = λ model text v. (assignment : Option (List ℤ)) × IsValid model text v assignment;
+  IsTrue = IsAnswer;
+  Fails = λ model text line. (why : Why) × IsRefused model text line why;
+  words = verdict_text;
+}
 
 -- a text says a model that is compiled
 abbrev pub HasModel : List ℕ → Type 0
-HasModel = HoldsSome HoldsLowered
+HasModel = kinds.HasModel answers
 
 -- the end that two texts have of which the first says a model that is compiled
 abbrev pub HaveEnd : Texts → End ModelFault → Type 0
-HaveEnd texts (Wrote Done) = IsAnswered texts
-HaveEnd texts (Wrote (Refused line)) = FailsBehind line texts
-HaveEnd texts end = ⊥
+HaveEnd = kinds.HaveEnd answers
 
--- A run in check mode, with the names of the model and of the answer. Of the text of the model one byte more than the
--- limit is read at most; it is fit where it says a model that is compiled, and else its fault is the first that it has.
--- The text that is given for the two tells the verdict of an answer that is valid, which is then true whoever wrote it,
--- or the first line of the answer that fails.
-pub record CheckMode (input second : List ℕ) (end : End ModelFault) (seen : Seen) : Type 0 where
-  pub run : TwoTextRun (Some (longest_text + 1)) HasModel Gives HasFault input second end seen
-  pub faulty : Answers (ToldUnder input seen) (IsFaultEnd HasFault) (ReadFailed input seen) end seen
-  pub answers : Answers (ToldBoth input second seen) HaveEnd (EitherFailed input second seen) end seen
+-- a run in check mode, with the names of the model and of the answer
+abbrev pub CheckMode : List ℕ → List ℕ → End ModelFault → Seen → Type 0
+CheckMode = Checks answers

@@ -1,8 +1,9 @@
 //! The mode `check`: from the text of a model and that of an answer to whether the answer is valid.
 //!
-//! The model is judged first, its weight too; only then the second text is asked for, and taken
-//! line by line by `ledger_check`. What is written is one line: `ACCEPTED` with the verdict's
-//! words, or `REFUSED` with the number of the first line that fails.
+//! An answer is a kind of text of `model_checks` (`answers`): the model is judged first, its weight
+//! too; only then the second text is asked for, and taken line by line by `ledger_check`. What is
+//! written is one line: `ACCEPTED` with the verdict's words, or `REFUSED` with the number of the first
+//! line that fails.
 //!
 //! What `check` promises is the record `CheckMode`: on `Done` the second text is a valid answer to
 //! the model, and what it says is true, whoever wrote it; on `Refused(n)` it is none, and line n is
@@ -15,7 +16,6 @@
 #![tactic(auto)]
 
 mod laws;
-mod making;
 mod mode;
 
 pub use laws::answer_law;

@@ -3,75 +3,65 @@
 ghost use Rattle.text_modes.specs.Seen.{seen, shelf_shown, sink_shown};
 ghost use Rattle.check_mode.specs.CheckMode.{CheckMode};
 
-use crate::making::check_text;
+use answer_document::{Verdict, push_verdict};
 use bee_outside::{Shelf, Sink};
-use ledger_check::Why;
-use model_texts::{HeldModel, LONGEST_TEXT, ModelFault, ModelTextFault, held_model};
+use ledger_check::{Judgement, Why, check_lowered};
+use model_checks::{Checked, Checker, run_check};
+use model_texts::{HeldModel, ModelFault, ModelTextFault, held_model};
 use std::alloc::{AllocError, Global};
 use std::cell::Cell;
-use text_modes::{End, Outcome, TwoTexts, run_two};
+use text_modes::End;
 
-/// The text of a model is read first, and then that of an answer. Its fault is that of the model. What stands against a
-/// line of the answer that is refused goes beside, into a cell, since no clause speaks of it.
+/// Answers as a kind of text. What stands against a line that is refused goes beside, into a cell, since no clause
+/// speaks of it.
 #[derive(Drop)]
-struct Checking<'a> {
+struct Answers<'a> {
     noted: &'a Cell<Option<Why>>,
 }
 
-impl TwoTexts for Checking<'_> {
-    ghost use Rattle.std.specs.Prelude.{◌+◌, Some};
-    ghost use Rattle.model_texts.specs.ModelTexts.{longest_text, HasFault};
-    ghost use Rattle.model_texts.specs.HeldModels.{HoldsLowered};
-    ghost use Rattle.check_mode.specs.Checked.{Gives};
+impl Checker for Answers<'_> {
+    ghost use Rattle.std.specs.Prelude.{◌≡◌};
+    ghost use Rattle.model_lower.specs.Lowering.{lowered_of};
+    ghost use Rattle.check_mode.specs.CheckMode.{answers};
 
     type Held = HeldModel;
 
-    type Fault = ModelFault;
+    type Verdict = Verdict;
 
-    ghost most = { λ _. Some (longest_text + 1) };
+    ghost kind = { answers };
 
-    ghost holds = { λ _. HoldsLowered };
+    ghost model_of = { λ held. held.model };
 
-    ghost has_fault = { λ _. HasFault };
+    ghost is_kept = { λ held. held.lowered ≡ lowered_of held.model };
 
-    ghost gives = { λ _. Gives };
-
-    fn limit(&self) -> Option<usize> {
-        Some(LONGEST_TEXT + 1)
+    fn judge(&self, alloc: Global, first: &[u8]) -> Result<HeldModel, ModelTextFault> {
+        held_model(alloc, first)
     }
 
-    fn too_long(&self) -> ModelFault {
-        ModelFault::TooLong
-    }
-
-    #[tactic(auto, using(crate::proofs::Ends::had_fault, crate::proofs::Ends::within_limit))]
-    fn judge(
-        &self,
-        alloc: Global,
-        first: &[u8],
-    ) -> Result<Result<HeldModel, ModelFault>, AllocError> {
-        match held_model(alloc, first) {
-            Ok(held) => Ok(Ok(held)),
-            Err(ModelTextFault::Model(fault)) => Ok(Err(fault)),
-            Err(ModelTextFault::Memory) => Err(AllocError),
-        }
-    }
-
-    #[tactic(auto, using(crate::proofs::Ends::given_text))]
-    fn make(
+    fn check(
         &self,
         alloc: Global,
         held: HeldModel,
         answer: &[u8],
-    ) -> Result<(Outcome, Vec<u8>), AllocError> {
-        check_text(alloc, held, answer, self.noted)
+    ) -> Result<Checked<Verdict>, AllocError> {
+        let HeldModel { model, lowered } = held;
+        match check_lowered(alloc, &model, lowered, answer)? {
+            Judgement::Valid(verdict) => Ok(Checked::Valid(verdict)),
+            Judgement::Refused { line, why } => {
+                self.noted.set(Some(why));
+                Ok(Checked::Refused(line))
+            }
+        }
+    }
+
+    fn push_words(&self, out: &mut Vec<u8>, verdict: Verdict) -> Result<(), AllocError> {
+        push_verdict(out, verdict)
     }
 }
 
 /// Reads the text of a model and judges it, and then reads the text of an answer and checks it; makes the line that
-/// tells what came of that, and then writes it. Where both have one name, the answer is what the reading of the model
-/// left: on a shelf that tells its bytes, nothing, which is refused at line 1. What stands against a line that is
-/// refused is put into the cell.
+/// tells what came of that, and then writes it, as by `run_check`. What stands against a line that is refused is put
+/// into the cell.
 pub fn check<S: Shelf, O: Sink>(
     alloc: Global,
     input: &str,
@@ -83,5 +73,5 @@ pub fn check<S: Shelf, O: Sink>(
     ensures { CheckMode input.now second.now result (seen (shelf_shown S.left S.faults)
         (sink_shown O.taken O.flushed O.faults) shelf.old shelf.new out.old out.new) }
 {
-    run_two(alloc, &Checking { noted }, input, second, shelf, out)
+    run_check(alloc, &Answers { noted }, input, second, shelf, out)
 }

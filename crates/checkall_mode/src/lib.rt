@@ -9,13 +9,14 @@
 //! list of the model's solutions, and what it says is true, whoever wrote it: so many, all
 //! different, and where it says ALL there are no others; on `Refused(n)` it is none, and line n is
 //! its first that fails; a model with a first fault gives it, and the second text was not asked
-//! for. `answer_law`: it cannot be that two texts have no end.
+//! for. `answer_law`: it cannot be that two texts have no end. Why a line is refused goes into a cell
+//! of the caller; no clause speaks of it.
 //!
-//! It is `check_mode` with another text: the model is read, judged and held in the same way.
+//! A list is a kind of text of `model_checks` (`lists`); the model is judged and held as that of an
+//! answer (`check_mode`).
 #![tactic(auto)]
 
 mod laws;
-mod making;
 mod mode;
 
 pub use laws::answer_law;

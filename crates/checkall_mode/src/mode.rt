@@ -3,77 +3,72 @@
 ghost use Rattle.text_modes.specs.Seen.{seen, shelf_shown, sink_shown};
 ghost use Rattle.checkall_mode.specs.CheckAllMode.{CheckAllMode};
 
-use crate::making::check_text;
 use bee_outside::{Shelf, Sink};
-use model_texts::{HeldModel, LONGEST_TEXT, ModelFault, ModelTextFault, held_model};
+use list_check::{ListJudgement, RefusedList, check_lowered};
+use list_text::{ListVerdict, push_verdict};
+use model_checks::{Checked, Checker, run_check};
+use model_texts::{HeldModel, ModelFault, ModelTextFault, held_model};
 use std::alloc::{AllocError, Global};
-use text_modes::{End, Outcome, TwoTexts, run_two};
+use std::cell::Cell;
+use text_modes::End;
 
-/// The text of a model is read first, and then that of a list. Its fault is that of the model.
-struct Checking;
+/// Lists of solutions as a kind of text. What stands against a line that is refused goes beside, into a cell, since no
+/// clause speaks of it.
+#[derive(Drop)]
+struct Lists<'a> {
+    noted: &'a Cell<Option<RefusedList>>,
+}
 
-impl TwoTexts for Checking {
-    ghost use Rattle.std.specs.Prelude.{◌+◌, Some};
-    ghost use Rattle.model_texts.specs.ModelTexts.{longest_text, HasFault};
-    ghost use Rattle.model_texts.specs.HeldModels.{HoldsLowered};
-    ghost use Rattle.checkall_mode.specs.Checked.{Gives};
+impl Checker for Lists<'_> {
+    ghost use Rattle.std.specs.Prelude.{◌≡◌};
+    ghost use Rattle.model_lower.specs.Lowering.{lowered_of};
+    ghost use Rattle.checkall_mode.specs.CheckAllMode.{lists};
 
     type Held = HeldModel;
 
-    type Fault = ModelFault;
+    type Verdict = ListVerdict;
 
-    ghost most = { λ _. Some (longest_text + 1) };
+    ghost kind = { lists };
 
-    ghost holds = { λ _. HoldsLowered };
+    ghost model_of = { λ held. held.model };
 
-    ghost has_fault = { λ _. HasFault };
+    ghost is_kept = { λ held. held.lowered ≡ lowered_of held.model };
 
-    ghost gives = { λ _. Gives };
-
-    fn limit(&self) -> Option<usize> {
-        Some(LONGEST_TEXT + 1)
+    fn judge(&self, alloc: Global, first: &[u8]) -> Result<HeldModel, ModelTextFault> {
+        held_model(alloc, first)
     }
 
-    fn too_long(&self) -> ModelFault {
-        ModelFault::TooLong
-    }
-
-    #[tactic(auto, using(crate::proofs::Ends::had_fault, crate::proofs::Ends::within_limit))]
-    fn judge(
-        &self,
-        alloc: Global,
-        first: &[u8],
-    ) -> Result<Result<HeldModel, ModelFault>, AllocError> {
-        match held_model(alloc, first) {
-            Ok(held) => Ok(Ok(held)),
-            Err(ModelTextFault::Model(fault)) => Ok(Err(fault)),
-            Err(ModelTextFault::Memory) => Err(AllocError),
-        }
-    }
-
-    #[tactic(auto, using(crate::proofs::Ends::given_text))]
-    fn make(
+    fn check(
         &self,
         alloc: Global,
         held: HeldModel,
         list: &[u8],
-    ) -> Result<(Outcome, Vec<u8>), AllocError> {
-        check_text(alloc, held, list)
+    ) -> Result<Checked<ListVerdict>, AllocError> {
+        let HeldModel { model, lowered } = held;
+        match check_lowered(alloc, &model, lowered, list, self.noted)? {
+            ListJudgement::Valid(verdict) => Ok(Checked::Valid(verdict)),
+            ListJudgement::Refused(line) => Ok(Checked::Refused(line)),
+        }
+    }
+
+    fn push_words(&self, out: &mut Vec<u8>, verdict: ListVerdict) -> Result<(), AllocError> {
+        push_verdict(out, verdict)
     }
 }
 
 /// Reads the text of a model and judges it, and then reads the text of a list and checks it; makes the line that tells
-/// what came of that, and then writes it. Where both have one name, the list is what the reading of the model left: on
-/// a shelf that tells its bytes, nothing, which is refused at line 1.
+/// what came of that, and then writes it, as by `run_check`. What stands against a line that is refused is put into the
+/// cell.
 pub fn check_all<S: Shelf, O: Sink>(
     alloc: Global,
     input: &str,
     second: &str,
     shelf: &mut S,
     out: &mut O,
+    noted: &Cell<Option<RefusedList>>,
 ) -> End<ModelFault>
     ensures { CheckAllMode input.now second.now result (seen (shelf_shown S.left S.faults)
         (sink_shown O.taken O.flushed O.faults) shelf.old shelf.new out.old out.new) }
 {
-    run_two(alloc, &Checking, input, second, shelf, out)
+    run_check(alloc, &Lists { noted }, input, second, shelf, out)
 }

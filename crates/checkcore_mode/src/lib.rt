@@ -8,13 +8,13 @@
 //! core of the model, and what it says is true, whoever wrote it: the model has the solution that is
 //! told, or no assignment meets all named statements and each of them is needed for that; on
 //! `Refused(n)` it is none, and line n is its first that fails; a model with a first fault gives it,
-//! and the second text was not asked for. `answer_law`: it cannot be that two texts have no end.
+//! and the second text was not asked for. `answer_law`: it cannot be that two texts have no end. Why
+//! a line is refused goes into a cell of the caller; no clause speaks of it.
 //!
-//! It is `checkall_mode` with another text; the model is used up by the check.
+//! A core is a kind of text of `model_checks` (`cores`); the model is used up by the check.
 #![tactic(auto)]
 
 mod laws;
-mod making;
 mod mode;
 
 pub use laws::answer_law;

@@ -3,79 +3,71 @@
 ghost use Rattle.text_modes.specs.Seen.{seen, shelf_shown, sink_shown};
 ghost use Rattle.checkcore_mode.specs.CheckCoreMode.{CheckCoreMode};
 
-use crate::making::check_text;
 use bee_outside::{Shelf, Sink};
+use core_check::{CoreJudgement, RefusedCore, check_text};
 use core_models::whole_model;
-use model_meaning::Model as HeldModel;
-use model_texts::{LONGEST_TEXT, ModelFault, ModelTextFault};
+use core_text::{CoreVerdict, push_verdict};
+use model_checks::{Checked, Checker, run_check};
+use model_meaning::Model;
+use model_texts::{ModelFault, ModelTextFault};
 use std::alloc::{AllocError, Global};
-use text_modes::{End, Outcome, TwoTexts, run_two};
+use std::cell::Cell;
+use text_modes::End;
 
-/// The text of a model is read first, and then that of a core. Its fault is that of the model.
-struct Checking;
+/// Cores as a kind of text. What stands against a line that is refused goes beside, into a cell, since no clause speaks
+/// of it.
+#[derive(Drop)]
+struct Cores<'a> {
+    noted: &'a Cell<Option<RefusedCore>>,
+}
 
-impl TwoTexts for Checking {
-    ghost use Rattle.std.specs.Prelude.{◌+◌, Some};
-    ghost use Rattle.model_texts.specs.ModelTexts.{longest_text};
-    ghost use Rattle.core_models.specs.CoreTexts.{HoldsWhole, HasFaultOf};
-    ghost use Rattle.checkcore_mode.specs.Checked.{Gives};
+impl Checker for Cores<'_> {
+    ghost use Rattle.checkcore_mode.specs.CheckCoreMode.{cores};
 
-    type Held = HeldModel;
+    type Held = Model;
 
-    type Fault = ModelFault;
+    type Verdict = CoreVerdict;
 
-    ghost most = { λ _. Some (longest_text + 1) };
+    ghost kind = { cores };
 
-    ghost holds = { λ _. HoldsWhole };
+    ghost model_of = { λ model. model };
 
-    ghost has_fault = { λ _. HasFaultOf };
+    ghost is_kept = { λ _. Unit {0} };
 
-    ghost gives = { λ _. Gives };
-
-    fn limit(&self) -> Option<usize> {
-        Some(LONGEST_TEXT + 1)
+    fn judge(&self, alloc: Global, first: &[u8]) -> Result<Model, ModelTextFault> {
+        whole_model(alloc, first)
     }
 
-    fn too_long(&self) -> ModelFault {
-        ModelFault::TooLong
-    }
-
-    #[tactic(auto, using(crate::proofs::Ends::had_fault, crate::proofs::Ends::within_limit))]
-    fn judge(
+    fn check(
         &self,
         alloc: Global,
-        first: &[u8],
-    ) -> Result<Result<HeldModel, ModelFault>, AllocError> {
-        match whole_model(alloc, first) {
-            Ok(model) => Ok(Ok(model)),
-            Err(ModelTextFault::Model(fault)) => Ok(Err(fault)),
-            Err(ModelTextFault::Memory) => Err(AllocError),
+        held: Model,
+        core: &[u8],
+    ) -> Result<Checked<CoreVerdict>, AllocError> {
+        match check_text(alloc, held, core, self.noted)? {
+            CoreJudgement::Valid(verdict) => Ok(Checked::Valid(verdict)),
+            CoreJudgement::Refused(line) => Ok(Checked::Refused(line)),
         }
     }
 
-    #[tactic(auto, using(crate::proofs::Ends::given_text))]
-    fn make(
-        &self,
-        alloc: Global,
-        held: HeldModel,
-        core: &[u8],
-    ) -> Result<(Outcome, Vec<u8>), AllocError> {
-        check_text(alloc, held, core)
+    fn push_words(&self, out: &mut Vec<u8>, verdict: CoreVerdict) -> Result<(), AllocError> {
+        push_verdict(out, verdict)
     }
 }
 
 /// Reads the text of a model and judges it, and then reads the text of a core and checks it; makes the line that tells
-/// what came of that, and then writes it. Where both have one name, the core is what the reading of the model left: on
-/// a shelf that tells its bytes, nothing, which is refused at line 1.
+/// what came of that, and then writes it, as by `run_check`. What stands against a line that is refused is put into the
+/// cell.
 pub fn check_core<S: Shelf, O: Sink>(
     alloc: Global,
     input: &str,
     second: &str,
     shelf: &mut S,
     out: &mut O,
+    noted: &Cell<Option<RefusedCore>>,
 ) -> End<ModelFault>
     ensures { CheckCoreMode input.now second.now result (seen (shelf_shown S.left S.faults)
         (sink_shown O.taken O.flushed O.faults) shelf.old shelf.new out.old out.new) }
 {
-    run_two(alloc, &Checking, input, second, shelf, out)
+    run_check(alloc, &Cores { noted }, input, second, shelf, out)
 }

@@ -10,7 +10,7 @@ use Rattle.command_words.specs.Request.{Request, Compile, Weigh, Solve, Check, D
 use Rattle.command_words.specs.Request.{All, CheckAll, Core, CheckCore, Bound, Certify}
 use Rattle.command_words.specs.Request.{is_word, budget_of, size_of, options_with, options_of, lone_input, both_inputs, queens_size}
 use Rattle.command_words.specs.Request.{reading_of, reading_requested, searching_of, searching_requested, queens_requested}
-use Rattle.command_words.specs.Request.{checking_of, checking_requested, bound_of, bound_requested, or_else, series_of, series_requested, untold_requested, mode_requested, requested}
+use Rattle.command_words.specs.Request.{checking_of, checking_requested, bound_of, bound_requested, or_else, still_requested, mode_requested, requested}
 use Rattle.command_words.specs.Line.{is_taken, value_of}
 use Rattle.command_words.specs.Limits.{IsBudget, KeepsLimits, RequestsKeepLimits}
 
@@ -86,12 +86,9 @@ module _ (value : Text → Option Text) (o : Options) (given : IsBudget o.search
   searching word input =
       choose (is_word (codes "solve") word) (Solve input o) _ given
       (choose (is_word (codes "sat") word) (Sat input o) _ given
-      (choose (is_word (codes "opb") word) (Opb input o) None given (λ e. absurd (let c = e in cc))))
-
-  series : (word : Option Text) (input : Text) → series_of word o input ≡ Some asked → KeepsLimits asked
-  series word input =
-      choose (is_word (codes "all") word) (All input o) _ given
-      (choose (is_word (codes "core") word) (Core input o) None given (λ e. absurd (let c = e in cc)))
+      (choose (is_word (codes "opb") word) (Opb input o) _ given
+      (choose (is_word (codes "all") word) (All input o) _ given
+      (choose (is_word (codes "core") word) (Core input o) None given (λ e. absurd (let c = e in cc))))))
 
   checking : (word : Option Text) (names : Text × Text) → checking_of word names ≡ Some asked → KeepsLimits asked
   checking word names =
@@ -128,16 +125,15 @@ module _ (value : Text → Option Text) (o : Options) (given : IsBudget o.search
   bounding true e = given_value (λ names. option_map (Bound names.0) (bound_of names.1)) (λ names. bounded (bound_of names.1) names.1 names.0 refl) (both_inputs value) e
   bounding false e = absurd (let c = e in cc)
 
-  untold : (word : Option Text) → untold_requested word value o ≡ Some asked → KeepsLimits asked
-  untold word =
+  still : (word : Option Text) → still_requested word value ≡ Some asked → KeepsLimits asked
+  still word =
       either (checking_requested word value) _ (given_value (checking_of word) (checking word) (both_inputs value))
-      (either (reading_requested word value) _ (given_value (reading_of word) (reading word) (lone_input value))
-      (either (series_requested word value o) (bound_requested word value) (given_value (series_of word o) (series word) (lone_input value))
-      (bounding (is_word (codes "bound") word))))
+      (either (reading_requested word value) (bound_requested word value) (given_value (reading_of word) (reading word) (lone_input value))
+      (bounding (is_word (codes "bound") word)))
 
-  silent : (word : Option Text) (t : Bool) → (if t then None else untold_requested word value o) ≡ Some asked → KeepsLimits asked
+  silent : (word : Option Text) (t : Bool) → (if t then None else still_requested word value) ≡ Some asked → KeepsLimits asked
   silent word true e = absurd (let c = e in cc)
-  silent word false e = untold word e
+  silent word false e = still word e
 
   mode : (word : Option Text) → mode_requested word value o ≡ Some asked → KeepsLimits asked
   mode word =

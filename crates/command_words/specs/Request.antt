@@ -101,26 +101,18 @@ reading_of mode input =
 abbrev pub reading_requested : Option Text → (Text → Option Text) → Option Request
 reading_requested mode value = option_and_then (reading_of mode) (lone_input value)
 
--- what a mode asks for that reads one text and makes one search, with these options
+-- what a mode asks for that reads one text and searches, with these options
 abbrev pub searching_of : Option Text → Options → Text → Option Request
 searching_of mode options input =
     if is_word (codes "solve") mode then Some (Solve input options)
     else if is_word (codes "sat") mode then Some (Sat input options)
     else if is_word (codes "opb") mode then Some (Opb input options)
+    else if is_word (codes "all") mode then Some (All input options)
+    else if is_word (codes "core") mode then Some (Core input options)
     else None
 
 abbrev pub searching_requested : Option Text → (Text → Option Text) → Options → Option Request
 searching_requested mode value options = option_and_then (searching_of mode options) (lone_input value)
-
--- what a mode asks for that reads one text and makes many searches, with these options
-abbrev pub series_of : Option Text → Options → Text → Option Request
-series_of mode options input =
-    if is_word (codes "all") mode then Some (All input options)
-    else if is_word (codes "core") mode then Some (Core input options)
-    else None
-
-abbrev pub series_requested : Option Text → (Text → Option Text) → Options → Option Request
-series_requested mode value options = option_and_then (series_of mode options) (lone_input value)
 
 -- what the mode asks for that places queens
 abbrev pub queens_requested : Option Text → (Text → Option Text) → Options → Option Request
@@ -153,19 +145,17 @@ abbrev pub or_else : Option Request → Option Request → Option Request
 or_else (Some asked) other = Some asked
 or_else None other = other
 
--- what a mode asks for that makes no search, or many
-abbrev pub untold_requested : Option Text → (Text → Option Text) → Options → Option Request
-untold_requested mode value options =
-    or_else (checking_requested mode value)
-    (or_else (reading_requested mode value)
-    (or_else (series_requested mode value options) (bound_requested mode value)))
+-- what a mode asks for that makes no search
+abbrev pub still_requested : Option Text → (Text → Option Text) → Option Request
+still_requested mode value =
+    or_else (checking_requested mode value) (or_else (reading_requested mode value) (bound_requested mode value))
 
--- what a mode asks for, with these options; the progress of one search alone can be asked for
+-- what a mode asks for, with these options; the progress of a search alone can be asked for
 abbrev pub mode_requested : Option Text → (Text → Option Text) → Options → Option Request
 mode_requested mode value options =
     or_else (searching_requested mode value options)
     (or_else (queens_requested mode value options)
-    (if options.progress then None else untold_requested mode value options))
+    (if options.progress then None else still_requested mode value))
 
 -- what the words ask for, by the values of words and options: modes with one name or number, and with two names
 abbrev pub requested : (Text → Option Text) → Option Request

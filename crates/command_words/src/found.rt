@@ -3,8 +3,9 @@
 ghost use Rattle.std.specs.Prelude.{◌≡◌, codes, option_map};
 ghost use Rattle.clap.specs.Words.{first_value, found_of};
 ghost use Rattle.command_words.specs.Request.{is_word, options_of, lone_input, both_inputs, queens_size, request_of};
-ghost use Rattle.command_words.specs.Request.{reading_requested, searching_requested, series_requested, queens_requested};
-ghost use Rattle.command_words.specs.Request.{checking_requested, bound_requested, untold_requested, mode_requested, requested};
+ghost use Rattle.command_words.specs.Request.{reading_requested, searching_requested, queens_requested};
+ghost use Rattle.command_words.specs.Request.{checking_requested, bound_requested, still_requested};
+ghost use Rattle.command_words.specs.Request.{mode_requested, requested};
 
 use crate::command::{Command, Options};
 use crate::numbers::{bound, budget, size};
@@ -80,7 +81,7 @@ fn reading_command<'a>(mode: Option<&str>, matches: &ArgMatches<'a>) -> Option<C
     }
 }
 
-/// The command of a mode that reads one text and makes one search.
+/// The command of a mode that reads one text and searches.
 fn searching_command<'a>(
     mode: Option<&str>,
     matches: &ArgMatches<'a>,
@@ -96,22 +97,7 @@ fn searching_command<'a>(
         Some(Command::Sat { input, options })
     } else if is_word("opb", mode) {
         Some(Command::Opb { input, options })
-    } else {
-        None
-    }
-}
-
-/// The command of a mode that reads one text and makes many searches.
-fn series_command<'a>(
-    mode: Option<&str>,
-    matches: &ArgMatches<'a>,
-    options: Options,
-) -> Option<Command<'a>>
-    ensures { option_map request_of result
-        ≡ series_requested (option_map (λ s. s.now) mode.entry) (first_value (found_of matches.now)) options }
-{
-    let input = lone_input(matches)?;
-    if is_word("all", mode) {
+    } else if is_word("all", mode) {
         Some(Command::All { input, options })
     } else if is_word("core", mode) {
         Some(Command::Core { input, options })
@@ -174,14 +160,10 @@ fn bound_command<'a>(mode: Option<&str>, matches: &ArgMatches<'a>) -> Option<Com
     }
 }
 
-/// The command of a mode that makes no search, or many.
-fn untold_command<'a>(
-    mode: Option<&str>,
-    matches: &ArgMatches<'a>,
-    options: Options,
-) -> Option<Command<'a>>
+/// The command of a mode that makes no search.
+fn still_command<'a>(mode: Option<&str>, matches: &ArgMatches<'a>) -> Option<Command<'a>>
     ensures { option_map request_of result
-        ≡ untold_requested (option_map (λ s. s.now) mode.entry) (first_value (found_of matches.now)) options }
+        ≡ still_requested (option_map (λ s. s.now) mode.entry) (first_value (found_of matches.now)) }
 {
     if let Some(command) = checking_command(mode, matches) {
         return Some(command);
@@ -189,13 +171,10 @@ fn untold_command<'a>(
     if let Some(command) = reading_command(mode, matches) {
         return Some(command);
     }
-    if let Some(command) = series_command(mode, matches, options) {
-        return Some(command);
-    }
     bound_command(mode, matches)
 }
 
-/// The command of a mode. That the progress is told stands with a mode that makes one search alone.
+/// The command of a mode. That the progress is told stands with a mode that searches alone.
 fn mode_command<'a>(matches: &ArgMatches<'a>, options: Options) -> Option<Command<'a>>
     ensures { option_map request_of result
         ≡ mode_requested (first_value (found_of matches.now) (codes "mode")) (first_value (found_of matches.now))
@@ -211,7 +190,7 @@ fn mode_command<'a>(matches: &ArgMatches<'a>, options: Options) -> Option<Comman
     if options.progress {
         return None;
     }
-    untold_command(mode, matches, options)
+    still_command(mode, matches)
 }
 
 /// The command.

@@ -1,5 +1,5 @@
 -- What comes of the first lines.
-use Rattle.std.proofs.Common.{◌≡◌, ◌≢◌, ◌⊎◌, inl, inr, ℕ, ◌<◌, ◌≤◌, ◌^◌, Bool, true, false, List, [], ◌∷◌, ◌++◌, codes, length, refl, sym, ap, ◌∙◌, subst}
+use Rattle.std.proofs.Common.{◌≡◌, ◌≢◌, inl, inr, ℕ, ◌<◌, ◌^◌, Bool, true, false, List, [], ◌∷◌, ◌++◌, codes, length, refl, sym, ◌∙◌, subst}
 use Rattle.std.specs.Prelude.{IsTrue}
 use Rattle.std.proofs.lemmas.Bool.{true≢false}
 use Rattle.model_meaning.specs.declared.model.Stmt.{Stmt}
@@ -7,8 +7,7 @@ use Rattle.model_meaning.specs.declared.model.Model.{Model}
 use Rattle.model_parts.specs.Only.{is_listed, numbers_of}
 use Rattle.core_text.specs.declared.verdict.CoreVerdict.{CoreVerdict}
 use Rattle.core_text.specs.declared.verdict.CoreVerdict.TheVariants.{Satisfiable, Core, Unknown}
-use Rattle.core_text.specs.CoreLines.{Standing, version_line, verdict_line, statement_line, VerdictFits, MayName, HasNamed, IsNamed, IsLedgerBegin, IsNext, IsEnd}
-use Rattle.core_text.specs.declared.part.Part.TheVariants as part
+use Rattle.core_text.specs.CoreLines.{Standing, version_line, verdict_line, statement_line, VerdictFits, MayName, HasNamed, IsNext, IsEnd}
 use Rattle.core_text.proofs.Words.{number-tells, statement-no-ledger}
 use Rattle.core_check.specs.declared.head.Stage.{Stage}
 use Rattle.core_check.specs.declared.head.Stage.TheVariants as stage

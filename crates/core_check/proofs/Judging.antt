@@ -1,11 +1,11 @@
 -- What the reading of a text comes to.
-use Rattle.std.proofs.Common.{◌≡◌, ℕ, ◌+◌, ◌≤◌, Bool, true, List, [], ◌∷◌, ◌++◌, map, drop, length, ℤ, Option, None, Some, Result, Ok, Err, refl, sym, ap, ◌∙◌, subst, append_assoc, length-append, arith}
+use Rattle.std.proofs.Common.{◌≡◌, ℕ, ◌+◌, ◌≤◌, Bool, true, List, [], ◌∷◌, ◌++◌, map, drop, length, ℤ, None, Some, Result, Ok, Err, refl, sym, ap, ◌∙◌, subst, append_assoc, length-append, arith}
 use Rattle.std.specs.Prelude.{IfOk}
 use Rattle.std.specs.declared.alloc.AllocError.{AllocError}
 use Rattle.std.specs.List.{list_all}
 use Rattle.std.proofs.lemmas.Bool.{and_from}
 use Rattle.std.proofs.lemmas.List.Folds.{list_all-append}
-use Rattle.bee_text.specs.Lines.{lacks, IsLine, AreLines, join_lines, lines_of, unfinished}
+use Rattle.bee_text.specs.Lines.{lacks, IsLine, join_lines, lines_of}
 use Rattle.bee_text.proofs.LineLemmas.{join_lines-append}
 use Rattle.model_meaning.specs.declared.model.Model.{Model}
 use Rattle.model_meaning.specs.Limits.{InLimits}
@@ -36,7 +36,7 @@ use Rattle.core_check.specs.Heads.{done_standing}
 use Rattle.core_check.specs.Marks.{AreMarked}
 use Rattle.core_check.specs.Parts.{IsOfPart, IsPartOf}
 use Rattle.core_check.proofs.Walks.{marked-all}
-use Rattle.core_check.specs.Checked.{IsAcceptedCore, IsRefusedCore, IsJudged, IsJudgedBehind, IsRead}
+use Rattle.core_check.specs.Checked.{IsJudged, IsJudgedBehind, IsRead}
 
 -- a line that isn't the next is the first that fails
 abbrev Any : Standing → List ℕ → Unit {0} → Type 0

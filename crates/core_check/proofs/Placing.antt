@@ -9,10 +9,8 @@ use Rattle.step_kernel.specs.Kernel.{Kernel}
 use Rattle.step_kernel.specs.CnfOf.{cnf_of}
 use Rattle.proof_check.specs.Lrat.{Proof, proof_of}
 use Rattle.certificate_lines.specs.CertificateLines.{IsValueLine, IsStepLine, IsDerivedLine, IsTakenTo}
-use Rattle.core_text.specs.declared.part.Part.{Part}
 use Rattle.core_text.specs.declared.part.Part.TheVariants as part
-use Rattle.core_text.specs.declared.verdict.CoreVerdict.{CoreVerdict}
-use Rattle.core_text.specs.CoreLines.{Standing, without_line, IsStep, IsProofBegin, IsDerived, IsConcluded, next_without, Continues, GoesOn, IsValue, MeetsStatements, IsMet, NextIn, IsNext}
+use Rattle.core_text.specs.CoreLines.{Standing, without_line, IsConcluded, next_without, Continues, GoesOn, MeetsStatements, IsMet, NextIn}
 use Rattle.core_text.proofs.Words.{first_byte}
 use Rattle.core_text.proofs.OneLine.{some-same, derived-letter, continues-letter, no-turn}
 use Rattle.core_text.proofs.WholeText.{all-valued}

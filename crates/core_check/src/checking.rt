@@ -22,6 +22,7 @@ use crate::fault::CoreFault;
 use crate::head::{Front, Head, Stage, read_head};
 use crate::marking::mark_rest;
 use crate::reading::{Place, Reading, read_text};
+use crate::refused::RefusedCore;
 use bee_list::Sequence;
 use bee_text::Lines;
 use core_text::CoreVerdict;
@@ -30,6 +31,7 @@ use model_lower::{Lowered, lower};
 use model_meaning::{Assignment, Model};
 use model_parts::{DividedModel, core_weight};
 use std::alloc::{AllocError, Global};
+use std::cell::Cell;
 use step_kernel::State;
 
 /// The greatest weight of a model whose parts are all taken.
@@ -76,12 +78,13 @@ fn judge(
     reading: &mut Reading,
     rest: &[u8],
     read: usize,
+    noted: &Cell<Option<RefusedCore>>,
 ) -> Result<CoreJudgement, AllocError>
     requires limits { InLimits model.now }
     requires small { read + length rest.now + 1 < 2 ^ 64 }
     ensures { IfOk result (IsJudgedBehind (standing_of model.now reading.old) rest.now read) }
 {
-    match read_text(alloc, model, reading, rest) {
+    match read_text(alloc, model, reading, rest, noted) {
         Ok(None) => Ok(CoreJudgement::Valid(reading.verdict)),
         Ok(Some(line)) => Ok(CoreJudgement::Refused(line_behind(read, line))),
         Err(_) => Err(AllocError),
@@ -105,6 +108,7 @@ fn judge_part(
     head: Head,
     rest: &[u8],
     read: usize,
+    noted: &Cell<Option<RefusedCore>>,
 ) -> Result<CoreJudgement, AllocError>
     requires typed { WellTyped model }
     requires limits { InLimits model }
@@ -137,7 +141,7 @@ fn judge_part(
         state: Some(state),
         proof: None,
     };
-    judge(alloc, part, &mut reading, rest, read)
+    judge(alloc, part, &mut reading, rest, read, noted)
 }
 
 /// What comes of the lines behind the verdict, where a solution is to be shown.
@@ -147,6 +151,7 @@ fn judge_solution(
     head: Head,
     rest: &[u8],
     read: usize,
+    noted: &Cell<Option<RefusedCore>>,
 ) -> Result<CoreJudgement, AllocError>
     requires limits { InLimits model.now }
     requires done { head.stage ≡ Stage.Done }
@@ -166,7 +171,7 @@ fn judge_solution(
         state: None,
         proof: None,
     };
-    judge(alloc, model, &mut reading, rest, read)
+    judge(alloc, model, &mut reading, rest, read, noted)
 }
 
 /// Whether a verdict is shown of a part.
@@ -187,6 +192,7 @@ fn judge_behind(
     head: Head,
     rest: &[u8],
     read: usize,
+    noted: &Cell<Option<RefusedCore>>,
 ) -> Result<CoreJudgement, AllocError>
     requires typed { WellTyped model }
     requires limits { InLimits model }
@@ -197,14 +203,19 @@ fn judge_behind(
     ensures { IfOk result (IsJudgedBehind (head_standing model head) rest.now read) }
 {
     if is_of_part(head.verdict) {
-        judge_part(alloc, model, head, rest, read)
+        judge_part(alloc, model, head, rest, read, noted)
     } else {
-        judge_solution(alloc, &model, head, rest, read)
+        judge_solution(alloc, &model, head, rest, read, noted)
     }
 }
 
 /// What comes of all lines.
-fn judge_text(alloc: Global, model: Model, text: &[u8]) -> Result<CoreJudgement, AllocError>
+fn judge_text(
+    alloc: Global,
+    model: Model,
+    text: &[u8],
+    noted: &Cell<Option<RefusedCore>>,
+) -> Result<CoreJudgement, AllocError>
     requires typed { WellTyped model }
     requires limits { InLimits model }
     requires light { core_weight model ≤ most_weight }
@@ -212,17 +223,23 @@ fn judge_text(alloc: Global, model: Model, text: &[u8]) -> Result<CoreJudgement,
 {
     let mut head = Head::new(alloc);
     let mut lines = Lines::new(text);
-    match read_head(&model, &mut head, &mut lines) {
+    match read_head(&model, &mut head, &mut lines, noted) {
         Ok(Front::Fails(line)) => Ok(CoreJudgement::Refused(line)),
-        Ok(Front::Leads(read)) => judge_behind(alloc, model, head, lines.rest(), read),
+        Ok(Front::Leads(read)) => judge_behind(alloc, model, head, lines.rest(), read, noted),
         Err(_) => Err(AllocError),
     }
 }
 
 /// Whether a text is that of a core of a model, whoever wrote it, where no part of the model weighs too much: its
 /// verdict, which is then true, or the number of the first line that fails. One pass over the text and one over the
-/// statements, of which none is copied; the state of the compilation and the clauses are kept.
-pub fn check_text(alloc: Global, model: Model, text: &[u8]) -> Result<CoreJudgement, AllocError>
+/// statements, of which none is copied; the state of the compilation and the clauses are kept. What stands against a
+/// line that fails is put into the cell.
+pub fn check_text(
+    alloc: Global,
+    model: Model,
+    text: &[u8],
+    noted: &Cell<Option<RefusedCore>>,
+) -> Result<CoreJudgement, AllocError>
     requires typed { WellTyped model }
     requires limits { InLimits model }
     requires light { core_weight model ≤ most_weight }
@@ -232,7 +249,7 @@ pub fn check_text(alloc: Global, model: Model, text: &[u8]) -> Result<CoreJudgem
     ensures complete { (v : CoreVerdict) → IsCoreText model text.now v
         → IfOk result (λ j. j ≡ judged.Valid v) }
 {
-    judge_text(alloc, model, text)
+    judge_text(alloc, model, text, noted)
 }
 
 /// Whether a text is that of a core of a model, as by `check_text`. The model is weighed first, and refused where a
@@ -254,7 +271,7 @@ pub fn check_core(alloc: Global, model: Model, text: &[u8]) -> Result<CoreVerdic
     if weight > MOST_WEIGHT {
         return Err(CoreFault::TooHeavy(weight));
     }
-    match check_text(alloc, model, text) {
+    match check_text(alloc, model, text, &Cell::new(None)) {
         Ok(CoreJudgement::Valid(verdict)) => Ok(verdict),
         Ok(CoreJudgement::Refused(line)) => Err(CoreFault::Refused(line)),
         Err(AllocError) => Err(CoreFault::Memory),

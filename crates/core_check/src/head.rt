@@ -7,12 +7,14 @@ ghost use Rattle.core_text.specs.CoreLines.{start_standing, statement_line, MayN
 ghost use Rattle.core_check.specs.Heads.{stage_behind, head_standing, IsWalked, IsHeadTaken, IsFront};
 
 use crate::marking::mark;
+use crate::refused::RefusedCore;
 use crate::words::{read_numbered, read_verdict};
 use bee_text::Lines;
 use certificate_lines::is;
 use core_text::CoreVerdict;
 use model_meaning::Model;
 use std::alloc::{AllocError, Global};
+use std::cell::Cell;
 
 /// Which line is wanted next.
 #[derive(Clone, Copy, Debug, PartialEq, Eq)]
@@ -206,10 +208,12 @@ impl Head {
 }
 
 /// Takes the first lines of a text, up to the one behind the named statements, or to the first that isn't the next.
+/// What stands against that is put into the cell.
 pub(crate) fn read_head(
     model: &Model,
     head: &mut Head,
     lines: &mut Lines<'_>,
+    noted: &Cell<Option<RefusedCore>>,
 ) -> Result<Front, AllocError>
     requires none { lines.old.read ≡ 0 }
     requires short { length lines.old.rest < 2 ^ 63 }
@@ -220,6 +224,7 @@ pub(crate) fn read_head(
     let mut read: usize = 0;
     while let Some(line) = lines.next_line() {
         if !head.take_line(model, line.bytes)? {
+            noted.set(Some(head.against(line.bytes)));
             return Ok(Front::Fails(line.number as u64));
         }
         read = line.number;
@@ -227,5 +232,6 @@ pub(crate) fn read_head(
             return Ok(Front::Leads(read));
         }
     }
+    noted.set(Some(RefusedCore::Missing));
     Ok(Front::Fails(read as u64 + 1))
 }

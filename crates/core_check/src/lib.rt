@@ -14,6 +14,9 @@
 //! first line that fails, counted from 1, and then the text is none of a core (`fault`); or memory
 //! is wanting. `check_text` is the same of a model that is known to be light enough.
 //!
+//! Why a line is refused (`RefusedCore`) goes into a cell of the caller, who may say it; no clause speaks of
+//! it.
+//!
 //! `core_text` defines which line may stand next. The reading is in two: up to the line behind the
 //! named statements the model is lent, and behind it the part is, so `Head` and `Reading` are two.
 #![tactic(auto)]
@@ -23,7 +26,9 @@ mod fault;
 mod head;
 mod marking;
 mod reading;
+mod refused;
 mod words;
 
 pub use checking::{CoreJudgement, check_core, check_text};
 pub use fault::CoreFault;
+pub use refused::RefusedCore;

@@ -5,7 +5,7 @@ use std::alloc::Global;
 use std::process::Abort;
 use std::test::Fail;
 
-/// Checks a core, and compares what is written.
+/// Checks a core, and compares what is written. The end of the run isn't asked for: the written line tells it.
 fn check_row<R: Abort>(
     rt: &R,
     alloc: Global,
@@ -24,14 +24,16 @@ const TWO: &str =
 
 /// Its core.
 const CORE: &str =
-    "bee core 1\nCORE 2\nstatement 3\nstatement 5\nledger\neq 1 form 1 T\neq 2 form T F\nproof\nwithout 3\na = false\nb = false\nwithout 5\na = true\nb = true\nend\n";
+    "bee core 1\nCORE 2\nstatement 3\nstatement 5\nledger\neq 1 form 1 T\neq 2 form T F\nproof\nwithout 3\na = false\n\
+    b = false\nwithout 5\na = true\nb = true\nend\n";
 
 /// Texts over this model, and what comes of them.
 static TEXTS: [(&str, &str); 41] = [
     (CORE, "ACCEPTED CORE 2\n"),
     // One statement too many: what it should be needed for breaks without it, too.
     (
-        "bee core 1\nCORE 3\nstatement 3\nstatement 4\nstatement 5\nledger\neq 1 form 1 T\neq 3 form T F\nproof\nwithout 3\na = false\nb = true\nwithout 4\na = true\nb = true\nwithout 5\na = true\nb = true\nend\n",
+        "bee core 1\nCORE 3\nstatement 3\nstatement 4\nstatement 5\nledger\neq 1 form 1 T\neq 3 form T F\nproof\n\
+        without 3\na = false\nb = true\nwithout 4\na = true\nb = true\nwithout 5\na = true\nb = true\nend\n",
         "REFUSED 16\n",
     ),
     // The version and the verdict.
@@ -95,7 +97,8 @@ static TEXTS: [(&str, &str); 41] = [
         "REFUSED 9\n",
     ),
     (
-        "bee core 1\nCORE 2\nstatement 3\nstatement 5\nledger\neq 1 form 1 T\neq 2 form T F\nproof\nwithout 3\na = false\nb = false\nend\n",
+        "bee core 1\nCORE 2\nstatement 3\nstatement 5\nledger\neq 1 form 1 T\neq 2 form T F\nproof\nwithout 3\n\
+        a = false\nb = false\nend\n",
         "REFUSED 12\n",
     ),
     // A value of no domain, another name's, one that lacks, and one too many.
@@ -104,29 +107,35 @@ static TEXTS: [(&str, &str); 41] = [
         "REFUSED 10\n",
     ),
     (
-        "bee core 1\nCORE 2\nstatement 3\nstatement 5\nledger\neq 1 form 1 T\neq 2 form T F\nproof\nwithout 3\nb = false\n",
+        "bee core 1\nCORE 2\nstatement 3\nstatement 5\nledger\neq 1 form 1 T\neq 2 form T F\nproof\nwithout 3\n\
+        b = false\n",
         "REFUSED 10\n",
     ),
     (
-        "bee core 1\nCORE 2\nstatement 3\nstatement 5\nledger\neq 1 form 1 T\neq 2 form T F\nproof\nwithout 3\na = false\nwithout 5\n",
+        "bee core 1\nCORE 2\nstatement 3\nstatement 5\nledger\neq 1 form 1 T\neq 2 form T F\nproof\nwithout 3\n\
+        a = false\nwithout 5\n",
         "REFUSED 11\n",
     ),
     // An assignment that breaks the other statement, at the line behind its last value.
     (
-        "bee core 1\nCORE 2\nstatement 3\nstatement 5\nledger\neq 1 form 1 T\neq 2 form T F\nproof\nwithout 3\na = true\nb = false\nwithout 5\n",
+        "bee core 1\nCORE 2\nstatement 3\nstatement 5\nledger\neq 1 form 1 T\neq 2 form T F\nproof\nwithout 3\n\
+        a = true\nb = false\nwithout 5\n",
         "REFUSED 12\n",
     ),
     (
-        "bee core 1\nCORE 2\nstatement 3\nstatement 5\nledger\neq 1 form 1 T\neq 2 form T F\nproof\nwithout 3\na = false\nb = false\nwithout 5\na = false\nb = true\nend\n",
+        "bee core 1\nCORE 2\nstatement 3\nstatement 5\nledger\neq 1 form 1 T\neq 2 form T F\nproof\nwithout 3\n\
+        a = false\nb = false\nwithout 5\na = false\nb = true\nend\n",
         "REFUSED 15\n",
     ),
     // Something behind the end, and an end without its line feed.
     (
-        "bee core 1\nCORE 2\nstatement 3\nstatement 5\nledger\neq 1 form 1 T\neq 2 form T F\nproof\nwithout 3\na = false\nb = false\nwithout 5\na = true\nb = true\nend\nend\n",
+        "bee core 1\nCORE 2\nstatement 3\nstatement 5\nledger\neq 1 form 1 T\neq 2 form T F\nproof\nwithout 3\n\
+        a = false\nb = false\nwithout 5\na = true\nb = true\nend\nend\n",
         "REFUSED 16\n",
     ),
     (
-        "bee core 1\nCORE 2\nstatement 3\nstatement 5\nledger\neq 1 form 1 T\neq 2 form T F\nproof\nwithout 3\na = false\nb = false\nwithout 5\na = true\nb = true\nend",
+        "bee core 1\nCORE 2\nstatement 3\nstatement 5\nledger\neq 1 form 1 T\neq 2 form T F\nproof\nwithout 3\n\
+        a = false\nb = false\nwithout 5\na = true\nb = true\nend",
         "REFUSED 15\n",
     ),
     // It has no solution.
@@ -173,13 +182,15 @@ static OTHERS: [(&str, &str, &str); 8] = [
     ),
     (
         "new_bool(a)\nbool_array_or([a])\nbool_array_or([-a])\nsolve satisfy\n",
-        "bee core 1\nCORE 2\nstatement 2\nstatement 3\nledger\neq 1 form 1 T\neq 2 form T F\nproof\nwithout 2\na = false\nwithout 3\na = true\nend\n",
+        "bee core 1\nCORE 2\nstatement 2\nstatement 3\nledger\neq 1 form 1 T\neq 2 form T F\nproof\nwithout 2\n\
+        a = false\nwithout 3\na = true\nend\n",
         "ACCEPTED CORE 2\n",
     ),
     // A `bool2int` outside of the part still declares its integer, from 0 to 1, which need not be its Boolean's.
     (
         "new_bool(a)\nbool2int(a,x)\nbool_array_or([a])\nbool_array_or([-a])\nsolve satisfy\n",
-        "bee core 1\nCORE 2\nstatement 3\nstatement 4\nledger\neq 2 form 1 T\neq 3 form T F\nproof\nwithout 3\na = false\nx = 1\nwithout 4\na = true\nx = 0\nend\n",
+        "bee core 1\nCORE 2\nstatement 3\nstatement 4\nledger\neq 2 form 1 T\neq 3 form T F\nproof\nwithout 3\n\
+        a = false\nx = 1\nwithout 4\na = true\nx = 0\nend\n",
         "ACCEPTED CORE 2\n",
     ),
 ];

@@ -1,5 +1,5 @@
 -- What comes of a question about another part.
-use Rattle.std.proofs.Common.{◌≡◌, ℕ, Bool, List, refl, sym, ap, ◌∙◌, subst}
+use Rattle.std.proofs.Common.{◌≡◌, ℕ, Bool, List, sym, ap, ◌∙◌, subst}
 use Rattle.core_forms.specs.declared.equation.Equation.{Equation}
 use Rattle.core_forms.specs.declared.form.Core.{Core}
 use Rattle.model_meaning.specs.declared.model.Model.{Model}
@@ -13,10 +13,10 @@ use Rattle.core_extract.specs.declared.reduction.Reduction.{Reduction}
 use Rattle.core_extract.specs.declared.reduction.SpentPart.{SpentPart}
 use Rattle.core_extract.specs.declared.reduction.Attempt.TheVariants as attempt
 use Rattle.core_extract.specs.declared.choosing.Choice.{Choice}
-use Rattle.core_extract.specs.declared.choosing.Growth.{Growth}
 use Rattle.core_extract.specs.declared.choosing.Leaving.{Leaving}
+use Rattle.core_extract.specs.declared.trimming.Trimming.{Trimming}
 use Rattle.core_extract.specs.Parts.{whole_of, part_of, IsAnew}
-use Rattle.core_extract.specs.Extracted.{IsReply, IsRefutation, IsGivenUp, IsReduced, IsAttempt, IsChoice, IsGrowth, IsLeaving}
+use Rattle.core_extract.specs.Extracted.{IsReply, IsRefutation, IsGivenUp, IsReduced, IsAttempt, IsChoice, IsTrimming, IsLeaving}
 use Rattle.core_extract.proofs.Divisions.{anew-part}
 
 pub anew-behind : (a b c : DividedModel) (x y : List Bool) → IsAnew a x b → IsAnew b y c → IsAnew a y c
@@ -67,8 +67,8 @@ module _ (told : Core → Equation → Type 0) (options : Options) (old : Reduct
 pub choice-as : (told : Core → Equation → Type 0) (options : Options) (old : Reduction) (a b : Choice) → a ≡ b → IsChoice told options old a → IsChoice told options old b
 choice-as told options old a b e h = subst (IsChoice told options old) e h
 
-pub growth-as : (told : Core → Equation → Type 0) (options : Options) (old : Reduction) (a b : Growth) → a ≡ b → IsGrowth told options old a → IsGrowth told options old b
-growth-as told options old a b e h = subst (IsGrowth told options old) e h
+pub trimming-as : (told : Core → Equation → Type 0) (options : Options) (old : Reduction) (a b : Trimming) → a ≡ b → IsTrimming told options old a → IsTrimming told options old b
+trimming-as told options old a b e h = subst (IsTrimming told options old) e h
 
 pub leaving-as : (told : Core → Equation → Type 0) (options : Options) (old : Reduction) (a b : Leaving) → a ≡ b → IsLeaving told options old a → IsLeaving told options old b
 leaving-as told options old a b e h = subst (IsLeaving told options old) e h

@@ -8,7 +8,6 @@ use Rattle.ledger_text.specs.declared.line.Line.{Line}
 use Rattle.proof_check.specs.declared.line.ProofLine.{ProofLine}
 use Rattle.proof_check.specs.Lrat.{Proof, proof_of, take_lines}
 use Rattle.proof_check.specs.Known.{known}
-use Rattle.model_meaning.specs.declared.model.Goal.TheVariants.{Satisfy}
 use Rattle.model_meaning.specs.declared.model.Stmt.{Stmt}
 use Rattle.model_meaning.specs.declared.model.Model.{Model}
 use Rattle.model_meaning.specs.declared.model.Assignment.{Assignment}
@@ -30,7 +29,7 @@ use Rattle.answer_document.specs.declared.document.Document.{Document}
 use Rattle.answer_document.specs.Valid.{start_of, IsDerived, IsCertified, IsReadableDocument, AreReadableSteps, AreReadableLines, AreAddedAlone}
 use Rattle.search_options.specs.declared.options.SearchOptions.{SearchOptions as Options}
 use Rattle.decode_minimize.specs.Answers.{IsBudget}
-use Rattle.core_text.specs.declared.verdict.CoreVerdict.TheVariants.{Satisfiable, Core as CoreOf, Unknown}
+use Rattle.core_text.specs.declared.verdict.CoreVerdict.TheVariants.{Core as CoreOf, Unknown}
 use Rattle.core_text.specs.declared.document.CoreDocument.{CoreDocument}
 use Rattle.core_text.specs.CoreDocuments.{ArePart, IsShownBy, IsDocumentOf, AreWitnesses, AreWhole}
 use Rattle.core_text.specs.CoreLines.{VerdictFits}

@@ -1,14 +1,13 @@
 -- A model that is divided anew, and its part.
-use Rattle.std.proofs.Common.{◌≡◌, ℕ, Bool, true, false, List, [], ◌∷◌, Result, Ok, Err, refl, ap, sym, ◌∙◌, subst}
+use Rattle.std.proofs.Common.{◌≡◌, Bool, List, [], Result, Ok, Err, refl, ap, sym, ◌∙◌, subst}
 use Rattle.std.specs.Prelude.{IfOk}
 use Rattle.std.specs.declared.alloc.AllocError.{AllocError}
 use Rattle.model_meaning.specs.declared.model.Model.{Model}
-use Rattle.model_meaning.specs.declared.model.Stmt.{Stmt}
 use Rattle.model_meaning.specs.Limits.{InLimits}
 use Rattle.model_meaning.specs.WellTyped.{WellTyped}
 use Rattle.model_parts.specs.declared.divided.DividedModel.{DividedModel}
 use Rattle.model_parts.specs.Only.{numbers_of}
-use Rattle.model_parts.specs.Sides.{kept_of, left_of, woven, IsDivided, IsMoved}
+use Rattle.model_parts.specs.Sides.{kept_of, woven, IsDivided, IsMoved}
 use Rattle.model_parts.proofs.Typed.{only-typed, only-limits}
 use Rattle.model_parts.proofs.Weaving.{woven-sides, part-only}
 use Rattle.core_extract.specs.Parts.{satisfying, whole_of, part_of, IsFit, IsAnew}

@@ -1,5 +1,5 @@
 -- What the document of a core says of a model, and that it is true.
-use Rattle.std.specs.Prelude.{◌≡◌, ℕ, ◌≤◌, length}
+use Rattle.std.specs.Prelude.{◌≡◌, ◌≤◌, length}
 use Rattle.model_meaning.specs.declared.model.Model.{Model}
 use Rattle.model_meaning.specs.Limits.{InLimits}
 use Rattle.model_meaning.specs.WellTyped.{WellTyped}

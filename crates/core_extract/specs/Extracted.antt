@@ -1,6 +1,5 @@
 -- What an answer to a part gives, and what is extracted from a model.
 use Rattle.std.specs.Prelude.{◌≡◌, ℕ, ◌<◌, Bool, List, [], ◌∷◌, length, Option, Some, None}
-use Rattle.core_cost.specs.Saturated.{saturated}
 use Rattle.core_forms.specs.declared.equation.Equation.{Equation}
 use Rattle.core_forms.specs.declared.form.Core.{Core}
 use Rattle.ledger_text.specs.declared.line.Line.{Line}
@@ -35,8 +34,8 @@ use Rattle.core_extract.specs.declared.settling.Turn.{Turn}
 use Rattle.core_extract.specs.declared.settling.Turn.TheVariants as turn
 use Rattle.core_extract.specs.declared.choosing.Choice.{Choice}
 use Rattle.core_extract.specs.declared.choosing.Choice.TheVariants as choice
-use Rattle.core_extract.specs.declared.choosing.Growth.{Growth}
-use Rattle.core_extract.specs.declared.choosing.Growth.TheVariants as growth
+use Rattle.core_extract.specs.declared.trimming.Trimming.{Trimming}
+use Rattle.core_extract.specs.declared.trimming.Trimming.TheVariants as trimming
 use Rattle.core_extract.specs.declared.choosing.Leaving.{Leaving}
 use Rattle.core_extract.specs.declared.choosing.Leaving.TheVariants as leaving
 use Rattle.core_extract.specs.declared.extracting.ExtractedCore.{ExtractedCore}
@@ -116,9 +115,9 @@ IsChoice told options old (choice.Spent r s) =
     IsSpentPart told (whole_of old.model) options s × (whole_of r.model ≡ whole_of old.model)
 
 -- it goes on with a part of the same model
-abbrev pub IsGrowth : (Core → Equation → Type 0) → Options → Reduction → Growth → Type 0
-IsGrowth told options old (growth.Further r) = IsReduced told options r × IsSameModel old r
-IsGrowth told options old (growth.Ended r) = IsReduced told options r × IsSameModel old r
+abbrev pub IsTrimming : (Core → Equation → Type 0) → Options → Reduction → Trimming → Type 0
+IsTrimming told options old (trimming.Smaller r) = IsReduced told options r × IsSameModel old r
+IsTrimming told options old (trimming.Ended r) = IsReduced told options r × IsSameModel old r
 
 abbrev pub IsLeaving : (Core → Equation → Type 0) → Options → Reduction → Leaving → Type 0
 IsLeaving told options old (leaving.Next r size) = IsReduced told options r × IsSameModel old r
@@ -199,8 +198,8 @@ spent_document budget s = record {
   assignments = [];
 }
 
--- the model, with one for each `bool2int` that declares its integer, weighs too much, and that is told, as a number of
--- 128 bits has it; or memory was wanting
+-- the model, with one for each `bool2int` that declares its integer, weighs too much, and that is told; or memory was
+-- wanting
 abbrev pub IsFaultOf : LowerFault → Model → Type 0
-IsFaultOf (TooHeavy w) model = (most_weight < core_weight model) × (w ≡ saturated (core_weight model))
+IsFaultOf (TooHeavy w) model = (most_weight < core_weight model) × (w ≡ core_weight model)
 IsFaultOf Memory model = Unit {0}

@@ -9,7 +9,7 @@ use Rattle.model_meaning.specs.Solutions.{AllHold}
 use Rattle.model_meaning.specs.Limits.{InLimits}
 use Rattle.model_meaning.specs.WellTyped.{WellTyped}
 use Rattle.model_parts.specs.declared.divided.DividedModel.{DividedModel}
-use Rattle.model_parts.specs.Only.{numbers_of, all_but}
+use Rattle.model_parts.specs.Only.{all_but}
 use Rattle.model_parts.specs.Sides.{kept_of, woven, IsDivided}
 
 -- a model for which any solution serves

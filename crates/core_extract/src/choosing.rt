@@ -1,25 +1,22 @@
 //! Which parts are asked about. All here is free: a part counts only by what is replied about it.
 //!
-//! First a part grows from nothing by what its solutions break, which finds small parts by small questions. Then groups
-//! of statements are left out of it, twice as many after each that can be spared.
+//! First a part is trimmed to what its refutation used. Then groups of statements are left out of it, twice as many
+//! after each that can be spared, and what is left is trimmed again.
 
-ghost use Rattle.std.specs.Prelude.{◌≡◌, length, IfOk, IsTrue};
-ghost use Rattle.model_meaning.specs.Limits.{InLimits};
+ghost use Rattle.std.specs.Prelude.{◌≡◌, length, IfOk};
 ghost use Rattle.decode_minimize.specs.Answers.{IsBudget};
-ghost use Rattle.core_extract.specs.Extracted.{IsReduced, IsSameModel, IsChoice, IsGrowth, IsLeaving};
+ghost use Rattle.core_extract.specs.Extracted.{IsReduced, IsSameModel, IsChoice, IsLeaving};
 
 use crate::reduction::{Attempt, Reduction, SpentPart};
 use crate::reply::Asker;
 use crate::rotating::keep;
+use crate::trimming::trim;
+use crate::watching::CoreWatcher;
 use crate::witnesses::Witnesses;
 use fixpoint_queue::Oracle;
-use model_meaning::{Assignment, Model, holds, in_domains};
 use rule_base::Steps;
 use std::alloc::{AllocError, Global};
 use std::sync::ledger::Ledger;
-
-/// How many questions a part may grow by.
-const MOST_GROWTHS: usize = 12;
 
 /// A part that was chosen.
 #[derive(Drop)]
@@ -28,15 +25,6 @@ pub enum Choice {
     Part(Reduction),
     /// Of a part without one statement it is open.
     Spent(Reduction, SpentPart),
-}
-
-/// What came of a question about a part that grows.
-#[derive(Drop)]
-pub enum Growth {
-    /// It takes in more.
-    Further(Reduction),
-    /// It has no solution, or it is open whether it has one.
-    Ended(Reduction),
 }
 
 /// What came of leaving out a group of statements.
@@ -52,99 +40,9 @@ pub enum Leaving {
 
 /// Marks, and how many of them were set.
 #[derive(Drop)]
-struct Group {
-    out: Vec<bool>,
-    count: usize,
-}
-
-/// Takes in the statements of a part that an assignment breaks.
-fn take_in(part: &Model, out: &[bool], a: &Assignment, left: &mut [bool])
-    requires { InLimits part.now }
-{
-    if !in_domains(part, a) {
-        return;
-    }
-    let mut at = 0;
-    for place in 0..out.len() {
-        if !out[place] && at < part.stmts.len() && place < left.len() {
-            if !holds(part, at, a) {
-                left[place] = false;
-            }
-            at += 1;
-        }
-    }
-}
-
-/// Whether there are as many marks.
-fn same_length(left: &[bool], out: &[bool]) -> bool
-    ensures { IsTrue result → length left.now ≡ length out.now }
-{
-    left.len() == out.len()
-}
-
-/// Asks about what was taken in so far, and takes in what its solution breaks.
-fn grow_by<F: Oracle<L>, L: Ledger>(
-    reduction: Reduction,
-    asker: &Asker<F>,
-    left: &mut [bool],
-    steps: &mut Steps<L>,
-) -> Result<Growth, AllocError>
-    requires reduced { IsReduced F.told asker.now.options reduction }
-    requires budget { IsBudget asker.now.options.budget }
-    requires count { length left.old ≡ length reduction.out.items }
-    ensures { IfOk result (IsGrowth F.told asker.now.options reduction) }
-{
-    let out = Vec::from_slice(asker.alloc, left)?;
-    let attempt = reduction.attempt(asker, out, steps)?;
-    match attempt {
-        Attempt::Smaller(smaller) => Ok(Growth::Ended(smaller)),
-        Attempt::Solved(same, a) => {
-            take_in(same.part(), same.out.as_slice(), &a, left);
-            Ok(Growth::Further(same))
-        }
-        Attempt::Spent(same, _) => Ok(Growth::Ended(same)),
-    }
-}
-
-/// One more question, where there are as many marks as the part has.
-fn grow_once<F: Oracle<L>, L: Ledger>(
-    reduction: Reduction,
-    asker: &Asker<F>,
-    left: &mut [bool],
-    steps: &mut Steps<L>,
-) -> Result<Growth, AllocError>
-    requires reduced { IsReduced F.told asker.now.options reduction }
-    requires budget { IsBudget asker.now.options.budget }
-    ensures { IfOk result (IsGrowth F.told asker.now.options reduction) }
-{
-    if same_length(left, reduction.out.as_slice()) {
-        grow_by(reduction, asker, left, steps)
-    } else {
-        Ok(Growth::Ended(reduction))
-    }
-}
-
-/// A part that grew by what its solutions break, until it had none.
-fn grow<F: Oracle<L>, L: Ledger>(
-    reduction: Reduction,
-    asker: &Asker<F>,
-    steps: &mut Steps<L>,
-) -> Result<Reduction, AllocError>
-    requires reduced { IsReduced F.told asker.now.options reduction }
-    requires budget { IsBudget asker.now.options.budget }
-    ensures reduced { IfOk result (IsReduced F.told asker.now.options) }
-    ensures same { IfOk result (IsSameModel reduction) }
-{
-    let mut left = vec![in asker.alloc; true; reduction.out.len()]?;
-    let mut reduction = reduction;
-    for _ in 0..MOST_GROWTHS {
-        let growth = grow_once(reduction, asker, left.as_mut_slice(), steps)?;
-        match growth {
-            Growth::Ended(grown) => return Ok(grown),
-            Growth::Further(same) => reduction = same,
-        }
-    }
-    Ok(reduction)
+pub(crate) struct Group {
+    pub(crate) out: Vec<bool>,
+    pub(crate) count: usize,
 }
 
 /// Sets so many marks more, from the end, of statements of which it isn't known that they are needed; how many were
@@ -185,9 +83,9 @@ fn next_size(single: bool, size: usize) -> usize {
 }
 
 /// Asks about the part without a group.
-fn leave_out<F: Oracle<L>, L: Ledger>(
+fn leave_out<F: Oracle<L>, L: Ledger, W: CoreWatcher>(
     reduction: Reduction,
-    asker: &Asker<F>,
+    asker: &Asker<'_, F, W>,
     numbers: &[u64],
     witnesses: &mut Witnesses,
     size: usize,
@@ -204,7 +102,10 @@ fn leave_out<F: Oracle<L>, L: Ledger>(
     }
     let attempt = reduction.attempt(asker, group.out, steps)?;
     match attempt {
-        Attempt::Smaller(smaller) => Ok(Leaving::Next(smaller, size.saturating_mul(2))),
+        Attempt::Smaller(smaller) => {
+            let trimmed = trim(smaller, asker, steps)?;
+            Ok(Leaving::Next(trimmed, size.saturating_mul(2)))
+        }
         Attempt::Solved(same, a) => {
             let single = keep(asker.alloc, same.part(), numbers, witnesses, a)?;
             Ok(Leaving::Next(same, next_size(single, size)))
@@ -221,9 +122,9 @@ fn leave_out<F: Oracle<L>, L: Ledger>(
 
 /// Leaves out groups until each statement is known to be needed. So many questions suffice as there are statements, and
 /// some for the groups.
-fn leave_out_groups<F: Oracle<L>, L: Ledger>(
+fn leave_out_groups<F: Oracle<L>, L: Ledger, W: CoreWatcher>(
     reduction: Reduction,
-    asker: &Asker<F>,
+    asker: &Asker<'_, F, W>,
     numbers: &[u64],
     witnesses: &mut Witnesses,
     steps: &mut Steps<L>,
@@ -249,9 +150,9 @@ fn leave_out_groups<F: Oracle<L>, L: Ledger>(
 }
 
 /// A part of another that has no solution.
-pub(crate) fn make_smaller<F: Oracle<L>, L: Ledger>(
+pub(crate) fn make_smaller<F: Oracle<L>, L: Ledger, W: CoreWatcher>(
     reduction: Reduction,
-    asker: &Asker<F>,
+    asker: &Asker<'_, F, W>,
     numbers: &[u64],
     witnesses: &mut Witnesses,
     steps: &mut Steps<L>,
@@ -260,8 +161,7 @@ pub(crate) fn make_smaller<F: Oracle<L>, L: Ledger>(
     requires budget { IsBudget asker.now.options.budget }
     ensures { IfOk result (IsChoice F.told asker.now.options reduction) }
 {
-    let grown = grow(reduction, asker, steps)?;
-    let smaller = grow(grown, asker, steps)?;
-    let choice = leave_out_groups(smaller, asker, numbers, witnesses, steps)?;
+    let trimmed = trim(reduction, asker, steps)?;
+    let choice = leave_out_groups(trimmed, asker, numbers, witnesses, steps)?;
     Ok(choice)
 }

@@ -17,6 +17,7 @@ use crate::choosing::{Choice, make_smaller};
 use crate::reduction::{Asked, Reduction, SpentPart, numbers_in, numbers_of_part, question};
 use crate::reply::{Asker, Certificate, Reply};
 use crate::settling::{Progress, Turn, settle};
+use crate::watching::CoreWatcher;
 use crate::witnesses::Witnesses;
 use bee_list::Sequence;
 use core_text::{CoreDocument, CoreVerdict};
@@ -27,7 +28,7 @@ use model_meaning::{Assignment, Decl, Model};
 use model_parts::{DividedModel, core_weight};
 use rule_base::Steps;
 use std::alloc::{AllocError, Global};
-use std::cell::Cell;
+use std::cell::{Cell, RefCell};
 use std::sync::ledger::Ledger;
 
 /// The greatest weight of a model whose parts are asked about.
@@ -44,13 +45,17 @@ pub struct ExtractedCore {
     pub questions: u64,
 }
 
-/// Tells a model of which a part may weigh too much.
+/// Tells a model of which a part may weigh too much. Of a weight past 128 bits, which a model has that has 2^45
+/// declarations, statements and members at least, there is no number to tell, and memory is wanting.
 fn weigh_parts(alloc: Global, model: &Model) -> Result<(), LowerFault>
     requires { InLimits model.now }
     ensures light { IfOk result (λ u. core_weight model.now ≤ most_weight) }
     ensures heavy { IfErr result (λ e. IsFaultOf e model.now) }
 {
     let weight = core_weight(alloc, model)?;
+    if weight == u128::MAX {
+        return Err(LowerFault::Memory);
+    }
     if weight > MOST_WEIGHT {
         return Err(LowerFault::TooHeavy(weight));
     }
@@ -109,8 +114,8 @@ fn core_document(
 }
 
 /// What is extracted where a search was given up.
-fn given_up<F: Oracle<L>, L: Ledger>(
-    asker: &Asker<F>,
+fn given_up<F: Oracle<L>, L: Ledger, W: CoreWatcher>(
+    asker: &Asker<'_, F, W>,
     model: DividedModel,
     spent: SpentPart,
 ) -> ExtractedCore
@@ -126,8 +131,8 @@ fn given_up<F: Oracle<L>, L: Ledger>(
 }
 
 /// What is extracted where the model has a solution.
-fn solved<F>(
-    asker: &Asker<F>,
+fn solved<F, W: CoreWatcher>(
+    asker: &Asker<'_, F, W>,
     model: DividedModel,
     a: Assignment,
 ) -> Result<ExtractedCore, AllocError>
@@ -143,8 +148,8 @@ fn solved<F>(
 }
 
 /// The core, where each statement of a part has an assignment that meets all others.
-fn core_of<F: Oracle<L>, L: Ledger>(
-    asker: &Asker<F>,
+fn core_of<F: Oracle<L>, L: Ledger, W: CoreWatcher>(
+    asker: &Asker<'_, F, W>,
     progress: Progress,
 ) -> Result<ExtractedCore, AllocError>
     requires progress { IsProgress F.told asker.now.options (length progress.reduction.out.items) progress }
@@ -167,9 +172,9 @@ fn core_of<F: Oracle<L>, L: Ledger>(
 }
 
 /// Settles each statement of a part that has no solution.
-fn settle_all<F: Oracle<L>, L: Ledger>(
+fn settle_all<F: Oracle<L>, L: Ledger, W: CoreWatcher>(
     reduction: Reduction,
-    asker: &Asker<F>,
+    asker: &Asker<'_, F, W>,
     numbers: &[u64],
     witnesses: &mut Witnesses,
     steps: &mut Steps<L>,
@@ -188,9 +193,9 @@ fn settle_all<F: Oracle<L>, L: Ledger>(
 }
 
 /// From a part that has no solution to one each of whose statements is needed for that.
-fn reduce<F: Oracle<L>, L: Ledger>(
+fn reduce<F: Oracle<L>, L: Ledger, W: CoreWatcher>(
     reduction: Reduction,
-    asker: &Asker<F>,
+    asker: &Asker<'_, F, W>,
     numbers: &[u64],
     steps: &mut Steps<L>,
 ) -> Result<ExtractedCore, AllocError>
@@ -217,8 +222,8 @@ fn unset(alloc: Global, count: usize) -> Result<Vec<bool>, AllocError>
 }
 
 /// What is extracted from a model none of whose parts is too heavy.
-fn extract_light<F: Oracle<L>, L: Ledger>(
-    asker: &Asker<F>,
+fn extract_light<F: Oracle<L>, L: Ledger, W: CoreWatcher>(
+    asker: &Asker<'_, F, W>,
     model: Model,
     steps: &mut Steps<L>,
 ) -> Result<ExtractedCore, AllocError>
@@ -258,17 +263,18 @@ fn extract_light<F: Oracle<L>, L: Ledger>(
 
 /// Why a model has no solution: a part of its statements that has none, each of which is needed for that. Or a solution
 /// where it has one; or a part of which it is open, where a search spent its budget. Each search has the whole budget,
-/// and the goal doesn't matter.
+/// and the goal doesn't matter. What each question learns, and how small the part is behind it, is told to a watcher.
 ///
 /// It fails with the model's weight, and one for each `bool2int` that declares its integer, where that is above
 /// 67,108,864; and for want of memory. A question costs a compilation and a search, and the statements are moved for
 /// it, in time linear in their number.
-pub fn extract<F: Oracle<L>, L: Ledger>(
+pub fn extract<F: Oracle<L>, L: Ledger, W: CoreWatcher>(
     alloc: Global,
     model: Model,
     options: Options,
     oracle: F,
     steps: &mut Steps<L>,
+    watcher: &RefCell<W>,
 ) -> Result<ExtractedCore, LowerFault>
     requires typed { WellTyped model }
     requires limits { InLimits model }
@@ -284,6 +290,8 @@ pub fn extract<F: Oracle<L>, L: Ledger>(
         options,
         oracle,
         asked: Cell::new(0),
+        left: Cell::new(model.stmts.len()),
+        watcher,
     };
     let extracted = extract_light(&asker, model, steps)?;
     Ok(extracted)

@@ -2,12 +2,12 @@
 //! domains meets, and of which each statement is needed for that.
 //!
 //! The model is divided into a part that is asked about and what is left out. Each question is an
-//! ordinary answer to the part, so truth comes from the contract of `decode_minimize::answer` alone,
-//! and which part is asked about next is free (`choosing`): a part grows by the statements that its
-//! solutions break, until it has none; then groups are left out of it, twice as many after each that
-//! can be spared. A solution that breaks one statement alone shows that this one is needed, and others
-//! come of it by changing one name (`rotating`: Belov and Marques-Silva, 2011). Such assignments are
-//! kept without a promise (`witnesses`).
+//! ordinary answer to the part, so truth comes from the contract of `decode_minimize::answer_watched` alone,
+//! and which part is asked about next is free (`choosing`). From a refutation `used_statements` tells
+//! what it used, and the part of that is asked about next, while a fifth goes (`trimming`). Then groups
+//! are left out, twice as many after each that can be spared. A solution that breaks one statement
+//! alone shows that this one is needed, and others come of it by changing one name (`rotating`: Belov
+//! and Marques-Silva, 2011). Such assignments are kept without a promise (`witnesses`).
 //!
 //! A core rests on the last pass alone (`settling`): each statement's assignment is tested, or the part
 //! without it is asked about; it stays with the assignment that meets all others, or leaves the part.
@@ -28,7 +28,10 @@ mod reduction;
 mod reply;
 mod rotating;
 mod settling;
+mod trimming;
+mod watching;
 mod witnesses;
 
 pub use extracting::{ExtractedCore, extract};
 pub use laws::document_law;
+pub use watching::CoreWatcher;

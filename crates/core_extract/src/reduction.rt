@@ -2,12 +2,14 @@
 
 ghost use Rattle.std.specs.Prelude.{◌≡◌, ◌<◌, true, false, length, slice_index_or, slice_set, IfOk};
 ghost use Rattle.model_meaning.specs.Limits.{InLimits};
+ghost use Rattle.model_meaning.specs.WellTyped.{WellTyped};
 ghost use Rattle.decode_minimize.specs.Answers.{IsBudget};
 ghost use Rattle.model_parts.specs.Only.{numbers_of};
 ghost use Rattle.core_extract.specs.Parts.{whole_of, part_of, IsFit, IsAnew};
 ghost use Rattle.core_extract.specs.Extracted.{IsReply, IsReduced, IsAttempt};
 
 use crate::reply::{Asker, Certificate, Reply, ask};
+use crate::watching::CoreWatcher;
 use bee_list::Sequence;
 use fixpoint_queue::Oracle;
 use model_meaning::{Assignment, Model, Stmt};
@@ -84,8 +86,8 @@ fn divide(alloc: Global, model: DividedModel, out: &[bool]) -> Result<DividedMod
 }
 
 /// Divides a model by other marks, and asks about its part.
-pub(crate) fn question<F: Oracle<L>, L: Ledger>(
-    asker: &Asker<F>,
+pub(crate) fn question<F: Oracle<L>, L: Ledger, W: CoreWatcher>(
+    asker: &Asker<'_, F, W>,
     model: DividedModel,
     out: &[bool],
     steps: &mut Steps<L>,
@@ -105,6 +107,7 @@ impl Reduction {
     /// The part.
     pub(crate) fn part(&self) -> &Model
         requires { IsFit self.now.model }
+        ensures typed { WellTyped result.now }
         ensures limits { InLimits result.now }
         ensures part { result.now ≡ part_of (whole_of self.now.model) self.now.model.out.items }
     {
@@ -130,9 +133,9 @@ impl Reduction {
     }
 
     /// Asks about another part. Where it has no solution, it takes this one's place.
-    pub(crate) fn attempt<F: Oracle<L>, L: Ledger>(
+    pub(crate) fn attempt<F: Oracle<L>, L: Ledger, W: CoreWatcher>(
         self,
-        asker: &Asker<F>,
+        asker: &Asker<'_, F, W>,
         out: Vec<bool>,
         steps: &mut Steps<L>,
     ) -> Result<Attempt, AllocError>

@@ -11,6 +11,7 @@ ghost use Rattle.core_extract.specs.Extracted.{IsReduced, IsProgress, IsTurn, Is
 
 use crate::reduction::{Attempt, Reduction, SpentPart};
 use crate::reply::Asker;
+use crate::watching::CoreWatcher;
 use crate::witnesses::Witnesses;
 use fixpoint_queue::Oracle;
 use model_meaning::{Assignment, Model, in_domains};
@@ -70,9 +71,9 @@ fn with_one(given: Vec<Assignment>, a: Assignment) -> Result<Vec<Assignment>, Al
 }
 
 /// Asks whether the part has a solution without the statement at a place.
-fn ask_without<F: Oracle<L>, L: Ledger>(
+fn ask_without<F: Oracle<L>, L: Ledger, W: CoreWatcher>(
     progress: Progress,
-    asker: &Asker<F>,
+    asker: &Asker<'_, F, W>,
     place: usize,
     steps: &mut Steps<L>,
 ) -> Result<Turn, AllocError>
@@ -97,9 +98,9 @@ fn ask_without<F: Oracle<L>, L: Ledger>(
 }
 
 /// Keeps the assignment of the statement at a place, where one is known, or asks for one.
-fn settle_kept<F: Oracle<L>, L: Ledger>(
+fn settle_kept<F: Oracle<L>, L: Ledger, W: CoreWatcher>(
     progress: Progress,
-    asker: &Asker<F>,
+    asker: &Asker<'_, F, W>,
     place: usize,
     numbers: &[u64],
     witnesses: &mut Witnesses,
@@ -126,9 +127,9 @@ fn settle_kept<F: Oracle<L>, L: Ledger>(
 }
 
 /// Looks at the statement at a place.
-fn settle_at<F: Oracle<L>, L: Ledger>(
+fn settle_at<F: Oracle<L>, L: Ledger, W: CoreWatcher>(
     progress: Progress,
-    asker: &Asker<F>,
+    asker: &Asker<'_, F, W>,
     place: usize,
     numbers: &[u64],
     witnesses: &mut Witnesses,
@@ -149,9 +150,9 @@ fn settle_at<F: Oracle<L>, L: Ledger>(
 }
 
 /// Gives each statement of a part its assignment, or leaves it out.
-pub(crate) fn settle<F: Oracle<L>, L: Ledger>(
+pub(crate) fn settle<F: Oracle<L>, L: Ledger, W: CoreWatcher>(
     reduction: Reduction,
-    asker: &Asker<F>,
+    asker: &Asker<'_, F, W>,
     numbers: &[u64],
     witnesses: &mut Witnesses,
     steps: &mut Steps<L>,

@@ -24,7 +24,10 @@ use Rattle.core_extract.specs.Extracted.{IsFaultOf}
 use Rattle.core_models.specs.CoreTexts.{HoldsWhole, IsFirstFaultOf, HasFaultOf, IsReasonOf}
 use Rattle.core_mode.specs.Cores.{IsCoreHeld}
 use Rattle.core_mode.specs.CoreMode.{CoreMode}
-use Rattle.core_mode.proofs.Faults.{one-fault, held-or-fault}
+use Rattle.core_models.proofs.Faults.{one-fault, held-fault}
+
+held-or-fault : (text : List ℕ) (f : ModelFault) → HoldsSome HoldsWhole text → HasFaultOf text f → ⊥
+held-or-fault text f h k = held-fault text h.0 f h.1 k
 
 fit : (options : Options) (text : List ℕ) (outcome : Outcome) (written : List ℕ) → IsCoreHeld options text outcome written → HoldsSome HoldsWhole text
 fit options text outcome written h = (h.model, h.held)

@@ -5,7 +5,7 @@ use Rattle.bee_compile.specs.Compiled.{IsInstance}
 use Rattle.core_text.specs.declared.verdict.CoreVerdict.{CoreVerdict}
 use Rattle.core_text.specs.declared.verdict.CoreVerdict.TheVariants as verdict
 use Rattle.core_text.specs.declared.document.CoreDocument.{CoreDocument}
-use Rattle.core_text.specs.CoreDocuments.{core_text}
+use Rattle.core_text.specs.CoreDocuments.{AreNumbers, core_text}
 use Rattle.core_extract.specs.Extracted.{IsExtracted}
 use Rattle.core_extract.specs.Claims.{Claims}
 use Rattle.search_options.specs.declared.options.SearchOptions.{SearchOptions as Options}
@@ -25,6 +25,7 @@ pub record IsCoreText (options : Options) (model : Model) (outcome : Outcome) (w
   pub document : CoreDocument
   pub is : IsExtracted IsInstance model options document
   pub claims : Claims model document document.verdict
+  pub numbers : AreNumbers document.statements
   pub writes : written ≡ core_text model.decls document
   pub outcome_is : outcome ≡ outcome_of document.verdict
 

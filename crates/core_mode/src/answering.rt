@@ -10,7 +10,7 @@ ghost use Rattle.bee_compile.specs.Compiled.{IsInstance};
 ghost use Rattle.core_extract.specs.Extracted.{IsExtracted, IsFaultOf};
 ghost use Rattle.core_mode.specs.Cores.{outcome_of};
 
-use core_extract::{ExtractedCore, extract};
+use core_extract::{CoreWatcher, ExtractedCore, extract};
 use core_text::CoreVerdict;
 use decode_minimize::Options;
 use model_lower::LowerFault;
@@ -18,6 +18,7 @@ use model_meaning::Model;
 use rule_base::Steps;
 use rule_oracle::TableP;
 use std::alloc::Global;
+use std::cell::RefCell;
 use std::marker::Brand;
 use std::sync::ledger::{Blank, Ledger};
 use text_modes::Outcome;
@@ -33,11 +34,12 @@ pub(crate) fn outcome_of(verdict: CoreVerdict) -> Outcome
 }
 
 /// What is extracted from a model, by all rules, with a counter of its own.
-fn extract_with<L: Ledger>(
+fn extract_with<L: Ledger, W: CoreWatcher>(
     alloc: Global,
     blank: Blank,
     model: Model,
     options: Options,
+    watcher: &RefCell<W>,
 ) -> Result<ExtractedCore, LowerFault>
     requires typed { WellTyped model }
     requires limits { InLimits model }
@@ -51,14 +53,15 @@ fn extract_with<L: Ledger>(
     ensures heavy { IfErr result (λ e. IsFaultOf e model) }
 {
     let mut steps = Steps::<L>::open(blank);
-    extract(alloc, model, options, TableP, &mut steps)
+    extract(alloc, model, options, TableP, &mut steps, watcher)
 }
 
 /// What is extracted from a model, by all rules.
-pub(crate) fn extract_model(
+pub(crate) fn extract_model<W: CoreWatcher>(
     alloc: Global,
     model: Model,
     options: Options,
+    watcher: &RefCell<W>,
 ) -> Result<ExtractedCore, LowerFault>
     requires typed { WellTyped model }
     requires limits { InLimits model }
@@ -68,5 +71,5 @@ pub(crate) fn extract_model(
     ensures decls { IfOk result (λ e. e.decls ≡ model.decls) }
     ensures heavy { IfErr result (λ e. IsFaultOf e model) }
 {
-    extract_with::<Brand>(alloc, Blank::new(1), model, options)
+    extract_with::<Brand, W>(alloc, Blank::new(1), model, options, watcher)
 }

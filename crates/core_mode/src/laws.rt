@@ -1,6 +1,12 @@
-//! The law that no text is without an answer. The function does nothing: its contract is the law.
+//! The laws of the mode. Each function does nothing: its contract is the law.
 
+ghost use Rattle.core_mode.specs.Accepted.{CoresAreAccepted};
 ghost use Rattle.core_mode.specs.CoreMode.{CoreAnswers};
+
+/// What is written for a text `checkcore` accepts beside it.
+pub fn accepted_law()
+    ensures { CoresAreAccepted }
+{}
 
 /// Each text has a fault, or says a model that is answered.
 pub fn answer_law()

@@ -10,7 +10,8 @@
 //! that, by an assignment that stands in the text and meets all others. `Unknown(b)` comes exactly where the text is
 //! that of a search that was given up, and b is the budget; never where the budget is as great as a stated number of
 //! the model's size. A model is too heavy where its weight, and one for each `bool2int` that declares its integer, is
-//! above the limit. `answer_law`: each text has a fault or says a model that is answered.
+//! above the limit. `answer_law`: each text has a fault or says a model that is answered. `accepted_law`: what is
+//! written `checkcore` accepts. How small the part is by now goes to a watcher of the caller; no clause speaks of it.
 #![tactic(auto)]
 
 mod answering;
@@ -18,5 +19,5 @@ mod laws;
 mod making;
 mod mode;
 
-pub use laws::answer_law;
+pub use laws::{accepted_law, answer_law};
 pub use mode::core;

@@ -8,23 +8,38 @@ ghost use Rattle.model_parts.specs.CoreWeight.{core_weight};
 ghost use Rattle.model_texts.specs.ModelTexts.{longest_text, IsCauseOf};
 ghost use Rattle.decode_minimize.specs.Answers.{IsBudget};
 ghost use Rattle.core_extract.specs.Extracted.{IsFaultOf};
+ghost use Rattle.core_text.specs.CoreDocuments.{AreNumbers};
 ghost use Rattle.core_models.specs.CoreTexts.{IsReasonOf};
 ghost use Rattle.core_mode.specs.Cores.{IsCoreText, IsCoreHeld};
 
 use crate::answering::{extract_model, outcome_of};
+use core_extract::CoreWatcher;
 use core_text::write_core;
 use decode_minimize::Options;
 use model_lower::LowerFault;
 use model_meaning::Model;
 use model_texts::{ModelFault, ModelTextFault, lower_fault, model_of};
 use std::alloc::{AllocError, Global};
+use std::cell::RefCell;
 use text_modes::Outcome;
 
+/// Each number has 64 bits, as is known of each that is read. It does nothing.
+fn fit(numbers: &[u64])
+    ensures { AreNumbers numbers.now }
+{
+    let mut left = numbers;
+    while let Some((number, behind)) = left.split_first() {
+        let _number = *number;
+        left = behind;
+    }
+}
+
 /// The text of what is extracted from a model, with what its verdict says of the run.
-fn write_extracted(
+fn write_extracted<W: CoreWatcher>(
     alloc: Global,
     model: Model,
     options: Options,
+    watcher: &RefCell<W>,
 ) -> Result<(Outcome, Vec<u8>), LowerFault>
     requires typed { WellTyped model }
     requires limits { InLimits model }
@@ -33,9 +48,10 @@ fn write_extracted(
     ensures text { IfOk result (λ made. IsCoreText options model made.0 made.1.items) }
     ensures heavy { IfErr result (λ e. IsFaultOf e model) }
 {
-    let extracted = extract_model(alloc, model, options)?;
+    let extracted = extract_model(alloc, model, options, watcher)?;
     let decls = extracted.decls.as_slice();
     let text = write_core(alloc, decls, &extracted.document)?;
+    fit(extracted.document.statements.as_slice());
     Ok((outcome_of(extracted.document.verdict), text))
 }
 
@@ -50,10 +66,11 @@ fn reading_fault(fault: ModelTextFault) -> ModelTextFault
 }
 
 /// The text of what is extracted from the model that a text says.
-pub(crate) fn core_of(
+pub(crate) fn core_of<W: CoreWatcher>(
     alloc: Global,
     text: &[u8],
     options: Options,
+    watcher: &RefCell<W>,
 ) -> Result<(Outcome, Vec<u8>), ModelTextFault>
     requires short { length text.now ≤ longest_text }
     requires budget { IsBudget options.budget }
@@ -64,7 +81,7 @@ pub(crate) fn core_of(
         Ok(model) => model,
         Err(fault) => return Err(reading_fault(fault)),
     };
-    match write_extracted(alloc, model, options) {
+    match write_extracted(alloc, model, options, watcher) {
         Ok(written) => Ok(written),
         Err(fault) => Err(lower_fault(fault)),
     }

@@ -6,19 +6,22 @@ ghost use Rattle.core_mode.specs.CoreMode.{CoreMode};
 
 use crate::making::core_of;
 use bee_outside::{Shelf, Sink};
+use core_extract::CoreWatcher;
 use decode_minimize::Options;
 use model_texts::{LONGEST_TEXT, ModelFault, ModelTextFault};
 use std::alloc::{AllocError, Global};
+use std::cell::RefCell;
 use std::marker::Model;
 use text_modes::{End, Made, OneText, run_one};
 
 /// The text of a model is read, and that of its core is written.
 #[derive(Drop)]
-struct Extracting {
+struct Extracting<'a, W: CoreWatcher> {
     options: Options,
+    watcher: &'a RefCell<W>,
 }
 
-impl Model for Extracting {
+impl<'a, W: CoreWatcher> Model for Extracting<'a, W> {
     ghost use Rattle.decode_minimize.specs.Answers.{IsBudget};
     ghost use Rattle.search_options.specs.declared.options.SearchOptions.{SearchOptions as Options};
 
@@ -29,7 +32,7 @@ impl Model for Extracting {
     ghost invariant = { λ s. IsBudget s.options.budget };
 }
 
-impl OneText for Extracting {
+impl<W: CoreWatcher> OneText for Extracting<'_, W> {
     ghost use Rattle.std.specs.Prelude.{◌+◌, Some};
     ghost use Rattle.model_texts.specs.ModelTexts.{longest_text};
     ghost use Rattle.core_models.specs.CoreTexts.{HasFaultOf};
@@ -53,7 +56,7 @@ impl OneText for Extracting {
 
     #[tactic(auto, using(crate::proofs::Ends::had_fault, crate::proofs::Ends::within_limit))]
     fn make(&self, alloc: Global, text: &[u8]) -> Result<Made<ModelFault>, AllocError> {
-        match core_of(alloc, text, self.options) {
+        match core_of(alloc, text, self.options, self.watcher) {
             Ok((outcome, written)) => Ok(Made::Text(outcome, written)),
             Err(ModelTextFault::Model(fault)) => Ok(Made::Fault(fault)),
             Err(ModelTextFault::Memory) => Err(AllocError),
@@ -62,17 +65,18 @@ impl OneText for Extracting {
 }
 
 /// Reads the text of a model, seeks why it has no solution, makes the whole text of that, and then writes it. The end
-/// tells whether the budget of a search was spent.
-pub fn core<S: Shelf, O: Sink>(
+/// tells whether the budget of a search was spent. How small the part is by now, the watcher is told.
+pub fn core<S: Shelf, O: Sink, W: CoreWatcher>(
     alloc: Global,
     input: &str,
     options: Options,
     shelf: &mut S,
     out: &mut O,
+    watcher: &RefCell<W>,
 ) -> End<ModelFault>
     requires { IsBudget options.budget }
     ensures { CoreMode options input.now result (seen (shelf_shown S.left S.faults)
         (sink_shown O.taken O.flushed O.faults) shelf.old shelf.new out.old out.new) }
 {
-    run_one(alloc, &Extracting { options }, input, shelf, out)
+    run_one(alloc, &Extracting { options, watcher }, input, shelf, out)
 }

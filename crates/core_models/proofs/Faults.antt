@@ -1,7 +1,6 @@
 -- A text has one first fault, or it says a model none of whose parts is too heavy.
 use Rattle.std.proofs.Common.{◌≡◌, ◌⊎◌, inl, inr, ℕ, ◌+◌, ◌<◌, ◌≤◌, List, length, refl, ap, sym, ◌∙◌, subst, ⊎_elim, arith}
 use Rattle.std.proofs.lemmas.Bool.{cases_lt}
-use Rattle.core_cost.specs.Saturated.{saturated}
 use Rattle.model_meaning.specs.declared.model.Model.{Model}
 use Rattle.model_weight.specs.Weight.{weight_of}
 use Rattle.model_lower.specs.Weighed.{most_weight}
@@ -31,7 +30,7 @@ module _ (text : List ℕ) (m : Model) (short : length text ≤ longest_text) (s
       (λ (light : weight_of m ≤ most_weight). no_text_fault text f m short says light (inr (short, h)))
       (cases_lt most_weight (weight_of m))
 
-  alone : (f : ModelFault) → IsFirstFaultOf text f → (most_weight < core_weight m) × (f ≡ fault.TooHeavy (saturated (core_weight m)))
+  alone : (f : ModelFault) → IsFirstFaultOf text f → (most_weight < core_weight m) × (f ≡ fault.TooHeavy (core_weight m))
   alone fault.TooLong h = absurd h
   alone (fault.Syntax line) h = absurd (weight-alone (fault.Syntax line) (λ w e. cc) h)
   alone (fault.Number line) h = absurd (weight-alone (fault.Number line) (λ w e. cc) h)
@@ -39,7 +38,7 @@ module _ (text : List ℕ) (m : Model) (short : length text ≤ longest_text) (s
   alone (fault.Cnf line) h = absurd h
   alone (fault.TooHeavy w) h =
       let same : h.0 ≡ m = one_model text h.0 m h.1 says in
-      (subst (λ (n : Model). most_weight < core_weight n) same h.2, ap fault.TooHeavy (h.3 ∙ ap (λ (n : Model). saturated (core_weight n)) same))
+      (subst (λ (n : Model). most_weight < core_weight n) same h.2, ap fault.TooHeavy (h.3 ∙ ap (λ (n : Model). core_weight n) same))
 
 -- two faults that a text has first are one
 one-first : (text : List ℕ) (f g : ModelFault) → length text ≤ longest_text → IsFirstFaultOf text f → IsFirstFaultOf text g → f ≡ g
@@ -82,12 +81,12 @@ module _ (text : List ℕ) where
   first (fault.Typed f) short h = inl (fault.Typed f, inr (short, h))
   first (fault.Cnf line) short h = absurd h
   first (fault.TooHeavy w) short h =
-      inl (fault.TooHeavy (saturated (core_weight h.0)), inr (short, (h.0, h.1, heavier h.0 most_weight h.2, refl)))
+      inl (fault.TooHeavy (core_weight h.0), inr (short, (h.0, h.1, heavier h.0 most_weight h.2, refl)))
 
   by-model : (m : Model) → HoldsModel text m → Either text
   by-model m h =
       ⊎_elim
-      (λ (heavy : most_weight < core_weight m). inl (fault.TooHeavy (saturated (core_weight m)), inr (h.within, (m, h.says, heavy, refl))))
+      (λ (heavy : most_weight < core_weight m). inl (fault.TooHeavy (core_weight m), inr (h.within, (m, h.says, heavy, refl))))
       (λ (light : core_weight m ≤ most_weight). inr (m, record { within = h.within; says = h.says; light = light }))
       (cases_lt most_weight (core_weight m))
 

@@ -1,7 +1,6 @@
 -- The model that a text holds of which cores are asked, and why a text holds none. It differs from what is compiled in
 -- the weight alone: no part of the model may be too heavy.
 use Rattle.std.specs.Prelude.{◌≡◌, ◌⊎◌, ℕ, ◌<◌, ◌≤◌, List, length, Option, Some, None}
-use Rattle.core_cost.specs.Saturated.{saturated}
 use Rattle.model_meaning.specs.declared.model.Model.{Model}
 use Rattle.model_lower.specs.Weighed.{most_weight}
 use Rattle.model_parts.specs.CoreWeight.{core_weight}
@@ -17,11 +16,10 @@ pub record HoldsWhole (text : List ℕ) (model : Model) : Type 0 where
   pub says : IsModelOf text model
   pub light : core_weight model ≤ most_weight
 
--- a text within the limit has this fault first; its weight counts one for each `bool2int` that declares its integer, and
--- is told as a number of 128 bits has it
+-- a text within the limit has this fault first; its weight counts one for each `bool2int` that declares its integer
 abbrev pub IsFirstFaultOf : List ℕ → ModelFault → Type 0
 IsFirstFaultOf text (fault.TooHeavy weight) = (m : Model) × IsModelOf text m × (most_weight < core_weight m)
-    × (weight ≡ saturated (core_weight m))
+    × (weight ≡ core_weight m)
 IsFirstFaultOf text f = IsFirstFault text f
 
 -- a text is too long, or within the limit and has this fault first
@@ -37,7 +35,7 @@ IsReasonOf text_fault.Memory text = Unit {0}
 -- no part of a model is too heavy, or the greatest weight of one is told
 abbrev pub IsTooHeavy : Model → Option ℕ → Type 0
 IsTooHeavy model None = core_weight model ≤ most_weight
-IsTooHeavy model (Some w) = (most_weight < core_weight model) × (w ≡ saturated (core_weight model))
+IsTooHeavy model (Some w) = (most_weight < core_weight model) × (w ≡ core_weight model)
 
 -- a text has one first fault
 abbrev pub OneFault : Type 0

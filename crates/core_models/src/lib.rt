@@ -6,9 +6,8 @@
 //! that declares its integer. In all else such a text is as any model's.
 //!
 //! What it promises: `whole_model` gives the model that a text says where no part of it is too
-//! heavy, and else the first fault of the text (`model`, `fault`), of which a weight is told as a
-//! number of 128 bits has it. `fault_law`: a text has one first fault, or it says one such model,
-//! and never both.
+//! heavy, and else the first fault of the text (`model`, `fault`), with the weight itself where that
+//! is too great. `fault_law`: a text has one first fault, or it says one such model, and never both.
 //!
 //! The modes that make cores and that check them stand on it, so that they refuse the same texts.
 #![tactic(auto)]

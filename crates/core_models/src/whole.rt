@@ -1,7 +1,6 @@
 //! The model that a text says, where no part of it is too heavy.
 
 ghost use Rattle.std.specs.Prelude.{◌≡◌, ◌<◌, ◌≤◌, ℕ, List, length, IfOk, IfErr, MatchResult};
-ghost use Rattle.core_cost.specs.Saturated.{saturated};
 ghost use Rattle.model_meaning.specs.Limits.{InLimits};
 ghost use Rattle.model_lower.specs.Weighed.{most_weight};
 ghost use Rattle.model_parts.specs.CoreWeight.{core_weight};
@@ -16,12 +15,16 @@ use std::alloc::{AllocError, Global};
 /// The greatest weight of a model of which cores are asked.
 const MOST_WEIGHT: u128 = 67_108_864;
 
-/// The greatest weight of a part of a model, where it is too great.
+/// The greatest weight of a part of a model, where it is too great. Of one past 128 bits, which no text's model has,
+/// there is no number to tell, and memory is wanting.
 fn weight_above(alloc: Global, model: &Model) -> Result<Option<u128>, AllocError>
     requires { InLimits model.now }
     ensures { IfOk result (IsTooHeavy model.now) }
 {
     let weight = core_weight(alloc, model)?;
+    if weight == u128::MAX {
+        return Err(AllocError);
+    }
     if weight > MOST_WEIGHT {
         Ok(Some(weight))
     } else {

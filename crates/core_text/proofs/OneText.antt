@@ -1,5 +1,5 @@
 -- A text is whole in one way, or has one first line that fails, and never both.
-use Rattle.std.proofs.Common.{◌≡◌, ◌⊎◌, inl, inr, ℕ, List, Option, Some, None, refl, sym, ap, subst}
+use Rattle.std.proofs.Common.{◌≡◌, inl, inr, ℕ, List, Option, Some, None, refl, sym, ap, subst}
 use Rattle.model_meaning.specs.declared.model.Model.{Model}
 use Rattle.model_meaning.specs.Limits.{InLimits, DeclsInLimit}
 use Rattle.line_texts.specs.LineByLine.{IsWhole, FirstMisfit}

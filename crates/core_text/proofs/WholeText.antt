@@ -1,14 +1,13 @@
 -- The text of a document of a core is whole.
-use Rattle.std.proofs.Common.{◌≡◌, ◌⊎◌, inl, inr, ℕ, suc, ◌+◌, ◌<◌, ◌≤◌, ◌^◌, Bool, true, false, not, ◌==◌, List, [], ◌∷◌, ◌++◌, map, codes, length, append_assoc, ℤ, Option, None, Some, Ok, refl, sym, ap, ◌∙◌, subst, arith}
-use Rattle.std.specs.Prelude.{slice_get, FitsSigned, IsTrue}
+use Rattle.std.proofs.Common.{◌≡◌, inl, inr, ℕ, suc, ◌+◌, ◌<◌, ◌≤◌, ◌^◌, true, not, ◌==◌, List, [], ◌∷◌, ◌++◌, map, codes, length, append_assoc, ℤ, Option, None, Some, Ok, refl, sym, ap, ◌∙◌, subst, arith}
+use Rattle.std.specs.Prelude.{slice_get, FitsSigned}
 use Rattle.std.specs.Fmt.{decimal}
 use Rattle.std.specs.Int.{w64}
-use Rattle.std.specs.List.{list_all}
 use Rattle.std.proofs.lemmas.Bool.{false≢true, and_parts, and_from}
 use Rattle.std.proofs.lemmas.Int.{ints}
 use Rattle.std.proofs.lemmas.List.{append-nil}
 use Rattle.std.proofs.lemmas.List.Folds.{list_all-append}
-use Rattle.bee_text.specs.Lines.{lacks, IsLine, AreLines, join_lines}
+use Rattle.bee_text.specs.Lines.{lacks, IsLine, AreLines}
 use Rattle.bee_text.proofs.GapLemmas.{word_line}
 use Rattle.bee_text.proofs.NumberLemmas.{decimal_word}
 use Rattle.model_meaning.specs.declared.model.Assignment.{Assignment}
@@ -17,8 +16,7 @@ use Rattle.model_meaning.specs.declared.model.Model.{Model}
 use Rattle.model_meaning.specs.Domains.{domain, in_domains}
 use Rattle.model_meaning.specs.Integers.{is_member}
 use Rattle.model_meaning.specs.Limits.{InLimit, InLimits, DeclsInLimit}
-use Rattle.model_meaning.specs.Solutions.{IsSolution}
-use Rattle.model_parts.specs.Only.{is_listed, numbers_of, only}
+use Rattle.model_parts.specs.Only.{only}
 use Rattle.name_map.specs.ValueLines.{declared_lines}
 use Rattle.ledger_text.specs.declared.line.Line.{Line}
 use Rattle.ledger_text.specs.Steps.{step_text}
@@ -31,7 +29,7 @@ use Rattle.proof_check.specs.Lrat.{Proof, proof_of, take_lines}
 use Rattle.answer_document.specs.Told.{AreNames}
 use Rattle.answer_document.specs.Valid.{start_of, FitValues, AreReadableSteps, AreReadableLines}
 use Rattle.answer_document.proofs.DocumentLines.{line-more, lines-append, values-are-lines, steps-are-lines, proof-are-lines}
-use Rattle.line_texts.specs.LineByLine.{Lead, IsWhole}
+use Rattle.line_texts.specs.LineByLine.{Lead}
 use Rattle.line_texts.proofs.Leads.{lead_join}
 use Rattle.certificate_lines.specs.CertificateLines.{IsValueLine}
 use Rattle.certificate_lines.proofs.LineLaws.{member-limit}
@@ -41,8 +39,8 @@ use Rattle.core_text.specs.declared.part.Part.{Part}
 use Rattle.core_text.specs.declared.part.Part.TheVariants as part
 use Rattle.core_text.specs.declared.verdict.CoreVerdict.{CoreVerdict}
 use Rattle.core_text.specs.declared.verdict.CoreVerdict.TheVariants.{Satisfiable, Core, Unknown}
-use Rattle.core_text.specs.CoreLines.{Standing, start_standing, version_line, verdict_line, statement_line, without_line, VerdictFits, behind_verdict, MayName, HasNamed, IsConcluded, next_without, Continues, GoesOn, IsNext, IsEnd}
-use Rattle.core_text.specs.CoreDocuments.{certificate_lines, witness_lines, solution_lines, behind_lines, core_lines, core_text, AreNumbers, ArePart, IsShownBy, IsWitness, AreWitnesses, IsOneSolution, IsDocumentOf, IsCoreDocument}
+use Rattle.core_text.specs.CoreLines.{Standing, start_standing, version_line, verdict_line, statement_line, without_line, VerdictFits, behind_verdict, MayName, HasNamed, Continues, GoesOn, IsNext}
+use Rattle.core_text.specs.CoreDocuments.{certificate_lines, witness_lines, solution_lines, behind_lines, core_lines, AreNumbers, ArePart, AreWitnesses, IsOneSolution, IsDocumentOf, IsCoreDocument}
 use Rattle.core_text.specs.CoreSays.{WrittenLaw}
 
 -- The lines are lines.

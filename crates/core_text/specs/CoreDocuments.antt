@@ -48,7 +48,8 @@ behind_lines decls d (Core k) =
 behind_lines decls d (Unknown n) = certificate_lines d.statements d.ledger d.proof
 
 abbrev pub core_lines : List Decl → CoreDocument → List (List ℕ)
-core_lines decls d = (version_line ∷ verdict_line d.verdict ∷ []) ++ (behind_lines decls d d.verdict ++ codes "end" ∷ [])
+core_lines decls d = (version_line ∷ verdict_line d.verdict ∷ [])
+    ++ (behind_lines decls d d.verdict ++ codes "end" ∷ [])
 
 abbrev pub core_text : List Decl → CoreDocument → List ℕ
 core_text decls d = join_lines (core_lines decls d)

@@ -132,6 +132,7 @@ fn answer_lowered<F: Oracle<L>, L: Ledger, W: SolutionWatcher>(
     let Lowered { vars, map, cores } = lowered;
     let state = State::start(alloc, vars, cores.into_vec())?;
     let compilation = compile_state(alloc, state, oracle, steps)?;
+    // Read for the proof alone, which knows the state's invariant from here on.
     let _ids = compilation.state.ids();
     let names = Names {
         alloc,

@@ -28,7 +28,8 @@ use std::alloc::AllocError;
 fn best_of(sought: &Sought<'_>, values: Sequence<bool>) -> Best
     requires { IsObjective (length sought.now.view.now + 1) sought.now.integer.now }
     ensures values { result.values ≡ values }
-    ensures number { result.number ≡ value_of (read_by sought.now.view.now (valuation_of values)) sought.now.integer.now }
+    ensures number { result.number
+        ≡ value_of (read_by sought.now.view.now (valuation_of values)) sought.now.integer.now }
 {
     let number = value_under(sought.integer, sought.view, values.as_slice());
     Best { values, number }

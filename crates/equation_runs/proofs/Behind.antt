@@ -49,7 +49,7 @@ each-by P (a ∷ xs) by = (by a (inl refl), each-by P xs (λ x is. by x (inr is)
 
 -- ---- literals of different variables
 
-same-var : (m n : ℕ) → (m == n) ≡ true → m ≡ n
+pub same-var : (m n : ℕ) → (m == n) ≡ true → m ≡ n
 same-var m n e = (Decides-eqb m n).0 e
 
 one-var : (m n : ℕ) → m ≡ n → (m == n) ≡ true
@@ -61,7 +61,7 @@ var_of False = 0
 var_of (Of l) = l.var
 
 -- a member has its variable
-has-member : (l : Lit) (xs : List Atom) → IsIn (Of l) xs → has_var l.var xs ≡ true
+pub has-member : (l : Lit) (xs : List Atom) → IsIn (Of l) xs → has_var l.var xs ≡ true
 has-member l [] is = absurd is
 has-member l (True ∷ xs) (inl e) = absurd (false≢true (sym (ap is_true e)))
 has-member l (True ∷ xs) (inr is) = has-member l xs is
@@ -89,12 +89,12 @@ not-true : (t : Bool) → not t ≡ true → t ≡ false
 not-true true e = absurd (false≢true e)
 not-true false e = refl
 
-later-free : (a : Atom) (xs : List Atom) → are_apart (a ∷ xs) ≡ true → are_apart xs ≡ true
+pub later-free : (a : Atom) (xs : List Atom) → are_apart (a ∷ xs) ≡ true → are_apart xs ≡ true
 later-free True xs free = absurd (false≢true free)
 later-free False xs free = absurd (false≢true free)
 later-free (Of l) xs free = (and_parts (not (has_var l.var xs)) (are_apart xs) free).1
 
-first-alone : (l : Lit) (xs : List Atom) → are_apart (Of l ∷ xs) ≡ true → has_var l.var xs ≡ false
+pub first-alone : (l : Lit) (xs : List Atom) → are_apart (Of l ∷ xs) ≡ true → has_var l.var xs ≡ false
 first-alone l xs free = not-true (has_var l.var xs) (and_parts (not (has_var l.var xs)) (are_apart xs) free).0
 
 -- each free atom is a literal
@@ -130,6 +130,24 @@ apart-parts (a ∷ xs) ys free x (inl e) is' = by (free-literal (a ∷ xs ++ ys)
         ∙ has-member one.literal (xs ++ ys) (in-right (Of one.literal) xs ys (subst (λ (y : Atom). IsIn y ys) one.is is')))
 apart-parts (a ∷ xs) ys free x (inr is) is' = apart-parts xs ys (later-free a (xs ++ ys) free) x is is'
 
+-- a list has the variable of its first atom, and those of the others
+pub var-had : (v : ℕ) (x : Atom) (xs : List Atom) → Contains (atom_vars x) v → has_var v (x ∷ xs) ≡ true
+var-had v True xs c = absurd (none_there v c)
+var-had v False xs c = absurd (none_there v c)
+var-had v (Of l) xs c = or-left (l.var == v) (has_var v xs) (one-var l.var v (sole c))
+  where
+    sole : Contains (l.var ∷ []) v → l.var ≡ v
+    sole c = at c.0 c.1 c.2
+      where
+        at : (i : ℕ) → i < 1 → get_or (l.var ∷ []) i v ≡ v → l.var ≡ v
+        at zero lt e = e
+        at (suc i) lt e = absurd (omega (arith, lt))
+
+pub had-later : (v : ℕ) (x : Atom) (xs : List Atom) → has_var v xs ≡ true → has_var v (x ∷ xs) ≡ true
+had-later v True xs e = e
+had-later v False xs e = e
+had-later v (Of l) xs e = or-right (l.var == v) (has_var v xs) e
+
 -- ---- some of them made a constant
 
 -- the equations that make atoms a constant
@@ -157,23 +175,6 @@ module _ (core : Core) (k : Atom) (none : atom_vars k ≡ []) (fixed : (view : L
       named-cases (Contains (core_vars core)) x xs
       (λ v h. each-in (λ a. AreAmong (atom_vars a) (core_vars core)) x free own within.0 v h)
       (λ v h. named-among xs within.1 v h) v c
-
-  var-had : (v : ℕ) (x : Atom) (xs : List Atom) → Contains (atom_vars x) v → has_var v (x ∷ xs) ≡ true
-  var-had v True xs c = absurd (none_there v c)
-  var-had v False xs c = absurd (none_there v c)
-  var-had v (Of l) xs c = or-left (l.var == v) (has_var v xs) (one-var l.var v (sole c))
-    where
-      sole : Contains (l.var ∷ []) v → l.var ≡ v
-      sole c = at c.0 c.1 c.2
-        where
-          at : (i : ℕ) → i < 1 → get_or (l.var ∷ []) i v ≡ v → l.var ≡ v
-          at zero lt e = e
-          at (suc i) lt e = absurd (omega (arith, lt))
-
-  had-later : (v : ℕ) (x : Atom) (xs : List Atom) → has_var v xs ≡ true → has_var v (x ∷ xs) ≡ true
-  had-later v True xs e = e
-  had-later v False xs e = e
-  had-later v (Of l) xs e = or-right (l.var == v) (has_var v xs) e
 
   named-had : (xs : List Atom) (v : ℕ) → Contains (equations_vars (all_made k xs)) v → has_var v xs ≡ true
   named-had [] v c = absurd (none_there v c)

@@ -1,11 +1,12 @@
 -- What holds of each atom of an all-different constraint holds of each atom of its run.
-use Rattle.std.proofs.Common.{◌≡◌, ℕ, zero, suc, Bool, not, ◌&&◌, ◌||◌, List, [], ◌∷◌, ◌++◌, length, get_or, ℤ, pos, ◌+ℤ◌}
+use Rattle.std.proofs.Common.{◌≡◌, ℕ, zero, suc, Option, None, Some, Bool, not, ◌&&◌, ◌||◌, List, [], ◌∷◌, ◌++◌, length, get_or, ℤ, pos, ◌+ℤ◌}
 use Rattle.order_ints.specs.declared.atom.Atom.{Atom}
 use Rattle.order_ints.specs.declared.atom.Atom.TheVariants.{False}
 use Rattle.order_ints.specs.declared.order_int.OrdInt.{OrdInt}
 use Rattle.order_ints.specs.OrderRange.{low_of}
 use Rattle.order_ints.specs.OrderLevels.{values_of, at_of}
 use Rattle.order_ints.specs.Same.{is_true, same_atom}
+use Rattle.order_ints.specs.Truth.{not_atom}
 use Rattle.core_forms.specs.Each.{EachOf, EachStep, EachInt}
 use Rattle.rule_base.specs.Pairs.{only_if, EachOfPairs, IsClosed}
 use Rattle.rule_base.specs.Constant.{is_constant}
@@ -13,6 +14,10 @@ use Rattle.rule_base.proofs.PairLaws.{EachOfPairs-append, EachOfPairs-only_if}
 use Rattle.rule_base.proofs.StatedLaws.{each-at_of}
 use Rattle.alldiff_rules.specs.Members.{int_at, condition_at}
 use Rattle.alldiff_rules.specs.RowLists.{at_places}
+use Rattle.alldiff_rules.specs.Twins.{first_atom}
+use Rattle.equation_runs.specs.FreeAtoms.{are_free}
+use Rattle.equation_runs.specs.TwinRuns.{twin_at}
+use Rattle.equation_runs.specs.TwinPairs.{opposite_pair, opposite_pairs, both_atoms, twin_pairs}
 use Rattle.equation_runs.specs.DifferentRuns.{is_held, is_shared, is_open, is_spent, apart_pair, apart_pairs, condition_pair, excluded_pairs, member_pairs, members_pairs, different_pairs}
 
 module _ (P : Atom → Type 0) (closed : IsClosed P) where
@@ -53,3 +58,25 @@ module _ (P : Atom → Type 0) (closed : IsClosed P) where
 
   pub each-different : (xs : List OrdInt) (cs : List Atom) → EachOf P cs → EachInt P xs → EachOfPairs P (different_pairs xs cs)
   each-different xs cs first second = each-members (is_held xs cs) (is_shared xs cs) xs cs (length xs) first second
+
+  -- those of members with the same two values
+  each-first : (steps : List (Atom × ℕ)) → EachStep P steps → P (first_atom steps)
+  each-first [] each = closed.truth
+  each-first (s ∷ steps) each = each.0
+
+  each-opposite : (xs : List OrdInt) (i : ℕ) (twin : Option ℕ) → EachInt P xs → EachOfPairs P (opposite_pair xs i twin)
+  each-opposite xs i None each = tt
+  each-opposite xs i (Some j) each =
+      let p = first_atom (int_at xs i).steps in
+      let q = first_atom (int_at xs j).steps in
+      EachOfPairs-only_if P (not (same_atom q (not_atom p))) ((q, not_atom p) ∷ [])
+      ((each-first (int_at xs j).steps (each-int xs j each), closed.negation p (each-first (int_at xs i).steps (each-int xs i each))), tt)
+
+  pub each-opposites : (xs : List OrdInt) (cs : List Atom) (n : ℕ) → EachInt P xs → EachOfPairs P (opposite_pairs xs cs n)
+  each-opposites xs cs zero each = tt
+  each-opposites xs cs (suc n) each =
+      EachOfPairs-append P (opposite_pairs xs cs n) (opposite_pair xs n (twin_at xs cs n)) (each-opposites xs cs n each) (each-opposite xs n (twin_at xs cs n) each)
+
+  pub each-twins : (xs : List OrdInt) (cs : List Atom) → EachInt P xs → EachOfPairs P (twin_pairs xs cs)
+  each-twins xs cs each =
+      EachOfPairs-only_if P (are_free (both_atoms (opposite_pairs xs cs (length xs)))) (opposite_pairs xs cs (length xs)) (each-opposites xs cs (length xs) each)

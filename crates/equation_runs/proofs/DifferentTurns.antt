@@ -48,7 +48,7 @@ AreAlways ints cs (p ∷ ps) =
 
 module _ (ints : List OrdInt) (cs : List Atom) where
   -- a row of the members as a view has them is stated, where its atoms are not one
-  row-told : (view : List Atom) (x y : Atom) → IsRow (trimmed_members view ints) (map (resolve view) cs) (resolve view x) (resolve view y)
+  pub row-told : (view : List Atom) (x y : Atom) → IsRow (trimmed_members view ints) (map (resolve view) cs) (resolve view x) (resolve view y)
       → IsMadeOrTold (λ c e. is_stated c e ≡ true) (AllDiff ints cs) view (equation_of Form (x, y))
   row-told view x y row = by (same_atom (resolve view x) (resolve view y)) refl
     where

@@ -15,6 +15,7 @@ use Rattle.equation_runs.specs.Turns.{AreToldFrom}
 use Rattle.equation_runs.specs.FreeAtoms.{are_free, step_atoms, int_atoms}
 use Rattle.equation_runs.specs.BoundRows.{literals, lower_atoms, upper_atoms, above_atoms, free_bound, ints_bound, members_bound, bound_pairs}
 use Rattle.equation_runs.specs.RunRows.{equation_of, link_pairs}
+use Rattle.equation_runs.specs.TwinPairs.{opposite_pairs, both_atoms}
 use Rattle.equation_runs.proofs.LaterTurns.{AreToldAlways}
 use Rattle.equation_runs.proofs.Always.{Told}
 use Rattle.equation_runs.proofs.LinkTurns.{equal-turn, sum-turn}
@@ -26,6 +27,7 @@ use Rattle.equation_runs.proofs.FreeLaws.{free-apart}
 use Rattle.equation_runs.proofs.ConjTurns.{conj-turn}
 use Rattle.equation_runs.proofs.BoundTurns.{lower-turn, upper-turn, above-turn}
 use Rattle.equation_runs.proofs.CountTurns.{full-turn, none-turn}
+use Rattle.equation_runs.proofs.TwinTurns.{twins-turn}
 
 pub links-turn : (core : Core) → AreToldAlways Told core (map (equation_of Form) (link_pairs core))
 links-turn (Ladder a) = tt
@@ -86,7 +88,9 @@ bounds-turn (Max xs c) =
     let above = literals (above_atoms c xs) in
     either-turn (Max xs c) (length above == 0) [] (free_bound (c ∷ xs) above False) (λ _. tt)
     (λ _. if-turn (Max xs c) (are_free (int_atoms (c ∷ xs))) (all_equal above False) (λ free. above-turn xs c (free-apart (int_atoms (c ∷ xs)) free)))
-bounds-turn (AllDiff xs cs) = tt
+bounds-turn (AllDiff xs cs) =
+    let ps = opposite_pairs xs cs (length xs) in
+    if-turn (AllDiff xs cs) (are_free (both_atoms ps)) ps (λ free. twins-turn xs cs (free-apart (both_atoms ps) free))
 bounds-turn (Amo ls) = tt
 bounds-turn (Prod a b c) = tt
 bounds-turn (DivMod a b q r) = tt

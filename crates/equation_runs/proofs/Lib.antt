@@ -23,6 +23,7 @@ pub mod TwinFacts
 pub mod DifferentTurns
 pub mod DifferentSteps
 pub mod DifferentBelow
+pub mod TwinTurns
 pub mod FormTurns
 pub mod Turns
 pub mod ChainSteps

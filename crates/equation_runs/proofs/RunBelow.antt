@@ -33,7 +33,7 @@ use Rattle.arith_rules.specs.MaxRows.{member_ranges, top_equations, unreached_eq
 use Rattle.arith_rules.specs.ProductRows.{scaled_equations, prod_ranges, prod_equations}
 use Rattle.arith_rules.proofs.EachRows.{each-equations as each-arith}
 use Rattle.equation_runs.specs.Turns.{EquationsBelow}
-use Rattle.equation_runs.proofs.DifferentBelow.{each-different}
+use Rattle.equation_runs.proofs.DifferentBelow.{each-different, each-twins}
 use Rattle.equation_runs.specs.FreeAtoms.{are_free, step_atoms, int_atoms}
 use Rattle.equation_runs.specs.BoundRows.{literals, lower_atoms, upper_atoms, above_atoms, free_bound, ints_bound, members_bound, bound_pairs}
 use Rattle.equation_runs.specs.RunRows.{equation_of, behind, chain_pairs, chains_of, prod_constants, link_pairs, run_of}
@@ -169,7 +169,7 @@ module _ (P : Atom → Type 0) (closed : IsClosed P) where
   each-bounds (Max xs c) each =
       each-ints_bound (c ∷ xs) (literals (above_atoms c xs)) False closed.falsehood
       (each-literals (above_atoms c xs) (each-value (λ a. high_of c +ℤ pos 1) xs (EachInt-left P xs (c ∷ []) each.1)))
-  each-bounds (AllDiff xs cs) each = tt
+  each-bounds (AllDiff xs cs) each = each-twins P closed xs cs each.1
   each-bounds (Amo ls) each = tt
   each-bounds (Prod a b c) each = tt
   each-bounds (DivMod a b q r) each = tt

@@ -47,7 +47,7 @@ module _ (ints : List OrdInt) (cs : List Atom) where
     pub sure : IsSure cs i
     pub is : int_at ints i ≡ choice_of key.0 (first_atom (int_at ints i).steps) key.1
 
-  choice-is : (i : ℕ) (key : ℤ × ℕ) → choice_at ints cs i ≡ Some key → IsChoice i key
+  pub choice-is : (i : ℕ) (key : ℤ × ℕ) → choice_at ints cs i ≡ Some key → IsChoice i key
   choice-is i key e = by (is_sure cs i && has_two_values (int_at ints i)) refl e
     where
       by : (t : Bool) → (is_sure cs i && has_two_values (int_at ints i)) ≡ t → (if t then Some (low_of (int_at ints i), first_weight (int_at ints i).steps) else None) ≡ Some key → IsChoice i key
@@ -65,7 +65,7 @@ module _ (ints : List OrdInt) (cs : List Atom) where
   key-is key None e = absurd (false≢true e)
   key-is key (Some other) e = ap (λ (k : ℤ × ℕ). Some k) (one-key other key e)
 
-  first-is : (n : ℕ) (key : ℤ × ℕ) (j : ℕ) → first_with ints cs n key ≡ Some j → (j < n) × (choice_at ints cs j ≡ Some key)
+  pub first-is : (n : ℕ) (key : ℤ × ℕ) (j : ℕ) → first_with ints cs n key ≡ Some j → (j < n) × (choice_at ints cs j ≡ Some key)
   first-is zero key j e = absurd (cc)
   first-is (suc n) key j e = ⊎_elim
       (λ (f : first_with ints cs n key ≡ Some j). let r = first-is n key j f in (omega (arith, r.0), r.1))

@@ -13,6 +13,7 @@ use Rattle.rule_base.specs.Pairs.{only_if}
 use Rattle.rule_base.specs.Stated.{all_equal}
 use Rattle.arith_rules.specs.SumRows.{lows_of, highs_of}
 use Rattle.equation_runs.specs.FreeAtoms.{are_free, step_atoms, int_atoms}
+use Rattle.equation_runs.specs.TwinPairs.{twin_pairs}
 
 -- the literals among atoms
 abbrev pub literals : List Atom → List Atom
@@ -56,7 +57,8 @@ count_bounds ls c =
     else only_if (int_eq (high_of c) (pos 0)) (members_bound ls c False)
 
 -- What is told once those before it are made, where the atoms of the core are literals of different variables: the members of a conjunction that is
--- true; those of a count at its least or greatest value; and what a sum, or a maximum, leaves its members.
+-- true; those of a count at its least or greatest value; what a sum, or a maximum, leaves its members; and that of two members that differ, with the
+-- same two values, each has the one that the other has not.
 abbrev pub bound_pairs : Core → List (Atom × Atom)
 bound_pairs (Ladder a) = []
 bound_pairs (Clause ls) = []
@@ -70,7 +72,7 @@ bound_pairs (Count ls c) = count_bounds ls c
 bound_pairs (Sum ints k) =
     sum_bounds ints (literals (lower_atoms k (highs_of ints) ints)) (literals (upper_atoms k (lows_of ints) ints))
 bound_pairs (Max ints c) = ints_bound (c ∷ ints) (literals (above_atoms c ints)) False
-bound_pairs (AllDiff ints cs) = []
+bound_pairs (AllDiff ints cs) = twin_pairs ints cs
 bound_pairs (Amo ls) = []
 bound_pairs (Prod a b c) = []
 bound_pairs (DivMod a b q r) = []

@@ -15,6 +15,7 @@ ghost use Rattle.equation_runs.specs.BoundRows.{literals, lower_atoms, upper_ato
 
 use crate::free::{are_all_free, are_free, are_free_beside, are_ints_free};
 use crate::links::push_pair;
+use crate::opposites::push_twins;
 use arith_rules::{Range, totals};
 use core_forms::{Core, Equation};
 use order_ints::{Atom, OrdInt};
@@ -291,7 +292,8 @@ fn push_max(
 }
 
 /// Adds what a core tells of its members once what it told before is made: that each member of a true conjunction, or
-/// of a count at an end, is a constant, and what the others leave each member of a sum or a maximum.
+/// of a count at an end, is a constant, what the others leave each member of a sum or a maximum, and that of two members
+/// that differ, with the same two values, each has the one that the other has not.
 pub(crate) fn push_bounds(
     alloc: Global,
     run: &mut Vec<Equation>,
@@ -305,6 +307,9 @@ pub(crate) fn push_bounds(
         Core::Count(ls, c) => push_count(alloc, run, ls.as_slice(), c.get()),
         Core::Sum(ints, k) => push_sum(alloc, run, ints.as_slice(), k.get()),
         Core::Max(ints, c) => push_max(alloc, run, ints.as_slice(), c.get()),
+        Core::AllDiff(ints, conditions) => {
+            push_twins(alloc, run, ints.as_slice(), conditions.get().as_slice())
+        }
         _ => Ok(()),
     }
 }

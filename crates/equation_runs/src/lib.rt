@@ -25,6 +25,7 @@ mod free;
 mod links;
 mod maxima;
 mod members;
+mod opposites;
 mod products;
 mod run;
 mod twins;

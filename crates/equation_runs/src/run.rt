@@ -119,8 +119,8 @@ fn equations_in_turn(alloc: Global, core: &Core) -> Result<Vec<Equation>, AllocE
 }
 
 /// Equations that a core tells one after another. First what is told once those before it are made: that the
-/// members of a true conjunction, or of a count at an end, are all constants, and what the others leave each member
-/// of a sum or a maximum. Then what is told whatever the store makes of the core: upwards along the steps of each
+/// members of a true conjunction, or of a count at an end, are all constants, what the others leave each member
+/// of a sum or a maximum, and that two members that differ, with the same two values, have not one of them. Then what is told whatever the store makes of the core: upwards along the steps of each
 /// integer from a False one, and downwards from a True one; between two of its integers, where these are equal,
 /// where one is the other with a constant added or multiplied, or where they make up a constant; between a
 /// maximum and the member that alone leads; beside a True member of at-most-one; and of members that differ, that

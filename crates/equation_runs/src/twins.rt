@@ -51,7 +51,7 @@ fn first_or_put(
 }
 
 /// The first place at which a member has the two values of the one at a place, if that is an earlier one.
-fn earlier_twin(
+pub(crate) fn earlier_twin(
     firsts: &mut BTreeMap<(i128, u128), usize>,
     ints: &[OrdInt],
     conditions: &[Atom],
@@ -72,7 +72,7 @@ fn earlier_twin(
 }
 
 /// The atom of the first step of the member at a place, and True where there is none.
-fn atom_at(ints: &[OrdInt], place: usize) -> Atom
+pub(crate) fn atom_at(ints: &[OrdInt], place: usize) -> Atom
     ensures { result ≡ first_atom (int_at ints.now place).steps }
 {
     let Some(a) = ints.get(place) else {

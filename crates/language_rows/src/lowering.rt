@@ -60,10 +60,12 @@ fn lowered_owned(alloc: Global, text: &str) -> Result<(usize, Vec<u8>), Fail> {
 }
 
 const MIXED: &str =
-    "new_bool(x) new_int(i,2,4) bool_array_or([x,-x]) new_int(j,7,7) int_leq(i,j) int_neq(i,i) new_bool(y) bool_array_or([y,-x]) int_leq(3,i) solve satisfy";
+    "new_bool(x) new_int(i,2,4) bool_array_or([x,-x]) new_int(j,7,7) int_leq(i,j) int_neq(i,i) new_bool(y) \
+    bool_array_or([y,-x]) int_leq(3,i) solve satisfy";
 
 const CORES: &str =
-    "4: 1 (2 2 3) (7) 4; Ladder (2 2 3); Clause 1 -1; Ladder (7); LeqR T (2 2 3) (7); EqR F (2 2 3) (2 2 3); Clause 4 -1; LeqR T (3) (2 2 3)";
+    "4: 1 (2 2 3) (7) 4; Ladder (2 2 3); Clause 1 -1; Ladder (7); LeqR T (2 2 3) (7); EqR F (2 2 3) (2 2 3); \
+    Clause 4 -1; LeqR T (3) (2 2 3)";
 
 /// Models of different kinds of items, in different orders, lent and used up.
 static MODELS: [(&str, usize, &str); 7] = [

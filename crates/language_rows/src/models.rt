@@ -292,7 +292,8 @@ fn comes_alike(alloc: Global, text: &str) -> Result<bool, Fail> {
 }
 
 static TAKEN: [&str; 3] = [
-    "new_int(i,0,5) bool2int(x,j) int_arrays_lex_reif([i],[j],x) int_array_allDiffCond([i,j],[x,true]) solve minimize i",
+    "new_int(i,0,5) bool2int(x,j) int_arrays_lex_reif([i],[j],x) int_array_allDiffCond([i,j],[x,true]) \
+    solve minimize i",
     "new_bool(x) new_bool(x) new_bool(y) bool_eq(x,y) foo(x) solve satisfy",
     "new_bool(x)",
 ];

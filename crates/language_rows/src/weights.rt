@@ -137,7 +137,8 @@ static MODELS: [(&str, u128); 8] = [
         40000000060000000002,
     ),
     (
-        "new_int(i,-1000000000,1000000000) new_int(j,-1000000000,1000000000) int_array_lin_leq([1000000000,999999999,7],[i,j,i],0) solve satisfy",
+        "new_int(i,-1000000000,1000000000) new_int(j,-1000000000,1000000000) \
+        int_array_lin_leq([1000000000,999999999,7],[i,j,i],0) solve satisfy",
         56000000037999999998,
     ),
     (SEND_MORE_MONEY, 159059),
@@ -145,10 +146,20 @@ static MODELS: [(&str, u128); 8] = [
 ];
 
 const SEND_MORE_MONEY: &str =
-    "new_int(s,1,9) new_int(e,0,9) new_int(n,0,9) new_int(d,0,9) new_int(m,1,9) new_int(o,0,9) new_int(r,0,9) new_int(y,0,9) int_array_allDiff([s,e,n,d,m,o,r,y]) int_array_lin_eq([1000,91,-90,1,-9000,-900,10,-1],[s,e,n,d,m,o,r,y],0) solve satisfy";
+    "new_int(s,1,9) new_int(e,0,9) new_int(n,0,9) new_int(d,0,9) new_int(m,1,9) new_int(o,0,9) new_int(r,0,9) \
+    new_int(y,0,9) int_array_allDiff([s,e,n,d,m,o,r,y]) \
+    int_array_lin_eq([1000,91,-90,1,-9000,-900,10,-1],[s,e,n,d,m,o,r,y],0) solve satisfy";
 
 const EIGHT_QUEENS: &str =
-    "new_int(q1,1,8) new_int(a1,2,9) int_plus(q1,1,a1) new_int(d1,0,7) int_plus(q1,-1,d1) new_int(q2,1,8) new_int(a2,3,10) int_plus(q2,2,a2) new_int(d2,-1,6) int_plus(q2,-2,d2) new_int(q3,1,8) new_int(a3,4,11) int_plus(q3,3,a3) new_int(d3,-2,5) int_plus(q3,-3,d3) new_int(q4,1,8) new_int(a4,5,12) int_plus(q4,4,a4) new_int(d4,-3,4) int_plus(q4,-4,d4) new_int(q5,1,8) new_int(a5,6,13) int_plus(q5,5,a5) new_int(d5,-4,3) int_plus(q5,-5,d5) new_int(q6,1,8) new_int(a6,7,14) int_plus(q6,6,a6) new_int(d6,-5,2) int_plus(q6,-6,d6) new_int(q7,1,8) new_int(a7,8,15) int_plus(q7,7,a7) new_int(d7,-6,1) int_plus(q7,-7,d7) new_int(q8,1,8) new_int(a8,9,16) int_plus(q8,8,a8) new_int(d8,-7,0) int_plus(q8,-8,d8) int_array_allDiff([q1,q2,q3,q4,q5,q6,q7,q8]) int_array_allDiff([a1,a2,a3,a4,a5,a6,a7,a8]) int_array_allDiff([d1,d2,d3,d4,d5,d6,d7,d8]) solve satisfy";
+    "new_int(q1,1,8) new_int(a1,2,9) int_plus(q1,1,a1) new_int(d1,0,7) int_plus(q1,-1,d1) new_int(q2,1,8) \
+    new_int(a2,3,10) int_plus(q2,2,a2) new_int(d2,-1,6) int_plus(q2,-2,d2) new_int(q3,1,8) new_int(a3,4,11) \
+    int_plus(q3,3,a3) new_int(d3,-2,5) int_plus(q3,-3,d3) new_int(q4,1,8) new_int(a4,5,12) int_plus(q4,4,a4) \
+    new_int(d4,-3,4) int_plus(q4,-4,d4) new_int(q5,1,8) new_int(a5,6,13) int_plus(q5,5,a5) new_int(d5,-4,3) \
+    int_plus(q5,-5,d5) new_int(q6,1,8) new_int(a6,7,14) int_plus(q6,6,a6) new_int(d6,-5,2) int_plus(q6,-6,d6) \
+    new_int(q7,1,8) new_int(a7,8,15) int_plus(q7,7,a7) new_int(d7,-6,1) int_plus(q7,-7,d7) new_int(q8,1,8) \
+    new_int(a8,9,16) int_plus(q8,8,a8) new_int(d8,-7,0) int_plus(q8,-8,d8) \
+    int_array_allDiff([q1,q2,q3,q4,q5,q6,q7,q8]) int_array_allDiff([a1,a2,a3,a4,a5,a6,a7,a8]) \
+    int_array_allDiff([d1,d2,d3,d4,d5,d6,d7,d8]) solve satisfy";
 
 /// The weight of the declarations of a Boolean and two integers.
 const LONG_DECLARED: u128 = 21;

@@ -1,24 +1,20 @@
 -- Behind the last value: the answer holds, and the ledger or the end may follow.
-use Rattle.std.proofs.Common.{◌≡◌, ℕ, zero, suc, ◌+◌, ◌<◌, Bool, true, false, not, List, [], ◌∷◌, ◌++◌, codes, length, append_assoc, Option, None, Some, Result, Ok, Err, refl, sym, ap, ◌∙◌, subst, ℤ, arith}
-use Rattle.std.specs.Prelude.{IsTrue, is_some, if◌then◌else◌, ◌&&◌}
+use Rattle.std.proofs.Common.{◌≡◌, ℕ, Bool, true, false, List, [], ◌∷◌, Option, None, Some, refl, ap, ◌∙◌, ℤ, arith}
+use Rattle.std.specs.Prelude.{is_some, if◌then◌else◌, ◌&&◌}
 use Rattle.std.specs.Ordering.{int_eq}
-use Rattle.std.proofs.lemmas.Bool.{true≢false, false≢true}
+use Rattle.std.proofs.lemmas.Bool.{false≢true}
 use Rattle.std.proofs.lemmas.Int.{ints}
-use Rattle.model_meaning.specs.declared.model.Decl.{Decl}
-use Rattle.model_meaning.specs.declared.model.Stmt.{Stmt}
 use Rattle.model_meaning.specs.declared.model.Goal.{Goal}
 use Rattle.model_meaning.specs.declared.model.Model.{Model}
-use Rattle.model_meaning.specs.Domains.{domain, in_domains}
-use Rattle.model_meaning.specs.Integers.{is_member}
-use Rattle.model_meaning.specs.Holds.{Holds, holds}
-use Rattle.model_meaning.specs.Solutions.{AllHold, IsSolution, objective, first_broken}
+use Rattle.model_meaning.specs.Domains.{in_domains}
+use Rattle.model_meaning.specs.Holds.{holds}
+use Rattle.model_meaning.specs.Solutions.{IsSolution, objective, first_broken}
 use Rattle.model_meaning.proofs.SolutionLaws.{first_broken-none}
 use Rattle.answer_document.specs.declared.verdict.Bounds.{Bounds}
 use Rattle.answer_document.specs.declared.verdict.Verdict.{Verdict}
 use Rattle.answer_document.specs.declared.verdict.Verdict.TheVariants.{Satisfiable, Unsatisfiable, Optimum, Unknown}
-use Rattle.answer_document.specs.Verdicts.{numbers_in, is_certified, VerdictFits}
-use Rattle.answer_document.specs.Claims.{IsSolutionAt}
-use Rattle.answer_document.specs.Valid.{stated, FitNumbers, FitValues, AnswerHolds}
+use Rattle.answer_document.specs.Verdicts.{numbers_in, is_certified}
+use Rattle.answer_document.specs.Valid.{stated, FitValues, AnswerHolds}
 use Rattle.ledger_check.specs.declared.fault.Why.{Why}
 use Rattle.ledger_check.specs.declared.fault.Why.TheVariants as why
 use Rattle.ledger_check.specs.Tests.{same_numbers, objective_fault, statement_fault, values_fault}

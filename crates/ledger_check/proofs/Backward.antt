@@ -1,14 +1,11 @@
 -- The lines of a valid answer lead from the start to the end.
-use Rattle.std.proofs.Common.{◌≡◌, ◌⊎◌, ℕ, zero, suc, ◌+◌, ◌<◌, ◌≤◌, Bool, true, false, not, List, [], ◌∷◌, ◌++◌, map, codes, length, append_assoc, Option, None, Some, Result, Ok, Err, refl, sym, ap, ◌∙◌, subst, ℤ, pos, negsuc, arith, inl, inr, ⊎_elim, length-append}
-use Rattle.std.specs.Prelude.{IsTrue, IfSome, FitsSigned, slice_get, if◌then◌else◌, is_some, is_none, ◌||◌, ◌&&◌, ◌==◌, nat_lt}
+use Rattle.std.proofs.Common.{◌≡◌, ◌⊎◌, ◌+◌, ◌<◌, Bool, true, false, not, List, [], ◌∷◌, ◌++◌, map, codes, length, append_assoc, Option, None, Some, Result, Ok, Err, refl, sym, ap, ◌∙◌, subst, ℤ, pos, arith, inl, inr, ⊎_elim, length-append}
+use Rattle.std.specs.Prelude.{IsTrue, FitsSigned, slice_get, if◌then◌else◌, ◌||◌, ◌&&◌}
 use Rattle.std.specs.Int.{w64}
-use Rattle.std.specs.Bool.{beq}
-use Rattle.std.specs.Fmt.{signed_decimal}
 use Rattle.std.specs.Ordering.{int_eq}
-use Rattle.std.proofs.lemmas.Bool.{true≢false, false≢true}
+use Rattle.std.proofs.lemmas.Bool.{false≢true}
 use Rattle.std.proofs.lemmas.List.{append-nil}
 use Rattle.std.proofs.lemmas.Int.{ints}
-use Rattle.order_ints.specs.declared.order_int.MapValue.{MapValue}
 use Rattle.model_meaning.specs.declared.model.Decl.{Decl}
 use Rattle.model_meaning.specs.declared.model.Kind.{Kind}
 use Rattle.model_meaning.specs.declared.model.Kind.TheVariants as kind
@@ -31,10 +28,9 @@ use Rattle.answer_document.specs.Valid.{FitValues, AreReadableSteps, AreReadable
 use Rattle.line_texts.specs.LineByLine.{Lead}
 use Rattle.ledger_check.specs.declared.part.Part.{Part}
 use Rattle.ledger_check.specs.declared.part.Part.TheVariants as part
-use Rattle.ledger_check.specs.declared.fault.Why.{Why}
 use Rattle.ledger_check.specs.declared.told.Told.TheVariants.{Truth, Number}
 use Rattle.ledger_check.specs.declared.told.Told.{Told}
-use Rattle.ledger_check.specs.Items.{told_word, told_line, IsToldValue, Item, Value, Step, Derived, Standing}
+use Rattle.ledger_check.specs.Items.{told_word, told_line, IsToldValue, Value, Step, Derived, Standing}
 use Rattle.ledger_check.specs.Tests.{told_number, told_of, with_value, with_kernel, with_first, with_second}
 use Rattle.ledger_check.specs.Reading.{IsNext}
 

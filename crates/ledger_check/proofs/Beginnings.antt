@@ -1,5 +1,5 @@
 -- The standing before the first line, and the ranges of what names stand for.
-use Rattle.std.proofs.Common.{◌≡◌, ℕ, zero, suc, ◌+◌, ◌<◌, ◌≤◌, ◌^◌, List, [], ◌∷◌, ◌++◌, length, Option, None, Some, refl, sym, ap, ◌∙◌, subst, ℤ, pos, ◌+ℤ◌, arith}
+use Rattle.std.proofs.Common.{◌≡◌, ℕ, zero, suc, ◌+◌, ◌≤◌, List, [], ◌∷◌, ◌++◌, length, Some, sym, ap, ◌∙◌, subst, ℤ, pos, ◌+ℤ◌, arith}
 use Rattle.std.specs.Prelude.{slice_get}
 use Rattle.order_ints.specs.declared.atom.Atom.{Atom}
 use Rattle.order_ints.specs.declared.order_int.OrdInt.{OrdInt}
@@ -13,7 +13,6 @@ use Rattle.order_ints.specs.declared.cnf.Cnf.{Cnf}
 use Rattle.order_ints.specs.declared.literal.Lit.{Lit}
 use Rattle.answer_document.specs.Valid.{atom_clauses}
 use Rattle.order_ints.specs.Place.{AtomBelow, ClausesBelow, InRange, StepsBelow}
-use Rattle.order_ints.specs.Truth.{not_atom}
 use Rattle.order_ints.specs.View.{resolve}
 use Rattle.order_ints.proofs.Labels.{labels_below, length-own_labels}
 use Rattle.order_ints.proofs.PlaceLaws.{AtomBelow-not_atom, AtomBelow-resolve, AtomBelow-up}

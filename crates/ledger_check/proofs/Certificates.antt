@@ -1,13 +1,9 @@
 -- Behind the answer: the ledger and the derivations, one line after another, and what they show at the end.
-use Rattle.std.proofs.Common.{◌≡◌, ◌⊎◌, ℕ, ◌+◌, Bool, true, false, not, List, [], ◌∷◌, ◌++◌, map, codes, length, append_assoc, Option, None, Some, Ok, refl, sym, ap, ◌∙◌, subst, ℤ, arith, inl, inr, add-zero}
-use Rattle.std.specs.Prelude.{IsTrue, if◌then◌else◌, is_some, ◌||◌, ◌==◌}
-use Rattle.std.proofs.lemmas.Bool.{true≢false, false≢true}
+use Rattle.std.proofs.Common.{◌≡◌, ◌⊎◌, ℕ, ◌+◌, Bool, true, false, List, [], ◌∷◌, ◌++◌, codes, append_assoc, None, Some, Ok, refl, sym, ap, ◌∙◌, subst, arith, inl, inr}
+use Rattle.std.specs.Prelude.{IsTrue, ◌||◌, ◌==◌}
 use Rattle.order_ints.specs.declared.atom.Atom.{Atom}
 use Rattle.order_ints.specs.declared.atom.Atom.TheVariants.{True, False, Of}
-use Rattle.order_ints.specs.declared.order_int.MapValue.{MapValue}
-use Rattle.order_ints.specs.View.{resolve}
 use Rattle.model_meaning.specs.declared.model.Model.{Model}
-use Rattle.model_lower.specs.Lowering.{lowered_of}
 use Rattle.ledger_text.specs.declared.line.Line.{Line}
 use Rattle.ledger_text.specs.Steps.{step_text, IsReadableStep}
 use Rattle.step_kernel.specs.Kernel.{Kernel}
@@ -15,23 +11,19 @@ use Rattle.step_kernel.specs.Steps.{step}
 use Rattle.step_kernel.specs.CnfOf.{cnf_of}
 use Rattle.proof_check.specs.declared.line.ProofLine.{ProofLine}
 use Rattle.proof_check.specs.Lines.{line_bytes, IsReadable}
-use Rattle.proof_check.specs.Lrat.{Proof, proof_of, take_line}
+use Rattle.proof_check.specs.Lrat.{Proof, proof_of}
 use Rattle.proof_check.specs.Known.{known}
 use Rattle.answer_document.specs.declared.verdict.Bounds.{Bounds}
 use Rattle.answer_document.specs.declared.verdict.Verdict.{Verdict}
-use Rattle.answer_document.specs.declared.verdict.Verdict.TheVariants.{Satisfiable, Unsatisfiable, Optimum, Unknown}
-use Rattle.answer_document.specs.declared.document.Document.{Document}
-use Rattle.answer_document.specs.Verdicts.{verdict_text, is_certified, VerdictFits}
-use Rattle.answer_document.specs.DocumentText.{version_line, best_lines, assignment_lines, certificate_lines, second_lines, document_lines}
-use Rattle.answer_document.specs.BoundAtoms.{first_bound, second_bound}
-use Rattle.answer_document.specs.Valid.{start_of, stated, IsShown, first_shown, second_shown, second_cnf, IsDerived, IsSecond, IsCertified, IsReadableDocument, AnswerHolds, numbers_given, FitNumbers, FitValues, FitAssignment, AreReadableSteps, AreReadableLines, IsReadableSecond}
+use Rattle.answer_document.specs.declared.verdict.Verdict.TheVariants.{Unsatisfiable, Unknown}
+use Rattle.answer_document.specs.Verdicts.{is_certified}
+use Rattle.answer_document.specs.Valid.{start_of, stated, IsShown, AnswerHolds, FitValues}
 use Rattle.ledger_check.specs.declared.part.Part.TheVariants as part
-use Rattle.ledger_check.specs.declared.fault.Why.TheVariants as why
-use Rattle.ledger_check.specs.Items.{Standing, may_have_second, must_have_second}
-use Rattle.ledger_check.specs.Tests.{when, is_shown, is_first_shown, is_second_shown, is_optimal, is_concluded, additions_in, is_refuted, line_taken, fixed_cnf, second_begun, values_fault}
-use Rattle.ledger_check.specs.Fronts.{head_lines, ledger_lines, proof_lines, more_lines, answer_of, assignment_of, IsFresh, IsFitting, HasAnswer, IsAnswered, AtBest, AtUnanswered, AtValues, AtLedger, AtProof, AtSecond, AtEnd, KnownIn}
-use Rattle.ledger_check.proofs.Answers.{answered, answered-alone}
-use Rattle.ledger_check.proofs.Stepping.{when-ok, replayed-more, lines-more, steps-more, readable-more, ledger-longer, proof-longer, more-longer}
+use Rattle.ledger_check.specs.Items.{Standing, may_have_second}
+use Rattle.ledger_check.specs.Tests.{is_shown, is_first_shown, line_taken, fixed_cnf, values_fault}
+use Rattle.ledger_check.specs.Fronts.{head_lines, ledger_lines, proof_lines, more_lines, answer_of, IsFresh, IsFitting, IsAnswered, AtBest, AtUnanswered, AtValues, AtLedger, AtProof, AtSecond}
+use Rattle.ledger_check.proofs.Answers.{answered}
+use Rattle.ledger_check.proofs.Stepping.{replayed-more, lines-more, steps-more, readable-more, ledger-longer, proof-longer, more-longer}
 
 pub one-more : (ls ms : List (List ℕ)) (l m : List ℕ) → ls ≡ ms → l ≡ m → ls ++ l ∷ [] ≡ ms ++ m ∷ []
 one-more ls ms l m e f = ap (λ x. x ++ l ∷ []) e ∙ ap (λ x. ms ++ x ∷ []) f

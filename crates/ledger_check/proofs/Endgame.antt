@@ -1,5 +1,5 @@
 -- What the reading of a text tells of it.
-use Rattle.std.proofs.Common.{◌≡◌, ℕ, ◌+◌, ◌≤◌, List, [], ◌∷◌, ◌++◌, map, length, Option, refl, sym, ap, ◌∙◌, subst, inl, inr, ℤ}
+use Rattle.std.proofs.Common.{◌≡◌, ℕ, ◌+◌, ◌≤◌, List, [], ◌∷◌, ◌++◌, map, Option, refl, sym, ap, ◌∙◌, subst, inl, inr, ℤ}
 use Rattle.std.proofs.lemmas.List.{append-nil}
 use Rattle.bee_text.specs.Lines.{AreLines, join_lines, lines_of, unfinished}
 use Rattle.bee_text.proofs.LineLemmas.{lines_of-join_lines, unfinished-join_lines}
@@ -19,10 +19,10 @@ use Rattle.ledger_check.specs.declared.fault.Why.{Why}
 use Rattle.ledger_check.specs.declared.fault.Why.TheVariants.{Shape}
 use Rattle.ledger_check.specs.Items.{Standing}
 use Rattle.ledger_check.specs.Tests.{start_standing}
-use Rattle.ledger_check.specs.Reading.{IsNext, IsBecause, IsEnd}
+use Rattle.ledger_check.specs.Reading.{IsNext, IsEnd}
 use Rattle.ledger_check.specs.Fronts.{answer_of}
 use Rattle.ledger_check.specs.Taken.{IsOnly, IsMisfitFor}
-use Rattle.ledger_check.specs.Checked.{IsAnswer, IsFirstFault, IsRefused}
+use Rattle.ledger_check.specs.Checked.{IsAnswer, IsRefused}
 use Rattle.ledger_check.proofs.Onward.{whole-valid}
 use Rattle.ledger_check.proofs.ValidWhole.{valid-whole}
 use Rattle.ledger_check.proofs.DocumentLines.{written-lines}

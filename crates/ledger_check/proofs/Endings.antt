@@ -1,6 +1,6 @@
 -- What a document says at its end.
-use Rattle.std.proofs.Common.{◌≡◌, ◌⊎◌, ℕ, ◌+◌, Bool, true, false, not, List, [], ◌∷◌, ◌++◌, map, codes, length, append_assoc, Option, None, Some, Ok, refl, sym, ap, ◌∙◌, subst, ℤ, arith}
-use Rattle.std.specs.Prelude.{IsTrue, if◌then◌else◌, is_some, ◌==◌}
+use Rattle.std.proofs.Common.{◌≡◌, ℕ, ◌+◌, true, false, List, [], ◌∷◌, ◌++◌, map, codes, length, append_assoc, Option, None, Some, refl, sym, ap, ◌∙◌, subst, ℤ, arith}
+use Rattle.std.specs.Prelude.{if◌then◌else◌, is_some, ◌==◌}
 use Rattle.std.proofs.lemmas.Bool.{true≢false, false≢true}
 use Rattle.std.proofs.lemmas.List.{append-nil}
 use Rattle.order_ints.specs.View.{resolve}
@@ -9,23 +9,21 @@ use Rattle.model_meaning.specs.declared.model.Model.{Model}
 use Rattle.model_lower.specs.Lowering.{lowered_of}
 use Rattle.ledger_text.specs.Steps.{step_text}
 use Rattle.step_kernel.specs.CnfOf.{cnf_of}
-use Rattle.proof_check.specs.declared.line.ProofLine.{ProofLine}
 use Rattle.proof_check.specs.Lines.{line_bytes}
 use Rattle.proof_check.specs.Lrat.{Proof, proof_of, take_lines}
-use Rattle.proof_check.specs.Known.{known}
 use Rattle.answer_document.specs.declared.verdict.Bounds.{Bounds}
 use Rattle.answer_document.specs.declared.verdict.Verdict.{Verdict}
 use Rattle.answer_document.specs.declared.verdict.Verdict.TheVariants.{Satisfiable, Unsatisfiable, Optimum, Unknown}
 use Rattle.answer_document.specs.declared.document.Document.{Document}
-use Rattle.answer_document.specs.Verdicts.{verdict_text, is_certified, VerdictFits}
+use Rattle.answer_document.specs.Verdicts.{verdict_text, is_certified}
 use Rattle.answer_document.specs.DocumentText.{version_line, best_lines, assignment_lines, certificate_lines, document_lines}
 use Rattle.name_map.specs.ValueLines.{declared_lines}
 use Rattle.answer_document.specs.BoundAtoms.{first_bound, second_bound, fixed}
-use Rattle.answer_document.specs.Valid.{stated, IsShown, first_shown, second_shown, second_cnf, atom_clauses, IsDerived, IsSecond, AreShown, AreAdded, IsCertified, AnswerHolds, numbers_given, FitNumbers, FitValues, FitAssignment}
+use Rattle.answer_document.specs.Valid.{stated, IsShown, first_shown, second_shown, atom_clauses, IsDerived, IsSecond, AreShown, AreAdded, IsCertified, numbers_given, FitValues, FitAssignment}
 use Rattle.ledger_check.specs.declared.part.Part.TheVariants as part
 use Rattle.ledger_check.specs.Items.{Standing, may_have_second, must_have_second}
-use Rattle.ledger_check.specs.Tests.{is_shown, is_first_shown, is_second_shown, is_optimal, is_concluded, additions_in, is_refuted, fixed_cnf, values_fault}
-use Rattle.ledger_check.specs.Fronts.{head_lines, ledger_lines, proof_lines, more_lines, answer_of, assignment_of, IsAnswered, AtValues, AtProof, AtSecond, AtEnd}
+use Rattle.ledger_check.specs.Tests.{is_shown, is_first_shown, is_second_shown, is_optimal, is_concluded, additions_in, is_refuted, values_fault}
+use Rattle.ledger_check.specs.Fronts.{head_lines, ledger_lines, proof_lines, more_lines, answer_of, assignment_of, AtValues, AtProof, AtSecond, AtEnd}
 use Rattle.ledger_check.proofs.Answers.{answered-alone}
 use Rattle.ledger_check.proofs.Heads.{declared_lines-nil}
 use Rattle.ledger_check.proofs.Certificates.{one-more, shown-is, equal-count}

@@ -1,11 +1,10 @@
 -- The lines up to the last value, one after another.
-use Rattle.std.proofs.Common.{◌≡◌, ℕ, zero, suc, ◌+◌, ◌<◌, Bool, true, false, not, List, [], ◌∷◌, ◌++◌, codes, length, append_assoc, Option, None, Some, Result, Ok, Err, refl, sym, ap, ◌∙◌, subst, ℤ, pos, arith, lit<}
-use Rattle.std.specs.Prelude.{IsTrue, IsSome, IfSome, FitsSigned, slice_get, if◌then◌else◌, is_some, ◌&&◌, nat_lt, ◌^◌}
+use Rattle.std.proofs.Common.{◌≡◌, ℕ, ◌+◌, ◌<◌, Bool, true, false, not, List, [], ◌∷◌, ◌++◌, codes, length, append_assoc, Option, None, Some, refl, sym, ap, ◌∙◌, subst, ℤ, pos, arith, lit<}
+use Rattle.std.specs.Prelude.{IsTrue, IfSome, FitsSigned, slice_get, if◌then◌else◌, is_some, ◌^◌}
 use Rattle.std.specs.Int.{w64}
 use Rattle.std.specs.Bool.{beq}
 use Rattle.std.specs.Fmt.{signed_decimal}
 use Rattle.std.proofs.lemmas.Bool.{true≢false, false≢true}
-use Rattle.std.proofs.lemmas.List.{append-nil}
 use Rattle.model_meaning.specs.declared.model.Decl.{Decl}
 use Rattle.model_meaning.specs.declared.model.Kind.{Kind}
 use Rattle.model_meaning.specs.declared.model.Kind.TheVariants as kind
@@ -14,21 +13,20 @@ use Rattle.model_meaning.specs.declared.model.Goal.TheVariants.{Satisfy, Minimiz
 use Rattle.model_meaning.specs.declared.model.Model.{Model}
 use Rattle.model_meaning.specs.Domains.{domain}
 use Rattle.model_meaning.specs.Integers.{is_member}
-use Rattle.model_lower.specs.Lowering.{lowered_of}
 use Rattle.answer_document.specs.declared.verdict.Bounds.{Bounds}
 use Rattle.answer_document.specs.declared.verdict.Verdict.{Verdict}
 use Rattle.answer_document.specs.declared.verdict.Verdict.TheVariants.{Satisfiable, Unsatisfiable, Optimum, Unknown}
 use Rattle.answer_document.specs.Verdicts.{verdict_text, HaveSecond, BoundsFit, VerdictFits}
 use Rattle.answer_document.specs.DocumentText.{is_there, has_second, version_line, best_line, best_lines}
 use Rattle.name_map.specs.ValueLines.{declared_word, declared_line, declared_lines}
-use Rattle.answer_document.specs.Valid.{start_of, stated, FitNumbers, FitValues}
+use Rattle.answer_document.specs.Valid.{stated, FitNumbers, FitValues}
 use Rattle.ledger_check.specs.declared.part.Part.{Part}
 use Rattle.ledger_check.specs.declared.part.Part.TheVariants as part
 use Rattle.ledger_check.specs.declared.told.Told.TheVariants.{Truth, Number}
 use Rattle.ledger_check.specs.declared.told.Told.{Told}
 use Rattle.ledger_check.specs.Items.{Standing, told_word, told_line, HasNumbers, IsVerdictLine, IsToldValue, IsNameLeft}
 use Rattle.ledger_check.specs.Tests.{has_objective, is_count, verdict_fits, behind_verdict, with_best, member_or_none, told_number, told_of}
-use Rattle.ledger_check.specs.Fronts.{head_lines, AreMembers, IsFresh, IsFitting, HasAnswer, AtStart, AtVerdict, AtBest, AtUnanswered, AtValues, KnownIn}
+use Rattle.ledger_check.specs.Fronts.{head_lines, AreMembers, IsFresh, HasAnswer, AtStart, AtVerdict, AtBest, AtValues, KnownIn}
 
 same-bools : (a b : Bool) → beq a b ≡ true → a ≡ b
 same-bools true true e = refl

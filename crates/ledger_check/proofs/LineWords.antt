@@ -1,19 +1,14 @@
 -- The pieces of the lines of verdicts and of best solutions' values are their words.
-use Rattle.std.proofs.Common.{◌≡◌, ℕ, suc, ◌+◌, ◌<◌, ◌^◌, Bool, true, false, not, ◌||◌, ◌==◌, List, [], ◌∷◌, ◌++◌, drop, codes, length, Option, None, Some, refl, sym, ap, ◌∙◌, ℤ, pos, negsuc, arith}
-use Rattle.std.specs.Prelude.{FitsSigned, IfSome}
-use Rattle.std.specs.Int.{w64}
+use Rattle.std.proofs.Common.{◌≡◌, ℕ, ◌+◌, ◌<◌, Bool, true, false, not, ◌||◌, ◌==◌, List, [], ◌∷◌, ◌++◌, drop, codes, length, None, refl, ap, ◌∙◌, arith}
 use Rattle.std.specs.List.{list_all}
-use Rattle.std.specs.Fmt.{decimal, signed_decimal}
-use Rattle.std.proofs.lemmas.Bool.{and_parts, and_from, or_parts, not-true, not_from_false, false≢true}
+use Rattle.std.proofs.lemmas.Bool.{and_parts, and_from, or_parts, not-true, not_from_false}
 use Rattle.bee_text.specs.Lines.{lacks}
-use Rattle.bee_text.specs.Words.{IsWord, AreWords, is_gap, is_word, ArePieces, split_blanks, join_words}
-use Rattle.bee_text.proofs.NumberLemmas.{decimal_word}
-use Rattle.bee_text.proofs.GapLemmas.{solid}
+use Rattle.bee_text.specs.Words.{IsWord, AreWords, is_gap, is_word, ArePieces, split_blanks}
 use Rattle.bee_text.proofs.WordLemmas.{split_blanks-join_words}
 use Rattle.answer_document.specs.declared.verdict.Bounds.{Bounds}
 use Rattle.answer_document.specs.declared.verdict.Verdict.{Verdict}
 use Rattle.answer_document.specs.declared.verdict.Verdict.TheVariants.{Satisfiable, Unsatisfiable, Optimum, Unknown}
-use Rattle.answer_document.specs.Verdicts.{words_with, bound_words, verdict_words, verdict_text}
+use Rattle.answer_document.specs.Verdicts.{bound_words, verdict_words, verdict_text}
 use Rattle.answer_document.specs.DocumentText.{best_line}
 use Rattle.answer_document.proofs.SpelledWords.{bounds-words, verdict-are-words}
 use Rattle.ledger_check.specs.Items.{HaveNumbers, IsVerdictLine}

@@ -1,5 +1,5 @@
 -- A line says one thing where it stands, so a text has one first line that fails.
-use Rattle.std.proofs.Common.{◌≡◌, ◌⊎◌, ℕ, zero, suc, ◌+◌, ◌<◌, ◌≤◌, ◌^◌, Bool, true, false, List, [], ◌∷◌, ◌++◌, get_or, codes, length, Option, None, Some, Result, Ok, refl, sym, ap, ◌∙◌, subst, ⊎_elim, arith}
+use Rattle.std.proofs.Common.{◌≡◌, ◌⊎◌, ℕ, zero, suc, ◌+◌, ◌<◌, ◌≤◌, Bool, true, false, List, [], ◌∷◌, ◌++◌, get_or, codes, length, Some, Result, Ok, refl, sym, ap, ◌∙◌, subst, ⊎_elim, arith}
 use Rattle.std.specs.Prelude.{slice_get, if◌then◌else◌}
 use Rattle.std.proofs.lemmas.Bool.{true≢false}
 use Rattle.std.proofs.lemmas.List.{append_cancel_left}
@@ -12,7 +12,7 @@ use Rattle.proof_check.specs.Lines.{line_bytes, IsReadable}
 use Rattle.answer_document.specs.declared.verdict.Bounds.{Bounds}
 use Rattle.answer_document.specs.declared.verdict.Verdict.{Verdict}
 use Rattle.answer_document.specs.declared.verdict.Verdict.TheVariants.{Satisfiable, Unsatisfiable, Optimum, Unknown}
-use Rattle.answer_document.specs.Verdicts.{verdict_text, is_certified}
+use Rattle.answer_document.specs.Verdicts.{verdict_text}
 use Rattle.answer_document.specs.DocumentText.{has_second, best_line}
 use Rattle.answer_document.specs.Valid.{stated, FitNumbers}
 use Rattle.answer_document.specs.Told.{FitsCount}
@@ -24,7 +24,7 @@ use Rattle.ledger_check.specs.declared.part.Part.{Part}
 use Rattle.ledger_check.specs.declared.part.Part.TheVariants as part
 use Rattle.ledger_check.specs.declared.fault.Why.{Why}
 use Rattle.ledger_check.specs.declared.told.Told.{Told}
-use Rattle.ledger_check.specs.Items.{Item, Version, Answer, Best, Value, LedgerBegins, Step, ProofBegins, Derived, SecondBegins, End, Standing, told_word, told_line, item_line, HasNumbers, IsVerdictLine, IsToldValue, IsNameLeft, MayStandIn, Says}
+use Rattle.ledger_check.specs.Items.{Item, Version, Answer, Best, Value, LedgerBegins, Step, ProofBegins, Derived, SecondBegins, End, Standing, told_word, told_line, item_line, IsVerdictLine, IsToldValue, MayStandIn, Says}
 use Rattle.ledger_check.specs.Tests.{start_standing, taken}
 use Rattle.ledger_check.specs.Reading.{IsNext, IsBecause, IsEnd}
 use Rattle.ledger_check.specs.Checked.{IsFirstFault}

@@ -1,23 +1,21 @@
 -- What is known of a document goes on with each line that is the next, so that a whole text is a valid answer.
-use Rattle.std.proofs.Common.{◌≡◌, ℕ, Bool, true, false, List, [], ◌∷◌, ◌++◌, codes, length, append_assoc, Option, None, Some, Result, Ok, Err, refl, sym, ap, ◌∙◌, subst, ℤ}
-use Rattle.std.specs.Prelude.{slice_get, if◌then◌else◌}
+use Rattle.std.proofs.Common.{◌≡◌, ℕ, List, [], ◌∷◌, ◌++◌, length, append_assoc, Option, None, Some, Result, Ok, Err, refl, sym, ap, ◌∙◌, subst, ℤ}
+use Rattle.std.specs.Prelude.{slice_get}
 use Rattle.std.proofs.lemmas.List.{append-nil}
 use Rattle.bee_text.specs.Lines.{join_lines}
-use Rattle.model_meaning.specs.declared.model.Decl.{Decl}
 use Rattle.model_meaning.specs.declared.model.Model.{Model}
 use Rattle.answer_document.specs.declared.verdict.Bounds.{Bounds}
-use Rattle.answer_document.specs.Valid.{stated, IsValid}
+use Rattle.answer_document.specs.Valid.{IsValid}
 use Rattle.proof_check.specs.Lrat.{proof_of}
 use Rattle.line_texts.specs.LineByLine.{Lead, IsWhole}
 use Rattle.ledger_check.specs.declared.part.Part.{Part}
 use Rattle.ledger_check.specs.declared.part.Part.TheVariants as part
 use Rattle.ledger_check.specs.declared.fault.Why.{Why}
 use Rattle.ledger_check.specs.declared.fault.Why.TheVariants as why
-use Rattle.ledger_check.specs.declared.told.Told.{Told}
 use Rattle.ledger_check.specs.Items.{Item, Version, Answer, Best, Value, LedgerBegins, Step, ProofBegins, Derived, SecondBegins, End, Standing, item_line, MayStandIn}
-use Rattle.ledger_check.specs.Tests.{start_standing, when, with_value, second_begun, told_of, taken_in, behind_verdict, is_first_shown, fixed_cnf}
+use Rattle.ledger_check.specs.Tests.{start_standing, when, with_value, second_begun, told_of, taken_in, is_first_shown, fixed_cnf}
 use Rattle.ledger_check.specs.Reading.{IsNext, IsEnd}
-use Rattle.ledger_check.specs.Fronts.{answer_of, AtStart, AtProof, AtEnd, KnownIn, Known}
+use Rattle.ledger_check.specs.Fronts.{answer_of, AtEnd, KnownIn, Known}
 use Rattle.ledger_check.proofs.Heads.{version-read, verdict-read, best-read, value-read}
 use Rattle.ledger_check.proofs.Stepping.{when-ok, unless-ok, kernel-ok, first-ok, second-ok}
 use Rattle.ledger_check.proofs.Certificates.{ledger-behind-values, ledger-behind-count, ledger-behind-none, step-read, proof-begun, line-read, second-begun, more-read}

@@ -1,5 +1,5 @@
 -- What the lines up to the last value say.
-use Rattle.std.proofs.Common.{◌≡◌, ℕ, ◌<◌, Bool, true, false, List, [], ◌∷◌, ◌++◌, get_or, length, codes, Option, None, Some, refl, sym, ap, ◌∙◌, subst, arith}
+use Rattle.std.proofs.Common.{◌≡◌, ℕ, ◌<◌, Bool, true, false, List, ◌++◌, get_or, length, codes, Option, None, Some, refl, sym, ap, ◌∙◌, subst, arith}
 use Rattle.std.specs.Prelude.{slice_get, if◌then◌else◌}
 use Rattle.model_meaning.specs.declared.model.Decl.{Decl}
 use Rattle.model_meaning.specs.declared.model.Model.{Model}
@@ -11,7 +11,7 @@ use Rattle.ledger_check.specs.declared.part.Part.TheVariants as part
 use Rattle.ledger_check.specs.declared.fault.Why.{Why}
 use Rattle.ledger_check.specs.declared.fault.Why.TheVariants.{Shape}
 use Rattle.ledger_check.specs.declared.told.Told.{Told}
-use Rattle.ledger_check.specs.Items.{Item, Version, Answer, Best, Value, LedgerBegins, Step, ProofBegins, Derived, SecondBegins, End, Standing, item_line, told_line, told_word, MayStandIn, HaveNumbers, IsVerdictLine, IsToldValue, IsNameLeft}
+use Rattle.ledger_check.specs.Items.{Item, Version, Answer, Best, Value, LedgerBegins, End, Standing, item_line, told_line, told_word, MayStandIn, HaveNumbers, IsVerdictLine, IsToldValue, IsNameLeft}
 use Rattle.ledger_check.specs.Tests.{taken_in, with_value, told_of, told_number}
 use Rattle.ledger_check.specs.Taken.{Took, Takes}
 use Rattle.ledger_check.proofs.Takings.{nothing-said, said}

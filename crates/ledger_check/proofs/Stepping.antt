@@ -1,37 +1,20 @@
 -- What is known of a document goes on with each line that is the next.
-use Rattle.std.proofs.Common.{◌≡◌, ◌⊎◌, ℕ, ◌+◌, ◌<◌, Bool, true, false, not, List, [], ◌∷◌, ◌++◌, map, codes, length, append_assoc, Option, None, Some, Result, Ok, Err, refl, sym, ap, ◌∙◌, subst, ℤ, pos, arith, inl, inr}
-use Rattle.std.specs.Prelude.{IsTrue, IfSome, FitsSigned, slice_get, if◌then◌else◌, is_some, ◌||◌, ◌==◌}
-use Rattle.std.specs.Bool.{beq}
-use Rattle.std.proofs.lemmas.Bool.{true≢false, false≢true}
-use Rattle.std.proofs.lemmas.List.{append-nil, map-append}
-use Rattle.order_ints.specs.declared.atom.Atom.{Atom}
-use Rattle.order_ints.specs.declared.atom.Atom.TheVariants.{True, False, Of}
-use Rattle.order_ints.specs.declared.order_int.MapValue.{MapValue}
-use Rattle.order_ints.specs.View.{resolve}
-use Rattle.model_meaning.specs.declared.model.Model.{Model}
-use Rattle.model_lower.specs.Lowering.{lowered_of}
+use Rattle.std.proofs.Common.{◌≡◌, ℕ, ◌+◌, Bool, true, false, List, [], ◌∷◌, ◌++◌, codes, append_assoc, Option, None, Some, Result, Ok, Err, refl, sym, ap, ◌∙◌}
+use Rattle.std.proofs.lemmas.List.{map-append}
 use Rattle.ledger_text.specs.declared.line.Line.{Line}
 use Rattle.ledger_text.specs.Steps.{step_text, IsReadableStep}
 use Rattle.step_kernel.specs.declared.fault.StepFault.{StepFault}
 use Rattle.step_kernel.specs.Kernel.{Kernel}
-use Rattle.step_kernel.specs.Steps.{step, replay, replayed}
-use Rattle.step_kernel.specs.CnfOf.{cnf_of}
+use Rattle.step_kernel.specs.Steps.{step, replayed}
 use Rattle.proof_check.specs.declared.line.ProofLine.{ProofLine}
 use Rattle.proof_check.specs.declared.fault.ProofFault.{ProofFault}
 use Rattle.proof_check.specs.Lines.{line_bytes, IsReadable}
-use Rattle.proof_check.specs.Lrat.{Proof, proof_of, take_line, take_lines, behind}
-use Rattle.proof_check.specs.Known.{known}
-use Rattle.answer_document.specs.declared.verdict.Bounds.{Bounds}
-use Rattle.answer_document.specs.declared.verdict.Verdict.{Verdict}
-use Rattle.answer_document.specs.declared.verdict.Verdict.TheVariants.{Satisfiable, Unsatisfiable, Optimum, Unknown}
-use Rattle.answer_document.specs.BoundAtoms.{first_bound, second_bound}
-use Rattle.answer_document.specs.Valid.{IsShown, AreReadableSteps, AreReadableLines, stated}
-use Rattle.ledger_check.specs.declared.part.Part.{Part}
-use Rattle.ledger_check.specs.declared.part.Part.TheVariants as part
+use Rattle.proof_check.specs.Lrat.{Proof, take_line, take_lines, behind}
+use Rattle.answer_document.specs.Valid.{AreReadableSteps, AreReadableLines}
 use Rattle.ledger_check.specs.declared.fault.Why.{Why}
 use Rattle.ledger_check.specs.Items.{Standing}
-use Rattle.ledger_check.specs.Tests.{when, unless, with_kernel, with_first, with_second, line_taken}
-use Rattle.ledger_check.specs.Fronts.{head_lines, ledger_lines, proof_lines, more_lines}
+use Rattle.ledger_check.specs.Tests.{when, unless, with_kernel, with_first, with_second}
+use Rattle.ledger_check.specs.Fronts.{ledger_lines, proof_lines, more_lines}
 
 ok-same : {X E : Type 0} (x y : X) → ◌≡◌ {A = Result X E} (Ok x) (Ok y) → x ≡ y
 ok-same x y e = cc

@@ -1,10 +1,10 @@
 -- What comes of a line, by what it says.
-use Rattle.std.proofs.Common.{◌≡◌, ◌⊎◌, ℕ, List, Option, None, Some, Result, Ok, Err, refl, sym, ap, ◌∙◌, subst, inl, inr}
+use Rattle.std.proofs.Common.{◌≡◌, ℕ, List, Option, None, Some, Result, Ok, Err, refl, sym, ap, ◌∙◌, subst, inl, inr}
 use Rattle.model_meaning.specs.declared.model.Model.{Model}
 use Rattle.ledger_check.specs.declared.part.Part.{Part}
 use Rattle.ledger_check.specs.declared.fault.Why.{Why}
 use Rattle.ledger_check.specs.declared.fault.Why.TheVariants.{Shape}
-use Rattle.ledger_check.specs.Items.{Item, Standing, item_line, MayStandIn, Says}
+use Rattle.ledger_check.specs.Items.{Item, Standing, item_line, MayStandIn}
 use Rattle.ledger_check.specs.Tests.{taken, taken_in}
 use Rattle.ledger_check.specs.Reading.{IsNext}
 use Rattle.ledger_check.specs.Taken.{Took, Takes}

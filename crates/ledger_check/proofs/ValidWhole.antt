@@ -1,15 +1,13 @@
 -- A valid answer is a whole text.
-use Rattle.std.proofs.Common.{◌≡◌, ◌⊎◌, ℕ, ◌+◌, ◌<◌, ◌≤◌, Bool, true, false, not, List, [], ◌∷◌, ◌++◌, map, codes, length, append_assoc, Option, None, Some, Result, Ok, Err, refl, sym, ap, ◌∙◌, subst, ℤ, arith, inl, inr, ⊎_elim}
-use Rattle.std.specs.Prelude.{IsTrue, IsFalse, IfSome, FitsSigned, slice_get, if◌then◌else◌, is_some, is_none, ◌||◌, ◌&&◌, ◌==◌, nat_lt, ◌^◌}
-use Rattle.std.specs.Int.{w64}
+use Rattle.std.proofs.Common.{◌≡◌, ◌⊎◌, ℕ, ◌+◌, ◌<◌, ◌≤◌, Bool, true, false, not, List, [], ◌∷◌, ◌++◌, map, codes, length, append_assoc, Option, None, Some, refl, sym, ap, ◌∙◌, subst, ℤ, arith, ⊎_elim}
+use Rattle.std.specs.Prelude.{IsTrue, if◌then◌else◌, is_some, ◌||◌, ◌&&◌, ◌==◌, nat_lt, ◌^◌}
 use Rattle.std.specs.Bool.{beq}
 use Rattle.std.specs.Ordering.{int_eq}
 use Rattle.std.proofs.lemmas.Bool.{true≢false, false≢true}
-use Rattle.std.proofs.lemmas.List.{append-nil}
 use Rattle.std.proofs.lemmas.Int.{ints}
 use Rattle.order_ints.specs.declared.atom.Atom.{Atom}
 use Rattle.order_ints.specs.declared.atom.Atom.TheVariants.{True, False, Of}
-use Rattle.bee_text.specs.Lines.{AreLines, join_lines}
+use Rattle.bee_text.specs.Lines.{AreLines}
 use Rattle.model_meaning.specs.declared.model.Assignment.{Assignment}
 use Rattle.model_meaning.specs.declared.model.Decl.{Decl}
 use Rattle.model_meaning.specs.declared.model.Goal.{Goal}
@@ -19,12 +17,11 @@ use Rattle.model_meaning.specs.Domains.{domain, in_domains}
 use Rattle.model_meaning.specs.Integers.{is_member}
 use Rattle.model_meaning.specs.Solutions.{IsSolution, objective, first_broken}
 use Rattle.model_meaning.proofs.SolutionLaws.{first_broken-none}
-use Rattle.model_lower.specs.Lowering.{lowered_of}
 use Rattle.ledger_text.specs.Steps.{step_text}
 use Rattle.step_kernel.specs.CnfOf.{cnf_of}
 use Rattle.proof_check.specs.declared.line.ProofLine.{ProofLine}
 use Rattle.proof_check.specs.Lines.{line_bytes}
-use Rattle.proof_check.specs.Lrat.{Proof, proof_of, take_lines}
+use Rattle.proof_check.specs.Lrat.{Proof, proof_of}
 use Rattle.proof_check.specs.Known.{known}
 use Rattle.answer_document.specs.declared.verdict.Bounds.{Bounds}
 use Rattle.answer_document.specs.declared.verdict.Verdict.{Verdict}
@@ -39,10 +36,9 @@ use Rattle.line_texts.specs.LineByLine.{Lead, IsWhole}
 use Rattle.line_texts.proofs.Leads.{lead_join}
 use Rattle.ledger_check.specs.declared.part.Part.{Part}
 use Rattle.ledger_check.specs.declared.part.Part.TheVariants as part
-use Rattle.ledger_check.specs.declared.fault.Why.{Why}
 use Rattle.ledger_check.specs.declared.fault.Why.TheVariants as why
-use Rattle.ledger_check.specs.Items.{Item, Version, Answer, Best, LedgerBegins, ProofBegins, SecondBegins, End, Standing, HasNumbers, IsVerdictLine, may_have_second, must_have_second, MayStand, item_line}
-use Rattle.ledger_check.specs.Tests.{start_standing, has_objective, verdict_fits, behind_verdict, same_numbers, objective_fault, statement_fault, values_fault, is_shown, is_first_shown, is_second_shown, is_optimal, is_concluded, additions_in, when, unless, taken, second_begun, fixed_cnf}
+use Rattle.ledger_check.specs.Items.{Version, Answer, Best, LedgerBegins, ProofBegins, SecondBegins, End, Standing, HasNumbers, IsVerdictLine, may_have_second, must_have_second}
+use Rattle.ledger_check.specs.Tests.{start_standing, has_objective, verdict_fits, behind_verdict, same_numbers, objective_fault, statement_fault, values_fault, is_shown, is_optimal, is_concluded, when, unless, taken, second_begun, fixed_cnf}
 use Rattle.ledger_check.specs.Reading.{IsNext, IsEnd}
 use Rattle.ledger_check.proofs.Backward.{standing, values-lead, ledger-lead, proof-lead, more-lead}
 

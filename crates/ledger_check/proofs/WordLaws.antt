@@ -1,10 +1,10 @@
 -- The word of a value tells it.
-use Rattle.std.proofs.Common.{◌≡◌, ℕ, ◌+◌, ◌<◌, ◌^◌, Bool, true, false, List, ◌∷◌, get_or, codes, refl, sym, ap, ◌∙◌, ℤ, pos, negsuc, arith}
-use Rattle.std.specs.Prelude.{FitsSigned, if◌then◌else◌}
+use Rattle.std.proofs.Common.{◌≡◌, ℕ, ◌<◌, Bool, true, false, List, get_or, codes, refl, sym, ap, ◌∙◌, ℤ, pos, negsuc, arith}
+use Rattle.std.specs.Prelude.{FitsSigned}
 use Rattle.std.specs.Int.{w64}
 use Rattle.std.specs.List.{list_all}
 use Rattle.std.specs.Char.{is_ascii_digit}
-use Rattle.std.specs.Fmt.{decimal, signed_decimal}
+use Rattle.std.specs.Fmt.{signed_decimal}
 use Rattle.std.proofs.lemmas.Bool.{true≢false}
 use Rattle.bee_text.proofs.NumberLemmas.{decimal_digits}
 use Rattle.answer_document.proofs.LinesTell.{signed-tells}

@@ -1,5 +1,5 @@
 -- What comes of a text: a valid answer, or the first line that fails.
-use Rattle.std.specs.Prelude.{◌≡◌, ◌⊎◌, ℕ, ◌<◌, ◌≤◌, ◌^◌, List, [], ℤ, Option, None}
+use Rattle.std.specs.Prelude.{◌≡◌, ◌⊎◌, ℕ, ◌<◌, ◌≤◌, ◌^◌, List, ℤ, Option}
 use Rattle.model_meaning.specs.declared.model.Model.{Model}
 use Rattle.model_weight.specs.Weight.{weight_of}
 use Rattle.model_lower.specs.declared.fault.LowerFault.{LowerFault}

@@ -1,5 +1,5 @@
 -- What a line of a document says, how it is spelled, and which may stand where.
-use Rattle.std.specs.Prelude.{◌≡◌, ℕ, ◌<◌, ◌^◌, Bool, true, false, List, [], ◌∷◌, ◌++◌, codes}
+use Rattle.std.specs.Prelude.{◌≡◌, ℕ, ◌<◌, ◌^◌, Bool, true, false, List, [], ◌++◌, codes}
 use Rattle.std.specs.Prelude.{slice_get, length, ℤ, Option, Some, None, is_some, FitsSigned, IfSome}
 use Rattle.std.specs.Prelude.{if◌then◌else◌}
 use Rattle.std.specs.Int.{w64}

@@ -1,7 +1,7 @@
 -- What is made of a line that may stand where it stands, or what stands against it.
-use Rattle.std.specs.Prelude.{◌≡◌, ◌==◌, ℕ, ◌+◌, ◌^◌, nat_le, nat_lt, Bool, true, false, not}
+use Rattle.std.specs.Prelude.{◌==◌, ℕ, ◌+◌, ◌^◌, nat_lt, Bool, true, false, not}
 use Rattle.std.specs.Prelude.{◌&&◌, ◌||◌, List, [], ◌∷◌, ◌++◌, length, slice_get, ℤ, pos, Option}
-use Rattle.std.specs.Prelude.{Some, None, is_none, is_some, Result, Ok, Err, if◌then◌else◌}
+use Rattle.std.specs.Prelude.{Some, None, Result, Ok, Err, if◌then◌else◌}
 use Rattle.std.specs.Bool.{beq}
 use Rattle.std.specs.Ordering.{int_eq}
 use Rattle.order_ints.specs.declared.atom.Atom.{Atom}

@@ -1,6 +1,6 @@
 //! The atoms of bounds, and whether what was derived shows them.
 
-ghost use Rattle.std.specs.Prelude.{◌≡◌, ◌+◌, ◌==◌, ◌++◌, ℕ, ℤ, List, Bool, Option, IfOk, length};
+ghost use Rattle.std.specs.Prelude.{◌≡◌, ◌+◌, ◌==◌, ◌++◌, ℕ, Option, IfOk, length};
 ghost use Rattle.order_ints.specs.OrderLevels.{at_of};
 ghost use Rattle.order_ints.specs.OrderRange.{IsBounded};
 ghost use Rattle.order_ints.specs.Place.{AtomBelow};
@@ -130,6 +130,7 @@ pub(crate) fn stated(verdict: Verdict) -> Option<Bounds>
 pub(crate) fn checker_of(alloc: Global, state: &Replay) -> Result<Checker, AllocError>
     ensures { IfOk result (λ c. c ≡ proof_of (cnf_of state.now)) }
 {
+    // Read for the proof alone, which knows the state's invariant from here on.
     let _vars = state.vars();
     let cnf = state.cnf()?;
     Checker::with(alloc, &cnf)
@@ -147,6 +148,7 @@ pub(crate) fn fixed_checker(
       clauses = (cnf_of state.now).clauses ++ atom_clauses atom;
     })) }
 {
+    // Read for the proof alone, which knows the state's invariant from here on.
     let _vars = state.vars();
     let Cnf { vars, clauses } = state.cnf()?;
     let cnf = Cnf {

@@ -1,6 +1,6 @@
 //! Taking the lines of the ledger and of the derivations.
 
-ghost use Rattle.std.specs.Prelude.{◌≡◌, ◌+◌, ℕ, List, IfOk, Some, Ok, Err, false, true, length};
+ghost use Rattle.std.specs.Prelude.{◌≡◌, IfOk, Some, Ok, Err, false, true};
 ghost use Rattle.step_kernel.specs.Steps.{step};
 ghost use Rattle.step_kernel.specs.CnfOf.{cnf_of};
 ghost use Rattle.proof_check.specs.declared.line.ProofLine.{ProofLine};
@@ -149,6 +149,7 @@ impl Reading {
             (λ o. Took (with_kernel (standing_of self.old) (step self.old.state line.now)) (standing_of self.new) o) }
         ensures later { IsLater self.old self.new }
     {
+        // Read for the proof alone, which knows the state's invariant from here on.
         let _vars = self.state.vars();
         match self.state.apply(line) {
             Ok(()) => Ok(None),

@@ -1,7 +1,7 @@
 //! Reading the lines up to the last value.
 
-ghost use Rattle.std.specs.Prelude.{◌≡◌, ◌↔◌, ℕ, ◌++◌, List, Bool, IfSome, Some, None, IsNone};
-ghost use Rattle.std.specs.Prelude.{IsTrue, MatchOption, codes, if◌then◌else◌};
+ghost use Rattle.std.specs.Prelude.{◌≡◌, ℕ, ◌++◌, List, Bool, IfSome, Some, None};
+ghost use Rattle.std.specs.Prelude.{MatchOption, codes, if◌then◌else◌};
 ghost use Rattle.answer_document.specs.declared.verdict.Bounds.{Bounds};
 ghost use Rattle.answer_document.specs.declared.verdict.Verdict.{Verdict};
 ghost use Rattle.answer_document.specs.Verdicts.{verdict_text};
@@ -68,7 +68,8 @@ fn behind<'a>(text: &'a [u8], front: &[u8]) -> Option<&'a [u8]>
 /// The value of a name that a line tells.
 pub(crate) fn read_value(line: &[u8], name: &[u8]) -> Option<Told>
     ensures read { IfSome result (λ t. (line.now ≡ name.now ++ (codes " = " ++ told_word t)) × IsToldValue t) }
-    ensures complete { (t : Told) → IsToldValue t → line.now ≡ name.now ++ (codes " = " ++ told_word t) → result ≡ Some t }
+    ensures complete { (t : Told) → IsToldValue t → line.now ≡ name.now ++ (codes " = " ++ told_word t)
+        → result ≡ Some t }
 {
     let told = behind(line, name)?;
     let word = behind(told, b" = ")?;

@@ -1,11 +1,8 @@
 //! Taking the lines up to the last value.
 
-ghost use Rattle.std.specs.Prelude.{◌≡◌, ◌<◌, ◌&&◌, int_le, List, ℕ, ℤ, IfOk, Some, None};
-ghost use Rattle.std.specs.Prelude.{MatchOption, IfSome, length, slice_get, if◌then◌else◌};
-ghost use Rattle.model_meaning.specs.Domains.{domain};
-ghost use Rattle.model_meaning.specs.Integers.{is_member};
-ghost use Rattle.answer_document.specs.DocumentText.{is_there, has_second};
-ghost use Rattle.ledger_check.specs.Items.{Version, Answer, Best, Value, LedgerBegins, IsNameLeft};
+ghost use Rattle.std.specs.Prelude.{◌≡◌, ◌<◌, ◌&&◌, IfOk, Some, None};
+ghost use Rattle.answer_document.specs.DocumentText.{has_second};
+ghost use Rattle.ledger_check.specs.Items.{Version, Answer, Best, Value, IsNameLeft};
 ghost use Rattle.ledger_check.specs.Tests.{has_objective, is_count, verdict_fits, behind_verdict, with_best};
 ghost use Rattle.ledger_check.specs.Tests.{told_number, with_value, taken_in};
 ghost use Rattle.ledger_check.specs.Taken.{standing_of, Took, Takes, IsLater};
@@ -17,6 +14,7 @@ use crate::reading::Reading;
 use crate::told::Told;
 use crate::words::is;
 use answer_document::{Bounds, Verdict};
+use certificate_lines::is_value;
 use model_meaning::{Goal, Kind, Model};
 use std::alloc::AllocError;
 
@@ -83,25 +81,6 @@ fn with_best(verdict: Verdict, bounds: Bounds) -> Verdict
     }
 }
 
-/// Whether a number is from a least to a greatest one.
-fn in_range(low: i64, high: i64, number: i64) -> bool
-    ensures { result ≡ (int_le low number && int_le number high) }
-{
-    low <= number && number <= high
-}
-
-/// Whether a number is in a domain.
-#[tactic(auto, using(model_meaning::proofs::DomainLaws::domains))]
-fn is_value(kind: &Kind, number: i64) -> bool
-    ensures { result ≡ is_member number (domain kind.now) }
-{
-    match kind {
-        Kind::Bool => in_range(0, 1, number),
-        Kind::Range { low, high } => in_range(*low, *high, number),
-        Kind::Listed { values } => values.contains(number),
-    }
-}
-
 /// The number that is told of a name of a kind, where it is one of its domain.
 fn told_number(kind: &Kind, told: Told) -> Option<i64>
     ensures { result ≡ told_number kind.now told }
@@ -123,8 +102,8 @@ fn told_number(kind: &Kind, told: Told) -> Option<i64>
 impl Reading {
     /// Takes a version.
     fn take_version(&mut self, model: &Model, two: bool) -> Option<Why>
-        ensures took { Took (taken_in model.now (standing_of self.old) Part.Version (Version two)) (standing_of self.new)
-            result }
+        ensures took { Took (taken_in model.now (standing_of self.old) Part.Version (Version two))
+            (standing_of self.new) result }
         ensures later { IsLater self.old self.new }
     {
         if two != has_second(model.goal) {
@@ -136,8 +115,8 @@ impl Reading {
 
     /// Takes a verdict.
     fn take_verdict(&mut self, model: &Model, verdict: Verdict) -> Option<Why>
-        ensures took { Took (taken_in model.now (standing_of self.old) Part.Verdict (Answer verdict)) (standing_of self.new)
-            result }
+        ensures took { Took (taken_in model.now (standing_of self.old) Part.Verdict (Answer verdict))
+            (standing_of self.new) result }
         ensures later { IsLater self.old self.new }
     {
         if !verdict_fits(model.goal, verdict) {

@@ -1,6 +1,6 @@
 //! The tests behind the last value: domains, statements, and the stated values of the objectives.
 
-ghost use Rattle.std.specs.Prelude.{◌≡◌, ◌<◌, ◌∷◌, [], ℕ, ℤ, List, IfOk, Some, true, false, length};
+ghost use Rattle.std.specs.Prelude.{◌≡◌, ◌<◌, ◌∷◌, IfOk, Some, true, false};
 ghost use Rattle.std.specs.Prelude.{if◌then◌else◌};
 ghost use Rattle.model_meaning.specs.Domains.{in_domains};
 ghost use Rattle.model_meaning.specs.Limits.{InLimits};
@@ -78,7 +78,8 @@ fn objective_fault(goal: Goal, values: &[i64], bounds: Option<Bounds>) -> Option
 fn fault_of(model: &Model, given: &Assignment, bounds: Option<Bounds>) -> Option<Why>
     requires { InLimits model.now }
     ensures { result ≡ (if in_domains model.now.decls given.now.values
-        then statement_fault (first_broken given.now.values model.now.stmts) (objective_fault model.now.goal given.now.values bounds)
+        then statement_fault (first_broken given.now.values model.now.stmts)
+        (objective_fault model.now.goal given.now.values bounds)
         else Some Why.Value) }
 {
     if !in_domains(model, given) {

@@ -71,7 +71,8 @@ static LISTS: [Row; 15] = [
         "ACCEPTED ALL 0\n",
     ),
     (
-        "new_bool(a)\nnew_bool(b)\nbool_array_or([a,b])\nbool_array_or([a,-b])\nbool_array_or([-a,b])\nbool_array_or([-a,-b])\nsolve satisfy\n",
+        "new_bool(a)\nnew_bool(b)\nbool_array_or([a,b])\nbool_array_or([a,-b])\nbool_array_or([-a,b])\n\
+        bool_array_or([-a,-b])\nsolve satisfy\n",
         AMPLE,
         "done",
         "bee all 1\nALL 0\nledger\n",
@@ -89,7 +90,8 @@ static LISTS: [Row; 15] = [
         "new_int(x,-2,1)\nnew_int(y,[-9,0,4])\nint_lt(y,x)\nsolve satisfy\n",
         AMPLE,
         "done",
-        "bee all 1\nALL 5\nsolution\nx = -2\ny = -9\nsolution\nx = -1\ny = -9\nsolution\nx = 0\ny = -9\nsolution\nx = 1\ny = -9\nsolution\nx = 1\ny = 0\nledger\n",
+        "bee all 1\nALL 5\nsolution\nx = -2\ny = -9\nsolution\nx = -1\ny = -9\nsolution\nx = 0\ny = -9\nsolution\n\
+        x = 1\ny = -9\nsolution\nx = 1\ny = 0\nledger\n",
         "ACCEPTED ALL 5\n",
     ),
     // Names for which one variable stands, as it is and negated.
@@ -120,7 +122,8 @@ static LISTS: [Row; 15] = [
         "new_int(x,1,3)\nnew_int(y,1,3)\nnew_int(z,1,3)\nint_array_allDiff([x,y,z])\nint_lt(x,z)\nsolve satisfy\n",
         AMPLE,
         "done",
-        "bee all 1\nALL 3\nsolution\nx = 1\ny = 2\nz = 3\nsolution\nx = 1\ny = 3\nz = 2\nsolution\nx = 2\ny = 1\nz = 3\nledger\n",
+        "bee all 1\nALL 3\nsolution\nx = 1\ny = 2\nz = 3\nsolution\nx = 1\ny = 3\nz = 2\nsolution\nx = 2\ny = 1\n\
+        z = 3\nledger\n",
         "ACCEPTED ALL 3\n",
     ),
     // A budget that is spent: on a model without a solution, and on the certificate.
@@ -142,11 +145,15 @@ static LISTS: [Row; 15] = [
 
 /// Four pigeons, of which each sits in one of three holes, and no two in one.
 const PIGEONS: &str =
-    "new_bool(p11) new_bool(p12) new_bool(p13) new_bool(p21) new_bool(p22) new_bool(p23) new_bool(p31) new_bool(p32) new_bool(p33) new_bool(p41) new_bool(p42) new_bool(p43)
+    "new_bool(p11) new_bool(p12) new_bool(p13) new_bool(p21) new_bool(p22) new_bool(p23) new_bool(p31) new_bool(p32) \
+    new_bool(p33) new_bool(p41) new_bool(p42) new_bool(p43)
 bool_array_or([p11,p12,p13]) bool_array_or([p21,p22,p23]) bool_array_or([p31,p32,p33]) bool_array_or([p41,p42,p43])
-bool_array_or([-p11,-p21]) bool_array_or([-p11,-p31]) bool_array_or([-p11,-p41]) bool_array_or([-p21,-p31]) bool_array_or([-p21,-p41]) bool_array_or([-p31,-p41])
-bool_array_or([-p12,-p22]) bool_array_or([-p12,-p32]) bool_array_or([-p12,-p42]) bool_array_or([-p22,-p32]) bool_array_or([-p22,-p42]) bool_array_or([-p32,-p42])
-bool_array_or([-p13,-p23]) bool_array_or([-p13,-p33]) bool_array_or([-p13,-p43]) bool_array_or([-p23,-p33]) bool_array_or([-p23,-p43]) bool_array_or([-p33,-p43])
+bool_array_or([-p11,-p21]) bool_array_or([-p11,-p31]) bool_array_or([-p11,-p41]) bool_array_or([-p21,-p31]) \
+bool_array_or([-p21,-p41]) bool_array_or([-p31,-p41])
+bool_array_or([-p12,-p22]) bool_array_or([-p12,-p32]) bool_array_or([-p12,-p42]) bool_array_or([-p22,-p32]) \
+bool_array_or([-p22,-p42]) bool_array_or([-p32,-p42])
+bool_array_or([-p13,-p23]) bool_array_or([-p13,-p33]) bool_array_or([-p13,-p43]) bool_array_or([-p23,-p33]) \
+bool_array_or([-p23,-p43]) bool_array_or([-p33,-p43])
 solve satisfy
 ";
 

@@ -7,7 +7,9 @@ use bee_outside::{MemShelf, MemSink};
 use checkall_mode::check_all;
 use decode_minimize::Options;
 use model_texts::ModelFault;
+use search_watcher::Silent;
 use std::alloc::{AllocError, Global};
+use std::cell::{Cell, RefCell};
 use text_modes::{End, Outcome};
 
 /// How a list is sought, with a budget; 1 where it is none.
@@ -55,7 +57,9 @@ pub fn listed(alloc: Global, model: &str, budget: u64) -> Result<(String, MemSin
     let model = file(alloc, "m.bee", model.as_bytes())?;
     let mut shelf = MemShelf::with(vec![in alloc; model]?, 65_536, Vec::new(alloc));
     let mut out = sink(alloc)?;
-    let end = list_solutions(alloc, "m.bee", options_of(budget), &mut shelf, &mut out);
+    let silent = RefCell::new(Silent);
+    let options = options_of(budget);
+    let end = list_solutions(alloc, "m.bee", options, &mut shelf, &mut out, &silent);
     Ok((told(alloc, end)?, out))
 }
 
@@ -65,6 +69,7 @@ pub fn checked(alloc: Global, model: &str, list: &[u8]) -> Result<MemSink, Alloc
     let list = file(alloc, "m.list", list)?;
     let mut shelf = MemShelf::with(vec![in alloc; model, list]?, 65_536, Vec::new(alloc));
     let mut out = sink(alloc)?;
-    let _end = check_all(alloc, "m.bee", "m.list", &mut shelf, &mut out);
+    let noted = Cell::new(None);
+    let _end = check_all(alloc, "m.bee", "m.list", &mut shelf, &mut out, &noted);
     Ok(out)
 }

@@ -4,8 +4,10 @@ use crate::example_rows::check;
 use std::test::Fail;
 
 static BLOCK_DESIGN: &str =
-    "% A block design, the Fano plane: seven points and seven lines, with three points on each line, three lines through each
-% point, and one point common to each two lines. x23 says that point 3 is on line 2. Neither points nor lines have names,
+    "% A block design, the Fano plane: seven points and seven lines, with three points on each line, \
+    three lines through each
+% point, and one point common to each two lines. x23 says that point 3 is on line 2. \
+Neither points nor lines have names,
 % so both the rows and the columns of the matrix may stand in lexicographic order.
 new_bool(x11)
 new_bool(x12)

@@ -23,7 +23,8 @@ solve minimize fourth
 ";
 
 static KNAPSACK: &str =
-    "% A hiker packs at most fifteen kilograms, as useful as they can be: how many of each thing, of which there are three at most, and one tent.
+    "% A hiker packs at most fifteen kilograms, as useful as they can be: how many of each thing, \
+    of which there are three at most, and one tent.
 new_int(tent,0,1)       % four kilograms, a use of twelve
 new_int(water,0,3)      % two kilograms, a use of five
 new_int(food,0,3)       % three kilograms, a use of nine
@@ -37,8 +38,8 @@ int_leq(food,water)
 solve maximize use
 ";
 
-static QUEENS: &str =
-    "% Eight queens on a chessboard, one in each column, so that none attacks another: q1 is the row of the queen in column 1.
+static QUEENS: &str = "% Eight queens on a chessboard, one in each column, \
+    so that none attacks another: q1 is the row of the queen in column 1.
 new_int(q1,1,8)
 new_int(q2,1,8)
 new_int(q3,1,8)
@@ -112,7 +113,8 @@ solve satisfy
 ";
 
 static JOB_SHOP: &str =
-    "% Three jobs on three machines, done as early as they can be. A task is named by its job and its machine, and its number is the
+    "% Three jobs on three machines, done as early as they can be. A task is named by its job and its machine, \
+    and its number is the
 % hour at which it begins; a machine does one task at a time, and the shop closes after thirteen hours.
 % Job a: three hours on machine 1, then two on machine 2, then two on machine 3.
 new_int(a1,0,10)

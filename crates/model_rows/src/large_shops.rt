@@ -4,9 +4,12 @@ use crate::example_rows::check;
 use std::test::Fail;
 
 static JOB_SHOP_6: &str =
-    "% Six jobs on six machines, done as early as can be: the instance ft06 of Fisher and Thompson (1963). A task is named by its job, a to f,
-% and its machine, 1 to 6; a3 is the hour at which it begins and a3_end the one at which it ends. The shop closes after sixty-five hours.
-% Job a: machine 3 for 1 hour, then 1 for 3 hours, then 2 for 6 hours, then 4 for 7 hours, then 6 for 3 hours, then 5 for 6 hours.
+    "% Six jobs on six machines, done as early as can be: the instance ft06 of Fisher and Thompson (1963). \
+    A task is named by its job, a to f,
+% and its machine, 1 to 6; a3 is the hour at which it begins and a3_end the one at which it ends. \
+The shop closes after sixty-five hours.
+% Job a: machine 3 for 1 hour, then 1 for 3 hours, then 2 for 6 hours, then 4 for 7 hours, then 6 for 3 hours, \
+then 5 for 6 hours.
 new_int(a3,0,64)
 new_int(a3_end,1,65)
 int_plus(a3,1,a3_end)
@@ -30,7 +33,8 @@ new_int(a5,0,59)
 new_int(a5_end,6,65)
 int_plus(a5,6,a5_end)
 int_leq(a6_end,a5)
-% Job b: machine 2 for 8 hours, then 3 for 5 hours, then 5 for 10 hours, then 6 for 10 hours, then 1 for 10 hours, then 4 for 4 hours.
+% Job b: machine 2 for 8 hours, then 3 for 5 hours, then 5 for 10 hours, then 6 for 10 hours, then 1 for 10 hours, \
+then 4 for 4 hours.
 new_int(b2,0,57)
 new_int(b2_end,8,65)
 int_plus(b2,8,b2_end)
@@ -54,7 +58,8 @@ new_int(b4,0,61)
 new_int(b4_end,4,65)
 int_plus(b4,4,b4_end)
 int_leq(b1_end,b4)
-% Job c: machine 3 for 5 hours, then 4 for 4 hours, then 6 for 8 hours, then 1 for 9 hours, then 2 for 1 hour, then 5 for 7 hours.
+% Job c: machine 3 for 5 hours, then 4 for 4 hours, then 6 for 8 hours, then 1 for 9 hours, then 2 for 1 hour, \
+then 5 for 7 hours.
 new_int(c3,0,60)
 new_int(c3_end,5,65)
 int_plus(c3,5,c3_end)
@@ -78,7 +83,8 @@ new_int(c5,0,58)
 new_int(c5_end,7,65)
 int_plus(c5,7,c5_end)
 int_leq(c2_end,c5)
-% Job d: machine 2 for 5 hours, then 1 for 5 hours, then 3 for 5 hours, then 4 for 3 hours, then 5 for 8 hours, then 6 for 9 hours.
+% Job d: machine 2 for 5 hours, then 1 for 5 hours, then 3 for 5 hours, then 4 for 3 hours, then 5 for 8 hours, \
+then 6 for 9 hours.
 new_int(d2,0,60)
 new_int(d2_end,5,65)
 int_plus(d2,5,d2_end)
@@ -102,7 +108,8 @@ new_int(d6,0,56)
 new_int(d6_end,9,65)
 int_plus(d6,9,d6_end)
 int_leq(d5_end,d6)
-% Job e: machine 3 for 9 hours, then 2 for 3 hours, then 5 for 5 hours, then 6 for 4 hours, then 1 for 3 hours, then 4 for 1 hour.
+% Job e: machine 3 for 9 hours, then 2 for 3 hours, then 5 for 5 hours, then 6 for 4 hours, then 1 for 3 hours, \
+then 4 for 1 hour.
 new_int(e3,0,56)
 new_int(e3_end,9,65)
 int_plus(e3,9,e3_end)
@@ -126,7 +133,8 @@ new_int(e4,0,64)
 new_int(e4_end,1,65)
 int_plus(e4,1,e4_end)
 int_leq(e1_end,e4)
-% Job f: machine 2 for 3 hours, then 4 for 3 hours, then 6 for 9 hours, then 1 for 10 hours, then 5 for 4 hours, then 3 for 1 hour.
+% Job f: machine 2 for 3 hours, then 4 for 3 hours, then 6 for 9 hours, then 1 for 10 hours, then 5 for 4 hours, \
+then 3 for 1 hour.
 new_int(f2,0,62)
 new_int(f2_end,3,65)
 int_plus(f2,3,f2_end)

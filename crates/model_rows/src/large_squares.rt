@@ -4,8 +4,10 @@ use crate::example_rows::check;
 use std::test::Fail;
 
 static QUASIGROUP_20: &str =
-    "% A quasigroup of twenty elements with holes: in its table, a Latin square, each element stands once in each row and once in
-% each column. a1 to t20 are the places, row by row. A filled place has one value; each of the 168 open ones may have those that
+    "% A quasigroup of twenty elements with holes: in its table, a Latin square, \
+    each element stands once in each row and once in
+% each column. a1 to t20 are the places, row by row. A filled place has one value; \
+each of the 168 open ones may have those that
 % no filled place of its row or column has.
 new_int(a1,[5,9,13,14,17,18])
 new_int(a2,3,3)

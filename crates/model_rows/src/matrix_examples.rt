@@ -4,7 +4,8 @@ use crate::example_rows::check;
 use std::test::Fail;
 
 static ROUND_ROBIN: &str =
-    "% Six teams, five rounds: each two teams meet once, and in each round each team has one game. ab3 says that the teams a
+    "% Six teams, five rounds: each two teams meet once, and in each round each team has one game. \
+    ab3 says that the teams a
 % and b meet in round 3, and ab that a is at home then, and not b.
 new_bool(ab)
 new_bool(ab1)

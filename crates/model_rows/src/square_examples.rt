@@ -4,7 +4,8 @@ use crate::example_rows::check;
 use std::test::Fail;
 
 static QUASIGROUP: &str =
-    "% A quasigroup of five elements with holes: in its table, a Latin square, each element stands once in each row and once
+    "% A quasigroup of five elements with holes: in its table, a Latin square, \
+    each element stands once in each row and once
 % in each column, and some places are filled.
 new_int(a1,1,5)
 new_int(a2,1,5)
@@ -57,7 +58,8 @@ solve satisfy
 ";
 
 static SUDOKU: &str =
-    "% A sudoku: in each row, in each column and in each of the nine boxes stands each digit from 1 to 9 once. r2c5 is the
+    "% A sudoku: in each row, in each column and in each of the nine boxes stands each digit from 1 to 9 once. \
+    r2c5 is the
 % fifth digit of the second row.
 new_int(r1c1,1,9)
 new_int(r1c2,1,9)

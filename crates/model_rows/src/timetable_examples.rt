@@ -4,8 +4,10 @@ use crate::example_rows::check;
 use std::test::Fail;
 
 static TIMETABLE: &str =
-    "% A timetable of two dozen lessons for the classes a, b and c on two days of five hours. The hours of the first day are 1 to 5 and
-% those of the second one 6 to 10; a lesson's number is the hour at which it is held. School is to be out as early as can be on the
+    "% A timetable of two dozen lessons for the classes a, b and c on two days of five hours. \
+    The hours of the first day are 1 to 5 and
+% those of the second one 6 to 10; a lesson's number is the hour at which it is held. \
+School is to be out as early as can be on the
 % second day, and where several timetables do that, the music lessons are to end as early as can be.
 % Class a: maths and English on both days, a double lesson of physics on one, sport in the hours of the gym, and music.
 new_int(a_maths1,1,5)
@@ -63,7 +65,8 @@ int_lt(a_maths1,a_english1)
 int_lt(a_maths2,a_english2)
 % The hour at which school is out, and that of the last music lesson.
 new_int(out,6,10)
-int_array_max([a_maths2,a_english2,a_physics2,a_sport,a_music,b_maths2,b_english2,b_physics2,b_sport,b_music,c_maths2,c_english2,c_physics2,c_sport,c_music],out)
+int_array_max([a_maths2,a_english2,a_physics2,a_sport,a_music,b_maths2,b_english2,b_physics2,b_sport,b_music,c_maths2,\
+c_english2,c_physics2,c_sport,c_music],out)
 new_int(music,1,10)
 int_array_max([a_music,b_music,c_music],music)
 solve minimize out then music

@@ -1,6 +1,6 @@
 -- The atom that says that an objective is better is true exactly where it is.
 use Rattle.std.proofs.Common.{◌≡◌, ℕ, zero, suc, ◌+◌, Bool, true, false, not, List, [], ◌∷◌, refl, sym, ap, ◌∙◌, ℤ, pos, ◌+ℤ◌, ◌≤ℤ◌, arith}
-use Rattle.std.specs.Prelude.{◌&&◌, ◌||◌, ◌<ℤ◌, int_lt, int_le, Option, Some}
+use Rattle.std.specs.Prelude.{◌&&◌, ◌||◌, ◌<ℤ◌, int_lt, int_le, Some}
 use Rattle.std.specs.Ordering.{int_eq}
 use Rattle.std.proofs.lemmas.Int.{ints}
 use Rattle.order_ints.specs.declared.order_int.MapValue.{MapValue}

@@ -1,10 +1,8 @@
 -- What the names of a model that is compiled stand for, as objectives.
-use Rattle.std.proofs.Common.{◌≡◌, ℕ, zero, suc, ◌+◌, List, [], ◌∷◌, ℤ, pos, ◌+ℤ◌, subst, sym, arith}
+use Rattle.std.proofs.Common.{ℕ, zero, suc, ◌+◌, List, [], ◌∷◌, ℤ, pos, ◌+ℤ◌, arith}
 use Rattle.std.specs.Prelude.{Some}
 use Rattle.order_ints.specs.declared.order_int.MapValue.{MapValue}
 use Rattle.order_ints.specs.declared.order_int.MapValue.TheVariants as values
-use Rattle.order_ints.specs.declared.order_int.OrdInt.{OrdInt}
-use Rattle.order_ints.specs.declared.atom.Atom.{Atom}
 use Rattle.order_ints.specs.OrderMade.{constant_of}
 use Rattle.order_ints.specs.OrderRange.{IsBounded, IntBelow}
 use Rattle.order_ints.specs.OrderLevels.{at_of}

@@ -7,7 +7,8 @@ use std::test::Fail;
 static TOKENS: [(&str, &str); 11] = [
     (
         "* #variable= 2 #constraint= 1\nmin: +1 x1 +2 x2 ;\n+1 x1 +1 x2 >= 1 ;\n",
-        "new_bool(x1)\nnew_bool(x2)\nnew_int(o,0,3)\nbool_array_pb_eq([1,2],[x1,x2],o)\nbool_array_pb_geq([1,1],[x1,x2],1)\nsolve minimize o\n",
+        "new_bool(x1)\nnew_bool(x2)\nnew_int(o,0,3)\nbool_array_pb_eq([1,2],[x1,x2],o)\n\
+        bool_array_pb_geq([1,1],[x1,x2],1)\nsolve minimize o\n",
     ),
     // Signs of numbers, and zeros before them.
     (
@@ -57,16 +58,19 @@ static OBJECTIVES: [(&str, &str); 6] = [
     ),
     (
         "min: 2 x1 -3 x2 -4 ~x1 5 ~x2 ;",
-        "new_bool(x1)\nnew_bool(x2)\nnew_int(o,-7,7)\nbool_array_pb_eq([2,-3,-4,5],[x1,x2,-x1,-x2],o)\nsolve minimize o\n",
+        "new_bool(x1)\nnew_bool(x2)\nnew_int(o,-7,7)\nbool_array_pb_eq([2,-3,-4,5],[x1,x2,-x1,-x2],o)\n\
+        solve minimize o\n",
     ),
     (
         "min: 1073741823 x1 -1073741824 x1 1 x1 ;",
-        "new_bool(x1)\nnew_int(o,-1073741824,1073741824)\nbool_array_pb_eq([1073741823,-1073741824,1],[x1,x1,x1],o)\nsolve minimize o\n",
+        "new_bool(x1)\nnew_int(o,-1073741824,1073741824)\nbool_array_pb_eq([1073741823,-1073741824,1],[x1,x1,x1],o)\n\
+        solve minimize o\n",
     ),
     // The greatest index may be that of the objective, or of a constraint.
     (
         "min: 1 x3 ;\n1 x1 >= 0 ;",
-        "new_bool(x1)\nnew_bool(x2)\nnew_bool(x3)\nnew_int(o,0,1)\nbool_array_pb_eq([1],[x3],o)\nbool_array_pb_geq([1],[x1],0)\nsolve minimize o\n",
+        "new_bool(x1)\nnew_bool(x2)\nnew_bool(x3)\nnew_int(o,0,1)\nbool_array_pb_eq([1],[x3],o)\n\
+        bool_array_pb_geq([1],[x1],0)\nsolve minimize o\n",
     ),
     (
         "1 x3 1 x1 >= 1073741824 ;",

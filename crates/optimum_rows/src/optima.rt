@@ -69,16 +69,29 @@ static ANSWERS: [Row; 18] = [
 
 /// Pigeons that find no hole: a search is needed.
 const PIGEONS: &str =
-    "new_bool(p11) new_bool(p12) new_bool(p13) new_bool(p21) new_bool(p22) new_bool(p23) new_bool(p31) new_bool(p32) new_bool(p33) new_bool(p41) new_bool(p42) new_bool(p43) bool_array_or([p11,p12,p13]) bool_array_or([p21,p22,p23]) bool_array_or([p31,p32,p33]) bool_array_or([p41,p42,p43]) bool_array_or([-p11,-p21]) bool_array_or([-p11,-p31]) bool_array_or([-p11,-p41]) bool_array_or([-p21,-p31]) bool_array_or([-p21,-p41]) bool_array_or([-p31,-p41]) bool_array_or([-p12,-p22]) bool_array_or([-p12,-p32]) bool_array_or([-p12,-p42]) bool_array_or([-p22,-p32]) bool_array_or([-p22,-p42]) bool_array_or([-p32,-p42]) bool_array_or([-p13,-p23]) bool_array_or([-p13,-p33]) bool_array_or([-p13,-p43]) bool_array_or([-p23,-p33]) bool_array_or([-p23,-p43]) bool_array_or([-p33,-p43]) solve satisfy";
+    "new_bool(p11) new_bool(p12) new_bool(p13) new_bool(p21) new_bool(p22) new_bool(p23) new_bool(p31) new_bool(p32) \
+    new_bool(p33) new_bool(p41) new_bool(p42) new_bool(p43) bool_array_or([p11,p12,p13]) bool_array_or([p21,p22,p23]) \
+    bool_array_or([p31,p32,p33]) bool_array_or([p41,p42,p43]) bool_array_or([-p11,-p21]) bool_array_or([-p11,-p31]) \
+    bool_array_or([-p11,-p41]) bool_array_or([-p21,-p31]) bool_array_or([-p21,-p41]) bool_array_or([-p31,-p41]) \
+    bool_array_or([-p12,-p22]) bool_array_or([-p12,-p32]) bool_array_or([-p12,-p42]) bool_array_or([-p22,-p32]) \
+    bool_array_or([-p22,-p42]) bool_array_or([-p32,-p42]) bool_array_or([-p13,-p23]) bool_array_or([-p13,-p33]) \
+    bool_array_or([-p13,-p43]) bool_array_or([-p23,-p33]) bool_array_or([-p23,-p43]) bool_array_or([-p33,-p43]) \
+    solve satisfy";
 
 /// A ruler with four marks, the first at 0, as short as there is one.
 const RULER: &str =
-    "new_int(a,1,9) new_int(b,1,9) new_int(c,1,9) int_lt(a,b) int_lt(b,c) new_int(p,1,8) int_plus(a,p,b) new_int(q,1,8) int_plus(a,q,c) new_int(r,1,8) int_plus(b,r,c) int_array_allDiff([a,b,c,p,q,r]) solve minimize c";
+    "new_int(a,1,9) new_int(b,1,9) new_int(c,1,9) int_lt(a,b) int_lt(b,c) new_int(p,1,8) int_plus(a,p,b) \
+    new_int(q,1,8) int_plus(a,q,c) new_int(r,1,8) int_plus(b,r,c) int_array_allDiff([a,b,c,p,q,r]) solve minimize c";
 
 /// Two objectives, for each of which a search must learn: three values that differ, and three pigeons in two holes,
 /// unless u is 1.
 const TWO_SEARCHES: &str =
-    "new_int(a,0,2) new_int(b,0,2) new_int(c,0,2) new_int(d,0,3) new_int(t,0,9) new_int(u,0,3) int_array_allDiff([a,b,c]) int_array_plus([a,b,c,d],t) new_bool(p11) new_bool(p12) new_bool(p21) new_bool(p22) new_bool(p31) new_bool(p32) new_bool(q) bool_array_or([p11,p12]) bool_array_or([p21,p22]) bool_array_or([p31,p32]) bool_array_or([-p11,-p21,q]) bool_array_or([-p11,-p31,q]) bool_array_or([-p21,-p31,q]) bool_array_or([-p12,-p22,q]) bool_array_or([-p12,-p32,q]) bool_array_or([-p22,-p32,q]) bool2int(q,u) solve minimize t then u";
+    "new_int(a,0,2) new_int(b,0,2) new_int(c,0,2) new_int(d,0,3) new_int(t,0,9) new_int(u,0,3) \
+    int_array_allDiff([a,b,c]) int_array_plus([a,b,c,d],t) new_bool(p11) new_bool(p12) new_bool(p21) new_bool(p22) \
+    new_bool(p31) new_bool(p32) new_bool(q) bool_array_or([p11,p12]) bool_array_or([p21,p22]) \
+    bool_array_or([p31,p32]) bool_array_or([-p11,-p21,q]) bool_array_or([-p11,-p31,q]) bool_array_or([-p21,-p31,q]) \
+    bool_array_or([-p12,-p22,q]) bool_array_or([-p12,-p32,q]) bool_array_or([-p22,-p32,q]) bool2int(q,u) \
+    solve minimize t then u";
 
 /// Models and budgets, with restarts or without, and the verdict. The pigeons take six learned clauses, and two
 /// searches eight together.

@@ -1,2 +1,3 @@
 mod WithUnit
 mod Steps
+mod ByKind

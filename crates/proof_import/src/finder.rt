@@ -11,16 +11,10 @@ use bee_list::Sequence;
 use bee_text::next_word;
 use clause_rings::ClauseDb;
 use drup_check::{ClauseIndex, Kept, copied, deny_all, keep, may_leave, read_clause};
+use lrat_check::HintedLine;
 use order_ints::{Cnf, Lit, ordered_clause};
 use sat_front::{atoms_of, cut_line, is_word};
 use std::alloc::{AllocError, Global};
-
-/// A clause that was shown, and the ids of the clauses that show it.
-#[derive(Drop)]
-pub(crate) struct FoundLine {
-    pub(crate) lits: Sequence<Lit>,
-    pub(crate) hints: Vec<u64>,
-}
 
 /// A clause that was deleted, with its id.
 #[derive(Drop)]
@@ -37,7 +31,7 @@ struct Finder {
     ids: Ids,
     met: Met,
     gone: Vec<Gone>,
-    lines: Vec<FoundLine>,
+    lines: Vec<HintedLine>,
     last: u64,
     refuted: bool,
 }
@@ -110,7 +104,7 @@ impl Finder {
     fn end(&mut self, alloc: Global) -> Result<(), AllocError> {
         let hints = self.hints(alloc, &[])?;
         let lits = Sequence::from_vec(Vec::new(alloc));
-        self.lines.push(FoundLine { lits, hints })?;
+        self.lines.push(HintedLine { lits, hints })?;
         self.refuted = true;
         Ok(())
     }
@@ -191,7 +185,7 @@ impl Finder {
         };
         self.last = self.last.saturating_add(1);
         let refutes = self.store(alloc, clause.as_slice(), self.last)?;
-        self.lines.push(FoundLine {
+        self.lines.push(HintedLine {
             lits: clause,
             hints,
         })?;
@@ -243,7 +237,7 @@ pub(crate) fn found_lines(
     alloc: Global,
     cnf: &Cnf,
     text: &[u8],
-) -> Result<Vec<FoundLine>, AllocError>
+) -> Result<Vec<HintedLine>, AllocError>
     requires few { cnf.now.vars ≤ 2 ^ 27 }
     requires in_range { InRange cnf.now }
     requires apart { AreApartIn cnf.now }

@@ -1,6 +1,6 @@
 //! The derivation of a refutation.
 
-ghost use Rattle.std.specs.Prelude.{◌≡◌, ℕ, ◌≤◌, ◌^◌, IfOk, IfErr, IfSome, IsErrAnd};
+ghost use Rattle.std.specs.Prelude.{◌≡◌, ℕ, ◌≤◌, ◌^◌, IfOk, IfErr, IsErrAnd};
 ghost use Rattle.order_ints.specs.Place.{InRange};
 ghost use Rattle.clause_rings.specs.Clauses.{AreApartIn};
 ghost use Rattle.drup_check.specs.DrupLines.{IsDrup, DrupFails};
@@ -14,36 +14,33 @@ use crate::taken::are_taken;
 use crate::trimming::trimmed;
 use bee_list::Sequence;
 use drup_check::{DrupFault, check_drup};
+use lrat_check::HintedLine;
 use order_ints::{Cnf, Lit};
 use proof_check::ProofLine;
-use std::alloc::{AllocError, Global};
+use std::alloc::Global;
 
-/// The lines with hints that a text of clauses gives, and whether the checker takes them.
-fn derived(
+/// The lines that the last of these needs, if the checker takes them.
+pub(crate) fn derived(
     alloc: Global,
     cnf: &Cnf,
-    whole: &Cnf,
     assumed: Option<Lit>,
-    text: &[u8],
-) -> Result<Option<Sequence<ProofLine>>, AllocError>
-    requires few { whole.now.vars ≤ 2 ^ 27 }
-    requires in_range { InRange whole.now }
-    requires apart { AreApartIn whole.now }
+    found: Vec<HintedLine>,
+) -> Result<Sequence<ProofLine>, DrupFault>
     requires small { cnf.now.vars ≤ 2 ^ 27 }
     requires below { InRange cnf.now }
-    ensures { IfOk result (λ found. IfSome found (λ lines. IsDerived cnf.now assumed lines)) }
+    ensures derived { IfOk result (IsDerived cnf.now assumed) }
+    ensures memory { IfErr result (λ e. e ≡ Memory) }
 {
-    let found = found_lines(alloc, whole, text)?;
     let lines = trimmed(alloc, found, cnf.clauses.len() as u64, assumed)?;
     if are_taken(alloc, cnf, assumed, lines.as_slice())? {
-        Ok(Some(lines))
+        Ok(lines)
     } else {
-        Ok(None)
+        Err(DrupFault::Memory)
     }
 }
 
-/// The same, of a text that is judged first.
-fn judged(
+/// The derivation that a text without hints gives, which is judged first.
+pub(crate) fn judged(
     alloc: Global,
     cnf: &Cnf,
     whole: &Cnf,
@@ -63,10 +60,10 @@ fn judged(
 {
     match check_drup(alloc, whole, text) {
         Err(fault) => Err(fault),
-        Ok(()) => match derived(alloc, cnf, whole, assumed, text)? {
-            Some(lines) => Ok(lines),
-            None => Err(DrupFault::Memory),
-        },
+        Ok(()) => {
+            let found = found_lines(alloc, whole, text)?;
+            derived(alloc, cnf, assumed, found)
+        }
     }
 }
 

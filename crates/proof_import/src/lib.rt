@@ -13,6 +13,10 @@
 //! gives is an LRAT proof from the CNF, behind which the empty clause or the negation of the assumed
 //! literal is known (`derived`).
 //!
+//! `import_refutation` takes a text with hints as well (`lrat_check`), which its first line tells, and
+//! refuses such a one exactly where that crate does; of its lines, too, only those stay that the last
+//! one needs.
+//!
 //! Nothing is proved of how hints are found (`finder.rt`, `reasons.rt`, `trimming.rt`): the lines
 //! are taken by the checker of `proof_check` before they are given, and should it ever refuse them,
 //! it is as if memory were wanting.
@@ -23,7 +27,9 @@ mod finder;
 mod import;
 mod marks;
 mod reasons;
+mod refutation;
 mod taken;
 mod trimming;
 
 pub use import::import_drup;
+pub use refutation::{check_refutation, import_refutation};

@@ -1,7 +1,7 @@
 //! The lines of a derivation that its last one needs.
 
-use crate::finder::FoundLine;
 use bee_list::Sequence;
+use lrat_check::HintedLine;
 use order_ints::Lit;
 use proof_check::ProofLine;
 use std::alloc::{AllocError, Global};
@@ -42,7 +42,7 @@ fn set(marks: &mut [bool], place: usize) {
 }
 
 /// Marks the lines that a line's hints name.
-fn need(numbers: Numbers, marks: &mut [bool], line: &FoundLine) {
+fn need(numbers: Numbers, marks: &mut [bool], line: &HintedLine) {
     for hint in &line.hints {
         if let Some(place) = numbers.place(*hint) {
             set(marks, place);
@@ -51,7 +51,7 @@ fn need(numbers: Numbers, marks: &mut [bool], line: &FoundLine) {
 }
 
 /// Which lines the last one needs, itself included.
-fn needed(alloc: Global, numbers: Numbers, found: &[FoundLine]) -> Result<Vec<bool>, AllocError> {
+fn needed(alloc: Global, numbers: Numbers, found: &[HintedLine]) -> Result<Vec<bool>, AllocError> {
     let mut marks = vec![in alloc; false; found.len()]?;
     let mut last = true;
     for place in (0..found.len()).rev() {
@@ -67,7 +67,7 @@ fn needed(alloc: Global, numbers: Numbers, found: &[FoundLine]) -> Result<Vec<bo
 }
 
 /// Whether a line was shown with the assumed literal, where those before it are marked.
-fn relies(numbers: Numbers, marks: &[bool], line: &FoundLine) -> bool {
+fn relies(numbers: Numbers, marks: &[bool], line: &HintedLine) -> bool {
     for hint in &line.hints {
         if numbers.is_assumption(*hint) {
             return true;
@@ -82,7 +82,7 @@ fn relies(numbers: Numbers, marks: &[bool], line: &FoundLine) -> bool {
 }
 
 /// Which lines were shown with the assumed literal.
-fn relying(alloc: Global, numbers: Numbers, found: &[FoundLine]) -> Result<Vec<bool>, AllocError> {
+fn relying(alloc: Global, numbers: Numbers, found: &[HintedLine]) -> Result<Vec<bool>, AllocError> {
     let mut marks = vec![in alloc; false; found.len()]?;
     for place in 0..found.len() {
         if relies(numbers, &marks, &found[place]) {
@@ -136,7 +136,7 @@ fn joined(alloc: Global, lits: &[Lit], further: Option<Lit>) -> Result<Sequence<
 /// negation joins the clause.
 pub(crate) fn trimmed(
     alloc: Global,
-    found: Vec<FoundLine>,
+    found: Vec<HintedLine>,
     given: u64,
     assumed: Option<Lit>,
 ) -> Result<Sequence<ProofLine>, AllocError> {

@@ -66,7 +66,8 @@ columns_line values (suc k) = columns_line values k ++ 32 ∷ signed_decimal (co
 
 -- the lines of a solution
 abbrev pub solution_lines : ℕ → List ℤ → List Line → List (List ℕ)
-solution_lines size values ledger = columns_line values size ∷ codes "ledger" ∷ (map step_text ledger ++ codes "end" ∷ [])
+solution_lines size values ledger = columns_line values size ∷ codes "ledger"
+    ∷ (map step_text ledger ++ codes "end" ∷ [])
 
 -- what stands behind the verdict, for a model with these declarations
 abbrev pub rest_text : ℕ → List Decl → Document → Verdict → List ℕ

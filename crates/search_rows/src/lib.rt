@@ -2,9 +2,9 @@
 //! conflicts, and a search that is asked once or again.
 //!
 //! Moves of the store are compared with a plain program that looks at every clause after each move;
-//! searches in no order with the trying of all valuations; and logs with the checker, restarts and
-//! deletions counted in them. So what no clause says, as that learned clauses go at restarts, is
-//! seen here and nowhere else.
+//! searches in no order with the trying of all valuations; logs with the checker, restarts and
+//! deletions counted in them; and what a watcher was told with the log. So what no clause says, as
+//! that learned clauses go at restarts, is seen here and nowhere else.
 //!
 //! They stand apart from those crates, so that proving them proves none of those anew. Moves at
 //! random come from a generator with fixed seeds (`numbers`), so a failure comes again.
@@ -29,8 +29,12 @@ mod plain;
 #[cfg(test)]
 mod random_moves;
 #[cfg(test)]
+mod starting;
+#[cfg(test)]
 mod stores;
 #[cfg(test)]
 mod valuations;
+#[cfg(test)]
+mod watching;
 #[cfg(test)]
 mod words;

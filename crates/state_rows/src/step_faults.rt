@@ -110,7 +110,8 @@ fn faults(rt: HostRuntime) -> io::Result<()> {
 static CLASH: [(&str, &str); 4] = [
     (
         "start",
-        "5: 1 2 3 4 5; #1 Parity odd 1 2; #2 Parity even 1 2; #3 Amo 1 2 3 4 5; #4 Clause 3 -1; next 5; least 1 3; cnf 5",
+        "5: 1 2 3 4 5; #1 Parity odd 1 2; #2 Parity even 1 2; #3 Amo 1 2 3 4 5; #4 Clause 3 -1; next 5; least 1 3; \
+        cnf 5",
     ),
     (
         "enc 4",
@@ -118,11 +119,13 @@ static CLASH: [(&str, &str); 4] = [
     ),
     (
         "eq 1 form 1 -2",
-        "5: 1 -1 3 4 5; #1 Parity odd 1 2 is Parity odd 1 -1; #2 Parity even 1 2 is Parity even 1 -1; #3 Amo 1 2 3 4 5 is Amo 1 -1 3 4 5; next 5; least 1 3; cnf 5 (-1 3)",
+        "5: 1 -1 3 4 5; #1 Parity odd 1 2 is Parity odd 1 -1; #2 Parity even 1 2 is Parity even 1 -1; \
+        #3 Amo 1 2 3 4 5 is Amo 1 -1 3 4 5; next 5; least 1 3; cnf 5 (-1 3)",
     ),
     (
         "eq 2 form 1 -1",
-        "5: 1 -1 3 4 5; #1 Parity odd 1 2 is Parity odd 1 -1; #2 Parity even 1 2 is Parity even 1 -1; #3 Amo 1 2 3 4 5 is Amo 1 -1 3 4 5; next 5; least 1 3; bottom; cnf 5 ()",
+        "5: 1 -1 3 4 5; #1 Parity odd 1 2 is Parity odd 1 -1; #2 Parity even 1 2 is Parity even 1 -1; \
+        #3 Amo 1 2 3 4 5 is Amo 1 -1 3 4 5; next 5; least 1 3; bottom; cnf 5 ()",
     ),
 ];
 

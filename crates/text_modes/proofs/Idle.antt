@@ -1,5 +1,5 @@
 -- Where memory is wanting before a mode begins, nothing was read and nothing written.
-use Rattle.std.proofs.Common.{◌≡◌, ℕ, ◌≤◌, List, [], length, Option, Some, None, IfSome, refl, ap, sym, ◌∙◌, subst, inl, arith}
+use Rattle.std.proofs.Common.{◌≡◌, ℕ, ◌≤◌, List, [], length, Option, Some, None, IfSome, refl, ap, subst, inl, arith}
 use Rattle.bee_outside.specs.Bytes.{in_front, TookPiece}
 use Rattle.text_modes.specs.Seen.{ShelfShown, Seen, Untouched}
 use Rattle.text_modes.specs.Promises.{TookUnder}

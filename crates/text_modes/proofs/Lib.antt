@@ -6,3 +6,4 @@ pub mod OneAnswer
 pub mod NoAnswer
 pub mod TwoAnswers
 pub mod OneFree
+pub mod TwoFree

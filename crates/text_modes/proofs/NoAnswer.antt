@@ -1,5 +1,5 @@
 -- What each end of a run that reads no text says decides which end comes.
-use Rattle.std.proofs.Common.{◌≡◌, ℕ, List, refl, inl, inr}
+use Rattle.std.proofs.Common.{ℕ, List, refl, inl, inr}
 use Rattle.text_modes.specs.Seen.{Seen}
 use Rattle.text_modes.specs.Promises.{Answers}
 use Rattle.text_modes.specs.NoText.{NothingRead, Says}

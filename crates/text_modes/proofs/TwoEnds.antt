@@ -1,6 +1,5 @@
 -- What each end of a run over two texts says decides the rest of its promise.
-use Rattle.std.proofs.Common.{◌≡◌, ℕ, ◌≤◌, List, [], Option, Some, None, Ok, Err, refl, ap, sym, subst, inl, inr}
-use Rattle.bee_outside.specs.Bytes.{in_front}
+use Rattle.std.proofs.Common.{◌≡◌, ℕ, ◌≤◌, List, Option, None, Ok, Err, refl, ap, sym, subst, inl, inr}
 use Rattle.bee_outside.specs.Faults.{Rose, next_count}
 use Rattle.bee_outside.proofs.FaultLaws.{Rose-next, Rose-from_before}
 use Rattle.text_modes.specs.Seen.{ShelfShown, Seen}

@@ -1,5 +1,3 @@
-use Rattle.std.proofs.Common.{sym}
-use Rattle.std.specs.Prelude.{MatchBool}
 use Rattle.answer_import.proofs.Gathering.{cut-more}
 use Rattle.answer_import.proofs.cut.cut_front.Goals as goal
 

@@ -1,4 +1,4 @@
-use Rattle.std.proofs.Common.{◌≡◌, ◌+◌, refl, subst, None, arith}
+use Rattle.std.proofs.Common.{◌+◌, refl, subst, None, arith}
 use Rattle.answer_import.specs.declared.judging.Found.{Found}
 use Rattle.answer_import.specs.Imports.{IsFound}
 use Rattle.answer_import.specs.Importing.{sought_of}
@@ -23,7 +23,6 @@ pub returns : goal.returns
 returns c =
     let made = c.in_ok-text-in-Shown.ensures in
     record {
-      told = made.told;
       answer = made.answer;
       document = record { verdict = c.in-Shown.verdict; assignment = c.in-Shown.assignment; ledger = c.args.compiled.ledger; proof = c.in-Shown.proof; second = None };
       spelled = made.spelled;

@@ -1,7 +1,7 @@
-use Rattle.std.proofs.Common.{List, ℕ, sym, ap, ◌∙◌, subst, ◌+◌, ◌<◌, ◌^◌, length, arith}
+use Rattle.std.proofs.Common.{List, ℕ, sym, subst}
 use Rattle.line_texts.proofs.ReadTo.{ReadTo}
 use Rattle.core_text.specs.CoreLines.{start_standing, IsNext}
-use Rattle.core_check.specs.Heads.{head_standing, IsHead, IsFront}
+use Rattle.core_check.specs.Heads.{head_standing}
 use Rattle.core_check.proofs.Judging.{misfit-of, read-of, ok-behind}
 use Rattle.core_check.proofs.checking.judge_text.Goals as goal
 

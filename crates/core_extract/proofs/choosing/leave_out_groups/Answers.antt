@@ -1,4 +1,4 @@
-use Rattle.std.proofs.Common.{refl, ◌∙◌}
+use Rattle.std.proofs.Common.{◌∙◌}
 use Rattle.core_extract.proofs.Attempts.{leaving-as}
 use Rattle.core_extract.proofs.Turns.{same-behind, spent-of}
 use Rattle.core_extract.proofs.choosing.leave_out_groups.Goals as goal

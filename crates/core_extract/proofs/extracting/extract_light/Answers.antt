@@ -1,10 +1,10 @@
-use Rattle.std.proofs.Common.{Bool, List, refl, sym, ap, subst, ◌∙◌}
+use Rattle.std.proofs.Common.{refl, ap, subst, ◌∙◌}
 use Rattle.model_parts.specs.Only.{numbers_of}
 use Rattle.core_extract.specs.Parts.{whole_of, part_of}
 use Rattle.core_extract.specs.Extracted.{IsReply}
 use Rattle.core_extract.proofs.Divisions.{new-whole, new-fit}
 use Rattle.core_extract.proofs.Attempts.{anew-as, reply-as, reduced-anew}
-use Rattle.core_extract.proofs.Cores.{extracted-from, first-spent, first-solved}
+use Rattle.core_extract.proofs.Cores.{first-spent, first-solved}
 use Rattle.core_extract.proofs.extracting.extract_light.Goals as goal
 
 pub question-requires-clause-fit : goal.question-requires-clause-fit

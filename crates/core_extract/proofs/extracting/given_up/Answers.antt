@@ -1,4 +1,3 @@
-use Rattle.std.proofs.Common.{refl}
 use Rattle.core_extract.specs.Parts.{whole_of}
 use Rattle.core_extract.proofs.Cores.{spent-from}
 use Rattle.core_extract.proofs.extracting.given_up.Goals as goal

@@ -1,4 +1,4 @@
-use Rattle.std.proofs.Common.{refl, ap, subst, ◌∙◌}
+use Rattle.std.proofs.Common.{refl, subst, ◌∙◌}
 use Rattle.std.specs.Prelude.{Bool, List}
 use Rattle.model_meaning.specs.Solutions.{IsSolution}
 use Rattle.core_extract.specs.Parts.{whole_of, part_of}

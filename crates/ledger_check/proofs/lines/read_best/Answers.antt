@@ -1,4 +1,4 @@
-use Rattle.std.proofs.Common.{◌≡◌, ℕ, List, ◌∷◌, [], ◌++◌, ◌∙◌, sym, ap, drop, length, arith, codes}
+use Rattle.std.proofs.Common.{◌∙◌, sym, ap, drop, length, arith}
 use Rattle.std.proofs.lemmas.List.{append-nil}
 use Rattle.answer_document.specs.Verdicts.{bound_words}
 use Rattle.ledger_check.proofs.LineWords.{pieces-of-best}

@@ -1,4 +1,4 @@
-use Rattle.std.proofs.Common.{◌∙◌, sym, ap, codes, ◌++◌}
+use Rattle.std.proofs.Common.{◌∙◌, sym, codes, ◌++◌}
 use Rattle.ledger_check.specs.Items.{told_word}
 use Rattle.ledger_check.proofs.LineWords.{cancel}
 use Rattle.ledger_check.proofs.lines.read_value.Goals as goal

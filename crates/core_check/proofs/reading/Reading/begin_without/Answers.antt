@@ -1,4 +1,4 @@
-use Rattle.std.proofs.Common.{◌≡◌, ◌+◌, List, [], ℤ, refl, sym, ap, ◌∙◌}
+use Rattle.std.proofs.Common.{◌+◌, List, ℤ, refl, sym, ap, ◌∙◌}
 use Rattle.std.proofs.lemmas.Bool.{true≢false}
 use Rattle.core_text.specs.declared.part.Part.TheVariants as part
 use Rattle.core_text.specs.CoreLines.{next_without}

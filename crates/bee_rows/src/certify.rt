@@ -1,0 +1,136 @@
+//! Certify mode: refutations with hints and without, and the line that is refused.
+
+use crate::wanted::shows;
+use run_shown::{AMPLE, Wanted, run_files};
+use std::alloc::Global;
+use std::process::Abort;
+use std::test::Fail;
+
+/// Two Booleans of which each pair of values is excluded. Its clauses are 1 2, 1 -2, -1 2 and -1 -2.
+const PAIRS: &str =
+    "new_bool(a) new_bool(b) bool_array_or([a,b]) bool_array_or([a,-b]) bool_array_or([-a,b])\n\
+bool_array_or([-a,-b]) solve satisfy\n";
+
+/// As few of two as can be, of which one is true. Its eight clauses have n >= 1 as 3 and n >= 2 as 4.
+const FEWEST: &str =
+    "new_bool(a) new_bool(b) new_int(n,0,2) bool_array_or([a,b]) bool_array_sum_eq([a,b],n)\n\
+solve minimize n\n";
+
+/// The answer to the first.
+const REFUTED: &str =
+    "bee 1\nUNSATISFIABLE\nledger\nenc 1\nenc 2\nenc 3\nenc 4\nproof\n5 1 0 1 2 0\n6 0 5 3 4 0\nend\n";
+
+/// The answer to the second.
+const LEAST: &str =
+    "bee 1\nOPTIMUM 1\na = true\nb = false\nn = 1\nledger\nsplit 3\nenc 1\nenc 2\nenc 4\nproof\n\
+9 3 0 4 6 2 0\nend\n";
+
+/// Texts that show that the first has no solution: without hints; with them; under other ids, with a clause that is
+/// deleted and used behind that; with hints that tell nothing and some behind the last; with carriage returns; the
+/// empty clause left out, which those before show.
+static REFUTING: [&str; 8] = [
+    "1 0\n0\n",
+    "5 1 0 1 2 0\n6 0 5 3 4 0\n",
+    "9 1 0 1 2 0\n9 d 1 9 77 0\n7 0 9 3 4 0\n",
+    "c hints\n5 1 0 3 1 2 4 0\n\n6 0 5 3 4 99 0",
+    "1 0\r\n0\r\n",
+    "5 1 0\t1  2 0\r\n6 0 5 3 4 0\r\n",
+    "1 0\n",
+    "1 0\nd 2 1 0\n0\n",
+];
+
+/// Texts that are refused for the first, and the line.
+static REFUSED: [(&str, u64); 14] = [
+    ("", 1),
+    ("-3 0\n0\n", 1),
+    ("5 1 0 1 2\n", 1),
+    ("5 1 0 1 2 0\n6 0 5 3 4\n", 2),
+    ("5 1 0 1 2 0\n0\n", 2),
+    ("5 1 0 1 2 0\n", 2),
+    ("5 1 0 1 3 0\n6 0 5 3 4 0\n", 1),
+    ("5 1 0 1 9 0\n", 1),
+    ("5 1 0 1 0\n", 1),
+    ("5 1 0 1 2 0\n6 0 5 -3 4 0\n", 2),
+    ("4 1 0 1 2 0\n", 1),
+    ("5 1 0 1 2 0\n5 0 5 3 4 0\n", 2),
+    ("5 1 1 0 1 2 0\n", 1),
+    ("5 d 1 0\n5 3 0 1 2 0\n", 2),
+];
+
+/// Texts for the second, and the answer, or none and the line that is refused: with the least number, without and with
+/// hints; with a greater one, for which the refutation of fewer is none; with values that don't satisfy the clauses.
+static BESTS: [(&str, Option<&str>, u64); 5] = [
+    ("s SATISFIABLE\nv 1 -2 3 -4 0\n0\n", Some(LEAST), 0),
+    (
+        "s SATISFIABLE\nv 1 -2 3 -4 0\n10 0 9 4 6 2 0\n",
+        Some(LEAST),
+        0,
+    ),
+    ("s SATISFIABLE\nv 1 2 3 4 0\n0\n", None, 3),
+    ("s SATISFIABLE\nv 1 2 3 4 0\n10 0 9 4 6 2 0\n", None, 3),
+    ("s SATISFIABLE\nv -1 -2 -3 -4 0\n10 0 9 4 6 2 0\n", None, 2),
+];
+
+/// Runs the mode, and asserts that it writes an answer.
+fn written_row(
+    rt: &impl Abort,
+    alloc: Global,
+    model: &str,
+    second: &str,
+    answer: &str,
+) -> Result<(), Fail> {
+    let files = [("m.bee", model.as_bytes()), ("a.txt", second.as_bytes())];
+    let run = run_files(alloc, &["bee", "certify", "m.bee", "a.txt"], &files, AMPLE)?;
+    let wanted = Wanted {
+        status: ("done", 0),
+        code: 0,
+        out: answer.as_bytes(),
+        err: b"",
+    };
+    shows(rt, &run, &wanted, &[model, second]);
+    Ok(())
+}
+
+/// Runs the mode, and asserts that it refuses a line.
+fn refused_row(
+    rt: &impl Abort,
+    alloc: Global,
+    model: &str,
+    second: &str,
+    line: u64,
+) -> Result<(), Fail> {
+    let files = [("m.bee", model.as_bytes()), ("a.txt", second.as_bytes())];
+    let run = run_files(alloc, &["bee", "certify", "m.bee", "a.txt"], &files, AMPLE)?;
+    let told = format!(in alloc; "REFUSED {line}\n")?;
+    assert_eq!(rt; run.status, ("refused", u128::from(line)), "{second}");
+    assert_eq!(rt; run.code, 1, "{second}");
+    assert!(rt; run.out.taken() == told.as_bytes(), "{second}");
+    Ok(())
+}
+
+#[test]
+fn refutations_are_answers(rt: HostRuntime) -> Result<(), Fail> {
+    for second in &REFUTING {
+        written_row(&rt, rt.alloc(), PAIRS, second, REFUTED)?;
+    }
+    Ok(())
+}
+
+#[test]
+fn lines_are_refused(rt: HostRuntime) -> Result<(), Fail> {
+    for (second, line) in &REFUSED {
+        refused_row(&rt, rt.alloc(), PAIRS, second, *line)?;
+    }
+    Ok(())
+}
+
+#[test]
+fn best_values_are_answers(rt: HostRuntime) -> Result<(), Fail> {
+    for (second, answer, line) in &BESTS {
+        match answer {
+            Some(answer) => written_row(&rt, rt.alloc(), FEWEST, second, answer)?,
+            None => refused_row(&rt, rt.alloc(), FEWEST, second, *line)?,
+        }
+    }
+    Ok(())
+}

@@ -1,0 +1,6 @@
+mod Checked
+mod Trails
+mod Said
+mod Adding
+mod Firsts
+mod Steps

@@ -1,0 +1,4 @@
+pub mod Hints
+pub mod LratLines
+pub mod Stored
+pub mod Kinds

@@ -1,0 +1,19 @@
+use Rattle.std.proofs.lemmas.Result.{IfOk-weaker, IfErr-weaker}
+use Rattle.proof_import.proofs.ByKind.{with-hints, without-hints, hints-fault, plain-fault}
+use Rattle.proof_import.proofs.refutation.check_refutation.Goals as goal
+
+pub returns-then-is_lrat_text-clause-accepted : goal.returns-then-is_lrat_text-clause-accepted
+returns-then-is_lrat_text-clause-accepted c =
+    IfOk-weaker c.check_hinted.result _ _ (λ _ h. with-hints c.args.cnf.now c.args.text.now c.is_lrat_text.result c.is_lrat_text.ensures c.if-is_lrat_text.true h) c.check_hinted.ensures.accepted
+
+pub returns-then-is_lrat_text-clause-fault : goal.returns-then-is_lrat_text-clause-fault
+returns-then-is_lrat_text-clause-fault c =
+    IfErr-weaker c.check_hinted.result _ _ (λ f h. hints-fault c.args.cnf.now c.args.text.now c.is_lrat_text.result c.is_lrat_text.ensures c.if-is_lrat_text.true f h) c.check_hinted.ensures.fault
+
+pub returns-else-is_lrat_text-clause-accepted : goal.returns-else-is_lrat_text-clause-accepted
+returns-else-is_lrat_text-clause-accepted c =
+    IfOk-weaker c.check_drup.result _ _ (λ _ h. without-hints c.args.cnf.now c.args.text.now c.is_lrat_text.result c.is_lrat_text.ensures c.if-is_lrat_text.false h) c.check_drup.ensures.accepted
+
+pub returns-else-is_lrat_text-clause-fault : goal.returns-else-is_lrat_text-clause-fault
+returns-else-is_lrat_text-clause-fault c =
+    IfErr-weaker c.check_drup.result _ _ (λ f h. plain-fault c.args.cnf.now c.args.text.now c.is_lrat_text.result c.is_lrat_text.ensures c.if-is_lrat_text.false f h) c.check_drup.ensures.fault

@@ -213,8 +213,8 @@ def by_cadical(program, model, name, folder):
         if code != 10:
             break
         run([program, "decode", cnf, values], out)
-        value = re.search(rf"^{name} = (\d+)$", read(out), re.M)[1]
-        run([program, "bound", model, value], cnf)
+        value = re.search(rf"^{name} = (-?\d+)$", read(out), re.M)[1]
+        run([program, "bound", model, "--", value], cnf)
     return f"{total:.3f}+ {asked} - -"
 
 def solved(program, family, size, folder):

@@ -56,7 +56,7 @@ def sought(trial, path, cnf):
         if not trial.model.objectives:
             return best, b""
         value = trial.model.objective(values)[0]
-        _, bounded = trial.run("bound", path, str(value))
+        _, bounded = trial.run("bound", path, "--", str(value))
         compare_bound(trial, bounded, value)
         text, proof = cadical(trial, bounded)
     return best, proof
@@ -124,7 +124,8 @@ def make(trial):
     for text in [whole, *([values, proof] if values and proof else []), *([hinted] if hinted else [])]:
         compare_found(trial, path, text, "part")
         for change in CHANGES:
-            compare_found(trial, path, change(trial.chance, text + b"\n" * (not re.search(b"\n", text))), change.__name__)
+            whole = text + b"\n" * (not re.search(b"\n", text))
+            compare_found(trial, path, change(trial.chance, whole), change.__name__)
 
 
 if __name__ == "__main__":

@@ -109,7 +109,7 @@ class Bases:
         model, compiled, path = model_of(text), Compiled(cnf), self.path(text.encode())
         while True:
             value = compiled.names[model.objectives[0]].value(values(compiled, told))
-            asked, proof = self.path(self.run("bound", path, str(value))), f"{self.folder}/proof"
+            asked, proof = self.path(self.run("bound", path, "--", str(value))), f"{self.folder}/proof"
             ran = subprocess.run([*CADICAL, asked, proof], capture_output=True, check=False)
             if ran.returncode == 20:
                 return told + open(proof, "rb").read()

@@ -1,6 +1,6 @@
 -- What a run promises where its mode never began, and what a command keeps to.
 use Rattle.std.proofs.Common.{◌≡◌, ℕ, List, Some, None, refl, sym}
-use Rattle.std.specs.Prelude.{Option, option_map, pos}
+use Rattle.std.specs.Prelude.{Option, option_map}
 use Rattle.command_words.specs.declared.command.Command.{Command}
 use Rattle.command_words.specs.declared.command.Options.{Options as Words}
 use Rattle.command_words.specs.Request.{Request, Compile, Weigh, Solve, Check, Decode, Queens, Sat, Drup, OpbModel, Opb, request_of}
@@ -50,7 +50,7 @@ unread (Some (All input options)) seen same = (end.Memory, refl, listing.idle op
 unread (Some (CheckAll input second)) seen same = (end.Memory, refl, list_checking.idle input second seen same)
 unread (Some (Core input options)) seen same = (end.Memory, refl, explaining.idle options.search input seen same)
 unread (Some (CheckCore input second)) seen same = (end.Memory, refl, core_checking.idle input second seen same)
-unread (Some (Bound input number)) seen same = (end.Memory, refl, bounding.idle (pos number) input seen same)
+unread (Some (Bound input number)) seen same = (end.Memory, refl, bounding.idle number input seen same)
 unread (Some (Certify input second)) seen same = (end.Memory, refl, certifying.idle input second seen same)
 
 -- queens are placed

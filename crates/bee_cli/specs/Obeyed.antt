@@ -1,5 +1,5 @@
 -- What a run promises, by what the words ask for.
-use Rattle.std.specs.Prelude.{◌≡◌, Bool, true, false, Option, Some, pos}
+use Rattle.std.specs.Prelude.{◌≡◌, Bool, true, false, Option, Some}
 use Rattle.command_words.specs.Request.{Request, Compile, Weigh, Solve, Check, Decode, Queens, Sat, Drup, OpbModel, Opb}
 use Rattle.command_words.specs.Request.{All, CheckAll, Core, CheckCore, Bound, Certify}
 use Rattle.text_modes.specs.Seen.{Seen, Untouched}
@@ -63,6 +63,6 @@ Obeys (Some (CheckAll input second)) status seen = Ended model_fault (λ end. Ch
 Obeys (Some (Core input options)) status seen = Ended model_fault (λ end. CoreMode options.search input end seen) status
 Obeys (Some (CheckCore input second)) status seen =
     Ended model_fault (λ end. CheckCoreMode input second end seen) status
-Obeys (Some (Bound input number)) status seen = Ended bound_fault (λ end. BoundMode (pos number) input end seen) status
+Obeys (Some (Bound input number)) status seen = Ended bound_fault (λ end. BoundMode number input end seen) status
 Obeys (Some (Certify input second)) status seen = Ended certify_fault (λ end. CertifyMode input second end seen) status
 Obeys request status seen = Untouched seen

@@ -1,6 +1,6 @@
 //! The program's one call.
 
-ghost use Rattle.std.specs.Prelude.{◌≡◌, ◌≢◌, ◌↔◌, ◌<◌, ◌^◌, pos, Some, map, string_bytes, IsFalse};
+ghost use Rattle.std.specs.Prelude.{◌≡◌, ◌≢◌, ◌↔◌, Some, map, string_bytes, IsFalse};
 ghost use Rattle.command_words.specs.Request.{request_of};
 ghost use Rattle.command_words.specs.Limits.{KeepsLimits};
 ghost use Rattle.command_words.specs.Line.{request};
@@ -55,14 +55,6 @@ fn asks_progress(command: &Command<'_>) -> bool {
     }
 }
 
-/// A number with a sign, which it has none of.
-fn with_sign(number: u64) -> i64
-    requires { number < 2 ^ 63 }
-    ensures { result ≡ pos number }
-{
-    number as i64
-}
-
 /// What comes of a command. Why a line is refused is put into a cell.
 fn obey<S: Shelf, O: Sink, E: Sink>(
     alloc: Global,
@@ -115,9 +107,7 @@ fn obey<S: Shelf, O: Sink, E: Sink>(
         Command::CheckCore { input, second } => {
             model_status(check_core(alloc, input, second, shelf, out, &reasons.core))
         }
-        Command::Bound { input, number } => {
-            bound_status(bound(alloc, input, with_sign(*number), shelf, out))
-        }
+        Command::Bound { input, number } => bound_status(bound(alloc, input, *number, shelf, out)),
         Command::Certify { input, second } => {
             certify_status(certify(alloc, input, second, shelf, out, &reasons.finding))
         }

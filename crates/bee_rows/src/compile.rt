@@ -185,7 +185,7 @@ fn other_words_are_refused(rt: HostRuntime) -> Result<(), Fail> {
         status: ("usage", 0),
         code: 2,
         out: b"",
-        err: b"bee: usage: bee MODE INPUT [SECOND] [--budget N] [--no-restart] [--progress]\n",
+        err: b"bee: usage: bee MODE [--budget N] [--no-restart] [--progress] [--] INPUT [SECOND]\n",
     };
     for words in &OTHER_WORDS {
         words_row(&rt, rt.alloc(), words, ONE, &usage)?;

@@ -263,7 +263,7 @@ static TEXTS: [Row; 11] = [
         ("usage", 0),
         2,
         "",
-        "bee: usage: bee MODE INPUT [SECOND] [--budget N] [--no-restart] [--progress]\n",
+        "bee: usage: bee MODE [--budget N] [--no-restart] [--progress] [--] INPUT [SECOND]\n",
     ),
     (
         &["bee", "sat", "m.cnf", "m.drup"],
@@ -272,7 +272,7 @@ static TEXTS: [Row; 11] = [
         ("usage", 0),
         2,
         "",
-        "bee: usage: bee MODE INPUT [SECOND] [--budget N] [--no-restart] [--progress]\n",
+        "bee: usage: bee MODE [--budget N] [--no-restart] [--progress] [--] INPUT [SECOND]\n",
     ),
 ];
 

@@ -13,6 +13,8 @@
 #![tactic(auto)]
 
 #[cfg(test)]
+mod bounds;
+#[cfg(test)]
 mod causes;
 #[cfg(test)]
 mod certify;

@@ -346,7 +346,7 @@ fn usage_row(rt: &impl Abort, alloc: Global, words: &[&str]) -> Result<(), Fail>
         status: ("usage", 0),
         code: 2,
         out: b"",
-        err: b"bee: usage: bee MODE INPUT [SECOND] [--budget N] [--no-restart] [--progress]\n",
+        err: b"bee: usage: bee MODE [--budget N] [--no-restart] [--progress] [--] INPUT [SECOND]\n",
     };
     shows(rt, &run, &wanted, words);
     Ok(())

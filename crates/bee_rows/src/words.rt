@@ -57,6 +57,14 @@ fn size_of(command: &Command<'_>) -> Option<u64> {
     }
 }
 
+/// The number that an objective is to be better than.
+fn number_of(command: &Command<'_>) -> Option<i64> {
+    match *command {
+        Command::Bound { number, .. } => Some(number),
+        _ => None,
+    }
+}
+
 /// The budget of a command that solves, whether the search may begin again, and whether its progress is told.
 fn options_of(command: &Command<'_>) -> Option<(u64, bool, bool)> {
     match *command {
@@ -238,6 +246,68 @@ fn options_of_words(rt: HostRuntime) -> Result<(), Fail> {
     Ok(())
 }
 
+/// A line, the name, and the number that an objective is to be better than.
+type Bounding = (&'static str, &'static str, i64);
+
+static BOUNDS: [Bounding; 9] = [
+    ("bee bound m.bee 007", "m.bee", 7),
+    (
+        "bee bound m.bee 9223372036854775807",
+        "m.bee",
+        9_223_372_036_854_775_807,
+    ),
+    ("bee bound m.bee -- -3", "m.bee", -3),
+    ("bee bound m.bee -- 3", "m.bee", 3),
+    ("bee bound m.bee --budget 5 -- -012", "m.bee", -12),
+    ("bee bound -- m.bee -0", "m.bee", 0),
+    ("bee -- bound -m -1", "-m", -1),
+    (
+        "bee bound m.bee -- -9223372036854775807",
+        "m.bee",
+        -9_223_372_036_854_775_807,
+    ),
+    ("bee bound m.bee -- -9223372036854775808", "m.bee", i64::MIN),
+];
+
+/// Asserts that a line gives the command that bounds an objective.
+fn bound_row(rt: &impl Abort, alloc: Global, row: &Bounding) -> Result<(), Fail> {
+    let (line, input, number) = *row;
+    let words = words_of(alloc, line)?;
+    match command_of(alloc, words.as_slice())? {
+        Some(command) => {
+            assert!(rt; mode_of(&command) == ("bound", input), "{line}");
+            assert!(rt; number_of(&command) == Some(number), "{line}");
+        }
+        None => panic!(rt; "no command: {line}"),
+    }
+    Ok(())
+}
+
+#[test]
+fn bounds_of_words(rt: HostRuntime) -> Result<(), Fail> {
+    for row in &BOUNDS {
+        bound_row(&rt, rt.alloc(), row)?;
+    }
+    Ok(())
+}
+
+/// Words that are no number of 64 bits, or stand in the place of an option.
+static NO_BOUNDS: [&str; 13] = [
+    "bee bound m.bee -3",
+    "bee bound m.bee -- +3",
+    "bee bound m.bee +3",
+    "bee bound m.bee -- -",
+    "bee bound m.bee --",
+    "bee bound m.bee -- --3",
+    "bee bound m.bee -- -+3",
+    "bee bound m.bee -- +-3",
+    "bee bound m.bee -- -3x",
+    "bee bound m.bee -- -3 --budget 5",
+    "bee bound -- m.bee -- -3",
+    "bee bound m.bee -- 9223372036854775808",
+    "bee bound m.bee -- -9223372036854775809",
+];
+
 static NO_COMMANDS: [&str; 55] = [
     "bee",
     "bee compile",
@@ -300,6 +370,14 @@ static NO_COMMANDS: [&str; 55] = [
 fn is_command(alloc: Global, line: &str) -> Result<bool, AllocError> {
     let words = words_of(alloc, line)?;
     Ok(command_of(alloc, words.as_slice())?.is_some())
+}
+
+#[test]
+fn words_that_give_no_bound(rt: HostRuntime) -> Result<(), Fail> {
+    for line in &NO_BOUNDS {
+        assert!(rt; !is_command(rt.alloc(), line)?, "{line}");
+    }
+    Ok(())
 }
 
 #[test]

@@ -1,11 +1,11 @@
 -- The numbers of a command that the words ask for are in their limits.
-use Rattle.std.proofs.Common.{arith, ◌≡◌, ℕ, ◌≤◌, ◌<◌, ◌^◌, Bool, true, false, List, refl, subst, Option, Some, None}
-use Rattle.std.specs.Prelude.{◌&&◌, nat_le, codes, not, option_map, option_and_then, if◌then◌else◌}
+use Rattle.std.proofs.Common.{arith, w64, ◌≡◌, ℕ, zero, suc, ℤ, pos, neg_ℤ, ◌≤◌, Bool, true, false, List, refl, subst, Option, Some, None}
+use Rattle.std.specs.Prelude.{FitsSigned, drop, ◌&&◌, nat_le, codes, option_map, option_and_then, if◌then◌else◌}
 use Rattle.std.proofs.lemmas.Bool.{and_parts}
 use Rattle.std.proofs.lemmas.Bool.Decides.{nat_tests}
 use Rattle.clap.specs.Words.{Text}
 use Rattle.command_words.specs.declared.command.Options.{Options}
-use Rattle.command_words.specs.Numeral.{is_numeral, is_within, read_on, number_within}
+use Rattle.command_words.specs.Numeral.{is_numeral, is_within, read_on, number_within, has_minus, signed_number}
 use Rattle.command_words.specs.Request.{Request, Compile, Weigh, Solve, Check, Decode, Queens, Sat, Drup, OpbModel, Opb}
 use Rattle.command_words.specs.Request.{All, CheckAll, Core, CheckCore, Bound, Certify}
 use Rattle.command_words.specs.Request.{is_word, budget_of, size_of, options_with, options_of, lone_input, both_inputs, queens_size}
@@ -35,6 +35,29 @@ number least greatest text n e = by (is_numeral text && is_within least greatest
         let P : ℕ → Type 0 = λ m. (least ≤ m) × (m ≤ greatest) in
         subst P same (within least greatest (read_on 0 text) (and_parts (is_numeral text) (is_within least greatest (read_on 0 text)) is).1)
     by false is f = absurd (let c = f in cc)
+
+-- a number that is negated fits, and one that isn't
+negated : (n : ℕ) → n ≤ 9223372036854775808 → FitsSigned w64 (neg_ℤ (pos n))
+negated zero small = omega arith
+negated (suc n) small = omega (arith, small)
+
+plain : (n : ℕ) → n ≤ 9223372036854775807 → FitsSigned w64 (pos n)
+plain n small = omega (arith, small)
+
+-- what comes of a number within a limit
+image : (f : ℕ → ℤ) (greatest : ℕ) (text : List ℕ) (z : ℤ) → ((n : ℕ) → n ≤ greatest → FitsSigned w64 (f n)) → option_map f (number_within 0 greatest text) ≡ Some z → FitsSigned w64 z
+image f greatest text z fits e = by (number_within 0 greatest text) refl e
+  where
+    by : (x : Option ℕ) → number_within 0 greatest text ≡ x → option_map f x ≡ Some z → FitsSigned w64 z
+    by (Some n) is g = let same : f n ≡ z = cc in subst (λ y. FitsSigned w64 y) same (fits n (number 0 greatest text n is).1)
+    by None is g = absurd (let c = g in cc)
+
+signed : (text : List ℕ) (z : ℤ) → signed_number text ≡ Some z → FitsSigned w64 z
+signed text z e = by (has_minus text) e
+  where
+    by : (t : Bool) → (if t then option_map (λ n. neg_ℤ (pos n)) (number_within 0 9223372036854775808 (drop 1 text)) else option_map (λ n. pos n) (number_within 0 9223372036854775807 text)) ≡ Some z → FitsSigned w64 z
+    by true f = image (λ n. neg_ℤ (pos n)) 9223372036854775808 (drop 1 text) z negated f
+    by false f = image (λ n. pos n) 9223372036854775807 text z plain f
 
 budget : (word : Option Text) (n : ℕ) → budget_of word ≡ Some n → IsBudget n
 budget None n e = let same : 1000000 ≡ n = cc in (omega (arith, same), omega (arith, same))
@@ -114,11 +137,10 @@ module _ (value : Text → Option Text) (o : Options) (given : IsBudget o.search
   either (Some it) other p q e = p e
   either None other p q e = q e
 
-  bounded : (n : Option ℕ) (word : Text) (input : Text) → bound_of word ≡ n → option_map (Bound input) n ≡ Some asked → KeepsLimits asked
-  bounded (Some n) word input is e =
-      let same : Bound input n ≡ asked = cc in
-      let small : n < 2 ^ 63 = omega (arith, (number 0 9223372036854775807 word n is).1) in
-      subst KeepsLimits same small
+  bounded : (z : Option ℤ) (word : Text) (input : Text) → bound_of word ≡ z → option_map (Bound input) z ≡ Some asked → KeepsLimits asked
+  bounded (Some z) word input is e =
+      let same : Bound input z ≡ asked = cc in
+      subst KeepsLimits same (signed word z is)
   bounded None word input is e = absurd (let c = e in cc)
 
   bounding : (t : Bool) → (if t then option_and_then (λ names. option_map (Bound names.0) (bound_of names.1)) (both_inputs value) else None) ≡ Some asked → KeepsLimits asked

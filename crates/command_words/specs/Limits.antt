@@ -1,5 +1,6 @@
 -- What a command that the words ask for keeps to.
-use Rattle.std.specs.Prelude.{◌≡◌, ℕ, ◌≤◌, ◌<◌, ◌^◌, List, Some}
+use Rattle.std.specs.Prelude.{◌≡◌, ℕ, ◌≤◌, ◌<◌, ◌^◌, List, Some, FitsSigned}
+use Rattle.std.specs.Int.{w64}
 use Rattle.clap.specs.Words.{Text}
 use Rattle.command_words.specs.Request.{Request, Compile, Weigh, Solve, Check, Decode, Queens, Sat, Drup, OpbModel, Opb}
 use Rattle.command_words.specs.Request.{All, CheckAll, Core, CheckCore, Bound, Certify}
@@ -25,7 +26,7 @@ KeepsLimits (All input options) = IsBudget options.search.budget
 KeepsLimits (CheckAll input second) = Unit {0}
 KeepsLimits (Core input options) = IsBudget options.search.budget
 KeepsLimits (CheckCore input second) = Unit {0}
-KeepsLimits (Bound input number) = number < 2 ^ 63
+KeepsLimits (Bound input number) = FitsSigned w64 number
 KeepsLimits (Certify input second) = Unit {0}
 
 -- the words ask for no other command

@@ -1,4 +1,4 @@
--- The command line `bee MODE INPUT [SECOND] [--budget N] [--no-restart] [--progress]`, as clap reads it.
+-- The command line `bee MODE [--budget N] [--no-restart] [--progress] [--] INPUT [SECOND]`, as clap reads it.
 use Rattle.std.specs.Prelude.{Bool, true, List, codes, Option, Some, None, if◌then◌else◌}
 use Rattle.clap.specs.Words.{App, Rule, Text, new_app, new_rule, with_rule, matches_of, fault_of, first_of}
 use Rattle.clap.specs.declared.builder.ArgAction.TheVariants.{Set, SetTrue}

@@ -1,12 +1,12 @@
 -- What the words of the command line ask for, by the values of words and options.
-use Rattle.std.specs.Prelude.{ℕ, Bool, false, ◌&&◌, ◌||◌, not, codes, bytes_eq, Option, Some, None, is_some, option_map}
+use Rattle.std.specs.Prelude.{ℕ, ℤ, Bool, false, not, codes, bytes_eq, Option, Some, None, is_some, option_map}
 use Rattle.std.specs.Prelude.{option_and_then, if◌then◌else◌}
 use Rattle.std.specs.Option.{option_map_or}
 use Rattle.clap.specs.Words.{Text}
 use Rattle.command_words.specs.declared.command.Options.{Options}
 use Rattle.command_words.specs.declared.command.Command.{Command}
 use Rattle.command_words.specs.declared.command.Command.TheVariants as command
-use Rattle.command_words.specs.Numeral.{number_within}
+use Rattle.command_words.specs.Numeral.{number_within, signed_number}
 
 -- a command, with its names as texts
 pub data Request : Type 0 where
@@ -24,7 +24,7 @@ pub data Request : Type 0 where
   CheckAll : (input second : Text) → Request
   Core : (input : Text) (options : Options) → Request
   CheckCore : (input second : Text) → Request
-  Bound : (input : Text) (number : ℕ) → Request
+  Bound : (input : Text) (number : ℤ) → Request
   Certify : (input second : Text) → Request
 
 abbrev pub request_of : Command → Request
@@ -58,9 +58,10 @@ budget_of (Some word) = number_within 1 9223372036854775807 word
 abbrev pub size_of : Text → Option ℕ
 size_of word = number_within 4 24 word
 
--- the number that a word says, below 2 ^ 63
-abbrev pub bound_of : Text → Option ℕ
-bound_of word = number_within 0 9223372036854775807 word
+-- the number that an objective is to be better than, as a word says it: from -9,223,372,036,854,775,808 to
+-- 9,223,372,036,854,775,807, so any value that an objective of a model has
+abbrev pub bound_of : Text → Option ℤ
+bound_of word = signed_number word
 
 -- a flag that is given has the value `true`
 abbrev pub is_given : (Text → Option Text) → Text → Bool

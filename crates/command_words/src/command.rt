@@ -111,8 +111,8 @@ pub enum Command<'a> {
     Bound {
         /// The name of the model's text.
         input: &'a str,
-        /// The number; below 2^63.
-        number: u64,
+        /// The number.
+        number: i64,
     },
     /// What another solver found about the model's clauses becomes an answer.
     Certify {

@@ -7,7 +7,7 @@ ghost use Rattle.command_words.specs.Line.{bee};
 use clap::{Arg, ArgAction, Command};
 use std::alloc::{AllocError, Global};
 
-/// The command `bee MODE INPUT [SECOND] [--budget N] [--no-restart] [--progress]`.
+/// The command `bee MODE [--budget N] [--no-restart] [--progress] [--] INPUT [SECOND]`.
 pub fn bee<'a>(alloc: Global) -> Result<Command<'a>, AllocError>
     ensures { IfOk result (λ c. app_of c ≡ bee) }
 {

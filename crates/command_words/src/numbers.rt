@@ -7,8 +7,8 @@ ghost use Rattle.command_words.specs.Request.{budget_of, size_of, bound_of};
 /// The budget where none is given.
 const USUAL_BUDGET: u64 = 1_000_000;
 
-/// The greatest budget, and the greatest number.
-const GREATEST_NUMBER: u64 = 9_223_372_036_854_775_807;
+/// The greatest budget.
+const GREATEST_BUDGET: u64 = 9_223_372_036_854_775_807;
 
 /// The number that a word says in digits, where it is in the limits; leading zeros are allowed, and a sign
 /// is not.
@@ -34,7 +34,7 @@ pub fn budget(word: Option<&str>) -> Option<u64>
     ensures { result ≡ budget_of (option_map (λ s. s.now) word.entry) }
 {
     match word {
-        Some(text) => number_within(1, GREATEST_NUMBER, text),
+        Some(text) => number_within(1, GREATEST_BUDGET, text),
         None => Some(USUAL_BUDGET),
     }
 }
@@ -46,9 +46,16 @@ pub fn size(word: &str) -> Option<u64>
     number_within(4, 24, word)
 }
 
-/// The number that a word says, where it fits 63 bits.
-pub fn bound(word: &str) -> Option<u64>
+/// The number that a word says in digits, or in a minus sign and digits, where it fits 64 bits; leading zeros are
+/// allowed, and a plus sign is not.
+pub fn bound(word: &str) -> Option<i64>
     ensures { result ≡ bound_of word.now }
 {
-    number_within(0, GREATEST_NUMBER, word)
+    if word.starts_with('+') {
+        return None;
+    }
+    match word.parse::<i64>() {
+        Ok(number) => Some(number),
+        Err(_) => None,
+    }
 }

@@ -21,6 +21,21 @@ use crate::task::Task;
 use std::alloc::AllocError;
 
 impl Search<'_> {
+    /// Bumps the variables of a conflict. Where decisions go along a list their activities are of no use.
+    fn bump(&mut self) -> Result<(), AllocError>
+        requires { IsSearch self.old }
+        ensures stays { Stays self.old self.new }
+        ensures walker { self.new.walker ≡ self.old.walker }
+        ensures search { IsSearch self.new }
+    {
+        if matches!(self.order.profile(), Profile::Activity) {
+            self.bumped
+                .gather(&self.db, self.walker.seen(), self.walker.lits())?;
+            self.order.bump(&self.db, &mut self.bumped.list);
+        }
+        Ok(())
+    }
+
     /// Learns a clause from one that is false, above level 0, and bumps the variables of the conflict.
     fn study(&mut self, conflict: u32) -> Result<Lesson, AllocError>
         requires search { IsSearch self.old }
@@ -35,9 +50,7 @@ impl Search<'_> {
         ensures search { IsSearch self.new }
     {
         analyse(&mut self.walker, &self.db, conflict)?;
-        self.bumped
-            .gather(&self.db, self.walker.seen(), self.walker.lits())?;
-        self.order.bump(&self.db, &mut self.bumped.list);
+        self.bump()?;
         self.candidates.uses.use_all(self.walker.hints());
         self.lesson()
     }

@@ -10,10 +10,10 @@
 //! (`set_aim`), in the longest trail without a conflict (Biere and others, 2020). Restarts come by
 //! Luby's sequence. Learned clauses go at restarts, half of those with most levels first (Audemard
 //! and Simon, 2009), then the longest, with a line in the log each. A solver `with_first` decides
-//! listed literals before all others, never restarts, and deletes often: for one solution after
-//! another; its order and phases go on in the next one (`into_order`, `anew`). A clause, its line
-//! and the room for both are made before anything changes (`Lesson`), so wherever memory is refused
-//! the log is whole and the call may be made again.
+//! listed literals before all others, keeps no activities, never restarts, and deletes often: for
+//! one solution after another; its order and phases go on in the next one (`into_order`, `anew`). A
+//! clause, its line and the room for both are made before anything changes (`Lesson`), so wherever
+//! memory is refused the log is whole and the call may be made again.
 //!
 //! What `solve` promises, and `solve_watched` whoever watches: the log is accepted to its last line
 //! (`accepted`), its additions are new and its deletions name additions alone (`fresh`); values

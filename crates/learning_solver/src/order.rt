@@ -189,7 +189,10 @@ impl Order {
         }
         let first = self.first(db)?;
         self.start = first;
-        let var = most_active(&self.ring, self.activity.as_slice(), db, first);
+        let var = match self.profile {
+            Profile::Activity => most_active(&self.ring, self.activity.as_slice(), db, first),
+            Profile::InOrder => first,
+        };
         Some(Lit::of(var, self.phases.of(var)))
     }
 

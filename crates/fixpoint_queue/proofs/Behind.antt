@@ -1,20 +1,19 @@
 -- What the store has become since a core was asked, equation by equation of its run.
-use Rattle.std.proofs.Common.{◌≡◌, ◌⊎◌, inl, inr, ℕ, ◌+◌, ◌≤◌, ◌<◌, Bool, true, false, List, [], ◌∷◌, ◌++◌, length, Contains, refl, sym, ap, ◌∙◌, subst, arith, Option, Some, None}
+use Rattle.std.proofs.Common.{◌≡◌, ◌⊎◌, inl, inr, ℕ, ◌+◌, ◌≤◌, Bool, true, false, List, [], ◌∷◌, length, Contains, refl, sym, ap, ◌∙◌, subst, arith, Option, Some, None}
 use Rattle.std.specs.Prelude.{if◌then◌else◌}
 use Rattle.std.proofs.lemmas.Bool.{false≢true}
 use Rattle.std.proofs.lemmas.List.Elements.{Contains-append_left, Contains-append_right}
 use Rattle.order_ints.specs.declared.atom.Atom.{Atom}
 use Rattle.order_ints.specs.Truth.{not_atom}
-use Rattle.order_ints.specs.View.{label_of, resolve}
+use Rattle.order_ints.specs.View.{resolve}
 use Rattle.order_ints.specs.Place.{AtomBelow}
-use Rattle.order_ints.specs.Label.{IsLabel, IsLabelled, IsLater}
+use Rattle.order_ints.specs.Label.{IsLater}
 use Rattle.order_ints.specs.Same.{same_atom}
 use Rattle.order_ints.specs.Equality.{same_atom-refl}
 use Rattle.order_ints.proofs.Labels.{IsLabel-resolve, AtomBelow-label, resolves_once, resolve-later}
 use Rattle.core_forms.specs.declared.equation.Equation.{Equation}
 use Rattle.core_forms.specs.declared.form.Core.{Core}
 use Rattle.core_forms.specs.Place.{CoreBelow}
-use Rattle.core_forms.specs.Trimmed.{trimmed_core}
 use Rattle.core_forms.specs.Variables.{atom_vars, core_vars, AreAmong}
 use Rattle.core_forms.proofs.VariableLaws.{none_there, vars_below}
 use Rattle.core_forms.proofs.Labelled.{vars_are_own}
@@ -24,7 +23,7 @@ use Rattle.equation_store.specs.Merge.{change_of, changed_by, merged}
 use Rattle.equation_store.proofs.Changes.{merge_is_later, merge_labelled}
 use Rattle.equation_store.proofs.Facts.{is_merge}
 use Rattle.equation_store.proofs.Merge.{merge_resolves}
-use Rattle.equation_runs.specs.Turns.{resolved_equation, IsMade, equation_vars, equations_vars, AreMade, IsBehind, AreToldFrom, AreToldInTurn, AreInTurn, EquationsBelow}
+use Rattle.equation_runs.specs.Turns.{resolved_equation, IsMade, equation_vars, equations_vars, AreMade, IsBehind, AreToldInTurn, AreInTurn, EquationsBelow}
 use Rattle.step_kernel.specs.Kernel.{Kernel, trimmed_at, IsKernel}
 use Rattle.step_kernel.specs.Steps.{equated}
 use Rattle.step_kernel.proofs.There.{is-there}

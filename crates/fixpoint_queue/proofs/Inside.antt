@@ -1,9 +1,8 @@
 -- The variables that equations name keep their labels among themselves, as each is made.
-use Rattle.std.proofs.Common.{◌≡◌, ◌⊎◌, inl, inr, ℕ, zero, suc, ◌+◌, ◌≤◌, ◌<◌, ◌==◌, Bool, true, false, cond, List, [], ◌∷◌, ◌++◌, map, length, get_or, Contains, refl, sym, ap, ◌∙◌, subst, arith, ⊎_elim, Option, Some, None}
-use Rattle.std.proofs.lemmas.Option.{none-some}
+use Rattle.std.proofs.Common.{◌≡◌, ◌⊎◌, inl, inr, ℕ, zero, suc, ◌≤◌, ◌<◌, ◌==◌, Bool, true, false, cond, List, [], ◌∷◌, map, length, get_or, Contains, refl, sym, ap, ◌∙◌, subst, arith, ⊎_elim, Option, Some, None}
 use Rattle.std.proofs.lemmas.Bool.{cases_Bool, cases_eq}
 use Rattle.std.proofs.lemmas.Bool.Decides.{nat_tests}
-use Rattle.std.proofs.lemmas.List.Elements.{Contains-append_left, Contains-append_right, Contains-append_cases}
+use Rattle.std.proofs.lemmas.List.Elements.{Contains-append_right, Contains-append_cases}
 use Rattle.order_ints.specs.declared.literal.Lit.{Lit}
 use Rattle.order_ints.specs.declared.atom.Atom.{Atom}
 use Rattle.order_ints.specs.declared.atom.Atom.TheVariants.{True, False, Of}
@@ -14,8 +13,8 @@ use Rattle.core_forms.specs.Variables.{atom_vars, AreAmong}
 use Rattle.core_forms.proofs.VariableLaws.{none_there, own_var}
 use Rattle.equation_store.specs.declared.relabel.Change.{Change}
 use Rattle.equation_store.specs.Class.{is_of}
-use Rattle.equation_store.specs.Merge.{signed, replaced, change_by, change_of, change_to, changed_by, losing_by}
-use Rattle.equation_store.proofs.Replaced.{label_of-map, replaced-own, replaced-other}
+use Rattle.equation_store.specs.Merge.{signed, replaced, change_by, change_to, changed_by, losing_by}
+use Rattle.equation_store.proofs.Replaced.{label_of-map, replaced-other}
 
 -- whether a list has a number
 only-one : (v x : ℕ) → (x ≡ v → ⊥) → Contains (x ∷ []) v → ⊥

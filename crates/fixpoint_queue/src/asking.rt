@@ -13,12 +13,10 @@ ghost use Rattle.fixpoint_queue.specs.Pairs.{IsCounted};
 ghost use Rattle.fixpoint_queue.specs.Told.{IsTold, IsAnswer};
 ghost use Rattle.fixpoint_queue.specs.Waits.{IsSaturation, left_to_do, left_to_ask};
 
-use crate::id_queue::IdQueue;
-use crate::marks::Marks;
 use crate::oracle::Oracle;
 use crate::taking::{take_equation, take_run};
+use crate::worklist::Worklist;
 use core_forms::Core;
-use core_occurrences::Occurrences;
 use core_rules::FoundRun;
 use ledger_text::Line;
 use rule_base::Steps;
@@ -105,77 +103,62 @@ fn ask_pending<F: Oracle<L>, L: Ledger>(
 /// found. The core stands here as the store has it.
 fn take_found<F: Oracle<L>, L: Ledger>(
     state: &mut State,
-    occurs: &Occurrences,
-    queue: &mut IdQueue,
-    marks: &Marks,
+    work: &mut Worklist,
     ledger: &mut Vec<Line>,
     id: u32,
     core: &Core,
     found: &FoundRun,
 ) -> Result<(), AllocError>
-    requires saturation { IsSaturation F.told state.old occurs.now queue.old marks.now }
+    requires saturation { IsSaturation F.told state.old work.old.occurs work.old.queue work.old.marks }
     requires running { state.old.bottom ≡ false }
-    requires first { 1 ≤ times id queue.old.queued }
+    requires first { 1 ≤ times id work.old.queue.queued }
     requires there { trimmed_at state.old id ≡ Some core.now }
     requires told { IsTold F.told core.now found.now }
-    ensures saturation { IsSaturation F.told state.new occurs.now queue.new marks.now }
+    ensures saturation { IsSaturation F.told state.new work.new.occurs work.new.queue work.new.marks }
     ensures adds { AddsEquations F.told ledger.old.items state.old ledger.new.items state.new }
     ensures counted { OnOk result ((counter now : ℕ) → now ≤ counter + 3
         → IsCounted state.old ledger.old.items ledger.new.items
-        (length queue.old.queued) counter now (left_to_ask state.new queue.new)) }
+        (length work.old.queue.queued) counter now (left_to_ask state.new work.new.queue)) }
     ensures refused { OnErr result ((counter now : ℕ) → now ≤ counter + 3
-        → IsCounted state.old ledger.old.items ledger.new.items (length queue.old.queued) counter now 0) }
-    ensures less { OnOk result (left_to_do state.new queue.new < left_to_do state.old queue.old) }
+        → IsCounted state.old ledger.old.items ledger.new.items (length work.old.queue.queued) counter now 0) }
+    ensures less { OnOk result (left_to_do state.new work.new.queue < left_to_do state.old work.old.queue) }
 {
     ledger.reserve(1 + found.run.len())?;
-    let some = take_run::<F, L>(
-        state,
-        occurs,
-        queue,
-        marks,
-        ledger,
-        id,
-        core,
-        found.run.as_slice(),
-    );
+    let some = take_run::<F, L>(state, work, ledger, id, core, found.run.as_slice());
     if some {
         return Ok(());
     }
-    take_equation(state, occurs, queue, ledger, u64::from(id), found.equation);
+    take_equation(state, work, ledger, u64::from(id), found.equation);
     Ok(())
 }
 
 /// Asks the first core of the queue: where it tells an equation, that is taken, with those that it tells one after
 /// another; and else the core leaves the queue.
 fn ask_first<F: Oracle<L>, L: Ledger>(
-    alloc: Global,
     oracle: F,
     state: &mut State,
-    occurs: &Occurrences,
-    queue: &mut IdQueue,
-    marks: &mut Marks,
+    work: &mut Worklist,
     ledger: &mut Vec<Line>,
     steps: &mut Steps<L>,
     id: u32,
 ) -> Result<(), AllocError>
-    requires saturation { IsSaturation F.told state.old occurs.now queue.old marks.old }
+    requires saturation { IsSaturation F.told state.old work.old.occurs work.old.queue work.old.marks }
     requires running { state.old.bottom ≡ false }
-    requires first { 1 ≤ times id queue.old.queued }
-    ensures saturation { IsSaturation F.told state.new occurs.now queue.new marks.new }
+    requires first { 1 ≤ times id work.old.queue.queued }
+    ensures saturation { IsSaturation F.told state.new work.new.occurs work.new.queue work.new.marks }
     ensures adds { AddsEquations F.told ledger.old.items state.old ledger.new.items state.new }
     ensures counted { OnOk result (IsCounted state.old ledger.old.items ledger.new.items
-        (length queue.old.queued) steps.old steps.new (left_to_ask state.new queue.new)) }
+        (length work.old.queue.queued) steps.old steps.new (left_to_ask state.new work.new.queue)) }
     ensures refused { OnErr result (IsCounted state.old ledger.old.items ledger.new.items
-        (length queue.old.queued) steps.old steps.new 0) }
-    ensures less { OnOk result (left_to_do state.new queue.new < left_to_do state.old queue.old) }
+        (length work.old.queue.queued) steps.old steps.new 0) }
+    ensures less { OnOk result (left_to_do state.new work.new.queue < left_to_do state.old work.old.queue) }
 {
+    let alloc = *ledger.allocator();
     match ask_pending(alloc, oracle, state, steps, id)? {
-        Answer::Told(core, found) => {
-            take_found::<F, L>(state, occurs, queue, marks, ledger, id, &core, &found)
-        }
+        Answer::Told(core, found) => { take_found::<F, L>(state, work, ledger, id, &core, &found) }
         Answer::Silent(compound) => {
-            queue.take(id);
-            marks.set(id, compound);
+            work.queue.take(id);
+            work.marks.set(id, compound);
             Ok(())
         }
     }
@@ -184,28 +167,23 @@ fn ask_first<F: Oracle<L>, L: Ledger>(
 /// Asks the cores of the queue, one after another, until the queue is empty or a contradiction was found. Each
 /// is asked until it tells nothing.
 pub fn ask_all<F: Oracle<L>, L: Ledger>(
-    alloc: Global,
     oracle: F,
     state: &mut State,
-    occurs: &Occurrences,
-    queue: &mut IdQueue,
-    marks: &mut Marks,
+    work: &mut Worklist,
     ledger: &mut Vec<Line>,
     steps: &mut Steps<L>,
 ) -> Result<(), AllocError>
-    requires saturation { IsSaturation F.told state.old occurs.now queue.old marks.old }
-    ensures saturation { IsSaturation F.told state.new occurs.now queue.new marks.new }
+    requires saturation { IsSaturation F.told state.old work.old.occurs work.old.queue work.old.marks }
+    ensures saturation { IsSaturation F.told state.new work.new.occurs work.new.queue work.new.marks }
     ensures adds { AddsEquations F.told ledger.old.items state.old ledger.new.items state.new }
     ensures counted { IsCounted state.old ledger.old.items ledger.new.items
-        (length queue.old.queued) steps.old steps.new 0 }
-    ensures empty { OnOk result (state.new.bottom ≡ true ⊎ queue.new.queued ≡ []) }
+        (length work.old.queue.queued) steps.old steps.new 0 }
+    ensures empty { OnOk result (state.new.bottom ≡ true ⊎ work.new.queue.queued ≡ []) }
     ensures closed { OnOk result (state.new.bottom ≡ true ⊎ IsClosed F.told state.new) }
 {
     while !state.bottom() {
-        match queue.first() {
-            Some(id) => ask_first(
-                alloc, oracle, state, occurs, queue, marks, ledger, steps, id,
-            )?,
+        match work.queue.first() {
+            Some(id) => ask_first(oracle, state, work, ledger, steps, id)?,
             None => return Ok(()),
         }
     }

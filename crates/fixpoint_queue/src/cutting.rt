@@ -5,11 +5,9 @@ ghost use Rattle.std.specs.Prelude.{length, IfOk, OnErr, IsTrue};
 ghost use Rattle.step_kernel.specs.SplitAt.{IsStableAt, IsCutAt};
 ghost use Rattle.fixpoint_queue.specs.Split.{IsSplit, AreCutLists, AreFrom};
 
-use crate::entering::{all_variables, enter_around};
-use crate::handing::are_bare;
-use crate::lines::leave_queue;
+use crate::entering::all_variables;
+use crate::handing::{Rest, are_bare};
 use crate::oracle::Oracle;
-use crate::room::make_room;
 use crate::runner::Runner;
 use bee_list::Sequence;
 use ledger_text::Line;
@@ -53,33 +51,19 @@ impl<F: Oracle<L>, L: Ledger> Runner<F, L> {
         let alloc = *self.ledger.allocator();
         let lists = lists_of_cut(alloc, &cut)?;
         let come = variables_from(alloc, self.state.vars() + 1, cut.fresh)?;
-        make_room(
-            &self.state,
-            &mut self.occurs,
-            &mut self.queue,
-            &mut self.marks,
-            cut.fresh,
-            cut.fresh,
-            lists.as_slice(),
-        )?;
-        if !are_bare(&self.occurs, come.as_slice()) {
+        self.work
+            .make_room(&self.state, cut.fresh, cut.fresh, lists.as_slice())?;
+        if !are_bare(&self.work.occurs, come.as_slice()) {
             return Ok(false);
         }
         self.ledger.reserve(1)?;
         let before = self.state.ids() as u32;
         let place = cut.front.len();
+        let rest = Rest { place, come };
         self.state.split_cut(id, cut)?;
-        leave_queue(&mut self.queue, &mut self.marks, id as u32);
-        enter_around(
-            &self.state,
-            &mut self.occurs,
-            &mut self.queue,
-            before,
-            id as u32,
-            place,
-            come.as_slice(),
-            lists.as_slice(),
-        );
+        self.work.leave_queue(id as u32);
+        self.work
+            .enter_around(&self.state, before, id as u32, &rest, lists.as_slice());
         self.ledger.push(Line::Split { id }).unwrap();
         Ok(true)
     }

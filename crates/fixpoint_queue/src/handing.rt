@@ -12,6 +12,15 @@ use core_occurrences::Occurrences;
 use std::alloc::{AllocError, Global};
 use step_kernel::State;
 
+/// Where a core that is split goes on: its longest part.
+#[derive(Drop)]
+pub struct Rest {
+    /// The part's place among the parts; their number where none is long.
+    pub place: usize,
+    /// The variables of the part that come to those of the core.
+    pub come: Vec<u32>,
+}
+
 /// A part with so few variables is put at each of them.
 const SHORT: usize = 16;
 
@@ -87,8 +96,8 @@ pub fn rest_of(
     state: &State,
     id: u64,
     lists: &[Sequence<u32>],
-) -> Result<(usize, Vec<u32>), AllocError>
-    ensures { IfOk result (λ rest. IsRest state.now id lists.now rest.0 rest.1.items) }
+) -> Result<Rest, AllocError>
+    ensures { IfOk result (λ rest. IsRest state.now id lists.now rest.place rest.come.items) }
 {
     let place = longest(lists);
     if place < lists.len() {
@@ -96,11 +105,14 @@ pub fn rest_of(
             let known = variables(alloc, core)?;
             let come = others(alloc, lists[place].as_slice(), known.as_slice())?;
             if come.len() <= FEW {
-                return Ok((place, come));
+                return Ok(Rest { place, come });
             }
         }
     }
-    Ok((lists.len(), Vec::new(alloc)))
+    Ok(Rest {
+        place: lists.len(),
+        come: Vec::new(alloc),
+    })
 }
 
 /// Whether variables stand in ascending order, each once.

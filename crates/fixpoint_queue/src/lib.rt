@@ -37,6 +37,7 @@ mod splitting;
 mod starting;
 mod taking;
 mod wake;
+mod worklist;
 
 pub use oracle::{Oracle, Silent};
 pub use runner::Runner;

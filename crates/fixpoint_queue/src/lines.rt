@@ -11,43 +11,44 @@ ghost use Rattle.step_kernel.specs.Kernel.{trimmed_at};
 ghost use Rattle.step_kernel.specs.Steps.{step};
 ghost use Rattle.fixpoint_queue.specs.IdQueue.{IsIds};
 
-use crate::id_queue::IdQueue;
-use crate::marks::Marks;
 use crate::oracle::Oracle;
 use crate::runner::Runner;
-use core_occurrences::Occurrences;
+use crate::worklist::Worklist;
 use ledger_text::Line;
 use std::alloc::AllocError;
 use std::sync::ledger::Ledger;
 
-/// Takes a core from the queue and from the marks.
-pub fn leave_queue(queue: &mut IdQueue, marks: &mut Marks, id: u32)
-    requires id { 1 ≤ id }
-    requires place { id < queue.old.places }
-    requires mark { id ≤ length marks.old }
-    ensures queued { queue.new.queued ≡ without id queue.old.queued }
-    ensures places { queue.new.places ≡ queue.old.places }
-    ensures ids { IsIds queue.new }
-    ensures marks { marks.new ≡ slice_set marks.old (id - 1) false }
-{
-    queue.take(id);
-    marks.set(id, false);
-}
+impl Worklist {
+    /// Takes a core from the queue and from the marks.
+    pub fn leave_queue(&mut self, id: u32)
+        requires id { 1 ≤ id }
+        requires place { id < self.old.queue.places }
+        requires mark { id ≤ length self.old.marks }
+        ensures occurs { self.new.occurs ≡ self.old.occurs }
+        ensures queued { self.new.queue.queued ≡ without id self.old.queue.queued }
+        ensures places { self.new.queue.places ≡ self.old.queue.places }
+        ensures ids { IsIds self.new.queue }
+        ensures marks { self.new.marks ≡ slice_set self.old.marks (id - 1) false }
+    {
+        self.queue.take(id);
+        self.marks.set(id, false);
+    }
 
-/// Takes a core from its variables, from the queue and from the marks.
-fn leave(occurs: &mut Occurrences, queue: &mut IdQueue, marks: &mut Marks, id: u32)
-    requires id { (1 ≤ id) × (id ≤ occurs.old.ids) }
-    requires place { id < queue.old.places }
-    requires mark { id ≤ length marks.old }
-    ensures occurs { occurs.new ≡ removed occurs.old id }
-    ensures occurrences { IsOccurrences occurs.new }
-    ensures queued { queue.new.queued ≡ without id queue.old.queued }
-    ensures places { queue.new.places ≡ queue.old.places }
-    ensures ids { IsIds queue.new }
-    ensures marks { marks.new ≡ slice_set marks.old (id - 1) false }
-{
-    occurs.remove(id);
-    leave_queue(queue, marks, id);
+    /// Takes a core from its variables, from the queue and from the marks.
+    fn leave(&mut self, id: u32)
+        requires id { (1 ≤ id) × (id ≤ self.old.occurs.ids) }
+        requires place { id < self.old.queue.places }
+        requires mark { id ≤ length self.old.marks }
+        ensures occurs { self.new.occurs ≡ removed self.old.occurs id }
+        ensures occurrences { IsOccurrences self.new.occurs }
+        ensures queued { self.new.queue.queued ≡ without id self.old.queue.queued }
+        ensures places { self.new.queue.places ≡ self.old.queue.places }
+        ensures ids { IsIds self.new.queue }
+        ensures marks { self.new.marks ≡ slice_set self.old.marks (id - 1) false }
+    {
+        self.occurs.remove(id);
+        self.leave_queue(id);
+    }
 }
 
 impl<F: Oracle<L>, L: Ledger> Runner<F, L> {
@@ -66,12 +67,7 @@ impl<F: Oracle<L>, L: Ledger> Runner<F, L> {
         if self.state.apply(&line).is_err() {
             return Err(AllocError);
         }
-        leave(
-            &mut self.occurs,
-            &mut self.queue,
-            &mut self.marks,
-            id as u32,
-        );
+        self.work.leave(id as u32);
         self.ledger.push(line).unwrap();
         Ok(())
     }

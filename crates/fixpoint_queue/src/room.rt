@@ -7,8 +7,7 @@ ghost use Rattle.core_occurrences.specs.Lists.{IsOccurrences};
 ghost use Rattle.fixpoint_queue.specs.Standing.{all_counted};
 ghost use Rattle.fixpoint_queue.specs.Wider.{AreWider, IsWider, HasRoom};
 
-use crate::id_queue::IdQueue;
-use crate::marks::Marks;
+use crate::worklist::Worklist;
 use bee_list::Sequence;
 use core_occurrences::Occurrences;
 use std::alloc::AllocError;
@@ -56,29 +55,31 @@ fn widen(occurs: &mut Occurrences, vars: u32, ids: u32, nodes: u32) -> Result<()
     occurs.grow(more_vars, more_ids, more_nodes)
 }
 
-/// Makes room for so many fresh variables, for a core with each of the lists of variables, and for some
-/// occurrences more. What is there
-/// for other cores is used, so that room is made only where the pending cores become more.
-pub fn make_room(
-    state: &State,
-    occurs: &mut Occurrences,
-    queue: &mut IdQueue,
-    marks: &mut Marks,
-    fresh: u32,
-    more: u32,
-    lists: &[Sequence<u32>],
-) -> Result<(), AllocError>
-    requires vars { length state.now.view + fresh < 2 ^ 32 }
-    requires occurrences { IsOccurrences occurs.old }
-    requires queued { IsIds queue.old }
-    ensures wider { IsWider occurs.old occurs.new queue.old queue.new marks.old marks.new }
-    ensures room { OnOk result (HasRoom state.now fresh more lists.now occurs.new queue.new marks.new) }
-{
-    let Some(nodes) = number_of(lists)?.checked_add(more) else {
-        return Err(AllocError);
-    };
-    let ids = ids_behind(state, lists.len())?;
-    widen(occurs, state.vars() + fresh, ids, nodes)?;
-    queue.grow_to(ids + 1)?;
-    marks.grow_to(ids as usize)
+impl Worklist {
+    /// Makes room for so many fresh variables, for a core with each of the lists of variables, and for some
+    /// occurrences more. What is there for other cores is used, so that room is made only where the pending cores
+    /// become more.
+    pub fn make_room(
+        &mut self,
+        state: &State,
+        fresh: u32,
+        more: u32,
+        lists: &[Sequence<u32>],
+    ) -> Result<(), AllocError>
+        requires vars { length state.now.view + fresh < 2 ^ 32 }
+        requires occurrences { IsOccurrences self.old.occurs }
+        requires queued { IsIds self.old.queue }
+        ensures wider { IsWider self.old.occurs self.new.occurs self.old.queue self.new.queue
+            self.old.marks self.new.marks }
+        ensures room { OnOk result
+            (HasRoom state.now fresh more lists.now self.new.occurs self.new.queue self.new.marks) }
+    {
+        let Some(nodes) = number_of(lists)?.checked_add(more) else {
+            return Err(AllocError);
+        };
+        let ids = ids_behind(state, lists.len())?;
+        widen(&mut self.occurs, state.vars() + fresh, ids, nodes)?;
+        self.queue.grow_to(ids + 1)?;
+        self.marks.grow_to(ids as usize)
+    }
 }

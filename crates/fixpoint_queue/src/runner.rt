@@ -15,7 +15,7 @@ use crate::asking::ask_all;
 use crate::id_queue::IdQueue;
 use crate::marks::Marks;
 use crate::oracle::Oracle;
-use crate::starting::enter_state;
+use crate::worklist::Worklist;
 use core_occurrences::Occurrences;
 use ledger_text::Line;
 use rule_base::Steps;
@@ -32,9 +32,7 @@ pub struct Runner<F: Oracle<L>, L: Ledger> {
     pub(crate) state: State,
     pub(crate) oracle: F,
     pub(crate) ledger: Vec<Line>,
-    pub(crate) occurs: Occurrences,
-    pub(crate) queue: IdQueue,
-    pub(crate) marks: Marks,
+    pub(crate) work: Worklist,
     pub(crate) counted_in: PhantomData<L>,
 }
 
@@ -44,9 +42,9 @@ impl<F: Oracle<L>, L: Ledger> Model for Runner<F, L> {
 
     ghost Value = { Saturation };
 
-    ghost view = { λ s. record { kernel = s.state; ledger = s.ledger.items; queued = s.queue.queued } };
+    ghost view = { λ s. record { kernel = s.state; ledger = s.ledger.items; queued = s.work.queue.queued } };
 
-    ghost invariant = { λ s. IsSaturation F.told s.state s.occurs s.queue s.marks };
+    ghost invariant = { λ s. IsSaturation F.told s.state s.work.occurs s.work.queue s.work.marks };
 }
 
 impl<F: Oracle<L>, L: Ledger> Runner<F, L> {
@@ -66,17 +64,20 @@ impl<F: Oracle<L>, L: Ledger> Runner<F, L> {
         }
         let mut occurs = Occurrences::with(alloc, state.vars())?;
         occurs.grow(0, ids as u32, 0)?;
-        let mut queue = IdQueue::with(alloc, ids as u32 + 1)?;
+        let queue = IdQueue::with(alloc, ids as u32 + 1)?;
         let mut marks = Marks::new(alloc);
         marks.grow(ids as usize)?;
-        enter_state(alloc, &state, &mut occurs, &mut queue)?;
+        let mut work = Worklist {
+            occurs,
+            queue,
+            marks,
+        };
+        work.enter_state(alloc, &state)?;
         Ok(Runner {
             state,
             oracle,
             ledger: Vec::new(alloc),
-            occurs,
-            queue,
-            marks,
+            work,
             counted_in: PhantomData,
         })
     }
@@ -110,14 +111,10 @@ impl<F: Oracle<L>, L: Ledger> Runner<F, L> {
         ensures counted { IsCounted self.old.kernel self.old.ledger self.new.ledger
             (length self.old.queued) steps.old steps.new 0 }
     {
-        let alloc = *self.ledger.allocator();
         ask_all(
-            alloc,
             self.oracle,
             &mut self.state,
-            &self.occurs,
-            &mut self.queue,
-            &mut self.marks,
+            &mut self.work,
             &mut self.ledger,
             steps,
         )
@@ -129,6 +126,6 @@ impl<F: Oracle<L>, L: Ledger> Runner<F, L> {
         requires { self.now.queued ≡ [] }
         ensures { result ≡ least_compound_of self.now.kernel }
     {
-        self.marks.least()
+        self.work.marks.least()
     }
 }

@@ -11,11 +11,9 @@ ghost use Rattle.step_kernel.specs.Steps.{step};
 ghost use Rattle.fixpoint_queue.specs.Split.{IsSplit};
 ghost use Rattle.fixpoint_queue.specs.Standing.{AreAllVars};
 
-use crate::entering::{all_variables, enter_parts};
+use crate::entering::all_variables;
 use crate::handing::rest_of;
-use crate::lines::leave_queue;
 use crate::oracle::Oracle;
-use crate::room::make_room;
 use crate::runner::Runner;
 use bee_list::Sequence;
 use ledger_text::Line;
@@ -77,30 +75,16 @@ impl<F: Oracle<L>, L: Ledger> Runner<F, L> {
     {
         let alloc = *self.ledger.allocator();
         let (parts, lists) = parts_with_variables(alloc, &self.state, id, stable)?;
-        let (place, come) = rest_of(alloc, &self.state, id, lists.as_slice())?;
-        make_room(
-            &self.state,
-            &mut self.occurs,
-            &mut self.queue,
-            &mut self.marks,
-            parts.fresh,
-            come.len() as u32,
-            lists.as_slice(),
-        )?;
+        let rest = rest_of(alloc, &self.state, id, lists.as_slice())?;
+        let more = rest.come.len() as u32;
+        self.work
+            .make_room(&self.state, parts.fresh, more, lists.as_slice())?;
         self.ledger.reserve(1)?;
         let before = self.state.ids() as u32;
         self.state.split_into(id, parts)?;
-        leave_queue(&mut self.queue, &mut self.marks, id as u32);
-        enter_parts(
-            &self.state,
-            &mut self.occurs,
-            &mut self.queue,
-            before,
-            id as u32,
-            place,
-            come.as_slice(),
-            lists.as_slice(),
-        );
+        self.work.leave_queue(id as u32);
+        self.work
+            .enter_parts(&self.state, before, id as u32, &rest, lists.as_slice());
         self.ledger.push(Line::Split { id }).unwrap();
         Ok(())
     }

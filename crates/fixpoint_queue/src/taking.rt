@@ -19,36 +19,36 @@ ghost use Rattle.fixpoint_queue.specs.Taken.{HasTaken};
 ghost use Rattle.fixpoint_queue.specs.Told.{IsToldInstance};
 ghost use Rattle.fixpoint_queue.specs.Waits.{IsSaturation, IsWokenFor};
 
-use crate::id_queue::IdQueue;
-use crate::marks::Marks;
 use crate::oracle::Oracle;
-use crate::wake::wake;
+use crate::worklist::Worklist;
 use core_forms::{Core, Equation};
-use core_occurrences::Occurrences;
 use ledger_text::Line;
 use std::sync::ledger::Ledger;
 use step_kernel::State;
 
-/// Queues the cores that may tell something new once an equation is made.
-fn wake_for(state: &State, occurs: &Occurrences, queue: &mut IdQueue, e: &Equation)
-    requires kernel { IsKernel state.now }
-    requires first { IsLabel state.now.view e.now.a }
-    requires second { IsLabel state.now.view e.now.b }
-    requires listed { IsListed state.now occurs.now }
-    requires places { length state.now.cores < queue.old.places }
-    requires queued { IsIds queue.old }
-    ensures { IsWokenFor state.now e.now queue.old queue.new }
-{
-    if let Some(loser) = state.store().loser(e.a, e.b) {
-        wake(state, state.store(), occurs, queue, loser);
+impl Worklist {
+    /// Queues the cores that may tell something new once an equation is made.
+    fn wake_for(&mut self, state: &State, e: &Equation)
+        requires kernel { IsKernel state.now }
+        requires first { IsLabel state.now.view e.now.a }
+        requires second { IsLabel state.now.view e.now.b }
+        requires listed { IsListed state.now self.old.occurs }
+        requires places { length state.now.cores < self.old.queue.places }
+        requires queued { IsIds self.old.queue }
+        ensures woken { IsWokenFor state.now e.now self.old.queue self.new.queue }
+        ensures occurs { self.new.occurs ≡ self.old.occurs }
+        ensures marks { self.new.marks ≡ self.old.marks }
+    {
+        if let Some(loser) = state.store().loser(e.a, e.b) {
+            self.wake(state, state.store(), loser);
+        }
     }
 }
 
 /// Takes an equation that was told: queues what it wakes, makes its step, and writes its line.
 pub fn take_equation(
     state: &mut State,
-    occurs: &Occurrences,
-    queue: &mut IdQueue,
+    work: &mut Worklist,
     ledger: &mut Vec<Line>,
     id: u64,
     e: Equation,
@@ -56,18 +56,20 @@ pub fn take_equation(
     requires kernel { IsKernel state.old }
     requires running { state.old.bottom ≡ false }
     requires instance { IsInstanceAt state.old id e }
-    requires listed { IsListed state.old occurs.now }
-    requires places { length state.old.cores < queue.old.places }
-    requires queued { IsIds queue.old }
+    requires listed { IsListed state.old work.old.occurs }
+    requires places { length state.old.cores < work.old.queue.places }
+    requires queued { IsIds work.old.queue }
     requires room { vec_len ledger.old < vec_capacity ledger.old }
     ensures step { step state.old (Equate id e) ≡ Ok state.new }
     ensures equated { state.new ≡ equated state.old e }
-    ensures woken { IsWokenFor state.old e queue.old queue.new }
+    ensures woken { IsWokenFor state.old e work.old.queue work.new.queue }
+    ensures occurs { work.new.occurs ≡ work.old.occurs }
+    ensures marks { work.new.marks ≡ work.old.marks }
     ensures ledger { ledger.new.items ≡ ledger.old.items ++ Equate id e ∷ [] }
     ensures lines { vec_len ledger.new ≡ vec_len ledger.old + 1 }
     ensures room { vec_capacity ledger.new ≡ vec_capacity ledger.old }
 {
-    wake_for(state, occurs, queue, &e);
+    work.wake_for(state, &e);
     state.equate_told(id, &e);
     ledger.push_reserved(Line::Equate { id, e });
 }
@@ -88,25 +90,23 @@ fn resolved(state: &State, e: &Equation) -> Equation
 /// Takes an equation of a run, as the store has it, unless it is made already, and tells whether it did.
 fn take_next<F: Oracle<L>, L: Ledger>(
     state: &mut State,
-    occurs: &Occurrences,
-    queue: &mut IdQueue,
-    marks: &Marks,
+    work: &mut Worklist,
     ledger: &mut Vec<Line>,
     id: u32,
     core: &Core,
     e: &Equation,
 ) -> bool
-    requires saturation { IsSaturation F.told state.old occurs.now queue.old marks.now }
+    requires saturation { IsSaturation F.told state.old work.old.occurs work.old.queue work.old.marks }
     requires running { state.old.bottom ≡ false }
-    requires queued { 1 ≤ times id queue.old.queued }
+    requires queued { 1 ≤ times id work.old.queue.queued }
     requires there { trimmed_at state.old id ≡ Some (trimmed_core state.old.view core.now) }
     requires core { CoreBelow (length state.old.view + 1) core.now }
     requires first { AtomBelow (length state.old.view + 1) e.now.a }
     requires second { AtomBelow (length state.old.view + 1) e.now.b }
     requires told { IsMadeOrTold (IsToldInstance F.told) core.now state.old.view e.now }
     requires room { vec_len ledger.old < vec_capacity ledger.old }
-    ensures taken { HasTaken F.told occurs.now marks.now id core.now
-        state.old ledger.old.items queue.old state.new ledger.new.items queue.new result }
+    ensures taken { HasTaken F.told id core.now
+        state.old ledger.old.items work.old state.new ledger.new.items work.new result }
     ensures turn { (es : List Equation) → AreInTurn (IsToldInstance F.told) core.now state.old.view (e.now ∷ es)
         → (state.new.bottom ≡ true) ⊎ AreInTurn (IsToldInstance F.told) core.now state.new.view es }
     ensures lines { vec_len ledger.new ≤ vec_len ledger.old + 1 }
@@ -116,7 +116,7 @@ fn take_next<F: Oracle<L>, L: Ledger>(
     if e.a == e.b {
         return false;
     }
-    take_equation(state, occurs, queue, ledger, u64::from(id), e);
+    take_equation(state, work, ledger, u64::from(id), e);
     true
 }
 
@@ -131,22 +131,20 @@ fn either(first: bool, second: bool) -> bool
 /// core stands here as the store has it before the first of them.
 pub fn take_run<F: Oracle<L>, L: Ledger>(
     state: &mut State,
-    occurs: &Occurrences,
-    queue: &mut IdQueue,
-    marks: &Marks,
+    work: &mut Worklist,
     ledger: &mut Vec<Line>,
     id: u32,
     core: &Core,
     run: &[Equation],
 ) -> bool
-    requires saturation { IsSaturation F.told state.old occurs.now queue.old marks.now }
-    requires queued { 1 ≤ times id queue.old.queued }
+    requires saturation { IsSaturation F.told state.old work.old.occurs work.old.queue work.old.marks }
+    requires queued { 1 ≤ times id work.old.queue.queued }
     requires there { trimmed_at state.old id ≡ Some core.now }
     requires below { EquationsBelow (length state.old.view + 1) run.now }
     requires told { AreToldInTurn (IsToldInstance F.told) core.now run.now }
     requires room { vec_len ledger.old + length run.now ≤ vec_capacity ledger.old }
-    ensures taken { HasTaken F.told occurs.now marks.now id core.now
-        state.old ledger.old.items queue.old state.new ledger.new.items queue.new result }
+    ensures taken { HasTaken F.told id core.now
+        state.old ledger.old.items work.old state.new ledger.new.items work.new result }
     ensures lines { vec_len ledger.new ≤ vec_len ledger.old + length run.now }
     ensures room { vec_capacity ledger.new ≡ vec_capacity ledger.old }
 {
@@ -155,7 +153,7 @@ pub fn take_run<F: Oracle<L>, L: Ledger>(
         if state.bottom() {
             return some;
         }
-        let taken = take_next::<F, L>(state, occurs, queue, marks, ledger, id, core, e);
+        let taken = take_next::<F, L>(state, work, ledger, id, core, e);
         some = either(some, taken);
     }
     some

@@ -11,6 +11,7 @@ ghost use Rattle.fixpoint_queue.specs.Waits.{IsWoken};
 use crate::having::has_variable;
 use crate::id_queue::IdQueue;
 use crate::id_ring::IdRing;
+use crate::worklist::Worklist;
 use core_occurrences::Occurrences;
 use equation_store::EqStore;
 use step_kernel::State;
@@ -79,20 +80,24 @@ impl IdQueue {
     }
 }
 
-/// Queues the cores that have a member of a class, by the store of their state.
-pub fn wake(state: &State, store: &EqStore, occurs: &Occurrences, queue: &mut IdQueue, label: u32)
-    requires same { store.now.view ≡ state.now.view }
-    requires low { 1 ≤ label }
-    requires high { label ≤ length store.now.view }
-    requires own { IsOwnLabel store.now.view label }
-    requires listed { IsListed state.now occurs.now }
-    requires places { length state.now.cores < queue.old.places }
-    requires queued { IsIds queue.old }
-    ensures { IsWoken state.now label queue.old queue.new }
-{
-    let mut next = store.first(label);
-    while let Some(var) = next {
-        queue.wake_at(state, occurs, var);
-        next = store.after(var);
+impl Worklist {
+    /// Queues the cores that have a member of a class, by the store of their state.
+    pub fn wake(&mut self, state: &State, store: &EqStore, label: u32)
+        requires same { store.now.view ≡ state.now.view }
+        requires low { 1 ≤ label }
+        requires high { label ≤ length store.now.view }
+        requires own { IsOwnLabel store.now.view label }
+        requires listed { IsListed state.now self.old.occurs }
+        requires places { length state.now.cores < self.old.queue.places }
+        requires queued { IsIds self.old.queue }
+        ensures woken { IsWoken state.now label self.old.queue self.new.queue }
+        ensures occurs { self.new.occurs ≡ self.old.occurs }
+        ensures marks { self.new.marks ≡ self.old.marks }
+    {
+        let mut next = store.first(label);
+        while let Some(var) = next {
+            self.queue.wake_at(state, &self.occurs, var);
+            next = store.after(var);
+        }
     }
 }

@@ -25,41 +25,41 @@ take_found-requires-clause-told g c =
 pub returns-in-Told-clause-counted : goal.returns-in-Told-clause-counted
 returns-in-Told-clause-counted g c =
     on_ok_weaker {P = (counter now : ℕ) → now ≤ counter + 3
-    → IsCounted c.ask_pending.new.state c.args.ledger.now.items c.take_found.new.ledger.items (length c.args.queue.now.queued) counter now (left_to_ask c.take_found.new.state c.take_found.new.queue)}
+    → IsCounted c.ask_pending.new.state c.args.ledger.now.items c.take_found.new.ledger.items (length c.args.work.now.queue.queued) counter now (left_to_ask c.take_found.new.state c.take_found.new.work.queue)}
     c.take_found.result
     (λ each.
     subst
-    (λ (k : Kernel). IsCounted k c.args.ledger.now.items c.take_found.new.ledger.items (length c.args.queue.now.queued) c.args.steps.now c.ask_pending.new.steps (left_to_ask c.take_found.new.state c.take_found.new.queue))
+    (λ (k : Kernel). IsCounted k c.args.ledger.now.items c.take_found.new.ledger.items (length c.args.work.now.queue.queued) c.args.steps.now c.ask_pending.new.steps (left_to_ask c.take_found.new.state c.take_found.new.work.queue))
     c.ask_pending.ensures.stays (each c.args.steps.now c.ask_pending.new.steps c.ask_pending.ensures.most))
     c.take_found.ensures.counted
 
 pub returns-in-Told-clause-refused : goal.returns-in-Told-clause-refused
 returns-in-Told-clause-refused g c =
     on_err_weaker {P = (counter now : ℕ) → now ≤ counter + 3
-    → IsCounted c.ask_pending.new.state c.args.ledger.now.items c.take_found.new.ledger.items (length c.args.queue.now.queued) counter now 0}
+    → IsCounted c.ask_pending.new.state c.args.ledger.now.items c.take_found.new.ledger.items (length c.args.work.now.queue.queued) counter now 0}
     c.take_found.result
     (λ each.
-    subst (λ (k : Kernel). IsCounted k c.args.ledger.now.items c.take_found.new.ledger.items (length c.args.queue.now.queued) c.args.steps.now c.ask_pending.new.steps 0) c.ask_pending.ensures.stays
+    subst (λ (k : Kernel). IsCounted k c.args.ledger.now.items c.take_found.new.ledger.items (length c.args.work.now.queue.queued) c.args.steps.now c.ask_pending.new.steps 0) c.ask_pending.ensures.stays
     (each c.args.steps.now c.ask_pending.new.steps c.ask_pending.ensures.most))
     c.take_found.ensures.refused
 
 pub returns-in-Silent-clause-saturation : goal.returns-in-Silent-clause-saturation
 returns-in-Silent-clause-saturation g c =
     let answer = subst (λ (a : Answer). (core : Core) × (trimmed_at c.args.state.now c.args.id ≡ Some core) × IsAnswer g.F.Oracle.told core a) c.in-Silent.is c.in_ok-core.ensures.answer in
-    let marks : c.set.new.self ≡ slice_set c.args.marks.now (c.args.id - 1) (is_compound_of answer.0) = c.set.ensures ∙ ap (slice_set c.args.marks.now (c.args.id - 1)) answer.2.compound in
-    subst (λ (k : Kernel). IsSaturation g.F.Oracle.told k c.args.occurs.now c.take.new.self c.set.new.self) (sym c.ask_pending.ensures.stays)
-    (subst (IsSaturation g.F.Oracle.told c.args.state.now c.args.occurs.now c.take.new.self) (sym marks)
-    (saturation-quiet g.F.Oracle.told c.args.state.now c.args.occurs.now c.args.queue.now c.take.new.self c.args.marks.now c.requires.saturation c.args.id answer.0 answer.1 answer.2.none
+    let marks : c.set.new.self ≡ slice_set c.args.work.now.marks (c.args.id - 1) (is_compound_of answer.0) = c.set.ensures ∙ ap (slice_set c.args.work.now.marks (c.args.id - 1)) answer.2.compound in
+    subst (λ (k : Kernel). IsSaturation g.F.Oracle.told k c.args.work.now.occurs c.take.new.self c.set.new.self) (sym c.ask_pending.ensures.stays)
+    (subst (IsSaturation g.F.Oracle.told c.args.state.now c.args.work.now.occurs c.take.new.self) (sym marks)
+    (saturation-quiet g.F.Oracle.told c.args.state.now c.args.work.now.occurs c.args.work.now.queue c.take.new.self c.args.work.now.marks c.requires.saturation c.args.id answer.0 answer.1 answer.2.none
     c.take.ensures.queued c.take.ensures.places c.take.ensures.ids))
 
 pub returns-in-Silent-clause-less : goal.returns-in-Silent-clause-less
 returns-in-Silent-clause-less g c =
     let answer = subst (λ (a : Answer). (core : Core) × (trimmed_at c.args.state.now c.args.id ≡ Some core) × IsAnswer g.F.Oracle.told core a) c.in-Silent.is c.in_ok-core.ensures.answer in
-    subst (λ (k : Kernel). left_to_do k c.take.new.self < left_to_do c.args.state.now c.args.queue.now) (sym c.ask_pending.ensures.stays)
-    (less-quiet g.F.Oracle.told c.args.state.now c.args.occurs.now c.args.queue.now c.take.new.self c.args.marks.now c.requires.saturation c.args.id answer.0 answer.1 answer.2.none
+    subst (λ (k : Kernel). left_to_do k c.take.new.self < left_to_do c.args.state.now c.args.work.now.queue) (sym c.ask_pending.ensures.stays)
+    (less-quiet g.F.Oracle.told c.args.state.now c.args.work.now.occurs c.args.work.now.queue c.take.new.self c.args.work.now.marks c.requires.saturation c.args.id answer.0 answer.1 answer.2.none
     c.take.ensures.queued c.take.ensures.places c.take.ensures.ids c.requires.running c.requires.first)
 
 pub returns-in-Silent-clause-counted : goal.returns-in-Silent-clause-counted
 returns-in-Silent-clause-counted g c =
-    subst (λ (k : Kernel). IsCounted c.args.state.now c.args.ledger.now.items c.args.ledger.now.items (length c.args.queue.now.queued) c.args.steps.now c.ask_pending.new.steps (left_to_ask k c.take.new.self)) (sym c.ask_pending.ensures.stays)
-    (counted-silent c.args.state.now c.args.ledger.now.items c.args.id c.args.steps.now c.ask_pending.new.steps c.args.queue.now c.take.new.self c.requires.running c.requires.first c.take.ensures.queued c.ask_pending.ensures.most)
+    subst (λ (k : Kernel). IsCounted c.args.state.now c.args.ledger.now.items c.args.ledger.now.items (length c.args.work.now.queue.queued) c.args.steps.now c.ask_pending.new.steps (left_to_ask k c.take.new.self)) (sym c.ask_pending.ensures.stays)
+    (counted-silent c.args.state.now c.args.ledger.now.items c.args.id c.args.steps.now c.ask_pending.new.steps c.args.work.now.queue c.take.new.self c.requires.running c.requires.first c.take.ensures.queued c.ask_pending.ensures.most)

@@ -1,4 +1,4 @@
-use Rattle.std.proofs.Common.{◌≡◌, ℕ, ◌+◌, Bool, true, false, List, [], ◌∷◌, ◌++◌, length, sym, ap, ◌∙◌, subst, rules, Ok, Some}
+use Rattle.std.proofs.Common.{◌≡◌, ℕ, ◌+◌, true, List, [], ◌∷◌, ◌++◌, length, sym, ap, ◌∙◌, subst, rules, Ok}
 use Rattle.core_forms.specs.declared.equation.Equation.{Equation}
 use Rattle.equation_runs.specs.Turns.{EquationsBelow, AreToldInTurn}
 use Rattle.ledger_text.specs.declared.line.Line.{Line}
@@ -32,25 +32,25 @@ returns-then-some-clause-adds g c = (lines-same c.in_ok-reserve.ensures.items c.
 
 pub returns-then-some-clause-counted : goal.returns-then-some-clause-counted
 returns-then-some-clause-counted g c =
-    asked-counted g.F.Oracle.told c.args.occurs.now c.args.marks.now c.args.id c.args.core.now c.args.state.now c.take_run-some.new.state c.args.ledger.now.items c.take_run-some.new.ledger.items c.args.queue.now c.take_run-some.new.queue
+    asked-counted g.F.Oracle.told c.args.id c.args.core.now c.args.state.now c.take_run-some.new.state c.args.ledger.now.items c.take_run-some.new.ledger.items c.args.work.now c.take_run-some.new.work
     (flag-is c.if-some.true (lines-same c.in_ok-reserve.ensures.items c.take_run-some.ensures.taken)) c.requires.running
 
 pub returns-then-some-clause-less : goal.returns-then-some-clause-less
 returns-then-some-clause-less g c =
-    asked-less g.F.Oracle.told c.args.occurs.now c.args.marks.now c.args.id c.args.core.now c.args.state.now c.take_run-some.new.state c.args.ledger.now.items c.take_run-some.new.ledger.items c.args.queue.now c.take_run-some.new.queue
+    asked-less g.F.Oracle.told c.args.id c.args.core.now c.args.state.now c.take_run-some.new.state c.args.ledger.now.items c.take_run-some.new.ledger.items c.args.work.now c.take_run-some.new.work
     (flag-is c.if-some.true (lines-same c.in_ok-reserve.ensures.items c.take_run-some.ensures.taken))
 
 -- ---- where nothing was
 
 pub take_equation-requires-clause-running : goal.take_equation-requires-clause-running
 take_equation-requires-clause-running g c =
-    idle-running g.F.Oracle.told c.args.occurs.now c.args.marks.now c.args.id c.args.core.now c.args.state.now c.take_run-some.new.state c.args.ledger.now.items c.take_run-some.new.ledger.items c.args.queue.now c.take_run-some.new.queue
+    idle-running g.F.Oracle.told c.args.id c.args.core.now c.args.state.now c.take_run-some.new.state c.args.ledger.now.items c.take_run-some.new.ledger.items c.args.work.now c.take_run-some.new.work
     c.take_run-some.result (lines-same c.in_ok-reserve.ensures.items c.take_run-some.ensures.taken) c.if-some.false c.requires.there c.requires.running
 
 pub take_equation-requires-clause-instance : goal.take_equation-requires-clause-instance
 take_equation-requires-clause-instance g c =
     let same : c.from.result ≡ c.args.id = search rules in
-    let there = idle-there g.F.Oracle.told c.args.occurs.now c.args.marks.now c.args.id c.args.core.now c.args.state.now c.take_run-some.new.state c.args.ledger.now.items c.take_run-some.new.ledger.items c.args.queue.now c.take_run-some.new.queue
+    let there = idle-there g.F.Oracle.told c.args.id c.args.core.now c.args.state.now c.take_run-some.new.state c.args.ledger.now.items c.take_run-some.new.ledger.items c.args.work.now c.take_run-some.new.work
     c.take_run-some.result (lines-same c.in_ok-reserve.ensures.items c.take_run-some.ensures.taken) c.if-some.false c.requires.there in
     (c.args.core.now, ap (trimmed_at c.take_run-some.new.state) same ∙ there, c.requires.told.equation.1)
 
@@ -62,11 +62,11 @@ line-of : (mid behind : List Line) (i id : ℕ) (e : Equation) → i ≡ id → 
 line-of mid behind i id e same added = added ∙ ap (λ (j : ℕ). mid ++ Equate j e ∷ []) same
 
 one-taken : (g : Over) (c : After-take_equation g)
-    → HasTaken g.F.Oracle.told c.args.occurs.now c.args.marks.now c.args.id c.args.core.now c.args.state.now c.args.ledger.now.items c.args.queue.now c.take_equation.new.state c.take_equation.new.ledger.items c.take_equation.new.queue true
+    → HasTaken g.F.Oracle.told c.args.id c.args.core.now c.args.state.now c.args.ledger.now.items c.args.work.now c.take_equation.new.state c.take_equation.new.ledger.items c.take_equation.new.work true
 one-taken g c =
     let same : c.from.result ≡ c.args.id = search rules in
-    idle-equation g.F.Oracle.told c.args.occurs.now c.args.marks.now c.args.id c.args.core.now c.args.state.now c.take_run-some.new.state c.args.ledger.now.items c.take_run-some.new.ledger.items c.args.queue.now c.take_run-some.new.queue
-    c.take_run-some.result (lines-same c.in_ok-reserve.ensures.items c.take_run-some.ensures.taken) c.if-some.false c.requires.there c.requires.running c.args.found.now.equation c.requires.told.equation c.take_equation.new.queue c.take_equation.ensures.woken
+    idle-equation g.F.Oracle.told c.args.id c.args.core.now c.args.state.now c.take_run-some.new.state c.args.ledger.now.items c.take_run-some.new.ledger.items c.args.work.now c.take_run-some.new.work
+    c.take_run-some.result (lines-same c.in_ok-reserve.ensures.items c.take_run-some.ensures.taken) c.if-some.false c.requires.there c.requires.running c.args.found.now.equation c.requires.told.equation c.take_equation.new.work c.take_equation.ensures.occurs c.take_equation.ensures.marks c.take_equation.ensures.woken
     c.take_equation.new.state c.take_equation.ensures.equated (step-of c.take_run-some.new.state c.take_equation.new.state c.from.result c.args.id c.args.found.now.equation same c.take_equation.ensures.step)
     c.take_equation.new.ledger.items (line-of c.take_run-some.new.ledger.items c.take_equation.new.ledger.items c.from.result c.args.id c.args.found.now.equation same c.take_equation.ensures.ledger)
 
@@ -78,10 +78,10 @@ returns-clause-adds g c = (one-taken g c).adds
 
 pub returns-clause-counted : goal.returns-clause-counted
 returns-clause-counted g c =
-    asked-counted g.F.Oracle.told c.args.occurs.now c.args.marks.now c.args.id c.args.core.now c.args.state.now c.take_equation.new.state c.args.ledger.now.items c.take_equation.new.ledger.items c.args.queue.now c.take_equation.new.queue
+    asked-counted g.F.Oracle.told c.args.id c.args.core.now c.args.state.now c.take_equation.new.state c.args.ledger.now.items c.take_equation.new.ledger.items c.args.work.now c.take_equation.new.work
     (one-taken g c) c.requires.running
 
 pub returns-clause-less : goal.returns-clause-less
 returns-clause-less g c =
-    asked-less g.F.Oracle.told c.args.occurs.now c.args.marks.now c.args.id c.args.core.now c.args.state.now c.take_equation.new.state c.args.ledger.now.items c.take_equation.new.ledger.items c.args.queue.now c.take_equation.new.queue
+    asked-less g.F.Oracle.told c.args.id c.args.core.now c.args.state.now c.take_equation.new.state c.args.ledger.now.items c.take_equation.new.ledger.items c.args.work.now c.take_equation.new.work
     (one-taken g c)

@@ -1,10 +1,9 @@
-use Rattle.std.proofs.Common.{◌≡◌, ◌⊎◌, inr, ℕ, ◌+◌, ◌≤◌, Bool, true, false, List, ◌∷◌, length, refl, sym, ap, ◌∙◌, subst, arith}
+use Rattle.std.proofs.Common.{◌≡◌, inr, ℕ, ◌≤◌, true, sym, ap, ◌∙◌, subst}
 use Rattle.std.proofs.lemmas.Bool.{false≢true}
-use Rattle.core_forms.specs.declared.equation.Equation.{Equation}
 use Rattle.core_forms.specs.Trimmed.{trimmed_core}
-use Rattle.equation_runs.specs.Turns.{resolved_equation, IsMade, AreInTurn}
+use Rattle.equation_runs.specs.Turns.{resolved_equation}
 use Rattle.index_ring.specs.Lists.{times}
-use Rattle.step_kernel.specs.Kernel.{Kernel, trimmed_at}
+use Rattle.step_kernel.specs.Kernel.{trimmed_at}
 use Rattle.step_kernel.specs.Steps.{equated}
 use Rattle.fixpoint_queue.specs.Taken.{HasTaken}
 use Rattle.fixpoint_queue.specs.Told.{IsToldInstance}
@@ -21,7 +20,7 @@ take_equation-requires-clause-instance g c =
 
 pub returns-then-eq-clause-taken : goal.returns-then-eq-clause-taken
 returns-then-eq-clause-taken g c =
-    taken-none g.F.Oracle.told c.args.occurs.now c.args.marks.now c.args.id c.args.core.now c.args.state.now c.args.ledger.now.items c.args.queue.now c.requires.saturation c.requires.queued c.requires.there
+    taken-none g.F.Oracle.told c.args.id c.args.core.now c.args.state.now c.args.ledger.now.items c.args.work.now c.requires.saturation c.requires.queued c.requires.there
 
 pub returns-then-eq-clause-turn : goal.returns-then-eq-clause-turn
 returns-then-eq-clause-turn g c = λ es turn.
@@ -35,11 +34,11 @@ returns-clause-taken g c =
     let told = told-of (IsToldInstance g.F.Oracle.told) c.args.core.now k.view c.args.e.now c.requires.told (not-made k.view c.args.e.now c.resolved-e.result c.resolved-e.ensures (λ one. false≢true (sym c.if-eq.false ∙ c.eq.ensures.equal.1 one))) in
     let tells : IsToldInstance g.F.Oracle.told core c.resolved-e.result = subst (IsToldInstance g.F.Oracle.told core) (sym c.resolved-e.ensures) told in
     subst
-    (λ (i : ℕ). HasTaken g.F.Oracle.told c.args.occurs.now c.args.marks.now i c.args.core.now k c.args.ledger.now.items c.args.queue.now
-    c.take_equation.new.state c.take_equation.new.ledger.items c.take_equation.new.queue true)
+    (λ (i : ℕ). HasTaken g.F.Oracle.told i c.args.core.now k c.args.ledger.now.items c.args.work.now
+    c.take_equation.new.state c.take_equation.new.ledger.items c.take_equation.new.work true)
     c.from.ensures
-    (taken-one g.F.Oracle.told c.args.occurs.now c.args.marks.now c.from.result c.args.core.now k c.args.queue.now c.take_equation.new.queue c.requires.saturation c.requires.core
-    (ap (trimmed_at k) c.from.ensures ∙ c.requires.there) c.requires.running (subst (λ (i : ℕ). 1 ≤ times i c.args.queue.now.queued) (sym c.from.ensures) c.requires.queued)
+    (taken-one g.F.Oracle.told c.from.result c.args.core.now k c.args.work.now c.take_equation.new.work c.take_equation.ensures.occurs c.take_equation.ensures.marks c.requires.saturation c.requires.core
+    (ap (trimmed_at k) c.from.ensures ∙ c.requires.there) c.requires.running (subst (λ (i : ℕ). 1 ≤ times i c.args.work.now.queue.queued) (sym c.from.ensures) c.requires.queued)
     c.resolved-e.result tells c.take_equation.ensures.woken c.take_equation.new.state c.take_equation.ensures.equated
     c.take_equation.ensures.step c.args.ledger.now.items c.take_equation.new.ledger.items c.take_equation.ensures.ledger)
 

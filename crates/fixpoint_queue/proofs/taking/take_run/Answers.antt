@@ -1,7 +1,7 @@
-use Rattle.std.proofs.Common.{◌≡◌, ℕ, ⊎_elim, inl, inr, ◌+◌, true, false, length, drop, get_or, refl, sym, ◌∙◌, subst, arith}
+use Rattle.std.proofs.Common.{◌≡◌, ℕ, inr, ◌+◌, false, length, drop, get_or, refl, sym, ◌∙◌, subst, arith}
 use Rattle.core_forms.specs.Place.{CoreBelow}
 use Rattle.order_ints.specs.Place.{AtomBelow}
-use Rattle.equation_runs.specs.Turns.{AreInTurn, made_equation}
+use Rattle.equation_runs.specs.Turns.{made_equation}
 use Rattle.step_kernel.proofs.There.{there-below}
 use Rattle.fixpoint_queue.specs.Told.{IsToldInstance}
 use Rattle.fixpoint_queue.proofs.Behind.{turn-begins}
@@ -10,7 +10,7 @@ use Rattle.fixpoint_queue.proofs.taking.take_run.Goals as goal
 
 pub loop-e-init : goal.loop-e-init
 loop-e-init g c = record {
-  taken = taken-none g.F.Oracle.told c.args.occurs.now c.args.marks.now c.args.id c.args.core.now c.args.state.now c.args.ledger.now.items c.args.queue.now c.requires.saturation c.requires.queued
+  taken = taken-none g.F.Oracle.told c.args.id c.args.core.now c.args.state.now c.args.ledger.now.items c.args.work.now c.requires.saturation c.requires.queued
       (there-asked c.args.state.now c.requires.saturation.kernel c.args.id c.args.core.now c.requires.there);
   turn = inr (turn-begins (IsToldInstance g.F.Oracle.told) c.args.state.now c.requires.saturation.kernel c.args.id c.args.core.now c.requires.there c.args.run.now c.requires.told);
   below = c.requires.below;
@@ -47,8 +47,8 @@ loop-e-preserved g c =
     let turn = next-turn (IsToldInstance g.F.Oracle.told) c.args.core.now c.loop-e.state.view c.args.run.now c.loop-e.e-index c.loop-e-test.true
     (unless-bottom c.loop-e.state.bottom running c.loop-e.invariant.turn) in
     record {
-      taken = flag-is (sym c.either-some.ensures) (taken-then g.F.Oracle.told c.args.occurs.now c.args.marks.now c.args.id c.args.core.now c.args.state.now c.loop-e.state c.take_next-taken.new.state
-          c.args.ledger.now.items c.loop-e.ledger.items c.take_next-taken.new.ledger.items c.args.queue.now c.loop-e.queue c.take_next-taken.new.queue c.loop-e.some c.take_next-taken.result
+      taken = flag-is (sym c.either-some.ensures) (taken-then g.F.Oracle.told c.args.id c.args.core.now c.args.state.now c.loop-e.state c.take_next-taken.new.state
+          c.args.ledger.now.items c.loop-e.ledger.items c.take_next-taken.new.ledger.items c.args.work.now c.loop-e.work c.take_next-taken.new.work c.loop-e.some c.take_next-taken.result
           c.loop-e.invariant.taken c.take_next-taken.ensures.taken);
       turn = c.take_next-taken.ensures.turn (drop (c.loop-e.e-index + 1) c.args.run.now) turn;
       below = (below-next (length c.args.state.now.view + 1) c.args.run.now c.loop-e.e-index c.loop-e-test.true c.loop-e.invariant.below).1;

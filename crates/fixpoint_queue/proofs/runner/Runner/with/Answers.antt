@@ -18,11 +18,11 @@ wide g c =
     ∙ ap (λ (o : OccurrenceLists). length o.lists) c.in_ok-occurs.ensures.lists ∙ length-replicate {A = List ℕ} c.vars.result []
 
 pub invariant_of-result : goal.invariant_of-result
-invariant_of-result g c = saturation-started g.F.Oracle.told c.args.state c.enter_state.new.occurs c.enter_state.new.queue c.in_ok-enter_state.ensures.pending c.grow-2.new.self c.ids-ids.result
-    (c.in_ok-grow-2.ensures.marks ∙ ap (λ (l : List Bool). l ++ replicate c.ids-ids.result false) c.new-marks.ensures) c.ids-ids.ensures.ids c.ids-ids.ensures.kernel
+invariant_of-result g c = saturation-started g.F.Oracle.told c.args.state c.enter_state.new.self.occurs c.enter_state.new.self.queue c.in_ok-enter_state.ensures.pending c.enter_state.new.self.marks c.ids-ids.result
+    (c.in_ok-enter_state.ensures.marks ∙ c.in_ok-grow-2.ensures.marks ∙ ap (λ (l : List Bool). l ++ replicate c.ids-ids.result false) c.new-marks.ensures) c.ids-ids.ensures.ids c.ids-ids.ensures.kernel
     (omega (arith, c.vars.ensures.vars, c.in_ok-enter_state.ensures.lists, wide g c))
     (omega (arith, c.ids-ids.ensures.ids, c.in_ok-enter_state.ensures.ids, ap (λ (o : OccurrenceLists). o.ids) c.in_ok-grow.ensures.lists, ap (λ (o : OccurrenceLists). o.ids) c.in_ok-occurs.ensures.lists))
     (omega (arith, c.ids-ids.ensures.ids, c.in_ok-enter_state.ensures.places, c.in_ok-queue.ensures.places))
 
 pub returns-clause-queued : goal.returns-clause-queued
-returns-clause-queued g c = exactly-queued g.F.Oracle.told c.args.state c.enter_state.new.occurs c.enter_state.new.queue c.in_ok-enter_state.ensures.pending
+returns-clause-queued g c = exactly-queued g.F.Oracle.told c.args.state c.enter_state.new.self.occurs c.enter_state.new.self.queue c.in_ok-enter_state.ensures.pending

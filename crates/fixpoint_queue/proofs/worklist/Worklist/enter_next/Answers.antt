@@ -1,4 +1,4 @@
-use Rattle.fixpoint_queue.proofs.entering.enter_next.Goals as goal
+use Rattle.fixpoint_queue.proofs.worklist.Worklist.enter_next.Goals as goal
 
 pub enter-requires-clause-increasing : goal.enter-requires-clause-increasing
 enter-requires-clause-increasing c = c.requires.increasing c.if-id-held.false

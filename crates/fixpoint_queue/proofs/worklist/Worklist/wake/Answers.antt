@@ -6,11 +6,11 @@ use Rattle.index_ring.specs.Lists.{times, after_in}
 use Rattle.index_ring.proofs.Times.{times-other}
 use Rattle.equation_store.specs.Class.{IsMember, IsWalk}
 use Rattle.equation_store.specs.Store.{class_walk}
-use Rattle.fixpoint_queue.specs.Listed.{HasVar}
+use Rattle.fixpoint_queue.specs.Listed.{HasVar, IsListed}
 use Rattle.index_ring.specs.Lists.{rest_from}
 use Rattle.fixpoint_queue.proofs.Waking.{rest-first, rest-after, rest-none, walk-has, walk-once}
-use Rattle.fixpoint_queue.proofs.wake.wake.Goals as goal
-use Rattle.fixpoint_queue.proofs.wake.wake.Goals.{After-after-next}
+use Rattle.fixpoint_queue.proofs.worklist.Worklist.wake.Goals as goal
+use Rattle.fixpoint_queue.proofs.worklist.Worklist.wake.Goals.{After-after-next}
 
 pub loop-next-init : goal.loop-next-init
 loop-next-init c =
@@ -18,6 +18,8 @@ loop-next-init c =
     let all : rest_from c.first-next.result walk ≡ walk = ap (λ (o : Option ℕ). rest_from o walk) c.first-next.ensures.value ∙ rest-first walk in
     record {
       places = refl;
+      occurs = refl;
+      marks = refl;
       queued = c.requires.queued;
       stays = λ id h. h;
       only = λ id h. inl h;
@@ -49,10 +51,12 @@ loop-next-preserved c =
     let rest = rest_from c.after-next.result walk in
     record {
       places = c.wake_at.ensures.places ∙ c.loop-next.invariant.places;
+      occurs = c.loop-next.invariant.occurs;
+      marks = c.loop-next.invariant.marks;
       queued = c.wake_at.ensures.queued;
       stays = λ id h. c.wake_at.ensures.stays id (c.loop-next.invariant.stays id h);
       only = λ id h.
-          ⊎_elim (λ (there : 1 ≤ times id c.loop-next.queue.queued). c.loop-next.invariant.only id there) (λ (o : HasVar c.args.state.now id c.in-Some.var). inr (c.in-Some.var, at-hand c, o))
+          ⊎_elim (λ (there : 1 ≤ times id c.loop-next.self.queue.queued). c.loop-next.invariant.only id there) (λ (o : HasVar c.args.state.now id c.in-Some.var). inr (c.in-Some.var, at-hand c, o))
           (c.wake_at.ensures.only id h);
       member = c.after-next.ensures.member c.args.label (at-hand c).2;
       woken = λ v id m o.
@@ -62,7 +66,7 @@ loop-next-preserved c =
           (λ (e : c.in-Some.var ≡ v). inr (c.wake_at.ensures.woken id (subst (λ (w : ℕ). HasVar c.args.state.now id w) (sym e) o)))
           (λ (n : c.in-Some.var ≡ v → ⊥). inl (omega (arith, ahead, ap (times v) (left c), times-other v c.in-Some.var rest n)))
           (cases_eq c.in-Some.var v))
-          (λ (there : 1 ≤ times id c.loop-next.queue.queued). inr (c.wake_at.ensures.stays id there))
+          (λ (there : 1 ≤ times id c.loop-next.self.queue.queued). inr (c.wake_at.ensures.stays id there))
           (c.loop-next.invariant.woken v id m o);
     }
 
@@ -74,8 +78,11 @@ wake_at-requires-clause-high c =
 pub wake_at-requires-clause-places : goal.wake_at-requires-clause-places
 wake_at-requires-clause-places c = omega (arith, c.requires.places, c.loop-next.invariant.places)
 
-pub returns : goal.returns
-returns c =
+pub wake_at-requires-clause-listed : goal.wake_at-requires-clause-listed
+wake_at-requires-clause-listed c = subst (IsListed c.args.state.now) (sym c.loop-next.invariant.occurs) c.requires.listed
+
+pub returns-clause-woken : goal.returns-clause-woken
+returns-clause-woken c =
     let same : c.args.store.now.view ≡ c.args.state.now.view = c.requires.same in
     let none : rest_from c.loop-next.next (class_walk c.args.store.now c.args.label) ≡ [] = rest-none c.loop-next.next (class_walk c.args.store.now c.args.label) c.in_default.not-Some in
     record {
@@ -83,10 +90,10 @@ returns c =
       ids = c.loop-next.invariant.queued;
       stays = c.loop-next.invariant.stays;
       only = λ id there.
-          ⊎_elim (λ (was : 1 ≤ times id c.args.queue.now.queued). inl was)
+          ⊎_elim (λ (was : 1 ≤ times id c.args.self.now.queue.queued). inl was)
           (λ (at : (v : ℕ) × IsMember c.args.store.now.view c.args.label v × HasVar c.args.state.now id v). inr (at.0, subst (λ (view : List Atom). IsMember view c.args.label at.0) same at.1, at.2))
           (c.loop-next.invariant.only id there);
       woken = λ v id m o.
-          ⊎_elim (λ (ahead : 1 ≤ times v (rest_from c.loop-next.next (class_walk c.args.store.now c.args.label))). absurd (omega (arith, ahead, ap (times v) none))) (λ (there : 1 ≤ times id c.loop-next.queue.queued). there)
+          ⊎_elim (λ (ahead : 1 ≤ times v (rest_from c.loop-next.next (class_walk c.args.store.now c.args.label))). absurd (omega (arith, ahead, ap (times v) none))) (λ (there : 1 ≤ times id c.loop-next.self.queue.queued). there)
           (c.loop-next.invariant.woken v id (subst (λ (view : List Atom). IsMember view c.args.label v) (sym same) m) o);
     }

@@ -1,5 +1,5 @@
 -- What is made of rounds is solved.
-use Rattle.std.proofs.Common.{◌≡◌, ℕ, ◌+◌, ◌-◌, ◌*◌, ◌≤◌, ◌<◌, Bool, true, false, List, ◌++◌, length, Option, Some, None, refl, sym, ap, ◌∙◌, subst, inl, inr, ℤ, FitsSigned, w64, to_z, of_z, arith}
+use Rattle.std.proofs.Common.{◌≡◌, ℕ, ◌+◌, ◌-◌, ◌*◌, ◌≤◌, ◌<◌, Bool, true, List, ◌++◌, length, Option, Some, None, refl, sym, ap, ◌∙◌, subst, inl, inr, ℤ, FitsSigned, w64, to_z, of_z, arith}
 use Rattle.std.proofs.Math.Nat.{mul-le-mul_left}
 use Rattle.std.proofs.lemmas.Int.{to_z-of_z}
 use Rattle.order_ints.specs.declared.atom.Atom.{Atom}
@@ -27,6 +27,8 @@ use Rattle.answer_document.specs.Valid.{IsShown, atom_clauses}
 use Rattle.decode_minimize.specs.declared.objective.Direction.{Direction}
 use Rattle.decode_minimize.specs.declared.objective.Direction.TheVariants.{Least, Greatest}
 use Rattle.search_options.specs.declared.options.SearchOptions.{SearchOptions}
+use Rattle.decode_minimize.specs.declared.asking.Ended.{Ended}
+use Rattle.decode_minimize.specs.declared.asking.Ended.TheVariants.{Shown, Spent}
 use Rattle.decode_minimize.specs.declared.improving.Sought.{Sought}
 use Rattle.decode_minimize.specs.declared.solved.Names.{Names}
 use Rattle.decode_minimize.specs.declared.solved.Progress.{Progress}
@@ -102,16 +104,16 @@ module _ (names : Names) (cnf : Cnf) (sought : Sought) (options : SearchOptions)
   own-number : r.best.number ≡ value_of (read_by names.view.now (valuation_of r.best.values)) sought.integer.now
   own-number = progress.number ∙ ap (λ (v : List Atom). value_of (read_by v (valuation_of r.best.values)) sought.integer.now) view
 
-  own-shown : r.is_best ≡ true → IsShown (proof_behind cnf r.proof.lines) (resolve names.view.now (bound_of sought.direction sought.integer.now r.best.number))
+  own-shown : r.ended ≡ Shown → IsShown (proof_behind cnf r.proof.lines) (resolve names.view.now (bound_of sought.direction sought.integer.now r.best.number))
   own-shown e = subst (λ (v : List Atom). IsShown (proof_behind cnf r.proof.lines) (resolve v (bound_of sought.direction sought.integer.now r.best.number))) view (progress.shown e)
 
-  made-shown : (v : Verdict) (second : Option (List ProofLine)) (s : Solved) (b : Bounds) → IsMadeOf names r.best.values v r.proof.lines second s → b.first ≡ r.best.number → r.is_best ≡ true
+  made-shown : (v : Verdict) (second : Option (List ProofLine)) (s : Solved) (b : Bounds) → IsMadeOf names r.best.values v r.proof.lines second s → b.first ≡ r.best.number → r.ended ≡ Shown
       → IsFirstShown solving sought.direction sought.integer.now s b
   made-shown v second s b made number e =
       subst (λ (l : List ProofLine). IsShown (proof_behind cnf l) (resolve names.view.now (bound_of sought.direction sought.integer.now b.first))) (sym made.proof)
       (subst (λ (z : ℤ). IsShown (proof_behind cnf r.proof.lines) (resolve names.view.now (bound_of sought.direction sought.integer.now z))) (sym number) (own-shown e))
 
-  made-open : (v : Verdict) (second : Option (List ProofLine)) (s : Solved) (b : Bounds) → IsMadeOf names r.best.values v r.proof.lines second s → b.first ≡ r.best.number → r.is_best ≡ false
+  made-open : (v : Verdict) (second : Option (List ProofLine)) (s : Solved) (b : Bounds) → IsMadeOf names r.best.values v r.proof.lines second s → b.first ≡ r.best.number → r.ended ≡ Spent
       → IsFirstShown solving sought.direction sought.integer.now s b → ⊥
   made-open v second s b made number e shown =
       progress.unshown e
@@ -123,8 +125,8 @@ module _ (names : Names) (cnf : Cnf) (sought : Sought) (options : SearchOptions)
   abbrev one_bounds : Bounds
   one_bounds = record { first = r.best.number; second = None }
 
-  one-by : (b : Bool) (s : Solved) → r.is_best ≡ b → IsMadeOf names r.best.values (verdict_on b one_bounds options) r.proof.lines None s → IsBestSolved solving options sought.direction sought.integer.now None s
-  one-by true s e made =
+  one-by : (ended : Ended) (s : Solved) → r.ended ≡ ended → IsMadeOf names r.best.values (verdict_on ended one_bounds options) r.proof.lines None s → IsBestSolved solving options sought.direction sought.integer.now None s
+  one-by Shown s e made =
       let v = Optimum one_bounds in record {
         derivation = made-derivation names r.best.values v r.proof.lines None s cnf made progress.derivation;
         within = made-within names r.best.values v r.proof.lines None s options.budget made (omega (arith, progress.within));
@@ -132,7 +134,7 @@ module _ (names : Names) (cnf : Cnf) (sought : Sought) (options : SearchOptions)
         says = subst (IsSolvedBest solving options sought.direction sought.integer.now None s) (sym made.verdict)
             (r.best.values, made-read names cnf r.best.values v r.proof.lines None s made progress.values, record { first = own-number; second = refl }, (made.second, made-shown v None s one_bounds made refl e));
       }
-  one-by false s e made =
+  one-by Spent s e made =
       let v = Unknown options.budget (Some one_bounds) in
       let spent = progress.spent e in
       let count : additions s.proof ≡ additions r.proof.lines = ap additions made.proof in
@@ -155,11 +157,11 @@ module _ (names : Names) (cnf : Cnf) (sought : Sought) (options : SearchOptions)
         );
       }
 
-  pub one-solved : (s : Solved) → IsMadeOf names r.best.values (verdict_on r.is_best one_bounds options) r.proof.lines None s → IsBestSolved solving options sought.direction sought.integer.now None s
-  one-solved s made = one-by r.is_best s refl made
+  pub one-solved : (s : Solved) → IsMadeOf names r.best.values (verdict_on r.ended one_bounds options) r.proof.lines None s → IsBestSolved solving options sought.direction sought.integer.now None s
+  one-solved s made = one-by r.ended s refl made
 
   -- two, where the budget was spent on the first one
-  pub first-solved : (other : OrdInt) (behind : List Atom) (s : Solved) → behind ≡ names.view.now → r.is_best ≡ false
+  pub first-solved : (other : OrdInt) (behind : List Atom) (s : Solved) → behind ≡ names.view.now → r.ended ≡ Spent
       → IsMadeOf names r.best.values (Unknown options.budget (Some (record { first = r.best.number; second = Some (value_of (read_by behind (valuation_of r.best.values)) other) }))) r.proof.lines None s
       → IsBestSolved solving options sought.direction sought.integer.now (Some other) s
   first-solved other behind s same e made =
@@ -235,7 +237,7 @@ module _ (cnf : Cnf) (sought : Sought) (options : SearchOptions) (r : Progress) 
   }
 
   -- truth values that satisfy them give the first objective its number
-  module _ (shown : r.is_best ≡ true) (values : List Bool) (satisfying : AreSatisfying fixed values) where
+  module _ (shown : r.ended ≡ Shown) (values : List Bool) (satisfying : AreSatisfying fixed values) where
     pub front-satisfying : AreSatisfying cnf values
     front-satisfying = record { count = satisfying.count; satisfies = (with-atom-parts (valuation_of values) cnf.clauses fixed_atom satisfying.satisfies).0 }
 
@@ -260,7 +262,7 @@ both-paid a b i m x y n first rest within second = omega (arith, first, rest, wi
 
 -- two objectives, where the first one is fixed
 module _ (names : Names) (cnf : Cnf) (sought behind : Sought) (options left : SearchOptions) (r last : Progress) (view : sought.view.now ≡ names.view.now) (view_behind : behind.view.now ≡ names.view.now)
-    (direction : behind.direction ≡ sought.direction) (seekable : IsSeekable cnf sought) (progress : IsProgress cnf sought options r) (shown : r.is_best ≡ true)
+    (direction : behind.direction ≡ sought.direction) (seekable : IsSeekable cnf sought) (progress : IsProgress cnf sought options r) (shown : r.ended ≡ Shown)
     (budget : left.budget ≡ options.budget - additions r.proof.lines) (restart : left.restart ≡ options.restart) where
   abbrev both_fixed : Cnf
   both_fixed = record { vars = cnf.vars; clauses = cnf.clauses ++ atom_clauses (resolve sought.view.now (no_worse_of sought.direction sought.integer.now r.best.number)) }
@@ -307,9 +309,9 @@ module _ (names : Names) (cnf : Cnf) (sought behind : Sought) (options left : Se
           made-within names last.best.values v r.proof.lines (Some last.proof.lines) s ((values_count sought.integer.now + values_count behind.integer.now) * most_learned options.restart cnf.vars) made
           (omega (arith, progress.most, later))
 
-    both-by : (b : Bool) → last.is_best ≡ b → IsMadeOf names last.best.values (verdict_on b both_bounds options) r.proof.lines (Some last.proof.lines) s
+    both-by : (ended : Ended) → last.ended ≡ ended → IsMadeOf names last.best.values (verdict_on ended both_bounds options) r.proof.lines (Some last.proof.lines) s
         → IsBestSolved both_problem options sought.direction sought.integer.now (Some behind.integer.now) s
-    both-by true e made =
+    both-by Shown e made =
         let v = Optimum both_bounds in record {
           derivation = made-derivation names last.best.values v r.proof.lines (Some last.proof.lines) s cnf made progress.derivation;
           within = both-within v made;
@@ -326,7 +328,7 @@ module _ (names : Names) (cnf : Cnf) (sought behind : Sought) (options left : Se
             let one = subst (λ (d : Direction). IsShown (proof_behind both_fixed last.proof.lines) (resolve behind.view.now (bound_of d behind.integer.now last.best.number))) direction here in
             let two = subst (λ (w : List Atom). IsShown (proof_behind both_fixed last.proof.lines) (resolve w (bound_of sought.direction behind.integer.now last.best.number))) view_behind one in
             subst P same (subst (λ (f : Cnf). IsShown (proof_behind f last.proof.lines) (resolve names.view.now (bound_of sought.direction behind.integer.now last.best.number))) (sym same-fixed) two)
-    both-by false e made =
+    both-by Spent e made =
         let v = Unknown options.budget (Some both_bounds) in
         let spent = second.spent e in
         let count : additions s.proof ≡ additions r.proof.lines = ap additions made.proof in
@@ -362,17 +364,17 @@ module _ (names : Names) (cnf : Cnf) (sought behind : Sought) (options left : Se
           );
         }
 
-    pub both-solved : IsMadeOf names last.best.values (verdict_on last.is_best both_bounds options) r.proof.lines (Some last.proof.lines) s
+    pub both-solved : IsMadeOf names last.best.values (verdict_on last.ended both_bounds options) r.proof.lines (Some last.proof.lines) s
         → IsBestSolved both_problem options sought.direction sought.integer.now (Some behind.integer.now) s
-    both-solved made = both-by last.is_best refl made
+    both-solved made = both-by last.ended refl made
 
 -- the same, of what the code has: the clauses as they were made, and the number as its bits
 pub both-made : (names : Names) (cnf made : Cnf) (sought behind : Sought) (options left : SearchOptions) (r last : Progress) (number : ℤ) (s : Solved) → sought.view.now ≡ names.view.now → behind.view.now ≡ names.view.now
-    → behind.direction ≡ sought.direction → IsSeekable cnf sought → IsProgress cnf sought options r → r.is_best ≡ true → left.budget ≡ options.budget - additions r.proof.lines → left.restart ≡ options.restart
+    → behind.direction ≡ sought.direction → IsSeekable cnf sought → IsProgress cnf sought options r → r.ended ≡ Shown → left.budget ≡ options.budget - additions r.proof.lines → left.restart ≡ options.restart
     → made ≡ record { vars = cnf.vars; clauses = cnf.clauses ++ atom_clauses (resolve sought.view.now (no_worse_of sought.direction sought.integer.now r.best.number)) } → IsProgress made behind left last
-    → number ≡ r.best.number → IsMadeOf names last.best.values (verdict_on last.is_best (record { first = number; second = Some last.best.number }) options) r.proof.lines (Some last.proof.lines) s
+    → number ≡ r.best.number → IsMadeOf names last.best.values (verdict_on last.ended (record { first = number; second = Some last.best.number }) options) r.proof.lines (Some last.proof.lines) s
     → IsBestSolved (problem_of names cnf) options sought.direction sought.integer.now (Some behind.integer.now) s
 both-made names cnf made sought behind options left r last number s view view_behind direction seekable progress shown budget restart fixed second same is =
     both-solved names cnf sought behind options left r last view view_behind direction seekable progress shown budget restart
     (subst (λ (f : Cnf). IsProgress f behind left last) fixed second) s
-    (subst (λ (z : ℤ). IsMadeOf names last.best.values (verdict_on last.is_best (record { first = z; second = Some last.best.number }) options) r.proof.lines (Some last.proof.lines) s) same is)
+    (subst (λ (z : ℤ). IsMadeOf names last.best.values (verdict_on last.ended (record { first = z; second = Some last.best.number }) options) r.proof.lines (Some last.proof.lines) s) same is)

@@ -15,8 +15,9 @@ use Rattle.learning_solver.specs.Log.{after_lines, proof_behind}
 use Rattle.learning_solver.specs.Outcome.{Logged, IsRefutation}
 use Rattle.learning_solver.proofs.KnownLaws.{known-named}
 use Rattle.answer_document.specs.Valid.{IsShown}
+use Rattle.decode_minimize.specs.declared.asking.Ended.TheVariants.{Shown, Spent}
 use Rattle.decode_minimize.specs.declared.asking.Round.{Round}
-use Rattle.decode_minimize.specs.declared.asking.Round.TheVariants.{Better, Shown, Spent}
+use Rattle.decode_minimize.specs.declared.asking.Round.TheVariants.{Better, Last}
 use Rattle.decode_minimize.specs.Rounds.{IsAsked, IsRound}
 
 -- what a solver answered to an assumption, as the round of a bound
@@ -33,8 +34,8 @@ refuted-some cnf log l a e r =
 
 pub round-none : (s : Logged) (r : Round) → IsAsked s None r → IsRound s False r
 round-none s (Better values) h = (record { count = h.count; satisfies = h.satisfies }, refl)
-round-none s Shown h = refuted-none s.cnf s.log h
-round-none s Spent h = λ shown. true≢false (sym shown ∙ h [] refl)
+round-none s (Last Shown) h = refuted-none s.cnf s.log h
+round-none s (Last Spent) h = λ shown. true≢false (sym shown ∙ h [] refl)
 
 pub round-some : (s : Logged) (l a : Lit) (r : Round) → a ≡ not_lit l → IsAsked s (Some a) r → IsRound s (Of l) r
 round-some s l a (Better values) e h = (
@@ -45,8 +46,8 @@ round-some s l a (Better values) e h = (
     denied : (b : Bool) → not b ≡ true → b ≡ false
     denied true e = absurd (cc)
     denied false e = refl
-round-some s l a Shown e h = refuted-some s.cnf s.log l a (ap not_lit e ∙ not_lit-not_lit l) h
-round-some s l a Spent e h = λ shown. ⊎_elim
+round-some s l a (Last Shown) e h = refuted-some s.cnf s.log l a (ap not_lit e ∙ not_lit-not_lit l) h
+round-some s l a (Last Spent) e h = λ shown. ⊎_elim
     (λ (none : known (proof_behind s.cnf s.log) [] ≡ true). true≢false (sym none ∙ h [] (inl refl)))
     (λ (one : known (proof_behind s.cnf s.log) (l ∷ []) ≡ true). true≢false (sym one ∙ h (l ∷ []) (inr (ap (λ (m : Lit). m ∷ []) (sym (ap not_lit e ∙ not_lit-not_lit l))))))
     shown

@@ -17,6 +17,8 @@ use Rattle.learning_solver.specs.Log.{additions, proof_behind, IsFreshLog}
 use Rattle.learning_solver.specs.Outcome.{Logged, most_learned}
 use Rattle.answer_document.specs.Valid.{IsShown, AreReadableLines}
 use Rattle.search_options.specs.declared.options.SearchOptions.{SearchOptions}
+use Rattle.decode_minimize.specs.declared.asking.Ended.{Ended}
+use Rattle.decode_minimize.specs.declared.asking.Ended.TheVariants.{Shown, Spent}
 use Rattle.decode_minimize.specs.declared.improving.Sought.{Sought}
 use Rattle.decode_minimize.specs.declared.improving.Best.{Best}
 use Rattle.decode_minimize.specs.declared.asking.Round.TheVariants as round
@@ -69,11 +71,11 @@ paid-searches w c i m x y few one most =
     let more : m * (w + 1) ≤ m * c = mul-le-mul_left m few in
     omega (arith, one, most, more)
 
-pub progress-from : (first new : Logged) (sought : Sought) (options : SearchOptions) (best is : Best) (shown : Bool) (proof : SeekerLog)
+pub progress-from : (first new : Logged) (sought : Sought) (options : SearchOptions) (best is : Best) (ended : Ended) (proof : SeekerLog)
     → IsSeeking first sought best → additions first.log ≤ most_learned options.restart first.cnf.vars → new.cnf ≡ first.cnf → additions new.log ≤ options.budget
-    → IsSeeking new sought is → IsImproved first new sought options best is shown → proof.lines ≡ new.log → proof.incumbent ≡ Some is.number → Lrat new.cnf proof.lines → IsFreshLog new.cnf proof.lines → AreReadableLines proof.lines
-    → IsProgress first.cnf sought options (record { proof = proof; best = is; is_best = shown })
-progress-from first new sought options best is shown proof seeking before cnf within sought_on improved log kept lrat fresh readable =
+    → IsSeeking new sought is → IsImproved first new sought options best is ended → proof.lines ≡ new.log → proof.incumbent ≡ Some is.number → Lrat new.cnf proof.lines → IsFreshLog new.cnf proof.lines → AreReadableLines proof.lines
+    → IsProgress first.cnf sought options (record { proof = proof; best = is; ended = ended })
+progress-from first new sought options best is ended proof seeking before cnf within sought_on improved log kept lrat fresh readable =
     let few = left-few first sought best seeking in
     let m = most_learned options.restart first.cnf.vars in
     let here : IsDerivation new.cnf proof.lines = log-derivation new.cnf proof.lines lrat fresh readable in
@@ -121,7 +123,7 @@ module _ (cnf : Cnf) (old new : Logged) (options : SearchOptions) (start : old �
         let vars : most_learned options.restart old.cnf.vars ≡ most_learned options.restart cnf.vars = ap (λ (s : Logged). most_learned options.restart s.cnf.vars) start in
         omega (arith, same-count, most, none-before, vars)
 
-    pub first-refuted : additions new.log ≤ options.budget → additions new.log ≤ additions old.log + most_learned options.restart old.cnf.vars → IsRound new False round.Shown → IsRefuted cnf options proof
+    pub first-refuted : additions new.log ≤ options.budget → additions new.log ≤ additions old.log + most_learned options.restart old.cnf.vars → IsRound new False (round.Last Shown) → IsRefuted cnf options proof
     first-refuted within most shown = record {
       derivation = first-derivation;
       within = omega (arith, same-count, within);
@@ -129,7 +131,7 @@ module _ (cnf : Cnf) (old new : Logged) (options : SearchOptions) (start : old �
       shown = subst (λ (f : Cnf). IsShown (proof_behind f proof) False) of-cnf (subst (λ (l : List ProofLine). IsShown (proof_behind new.cnf l) False) (sym log) shown);
     }
 
-    pub first-given_up : additions new.log ≡ options.budget → additions new.log < additions old.log + most_learned options.restart old.cnf.vars → IsRound new False round.Spent → IsGivenUp cnf options proof
+    pub first-given_up : additions new.log ≡ options.budget → additions new.log < additions old.log + most_learned options.restart old.cnf.vars → IsRound new False (round.Last Spent) → IsGivenUp cnf options proof
     first-given_up spent early unshown = record {
       derivation = first-derivation;
       spent = same-count ∙ spent;

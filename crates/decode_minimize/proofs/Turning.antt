@@ -1,7 +1,6 @@
 -- What a round makes of a search for the best value.
-use Rattle.std.proofs.Common.{◌≡◌, ◌⊎◌, ℕ, zero, suc, ◌+◌, ◌*◌, ◌≤◌, ◌<◌, Bool, true, false, List, length, refl, sym, ap, ◌∙◌, subst, inl, inr, ⊎_elim, ℤ, FitsSigned, w64, to_z, of_z, arith}
+use Rattle.std.proofs.Common.{None, Some, ◌≡◌, ◌⊎◌, ℕ, zero, suc, ◌+◌, ◌*◌, ◌≤◌, ◌<◌, Bool, List, length, refl, sym, ap, ◌∙◌, subst, inl, inr, ⊎_elim, ℤ, FitsSigned, w64, to_z, of_z, arith}
 use Rattle.std.proofs.Math.Nat.{mul-le-mul_left}
-use Rattle.std.proofs.lemmas.Bool.{true≢false}
 use Rattle.std.proofs.lemmas.Int.{to_z-of_z}
 use Rattle.order_ints.specs.declared.atom.Atom.{Atom}
 use Rattle.order_ints.specs.declared.atom.Atom.TheVariants.{True}
@@ -27,7 +26,8 @@ use Rattle.decode_minimize.specs.declared.objective.Direction.TheVariants.{Least
 use Rattle.search_options.specs.declared.options.SearchOptions.{SearchOptions}
 use Rattle.decode_minimize.specs.declared.improving.Sought.{Sought}
 use Rattle.decode_minimize.specs.declared.improving.Best.{Best}
-use Rattle.decode_minimize.specs.declared.improving.Turn.TheVariants as turn
+use Rattle.decode_minimize.specs.declared.asking.Ended.{Ended}
+use Rattle.decode_minimize.specs.declared.asking.Ended.TheVariants.{Shown, Spent}
 use Rattle.decode_minimize.specs.declared.asking.Round.TheVariants as round
 use Rattle.decode_minimize.specs.Objectives.{better_left, bound_of}
 use Rattle.decode_minimize.specs.Rounds.{AreSatisfying, IsRound}
@@ -115,12 +115,12 @@ module _ (old new : Logged) (sought : Sought) (options : SearchOptions) (was : B
         subst (λ (v : ℤ). better_left sought.direction sought.integer.now v < left sought was) (sym number)
         (fewer-left sought.direction sought.integer.now was.number sought.view.now (valuation_of values) ordered found.1)
 
-    pub better-turned : additions new.log ≤ additions old.log + search_most → IsTurned old new sought options was is turn.Better
+    pub better-turned : additions new.log ≤ additions old.log + search_most → IsTurned old new sought options was is None
     better-turned most = (better-less, one-less (left sought is) (left sought was) search_most (additions new.log) (additions old.log) better-less most)
 
   -- there is none
-  pub shown-turned : additions new.log ≤ additions old.log + search_most → (asked_bound sought was ≡ True → additions new.log ≡ additions old.log) → IsRound new (asked_bound sought was) round.Shown
-      → IsTurned old new sought options was was turn.Shown
+  shown-turned : additions new.log ≤ additions old.log + search_most → (asked_bound sought was ≡ True → additions new.log ≡ additions old.log) → IsRound new (asked_bound sought was) (round.Last Shown)
+      → IsTurned old new sought options was was (Some Shown)
   shown-turned most unasked shown = (
     shown,
     ⊎_elim
@@ -131,8 +131,8 @@ module _ (old new : Logged) (sought : Sought) (options : SearchOptions) (was : B
   )
 
   -- the budget is spent
-  pub spent-turned : additions new.log ≡ options.budget → additions new.log < additions old.log + search_most → IsRound new (asked_bound sought was) round.Spent
-      → IsTurned old new sought options was was turn.Spent
+  spent-turned : additions new.log ≡ options.budget → additions new.log < additions old.log + search_most → IsRound new (asked_bound sought was) (round.Last Spent)
+      → IsTurned old new sought options was was (Some Spent)
   spent-turned spent early unshown = (
     spent,
     ⊎_elim
@@ -144,6 +144,13 @@ module _ (old new : Logged) (sought : Sought) (options : SearchOptions) (was : B
     refl,
   )
 
+  -- none was found
+  pub ended-turned : (ended : Ended) → additions new.log ≤ additions old.log + search_most → (asked_bound sought was ≡ True → additions new.log ≡ additions old.log)
+      → (ended ≡ Spent → additions new.log ≡ options.budget) → (ended ≡ Spent → additions new.log < additions old.log + search_most) → IsRound new (asked_bound sought was) (round.Last ended)
+      → IsTurned old new sought options was was (Some ended)
+  ended-turned Shown most unasked spent early shown = shown-turned most unasked shown
+  ended-turned Spent most unasked spent early unshown = spent-turned (spent refl) (early refl) unshown
+
 -- one turn after another
 module _ (first old new : Logged) (sought : Sought) (options : SearchOptions) (start was is : Best) (one : old.cnf ≡ first.cnf)
     (so_far : additions old.log + left sought was * most_learned options.restart first.cnf.vars ≤ additions first.log + left sought start * most_learned options.restart first.cnf.vars)
@@ -151,34 +158,32 @@ module _ (first old new : Logged) (sought : Sought) (options : SearchOptions) (s
   same-most : most_learned options.restart old.cnf.vars ≡ most_learned options.restart first.cnf.vars
   same-most = ap (λ (f : Cnf). most_learned options.restart f.vars) one
 
-  pub next-turn : IsTurned old new sought options was is turn.Better
+  pub next-turn : IsTurned old new sought options was is None
       → additions new.log + left sought is * most_learned options.restart first.cnf.vars ≤ additions first.log + left sought start * most_learned options.restart first.cnf.vars
   next-turn t =
       let here = subst (λ (m : ℕ). additions new.log + left sought is * m ≤ additions old.log + left sought was * m) same-most t.1 in
       omega (arith, here, so_far)
 
-  pub last-shown : IsTurned old new sought options was is turn.Shown → IsImproved first new sought options start is true
-  last-shown t =
+  pub last-turn : (ended : Ended) → IsTurned old new sought options was is (Some ended) → IsImproved first new sought options start is ended
+  last-turn Shown t =
       let here = subst (λ (m : ℕ). additions new.log ≤ additions old.log + left sought was * m) same-most t.1 in
       let same : left sought is ≡ left sought was = ap (left sought) t.2 in
       record {
         best = λ e. t.0;
         most = omega (arith, here, so_far);
-        spent = λ e. absurd (true≢false e);
+        spent = λ e. absurd cc;
         no_worse = omega (arith, same, fewer);
-        paid = λ e. absurd (true≢false e);
-        unshown = λ e. absurd (true≢false e);
+        paid = λ e. absurd cc;
+        unshown = λ e. absurd cc;
       }
-
-  pub last-spent : IsTurned old new sought options was is turn.Spent → IsImproved first new sought options start is false
-  last-spent t =
+  last-turn Spent t =
       let m = most_learned options.restart first.cnf.vars in
       let here = subst (λ (m : ℕ). additions new.log < additions old.log + m) same-most t.2 in
       let all = fewer-than-one (left sought was) m (additions new.log) (additions old.log) t.1 here in
       let same : left sought is ≡ left sought was = ap (left sought) t.4 in
       let left_over : left sought is * m ≡ left sought was * m = ap (λ (k : ℕ). k * m) same in
       record {
-        best = λ e. absurd (true≢false (sym e));
+        best = λ e. absurd cc;
         most = omega (arith, all, so_far);
         spent = λ e. (t.0, omega (arith, all, so_far));
         no_worse = omega (arith, same, fewer);

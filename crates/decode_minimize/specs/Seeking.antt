@@ -1,5 +1,5 @@
 -- The rounds of one objective.
-use Rattle.std.specs.Prelude.{◌≡◌, ◌+◌, ◌*◌, ◌<◌, ◌≤◌, ℕ, Bool, true, false, length}
+use Rattle.std.specs.Prelude.{◌≡◌, ◌+◌, ◌*◌, ◌<◌, ◌≤◌, ℕ, Option, None, Some, length}
 use Rattle.order_ints.specs.Place.{AtomsBelow}
 use Rattle.order_ints.specs.OrderValue.{value_of, IsOrdered}
 use Rattle.order_ints.specs.Truth.{Valuation, valuation_of}
@@ -10,10 +10,10 @@ use Rattle.learning_solver.specs.Log.{additions, proof_behind}
 use Rattle.learning_solver.specs.Outcome.{Logged, most_learned}
 use Rattle.answer_document.specs.Valid.{IsShown}
 use Rattle.search_options.specs.declared.options.SearchOptions.{SearchOptions}
+use Rattle.decode_minimize.specs.declared.asking.Ended.{Ended}
+use Rattle.decode_minimize.specs.declared.asking.Ended.TheVariants.{Shown, Spent}
 use Rattle.decode_minimize.specs.declared.improving.Sought.{Sought}
 use Rattle.decode_minimize.specs.declared.improving.Best.{Best}
-use Rattle.decode_minimize.specs.declared.improving.Turn.{Turn}
-use Rattle.decode_minimize.specs.declared.improving.Turn.TheVariants.{Better, Shown, Spent}
 use Rattle.decode_minimize.specs.Objectives.{better_left, bound_of, IsObjective}
 use Rattle.decode_minimize.specs.Rounds.{AreSatisfying}
 
@@ -39,30 +39,30 @@ IsBestShown s sought best =
 
 -- What a round costs is at most a search for each value that it leaves out. Where the budget was spent, so many clauses
 -- are fewer, a value was left, and the log shows nothing of it.
-abbrev pub IsTurned : Logged → Logged → Sought → SearchOptions → Best → Best → Turn → Type 0
-IsTurned old new sought options was is Better =
+abbrev pub IsTurned : Logged → Logged → Sought → SearchOptions → Best → Best → Option Ended → Type 0
+IsTurned old new sought options was is None =
     (left sought is < left sought was)
     × (additions new.log + left sought is * most_learned options.restart old.cnf.vars
     ≤ additions old.log + left sought was * most_learned options.restart old.cnf.vars)
-IsTurned old new sought options was is Shown =
+IsTurned old new sought options was is (Some Shown) =
     IsBestShown new sought is
     × (additions new.log ≤ additions old.log + left sought was * most_learned options.restart old.cnf.vars)
     × (is ≡ was)
-IsTurned old new sought options was is Spent =
+IsTurned old new sought options was is (Some Spent) =
     (additions new.log ≡ options.budget) × (1 ≤ left sought was)
     × (additions new.log < additions old.log + most_learned options.restart old.cnf.vars)
     × (IsBestShown new sought is → ⊥) × (is ≡ was)
 
 -- Rounds to their end. No more values are better than the solution that is kept than were better than the first one;
 -- and each search but the last is paid for by a value that is left out, so what a round found is not given up again.
-pub record IsImproved (old new : Logged) (sought : Sought) (options : SearchOptions) (was is : Best) (shown : Bool)
+pub record IsImproved (old new : Logged) (sought : Sought) (options : SearchOptions) (was is : Best) (ended : Ended)
     : Type 0 where
-  pub best : shown ≡ true → IsBestShown new sought is
+  pub best : ended ≡ Shown → IsBestShown new sought is
   pub most : additions new.log ≤ additions old.log + left sought was * most_learned options.restart old.cnf.vars
-  pub spent : shown ≡ false → (additions new.log ≡ options.budget)
+  pub spent : ended ≡ Spent → (additions new.log ≡ options.budget)
       × (additions new.log < additions old.log + left sought was * most_learned options.restart old.cnf.vars)
   pub no_worse : left sought is ≤ left sought was
-  pub paid : shown ≡ false → additions new.log + left sought is * most_learned options.restart old.cnf.vars
+  pub paid : ended ≡ Spent → additions new.log + left sought is * most_learned options.restart old.cnf.vars
       < additions old.log + left sought was * most_learned options.restart old.cnf.vars
       + most_learned options.restart old.cnf.vars
-  pub unshown : shown ≡ false → IsBestShown new sought is → ⊥
+  pub unshown : ended ≡ Spent → IsBestShown new sought is → ⊥

@@ -1,6 +1,6 @@
 -- What solving gives, over what is to be solved alone: no model is known here.
 use Rattle.std.specs.Prelude.{◌≡◌, ◌⊎◌, ℕ, ◌+◌, ◌*◌, ◌<◌, ◌≤◌, ◌^◌, ◌++◌, Bool}
-use Rattle.std.specs.Prelude.{true, false, List, length, ℤ, Option, Some, None, Ok, if◌then◌else◌}
+use Rattle.std.specs.Prelude.{List, length, ℤ, Option, Some, None, Ok}
 use Rattle.std.specs.Option.{option_map}
 use Rattle.order_ints.specs.declared.atom.Atom.{Atom}
 use Rattle.order_ints.specs.declared.atom.Atom.TheVariants as atom
@@ -32,6 +32,8 @@ use Rattle.answer_document.specs.Valid.{IsShown, AreReadableLines, atom_clauses,
 use Rattle.decode_minimize.specs.declared.objective.Direction.{Direction}
 use Rattle.decode_minimize.specs.declared.objective.Direction.TheVariants.{Least, Greatest}
 use Rattle.search_options.specs.declared.options.SearchOptions.{SearchOptions}
+use Rattle.decode_minimize.specs.declared.asking.Ended.{Ended}
+use Rattle.decode_minimize.specs.declared.asking.Ended.TheVariants.{Shown, Spent}
 use Rattle.decode_minimize.specs.declared.improving.Sought.{Sought}
 use Rattle.decode_minimize.specs.declared.solved.Names.{Names}
 use Rattle.decode_minimize.specs.declared.solved.Progress.{Progress}
@@ -90,16 +92,16 @@ pub record IsProgress (cnf : Cnf) (sought : Sought) (options : SearchOptions) (r
   pub number : r.best.number ≡ value_of (read_by sought.view.now (valuation_of r.best.values)) sought.integer.now
   pub within : additions r.proof.lines ≤ options.budget
   pub most : additions r.proof.lines ≤ values_count sought.integer.now * most_learned options.restart cnf.vars
-  pub shown : r.is_best ≡ true
+  pub shown : r.ended ≡ Shown
       → IsShown (proof_behind cnf r.proof.lines)
       (resolve sought.view.now (bound_of sought.direction sought.integer.now r.best.number))
-  pub spent : r.is_best ≡ false → (additions r.proof.lines ≡ options.budget)
+  pub spent : r.ended ≡ Spent → (additions r.proof.lines ≡ options.budget)
       × (additions r.proof.lines < values_count sought.integer.now * most_learned options.restart cnf.vars)
-  pub paid : r.is_best ≡ false
+  pub paid : r.ended ≡ Spent
       → additions r.proof.lines + better_left sought.direction sought.integer.now r.best.number
       * most_learned options.restart cnf.vars < (values_count sought.integer.now + 1)
       * most_learned options.restart cnf.vars
-  pub unshown : r.is_best ≡ false
+  pub unshown : r.ended ≡ Spent
       → IsShown (proof_behind cnf r.proof.lines)
       (resolve sought.view.now (bound_of sought.direction sought.integer.now r.best.number)) → ⊥
 
@@ -258,5 +260,6 @@ pub record IsMadeOf (names : Names) (values : List Bool) (v : Verdict) (lines : 
   pub second : s.second ≡ behind
 
 -- the verdict on a solution that is known
-abbrev pub verdict_on : Bool → Bounds → SearchOptions → Verdict
-verdict_on is_best b options = if is_best then Optimum b else Unknown options.budget (Some b)
+abbrev pub verdict_on : Ended → Bounds → SearchOptions → Verdict
+verdict_on Shown b options = Optimum b
+verdict_on Spent b options = Unknown options.budget (Some b)

@@ -15,15 +15,22 @@ use search_options::SearchOptions;
 use search_watcher::Watcher;
 use std::alloc::{AllocError, Global};
 
-/// What a round found.
+/// How a search for something better ended.
+#[derive(Clone, Copy, Debug, PartialEq, Eq)]
+pub enum Ended {
+    /// Nothing is better, and the log shows it.
+    Shown,
+    /// The budget is spent.
+    Spent,
+}
+
+/// What a round came to.
 #[derive(Debug, Drop)]
 pub enum Round {
     /// Truth values that satisfy the clauses and break the bound.
     Better(Sequence<bool>),
-    /// The bound holds, and the log shows it.
-    Shown,
-    /// The budget is spent.
-    Spent,
+    /// No such values were found, and this is how the search ended.
+    Last(Ended),
 }
 
 /// A solver of which any values are asked first.
@@ -49,8 +56,8 @@ fn ask<W: Watcher>(
     requires budget { additions solver.old.log ≤ options.budget }
     ensures cnf { solver.new.cnf ≡ solver.old.cnf }
     ensures asked { IfOk result (IsAsked solver.new assumed) }
-    ensures spent { result ≡ Ok Round.Spent → additions solver.new.log ≡ options.budget }
-    ensures spent_early { result ≡ Ok Round.Spent
+    ensures spent { result ≡ Ok (Round.Last Ended.Spent) → additions solver.new.log ≡ options.budget }
+    ensures spent_early { result ≡ Ok (Round.Last Ended.Spent)
         → additions solver.new.log < additions solver.old.log + most_learned options.restart solver.old.cnf.vars }
     ensures within { additions solver.new.log ≤ options.budget }
     ensures most { additions solver.new.log
@@ -58,8 +65,8 @@ fn ask<W: Watcher>(
 {
     match solver.solve_watched(assumed, options.budget, options.restart, watcher)? {
         Found::Sat(values) => Ok(Round::Better(values)),
-        Found::Refuted(_) => Ok(Round::Shown),
-        Found::Spent => Ok(Round::Spent),
+        Found::Refuted(_) => Ok(Round::Last(Ended::Shown)),
+        Found::Spent => Ok(Round::Last(Ended::Spent)),
     }
 }
 
@@ -74,8 +81,8 @@ pub fn ask_bound<W: Watcher>(
     requires budget { additions solver.old.log ≤ options.budget }
     ensures cnf { solver.new.cnf ≡ solver.old.cnf }
     ensures round { IfOk result (IsRound solver.new bound) }
-    ensures spent { result ≡ Ok Round.Spent → additions solver.new.log ≡ options.budget }
-    ensures spent_early { result ≡ Ok Round.Spent
+    ensures spent { result ≡ Ok (Round.Last Ended.Spent) → additions solver.new.log ≡ options.budget }
+    ensures spent_early { result ≡ Ok (Round.Last Ended.Spent)
         → additions solver.new.log < additions solver.old.log + most_learned options.restart solver.old.cnf.vars }
     ensures within { additions solver.new.log ≤ options.budget }
     ensures most { additions solver.new.log
@@ -83,7 +90,7 @@ pub fn ask_bound<W: Watcher>(
     ensures unasked { bound ≡ Atom.True → additions solver.new.log ≡ additions solver.old.log }
 {
     match bound {
-        Atom::True => Ok(Round::Shown),
+        Atom::True => Ok(Round::Last(Ended::Shown)),
         Atom::False => {
             let round = ask(solver, None, options, watcher)?;
             Ok(round)

@@ -9,7 +9,7 @@ ghost use Rattle.learning_solver.specs.Log.{additions};
 ghost use Rattle.decode_minimize.specs.Seeking.{IsSeeking, IsTurned, IsImproved};
 ghost use Rattle.decode_minimize.specs.Heard.{IsHeard};
 
-use crate::asking::Round;
+use crate::asking::{Ended, Round};
 use crate::objective::{Direction, bound_of, value_under};
 use crate::seeker::Seeker;
 use crate::solved::Names;
@@ -43,17 +43,6 @@ pub struct Best {
     pub number: i64,
 }
 
-/// What came of a round.
-#[derive(Clone, Copy, Debug, PartialEq, Eq)]
-pub enum Turn {
-    /// A better solution was found.
-    Better,
-    /// There is none.
-    Shown,
-    /// The budget is spent.
-    Spent,
-}
-
 /// Takes truth values that are better.
 fn take(sought: &Sought<'_>, best: &mut Best, values: Sequence<bool>)
     requires { IsObjective (length sought.now.view.now + 1) sought.now.integer.now }
@@ -65,14 +54,15 @@ fn take(sought: &Sought<'_>, best: &mut Best, values: Sequence<bool>)
     *best = Best { values, number };
 }
 
-/// One round: asks for a better value than the best one so far, and tells of it.
+/// One round: asks for a better value than the best one so far, and tells of it; where none is found, how the search
+/// ended.
 fn improve_once<W: SolutionWatcher>(
     seeker: &mut Seeker<'_>,
     sought: &Sought<'_>,
     best: &mut Best,
     options: SearchOptions,
     watcher: &mut W,
-) -> Result<Turn, AllocError>
+) -> Result<Option<Ended>, AllocError>
     requires seeking { IsSeeking seeker.old.solver sought.now best.old }
     requires kept { seeker.old.incumbent ≡ Some best.old.number }
     requires budget { additions seeker.old.solver.log ≤ options.budget }
@@ -92,38 +82,35 @@ fn improve_once<W: SolutionWatcher>(
         Round::Better(values) => {
             take(sought, best, values);
             tell(&sought.names, best.values.as_slice(), watcher);
-            Ok(Turn::Better)
+            Ok(None)
         }
-        Round::Shown => Ok(Turn::Shown),
-        Round::Spent => Ok(Turn::Spent),
+        Round::Last(ended) => Ok(Some(ended)),
     }
 }
 
-/// Rounds until no better value is there, or the budget is spent; whether the former. Each round takes one search, and
-/// each but the last finds a better value. What is best at the end is the last solution that a round found.
+/// Rounds to the end of the search. Each takes one search, and each but the last finds a better value. What is best at
+/// the end is the last solution that a round found.
 pub fn improve<W: SolutionWatcher>(
     seeker: &mut Seeker<'_>,
     sought: &Sought<'_>,
     best: &mut Best,
     options: SearchOptions,
     watcher: &mut W,
-) -> Result<bool, AllocError>
+) -> Result<Ended, AllocError>
     requires seeking { IsSeeking seeker.old.solver sought.now best.old }
     requires kept { seeker.old.incumbent ≡ Some best.old.number }
     requires budget { additions seeker.old.solver.log ≤ options.budget }
     requires heard { IsHeard W.heard seeker.old.solver.cnf sought.now.names }
     ensures cnf { seeker.new.solver.cnf ≡ seeker.old.solver.cnf }
     ensures within { additions seeker.new.solver.log ≤ options.budget }
-    ensures seeking { IfOk result (λ shown. IsSeeking seeker.new.solver sought.now best.new) }
-    ensures kept { IfOk result (λ shown. seeker.new.incumbent ≡ Some best.new.number) }
+    ensures seeking { IfOk result (λ e. IsSeeking seeker.new.solver sought.now best.new) }
+    ensures kept { IfOk result (λ e. seeker.new.incumbent ≡ Some best.new.number) }
     ensures improved { IfOk result
         (IsImproved seeker.old.solver seeker.new.solver sought.now options best.old best.new) }
 {
     loop {
-        match improve_once(seeker, sought, best, options, watcher)? {
-            Turn::Better => {}
-            Turn::Shown => return Ok(true),
-            Turn::Spent => return Ok(false),
+        if let Some(ended) = improve_once(seeker, sought, best, options, watcher)? {
+            return Ok(ended);
         }
     }
 }

@@ -12,7 +12,7 @@ ghost use Rattle.decode_minimize.specs.Seeking.{IsSeeking};
 ghost use Rattle.decode_minimize.specs.Heard.{IsHeard};
 ghost use Rattle.decode_minimize.specs.Solved.{IsSolvable, IsSeekable, IsProgress, IsFirst};
 
-use crate::asking::Round;
+use crate::asking::{Ended, Round};
 use crate::improving::{Best, Sought, improve};
 use crate::objective::value_under;
 use crate::seeker::Seeker;
@@ -52,11 +52,11 @@ fn rounds_from<W: SolutionWatcher>(
 {
     let mut seeker = seeker;
     let mut best = best;
-    let is_best = improve(&mut seeker, sought, &mut best, options, watcher)?;
+    let ended = improve(&mut seeker, sought, &mut best, options, watcher)?;
     Ok(Progress {
         proof: seeker.into_log(),
         best,
-        is_best,
+        ended,
     })
 }
 
@@ -74,8 +74,8 @@ pub fn first_rounds<W: SolutionWatcher>(
 {
     let mut seeker = Seeker::with(sought.names.alloc, cnf)?;
     match seeker.ask(sought, Atom::False, options, watcher)? {
-        Round::Shown => Ok(First::Refuted(seeker.into_log().into_lines())),
-        Round::Spent => Ok(First::GivenUp(seeker.into_log().into_lines())),
+        Round::Last(Ended::Shown) => Ok(First::Refuted(seeker.into_log().into_lines())),
+        Round::Last(Ended::Spent) => Ok(First::GivenUp(seeker.into_log().into_lines())),
         Round::Better(values) => {
             let best = best_of(sought, values);
             tell(&sought.names, best.values.as_slice(), watcher);

@@ -13,7 +13,7 @@ ghost use Rattle.decode_minimize.specs.Objectives.{bound_of, IsObjective};
 ghost use Rattle.decode_minimize.specs.Rounds.{IsRound};
 ghost use Rattle.decode_minimize.specs.Incumbents.{incumbent_behind};
 
-use crate::asking::{Round, ask_bound, solver_of};
+use crate::asking::{Ended, Round, ask_bound, solver_of};
 use crate::improving::{Best, Sought};
 use crate::objective::value_under;
 use bee_list::Sequence;
@@ -96,8 +96,8 @@ impl<'a> Seeker<'a> {
         ensures cnf { self.new.solver.cnf ≡ self.old.solver.cnf }
         ensures round { IfOk result (IsRound self.new.solver bound) }
         ensures incumbent { IfOk result (λ r. self.new.incumbent ≡ incumbent_behind sought.now self.old.incumbent r) }
-        ensures spent { result ≡ Ok Round.Spent → additions self.new.solver.log ≡ options.budget }
-        ensures spent_early { result ≡ Ok Round.Spent → additions self.new.solver.log
+        ensures spent { result ≡ Ok (Round.Last Ended.Spent) → additions self.new.solver.log ≡ options.budget }
+        ensures spent_early { result ≡ Ok (Round.Last Ended.Spent) → additions self.new.solver.log
             < additions self.old.solver.log + most_learned options.restart self.old.solver.cnf.vars }
         ensures within { additions self.new.solver.log ≤ options.budget }
         ensures most { additions self.new.solver.log
@@ -133,7 +133,7 @@ fn seen(sought: &Sought<'_>, incumbent: Option<i64>, round: &Round) -> Option<i6
 {
     match round {
         Round::Better(values) => Some(value_under(sought.integer, sought.view, values.as_slice())),
-        Round::Shown | Round::Spent => incumbent,
+        Round::Last(_) => incumbent,
     }
 }
 

@@ -1,5 +1,6 @@
 //! What solving gives.
 
+use crate::asking::Ended;
 use crate::improving::Best;
 use crate::seeker::SeekerLog;
 use answer_document::Verdict;
@@ -45,8 +46,8 @@ pub struct Progress {
     pub proof: SeekerLog,
     /// The best solution that was found: it has that value.
     pub best: Best,
-    /// Whether the derivation shows that none is better; else the budget is spent.
-    pub is_best: bool,
+    /// How the search for a better one ended.
+    pub ended: Ended,
 }
 
 /// What came of the rounds of a first objective.

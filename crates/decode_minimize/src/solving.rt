@@ -1,6 +1,6 @@
 //! Solving the clauses of a compilation for a goal.
 
-ghost use Rattle.std.specs.Prelude.{◌≡◌, ◌+◌, ◌≤◌, true, None, Some, pos, IfOk, length};
+ghost use Rattle.std.specs.Prelude.{◌≡◌, ◌+◌, ◌≤◌, None, Some, pos, IfOk, length};
 ghost use Rattle.std.specs.Option.{option_map};
 ghost use Rattle.order_ints.specs.OrderValue.{value_of};
 ghost use Rattle.order_ints.specs.Truth.{valuation_of};
@@ -12,7 +12,7 @@ ghost use Rattle.decode_minimize.specs.Solved.{problem_of, IsProblem, IsSeekable
 ghost use Rattle.decode_minimize.specs.Heard.{IsHeard};
 ghost use Rattle.decode_minimize.specs.Solved.{IsBestSolved, IsSolvedFor, IsMadeOf, second_named, verdict_on};
 
-use crate::asking::{Round, ask_bound, solver_of};
+use crate::asking::{Ended, Round, ask_bound, solver_of};
 use crate::fixing::{additions, fix};
 use crate::improving::{Best, Sought};
 use crate::objective::{Direction, integer_named, no_worse_of, value_under};
@@ -90,8 +90,8 @@ fn solve_any<W: Watcher>(
 {
     let mut solver = solver_of(names.alloc, cnf)?;
     match ask_bound(&mut solver, Atom::False, options, watcher)? {
-        Round::Shown => Ok(refuted(solver.into_log())),
-        Round::Spent => Ok(given_up(solver.into_log(), options)),
+        Round::Last(Ended::Shown) => Ok(refuted(solver.into_log())),
+        Round::Last(Ended::Spent) => Ok(given_up(solver.into_log(), options)),
         Round::Better(values) => {
             let proof = solver.into_log();
             let solved = with_solution(
@@ -107,13 +107,12 @@ fn solve_any<W: Watcher>(
 }
 
 /// The verdict on a solution with these values of the objectives.
-fn verdict_on(is_best: bool, bounds: Bounds, options: SearchOptions) -> Verdict
-    ensures { result ≡ verdict_on is_best bounds options }
+fn verdict_on(ended: Ended, bounds: Bounds, options: SearchOptions) -> Verdict
+    ensures { result ≡ verdict_on ended bounds options }
 {
-    if is_best {
-        Verdict::Optimum(bounds)
-    } else {
-        Verdict::Unknown(options.budget, Some(bounds))
+    match ended {
+        Ended::Shown => Verdict::Optimum(bounds),
+        Ended::Spent => Verdict::Unknown(options.budget, Some(bounds)),
     }
 }
 
@@ -126,19 +125,15 @@ fn with_one(
     requires { AreShort names.now.map.now.entries }
     ensures { IfOk result
         (IsMadeOf names.now progress.best.values
-        (verdict_on progress.is_best (record { first = progress.best.number; second = None }) options)
+        (verdict_on progress.ended (record { first = progress.best.number; second = None }) options)
         progress.proof.lines None) }
 {
-    let Progress {
-        proof,
-        best,
-        is_best,
-    } = progress;
+    let Progress { proof, best, ended } = progress;
     let bounds = Bounds {
         first: best.number,
         second: None,
     };
-    let verdict = verdict_on(is_best, bounds, options);
+    let verdict = verdict_on(ended, bounds, options);
     let proof = proof.into_lines();
     let solved = with_solution(names, best.values.as_slice(), verdict, proof, None)?;
     Ok(solved)
@@ -212,19 +207,19 @@ fn with_two(
     requires { AreShort names.now.map.now.entries }
     ensures { IfOk result
         (IsMadeOf names.now progress.best.values
-        (verdict_on progress.is_best (record { first = number; second = Some progress.best.number }) options) proof
+        (verdict_on progress.ended (record { first = number; second = Some progress.best.number }) options) proof
         (Some progress.proof.lines)) }
 {
     let Progress {
         proof: second,
         best,
-        is_best,
+        ended,
     } = progress;
     let bounds = Bounds {
         first: number,
         second: Some(best.number),
     };
-    let verdict = verdict_on(is_best, bounds, options);
+    let verdict = verdict_on(ended, bounds, options);
     let second = second.into_lines();
     let solved = with_solution(names, best.values.as_slice(), verdict, proof, Some(second))?;
     Ok(solved)
@@ -248,7 +243,7 @@ fn solve_behind<W: SolutionWatcher>(
     requires seekable { IsSeekable cnf sought.now }
     requires seekable_behind { IsSeekable cnf behind.now }
     requires progress { IsProgress cnf sought.now options progress }
-    requires shown { progress.is_best ≡ true }
+    requires shown { progress.ended ≡ Ended.Shown }
     requires heard { IsHeard W.heard cnf behind.now.names }
     ensures { IfOk result
         (IsBestSolved (problem_of names.now cnf) options sought.now.direction sought.now.integer.now
@@ -291,15 +286,16 @@ fn solve_two<W: SolutionWatcher>(
     match first_rounds(&cnf, sought, options, watcher)? {
         First::Refuted(proof) => Ok(refuted(proof)),
         First::GivenUp(proof) => Ok(given_up(proof, options)),
-        First::Found(progress) => {
-            if progress.is_best {
+        First::Found(progress) => match progress.ended {
+            Ended::Shown => {
                 let solved = solve_behind(cnf, names, sought, behind, progress, options, watcher)?;
                 Ok(solved)
-            } else {
+            }
+            Ended::Spent => {
                 let solved = with_first(names, behind, progress, options)?;
                 Ok(solved)
             }
-        }
+        },
     }
 }
 

@@ -5,8 +5,8 @@ use Rattle.decode_minimize.specs.Seeking.{IsSeeking, left}
 use Rattle.decode_minimize.proofs.improving.improve.Given as goal
 
 -- the searches so far, and one for each value that is left, are no more than one for each value that was left at first
-abbrev pub invariant-loop : goal.invariant-loop
-invariant-loop g l = record {
+abbrev pub invariant-loop-ended : goal.invariant-loop-ended
+invariant-loop-ended g l = record {
   cnf : l.seeker.solver.cnf ≡ l.fn.seeker.solver.cnf;
   within : additions l.seeker.solver.log ≤ l.options.budget;
   seeking : IsSeeking l.seeker.solver l.sought l.best;
@@ -15,5 +15,5 @@ invariant-loop g l = record {
   cost : additions l.seeker.solver.log + left l.sought l.best * most_learned l.options.restart l.fn.seeker.solver.cnf.vars ≤ additions l.fn.seeker.solver.log + left l.sought l.fn.best * most_learned l.options.restart l.fn.seeker.solver.cnf.vars;
 }
 
-abbrev pub decreases-loop : goal.decreases-loop
-decreases-loop g l = left l.sought l.best
+abbrev pub decreases-loop-ended : goal.decreases-loop-ended
+decreases-loop-ended g l = left l.sought l.best

@@ -4,13 +4,14 @@ use Rattle.order_ints.specs.declared.atom.Atom.{Atom}
 use Rattle.order_ints.specs.declared.cnf.Cnf.{Cnf}
 use Rattle.order_ints.specs.View.{resolve}
 use Rattle.order_ints.specs.Place.{AtomBelow}
+use Rattle.decode_minimize.specs.declared.asking.Ended.TheVariants.{Spent}
 use Rattle.decode_minimize.specs.declared.asking.Round.{Round}
-use Rattle.decode_minimize.specs.declared.asking.Round.TheVariants.{Better, Shown, Spent}
+use Rattle.decode_minimize.specs.declared.asking.Round.TheVariants.{Better, Last}
 use Rattle.decode_minimize.specs.Incumbents.{incumbent_behind}
 use Rattle.decode_minimize.specs.Objectives.{bound_of}
 use Rattle.decode_minimize.specs.Rounds.{AreSatisfying, IsRound}
 use Rattle.decode_minimize.proofs.Hearing.{told-values}
-use Rattle.decode_minimize.proofs.Turning.{asked_bound, asked-is, asked-below, better-turned, shown-turned, spent-turned}
+use Rattle.decode_minimize.proofs.Turning.{asked_bound, asked-is, asked-below, better-turned, ended-turned}
 use Rattle.decode_minimize.proofs.improving.improve_once.Goals as goal
 
 pub ask-requires-clause-below : goal.ask-requires-clause-below
@@ -25,20 +26,13 @@ returns-in-Better-clause-turned g c =
     better-turned c.args.seeker.now.solver c.ask.new.self.solver c.args.sought.now c.args.options c.args.best.now c.requires.seeking c.ask.ensures.cnf c.in-Better.values c.take.new.best
     c.take.ensures.values c.take.ensures.number (subst (λ (b : Atom). IsRound c.ask.new.self.solver b (Better c.in-Better.values)) is found) c.ask.ensures.most
 
-pub returns-in-Shown-clause-turned : goal.returns-in-Shown-clause-turned
-returns-in-Shown-clause-turned g c =
+pub returns-in-Last-clause-turned : goal.returns-in-Last-clause-turned
+returns-in-Last-clause-turned g c =
     let is : c.resolve-bound.result ≡ asked_bound c.args.sought.now c.args.best.now = asked-is c.args.seeker.now.solver c.args.sought.now c.args.best.now c.requires.seeking c.bound_of.result c.resolve-bound.result c.bound_of.ensures c.resolve-bound.ensures in
-    let found = subst (λ (r : Round). IsRound c.ask.new.self.solver c.resolve-bound.result r) c.in-Shown.is c.in_ok-values.ensures.round in
-    shown-turned c.args.seeker.now.solver c.ask.new.self.solver c.args.sought.now c.args.options c.args.best.now c.requires.seeking c.ask.ensures.cnf c.ask.ensures.most
-    (λ e. c.ask.ensures.unasked (is ∙ e)) (subst (λ (b : Atom). IsRound c.ask.new.self.solver b Shown) is found)
-
-pub returns-in-Spent-clause-turned : goal.returns-in-Spent-clause-turned
-returns-in-Spent-clause-turned g c =
-    let is : c.resolve-bound.result ≡ asked_bound c.args.sought.now c.args.best.now = asked-is c.args.seeker.now.solver c.args.sought.now c.args.best.now c.requires.seeking c.bound_of.result c.resolve-bound.result c.bound_of.ensures c.resolve-bound.ensures in
-    let found = subst (λ (r : Round). IsRound c.ask.new.self.solver c.resolve-bound.result r) c.in-Spent.is c.in_ok-values.ensures.round in
-    let was = c.in_ok-values.was ∙ ap Ok c.in-Spent.is in
-    spent-turned c.args.seeker.now.solver c.ask.new.self.solver c.args.sought.now c.args.options c.args.best.now c.requires.seeking c.ask.ensures.cnf (c.ask.ensures.spent was)
-    (c.ask.ensures.spent_early was) (subst (λ (b : Atom). IsRound c.ask.new.self.solver b Spent) is found)
+    let found = subst (λ (r : Round). IsRound c.ask.new.self.solver c.resolve-bound.result r) c.in-Last.is c.in_ok-values.ensures.round in
+    let was = λ (e : c.in-Last.ended ≡ Spent). c.in_ok-values.was ∙ ap Ok (c.in-Last.is ∙ ap Last e) in
+    ended-turned c.args.seeker.now.solver c.ask.new.self.solver c.args.sought.now c.args.options c.args.best.now c.requires.seeking c.ask.ensures.cnf c.in-Last.ended c.ask.ensures.most
+    (λ e. c.ask.ensures.unasked (is ∙ e)) (λ e. c.ask.ensures.spent (was e)) (λ e. c.ask.ensures.spent_early (was e)) (subst (λ (b : Atom). IsRound c.ask.new.self.solver b (Last c.in-Last.ended)) is found)
 
 -- the bound that is asked for is that of the incumbent
 pub ask-requires-clause-better : goal.ask-requires-clause-better
@@ -50,11 +44,8 @@ pub returns-in-Better-clause-kept : goal.returns-in-Better-clause-kept
 returns-in-Better-clause-kept g c =
     c.in_ok-values.ensures.incumbent ∙ ap (incumbent_behind c.args.sought.now c.args.seeker.now.incumbent) c.in-Better.is ∙ ap (λ (n : ℤ). Some n) (sym c.take.ensures.number)
 
-pub returns-in-Shown-clause-kept : goal.returns-in-Shown-clause-kept
-returns-in-Shown-clause-kept g c = c.in_ok-values.ensures.incumbent ∙ ap (incumbent_behind c.args.sought.now c.args.seeker.now.incumbent) c.in-Shown.is ∙ c.requires.kept
-
-pub returns-in-Spent-clause-kept : goal.returns-in-Spent-clause-kept
-returns-in-Spent-clause-kept g c = c.in_ok-values.ensures.incumbent ∙ ap (incumbent_behind c.args.sought.now c.args.seeker.now.incumbent) c.in-Spent.is ∙ c.requires.kept
+pub returns-in-Last-clause-kept : goal.returns-in-Last-clause-kept
+returns-in-Last-clause-kept g c = c.in_ok-values.ensures.incumbent ∙ ap (incumbent_behind c.args.sought.now c.args.seeker.now.incumbent) c.in-Last.is ∙ c.requires.kept
 
 pub tell-requires-clause-short : goal.tell-requires-clause-short
 tell-requires-clause-short g c = c.requires.heard.short

@@ -4,6 +4,7 @@ use Rattle.order_ints.specs.declared.atom.Atom.TheVariants.{False}
 use Rattle.order_ints.specs.declared.cnf.Cnf.{Cnf}
 use Rattle.order_ints.specs.View.{resolve}
 use Rattle.decode_minimize.specs.declared.asking.Round.{Round}
+use Rattle.decode_minimize.specs.declared.asking.Round.TheVariants.{Last}
 use Rattle.learning_solver.specs.Outcome.{Logged}
 use Rattle.decode_minimize.specs.Heard.{IsHeard}
 use Rattle.decode_minimize.specs.Incumbents.{incumbent_behind}
@@ -23,20 +24,21 @@ pub ask-requires-clause-better : goal.ask-requires-clause-better
 ask-requires-clause-better g c =
     subst (λ (o : Option ℤ). IfSome o (λ n. False ≡ resolve c.args.sought.now.view.now (bound_of c.args.sought.now.direction c.args.sought.now.integer.now n))) (sym c.in_ok-seeker.ensures.incumbent) tt
 
-pub returns-in-Shown : goal.returns-in-Shown
-returns-in-Shown g c =
-    let shown = subst (λ (r : Round). IsRound c.ask.new.self.solver False r) c.in-Shown.is c.in_ok-ask.ensures.round in
+pub returns-in-Last-Shown : goal.returns-in-Last-Shown
+returns-in-Last-Shown g c =
+    let shown = subst (λ (r : Round). IsRound c.ask.new.self.solver False r) (c.in-Last-Shown.is ∙ ap Last c.in-Last-Shown.field-0-is) c.in_ok-ask.ensures.round in
     subst (IsRefuted c.args.cnf.now c.args.options) (sym c.into_lines.ensures)
     (first-refuted c.args.cnf.now c.in_ok-seeker.seeker.solver c.ask.new.self.solver c.args.options c.in_ok-seeker.ensures.solver c.ask.ensures.cnf c.into_log.result.lines c.into_log.ensures.lines
     c.into_log.ensures.accepted c.into_log.ensures.fresh c.into_log.ensures.readable c.ask.ensures.within c.ask.ensures.most shown)
 
-pub returns-in-Spent : goal.returns-in-Spent
-returns-in-Spent g c =
-    let was = c.in_ok-ask.was ∙ ap Ok c.in-Spent.is in
-    let unshown = subst (λ (r : Round). IsRound c.ask.new.self.solver False r) c.in-Spent.is c.in_ok-ask.ensures.round in
-    subst (IsGivenUp c.args.cnf.now c.args.options) (sym c.into_lines-in-Spent.ensures)
-    (first-given_up c.args.cnf.now c.in_ok-seeker.seeker.solver c.ask.new.self.solver c.args.options c.in_ok-seeker.ensures.solver c.ask.ensures.cnf c.into_log-in-Spent.result.lines c.into_log-in-Spent.ensures.lines
-    c.into_log-in-Spent.ensures.accepted c.into_log-in-Spent.ensures.fresh c.into_log-in-Spent.ensures.readable (c.ask.ensures.spent was) (c.ask.ensures.spent_early was) unshown)
+pub returns-in-Last-Spent : goal.returns-in-Last-Spent
+returns-in-Last-Spent g c =
+    let last = c.in-Last-Spent.is ∙ ap Last c.in-Last-Spent.field-0-is in
+    let was = c.in_ok-ask.was ∙ ap Ok last in
+    let unshown = subst (λ (r : Round). IsRound c.ask.new.self.solver False r) last c.in_ok-ask.ensures.round in
+    subst (IsGivenUp c.args.cnf.now c.args.options) (sym c.into_lines-in-Last-Spent.ensures)
+    (first-given_up c.args.cnf.now c.in_ok-seeker.seeker.solver c.ask.new.self.solver c.args.options c.in_ok-seeker.ensures.solver c.ask.ensures.cnf c.into_log-in-Last-Spent.result.lines c.into_log-in-Last-Spent.ensures.lines
+    c.into_log-in-Last-Spent.ensures.accepted c.into_log-in-Last-Spent.ensures.fresh c.into_log-in-Last-Spent.ensures.readable (c.ask.ensures.spent was) (c.ask.ensures.spent_early was) unshown)
 
 pub rounds_from-requires-clause-seeking : goal.rounds_from-requires-clause-seeking
 rounds_from-requires-clause-seeking g c =

@@ -71,6 +71,15 @@ static BESTS: [(&str, Option<&str>, u64); 5] = [
     ("s SATISFIABLE\nv -1 -2 -3 -4 0\n10 0 9 4 6 2 0\n", None, 2),
 ];
 
+/// Refutations of the first, without hints and with them, and a digit for each length of their fronts, from 0 on: the
+/// line that is refused, which is the one that is cut, or the one behind the last where nothing is shown; 0 where the
+/// front shows it. The first clause without hints is there already, and so stays when it is deleted; that of the third
+/// line shows the empty one.
+static FRONTS: [(&str, &str); 2] = [
+    ("1 2 0\nd 1 2 0\n1 0\n0\n", "111112222222233330000"),
+    ("5 1 0 1 2 0\n6 0 5 3 4 0\n", "1111111111122222222222200"),
+];
+
 /// Runs the mode, and asserts that it writes an answer.
 fn written_row(
     rt: &impl Abort,
@@ -131,6 +140,45 @@ fn best_values_are_answers(rt: HostRuntime) -> Result<(), Fail> {
             Some(answer) => written_row(&rt, rt.alloc(), FEWEST, second, answer)?,
             None => refused_row(&rt, rt.alloc(), FEWEST, second, *line)?,
         }
+    }
+    Ok(())
+}
+
+/// The digit at a place; 9 where there is none.
+fn digit_at(digits: &str, place: usize) -> u64 {
+    match digits.as_bytes().get(place) {
+        Some(digit) => u64::from(digit.wrapping_sub(b'0')),
+        None => 9,
+    }
+}
+
+/// Runs the mode on a front of a refutation, and asserts that it refuses a line, or for 0 that it writes the answer.
+fn front_row(rt: &impl Abort, alloc: Global, front: &[u8], line: u64) -> Result<(), Fail> {
+    let files = [("m.bee", PAIRS.as_bytes()), ("a.txt", front)];
+    let run = run_files(alloc, &["bee", "certify", "m.bee", "a.txt"], &files, AMPLE)?;
+    let told = format!(in alloc; "REFUSED {line}\n")?;
+    let wanted = if line == 0 {
+        REFUTED.as_bytes()
+    } else {
+        told.as_bytes()
+    };
+    assert!(rt; run.out.taken() == wanted, "{} bytes", front.len());
+    assert!(rt; (run.code == 0) == (line == 0), "{} bytes", front.len());
+    Ok(())
+}
+
+/// Asserts what comes of each front of a refutation, and of itself.
+fn fronts_row(rt: &impl Abort, alloc: Global, text: &[u8], lines: &str) -> Result<(), Fail> {
+    for length in 0..text.len() {
+        front_row(rt, alloc, &text[..length], digit_at(lines, length))?;
+    }
+    front_row(rt, alloc, text, digit_at(lines, text.len()))
+}
+
+#[test]
+fn refutations_are_cut_at_each_byte(rt: HostRuntime) -> Result<(), Fail> {
+    for (text, lines) in &FRONTS {
+        fronts_row(&rt, rt.alloc(), text.as_bytes(), lines)?;
     }
     Ok(())
 }

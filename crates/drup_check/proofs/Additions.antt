@@ -1,6 +1,6 @@
 -- A clause more in a store.
 use Rattle.std.proofs.Common.{◌≡◌, ◌≢◌, ℕ, ◌<◌, Bool, true, false, List, [], ◌∷◌, length, set, map, refl, sym, ap, ◌∙◌, subst, ◌⊎◌, inl, inr, ⊎_elim, Option, Some, None}
-use Rattle.std.specs.Prelude.{Contains, option_and_then, option_map, if◌then◌else◌}
+use Rattle.std.specs.Prelude.{Contains, IsTrue, ◌↔◌, option_and_then, option_map, if◌then◌else◌}
 use Rattle.std.proofs.lemmas.Bool.{or_cases, or_left, or_right, false≢true, cases_eq}
 use Rattle.std.proofs.lemmas.List.{get_or-set_other, get_or-set_same}
 use Rattle.order_ints.specs.declared.literal.Lit.{Lit}
@@ -9,6 +9,7 @@ use Rattle.order_ints.specs.declared.atom.Atom.TheVariants.{Of}
 use Rattle.order_ints.specs.Truth.{not_lit}
 use Rattle.order_ints.specs.View.{resolve}
 use Rattle.order_ints.specs.OrderedClauses.{same_lit, has_lit, has_opposites, by_variable, with_atom, resolved_lits, unless_opposites, ordered_clause}
+use Rattle.order_ints.specs.Equality.{same_lit-tells}
 use Rattle.order_ints.proofs.LitOrder.{same_lit-true, same_lit-refl, has_lit-by_variable, LitsAscend-by_variable}
 use Rattle.order_ints.proofs.Opposites.{VarsAscend-from_opposites}
 use Rattle.literal_trail.specs.Trail.{Trail}
@@ -185,4 +186,28 @@ idle-takes s lits o bottom complete = record {
   listed = λ cs listed one. listed;
   bottom = bottom;
   complete = complete;
+}
+
+-- nor one that is there already
+pub stored-stays : (s : ClauseLists) (lits : List Lit) → IsStored s.clauses lits → s.trail.level ≡ 0 → IsComplete s.trail.entries s.clauses → TakesIn s s lits
+stored-stays s lits st bottom complete = record {
+  stays = λ d h. h;
+  comes = λ d same. inl (record { reference = st.reference; live = st.live; same = λ l. ((λ has. (same l).0 ((st.same l).0 has)), (λ has. (st.same l).1 ((same l).1 has))) });
+  listed = λ cs listed one. listed;
+  bottom = bottom;
+  complete = complete;
+}
+
+-- the test of literals tells equality
+pub lit-equal : (x y : Lit) → IsTrue (same_lit x y) ↔ (x ≡ y)
+lit-equal x y = same_lit-tells x y
+
+-- a clause that has the literals of another, once put in order
+pub copy-stored : (clauses : List Clause) (c : ℕ) (lits one other : List Lit) → IsLive clauses c → IsOrderedAs (lits_of clauses c) (Some one) → IsOrderedAs lits (Some other) → one ≡ other → IsStored clauses lits
+copy-stored clauses c lits one other live first second e = record {
+  reference = c;
+  live = live;
+  same = λ l.
+      let across : Contains one l ↔ Contains lits l = (let P : List Lit → Type 0 = λ ls. Contains ls l ↔ Contains lits l in subst P (sym e) (second.1 l)) in
+      ((λ has. across.0 ((first.1 l).1 has)), (λ has. (first.1 l).0 (across.1 has)));
 }

@@ -25,7 +25,7 @@ pub enum Kept {
 }
 
 /// A clause with each literal once; none where it has a literal and its negation.
-fn ordered(alloc: Global, lits: &[Lit]) -> Result<Option<Sequence<Lit>>, AllocError>
+pub(crate) fn ordered(alloc: Global, lits: &[Lit]) -> Result<Option<Sequence<Lit>>, AllocError>
     ensures { IfOk result (IsOrderedAs lits.now) }
 {
     let atoms = atoms_of(alloc, lits)?;

@@ -19,11 +19,13 @@
 //! a text is a proof, no valuation makes the clauses true.
 //!
 //! Which clause a deletion takes from the watches is found by a sum over its literals, of which
-//! nothing is promised (`index.rt`): a clause that isn't found costs time alone.
+//! nothing is promised (`index.rt`): a clause that isn't found costs time alone. By that sum a
+//! clause is found that is watched already: it is counted, so that no watch meets its copies.
 #![tactic(auto)]
 
 mod aside;
 mod check;
+mod copies;
 mod fault;
 mod index;
 mod keeping;

@@ -11,7 +11,8 @@ ghost use Rattle.drup_check.specs.Denying.{Denying, DenialOf};
 use clause_rings::ClauseDb;
 use order_ints::Lit;
 
-/// Denies a literal, with what follows. The answer says whether it is true before that, or a clause is false then.
+/// Takes a literal to be false and propagates, and says whether that ends in a conflict, so that the literal is shown.
+/// Where it has a truth already, that is the answer, and nothing is taken.
 fn deny(db: &mut ClauseDb, l: Lit) -> bool
     requires lit { LitBelow (db.old.trail.vars + 1) l }
     requires complete { IsComplete db.old.trail.entries db.old.clauses }

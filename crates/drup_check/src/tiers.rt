@@ -67,7 +67,8 @@ impl Tiers {
         is_shown(&mut self.db, lits)
     }
 
-    /// Adds a clause to those that are watched. The answer says whether these show the empty one then.
+    /// Adds a clause to those that are watched; a copy of one of these is only counted. The answer says whether they
+    /// show the empty one then.
     fn take_in(&mut self, alloc: Global, lits: &[Lit]) -> Result<bool, AllocError>
         requires lits { (l : Lit) → Contains lits.now l → LitBelow (self.old.db.trail.vars + 1) l }
         requires bottom { self.old.db.trail.level ≡ 0 }
@@ -76,6 +77,9 @@ impl Tiers {
         ensures gone { IfOk result (λ _. self.new.gone ≡ self.old.gone) }
         ensures vars { IfOk result (λ _. self.new.db.trail.vars ≡ self.old.db.trail.vars) }
     {
+        if self.index.note_copy(alloc, &self.db, lits)? {
+            return Ok(false);
+        }
         match keep(alloc, &mut self.db, lits)? {
             Kept::Refutes(_) => Ok(true),
             Kept::Idle => Ok(false),
@@ -161,12 +165,12 @@ impl Tiers {
         Ok(())
     }
 
-    /// Takes a clause with these literals out of those that are watched, where one is found.
+    /// Takes a clause with these literals out of those that are watched, where one is found and no copy of it is left.
     pub(crate) fn delete(&mut self, alloc: Global, lits: &[Lit]) -> Result<(), AllocError>
         ensures stands { IfOk result (λ _. (cs : List (List Lit)) → Stands self.old cs → Stands self.new cs) }
         ensures vars { IfOk result (λ _. self.new.db.trail.vars ≡ self.old.db.trail.vars) }
     {
-        if let Some(c) = self.index.take(lits) {
+        if let Some(c) = self.index.take(lits)? {
             self.set_aside(alloc, c)?;
         }
         Ok(())

@@ -4,3 +4,4 @@ mod Said
 mod Adding
 mod Firsts
 mod Steps
+mod Exact

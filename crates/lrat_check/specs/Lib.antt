@@ -2,3 +2,4 @@ pub mod Hints
 pub mod LratLines
 pub mod Stored
 pub mod Kinds
+pub mod Laws

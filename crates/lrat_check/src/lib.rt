@@ -10,18 +10,20 @@
 //! by a hash, and the hints that are given count the clauses of the CNF and then the lines.
 //!
 //! What it promises: `check_lrat` gives lines exactly where the text is a proof from the CNF, and
-//! else the first line that fails, or the one behind the last (`IsLratEnd`). `is_lrat_text` tells a
-//! text with hints from one without by its first line. Nothing is promised of the lines that are
-//! given: who takes them has them checked.
+//! else the first line that fails, or the one behind the last (`IsLratEnd`), of which a text has one
+//! alone (`answer_laws`). `is_lrat_text` tells a text with hints from one without by its first line.
+//! Nothing is promised of the lines that are given: who takes them has them checked.
 #![tactic(auto)]
 
 mod check;
 mod follow;
 mod joined;
 mod kind;
+mod laws;
 mod standing;
 mod store;
 
 pub use check::{LratEnd, check_lrat};
 pub use kind::is_lrat_text;
+pub use laws::answer_laws;
 pub use store::HintedLine;

@@ -109,6 +109,11 @@ impl Finder {
         Ok(())
     }
 
+    /// Whether a clause is watched already, which is counted then.
+    fn is_known(&mut self, alloc: Global, lits: &[Lit]) -> Result<bool, AllocError> {
+        self.index.note_copy(alloc, &self.db, lits)
+    }
+
     /// Stores a clause. The answer says whether a clause is false then.
     fn store(&mut self, alloc: Global, lits: &[Lit], id: u64) -> Result<bool, AllocError> {
         if !is_ready(&mut self.db, lits) {
@@ -133,6 +138,9 @@ impl Finder {
         let Some(clause) = self.gone.pop() else {
             return Ok(true);
         };
+        if self.is_known(alloc, clause.lits.as_slice())? {
+            return Ok(false);
+        }
         if self.store(alloc, clause.lits.as_slice(), clause.id)? {
             self.end(alloc)?;
         }
@@ -172,7 +180,7 @@ impl Finder {
         }
     }
 
-    /// Takes a clause, with its hints.
+    /// Takes a clause, with its hints. A copy of one that is watched is only counted.
     fn add(&mut self, alloc: Global, lits: &[Lit]) -> Result<(), AllocError> {
         if self.refuted {
             return Ok(());
@@ -180,6 +188,9 @@ impl Finder {
         let Some(clause) = ordered(alloc, lits)? else {
             return Ok(());
         };
+        if self.is_known(alloc, clause.as_slice())? {
+            return Ok(());
+        }
         let Some(hints) = self.all_hints(alloc, clause.as_slice())? else {
             return Ok(());
         };
@@ -195,12 +206,12 @@ impl Finder {
         Ok(())
     }
 
-    /// Takes a clause with these literals out of those that are watched, where one is found.
+    /// Takes a clause with these literals out of those that are watched, where one is found and no copy of it is left.
     fn delete(&mut self, alloc: Global, lits: &[Lit]) -> Result<(), AllocError> {
         if self.refuted || !is_ready(&mut self.db, &[]) {
             return Ok(());
         }
-        let Some(c) = self.index.take(lits) else {
+        let Some(c) = self.index.take(lits)? else {
             return Ok(());
         };
         let _vars = self.db.vars();

@@ -1,17 +1,19 @@
 //! Refutations, with hints or without.
 
-ghost use Rattle.std.specs.Prelude.{◌≤◌, ◌^◌, IfOk, IfErr};
+ghost use Rattle.std.specs.Prelude.{◌≡◌, ℕ, ◌≤◌, ◌^◌, IfOk, IfErr, IsErrAnd};
 ghost use Rattle.order_ints.specs.Place.{InRange};
 ghost use Rattle.clause_rings.specs.Clauses.{AreApartIn};
-ghost use Rattle.lrat_check.specs.LratLines.{IsLrat};
+ghost use Rattle.drup_check.specs.Taken.{IsRefusalAt};
+ghost use Rattle.drup_check.specs.declared.fault.DrupFault.TheVariants.{Memory};
+ghost use Rattle.lrat_check.specs.LratLines.{IsLrat, LratFails};
 ghost use Rattle.proof_import.specs.Assumed.{with_assumed, IsAssumable, IsDerived};
-ghost use Rattle.proof_import.specs.Refutations.{LratFaultOf, IsRefutation, RefutationFaultOf};
+ghost use Rattle.proof_import.specs.Refutations.{LratFaultOf, IsRefutation, RefutationFails, RefutationFaultOf};
 
 use crate::assumed::with_assumed;
 use crate::import::{derived, judged};
 use bee_list::Sequence;
 use drup_check::{DrupFault, check_drup};
-use lrat_check::{LratEnd, check_lrat, is_lrat_text};
+use lrat_check::{LratEnd, answer_laws, check_lrat, is_lrat_text};
 use order_ints::{Cnf, Lit};
 use proof_check::ProofLine;
 use std::alloc::Global;
@@ -22,7 +24,10 @@ fn check_hinted(alloc: Global, cnf: &Cnf, text: &[u8]) -> Result<(), DrupFault>
     requires in_range { InRange cnf.now }
     ensures accepted { IfOk result (λ _. IsLrat cnf.now text.now) }
     ensures fault { IfErr result (LratFaultOf cnf.now text.now) }
+    ensures complete { IsLrat cnf.now text.now → IfErr result (λ e. e ≡ Memory) }
+    ensures exact { (line : ℕ) → LratFails cnf.now text.now line → IsErrAnd result (IsRefusalAt line) }
 {
+    answer_laws();
     match check_lrat(alloc, cnf, text)? {
         LratEnd::Refused(line) => Err(DrupFault::Refused(line)),
         LratEnd::Proof(_) => Ok(()),
@@ -44,7 +49,10 @@ fn hinted(
     ensures derived { IfOk result (IsDerived cnf.now assumed) }
     ensures accepted { IfOk result (λ _. IsLrat whole.now text.now) }
     ensures fault { IfErr result (LratFaultOf whole.now text.now) }
+    ensures complete { IsLrat whole.now text.now → IfErr result (λ e. e ≡ Memory) }
+    ensures exact { (line : ℕ) → LratFails whole.now text.now line → IsErrAnd result (IsRefusalAt line) }
 {
+    answer_laws();
     match check_lrat(alloc, whole, text)? {
         LratEnd::Refused(line) => Err(DrupFault::Refused(line)),
         LratEnd::Proof(found) => derived(alloc, cnf, assumed, found),
@@ -67,6 +75,8 @@ fn either(
     ensures derived { IfOk result (IsDerived cnf.now assumed) }
     ensures accepted { IfOk result (λ _. IsRefutation whole.now text.now) }
     ensures fault { IfErr result (RefutationFaultOf whole.now text.now) }
+    ensures complete { IsRefutation whole.now text.now → IfErr result (λ e. e ≡ Memory) }
+    ensures exact { (line : ℕ) → RefutationFails whole.now text.now line → IsErrAnd result (IsRefusalAt line) }
 {
     if is_lrat_text(text) {
         hinted(alloc, cnf, whole, assumed, text)
@@ -82,6 +92,8 @@ pub fn check_refutation(alloc: Global, cnf: &Cnf, text: &[u8]) -> Result<(), Dru
     requires apart { AreApartIn cnf.now }
     ensures accepted { IfOk result (λ _. IsRefutation cnf.now text.now) }
     ensures fault { IfErr result (RefutationFaultOf cnf.now text.now) }
+    ensures complete { IsRefutation cnf.now text.now → IfErr result (λ e. e ≡ Memory) }
+    ensures exact { (line : ℕ) → RefutationFails cnf.now text.now line → IsErrAnd result (IsRefusalAt line) }
 {
     if is_lrat_text(text) {
         check_hinted(alloc, cnf, text)
@@ -106,6 +118,9 @@ pub fn import_refutation(
     ensures derived { IfOk result (IsDerived cnf.now assumed) }
     ensures accepted { IfOk result (λ _. IsRefutation (with_assumed cnf.now assumed) text.now) }
     ensures fault { IfErr result (RefutationFaultOf (with_assumed cnf.now assumed) text.now) }
+    ensures complete { IsRefutation (with_assumed cnf.now assumed) text.now → IfErr result (λ e. e ≡ Memory) }
+    ensures exact { (line : ℕ) → RefutationFails (with_assumed cnf.now assumed) text.now line
+        → IsErrAnd result (IsRefusalAt line) }
 {
     let whole = with_assumed(alloc, cnf, assumed)?;
     either(alloc, cnf, &whole, assumed, text)

@@ -1,5 +1,5 @@
 use Rattle.std.proofs.lemmas.Result.{IfOk-weaker, IfErr-weaker}
-use Rattle.proof_import.proofs.ByKind.{with-hints, without-hints, hints-fault, plain-fault}
+use Rattle.proof_import.proofs.ByKind.{with-hints, without-hints, hints-fault, plain-fault, hints-of, plain-of, hints-fails, plain-fails}
 use Rattle.proof_import.proofs.refutation.check_refutation.Goals as goal
 
 pub returns-then-is_lrat_text-clause-accepted : goal.returns-then-is_lrat_text-clause-accepted
@@ -17,3 +17,15 @@ returns-else-is_lrat_text-clause-accepted c =
 pub returns-else-is_lrat_text-clause-fault : goal.returns-else-is_lrat_text-clause-fault
 returns-else-is_lrat_text-clause-fault c =
     IfErr-weaker c.check_drup.result _ _ (λ f h. plain-fault c.args.cnf.now c.args.text.now c.is_lrat_text.result c.is_lrat_text.ensures c.if-is_lrat_text.false f h) c.check_drup.ensures.fault
+
+pub returns-then-is_lrat_text-clause-complete : goal.returns-then-is_lrat_text-clause-complete
+returns-then-is_lrat_text-clause-complete c = λ h. c.check_hinted.ensures.complete (hints-of c.args.cnf.now c.args.text.now c.is_lrat_text.result c.is_lrat_text.ensures c.if-is_lrat_text.true h)
+
+pub returns-then-is_lrat_text-clause-exact : goal.returns-then-is_lrat_text-clause-exact
+returns-then-is_lrat_text-clause-exact c = λ line h. c.check_hinted.ensures.exact line (hints-fails c.args.cnf.now c.args.text.now c.is_lrat_text.result c.is_lrat_text.ensures c.if-is_lrat_text.true line h)
+
+pub returns-else-is_lrat_text-clause-complete : goal.returns-else-is_lrat_text-clause-complete
+returns-else-is_lrat_text-clause-complete c = λ h. c.check_drup.ensures.complete (plain-of c.args.cnf.now c.args.text.now c.is_lrat_text.result c.is_lrat_text.ensures c.if-is_lrat_text.false h)
+
+pub returns-else-is_lrat_text-clause-exact : goal.returns-else-is_lrat_text-clause-exact
+returns-else-is_lrat_text-clause-exact c = λ line h. c.check_drup.ensures.exact line (plain-fails c.args.cnf.now c.args.text.now c.is_lrat_text.result c.is_lrat_text.ensures c.if-is_lrat_text.false line h)

@@ -1,8 +1,11 @@
-use Rattle.std.proofs.Common.{◌≤◌, ◌^◌, IfOk, IfErr, sym, subst}
+use Rattle.std.proofs.Common.{◌≡◌, ℕ, ◌≤◌, ◌^◌, IfOk, IfErr, sym, subst}
+use Rattle.std.specs.Prelude.{IsErrAnd}
 use Rattle.order_ints.specs.declared.cnf.Cnf.{Cnf}
 use Rattle.order_ints.specs.Place.{InRange}
 use Rattle.clause_rings.specs.Clauses.{AreApartIn}
-use Rattle.proof_import.specs.Refutations.{IsRefutation, RefutationFaultOf}
+use Rattle.drup_check.specs.Taken.{IsRefusalAt}
+use Rattle.drup_check.specs.declared.fault.DrupFault.TheVariants.{Memory}
+use Rattle.proof_import.specs.Refutations.{IsRefutation, RefutationFails, RefutationFaultOf}
 use Rattle.proof_import.proofs.WithUnit.{assumed-range, assumed-apart}
 use Rattle.proof_import.proofs.refutation.import_refutation.Goals as goal
 
@@ -20,3 +23,9 @@ returns-clause-accepted c = subst (λ (w : Cnf). IfOk c.either.result (λ _. IsR
 
 pub returns-clause-fault : goal.returns-clause-fault
 returns-clause-fault c = subst (λ (w : Cnf). IfErr c.either.result (RefutationFaultOf w c.args.text.now)) c.in_ok-whole.ensures c.either.ensures.fault
+
+pub returns-clause-exact : goal.returns-clause-exact
+returns-clause-exact c = subst (λ (w : Cnf). (line : ℕ) → RefutationFails w c.args.text.now line → IsErrAnd c.either.result (IsRefusalAt line)) c.in_ok-whole.ensures c.either.ensures.exact
+
+pub returns-clause-complete : goal.returns-clause-complete
+returns-clause-complete c = subst (λ (w : Cnf). IsRefutation w c.args.text.now → IfErr c.either.result (λ e. e ≡ Memory)) c.in_ok-whole.ensures c.either.ensures.complete

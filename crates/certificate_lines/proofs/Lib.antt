@@ -1,3 +1,4 @@
 pub mod LineLaws
 pub mod Chains
 pub mod Leads
+pub mod NextValue

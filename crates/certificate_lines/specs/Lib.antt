@@ -1,2 +1,3 @@
 pub mod CertificateLines
 pub mod Laws
+pub mod NextValues

@@ -8,11 +8,12 @@
 //! (`specs/CertificateLines.antt`), for texts that are read by `line_texts`.
 //!
 //! What it promises: `read_value` gives the value of a name exactly where the line tells one of its
-//! domain. `take_step` and `take_derived` take a line exactly where it is the next one (`taken`),
-//! and say so; a line that is not is never made, and nothing of it is believed. `one_line_law`: a
-//! line leads to one state, one derivation, and tells one value. `word_law`: the words that begin
-//! the derivation and end the text are no lines of these. `certificate_law`: such lines, one behind
-//! the other, are a ledger from the state at the start and a derivation from the CNF.
+//! domain, and `push_value` puts that of the next name behind the others. `take_step` and
+//! `take_derived` take a line exactly where it is the next one (`taken`), and say so; a line that is
+//! not is never made, and nothing of it is believed. `one_line_law`: a line leads to one state, one
+//! derivation, and tells one value. `word_law`: the words that begin the derivation and end the text
+//! are no lines of these. `certificate_law`: such lines, one behind the other, are a ledger from the
+//! state at the start and a derivation from the CNF.
 //!
 //! Causes are not told, only whether a line is the next one; `ledger_check` tells causes and reads
 //! its lines itself, but for whether a number is in a domain (`is_value`). A text adds what begins a
@@ -21,10 +22,12 @@
 
 mod derivation;
 mod laws;
+mod next_value;
 mod steps;
 mod values;
 
 pub use derivation::{checker_of, take_derived};
 pub use laws::{certificate_law, one_line_law, word_law};
+pub use next_value::push_value;
 pub use steps::take_step;
 pub use values::{is, is_value, read_value};

@@ -1,14 +1,14 @@
 -- What comes of the lines behind the named statements.
-use Rattle.std.proofs.Common.{◌≡◌, ◌⊎◌, ◌↔◌, inl, inr, ℕ, zero, suc, ◌+◌, ◌<◌, ◌≤◌, Bool, true, false, List, [], ◌∷◌, ◌++◌, codes, length, ℤ, Option, None, Some, MatchOption, ⊎_elim, refl, sym, ap, ◌∙◌, subst, arith}
-use Rattle.std.specs.Prelude.{slice_get, IsTrue}
+use Rattle.std.proofs.Common.{◌≡◌, ◌⊎◌, ◌↔◌, inl, inr, ℕ, ◌+◌, ◌<◌, ◌≤◌, Bool, true, false, List, [], ◌∷◌, ◌++◌, codes, length, ℤ, Option, None, Some, ⊎_elim, refl, sym, ap, ◌∙◌, subst, arith}
+use Rattle.std.specs.Prelude.{IsTrue}
 use Rattle.std.proofs.lemmas.Bool.{true≢false, cases_lt}
-use Rattle.model_meaning.specs.declared.model.Decl.{Decl}
-use Rattle.model_meaning.specs.declared.model.Model.{Model}
 use Rattle.model_meaning.specs.Domains.{in_domains}
 use Rattle.step_kernel.specs.Kernel.{Kernel}
 use Rattle.step_kernel.specs.CnfOf.{cnf_of}
 use Rattle.proof_check.specs.Lrat.{Proof, proof_of}
-use Rattle.certificate_lines.specs.CertificateLines.{IsValueLine, IsStepLine, IsDerivedLine, IsTakenTo}
+use Rattle.certificate_lines.specs.NextValues.{IsPushed}
+use Rattle.certificate_lines.proofs.NextValue.{turn-less}
+use Rattle.certificate_lines.specs.CertificateLines.{IsStepLine, IsDerivedLine, IsTakenTo}
 use Rattle.core_text.specs.declared.part.Part.TheVariants as part
 use Rattle.core_text.specs.CoreLines.{Standing, without_line, IsConcluded, next_without, Continues, GoesOn, MeetsStatements, IsMet, NextIn}
 use Rattle.core_text.proofs.Words.{first_byte}
@@ -16,15 +16,10 @@ use Rattle.core_text.proofs.OneLine.{some-same, derived-letter, continues-letter
 use Rattle.core_text.proofs.WholeText.{all-valued}
 use Rattle.core_check.specs.declared.reading.Place.{Place}
 use Rattle.core_check.specs.declared.reading.Place.TheVariants as place
-use Rattle.core_check.specs.Readings.{part_at, IsToldNext, IsPushed}
+use Rattle.core_check.specs.Readings.{part_at}
 
 none-some : {A : Type 0} (o : Option A) (x : A) → o ≡ None → o ≡ Some x → ⊥
 none-some o x p q = cc
-
-pub turn-less : (ds : List Decl) (n : ℕ) (d : Decl) → slice_get ds n ≡ Some d → n < length ds
-turn-less [] n d e = absurd (none-some None d refl e)
-turn-less (c ∷ ds) zero d e = omega arith
-turn-less (c ∷ ds) (suc n) d e = let less = turn-less ds n d e in omega (arith, less)
 
 -- what a test says of a line
 pub not-taken : {S : Type 0} (Next : S → Type 0) (t : S) (b : Bool) → b ≡ false → IsTakenTo Next t b → (u : S) → Next u → ⊥
@@ -133,17 +128,6 @@ not-inside s out = (λ e. absurd (true≢false (sym e)), λ m. absurd (true≢fa
 -- a test that fails
 pub no-more : (a n : ℕ) (b : Bool) → (IsTrue b ↔ (a < n)) → b ≡ false → n ≤ a
 no-more a n b test e = ⊎_elim (λ (l : a < n). absurd (true≢false (sym (test.1 l) ∙ e))) (λ (l : n ≤ a). l) (cases_lt a n)
-
--- the value of the next name
-
-pub no-value : (model : Model) (values : List ℤ) (line : List ℕ) → length model.decls ≤ length values → (z : ℤ) → IsToldNext model values line z → ⊥
-no-value model values line full z h = let less = turn-less model.decls (length values) h.decl h.turn in omega (arith, full, less)
-
-pub next-told : (model : Model) (values : List ℤ) (line : List ℕ) (d : Decl) (r : Option ℤ) → slice_get model.decls (length values) ≡ Some d
-    → MatchOption r ((z : ℤ) → IsValueLine d line z → ⊥) (λ z. IsValueLine d line z) → MatchOption r ((z : ℤ) → IsToldNext model values line z → ⊥) (IsToldNext model values line)
-next-told model values line d None turn none =
-    λ z h. none z (subst (λ (x : Decl). IsValueLine x line z) (some-same h.decl d (slice_get model.decls (length values)) h.turn turn) h.told)
-next-told model values line d (Some z) turn told = record { decl = d; turn = turn; told = told }
 
 -- the end
 

@@ -1,10 +1,8 @@
 -- How far the lines behind the named statements were read, as a standing, and what comes of the next line.
-use Rattle.std.specs.Prelude.{◌≡◌, ℕ, ◌+◌, ◌≤◌, List, [], ◌∷◌, ◌++◌}
-use Rattle.std.specs.Prelude.{length, slice_get, ℤ, Option, None, Some}
-use Rattle.model_meaning.specs.declared.model.Decl.{Decl}
+use Rattle.std.specs.Prelude.{ℕ, ◌+◌, ◌≤◌, List}
+use Rattle.std.specs.Prelude.{length, Option, None, Some}
 use Rattle.model_meaning.specs.declared.model.Model.{Model}
 use Rattle.line_texts.specs.LineByLine.{IsWhole, FirstMisfit}
-use Rattle.certificate_lines.specs.CertificateLines.{IsValueLine}
 use Rattle.core_text.specs.declared.part.Part.{Part}
 use Rattle.core_text.specs.declared.part.Part.TheVariants as part
 use Rattle.core_text.specs.CoreLines.{Standing, MeetsStatements, IsNext, IsEnd}
@@ -35,18 +33,6 @@ standing_of model r = record {
 -- the statements hold that the assignment at hand must meet
 abbrev pub MeetsNow : Model → Reading → Type 0
 MeetsNow model r = MeetsStatements (standing_of model r) r.verdict
-
--- the line tells the value of the name behind those that have one
-pub record IsToldNext (model : Model) (values : List ℤ) (line : List ℕ) (z : ℤ) : Type 0 where
-  pub decl : Decl
-  pub turn : slice_get model.decls (length values) ≡ Some decl
-  pub told : IsValueLine decl line z
-
--- values with the one behind them that a line tells
-pub record IsPushed (model : Model) (values : List ℤ) (line : List ℕ) (more : List ℤ) : Type 0 where
-  pub value : ℤ
-  pub told : IsToldNext model values line value
-  pub behind : more ≡ values ++ value ∷ []
 
 -- a text is whole, or the line of a number is the first that fails
 abbrev pub ReadAs : Standing → List ℕ → Standing → Option ℕ → Type 0

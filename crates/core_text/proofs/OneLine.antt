@@ -2,12 +2,13 @@
 use Rattle.std.proofs.Common.{◌≡◌, ◌⊎◌, inl, inr, ℕ, zero, suc, ◌≤◌, List, [], ◌∷◌, ◌++◌, codes, length, Option, Some, None, sym, ap, subst, ◌∙◌, arith}
 use Rattle.std.specs.Prelude.{slice_get, ℤ}
 use Rattle.model_meaning.specs.declared.model.Decl.{Decl}
-use Rattle.model_meaning.specs.Limits.{KindInLimit, DeclsInLimit}
+use Rattle.model_meaning.specs.Limits.{DeclsInLimit}
 use Rattle.step_kernel.specs.Kernel.{Kernel}
 use Rattle.step_kernel.specs.CnfOf.{cnf_of}
 use Rattle.proof_check.specs.Lines.{line_bytes}
 use Rattle.proof_check.specs.Lrat.{Proof, proof_of}
 use Rattle.certificate_lines.specs.CertificateLines.{IsStepLine, IsDerivedLine, IsValueLine}
+use Rattle.certificate_lines.proofs.NextValue.{limit-at}
 use Rattle.certificate_lines.proofs.LineLaws.{one-value, one-step, one-derivation, no-step}
 use Rattle.answer_document.proofs.ProofLinesTell.{line-begins}
 use Rattle.core_text.specs.declared.verdict.CoreVerdict.{CoreVerdict}
@@ -34,11 +35,6 @@ continues-letter s t None line h = rw h.0 (omega arith)
 continues-one : (s t u : Standing) (o : Option ℕ) (line : List ℕ) → Continues s o line t → Continues s o line u → t ≡ u
 continues-one s t u (Some n) line p q = p.1 ∙ sym q.1
 continues-one s t u None line p q = p.1 ∙ sym q.1
-
-pub limit-at : (ds : List Decl) (i : ℕ) (d : Decl) → DeclsInLimit ds → slice_get ds i ≡ Some d → KindInLimit d.kind
-limit-at [] i d h e = absurd (cc)
-limit-at (x ∷ ds) zero d h e = let same : x ≡ d = cc in subst (λ (y : Decl). KindInLimit y.kind) same h.0
-limit-at (x ∷ ds) (suc i) d h e = limit-at ds i d h.1 e
 
 pub no-turn : (ds : List Decl) (i : ℕ) (d : Decl) → slice_get ds i ≡ Some d → i ≡ length ds → ⊥
 no-turn [] i d e l = cc

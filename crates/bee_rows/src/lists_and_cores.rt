@@ -339,7 +339,7 @@ fn refusal_row(rt: &impl Abort, alloc: Global, mode: &str, row: &Refusal) -> Res
         out: out.as_bytes(),
         err: err.as_bytes(),
     };
-    shows(rt, &run, &wanted, &[mode, text]);
+    shows(rt, &run, &wanted, &[model, text]);
     Ok(())
 }
 

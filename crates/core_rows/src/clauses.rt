@@ -45,6 +45,7 @@ fn letter(literal: Lit) -> u8 {
     first.saturating_add(u8::try_from(literal.var.saturating_sub(1)).unwrap_or(0))
 }
 
+/// Adds a clause as its literals' letters, a small one for a positive literal, and a blank.
 fn show_clause(text: &mut Vec<u8>, literals: &[Lit]) -> Result<(), AllocError> {
     for literal in literals {
         text.push(letter(*literal))?;

@@ -246,7 +246,7 @@ fn gaps(alloc: Global) -> Result<Model, AllocError> {
     })
 }
 
-/// The first statement of that model that doesn't hold under some values.
+/// The number of the first statement of the model with gaps that doesn't hold under the values listed for its names.
 fn broken_gap(alloc: Global, numbers: &str) -> Result<Option<u64>, Fail> {
     let a = assignment(alloc, numbers)?;
     let model = gaps(alloc)?;

@@ -44,7 +44,7 @@ fn column(alloc: Global, size: u64, row: u64) -> Result<Decl, AllocError>
     })
 }
 
-/// The column and the number of the row added, which tell one diagonal.
+/// The integer that is a row's column and number added: queens on one falling diagonal have the same.
 fn sum(alloc: Global, size: u64, row: u64) -> Result<Decl, AllocError>
     requires size { size ≤ 24 }
     requires row { row < 24 }

@@ -139,7 +139,8 @@ fn atom_at(ints: &[OrdInt], place: usize) -> Atom
     }
 }
 
-/// The equation of a member's atom with that of the member at another place.
+/// Of two members with the same two values each takes what the other doesn't: a member's atom is the negation of the
+/// atom of the member at another place, where there is one.
 fn apart_from(
     ints: &[OrdInt],
     atom: Atom,

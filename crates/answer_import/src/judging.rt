@@ -5,7 +5,8 @@ ghost use Rattle.order_ints.specs.OrderedClauses.{ClausesAscend};
 ghost use Rattle.order_ints.specs.Place.{InRange};
 ghost use Rattle.answer_import.specs.declared.judging.Found.TheVariants as found;
 ghost use Rattle.answer_import.specs.Imports.{IsFound};
-ghost use Rattle.answer_import.specs.Judging.{IsTask, sought_in, IsFoundBehind, IsFoundBest, IsFoundAlone, IsFoundRefuted};
+ghost use Rattle.answer_import.specs.Judging.{IsTask, sought_in, IsFoundBehind, IsFoundBest, IsFoundAlone};
+ghost use Rattle.answer_import.specs.Judging.{IsFoundRefuted};
 
 use crate::cut::{Cut, cut_front};
 use crate::refuting::refutation;

@@ -19,7 +19,7 @@ use literal_trail::LiteralTrail;
 use order_ints::{Cnf, Lit};
 use std::alloc::{AllocError, Global};
 
-/// Adds blockers, for which there is room.
+/// Adds blockers that are no literal yet (0), one for each new node. Their room was made before, so this never fails.
 fn push_blockers(blockers: &mut Vec<u32>, more: usize)
     requires { vec_len blockers.old + more ≤ vec_capacity blockers.old }
     ensures { blockers.new.items ≡ blockers.old.items ++ replicate more 0 }

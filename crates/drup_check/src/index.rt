@@ -1,5 +1,5 @@
-//! Where clauses are found by their literals, and how often each was noted. Of what is found nothing is promised but that
-//! a copy is one: a clause that isn't found stays where it is.
+//! Where clauses are found by their literals, and how often each was noted. Of what is found nothing is promised but
+//! that a copy is one: a clause that isn't found stays where it is.
 
 ghost use Rattle.std.specs.Prelude.{◌≡◌, IfOk, IsTrue};
 ghost use Rattle.clause_arena.specs.Clauses.{IsLive};

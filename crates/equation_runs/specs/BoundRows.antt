@@ -22,8 +22,8 @@ literals (True ∷ atoms) = literals atoms
 literals (False ∷ atoms) = literals atoms
 literals (Of l ∷ atoms) = Of l ∷ literals atoms
 
--- of integers that make up k, where their greatest values add up to `highs`: that each is at least what the others leave it; and where their
--- least values add up to `lows`: that it is more than that
+-- of integers that make up k, where their greatest values add up to `highs`: that each is at least what the others
+-- leave it; and where their least values add up to `lows`: that it is more than that
 abbrev pub lower_atoms : ℤ → ℤ → List OrdInt → List Atom
 lower_atoms k highs ints = map (λ a. at_of a (k -ℤ (highs -ℤ high_of a))) ints
 
@@ -56,9 +56,10 @@ count_bounds ls c =
     if int_eq (low_of c) (pos (length ls)) then members_bound ls c True
     else only_if (int_eq (high_of c) (pos 0)) (members_bound ls c False)
 
--- What is told once those before it are made, where the atoms of the core are literals of different variables: the members of a conjunction that is
--- true; those of a count at its least or greatest value; what a sum, or a maximum, leaves its members; and that of two members that differ, with the
--- same two values, each has the one that the other has not.
+-- What is told once those before it are made, where the atoms of the core are literals of different variables: the
+-- members of a conjunction that is true; those of a count at its least or greatest value; what a sum, or a maximum,
+-- leaves its members; and that of two members that differ, with the same two values, each has the one that the other
+-- has not.
 abbrev pub bound_pairs : Core → List (Atom × Atom)
 bound_pairs (Ladder a) = []
 bound_pairs (Clause ls) = []

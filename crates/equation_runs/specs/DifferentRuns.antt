@@ -1,8 +1,9 @@
--- Which equations all-different tells in turn: value by value, that a sure member hasn't what others take, a sure constant or two members with the same
--- two values of which each has the one that the other has not. A constant stays one whatever becomes of the store, and of such two members each has one
--- of the two for good; so each of these is made or told in every view. They hold only pairs of different atoms: a run is no longer than what is not made
--- yet. That of two members with the same two values each has the one that the other has not stands before them in a run (`twin_pairs`). A pigeonhole is no
--- part of one: an equation before it may give its value to another member.
+-- Which equations all-different tells in turn: value by value, that a sure member hasn't what others take, a sure
+-- constant or two members with the same two values of which each has the one that the other has not. A constant stays
+-- one whatever becomes of the store, and of such two members each has one of the two for good; so each of these is made
+-- or told in every view. They hold only pairs of different atoms: a run is no longer than what is not made yet. That of
+-- two members with the same two values each has the one that the other has not stands before them in a run
+-- (`twin_pairs`). A pigeonhole is no part of one: an equation before it may give its value to another member.
 use Rattle.std.specs.Prelude.{nat_le, ℕ, Bool, true, false, not, ◌&&◌, ◌||◌, List, [], ◌∷◌, ◌++◌, length, ℤ, pos, ◌+ℤ◌, Option, None, Some, if◌then◌else◌}
 use Rattle.std.specs.Ordering.{int_eq}
 use Rattle.order_ints.specs.declared.atom.Atom.{Atom}
@@ -57,7 +58,8 @@ is_open (Of l) = true
 abbrev pub condition_pair : (ℤ → Bool) → Atom → OrdInt → List (Atom × Atom)
 condition_pair held c a = only_if (is_open c && (is_constant a && held (low_of a))) ((c, False) ∷ [])
 
--- an integer has one value or two, which are taken: so are those of a sure constant, and of members with the same two values
+-- an integer has one value or two, which are taken: so are those of a sure constant, and of members with the same two
+-- values
 abbrev pub is_spent : (ℤ → Bool) → OrdInt → Bool
 is_spent taken a = nat_le (length a.steps) 1 && (taken (low_of a) && taken (high_of a))
 

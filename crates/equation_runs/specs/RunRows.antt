@@ -1,5 +1,5 @@
--- Which equations are told in turn: those that follow along the steps of an integer from one constant step, and those that link two
--- integers value by value.
+-- Which equations are told in turn: those that follow along the steps of an integer from one constant step, and those
+-- that link two integers value by value.
 use Rattle.std.specs.Prelude.{ℕ, pos, List, [], ◌∷◌, ◌++◌, map, reverse, if◌then◌else◌}
 use Rattle.order_ints.specs.declared.atom.Atom.{Atom}
 use Rattle.order_ints.specs.declared.atom.Atom.TheVariants.{True, False}
@@ -31,7 +31,8 @@ abbrev pub behind : Atom → List (Atom × ℕ) → List (Atom × Atom)
 behind constant [] = []
 behind constant (s ∷ steps) = if same_atom s.0 constant then all_equal (map (λ t. t.0) steps) constant else behind constant steps
 
--- above the lowest False step of an integer each one is false, upwards; below the highest True one each is true, downwards
+-- above the lowest False step of an integer each one is false, upwards; below the highest True one each is true,
+-- downwards
 abbrev pub chain_pairs : OrdInt → List (Atom × Atom)
 chain_pairs a = behind False a.steps ++ behind True (reverse a.steps)
 
@@ -45,9 +46,10 @@ abbrev pub prod_constants : OrdInt → OrdInt → OrdInt → List (Atom × Atom)
 prod_constants a b c =
     only_if (is_constant a) (scaled_equations (low_of a) b c) ++ only_if (is_constant b) (scaled_equations (low_of b) a c)
 
--- What is told whatever the store makes of the core. Two integers that are equal, two of a sum whose third is constant, a product by a constant, and
--- a greatest member at the values that it alone reaches: for each value of one what the other has there. Beside a True member of at-most-one
--- each other one is false. And of members that differ what constants and twins among them exclude.
+-- What is told whatever the store makes of the core. Two integers that are equal, two of a sum whose third is constant,
+-- a product by a constant, and a greatest member at the values that it alone reaches: for each value of one what the
+-- other has there. Beside a True member of at-most-one each other one is false. And of members that differ what
+-- constants and twins among them exclude.
 abbrev pub link_pairs : Core → List (Atom × Atom)
 link_pairs (Ladder a) = []
 link_pairs (Clause ls) = []

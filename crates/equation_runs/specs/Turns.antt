@@ -39,16 +39,17 @@ abbrev pub AreMade : List Atom → List Equation → Type 0
 AreMade view [] = Unit {0}
 AreMade view (e ∷ es) = IsMade view e × AreMade view es
 
--- What a store has become since a core was looked at that stood as the store had it, by these equations alone: each of them is made; and where
--- they name variables of the core alone, each other variable of the core is its own label still, and the label of each one that they name is a
--- constant, or a literal of a variable that they name.
+-- What a store has become since a core was looked at that stood as the store had it, by these equations alone: each of
+-- them is made; and where they name variables of the core alone, each other variable of the core is its own label
+-- still, and the label of each one that they name is a constant, or a literal of a variable that they name.
 pub record IsBehind (core : Core) (done : List Equation) (view : List Atom) : Type 0 where
   pub labelled : IsLabelled view
   pub made : AreMade view done
   pub still : AreAmong (equations_vars done) (core_vars core) → (v : ℕ) → Contains (core_vars core) v → (Contains (equations_vars done) v → ⊥) → IsOwnLabel view v
   pub inside : AreAmong (equations_vars done) (core_vars core) → (v : ℕ) → Contains (equations_vars done) v → AreAmong (atom_vars (label_of view v)) (equations_vars done)
 
--- Each equation of a list is made or told once those before it are made, and those that were made before the list, the newest first.
+-- Each equation of a list is made or told once those before it are made, and those that were made before the list, the
+-- newest first.
 abbrev pub AreToldFrom : (Core → Equation → Type 0) → Core → List Equation → List Equation → Type 0
 AreToldFrom told core done [] = Unit {0}
 AreToldFrom told core done (e ∷ es) = ((view : List Atom) → IsBehind core done view → IsMadeOrTold told core view e) × AreToldFrom told core (e ∷ done) es
@@ -57,8 +58,8 @@ AreToldFrom told core done (e ∷ es) = ((view : List Atom) → IsBehind core do
 abbrev pub AreToldInTurn : (Core → Equation → Type 0) → Core → List Equation → Type 0
 AreToldInTurn told core es = AreToldFrom told core [] es
 
--- The same of a list of which no equation needs more than that the one before it is made: after an equation each of the list is made or told in
--- every view in which the one before it is made.
+-- The same of a list of which no equation needs more than that the one before it is made: after an equation each of the
+-- list is made or told in every view in which the one before it is made.
 abbrev pub AreToldAfter : (Core → Equation → Type 0) → Core → Equation → List Equation → Type 0
 AreToldAfter told core before [] = Unit {0}
 AreToldAfter told core before (e ∷ es) = ((view : List Atom) → IsMade view before → IsMadeOrTold told core view e) × AreToldAfter told core e es
@@ -76,7 +77,8 @@ abbrev pub EquationsBelow : ℕ → List Equation → Type 0
 EquationsBelow n [] = Unit {0}
 EquationsBelow n (e ∷ es) = (AtomBelow n e.a × AtomBelow n e.b) × EquationsBelow n es
 
--- What is left of a run, in a view that some equations made: these are over its variables, and what is left is told once they are made.
+-- What is left of a run, in a view that some equations made: these are over its variables, and what is left is told
+-- once they are made.
 pub record AreInTurn (told : Core → Equation → Type 0) (core : Core) (view : List Atom) (es : List Equation) : Type 0 where
   pub done : List Equation
   pub behind : IsBehind core done view

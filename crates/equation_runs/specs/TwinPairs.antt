@@ -1,4 +1,5 @@
--- Which equations say that of two members of an all-different constraint with the same two values each has the one that the other has not.
+-- Which equations say that of two members of an all-different constraint with the same two values each has the one that
+-- the other has not.
 use Rattle.std.specs.Prelude.{ℕ, not, List, [], ◌∷◌, length, Option, None, Some}
 use Rattle.order_ints.specs.declared.atom.Atom.{Atom}
 use Rattle.order_ints.specs.declared.order_int.OrdInt.{OrdInt}

@@ -1,4 +1,5 @@
--- Which values two members of an all-different constraint take that have the same two values, where each has the one that the other has not.
+-- Which values two members of an all-different constraint take that have the same two values, where each has the one
+-- that the other has not.
 use Rattle.std.specs.Prelude.{ℕ, zero, suc, Bool, false, ◌&&◌, ◌||◌, List, [], ◌∷◌, ℤ, Option, None, Some, if◌then◌else◌}
 use Rattle.std.specs.Option.{option_or}
 use Rattle.std.specs.Ordering.{int_eq, is_eq}
@@ -17,7 +18,8 @@ abbrev pub first_weight : List (Atom × ℕ) → ℕ
 first_weight [] = 0
 first_weight (s ∷ steps) = s.1
 
--- the lower one of the two values of the member at a place, and by what the other one is greater, if it is sure and has two
+-- the lower one of the two values of the member at a place, and by what the other one is greater, if it is sure and has
+-- two
 abbrev pub choice_at : List OrdInt → List Atom → ℕ → Option (ℤ × ℕ)
 choice_at ints cs i =
     if is_sure cs i && has_two_values (int_at ints i) then Some (low_of (int_at ints i), first_weight (int_at ints i).steps) else None

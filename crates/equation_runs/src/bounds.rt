@@ -11,7 +11,8 @@ ghost use Rattle.rule_base.specs.Pairs.{only_if};
 ghost use Rattle.rule_base.specs.Stated.{all_equal};
 ghost use Rattle.equation_runs.specs.FreeAtoms.{are_free};
 ghost use Rattle.equation_runs.specs.RunRows.{equation_of};
-ghost use Rattle.equation_runs.specs.BoundRows.{literals, lower_atoms, upper_atoms, free_bound, ints_bound, members_bound, count_bounds, bound_pairs};
+ghost use Rattle.equation_runs.specs.BoundRows.{literals, lower_atoms, upper_atoms, free_bound, ints_bound};
+ghost use Rattle.equation_runs.specs.BoundRows.{members_bound, count_bounds, bound_pairs};
 
 use crate::free::{are_all_free, are_free, are_free_beside, are_ints_free};
 use crate::links::push_pair;
@@ -292,8 +293,8 @@ fn push_max(
 }
 
 /// Adds what a core tells of its members once what it told before is made: that each member of a true conjunction, or
-/// of a count at an end, is a constant, what the others leave each member of a sum or a maximum, and that of two members
-/// that differ, with the same two values, each has the one that the other has not.
+/// of a count at an end, is a constant, what the others leave each member of a sum or a maximum, and that of two
+/// members that differ, with the same two values, each has the one that the other has not.
 pub(crate) fn push_bounds(
     alloc: Global,
     run: &mut Vec<Equation>,

@@ -10,7 +10,9 @@ ghost use Rattle.order_ints.specs.OrderLevels.{values_of};
 ghost use Rattle.rule_base.specs.Constant.{is_constant};
 ghost use Rattle.rule_base.specs.Pairs.{only_if};
 ghost use Rattle.equation_runs.specs.RunRows.{equation_of};
-ghost use Rattle.equation_runs.specs.DifferentRuns.{constant_at, is_held, is_shared, is_open, is_spent, apart_pair, apart_pairs, condition_pair, excluded_pairs, member_pairs, members_pairs, different_pairs};
+ghost use Rattle.equation_runs.specs.DifferentRuns.{constant_at, is_held, is_shared, is_open, is_spent, apart_pair};
+ghost use Rattle.equation_runs.specs.DifferentRuns.{apart_pairs, condition_pair, excluded_pairs, member_pairs};
+ghost use Rattle.equation_runs.specs.DifferentRuns.{members_pairs, different_pairs};
 
 use crate::links::push_pair;
 use crate::twins::shared_values;

@@ -118,15 +118,16 @@ fn equations_in_turn(alloc: Global, core: &Core) -> Result<Vec<Equation>, AllocE
     Ok(run)
 }
 
-/// Equations that a core tells one after another. First what is told once those before it are made: that the
-/// members of a true conjunction, or of a count at an end, are all constants, what the others leave each member
-/// of a sum or a maximum, and that two members that differ, with the same two values, have not one of them. Then what is told whatever the store makes of the core: upwards along the steps of each
-/// integer from a False one, and downwards from a True one; between two of its integers, where these are equal,
-/// where one is the other with a constant added or multiplied, or where they make up a constant; between a
-/// maximum and the member that alone leads; beside a True member of at-most-one; and of members that differ, that
-/// none has the value of another one that is constant, or one of the two that two others have for themselves. So
-/// one look at a core is enough for all of them, where each would else cost one of its own. Its time is that of
-/// one sort of the core's variables, and near-linear in the core besides. It counts one step.
+/// Equations that a core tells one after another. First what is told once those before it are made: that the members of
+/// a true conjunction, or of a count at an end, are all constants, what the others leave each member of a sum or a
+/// maximum, and that two members that differ, with the same two values, have not one of them. Then what is told
+/// whatever the store makes of the core: upwards along the steps of each integer from a False one, and downwards from a
+/// True one; between two of its integers, where these are equal, where one is the other with a constant added or
+/// multiplied, or where they make up a constant; between a maximum and the member that alone leads; beside a True
+/// member of at-most-one; and of members that differ, that none has the value of another one that is constant, or one
+/// of the two that two others have for themselves. So one look at a core is enough for all of them, where each would
+/// else cost one of its own. Its time is that of one sort of the core's variables, and near-linear in the core besides.
+/// It counts one step.
 pub fn run_of<L: Ledger>(
     alloc: Global,
     core: &Core,

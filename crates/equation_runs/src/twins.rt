@@ -1,6 +1,7 @@
 //! Which values members with the same two values take.
 
-ghost use Rattle.std.specs.Prelude.{◌≡◌, ◌<◌, ◌+◌, ◌^◌, ◌||◌, ℤ, ℕ, Some, length, unsigned_abs, IfOk, IfSome, MatchOption, OnOk};
+ghost use Rattle.std.specs.Prelude.{◌≡◌, ◌<◌, ◌+◌, ◌^◌, ◌||◌, ℤ, ℕ, Some, length, unsigned_abs, IfOk, IfSome};
+ghost use Rattle.std.specs.Prelude.{MatchOption, OnOk};
 ghost use Rattle.std.specs.BTreeMap.{get, Updates};
 ghost use Rattle.std.specs.BTreeSet.{contains};
 ghost use Rattle.std.specs.Ordering.{int_cmp, int_eq};

@@ -293,8 +293,8 @@ fn statements_of(
 }
 
 /// Which statements of a model its refutation used, by their places; none where that can't be told. The ledger is that
-/// of the model's compilation, and the derivation one of the empty clause from its last clauses, or of anything where the
-/// ledger ends in a contradiction.
+/// of the model's compilation, and the derivation one of the empty clause from its last clauses, or of anything where
+/// the ledger ends in a contradiction.
 ///
 /// The steps are made again, which takes about as long as the compilation. It can't be told where a step can't be made,
 /// or where too many equations are told of long cores.

@@ -81,7 +81,8 @@ fn multiplies<T: TruthValues>(a: &OrdInt, b: &OrdInt, c: &OrdInt, sigma: T) -> b
     are_same(product(a.value(sigma), b.value(sigma)), c.value(sigma))
 }
 
-/// Whether an integer times another is the third.
+/// Whether an integer times another is the third under a valuation. One whose atoms are out of order there has no
+/// value, so that this is false: each is looked at before the values are multiplied.
 pub(super) fn is_product<T: TruthValues>(a: &OrdInt, b: &OrdInt, c: &OrdInt, sigma: T) -> bool
     requires sound_a { IsSound a.now }
     requires sound_b { IsSound b.now }

@@ -69,7 +69,8 @@ fn row_text(alloc: Global, size: u8, row: u8) -> Result<String, AllocError> {
     let (sum, most) = (1 + i, n + i);
     let (least, difference) = (1 - i, n - i);
     format!(in alloc;
-        "new_int(q{i},1,{n})\nnew_int(a{i},{sum},{most})\nint_plus(q{i},{i},a{i})\nnew_int(d{i},{least},{difference})\nint_plus(q{i},-{i},d{i})\n"
+        "new_int(q{i},1,{n})\nnew_int(a{i},{sum},{most})\nint_plus(q{i},{i},a{i})\n\
+         new_int(d{i},{least},{difference})\nint_plus(q{i},-{i},d{i})\n"
     )
 }
 

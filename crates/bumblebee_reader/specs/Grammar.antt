@@ -68,7 +68,8 @@ SpellsObjectives ts name second =
 -- satisfy`; or `solve minimize` or `solve maximize`, an objective, and then optionally `then` and another
 abbrev pub SpellsItem : List Token → Item → Type 0
 SpellsItem ts (Call name args) =
-    (name ≢ codes "solve") × (name ≢ codes "then") × (us : List Token) × (ts ≡ Word name ∷ Mark OpenCall ∷ (us ++ Mark CloseCall ∷ [])) × SpellsArgs us args
+    (name ≢ codes "solve") × (name ≢ codes "then") × (us : List Token)
+    × (ts ≡ Word name ∷ Mark OpenCall ∷ (us ++ Mark CloseCall ∷ [])) × SpellsArgs us args
 SpellsItem ts (Goal Satisfy None None) = ts ≡ Word (codes "solve") ∷ Word (codes "satisfy") ∷ []
 SpellsItem ts (Goal Satisfy None (Some second)) = ⊥
 SpellsItem ts (Goal Satisfy (Some name) second) = ⊥

@@ -91,7 +91,9 @@ behind_item i (Done j place) = Misfit
 -- the kind of goal that a word names
 abbrev pub goal_kind : List ℕ → Option GoalKind
 goal_kind word =
-    if bytes_eq word (codes "satisfy") then Some Satisfy else (if bytes_eq word (codes "minimize") then Some Minimize else (if bytes_eq word (codes "maximize") then Some Maximize else None))
+    if bytes_eq word (codes "satisfy") then Some Satisfy else
+    (if bytes_eq word (codes "minimize") then Some Minimize else
+    (if bytes_eq word (codes "maximize") then Some Maximize else None))
 
 -- a goal goes on behind its kind
 abbrev pub begin_goal : Option GoalKind → Move

@@ -34,7 +34,8 @@ IsSpellableSecond None = Unit {0}
 IsSpellableSecond (Some name) = is_name name ≡ true
 
 abbrev pub IsSpellableItem : Item → Type 0
-IsSpellableItem (Call name args) = (is_name name ≡ true) × (name ≢ codes "solve") × (name ≢ codes "then") × (args ≢ []) × AreSpellableArgs args
+IsSpellableItem (Call name args) =
+    (is_name name ≡ true) × (name ≢ codes "solve") × (name ≢ codes "then") × (args ≢ []) × AreSpellableArgs args
 IsSpellableItem (Goal Satisfy None None) = Unit {0}
 IsSpellableItem (Goal Satisfy None (Some second)) = ⊥
 IsSpellableItem (Goal Satisfy (Some name) second) = ⊥

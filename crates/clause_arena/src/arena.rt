@@ -39,7 +39,8 @@ impl Model for ClauseArena {
 
     ghost view = { λ s. arena_of s.codes.items s.spans.items s.ids.items s.order s.spare s.dead };
 
-    ghost invariant = { λ s. IsKept s.codes.items s.spans.items s.ids.items s.order s.spare s.dead (vec_capacity s.codes)
+    ghost invariant = { λ s.
+        IsKept s.codes.items s.spans.items s.ids.items s.order s.spare s.dead (vec_capacity s.codes)
         × AreMarked s.live.items s.order };
 }
 

@@ -56,3 +56,6 @@ given_text text written h c = headline text written (within_limit text h) c
 -- the fault of a text within the limit
 pub had_fault : (text : List ℕ) (f : ModelFault) → length text < 16777217 → IsFirstFault text f → HasFault text f
 had_fault text f h first = inr (within_limit text h, first)
+
+-- what a text that is made, and one that has a fault, give
+pub ruleset ends = (given_text, had_fault, within_limit)

@@ -33,7 +33,7 @@ impl OneText for Compiling {
         ModelFault::TooLong
     }
 
-    #[tactic(auto, using(crate::proofs::Ends::given_text, crate::proofs::Ends::had_fault, crate::proofs::Ends::within_limit))]
+    #[tactic(auto, using(crate::proofs::Ends::ends))]
     fn make(&self, alloc: Global, text: &[u8]) -> Result<Made<ModelFault>, AllocError> {
         match compile_text(alloc, text) {
             Ok(written) => Ok(Made::Text(Outcome::Done, written)),

@@ -29,8 +29,10 @@ pub fn follow<T: Reasons>(
     requires ordered { AreOrdered (T.trail source.now).entries (T.named source.now) marks.old.cells minimiser.now.cells
         order.now }
     ensures followed { OnOk result ((spare : List Lit) (bound : ℕ) (conflict : Named) →
-        IsFollowing (T.trail source.now).entries (T.named source.now) spare bound conflict minimiser.now.cells order.now marks.old.cells hints.old.items (length order.now) →
-        IsFollowing (T.trail source.now).entries (T.named source.now) spare bound conflict minimiser.now.cells order.now marks.new.cells hints.new.items 0) }
+        IsFollowing (T.trail source.now).entries (T.named source.now) spare bound conflict
+        minimiser.now.cells order.now marks.old.cells hints.old.items (length order.now) →
+        IsFollowing (T.trail source.now).entries (T.named source.now) spare bound conflict
+        minimiser.now.cells order.now marks.new.cells hints.new.items 0) }
     ensures size { length marks.new.cells ≡ length marks.old.cells }
 {
     for k in (0..order.len()).rev() {

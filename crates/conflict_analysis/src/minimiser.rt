@@ -192,7 +192,8 @@ impl Minimiser {
         requires seeking { IsSeeking (T.trail source.now).entries (T.named source.now) met.now.cells
             self.old.marks.cells (self.old.stack.items ++ frame ∷ []) self.old.order.items }
         ensures stepped { OnOk result (IsStepped (T.trail source.now).entries (T.named source.now) met.now.cells
-            self.old.marks.cells (self.old.stack.items ++ frame ∷ []) self.new.marks.cells self.new.stack.items self.new.order.items) }
+            self.old.marks.cells (self.old.stack.items ++ frame ∷ [])
+            self.new.marks.cells self.new.stack.items self.new.order.items) }
         ensures size { length self.new.marks.cells ≡ length self.old.marks.cells }
     {
         let clause = reason(source, frame.var);

@@ -35,7 +35,8 @@ pub fn walk<T: Reasons>(
     requires level { level ≡ (T.trail source.now).level }
     requires blank { marks.old.cells ≡ replicate ((T.trail source.now).vars + 1) Mark.Blank }
     requires hints { hints.old.items ≡ [] }
-    ensures walked { IfOk result (λ first. IsWalked (T.trail source.now) (T.named source.now) (T.named source.now conflict)
+    ensures walked { IfOk result (λ first.
+        IsWalked (T.trail source.now) (T.named source.now) (T.named source.now conflict)
         marks.new.cells hints.new.items first) }
     ensures size { length marks.new.cells ≡ length marks.old.cells }
 {

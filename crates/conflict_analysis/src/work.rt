@@ -89,9 +89,10 @@ impl Work {
         requires seeking { IsSeeking (T.trail source.now).entries (T.named source.now) self.old.met.cells
             self.old.minimiser.marks.cells [] self.old.minimiser.order.items }
         ensures ended { OnOk result ((spare : List Lit) (bound : ℕ) (conflict : Named) →
-            IsResolving (T.trail source.now).entries (T.named source.now) spare bound conflict self.old.met.cells hints.old.items →
-            IsEnded (T.trail source.now).entries (T.named source.now) spare bound conflict self.old.met.cells self.old.minimiser.marks.cells
-            self.new.met.cells hints.new.items) }
+            IsResolving (T.trail source.now).entries (T.named source.now) spare bound conflict
+            self.old.met.cells hints.old.items →
+            IsEnded (T.trail source.now).entries (T.named source.now) spare bound conflict
+            self.old.met.cells self.old.minimiser.marks.cells self.new.met.cells hints.new.items) }
         ensures work { IsWork self.new }
         ensures size { length self.new.met.cells ≡ length self.old.met.cells }
     {
@@ -160,7 +161,8 @@ impl Work {
         requires bottom { IsBottom (T.trail source.now).entries over (T.named source.now conflict).lits }
         ensures derived { OnOk result ((spare : List Lit) (bound : ℕ)
             → IsSpared (T.trail source.now).entries spare bound over (T.named source.now conflict).lits →
-            IsDerived (T.trail source.now).entries (T.named source.now) spare bound (T.named source.now conflict) self.new.met.cells hints.new.items) }
+            IsDerived (T.trail source.now).entries (T.named source.now) spare bound (T.named source.now conflict)
+            self.new.met.cells hints.new.items) }
         ensures none { OnOk result ((v : ℕ) → mark_at self.new.met.cells v ≢ Mark.Met) }
         ensures work { IsWork self.new }
         ensures size { length self.new.met.cells ≡ length self.old.met.cells }

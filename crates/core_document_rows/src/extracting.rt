@@ -32,7 +32,9 @@ fn extract_row<R: Abort>(rt: &R, alloc: Global, row: &Row) -> Result<(), Fail> {
 
 /// Each clause of three Booleans.
 const EIGHT: &str =
-    "new_bool(a)\nnew_bool(b)\nnew_bool(c)\nbool_array_or([a,b,c])\nbool_array_or([a,b,-c])\nbool_array_or([a,-b,c])\nbool_array_or([a,-b,-c])\nbool_array_or([-a,b,c])\nbool_array_or([-a,b,-c])\nbool_array_or([-a,-b,c])\nbool_array_or([-a,-b,-c])\nsolve satisfy\n";
+    "new_bool(a)\nnew_bool(b)\nnew_bool(c)\nbool_array_or([a,b,c])\nbool_array_or([a,b,-c])\n\
+     bool_array_or([a,-b,c])\nbool_array_or([a,-b,-c])\nbool_array_or([-a,b,c])\nbool_array_or([-a,b,-c])\n\
+     bool_array_or([-a,-b,c])\nbool_array_or([-a,-b,-c])\nsolve satisfy\n";
 
 static ROWS: [Row; 14] = [
     // Two of three statements.
@@ -85,7 +87,8 @@ static ROWS: [Row; 14] = [
         model: EIGHT,
         budget: AMPLE,
         end: "done",
-        front: "bee core 1\nCORE 8\nstatement 4\nstatement 5\nstatement 6\nstatement 7\nstatement 8\nstatement 9\nstatement 10\nstatement 11\nledger\n",
+        front: "bee core 1\nCORE 8\nstatement 4\nstatement 5\nstatement 6\nstatement 7\nstatement 8\n\
+            statement 9\nstatement 10\nstatement 11\nledger\n",
         checked: "ACCEPTED CORE 8\n",
     },
     // A `bool2int` that declares its integer, outside of the core, in it, and by itself.
@@ -97,7 +100,8 @@ static ROWS: [Row; 14] = [
         checked: "ACCEPTED CORE 2\n",
     },
     Row {
-        model: "new_bool(a)\nnew_bool(b)\nbool2int(a,x)\nbool_array_or([b])\nint_geq(x,1)\nbool_array_or([-a])\nsolve satisfy\n",
+        model: "new_bool(a)\nnew_bool(b)\nbool2int(a,x)\nbool_array_or([b])\nint_geq(x,1)\n\
+            bool_array_or([-a])\nsolve satisfy\n",
         budget: AMPLE,
         end: "done",
         front: "bee core 1\nCORE 3\nstatement 3\nstatement 5\nstatement 6\nledger\n",
@@ -112,7 +116,9 @@ static ROWS: [Row; 14] = [
     },
     // A chain between loose statements, some of which are split into parts.
     Row {
-        model: "new_int(x,0,9)\nnew_int(y,0,9)\nnew_int(z,0,9)\nnew_bool(a)\nint_array_allDiff([x,y,z])\nint_array_sum_leq([x,y,z],26)\nint_lt(x,y)\nbool_array_iff([a,a,a])\nint_array_sum_neq([x,z],4)\nint_lt(y,z)\nbool_array_sum_leq([a,a],2)\nint_lt(z,x)\nsolve satisfy\n",
+        model: "new_int(x,0,9)\nnew_int(y,0,9)\nnew_int(z,0,9)\nnew_bool(a)\nint_array_allDiff([x,y,z])\n\
+            int_array_sum_leq([x,y,z],26)\nint_lt(x,y)\nbool_array_iff([a,a,a])\nint_array_sum_neq([x,z],4)\n\
+            int_lt(y,z)\nbool_array_sum_leq([a,a],2)\nint_lt(z,x)\nsolve satisfy\n",
         budget: AMPLE,
         end: "done",
         front: "bee core 1\nCORE 3\nstatement 7\nstatement 10\nstatement 12\nledger\n",
@@ -120,7 +126,8 @@ static ROWS: [Row; 14] = [
     },
     // A sum that is too great for its members.
     Row {
-        model: "new_int(x,0,3)\nnew_int(y,0,3)\nnew_int(z,0,3)\nint_leq(x,2)\nint_geq(y,1)\nint_leq(z,2)\nint_array_sum_geq([x,y,z],8)\nint_array_max([x,y,z],3)\nsolve satisfy\n",
+        model: "new_int(x,0,3)\nnew_int(y,0,3)\nnew_int(z,0,3)\nint_leq(x,2)\nint_geq(y,1)\nint_leq(z,2)\n\
+            int_array_sum_geq([x,y,z],8)\nint_array_max([x,y,z],3)\nsolve satisfy\n",
         budget: AMPLE,
         end: "done",
         front: "bee core 1\nCORE 3\nstatement 4\nstatement 6\nstatement 7\nledger\n",

@@ -8,7 +8,8 @@ use Rattle.order_ints.specs.Same.{is_true}
 use Rattle.order_ints.specs.OrderRange.{low_of, high_of}
 use Rattle.order_ints.specs.OrderLevels.{at_of}
 use Rattle.core_forms.specs.declared.form.Core.{Core}
-use Rattle.core_forms.specs.declared.form.Core.TheVariants.{Ladder, Clause, Parity, Conj, Comp, LeqR, EqR, Sum3, Count, Sum, Max, AllDiff, Amo, Prod, DivMod, Lex}
+use Rattle.core_forms.specs.declared.form.Core.TheVariants.{Ladder, Clause, Parity, Conj, Comp, LeqR, EqR, Sum3}
+use Rattle.core_forms.specs.declared.form.Core.TheVariants.{Count, Sum, Max, AllDiff, Amo, Prod, DivMod, Lex}
 use Rattle.rule_base.specs.Pairs.{only_if}
 use Rattle.rule_base.specs.Stated.{all_equal}
 use Rattle.arith_rules.specs.SumRows.{lows_of, highs_of}

@@ -4,7 +4,8 @@
 -- or told in every view. They hold only pairs of different atoms: a run is no longer than what is not made yet. That of
 -- two members with the same two values each has the one that the other has not stands before them in a run
 -- (`twin_pairs`). A pigeonhole is no part of one: an equation before it may give its value to another member.
-use Rattle.std.specs.Prelude.{nat_le, ℕ, Bool, true, false, not, ◌&&◌, ◌||◌, List, [], ◌∷◌, ◌++◌, length, ℤ, pos, ◌+ℤ◌, Option, None, Some, if◌then◌else◌}
+use Rattle.std.specs.Prelude.{nat_le, ℕ, Bool, true, false, not, ◌&&◌, ◌||◌, List, [], ◌∷◌, ◌++◌, length, ℤ, pos}
+use Rattle.std.specs.Prelude.{◌+ℤ◌, Option, None, Some, if◌then◌else◌}
 use Rattle.std.specs.Ordering.{int_eq}
 use Rattle.order_ints.specs.declared.atom.Atom.{Atom}
 use Rattle.order_ints.specs.declared.atom.Atom.TheVariants.{True, False, Of}

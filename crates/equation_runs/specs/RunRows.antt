@@ -10,7 +10,8 @@ use Rattle.core_forms.specs.declared.equation.Equation.{Equation}
 use Rattle.core_forms.specs.declared.equation.Rule.{Rule}
 use Rattle.core_forms.specs.declared.equation.Rule.TheVariants.{Order, Form}
 use Rattle.core_forms.specs.declared.form.Core.{Core}
-use Rattle.core_forms.specs.declared.form.Core.TheVariants.{Ladder, Clause, Parity, Conj, Comp, LeqR, EqR, Sum3, Count, Sum, Max, AllDiff, Amo, Prod, DivMod, Lex}
+use Rattle.core_forms.specs.declared.form.Core.TheVariants.{Ladder, Clause, Parity, Conj, Comp, LeqR, EqR, Sum3}
+use Rattle.core_forms.specs.declared.form.Core.TheVariants.{Count, Sum, Max, AllDiff, Amo, Prod, DivMod, Lex}
 use Rattle.core_forms.specs.Contents.{ints_of}
 use Rattle.rule_base.specs.Pairs.{only_if}
 use Rattle.rule_base.specs.Stated.{all_equal}
@@ -29,7 +30,8 @@ equation_of rule p = record { rule = rule; a = p.0; b = p.1 }
 -- of steps in an order: the atom of each one behind the first whose atom is the constant is that constant too
 abbrev pub behind : Atom → List (Atom × ℕ) → List (Atom × Atom)
 behind constant [] = []
-behind constant (s ∷ steps) = if same_atom s.0 constant then all_equal (map (λ t. t.0) steps) constant else behind constant steps
+behind constant (s ∷ steps) =
+    if same_atom s.0 constant then all_equal (map (λ t. t.0) steps) constant else behind constant steps
 
 -- above the lowest False step of an integer each one is false, upwards; below the highest True one each is true,
 -- downwards
@@ -44,7 +46,8 @@ chains_of (a ∷ ints) = chain_pairs a ++ chains_of ints
 -- of a product, where a factor is constant: for each value of the other one and of the product what belongs to it
 abbrev pub prod_constants : OrdInt → OrdInt → OrdInt → List (Atom × Atom)
 prod_constants a b c =
-    only_if (is_constant a) (scaled_equations (low_of a) b c) ++ only_if (is_constant b) (scaled_equations (low_of b) a c)
+    only_if (is_constant a) (scaled_equations (low_of a) b c)
+    ++ only_if (is_constant b) (scaled_equations (low_of b) a c)
 
 -- What is told whatever the store makes of the core. Two integers that are equal, two of a sum whose third is constant,
 -- a product by a constant, and a greatest member at the values that it alone reaches: for each value of one what the

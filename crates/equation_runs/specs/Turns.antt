@@ -45,14 +45,18 @@ AreMade view (e ∷ es) = IsMade view e × AreMade view es
 pub record IsBehind (core : Core) (done : List Equation) (view : List Atom) : Type 0 where
   pub labelled : IsLabelled view
   pub made : AreMade view done
-  pub still : AreAmong (equations_vars done) (core_vars core) → (v : ℕ) → Contains (core_vars core) v → (Contains (equations_vars done) v → ⊥) → IsOwnLabel view v
-  pub inside : AreAmong (equations_vars done) (core_vars core) → (v : ℕ) → Contains (equations_vars done) v → AreAmong (atom_vars (label_of view v)) (equations_vars done)
+  pub still : AreAmong (equations_vars done) (core_vars core) → (v : ℕ) → Contains (core_vars core) v
+      → (Contains (equations_vars done) v → ⊥) → IsOwnLabel view v
+  pub inside : AreAmong (equations_vars done) (core_vars core) → (v : ℕ) → Contains (equations_vars done) v
+      → AreAmong (atom_vars (label_of view v)) (equations_vars done)
 
 -- Each equation of a list is made or told once those before it are made, and those that were made before the list, the
 -- newest first.
 abbrev pub AreToldFrom : (Core → Equation → Type 0) → Core → List Equation → List Equation → Type 0
 AreToldFrom told core done [] = Unit {0}
-AreToldFrom told core done (e ∷ es) = ((view : List Atom) → IsBehind core done view → IsMadeOrTold told core view e) × AreToldFrom told core (e ∷ done) es
+AreToldFrom told core done (e ∷ es) =
+    ((view : List Atom) → IsBehind core done view → IsMadeOrTold told core view e)
+    × AreToldFrom told core (e ∷ done) es
 
 -- the first of a list is made or told of the core as it was looked at, and each other one once those before it are made
 abbrev pub AreToldInTurn : (Core → Equation → Type 0) → Core → List Equation → Type 0
@@ -62,7 +66,8 @@ AreToldInTurn told core es = AreToldFrom told core [] es
 -- list is made or told in every view in which the one before it is made.
 abbrev pub AreToldAfter : (Core → Equation → Type 0) → Core → Equation → List Equation → Type 0
 AreToldAfter told core before [] = Unit {0}
-AreToldAfter told core before (e ∷ es) = ((view : List Atom) → IsMade view before → IsMadeOrTold told core view e) × AreToldAfter told core e es
+AreToldAfter told core before (e ∷ es) =
+    ((view : List Atom) → IsMade view before → IsMadeOrTold told core view e) × AreToldAfter told core e es
 
 -- an equation that is made in every view
 abbrev pub made_equation : Equation
@@ -79,7 +84,8 @@ EquationsBelow n (e ∷ es) = (AtomBelow n e.a × AtomBelow n e.b) × EquationsB
 
 -- What is left of a run, in a view that some equations made: these are over its variables, and what is left is told
 -- once they are made.
-pub record AreInTurn (told : Core → Equation → Type 0) (core : Core) (view : List Atom) (es : List Equation) : Type 0 where
+pub record AreInTurn (told : Core → Equation → Type 0) (core : Core) (view : List Atom) (es : List Equation)
+    : Type 0 where
   pub done : List Equation
   pub behind : IsBehind core done view
   pub places : EquationsBelow (length view + 1) done

@@ -19,7 +19,8 @@ unless_one q p = only_if (not (same_atom q p)) ((q, p) ∷ [])
 -- of the member at a place and its earlier twin
 abbrev pub opposite_pair : List OrdInt → ℕ → Option ℕ → List (Atom × Atom)
 opposite_pair ints i None = []
-opposite_pair ints i (Some j) = unless_one (first_atom (int_at ints j).steps) (not_atom (first_atom (int_at ints i).steps))
+opposite_pair ints i (Some j) =
+    unless_one (first_atom (int_at ints j).steps) (not_atom (first_atom (int_at ints i).steps))
 
 -- of those at the first places
 abbrev pub opposite_pairs : List OrdInt → List Atom → ℕ → List (Atom × Atom)

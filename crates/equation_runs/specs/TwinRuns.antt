@@ -1,6 +1,7 @@
 -- Which values two members of an all-different constraint take that have the same two values, where each has the one
 -- that the other has not.
-use Rattle.std.specs.Prelude.{ℕ, zero, suc, Bool, false, ◌&&◌, ◌||◌, List, [], ◌∷◌, ℤ, Option, None, Some, if◌then◌else◌}
+use Rattle.std.specs.Prelude.{ℕ, zero, suc, Bool, false, ◌&&◌, ◌||◌, List, [], ◌∷◌, ℤ, Option, None, Some}
+use Rattle.std.specs.Prelude.{if◌then◌else◌}
 use Rattle.std.specs.Option.{option_or}
 use Rattle.std.specs.Ordering.{int_eq, is_eq}
 use Rattle.order_ints.specs.declared.atom.Atom.{Atom}
@@ -22,7 +23,9 @@ first_weight (s ∷ steps) = s.1
 -- two
 abbrev pub choice_at : List OrdInt → List Atom → ℕ → Option (ℤ × ℕ)
 choice_at ints cs i =
-    if is_sure cs i && has_two_values (int_at ints i) then Some (low_of (int_at ints i), first_weight (int_at ints i).steps) else None
+    if is_sure cs i && has_two_values (int_at ints i)
+    then Some (low_of (int_at ints i), first_weight (int_at ints i).steps)
+    else None
 
 abbrev pub is_choice : ℤ × ℕ → Option (ℤ × ℕ) → Bool
 is_choice key None = false
@@ -46,7 +49,8 @@ twin_at ints cs i = twin_by ints cs i (choice_at ints cs i)
 abbrev pub is_of_twin : List OrdInt → ℕ → ℤ → Option ℕ → Bool
 is_of_twin ints i v None = false
 is_of_twin ints i v (Some j) =
-    same_atom (first_atom (int_at ints j).steps) (not_atom (first_atom (int_at ints i).steps)) && (int_eq (low_of (int_at ints i)) v || int_eq (high_of (int_at ints i)) v)
+    same_atom (first_atom (int_at ints j).steps) (not_atom (first_atom (int_at ints i).steps))
+    && (int_eq (low_of (int_at ints i)) v || int_eq (high_of (int_at ints i)) v)
 
 -- it is so of one of the members at the first places
 abbrev pub is_shared_before : List OrdInt → List Atom → ℕ → ℤ → Bool

@@ -202,7 +202,8 @@ fn push_upper(
     requires all { (unsigned_abs all.now.low < 2 ^ 100) × (unsigned_abs all.now.high < 2 ^ 100) }
     requires k { unsigned_abs k.now < 2 ^ 100 }
     ensures { OnOk result (run.new.items
-        ≡ run.old.items ++ map (equation_of Form) (ints_bound ints.now (literals (upper_atoms k.now all.now.low ints.now)) False)) }
+        ≡ run.old.items
+        ++ map (equation_of Form) (ints_bound ints.now (literals (upper_atoms k.now all.now.low ints.now)) False)) }
 {
     let upper = upper_literals(alloc, ints, all, k)?;
     if !upper.is_empty() {

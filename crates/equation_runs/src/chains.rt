@@ -47,7 +47,8 @@ fn push_false_above(run: &mut Vec<Equation>, a: &OrdInt) -> Result<(), AllocErro
 
 /// Adds the equations that follow downwards from the highest True step.
 fn push_true_below(run: &mut Vec<Equation>, a: &OrdInt) -> Result<(), AllocError>
-    ensures { OnOk result (run.new.items ≡ run.old.items ++ map (equation_of Order) (behind True (reverse a.now.steps))) }
+    ensures { OnOk result
+        (run.new.items ≡ run.old.items ++ map (equation_of Order) (behind True (reverse a.now.steps))) }
 {
     let steps = a.steps.as_slice();
     let mut met = false;

@@ -88,7 +88,8 @@ fn push_scaled_by(
     requires c { IsSound c.now }
     requires multiples { HasSmallMultiples (low_of by.now) b.now }
     ensures { OnOk result (run.new.items
-        ≡ run.old.items ++ map (equation_of Form) (only_if (is_constant by.now) (scaled_equations (low_of by.now) b.now c.now))) }
+        ≡ run.old.items
+        ++ map (equation_of Form) (only_if (is_constant by.now) (scaled_equations (low_of by.now) b.now c.now))) }
 {
     if is_constant(by) {
         let k = by.low();

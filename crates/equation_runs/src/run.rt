@@ -36,7 +36,8 @@ fn push_raised_by(
     requires a { IsSound a.now }
     requires b { IsSound b.now }
     ensures { OnOk result (run.new.items
-        ≡ run.old.items ++ map (equation_of Form) (only_if (is_constant by.now) (raised_equations (low_of by.now) a.now b.now))) }
+        ≡ run.old.items
+        ++ map (equation_of Form) (only_if (is_constant by.now) (raised_equations (low_of by.now) a.now b.now))) }
 {
     if is_constant(by) {
         let k = by.low();
@@ -56,7 +57,8 @@ fn push_mirrored_by(
     requires a { IsSound a.now }
     requires b { IsSound b.now }
     ensures { OnOk result (run.new.items
-        ≡ run.old.items ++ map (equation_of Form) (only_if (is_constant by.now) (mirrored_equations (low_of by.now) a.now b.now))) }
+        ≡ run.old.items
+        ++ map (equation_of Form) (only_if (is_constant by.now) (mirrored_equations (low_of by.now) a.now b.now))) }
 {
     if is_constant(by) {
         let k = by.low();

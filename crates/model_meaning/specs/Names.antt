@@ -74,10 +74,12 @@ all_different_of word = if bytes_eq word (codes "allDiff") then Some all_differe
 
 -- the last word of a name that says that two lists are in order; b says whether they are of Booleans
 abbrev pub order_of : Bool → List ℕ → Option Order
-order_of b word = if bytes_eq word (codes "lex") then Some (record { of_booleans = b; strict = false; reified = false }) else
+order_of b word =
+    if bytes_eq word (codes "lex") then Some (record { of_booleans = b; strict = false; reified = false }) else
     (if bytes_eq word (codes "lexLt") then Some (record { of_booleans = b; strict = true; reified = false }) else
     (if bytes_eq word (codes "lex_reif") then Some (record { of_booleans = b; strict = false; reified = true }) else
-    (if bytes_eq word (codes "lexLt_reif") then Some (record { of_booleans = b; strict = true; reified = true }) else None)))
+    (if bytes_eq word (codes "lexLt_reif") then Some (record { of_booleans = b; strict = true; reified = true })
+    else None)))
 
 -- the names that stand alone in their lines
 unfoldable pub lone_statement : List ℕ → Option Statement
@@ -92,14 +94,16 @@ unfoldable pub operator_statement : List ℕ → Option Statement
 operator_statement name =
     first_of (option_map statement.BoolOp (option_and_then operator_of (between (codes "bool_") (codes "_reif") name)))
     (first_of (option_map statement.BoolArray (option_and_then operator_of (after (codes "bool_array_") name)))
-    (option_map statement.BoolArrayReified (option_and_then operator_of (between (codes "bool_array_") (codes "_reif") name))))
+    (option_map statement.BoolArrayReified
+    (option_and_then operator_of (between (codes "bool_array_") (codes "_reif") name))))
 
 -- lines 8 to 13: `int_REL`, `int_REL_reif`, `bool_array_sum_REL`, `bool_array_pb_REL`, `int_array_sum_REL`,
 -- `int_array_lin_REL`
 unfoldable pub relation_statement : List ℕ → Option Statement
 relation_statement name =
     first_of (option_map statement.Compare (option_and_then relation_of (after (codes "int_") name)))
-    (first_of (option_map statement.CompareReified (option_and_then relation_of (between (codes "int_") (codes "_reif") name)))
+    (first_of (option_map statement.CompareReified
+    (option_and_then relation_of (between (codes "int_") (codes "_reif") name)))
     (first_of (option_map statement.BoolSum (option_and_then relation_of (after (codes "bool_array_sum_") name)))
     (first_of (option_map statement.BoolLinear (option_and_then relation_of (after (codes "bool_array_pb_") name)))
     (first_of (option_map statement.IntSum (option_and_then relation_of (after (codes "int_array_sum_") name)))
@@ -112,7 +116,8 @@ unfoldable pub operation_statement : List ℕ → Option Statement
 operation_statement name =
     first_of (option_map statement.IntOp (option_and_then arithmetic_of (after (codes "int_") name)))
     (first_of (option_map statement.IntArray (option_and_then aggregate_of (after (codes "int_array_") name)))
-    (first_of (option_map statement.IntAllDifferent (option_and_then all_different_of (after (codes "int_array_") name)))
+    (first_of (option_map statement.IntAllDifferent
+    (option_and_then all_different_of (after (codes "int_array_") name)))
     (first_of (option_map statement.Lexicographic (option_and_then (order_of true) (after (codes "bool_arrays_") name)))
     (option_map statement.Lexicographic (option_and_then (order_of false) (after (codes "int_arrays_") name))))))
 

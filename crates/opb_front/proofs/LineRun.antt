@@ -23,3 +23,6 @@ module _ (s : Draft) (rest : List ℕ) (all : Result Draft Misfit) (h : run s (m
 
   pub no_word : line_words rest ≡ [] → all ≡ Ok s
   no_word none = sym h ∙ ap (λ ws. run s (map token_of ws)) none
+
+-- how a line goes on
+pub ruleset line_runs = (comment_run, plain_run, word_next, word_fails, no_word)

@@ -189,7 +189,7 @@ impl OpbDraft {
         Ok(None)
     }
 
-    #[tactic(auto, using(crate::proofs::LineRun::comment_run, crate::proofs::LineRun::plain_run, crate::proofs::LineRun::word_next, crate::proofs::LineRun::word_fails, crate::proofs::LineRun::no_word))]
+    #[tactic(auto, using(crate::proofs::LineRun::line_runs))]
     /// Takes the tokens of a line, up to the first that doesn't fit; the answer says why it doesn't.
     pub(crate) fn take_line(&mut self, line: &[u8]) -> Result<Option<Misfit>, AllocError>
         ensures { IfOk result (λ misfit. MatchOption misfit (run self.old (line_tokens line.now) ≡ Ok self.new)

@@ -95,3 +95,6 @@ pub answered : (options : SearchOptions) (text : List ℕ) (opb : Opb) (m : Mode
     → IsAnswerText options m outcome written → AnswersFile options text outcome written
 answered options text opb m outcome written h e light is =
     record { model = m; held = record { opb = opb; file = h; model_is = e; light = light }; is = is }
+
+-- what is known of the model of a file, its answer and its faults
+pub ruleset makings = (few, well, limits, answered, heavy_cause, opb_cause)

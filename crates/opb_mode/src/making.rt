@@ -73,7 +73,7 @@ fn held_file(alloc: Global, text: &[u8]) -> Result<Opb, ModelTextFault>
     }
 }
 
-#[tactic(auto, using(crate::proofs::Shapes::few, crate::proofs::Shapes::well, crate::proofs::Shapes::limits, crate::proofs::Shapes::answered, crate::proofs::Shapes::heavy_cause, crate::proofs::Shapes::opb_cause))]
+#[tactic(auto, using(crate::proofs::Shapes::makings))]
 /// The text of the answer to the model of the file that a text says. What was read is let go once the model is made.
 fn file_answer_text<W: SolutionWatcher>(
     alloc: Global,

@@ -40,7 +40,8 @@ sum_item c terms bound =
 
 -- the cost, and that it is the sum of the objective
 abbrev pub cost_item : Objective → Item
-cost_item o = Call (codes "new_int") (One (word.Plain cost_name) ∷ One (word.Number o.low) ∷ One (word.Number o.high) ∷ [])
+cost_item o =
+    Call (codes "new_int") (One (word.Plain cost_name) ∷ One (word.Number o.low) ∷ One (word.Number o.high) ∷ [])
 
 abbrev pub cost_items : Option Objective → List Item
 cost_items None = []

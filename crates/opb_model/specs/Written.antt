@@ -12,7 +12,9 @@ use Rattle.opb_model.specs.Items.{coefficient_word, literal_word, cost_items, co
 -- a sum's line up to what it is compared with
 abbrev pub sum_front : Comparison → List Term → List ℕ
 sum_front c terms =
-    sum_name c ++ (codes "([" ++ (terms_text (map coefficient_word terms) ++ (codes "],[" ++ (terms_text (map literal_word terms) ++ codes "],"))))
+    sum_name c
+    ++ (codes "([" ++ (terms_text (map coefficient_word terms)
+    ++ (codes "],[" ++ (terms_text (map literal_word terms) ++ codes "],"))))
 
 -- the lines behind those of the variables
 abbrev pub other_lines : Opb → List ℕ

@@ -72,3 +72,6 @@ given_held Holds options text outcome written h well limits light =
 pub given_text : (options : SearchOptions) (text : List ℕ) (outcome : Outcome) (written : List ℕ) → Answers options text outcome written → IsSolved options text outcome written
 given_text options text outcome written h =
     given_held HoldsModel options text outcome written h (typed text h.model h.held.says) (limited text h.model h.held.within h.held.says) h.held.light
+
+-- what a text that is made, and one that has a fault, give
+pub ruleset ends = (given_text, had_fault, within_limit)

@@ -55,7 +55,7 @@ impl<W: SolutionWatcher> OneText for Solving<'_, W> {
         ModelFault::TooLong
     }
 
-    #[tactic(auto, using(crate::proofs::Ends::given_text, crate::proofs::Ends::had_fault, crate::proofs::Ends::within_limit))]
+    #[tactic(auto, using(crate::proofs::Ends::ends))]
     fn make(&self, alloc: Global, text: &[u8]) -> Result<Made<ModelFault>, AllocError> {
         match told_text(alloc, text, self.options, self.watcher) {
             Ok((outcome, written)) => Ok(Made::Text(outcome, written)),

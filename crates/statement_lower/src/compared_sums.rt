@@ -66,8 +66,8 @@ impl Queue {
         ensures vars { OnOk result (self.new.vars ≡ vars_behind_sum self.old.vars a b) }
         ensures members { OnOk result (self.new.members.items ≡ self.old.members.items ++ fresh_sum self.old.vars a b
             ∷ []) }
-        ensures cores { OnOk result (self.new.cores.items ≡ self.old.cores.items ++ Sum3 a b (fresh_sum self.old.vars a b)
-            ∷ []) }
+        ensures cores { OnOk result (self.new.cores.items
+            ≡ self.old.cores.items ++ Sum3 a b (fresh_sum self.old.vars a b) ∷ []) }
     {
         let sum = fresh_sum(alloc, self.vars, &a, &b)?;
         self.vars += sum.steps.len() as u32;

@@ -323,8 +323,8 @@ pub fn aggregate_made(
     requires members { TermsInLimit members.now }
     requires few { length members.now ≤ 16777216 }
     requires value { TermInLimit value }
-    requires room { (aggregate_made vars operation (integers_of entries.now members.now) (integer_of entries.now value)).vars
-        < 2 ^ 27 }
+    requires room { (aggregate_made vars operation (integers_of entries.now members.now)
+        (integer_of entries.now value)).vars < 2 ^ 27 }
     ensures { IfOk result
         (λ m. m ≡ aggregate_made vars operation (integers_of entries.now members.now)
         (integer_of entries.now value)) }

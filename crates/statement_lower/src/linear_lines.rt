@@ -96,8 +96,8 @@ pub fn sum_made(
     requires members { TermsInLimit members.now }
     requires few { length members.now ≤ 16777216 }
     requires bound { TermInLimit bound }
-    requires room { (linear_made vars relation (integers_of entries.now members.now) (integer_of entries.now bound)).vars
-        < 2 ^ 27 }
+    requires room { (linear_made vars relation (integers_of entries.now members.now)
+        (integer_of entries.now bound)).vars < 2 ^ 27 }
     ensures { IfOk result
         (λ m. m ≡ linear_made vars relation (integers_of entries.now members.now) (integer_of entries.now bound)) }
 {

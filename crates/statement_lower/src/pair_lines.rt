@@ -78,7 +78,8 @@ impl Pairs {
         ensures vars { OnOk result (self.new.vars ≡ pairs_vars self.old.vars ints.now) }
         ensures apart { OnOk result (self.new.apart.items ≡ self.old.apart.items
             ++ map not_atom (pairs_atoms self.old.vars ints.now)) }
-        ensures cores { OnOk result (self.new.cores.items ≡ self.old.cores.items ++ pairs_equal self.old.vars ints.now) }
+        ensures cores { OnOk result
+            (self.new.cores.items ≡ self.old.cores.items ++ pairs_equal self.old.vars ints.now) }
     {
         let mut rest = ints;
         while let Some((a, later)) = rest.split_first() {

@@ -60,7 +60,8 @@ fn take_call(
     name: &Name,
     args: &[Arg],
 ) -> Result<(), AllocError>
-    ensures decls { OnOk result (scope.new ≡ scope.old ++ declare_if number scope.old (statement_of name.now) args.now) }
+    ensures decls { OnOk result
+        (scope.new ≡ scope.old ++ declare_if number scope.old (statement_of name.now) args.now) }
     ensures stmts { OnOk result (stmts.new.items ≡ stmts.old.items
         ++ state_if number scope.new name.now (statement_of name.now) args.now) }
 {
@@ -116,7 +117,8 @@ impl std::marker::Model for Typing {
 
     ghost Value = { Taken };
 
-    ghost view = { λ t. record { next = t.next; decls = t.scope; stmts = t.stmts.items; goal = t.goal; fault = t.fault } };
+    ghost view = { λ t.
+        record { next = t.next; decls = t.scope; stmts = t.stmts.items; goal = t.goal; fault = t.fault } };
 }
 
 impl Typing {

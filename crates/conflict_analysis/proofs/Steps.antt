@@ -26,12 +26,12 @@ stay-set cells v m low real w r = elim (cases_eq w v) [
 
 module _ (t : Trail) (tr : IsTrail t) (named : ℕ → Named) (lives : ℕ → Type 0) (rs : AreReasons t.entries named lives)
     (cells minimiser : List Mark) (stack : List Frame) (order : List ℕ) (f : Frame) (h : IsSeeking t.entries named cells minimiser (stack ++ f ∷ []) order) (size : length minimiser ≡ t.vars + 1) (low : f.var < t.vars + 1)
-    (r : Named) (is : r ≡ reason_at named t.entries f.var) (place : ℕ) (inside : place ≤ length r.lits)
-    (covered : (j : ℕ) → f.place ≤ j → j < place → is_covered minimiser f.var (lit_in r.lits j).var ≡ true) where
+    (lits : List Lit) (is : lits ≡ (reason_at named t.entries f.var).lits) (place : ℕ) (inside : place ≤ length lits)
+    (covered : (j : ℕ) → f.place ≤ j → j < place → is_covered minimiser f.var (lit_in lits j).var ≡ true) where
   low-top : f.var < length minimiser
   low-top = omega arith
 
-  pub top-inside : f.place ≤ length r.lits
+  pub top-inside : f.place ≤ length lits
   top-inside = rw is (top-frame t.entries named cells minimiser stack order f h low-top).inside
 
   entered-real : mark_at minimiser f.var ≢ Blank
@@ -40,7 +40,7 @@ module _ (t : Trail) (tr : IsTrail t) (named : ℕ → Named) (lives : ℕ → T
   before : (j : ℕ) → j < place → is_covered minimiser f.var (lit_in (reason_at named t.entries f.var).lits j).var ≡ true
   before j l = elim (cases_lt j f.place) [
     | inl k ↦ (top-frame t.entries named cells minimiser stack order f h low-top).covered j k
-    | inr k ↦ subst (λ (x : Named). is_covered minimiser f.var (lit_in x.lits j).var ≡ true) is (covered j k l)
+    | inr k ↦ subst (λ (x : List Lit). is_covered minimiser f.var (lit_in x j).var ≡ true) is (covered j k l)
   ]
 
   top-loose : is_covered_mark (mark_at minimiser f.var) ≡ false
@@ -50,11 +50,11 @@ module _ (t : Trail) (tr : IsTrail t) (named : ℕ → Named) (lives : ℕ → T
   height = length_push stack f
 
   -- all its literals are covered
-  pub stepped-cover : place ≡ length r.lits → (new : List Mark) (rest : List Frame) (more : List ℕ) → new ≡ set minimiser f.var Implied → rest ≡ stack → more ≡ order ++ f.var ∷ []
+  pub stepped-cover : place ≡ length lits → (new : List Mark) (rest : List Frame) (more : List ℕ) → new ≡ set minimiser f.var Implied → rest ≡ stack → more ≡ order ++ f.var ∷ []
       → IsStepped t.entries named cells minimiser (stack ++ f ∷ []) new rest more
   stepped-cover all new rest more e k q = rw (e, k, q) (record {
     seeking = seeking-cover t.entries named cells minimiser stack order f h low-top (λ l c.
-        let w : place ≡ length (reason_at named t.entries f.var).lits = all ∙ ap (λ (x : Named). length x.lits) is in
+        let w : place ≡ length (reason_at named t.entries f.var).lits = all ∙ ap (λ (x : List Lit). length x) is in
         let lk : c.0 < length (reason_at named t.entries f.var).lits = c.1 in
         let lp : c.0 < place = omega arith in
         subst (λ (x : Lit). is_covered minimiser f.var x.var ≡ true) (get_or_default (reason_at named t.entries f.var).lits c.0 no_lit l c.1 ∙ c.2) (before c.0 lp));
@@ -64,12 +64,12 @@ module _ (t : Trail) (tr : IsTrail t) (named : ℕ → Named) (lives : ℕ → T
     size = length-set minimiser f.var Implied;
   })
 
-  module _ (short : place < length r.lits) (stops : is_covered minimiser f.var (lit_in r.lits place).var ≡ false) (l : Lit) (read : l ≡ get_or r.lits place l) where
-    same-lit : l ≡ lit_in r.lits place
-    same-lit = read ∙ get_or_default r.lits place l no_lit short
+  module _ (short : place < length lits) (stops : is_covered minimiser f.var (lit_in lits place).var ≡ false) (l : Lit) (same-lit : l ≡ lit_in lits place) where
+    read : l ≡ get_or lits place l
+    read = same-lit ∙ get_or_default lits place no_lit l short
 
     in-reason : Contains (reason_at named t.entries f.var).lits l
-    in-reason = subst (λ (x : Named). Contains x.lits l) is (place, short, sym read)
+    in-reason = subst (λ (x : List Lit). Contains x l) is (place, short, sym read)
 
     loose : is_covered minimiser f.var l.var ≡ false
     loose = ap (λ (x : Lit). is_covered minimiser f.var x.var) same-lit ∙ stops
@@ -93,7 +93,7 @@ module _ (t : Trail) (tr : IsTrail t) (named : ℕ → Named) (lives : ℕ → T
 
     module _ (blank : mark_at minimiser l.var ≡ Blank) where
       again : IsSeeking t.entries named cells minimiser (stack ++ record { var = f.var; place = place } ∷ []) order
-      again = seeking-on t.entries named cells minimiser stack order f h low-top place (subst (λ (x : Named). place ≤ length x.lits) is inside) before
+      again = seeking-on t.entries named cells minimiser stack order f h low-top place (subst (λ (x : List Lit). place ≤ length x) is inside) before
 
       -- it is sought
       pub stepped-enter : MayEnter t.entries l.var → (new : List Mark) (rest : List Frame) (same : List ℕ) → new ≡ set minimiser l.var Entered

@@ -52,9 +52,10 @@ pub fn meet<T: Reasons>(
         (λ n. n ≡ counts (T.trail source.now).entries level marks.old.cells over (T.named source.now clause).lits) }
     ensures size { length marks.new.cells ≡ length marks.old.cells }
 {
+    let lits = source.lits(clause);
     let mut count = 0;
-    for place in 0..source.size(clause) {
-        count += meet_one(marks, source, source.lit(clause, place).var, over, level)?;
+    for place in 0..lits.len() {
+        count += meet_one(marks, source, lits.at(place).var, over, level)?;
     }
     Ok(count)
 }

@@ -16,6 +16,7 @@ ghost use Rattle.conflict_analysis.specs.Seeking.{IsRoot, AreRoots, AllKnown, Is
 
 use crate::marks::{Mark, Marks};
 use crate::reasons::{Reasons, level_at};
+use clause_arena::Literals;
 use std::alloc::{AllocError, Global};
 
 /// A variable that is sought, and the place of its reason from which on literals are to be looked at.
@@ -54,24 +55,23 @@ fn reason<T: Reasons>(source: &T, var: u32) -> u32
 
 /// The first place of a reason, from a given one on, whose literal isn't covered; the number of literals where
 /// all are.
-fn first_uncovered<T: Reasons>(minimiser: &Marks, source: &T, clause: u32, frame: Frame) -> u32
-    requires live { T.lives source.now clause }
-    requires inside { frame.place ≤ length (T.named source.now clause).lits }
-    requires vars { All (λ l. l.var < length minimiser.now.cells) (T.named source.now clause).lits }
+fn first_uncovered(minimiser: &Marks, lits: &Literals<'_>, frame: Frame) -> u32
+    requires inside { frame.place ≤ length lits.now }
+    requires vars { All (λ l. l.var < length minimiser.now.cells) lits.now }
     ensures from { frame.place ≤ result }
-    ensures inside { result ≤ length (T.named source.now clause).lits }
+    ensures inside { result ≤ length lits.now }
     ensures covered { (j : ℕ) → frame.place ≤ j → j < result
-        → is_covered minimiser.now.cells frame.var (lit_in (T.named source.now clause).lits j).var ≡ true }
-    ensures stops { result < length (T.named source.now clause).lits
-        → is_covered minimiser.now.cells frame.var (lit_in (T.named source.now clause).lits result).var ≡ false }
+        → is_covered minimiser.now.cells frame.var (lit_in lits.now j).var ≡ true }
+    ensures stops { result < length lits.now
+        → is_covered minimiser.now.cells frame.var (lit_in lits.now result).var ≡ false }
 {
-    for place in frame.place..source.size(clause) {
-        let var = source.lit(clause, place).var;
+    for place in frame.place..lits.len() {
+        let var = lits.at(place).var;
         if var != frame.var && !minimiser.is_covered(var) {
             return place;
         }
     }
-    source.size(clause)
+    lits.len()
 }
 
 /// Whether the clause has literals of a level. It always has those of level 0.
@@ -197,12 +197,13 @@ impl Minimiser {
         ensures size { length self.new.marks.cells ≡ length self.old.marks.cells }
     {
         let clause = reason(source, frame.var);
-        let place = first_uncovered(&self.marks, source, clause, frame);
-        if place == source.size(clause) {
+        let lits = source.lits(clause);
+        let place = first_uncovered(&self.marks, &lits, frame);
+        if place == lits.len() {
             self.cover(frame.var)?;
             return Ok(());
         }
-        let next = source.lit(clause, place).var;
+        let next = lits.at(place).var;
         if !self.marks.is_blank(next) {
             self.give_up(met, frame.var)?;
             return Ok(());

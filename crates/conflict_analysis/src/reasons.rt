@@ -1,12 +1,12 @@
 //! What the analysis reads: the trail, and the clauses that are reasons on it.
 
-ghost use Rattle.std.specs.Prelude.{◌≡◌, ℕ, ◌<◌, ◌≤◌, length, slice_index_or};
+ghost use Rattle.std.specs.Prelude.{◌≡◌, ℕ, ◌<◌, ◌≤◌, length};
 ghost use Rattle.literal_trail.specs.Trail.{Trail, entry_at, entry_of};
 ghost use Rattle.proof_check.specs.Named.{Named};
 ghost use Rattle.conflict_analysis.specs.Reasons.{the_entry, level_at};
 
+use clause_arena::Literals;
 use literal_trail::Entry;
-use order_ints::Lit;
 
 /// A trail whose reasons are clauses of a store, named by references. Each look-up takes constant time.
 pub trait Reasons {
@@ -35,16 +35,10 @@ pub trait Reasons {
         requires { lives self.now clause }
         ensures { result ≡ (named self.now clause).id };
 
-    /// The number of a clause's literals.
-    fn size(&self, clause: u32) -> u32
+    /// The literals of a clause, as a list that is lent: each is unpacked where it is looked at.
+    fn lits(&self, clause: u32) -> Literals<'_>
         requires { lives self.now clause }
-        ensures { result ≡ length (named self.now clause).lits };
-
-    /// The literal at a place of a clause, counted from 0.
-    fn lit(&self, clause: u32, place: u32) -> Lit
-        requires live { lives self.now clause }
-        requires place { place < length (named self.now clause).lits }
-        ensures { result ≡ slice_index_or (named self.now clause).lits place result };
+        ensures { result ≡ (named self.now clause).lits };
 }
 
 /// The level of a variable, 0 where it is free.

@@ -7,10 +7,10 @@ ghost use Rattle.clause_rings.specs.Clauses.{IsDb};
 ghost use Rattle.conflict_analysis.specs.Analysis.{IsAnalysed};
 ghost use Rattle.learning_solver.specs.Sight.{named_in};
 
+use clause_arena::Literals;
 use clause_rings::ClauseDb;
 use conflict_analysis::{Reasons, Walker};
 use literal_trail::Entry;
-use order_ints::Lit;
 use std::alloc::AllocError;
 
 /// A clause store that is lent.
@@ -46,12 +46,8 @@ impl Reasons for Sight<'_> {
         self.db.id(clause)
     }
 
-    fn size(&self, clause: u32) -> u32 {
-        self.db.len(clause)
-    }
-
-    fn lit(&self, clause: u32, place: u32) -> Lit {
-        self.db.lit_at(clause, place)
+    fn lits(&self, clause: u32) -> Literals<'_> {
+        self.db.lits(clause)
     }
 }
 

@@ -4,7 +4,7 @@ use Rattle.conflict_analysis.proofs.meeting.meet.Given as goal
 
 abbrev pub invariant-loop-place : goal.invariant-loop-place
 invariant-loop-place g l =
-    let ls = (g.T.Reasons.named l.source l.clause).lits in
+    let ls = l.lits in
     let es = (g.T.Reasons.trail l.source).entries in
     record {
       marks : met_by l.marks.cells l.over (drop l.place ls) ≡ met_by l.fn.marks.cells l.over ls;

@@ -15,9 +15,9 @@ use Rattle.core_forms.specs.OwnVars.{own_vars}
 use Rattle.core_forms.proofs.OwnVars.{own_vars-exact}
 use Rattle.rule_base.specs.Found.{IsImplied}
 use Rattle.table_rules.specs.Rows.{are_equal_below, left_below}
-use Rattle.table_rules.specs.Pairs.{pairs_over}
+use Rattle.table_rules.specs.Pairs.{pairs_over, IsIn}
 use Rattle.table_rules.specs.Instances.{IsInstance, is_table, has_var, is_over, are_equal_over, is_instance_of, first_equation, found_over, found_at}
-use Rattle.table_rules.proofs.RowLaws.{IsIn, and-true, true-and, rows-imply, implied-rows, left-equal, equal-left, same-below}
+use Rattle.table_rules.proofs.RowLaws.{and-true, true-and, rows-imply, implied-rows, left-equal, equal-left, same-below}
 use Rattle.table_rules.proofs.PairLaws.{over-proper, normal}
 use Rattle.table_rules.proofs.Distinct.{own_vars-distinct}
 
@@ -38,7 +38,7 @@ at-place [] v k l e = absurd (omega arith)
 at-place (w ∷ vars) v zero l e = ap (λ t. t || has_var vars v) (eq-eqb w v e)
 at-place (w ∷ vars) v (suc k) l e = later w v vars (at-place vars v k (omega arith) e)
 
-listed-has_var : (vars : List ℕ) (v : ℕ) → Contains vars v → has_var vars v ≡ true
+pub listed-has_var : (vars : List ℕ) (v : ℕ) → Contains vars v → has_var vars v ≡ true
 listed-has_var vars v c = at-place vars v c.0 c.1 c.2
 
 -- an atom is over listed variables where its variables are among them
@@ -161,7 +161,7 @@ module _ (core : Core) where
       by false few none =
           let clash : leb (length (own_vars core)) 8 ≡ true = le-leb (length (own_vars core)) 8 (instance-parts core e h).few in cc
 
-  is-false : (t : Bool) → (t ≡ true → ⊥) → t ≡ false
+  pub is-false : (t : Bool) → (t ≡ true → ⊥) → t ≡ false
   is-false true h = absurd (h refl)
   is-false false h = refl
 

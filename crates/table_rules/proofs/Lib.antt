@@ -2,4 +2,5 @@ pub mod RowLaws
 pub mod PairLaws
 pub mod Distinct
 pub mod InstanceLaws
+pub mod WordLaws
 pub mod AtomLaws

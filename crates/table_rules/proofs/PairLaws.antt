@@ -8,9 +8,8 @@ use Rattle.order_ints.specs.declared.atom.Atom.{Atom}
 use Rattle.order_ints.specs.declared.atom.Atom.TheVariants.{True, False, Of}
 use Rattle.order_ints.specs.Truth.{Valuation, lit_truth}
 use Rattle.table_rules.specs.Rows.{are_equal_in}
-use Rattle.table_rules.specs.Pairs.{pairs_with, pairs_among, pairs_over}
+use Rattle.table_rules.specs.Pairs.{pairs_with, pairs_among, pairs_over, IsIn}
 use Rattle.table_rules.specs.Instances.{has_var, is_over}
-use Rattle.table_rules.proofs.RowLaws.{IsIn}
 
 abbrev pub lit : ℕ → Bool → Lit
 lit v positive = record { var = v; positive = positive }
@@ -18,7 +17,7 @@ lit v positive = record { var = v; positive = positive }
 same-var : (l m : Lit) → Of l ≡ Of m → l.var ≡ m.var
 same-var l m e = let same : l ≡ m = cc in ap (λ (x : Lit). x.var) same
 
-same-lit : (l m : Lit) → l.var ≡ m.var → l.positive ≡ m.positive → l ≡ m
+pub same-lit : (l m : Lit) → l.var ≡ m.var → l.positive ≡ m.positive → l ≡ m
 same-lit l m e s = ap (λ v. lit v l.positive) e ∙ ap (λ b. lit m.var b) s
 
 -- listed variables differ

@@ -1,5 +1,5 @@
 -- The rows of a truth table are all valuations of its variables; what they leave of equations is what they imply.
-use Rattle.std.proofs.Common.{◌≡◌, ℕ, zero, suc, ◌+◌, ◌*◌, ◌/◌, ◌%◌, ◌^◌, ◌<◌, ◌≤◌, ◌⊎◌, inl, inr, Bool, true, false, not, ◌&&◌, ◌||◌, cond, eqb, length, map, take, set, length-set, List, [], ◌∷◌, ◌++◌, append_assoc, refl, sym, ap, subst, ◌∙◌, arith, add-one, ◌-◌}
+use Rattle.std.proofs.Common.{◌≡◌, ℕ, zero, suc, ◌+◌, ◌*◌, ◌/◌, ◌%◌, ◌^◌, ◌<◌, ◌≤◌, inl, inr, Bool, true, false, not, ◌&&◌, ◌||◌, cond, eqb, length, map, take, set, length-set, List, [], ◌∷◌, ◌++◌, append_assoc, refl, sym, ap, subst, ◌∙◌, arith, add-one, ◌-◌}
 use Rattle.std.specs.Bool.{beq}
 use Rattle.std.specs.List.{filter}
 use Rattle.std.proofs.Math.Nat.{pow-suc}
@@ -14,6 +14,7 @@ use Rattle.core_forms.specs.Meaning.{core_truth}
 use Rattle.core_forms.specs.Variables.{atom_vars, core_vars, AreAmong}
 use Rattle.core_forms.proofs.Rows.{core_truth-row}
 use Rattle.table_rules.specs.Rows.{row_of, valuation_in, are_equal_in, are_equal_below, left_below}
+use Rattle.table_rules.specs.Pairs.{IsIn}
 
 -- the number of a row
 abbrev bit : Bool → ℕ
@@ -75,7 +76,7 @@ atom-in-row : (σ : Valuation) (a : Atom) (vars : List ℕ) → AreAmong (atom_v
 atom-in-row σ a vars among =
     subst (λ (values : List Bool). atom_truth (valuation_at vars values) a ≡ atom_truth σ a) (sym (row-is σ vars)) (atom-at-row σ a vars among)
 
-beq-refl : (b : Bool) → beq b b ≡ true
+pub beq-refl : (b : Bool) → beq b b ≡ true
 beq-refl true = refl
 beq-refl false = refl
 
@@ -145,11 +146,6 @@ implied-rows core vars a b h =
     each-below core vars (a, b) (2 ^ length vars) (λ r l met.
     ap (λ t. beq (atom_truth (valuation_in vars r) a) t) (sym (h (valuation_in vars r) met)) ∙ beq-refl (atom_truth (valuation_in vars r) a))
 
--- a pair is in a list
-abbrev pub IsIn : Atom × Atom → List (Atom × Atom) → Type 0
-IsIn p [] = ⊥
-IsIn p (q ∷ pairs) = (p ≡ q) ⊎ IsIn p pairs
-
 in-filter : (test : Atom × Atom → Bool) (pairs : List (Atom × Atom)) (p : Atom × Atom) → IsIn p (filter test pairs) → IsIn p pairs × (test p ≡ true)
 in-filter test [] p h = absurd h
 in-filter test (q ∷ pairs) p h = by (test q) refl h (in-filter test pairs p)
@@ -159,7 +155,7 @@ in-filter test (q ∷ pairs) p h = by (test q) refl h (in-filter test pairs p)
     by true e (inr i) rest = let m = rest i in (inr m.0, m.1)
     by false e i rest = let m = rest i in (inr m.0, m.1)
 
-filter-in : (test : Atom × Atom → Bool) (pairs : List (Atom × Atom)) (p : Atom × Atom) → IsIn p pairs → test p ≡ true → IsIn p (filter test pairs)
+pub filter-in : (test : Atom × Atom → Bool) (pairs : List (Atom × Atom)) (p : Atom × Atom) → IsIn p pairs → test p ≡ true → IsIn p (filter test pairs)
 filter-in test [] p h e = absurd h
 filter-in test (q ∷ pairs) p h e = by (test q) refl h (λ i. filter-in test pairs p i e)
   where

@@ -1,5 +1,5 @@
 -- The pairs of atoms over variables, up to order and to the negation of both.
-use Rattle.std.specs.Prelude.{ℕ, true, false, List, [], ◌∷◌, ◌++◌}
+use Rattle.std.specs.Prelude.{◌≡◌, ◌⊎◌, ℕ, true, false, List, [], ◌∷◌, ◌++◌}
 use Rattle.order_ints.specs.declared.atom.Atom.{Atom}
 use Rattle.order_ints.specs.declared.atom.Atom.TheVariants.{True, False, Of}
 
@@ -18,3 +18,8 @@ pairs_among (v ∷ vars) = pairs_with (Of (record { var = v; positive = true }))
 -- the constants, True with each literal, and each variable with each literal over a later one
 abbrev pub pairs_over : List ℕ → List (Atom × Atom)
 pairs_over vars = (True, False) ∷ (pairs_with True vars ++ pairs_among vars)
+
+-- a pair is in a list
+abbrev pub IsIn : Atom × Atom → List (Atom × Atom) → Type 0
+IsIn p [] = ⊥
+IsIn p (q ∷ pairs) = (p ≡ q) ⊎ IsIn p pairs

@@ -10,6 +10,7 @@ ghost use Rattle.table_rules.specs.Instances.{is_instance_of};
 
 use crate::pairs::pairs_over;
 use crate::rows::{are_equal, keep_implied};
+use crate::words::implies_nothing;
 use core_forms::{Core, Equation, Rule, few_variables};
 use order_ints::Atom;
 use rule_base::Steps;
@@ -75,6 +76,9 @@ fn found(alloc: Global, core: &Core) -> Result<Option<Equation>, AllocError>
     requires { IsWellFormed core.now }
     ensures { IfOk result (λ found. found ≡ found_at core.now) }
 {
+    if implies_nothing(alloc, core)? {
+        return Ok(None);
+    }
     match few_variables(core) {
         Some(few) => found_over(alloc, core, few.as_slice()),
         None => Ok(None),
@@ -83,7 +87,8 @@ fn found(alloc: Global, core: &Core) -> Result<Option<Equation>, AllocError>
 
 /// An equation that a core of at most eight variables implies; `None` where it implies none, or has more
 /// variables. It counts one step. A core with more variables is left at the ninth; of another one each row
-/// of its truth table is judged, up to the one that leaves no equation, and memory is taken once.
+/// of its truth table is judged, up to the one that leaves no equation, and memory is taken once; of a long
+/// order of words it may be taken twice before.
 pub fn find<L: Ledger>(
     alloc: Global,
     core: &Core,

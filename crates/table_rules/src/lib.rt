@@ -5,6 +5,9 @@
 //! trying 256 rows at most. `find` keeps the equations that no row so far refutes, and ends at the
 //! row that leaves none: so a core that implies nothing is judged by a few rows, and each row is
 //! evaluated once. With more variables the rows grow too many, and the rules by form alone remain.
+//! Of a long order of words over few names, which is split at its front many times, `words` first tries
+//! whether a look at its first pairs, and along the rest only in rows that these leave open, shows that it
+//! implies nothing.
 //!
 //! What it promises: `is_instance` is exactly whether the core implies an equation of two different
 //! atoms over its variables; that the test over rows says what is meant over all valuations is
@@ -20,5 +23,6 @@ mod instances;
 pub mod laws;
 mod pairs;
 mod rows;
+mod words;
 
 pub use instances::{find, is_instance};

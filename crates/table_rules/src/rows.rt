@@ -18,7 +18,7 @@ pub(crate) fn row_count(vars: usize) -> usize
 }
 
 /// Writes the row with a number: the truth value of the first variable is the lowest bit.
-fn write_row(values: &mut [bool], number: usize)
+pub(crate) fn write_row(values: &mut [bool], number: usize)
     ensures { values.new ≡ row_of (length values.old) number }
 {
     let mut rest = number;
@@ -29,7 +29,7 @@ fn write_row(values: &mut [bool], number: usize)
 }
 
 /// Whether two atoms are equally true in a row.
-fn are_equal_in(vars: &[u32], values: &[bool], pair: (Atom, Atom)) -> bool
+pub(crate) fn are_equal_in(vars: &[u32], values: &[bool], pair: (Atom, Atom)) -> bool
     ensures { result ≡ are_equal_in (valuation_at vars.now values.now) pair }
 {
     let row = TruthRow { vars, values };
@@ -54,7 +54,7 @@ pub(crate) fn are_equal(core: &Core, vars: &[u32], a: Atom, b: Atom) -> bool
 }
 
 /// Keeps those of pairs of atoms which are equally true in a row.
-fn keep_equal(pairs: &mut Vec<(Atom, Atom)>, vars: &[u32], values: &[bool])
+pub(crate) fn keep_equal(pairs: &mut Vec<(Atom, Atom)>, vars: &[u32], values: &[bool])
     ensures { pairs.new.items ≡ filter (are_equal_in (valuation_at vars.now values.now)) pairs.old.items }
 {
     pairs.retain(|pair| are_equal_in(vars, values, *pair));

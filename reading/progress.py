@@ -1,10 +1,11 @@
 """progress.py [SECONDS [MARKS]]: what a search told is true, and is kept when it is killed.
 
-Seeks a shortest Golomb ruler with so many marks (11), with `--progress` and standard error in a file, and kills the program after so many
-seconds (3). Then each whole block of the file has a better length than the one before, and the values of each satisfy the model: the
-program that BEE names (`./bee` of this repository) answers the model with all names fixed to them with just this length as its optimum.
-Then a list of 16,384 solutions and a core of 45 statements among 85 are sought with the flag: the numbers told of solutions rise to that
-of the list, those of statements fall to that of the core, each question is told, and what is written is what stands without the flag.
+Seeks a shortest Golomb ruler with so many marks (11), with `--progress` and standard error in a file, and kills the
+program after so many seconds (3). Then each whole block of the file has a better length than the one before, and the
+values of each satisfy the model: the program that BEE names (`./bee` of this repository) answers the model with all
+names fixed to them with just this length as its optimum. Then a list of 16,384 solutions and a core of 45 statements
+among 85 are sought with the flag: the numbers told of solutions rise to that of the list, those of statements fall to
+that of the core, each question is told, and what is written is what stands without the flag.
 Without the flag, nothing is on standard error."""
 import os
 import re

@@ -2,10 +2,10 @@
 """Proves the libraries of `bee` side by side, and then builds the program and places eight queens, as `rt run` does.
 
 It calls the toolchain's own `rt`, and differs from `rt run` in two ways. Libraries that do not use one another are
-proved at the same time, as `rt ci` proves them: one a processor, as many as memory holds, the longest chain first (the
-variable RT_JOBS gives another number). And the sum that `rt` keeps of what a library is made from, itself and all below
-it, reads each crate once; `rt` reads a crate once for each path that leads to it. Where a toolchain's `rt` is made of
-other parts, `rt run` builds all.
+proved at the same time, as `rt ci` proves them: one a processor, as many as memory holds, the longest chain first
+(the variable RT_JOBS gives another number), and a library by as many jobs as are idle. And the sum that `rt` keeps of
+what a library is made from, itself and all below it, reads each crate once; `rt` reads a crate once for each path
+that leads to it. Where a toolchain's `rt` is made of other parts, `rt run` builds all.
 """
 import copy
 import importlib.machinery
@@ -19,6 +19,10 @@ import threading
 sys.dont_write_bytecode = True
 TOP = os.path.dirname(os.path.realpath(__file__))
 ARGUMENTS = ["queens", "8"]
+# What the proof of a crate takes of memory at most, in bytes: by samples, 3.9 GB (`queens_model`), and 2.4 of any
+# other by one job. `rt` reckons by the lines of a crate and of those below it, up to six times what the upper crates
+# take, which then wait for one another.
+MOST = 4_000_000_000
 
 
 def load(path):
@@ -73,7 +77,7 @@ def build_libraries(rt):
     for it in libraries:
         waits = [(below.name, "proof") for below in it.below()]
         call = lambda given, jobs, crate=it: build_library(crate, given, jobs)
-        tasks[it.name, "proof"] = (waits, it.count(rb"\n"), rt.need(it), call)
+        tasks[it.name, "proof"] = (waits, it.count(rb"\n"), min(rt.need(it), MOST), call)
     given = rt.in_lanes(tasks)
     for it in held:
         os.close(it)

@@ -61,7 +61,7 @@ families=(
   twins:500,2000,8000
   chasing:1000,2000,4000
   greatest_word:200,800,1600
-  few_names:1000,4000
+  few_names:1000,4000,8000
 )
 chosen=()
 for family in "${families[@]}"; do

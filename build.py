@@ -3,8 +3,7 @@
 
 It calls the toolchain's own `rt`, and differs from `rt run` in two ways. Libraries that do not use one another are
 proved at the same time, as `rt ci` proves them: one a processor, as many as memory holds, the longest chain first
-(the variable RT_JOBS gives another number), and a library by as many jobs as are idle; that which the longest chain
-waits for by three, so that the end, where one library waits for another, is shorter. And the sum that `rt` keeps of
+(the variable RT_JOBS gives another number), and a library by as many jobs as are idle. And the sum that `rt` keeps of
 what a library is made from, itself and all below it, reads each crate once; `rt` reads a crate once for each path
 that leads to it. Where a toolchain's `rt` is made of other parts, `rt run` builds all.
 """
@@ -24,9 +23,6 @@ ARGUMENTS = ["queens", "8"]
 # other by one job. `rt` reckons by the lines of a crate and of those below it, up to six times what the upper crates
 # take, which then wait for one another.
 MOST = 4_000_000_000
-# By how many jobs the library is proved that the longest chain waits for, and what memory each further job may take.
-HEAD_JOBS = 3
-MORE = 2_400_000_000
 
 
 def load(path):
@@ -57,25 +53,6 @@ def read_once(plain):
     return stamp
 
 
-class Chains:
-    """The lines of the longest chain of libraries that begins with each one, and which have not begun."""
-
-    def __init__(self, libraries):
-        self.lines = {it.name: it.count(rb"\n") for it in libraries}
-        self.behind = dict(self.lines)
-        # Each stands behind those below it.
-        for it in reversed(libraries):
-            for below in it.below():
-                chain = self.lines[below.name] + self.behind[it.name]
-                self.behind[below.name] = max(self.behind[below.name], chain)
-        self.left = set(self.lines)
-
-    def begin(self, name):
-        """Notes that a library begins. The answer is whether no chain that has not begun is longer."""
-        self.left.discard(name)
-        return all(self.behind[it] <= self.behind[name] for it in self.left)
-
-
 def build_library(crate, given, jobs):
     """Proves a library, unless one below it failed, and prints what its proof said. The answer is whether it is
     proved."""
@@ -96,17 +73,10 @@ def build_libraries(rt):
     held = rt.rtlib.lock([*libraries, bee])
     for it in libraries:
         rt.rtlib.stop_on_links(it.folder)
-    chains, tasks = Chains(libraries), {}
-
-    def prove(crate, given, jobs):
-        is_head = chains.begin(crate.name)
-        if is_head and not os.environ.get("RT_JOBS") and rt.free() > MOST + (HEAD_JOBS - 1) * MORE:
-            jobs = max(jobs, HEAD_JOBS)
-        return build_library(crate, given, jobs)
-
+    tasks = {}
     for it in libraries:
         waits = [(below.name, "proof") for below in it.below()]
-        call = lambda given, jobs, crate=it: prove(crate, given, jobs)
+        call = lambda given, jobs, crate=it: build_library(crate, given, jobs)
         tasks[it.name, "proof"] = (waits, it.count(rb"\n"), min(rt.need(it), MOST), call)
     given = rt.in_lanes(tasks)
     for it in held:

@@ -21,6 +21,7 @@
 #                ledger stands in the answer
 #   golomb       the shortest ruler of seven marks
 #   queens       sixteen queens, of which two are told to stand in one diagonal; `cornered` are those with too few rows
+# or a family that `compile.sh` has, with sizes, as greatest:500,1000, beside an integer whose least value is sought.
 # It prints the verdict, the lines of the ledger and of derivations, the bytes, the seconds of both, and the latter
 # beside the former. BEE names another program that is run.
 set -eu

@@ -31,11 +31,15 @@ def count(size):
     yield SATISFY
 
 
-def certified(size):
-    """The same beside an integer whose least value is sought, so that the whole ledger stands in the answer."""
-    yield "new_int(least,0,1)"
-    yield from models.count(size)
-    yield "solve minimize least"
+def beside_least(make):
+    """A model beside an integer whose least value is sought, so that the whole ledger stands in the answer."""
+
+    def model(size):
+        yield "new_int(least,0,1)"
+        yield from make(size)
+        yield "solve minimize least"
+
+    return model
 
 
 def queens(size):
@@ -56,11 +60,19 @@ FAMILIES = {
     "quasigroup": (quasigroup, [15]),
     "spoiled": (spoiled, [15]),
     "count": (count, [2000]),
-    "certified": (certified, [2000]),
+    "certified": (beside_least(models.count), [2000]),
     "golomb": (optima.golomb, [7]),
     "queens": (queens, [16]),
     "cornered": (cornered, [16]),
 }
+
+
+def chosen_family(word):
+    """The model and the sizes of a family: one of these, or one of those that are compiled, as `greatest:500,1000`."""
+    name, _, sizes = word.partition(":")
+    if not sizes:
+        return name, *FAMILIES[name]
+    return name, beside_least(getattr(models, name)), [int(size) for size in sizes.split(",")]
 
 
 def timed(words, path):
@@ -85,8 +97,7 @@ def main():
     print(row("family", "size", "verdict", "ledger", "proof", "bytes", "solve", "check", "beside"))
     with tempfile.TemporaryDirectory() as folder:
         model, answer, told = (os.path.join(folder, name) for name in ("model", "answer", "told"))
-        for family in chosen or FAMILIES:
-            make, sizes = FAMILIES[family]
+        for family, make, sizes in map(chosen_family, chosen or FAMILIES):
             for size in sizes:
                 with open(model, "w") as out:
                     out.write("\n".join(make(size)) + "\n")

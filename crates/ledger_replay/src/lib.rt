@@ -6,7 +6,8 @@
 //! line's rule has runs, the run of the core is made once; a line that is the next equation of it,
 //! as the store has it, is then made without a look at the core. Any other line goes to the state
 //! and ends the run. So a core with one line costs nothing more, and of a core without runs every
-//! second line at most is looked at twice.
+//! second line at most is looked at twice. At a long maximum the run is made at the first line,
+//! since it has the bounds of all members only while none of them is made.
 //!
 //! What it promises of `apply`: word for word what `apply` of `step_kernel` does (`step`, `fault`,
 //! `stays`, `models`, `kernel`). So which ledgers are accepted does not depend on this crate; it is

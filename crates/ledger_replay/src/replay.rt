@@ -9,7 +9,7 @@ ghost use Rattle.step_kernel.specs.Steps.{step, IsFaultOf};
 ghost use Rattle.ledger_text.specs.declared.line.Line.TheVariants.{Equate};
 ghost use Rattle.ledger_replay.specs.Due.{IsRunAt};
 
-use crate::run::{Run, run_at, run_behind};
+use crate::run::{Run, run_at, run_behind, tells_bounds};
 use core_forms::{Equation, Rule};
 use ledger_text::Line;
 use order_ints::{Atom, Cnf};
@@ -18,8 +18,8 @@ use std::marker::Model;
 use step_kernel::{ApplyFault, State};
 
 /// A state at which the lines of a ledger are made, one after another. Where two lines in a row are equations of one
-/// core, it looks for a run of that core, and makes the lines that follow the run without a look at the core. It
-/// keeps one run at most, in the memory that its equations take.
+/// core, it looks for a run of that core, and makes the lines that follow the run without a look at the core; at a long
+/// maximum it does so at the first line. It keeps one run at most, in the memory that its equations take.
 #[derive(Drop)]
 pub struct Replay {
     alloc: Global,
@@ -77,8 +77,16 @@ impl Replay {
         self.state.cnf()
     }
 
+    /// Whether the core with an id tells bounds of many members.
+    fn has_bounds(&self, id: u64) -> bool {
+        match self.state.core(id) {
+            Some(core) => tells_bounds(core),
+            None => false,
+        }
+    }
+
     /// The run that is left, where it is of the core with an id, or else a run of that core, where the line before was
-    /// made by a look at it. The run is taken out.
+    /// made by a look at it, or where it tells bounds of many members. The run is taken out.
     fn take_run(&mut self, id: u64, rule: Rule) -> Option<Run>
         ensures stays { self.new ≡ self.old }
         ensures id { IfSome result (λ run. run.id ≡ id) }
@@ -91,7 +99,7 @@ impl Replay {
                 return Some(run);
             }
         }
-        if looked == Some(id) && rule != Rule::Table {
+        if rule != Rule::Table && (looked == Some(id) || self.has_bounds(id)) {
             self.looked = None;
             return run_at(self.alloc, &self.state, id);
         }
@@ -136,8 +144,8 @@ impl Replay {
 
     /// Makes the step of a line, as the state does. A line that follows the run of its core looks at no core, takes
     /// no memory, and costs a walk of the class that loses, and the equations of the run that were made before it. Each
-    /// other one costs what it costs the state, and every second one at most of a core a run of that besides. Where the
-    /// line is no step, or memory is wanting, the state stays as it was.
+    /// other one costs what it costs the state, and every second one at most of a core, of a long maximum each one, a run
+    /// of that besides. Where the line is no step, or memory is wanting, the state stays as it was.
     pub fn apply(&mut self, line: &Line) -> Result<(), ApplyFault>
         ensures step { OnOk result (step self.old line.now ≡ Ok self.new) }
         ensures fault { IfErr result (IsFaultOf (step self.old line.now)) }

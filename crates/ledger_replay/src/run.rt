@@ -43,6 +43,18 @@ fn equations_of<L: Ledger>(
     run_of(alloc, core, &mut steps)
 }
 
+/// A maximum of so many members is a long one.
+const LONG: usize = 64;
+
+/// Whether a core is a long maximum. Its run begins with the bounds of its members, which are told in turn while all
+/// atoms are free; once the first of them is made, one is a constant, and a run of the core has no bounds.
+pub(crate) fn tells_bounds(core: &Core) -> bool {
+    match core {
+        Core::Max(ints, _) => ints.len() >= LONG,
+        _ => false,
+    }
+}
+
 /// The run of the pending core with an id, as the store has it. There is none where a contradiction was found, no
 /// pending core has the id, or memory is wanting.
 pub(crate) fn run_at(alloc: Global, state: &State, id: u64) -> Option<Run>

@@ -144,8 +144,8 @@ impl Replay {
 
     /// Makes the step of a line, as the state does. A line that follows the run of its core looks at no core, takes
     /// no memory, and costs a walk of the class that loses, and the equations of the run that were made before it. Each
-    /// other one costs what it costs the state, and every second one at most of a core, of a long maximum each one, a run
-    /// of that besides. Where the line is no step, or memory is wanting, the state stays as it was.
+    /// other one costs what it costs the state, and every second one at most of a core, or each one of a long maximum,
+    /// a run of that besides. Where the line is no step, or memory is wanting, the state stays as it was.
     pub fn apply(&mut self, line: &Line) -> Result<(), ApplyFault>
         ensures step { OnOk result (step self.old line.now ≡ Ok self.new) }
         ensures fault { IfErr result (IsFaultOf (step self.old line.now)) }

@@ -1,7 +1,7 @@
 //! A list over a `Vec`, which contracts see as the list of its members at every depth.
 
 ghost use Rattle.std.specs.Prelude.{◌≡◌, ◌==◌, ◌↔◌, ◌++◌, ◌∷◌, [], IsTrue, OnOk, OnErr, drop};
-ghost use Rattle.std.specs.Prelude.{length, List};
+ghost use Rattle.std.specs.Prelude.{length, List, Some};
 ghost use Rattle.std.specs.Cmp.Lexicographic.{pointwise, lists_per, lists_equiv};
 
 use std::alloc::{AllocError, Global};
@@ -98,6 +98,21 @@ impl<T: Drop> Sequence<T> {
         if self.start < self.items.len() {
             drop(self.items.pop());
         }
+    }
+
+    /// Another last member, in place of the one that is there, which is given back; `None` where there is none, and
+    /// then the other falls out of use. It takes constant time.
+    pub fn replace_last(&mut self, value: T) -> Option<T>
+        ensures replaced { (members : List T) (last : T) → self.old ≡ members ++ last ∷ []
+            → (self.new ≡ members ++ value ∷ []) × (result ≡ Some last) }
+        ensures none { self.old ≡ [] → self.new ≡ [] }
+    {
+        if self.start >= self.items.len() {
+            return None;
+        }
+        let last = self.items.pop();
+        self.items.push_reserved(value);
+        last
     }
 }
 

@@ -79,10 +79,10 @@ raised_stable view base (s ∷ steps) h =
     (never_true view s.0 h.2)
     ∙ ap {B = OrdInt} (λ (rest : List (Atom × ℕ)). record { base = base; steps = rest }) (merged_stable view s.0 s.1 steps h.2 h.3)
 
-stable_int : (view : List Atom) (a : OrdInt) → IsStableInt view a → tidied_int (map_int (resolve view) a) ≡ a
+pub stable_int : (view : List Atom) (a : OrdInt) → IsStableInt view a → tidied_int (map_int (resolve view) a) ≡ a
 stable_int view a h = raised_stable view a.base a.steps h
 
-stable_ints : (view : List Atom) (xs : List OrdInt) → AreStableInts view xs → tidied_ints (map_ints (resolve view) xs) ≡ xs
+pub stable_ints : (view : List Atom) (xs : List OrdInt) → AreStableInts view xs → tidied_ints (map_ints (resolve view) xs) ≡ xs
 stable_ints view [] h = refl
 stable_ints view (a ∷ xs) h = let e = stable_int view a h.0 in let r = stable_ints view xs h.1 in cc
 
@@ -153,12 +153,12 @@ from_plain_steps : (view : List Atom) (before : Atom) (steps : List (Atom × ℕ
 from_plain_steps view before [] h each = tt
 from_plain_steps view before (s ∷ steps) h each = (h.0, h.1, from_literal view s.0 h.2 each.0, from_plain_steps view s.0 steps h.3 each.1)
 
-plain_ints : (view : List Atom) (xs : List OrdInt) → AreStableInts view xs → ArePlainInts xs × EachInt (λ a. resolve view a ≡ a) xs
+pub plain_ints : (view : List Atom) (xs : List OrdInt) → AreStableInts view xs → ArePlainInts xs × EachInt (λ a. resolve view a ≡ a) xs
 plain_ints view [] h = (tt, tt)
 plain_ints view (a ∷ xs) h =
     let first = plain_steps view False a.steps h.0 in let rest = plain_ints view xs h.1 in ((first.0, rest.0), (first.1, rest.1))
 
-from_plain_ints : (view : List Atom) (xs : List OrdInt) → ArePlainInts xs → EachInt (λ a. resolve view a ≡ a) xs → AreStableInts view xs
+pub from_plain_ints : (view : List Atom) (xs : List OrdInt) → ArePlainInts xs → EachInt (λ a. resolve view a ≡ a) xs → AreStableInts view xs
 from_plain_ints view [] h each = tt
 from_plain_ints view (a ∷ xs) h each = (from_plain_steps view False a.steps h.0 each.0, from_plain_ints view xs h.1 each.1)
 
@@ -228,7 +228,7 @@ module _ (P Q R : Atom → Type 0) (both : (a : Atom) → P a → Q a → R a) w
   both_of [] p q = tt
   both_of (a ∷ ls) p q = (both a p.0 q.0, both_of ls p.1 q.1)
 
-  both_steps : (steps : List (Atom × ℕ)) → EachStep P steps → EachStep Q steps → EachStep R steps
+  pub both_steps : (steps : List (Atom × ℕ)) → EachStep P steps → EachStep Q steps → EachStep R steps
   both_steps [] p q = tt
   both_steps (s ∷ steps) p q = (both s.0 p.0 q.0, both_steps steps p.1 q.1)
 
@@ -236,7 +236,7 @@ module _ (P Q R : Atom → Type 0) (both : (a : Atom) → P a → Q a → R a) w
   both_ints [] p q = tt
   both_ints (a ∷ xs) p q = (both_steps a.steps p.0 q.0, both_ints xs p.1 q.1)
 
-  both_each : (core : Core) → EachAtom P core → EachAtom Q core → EachAtom R core
+  pub both_each : (core : Core) → EachAtom P core → EachAtom Q core → EachAtom R core
   both_each core p q = (both_of (atoms_of core) p.0 q.0, both_ints (ints_of core) p.1 q.1)
 
 -- a stable core is stable when further variables come, also where it has some of these

@@ -17,3 +17,6 @@ pub mod Cores
 pub mod Basic
 pub mod Sums
 pub mod Taken
+pub mod Totals
+pub mod Edges
+pub mod Letters

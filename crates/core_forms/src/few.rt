@@ -12,7 +12,7 @@ use order_ints::{Atom, OrdInt};
 use std::marker::Model;
 
 /// At most eight variables, ascending. They take no memory, and a clause sees them as a list.
-#[derive(Debug, Drop)]
+#[derive(Debug, Clone, Drop)]
 pub struct FewVars {
     vars: [u32; 8],
     count: usize,
@@ -61,7 +61,7 @@ fn put_between(vars: &mut [u32], place: usize, var: u32)
 
 impl FewVars {
     /// No variable.
-    fn none() -> FewVars
+    pub(crate) fn none() -> FewVars
         ensures { result ≡ [] }
     {
         FewVars {
@@ -93,7 +93,7 @@ impl FewVars {
     }
 
     /// Puts a variable among them; `None` where it would be the ninth.
-    fn put(&mut self, var: u32) -> Option<()>
+    pub(crate) fn put(&mut self, var: u32) -> Option<()>
         ensures put { IfSome result (λ _. self.new ≡ with_var var self.old) }
         ensures full { IfNone result (8 < length (with_var var self.old)) }
     {

@@ -3,7 +3,9 @@
 ghost use Rattle.std.specs.Prelude.{◌≡◌};
 ghost use Rattle.core_forms.specs.Taken.{taken_apart};
 
+use crate::summands::Summands;
 use crate::taken::Taken;
+use crate::word::Word;
 use bee_list::{Apart, Sequence};
 use order_ints::{Atom, OrdInt};
 
@@ -31,7 +33,7 @@ pub enum Core {
     /// The integer is the number of true members.
     Count(Sequence<Atom>, Apart<OrdInt>),
     /// The members, added up, are the number.
-    Sum(Sequence<OrdInt>, Apart<i128>),
+    Sum(Summands, Apart<i128>),
     /// The integer is the greatest member.
     Max(Sequence<OrdInt>, Apart<OrdInt>),
     /// Members at two places with both conditions true differ.
@@ -45,7 +47,7 @@ pub enum Core {
     DivMod(Apart<OrdInt>, Apart<OrdInt>, Apart<OrdInt>, Apart<OrdInt>),
     /// The atom is the truth of the first list standing before the second in the order of words, where
     /// the flag is true, and otherwise before it or being equal.
-    Lex(Atom, bool, Apart<Sequence<OrdInt>>, Apart<Sequence<OrdInt>>),
+    Lex(Atom, bool, Word, Word),
 }
 
 const _: () = prove!(size_of::<Core>() <= 48);
@@ -79,7 +81,7 @@ impl Core {
             Core::Parity(atoms, odd) => Taken::Xor(atoms, odd),
             Core::Sum3(a, b, c) => Taken::Added(a.into_inner(), b.into_inner(), c.into_inner()),
             Core::Count(atoms, c) => Taken::Counted(atoms, c.into_inner()),
-            Core::Sum(ints, k) => Taken::Summed(ints, k.into_inner()),
+            Core::Sum(ints, k) => Taken::Summed(ints.into_sequence(), k.into_inner()),
             Core::AllDiff(ints, conditions) => Taken::Differing(ints, conditions.into_inner()),
             Core::Amo(atoms) => Taken::AtMostOne(atoms),
             Core::Lex(r, strict, front, back) => {

@@ -15,6 +15,11 @@
 //! eight; `cost` is exact, and trimming never raises it (`cost_law`). Further laws compose views
 //! (`composition_law`, `congruence_law`, `later_trim_law`) and say what stands in a core.
 //!
+//! A sum's members (`Summands`) know what they add up to, where a machine's number holds it. Where all
+//! of a core but its edge stays as it is (`stable_below`), the last member of a sum and the truth of an
+//! order of words are all that trimming may change: `settle` has them as a view has them, in their own
+//! time, which is what trimming makes (`settled_law`), and `unsettle` gives back what stood there.
+//!
 //! A core's `Drop` is by hand: only methods of `Core` take one apart (`take_apart`). A further form
 //! touches 46 files in eleven crates; `docs/ARCHITECTURE.md`, "How one adds", lists them.
 #![tactic(auto)]
@@ -23,6 +28,8 @@ mod basic;
 mod contents;
 pub mod cost_laws;
 mod costs;
+pub mod edge_laws;
+mod edges;
 mod equation;
 mod few;
 mod form;
@@ -35,13 +42,16 @@ mod meaning;
 mod occurrence;
 mod shapes;
 pub mod stable_laws;
+mod summands;
 mod taken;
 mod trimming;
 pub mod view_laws;
+mod word;
 
 pub use basic::is_basic;
 pub use contents::Members;
 pub use costs::cost;
+pub use edges::{Edge, Known, has_own_edge, is_edge_stable, stable_below};
 pub use equation::{Equation, Rule};
 pub use few::{FewVars, few_variables};
 pub use form::Core;
@@ -49,5 +59,7 @@ pub use fresh_sums::sums;
 pub use meaning::{holds, holds_in_row};
 pub use occurrence::variables;
 pub use shapes::shape;
+pub use summands::{Summands, Totals};
 pub use taken::Taken;
 pub use trimming::{is_stable, trim, trim_int};
+pub use word::Word;

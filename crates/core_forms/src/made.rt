@@ -6,6 +6,8 @@ ghost use Rattle.core_forms.specs.declared.form.Core.TheVariants.{Ladder, Comp, 
 ghost use Rattle.core_forms.specs.declared.form.Core.TheVariants.{AllDiff, Prod, DivMod, Lex};
 
 use crate::form::Core;
+use crate::summands::Summands;
+use crate::word::Word;
 use bee_list::{Apart, Sequence};
 use order_ints::{Atom, OrdInt};
 use std::alloc::{AllocError, Global};
@@ -61,7 +63,7 @@ impl Core {
     pub fn sum(alloc: Global, ints: Sequence<OrdInt>, k: i128) -> Result<Core, AllocError>
         ensures { IfOk result (λ core. core ≡ Sum ints k) }
     {
-        Ok(Core::Sum(ints, Apart::new(alloc, k)?))
+        Ok(Core::Sum(Summands::new(alloc, ints)?, Apart::new(alloc, k)?))
     }
 
     /// An integer is the greatest member.
@@ -121,11 +123,6 @@ impl Core {
     ) -> Result<Core, AllocError>
         ensures { IfOk result (λ core. core ≡ Lex r strict front back) }
     {
-        Ok(Core::Lex(
-            r,
-            strict,
-            Apart::new(alloc, front)?,
-            Apart::new(alloc, back)?,
-        ))
+        Ok(Core::Lex(r, strict, Word::new(alloc, front)?, Word::new(alloc, back)?))
     }
 }

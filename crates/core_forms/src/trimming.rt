@@ -2,8 +2,8 @@
 
 mod atoms;
 mod forms;
-mod ints;
-mod stable;
+pub(crate) mod ints;
+pub(crate) mod stable;
 
 ghost use Rattle.std.specs.Prelude.{◌≡◌, ℕ, IfOk, IsTrue};
 ghost use Rattle.order_ints.specs.Truth.{Valuation};

@@ -1,5 +1,5 @@
 -- The cuts of sums and of orders of words make their parts, and leave what is stable stable.
-use Rattle.std.proofs.Common.{◌≡◌, ℕ, zero, suc, ◌+◌, ◌-◌, ◌<◌, ◌≤◌, Bool, true, false, ◌&&◌, ◌⊎◌, inl, inr, List, [], ◌∷◌, ◌++◌, map, length, get_or, Contains, ℤ, refl, sym, ap, subst, arith}
+use Rattle.std.proofs.Common.{◌≡◌, ℕ, zero, suc, ◌+◌, ◌-◌, ◌<◌, ◌≤◌, Bool, true, false, ◌&&◌, ◌⊎◌, inl, inr, List, [], ◌∷◌, ◌++◌, map, length, get_or, Contains, ℤ, pos, refl, sym, ap, subst, arith}
 use Rattle.std.specs.Prelude.{IfOk, IfSome}
 use Rattle.std.specs.Bool.{beq}
 use Rattle.std.specs.declared.result.Result.{Result}
@@ -21,6 +21,7 @@ use Rattle.core_forms.specs.Each.{EachStep, EachInt, EachAtom}
 use Rattle.core_forms.specs.Plain.{ArePlainBehind, ArePlainInts}
 use Rattle.core_forms.specs.Stable.{IsStableCore}
 use Rattle.core_forms.specs.Sums.{sums_of}
+use Rattle.core_forms.specs.Edges.{listed_vars}
 use Rattle.core_forms.specs.Variables.{core_vars}
 use Rattle.core_forms.proofs.EachLaws.{EachInt-append, EachInt-left, EachInt-right}
 use Rattle.core_forms.proofs.VariableLaws.{OfVars, each_vars, vars_each}
@@ -136,15 +137,16 @@ module _ (next : ℕ) (r : Atom) (strict : Bool) (a b c : OrdInt) (front back : 
   less_order = Lex (variable (next + 2)) strict (c ∷ front) back
 
   abbrev IsOrderVar : ℕ → Type 0
-  IsOrderVar v = Contains (core_vars long_order) v ⊎ ((next ≤ v) × (v < next + 4))
+  IsOrderVar v = Contains (listed_vars long_order) v ⊎ ((next ≤ v) × (v < next + 4))
 
   order_vars : (v : ℕ) → Contains (core_vars less_order) v → IsOrderVar v
   order_vars =
-      let old : EachAtom (OfVars IsOrderVar) long_order = each_vars IsOrderVar long_order (λ v c. inl c) in
+      let letters : List OrdInt = (a ∷ c ∷ front) ++ b ∷ back in
+      let old : EachAtom (OfVars IsOrderVar) (Sum letters (pos 0)) = each_vars IsOrderVar (Sum letters (pos 0)) (λ v c. inl c) in
       let fronts : EachInt (OfVars IsOrderVar) (a ∷ c ∷ front) = EachInt-left (OfVars IsOrderVar) (a ∷ c ∷ front) (b ∷ back) old.1 in
       let backs : EachInt (OfVars IsOrderVar) (b ∷ back) = EachInt-right (OfVars IsOrderVar) (a ∷ c ∷ front) (b ∷ back) old.1 in
       vars_each IsOrderVar less_order (
-        (fresh_var next 4 (next + 2) (λ w. Contains (core_vars long_order) w) (omega arith) (omega arith), tt),
+        (fresh_var next 4 (next + 2) (λ w. Contains (listed_vars long_order) w) (omega arith) (omega arith), tt),
         EachInt-append (OfVars IsOrderVar) (c ∷ front) back fronts.1 backs.1,
       )
 

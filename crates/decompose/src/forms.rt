@@ -89,7 +89,12 @@ fn kept_parts(alloc: Global, core: &Core, next_var: u32) -> Result<Parts, AllocE
     ensures { IfOk result (λ parts. parts ≡ parts_of core.now next_var) }
 {
     match core {
-        Core::Sum(ints, k) => sum_parts(alloc, copied_ints(alloc, ints)?, *k.get(), next_var),
+        Core::Sum(ints, k) => sum_parts(
+            alloc,
+            copied_ints(alloc, ints.sequence())?,
+            *k.get(),
+            next_var,
+        ),
         Core::AllDiff(ints, conditions) => {
             let conditions = copied_atoms(alloc, conditions.get())?;
             differing_parts(alloc, copied_ints(alloc, ints)?, conditions, next_var)

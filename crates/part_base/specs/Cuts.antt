@@ -6,6 +6,7 @@ use Rattle.order_ints.specs.declared.order_int.OrdInt.{OrdInt}
 use Rattle.core_forms.specs.declared.form.Core.{Core}
 use Rattle.core_forms.specs.declared.form.Core.TheVariants.{Ladder, Clause, Parity, Conj, Comp, LeqR, EqR, Sum3, Count}
 use Rattle.core_forms.specs.declared.form.Core.TheVariants.{Sum, Max, AllDiff, Amo, Prod, DivMod, Lex}
+use Rattle.core_forms.specs.Edges.{listed_vars}
 use Rattle.core_forms.specs.Stable.{IsStableCore}
 use Rattle.core_forms.specs.Variables.{core_vars}
 use Rattle.part_base.specs.declared.cut.Coming.{Coming}
@@ -77,12 +78,13 @@ abbrev pub rest_of : Cut → Core → Core
 rest_of cut core = shorter_of cut.head (longer_of cut.coming core)
 
 -- A cut makes the parts of a core: those in front, what is left of the list, and those behind it. The variables of what
--- is left are the core's and fresh ones, which are those from next on; and it is stable where the core is.
+-- is left are those listed in the core, and fresh ones, which are those from next on; and it is stable where the core
+-- is.
 pub record IsCut (next : ℕ) (core : Core) (parts : Parts) (cut : Cut) : Type 0 where
   pub cores : parts.cores ≡ cut.front ++ rest_of cut core ∷ cut.back
   pub fresh : parts.fresh ≡ cut.fresh
   pub comes : CanCome cut.coming core
-  pub vars : (v : ℕ) → Contains (core_vars (rest_of cut core)) v → Contains (core_vars core) v
+  pub vars : (v : ℕ) → Contains (core_vars (rest_of cut core)) v → Contains (listed_vars core) v
       ⊎ ((next ≤ v) × (v < next + cut.fresh))
   pub stable : (view : List Atom) → next ≡ length view + 1 → IsStableCore view core
       → IsStableCore view (rest_of cut core)

@@ -6,7 +6,7 @@ ghost use Rattle.part_base.specs.declared.cut.Coming.{Coming};
 ghost use Rattle.part_base.specs.Cuts.{CanCome, with_member, with_integer, longer_of, shorter_of};
 
 use bee_list::Sequence;
-use core_forms::Core;
+use core_forms::{Core, Summands};
 use order_ints::{Atom, OrdInt};
 use std::alloc::AllocError;
 
@@ -50,7 +50,7 @@ fn put_member(atoms: &mut Sequence<Atom>, coming: Coming) -> Result<(), AllocErr
 }
 
 /// A list of integers takes what comes behind it.
-fn put_integer(ints: &mut Sequence<OrdInt>, coming: Coming) -> Result<(), AllocError>
+fn put_integer(ints: &mut Summands, coming: Coming) -> Result<(), AllocError>
     ensures longer { OnOk result (ints.new ≡ with_integer ints.old coming) }
     ensures stays { OnErr result (ints.new ≡ ints.old) }
 {

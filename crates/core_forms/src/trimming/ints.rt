@@ -54,7 +54,7 @@ fn raised(base: i128, by: u128) -> i128
 
 /// An integer as the view has it, its leading True steps in the base, without trailing False steps, and
 /// with neighbours of one atom in one step.
-pub(super) fn trimmed_int(alloc: Global, a: &OrdInt, view: &[Atom]) -> Result<OrdInt, AllocError>
+pub(crate) fn trimmed_int(alloc: Global, a: &OrdInt, view: &[Atom]) -> Result<OrdInt, AllocError>
     requires { IsBounded a.now }
     ensures shape { IfOk result (λ b. b ≡ tidied_int (map_int (resolve view.now) a.now)) }
     ensures range { IfOk result (λ b. unsigned_abs b.base < 2 ^ 100) }

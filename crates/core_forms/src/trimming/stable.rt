@@ -63,7 +63,7 @@ fn is_stable_behind(view: &[Atom], before: Atom, atom: Atom) -> bool
 }
 
 /// Whether the steps stay as they are. No stable atom is False, so that the first one may be any.
-fn is_stable_int(a: &OrdInt, view: &[Atom]) -> bool
+pub(crate) fn is_stable_int(a: &OrdInt, view: &[Atom]) -> bool
     ensures { IsTrue result → IsStableInt view.now a.now }
 {
     let steps = a.steps.as_slice();
@@ -97,7 +97,7 @@ fn are_stable_words(front: &[OrdInt], back: &[OrdInt], view: &[Atom]) -> bool
 }
 
 /// Whether a core stays as it is, for the forms that may have long lists.
-pub(super) fn is_stable_form(core: &Core, view: &[Atom]) -> bool
+pub(crate) fn is_stable_form(core: &Core, view: &[Atom]) -> bool
     ensures { IsTrue result → IsStableCore view.now core.now }
 {
     match core {

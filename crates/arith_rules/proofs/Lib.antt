@@ -17,3 +17,5 @@ pub mod Sound
 pub mod EachRows
 pub mod Found
 mod Unbound
+pub mod KnownTotals
+pub mod LastMember

@@ -1,5 +1,5 @@
 -- The equations that a sum of two integers, a count and a sum of members state.
-use Rattle.std.specs.Prelude.{not, List, [], ◌∷◌, ◌++◌, length, ℤ, pos, ◌+ℤ◌, ◌-ℤ◌}
+use Rattle.std.specs.Prelude.{not, List, [], ◌∷◌, ◌++◌, length, ℤ, pos, ◌+ℤ◌, ◌-ℤ◌, ◌≤ℤ◌}
 use Rattle.std.specs.Ordering.{int_eq}
 use Rattle.order_ints.specs.declared.atom.Atom.{Atom}
 use Rattle.order_ints.specs.declared.atom.Atom.TheVariants.{True, False}
@@ -59,6 +59,19 @@ abbrev pub shares : ℤ → ℤ → ℤ → List OrdInt → List (Atom × Atom)
 shares k lows highs [] = []
 shares k lows highs (a ∷ ints) =
     within a (k -ℤ (highs -ℤ high_of a)) (k -ℤ (lows -ℤ low_of a)) ++ shares k lows highs ints
+
+-- what is stated so of the last one of integers
+abbrev pub last_share : ℤ → ℤ → ℤ → List OrdInt → List (Atom × Atom)
+last_share k lows highs [] = []
+last_share k lows highs (a ∷ []) = within a (k -ℤ (highs -ℤ high_of a)) (k -ℤ (lows -ℤ low_of a))
+last_share k lows highs (a ∷ b ∷ ints) = last_share k lows highs (b ∷ ints)
+
+-- the others leave each integer all its values: its own range is within what they leave it
+abbrev pub HaveAllValues : ℤ → ℤ → ℤ → List OrdInt → Type 0
+HaveAllValues k lows highs [] = Unit {0}
+HaveAllValues k lows highs (a ∷ ints) =
+    ((k -ℤ (highs -ℤ high_of a)) ≤ℤ low_of a) × (high_of a ≤ℤ (k -ℤ (lows -ℤ low_of a)))
+    × HaveAllValues k lows highs ints
 
 -- the members, added up, are k: without members there is a contradiction unless k is 0
 abbrev pub sum_equations : List OrdInt → ℤ → List (Atom × Atom)

@@ -14,8 +14,11 @@
 //! `atoms_law`.
 //!
 //! A question costs one walk along the members and their values; in a maximum the two greatest of
-//! the members' greatest values tell which values one member at most reaches. The lists in `specs/`
-//! follow the table "Equations" of `docs/CORES.md` line by line.
+//! the members' greatest values tell which values one member at most reaches. A sum knows what its
+//! members add up to (`totals_of`): where the others leave each member but the last one all its
+//! values (`binds_last_alone`), `find` takes the time of the last one, and so does `is_instance` for
+//! an equation that the last one states. The lists in `specs/` follow the table "Equations" of
+//! `docs/CORES.md` line by line.
 #![tactic(auto)]
 
 mod constants;
@@ -33,4 +36,4 @@ pub use instances::{find, is_instance};
 pub use links::Link;
 pub use maxima::Tops;
 pub use ranges::Range;
-pub use sums::totals;
+pub use sums::{binds_last_alone, totals, totals_of};

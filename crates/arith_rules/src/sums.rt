@@ -1,14 +1,19 @@
 //! The equations that sums and counts state.
 
-ghost use Rattle.std.specs.Prelude.{◌≡◌, ◌+◌, ◌^◌, ◌<◌, unsigned_abs, length};
+ghost use Rattle.std.specs.Prelude.{◌≡◌, ◌+◌, ◌^◌, ◌<◌, ◌+ℤ◌, ◌≤ℤ◌, true, pos, unsigned_abs, length, IsTrue};
+ghost use Rattle.std.specs.Option.{is_some};
 ghost use Rattle.order_ints.specs.OrderRange.{IsBounded};
+ghost use Rattle.core_forms.specs.Totals.{before_last};
 ghost use Rattle.core_forms.specs.WellFormed.{AreSound, abs_total};
+ghost use Rattle.rule_base.specs.declared.sought.SoughtEquation.TheVariants.{Apart};
 ghost use Rattle.rule_base.specs.Pairs.{first_sought, only_if};
 ghost use Rattle.rule_base.specs.Stated.{all_equal};
 ghost use Rattle.arith_rules.specs.SumRows.{sum3_ranges, count_equations, sum_equations};
+ghost use Rattle.arith_rules.specs.SumRows.{lows_of, highs_of, last_share, HaveAllValues};
 ghost use Rattle.arith_rules.specs.Ranges.{ranges_of};
 
 use crate::ranges::Range;
+use core_forms::{Summands, Totals};
 use order_ints::{Atom, OrdInt};
 use rule_base::SoughtEquation;
 
@@ -99,4 +104,111 @@ pub(crate) fn by_sum(sought: SoughtEquation, ints: &[OrdInt], k: &i128) -> Optio
         }
     }
     None
+}
+
+/// What the members add up to, as `totals` tells it of their list: in constant time where it is known.
+pub fn totals_of(ints: &Summands) -> Range
+    requires sound { AreSound ints.now }
+    requires limit { abs_total ints.now < 2 ^ 100 }
+    ensures shape { result ≡ ranges_of ints.now }
+    ensures small { (unsigned_abs result.low < 2 ^ 100) × (unsigned_abs result.high < 2 ^ 100) }
+{
+    match ints.totals() {
+        Some(known) => Range {
+            low: known.low,
+            high: known.low + known.width as i128,
+        },
+        None => totals(ints.as_slice()),
+    }
+}
+
+/// Whether a number is so far above another one, or farther.
+fn is_above(low: &i128, width: u128, high: &i128) -> bool
+    requires low { unsigned_abs low.now < 2 ^ 100 }
+    requires high { unsigned_abs high.now < 2 ^ 100 }
+    ensures { IsTrue result → (low.now +ℤ pos width) ≤ℤ high.now }
+{
+    *low <= *high && width <= (*high - *low) as u128
+}
+
+/// Whether `k` is so far from both ends of a range, or farther.
+fn is_far(all: &Range, width: u128, k: &i128) -> bool
+    requires all { (unsigned_abs all.now.low < 2 ^ 100) × (unsigned_abs all.now.high < 2 ^ 100) }
+    requires total { unsigned_abs k.now < 2 ^ 100 }
+    ensures low { IsTrue result → (all.now.low +ℤ pos width) ≤ℤ k.now }
+    ensures high { IsTrue result → (k.now +ℤ pos width) ≤ℤ all.now.high }
+{
+    is_above(&all.low, width, k) && is_above(k, width, &all.high)
+}
+
+/// Whether it is known that of a sum of `k` the others leave each member but the last one all its values. It takes
+/// constant time.
+pub fn binds_last_alone(ints: &Summands, all: &Range, k: &i128) -> bool
+    requires shape { all.now ≡ ranges_of ints.now }
+    requires all { (unsigned_abs all.now.low < 2 ^ 100) × (unsigned_abs all.now.high < 2 ^ 100) }
+    requires total { unsigned_abs k.now < 2 ^ 100 }
+    ensures { IsTrue result → HaveAllValues k.now (lows_of ints.now) (highs_of ints.now) (before_last ints.now) }
+{
+    match ints.totals() {
+        Some(known) => is_far(all, known.widest, k),
+        None => false,
+    }
+}
+
+/// Of the equations of the last member being what the others leave of `k`, the first that is looked for.
+fn by_last(sought: SoughtEquation, ints: &[OrdInt], all: &Range, k: &i128) -> Option<(Atom, Atom)>
+    requires sound { AreSound ints.now }
+    requires shape { all.now ≡ ranges_of ints.now }
+    requires all { (unsigned_abs all.now.low < 2 ^ 100) × (unsigned_abs all.now.high < 2 ^ 100) }
+    requires total { unsigned_abs k.now < 2 ^ 100 }
+    ensures { result ≡ first_sought sought (last_share k.now (lows_of ints.now) (highs_of ints.now) ints.now) }
+{
+    match ints.split_last() {
+        Some((last, _)) => {
+            let own = Range::of(last);
+            let share = own.share(all, k);
+            share.binds(sought, last, &own)
+        }
+        None => None,
+    }
+}
+
+/// Of the equations of a sum, the first of two different atoms: in the time of the last member where it alone is bound.
+fn apart_by_summands(ints: &Summands, k: &i128) -> Option<(Atom, Atom)>
+    requires sound { AreSound ints.now }
+    requires limit { abs_total ints.now + unsigned_abs k.now < 2 ^ 100 }
+    ensures { result ≡ first_sought Apart (sum_equations ints.now k.now) }
+{
+    let members = ints.as_slice();
+    if members.is_empty() {
+        return by_sum(SoughtEquation::Apart, members, k);
+    }
+    let all = totals_of(ints);
+    if binds_last_alone(ints, &all, k) {
+        return by_last(SoughtEquation::Apart, members, &all, k);
+    }
+    by_sum(SoughtEquation::Apart, members, k)
+}
+
+/// Of the equations of the members of a sum, the first that is looked for, as `by_sum` finds it in their list.
+pub(crate) fn by_summands(sought: SoughtEquation, ints: &Summands, k: &i128) -> Option<(Atom, Atom)>
+    requires sound { AreSound ints.now }
+    requires limit { abs_total ints.now + unsigned_abs k.now < 2 ^ 100 }
+    ensures { result ≡ first_sought sought (sum_equations ints.now k.now) }
+{
+    match sought {
+        SoughtEquation::Apart => apart_by_summands(ints, k),
+        SoughtEquation::Pair(_, _) => by_sum(sought, ints.as_slice(), k),
+    }
+}
+
+/// Whether what the others leave the last member of a sum states an equation.
+pub(crate) fn last_states(sought: SoughtEquation, ints: &Summands, k: &i128) -> bool
+    requires sound { AreSound ints.now }
+    requires limit { abs_total ints.now + unsigned_abs k.now < 2 ^ 100 }
+    ensures { IsTrue result → is_some (first_sought sought (sum_equations ints.now k.now)) ≡ true }
+{
+    let all = totals_of(ints);
+    let pair = by_last(sought, ints.as_slice(), &all, k);
+    pair.is_some()
 }

@@ -160,8 +160,19 @@ all-turn core [] before parts = tt
 all-turn core (a ∷ ints) before parts =
     map-turn Told core before (equation_of Order) (chain_pairs a) (chains_of ints) (chain-turn core a before parts.0) (λ e. all-turn core ints e parts.1)
 
+-- of each integer of a core
+core-parts : (core : Core) → AreParts core (ints_of core)
+core-parts core =
+    parts-of core (ints_of core) (λ view x y e. subst (λ (ps : List (Atom × Atom)). is_listed x y ps ≡ true) (sym (order-trimmed view core)) e)
+
+last-part : (core : Core) (xs : List OrdInt) (a : OrdInt) → AreParts core (xs ++ a ∷ []) → IsPart core a
+last-part core [] a parts = parts.0
+last-part core (x ∷ xs) a parts = last-part core xs a parts.1
+
 -- the equations along the integers of a core are told, whatever is before them
 pub chains-turn : (core : Core) (before : Equation) → AreToldAfter (λ c e. is_stated c e ≡ true) core before (map (equation_of Order) (chains_of (ints_of core)))
-chains-turn core before =
-    all-turn core (ints_of core) before
-    (parts-of core (ints_of core) (λ view x y e. subst (λ (ps : List (Atom × Atom)). is_listed x y ps ≡ true) (sym (order-trimmed view core)) e))
+chains-turn core before = all-turn core (ints_of core) before (core-parts core)
+
+-- and so are those along its last integer alone
+pub last-turn : (core : Core) (xs : List OrdInt) (a : OrdInt) (before : Equation) → ints_of core ≡ xs ++ a ∷ [] → AreToldAfter (λ c e. is_stated c e ≡ true) core before (map (equation_of Order) (chain_pairs a))
+last-turn core xs a before is = chain-turn core a before (last-part core xs a (subst (AreParts core) is (core-parts core)))

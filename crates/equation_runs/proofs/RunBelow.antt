@@ -1,5 +1,5 @@
 -- The variables of a run have a place where the core's variables have.
-use Rattle.std.proofs.Common.{ℕ, ◌==◌, Bool, true, false, length, List, [], ◌∷◌, ◌++◌, map, reverse, ℤ, pos, ◌+ℤ◌, ◌-ℤ◌, sym, subst}
+use Rattle.std.proofs.Common.{◌≡◌, ℕ, ◌==◌, Bool, true, false, length, List, [], ◌∷◌, ◌++◌, map, reverse, ℤ, pos, ◌+ℤ◌, ◌-ℤ◌, sym, subst}
 use Rattle.std.specs.Prelude.{if◌then◌else◌}
 use Rattle.std.specs.Ordering.{int_eq}
 use Rattle.std.proofs.lemmas.Grind.{reverse_onto}
@@ -70,6 +70,10 @@ module _ (P : Atom → Type 0) (closed : IsClosed P) where
   each-chains : (xs : List OrdInt) → EachInt P xs → EachOfPairs P (chains_of xs)
   each-chains [] each = tt
   each-chains (a ∷ xs) each = EachOfPairs-append P (chain_pairs a) (chains_of xs) (each-chain a each.0) (each-chains xs each.1)
+
+  last-steps : (xs : List OrdInt) (a : OrdInt) → EachInt P (xs ++ a ∷ []) → EachStep P a.steps
+  last-steps [] a each = each.0
+  last-steps (x ∷ xs) a each = last-steps xs a each.1
 
   -- the links of two integers
   module _ (a b : OrdInt) (ea : EachStep P a.steps) (eb : EachStep P b.steps) where
@@ -195,3 +199,10 @@ module _ (n : ℕ) where
       (pairs-below Form (bound_pairs core) (each-bounds (AtomBelow n) closed core each))
       (pairs-below Order (chains_of (ints_of core)) (each-chains (AtomBelow n) closed (ints_of core) each.1)))
       (pairs-below Form (link_pairs core) (each-links (AtomBelow n) closed core each))
+
+  -- the equations along its last integer alone
+  pub last-below : (core : Core) (xs : List OrdInt) (a : OrdInt) → ints_of core ≡ xs ++ a ∷ [] → CoreBelow n core → EquationsBelow n (map (equation_of Order) (chain_pairs a))
+  last-below core xs a is below =
+      let each : EachAtom (AtomBelow n) core = each_below n (AtomBelow n) (λ b h. h) core below in
+      pairs-below Order (chain_pairs a)
+      (each-chain (AtomBelow n) closed a (last-steps (AtomBelow n) closed xs a (subst (EachInt (AtomBelow n)) is each.1)))

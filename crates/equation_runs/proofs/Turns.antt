@@ -1,7 +1,8 @@
 -- A run is told in turn.
-use Rattle.std.proofs.Common.{◌≡◌, ℕ, true, List, [], ◌++◌, map, refl, sym, subst, Result, Ok, Err}
+use Rattle.std.proofs.Common.{◌≡◌, ℕ, true, List, [], ◌∷◌, ◌++◌, map, refl, sym, subst, Result, Ok, Err}
 use Rattle.std.specs.Prelude.{IfOk}
 use Rattle.std.specs.Global.{Vec}
+use Rattle.order_ints.specs.declared.order_int.OrdInt.{OrdInt}
 use Rattle.core_forms.specs.declared.equation.Rule.TheVariants.{Order, Form}
 use Rattle.core_forms.specs.declared.form.Core.{Core}
 use Rattle.core_forms.specs.declared.equation.Equation.{Equation}
@@ -9,12 +10,12 @@ use Rattle.core_forms.specs.Contents.{ints_of}
 use Rattle.core_forms.specs.Place.{CoreBelow}
 use Rattle.equation_runs.specs.Turns.{AreToldInTurn, EquationsBelow, made_equation, is_stated}
 use Rattle.equation_runs.specs.BoundRows.{bound_pairs}
-use Rattle.equation_runs.specs.RunRows.{equation_of, chains_of, link_pairs, run_of}
+use Rattle.equation_runs.specs.RunRows.{equation_of, chain_pairs, chains_of, link_pairs, run_of}
 use Rattle.equation_runs.proofs.Always.{Told}
-use Rattle.equation_runs.proofs.ChainTurns.{chains-turn}
+use Rattle.equation_runs.proofs.ChainTurns.{chains-turn, last-turn}
 use Rattle.equation_runs.proofs.FormTurns.{links-turn, bounds-turn}
 use Rattle.equation_runs.proofs.LaterTurns.{from-after, from-always, from-append}
-use Rattle.equation_runs.proofs.RunBelow.{run-below}
+use Rattle.equation_runs.proofs.RunBelow.{run-below, last-below}
 
 -- first what is told once those before it are made, then what follows along the integers, and then the links, both whatever was made before
 pub run-turn : (core : Core) → AreToldInTurn (λ c e. is_stated c e ≡ true) core (run_of core)
@@ -44,3 +45,17 @@ pub below-of : {E : Type 0} (core : Core) (r : Result (Vec Equation) E) → IfOk
     → (n : ℕ) → CoreBelow n core → IfOk r (λ run. EquationsBelow n run.items)
 below-of core (Ok run) is n below = subst (EquationsBelow n) (sym is) (run-below n core below)
 below-of core (Err e) is n below = tt
+
+-- the same of the equations along the last integer of a core
+module _ {E : Type 0} (core : Core) (xs : List OrdInt) (a : OrdInt) (last : ints_of core ≡ xs ++ a ∷ []) where
+  pub last-told : (r : Result (Vec Equation) E) → IfOk r (λ run. run.items ≡ map (equation_of Order) (chain_pairs a))
+      → IfOk r (λ run. AreToldInTurn (λ c e. is_stated c e ≡ true) core run.items)
+  last-told (Ok run) is =
+      subst (AreToldInTurn (λ c e. is_stated c e ≡ true) core) (sym is)
+      (from-after Told core [] made_equation (map (equation_of Order) (chain_pairs a)) (λ _ _. refl) (last-turn core xs a made_equation last))
+  last-told (Err e) is = tt
+
+  pub last-over : (r : Result (Vec Equation) E) → IfOk r (λ run. run.items ≡ map (equation_of Order) (chain_pairs a))
+      → (n : ℕ) → CoreBelow n core → IfOk r (λ run. EquationsBelow n run.items)
+  last-over (Ok run) is n below = subst (EquationsBelow n) (sym is) (last-below n core xs a last below)
+  last-over (Err e) is n below = tt

@@ -1,7 +1,8 @@
 //! The run of a core.
 
-ghost use Rattle.std.specs.Prelude.{◌≡◌, ℕ, true, ◌+◌, ◌++◌, map, IfOk, OnOk};
+ghost use Rattle.std.specs.Prelude.{◌≡◌, ℕ, true, ◌+◌, ◌++◌, ◌∷◌, [], map, IfOk, IfSome, OnOk};
 ghost use Rattle.core_forms.specs.Contents.{ints_of};
+ghost use Rattle.core_forms.specs.Totals.{before_last};
 ghost use Rattle.core_forms.specs.WellFormed.{IsWellFormed, IsSound};
 ghost use Rattle.core_forms.specs.declared.equation.Rule.TheVariants.{Order, Form};
 ghost use Rattle.order_ints.specs.OrderRange.{low_of};
@@ -10,7 +11,7 @@ ghost use Rattle.rule_base.specs.Constant.{is_constant};
 ghost use Rattle.arith_rules.specs.SumRows.{raised_equations, mirrored_equations, sum3_constants};
 ghost use Rattle.core_forms.specs.Place.{CoreBelow};
 ghost use Rattle.equation_runs.specs.Turns.{AreToldInTurn, is_stated, EquationsBelow};
-ghost use Rattle.equation_runs.specs.RunRows.{equation_of, chains_of, link_pairs, run_of};
+ghost use Rattle.equation_runs.specs.RunRows.{equation_of, chain_pairs, chains_of, link_pairs, run_of};
 
 use crate::bounds::push_bounds;
 use crate::chains::push_chains;
@@ -19,6 +20,7 @@ use crate::links::{push_mirrored, push_raised};
 use crate::maxima::push_leaders;
 use crate::members::push_amo;
 use crate::products::push_product;
+use arith_rules::{binds_last_alone, totals_of};
 use core_forms::{Core, Equation};
 use order_ints::OrdInt;
 use rule_base::{Steps, is_constant};
@@ -145,4 +147,64 @@ pub fn run_of<L: Ledger>(
 {
     steps.tick();
     equations_in_turn(alloc, core)
+}
+
+/// The last of some integers, if there is one.
+fn last_of(ints: &[OrdInt]) -> Option<&OrdInt>
+    ensures { IfSome result (λ last. ints.now ≡ before_last ints.now ++ last.now ∷ []) }
+{
+    match ints.split_last() {
+        Some((last, _)) => Some(last),
+        None => None,
+    }
+}
+
+/// The last member of a sum, where it is known that the others leave each member but this one all its values.
+fn last_alone(core: &Core) -> Option<&OrdInt>
+    requires { IsWellFormed core.now }
+    ensures { IfSome result (λ last. ints_of core.now ≡ before_last (ints_of core.now) ++ last.now ∷ []) }
+{
+    match core {
+        Core::Sum(ints, k) => {
+            let all = totals_of(ints);
+            if binds_last_alone(ints, &all, k.get()) {
+                return last_of(ints.as_slice());
+            }
+            None
+        }
+        _ => None,
+    }
+}
+
+/// The equations that follow along the steps of one integer.
+fn chains_alone(alloc: Global, a: &OrdInt) -> Result<Vec<Equation>, AllocError>
+    ensures { IfOk result (λ run. run.items ≡ map (equation_of Order) (chain_pairs a.now)) }
+{
+    let mut run = Vec::new(alloc);
+    push_chains(&mut run, a)?;
+    Ok(run)
+}
+
+/// A run of a core whose members are plain, but perhaps for the last one of a sum. Where the others leave each member
+/// but that one all its values, it is what follows along the steps of that one, in the time of it alone: a plain member
+/// has no constant to go on from. Else it is `run_of`. It counts one step.
+pub fn run_at_edge<L: Ledger>(
+    alloc: Global,
+    core: &Core,
+    steps: &mut Steps<L>,
+) -> Result<Vec<Equation>, AllocError>
+    requires { IsWellFormed core.now }
+
+    // Each of them is made, or stated of the core as the store has it, once those before it are made.
+    ensures told { IfOk result (λ run. AreToldInTurn (λ c e. is_stated c e ≡ true) core.now run.items) }
+    ensures below { (n : ℕ) → CoreBelow n core.now → IfOk result (λ run. EquationsBelow n run.items) }
+    ensures steps { steps.new ≡ steps.old + 1 }
+{
+    match last_alone(core) {
+        Some(last) => {
+            steps.tick();
+            chains_alone(alloc, last)
+        }
+        None => run_of(alloc, core, steps),
+    }
 }

@@ -9,3 +9,4 @@ pub mod OrderFound
 pub mod Places
 pub mod Found
 pub mod PlainLaws
+pub mod LastFound

@@ -43,7 +43,7 @@ plain-steps : (steps : List (Atom × ℕ)) → ArePlainBehind False steps → st
 plain-steps [] plain = refl
 plain-steps (s ∷ steps) plain = plain-above s.0 steps plain.2 plain.3
 
-plain-ints : (ints : List OrdInt) → ArePlainInts ints → int_equations ints ≡ []
+pub plain-ints : (ints : List OrdInt) → ArePlainInts ints → int_equations ints ≡ []
 plain-ints [] plain = refl
 plain-ints (a ∷ ints) plain =
     ap (λ (pairs : List (Atom × Atom)). pairs ++ int_equations ints) (plain-steps a.steps plain.0) ∙ plain-ints ints plain.1
@@ -104,7 +104,7 @@ plain-form (Prod a b c) plain other = absurd plain
 plain-form (DivMod a b q r) plain other = absurd plain
 plain-form (Lex r strict front back) plain other = refl
 
-or-none : {X : Type 0} (o : Option X) → o ≡ option_or o None
+pub or-none : {X : Type 0} (o : Option X) → o ≡ option_or o None
 or-none None = refl
 or-none (Some x) = refl
 

@@ -31,6 +31,12 @@ abbrev pub int_equations : List OrdInt → List (Atom × Atom)
 int_equations [] = []
 int_equations (a ∷ ints) = step_equations a.steps ++ int_equations ints
 
+-- of the last integer of a list
+abbrev pub last_equations : List OrdInt → List (Atom × Atom)
+last_equations [] = []
+last_equations (a ∷ []) = step_equations a.steps
+last_equations (a ∷ b ∷ ints) = last_equations (b ∷ ints)
+
 -- of each integer of a core
 abbrev pub order_equations : Core → List (Atom × Atom)
 order_equations core = int_equations (ints_of core)

@@ -10,7 +10,8 @@
 //! What it promises: `find` gives exactly the first equation of two different atoms by the order of
 //! each integer or by the form (`shape`); it is an instance and implied (`instance`, `implied`),
 //! `None` comes exactly where there is no instance (`none`), and one step is counted (`steps`).
-//! `find_plain` promises the same of a plain core and does not look at its integers. `is_instance`
+//! `find_plain` promises the same of a plain core and does not look at its integers, and `find_last`
+//! of a core that is plain but for the last integer of a sum, at which alone it looks. `is_instance`
 //! is exactly whether an equation is one. Laws: `implied_law`, `atoms_law`.
 //!
 //! The lists stand in `specs/` in the order of the table "Equations" of `docs/CORES.md`, which the
@@ -24,4 +25,4 @@ mod instances;
 pub mod laws;
 mod order;
 
-pub use instances::{find, find_plain, is_instance};
+pub use instances::{find, find_last, find_plain, is_instance};

@@ -3,10 +3,10 @@
 ghost use Rattle.std.specs.Prelude.{◌≡◌};
 ghost use Rattle.core_forms.specs.Contents.{ints_of};
 ghost use Rattle.rule_base.specs.Pairs.{first_sought};
-ghost use Rattle.equi_rules.specs.OrderRows.{neighbour_equations, step_equations, order_equations};
+ghost use Rattle.equi_rules.specs.OrderRows.{neighbour_equations, step_equations, last_equations, order_equations};
 
 use core_forms::Core;
-use order_ints::Atom;
+use order_ints::{Atom, OrdInt};
 use rule_base::SoughtEquation;
 
 /// The equations of the atoms of a step and of the next one above it.
@@ -46,4 +46,14 @@ pub(crate) fn by_order(sought: SoughtEquation, core: &Core) -> Option<(Atom, Ato
         }
     }
     None
+}
+
+/// The equations of the order of the last of some integers.
+pub(crate) fn by_last(sought: SoughtEquation, ints: &[OrdInt]) -> Option<(Atom, Atom)>
+    ensures { result ≡ first_sought sought (last_equations ints.now) }
+{
+    match ints.split_last() {
+        Some((last, _)) => among_steps(sought, last.steps.as_slice()),
+        None => None,
+    }
 }

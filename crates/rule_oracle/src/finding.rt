@@ -4,17 +4,17 @@ ghost use Rattle.std.specs.Prelude.{◌≡◌, ℕ, ◌+◌, ◌≤◌, ◌↔�
 ghost use Rattle.std.specs.Prelude.{IfSome, IfNone};
 ghost use Rattle.core_forms.specs.declared.equation.Equation.{Equation};
 ghost use Rattle.core_forms.specs.WellFormed.{IsWellFormed};
-ghost use Rattle.core_forms.specs.Plain.{IsPlain};
+ghost use Rattle.core_forms.specs.Edges.{IsKnown};
 ghost use Rattle.core_forms.specs.Place.{CoreBelow};
-ghost use Rattle.equation_runs.specs.Turns.{AreToldInTurn, EquationsBelow};
+ghost use Rattle.equation_runs.specs.Turns.{AreToldInTurn, EquationsBelow, is_stated};
 ghost use Rattle.equi_rules.specs.Instances.{is_instance_of as is_equi_instance};
 ghost use Rattle.alldiff_rules.specs.Instances.{is_instance_of as is_alldiff_instance};
 ghost use Rattle.arith_rules.specs.Instances.{is_instance_of as is_arith_instance};
 ghost use Rattle.core_rules.specs.Instances.{is_instance_at, is_form_instance, is_order_or_form};
 
-use core_forms::{Core, Equation};
+use core_forms::{Core, Equation, Known};
 use core_rules::FoundRun;
-use equation_runs::run_of;
+use equation_runs::{run_at_edge, run_of};
 use rule_base::Steps;
 use std::alloc::{AllocError, Global};
 use std::sync::ledger::Ledger;
@@ -73,41 +73,58 @@ fn by_form<L: Ledger>(
     }
 }
 
-/// An equation that a core states by the rules of `equi_rules`. Where the core is known to be plain, its order
-/// is not looked at.
-fn by_equality<L: Ledger>(core: &Core, plain: bool, steps: &mut Steps<L>) -> Option<Equation>
+/// An equation that a core states by the rules of `equi_rules`. Of a core that is known to be plain the order is not
+/// looked at, and of one that is so but for its edge the order of that alone.
+fn by_equality<L: Ledger>(core: &Core, known: Known, steps: &mut Steps<L>) -> Option<Equation>
     requires well_formed { IsWellFormed core.now }
-    requires plain { IsTrue plain → IsPlain core.now }
+    requires known { IsKnown known core.now }
     ensures some { IfSome result (λ e. is_equi_instance core.now e ≡ true) }
     ensures none { IsNone result ↔ ((e : Equation) → is_equi_instance core.now e ≡ false) }
     ensures steps { steps.new ≡ steps.old + 1 }
 {
-    if plain {
-        equi_rules::find_plain(core, steps)
-    } else {
-        equi_rules::find(core, steps)
+    match known {
+        Known::Plain => equi_rules::find_plain(core, steps),
+        Known::ButLast => equi_rules::find_last(core, steps),
+        Known::Nothing => equi_rules::find(core, steps),
     }
 }
 
-/// An equation that a core states by the order of its integers or by its form; `plain` is as `find` has it. It
-/// counts one step or two.
+/// An equation that a core states by the order of its integers or by its form. It counts one step or two.
 fn by_order_or_form<L: Ledger>(
     alloc: Global,
     core: &Core,
-    plain: bool,
+    known: Known,
     steps: &mut Steps<L>,
 ) -> Result<Option<Equation>, AllocError>
     requires well_formed { IsWellFormed core.now }
-    requires plain { IsTrue plain → IsPlain core.now }
+    requires known { IsKnown known core.now }
     ensures some { IfOk result (λ found. IfSome found (λ e. is_instance_at core.now e ≡ true)) }
     ensures none { IfOk result
         (λ found. IfNone found ((e : Equation) → is_order_or_form core.now e ≡ true → ⊥)) }
     ensures least { steps.old + 1 ≤ steps.new }
     ensures most { steps.new ≤ steps.old + 2 }
 {
-    match by_equality(core, plain, steps) {
+    match by_equality(core, known, steps) {
         Some(e) => Ok(Some(e)),
         None => by_form(alloc, core, steps),
+    }
+}
+
+/// A run of a core: where the core is plain but for its edge, that of the edge alone, if no other equation can be told.
+fn run_by<L: Ledger>(
+    alloc: Global,
+    core: &Core,
+    known: Known,
+    steps: &mut Steps<L>,
+) -> Result<Vec<Equation>, AllocError>
+    requires { IsWellFormed core.now }
+    ensures told { IfOk result (λ run. AreToldInTurn (λ c e. is_stated c e ≡ true) core.now run.items) }
+    ensures below { (n : ℕ) → CoreBelow n core.now → IfOk result (λ run. EquationsBelow n run.items) }
+    ensures steps { steps.new ≡ steps.old + 1 }
+{
+    match known {
+        Known::Nothing => run_of(alloc, core, steps),
+        Known::ButLast | Known::Plain => run_at_edge(alloc, core, steps),
     }
 }
 
@@ -115,6 +132,7 @@ fn by_order_or_form<L: Ledger>(
 fn with_run<L: Ledger>(
     alloc: Global,
     core: &Core,
+    known: Known,
     steps: &mut Steps<L>,
     equation: Equation,
 ) -> Result<FoundRun, AllocError>
@@ -126,7 +144,7 @@ fn with_run<L: Ledger>(
         → IfOk result (λ found. EquationsBelow n found.run.items) }
     ensures steps { steps.new ≡ steps.old + 1 }
 {
-    let run = run_of(alloc, core, steps)?;
+    let run = run_by(alloc, core, known, steps)?;
     Ok(FoundRun { equation, run })
 }
 
@@ -158,16 +176,16 @@ fn by_table<L: Ledger>(
 
 /// An instance of any rule at a core, by the rules Order, Form and Table in this order; and any run that all rules
 /// tell in turn, where the instance was found by one of the first two that of `equation_runs`. `None` exactly where
-/// there is no instance. `plain` tells whether the core is known to be plain, so that its order is not looked at. It
+/// there is no instance. What is known of the core spares looks at its order, and at members that can tell nothing. It
 /// counts one step for each of the crates of rules that it asks, and one for the run: three at most.
 pub(crate) fn find<L: Ledger>(
     alloc: Global,
     core: &Core,
-    plain: bool,
+    known: Known,
     steps: &mut Steps<L>,
 ) -> Result<Option<FoundRun>, AllocError>
     requires well_formed { IsWellFormed core.now }
-    requires plain { IsTrue plain → IsPlain core.now }
+    requires known { IsKnown known core.now }
     ensures some { IfOk result
         (λ found. IfSome found (λ first. is_instance_at core.now first.equation ≡ true)) }
     ensures run { IfOk result (λ found. IfSome found
@@ -178,9 +196,9 @@ pub(crate) fn find<L: Ledger>(
     ensures least { steps.old + 1 ≤ steps.new }
     ensures most { steps.new ≤ steps.old + 3 }
 {
-    match by_order_or_form(alloc, core, plain, steps)? {
+    match by_order_or_form(alloc, core, known, steps)? {
         Some(equation) => {
-            let found = with_run(alloc, core, steps, equation)?;
+            let found = with_run(alloc, core, known, steps, equation)?;
             Ok(Some(found))
         }
         None => by_table(alloc, core, steps),

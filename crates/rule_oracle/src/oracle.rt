@@ -1,7 +1,7 @@
 //! The oracle that tells what the rules state.
 
 use crate::finding::find;
-use core_forms::Core;
+use core_forms::{Core, Known};
 use core_rules::FoundRun;
 use fixpoint_queue::Oracle;
 use rule_base::Steps;
@@ -22,9 +22,9 @@ impl<L: Ledger> Oracle<L> for TableP {
         &self,
         alloc: Global,
         core: &Core,
-        plain: bool,
+        known: Known,
         steps: &mut Steps<L>,
     ) -> Result<Option<FoundRun>, AllocError> {
-        find(alloc, core, plain, steps)
+        find(alloc, core, known, steps)
     }
 }

@@ -4,3 +4,4 @@ pub mod Distinct
 pub mod InstanceLaws
 pub mod WordLaws
 pub mod AtomLaws
+pub mod OneValue

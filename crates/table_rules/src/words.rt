@@ -7,19 +7,20 @@
 ghost use Rattle.std.specs.Prelude.{◌≡◌, ◌++◌, ◌∷◌, ◌≤◌, true, false, Bool, not, None, Some, length, take, IfOk};
 ghost use Rattle.std.specs.Prelude.{OnOk, IfSome, IsTrue};
 ghost use Rattle.order_ints.specs.declared.atom.Atom.{Atom};
-ghost use Rattle.order_ints.specs.Truth.{Valuation, valuation_at};
+ghost use Rattle.order_ints.specs.Truth.{Valuation, atom_truth, valuation_at};
 ghost use Rattle.core_forms.specs.declared.form.Core.TheVariants.{Clause, Lex};
 ghost use Rattle.core_forms.specs.Variables.{AreAmong};
 ghost use Rattle.core_forms.specs.WellFormed.{IsWellFormed, AreSound};
 ghost use Rattle.table_rules.specs.Pairs.{pairs_over, IsIn};
 ghost use Rattle.table_rules.specs.Instances.{found_at};
-ghost use Rattle.table_rules.specs.Words.{are_short, step_atoms, int_atoms, word_vars, which_first, is_told};
+ghost use Rattle.table_rules.specs.Words.{are_short, step_atoms, int_atoms, word_vars, which_first};
+ghost use Rattle.table_rules.specs.Words.{is_the_told, is_told};
 ghost use Rattle.table_rules.specs.Words.{is_some_apart, AreEqualWhereTold, first_pairs};
 
 use crate::pairs::pairs_over;
 use crate::rows::{are_equal_in, keep_equal, row_count, write_row};
 use bee_list::Sequence;
-use core_forms::{Core, FewVars, few_variables};
+use core_forms::{Core, FewVars, Word, few_variables};
 use order_ints::{Atom, OrdInt, TruthRow, TruthValues};
 use std::alloc::{AllocError, Global};
 
@@ -38,6 +39,23 @@ fn are_short(ints: &[OrdInt]) -> bool
         }
     }
     true
+}
+
+/// Whether each integer of a word has at most one step. It may be seen at once.
+fn is_short(word: &Word) -> bool
+    ensures { result ≡ are_short word.now }
+{
+    word.has_letters() || are_short(word.get().as_slice())
+}
+
+/// The first integers of a long word.
+fn first_of(word: &Word) -> &[OrdInt]
+    requires { first_pairs ≤ length word.now }
+    ensures first { result.now ≡ take first_pairs word.now }
+    ensures sound { AreSound word.now → AreSound result.now }
+    ensures long { length result.now ≡ first_pairs }
+{
+    &word.get().as_slice()[..FIRST_PAIRS]
 }
 
 /// Puts the atoms of an integer's steps behind others.
@@ -111,6 +129,16 @@ fn which_first<T: TruthValues>(front: &[OrdInt], back: &[OrdInt], sigma: T) -> O
     None
 }
 
+/// Whether an atom is as true as is told. Where nothing is told it is not.
+fn is_the_told<T: TruthValues>(truth: Atom, told: Option<bool>, sigma: T) -> bool
+    ensures { result ≡ is_the_told (atom_truth (T.valuation sigma) truth) told }
+{
+    match told {
+        Some(told) => truth.holds(sigma) == told,
+        None => false,
+    }
+}
+
 /// Whether an atom is right in telling which word is first. Of equal words it is to be `equal`, if that is given, and
 /// is else not right.
 fn is_told<T: TruthValues>(
@@ -125,10 +153,7 @@ fn is_told<T: TruthValues>(
     requires lengths { length front.now ≡ length back.now }
     ensures { result ≡ is_told (T.valuation sigma) truth equal front.now back.now }
 {
-    match which_first(front, back, sigma).or(equal) {
-        Some(told) => truth.holds(sigma) == told,
-        None => false,
-    }
+    is_the_told(truth, which_first(front, back, sigma).or(equal), sigma)
 }
 
 /// Whether words differ in some row of listed variables, and an atom is right there in telling which one is first.
@@ -196,6 +221,67 @@ fn keep_told(
     }
 }
 
+/// Whether an atom is right in telling which of two words is first, as `is_told` says. The words are not gone along
+/// where it is seen at once that they are equal.
+fn is_told_of<T: TruthValues>(
+    truth: Atom,
+    equal: Option<bool>,
+    front: &Word,
+    back: &Word,
+    sigma: T,
+) -> bool
+    requires sound_front { AreSound front.now }
+    requires sound_back { AreSound back.now }
+    requires lengths { length front.now ≡ length back.now }
+    ensures { result ≡ is_told (T.valuation sigma) truth equal front.now back.now }
+{
+    if front.is_all_one(back, sigma) {
+        is_the_told(truth, equal, sigma)
+    } else {
+        is_told(
+            truth,
+            equal,
+            front.get().as_slice(),
+            back.get().as_slice(),
+            sigma,
+        )
+    }
+}
+
+/// Keeps those of pairs of atoms that `keep_told` keeps. The words are not gone along where it is seen at once that
+/// they are equal.
+fn keep_told_of(
+    pairs: &mut Vec<(Atom, Atom)>,
+    truth: Atom,
+    equal: Option<bool>,
+    front: &Word,
+    back: &Word,
+    vars: &[u32],
+)
+    requires sound_front { AreSound front.now }
+    requires sound_back { AreSound back.now }
+    requires lengths { length front.now ≡ length back.now }
+    requires few { length vars.now ≤ 8 }
+
+    // A pair stays that is equally true wherever the atom is right.
+    ensures { (p : Atom × Atom) → AreEqualWhereTold truth equal front.now back.now p
+        → IsIn p pairs.old.items → IsIn p pairs.new.items }
+{
+    let mut row = [false; 8];
+    let values = &mut row[..vars.len()];
+    for number in 0..row_count(vars.len()) {
+        if pairs.is_empty() {
+            return;
+        }
+        write_row(values, number);
+        if is_some_apart(pairs.as_slice(), vars, values)
+            && is_told_of(truth, equal, front, back, TruthRow { vars, values })
+        {
+            keep_equal(pairs, vars, values);
+        }
+    }
+}
+
 /// Whether no pair over listed variables is equally true wherever an atom is right in telling which of two words is
 /// first: by their first pairs alone, and then by all, of which only rows are tried in which a pair would fall. It
 /// takes memory once.
@@ -203,8 +289,8 @@ fn is_none_left(
     alloc: Global,
     truth: Atom,
     equal: bool,
-    front: &[OrdInt],
-    back: &[OrdInt],
+    front: &Word,
+    back: &Word,
     vars: &[u32],
 ) -> Result<bool, AllocError>
     requires sound_front { AreSound front.now }
@@ -217,9 +303,15 @@ fn is_none_left(
         → AreEqualWhereTold truth (Some equal) front.now back.now p → ⊥) }
 {
     let mut pairs = pairs_over(alloc, vars)?;
-    let (first_front, first_back) = (&front[..FIRST_PAIRS], &back[..FIRST_PAIRS]);
-    keep_told(&mut pairs, truth, None, first_front, first_back, vars);
-    keep_told(&mut pairs, truth, Some(equal), front, back, vars);
+    keep_told(
+        &mut pairs,
+        truth,
+        None,
+        first_of(front),
+        first_of(back),
+        vars,
+    );
+    keep_told_of(&mut pairs, truth, Some(equal), front, back, vars);
     Ok(pairs.is_empty())
 }
 
@@ -230,8 +322,8 @@ fn words_tell_nothing(
     alloc: Global,
     truth: Atom,
     strict: bool,
-    front: &[OrdInt],
-    back: &[OrdInt],
+    front: &Word,
+    back: &Word,
     vars: &[u32],
 ) -> Result<bool, AllocError>
     requires sound_front { AreSound front.now }
@@ -242,10 +334,10 @@ fn words_tell_nothing(
     requires names { AreAmong (word_vars truth (take first_pairs front.now) (take first_pairs back.now)) vars.now }
     ensures { IfOk result (λ none. IsTrue none → found_at (Lex truth strict front.now back.now) ≡ None) }
 {
-    if !is_told_somewhere(truth, &front[..FIRST_PAIRS], &back[..FIRST_PAIRS], vars) {
+    if !is_told_somewhere(truth, first_of(front), first_of(back), vars) {
         return Ok(false);
     }
-    if !are_short(front) || !are_short(back) {
+    if !is_short(front) || !is_short(back) {
         return Ok(false);
     }
     is_none_left(alloc, truth, !strict, front, back, vars)
@@ -256,18 +348,18 @@ fn long_words_tell_nothing(
     alloc: Global,
     truth: Atom,
     strict: bool,
-    front: &[OrdInt],
-    back: &[OrdInt],
+    front: &Word,
+    back: &Word,
 ) -> Result<bool, AllocError>
     requires sound_front { AreSound front.now }
     requires sound_back { AreSound back.now }
     requires lengths { length front.now ≡ length back.now }
     ensures { IfOk result (λ none. IsTrue none → found_at (Lex truth strict front.now back.now) ≡ None) }
 {
-    if front.len() <= FIRST_PAIRS {
+    if front.get().len() <= FIRST_PAIRS {
         return Ok(false);
     }
-    match few_names(alloc, truth, &front[..FIRST_PAIRS], &back[..FIRST_PAIRS])? {
+    match few_names(alloc, truth, first_of(front), first_of(back))? {
         Some(few) => words_tell_nothing(alloc, truth, strict, front, back, few.as_slice()),
         None => Ok(false),
     }
@@ -280,13 +372,9 @@ pub(crate) fn implies_nothing(alloc: Global, core: &Core) -> Result<bool, AllocE
     ensures { IfOk result (λ none. IsTrue none → found_at core.now ≡ None) }
 {
     match core {
-        Core::Lex(truth, strict, front, back) => long_words_tell_nothing(
-            alloc,
-            *truth,
-            *strict,
-            front.get().as_slice(),
-            back.get().as_slice(),
-        ),
+        Core::Lex(truth, strict, front, back) => {
+            long_words_tell_nothing(alloc, *truth, *strict, front, back)
+        }
         _ => Ok(false),
     }
 }

@@ -1,12 +1,14 @@
--- Cores that are stable, and how they are cut.
+-- Cores that are stable, perhaps but for their edge, and how they are cut.
 use Rattle.std.proofs.Common.{◌≡◌, ◌⊎◌, inl, inr, ℕ, zero, suc, ◌+◌, ◌-◌, ◌≤◌, ◌<◌, ◌^◌, true, List, [], ◌∷◌, ◌++◌, map, length, get_or, refl, sym, ap, ◌∙◌, subst, arith, ⊎_elim, Some, None}
 use Rattle.std.specs.Prelude.{Contains, option_map}
 use Rattle.std.specs.List.Sorted.{IsStrictlyIncreasing}
 use Rattle.std.proofs.lemmas.List.{get_or_default, length-append}
 use Rattle.core_forms.specs.declared.form.Core.{Core}
+use Rattle.core_forms.specs.Edges.{settled_core, listed_vars}
 use Rattle.core_forms.specs.Stable.{IsStableCore}
 use Rattle.core_forms.specs.Trimmed.{trimmed_core}
 use Rattle.core_forms.specs.Variables.{core_vars}
+use Rattle.core_forms.proofs.EdgeLaws.{settled-trimmed}
 use Rattle.core_forms.proofs.Stability.{stable_core}
 use Rattle.part_base.specs.declared.cut.Cut.{Cut}
 use Rattle.part_base.specs.declared.parts.Parts.{Parts}
@@ -40,20 +42,24 @@ parts-are k id core parts there compound are = record { core = core; there = the
 
 -- ---- a cut
 
-pub cut-parts : (k : Kernel) (id : ℕ) (cut : Cut) (at : IsCutAt k id cut) → ArePartsAt k id (parts_at (length k.view + 1) at.core)
+-- the core as the store has it
+abbrev pub cut-core : (k : Kernel) (id : ℕ) (cut : Cut) → IsCutAt k id cut → Core
+cut-core k id cut at = settled_core k.view at.core
+
+pub cut-parts : (k : Kernel) (id : ℕ) (cut : Cut) (at : IsCutAt k id cut) → ArePartsAt k id (parts_at (length k.view + 1) (cut-core k id cut at))
 cut-parts k id cut at = record {
-  core = at.core;
-  there = stable-trimmed k id at.core (record { core = at.core; there = at.there; stable = at.stable }) at.there;
+  core = cut-core k id cut at;
+  there = ap (option_map (trimmed_core k.view)) at.there ∙ ap (λ (c : Core). Some c) (sym (settled-trimmed k.view at.core at.inside));
   compound = at.compound;
   are = refl;
 }
 
-pub cut-fresh : (k : Kernel) (id : ℕ) (cut : Cut) (at : IsCutAt k id cut) → cut.fresh ≡ (parts_at (length k.view + 1) at.core).fresh
+pub cut-fresh : (k : Kernel) (id : ℕ) (cut : Cut) (at : IsCutAt k id cut) → cut.fresh ≡ (parts_at (length k.view + 1) (cut-core k id cut at)).fresh
 cut-fresh k id cut at = sym at.is.fresh
 
 -- there are not too many variables with the fresh ones
 pub cut-bound : (k : Kernel) (id : ℕ) (cut : Cut) → IsKernel k → IsCutAt k id cut → length k.view + cut.fresh ≤ 2 ^ 27
-cut-bound k id cut is at = omega (arith, fresh-bound k id (parts_at (length k.view + 1) at.core) is (cut-parts k id cut at), at.is.fresh)
+cut-bound k id cut is at = omega (arith, fresh-bound k id (parts_at (length k.view + 1) (cut-core k id cut at)) is (cut-parts k id cut at), at.is.fresh)
 
 -- so many variables from one on stand in order
 pub from-increasing : (next count : ℕ) (vars : List ℕ) → AreFrom next count vars → IsStrictlyIncreasing vars
@@ -89,8 +95,11 @@ rest-there [] back rest = refl
 rest-there (c ∷ front) back rest = rest-there front back rest
 
 module _ (k : Kernel) (id : ℕ) (cut : Cut) (lists : List (List ℕ)) (come : List ℕ) (at : IsCutAt k id cut) (are : AreCutLists lists cut) (from : AreFrom (length k.view + 1) cut.fresh come) where
+  abbrev core-now : Core
+  core-now = cut-core k id cut at
+
   abbrev parts : Parts
-  parts = parts_at (length k.view + 1) at.core
+  parts = parts_at (length k.view + 1) core-now
 
   -- what is left of the list has a place
   pub rest-inside : length cut.front < length lists
@@ -105,11 +114,11 @@ module _ (k : Kernel) (id : ℕ) (cut : Cut) (lists : List (List ℕ)) (come : L
       as-many are.before cut.front are.front,
       as-many are.behind cut.back are.back,
       ap length at.is.cores,
-      length-append cut.front (rest_of cut at.core ∷ cut.back),
+      length-append cut.front (rest_of cut core-now ∷ cut.back),
     );
     listed = λ i lt.
         let inside : i < length (are.before ++ [] ∷ are.behind) = subst (λ (l : List (List ℕ)). i < length l) are.are lt in
-        let p = listed-cut are.before are.behind cut.front cut.back (rest_of cut at.core) are.front are.back i inside in (
+        let p = listed-cut are.before are.behind cut.front cut.back (rest_of cut core-now) are.front are.back i inside in (
           p.0,
           ap (λ (cs : List Core). get_or (map Some cs) i None) at.is.cores ∙ p.1,
           λ apart. subst (λ (l : List (List ℕ)). AreVars (get_or l i []) p.0) (sym are.are) (p.2 (λ e. apart (omega (arith, e)))),
@@ -120,8 +129,8 @@ module _ (k : Kernel) (id : ℕ) (cut : Cut) (lists : List (List ℕ)) (come : L
     where
       all : length cut.front < length lists → (core : Core) → get_or (map Some parts.cores) (length cut.front) None ≡ Some core → (v : ℕ) → Contains (core_vars core) v → Contains come v ⊎ HasVar k id v
       all inside core is v there =
-          let same : core ≡ rest_of cut at.core =
-          some-of core (rest_of cut at.core) (sym is ∙ ap (λ (cs : List Core). get_or (map Some cs) (length cut.front) None) at.is.cores ∙ rest-there cut.front cut.back (rest_of cut at.core)) in
-          ⊎_elim (λ (h : Contains (core_vars at.core) v). inr (at.core, at.there, h))
+          let same : core ≡ rest_of cut core-now =
+          some-of core (rest_of cut core-now) (sym is ∙ ap (λ (cs : List Core). get_or (map Some cs) (length cut.front) None) at.is.cores ∙ rest-there cut.front cut.back (rest_of cut core-now)) in
+          ⊎_elim (λ (h : Contains (listed_vars core-now) v). inr (at.core, at.there, at.own v h))
           (λ (b : (length k.view + 1 ≤ v) × (v < length k.view + 1 + cut.fresh)). inl (from-each (length k.view + 1) cut.fresh come from v b.0 b.1))
           (at.is.vars v (subst (λ (c : Core). Contains (core_vars c) v) same there))

@@ -16,6 +16,7 @@ pub mod Handings
 pub mod Widened
 pub mod Splittings
 pub mod Cuttings
+pub mod Settlings
 pub mod PairLaws
 pub mod Counted
 pub mod QueueSizes

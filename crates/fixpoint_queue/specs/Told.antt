@@ -25,7 +25,7 @@ pub record IsSilent (told : Core → Equation → Type 0) (core : Core) (flag : 
   pub none : (e : Equation) → told core e → ⊥
   pub compound : flag ≡ is_compound_of core
 
--- an answer is right for a core; where something is told it holds that core
+-- an answer is right for a core
 abbrev pub IsAnswer : (Core → Equation → Type 0) → Core → Answer → Type 0
-IsAnswer told core (Told copy found) = (copy ≡ core) × IsTold told core found
+IsAnswer told core (Told found) = IsTold told core found
 IsAnswer told core (Silent flag) = IsSilent told core flag

@@ -4,9 +4,11 @@ ghost use Rattle.std.specs.Prelude.{ℕ, ◌≡◌, ◌⊎◌, ◌+◌, ◌<◌,
 ghost use Rattle.std.specs.Prelude.{Some, IfOk, OnOk, OnErr};
 ghost use Rattle.index_ring.specs.Lists.{times};
 ghost use Rattle.core_forms.specs.declared.form.Core.{Core};
-ghost use Rattle.core_forms.specs.Plain.{IsPlain};
+ghost use Rattle.core_forms.specs.declared.edges.Edge.{Edge};
+ghost use Rattle.core_forms.specs.Edges.{IsKnown};
 ghost use Rattle.core_forms.specs.WellFormed.{IsWellFormed};
-ghost use Rattle.step_kernel.specs.Kernel.{trimmed_at, IsKernel};
+ghost use Rattle.step_kernel.specs.Kernel.{Kernel, trimmed_at};
+ghost use Rattle.step_kernel.specs.Settled.{IsSettled, WasSettled};
 ghost use Rattle.fixpoint_queue.specs.Ledgers.{AddsEquations};
 ghost use Rattle.fixpoint_queue.specs.Quiet.{IsClosed};
 ghost use Rattle.fixpoint_queue.specs.Pairs.{IsCounted};
@@ -16,7 +18,7 @@ ghost use Rattle.fixpoint_queue.specs.Waits.{IsSaturation, left_to_do, left_to_a
 use crate::oracle::Oracle;
 use crate::taking::{take_equation, take_run};
 use crate::worklist::Worklist;
-use core_forms::Core;
+use core_forms::{Core, Known};
 use core_rules::FoundRun;
 use ledger_text::Line;
 use rule_base::Steps;
@@ -27,55 +29,51 @@ use step_kernel::{State, is_compound};
 /// What a core was found to tell.
 #[derive(Drop)]
 enum Answer {
-    /// An equation, and those that are told in turn, with the core as the store has it.
-    Told(Core, FoundRun),
+    /// An equation, and those that are told in turn.
+    Told(FoundRun),
     /// Nothing, and whether the core is compound.
     Silent(bool),
 }
 
-/// Asks a core that is lent, stands here as the store has it, and is plain. It is copied where it tells something,
-/// and only there.
-fn ask_lent<F: Oracle<L>, L: Ledger>(
+/// Asks a core that stands here as the store has it.
+fn ask_core<F: Oracle<L>, L: Ledger>(
     alloc: Global,
     oracle: F,
-    state: &State,
-    steps: &mut Steps<L>,
-    id: u32,
     core: &Core,
+    known: Known,
+    steps: &mut Steps<L>,
 ) -> Result<Answer, AllocError>
-    requires kernel { IsKernel state.now }
-    requires there { trimmed_at state.now id ≡ Some core.now }
-    requires plain { IsPlain core.now }
+    requires formed { IsWellFormed core.now }
+    requires known { IsKnown known core.now }
     ensures answer { IfOk result (λ answer. IsAnswer F.told core.now answer) }
     ensures most { steps.new ≤ steps.old + 3 }
 {
-    match oracle.ask(alloc, core, true, steps)? {
-        Some(found) => match state.trimmed(alloc, u64::from(id))? {
-            Some(copy) => Ok(Answer::Told(copy, found)),
-            None => Err(AllocError),
-        },
+    match oracle.ask(alloc, core, known, steps)? {
+        Some(found) => Ok(Answer::Told(found)),
         None => Ok(Answer::Silent(is_compound(core))),
     }
 }
 
-/// Asks a core that is used up.
-fn ask_copy<F: Oracle<L>, L: Ledger>(
+/// Asks a pending core whose edge is settled.
+fn ask_settled<F: Oracle<L>, L: Ledger>(
     alloc: Global,
     oracle: F,
-    copy: Core,
+    state: &State,
     steps: &mut Steps<L>,
+    id: u64,
 ) -> Result<Answer, AllocError>
-    requires { IsWellFormed copy }
-    ensures answer { IfOk result (λ answer. IsAnswer F.told copy answer) }
+    requires { (edge : Edge) × WasSettled state.now id edge }
+    ensures answer { IfOk result (λ answer. (k : Kernel) (edge : Edge) → IsSettled k state.now id edge
+        → (core : Core) × (trimmed_at k id ≡ Some core) × IsAnswer F.told core answer) }
     ensures most { steps.new ≤ steps.old + 3 }
 {
-    match oracle.ask(alloc, &copy, false, steps)? {
-        Some(found) => Ok(Answer::Told(copy, found)),
-        None => Ok(Answer::Silent(is_compound(&copy))),
+    match state.core(id) {
+        Some(core) => ask_core(alloc, oracle, core, core.known(), steps),
+        None => Err(AllocError),
     }
 }
 
-/// Asks a pending core: the core itself where it is stable, and else a copy that is trimmed.
+/// Asks a pending core: the core itself where its members are stable, and else a copy that is trimmed.
 fn ask_pending<F: Oracle<L>, L: Ledger>(
     alloc: Global,
     oracle: F,
@@ -88,32 +86,32 @@ fn ask_pending<F: Oracle<L>, L: Ledger>(
     ensures most { steps.new ≤ steps.old + 3 }
     ensures stays { state.new ≡ state.old }
 {
-    if state.mark_stable(u64::from(id)) {
-        if let Some(core) = state.core(u64::from(id)) {
-            return ask_lent(alloc, oracle, state, steps, id, core);
-        }
+    if let Some(edge) = state.settle(u64::from(id))? {
+        let answer = ask_settled(alloc, oracle, state, steps, u64::from(id));
+        state.unsettle(u64::from(id), edge);
+        return answer;
     }
     match state.trimmed(alloc, u64::from(id))? {
-        Some(copy) => ask_copy(alloc, oracle, copy, steps),
+        Some(copy) => ask_core(alloc, oracle, &copy, Known::Nothing, steps),
         None => Err(AllocError),
     }
 }
 
 /// Takes the equations that a core tells one after another, and where all of these were made before, the one that was
-/// found. The core stands here as the store has it.
+/// found. The clauses name the core, as the store has it, which no code holds.
 fn take_found<F: Oracle<L>, L: Ledger>(
     state: &mut State,
     work: &mut Worklist,
     ledger: &mut Vec<Line>,
     id: u32,
-    core: &Core,
     found: &FoundRun,
 ) -> Result<(), AllocError>
+    ghost core: { Core }
     requires saturation { IsSaturation F.told state.old work.old.occurs work.old.queue work.old.marks }
     requires running { state.old.bottom ≡ false }
     requires first { 1 ≤ times id work.old.queue.queued }
-    requires there { trimmed_at state.old id ≡ Some core.now }
-    requires told { IsTold F.told core.now found.now }
+    requires there { trimmed_at state.old id ≡ Some core }
+    requires told { IsTold F.told core found.now }
     ensures saturation { IsSaturation F.told state.new work.new.occurs work.new.queue work.new.marks }
     ensures adds { AddsEquations F.told ledger.old.items state.old ledger.new.items state.new }
     ensures counted { OnOk result ((counter now : ℕ) → now ≤ counter + 3
@@ -124,7 +122,7 @@ fn take_found<F: Oracle<L>, L: Ledger>(
     ensures less { OnOk result (left_to_do state.new work.new.queue < left_to_do state.old work.old.queue) }
 {
     ledger.reserve(1 + found.run.len())?;
-    let some = take_run::<F, L>(state, work, ledger, id, core, found.run.as_slice());
+    let some = take_run::<F, L>(state, work, ledger, id, found.run.as_slice());
     if some {
         return Ok(());
     }
@@ -155,7 +153,7 @@ fn ask_first<F: Oracle<L>, L: Ledger>(
 {
     let alloc = *ledger.allocator();
     match ask_pending(alloc, oracle, state, steps, id)? {
-        Answer::Told(core, found) => { take_found::<F, L>(state, work, ledger, id, &core, &found) }
+        Answer::Told(found) => take_found::<F, L>(state, work, ledger, id, &found),
         Answer::Silent(compound) => {
             work.queue.take(id);
             work.marks.set(id, compound);

@@ -2,7 +2,7 @@
 
 ghost use Rattle.std.specs.Prelude.{◌≡◌, ◌+◌, ◌^◌, ◌<◌, ◌≤◌, ◌∷◌, [], true, false};
 ghost use Rattle.std.specs.Prelude.{length, IfOk, OnErr, IsTrue};
-ghost use Rattle.step_kernel.specs.SplitAt.{IsStableAt, IsCutAt};
+ghost use Rattle.step_kernel.specs.SplitAt.{IsCutAt};
 ghost use Rattle.fixpoint_queue.specs.Split.{IsSplit, AreCutLists, AreFrom};
 
 use crate::entering::all_variables;
@@ -68,11 +68,10 @@ impl<F: Oracle<L>, L: Ledger> Runner<F, L> {
         Ok(true)
     }
 
-    /// Splits a core that is stable at its front, where it is a long list, and tells whether it did so. It costs
-    /// what leaves the list and what comes.
+    /// Splits a core at its front, where it is a long list and stable once its edge is settled, and tells whether it
+    /// did so. It costs what leaves the list and what comes.
     pub(crate) fn split_at_front(&mut self, id: u64) -> Result<bool, AllocError>
         requires running { self.old.kernel.bottom ≡ false }
-        requires stable { IsStableAt self.old.kernel id }
         ensures split { IfOk result (λ done. IsTrue done → IsSplit self.old self.new id) }
         ensures undone { IfOk result (λ done. done ≡ false → self.new ≡ self.old) }
         ensures stays { OnErr result (self.new ≡ self.old) }

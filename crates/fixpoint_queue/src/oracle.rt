@@ -1,14 +1,14 @@
 //! What equations cores tell.
 
-ghost use Rattle.std.specs.Prelude.{ℕ, ◌+◌, ◌≤◌, IfOk, IfSome, IfNone, IsTrue};
+ghost use Rattle.std.specs.Prelude.{ℕ, ◌+◌, ◌≤◌, IfOk, IfSome, IfNone};
 ghost use Rattle.core_forms.specs.declared.equation.Equation.{Equation};
-ghost use Rattle.core_forms.specs.Plain.{IsPlain};
+ghost use Rattle.core_forms.specs.Edges.{IsKnown};
 ghost use Rattle.core_forms.specs.WellFormed.{IsWellFormed};
 ghost use Rattle.core_forms.specs.Place.{CoreBelow};
 ghost use Rattle.equation_runs.specs.Turns.{AreToldInTurn, EquationsBelow};
 ghost use Rattle.fixpoint_queue.specs.Told.{IsToldInstance};
 
-use core_forms::Core;
+use core_forms::{Core, Known};
 use core_rules::FoundRun;
 use rule_base::Steps;
 use std::alloc::{AllocError, Global};
@@ -27,16 +27,17 @@ pub trait Oracle<L: Ledger>: Copy {
     /// An equation that is told of a core, with a run: equations that it tells one after another, each when its turn
     /// comes, once those before it are made; perhaps none. Or `None` where no equation is told. What is told is an
     /// instance of a rule. So one look at a core that tells many is enough. It counts one step at least and three at
-    /// most. A core may be known to be plain, so that the order of its integers need not be looked at.
+    /// most. What is known of a core spares a look: at the order of the integers of one that is plain, and of all but
+    /// the last of a sum whose other members are.
     fn ask(
         &self,
         alloc: Global,
         core: &Core,
-        plain: bool,
+        known: Known,
         steps: &mut Steps<L>,
     ) -> Result<Option<FoundRun>, AllocError>
         requires formed { IsWellFormed core.now }
-        requires plain { IsTrue plain → IsPlain core.now }
+        requires known { IsKnown known core.now }
         ensures some { IfOk result
             (λ found. IfSome found (λ first. IsToldInstance told core.now first.equation)) }
         ensures run { IfOk result
@@ -59,7 +60,7 @@ impl<L: Ledger> Oracle<L> for Silent {
         &self,
         _alloc: Global,
         _core: &Core,
-        _plain: bool,
+        _known: Known,
         steps: &mut Steps<L>,
     ) -> Result<Option<FoundRun>, AllocError> {
         steps.tick();

@@ -92,7 +92,7 @@ impl<F: Oracle<L>, L: Ledger> Runner<F, L> {
     /// Splits a core that is compound as the store has it: its parts come behind the cores that are there, and
     /// into the queue, and one line behind the ledger's. It takes all memory first; it fails for want of memory
     /// alone, and then nothing has changed. It costs the size of the parts, but for what is left of a long list that
-    /// is stable: that is made of the core itself.
+    /// is stable once its edge is settled: that is made of the core itself.
     pub fn split(&mut self, id: u64) -> Result<(), AllocError>
         requires running { self.old.kernel.bottom ≡ false }
         requires compound { is_compound_if (trimmed_at self.old.kernel id) ≡ true }
@@ -108,12 +108,10 @@ impl<F: Oracle<L>, L: Ledger> Runner<F, L> {
             ≤ length self.old.queued + length self.new.kernel.cores) }
         ensures stays { OnErr result (self.new ≡ self.old) }
     {
-        let stable = self.state.mark_stable(id);
-        if stable {
-            if self.split_at_front(id)? {
-                return Ok(());
-            }
+        if self.split_at_front(id)? {
+            return Ok(());
         }
+        let stable = self.state.mark_stable(id);
         self.split_whole(id, stable)
     }
 }

@@ -6,6 +6,7 @@ ghost use Rattle.order_ints.specs.Label.{IsLabel};
 ghost use Rattle.order_ints.specs.Place.{AtomBelow};
 ghost use Rattle.index_ring.specs.Lists.{times};
 ghost use Rattle.core_forms.specs.declared.equation.Equation.{Equation};
+ghost use Rattle.core_forms.specs.declared.form.Core.{Core};
 ghost use Rattle.core_forms.specs.Place.{CoreBelow};
 ghost use Rattle.core_forms.specs.Trimmed.{trimmed_core};
 ghost use Rattle.equation_runs.specs.Turns.{resolved_equation, IsMadeOrTold, AreInTurn, AreToldInTurn, EquationsBelow};
@@ -21,7 +22,7 @@ ghost use Rattle.fixpoint_queue.specs.Waits.{IsSaturation, IsWokenFor};
 
 use crate::oracle::Oracle;
 use crate::worklist::Worklist;
-use core_forms::{Core, Equation};
+use core_forms::Equation;
 use ledger_text::Line;
 use std::sync::ledger::Ledger;
 use step_kernel::State;
@@ -93,22 +94,22 @@ fn take_next<F: Oracle<L>, L: Ledger>(
     work: &mut Worklist,
     ledger: &mut Vec<Line>,
     id: u32,
-    core: &Core,
     e: &Equation,
 ) -> bool
+    ghost core: { Core }
     requires saturation { IsSaturation F.told state.old work.old.occurs work.old.queue work.old.marks }
     requires running { state.old.bottom ≡ false }
     requires queued { 1 ≤ times id work.old.queue.queued }
-    requires there { trimmed_at state.old id ≡ Some (trimmed_core state.old.view core.now) }
-    requires core { CoreBelow (length state.old.view + 1) core.now }
+    requires there { trimmed_at state.old id ≡ Some (trimmed_core state.old.view core) }
+    requires core { CoreBelow (length state.old.view + 1) core }
     requires first { AtomBelow (length state.old.view + 1) e.now.a }
     requires second { AtomBelow (length state.old.view + 1) e.now.b }
-    requires told { IsMadeOrTold (IsToldInstance F.told) core.now state.old.view e.now }
+    requires told { IsMadeOrTold (IsToldInstance F.told) core state.old.view e.now }
     requires room { vec_len ledger.old < vec_capacity ledger.old }
-    ensures taken { HasTaken F.told id core.now
+    ensures taken { HasTaken F.told id core
         state.old ledger.old.items work.old state.new ledger.new.items work.new result }
-    ensures turn { (es : List Equation) → AreInTurn (IsToldInstance F.told) core.now state.old.view (e.now ∷ es)
-        → (state.new.bottom ≡ true) ⊎ AreInTurn (IsToldInstance F.told) core.now state.new.view es }
+    ensures turn { (es : List Equation) → AreInTurn (IsToldInstance F.told) core state.old.view (e.now ∷ es)
+        → (state.new.bottom ≡ true) ⊎ AreInTurn (IsToldInstance F.told) core state.new.view es }
     ensures lines { vec_len ledger.new ≤ vec_len ledger.old + 1 }
     ensures room { vec_capacity ledger.new ≡ vec_capacity ledger.old }
 {
@@ -127,23 +128,23 @@ fn either(first: bool, second: bool) -> bool
     first || second
 }
 
-/// Takes equations that a core tells one after another, up to a contradiction, and tells whether one was taken. The
-/// core stands here as the store has it before the first of them.
+/// Takes equations that a core tells one after another, up to a contradiction, and tells whether one was taken. No code
+/// holds the core, as the store has it before the first of them: the clauses name it.
 pub fn take_run<F: Oracle<L>, L: Ledger>(
     state: &mut State,
     work: &mut Worklist,
     ledger: &mut Vec<Line>,
     id: u32,
-    core: &Core,
     run: &[Equation],
 ) -> bool
+    ghost core: { Core }
     requires saturation { IsSaturation F.told state.old work.old.occurs work.old.queue work.old.marks }
     requires queued { 1 ≤ times id work.old.queue.queued }
-    requires there { trimmed_at state.old id ≡ Some core.now }
+    requires there { trimmed_at state.old id ≡ Some core }
     requires below { EquationsBelow (length state.old.view + 1) run.now }
-    requires told { AreToldInTurn (IsToldInstance F.told) core.now run.now }
+    requires told { AreToldInTurn (IsToldInstance F.told) core run.now }
     requires room { vec_len ledger.old + length run.now ≤ vec_capacity ledger.old }
-    ensures taken { HasTaken F.told id core.now
+    ensures taken { HasTaken F.told id core
         state.old ledger.old.items work.old state.new ledger.new.items work.new result }
     ensures lines { vec_len ledger.new ≤ vec_len ledger.old + length run.now }
     ensures room { vec_capacity ledger.new ≡ vec_capacity ledger.old }
@@ -153,7 +154,7 @@ pub fn take_run<F: Oracle<L>, L: Ledger>(
         if state.bottom() {
             return some;
         }
-        let taken = take_next::<F, L>(state, work, ledger, id, core, e);
+        let taken = take_next::<F, L>(state, work, ledger, id, e);
         some = either(some, taken);
     }
     some

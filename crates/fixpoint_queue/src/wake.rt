@@ -20,6 +20,9 @@ use step_kernel::State;
 fn is_at(state: &State, id: u32, var: u32) -> bool
     ensures { result ≡ true ↔ HasVar state.now id var }
 {
+    if state.lacks(id.into(), var) {
+        return false;
+    }
     match state.core(id.into()) {
         Some(core) => has_variable(core, var),
         None => false,

@@ -2,6 +2,7 @@
 use Rattle.std.proofs.Common.{◌≡◌, ℕ, zero, suc, ◌+◌, ◌≤◌, ◌<◌, Bool, true, false, List, [], ◌∷◌, ◌++◌, map, length, get_or, set, drop, refl, sym, ap, ◌∙◌, arith, Option, Some, None}
 use Rattle.std.specs.Prelude.{is_some, nat_lt, if◌then◌else◌}
 use Rattle.std.proofs.lemmas.Bool.{false≢true, true≢false, ltb-true, ltb-false, lt-ltb, le-ltb}
+use Rattle.std.proofs.lemmas.Option.{none-some}
 use Rattle.core_forms.specs.declared.form.Core.{Core}
 use Rattle.step_kernel.specs.Cursor.{gone_first}
 use Rattle.step_kernel.specs.Least.{least_from}
@@ -34,6 +35,14 @@ gone-without (None ∷ cores) zero = omega arith
 gone-without (None ∷ cores) (suc i) = omega (arith, gone-without cores i)
 gone-without (Some core ∷ cores) zero = omega arith
 gone-without (Some core ∷ cores) (suc i) = omega arith
+
+-- as many, where a pending core is replaced by one
+pub gone-put : (cores : List (Option Core)) (i : ℕ) (core new : Core) → get_or cores i None ≡ Some core → gone_first (set cores i (Some new)) ≡ gone_first cores
+gone-put [] i core new at = refl
+gone-put (None ∷ cores) zero core new at = absurd (none-some core at)
+gone-put (None ∷ cores) (suc i) core new at = ap (λ (n : ℕ). n + 1) (gone-put cores i core new at)
+gone-put (Some other ∷ cores) zero core new at = refl
+gone-put (Some other ∷ cores) (suc i) core new at = refl
 
 pub gone-append : (cs ds : List (Option Core)) → gone_first cs ≤ gone_first (cs ++ ds)
 gone-append [] ds = omega arith

@@ -14,6 +14,7 @@ pub mod There
 pub mod Outcomes
 pub mod LeastCompound
 pub mod CnfLaws
-mod Rounds
-mod StableLaws
+pub mod StableLaws
+pub mod SettledStates
+mod CutRests
 pub mod CutSplits

@@ -8,3 +8,4 @@ pub mod Pieces
 pub mod StableMarks
 pub mod Cursor
 pub mod SplitAt
+pub mod Settled

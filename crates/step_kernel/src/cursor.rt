@@ -49,7 +49,9 @@ pub fn take_core(cores: &mut Vec<Option<Core>>, id: u64) -> Option<Core>
 pub fn put_core(cores: &mut Vec<Option<Core>>, id: u64, core: Core)
     requires low { 1 ≤ id }
     requires high { id ≤ length cores.old.items }
-    ensures { cores.new.items ≡ slice_set cores.old.items (id - 1) (Some core) }
+    ensures cores { cores.new.items ≡ slice_set cores.old.items (id - 1) (Some core) }
+    ensures len { vec_len cores.new ≡ vec_len cores.old }
+    ensures room { vec_capacity cores.new ≡ vec_capacity cores.old }
 {
     cores[id as usize - 1] = Some(core);
 }

@@ -17,9 +17,11 @@
 //! model, once no core is pending (`models`). Laws: `step_law`, `replay_law`, `start_law`: nothing
 //! that a step makes passes the bound on variables, costs and literals that held at the start.
 //!
-//! `StableMarks` says which cores are known to stand as the store has them; a mark only saves a
-//! walk and changes no answer, so a wrong body there may still prove. "Steps" of `docs/CORES.md`
-//! says the same in words.
+//! `StableMarks` says which cores are known to stand as the store has them, but for their edge,
+//! and below which variable; a mark only saves a walk and changes no answer, so a wrong body there
+//! may still prove. `settle` has a core's edge as the store has it, so that the core is asked and
+//! cut where it stands, and `unsettle` puts back what stood there. "Steps" of `docs/CORES.md` says
+//! the same in words.
 #![tactic(auto)]
 
 mod clause_list;
@@ -29,6 +31,7 @@ mod cuts;
 mod fault;
 pub mod laws;
 mod lists;
+mod settling;
 mod stable_marks;
 mod state;
 mod steps;

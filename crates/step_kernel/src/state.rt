@@ -1,13 +1,19 @@
 //! The state of a compilation.
 
-ghost use Rattle.std.specs.Prelude.{◌≡◌, ◌+◌, ◌^◌, ◌<◌, ◌≤◌, false, [], map, length, Some, Ok};
-ghost use Rattle.std.specs.Prelude.{Err, IfOk, IfSome, OnOk, OnErr, MatchResult, IsTrue, option_copied};
+ghost use Rattle.std.specs.Prelude.{◌≡◌, ◌+◌, ◌^◌, ◌<◌, ◌≤◌, ℕ, false, [], map, length, Some, Ok};
+ghost use Rattle.std.specs.Prelude.{Err, IfOk, IfSome, OnOk, OnErr, MatchResult, IsTrue, None, Contains, option_copied};
 ghost use Rattle.order_ints.specs.declared.cnf.Cnf.{Cnf};
 ghost use Rattle.order_ints.specs.Label.{own_labels};
 ghost use Rattle.order_ints.specs.Place.{InRange};
+ghost use Rattle.core_forms.specs.declared.form.Core.{Core};
+ghost use Rattle.core_forms.specs.declared.edges.Known.TheVariants.{ButLast};
 ghost use Rattle.core_forms.specs.Cores.{CoresBelow, AreWellFormed, costs_of};
+ghost use Rattle.core_forms.specs.Edges.{settled_core, listed_vars, IsKnown};
+ghost use Rattle.core_forms.specs.Plain.{IsPlain};
+ghost use Rattle.core_forms.specs.Variables.{core_vars};
 ghost use Rattle.step_kernel.specs.declared.fault.ApplyFault.TheVariants.{Step, Memory};
-ghost use Rattle.step_kernel.specs.Kernel.{core_at, trimmed_at, started, most_potential, IsKernel};
+ghost use Rattle.step_kernel.specs.Kernel.{Kernel, core_at, trimmed_at, started, most_potential, IsKernel};
+ghost use Rattle.step_kernel.specs.Settled.{IsSettled, IsSettledWhole, WasSettled};
 ghost use Rattle.step_kernel.specs.SplitAt.{IsStableAt};
 ghost use Rattle.step_kernel.specs.Models.{Keeps};
 ghost use Rattle.step_kernel.specs.Steps.{step};
@@ -17,10 +23,11 @@ ghost use Rattle.step_kernel.specs.Least.{least_of, least_compound_of};
 use crate::clause_list::ClauseList;
 use crate::fault::{ApplyFault, StepFault};
 use crate::lists::all_pending;
+use crate::settling::{mark_inside, settle_at, unsettle_at};
 use crate::stable_marks::StableMarks;
 use bee_list::Sequence;
 use clause_order::OrderedClauses;
-use core_forms::{Core, Equation, is_basic, is_stable, trim};
+use core_forms::{Core, Edge, Equation, Known, has_own_edge, is_basic, is_edge_stable, trim};
 use core_parts::{is_compound, parts};
 use core_rules::is_instance;
 use equation_store::{EqStore, Merged};
@@ -105,34 +112,103 @@ impl State {
         self.cores[id as usize - 1].as_ref()
     }
 
-    /// Whether there is a pending core at a place that is seen to be stable.
-    fn is_stable_at(&self, place: usize) -> bool
-        requires { place < length self.now.cores }
-        ensures { IsTrue result → IsStableAt self.now (place + 1) }
+    /// Has the edge of a pending core whose members are stable as the store has it, and gives what stood there. It
+    /// takes one pass over the core, and the time of the edge where it was seen before.
+    pub fn settle(&mut self, id: u64) -> Result<Option<Edge>, AllocError>
+        ensures settled { IfOk result (λ made. IfSome made (λ edge. IsSettled self.old self.new id edge)) }
+        ensures none { IfOk result (λ made. made ≡ None → self.new ≡ self.old) }
+        ensures stays { OnErr result (self.new ≡ self.old) }
+        ensures kernel { IsKernel self.old }
     {
-        match &self.cores[place] {
-            Some(core) => self.stable.is_marked(place) || is_stable(core, self.store.view()),
-            None => false,
-        }
+        settle_at(&mut self.cores, &mut self.stable, self.store.view(), id)
+    }
+
+    /// Has the edge of a pending core as it stood before.
+    pub fn unsettle(&mut self, id: u64, edge: Edge)
+        requires { WasSettled self.old id edge }
+        ensures { (k : Kernel) → IsSettled k self.old id edge → self.new ≡ k }
+    {
+        unsettle_at(&mut self.cores, id, edge);
     }
 
     /// Whether the pending core with an id is seen to be stable, so that nothing is to be trimmed and its order tells
-    /// nothing. It takes one pass over the core, and constant time where that was seen before and no equation has been
-    /// made since, or where the core is what is left of such a one that was split at its front.
+    /// nothing. It takes one pass over the core, and the time of its edge where its members were seen to be stable
+    /// before, or where the core is what is left of such a one that was split at its front.
     pub fn mark_stable(&mut self, id: u64) -> bool
         ensures stable { IsTrue result → IsStableAt self.old id }
         ensures stays { self.new ≡ self.old }
         ensures kernel { IsKernel self.old }
     {
-        if id == 0 || id > self.cores.len() as u64 {
+        if !mark_inside(
+            self.cores.as_slice(),
+            &mut self.stable,
+            self.store.view(),
+            id,
+        ) {
             return false;
         }
-        let place = id as usize - 1;
-        let is = self.is_stable_at(place);
-        if is {
-            self.stable.mark(place);
+        match self.core(id) {
+            Some(core) => is_edge_stable(core, self.store.view()),
+            None => false,
         }
-        is
+    }
+
+    /// Whether a pending core that is plain but for its edge is plain.
+    fn is_whole(&self, id: u64) -> bool
+        requires { (core : Core) → core_at self.now.cores id ≡ Some core → IsKnown ButLast core }
+        ensures { IsTrue result → (core : Core) → core_at self.now.cores id ≡ Some core → IsPlain core }
+    {
+        match self.core(id) {
+            Some(core) => matches!(core.known(), Known::Plain),
+            None => false,
+        }
+    }
+
+    /// Whether a pending core's edge, once it is settled, lists no other variable.
+    fn has_own_edge(&self, id: u64) -> bool
+        ensures own { IsTrue result → (core : Core) → core_at self.now.cores id ≡ Some core
+            → (v : ℕ) → Contains (listed_vars (settled_core self.now.view core)) v → Contains (core_vars core) v }
+        ensures kernel { IsKernel self.now }
+    {
+        match self.core(id) {
+            Some(core) => has_own_edge(core, self.store.view()),
+            None => false,
+        }
+    }
+
+    /// Has the edge of a pending core as the store has it, where the core is then stable and lists no other variable.
+    pub(crate) fn settle_whole(&mut self, id: u64) -> Result<Option<Edge>, AllocError>
+        ensures settled { IfOk result (λ made. IfSome made (λ edge. IsSettledWhole self.old self.new id edge)) }
+        ensures none { IfOk result (λ made. made ≡ None → self.new ≡ self.old) }
+        ensures stays { OnErr result (self.new ≡ self.old) }
+        ensures kernel { IsKernel self.old }
+    {
+        if !self.has_own_edge(id) {
+            return Ok(None);
+        }
+        let edge = match self.settle(id)? {
+            Some(edge) => edge,
+            None => return Ok(None),
+        };
+        if self.is_whole(id) {
+            return Ok(Some(edge));
+        }
+        self.unsettle(id, edge);
+        Ok(None)
+    }
+
+    /// Whether a pending core is seen at once to have no variable: its members are marked to be stable, and have none
+    /// so great, and its edge hasn't it. It takes the time of the edge.
+    pub fn lacks(&self, id: u64, var: u32) -> bool
+        ensures { IsTrue result → (core : Core) → core_at self.now.cores id ≡ Some core
+            → Contains (core_vars core) var → ⊥ }
+    {
+        match self.core(id) {
+            Some(core) => self.stable.is_marked(id as usize - 1)
+                && self.stable.is_above(var)
+                && !core.has_at_edge(var),
+            None => true,
+        }
     }
 
     /// The pending core with an id, as the store has it. It takes the time and the memory of its size.

@@ -1,17 +1,20 @@
 //! The three kinds of step.
 
 ghost use Rattle.std.specs.Prelude.{◌≡◌, ◌+◌, ◌^◌, ◌≤◌, true, length, Some, false, Ok, IfOk, OnOk};
-ghost use Rattle.std.specs.Prelude.{OnErr, IfErr};
+ghost use Rattle.std.specs.Prelude.{OnErr, IfErr, Err, IsTrue};
 ghost use Rattle.order_ints.specs.Label.{IsLabel};
+ghost use Rattle.core_forms.specs.declared.edges.Edge.{Edge};
 ghost use Rattle.core_forms.specs.Basic.{is_basic_of};
 ghost use Rattle.core_forms.specs.Cost.{cost_of};
 ghost use Rattle.core_forms.specs.Place.{CoreBelow};
 ghost use Rattle.core_forms.specs.WellFormed.{IsWellFormed};
 ghost use Rattle.ledger_text.specs.declared.line.Line.TheVariants.{Equate, Split, Encode};
-ghost use Rattle.step_kernel.specs.Kernel.{trimmed_at, IsKernel};
+ghost use Rattle.step_kernel.specs.declared.fault.StepFault.TheVariants.{NotInstance};
+ghost use Rattle.step_kernel.specs.Kernel.{Kernel, trimmed_at, IsKernel};
 ghost use Rattle.step_kernel.specs.Instances.{IsInstanceAt};
 ghost use Rattle.step_kernel.specs.Models.{Keeps};
 ghost use Rattle.core_parts.specs.Parts.{parts_at, is_compound_of};
+ghost use Rattle.step_kernel.specs.Settled.{IsSettled};
 ghost use Rattle.step_kernel.specs.SplitAt.{ArePartsAt};
 ghost use Rattle.step_kernel.specs.Steps.{id_of, equated, divided, encoded, step_at, step, IsFaultOf};
 
@@ -45,10 +48,10 @@ impl State {
         requires kernel { IsKernel (equated self.old e.now) }
         ensures { self.new ≡ equated self.old e.now }
     {
+        self.stable.lose(self.store.loser(e.a, e.b));
         if let Merged::Clash = self.store.merge(e.a, e.b) {
             self.bottom = true;
         }
-        self.stable.clear();
     }
 
     /// Takes a core, which stands here as the store has it, out of the pending ones and puts its clauses
@@ -208,6 +211,61 @@ impl State {
         }
     }
 
+    /// Whether an equation is an instance at the pending core with an id whose edge is settled.
+    fn is_told(&self, id: u64, e: &Equation) -> Result<bool, AllocError>
+        ensures told { IfOk result (λ told. (k : Kernel) (edge : Edge) → IsSettled k self.now id edge → IsKernel k
+            → told ≡ true → IsInstanceAt k id e.now) }
+        ensures not_told { IfOk result (λ told. (k : Kernel) (edge : Edge) → IsSettled k self.now id edge
+            → k.bottom ≡ false → told ≡ false → step k (Equate id e.now) ≡ Err NotInstance) }
+    {
+        let alloc = *self.cores.allocator();
+        match self.core(id) {
+            Some(core) => is_instance(alloc, core, e),
+            None => Ok(false),
+        }
+    }
+
+    /// The step of an equation at the pending core with an id, where the core stands as the store has it but for its
+    /// edge; else nothing is made.
+    fn try_settled(&mut self, id: u64, e: &Equation) -> Result<bool, ApplyFault>
+        requires kernel { IsKernel self.old }
+        requires running { self.old.bottom ≡ false }
+        ensures step { IfOk result (λ done. IsTrue done → step self.old (Equate id e.now) ≡ Ok self.new) }
+        ensures undone { IfOk result (λ done. done ≡ false → self.new ≡ self.old) }
+        ensures fault { IfErr result (IsFaultOf (step self.old (Equate id e.now))) }
+        ensures stays { OnErr result (self.new ≡ self.old) }
+    {
+        let edge = match self.settle(id) {
+            Ok(Some(edge)) => edge,
+            Ok(None) => return Ok(false),
+            Err(_) => return Err(ApplyFault::Memory),
+        };
+        let told = self.is_told(id, e);
+        self.unsettle(id, edge);
+        match told {
+            Ok(true) => {
+                self.equate_told(id, e);
+                Ok(true)
+            }
+            Ok(false) => Err(ApplyFault::Step(StepFault::NotInstance)),
+            Err(_) => Err(ApplyFault::Memory),
+        }
+    }
+
+    /// The step of an equation.
+    fn make_equate(&mut self, id: u64, e: &Equation) -> Result<(), ApplyFault>
+        requires kernel { IsKernel self.old }
+        requires running { self.old.bottom ≡ false }
+        ensures step { OnOk result (step self.old (Equate id e.now) ≡ Ok self.new) }
+        ensures fault { IfErr result (IsFaultOf (step self.old (Equate id e.now))) }
+        ensures stays { OnErr result (self.new ≡ self.old) }
+    {
+        if self.try_settled(id, e)? {
+            return Ok(());
+        }
+        self.make_trimmed(&Line::Equate { id, e: *e })
+    }
+
     /// The step of a line.
     fn make_step(&mut self, line: &Line) -> Result<(), ApplyFault>
         ensures step { OnOk result (step self.old line.now ≡ Ok self.new) }
@@ -220,7 +278,8 @@ impl State {
         }
         match line {
             Line::Split { id } => self.make_split(*id),
-            _ => self.make_trimmed(line),
+            Line::Equate { id, e } => self.make_equate(*id, e),
+            Line::Encode { .. } => self.make_trimmed(line),
         }
     }
 

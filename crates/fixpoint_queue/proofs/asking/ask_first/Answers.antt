@@ -1,5 +1,6 @@
-use Rattle.std.proofs.Common.{◌≡◌, ℕ, ◌+◌, ◌-◌, ◌≤◌, ◌<◌, length, sym, ap, ◌∙◌, subst, Some}
+use Rattle.std.proofs.Common.{◌≡◌, ℕ, ◌+◌, ◌-◌, ◌≤◌, ◌<◌, false, length, sym, ap, ◌∙◌, subst, Option, Some, None}
 use Rattle.std.specs.Prelude.{slice_set}
+use Rattle.std.proofs.lemmas.Option.{none-some}
 use Rattle.std.proofs.lemmas.Result.{on_ok_weaker, on_err_weaker}
 use Rattle.core_forms.specs.declared.form.Core.{Core}
 use Rattle.core_parts.specs.Parts.{is_compound_of}
@@ -10,17 +11,29 @@ use Rattle.fixpoint_queue.specs.Told.{IsTold, IsAnswer}
 use Rattle.fixpoint_queue.specs.Waits.{IsSaturation, left_to_ask, left_to_do}
 use Rattle.fixpoint_queue.proofs.AskedCores.{saturation-quiet, less-quiet}
 use Rattle.fixpoint_queue.proofs.Counted.{counted-silent}
+use Rattle.fixpoint_queue.proofs.asking.ask_first.Invariants.{core-of}
 use Rattle.fixpoint_queue.proofs.asking.ask_first.Goals as goal
 
-pub take_found-requires-clause-there : goal.take_found-requires-clause-there
-take_found-requires-clause-there g c =
-    let answer = subst (λ (a : Answer). (core : Core) × (trimmed_at c.args.state.now c.args.id ≡ Some core) × IsAnswer g.F.Oracle.told core a) c.in-Told.is c.in_ok-core.ensures.answer in
-    ap (λ (k : Kernel). trimmed_at k c.args.id) c.ask_pending.ensures.stays ∙ answer.1 ∙ ap Some (sym answer.2.0)
+-- the core that is named for a call
+named : (o : Option Core) (core : Core) → o ≡ Some core → core ≡ core-of o
+named None core e = absurd (none-some core e)
+named (Some x) core e = cc
 
-pub take_found-requires-clause-told : goal.take_found-requires-clause-told
-take_found-requires-clause-told g c =
-    let answer = subst (λ (a : Answer). (core : Core) × (trimmed_at c.args.state.now c.args.id ≡ Some core) × IsAnswer g.F.Oracle.told core a) c.in-Told.is c.in_ok-core.ensures.answer in
-    subst (λ (core : Core). IsTold g.F.Oracle.told core c.in-Told.found) (sym answer.2.0) answer.2.1
+-- the clauses of the call in a row, behind what is known of its lifetimes
+pub take_found-requires : goal.take_found-requires
+take_found-requires g c = λ _ lives.
+    let new = c.ask_pending.new.state in
+    let old = c.args.state.now in
+    let same : new ≡ old = c.ask_pending.ensures.stays in
+    let answer = subst (λ (a : Answer). (core : Core) × (trimmed_at old c.args.id ≡ Some core) × IsAnswer g.F.Oracle.told core a) c.in-Told.is c.in_ok-found.ensures.answer in
+    let at : trimmed_at new c.args.id ≡ Some answer.0 = ap (λ (k : Kernel). trimmed_at k c.args.id) same ∙ answer.1 in
+    let one : answer.0 ≡ core-of (trimmed_at new c.args.id) = named (trimmed_at new c.args.id) answer.0 at in
+    let saturation : IsSaturation g.F.Oracle.told new c.args.work.now.occurs c.args.work.now.queue c.args.work.now.marks =
+    subst (λ (k : Kernel). IsSaturation g.F.Oracle.told k c.args.work.now.occurs c.args.work.now.queue c.args.work.now.marks) (sym same) c.requires.saturation in
+    let running : new.bottom ≡ false = ap (λ (k : Kernel). k.bottom) same ∙ c.requires.running in
+    let there : trimmed_at new c.args.id ≡ Some (core-of (trimmed_at new c.args.id)) = at ∙ ap (λ (core : Core). Some core) one in
+    let told : IsTold g.F.Oracle.told (core-of (trimmed_at new c.args.id)) c.in-Told.found = subst (λ (core : Core). IsTold g.F.Oracle.told core c.in-Told.found) one answer.2 in
+    (lives.0, (lives.1, (saturation, (running, (c.requires.first, (there, told))))))
 
 pub returns-in-Told-clause-counted : goal.returns-in-Told-clause-counted
 returns-in-Told-clause-counted g c =
@@ -45,7 +58,7 @@ returns-in-Told-clause-refused g c =
 
 pub returns-in-Silent-clause-saturation : goal.returns-in-Silent-clause-saturation
 returns-in-Silent-clause-saturation g c =
-    let answer = subst (λ (a : Answer). (core : Core) × (trimmed_at c.args.state.now c.args.id ≡ Some core) × IsAnswer g.F.Oracle.told core a) c.in-Silent.is c.in_ok-core.ensures.answer in
+    let answer = subst (λ (a : Answer). (core : Core) × (trimmed_at c.args.state.now c.args.id ≡ Some core) × IsAnswer g.F.Oracle.told core a) c.in-Silent.is c.in_ok-found.ensures.answer in
     let marks : c.set.new.self ≡ slice_set c.args.work.now.marks (c.args.id - 1) (is_compound_of answer.0) = c.set.ensures ∙ ap (slice_set c.args.work.now.marks (c.args.id - 1)) answer.2.compound in
     subst (λ (k : Kernel). IsSaturation g.F.Oracle.told k c.args.work.now.occurs c.take.new.self c.set.new.self) (sym c.ask_pending.ensures.stays)
     (subst (IsSaturation g.F.Oracle.told c.args.state.now c.args.work.now.occurs c.take.new.self) (sym marks)
@@ -54,7 +67,7 @@ returns-in-Silent-clause-saturation g c =
 
 pub returns-in-Silent-clause-less : goal.returns-in-Silent-clause-less
 returns-in-Silent-clause-less g c =
-    let answer = subst (λ (a : Answer). (core : Core) × (trimmed_at c.args.state.now c.args.id ≡ Some core) × IsAnswer g.F.Oracle.told core a) c.in-Silent.is c.in_ok-core.ensures.answer in
+    let answer = subst (λ (a : Answer). (core : Core) × (trimmed_at c.args.state.now c.args.id ≡ Some core) × IsAnswer g.F.Oracle.told core a) c.in-Silent.is c.in_ok-found.ensures.answer in
     subst (λ (k : Kernel). left_to_do k c.take.new.self < left_to_do c.args.state.now c.args.work.now.queue) (sym c.ask_pending.ensures.stays)
     (less-quiet g.F.Oracle.told c.args.state.now c.args.work.now.occurs c.args.work.now.queue c.take.new.self c.args.work.now.marks c.requires.saturation c.args.id answer.0 answer.1 answer.2.none
     c.take.ensures.queued c.take.ensures.places c.take.ensures.ids c.requires.running c.requires.first)

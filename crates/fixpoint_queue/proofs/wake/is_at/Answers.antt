@@ -12,7 +12,7 @@ pub returns-in-Some : goal.returns-in-Some
 returns-in-Some c =
     let cores = c.args.state.now.cores in
     let core = c.in-Some.core.now in
-    let at : core_at cores c.args.id ≡ Some core = ap (core_at cores) (sym c.into.ensures) ∙ sym c.in-Some.ensures.core in (
+    let at : core_at cores c.args.id ≡ Some core = ap (core_at cores) (sym c.into-2.ensures) ∙ sym c.in-Some.ensures.core in (
       λ t. (core, at, contains-from_listed (core_vars core) c.args.var (sym c.has_variable.ensures ∙ t)),
       λ has.
           let same : core ≡ has.0 = some-of core has.0 (sym at ∙ has.1) in

@@ -13,7 +13,7 @@ use Rattle.fixpoint_queue.specs.IdQueue.{Ids}
 use Rattle.fixpoint_queue.specs.Split.{IsSplit, AreCutLists, AreFrom}
 use Rattle.fixpoint_queue.specs.Waits.{IsSaturation}
 use Rattle.fixpoint_queue.specs.Wider.{HasRoom}
-use Rattle.fixpoint_queue.proofs.Cuttings.{cut-bound, cut-fresh, cut-parts, from-increasing, from-inside, rest-inside, parts-listed}
+use Rattle.fixpoint_queue.proofs.Cuttings.{cut-core, cut-bound, cut-fresh, cut-parts, from-increasing, from-inside, rest-inside, parts-listed}
 use Rattle.fixpoint_queue.proofs.Splittings.{AreListed, HasSplit, divided-is, kernel-split, coming, has-split}
 use Rattle.fixpoint_queue.proofs.Widened.{saturation-wider}
 use Rattle.fixpoint_queue.proofs.runner.Runner.split_cut.Given
@@ -68,7 +68,7 @@ cut : (g : Given.Over) (c : After-as_slice-3 g) → IsCutAt c.self.inside.state 
 cut g c = subst (λ (r : Saturation). IsCutAt r.kernel c.args.id c.args.cut) (sym c.self.view_is) c.requires.cut
 
 parts : (g : Given.Over) (c : After-as_slice-3 g) → Parts
-parts g c = parts_at (length c.self.inside.state.view + 1) (cut g c).core
+parts g c = parts_at (length c.self.inside.state.view + 1) (cut-core c.self.inside.state c.args.id c.args.cut (cut g c))
 
 at : (g : Given.Over) (c : After-as_slice-3 g) → ArePartsAt c.self.inside.state c.args.id (parts g c)
 unfolding parts cut

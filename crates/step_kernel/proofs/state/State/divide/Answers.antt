@@ -48,7 +48,7 @@ invariant_of-self-2 c = record {
       subst (λ (k : Kernel). AreStableMarks k.view k.cores c.self.inside.stable) c.self.view_is c.self.invariant.stable in
       let new = divided c.args.self.now c.args.id c.args.parts in
       subst (λ (k : Kernel). AreStableMarks k.view k.cores c.grow.new.self) (sym (made c))
-      (stable-fewer new.view new.cores c.self.inside.stable c.grow.new.self c.grow.ensures
+      (stable-fewer new.view new.cores c.self.inside.stable c.grow.new.self c.grow.ensures.fewer (omega (arith, c.grow.ensures.top))
       (stable-divided c.args.self.now c.args.id c.args.parts c.self.inside.stable kernel before));
 }
 

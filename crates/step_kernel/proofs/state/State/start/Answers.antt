@@ -19,7 +19,7 @@ pub invariant_of-result : goal.invariant_of-result
 invariant_of-result c = record {
   kernel = made c;
   cursor = sym (ap gone_first c.in_ok-cores.ensures ∙ gone-pending c.args.cores.items);
-  stable = stable-none c.in_ok-store.store.view c.in_ok-cores.cores.items c.grow.new.self (λ place m. c.new-stable.ensures place (c.grow.ensures place m));
+  stable = stable-none c.in_ok-store.store.view c.in_ok-cores.cores.items c.grow.new.self (λ place m. c.new-stable.ensures place (c.grow.ensures.fewer place m));
 }
 
 pub returns-clause-kernel : goal.returns-clause-kernel

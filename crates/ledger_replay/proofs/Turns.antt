@@ -1,5 +1,6 @@
 -- Equations of a run that are due at a core, one after another.
-use Rattle.std.proofs.Common.{◌≡◌, ℕ, ◌+◌, ◌<◌, Bool, true, false, ◌||◌, List, [], ◌∷◌, length, drop, get_or, refl, sym, ap, ◌∙◌, subst, arith, Some}
+use Rattle.std.proofs.Common.{◌≡◌, ◌≢◌, ℕ, ◌+◌, ◌<◌, Bool, true, false, ◌||◌, List, [], ◌∷◌, length, drop, get_or, refl, sym, ap, ◌∙◌, subst, arith, Option, Some, None, Result, Ok, Err}
+use Rattle.std.specs.Prelude.{IfOk}
 use Rattle.std.proofs.lemmas.Bool.{false≢true}
 use Rattle.std.proofs.lemmas.List.{drop_all, get_or_default}
 use Rattle.order_ints.specs.declared.atom.Atom.{Atom}
@@ -15,8 +16,11 @@ use Rattle.arith_rules.specs.Instances.{is_instance_of as is_arith_instance}
 use Rattle.alldiff_rules.specs.Instances.{is_instance_of as is_alldiff_instance}
 use Rattle.table_rules.specs.Instances.{is_instance_of as is_table_instance}
 use Rattle.core_rules.specs.Instances.{is_instance_at}
-use Rattle.step_kernel.specs.Kernel.{Kernel, trimmed_at, IsKernel}
+use Rattle.core_forms.specs.declared.edges.Edge.{Edge}
+use Rattle.step_kernel.specs.Kernel.{Kernel, core_at, trimmed_at, IsKernel}
+use Rattle.step_kernel.specs.Settled.{IsSettled}
 use Rattle.step_kernel.specs.Steps.{equated}
+use Rattle.step_kernel.proofs.SettledStates.{lent}
 use Rattle.step_kernel.proofs.There.{there-below, there-labels}
 use Rattle.fixpoint_queue.proofs.Behind.{turn-begins, turn-made, turn-equated}
 use Rattle.fixpoint_queue.proofs.Runs.{same-vars, there-later, there-asked, told-of, next-turn, first-told, below-next, unless-bottom}
@@ -49,6 +53,13 @@ module _ (k : Kernel) (is : IsKernel k) (id : ℕ) where
     turn = turn-begins told k is id core there run turns;
     places = places;
   }
+
+  -- and so is one that a call made
+  pub due_made : {V E : Type 0} (items : V → List Equation) (core : Core) → k.bottom ≡ false → trimmed_at k id ≡ Some core → (r : Result V E)
+      → IfOk r (λ run. AreToldInTurn (λ c e. is_stated c e ≡ true) core (items run)) → ((n : ℕ) → CoreBelow n core → IfOk r (λ run. EquationsBelow n (items run)))
+      → IfOk r (λ run. AreDue k id (items run))
+  due_made items core running there (Ok run) turns below = due_whole core (items run) running there turns (below (length k.view + 1) (there-below k id core is there))
+  due_made items core running there (Err e) turns below = tt
 
   module _ (run : List Equation) (i : ℕ) (low : i < length run) (due : AreDue k id (drop i run)) where
     abbrev next : Equation
@@ -130,3 +141,16 @@ pub run_after : (k new : Kernel) (id : ℕ) (e : Equation) (run : Run) → IsNex
     → IsRunAt new run
 run_after k new id e run next named is running =
     subst (λ (n : Kernel). IsRunAt n run) (sym is) (subst (λ (n : ℕ). AreDue (equated k e) n (drop run.place run.equations.items)) (sym named) (next.behind (sym (ap (λ (n : Kernel). n.bottom) is) ∙ running)))
+
+-- a run of a core whose edge is settled is due before that
+pub due_settled : {V E : Type 0} (items : V → List Equation) (now : Kernel) (id : ℕ) (core : Core) → core_at now.cores id ≡ Some core → (r : Result V E)
+    → IfOk r (λ run. AreToldInTurn (λ c e. is_stated c e ≡ true) core (items run)) → ((n : ℕ) → CoreBelow n core → IfOk r (λ run. EquationsBelow n (items run)))
+    → IfOk r (λ run. (k : Kernel) (edge : Edge) → IsKernel k → IsSettled k now id edge → k.bottom ≡ false → AreDue k id (items run))
+due_settled items now id c at (Ok run) turns inside = λ k edge is settled running.
+    let there = lent now id c at k edge settled in
+    due_whole k is id c (items run) running there turns (inside (length k.view + 1) (there-below k id c is there))
+due_settled items now id c at (Err e) turns inside = tt
+
+pub not-some : {A : Type 0} (o : Option A) → ((x : A) → o ≢ Some x) → o ≡ None
+not-some None h = refl
+not-some (Some x) h = absurd (h x refl)

@@ -1,6 +1,5 @@
 -- Equations of a run that are still to come at a pending core.
 use Rattle.std.specs.Prelude.{◌≡◌, ℕ, ◌+◌, true, false, List, length, Some, drop}
-use Rattle.order_ints.specs.declared.atom.Atom.{Atom}
 use Rattle.core_forms.specs.declared.equation.Equation.{Equation}
 use Rattle.core_forms.specs.declared.form.Core.{Core}
 use Rattle.core_forms.specs.Place.{CoreBelow}

@@ -6,8 +6,9 @@
 //! line's rule has runs, the run of the core is made once; a line that is the next equation of it,
 //! as the store has it, is then made without a look at the core. Any other line goes to the state
 //! and ends the run. So a core with one line costs nothing more, and of a core without runs every
-//! second line at most is looked at twice. At a long maximum the run is made at the first line,
-//! since it has the bounds of all members only while none of them is made.
+//! second line at most is looked at twice. At a long maximum or sum the run is made at the first
+//! line, since it has the bounds of all members only while none of them is made, and then at every
+//! second one.
 //!
 //! What it promises of `apply`: word for word what `apply` of `step_kernel` does (`step`, `fault`,
 //! `stays`, `models`, `kernel`). So which ledgers are accepted does not depend on this crate; it is

@@ -19,7 +19,7 @@ use step_kernel::{ApplyFault, State};
 
 /// A state at which the lines of a ledger are made, one after another. Where two lines in a row are equations of one
 /// core, it looks for a run of that core, and makes the lines that follow the run without a look at the core; at a long
-/// maximum it does so at the first line. It keeps one run at most, in the memory that its equations take.
+/// maximum or sum it does so at the first line. It keeps one run at most, in the memory that its equations take.
 #[derive(Drop)]
 pub struct Replay {
     alloc: Global,
@@ -85,23 +85,25 @@ impl Replay {
         }
     }
 
-    /// The run that is left, where it is of the core with an id, or else a run of that core, where the line before was
-    /// made by a look at it, or where it tells bounds of many members. The run is taken out.
+    /// The run that is left, where it is of the core with an id, or else at every second line of it a run of that core:
+    /// at the first line, where it tells bounds of many members, and else at the second. The run is taken out.
     fn take_run(&mut self, id: u64, rule: Rule) -> Option<Run>
         ensures stays { self.new ≡ self.old }
         ensures id { IfSome result (λ run. run.id ≡ id) }
         ensures due { IfSome result (IsRunAt self.new) }
     {
-        let looked = self.looked;
+        let again = self.looked == Some(id);
         self.looked = Some(id);
         if let Some(run) = self.run.take() {
             if run.id == id {
                 return Some(run);
             }
         }
-        if rule != Rule::Table && (looked == Some(id) || self.has_bounds(id)) {
+        if again {
             self.looked = None;
-            return run_at(self.alloc, &self.state, id);
+        }
+        if rule != Rule::Table && again != self.has_bounds(id) {
+            return run_at(self.alloc, &mut self.state, id);
         }
         None
     }
@@ -144,8 +146,8 @@ impl Replay {
 
     /// Makes the step of a line, as the state does. A line that follows the run of its core looks at no core, takes
     /// no memory, and costs a walk of the class that loses, and the equations of the run that were made before it. Each
-    /// other one costs what it costs the state, and every second one at most of a core, or each one of a long maximum,
-    /// a run of that besides. Where the line is no step, or memory is wanting, the state stays as it was.
+    /// other one costs what it costs the state, and every second one at most of a core a run of that besides. Where the
+    /// line is no step, or memory is wanting, the state stays as it was.
     pub fn apply(&mut self, line: &Line) -> Result<(), ApplyFault>
         ensures step { OnOk result (step self.old line.now ≡ Ok self.new) }
         ensures fault { IfErr result (IsFaultOf (step self.old line.now)) }

@@ -1,15 +1,17 @@
 //! The run of a pending core, and how far it was made.
 
 ghost use Rattle.std.specs.Prelude.{◌≡◌, ◌↔◌, ◌+◌, ◌<◌, ℕ, true, IsTrue, IfOk, IfSome, length};
-ghost use Rattle.std.specs.Prelude.{drop};
+ghost use Rattle.std.specs.Prelude.{drop, false};
+ghost use Rattle.core_forms.specs.declared.edges.Edge.{Edge};
 ghost use Rattle.core_forms.specs.Place.{CoreBelow};
 ghost use Rattle.core_forms.specs.WellFormed.{IsWellFormed};
 ghost use Rattle.equation_runs.specs.Turns.{resolved_equation, IsMade, AreToldInTurn, EquationsBelow, is_stated};
-ghost use Rattle.step_kernel.specs.Kernel.{IsKernel};
+ghost use Rattle.step_kernel.specs.Kernel.{Kernel, IsKernel};
+ghost use Rattle.step_kernel.specs.Settled.{IsSettled, WasSettled};
 ghost use Rattle.ledger_replay.specs.Due.{AreDue, IsRunAt, IsNext};
 
 use core_forms::{Core, Equation};
-use equation_runs::run_of;
+use equation_runs::{run_at_edge, run_of};
 use order_ints::{Atom, resolve};
 use rule_base::Steps;
 use std::alloc::{AllocError, Global};
@@ -43,31 +45,69 @@ fn equations_of<L: Ledger>(
     run_of(alloc, core, &mut steps)
 }
 
-/// A maximum of so many members is a long one.
+/// The equations of the pending core with an id whose edge is settled.
+fn equations_at_edge<L: Ledger>(
+    alloc: Global,
+    blank: Blank,
+    state: &State,
+    id: u64,
+) -> Result<Vec<Equation>, AllocError>
+    requires name { blank.name ≡ L.name }
+    requires parts { blank.parts ≡ L.parts }
+    requires some { 0 < L.parts }
+    requires settled { (edge : Edge) × WasSettled state.now id edge }
+    ensures due { IfOk result (λ run. (k : Kernel) (edge : Edge) → IsKernel k → IsSettled k state.now id edge
+        → k.bottom ≡ false → AreDue k id run.items) }
+{
+    let mut steps = Steps::<L>::open(blank);
+    match state.core(id) {
+        Some(core) => run_at_edge(alloc, core, &mut steps),
+        None => Err(AllocError),
+    }
+}
+
+/// The equations of the pending core with an id, as the store has it: of the core where it stands, if it is seen to be
+/// stable but for its edge, and else of a copy.
+fn equations_at(alloc: Global, state: &mut State, id: u64) -> Result<Vec<Equation>, AllocError>
+    requires running { state.old.bottom ≡ false }
+    ensures due { IfOk result (λ run. AreDue state.old id run.items) }
+    ensures stays { state.new ≡ state.old }
+{
+    if let Some(edge) = state.settle(id)? {
+        let equations = equations_at_edge::<Brand>(alloc, Blank::new(1), state, id);
+        state.unsettle(id, edge);
+        return equations;
+    }
+    match state.trimmed(alloc, id)? {
+        Some(core) => equations_of::<Brand>(alloc, Blank::new(1), &core),
+        None => Err(AllocError),
+    }
+}
+
+/// A list of so many members is a long one.
 const LONG: usize = 64;
 
-/// Whether a core is a long maximum. Its run begins with the bounds of its members, which are told in turn while all
-/// atoms are free; once the first of them is made, one is a constant, and a run of the core has no bounds.
+/// Whether a core is a long maximum or sum. Its run begins with the bounds of its members, which are told in turn while
+/// all atoms are free; once the first of them is made, one is a constant, and a run of the core has no bounds.
 pub(crate) fn tells_bounds(core: &Core) -> bool {
     match core {
         Core::Max(ints, _) => ints.len() >= LONG,
+        Core::Sum(ints, _) => ints.as_slice().len() >= LONG,
         _ => false,
     }
 }
 
 /// The run of the pending core with an id, as the store has it. There is none where a contradiction was found, no
 /// pending core has the id, or memory is wanting.
-pub(crate) fn run_at(alloc: Global, state: &State, id: u64) -> Option<Run>
+pub(crate) fn run_at(alloc: Global, state: &mut State, id: u64) -> Option<Run>
     ensures id { IfSome result (λ run. run.id ≡ id) }
-    ensures due { IfSome result (IsRunAt state.now) }
+    ensures due { IfSome result (IsRunAt state.new) }
+    ensures stays { state.new ≡ state.old }
 {
     if state.bottom() {
         return None;
     }
-    let Ok(Some(core)) = state.trimmed(alloc, id) else {
-        return None;
-    };
-    match equations_of::<Brand>(alloc, Blank::new(1), &core) {
+    match equations_at(alloc, state, id) {
         Ok(equations) => Some(Run {
             id,
             equations,

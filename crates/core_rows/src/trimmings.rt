@@ -1,6 +1,7 @@
-//! How a core is trimmed by one view, compared whole, and which cores are seen to stay as they are.
+//! How a core is trimmed by one view, compared whole; which cores are seen to stay as they are; and what stands at the
+//! edge of one.
 
-use core_forms::{is_stable, trim};
+use core_forms::{is_edge_stable, is_stable, trim};
 use core_words::{core_of, core_text};
 use order_ints::{Atom, Lit};
 use std::alloc::Global;
@@ -138,6 +139,80 @@ fn check_stable(rt: &impl Abort, alloc: Global, row: &(&'static str, bool)) -> i
 fn stable_cores_are_seen(rt: HostRuntime) -> io::Result<()> {
     for row in &STABLE {
         check_stable(&rt, rt.alloc(), row)?;
+    }
+    Ok(())
+}
+
+/// Cores, and each with its edge as the view has it, the last member of a sum and the truth of an order of words; and
+/// whether the edge is seen to stay.
+static EDGES: [(&str, &str, bool); 7] = [
+    ("Sum 3..5@9;0..4@5 -9", "Sum (3 9 10) (0 5 F -5) -9", false),
+    ("Sum 0..4@5;3..5@9 -9", "Sum (0 5 6 7 8) (3 9 10) -9", true),
+    ("Sum 0..1@6 1", "Sum (0) 1", false),
+    (
+        "Lex strict 7 0..2@9 0..2@1",
+        "Lex strict -5 (0 9 10) (0 1 2)",
+        false,
+    ),
+    ("Lex or 4 0..1@1 0..1@9", "Lex or 4 (0 1) (0 9)", true),
+    ("Amo 1,2,6", "Amo 1 2 6", true),
+    (
+        "Max 0..2@1;0..1@6 0..2@4",
+        "Max (0 1 2) (0 6) (0 4 5)",
+        true,
+    ),
+];
+
+/// Tests a row of edges: the core is as it was once its edge is put back.
+fn check_edge(
+    rt: &impl Abort,
+    alloc: Global,
+    row: &(&'static str, &'static str, bool),
+) -> io::Result<()> {
+    let mut core = core_of(alloc, row.0)?;
+    assert_eq!(rt; is_edge_stable(&core, &VIEW), row.2, "{}", row.0);
+    let made = core_text(alloc, &core)?;
+    let edge = core.settle(alloc, &VIEW)?;
+    let settled = core_text(alloc, &core)?;
+    assert_eq!(rt; settled.as_slice(), row.1.as_bytes(), "{}", row.0);
+    core.unsettle(edge);
+    let back = core_text(alloc, &core)?;
+    assert_eq!(rt; back.as_slice(), made.as_slice(), "{}", row.0);
+    Ok(())
+}
+
+#[test]
+fn edges_are_settled_and_put_back(rt: HostRuntime) -> io::Result<()> {
+    for row in &EDGES {
+        check_edge(&rt, rt.alloc(), row)?;
+    }
+    Ok(())
+}
+
+/// Cores, a variable, and whether the edge has it.
+static AT_EDGE: [(&str, u32, bool); 5] = [
+    ("Sum 3..5@9;0..4@5 -9", 6, true),
+    ("Sum 3..5@9;0..4@5 -9", 9, false),
+    ("Lex strict 7 0..2@9 0..2@1", 7, true),
+    ("Lex strict 7 0..2@9 0..2@1", 9, false),
+    ("Amo 1,2,6", 1, false),
+];
+
+/// Tests a row of variables at an edge.
+fn check_at_edge(
+    rt: &impl Abort,
+    alloc: Global,
+    row: &(&'static str, u32, bool),
+) -> io::Result<()> {
+    let core = core_of(alloc, row.0)?;
+    assert_eq!(rt; core.has_at_edge(row.1), row.2, "{} {}", row.0, row.1);
+    Ok(())
+}
+
+#[test]
+fn variables_stand_at_edges(rt: HostRuntime) -> io::Result<()> {
+    for row in &AT_EDGE {
+        check_at_edge(&rt, rt.alloc(), row)?;
     }
     Ok(())
 }

@@ -5,13 +5,13 @@
 ghost use Rattle.std.specs.Prelude.{◌≡◌, true, Some, IfOk, IfSome, IsTrue};
 ghost use Rattle.core_forms.specs.WellFormed.{IsWellFormed};
 ghost use Rattle.step_kernel.specs.Kernel.{trimmed_at};
-ghost use Rattle.step_kernel.specs.SplitAt.{ArePartsAt, IsCutAt};
+ghost use Rattle.step_kernel.specs.SplitAt.{ArePartsAt};
 ghost use Rattle.core_rules.specs.Instances.{is_instance_at};
 
 use crate::starts::start;
 use crate::state_text::state_text;
 use core_forms::{Core, Equation};
-use part_base::{Cut, Parts};
+use part_base::Parts;
 use std::alloc::{AllocError, Global};
 use std::io;
 use std::process::Abort;
@@ -105,21 +105,10 @@ fn parts_at(rt: &impl Abort, alloc: Global, state: &mut State, id: u64) -> Resul
     state.parts_of(id, core)
 }
 
-/// How a pending core is cut, where it is stable and a long list.
-pub(super) fn cut_at(state: &mut State, id: u64) -> Result<Option<Cut>, AllocError>
-    ensures cut { IfOk result (λ made. IfSome made (λ cut. IsCutAt state.old id cut)) }
-    ensures stays { state.new ≡ state.old }
-{
-    if state.mark_stable(id) {
-        return state.cut_of(id);
-    }
-    Ok(None)
-}
-
 /// Makes the step of a split whose parts are made before, but for what is left of a list that is cut.
 fn split(rt: &impl Abort, alloc: Global, state: &mut State, id: u64) -> Result<(), ApplyFault> {
     assert!(rt; !state.bottom());
-    if let Some(cut) = cut_at(state, id)? {
+    if let Some(cut) = state.cut_of(id)? {
         state.split_cut(id, cut)?;
         return Ok(());
     }

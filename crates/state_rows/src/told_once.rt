@@ -3,7 +3,7 @@
 ghost use Rattle.std.specs.Prelude.{◌≡◌, ◌↔◌, ◌∷◌, [], IsTrue};
 ghost use Rattle.state_rows.specs.ToldOnce.{first_variable, told_core, told_equation};
 
-use core_forms::{Core, Equation, Rule};
+use core_forms::{Core, Equation, Known, Rule};
 use core_rules::FoundRun;
 use fixpoint_queue::Oracle;
 use order_ints::{Atom, Lit};
@@ -70,7 +70,7 @@ impl<L: Ledger> Oracle<L> for ToldOnce {
         &self,
         alloc: Global,
         core: &Core,
-        _plain: bool,
+        _known: Known,
         steps: &mut Steps<L>,
     ) -> Result<Option<FoundRun>, AllocError> {
         steps.tick();

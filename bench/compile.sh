@@ -57,11 +57,11 @@ families=(
   conjuncts:2000,8000,32000
   all_true:2000,8000,16000
   one_true:2000,8000,16000
-  near_top:500,2000,4000
+  near_top:500,1000,2000
   twins:500,2000,8000
   chasing:1000,2000,4000
   greatest_word:200,800,1600
-  few_names:1000,4000,8000
+  few_names:1000,4000,16000
 )
 chosen=()
 for family in "${families[@]}"; do

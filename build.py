@@ -1,11 +1,13 @@
 #!/usr/bin/env python3
 """Proves the libraries of `bee` side by side, and then builds the program and places eight queens, as `rt run` does.
 
-It calls the toolchain's own `rt`, and differs from `rt run` in two ways. Libraries that do not use one another are
+It calls the toolchain's own `rt`, and differs from `rt run` in three ways. Libraries that do not use one another are
 proved at the same time, as `rt ci` proves them: one a processor, as many as memory holds, the longest chain first
-(the variable RT_JOBS gives another number), and a library by as many jobs as are idle. And the sum that `rt` keeps of
-what a library is made from, itself and all below it, reads each crate once; `rt` reads a crate once for each path
-that leads to it. Where a toolchain's `rt` is made of other parts, `rt run` builds all.
+(the variable RT_JOBS gives another number), and a library by as many jobs as are idle. Where one job proves a library,
+its work is not kept beside it, which would take a fifth of the time more; so the first `rt check` of such a crate
+proves it once more. And the sum that `rt` keeps of what a library is made from, itself and all below it, reads each
+crate once; `rt` reads a crate once for each path that leads to it. Where a toolchain's `rt` is made of other parts, `rt
+run` builds all.
 """
 import copy
 import importlib.machinery
@@ -23,6 +25,8 @@ ARGUMENTS = ["queens", "8"]
 # other by one job. `rt` reckons by the lines of a crate and of those below it, up to six times what the upper crates
 # take, which then wait for one another.
 MOST = 4_000_000_000
+# The folder in which a library's proved work is kept, as `rt` has it.
+KEPT = ["--incremental", "out/incremental"]
 
 
 def load(path):
@@ -53,6 +57,12 @@ def read_once(plain):
     return stamp
 
 
+def words_for(jobs):
+    """How rattle is called for a library with so many jobs. More than one share what they proved by the folder of kept
+    work; without it each would be made anew for each module, which takes longer than one job."""
+    return ["--jobs", str(jobs), *(KEPT if jobs > 1 else [])]
+
+
 def build_library(crate, given, jobs):
     """Proves a library, unless one below it failed, and prints what its proof said. The answer is whether it is
     proved."""
@@ -60,9 +70,10 @@ def build_library(crate, given, jobs):
         return False
     crate = copy.copy(crate)
     with tempfile.TemporaryFile("w+", errors="replace") as crate.out:
-        status = crate.build_rlib(["--jobs", str(jobs)], anew=False)
+        status = crate.build_rlib(words_for(jobs), anew=False)
         crate.out.seek(0)
-        print(f"== {crate.name}\n{crate.out.read()}", end="", flush=True)
+        print(f"== {crate.name}\n{crate.out.read()}", end="")
+    print(f"build.py: {crate.name} {'failed' if status else 'proved'}", flush=True)
     return not status
 
 
@@ -90,6 +101,8 @@ def build(path):
     # The guard of what rt starts is set up by the first thread.
     rt.rtlib.guarded()
     rt.rtlib.Crate.stamp = read_once(rt.rtlib.Crate.stamp)
+    # What is kept is said for each library.
+    rt.rtlib.libraries_keep = lambda: False
     if not build_libraries(rt):
         return 1
     return rt.main(["run", "--", *ARGUMENTS])

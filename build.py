@@ -59,7 +59,7 @@ def read_once(plain):
 
 def words_for(jobs):
     """How rattle is called for a library with so many jobs. More than one share what they proved by the folder of kept
-    work; without it each would be made anew for each module, which takes longer than one job."""
+    work; without it rattle copies itself for each module, which takes half as much again of the processor."""
     return ["--jobs", str(jobs), *(KEPT if jobs > 1 else [])]
 
 

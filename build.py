@@ -1,15 +1,18 @@
 #!/usr/bin/env python3
 """Proves the libraries of `bee` side by side, and then builds the program and places eight queens, as `rt run` does.
 
-It calls the toolchain's own `rt`, and differs from `rt run` in three ways. Libraries that do not use one another are
+It calls the toolchain's own `rt`, and differs from `rt run` in four ways. Libraries that do not use one another are
 proved at the same time, as `rt ci` proves them: one a processor, as many as memory holds, the longest chain first
-(the variable RT_JOBS gives another number), and a library by as many jobs as are idle. Where one job proves a library,
-its work is not kept beside it, which would take a fifth of the time more; so the first `rt check` of such a crate
-proves it once more. And the sum that `rt` keeps of what a library is made from, itself and all below it, reads each
-crate once; `rt` reads a crate once for each path that leads to it. Where a toolchain's `rt` is made of other parts, `rt
-run` builds all.
+(the variable RT_JOBS gives another number). A library holds its statements and not its proofs, again as in `rt ci`; its
+proofs would be loaded for each crate above it, which takes longer than to prove that crate. What it holds fits those
+alone over which it was made: so where one is made, all above it are made. The work of a proof is not kept beside it,
+which would take a fifth of the time more; so the first `rt check` of a crate proves it once more. And the sum that `rt`
+keeps of what a library is made from, itself and all below it, reads each crate once; `rt` reads a crate once for each
+path that leads to it. Where a toolchain's `rt` is made of other parts, `rt run` builds all.
 """
+import contextlib
 import copy
+import enum
 import importlib.machinery
 import importlib.util
 import os
@@ -25,8 +28,18 @@ ARGUMENTS = ["queens", "8"]
 # other by one job. `rt` reckons by the lines of a crate and of those below it, up to six times what the upper crates
 # take, which then wait for one another.
 MOST = 4_000_000_000
-# The folder in which a library's proved work is kept, as `rt` has it.
-KEPT = ["--incremental", "out/incremental"]
+# How `rt` is told the kind of a task: it gives more than one job to a proof, and one to what it doesn't know.
+LIBRARY = "library"
+# How rattle is called for a library.
+WORDS = ["--jobs", "1", "--statements"]
+
+
+class Made(enum.Enum):
+    """What came of a library."""
+
+    FAILED = 0
+    KEPT = 1
+    ANEW = 2
 
 
 def load(path):
@@ -57,24 +70,23 @@ def read_once(plain):
     return stamp
 
 
-def words_for(jobs):
-    """How rattle is called for a library with so many jobs. More than one share what they proved by the folder of kept
-    work; without it rattle copies itself for each module, which takes half as much again of the processor."""
-    return ["--jobs", str(jobs), *(KEPT if jobs > 1 else [])]
-
-
-def build_library(crate, given, jobs):
-    """Proves a library, unless one below it failed, and prints what its proof said. The answer is whether it is
-    proved."""
-    if not all(given[it.name, "proof"] for it in crate.below()):
-        return False
+def build_library(crate, given):
+    """Proves a library, unless it is proved or one below it failed, and prints what its proof said."""
+    below = {given[it.name, LIBRARY] for it in crate.below()}
+    if Made.FAILED in below:
+        return Made.FAILED
+    if Made.ANEW in below:
+        with contextlib.suppress(FileNotFoundError):
+            os.remove(f"{crate.folder}/out/rlib/stamp")
+    if crate.is_built():
+        return Made.KEPT
     crate = copy.copy(crate)
     with tempfile.TemporaryFile("w+", errors="replace") as crate.out:
-        status = crate.build_rlib(words_for(jobs), anew=False)
+        status = crate.build_rlib(WORDS, anew=False)
         crate.out.seek(0)
         print(f"== {crate.name}\n{crate.out.read()}", end="")
     print(f"build.py: {crate.name} {'failed' if status else 'proved'}", flush=True)
-    return not status
+    return Made.FAILED if status else Made.ANEW
 
 
 def build_libraries(rt):
@@ -86,13 +98,13 @@ def build_libraries(rt):
         rt.rtlib.stop_on_links(it.folder)
     tasks = {}
     for it in libraries:
-        waits = [(below.name, "proof") for below in it.below()]
-        call = lambda given, jobs, crate=it: build_library(crate, given, jobs)
-        tasks[it.name, "proof"] = (waits, it.count(rb"\n"), min(rt.need(it), MOST), call)
+        waits = [(below.name, LIBRARY) for below in it.below()]
+        call = lambda given, _, crate=it: build_library(crate, given)
+        tasks[it.name, LIBRARY] = (waits, it.count(rb"\n"), min(rt.need(it), MOST), call)
     given = rt.in_lanes(tasks)
     for it in held:
         os.close(it)
-    return all(given.values())
+    return Made.FAILED not in given.values()
 
 
 def build(path):
@@ -101,7 +113,6 @@ def build(path):
     # The guard of what rt starts is set up by the first thread.
     rt.rtlib.guarded()
     rt.rtlib.Crate.stamp = read_once(rt.rtlib.Crate.stamp)
-    # What is kept is said for each library.
     rt.rtlib.libraries_keep = lambda: False
     if not build_libraries(rt):
         return 1

@@ -4,7 +4,7 @@
 It calls the toolchain's own `rt`, and differs from `rt run` in four ways. Libraries that do not use one another are
 proved at the same time, as `rt ci` proves them: one a processor, as many as memory holds, the longest chain first
 (the variable RT_JOBS gives another number). A library holds its statements and not its proofs, again as in `rt ci`; its
-proofs would be loaded for each crate above it, which takes longer than to prove that crate. What it holds fits those
+proofs would be loaded for each crate above it, which can take longer than to prove that crate. What it holds fits those
 alone over which it was made: so where one is made, all above it are made. The work of a proof is not kept beside it,
 which would take a fifth of the time more; so the first `rt check` of a crate proves it once more. And the sum that `rt`
 keeps of what a library is made from, itself and all below it, reads each crate once; `rt` reads a crate once for each
@@ -12,7 +12,6 @@ path that leads to it. Where a toolchain's `rt` is made of other parts, `rt run`
 """
 import contextlib
 import copy
-import enum
 import importlib.machinery
 import importlib.util
 import os
@@ -32,14 +31,6 @@ MOST = 4_000_000_000
 LIBRARY = "library"
 # How rattle is called for a library.
 WORDS = ["--jobs", "1", "--statements"]
-
-
-class Made(enum.Enum):
-    """What came of a library."""
-
-    FAILED = 0
-    KEPT = 1
-    ANEW = 2
 
 
 def load(path):
@@ -70,23 +61,31 @@ def read_once(plain):
     return stamp
 
 
+def forget_stale(libraries):
+    """Forgets each library that is not as its sources are, and all above it. They come lowest first, and so do those of
+    the answer, which were forgotten. All are forgotten before one is made, so that a build that is broken off leaves
+    none that fits another than the one below it."""
+    stale = {}
+    for it in libraries:
+        if not it.is_built() or any(below.name in stale for below in it.below()):
+            stale[it.name] = it
+            with contextlib.suppress(FileNotFoundError):
+                os.remove(f"{it.folder}/out/rlib/stamp")
+    return stale
+
+
 def build_library(crate, given):
-    """Proves a library, unless it is proved or one below it failed, and prints what its proof said."""
-    below = {given[it.name, LIBRARY] for it in crate.below()}
-    if Made.FAILED in below:
-        return Made.FAILED
-    if Made.ANEW in below:
-        with contextlib.suppress(FileNotFoundError):
-            os.remove(f"{crate.folder}/out/rlib/stamp")
-    if crate.is_built():
-        return Made.KEPT
+    """Proves a library, unless one below it failed, and prints what its proof said. The answer is whether it is
+    proved."""
+    if not all(given.get((it.name, LIBRARY), True) for it in crate.below()):
+        return False
     crate = copy.copy(crate)
     with tempfile.TemporaryFile("w+", errors="replace") as crate.out:
         status = crate.build_rlib(WORDS, anew=False)
         crate.out.seek(0)
         print(f"== {crate.name}\n{crate.out.read()}", end="")
     print(f"build.py: {crate.name} {'failed' if status else 'proved'}", flush=True)
-    return Made.FAILED if status else Made.ANEW
+    return not status
 
 
 def build_libraries(rt):
@@ -96,15 +95,16 @@ def build_libraries(rt):
     held = rt.rtlib.lock([*libraries, bee])
     for it in libraries:
         rt.rtlib.stop_on_links(it.folder)
+    stale = forget_stale(libraries)
     tasks = {}
-    for it in libraries:
-        waits = [(below.name, LIBRARY) for below in it.below()]
+    for it in stale.values():
+        waits = [(below.name, LIBRARY) for below in it.below() if below.name in stale]
         call = lambda given, _, crate=it: build_library(crate, given)
         tasks[it.name, LIBRARY] = (waits, it.count(rb"\n"), min(rt.need(it), MOST), call)
     given = rt.in_lanes(tasks)
     for it in held:
         os.close(it)
-    return Made.FAILED not in given.values()
+    return all(given.values())
 
 
 def build(path):

@@ -23,7 +23,7 @@ pub struct Totals {
 }
 
 /// A list, with what its members add up to where that is known.
-#[derive(Debug, Clone, Drop)]
+#[derive(Debug, Drop)]
 struct Listed {
     ints: Sequence<OrdInt>,
     totals: Option<Totals>,
@@ -31,7 +31,7 @@ struct Listed {
 
 /// The members of a sum. Beside the list stands what they add up to, where that is no greater than a machine's number,
 /// so that what the others leave one of them is known in constant time, also of what is left of a list that is split.
-#[derive(Debug, Clone, Drop)]
+#[derive(Debug, Drop)]
 pub struct Summands {
     inner: Box<Listed>,
 }

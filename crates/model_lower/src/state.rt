@@ -6,7 +6,7 @@ use name_map::NameMap;
 use typed_model::Decl;
 
 /// A model as cores over Boolean variables.
-#[derive(Debug, Clone, Drop)]
+#[derive(Debug, Drop)]
 pub struct Lowered {
     /// How many variables there are; they are numbered from 1.
     pub vars: u32,

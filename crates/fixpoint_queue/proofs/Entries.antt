@@ -14,10 +14,9 @@ use Rattle.core_occurrences.proofs.Listed.{length-with_id}
 use Rattle.step_kernel.specs.Kernel.{Kernel, core_at, IsKernel}
 use Rattle.step_kernel.proofs.Holes.{below-there}
 use Rattle.step_kernel.proofs.Splits.{there-bounds}
-use Rattle.fixpoint_queue.specs.IdQueue.{Ids, IsIds, with_id}
+use Rattle.fixpoint_queue.specs.IdQueue.{Ids, IsIds, IsPut}
 use Rattle.fixpoint_queue.specs.Standing.{StandBut, AreVars, AreAllVars, AreVarsFrom, AreEntered, all_counted}
 use Rattle.fixpoint_queue.proofs.Stood.{stand-added, stand-passed, occurs-added}
-use Rattle.fixpoint_queue.proofs.Waking.{put-has, put-stays, put-only, put-places}
 
 pub all-vars-put : (lists : List (List ℕ)) (cores : List Core) (vars : List ℕ) (core : Core) → AreAllVars lists cores → AreVars vars core → AreAllVars (lists ++ vars ∷ []) (cores ++ core ∷ [])
 all-vars-put [] [] vars core h is = (is, tt)
@@ -69,7 +68,7 @@ entered-none held cores before occurs queue stand is ids =
 module _ (held : ℕ) (cores : List (Option Core)) (before i : ℕ) (first o new_occurs : OccurrenceLists) (start q new_queue : Ids) (vars : List ℕ) (core : Core)
     (at : get_or cores (before + i) None ≡ Some core) (are : (before + i + 1 ≡ held → ⊥) → AreVars vars core) (bound : (before + i + 1 ≡ held → ⊥) → (v : ℕ) → Contains vars v → v ≤ length o.lists)
     (h : AreEntered held cores before i first o start q) (occurs-is : new_occurs ≡ (if before + i + 1 == held then o else added o (before + i + 1) vars)) (occurrences : IsOccurrences new_occurs)
-    (queue-is : new_queue ≡ with_id q (before + i + 1)) (ids : IsIds new_queue)
+    (queue-is : IsPut q (before + i + 1) new_queue) (ids : IsIds new_queue)
   where
     inside : before + i < length cores
     inside = some-inside cores (before + i) core at
@@ -126,22 +125,21 @@ module _ (held : ℕ) (cores : List (Option Core)) (before i : ℕ) (first o new
       occurrences = occurrences;
       lists = lists-one ∙ h.lists;
       ids = ids-one ∙ h.ids;
-      places = ap (λ (l : Ids). l.places) queue-is ∙ put-places q (before + i + 1) ∙ h.places;
+      places = queue-is.places ∙ h.places;
       queued = ids;
-      stays = λ id there. subst (λ (l : Ids). 1 ≤ times id l.queued) (sym queue-is) (put-stays q (before + i + 1) id (h.stays id there));
+      stays = λ id there. queue-is.stays id (h.stays id there);
       come = λ id low high.
-          subst (λ (l : Ids). 1 ≤ times id l.queued) (sym queue-is)
-          (⊎_elim (λ (e : id ≡ before + i + 1). subst (λ (j : ℕ). 1 ≤ times j (with_id q (before + i + 1)).queued) (sym e) (put-has q (before + i + 1)))
+          ⊎_elim (λ (e : id ≡ before + i + 1). subst (λ (j : ℕ). 1 ≤ times j new_queue.queued) (sym e) queue-is.has)
           (λ (n : id ≡ before + i + 1 → ⊥).
-          put-stays q (before + i + 1) id
+          queue-is.stays id
           (h.come id low (⊎_elim (λ (lt : id < before + i + 1). omega (arith, lt)) (λ (le : before + i + 1 ≤ id). absurd (n (omega (arith, le, high)))) (cases_lt id (before + i + 1)))))
-          (cases_eq id (before + i + 1)));
+          (cases_eq id (before + i + 1));
       only = λ id there.
           ⊎_elim
           (λ (was : 1 ≤ times id q.queued).
           ⊎_elim (λ (old : 1 ≤ times id start.queued). inl old) (λ (b : (before < id) × (id ≤ before + i)). inr (b.0, omega (arith, b.1))) (h.only id was))
           (λ (e : id ≡ before + i + 1). inr (omega (arith, e), omega (arith, e)))
-          (put-only q (before + i + 1) id (subst (λ (l : Ids). 1 ≤ times id l.queued) queue-is there));
+          (queue-is.only id there);
     }
 
 -- the listed variables at a place, and the core whose they are

@@ -11,11 +11,10 @@ use Rattle.core_occurrences.specs.Lists.{OccurrenceLists, IsOccurrences, Occurs,
 use Rattle.step_kernel.specs.Kernel.{Kernel, core_at, IsKernel}
 use Rattle.step_kernel.proofs.LeastCompound.{core_at-next}
 use Rattle.core_occurrences.proofs.Listed.{length-with_id}
-use Rattle.fixpoint_queue.specs.IdQueue.{Ids, IsIds, with_id}
+use Rattle.fixpoint_queue.specs.IdQueue.{Ids, IsIds, IsPut}
 use Rattle.fixpoint_queue.specs.Standing.{StandBut, AreVars, ArePending}
 use Rattle.fixpoint_queue.proofs.Stood.{core_at-elsewhere, core_at-last, core_at-past, stand-none, stand-added, stand-grown}
 use Rattle.fixpoint_queue.proofs.Entries.{length-taken, none-behind, all-of, core-bounds}
-use Rattle.fixpoint_queue.proofs.Waking.{put-has, put-stays, put-only}
 
 module _ (cores : List (Option Core)) (k : ℕ) (o : OccurrenceLists) (q : Ids) (inside : k < length cores) (h : ArePending cores k o q) where
   abbrev front : List (Option Core)
@@ -52,18 +51,17 @@ module _ (cores : List (Option Core)) (k : ℕ) (o : OccurrenceLists) (q : Ids) 
 
   pub pending-one : (core : Core) (vars : List ℕ) (o' : OccurrenceLists) (q' : Ids) → get_or cores k None ≡ Some core → AreVars vars core
       → ((v : ℕ) → Contains vars v → v ≤ length o.lists)
-      → o' ≡ added o (k + 1) vars → IsOccurrences o' → q' ≡ with_id q (k + 1) → IsIds q' → ArePending cores (k + 1) o' q'
+      → o' ≡ added o (k + 1) vars → IsOccurrences o' → IsPut q (k + 1) q' → IsIds q' → ArePending cores (k + 1) o' q'
   pending-one core vars o' q' at are bound o-is occurrences q-is ids = record {
     stand = subst (λ (cs : List (Option Core)). StandBut 0 cs o') (sym (taken (Some core) at))
         (subst (StandBut 0 (front ++ Some core ∷ [])) (sym o-is) (stand-added 0 front o core vars (k + 1) (omega (arith, long)) are bound h.stand));
     occurrences = occurrences;
     queued = ids;
     come = λ id c is.
-        subst (λ (l : Ids). 1 ≤ times id l.queued) (sym q-is)
-        (⊎_elim
-        (λ (e : id ≡ length front + 1). subst (λ (j : ℕ). 1 ≤ times j (with_id q (k + 1)).queued) (omega (arith, e, long)) (put-has q (k + 1)))
-        (λ (n : id ≡ length front + 1 → ⊥). put-stays q (k + 1) id (h.come id c (sym (core_at-elsewhere front (Some core) id n) ∙ sym (at-taken id) ∙ is)))
-        (cases_eq id (length front + 1)));
+        ⊎_elim
+        (λ (e : id ≡ length front + 1). subst (λ (j : ℕ). 1 ≤ times j q'.queued) (omega (arith, e, long)) q-is.has)
+        (λ (n : id ≡ length front + 1 → ⊥). q-is.stays id (h.come id c (sym (core_at-elsewhere front (Some core) id n) ∙ sym (at-taken id) ∙ is)))
+        (cases_eq id (length front + 1));
     only = λ id there.
         ⊎_elim
         (λ (e : id ≡ length front + 1). (core, at-taken id ∙ ap (core_at (front ++ Some core ∷ [])) e ∙ core_at-last front (Some core)))
@@ -71,7 +69,7 @@ module _ (cores : List (Option Core)) (k : ℕ) (o : OccurrenceLists) (q : Ids) 
         ⊎_elim
         (λ (was : 1 ≤ times id q.queued). let p = h.only id was in (p.0, at-taken id ∙ core_at-elsewhere front (Some core) id n ∙ p.1))
         (λ (e : id ≡ k + 1). absurd (n (omega (arith, e, long))))
-        (put-only q (k + 1) id (subst (λ (l : Ids). 1 ≤ times id l.queued) q-is there)))
+        (q-is.only id there))
         (cases_eq id (length front + 1));
   }
     where
@@ -136,7 +134,7 @@ module _ (k : Kernel) (before : ℕ) (o o1 : OccurrenceLists) (q : Ids) (core : 
   pub entry-fresh : (v : ℕ) → ¬ Occurs o1 v (before + 1)
   entry-fresh = fresh k.cores before o q e.inside e.pending o1 entry-grown
 
-  pub entry-done : (o2 : OccurrenceLists) (q2 : Ids) → o2 ≡ added o1 (before + 1) vars → IsOccurrences o2 → q2 ≡ with_id q (before + 1) → IsIds q2 → ArePending k.cores (before + 1) o2 q2
+  pub entry-done : (o2 : OccurrenceLists) (q2 : Ids) → o2 ≡ added o1 (before + 1) vars → IsOccurrences o2 → IsPut q (before + 1) q2 → IsIds q2 → ArePending k.cores (before + 1) o2 q2
   entry-done o2 q2 =
       pending-one k.cores before o1 q e.inside entry-grown core vars o2 q2 (sym (core_at-next k.cores before) ∙ e.at) e.are (λ v there. (entry-range v there).1)
 

@@ -1,11 +1,11 @@
 -- Cores that are put into the queue, along a walk of a class.
-use Rattle.std.proofs.Common.{◌≡◌, ℕ, zero, suc, ◌+◌, ◌≤◌, ◌<◌, ◌⊎◌, inl, inr, Bool, true, false, List, [], ◌∷◌, ◌++◌, length, get_or, refl, sym, ap, ◌∙◌, subst, arith, append_assoc, ⊎_elim, Option, Some, None}
-use Rattle.std.specs.Prelude.{◌==◌, nat_le, Contains, if◌then◌else◌}
-use Rattle.std.proofs.lemmas.Bool.{false≢true, cond-true, cond-false, eq-eqb, ne_eqb, leb-true, cases_eq}
+use Rattle.std.proofs.Common.{◌≡◌, ℕ, zero, suc, ◌+◌, ◌≤◌, ◌<◌, ◌⊎◌, inl, inr, true, List, [], ◌∷◌, ◌++◌, length, get_or, refl, sym, ap, ◌∙◌, arith, append_assoc, ⊎_elim, Option, Some, None}
+use Rattle.std.specs.Prelude.{◌==◌, Contains}
+use Rattle.std.proofs.lemmas.Bool.{false≢true, cond-true, cond-false, eq-eqb, ne_eqb}
 use Rattle.order_ints.specs.declared.atom.Atom.{Atom}
 use Rattle.order_ints.specs.declared.atom.Atom.TheVariants.{True, False, Of}
 use Rattle.index_ring.specs.Lists.{times, first_in, after_in}
-use Rattle.index_ring.proofs.Times.{times-same, times-other, times-append, cut}
+use Rattle.index_ring.proofs.Times.{times-same, times-append, cut}
 use Rattle.index_ring.proofs.Seen.{after_in-cut}
 use Rattle.equation_store.specs.Class.{is_of, IsMember, IsWalk}
 use Rattle.equation_store.proofs.Walk.{cases_member}
@@ -15,40 +15,10 @@ use Rattle.core_occurrences.specs.Lists.{OccurrenceLists, Occurs, cores_at}
 use Rattle.core_occurrences.proofs.Occurring.{contains-from_times}
 use Rattle.step_kernel.specs.Kernel.{Kernel}
 use Rattle.step_kernel.proofs.Splits.{there-bounds}
-use Rattle.fixpoint_queue.specs.IdQueue.{Ids, IsIds, with_id}
+use Rattle.fixpoint_queue.specs.IdQueue.{Ids, IsIds}
 use Rattle.fixpoint_queue.specs.Listed.{IsListed}
 use Rattle.fixpoint_queue.proofs.Ids.{ids-few}
 use Rattle.index_ring.specs.Lists.{rest_from}
-
--- the queue has what was put into it, and what it had
-put-by : (ids : Ids) (id j : ℕ) (b : Bool) → nat_le 1 (times id ids.queued) ≡ b → (j ≡ id) ⊎ (1 ≤ times j ids.queued)
-    → 1 ≤ times j (if b then ids else record { queued = ids.queued ++ id ∷ []; places = ids.places }).queued
-put-by ids id j true has (inl e) = subst (λ (i : ℕ). 1 ≤ times i ids.queued) (sym e) (leb-true 1 (times id ids.queued) has)
-put-by ids id j true has (inr h) = h
-put-by ids id j false has (inl e) = omega (arith, times-append j ids.queued (id ∷ []), times-same j id [] (sym e))
-put-by ids id j false has (inr h) = omega (arith, times-append j ids.queued (id ∷ []), h)
-
-pub put-has : (ids : Ids) (id : ℕ) → 1 ≤ times id (with_id ids id).queued
-put-has ids id = put-by ids id id (nat_le 1 (times id ids.queued)) refl (inl refl)
-
-pub put-stays : (ids : Ids) (id j : ℕ) → 1 ≤ times j ids.queued → 1 ≤ times j (with_id ids id).queued
-put-stays ids id j h = put-by ids id j (nat_le 1 (times id ids.queued)) refl (inr h)
-
-only-by : (ids : Ids) (id j : ℕ) (b : Bool) → 1 ≤ times j (if b then ids else record { queued = ids.queued ++ id ∷ []; places = ids.places }).queued → (1 ≤ times j ids.queued) ⊎ (j ≡ id)
-only-by ids id j true h = inl h
-only-by ids id j false h =
-    ⊎_elim (λ (e : id ≡ j). inr (sym e)) (λ (n : id ≡ j → ⊥). inl (omega (arith, h, times-append j ids.queued (id ∷ []), times-other j id [] n))) (cases_eq id j)
-
--- and nothing else
-pub put-only : (ids : Ids) (id j : ℕ) → 1 ≤ times j (with_id ids id).queued → (1 ≤ times j ids.queued) ⊎ (j ≡ id)
-put-only ids id j h = only-by ids id j (nat_le 1 (times id ids.queued)) h
-
-pub put-places : (ids : Ids) (id : ℕ) → (with_id ids id).places ≡ ids.places
-put-places ids id = by (nat_le 1 (times id ids.queued))
-  where
-    by : (b : Bool) → (if b then ids else record { queued = ids.queued ++ id ∷ []; places = ids.places }).places ≡ ids.places
-    by true = refl
-    by false = refl
 
 -- a member of a list is its first one or one behind it
 pub contains-first : (x : ℕ) (xs : List ℕ) (y : ℕ) → Contains (x ∷ xs) y → (x ≡ y) ⊎ Contains xs y

@@ -6,7 +6,7 @@ ghost use Rattle.std.specs.List.{All};
 ghost use Rattle.std.specs.List.Sorted.{IsStrictlyIncreasing};
 ghost use Rattle.core_occurrences.specs.Lists.{Occurs, IsOccurrences, added, cores_at};
 ghost use Rattle.step_kernel.specs.Kernel.{IsKernel};
-ghost use Rattle.fixpoint_queue.specs.IdQueue.{IsIds, with_id};
+ghost use Rattle.fixpoint_queue.specs.IdQueue.{IsIds, IsPut};
 ghost use Rattle.fixpoint_queue.specs.Standing.{StandBut, AreAllVars, AreVarsFrom, AreEntered, all_counted};
 ghost use Rattle.fixpoint_queue.specs.Handed.{AreComing, HaveCome};
 
@@ -39,7 +39,7 @@ impl Worklist {
         requires place { id < self.old.queue.places }
         ensures occurs { self.new.occurs ≡ added self.old.occurs id vars.now }
         ensures occurrences { IsOccurrences self.new.occurs }
-        ensures queue { self.new.queue ≡ with_id self.old.queue id }
+        ensures queue { IsPut self.old.queue id self.new.queue }
         ensures ids { IsIds self.new.queue }
         ensures marks { self.new.marks ≡ self.old.marks }
     {
@@ -59,7 +59,7 @@ impl Worklist {
         ensures occurs { self.new.occurs
             ≡ (if id == held then self.old.occurs else added self.old.occurs id vars.now) }
         ensures occurrences { IsOccurrences self.new.occurs }
-        ensures queue { self.new.queue ≡ with_id self.old.queue id }
+        ensures queue { IsPut self.old.queue id self.new.queue }
         ensures ids { IsIds self.new.queue }
         ensures marks { self.new.marks ≡ self.old.marks }
     {

@@ -3,7 +3,7 @@
 ghost use Rattle.std.specs.Prelude.{◌≡◌, ◌-◌, ◌^◌, ◌<◌, ◌≤◌, ◌⊎◌, ℕ, [], IfOk, OnOk};
 ghost use Rattle.std.specs.Prelude.{length};
 ghost use Rattle.index_ring.specs.Lists.{first_in, times, without};
-ghost use Rattle.fixpoint_queue.specs.IdQueue.{IsIds, with_id};
+ghost use Rattle.fixpoint_queue.specs.IdQueue.{IsIds, IsPut};
 
 use crate::id_ring::IdRing;
 use std::alloc::{AllocError, Global};
@@ -31,7 +31,7 @@ impl Model for IdQueue {
 impl IdQueue {
     /// An empty queue, with places for the ids below a number.
     pub fn with(alloc: Global, ids: u32) -> Result<IdQueue, AllocError>
-        requires { ids < 2 ^ 31 - 1 }
+        requires { ids < 2 ^ 31 - 2 }
         ensures queued { IfOk result (λ queue. queue.queued ≡ []) }
         ensures places { IfOk result (λ queue. queue.places ≡ ids) }
         ensures ids { IfOk result IsIds }
@@ -45,7 +45,7 @@ impl IdQueue {
 
     /// Makes places for the ids below a number, where they are not there.
     pub fn grow_to(&mut self, ids: u32) -> Result<(), AllocError>
-        requires { ids < 2 ^ 31 - 1 }
+        requires { ids < 2 ^ 31 - 2 }
         ensures queued { self.new.queued ≡ self.old.queued }
         ensures places { self.old.places ≤ self.new.places }
         ensures enough { OnOk result (ids ≤ self.new.places) }
@@ -63,13 +63,13 @@ impl IdQueue {
         self.ids.first()
     }
 
-    /// Puts an id at the end, unless it is in the queue.
+    /// Puts an id behind those that come first, unless it is in the queue.
     pub fn put(&mut self, id: u32)
         requires { id < self.old.places }
-        ensures put { self.new ≡ with_id self.old id }
+        ensures put { IsPut self.old id self.new }
         ensures ids { IsIds self.new }
     {
-        self.ids.put(id);
+        self.ids.put(id, false);
     }
 
     /// Takes an id out.

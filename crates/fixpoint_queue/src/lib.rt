@@ -16,9 +16,10 @@
 //! nothing (`step`, `queued`). `least_compound` is exactly the least core that is to be split.
 //!
 //! Occurrences are handed on where a long list is split, so an id may stand at a variable that its
-//! core lost; a walk of the core tells, and a queued core is not looked at. The order of waking is
-//! by id: with it ledgers are the same to the byte. Marks (`Marks`) say which cores were compound
-//! when last asked; they save walks and are no promise.
+//! core lost; a walk of the core tells, and a queued core is not looked at. Cores are woken in the
+//! order of their ids, those with long lists behind all others, as a question goes along the list;
+//! no clause names the order. Marks (`Marks`) say which cores were compound when last asked; they
+//! save walks and are no promise.
 #![tactic(auto)]
 
 mod asking;

@@ -33,9 +33,9 @@ fn number_of(lists: &[Sequence<u32>]) -> Result<u32, AllocError>
 /// How many ids there are with so many more.
 fn ids_behind(state: &State, more: usize) -> Result<u32, AllocError>
     ensures ids { IfOk result (λ ids. ids ≡ length state.now.cores + more) }
-    ensures small { IfOk result (λ ids. ids < 2 ^ 31 - 2) }
+    ensures small { IfOk result (λ ids. ids < 2 ^ 31 - 3) }
 {
-    let most = u64::from(PLACES) - 3;
+    let most = u64::from(PLACES) - 4;
     if state.ids() > most || more as u64 > most - state.ids() {
         return Err(AllocError);
     }

@@ -48,7 +48,7 @@ impl<F: Oracle<L>, L: Ledger> Model for Runner<F, L> {
 }
 
 impl<F: Oracle<L>, L: Ledger> Runner<F, L> {
-    /// A state whose pending cores are all queued, with no line. Where there are 2^31 - 2 ids or more, it is as
+    /// A state whose pending cores are all queued, with no line. Where there are 2^31 - 3 ids or more, it is as
     /// if memory were wanting.
     pub fn with(alloc: Global, state: State, oracle: F) -> Result<Runner<F, L>, AllocError>
         ensures kernel { IfOk result (λ made. made.kernel ≡ state) }
@@ -59,7 +59,7 @@ impl<F: Oracle<L>, L: Ledger> Runner<F, L> {
             → times id made.queued ≡ (if is_some (core_at state.cores id) then 1 else 0)) }
     {
         let ids = state.ids();
-        if ids >= (1 << 31) - 2 {
+        if ids >= (1 << 31) - 3 {
             return Err(AllocError);
         }
         let mut occurs = Occurrences::with(alloc, state.vars())?;

@@ -12,6 +12,7 @@ use crate::having::has_variable;
 use crate::id_queue::IdQueue;
 use crate::id_ring::IdRing;
 use crate::worklist::Worklist;
+use core_forms::Core;
 use core_occurrences::Occurrences;
 use equation_store::EqStore;
 use step_kernel::State;
@@ -29,6 +30,33 @@ fn is_at(state: &State, id: u32, var: u32) -> bool
     }
 }
 
+/// The most members of a list that is asked as soon as others.
+const SHORT: usize = 64;
+
+/// Whether a core has a long list. A question goes along it, so it is asked when those with short ones tell nothing
+/// more: each equation that these tell on the way would ask it anew.
+fn is_long(core: &Core) -> bool {
+    match core {
+        Core::Clause(atoms)
+        | Core::Parity(atoms, _)
+        | Core::Conj(_, atoms)
+        | Core::Amo(atoms)
+        | Core::Count(atoms, _) => atoms.len() > SHORT,
+        Core::Max(ints, _) | Core::AllDiff(ints, _) => ints.len() > SHORT,
+        Core::Sum(ints, _) => ints.as_slice().len() > SHORT,
+        Core::Lex(_, _, front, _) => front.get().len() > SHORT,
+        _ => false,
+    }
+}
+
+/// Whether the core with an id waits for others.
+fn is_late(state: &State, id: u32) -> bool {
+    match state.core(id.into()) {
+        Some(core) => is_long(core),
+        None => false,
+    }
+}
+
 /// Queues the core with an id, where it has a variable; a core that is queued isn't looked at.
 fn put_having(state: &State, ids: &mut IdRing, id: u32, var: u32)
     requires place { id < ids.old.places }
@@ -41,7 +69,7 @@ fn put_having(state: &State, ids: &mut IdRing, id: u32, var: u32)
         → (1 ≤ times i ids.old.queued) ⊎ HasVar state.now i var }
 {
     if !ids.has(id) && is_at(state, id, var) {
-        ids.put(id);
+        ids.put(id, is_late(state, id));
     }
 }
 

@@ -3,7 +3,7 @@
 use crate::ledgers::Row;
 
 /// Equations by the order of integers, by the form of cores, and by their truth tables.
-pub(super) static TOLD: [Row; 8] = [
+pub(super) static TOLD: [Row; 9] = [
     (
         4,
         &["Parity even 1,2", "Parity odd 2,3", "Clause -4"],
@@ -67,6 +67,14 @@ pub(super) static TOLD: [Row; 8] = [
         next 7; least 1 none; cnf 6",
     ),
     (0, &[], "", "0:; next 1; least none none; cnf 0"),
+    // A sum is asked with its last member as the store has it, and stands as it was made behind that.
+    (
+        3,
+        &["Sum 0..1@1;0..1@2;0..1@3 1", "Clause 3"],
+        "eq 2 form 3 T; eq 1 form 1 F; eq 1 form 2 F",
+        "3: F F T; #1 Sum (0 1) (0 2) (0 3) 1 is Sum (0) (0) (1) 1; #2 Clause 3 is Clause T; next 3; \
+        least 1 1; cnf 3",
+    ),
 ];
 
 /// Nothing is told.

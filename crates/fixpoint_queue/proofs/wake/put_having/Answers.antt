@@ -1,18 +1,16 @@
 use Rattle.std.proofs.Common.{◌≡◌, ℕ, ◌≤◌, true, inl, inr, sym, subst, ⊎_elim, rules}
 use Rattle.index_ring.specs.Lists.{times}
-use Rattle.fixpoint_queue.specs.IdQueue.{Ids}
 use Rattle.fixpoint_queue.specs.Listed.{HasVar}
-use Rattle.fixpoint_queue.proofs.Waking.{put-has, put-stays, put-only}
 use Rattle.fixpoint_queue.proofs.wake.put_having.Goals as goal
 
 pub returns-then-is_at-clause-stays : goal.returns-then-is_at-clause-stays
-returns-then-is_at-clause-stays c = λ i h. subst (λ (q : Ids). 1 ≤ times i q.queued) (sym c.put.ensures.put) (put-stays c.args.ids.now c.args.id i h)
+returns-then-is_at-clause-stays c = c.put.ensures.put.stays
 
 pub returns-then-is_at-clause-woken : goal.returns-then-is_at-clause-woken
-returns-then-is_at-clause-woken c = λ has. subst (λ (q : Ids). 1 ≤ times c.args.id q.queued) (sym c.put.ensures.put) (put-has c.args.ids.now c.args.id)
+returns-then-is_at-clause-woken c = λ has. c.put.ensures.put.has
 
 pub returns-then-is_at-clause-only : goal.returns-then-is_at-clause-only
 returns-then-is_at-clause-only c = λ i h.
     let here : c.is_at.result ≡ true = search rules in
     ⊎_elim (λ (was : 1 ≤ times i c.args.ids.now.queued). inl was) (λ (e : i ≡ c.args.id). inr (subst (λ (j : ℕ). HasVar c.args.state.now j c.args.var) (sym e) (c.is_at.ensures.0 here)))
-    (put-only c.args.ids.now c.args.id i (subst (λ (q : Ids). 1 ≤ times i q.queued) c.put.ensures.put h))
+    (c.put.ensures.put.only i h)

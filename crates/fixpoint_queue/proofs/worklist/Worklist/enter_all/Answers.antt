@@ -1,8 +1,8 @@
-use Rattle.std.proofs.Common.{◌≡◌, ℕ, ◌+◌, ◌≤◌, ◌==◌, length, get_or, take, ap, ◌∙◌, refl, subst, arith, Some, None}
+use Rattle.std.proofs.Common.{◌≡◌, ℕ, ◌+◌, ◌≤◌, ◌==◌, length, get_or, take, ◌∙◌, refl, subst, arith, Some, None}
 use Rattle.std.specs.Prelude.{Contains, if◌then◌else◌}
 use Rattle.core_forms.specs.declared.form.Core.{Core}
 use Rattle.core_occurrences.specs.Lists.{added}
-use Rattle.fixpoint_queue.specs.IdQueue.{with_id}
+use Rattle.fixpoint_queue.specs.IdQueue.{IsPut}
 use Rattle.step_kernel.proofs.LeastCompound.{core_at-next}
 use Rattle.fixpoint_queue.specs.Standing.{AreVars}
 use Rattle.fixpoint_queue.proofs.Entries.{all-of, core-bounds, none-behind, some-inside, length-taken, entered-none, entered-one, room-one, listed-at, counted-at}
@@ -61,7 +61,8 @@ loop-vars-preserved c =
     let counted = counted-at c.args.lists.now c.loop-vars.vars-index c.vars-item.result c.as_slice.result.now c.loop-vars-test.true c.vars-item.is c.as_slice.ensures in
     let occurs : c.enter_next.new.self.occurs ≡ (if n + 1 == c.args.held then c.loop-vars.self.occurs else added c.loop-vars.self.occurs (n + 1) c.as_slice.result.now) =
     subst (λ (j : ℕ). c.enter_next.new.self.occurs ≡ (if j == c.args.held then c.loop-vars.self.occurs else added c.loop-vars.self.occurs j c.as_slice.result.now)) id c.enter_next.ensures.occurs in
-    let queue : c.enter_next.new.self.queue ≡ with_id c.loop-vars.self.queue (n + 1) = c.enter_next.ensures.queue ∙ ap (with_id c.loop-vars.self.queue) id in
+    let queue : IsPut c.loop-vars.self.queue (n + 1) c.enter_next.new.self.queue =
+    subst (λ (j : ℕ). IsPut c.loop-vars.self.queue j c.enter_next.new.self.queue) id c.enter_next.ensures.queue in
     record {
       id = omega (arith, c.loop-vars.invariant.id);
       entered = entered-one c.args.held cores c.args.before c.loop-vars.vars-index c.args.self.now.occurs c.loop-vars.self.occurs c.enter_next.new.self.occurs c.args.self.now.queue c.loop-vars.self.queue c.enter_next.new.self.queue c.as_slice.result.now l.0

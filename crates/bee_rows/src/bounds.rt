@@ -1,7 +1,7 @@
 //! Bound mode: the clause that an objective is better than a number, which may be negative.
 
+use crate::shown::{AMPLE, Wanted, run_over};
 use crate::wanted::shows;
-use run_shown::{AMPLE, Wanted, run_over};
 use std::alloc::Global;
 use std::process::Abort;
 use std::test::Fail;

@@ -1,6 +1,6 @@
 //! Why a line of an answer is refused, as the line on the sink for errors says it.
 
-use run_shown::checked;
+use crate::shown::checked;
 use std::alloc::Global;
 use std::process::Abort;
 use std::test::Fail;

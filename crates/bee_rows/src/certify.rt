@@ -1,7 +1,7 @@
 //! Certify mode: refutations with hints and without, and the line that is refused.
 
+use crate::shown::{AMPLE, Wanted, run_files};
 use crate::wanted::shows;
-use run_shown::{AMPLE, Wanted, run_files};
 use std::alloc::Global;
 use std::process::Abort;
 use std::test::Fail;
@@ -24,6 +24,13 @@ const REFUTED: &str =
 const LEAST: &str =
     "bee 1\nOPTIMUM 1\na = true\nb = false\nn = 1\nledger\nsplit 3\nenc 1\nenc 2\nenc 4\nproof\n\
 9 3 0 4 6 2 0\nend\n";
+
+/// Any number, of which the least is its domain's: there is no lesser one, so the empty clause is among those that are
+/// to be refuted, as the first.
+const LOWEST: &str = "new_int(n,0,1) solve minimize n\n";
+
+/// The answer to it.
+const LOWEST_TOLD: &str = "bee 1\nOPTIMUM 0\nn = 0\nledger\nenc 1\nproof\nend\n";
 
 /// Texts that show that the first has no solution: without hints; with them; under other ids, with a clause that is
 /// deleted and used behind that; with hints that tell nothing and some behind the last; with carriage returns; the
@@ -57,18 +64,38 @@ static REFUSED: [(&str, u64); 14] = [
     ("5 d 1 0\n5 3 0 1 2 0\n", 2),
 ];
 
-/// Texts for the second, and the answer, or none and the line that is refused: with the least number, without and with
-/// hints; with a greater one, for which the refutation of fewer is none; with values that don't satisfy the clauses.
-static BESTS: [(&str, Option<&str>, u64); 5] = [
-    ("s SATISFIABLE\nv 1 -2 3 -4 0\n0\n", Some(LEAST), 0),
+/// A model, a text for it, and the answer, or none and the line that is refused: with the least number, without and
+/// with hints; with a greater one, for which the refutation of fewer is none; with values that don't satisfy the
+/// clauses; with a hint that names no clause.
+static BESTS: [(&str, &str, Option<&str>, u64); 8] = [
+    (FEWEST, "s SATISFIABLE\nv 1 -2 3 -4 0\n0\n", Some(LEAST), 0),
     (
+        FEWEST,
         "s SATISFIABLE\nv 1 -2 3 -4 0\n10 0 9 4 6 2 0\n",
         Some(LEAST),
         0,
     ),
-    ("s SATISFIABLE\nv 1 2 3 4 0\n0\n", None, 3),
-    ("s SATISFIABLE\nv 1 2 3 4 0\n10 0 9 4 6 2 0\n", None, 3),
-    ("s SATISFIABLE\nv -1 -2 -3 -4 0\n10 0 9 4 6 2 0\n", None, 2),
+    (FEWEST, "s SATISFIABLE\nv 1 2 3 4 0\n0\n", None, 3),
+    (
+        FEWEST,
+        "s SATISFIABLE\nv 1 2 3 4 0\n10 0 9 4 6 2 0\n",
+        None,
+        3,
+    ),
+    (
+        FEWEST,
+        "s SATISFIABLE\nv -1 -2 -3 -4 0\n10 0 9 4 6 2 0\n",
+        None,
+        2,
+    ),
+    (LOWEST, "s SATISFIABLE\nv -1 0\n0\n", Some(LOWEST_TOLD), 0),
+    (
+        LOWEST,
+        "s SATISFIABLE\nv -1 0\n2 0 1 0\n",
+        Some(LOWEST_TOLD),
+        0,
+    ),
+    (LOWEST, "s SATISFIABLE\nv -1 0\n2 0 2 0\n", None, 3),
 ];
 
 /// Refutations of the first, without hints and with them, and a digit for each length of their fronts, from 0 on: the
@@ -135,10 +162,10 @@ fn lines_are_refused(rt: HostRuntime) -> Result<(), Fail> {
 
 #[test]
 fn best_values_are_answers(rt: HostRuntime) -> Result<(), Fail> {
-    for (second, answer, line) in &BESTS {
+    for (model, second, answer, line) in &BESTS {
         match answer {
-            Some(answer) => written_row(&rt, rt.alloc(), FEWEST, second, answer)?,
-            None => refused_row(&rt, rt.alloc(), FEWEST, second, *line)?,
+            Some(answer) => written_row(&rt, rt.alloc(), model, second, answer)?,
+            None => refused_row(&rt, rt.alloc(), model, second, *line)?,
         }
     }
     Ok(())

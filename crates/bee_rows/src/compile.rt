@@ -2,8 +2,8 @@
 
 ghost use Rattle.std.specs.Prelude.{◌≤◌};
 
+use crate::shown::{AMPLE, Outside, Wanted, compile_over, run_over};
 use crate::wanted::{compile_shows, shows};
-use run_shown::{AMPLE, Outside, Wanted, compile_over, run_over};
 use std::alloc::{AllocError, Global};
 use std::process::Abort;
 use std::test::Fail;

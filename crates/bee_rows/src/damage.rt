@@ -3,9 +3,9 @@
 ghost use Rattle.std.specs.Prelude.{◌≤◌};
 
 use crate::lists_and_cores::{BOTH, CORE, LIST, PAIR};
+use crate::shown::{AMPLE, Outside, SOLVE, Shown, Wanted, run_files, run_over};
 use crate::solve::PIGEONS;
 use crate::wanted::shows;
-use run_shown::{AMPLE, Outside, SOLVE, Shown, Wanted, run_files, run_over};
 use std::alloc::{AllocError, Global};
 use std::process::Abort;
 use std::test::Fail;

@@ -1,7 +1,7 @@
 //! Decode mode.
 
+use crate::shown::{AMPLE, Shown, Wanted, compile_over, run_files};
 use crate::wanted::shows;
-use run_shown::{AMPLE, Shown, Wanted, compile_over, run_files};
 use std::alloc::{AllocError, Global};
 use std::process::Abort;
 use std::test::Fail;

@@ -2,8 +2,8 @@
 
 ghost use Rattle.std.specs.Prelude.{◌≤◌};
 
+use crate::shown::{AMPLE, Outside, Shown, Wanted, run_files};
 use crate::wanted::shows;
-use run_shown::{AMPLE, Outside, Shown, Wanted, run_files};
 use std::alloc::{AllocError, Global};
 use std::process::Abort;
 use std::test::Fail;

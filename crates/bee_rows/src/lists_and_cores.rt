@@ -1,7 +1,7 @@
 //! Lists of all solutions, cores, and what other solvers found: what is written, and what the checking modes say of it.
 
+use crate::shown::{AMPLE, Wanted, run_files};
 use crate::wanted::shows;
-use run_shown::{AMPLE, Wanted, run_files};
 use std::alloc::{AllocError, Global};
 use std::process::Abort;
 use std::test::Fail;

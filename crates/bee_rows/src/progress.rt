@@ -2,7 +2,7 @@
 
 ghost use Rattle.std.specs.Prelude.{◌≤◌};
 
-use run_shown::{AMPLE, Outside, Shown, run_over};
+use crate::shown::{AMPLE, Outside, Shown, run_over};
 use std::alloc::{AllocError, Global};
 use std::process::Abort;
 use std::test::Fail;

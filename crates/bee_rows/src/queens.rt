@@ -2,10 +2,10 @@
 
 ghost use Rattle.std.specs.Prelude.{◌≤◌};
 
+use crate::shown::{AMPLE, Shown, Wanted, compile_over, run_files};
 use crate::wanted::shows;
 use bee_text::{Lines, push_bytes, push_number, read_number, split_words};
 use bumblebee_reader::read_model;
-use run_shown::{AMPLE, Shown, Wanted, compile_over, run_files};
 use std::alloc::{AllocError, Global};
 use std::process::Abort;
 use std::test::Fail;

@@ -2,11 +2,11 @@
 
 ghost use Rattle.std.specs.Prelude.{◌≤◌};
 
+use crate::shown::owned_files;
 use bee_outside::{
     Failed, HostShelf, HostSink, MemShelf, MemSink, ReadText, Shelf, ShelfFault, Sink, read_all,
     write_all,
 };
-use run_shown::owned_files;
 use std::alloc::{AllocError, Global};
 use std::io::Write;
 use std::process::Abort;

@@ -1,7 +1,7 @@
 //! Solve mode, and check mode over what it writes.
 
+use crate::shown::{SOLVE, Shown, Wanted, checked, solved};
 use crate::wanted::{accepted, shows};
-use run_shown::{SOLVE, Shown, Wanted, checked, solved};
 use std::alloc::Global;
 use std::process::Abort;
 use std::test::Fail;

@@ -1,7 +1,7 @@
 //! Models with the whole texts that they are compiled to: what the names stand for, the steps, and the clauses.
 
+use crate::shown::Wanted;
 use crate::wanted::compile_shows;
-use run_shown::Wanted;
 use std::alloc::Global;
 use std::process::Abort;
 use std::test::Fail;

@@ -1,6 +1,6 @@
 //! Runs that are compared with what they are to show.
 
-use run_shown::{AMPLE, Shown, Wanted, acceptance, compile_over};
+use crate::shown::{AMPLE, Shown, Wanted, acceptance, compile_over};
 use std::alloc::Global;
 use std::process::Abort;
 use std::test::Fail;

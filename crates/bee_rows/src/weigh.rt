@@ -1,7 +1,7 @@
 //! Weigh mode.
 
+use crate::shown::{AMPLE, Wanted, compile_over, run_over};
 use crate::wanted::shows;
-use run_shown::{AMPLE, Wanted, compile_over, run_over};
 use std::alloc::Global;
 use std::process::Abort;
 use std::test::Fail;

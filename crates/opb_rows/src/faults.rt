@@ -50,7 +50,7 @@ static EARLY: [(&str, &str); 7] = [
 ];
 
 /// Numbers past their limit, and which of two faults is the first.
-static NUMBERS: [(&str, &str); 13] = [
+static NUMBERS: [(&str, &str); 15] = [
     ("1073741825 x1 >= 1 ;", "number 1"),
     ("-1073741825 x1 >= 1 ;", "number 1"),
     ("1 x1 >= 1073741825 ;", "number 1"),
@@ -72,6 +72,9 @@ static NUMBERS: [(&str, &str); 13] = [
     ("1 x1 x2 >= 1 ;\n1 x1 >= 1073741825 ;", "syntax 1"),
     ("1 x1 >= 1 ;\nx2\n1073741825", "syntax 2"),
     ("1 x1 >= 1073741825", "number 1"),
+    // A number past its limit where none fits.
+    ("1 1073741825 x1 >= 1 ;", "syntax 1"),
+    ("1 x1 >= 1 1073741825 ;", "syntax 1"),
 ];
 
 #[test]

@@ -1,6 +1,6 @@
 //! Texts of lists, and what comes of them.
 
-use crate::running::checked;
+use crate::certificates::checked_list;
 use std::alloc::Global;
 use std::process::Abort;
 use std::test::Fail;
@@ -13,8 +13,8 @@ fn check_row<R: Abort>(
     list: &str,
     want: &str,
 ) -> Result<(), Fail> {
-    let out = checked(alloc, model, list.as_bytes())?;
-    assert_eq!(rt; out.taken(), want.as_bytes(), "{list}");
+    let run = checked_list(alloc, model, list.as_bytes())?;
+    assert_eq!(rt; run.out.taken(), want.as_bytes(), "{list}");
     Ok(())
 }
 
@@ -131,9 +131,9 @@ fn cut_lists_are_refused(rt: HostRuntime) -> Result<(), Fail> {
     let bytes = BOTH.as_bytes();
     let mut line: u64 = 1;
     for count in 0..bytes.len() {
-        let out = checked(alloc, ONE, &bytes[..count])?;
+        let run = checked_list(alloc, ONE, &bytes[..count])?;
         let want = format!(in alloc; "REFUSED {line}\n")?;
-        assert_eq!(rt; out.taken(), want.as_bytes(), "{count}");
+        assert_eq!(rt; run.out.taken(), want.as_bytes(), "{count}");
         if bytes[count] == b'\n' {
             line = line.saturating_add(1);
         }

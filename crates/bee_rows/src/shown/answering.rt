@@ -1,7 +1,7 @@
 //! Solving a model, and checking an answer to it.
 
-use crate::outside::{AMPLE, Shown, run_files, run_over};
-use crate::wanted::Wanted;
+use crate::shown::outside::{AMPLE, Shown, run_files, run_over};
+use crate::shown::wanted::Wanted;
 use std::alloc::{AllocError, Global};
 
 /// The words that solve a model.

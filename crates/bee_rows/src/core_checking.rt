@@ -1,6 +1,6 @@
 //! Texts of cores, and what comes of them.
 
-use crate::running::checked;
+use crate::certificates::checked_core;
 use std::alloc::Global;
 use std::process::Abort;
 use std::test::Fail;
@@ -13,8 +13,8 @@ fn check_row<R: Abort>(
     core: &str,
     want: &str,
 ) -> Result<(), Fail> {
-    let (_end, out) = checked(alloc, model, core.as_bytes())?;
-    assert_eq!(rt; out.taken(), want.as_bytes(), "{core}");
+    let run = checked_core(alloc, model, core.as_bytes())?;
+    assert_eq!(rt; run.out.taken(), want.as_bytes(), "{core}");
     Ok(())
 }
 
@@ -213,9 +213,9 @@ fn cut_cores_are_refused(rt: HostRuntime) -> Result<(), Fail> {
     let bytes = CORE.as_bytes();
     let mut line: u64 = 1;
     for count in 0..bytes.len() {
-        let (_end, out) = checked(alloc, TWO, &bytes[..count])?;
+        let run = checked_core(alloc, TWO, &bytes[..count])?;
         let want = format!(in alloc; "REFUSED {line}\n")?;
-        assert_eq!(rt; out.taken(), want.as_bytes(), "{count}");
+        assert_eq!(rt; run.out.taken(), want.as_bytes(), "{count}");
         if bytes[count] == b'\n' {
             line = line.saturating_add(1);
         }
@@ -227,8 +227,8 @@ fn cut_cores_are_refused(rt: HostRuntime) -> Result<(), Fail> {
 #[test]
 fn heavy_models_are_refused(rt: HostRuntime) -> Result<(), Fail> {
     let heavy = "new_int(x,-1000000000,1000000000)\nsolve satisfy\n";
-    let (end, out) = checked(rt.alloc(), heavy, CORE.as_bytes())?;
-    assert_eq!(rt; end.as_str(), "TooHeavy(5999999998)");
-    assert_eq!(rt; out.taken().len(), 0);
+    let run = checked_core(rt.alloc(), heavy, CORE.as_bytes())?;
+    assert_eq!(rt; run.status, ("weight", 5_999_999_998));
+    assert_eq!(rt; run.out.taken().len(), 0);
     Ok(())
 }

@@ -1,6 +1,6 @@
 //! Rows of examples: what a compiled text says of its variables and clauses, and the verdict of an answer.
 
-use run_shown::{AMPLE, SOLVE, Shown, acceptance, compile_over, solved};
+use crate::shown::{AMPLE, SOLVE, Shown, acceptance, compile_over, solved};
 use std::alloc::Global;
 use std::process::Abort;
 use std::test::Fail;

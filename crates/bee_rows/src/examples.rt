@@ -2,7 +2,7 @@
 //! declarations, equations and clauses in `docs/CORES.md`; and a count so long that the sum of its halves is split.
 
 use crate::example_rows::{accepted, check, has_line};
-use run_shown::{AMPLE, SOLVE, Shown, compile_over, solved};
+use crate::shown::{AMPLE, SOLVE, Shown, compile_over, solved};
 use std::alloc::{AllocError, Global};
 use std::process::Abort;
 use std::test::Fail;

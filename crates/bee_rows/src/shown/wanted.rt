@@ -1,6 +1,6 @@
 //! What a run is to show.
 
-use crate::outside::Shown;
+use crate::shown::outside::Shown;
 
 /// What a run is to show.
 #[derive(Clone, Copy)]

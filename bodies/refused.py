@@ -1,0 +1,111 @@
+#!/usr/bin/env python3
+"""Tries wrong bodies that are no must-fail edits: refused.py [CRATE[/NAME] ..], all without words.
+
+Each stands in bodies/CRATE/NAME.edit, in the form of a must-fail edit, behind a line `rows: CRATE_OF_ROWS` where tests
+refuse it. It goes into a copy of the crates, and the tests of these rows are run without proof (`rt try --test`); where
+there is no such line only the prover refuses it, and `rt must-fail` tries it in that copy, over the libraries that
+stand proved in the repository. A line is printed for each: `refused` and by which tests, or `NOT REFUSED`, or why it
+could not be tried; and the processor's seconds. JOBS of them are tried side by side (one without it). It ends with 1
+where one was not refused. Wants python3 and rt.
+"""
+import os
+import re
+import resource
+import shutil
+import subprocess
+import sys
+import tempfile
+from concurrent.futures import ThreadPoolExecutor
+
+TOP = os.path.dirname(os.path.dirname(os.path.abspath(__file__)))
+ROWS = re.compile(r"^rows: (\w+)$", re.M)
+FAILED = re.compile(r"^test (\S+) \.\.\. (?!ok)", re.M)
+RESULT = re.compile(r"^test result: ", re.M)
+
+
+def changed(text, folder):
+    """The texts of the files that a body changes, by their paths."""
+    path, old, texts = "", "", {}
+    for line in text.splitlines():
+        word, _, rest = line.partition(": ")
+        if word == "file":
+            path = f"{folder}/{rest}"
+            with open(path, encoding="utf-8") as source:
+                texts.setdefault(path, source.read())
+        elif word == "old":
+            old = rest
+        elif line.startswith("new:"):
+            if texts[path].count(old) != 1:
+                raise ValueError(f"an old text stands in {path} {texts[path].count(old)} times")
+            texts[path] = texts[path].replace(old, rest)
+    return texts
+
+
+def said_in(folder, *words):
+    """What a command prints, where it is run in a folder, without its colours of text."""
+    how = {"cwd": folder, "stdin": subprocess.DEVNULL, "stdout": subprocess.PIPE, "stderr": subprocess.STDOUT}
+    return subprocess.run(words, **how, errors="replace", check=False).stdout
+
+
+def by_rows(rows, crate, text, room):
+    """What the tests of a crate of rows say of a body."""
+    for path, body in changed(text, f"{room}/crates/{crate}").items():
+        with open(path, "w", encoding="utf-8") as target:
+            target.write(body)
+    said = said_in(f"{room}/crates/{rows}", "rt", "try", "--test")
+    failed = FAILED.findall(said)
+    if failed:
+        return True, f"refused by {rows}: {', '.join(failed)}"
+    if RESULT.search(said):
+        return False, f"NOT REFUSED by {rows}"
+    return False, f"not tried by {rows}: {said.strip().splitlines()[-1:]}"
+
+
+def by_proof(crate, text, room):
+    """What the prover says of a body, which is the crate's only edit in the copy."""
+    os.makedirs(f"{room}/crates/{crate}/must-fail")
+    with open(f"{room}/crates/{crate}/must-fail/body.edit", "w", encoding="utf-8") as target:
+        target.write(text)
+    said = said_in(room, "rt", "must-fail", crate)
+    refused = re.search(r"refused, as it must be.*", said)
+    if refused:
+        return True, f"refused by the prover{refused[0][len('refused, as it must be'):]}"
+    return False, f"NOT REFUSED by the prover: {said.strip().splitlines()[-1:]}"
+
+
+def tried(crate, name):
+    """Whether a body is refused, and the line that says so."""
+    with open(f"{TOP}/bodies/{crate}/{name}.edit", encoding="utf-8") as source:
+        text = source.read()
+    rows = ROWS.search(text)
+    left_out = ["must-fail", "unproved", "*.log"] + ["out"] * bool(rows)
+    with tempfile.TemporaryDirectory(prefix="bodies-") as room:
+        shutil.copytree(f"{TOP}/crates", f"{room}/crates", ignore=shutil.ignore_patterns(*left_out))
+        for file in ("crates.txt", "HANDLES"):
+            shutil.copy(f"{TOP}/{file}", room)
+        is_refused, line = by_rows(rows[1], crate, text, room) if rows else by_proof(crate, text, room)
+    return is_refused, f"{crate}/{name}: {line}"
+
+
+def named(words):
+    """The bodies that the words name, by crate and name."""
+    for crate in sorted(os.listdir(f"{TOP}/bodies")):
+        if os.path.isdir(f"{TOP}/bodies/{crate}"):
+            for name in sorted(it[:-5] for it in os.listdir(f"{TOP}/bodies/{crate}") if it.endswith(".edit")):
+                if not words or crate in words or f"{crate}/{name}" in words:
+                    yield crate, name
+
+
+def main(words):
+    all_refused = True
+    with ThreadPoolExecutor(int(os.environ.get("JOBS", "1"))) as pool:
+        for is_refused, line in pool.map(lambda it: tried(*it), [*named(words)]):
+            print(line, flush=True)
+            all_refused = all_refused and is_refused
+    used = resource.getrusage(resource.RUSAGE_CHILDREN)
+    print(f"seconds of the processor: {used.ru_utime + used.ru_stime:.0f}")
+    return 0 if all_refused else 1
+
+
+if __name__ == "__main__":
+    sys.exit(main(sys.argv[1:]))

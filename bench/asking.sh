@@ -59,8 +59,8 @@ cat >"$folder/crates/asking/src/main.rt" <<'RT'
 #![tactic(auto)]
 
 use bee_compile::{Compiled, compile};
-use bumblebee_reader::Items;
-use core_forms::{Core, Rule, variables};
+use bumblebee_reader::ItemReader;
+use core_forms::{Core, Known, Rule, variables};
 use core_rules::FoundRun;
 use fixpoint_queue::Oracle;
 use ledger_text::Line;
@@ -94,13 +94,13 @@ impl<L: Ledger> Oracle<L> for Counting<'_> {
         &self,
         alloc: Global,
         core: &Core,
-        plain: bool,
+        known: Known,
         steps: &mut Steps<L>,
     ) -> Result<Option<FoundRun>, AllocError> {
         let vars = variables(alloc, core)?.len() as u64;
         self.asked.set(self.asked.get().saturating_add(1));
         self.looked.set(self.looked.get().saturating_add(vars));
-        let found = TableP.ask(alloc, core, plain, steps)?;
+        let found = TableP.ask(alloc, core, known, steps)?;
         if let Some(first) = &found {
             if !matches!(first.equation.rule, Rule::Table) {
                 self.looked.set(self.looked.get().saturating_add(vars));
@@ -170,7 +170,7 @@ fn replay(alloc: Global, lowered: Lowered, ledger: &[Line]) -> io::Result<Made> 
 
 /// The model that a text says.
 fn model_of(alloc: Global, text: &[u8]) -> Option<Model> {
-    let mut items = Items::new(text);
+    let mut items = ItemReader::new(text);
     let mut typing = Typing::new(alloc);
     while let Some(item) = items.next_item(alloc).ok()? {
         typing.take(alloc, &item).ok()?;

@@ -115,6 +115,10 @@ RT
 cat >"$bench/src/documents.rt" <<'RT'
 //! Documents of compilations that were given up, with a derivation that adds each clause once more.
 
+ghost use Rattle.std.specs.Prelude.{◌≡◌, IfOk, IfSome};
+ghost use Rattle.model_meaning.specs.WellTyped.{WellTyped};
+ghost use Rattle.model_meaning.specs.Limits.{InLimits};
+
 use answer_document::{Document, Verdict};
 use bee_compile::{Compiled, compile};
 use bee_list::Sequence;
@@ -161,6 +165,7 @@ fn copies(alloc: Global, clauses: &[Sequence<Lit>]) -> Result<Sequence<ProofLine
 pub(crate) fn given_up(alloc: Global, model: Model) -> Result<Option<Document>, AllocError>
     requires typed { WellTyped model }
     requires limits { InLimits model }
+    ensures { IfOk result (λ found. IfSome found (λ d. d.assignment ≡ None)) }
 {
     let Some(compiled) = compiled::<Brand>(alloc, Blank::new(1), model) else {
         return Ok(None);
@@ -177,7 +182,9 @@ pub(crate) fn given_up(alloc: Global, model: Model) -> Result<Option<Document>, 
 }
 
 /// A document with so many lines.
-pub(crate) fn long(alloc: Global, lines: usize) -> Result<Document, AllocError> {
+pub(crate) fn long(alloc: Global, lines: usize) -> Result<Document, AllocError>
+    ensures { IfOk result (λ d. d.assignment ≡ None) }
+{
     let mut ledger = Vec::new(alloc);
     for i in 0..lines {
         ledger.push(Line::Encode { id: i as u64 })?;

@@ -29,10 +29,11 @@
 #   greatest_word  an order of two words of digits, of which the first has its greatest digits
 #   few_names   an order of two long words over four names
 # Words name the families to be timed; without words all are. `measure.py` says what is printed, `models.py` has the
-# models. Wants python3.
+# models. BEE names another program that is timed. Wants python3.
 set -eu
 top=$(cd "$(dirname "${BASH_SOURCE[0]}")/.." && pwd)
-[ -n "${BEE_BUILT:-}" ] || "$top/bee" compile "$top/examples/pigeonhole.bee" >/dev/null
+program=${BEE:-$top/crates/bee/out/bee}
+[ -n "${BEE:-}" ] || "$top/bee" compile "$top/examples/pigeonhole.bee" >/dev/null
 families=(
   clauses:20000,40000,80000,160000,320000,520000
   leq_chain:32,64,128,256,512
@@ -69,4 +70,4 @@ for family in "${families[@]}"; do
     chosen+=("$family")
   fi
 done
-exec python3 "$top/bench/measure.py" "$top/crates/bee/out/bee" "${chosen[@]}"
+exec python3 "$top/bench/measure.py" "$program" "${chosen[@]}"

@@ -7,7 +7,7 @@
 #   pigeons     one pigeon more than holes
 # Words name the families to be timed; without words all are. SECONDS_EACH is the time that each run has at most (60).
 # BEE names the program, so that nothing is built. Wants python3; clasp and minisat+ (Debian's packages of these names)
-# are timed where they are.
+# are timed where they are. clasp reads no `<=`: of a file that has one it says that it is unknown at once.
 set -eu
 top=$(cd "$(dirname "${BASH_SOURCE[0]}")/.." && pwd)
 [ -n "${BEE:-}" ] || { BEE=$top/crates/bee/out/bee; "$top/bee" compile "$top/examples/pigeonhole.bee" >/dev/null; }

@@ -109,7 +109,7 @@ clauses() {
   mkdir "$folder/clauses"
   git init -q "$folder/clauses"
   tar -C "$top" --exclude=out -c crates crates.txt | tar -C "$folder/clauses" -x
-  echo 'watching: bee_text order_ints literal_trail clause_arena clause_rings sat_front drup_check' >>"$folder/clauses/crates.txt"
+  echo 'watching: bee_text order_ints literal_trail clause_arena clause_rings sat_front' >>"$folder/clauses/crates.txt"
   local bench=$folder/clauses/crates/watching rows=$top/crates/search_rows
   mkdir -p "$bench/src" "$bench/specs" "$bench/proofs/stores" "$bench/proofs/store" "$bench/proofs/read_store"
   cp -r "$rows/specs/." "$bench/specs/"
@@ -338,7 +338,7 @@ use Rattle.std.proofs.Common.{ℕ, zero, suc, ◌<◌, List, [], ◌∷◌, leng
 use Rattle.order_ints.specs.declared.literal.Lit.{Lit}
 use Rattle.order_ints.specs.OrderedClauses.{ClausesAscend}
 use Rattle.clause_rings.specs.Clauses.{IsApart}
-use Rattle.drup_check.proofs.Additions.{ascend-apart}
+use Rattle.clause_rings.proofs.Ascending.{ascend-apart}
 use Rattle.watching.proofs.store.Goals as goal
 
 clauses-apart : (cs : List (List Lit)) → ClausesAscend cs → (k : ℕ) → k < length cs → IsApart (get_or cs k [])

@@ -17,8 +17,8 @@ What is compared:
   a fence behind a block of commands: what it printed, or its end
   a fence's last comment: its verdict, and its values where they have no choice
   exit codes: 0; also 8 where a budget is named, and 10, 20 and 30 of other solvers, 1 of grep
-A command that isn't there is told and passed over. Wants python3 and git; the other solvers of the pages where they
-are to be run."""
+A command that isn't there is told and passed over; what it runs in its turn, as a jar behind `java` or `parallel` in a
+script, is taken for granted. Wants python3 and git; the other solvers of the pages where they are to be run."""
 import os, re, shutil, subprocess, sys, tempfile
 
 from trials import TOP, program

@@ -1,12 +1,11 @@
 //! Rows of the program's one call, over a shelf and sinks in memory: runs of each mode with all
-//! that they read, wrote and ended with, the words, and the outside itself; and whole models, with
-//! their solutions, the clauses that they are compiled to, and their answers.
+//! that they read, wrote and ended with.
 //!
 //! Here is shown what no contract says: the lines on standard error, that runs succeed where memory
 //! is there, and that the definitions say what is meant. There is a run of each mode in which each
-//! call of the outside fails in turn, and a model that is cut at each byte. The solutions of small
-//! models are told two times, by what the statements mean and through the compiled text, and the
-//! models of `examples/` are compiled and solved, with the verdicts that are known of them.
+//! call of the outside fails in turn, and a model that is cut at each byte. What compile mode makes
+//! of small models stands in `compile_rows`, and the models of `examples/` are tried as they stand
+//! by `python/test_model_files.py`.
 //!
 //! Contracts leave open in which order solutions are listed, and a walk lists them in ascending
 //! order of their values, so the rows of `listing` have them so. A model whose core is sought has one
@@ -14,13 +13,12 @@
 //! numbers of a core's statements, isn't compared, but checked. Texts that are to be refused are
 //! written by hand from the forms of a list and of a core, each with one cause.
 //!
-//! They stand apart from the crates of the program, so that proving them proves none of those anew.
-//! What a run is made of and how it is compared stand in `shown`, and a row is a line of a table.
-//! The scripts that fuzz the built program stand in `reading/` and are no part of the gate.
+//! They stand apart from the crates of the program, so that proving them proves none of those anew,
+//! and have no row that a lower crate serves as well: they are the last that the gate proves. What a
+//! run is made of and how it is compared stand in `shown`, and a row is a line of a table. The
+//! scripts that fuzz the built program stand in `reading/` and are no part of the gate.
 #![tactic(auto)]
 
-#[cfg(test)]
-mod boolean_models;
 #[cfg(test)]
 mod bounds;
 #[cfg(test)]
@@ -38,35 +36,17 @@ mod damage;
 #[cfg(test)]
 mod decode;
 #[cfg(test)]
-mod design_examples;
-#[cfg(test)]
 mod drup;
-#[cfg(test)]
-mod example_rows;
-#[cfg(test)]
-mod examples;
 #[cfg(test)]
 mod extracting;
 #[cfg(test)]
-mod integer_examples;
-#[cfg(test)]
-mod integer_models;
-#[cfg(test)]
-mod large_shops;
-#[cfg(test)]
-mod large_squares;
-#[cfg(test)]
 mod list_checking;
-#[cfg(test)]
-mod list_models;
-#[cfg(test)]
-mod listed_models;
 #[cfg(test)]
 mod listing;
 #[cfg(test)]
 mod lists_and_cores;
 #[cfg(test)]
-mod matrix_examples;
+mod long_counts;
 #[cfg(test)]
 mod opb;
 #[cfg(test)]
@@ -76,25 +56,13 @@ mod queens;
 #[cfg(test)]
 mod sat;
 #[cfg(test)]
-mod shelves;
-#[cfg(test)]
 mod shown;
 #[cfg(test)]
-mod solution_sets;
-#[cfg(test)]
 mod solve;
-#[cfg(test)]
-mod square_examples;
-#[cfg(test)]
-mod texts;
-#[cfg(test)]
-mod timetable_examples;
 #[cfg(test)]
 mod wanted;
 #[cfg(test)]
 mod weigh;
-#[cfg(test)]
-mod words;
 
 /// Does nothing: the tests are run by `rt test`. The crate is a program since no other crate uses it, so that no
 /// library is made of it.

@@ -10,5 +10,5 @@ mod outside;
 mod wanted;
 
 pub use answering::{SOLVE, acceptance, checked, solved};
-pub use outside::{AMPLE, Outside, Shown, compile_over, owned_files, run_files, run_over};
+pub use outside::{AMPLE, Outside, Shown, compile_over, run_files, run_over};
 pub use wanted::Wanted;

@@ -96,7 +96,7 @@ fn file(alloc: Global, name: &str, text: &[u8]) -> Result<(String, Vec<u8>), All
 }
 
 /// Texts under their names.
-pub fn owned_files(
+fn owned_files(
     alloc: Global,
     files: &[(&str, &[u8])],
 ) -> Result<Vec<(String, Vec<u8>)>, AllocError> {

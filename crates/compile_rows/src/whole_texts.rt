@@ -1,7 +1,6 @@
 //! Models with the whole texts that they are compiled to: what the names stand for, the steps, and the clauses.
 
-use crate::shown::Wanted;
-use crate::wanted::compile_shows;
+use crate::running::compiled;
 use std::alloc::Global;
 use std::process::Abort;
 use std::test::Fail;
@@ -209,16 +208,11 @@ static SUMS: [Row; 7] = [
     ),
 ];
 
-/// Compiles the models, each without a fault.
+/// Asserts what the models are compiled to.
 fn check(rt: &impl Abort, alloc: Global, rows: &[Row]) -> Result<(), Fail> {
-    for (model, compiled) in rows {
-        let wanted = Wanted {
-            status: ("done", 0),
-            code: 0,
-            out: compiled.as_bytes(),
-            err: b"",
-        };
-        compile_shows(rt, alloc, model, &wanted)?;
+    for (model, text) in rows {
+        let written = compiled(rt, alloc, model)?;
+        assert_eq!(rt; written.taken(), text.as_bytes(), "{model}");
     }
     Ok(())
 }

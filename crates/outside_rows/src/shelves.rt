@@ -2,7 +2,6 @@
 
 ghost use Rattle.std.specs.Prelude.{◌≤◌};
 
-use crate::shown::owned_files;
 use bee_outside::{
     Failed, HostShelf, HostSink, MemShelf, MemSink, ReadText, Shelf, ShelfFault, Sink, read_all,
     write_all,
@@ -17,12 +16,21 @@ fn numbers(alloc: Global, list: &[u64]) -> Result<Vec<u64>, AllocError> {
     Vec::from_slice(alloc, list)
 }
 
+/// A text under its name.
+fn file(alloc: Global, name: &str, text: &[u8]) -> Result<(String, Vec<u8>), AllocError> {
+    let name = String::from_str(alloc, name)?;
+    let text = Vec::from_slice(alloc, text)?;
+    Ok((name, text))
+}
+
 /// A shelf with `greeting`, which has eleven bytes, and `empty`.
 fn two_files(alloc: Global, step: usize, failing: &[u64]) -> Result<MemShelf, AllocError>
     requires { 1 ≤ step }
 {
     let failing = numbers(alloc, failing)?;
-    let files = owned_files(alloc, &[("greeting", b"hello world"), ("empty", b"")])?;
+    let greeting = file(alloc, "greeting", b"hello world")?;
+    let empty = file(alloc, "empty", b"")?;
+    let files = vec![in alloc; greeting, empty]?;
     Ok(MemShelf::with(files, step, failing))
 }
 

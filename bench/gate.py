@@ -86,9 +86,12 @@ def told(seen, begun):
 def main(words):
     root, seen, begun, taken = os.getcwd(), {}, time.monotonic(), stolen()
     command = subprocess.Popen(words or [".ci/run"])
-    while command.poll() is None:
-        look(command.pid, root, seen)
-        time.sleep(0.5)
+    try:
+        while command.poll() is None:
+            look(command.pid, root, seen)
+            time.sleep(0.5)
+    except KeyboardInterrupt:
+        command.wait()
     clock = time.monotonic() - begun
     say = lambda line: print(line, file=sys.stderr)
     say(f"gate.py: ended with {command.returncode} after {clock:.0f} s by the clock")

@@ -7,7 +7,7 @@ ghost use Rattle.clause_rings.specs.Clauses.{AreApartIn};
 use crate::words::{cnf, literal};
 use learning_solver::{Found, Solver};
 use order_ints::{Cnf, Lit};
-use proof_check::push_line;
+use proof_check::{ProofLine, push_line};
 use std::alloc::{AllocError, Global};
 use std::process::Abort;
 use std::test::Fail;
@@ -19,6 +19,15 @@ pub(super) fn told(alloc: Global, found: &Found) -> Result<String, AllocError> {
         Found::Refuted(id) => format!(in alloc; "refuted by {id}\n"),
         Found::Spent => format!(in alloc; "spent\n"),
     }
+}
+
+/// An answer and a log.
+fn told_with(alloc: Global, found: &Found, log: &[ProofLine]) -> Result<Vec<u8>, AllocError> {
+    let mut text = told(alloc, found)?.into_bytes();
+    for line in log {
+        push_line(&mut text, line)?;
+    }
+    Ok(text)
 }
 
 /// Asks a new solver, and tells the answer and the log.
@@ -36,11 +45,7 @@ fn asked(
 {
     let mut solver = Solver::with(alloc, cnf)?;
     let found = solver.solve(Some(assumption), budget, restart)?;
-    let mut text = told(alloc, &found)?.into_bytes();
-    for line in solver.log() {
-        push_line(&mut text, line)?;
-    }
-    Ok(text)
+    told_with(alloc, &found, solver.log())
 }
 
 /// How many variables there are, the clauses, the assumption, the budget, and what is told.

@@ -139,6 +139,24 @@ fn has_entries(db: &ClauseDb, rows: &[(i32, u32, u64)]) -> bool {
     db.trail().len() == rows.len()
 }
 
+/// Makes a move.
+fn move_row<R: Abort>(rt: &R, alloc: Global, bench: &mut Bench, row: &Row) -> Result<(), Fail> {
+    let (step, conflict, level, entries) = row;
+    let found = bench.play(alloc, *step)?;
+    assert_eq!(rt; found, Some(*conflict), "{step:?}");
+    assert_eq!(rt; bench.db.level(), *level, "{step:?}");
+    assert!(rt; has_entries(&bench.db, entries), "{step:?}");
+    Ok(())
+}
+
+/// Makes moves one after another.
+fn play_all<R: Abort>(rt: &R, alloc: Global, bench: &mut Bench, rows: &[Row]) -> Result<(), Fail> {
+    for row in rows {
+        move_row(rt, alloc, bench, row)?;
+    }
+    Ok(())
+}
+
 /// Makes moves over a CNF of six variables.
 fn moves_row<R: Abort>(
     rt: &R,
@@ -148,13 +166,7 @@ fn moves_row<R: Abort>(
 ) -> Result<(), Fail> {
     let cnf = cnf(alloc, 6, clauses)?;
     let mut bench = Bench::of(alloc, ClauseDb::with(alloc, &cnf)?)?;
-    for (step, conflict, level, entries) in rows {
-        let found = bench.play(alloc, *step)?;
-        assert_eq!(rt; found, Some(*conflict), "{step:?}");
-        assert_eq!(rt; bench.db.level(), *level, "{step:?}");
-        assert!(rt; has_entries(&bench.db, entries), "{step:?}");
-    }
-    Ok(())
+    play_all(rt, alloc, &mut bench, rows)
 }
 
 #[test]
@@ -165,7 +177,12 @@ fn moves_by_hand(rt: HostRuntime) -> Result<(), Fail> {
 }
 
 /// How many clauses come.
-const MANY: u64 = 1_000_000;
+const MANY: u32 = 1_000_000;
+
+/// The ids behind those that come, and behind half as many more.
+const FIRST_END: u64 = 1_000_001;
+
+const SECOND_END: u64 = 1_500_001;
 
 /// Adds clauses of three literals under ids below a bound.
 fn add_many(db: &mut ClauseDb, ids: std::ops::Range<u64>) -> Result<bool, AllocError> {
@@ -202,11 +219,11 @@ fn delete_half(db: &mut ClauseDb) {
 /// Many clauses come, half of them go, and half as many come. The answer is the references before and after, and the
 /// room in between.
 fn references_and_room(db: &mut ClauseDb) -> Result<(u32, u32, u32), Fail> {
-    come(db, 1..MANY + 1)?;
+    come(db, 1..FIRST_END)?;
     let before = db.references();
     delete_half(db);
     let room = db.spare_clauses();
-    come(db, MANY + 1..MANY + 1 + MANY / 2)?;
+    come(db, FIRST_END..SECOND_END)?;
     Ok((before, db.references(), room))
 }
 
@@ -216,7 +233,7 @@ fn deleted_clauses_give_room(rt: HostRuntime) -> Result<(), Fail> {
     let cnf = cnf(rt.alloc(), 1_002, &[])?;
     let mut db = ClauseDb::with(rt.alloc(), &cnf)?;
     let (before, after, room) = references_and_room(&mut db)?;
-    assert!(rt; u64::from(room) >= MANY / 2);
+    assert!(rt; room >= MANY / 2);
     assert_eq!(rt; after, before);
     Ok(())
 }

@@ -15,14 +15,11 @@ use std::alloc::{AllocError, Global};
 use std::test::Fail;
 
 /// How many holes there are; of the pigeons there is one more.
-const HOLES: i32 = 6;
+const HOLES: u8 = 6;
 
 /// The number of the variable of a pigeon in a hole, both counted from 0.
-fn seat(pigeon: i32, hole: i32) -> i32 {
-    pigeon
-        .wrapping_mul(HOLES)
-        .wrapping_add(hole)
-        .wrapping_add(1)
+fn seat(pigeon: u8, hole: u8) -> i32 {
+    i32::from(pigeon) * 6 + i32::from(hole) + 1
 }
 
 /// Each pigeon sits in a hole.
@@ -42,7 +39,7 @@ fn seated(alloc: Global) -> Result<Vec<Sequence<Lit>>, AllocError> {
 fn push_rivals(
     alloc: Global,
     clauses: &mut Vec<Sequence<Lit>>,
-    hole: i32,
+    hole: u8,
 ) -> Result<(), AllocError> {
     for pigeon in 0..HOLES {
         for rival in pigeon + 1..HOLES + 1 {
@@ -116,9 +113,12 @@ fn are_met(
 
 /// Behind how many lines a log first deletes.
 fn first_deletion(lines: &[ProofLine]) -> Option<usize> {
-    lines
-        .iter()
-        .position(|line| matches!(line, ProofLine::Delete { .. }))
+    for k in 0..lines.len() {
+        if let ProofLine::Delete { .. } = &lines[k] {
+            return Some(k);
+        }
+    }
+    None
 }
 
 /// Asks to the end. The answer is whether there is a refutation, and a checker takes the log.
@@ -131,6 +131,17 @@ fn is_refuted(alloc: Global, cnf: &Cnf, solver: &mut Solver<'_>) -> Result<bool,
     Ok(matches!(last, Some(Found::Refuted(_))) && are_taken(alloc, cnf, solver.log())?)
 }
 
+/// Asks in pieces. The answer is behind how many lines the log first deletes, where it does so.
+fn deletion_in_pieces(solver: &mut Solver<'_>, row: Row) -> Result<Option<usize>, Fail>
+    requires { solver.old.cnf.vars ≡ 42 }
+    ensures { solver.new.cnf ≡ solver.old.cnf }
+{
+    if are_met(solver, row.0, row.1, row.3)? && is_met(solver, row.2, row.3)? {
+        return Ok(first_deletion(solver.log()));
+    }
+    Err(Fail::new("a budget wasn't met"))
+}
+
 /// Asks in pieces, and then to the end. The answer is behind how many lines the log first deletes, where it does so in
 /// the pieces.
 fn pieces_row(alloc: Global, cnf: &Cnf, row: Row) -> Result<Option<usize>, Fail>
@@ -139,14 +150,11 @@ fn pieces_row(alloc: Global, cnf: &Cnf, row: Row) -> Result<Option<usize>, Fail>
     requires apart { AreApartIn cnf.now }
 {
     let mut solver = Solver::with(alloc, cnf)?;
-    if !are_met(&mut solver, row.0, row.1, row.3)? || !is_met(&mut solver, row.2, row.3)? {
-        return Err(Fail::new("a budget wasn't met"));
+    let first = deletion_in_pieces(&mut solver, row)?;
+    if is_refuted(alloc, cnf, &mut solver)? {
+        return Ok(first);
     }
-    let first = first_deletion(solver.log());
-    if !is_refuted(alloc, cnf, &mut solver)? {
-        return Err(Fail::new("no refutation"));
-    }
-    Ok(first)
+    Err(Fail::new("no refutation"))
 }
 
 #[test]

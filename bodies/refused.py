@@ -1,12 +1,12 @@
 #!/usr/bin/env python3
 """Tries wrong bodies that are no must-fail edits: refused.py [CRATE[/NAME] ..], all without words.
 
-Each stands in bodies/CRATE/NAME.edit, in the form of a must-fail edit, behind a line `rows: CRATE_OF_ROWS` where tests
-refuse it. It goes into a copy of the crates, and the tests of these rows are run without proof (`rt try --test`); where
-there is no such line only the prover refuses it, and `rt must-fail` tries it in that copy, over the libraries that
-stand proved in the repository. A line is printed for each: `refused` and by which tests, or `NOT REFUSED`, or why it
-could not be tried; and the processor's seconds. JOBS of them are tried side by side (one without it). It ends with 1
-where one was not refused. Wants python3 and rt.
+Each stands in bodies/CRATE/NAME.edit, in the form of a must-fail edit, behind a line `rows: CRATE_OF_ROWS` where rows
+refuse it. It goes into a copy of the crates, and the tests of these rows are run without proof (`rt try --test`), or,
+where they are transcripts, the program that plays them. Where there is no such line only the prover refuses it, and
+`rt must-fail` tries it in that copy, over the libraries that stand proved in the repository. A line is printed for
+each: `refused` and by which tests or runs, or `NOT REFUSED`, or why it could not be tried; and the processor's seconds.
+JOBS of them are tried side by side (one without it). It ends with 1 where one was not refused. Wants python3 and rt.
 """
 import os
 import re
@@ -21,6 +21,9 @@ TOP = os.path.dirname(os.path.dirname(os.path.abspath(__file__)))
 ROWS = re.compile(r"^rows: (\w+)$", re.M)
 FAILED = re.compile(r"^test (\S+) \.\.\. (?!ok)", re.M)
 RESULT = re.compile(r"^test result: ", re.M)
+# What a program of rows says of a run that its transcript has otherwise, and of a transcript.
+OTHERWISE = re.compile(r"^before line \d+: (.*?): ", re.M)
+PLAYED = re.compile(r"^\d+ runs of (\S+)$", re.M)
 
 
 def changed(text, folder):
@@ -47,16 +50,32 @@ def said_in(folder, *words):
     return subprocess.run(words, **how, errors="replace", check=False).stdout
 
 
+def by_program(folder):
+    """What fails of a program's rows, and whether all of its transcripts were played."""
+    with open(f"{folder}/args", encoding="utf-8") as source:
+        names = source.read().split()
+    data = [word for name in names for word in ("--data", f"{name}=data/{name}")]
+    said = said_in(folder, "rt", "try", "--steps", "1", *data, "--", *names)
+    return said, OTHERWISE.findall(said), PLAYED.findall(said) == names
+
+
+def by_tests(folder):
+    """What fails of a crate's tests, and whether all of them were run."""
+    said = said_in(folder, "rt", "try", "--test")
+    return said, FAILED.findall(said), bool(RESULT.search(said))
+
+
 def by_rows(rows, crate, text, room):
-    """What the tests of a crate of rows say of a body."""
+    """What a crate of rows says of a body."""
     for path, body in changed(text, f"{room}/crates/{crate}").items():
         with open(path, "w", encoding="utf-8") as target:
             target.write(body)
-    said = said_in(f"{room}/crates/{rows}", "rt", "try", "--test")
-    failed = FAILED.findall(said)
+    folder = f"{room}/crates/{rows}"
+    is_program = os.path.exists(f"{folder}/src/main.rt")
+    said, failed, is_whole = by_program(folder) if is_program else by_tests(folder)
     if failed:
         return True, f"refused by {rows}: {', '.join(failed)}"
-    if RESULT.search(said):
+    if is_whole:
         return False, f"NOT REFUSED by {rows}"
     return False, f"not tried by {rows}: {said.strip().splitlines()[-1:]}"
 

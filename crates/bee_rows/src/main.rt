@@ -2,68 +2,44 @@
 //! that they read, wrote and ended with.
 //!
 //! Here is shown what no contract says: the lines on standard error, that runs succeed where memory
-//! is there, and that the definitions say what is meant. There is a run of each mode in which each
-//! call of the outside fails in turn, and a model that is cut at each byte. What compile mode makes
-//! of small models stands in `compile_rows`, and the models of `examples/` are tried as they stand
-//! by `python/test_model_files.py`.
+//! is there, and that the definitions say what is meant. A row is some lines of a transcript in
+//! `data/`, as they would be typed and shown at a terminal; `transcript` says how they are read. So a
+//! row costs no proof, and whoever writes one needs no toolchain. `args` names the transcripts, and
+//! `stdout` says how many runs each makes; what is shown otherwise than its transcript says comes
+//! before that, so that the gate refuses it.
 //!
 //! Contracts leave open in which order solutions are listed, and a walk lists them in ascending
-//! order of their values, so the rows of `listing` have them so. A model whose core is sought has one
+//! order of their values, so the rows of lists have them so. A model whose core is sought has one
 //! alone, so that it is known which. What stands behind the solutions of a list, or behind the
 //! numbers of a core's statements, isn't compared, but checked. Texts that are to be refused are
 //! written by hand from the forms of a list and of a core, each with one cause.
 //!
-//! They stand apart from the crates of the program, so that proving them proves none of those anew,
-//! and have no row that a lower crate serves as well: they are the last that the gate proves. What a
-//! run is made of and how it is compared stand in `shown`, and a row is a line of a table. The
-//! scripts that fuzz the built program stand in `reading/` and are no part of the gate.
+//! What compile mode makes of small models stands in `compile_rows`. The models of `examples/`,
+//! boards of queens, and texts of many bytes are tried by `python/`, over the program that was built;
+//! the scripts that fuzz it stand in `reading/`, and are no part of the gate.
 #![tactic(auto)]
 
-#[cfg(test)]
-mod bounds;
-#[cfg(test)]
-mod causes;
-#[cfg(test)]
-mod certificates;
-#[cfg(test)]
-mod certify;
-#[cfg(test)]
-mod compile;
-#[cfg(test)]
-mod core_checking;
-#[cfg(test)]
+mod comparison;
 mod damage;
-#[cfg(test)]
-mod decode;
-#[cfg(test)]
-mod drup;
-#[cfg(test)]
-mod extracting;
-#[cfg(test)]
-mod list_checking;
-#[cfg(test)]
-mod listing;
-#[cfg(test)]
-mod lists_and_cores;
-#[cfg(test)]
-mod long_counts;
-#[cfg(test)]
-mod opb;
-#[cfg(test)]
-mod progress;
-#[cfg(test)]
-mod queens;
-#[cfg(test)]
-mod sat;
-#[cfg(test)]
-mod shown;
-#[cfg(test)]
-mod solve;
-#[cfg(test)]
-mod wanted;
-#[cfg(test)]
-mod weigh;
+mod fronts;
+mod outside;
+mod run;
+mod stage;
+mod transcript;
 
-/// Does nothing: the tests are run by `rt test`. The crate is a program since no other crate uses it, so that no
-/// library is made of it.
-fn main() {}
+use crate::transcript::play;
+use std::{env, fs, io};
+
+/// Plays the transcript in a file, and prints what is shown otherwise, and how many runs there were.
+fn play_file(rt: &HostRuntime, name: &str) -> io::Result<()> {
+    let text = fs::read_to_string(rt, name)?;
+    let told = play(rt.alloc(), text.as_str())?;
+    print!(rt; "{told}{name}\n")
+}
+
+fn main(rt: HostRuntime) -> io::Result<()> {
+    for name in env::args(&rt)?.skip(1) {
+        play_file(&rt, name.as_str())?;
+    }
+    Ok(())
+}

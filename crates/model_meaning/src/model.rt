@@ -7,7 +7,7 @@ use value_lists::Values;
 
 /// A model: what it declares, what it states, and what it seeks. The items of its text are numbered
 /// from 1, and each declaration and each statement has the number of its item.
-#[derive(Debug, Clone, Drop)]
+#[derive(Debug, Drop)]
 pub struct Model {
     /// The declared names, in the order of their declaration. A place is the place in this list,
     /// counted from 0.
@@ -19,7 +19,7 @@ pub struct Model {
 }
 
 /// A declared name.
-#[derive(Debug, Clone, Drop)]
+#[derive(Debug, Drop)]
 pub struct Decl {
     /// The number of the item that declares it.
     pub number: u64,
@@ -30,7 +30,7 @@ pub struct Decl {
 }
 
 /// What a name stands for.
-#[derive(Debug, Clone, Drop)]
+#[derive(Debug, Drop)]
 pub enum Kind {
     /// A Boolean.
     Bool,
@@ -49,7 +49,7 @@ pub enum Kind {
 }
 
 /// A statement with its number.
-#[derive(Debug, Clone, Drop)]
+#[derive(Debug, Drop)]
 pub struct Stmt {
     /// The number of its item.
     pub number: u64,
@@ -71,7 +71,7 @@ pub enum Goal {
 }
 
 /// A value for each declaration of a model, in their order.
-#[derive(Debug, Clone, Drop)]
+#[derive(Debug, Drop)]
 pub struct Assignment {
     /// The values; that of a Boolean is 0 or 1.
     pub values: Sequence<i64>,

@@ -31,7 +31,7 @@ pub enum IntTerm {
 /// line has several statements, its variant begins with the statement's name and with what the name says, which
 /// was read once. Parts that a statement may leave out stand apart, so that a statement that has none of them is
 /// small.
-#[derive(Debug, Clone, Drop)]
+#[derive(Debug, Drop)]
 pub enum What {
     /// `bool2int`: a Boolean as an integer.
     BoolToInt {

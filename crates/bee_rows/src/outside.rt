@@ -1,4 +1,5 @@
-//! A run over a shelf and sinks in memory.
+//! A run over a shelf and sinks in memory. How often and where the outside fails is `Outside`, a plain
+//! value that a row changes at will.
 
 ghost use Rattle.std.specs.Prelude.{◌≤◌};
 
@@ -76,6 +77,22 @@ fn described(status: &Status) -> (&'static str, u128) {
         Status::Write => ("write", 0),
         Status::Memory => ("memory", 0),
         Status::Unknown(count) => ("unknown", u128::from(*count)),
+    }
+}
+
+/// Bytes as a text, to be shown.
+pub fn text_of(bytes: &[u8]) -> &str {
+    str::from_utf8(bytes).unwrap_or("bytes that are no text")
+}
+
+impl Shown {
+    /// The exit code, and the status in words with its number, if it has one.
+    pub fn end(&self, alloc: Global) -> Result<String, AllocError> {
+        let code = self.code;
+        match self.status {
+            (word, 0) => format!(in alloc; "{code} {word}"),
+            (word, number) => format!(in alloc; "{code} {word} {number}"),
+        }
     }
 }
 
@@ -161,7 +178,7 @@ fn run_on(
 }
 
 /// Runs the words over a shelf on which texts stand under their names.
-pub fn run_files(
+fn run_files(
     alloc: Global,
     words: &[&str],
     files: &[(&str, &[u8])],
@@ -174,26 +191,28 @@ pub fn run_files(
     run_on(alloc, &words, &mut shelf, outside)
 }
 
-/// Runs the words over a shelf on which the model stands as `m.bee`.
-pub fn run_over(
-    alloc: Global,
-    words: &[&str],
-    model: &[u8],
-    outside: Outside<'_>,
-) -> Result<Shown, AllocError>
-    requires { 1 ≤ outside.step }
-{
-    run_files(alloc, words, &[("m.bee", model)], outside)
+/// The words of a run, and the texts that they name.
+#[derive(Drop)]
+pub struct Call<'a> {
+    pub words: Vec<&'a str>,
+    pub texts: Vec<(&'a str, &'a [u8])>,
 }
 
-/// Compiles a model.
-pub fn compile_over(alloc: Global, model: &str, outside: Outside<'_>) -> Result<Shown, AllocError>
-    requires { 1 ≤ outside.step }
-{
-    run_over(
-        alloc,
-        &["bee", "compile", "m.bee"],
-        model.as_bytes(),
-        outside,
-    )
+impl<'a> Call<'a> {
+    /// Runs the words over the texts.
+    pub fn run(&self, alloc: Global, outside: Outside<'_>) -> Result<Shown, AllocError>
+        requires { 1 ≤ outside.step }
+    {
+        run_files(alloc, self.words.as_slice(), self.texts.as_slice(), outside)
+    }
+
+    /// The text of a name; nothing where no text has it.
+    pub fn text(&self, name: &str) -> &'a [u8] {
+        for (other, text) in self.texts.as_slice() {
+            if *other == name {
+                return text;
+            }
+        }
+        b""
+    }
 }

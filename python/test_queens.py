@@ -20,7 +20,8 @@ def board(size: int) -> str:
     rows = range(1, size + 1)
     lines = []
     for row in rows:
-        lines += [f"new_int(q{row},1,{size})", f"new_int(a{row},{1 + row},{size + row})", f"int_plus(q{row},{row},a{row})"]
+        lines.append(f"new_int(q{row},1,{size})")
+        lines += [f"new_int(a{row},{1 + row},{size + row})", f"int_plus(q{row},{row},a{row})"]
         lines += [f"new_int(d{row},{1 - row},{size - row})", f"int_plus(q{row},-{row},d{row})"]
     for letter in "qad":
         names = ",".join(f"{letter}{row}" for row in rows)

@@ -15,7 +15,7 @@
 //! written by hand from the forms of a list and of a core, each with one cause.
 //!
 //! What compile mode makes of small models stands in `compile_rows`. The models of `examples/`,
-//! boards of queens, and a model that is cut are tried by `python/`, over the program that was built;
+//! boards of queens, and texts of many bytes are tried by `python/`, over the program that was built;
 //! the scripts that fuzz it stand in `reading/`, and are no part of the gate.
 #![tactic(auto)]
 

@@ -88,17 +88,6 @@ impl<'a> Stage<'a> {
         };
     }
 
-    /// Fills the text up with blanks to a number of bytes.
-    fn fill(&mut self, number: &str) -> Result<(), AllocError> {
-        let length = number.parse::<usize>().unwrap_or(0);
-        if let Some((_, text)) = self.texts.last_mut() {
-            let more = length.saturating_sub(text.len());
-            let blanks = vec![in self.alloc; b' '; more]?;
-            text.extend_from_slice(blanks.as_slice())?;
-        }
-        Ok(())
-    }
-
     /// Makes the run that was begun, if one was.
     fn end_run(&mut self) -> Result<(), AllocError> {
         if self.run.typed.is_empty() {
@@ -148,7 +137,6 @@ impl<'a> Stage<'a> {
         match sign {
             "@" => self.begin_text(rest),
             "$" => self.begin_run(rest),
-            "&" => self.fill(rest),
             "!" => push_line(&mut self.run.err, rest),
             "=" => {
                 self.run.end = rest;

@@ -5,7 +5,6 @@
 //! - `@ NAME`: a text of this name stands on the shelf from here on. The lines behind that begin with
 //!   two blanks are its lines;
 //! - `\`: the last of these lines has no line feed;
-//! - `& NUMBER`: blanks behind the text fill it up to so many bytes;
 //! - `$ WORDS`: a run of `bee` with these words. The lines behind that begin with two blanks are what
 //!   it writes. With `> NAME` behind the words that stands on the shelf from here on;
 //! - `...`: what the run writes goes on, and what comes isn't compared;

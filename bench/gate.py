@@ -9,7 +9,7 @@ minutes of the processor by kind, of all processes, and of those that the host o
 each crate, the dearest first, with the seconds of each kind, the minutes from when to when it was proved, and the most
 memory that one of its processes had. What lives for less than half a second may be missed. It wants a machine that does
 nothing else, a clean clone, and nothing kept of earlier runs. Wants python3 and Linux."""
-import os, subprocess, sys, time
+import os, signal, subprocess, sys, time
 
 TICK = os.sysconf("SC_CLK_TCK")
 PAGE = os.sysconf("SC_PAGE_SIZE")
@@ -91,6 +91,8 @@ def main(words):
             look(command.pid, root, seen)
             time.sleep(0.5)
     except KeyboardInterrupt:
+        # What was seen is told, however often it is interrupted before the command ends.
+        signal.signal(signal.SIGINT, signal.SIG_IGN)
         command.wait()
     clock = time.monotonic() - begun
     say = lambda line: print(line, file=sys.stderr)

@@ -71,7 +71,7 @@ fn front_run<'x>(
     }
 }
 
-/// What comes otherwise of a run with each front of the text in turn.
+/// What comes otherwise of a run with each front of the text in turn. A text that isn't there is told, as it has none.
 pub fn fronts_end(
     alloc: Global,
     call: &Call<'_>,
@@ -79,6 +79,9 @@ pub fn fronts_end(
     whole: &Wanted<'_>,
 ) -> Result<Option<String>, AllocError> {
     let text = call.text(cut.name);
+    if text.is_empty() {
+        return Ok(Some(String::from_str(alloc, "has no text to cut")?));
+    }
     for length in 0..text.len().max(cut.lines.len()) {
         let front = text.get(..length).unwrap_or(text);
         let told = front_run(alloc, call, cut, front, whole)?;

@@ -60,6 +60,7 @@ fn fault_described(fault: &TypeFault) -> (&'static str, u128) {
     }
 }
 
+/// A status in words, and its number where it has one.
 fn described(status: &Status) -> (&'static str, u128) {
     match status {
         Status::Done => ("done", 0),

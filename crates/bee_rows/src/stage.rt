@@ -100,7 +100,9 @@ impl<'a> Stage<'a> {
             run.try_call(self.alloc, &call)?
         };
         self.runs = self.runs.saturating_add(1);
-        self.texts.push((kept, out))?;
+        if !kept.is_empty() {
+            self.texts.push((kept, out))?;
+        }
         match told {
             Some(what) => self.tell(words, what.as_str()),
             None => Ok(()),

@@ -1,21 +1,21 @@
-//! Rows worked out by hand: documents as whole texts, and documents for models, with the verdict
-//! that is taken, or the line that fails and why.
+//! Rows worked out by hand: answers as they are written, what the answers to models with each kind
+//! of goal say, and budgets that are spent or suffice.
 //!
-//! Each kind of line has its rows for each cause by which it fails, and a document of each verdict
-//! is cut at each byte. The documents are written by hand from `docs/FORMATS.md`, so that the
-//! checker is shown to take what the page says and not what `bee solve` happens to write; what that
-//! writes is checked in `bee_rows`.
+//! The optimum of a model is worked out by hand; the row has the verdict and the numbers, and the
+//! values where one answer alone is right, since the order of decisions is free. A budget that is
+//! spent is told with as many clauses, and one that suffices never is. Oracles that tell no equations
+//! are asked here, too: the answers must be the same. Which texts are taken for answers, and which
+//! line of another one fails, the whole program shows: that is a transcript of `bee_rows`.
 //!
-//! They stand apart from the checker, so that proving them proves it not anew. A row is a line of a
-//! table. A further kind of line wants a row in which it stands, and one for each way in which it
-//! fails.
+//! They stand apart from `answer_document` and `decode_minimize`, so that proving them proves these
+//! not anew. A row is a line of a table, and one function takes a row and compares.
 #![tactic(auto)]
 
 #[cfg(test)]
-mod checked;
+mod answers;
 #[cfg(test)]
-mod documents;
+mod models;
 #[cfg(test)]
-mod misfits;
+mod optima;
 #[cfg(test)]
 mod written;

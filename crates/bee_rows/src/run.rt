@@ -30,14 +30,14 @@ pub struct Run<'a> {
     pub err: Vec<u8>,
 }
 
-/// Pushes a line. A carriage return at its end is written out.
+/// Pushes a line. A carriage return at its end is written out, and so is that its end is behind a blank.
 pub fn push_line(text: &mut Vec<u8>, line: &str) -> Result<(), AllocError> {
-    match line.strip_suffix("\\r") {
-        Some(front) => {
-            text.extend_from_slice(front.as_bytes())?;
-            text.push(b'\r')?;
-        }
-        None => text.extend_from_slice(line.as_bytes())?,
+    if let Some(front) = line.strip_suffix("\\r") {
+        text.extend_from_slice(front.as_bytes())?;
+        text.push(b'\r')?;
+    } else {
+        let front = line.strip_suffix("\\e").unwrap_or(line);
+        text.extend_from_slice(front.as_bytes())?;
     }
     text.push(b'\n')?;
     Ok(())

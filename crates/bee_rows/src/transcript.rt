@@ -24,9 +24,9 @@
 //! - `: DIGITS`: for the lengths from 0 on, the line at which a text that is cut so ends the run; with
 //!   0 it shows what is written behind it.
 //!
-//! `\r` at the end of a line stands for a carriage return. A run is compared with all that stands
-//! behind it. What is shown otherwise is told with the number of the line up to which the transcript
-//! was read.
+//! `\r` at the end of a line stands for a carriage return, and `\e` for nothing, so that it is seen
+//! where a line ends in a blank. A run is compared with all that stands behind it. What is shown
+//! otherwise is told with the number of the line up to which the transcript was read.
 
 use crate::stage::Stage;
 use std::alloc::{AllocError, Global};

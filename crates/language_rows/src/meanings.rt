@@ -1,6 +1,6 @@
 //! A statement with assignments under which it holds, and under which it doesn't.
 
-use crate::verdicts::model;
+use crate::typed::model;
 use bee_list::Sequence;
 use std::alloc::Global;
 use std::process::Abort;

@@ -1,7 +1,7 @@
 //! What a text's model is, which assignments are in its domains, and which statement is the first that doesn't hold.
 
 use crate::meanings::assignment;
-use crate::verdicts::model;
+use crate::typed::model;
 use bee_list::Sequence;
 use bumblebee_reader::{Name, read_model};
 use std::alloc::{AllocError, Global};

@@ -59,10 +59,30 @@ pub(super) static BY_TABLES: [Row; 6] = [
     (0, &[], "", "0:; next 1; least none none; cnf 0"),
 ];
 
-/// Where nothing is told, the cores are split and encoded as they stand.
-pub(super) static BY_SILENCE: [Row; 1] = [(
-    2,
-    &["Clause -1", "Parity even 1,2"],
-    "enc 1; enc 2",
-    "2: 1 2; next 3; least none none; cnf 2 (-1) (1 -2) (-1 2)",
-)];
+/// Where nothing is told, the cores are split and encoded as they stand. A clause of no member ends nothing then.
+pub(super) static BY_SILENCE: [Row; 4] = [
+    (
+        2,
+        &["Clause -1", "Parity even 1,2"],
+        "enc 1; enc 2",
+        "2: 1 2; next 3; least none none; cnf 2 (-1) (1 -2) (-1 2)",
+    ),
+    (
+        2,
+        &["Ladder 0..2@1", "EqR F 0..2@1 1"],
+        "enc 1; enc 2",
+        "2: 1 2; next 3; least none none; cnf 2 (1 -2) (-1 2)",
+    ),
+    (
+        2,
+        &["Count 1,2 1"],
+        "split 1; enc 2",
+        "2: 1 2; next 3; least none none; cnf 2 (1 2) (-1 -2)",
+    ),
+    (
+        1,
+        &["Clause none", "Clause 1"],
+        "enc 1; enc 2",
+        "1: 1; next 3; least none none; cnf 1 () (1)",
+    ),
+];

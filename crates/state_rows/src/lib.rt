@@ -1,6 +1,6 @@
 //! Rows over the public calls of the crates whose values change in place: nodes moved between
 //! rings, classes merged and walked, occurrences that are handed on, and the steps of a compilation
-//! with their faults and refused memory.
+//! with their faults, refused memory, and the lines of a ledger that tell them.
 //!
 //! Moves of rings and merges of classes are also tried at random, beside a plain reckoning; and a
 //! worklist is asked with all rules, with none, and with one equation that is told once. Three things
@@ -16,6 +16,8 @@
 mod classes;
 #[cfg(test)]
 mod compilations;
+#[cfg(test)]
+mod ledger_lines;
 #[cfg(test)]
 mod ledgers;
 #[cfg(test)]

@@ -1,4 +1,4 @@
-use Rattle.optimum_rows.proofs.answers.answered.Given as goal
+use Rattle.answer_rows.proofs.answers.answered.Given as goal
 
 -- the counter is that of the new ledger
 abbrev pub ghosts-answer_with : goal.ghosts-answer_with

@@ -1,4 +1,4 @@
-//! What comes of a document, in words.
+//! Models that are in the limits of a text.
 
 ghost use Rattle.std.specs.Prelude.{◌≡◌, IfOk, map};
 ghost use Rattle.std.specs.List.{list_all};
@@ -8,7 +8,6 @@ ghost use Rattle.model_meaning.specs.WellTyped.{WellTyped};
 ghost use Rattle.model_meaning.specs.Limits.{InLimits};
 
 use bumblebee_reader::read_model;
-use ledger_check::{CheckFault, check};
 use model_meaning::{Decl, Model, in_limits};
 use std::alloc::Global;
 use std::test::Fail;
@@ -50,15 +49,4 @@ pub(super) fn small_model(alloc: Global, text: &str) -> Result<Model, Fail>
         return Err(Fail::from("a line feed in a name"));
     }
     Ok(model)
-}
-
-/// What comes of a document for a model: the verdict, or the number of the line that fails, and why it does.
-pub(super) fn answer(alloc: Global, model: &str, document: &[u8]) -> Result<String, Fail> {
-    let model = small_model(alloc, model)?;
-    match check(alloc, &model, document) {
-        Ok(verdict) => Ok(format!(in alloc; "{verdict:?}")?),
-        Err(CheckFault::Refused { line, why }) => Ok(format!(in alloc; "{line} {why:?}")?),
-        Err(CheckFault::TooHeavy(weight)) => Ok(format!(in alloc; "weight {weight}")?),
-        Err(CheckFault::Memory) => Ok(String::from_str(alloc, "memory")?),
-    }
 }

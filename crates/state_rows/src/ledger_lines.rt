@@ -1,4 +1,4 @@
-//! The texts of ledger lines.
+//! Lines of a ledger as texts, both ways.
 
 use core_forms::{Equation, Rule};
 use ledger_text::{Line, read_step, write_step};

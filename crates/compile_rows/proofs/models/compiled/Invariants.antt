@@ -1,5 +1,0 @@
-use Rattle.compile_rows.proofs.models.compiled.Given as goal
-
--- the counter is that of the new ledger
-abbrev pub ghosts-compile_with : goal.ghosts-compile_with
-ghosts-compile_with a = record { name = a.blank.name; parts = a.blank.parts }

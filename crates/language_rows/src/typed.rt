@@ -1,0 +1,12 @@
+//! The typed model of a text.
+
+use bumblebee_reader::read_model;
+use std::alloc::Global;
+use std::test::Fail;
+use typed_model::{Model, check_types};
+
+/// The model of a text.
+pub(super) fn model(alloc: Global, text: &str) -> Result<Model, Fail> {
+    let syntax = read_model(alloc, text.as_bytes())?;
+    Ok(check_types(alloc, &syntax)?)
+}

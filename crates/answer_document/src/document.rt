@@ -7,7 +7,7 @@ use model_meaning::Assignment;
 use proof_check::ProofLine;
 
 /// An answer with its certificate.
-#[derive(Debug, Drop)]
+#[derive(Drop)]
 pub struct Document {
     /// What is answered.
     pub verdict: Verdict,

@@ -20,7 +20,7 @@ use model_meaning::{Assignment, Decl, Model};
 use std::alloc::{AllocError, Global};
 
 /// What another solver's text is imported as.
-#[derive(Debug, Drop)]
+#[derive(Drop)]
 pub enum Imported {
     /// A valid answer with this verdict.
     Answer(Verdict, Vec<u8>),

@@ -32,7 +32,7 @@ pub(crate) struct Task {
 }
 
 /// What a text comes to.
-#[derive(Debug, Drop)]
+#[derive(Drop)]
 pub(crate) enum Found {
     /// It shows a verdict, with an assignment where it tells values, and by this derivation.
     Shown(Verdict, Option<Assignment>, Sequence<ProofLine>),

@@ -11,7 +11,7 @@ use sat_front::CnfTextFault;
 use text_modes::{End, Outcome};
 
 /// How a run ends.
-#[derive(Debug, Drop)]
+#[derive(Drop)]
 pub enum Status {
     /// The whole text was written and flushed.
     Done,

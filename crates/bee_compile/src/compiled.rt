@@ -7,7 +7,7 @@ use order_ints::Cnf;
 use typed_model::Decl;
 
 /// A model as clauses, what its names stand for in them, and how they came about.
-#[derive(Debug, Drop)]
+#[derive(Drop)]
 pub struct Compiled {
     /// The clauses, put in order.
     pub cnf: Cnf,

@@ -15,7 +15,7 @@ use std::marker::Model;
 /// Texts in memory. It gives at most so many bytes a call as its step says, and the calls whose numbers
 /// are listed fail. Calls are counted from 1; every call from number 18,446,744,073,709,551,615 on has
 /// that number. A name that no file has fails. It takes no memory.
-#[derive(Debug, Drop)]
+#[derive(Drop)]
 pub struct MemShelf {
     // The bytes left of each file, in reverse order: the next one stands last.
     files: Vec<(String, Vec<u8>)>,

@@ -15,7 +15,7 @@ use std::marker::Model;
 /// `put` and `flush` whose numbers are listed fail. Both are counted together, from 1; every call from
 /// number 18,446,744,073,709,551,615 on has that number. Where its room is full, a piece with bytes
 /// fails; one without never does. Its calls take no memory.
-#[derive(Debug, Drop)]
+#[derive(Drop)]
 pub struct MemSink {
     // It has the capacity of the room from the start.
     taken: Vec<u8>,

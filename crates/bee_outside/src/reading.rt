@@ -13,7 +13,7 @@ use std::alloc::{AllocError, Global};
 const PIECE: usize = 65_536;
 
 /// What was read under a name.
-#[derive(Debug, Drop)]
+#[derive(Drop)]
 pub enum ReadText {
     /// All that was left: its end was seen.
     Whole(Vec<u8>),

@@ -7,7 +7,7 @@ ghost use Rattle.bee_text.specs.Lines.{IsLine, lines_of};
 use std::marker::Model;
 
 /// A line of a text, without the line feed that ends it.
-#[derive(Clone, Copy, Debug)]
+#[derive(Clone, Copy)]
 pub struct TextLine<'a> {
     /// The number of the line, from 1.
     pub number: usize,
@@ -16,7 +16,7 @@ pub struct TextLine<'a> {
 }
 
 /// A reader of a text's lines. It copies nothing, and passes over each byte once.
-#[derive(Debug, Drop)]
+#[derive(Drop)]
 pub struct Lines<'a> {
     left: &'a [u8],
     count: usize,

@@ -11,7 +11,7 @@ use std::marker::Model;
 /// between them, and so have a blank and an end of the text: what a caller takes for a word it tests
 /// by [`is_word`]. It copies nothing, and passes over each byte once. A clause sees it as the list of
 /// the pieces that are left.
-#[derive(Debug, Drop)]
+#[derive(Drop)]
 pub struct Words<'a> {
     left: Option<&'a [u8]>,
 }

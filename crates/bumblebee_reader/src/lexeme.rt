@@ -4,7 +4,7 @@ ghost use Rattle.std.specs.Prelude.{◌≡◌};
 ghost use Rattle.bumblebee_reader.specs.Bytes.{is_letter, is_digit, is_word};
 
 /// One of the six signs.
-#[derive(Clone, Copy, Debug, PartialEq, Eq)]
+#[derive(Clone, Copy, PartialEq, Eq)]
 pub enum Sign {
     /// `(`
     OpenCall,
@@ -21,7 +21,7 @@ pub enum Sign {
 }
 
 /// A token, whose bytes are lent by the text.
-#[derive(Clone, Copy, Debug)]
+#[derive(Clone, Copy)]
 pub enum Lexeme<'a> {
     /// A name.
     Word(&'a [u8]),

@@ -4,14 +4,14 @@ use crate::name::Name;
 use bee_list::Sequence;
 
 /// A model text: its items, in order.
-#[derive(Debug, Clone, Drop)]
+#[derive(Drop)]
 pub struct Syntax {
     /// The items, which are numbered from 1.
     pub items: Sequence<Item>,
 }
 
 /// One item of a text.
-#[derive(Debug, Clone, Drop)]
+#[derive(Drop)]
 pub enum Item {
     /// A name other than `solve` and `then` with one or more arguments in parentheses: a declaration or a statement.
     Call {
@@ -32,7 +32,7 @@ pub enum Item {
 }
 
 /// An argument of a call.
-#[derive(Debug, Clone, Drop)]
+#[derive(Drop)]
 pub enum Arg {
     /// A term.
     One(Term),
@@ -41,7 +41,7 @@ pub enum Arg {
 }
 
 /// A term of a call.
-#[derive(Debug, Clone, Drop)]
+#[derive(Drop)]
 pub enum Term {
     /// A name.
     Plain(Name),
@@ -52,7 +52,7 @@ pub enum Term {
 }
 
 /// What a model seeks.
-#[derive(Clone, Copy, Debug, PartialEq, Eq)]
+#[derive(Clone, Copy, PartialEq, Eq)]
 pub enum GoalKind {
     /// Any solution.
     Satisfy,

@@ -18,7 +18,7 @@ use std::alloc::{AllocError, Global};
 use std::marker::Model;
 
 /// Clauses by reference. Four bytes for each literal, 25 for each clause.
-#[derive(Debug, Drop)]
+#[derive(Drop)]
 pub struct ClauseArena {
     codes: Vec<u32>,
     spans: Vec<Span>,

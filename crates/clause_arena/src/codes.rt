@@ -8,7 +8,7 @@ ghost use Rattle.clause_arena.specs.Codes.{code_of, lit_of};
 use order_ints::Lit;
 
 /// Where the literals of a clause stand in the arena.
-#[derive(Clone, Copy, Debug)]
+#[derive(Clone, Copy)]
 pub struct Span {
     /// The place of the first one.
     pub start: u32,

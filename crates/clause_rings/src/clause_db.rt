@@ -27,7 +27,7 @@ pub type ClauseRef = u32;
 
 /// Clauses with ids, a trail with levels and reasons, and watches. At each moment, and for each level below the current
 /// one, no live clause is false or unit under the trail's prefix of that level.
-#[derive(Debug, Drop)]
+#[derive(Drop)]
 pub struct ClauseDb {
     watches: Watches,
 }

@@ -13,7 +13,7 @@ use literal_trail::LiteralTrail;
 use order_ints::Lit;
 
 /// What a clause shows of which a watched literal has become false.
-#[derive(Clone, Copy, Debug)]
+#[derive(Clone, Copy)]
 pub enum Look {
     /// The other watched literal is true.
     Holds(Lit),

@@ -21,7 +21,7 @@ use order_ints::Lit;
 
 /// The clauses, the trail, the rings of watches, a blocker for each node, and how many entries of the trail are worked
 /// off.
-#[derive(Debug, Drop)]
+#[derive(Drop)]
 pub struct Watches {
     /// The clauses.
     pub arena: ClauseArena,

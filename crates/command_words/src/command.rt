@@ -3,7 +3,7 @@
 use search_options::SearchOptions;
 
 /// How a model is solved.
-#[derive(Clone, Copy, Debug, PartialEq, Eq)]
+#[derive(Clone, Copy, PartialEq, Eq)]
 pub struct Options {
     /// How its search is made.
     pub search: SearchOptions,
@@ -13,7 +13,7 @@ pub struct Options {
 
 /// A command of the program. How a search is made may stand with each mode; a mode that doesn't search has no use for
 /// it. That its progress is told stands with a mode that makes one search.
-#[derive(Clone, Copy, Debug, PartialEq, Eq)]
+#[derive(Clone, Copy, PartialEq, Eq)]
 pub enum Command<'a> {
     /// The model is compiled to clauses.
     Compile {

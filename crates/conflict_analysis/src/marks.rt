@@ -11,7 +11,7 @@ use std::alloc::{AllocError, Global};
 use std::marker::Model;
 
 /// What is known of a variable in an analysis.
-#[derive(Clone, Copy, Debug)]
+#[derive(Clone, Copy)]
 pub enum Mark {
     /// Nothing is.
     Blank,
@@ -30,7 +30,7 @@ pub enum Mark {
 }
 
 /// A mark for each variable, blank at first.
-#[derive(Debug, Drop)]
+#[derive(Drop)]
 pub struct Marks {
     cells: Vec<Mark>,
     touched: Vec<u32>,

@@ -20,7 +20,7 @@ use clause_arena::Literals;
 use std::alloc::{AllocError, Global};
 
 /// A variable that is sought, and the place of its reason from which on literals are to be looked at.
-#[derive(Clone, Copy, Debug)]
+#[derive(Clone, Copy)]
 pub struct Frame {
     /// The variable.
     pub var: u32,
@@ -30,7 +30,7 @@ pub struct Frame {
 
 /// What is known of the variables that were looked at, those that are sought, and those that are implied, in an
 /// order in which each stands behind those that its reason needs.
-#[derive(Debug, Drop)]
+#[derive(Drop)]
 pub struct Minimiser {
     /// What is known.
     pub marks: Marks,

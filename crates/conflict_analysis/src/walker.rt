@@ -23,7 +23,6 @@ use std::marker::Model;
 
 /// What analyses use, kept from one to the next: some ten bytes for each variable. It shows what the last one
 /// found.
-#[derive(Debug)]
 pub struct Walker {
     work: Work,
     lits: Vec<Lit>,

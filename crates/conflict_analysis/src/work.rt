@@ -26,7 +26,7 @@ use smallvec::SmallVec;
 use std::alloc::{AllocError, Global};
 
 /// What is marked in an analysis.
-#[derive(Debug, Drop)]
+#[derive(Drop)]
 pub struct Work {
     /// What is met and what is resolved.
     pub met: Marks,

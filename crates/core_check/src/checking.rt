@@ -38,7 +38,7 @@ use step_kernel::State;
 const MOST_WEIGHT: u128 = 67_108_864;
 
 /// What comes of the text of a core.
-#[derive(Clone, Copy, Debug, PartialEq, Eq)]
+#[derive(Clone, Copy, PartialEq, Eq)]
 pub enum CoreJudgement {
     /// It is that of a core, with this verdict.
     Valid(CoreVerdict),

@@ -17,7 +17,7 @@ use std::alloc::{AllocError, Global};
 use std::cell::Cell;
 
 /// Which line is wanted next.
-#[derive(Clone, Copy, Debug, PartialEq, Eq)]
+#[derive(Clone, Copy, PartialEq, Eq)]
 pub(crate) enum Stage {
     /// The version of the form.
     Version,
@@ -41,7 +41,7 @@ pub(crate) struct Head {
 }
 
 /// What the first lines come to.
-#[derive(Clone, Copy, Debug, PartialEq, Eq)]
+#[derive(Clone, Copy, PartialEq, Eq)]
 pub(crate) enum Front {
     /// The line of this number is the first that fails.
     Fails(u64),

@@ -35,7 +35,7 @@ use std::sync::ledger::Ledger;
 const MOST_WEIGHT: u128 = 67_108_864;
 
 /// What is extracted from a model that was used up, and the model's declarations.
-#[derive(Debug, Drop)]
+#[derive(Drop)]
 pub struct ExtractedCore {
     /// The core, or a solution, or how far the search came.
     pub document: CoreDocument,

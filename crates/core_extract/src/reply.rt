@@ -40,7 +40,7 @@ pub(crate) struct Asker<'a, F, W: CoreWatcher> {
 }
 
 /// Which way a model was compiled, and what was derived from its clauses.
-#[derive(Debug, Drop)]
+#[derive(Drop)]
 pub struct Certificate {
     /// The steps of the compilation.
     pub ledger: Sequence<Line>,
@@ -49,7 +49,7 @@ pub struct Certificate {
 }
 
 /// What is replied to a question.
-#[derive(Debug, Drop)]
+#[derive(Drop)]
 pub enum Reply {
     /// The model has this solution.
     Solved(Assignment),

@@ -26,7 +26,7 @@ use order_ints::{Atom, OrdInt, resolve};
 use std::alloc::{AllocError, Global};
 
 /// What stood at the edge of a core.
-#[derive(Debug, Drop)]
+#[derive(Drop)]
 pub enum Edge {
     /// Nothing that changed.
     Same,
@@ -37,7 +37,7 @@ pub enum Edge {
 }
 
 /// What is known of a core.
-#[derive(Debug, Clone, Copy)]
+#[derive(Clone, Copy)]
 pub enum Known {
     /// Nothing.
     Nothing,

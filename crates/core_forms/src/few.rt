@@ -12,7 +12,7 @@ use order_ints::{Atom, OrdInt};
 use std::marker::Model;
 
 /// At most eight variables, ascending. They take no memory, and a clause sees them as a list.
-#[derive(Debug, Drop)]
+#[derive(Drop)]
 pub struct FewVars {
     vars: [u32; 8],
     count: usize,

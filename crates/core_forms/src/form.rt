@@ -12,7 +12,6 @@ use order_ints::{Atom, OrdInt};
 /// A constraint over literals and integers in the order encoding, in one of sixteen forms. Each form
 /// also says that all its integers are ordered. What only greater forms hold stands apart, so that a
 /// core takes at most 48 bytes beside its lists and integers.
-#[derive(Debug)]
 pub enum Core {
     /// The integer is ordered.
     Ladder(Apart<OrdInt>),

@@ -12,7 +12,7 @@ use std::alloc::{AllocError, Global};
 use std::marker::Model;
 
 /// What the members of a sum add up to, and how wide those are that stand before the last one.
-#[derive(Debug, Clone, Copy)]
+#[derive(Clone, Copy)]
 pub struct Totals {
     /// The least values, added up.
     pub low: i128,
@@ -23,7 +23,7 @@ pub struct Totals {
 }
 
 /// A list, with what its members add up to where that is known.
-#[derive(Debug, Drop)]
+#[derive(Drop)]
 struct Listed {
     ints: Sequence<OrdInt>,
     totals: Option<Totals>,
@@ -31,7 +31,7 @@ struct Listed {
 
 /// The members of a sum. Beside the list stands what they add up to, where that is no greater than a machine's number,
 /// so that what the others leave one of them is known in constant time, also of what is left of a list that is split.
-#[derive(Debug, Drop)]
+#[derive(Drop)]
 pub struct Summands {
     inner: Box<Listed>,
 }

@@ -6,7 +6,7 @@ use order_ints::{Atom, OrdInt};
 
 /// What a core of a form that may be compound held. A core itself cannot be taken apart by value outside
 /// this crate.
-#[derive(Debug, Drop)]
+#[derive(Drop)]
 pub enum Taken {
     /// The members of a parity, and whether the number of true ones is odd.
     Xor(Sequence<Atom>, bool),

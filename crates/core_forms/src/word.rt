@@ -12,7 +12,7 @@ use std::alloc::{AllocError, Global};
 use std::marker::Model;
 
 /// The letters of a word: each integer is the truth of a name, with one base and one weight.
-#[derive(Debug, Drop)]
+#[derive(Drop)]
 pub struct Letters {
     names: FewVars,
     base: i128,
@@ -20,7 +20,7 @@ pub struct Letters {
 }
 
 /// A list, with its letters where it has few.
-#[derive(Debug, Drop)]
+#[derive(Drop)]
 struct Lettered {
     ints: Sequence<OrdInt>,
     letters: Option<Letters>,
@@ -29,7 +29,7 @@ struct Lettered {
 /// A word of an order of words. Beside the list stand its letters, where each integer is the truth of one of at most
 /// eight names: then a valuation in which these are equally true gives all integers one value, also in what is left of
 /// a word that is split, and that is seen without a walk along it.
-#[derive(Debug, Drop)]
+#[derive(Drop)]
 pub struct Word {
     inner: Box<Lettered>,
 }

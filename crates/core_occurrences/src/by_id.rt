@@ -16,7 +16,7 @@ use std::marker::Model;
 /// For each variable, numbered from 1 on, the ids of the cores that it occurs in, from 1 on, each once. Occurrences
 /// stay with a body, and a body has an id, so that all those of two ids are exchanged in constant time. Sixteen
 /// bytes for each occurrence that there is room for, eight for each variable, twelve for each id.
-#[derive(Debug, Drop)]
+#[derive(Drop)]
 pub struct Occurrences {
     held: BodyOccurrences,
     bodies: Vec<u32>,

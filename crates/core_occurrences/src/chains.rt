@@ -7,7 +7,7 @@ ghost use Rattle.core_occurrences.specs.Chains.{AreChains, IsPassed, OwnsNone, I
 use std::mem::size_of;
 
 /// A node beside its links in a ring.
-#[derive(Clone, Copy, Debug)]
+#[derive(Clone, Copy)]
 pub struct Node {
     /// The body that it belongs to, 0 where it is free.
     pub owner: u32,

@@ -16,7 +16,7 @@ use std::marker::Model;
 /// For each variable, numbered from 1 on, the bodies of the cores that it occurs in, from 1 on, each once, in the
 /// order in which these came. Sixteen bytes for each occurrence that there is room for, eight for each
 /// variable, four for each body.
-#[derive(Debug, Drop)]
+#[derive(Drop)]
 pub struct BodyOccurrences {
     rings: Rings,
     nodes: Vec<Node>,

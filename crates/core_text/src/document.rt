@@ -7,7 +7,7 @@ use model_meaning::Assignment;
 use proof_check::ProofLine;
 
 /// A verdict on a model and what shows it.
-#[derive(Debug, Drop)]
+#[derive(Drop)]
 pub struct CoreDocument {
     /// What is said.
     pub verdict: CoreVerdict,

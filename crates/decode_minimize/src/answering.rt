@@ -32,7 +32,7 @@ use std::sync::ledger::Ledger;
 use step_kernel::State;
 
 /// How large a CNF is.
-#[derive(Clone, Copy, Debug, PartialEq, Eq)]
+#[derive(Clone, Copy, PartialEq, Eq)]
 pub struct CnfSize {
     /// The number of its variables.
     pub variables: u32,
@@ -41,7 +41,7 @@ pub struct CnfSize {
 }
 
 /// An answer to a model that was used up, and the model's declarations.
-#[derive(Debug, Drop)]
+#[derive(Drop)]
 pub struct AnsweredModel {
     /// The answer.
     pub document: Document,

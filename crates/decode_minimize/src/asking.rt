@@ -16,7 +16,7 @@ use search_watcher::Watcher;
 use std::alloc::{AllocError, Global};
 
 /// How a search for something better ended.
-#[derive(Clone, Copy, Debug, PartialEq, Eq)]
+#[derive(Clone, Copy, PartialEq, Eq)]
 pub enum Ended {
     /// Nothing is better, and the log shows it.
     Shown,
@@ -25,7 +25,7 @@ pub enum Ended {
 }
 
 /// What a round came to.
-#[derive(Debug, Drop)]
+#[derive(Drop)]
 pub enum Round {
     /// Truth values that satisfy the clauses and break the bound.
     Better(Sequence<bool>),

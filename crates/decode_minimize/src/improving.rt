@@ -22,7 +22,7 @@ use std::alloc::AllocError;
 
 /// What is sought: the best value of an integer, whose variables a view reads; and the names by which solutions are
 /// told.
-#[derive(Clone, Copy, Debug)]
+#[derive(Clone, Copy)]
 pub struct Sought<'a> {
     /// The integer.
     pub integer: &'a OrdInt,
@@ -35,7 +35,7 @@ pub struct Sought<'a> {
 }
 
 /// The best solution so far.
-#[derive(Debug, Drop)]
+#[derive(Drop)]
 pub struct Best {
     /// Truth values of all variables.
     pub values: Sequence<bool>,

@@ -13,7 +13,7 @@ use model_decode::StoreReading;
 use order_ints::{Atom, MapValue, OrdInt};
 
 /// Which value is sought.
-#[derive(Clone, Copy, Debug, PartialEq, Eq)]
+#[derive(Clone, Copy, PartialEq, Eq)]
 pub enum Direction {
     /// The least one.
     Least,

@@ -33,7 +33,7 @@ pub struct Seeker<'a> {
 }
 
 /// The log of a seeker, and its incumbent. None makes one but a seeker.
-#[derive(Debug, Drop)]
+#[derive(Drop)]
 pub struct SeekerLog {
     lines: Sequence<ProofLine>,
     incumbent: Option<i64>,

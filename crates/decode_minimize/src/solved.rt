@@ -12,7 +12,7 @@ use proof_check::ProofLine;
 use std::alloc::Global;
 
 /// The names of a model, what they stand for, and the store by which that is read.
-#[derive(Clone, Copy, Debug)]
+#[derive(Clone, Copy)]
 pub struct Names<'a> {
     /// The memory for what is made of them.
     pub alloc: Global,
@@ -27,7 +27,7 @@ pub struct Names<'a> {
 }
 
 /// An answer without its ledger.
-#[derive(Debug, Drop)]
+#[derive(Drop)]
 pub struct Solved {
     /// What is answered.
     pub verdict: Verdict,
@@ -40,7 +40,7 @@ pub struct Solved {
 }
 
 /// What came of the rounds of an objective, of which a solution is known.
-#[derive(Debug, Drop)]
+#[derive(Drop)]
 pub struct Progress {
     /// The derivation, with the value of the last solution that was found.
     pub proof: SeekerLog,
@@ -51,7 +51,7 @@ pub struct Progress {
 }
 
 /// What came of the rounds of a first objective.
-#[derive(Debug, Drop)]
+#[derive(Drop)]
 pub enum First {
     /// There is no solution.
     Refuted(Sequence<ProofLine>),

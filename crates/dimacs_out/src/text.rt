@@ -6,7 +6,7 @@ use name_map::MapEntry;
 use order_ints::Cnf;
 
 /// What a compiled text holds.
-#[derive(Debug, Drop)]
+#[derive(Drop)]
 pub struct CnfText {
     /// The declared names, each once, and what they stand for.
     pub entries: Sequence<MapEntry>,

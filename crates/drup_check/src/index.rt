@@ -12,7 +12,7 @@ use order_ints::Lit;
 use std::alloc::{AllocError, Global};
 
 /// Where a clause stands, and how often it was noted beyond the first time.
-#[derive(Clone, Copy, Debug)]
+#[derive(Clone, Copy)]
 struct Place {
     reference: ClauseRef,
     copies: u64,

@@ -14,7 +14,7 @@ use sat_front::atoms_of;
 use std::alloc::{AllocError, Global};
 
 /// What comes of a clause that is added to those of a store.
-#[derive(Clone, Copy, Debug)]
+#[derive(Clone, Copy)]
 pub enum Kept {
     /// It has a literal and its negation, and is not stored.
     Idle,

@@ -27,7 +27,7 @@ pub(crate) struct Tiers {
 }
 
 /// What a trial of a clause says.
-#[derive(Clone, Copy, Debug)]
+#[derive(Clone, Copy)]
 pub(crate) enum Trial {
     /// The clauses show it.
     Shown,

@@ -1,7 +1,7 @@
 //! What stands against a line of a proof.
 
 /// What stands against a line of a proof.
-#[derive(Clone, Copy, Debug, PartialEq, Eq)]
+#[derive(Clone, Copy, PartialEq, Eq)]
 pub enum RefusedProof {
     /// It is no clause over the variables of the CNF that unit propagation shows, and no deletion.
     Unshown,

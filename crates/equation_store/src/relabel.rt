@@ -25,7 +25,7 @@ pub enum Merged {
 }
 
 /// A variable whose class gets a new label.
-#[derive(Clone, Copy, Debug)]
+#[derive(Clone, Copy)]
 pub struct Change {
     /// The variable, which is its own label so far.
     pub loser: u32,

@@ -21,7 +21,7 @@ use std::mem::size_of;
 /// Equations between literals: each variable has a label, a constant or a literal of a variable that is
 /// its own label, and is as true as its label. The variables whose labels are literals of the same
 /// variable are a class, and stand in one ring. It takes 20 bytes for each variable.
-#[derive(Debug, Drop)]
+#[derive(Drop)]
 pub struct EqStore {
     /// The label of each variable.
     labels: Vec<Atom>,

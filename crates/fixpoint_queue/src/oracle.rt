@@ -50,7 +50,7 @@ pub trait Oracle<L: Ledger>: Copy {
 }
 
 /// Tells nothing. It is for tests.
-#[derive(Clone, Copy, Debug)]
+#[derive(Clone, Copy)]
 pub struct Silent;
 
 impl<L: Ledger> Oracle<L> for Silent {

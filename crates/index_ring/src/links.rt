@@ -8,7 +8,7 @@ ghost use Rattle.index_ring.specs.Links.{sentinel, alone, IsPlace, NextSet, Prev
 pub const FIRST_SENTINEL: u32 = 1 << 31;
 
 /// The places beside a place.
-#[derive(Clone, Copy, Debug)]
+#[derive(Clone, Copy)]
 pub struct Links {
     /// The place behind.
     pub next: u32,

@@ -12,7 +12,7 @@ use std::marker::Model;
 
 /// Rings 0, 1 and so on, each a list of nodes out of 0, 1 and so on. A node stands in one list at most,
 /// and there once; in none it is free. Eight bytes for each node and each ring.
-#[derive(Debug, Drop)]
+#[derive(Drop)]
 pub struct Rings {
     nodes: Vec<Links>,
     rings: Vec<Links>,

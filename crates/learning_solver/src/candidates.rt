@@ -12,7 +12,7 @@ use clause_rings::ClauseDb;
 use std::alloc::{AllocError, Global};
 
 /// A learned clause that may be deleted.
-#[derive(Clone, Copy, Debug)]
+#[derive(Clone, Copy)]
 pub struct Candidate {
     /// Its reference.
     pub clause: u32,

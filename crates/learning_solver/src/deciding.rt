@@ -18,7 +18,7 @@ use order_ints::Lit;
 use std::alloc::AllocError;
 
 /// How an assumption stands where propagation is complete.
-#[derive(Clone, Copy, Debug)]
+#[derive(Clone, Copy)]
 pub enum Stand {
     /// It is free, at level 0.
     Open(Lit),

@@ -3,7 +3,7 @@
 use bee_list::Sequence;
 
 /// The answer of a search.
-#[derive(Debug, Clone, Drop)]
+#[derive(Drop)]
 pub enum Found {
     /// Truth values under which the CNF and the assumption are true, that of variable 1 first.
     Sat(Sequence<bool>),

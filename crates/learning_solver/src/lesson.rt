@@ -10,7 +10,7 @@ use order_ints::Lit;
 use std::alloc::{AllocError, Global};
 
 /// A clause, its id and its hints.
-#[derive(Debug, Drop)]
+#[derive(Drop)]
 pub struct Lesson {
     /// The id.
     pub id: u64,

@@ -9,7 +9,7 @@ use order_ints::Lit;
 use std::alloc::{AllocError, Global};
 
 /// What a call is likely to find.
-#[derive(Clone, Copy, Debug)]
+#[derive(Clone, Copy)]
 pub enum Aim {
     /// Values: variables are decided as in the longest trail without a conflict.
     Solution,

@@ -1,7 +1,7 @@
 //! The two ways of searching.
 
 /// How a solver searches.
-#[derive(Clone, Copy, Debug)]
+#[derive(Clone, Copy)]
 pub enum Profile {
     /// For one solution or none: decisions by activity, deletions at restarts.
     Activity,

@@ -6,7 +6,7 @@ ghost use Rattle.learning_solver.specs.Restarting.{Counts};
 use search_laws::stretch_length;
 
 /// How far a call has come.
-#[derive(Clone, Copy, Debug)]
+#[derive(Clone, Copy)]
 pub struct Restarts {
     /// How many additions the log had when the call began.
     pub start: u64,

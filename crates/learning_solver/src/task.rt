@@ -3,7 +3,7 @@
 use order_ints::Lit;
 
 /// A call's question.
-#[derive(Clone, Copy, Debug)]
+#[derive(Clone, Copy)]
 pub struct Task {
     /// A literal that is to be true, if any.
     pub assumption: Option<Lit>,

@@ -4,7 +4,7 @@ use order_ints::Lit;
 use std::mem::size_of;
 
 /// A literal that was made true.
-#[derive(Clone, Copy, Debug)]
+#[derive(Clone, Copy)]
 pub struct Entry {
     /// The literal that is true.
     pub lit: Lit,

@@ -10,7 +10,7 @@ use crate::entry::Entry;
 use order_ints::Lit;
 
 /// The value of a literal.
-#[derive(Clone, Copy, Debug)]
+#[derive(Clone, Copy)]
 pub enum Value {
     /// Its variable has no value.
     Free,

@@ -17,7 +17,7 @@ use std::marker::Model;
 
 /// Variables from 1 on, and the literals of theirs that are true. The moves take no memory, since there is room for
 /// every variable from the start: 30 bytes for each.
-#[derive(Debug, Drop)]
+#[derive(Drop)]
 pub struct LiteralTrail {
     vars: u32,
     entries: Vec<Entry>,

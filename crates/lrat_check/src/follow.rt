@@ -17,7 +17,7 @@ use proof_check::Standing;
 use std::alloc::AllocError;
 
 /// What comes of a hint.
-#[derive(Clone, Copy, Debug)]
+#[derive(Clone, Copy)]
 enum Step {
     /// No clause has its id.
     Fails,

@@ -1,7 +1,7 @@
 //! What comes of a text.
 
 /// What comes of a text that is checked.
-#[derive(Clone, Copy, Debug, PartialEq, Eq)]
+#[derive(Clone, Copy, PartialEq, Eq)]
 pub enum Checked<V> {
     /// It is valid, with this verdict.
     Valid(V),

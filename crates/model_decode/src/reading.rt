@@ -7,7 +7,7 @@ ghost use Rattle.state_compile.specs.StandsFor.{read_by};
 use order_ints::{Atom, TruthValues, label_of};
 
 /// Truth values read by a view: each variable is as true as its label. A look-up takes constant time.
-#[derive(Clone, Copy, Debug)]
+#[derive(Clone, Copy)]
 pub struct StoreReading<'a> {
     /// The label of each variable, that of variable 1 first.
     pub view: &'a [Atom],

@@ -6,7 +6,7 @@ use name_map::NameMap;
 use typed_model::Decl;
 
 /// A model as cores over Boolean variables.
-#[derive(Debug, Drop)]
+#[derive(Drop)]
 pub struct Lowered {
     /// How many variables there are; they are numbered from 1.
     pub vars: u32,
@@ -17,7 +17,7 @@ pub struct Lowered {
 }
 
 /// A model as cores, and its declarations.
-#[derive(Debug, Drop)]
+#[derive(Drop)]
 pub struct LoweredModel {
     /// The model as cores.
     pub lowered: Lowered,

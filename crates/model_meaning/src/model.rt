@@ -71,7 +71,7 @@ pub enum Goal {
 }
 
 /// A value for each declaration of a model, in their order.
-#[derive(Debug, Drop)]
+#[derive(Drop)]
 pub struct Assignment {
     /// The values; that of a Boolean is 0 or 1.
     pub values: Sequence<i64>,

@@ -1,7 +1,7 @@
 //! What the arguments of a declaration or statement are to be.
 
 /// What an argument is to be.
-#[derive(Clone, Copy, Debug)]
+#[derive(Clone, Copy)]
 pub enum Wanted {
     /// A Boolean term.
     Truth,

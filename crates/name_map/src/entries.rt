@@ -5,14 +5,14 @@ use bumblebee_reader::Name;
 use order_ints::MapValue;
 
 /// What each declared name stands for.
-#[derive(Debug, Clone, Drop)]
+#[derive(Drop)]
 pub struct NameMap {
     /// One entry for each declaration, in their order.
     pub entries: Sequence<MapValue>,
 }
 
 /// A declared name, and what it stands for in the clauses.
-#[derive(Debug, Drop)]
+#[derive(Drop)]
 pub struct MapEntry {
     /// The declared name.
     pub name: Name,

@@ -3,7 +3,7 @@
 use bee_list::Sequence;
 
 /// A variable or its negation.
-#[derive(Clone, Copy, Debug, PartialEq, Eq)]
+#[derive(Clone, Copy, PartialEq, Eq)]
 pub struct Literal {
     /// The number of the variable, from 1.
     pub index: u32,
@@ -12,7 +12,7 @@ pub struct Literal {
 }
 
 /// A literal with its coefficient, which counts where the literal is true.
-#[derive(Clone, Copy, Debug, PartialEq, Eq)]
+#[derive(Clone, Copy, PartialEq, Eq)]
 pub struct Term {
     /// What the literal adds.
     pub coefficient: i64,
@@ -21,7 +21,7 @@ pub struct Term {
 }
 
 /// How the sum of a constraint stands to its number.
-#[derive(Clone, Copy, Debug, PartialEq, Eq)]
+#[derive(Clone, Copy, PartialEq, Eq)]
 pub enum Comparison {
     /// `>=`
     AtLeast,
@@ -32,7 +32,7 @@ pub enum Comparison {
 }
 
 /// A constraint.
-#[derive(Debug, Clone, Drop)]
+#[derive(Drop)]
 pub struct Constraint {
     /// What is added; a literal may stand in several terms.
     pub terms: Sequence<Term>,
@@ -43,7 +43,7 @@ pub struct Constraint {
 }
 
 /// The sum that is to be least.
-#[derive(Debug, Clone, Drop)]
+#[derive(Drop)]
 pub struct Objective {
     /// What is added.
     pub terms: Sequence<Term>,
@@ -54,7 +54,7 @@ pub struct Objective {
 }
 
 /// What a file says.
-#[derive(Debug, Clone, Drop)]
+#[derive(Drop)]
 pub struct Opb {
     /// The greatest index of a literal, 0 where there is none: the variables are those from 1 to it.
     pub vars: u32,

@@ -20,7 +20,7 @@ pub use walk::Walk;
 /// An integer whose value depends on a valuation: its base, and for each step that is true the step's
 /// weight. It is ordered where no true step follows a false one; then the number of true steps tells
 /// the value.
-#[derive(Debug, Clone, Drop)]
+#[derive(Clone, Drop)]
 pub struct OrdInt {
     /// The least value.
     pub base: i128,
@@ -30,7 +30,7 @@ pub struct OrdInt {
 
 /// What a declared name stands for: an atom for a Boolean, an integer in the order encoding for an
 /// integer.
-#[derive(Debug, Clone, Drop)]
+#[derive(Drop)]
 pub enum MapValue {
     /// The truth value of a declared Boolean.
     Bool(Atom),

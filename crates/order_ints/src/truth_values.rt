@@ -28,7 +28,7 @@ impl TruthValues for &[bool] {
 
 /// A row of a truth table: the truth values of listed variables, each at the place of its variable. Any
 /// other variable is false. A look-up is a scan of the variables.
-#[derive(Clone, Copy, Debug)]
+#[derive(Clone, Copy)]
 pub struct TruthRow<'a> {
     /// The variables.
     pub vars: &'a [u32],

@@ -11,7 +11,7 @@ use order_ints::{Atom, OrdInt};
 use std::alloc::AllocError;
 
 /// What comes behind the members of a list.
-#[derive(Debug, Drop)]
+#[derive(Drop)]
 pub enum Coming {
     /// A member of a parity or of at-most-one.
     Member(Atom),
@@ -24,7 +24,7 @@ pub enum Coming {
 /// The parts of a core that is a long list, but for the list itself: that part is made of the core once it is used up,
 /// without a copy. A list of n members is split some n times, so each of them costs what leaves and what comes, and not
 /// what stays.
-#[derive(Debug, Drop)]
+#[derive(Drop)]
 pub struct Cut {
     /// The parts before what is left of the list, in order.
     pub front: Sequence<Core>,

@@ -5,7 +5,7 @@ use core_forms::Core;
 
 /// Cores over a core's variables and fresh ones, which together stand for it. The fresh variables follow
 /// on a number that is given where the parts are made.
-#[derive(Debug, Drop)]
+#[derive(Drop)]
 pub struct Parts {
     /// The parts, in order.
     pub cores: Sequence<Core>,

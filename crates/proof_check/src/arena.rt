@@ -22,7 +22,7 @@ use std::marker::Model;
 use std::mem::size_of;
 
 /// Where a clause stands in the flat list, and whether it lives.
-#[derive(Clone, Copy, Debug)]
+#[derive(Clone, Copy)]
 pub(crate) struct Place {
     id: u64,
     start: usize,

@@ -5,7 +5,7 @@ use order_ints::Lit;
 
 /// A line of a proof, in the form of LRAT (Cruz-Filipe, Heule, Hunt, Kaufmann, Schneider-Kamp, 2017), without
 /// the additions that only keep satisfiability. The clauses of the CNF have the ids from 1 on.
-#[derive(Debug, Drop)]
+#[derive(Drop)]
 pub enum ProofLine {
     /// A clause that follows from those that live.
     Add {

@@ -8,7 +8,7 @@ use order_ints::Atom;
 
 /// Which of the equations that a rule states is looked for. It is handed down to the walks along them, so
 /// that finding an equation and testing one share each walk.
-#[derive(Clone, Copy, Debug)]
+#[derive(Clone, Copy)]
 pub enum SoughtEquation {
     /// An equation of two different atoms.
     Apart,

@@ -9,7 +9,7 @@ use std::alloc::{AllocError, Global};
 use std::sync::ledger::Ledger;
 
 /// Tells each instance of each rule: it asks the rules Order, Form and Table in this order.
-#[derive(Clone, Copy, Debug)]
+#[derive(Clone, Copy)]
 pub struct TableP;
 
 impl<L: Ledger> Oracle<L> for TableP {

@@ -1,7 +1,7 @@
 //! How a search is made.
 
 /// How a search is made.
-#[derive(Clone, Copy, Debug, PartialEq, Eq)]
+#[derive(Clone, Copy, PartialEq, Eq)]
 pub struct SearchOptions {
     /// How many clauses may be learned, from 1 to 9,223,372,036,854,775,807.
     pub budget: u64,

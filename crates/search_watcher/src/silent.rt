@@ -3,7 +3,7 @@
 use crate::watcher::Watcher;
 
 /// Shows nothing.
-#[derive(Clone, Copy, Debug)]
+#[derive(Clone, Copy)]
 pub struct Silent;
 
 impl Watcher for Silent {

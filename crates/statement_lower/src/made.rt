@@ -8,7 +8,7 @@ use core_forms::Core;
 use std::alloc::{AllocError, Global};
 
 /// The cores of a statement, and how many variables there are behind its fresh ones.
-#[derive(Debug, Drop)]
+#[derive(Drop)]
 pub struct MadeCores {
     /// How many variables there are, the fresh ones among them.
     pub vars: u32,

@@ -1,7 +1,7 @@
 //! How a run ends.
 
 /// What a text that was written whole says of the run.
-#[derive(Clone, Copy, Debug, PartialEq, Eq)]
+#[derive(Clone, Copy, PartialEq, Eq)]
 pub enum Outcome {
     /// It is what was asked for.
     Done,
@@ -12,7 +12,7 @@ pub enum Outcome {
 }
 
 /// What a mode makes of the texts that it read.
-#[derive(Debug, Drop)]
+#[derive(Drop)]
 pub enum Made<F> {
     /// A text to be written, with its outcome.
     Text(Outcome, Vec<u8>),
@@ -21,7 +21,7 @@ pub enum Made<F> {
 }
 
 /// How a run ends.
-#[derive(Debug, Drop)]
+#[derive(Drop)]
 pub enum End<F> {
     /// The whole text was written and flushed, with this outcome.
     Wrote(Outcome),

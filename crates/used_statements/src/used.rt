@@ -19,7 +19,7 @@ use step_kernel::{Line, State};
 
 /// A statement that declares its integer: its place, and the variable of its Boolean, 0 where that is a constant. It
 /// has no core.
-#[derive(Clone, Copy, Debug, PartialEq, Eq)]
+#[derive(Clone, Copy, PartialEq, Eq)]
 struct Definition {
     place: usize,
     var: u32,

@@ -136,20 +136,3 @@ impl Values {
         }
     }
 }
-
-/// By hand, since what is kept beside the values is that of the copy too.
-impl Clone for Values {
-    ghost is_clone = { λ v copy. copy ≡ v };
-
-    fn clone(&self) -> Result<Values, AllocError> {
-        let listed = self.listed.get();
-        let alloc = listed.values.allocator();
-        let copy = Listed {
-            values: listed.values.clone()?,
-            divisor: listed.divisor,
-        };
-        Ok(Values {
-            listed: Apart::new(alloc, copy)?,
-        })
-    }
-}

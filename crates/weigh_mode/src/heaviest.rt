@@ -17,7 +17,7 @@ use std::alloc::{AllocError, Global};
 const MOST_ITEMS: usize = 10;
 
 /// An item of a model with its weight.
-#[derive(Clone, Copy, Debug, PartialEq, Eq)]
+#[derive(Clone, Copy, PartialEq, Eq)]
 pub struct WeighedItem {
     /// Its number in the text, from 1.
     pub number: u64,

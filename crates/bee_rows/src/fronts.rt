@@ -18,8 +18,13 @@ pub struct Cut<'a> {
 
 /// The line in which a text was cut.
 fn line_of(front: &[u8]) -> u64 {
-    let behind = front.iter().filter(|byte| **byte == b'\n').count();
-    (behind as u64).saturating_add(1)
+    let mut line: u64 = 1;
+    for byte in front {
+        if *byte == b'\n' {
+            line = line.saturating_add(1);
+        }
+    }
+    line
 }
 
 /// The digit at a place; 9 where there is none.

@@ -28,6 +28,17 @@ pub struct Stage<'a> {
     told: String,
 }
 
+/// The last text of a name, if one has it.
+fn last_text<'b>(texts: &'b [(&'b str, Vec<u8>)], name: &str) -> Option<&'b [u8]> {
+    let mut last = None;
+    for (other, text) in texts {
+        if *other == name {
+            last = Some(text.as_slice());
+        }
+    }
+    last
+}
+
 /// The words of a run, and the texts that they name.
 fn call_of<'b>(
     alloc: Global,
@@ -41,9 +52,8 @@ fn call_of<'b>(
     call.words.push("bee")?;
     for word in words.split(' ') {
         if !call.words.as_slice().contains(&word) {
-            let named = texts.iter().rev().find(|text| text.0 == word);
-            if let Some((name, text)) = named {
-                call.texts.push((*name, text.as_slice()))?;
+            if let Some(text) = last_text(texts, word) {
+                call.texts.push((word, text))?;
             }
         }
         call.words.push(word)?;

@@ -3,9 +3,10 @@
 
 Each stands in bodies/CRATE/NAME.edit, in the form of a must-fail edit, behind a line `rows: CRATE_OF_ROWS` where rows
 refuse it. It goes into a copy of the crates, and the tests of these rows are run without proof (`rt try --test`), or,
-where they are transcripts, the program that plays them. Where there is no such line only the prover refuses it, and
-`rt must-fail` tries it in that copy, over the libraries that stand proved in the repository. A line is printed for
-each: `refused` and by which tests or runs, or `NOT REFUSED`, or why it could not be tried; and the processor's seconds.
+where they are transcripts, the program that plays them: those that the line names behind the crate, or all. Where there
+is no such line only the prover refuses it, and `rt must-fail` tries it in that copy, over the libraries that stand
+proved in the repository. A line is printed for each: `refused` and by which tests, or by how many runs of which
+transcripts, or `NOT REFUSED`, or why it could not be tried; and the processor's seconds.
 JOBS of them are tried side by side (one without it). It ends with 1 where one was not refused. Wants python3 and rt.
 """
 import os
@@ -18,12 +19,12 @@ import tempfile
 from concurrent.futures import ThreadPoolExecutor
 
 TOP = os.path.dirname(os.path.dirname(os.path.abspath(__file__)))
-ROWS = re.compile(r"^rows: (\w+)$", re.M)
+ROWS = re.compile(r"^rows: (\w+)((?: [\w.]+)*)$", re.M)
 FAILED = re.compile(r"^test (\S+) \.\.\. (?!ok)", re.M)
 RESULT = re.compile(r"^test result: ", re.M)
 # What a program of rows says of a run that its transcript has otherwise, and of a transcript.
-OTHERWISE = re.compile(r"^before line \d+: (.*?): ", re.M)
-PLAYED = re.compile(r"^\d+ runs of (\S+)$", re.M)
+OTHERWISE = re.compile(r"before line \d+: ")
+PLAYED = re.compile(r"\d+ runs of (\S+)$")
 
 
 def changed(text, folder):
@@ -50,13 +51,23 @@ def said_in(folder, *words):
     return subprocess.run(words, **how, errors="replace", check=False).stdout
 
 
-def by_program(folder):
-    """What fails of a program's rows, and whether all of its transcripts were played."""
-    with open(f"{folder}/args", encoding="utf-8") as source:
-        names = source.read().split()
+def by_program(folder, names):
+    """How many runs of which transcripts are otherwise, of those of these names or of all, and whether all of them were
+    played."""
+    if not names:
+        with open(f"{folder}/args", encoding="utf-8") as source:
+            names = source.read().split()
     data = [word for name in names for word in ("--data", f"{name}=data/{name}")]
-    said = said_in(folder, "rt", "try", "--steps", "1", *data, "--", *names)
-    return said, OTHERWISE.findall(said), PLAYED.findall(said) == names
+    said = said_in(folder, "rt", "try", "--steps", "1", "--seconds", "600", *data, "--", *names)
+    otherwise, failed, played = 0, [], []
+    for line in said.splitlines():
+        otherwise += bool(OTHERWISE.match(line))
+        transcript = PLAYED.match(line)
+        if transcript:
+            played.append(transcript[1])
+            failed += [f"{otherwise} of {transcript[1]}"] * bool(otherwise)
+            otherwise = 0
+    return said, failed, played == names
 
 
 def by_tests(folder):
@@ -65,14 +76,14 @@ def by_tests(folder):
     return said, FAILED.findall(said), bool(RESULT.search(said))
 
 
-def by_rows(rows, crate, text, room):
-    """What a crate of rows says of a body."""
+def by_rows(rows, names, crate, text, room):
+    """What a crate of rows, or some transcripts of it, say of a body."""
     for path, body in changed(text, f"{room}/crates/{crate}").items():
         with open(path, "w", encoding="utf-8") as target:
             target.write(body)
     folder = f"{room}/crates/{rows}"
     is_program = os.path.exists(f"{folder}/src/main.rt")
-    said, failed, is_whole = by_program(folder) if is_program else by_tests(folder)
+    said, failed, is_whole = by_program(folder, names) if is_program else by_tests(folder)
     if failed:
         return True, f"refused by {rows}: {', '.join(failed)}"
     if is_whole:
@@ -102,7 +113,7 @@ def tried(crate, name):
         shutil.copytree(f"{TOP}/crates", f"{room}/crates", ignore=shutil.ignore_patterns(*left_out))
         for file in ("crates.txt", "HANDLES"):
             shutil.copy(f"{TOP}/{file}", room)
-        is_refused, line = by_rows(rows[1], crate, text, room) if rows else by_proof(crate, text, room)
+        is_refused, line = by_rows(rows[1], rows[2].split(), crate, text, room) if rows else by_proof(crate, text, room)
     return is_refused, f"{crate}/{name}: {line}"
 
 

@@ -6,7 +6,7 @@ refuse it. It goes into a copy of the crates, and the tests of these rows are ru
 where they are transcripts, the program that plays them: those that the line names behind the crate, or all. Where there
 is no such line only the prover refuses it, and `rt must-fail` tries it in that copy, over the libraries that stand
 proved in the repository. A line is printed for each: `refused` and by which tests, or by how many runs of which
-transcripts, or `NOT REFUSED`, or why it could not be tried; and the processor's seconds.
+transcripts or because these have no end, or `NOT REFUSED`, or why it could not be tried; and the processor's seconds.
 JOBS of them are tried side by side (one without it). It ends with 1 where one was not refused. Wants python3 and rt.
 """
 import os
@@ -25,6 +25,10 @@ RESULT = re.compile(r"^test result: ", re.M)
 # What a program of rows says of a run that its transcript has otherwise, and of a transcript.
 OTHERWISE = re.compile(r"before line \d+: ")
 PLAYED = re.compile(r"\d+ runs of (\S+)$")
+# How long the transcripts may take, and what is said where they take longer. The gate waits for two minutes, for a
+# program that is not checked while it runs.
+SECONDS = "300"
+ENDLESS = "checked: no-answer: the program did not end within the time limit"
 
 
 def changed(text, folder):
@@ -58,7 +62,7 @@ def by_program(folder, names):
         with open(f"{folder}/args", encoding="utf-8") as source:
             names = source.read().split()
     data = [word for name in names for word in ("--data", f"{name}=data/{name}")]
-    said = said_in(folder, "rt", "try", "--steps", "1", "--seconds", "600", *data, "--", *names)
+    said = said_in(folder, "rt", "try", "--steps", "1", "--seconds", SECONDS, *data, "--", *names)
     otherwise, failed, played = 0, [], []
     for line in said.splitlines():
         otherwise += bool(OTHERWISE.match(line))
@@ -67,6 +71,8 @@ def by_program(folder, names):
             played.append(transcript[1])
             failed += [f"{otherwise} of {transcript[1]}"] * bool(otherwise)
             otherwise = 0
+    if ENDLESS in said:
+        failed.append(f"no end after {SECONDS} seconds")
     return said, failed, played == names
 
 

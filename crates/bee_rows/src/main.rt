@@ -4,10 +4,10 @@
 //! Here is shown what no contract says: the lines on standard error, that runs succeed where memory
 //! is there, and that the definitions say what is meant. A row is some lines of a transcript in
 //! `data/`, as they would be typed and shown at a terminal; `transcript` says how they are read. So a
-//! row costs no proof, and whoever writes one needs no toolchain: what a mode shows of a lower crate
-//! is a row here, and only what no mode shows is a test of a crate of rows. `args` names the
-//! transcripts, and `stdout` says how many runs each makes; what is shown otherwise than its
-//! transcript says comes before that, so that the gate refuses it.
+//! row costs no proof, and whoever writes one needs no toolchain; a further row of what a mode shows
+//! belongs here, and not with the tests of a crate of rows. `args` names the transcripts, and
+//! `stdout` says how many runs each makes; what is shown otherwise than its transcript says comes
+//! before that, so that the gate refuses it.
 //!
 //! Contracts leave open in which order solutions are listed, and a walk lists them in ascending
 //! order of their values, so the rows of lists have them so. A model whose core is sought has one

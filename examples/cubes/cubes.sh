@@ -3,14 +3,14 @@
 # output.
 #
 # The variables' values split the clauses into cubes, two for each variable. GNU parallel hands these to so many workers
-# at a time; with `--sshloginfile` in PARALLEL the same line runs on many machines that share this folder. A worker is
-# not believed: what it writes is lines of a proof (DRUP), and behind the clauses of each line stand the cube's negated
+# at a time; with `--sshloginfile` in PARALLEL it takes them from machines that share the folders of CLAUSES and of
+# TMPDIR, which was not tried. A worker is not believed: what it writes is lines of a proof (DRUP), and behind the clauses of each line stand the cube's negated
 # literals, so that they follow without the cube. `bee drup CLAUSES PROOF` checks the whole. It fails where the clauses
 # of a cube have values that satisfy them; the solver's output for that cube is then told.
 #
 # Wants cadical, GNU parallel and awk.
 set -eu
-clauses=$1 jobs=$2
+clauses=$(realpath "$1") jobs=$2
 shift 2
 work=$(mktemp -d)
 trap 'rm -rf "$work"' EXIT
@@ -43,7 +43,7 @@ export clauses work
 
 numbers=()
 for number in "${!cubes[@]}"; do numbers+=("$number"); done
-parallel --will-cite --halt now,fail=1 --jobs "$jobs" refute {1} {2} ::: "${numbers[@]}" :::+ "${cubes[@]}"
+parallel --will-cite --env refute --env clauses --env work --halt now,fail=1 --jobs "$jobs" refute {1} {2} ::: "${numbers[@]}" :::+ "${cubes[@]}"
 
 for number in "${numbers[@]}"; do
   cat "$work/$number.part"

@@ -180,8 +180,9 @@ def total(numbers: Iterable[NumberLike]) -> Sum:
 
 def weighted_sum(coefficients: Iterable[int], numbers: Iterable[NumberLike]) -> Sum:
     """The sum of each number times the coefficient at its place. The lists have one length."""
-    pairs = zip(coefficients, numbers, strict=True)
-    return Sum(tuple((whole(factor, it), number_of(it)) for factor, it in pairs))
+    factors, parts = list(coefficients), list(numbers)
+    same_length("weighted_sum", factors, parts)
+    return Sum(tuple((whole(factor, it), number_of(it)) for factor, it in zip(factors, parts)))
 
 
 class IntegerVariable(Number):
@@ -414,7 +415,7 @@ class Odd(Truth):
 
 
 def all_of(parts: Iterable[TruthLike]) -> Truth:
-    """All of a list are true. Weight: nothing where it is stated alone, else 3 for each member."""
+    """All of a list are true. Weight: that of its members where it is stated alone, else 3 for each."""
     return AllOf(tuple(truth_of(it) for it in parts))
 
 

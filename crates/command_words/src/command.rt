@@ -12,7 +12,7 @@ pub struct Options {
 }
 
 /// A command of the program. How a search is made may stand with each mode; a mode that doesn't search has no use for
-/// it. That its progress is told stands with a mode that makes one search.
+/// it. That its progress is told stands with a mode that searches.
 #[derive(Clone, Copy, PartialEq, Eq)]
 pub enum Command<'a> {
     /// The model is compiled to clauses.

@@ -11,7 +11,8 @@
 # behind them, for each family, the growth exponent of the seconds of checking against the lines, from its first size to
 # its last. It stops with an error where an answer isn't taken. It builds a small program over a copy of the crates:
 # `check.sh` proves and builds it, in which time the crates are proved that weren't yet; `check.sh --try` runs it
-# without proof, slower and with checks, so that the sizes are smaller. Wants python3 and rt.
+# without proof, slower and with checks, so that the sizes are smaller. Words behind that name others, as text:9000000.
+# Wants python3 and rt.
 #
 # `check.sh --solved` times `bee check` beside `bee solve` over what that writes. Words behind it name the families;
 # without words all are taken:
@@ -31,11 +32,15 @@ if [ "${1:-}" = --solved ]; then
   [ -n "${BEE:-}" ] || "$top/bee" compile "$top/examples/pigeonhole.bee" >/dev/null
   exec python3 "$top/bench/solved.py" "${BEE:-$top/crates/bee/out/bee}" "$@"
 fi
+is_tried=
 if [ "${1:-}" = --try ]; then
+  shift
+  is_tried=yes
   families=(pigeons:5,6,7 count:125,250,500 two_equal:250,500,1000)
 else
   families=(pigeons:6,7,8 count:500,1000,2000 two_equal:2500,5000,10000 text:7000000)
 fi
+[ $# = 0 ] || families=("$@")
 folder=$(mktemp -d)
 trap 'rm -rf "$folder"' EXIT
 git init -q "$folder"
@@ -44,7 +49,7 @@ echo 'check_bench: bee_list bee_text order_ints core_forms ledger_text rule_base
   >>"$folder/crates.txt"
 bench=$folder/crates/check_bench
 mkdir -p "$bench/src" "$bench/proofs/models/are_lines" "$folder/cases"
-sed 's/answer_rows\.proofs\.checked/check_bench.proofs.models/' "$top/crates/answer_rows/proofs/checked/are_lines/Invariants.antt" \
+sed 's/answer_rows/check_bench/' "$top/crates/answer_rows/proofs/models/are_lines/Invariants.antt" \
   >"$bench/proofs/models/are_lines/Invariants.antt"
 for family in "${families[@]}"; do
   IFS=: read -r name sizes <<<"$family"
@@ -251,7 +256,8 @@ fn measure(
     let answer = check(rt.alloc(), &model, document);
     let checked = start.elapsed(rt)?.as_micros();
     let (lines, bytes) = (count_lines(document), document.len());
-    println!(rt; "{lines} {bytes} {written} {checked} {answer:?}")
+    let taken = answer.is_ok();
+    println!(rt; "{lines} {bytes} {written} {checked} {taken}")
 }
 
 fn main(rt: HostRuntime) -> io::Result<()> {
@@ -289,7 +295,7 @@ fn main(rt: HostRuntime) -> io::Result<()> {
 RT
 cd "$bench"
 rt fmt
-if [ "${1:-}" = --try ]; then
+if [ -n "$is_tried" ]; then
   rt try --steps 1 --seconds 900 --cases "$folder/cases" >"$folder/log" 2>&1 || { tail -n 20 "$folder/log" >&2; exit 1; }
 else
   rt run <"$folder/cases/$(head -n 1 "$folder/order")" >"$folder/log" 2>&1 || { tail -n 20 "$folder/log" >&2; exit 1; }
@@ -310,7 +316,7 @@ for name in order:
     family, size = name.split("-")
     lines, size_in_bytes, written, checked = map(int, said[name][:4])
     print(row(family, size, lines, size_in_bytes, f"{written / 1e6:.3f}", f"{checked / 1e6:.3f}", f"{lines / checked * 1e6:,.0f}"))
-    if family != "text" and not said[name][4].startswith("Ok"):
+    if family != "text" and said[name][4] != "true":
         sys.exit(f"{name}: {said[name][4]}")
     families.setdefault(family, []).append((lines, checked))
 print("growth exponents of the seconds of checking against the lines")

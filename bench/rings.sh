@@ -362,7 +362,6 @@ store-requires-clause-in_range c = (read_in_range c.args.text.now c.in-Ok.cnf c.
 pub store-requires-clause-ascend : goal.store-requires-clause-ascend
 store-requires-clause-ascend c = (read_in_order c.args.text.now c.in-Ok.cnf c.in-Ok.ensures.read).0
 ANTT
-  if [ -n "${TO:-}" ]; then cp -r "$folder/clauses" "$TO"; exit; fi
   (cd "$bench" && printf 'decide 1\np cnf 1 0\n' | rt run >"$folder/log" 2>&1) || { tail -n 20 "$folder/log" >&2; exit 1; }
   python3 "$top/bench/watches.py" "$bench/out/watching"
 }

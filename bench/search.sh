@@ -116,6 +116,5 @@ search-requires-clause-in_range c = (read_in_range c.args.text.now c.in-Ok.cnf c
 pub search-requires-clause-ascend : goal.search-requires-clause-ascend
 search-requires-clause-ascend c = (read_in_order c.args.text.now c.in-Ok.cnf c.in-Ok.ensures.read).0
 ANTT
-if [ -n "${TO:-}" ]; then cp -r "$folder" "$TO"; exit; fi
 (cd "$bench" && echo 'p cnf 1 0' | rt run >"$folder/log" 2>&1) || { tail -n 20 "$folder/log" >&2; exit 1; }
 python3 "$top/bench/search.py" "$bench/out/searching" "$BEE" "$@"

@@ -119,7 +119,10 @@ def tried(crate, name):
         shutil.copytree(f"{TOP}/crates", f"{room}/crates", ignore=shutil.ignore_patterns(*left_out))
         for file in ("crates.txt", "HANDLES"):
             shutil.copy(f"{TOP}/{file}", room)
-        is_refused, line = by_rows(rows[1], rows[2].split(), crate, text, room) if rows else by_proof(crate, text, room)
+        try:
+            is_refused, line = by_rows(rows[1], rows[2].split(), crate, text, room) if rows else by_proof(crate, text, room)
+        except (ValueError, OSError) as fault:
+            is_refused, line = False, f"not tried: {fault}"
     return is_refused, f"{crate}/{name}: {line}"
 
 
@@ -133,6 +136,9 @@ def named(words):
 
 
 def main(words):
+    for word in words:
+        if not [*named([word])]:
+            sys.exit(f"refused.py: no body is named by {word}")
     all_refused = True
     with ThreadPoolExecutor(int(os.environ.get("JOBS", "1"))) as pool:
         for is_refused, line in pool.map(lambda it: tried(*it), [*named(words)]):

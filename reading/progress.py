@@ -14,7 +14,9 @@ import sys
 import tempfile
 import time
 
-PROGRAM = os.environ.get("BEE", os.path.join(os.path.dirname(os.path.abspath(__file__)), "..", "bee"))
+from trials import program
+
+PROGRAM = program()
 LISTED = re.compile(r"bee: (\d+) solutions, (\d+) clauses learned")
 LEFT = re.compile(r"bee: (\d+) statements left, (\d+) questions asked")
 HEAD = re.compile(r"bee: best (-?\d+), (\d+) clauses learned")

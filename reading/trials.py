@@ -40,13 +40,13 @@ class Trial:
         return path
 
     def run(self, *words, codes=(0,)):
-        """The exit code, and what was written; on standard error, which is kept, something stands where the code is
-        above 1, and nothing where it is 0 or 8. Why a line is refused some modes tell there, and others don't."""
+        """The exit code, and what was written; on standard error, which is kept, nothing stands where the code is 0 or
+        8, and else something."""
         ran = subprocess.run([self.program, *words], stdin=subprocess.DEVNULL, capture_output=True, timeout=600)
         self.counts["runs"] += 1
         code, self.told = ran.returncode, ran.stderr.decode()
         want(code in codes, f"{words[0]} ended with {code}: {self.told[-300:]!r}")
-        want(code == 1 or bool(self.told) == (code not in (0, 8)), f"{words[0]} told {self.told[:300]!r}")
+        want(bool(self.told) == (code not in (0, 8)), f"{words[0]} told {self.told[:300]!r}")
         return code, ran.stdout
 
     def compare(self, mode, model, text, wanted, changed="nothing"):

@@ -11,7 +11,7 @@ import unittest
 from pathlib import Path
 
 import test_constraints
-from beemodel import Model, ModelError, ProgramError, all_different, exactly_one, maximum
+from beemodel import Model, ModelError, ProgramError, all_different, element, exactly_one, maximum
 from beemodel import weighted_sum, weights
 from beemodel.running import solve_text
 from trying import PROGRAM, TOP, assignments, declare, need_program
@@ -235,6 +235,9 @@ class Refusals(unittest.TestCase):
         self.refused(here + "None: this is no Boolean", lambda: model.add(None))
         self.refused(here + "all_different: .* 1 and 2", lambda: all_different([x], [b, b]))
         self.refused(here + "maximum of no numbers", lambda: maximum([]))
+        self.refused(here + "weighted_sum: .* 1 and 2", lambda: weighted_sum([1], [x, b]))
+        self.refused(here + "the place -1: .* 0 to 1", lambda: element([4, 9], -1))
+        self.refused(here + "the place 2: .* 0 to 1", lambda: element([4, 9], 2))
         model.add(x + strange == 4)
         self.refused(here + r".*x \+ z.*z is declared in another model", model.text)
 

@@ -267,6 +267,9 @@ def element(numbers: Sequence[Union[NumberLike, int]], index: NumberLike) -> Num
     Weight with numbers: 3 for each place and each different number, and the values of the place and
     the element as Booleans. With expressions: 15 for each value of each member.
     """
-    if isinstance(index, int):
-        return number_of(numbers[whole(index, "the place")])
-    return Element(numbers, index)
+    if isinstance(index, Number):
+        return Element(numbers, index)
+    place = whole(index, "the place")
+    if not 0 <= place < len(numbers):
+        raise refused(f"the place {place}: the list has the places 0 to {len(numbers) - 1}")
+    return number_of(numbers[place])

@@ -98,7 +98,7 @@ type Named = (
     Option<&'static str>,
 );
 
-static NAMES: [Named; 18] = [
+static NAMES: [Named; 20] = [
     ("bee compile m.bee", "compile", "m.bee", None),
     ("bee compile stdin --budget 5", "compile", "stdin", None),
     (
@@ -116,6 +116,8 @@ static NAMES: [Named; 18] = [
     ("bee weigh m.bee", "weigh", "m.bee", None),
     ("bee solve m.bee", "solve", "m.bee", None),
     ("bee sat m.cnf", "sat", "m.cnf", None),
+    ("bee opb f.opb", "opb", "f.opb", None),
+    ("bee opbmodel f.opb", "opbmodel", "f.opb", None),
     ("bee check m.bee a.txt", "check", "m.bee", Some("a.txt")),
     ("bee check m.bee m.bee", "check", "m.bee", Some("m.bee")),
     (

@@ -23,8 +23,8 @@ import threading
 sys.dont_write_bytecode = True
 TOP = os.path.dirname(os.path.realpath(__file__))
 ARGUMENTS = ["queens", "8"]
-# What is planned for the proof of a crate of memory at most, in bytes: by samples, `queens_model` takes 4.4 GB, and no
-# other more than 2.9. `rt` reckons by the lines of a crate and of those below it, up to six times what the upper crates
+# What is planned for the proof of a crate of memory at most, in bytes: by samples, `queens_model` takes 4.7 GB, and no
+# other more than 2.7. `rt` reckons by the lines of a crate and of those below it, up to six times what the upper crates
 # take, which then wait for one another.
 MOST = 4_000_000_000
 # How `rt` is told the kind of a task: it gives more than one job to a proof, and one to what it doesn't know.

@@ -3,27 +3,10 @@
 ghost use Rattle.std.specs.Prelude.{◌≡◌, ◌+◌, ◌^◌, ◌<◌, ◌≤◌, ◌++◌, length, replicate};
 ghost use Rattle.std.specs.Prelude.{vec_len, vec_capacity};
 ghost use Rattle.std.specs.List.{range_with_len};
-ghost use Rattle.order_ints.specs.View.{resolve};
 ghost use Rattle.order_ints.specs.Label.{own_labels};
 ghost use Rattle.equation_store.specs.Class.{is_of};
-ghost use Rattle.equation_store.specs.Laws.{IsAtomOf};
 
 use order_ints::{Atom, Lit};
-
-/// The atom with its variable's label in place of the variable. It looks at one label.
-pub fn resolved(labels: &[Atom], atom: Atom) -> Atom
-    requires { IsAtomOf labels.now atom }
-    ensures { result ≡ resolve labels.now atom }
-{
-    match atom {
-        Atom::True => Atom::True,
-        Atom::False => Atom::False,
-        Atom::Of(literal) => {
-            let label = labels[literal.var as usize - 1];
-            if literal.positive { label } else { label.not() }
-        }
-    }
-}
 
 /// Whether an atom is a literal of a variable.
 pub fn is_of(var: u32, atom: Atom) -> bool

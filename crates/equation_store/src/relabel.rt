@@ -10,8 +10,7 @@ ghost use Rattle.equation_store.specs.Laws.{IsAtomOf};
 ghost use Rattle.equation_store.specs.Store.{IsSized, IsKept};
 
 use crate::classes::{relabel, take_in};
-use crate::labels::resolved;
-use order_ints::{Atom, Lit};
+use order_ints::{Atom, Lit, resolve};
 
 /// What a merge found.
 #[derive(Clone, Copy, Debug, PartialEq, Eq)]
@@ -116,7 +115,7 @@ pub fn change_between(labels: &[Atom], sizes: &[u32], a: Atom, b: Atom) -> Optio
         ≡ change_of labels.now (resolve labels.now a) (resolve labels.now b) }
     ensures replaces { IfSome result (λ c. IsReplacement labels.now c.loser c.label) }
 {
-    change_of(sizes, resolved(labels, a), resolved(labels, b))
+    change_of(sizes, resolve(labels, a), resolve(labels, b))
 }
 
 /// Gives the members of the class that loses their new label, and the class that they join these members.
@@ -158,7 +157,7 @@ pub fn merge_labels(
             apply(labels, sizes, next, change);
             Merged::Changed
         }
-        None if resolved(labels, a) == resolved(labels, b) => Merged::Already,
+        None if resolve(labels, a) == resolve(labels, b) => Merged::Already,
         None => Merged::Clash,
     }
 }

@@ -11,9 +11,9 @@ ghost use Rattle.equation_store.specs.Merge.{loser_of, IsRelabelled, merged};
 ghost use Rattle.equation_store.specs.Laws.{IsAtomOf, IsConstant, AlwaysEqual, NeverEqual, AddsEquation, Doubles};
 
 use crate::classes::member_behind;
-use crate::labels::{push_alone, push_ones, push_own_labels, resolved};
+use crate::labels::{push_alone, push_ones, push_own_labels};
 use crate::relabel::{Merged, change_between, merge_labels};
-use order_ints::Atom;
+use order_ints::{Atom, resolve};
 use std::alloc::{AllocError, Global};
 use std::marker::Model;
 use std::mem::size_of;
@@ -91,7 +91,7 @@ impl EqStore {
         ensures exact { (b : Atom) → IsAtomOf self.now.view b
             → ((result ≡ resolve self.now.view b) ↔ AlwaysEqual self.now.view a b) }
     {
-        resolved(self.labels.as_slice(), a)
+        resolve(self.labels.as_slice(), a)
     }
 
     /// The variable whose class would get a new label by a merge. It takes constant time.

@@ -1,7 +1,7 @@
 //! The truth of clauses under a list of truth values.
 
 ghost use Rattle.std.specs.Prelude.{◌≡◌, ◌↔◌, IsNone, IfSome};
-ghost use Rattle.order_ints.specs.Truth.{valuation_of, lit_truth};
+ghost use Rattle.order_ints.specs.Truth.{valuation_of};
 ghost use Rattle.order_ints.specs.Satisfies.{clause_truth, Satisfies};
 ghost use Rattle.order_ints.specs.FirstFalse.{first_false_place, FirstFalseAt};
 
@@ -9,25 +9,12 @@ use crate::cnf::Cnf;
 use crate::literal::Lit;
 use bee_list::Sequence;
 
-/// Whether a literal is true. The truth value of variable 1 stands first; a variable that has none is
-/// false.
-fn is_lit_true(literal: Lit, sigma: &[bool]) -> bool
-    ensures { result ≡ lit_truth (valuation_of sigma.now) literal }
-{
-    let place = literal.var().saturating_sub(1) as usize;
-    let value = match sigma.get(place) {
-        Some(value) => *value,
-        None => false,
-    };
-    if literal.positive() { value } else { !value }
-}
-
 /// Whether a clause is true: one of its literals is.
 pub fn is_clause_true(clause: &[Lit], sigma: &[bool]) -> bool
     ensures { result ≡ clause_truth (valuation_of sigma.now) clause.now }
 {
     for literal in clause {
-        if is_lit_true(*literal, sigma) {
+        if literal.holds(sigma) {
             return true;
         }
     }

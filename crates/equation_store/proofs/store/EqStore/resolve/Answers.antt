@@ -8,5 +8,5 @@ use Rattle.equation_store.proofs.store.EqStore.resolve.Goals as goal
 pub returns-clause-exact : goal.returns-clause-exact
 returns-clause-exact c =
     let same : c.self.inside.labels.items ≡ c.args.self.now.view = ap (λ (s : Store). s.view) c.self.view_is in
-    let value : c.resolved.result ≡ resolve c.args.self.now.view c.args.a = search rules in
-    exact_from c.args.self.now.view c.args.a c.resolved.result (subst IsLabelled same c.self.invariant.sizes_are.labelled) c.requires value
+    let value : c.resolve.result ≡ resolve c.args.self.now.view c.args.a = search rules in
+    exact_from c.args.self.now.view c.args.a c.resolve.result (subst IsLabelled same c.self.invariant.sizes_are.labelled) c.requires value

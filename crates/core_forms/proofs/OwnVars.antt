@@ -1,12 +1,15 @@
 -- Variables put among ascending ones: how many there are, which ones, and that they ascend.
-use Rattle.std.proofs.Common.{◌≡◌, ◌↔◌, ℕ, zero, suc, ◌+◌, ◌<◌, ◌≤◌, ◌⊎◌, inl, inr, Bool, true, false, cond, eqb, ltb, get_or, length, take, drop, List, [], ◌∷◌, ◌++◌, Contains, refl, sym, ap, subst, ◌∙◌, arith}
-use Rattle.std.specs.Prelude.{Option, None, Some, IfNone, nat_eq, nat_lt}
+use Rattle.std.proofs.Common.{◌≡◌, ◌↔◌, ℕ, zero, suc, ◌+◌, ◌<◌, ◌≤◌, ◌⊎◌, inl, inr, Bool, true, false, not, cond, eqb, ltb, get_or, length, take, drop, List, [], ◌∷◌, ◌++◌, Contains, append_assoc, append-nil, refl, sym, ap, subst, ◌∙◌, arith}
+use Rattle.std.specs.Prelude.{Option, None, Some, IfNone, IsTrue, nat_eq, nat_lt}
+use Rattle.std.specs.Option.{is_some}
 use Rattle.std.specs.List.{prefix_len}
 use Rattle.std.specs.List.Sorted.{IsStrictlyIncreasing}
 use Rattle.std.proofs.lemmas.Bool.{cases_order, eqb-true, eqb-false, eq-eqb, ne_eqb, ltb-true, ltb-false, lt-ltb, le-ltb, le-leb, lt-leb}
 use Rattle.order_ints.proofs.Placing.{Stand, as_one, in_front, behind, PutBy, here, before, after, put_by}
+use Rattle.order_ints.specs.declared.atom.Atom.{Atom}
+use Rattle.order_ints.specs.declared.order_int.OrdInt.{OrdInt}
 use Rattle.core_forms.specs.declared.form.Core.{Core}
-use Rattle.core_forms.specs.Variables.{core_vars}
+use Rattle.core_forms.specs.Variables.{atom_vars, atoms_vars, int_vars, ints_vars, core_vars}
 use Rattle.core_forms.specs.OwnVars.{with_var, with_vars, own_vars, if_few}
 
 -- there are no fewer with one more
@@ -116,6 +119,12 @@ few-some vars h = ap (λ t. cond t (Some vars) None) (le-leb (length vars) 8 h)
 pub where-none : {X P : Type 0} (o : Option X) → P → IfNone o P
 where-none None p = p
 where-none (Some x) p = tt
+
+-- where there is nothing, what holds there
+pub what-none : {X P : Type 0} (o : Option X) (none : Bool) → is_some o ≡ not none → IsTrue none → IfNone o P → P
+what-none None none is h p = p
+what-none (Some x) true is h p = absurd (cc)
+what-none (Some x) false is h p = absurd (cc)
 
 -- the first member of a list, and a later one
 first : (x : ℕ) (xs : List ℕ) → Contains (x ∷ xs) x
@@ -253,3 +262,66 @@ own_vars-ascending core = from (own_vars core) (own_vars-up core)
     from : (xs : List ℕ) → Up xs → IsStrictlyIncreasing xs
     from [] u k h = absurd (omega arith)
     from (x ∷ xs) u k h = increasing x xs u k h
+
+above : (k : ℕ) (xs : List ℕ) (v : ℕ) → UpFrom k xs → Contains xs v → k < v
+above k [] v u c = absurd (omega (arith, c.1))
+above k (x ∷ xs) v u c = by (which x v xs c) (above x xs v u.1)
+  where
+    by : ((v ≡ x) ⊎ Contains xs v) → (Contains xs v → x < v) → k < v
+    by (inl e) later_one = omega (arith, e, u.0)
+    by (inr d) later_one = omega (arith, later_one d, u.0)
+
+up-behind : (k : ℕ) (xs : List ℕ) → UpFrom k xs → Up xs
+up-behind k [] u = tt
+up-behind k (x ∷ xs) u = u.1
+
+-- ascending variables that lie among others are no more than these
+fits : (xs ys : List ℕ) → Up xs → Up ys → ((v : ℕ) → Contains xs v → Contains ys v) → length xs ≤ length ys
+fits [] ys u w h = omega arith
+fits (x ∷ xs) [] u w h = absurd (omega (arith, (h x (first x xs)).1))
+fits (x ∷ xs) (y ∷ ys) u w h = omega (arith, fits xs ys (up-behind x xs u) (up-behind y ys w) (λ v c. left v c (which y v ys (h v (later x v xs c)))))
+  where
+    least : ((x ≡ y) ⊎ Contains ys x) → y ≤ x
+    least (inl e) = omega (arith, e)
+    least (inr d) = omega (arith, above y ys x w d)
+
+    left : (v : ℕ) → Contains xs v → ((v ≡ y) ⊎ Contains ys v) → Contains ys v
+    left v c (inl e) = absurd (omega (arith, e, above x xs v u c, least (which y x ys (h x (first x xs)))))
+    left v c (inr d) = d
+
+-- where the last ones alone are too many, all are
+pub too-many-last : (xs ys whole : List ℕ) → xs ++ ys ≡ whole → 8 < length (with_vars ys []) → 8 < length (with_vars whole [])
+too-many-last xs ys whole e h =
+    let fewer = fits (with_vars ys []) (with_vars ys (with_vars xs [])) (up-with_vars ys [] tt) (up-with_vars ys (with_vars xs []) (up-with_vars xs [] tt)) among in
+    let same : with_vars ys (with_vars xs []) ≡ with_vars whole [] = sym (with_vars-append xs ys []) ∙ ap (λ (vs : List ℕ). with_vars vs []) e in
+    omega (arith, h, fewer, ap length same)
+  where
+    among : (v : ℕ) → Contains (with_vars ys []) v → Contains (with_vars ys (with_vars xs [])) v
+    among v c = (with_vars-members ys (with_vars xs []) v).1 (held ((with_vars-members ys [] v).0 c))
+      where
+        held : (Contains ys v ⊎ Contains [] v) → Contains ys v ⊎ Contains (with_vars xs []) v
+        held (inl d) = inl d
+        held (inr d) = absurd (omega (arith, d.1))
+
+-- the variables of lists one behind another
+atoms-behind : (xs ys : List Atom) → atoms_vars (xs ++ ys) ≡ atoms_vars xs ++ atoms_vars ys
+atoms-behind [] ys = refl
+atoms-behind (a ∷ xs) ys = ap (λ (vs : List ℕ). atom_vars a ++ vs) (atoms-behind xs ys) ∙ sym (append_assoc (atom_vars a) (atoms_vars xs) (atoms_vars ys))
+
+ints-behind : (xs ys : List OrdInt) → ints_vars (xs ++ ys) ≡ ints_vars xs ++ ints_vars ys
+ints-behind [] ys = refl
+ints-behind (a ∷ xs) ys = ap (λ (vs : List ℕ). int_vars a ++ vs) (ints-behind xs ys) ∙ sym (append_assoc (int_vars a) (ints_vars xs) (ints_vars ys))
+
+pub many-atoms : (xs ys whole : List Atom) → xs ++ ys ≡ whole → 8 < length (with_vars (atoms_vars ys) []) → 8 < length (with_vars (atoms_vars whole) [])
+many-atoms xs ys whole e h = too-many-last (atoms_vars xs) (atoms_vars ys) (atoms_vars whole) (sym (atoms-behind xs ys) ∙ ap atoms_vars e) h
+
+pub many-ints : (xs ys whole : List OrdInt) → xs ++ ys ≡ whole → 8 < length (with_vars (ints_vars ys) []) → 8 < length (with_vars (ints_vars whole) [])
+many-ints xs ys whole e h = too-many-last (ints_vars xs) (ints_vars ys) (ints_vars whole) (sym (ints-behind xs ys) ∙ ap ints_vars e) h
+
+-- those of a core whose atoms stand in one list
+pub many-listed : (xs : List Atom) → 8 < length (with_vars (atoms_vars xs) []) → 8 < length (with_vars (atoms_vars xs ++ []) [])
+many-listed xs h = subst (λ (vs : List ℕ). 8 < length (with_vars vs [])) (sym (append-nil (atoms_vars xs))) h
+
+-- those of an atom and of two lists of integers
+pub words-vars : (a : Atom) (xs ys : List OrdInt) → atoms_vars (a ∷ []) ++ ints_vars (xs ++ ys) ≡ atom_vars a ++ (ints_vars xs ++ ints_vars ys)
+words-vars a xs ys = ap (λ (vs : List ℕ). vs ++ ints_vars (xs ++ ys)) (append-nil (atom_vars a)) ∙ ap (λ (vs : List ℕ). atom_vars a ++ vs) (ints-behind xs ys)

@@ -1,6 +1,6 @@
 -- Cores that are as plain as trimming leaves them: no constants, and no two neighbouring steps with one variable's
 -- atoms that follow from one another.
-use Rattle.std.specs.Prelude.{◌≡◌, ℕ, false, List, [], ◌∷◌}
+use Rattle.std.specs.Prelude.{◌≡◌, ℕ, Bool, true, false, List, [], ◌∷◌}
 use Rattle.order_ints.specs.declared.atom.Atom.{Atom}
 use Rattle.order_ints.specs.declared.atom.Atom.TheVariants.{True, False, Of}
 use Rattle.order_ints.specs.declared.order_int.OrdInt.{OrdInt}
@@ -15,6 +15,12 @@ abbrev pub IsLiteral : Atom → Type 0
 IsLiteral True = ⊥
 IsLiteral False = ⊥
 IsLiteral (Of l) = Unit {0}
+
+-- beside it, the same as a test
+abbrev pub is_literal : Atom → Bool
+is_literal True = false
+is_literal False = false
+is_literal (Of l) = true
 
 abbrev pub AreLiterals : List Atom → Type 0
 AreLiterals [] = Unit {0}

@@ -41,17 +41,17 @@ impl<'a, T> Members<'a, T> {
     }
 
     /// The walk over two lists.
-    fn of_two(front: &'a [T], back: &'a [T]) -> Members<'a, T>
+    pub(crate) fn of_two(front: &'a [T], back: &'a [T]) -> Members<'a, T>
         ensures { result ≡ front.now ++ back.now }
     {
-        Members::of_four(&[], &[], front, back)
+        Members::of_four(front, back, &[], &[])
     }
 
     /// The walk over one list.
-    fn of(list: &'a [T]) -> Members<'a, T>
+    pub(crate) fn of(list: &'a [T]) -> Members<'a, T>
         ensures { result ≡ list.now }
     {
-        Members::of_two(&[], list)
+        Members::of_two(list, &[])
     }
 }
 
@@ -92,7 +92,7 @@ fn four_ints<'a>(a: &'a OrdInt, b: &'a OrdInt, c: &'a OrdInt, d: &'a OrdInt) -> 
 fn three_ints<'a>(a: &'a OrdInt, b: &'a OrdInt, c: &'a OrdInt) -> Members<'a, OrdInt>
     ensures { result ≡ a.now ∷ b.now ∷ c.now ∷ [] }
 {
-    Members::of_four(&[], from_ref(a), from_ref(b), from_ref(c))
+    Members::of_four(from_ref(a), from_ref(b), from_ref(c), &[])
 }
 
 /// The walk over four atoms.

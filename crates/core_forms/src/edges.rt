@@ -12,7 +12,7 @@ ghost use Rattle.core_forms.specs.Edges.{settled_core, restored, last_trimmed, w
 ghost use Rattle.core_forms.specs.Edges.{IsStableInside, InsideBelow};
 ghost use Rattle.core_forms.specs.Edges.{IsKnown, HasOwn, has_var, var_of, greatest_var, greatest_vars};
 ghost use Rattle.core_forms.specs.Place.{CoreBelow};
-ghost use Rattle.core_forms.specs.Plain.{IsLiteral, IsPlainInt};
+ghost use Rattle.core_forms.specs.Plain.{IsLiteral, is_literal, IsPlainInt};
 ghost use Rattle.core_forms.specs.Stable.{AreStableInts, IsStableCore};
 ghost use Rattle.core_forms.specs.Totals.{before_last};
 ghost use Rattle.core_forms.specs.Variables.{core_vars};
@@ -116,8 +116,9 @@ pub fn stable_below(core: &Core, view: &[Atom]) -> Option<u32>
 }
 
 /// Whether an atom is no constant.
-fn is_literal(atom: Atom) -> bool
-    ensures { IsTrue result → IsLiteral atom }
+pub fn is_literal(atom: Atom) -> bool
+    ensures exact { result ≡ is_literal atom }
+    ensures literal { IsTrue result → IsLiteral atom }
 {
     match atom {
         Atom::Of(_) => true,

@@ -1,15 +1,20 @@
 //! A core of few variables.
 
 ghost use Rattle.std.specs.Prelude.{◌≡◌, ◌<◌, ◌≤◌, ◌-◌, ◌++◌, length, take, drop, nat_lt, []};
-ghost use Rattle.std.specs.Prelude.{◌∷◌, IfSome, IfNone};
+ghost use Rattle.std.specs.Prelude.{◌∷◌, IfSome, IfNone, IsTrue};
 ghost use Rattle.std.specs.List.{prefix_len};
-ghost use Rattle.core_forms.specs.Contents.{ints_of, atoms_of};
 ghost use Rattle.core_forms.specs.Variables.{atom_vars, atoms_vars, int_vars, ints_vars, core_vars};
 ghost use Rattle.core_forms.specs.OwnVars.{with_var, with_vars, own_vars, if_few};
 
+use crate::contents::Members;
 use crate::form::Core;
 use order_ints::{Atom, OrdInt};
 use std::marker::Model;
+use std::slice::from_ref;
+
+/// So many members at the end of a list are looked at first: in what is left of a list that was cut, fresh variables
+/// stand there, and nine of them settle it.
+const LAST: usize = 16;
 
 /// At most eight variables, ascending. They take no memory, and a clause sees them as a list.
 #[derive(Drop)]
@@ -126,36 +131,87 @@ impl FewVars {
     }
 }
 
-/// Puts the variables of a core's atoms among others.
-fn put_atoms(vars: &mut FewVars, core: &Core) -> Option<()>
-    ensures put { IfSome result (λ _. vars.new ≡ with_vars (atoms_vars (atoms_of core.now)) vars.old) }
-    ensures full { IfNone result (8 < length (with_vars (atoms_vars (atoms_of core.now)) vars.old)) }
+/// Puts the variables of atoms among others.
+fn put_atoms(vars: &mut FewVars, atoms: Members<'_, Atom>) -> Option<()>
+    ensures put { IfSome result (λ _. vars.new ≡ with_vars (atoms_vars atoms.entry) vars.old) }
+    ensures full { IfNone result (8 < length (with_vars (atoms_vars atoms.entry) vars.old)) }
 {
-    for atom in core.atoms() {
+    for atom in atoms {
         vars.put_atom(*atom)?;
     }
     Some(())
 }
 
-/// Puts the variables of a core's integers among others.
-fn put_ints(vars: &mut FewVars, core: &Core) -> Option<()>
-    ensures put { IfSome result (λ _. vars.new ≡ with_vars (ints_vars (ints_of core.now)) vars.old) }
-    ensures full { IfNone result (8 < length (with_vars (ints_vars (ints_of core.now)) vars.old)) }
+/// Puts the variables of integers among others.
+fn put_ints(vars: &mut FewVars, ints: Members<'_, OrdInt>) -> Option<()>
+    ensures put { IfSome result (λ _. vars.new ≡ with_vars (ints_vars ints.entry) vars.old) }
+    ensures full { IfNone result (8 < length (with_vars (ints_vars ints.entry) vars.old)) }
 {
-    for a in core.ints() {
+    for a in ints {
         vars.put_int(a)?;
     }
     Some(())
 }
 
+/// The different variables of atoms and integers, ascending, where there are at most eight.
+fn few_of(atoms: Members<'_, Atom>, ints: Members<'_, OrdInt>) -> Option<FewVars>
+    ensures { result ≡ if_few (with_vars (atoms_vars atoms.entry ++ ints_vars ints.entry) []) }
+{
+    let mut vars = FewVars::none();
+    put_atoms(&mut vars, atoms)?;
+    put_ints(&mut vars, ints)?;
+    let _known = &vars.count;
+    Some(vars)
+}
+
+/// Whether the last of many atoms have nine different variables.
+fn have_many_at_end(atoms: &[Atom]) -> bool
+    ensures { IsTrue result → 8 < length (with_vars (atoms_vars atoms.now) []) }
+{
+    if atoms.len() <= LAST {
+        return false;
+    }
+    let (_, last) = atoms.split_at(atoms.len() - LAST);
+    put_atoms(&mut FewVars::none(), Members::of(last)).is_none()
+}
+
+/// Whether the last of many integers have nine different variables.
+fn have_many_steps_at_end(ints: &[OrdInt]) -> bool
+    ensures { IsTrue result → 8 < length (with_vars (ints_vars ints.now) []) }
+{
+    if ints.len() <= LAST {
+        return false;
+    }
+    let (_, last) = ints.split_at(ints.len() - LAST);
+    put_ints(&mut FewVars::none(), Members::of(last)).is_none()
+}
+
+/// Whether the last members of a core have nine different variables, where it is cut as a list.
+fn has_many_at_end(core: &Core) -> bool
+    ensures { IsTrue result → 8 < length (own_vars core.now) }
+{
+    match core {
+        Core::Parity(atoms, _) | Core::Amo(atoms) => have_many_at_end(atoms.as_slice()),
+        Core::Sum(ints, _) => have_many_steps_at_end(ints.as_slice()),
+        _ => false,
+    }
+}
+
 /// The different variables of a core, ascending, where there are at most eight. It takes no memory and
-/// one pass over the core, which ends at the ninth.
+/// one pass over the core, which ends at the ninth; nine at the end of a long parity, at-most-one or sum end it at once.
 pub fn few_variables(core: &Core) -> Option<FewVars>
     ensures { result ≡ if_few (own_vars core.now) }
 {
-    let mut vars = FewVars::none();
-    put_atoms(&mut vars, core)?;
-    put_ints(&mut vars, core)?;
-    let _known = &vars.count;
-    Some(vars)
+    if has_many_at_end(core) {
+        return None;
+    }
+    few_of(core.atoms(), core.ints())
+}
+
+/// The different variables of an atom and of two lists of integers, ascending, where there are at most eight. It takes
+/// no memory and one pass, which ends at the ninth.
+pub fn few_of_words(truth: Atom, front: &[OrdInt], back: &[OrdInt]) -> Option<FewVars>
+    ensures { result ≡ if_few (with_vars (atom_vars truth ++ (ints_vars front.now ++ ints_vars back.now)) []) }
+{
+    few_of(Members::of(from_ref(&truth)), Members::of_two(front, back))
 }

@@ -18,8 +18,8 @@ use numbers::{is_equal, is_less, is_quotient};
 use order_ints::{TruthRow, TruthValues};
 use sums::{is_count, is_product, is_sum, is_total};
 
-/// Whether truth values meet a core. It takes no memory, and one pass over the core; of an `AllDiff` one
-/// over what stands behind each true condition.
+/// Whether truth values meet a core. It takes no memory, and two passes over each integer, for its order and for its
+/// value; of an `AllDiff` one over what stands behind each true condition.
 pub fn holds<T: TruthValues>(core: &Core, sigma: T) -> bool
     requires well_formed { IsWellFormed core.now }
     ensures { result ≡ core_truth (T.valuation sigma) core.now }

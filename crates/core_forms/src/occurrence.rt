@@ -19,19 +19,6 @@ fn put_atom(vars: &mut Vec<u32>, atom: Atom) -> Result<(), AllocError>
     Ok(())
 }
 
-/// Puts the variables of listed atoms behind those of a list.
-fn put_listed(vars: &mut Vec<u32>, atoms: &[Atom]) -> Result<(), AllocError>
-    ensures { OnOk result (vars.new.items ≡ vars.old.items ++ atoms_vars atoms.now) }
-{
-    vars.reserve(atoms.len())?;
-    for atom in atoms {
-        if let Atom::Of(literal) = atom {
-            vars.push(literal.var())?;
-        }
-    }
-    Ok(())
-}
-
 /// Puts the variables of an integer behind those of a list.
 fn put_int(vars: &mut Vec<u32>, a: &OrdInt) -> Result<(), AllocError>
     ensures { OnOk result (vars.new.items ≡ vars.old.items ++ int_vars a.now) }
@@ -46,9 +33,6 @@ fn put_int(vars: &mut Vec<u32>, a: &OrdInt) -> Result<(), AllocError>
 fn put_atoms(vars: &mut Vec<u32>, core: &Core) -> Result<(), AllocError>
     ensures { OnOk result (vars.new.items ≡ vars.old.items ++ atoms_vars (atoms_of core.now)) }
 {
-    if let Core::Parity(atoms, _) | Core::Amo(atoms) | Core::Clause(atoms) = core {
-        return put_listed(vars, atoms.as_slice());
-    }
     for atom in core.atoms() {
         put_atom(vars, *atom)?;
     }
@@ -76,7 +60,7 @@ fn put_core(vars: &mut Vec<u32>, core: &Core) -> Result<(), AllocError>
 }
 
 /// Whether each number is less than the next one.
-fn is_increasing(numbers: &[u32]) -> bool
+pub fn is_increasing(numbers: &[u32]) -> bool
     ensures { IsTrue result → IsStrictlyIncreasing numbers.now }
 {
     for i in 1..numbers.len() {

@@ -18,7 +18,7 @@ pub struct Totals {
     pub low: i128,
     /// The greatest values less the least ones, added up.
     pub width: u128,
-    /// No member but the last has a greatest value so much above its least one.
+    /// No member but the last has its greatest value farther than this above its least one.
     pub widest: u128,
 }
 

@@ -81,7 +81,7 @@ order_of b word =
     (if bytes_eq word (codes "lexLt_reif") then Some (record { of_booleans = b; strict = true; reified = true })
     else None)))
 
--- the names that stand alone in their lines
+-- the names that share no form with others
 unfoldable pub lone_statement : List ℕ → Option Statement
 lone_statement name = if bytes_eq name (codes "new_bool") then Some statement.NewBool else
     (if bytes_eq name (codes "new_int") then Some statement.NewInt else
@@ -89,7 +89,7 @@ lone_statement name = if bytes_eq name (codes "new_bool") then Some statement.Ne
     (if bytes_eq name (codes "bool_eq") then Some statement.BoolEq else
     (if bytes_eq name (codes "int_abs") then Some statement.Absolute else None))))
 
--- lines 5 to 7: `bool_OP_reif`, `bool_array_OP`, `bool_array_OP_reif`
+-- `bool_OP_reif`, `bool_array_OP`, `bool_array_OP_reif`
 unfoldable pub operator_statement : List ℕ → Option Statement
 operator_statement name =
     first_of (option_map statement.BoolOp (option_and_then operator_of (between (codes "bool_") (codes "_reif") name)))
@@ -97,8 +97,7 @@ operator_statement name =
     (option_map statement.BoolArrayReified
     (option_and_then operator_of (between (codes "bool_array_") (codes "_reif") name))))
 
--- lines 8 to 13: `int_REL`, `int_REL_reif`, `bool_array_sum_REL`, `bool_array_pb_REL`, `int_array_sum_REL`,
--- `int_array_lin_REL`
+-- `int_REL`, `int_REL_reif`, `bool_array_sum_REL`, `bool_array_pb_REL`, `int_array_sum_REL`, `int_array_lin_REL`
 unfoldable pub relation_statement : List ℕ → Option Statement
 relation_statement name =
     first_of (option_map statement.Compare (option_and_then relation_of (after (codes "int_") name)))

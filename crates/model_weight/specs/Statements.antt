@@ -54,8 +54,8 @@ weight_of_array operator.And k = cost_of_conj k
 weight_of_array operator.Xor k = cost_of_parity k
 weight_of_array operator.Iff k = (k - 1) * cost_of_parity 2
 
--- lines 5 and 7: a Boolean is an operator of k members. They are all equal where one of two fresh Booleans is true,
--- which are the conjunction of the members and that of their negations
+-- `bool_OP_reif`, `bool_array_OP_reif`: a Boolean is an operator of k members. They are all equal where one of two
+-- fresh Booleans is true, which are the conjunction of the members and that of their negations
 abbrev pub weight_of_reified_array : Operator → ℕ → ℕ
 weight_of_reified_array operator.Or k = cost_of_conj k
 weight_of_reified_array operator.And k = cost_of_conj k

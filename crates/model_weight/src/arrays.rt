@@ -8,7 +8,7 @@ use core_cost::{clause_cost, conj_cost, parity_cost};
 use model_meaning::Operator;
 
 /// An operator of so many members is true.
-pub fn array_weight(operator: Operator, members: usize) -> u128
+pub(crate) fn array_weight(operator: Operator, members: usize) -> u128
     ensures { result ≡ saturated (weight_of_array operator members) }
 {
     match operator {
@@ -20,7 +20,7 @@ pub fn array_weight(operator: Operator, members: usize) -> u128
 }
 
 /// A Boolean is an operator of so many members.
-pub fn reified_array_weight(operator: Operator, members: usize) -> u128
+pub(crate) fn reified_array_weight(operator: Operator, members: usize) -> u128
     requires { members + 1 < 2 ^ 64 }
     ensures { result ≡ saturated (weight_of_reified_array operator members) }
 {

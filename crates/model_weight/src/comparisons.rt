@@ -8,7 +8,7 @@ use core_cost::{count_cost, eq_cost, leq_cost};
 use model_meaning::Relation;
 
 /// An atom is the truth of a comparison of two integers with so many steps.
-pub fn comparison_weight(relation: Relation, left: u128, right: u128) -> u128
+pub(crate) fn comparison_weight(relation: Relation, left: u128, right: u128) -> u128
     ensures { result ≡ saturated (weight_of_comparison relation left right) }
 {
     match relation {
@@ -29,7 +29,7 @@ fn fresh_count_weight(relation: Relation, members: usize, bound: u128) -> u128
 }
 
 /// The number of true members is compared to an integer with so many steps.
-pub fn count_weight(relation: Relation, members: usize, bound: u128) -> u128
+pub(crate) fn count_weight(relation: Relation, members: usize, bound: u128) -> u128
     ensures { result ≡ saturated (weight_of_count relation members bound) }
 {
     match relation {

@@ -96,7 +96,7 @@ fn linear_weight(
 }
 
 /// The number of true members, each times its coefficient, stands in a relation to an integer.
-pub fn truths_weight(
+pub(crate) fn truths_weight(
     alloc: Global,
     decls: &[Decl],
     relation: Relation,
@@ -117,7 +117,7 @@ pub fn truths_weight(
 }
 
 /// The sum of the members, each times its coefficient, stands in a relation to an integer.
-pub fn numbers_weight(
+pub(crate) fn numbers_weight(
     alloc: Global,
     decls: &[Decl],
     relation: Relation,
@@ -139,7 +139,7 @@ pub fn numbers_weight(
 }
 
 /// The sum of the members stands in a relation to an integer.
-pub fn total_weight(
+pub(crate) fn total_weight(
     alloc: Global,
     decls: &[Decl],
     relation: Relation,

@@ -16,7 +16,11 @@ use model_meaning::{Decl, OrderLists, What, terms_or_none};
 use std::alloc::{AllocError, Global};
 
 /// The weight of a statement.
-pub fn statement_weight(alloc: Global, decls: &[Decl], what: &What) -> Result<u128, AllocError>
+pub(crate) fn statement_weight(
+    alloc: Global,
+    decls: &[Decl],
+    what: &What,
+) -> Result<u128, AllocError>
     requires decls { DeclsInLimit decls.now }
     requires what { WhatInLimit what.now }
     ensures { IfOk result (λ weight. weight ≡ saturated (weight_of_what decls.now what.now)) }

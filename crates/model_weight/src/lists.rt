@@ -10,7 +10,11 @@ use model_meaning::{BoolTerm, Decl, IntTerm};
 use std::alloc::{AllocError, Global};
 
 /// The numbers of steps of integer terms.
-pub fn all_steps(alloc: Global, decls: &[Decl], terms: &[IntTerm]) -> Result<Vec<u128>, AllocError>
+pub(crate) fn all_steps(
+    alloc: Global,
+    decls: &[Decl],
+    terms: &[IntTerm],
+) -> Result<Vec<u128>, AllocError>
     ensures { IfOk result (λ steps. steps.items ≡ all_steps decls.now terms.now) }
 {
     let mut steps = Vec::with_capacity(alloc, terms.len())?;
@@ -21,7 +25,7 @@ pub fn all_steps(alloc: Global, decls: &[Decl], terms: &[IntTerm]) -> Result<Vec
 }
 
 /// The pairs of the numbers of steps of two lists of integer terms.
-pub fn pairs_of_steps(
+pub(crate) fn pairs_of_steps(
     alloc: Global,
     decls: &[Decl],
     left: &[IntTerm],
@@ -39,7 +43,7 @@ pub fn pairs_of_steps(
 }
 
 /// The pairs of the numbers of steps of two lists of Booleans.
-pub fn pairs_of_truths(
+pub(crate) fn pairs_of_truths(
     alloc: Global,
     left: &[BoolTerm],
     right: &[BoolTerm],

@@ -29,7 +29,7 @@ fn scaled(coefficient: i64, shape: Shape) -> Shape
 }
 
 /// Adds a member, unless it has no step.
-pub fn add_member(members: &mut Vec<Shape>, member: Shape) -> Result<(), AllocError>
+pub(crate) fn add_member(members: &mut Vec<Shape>, member: Shape) -> Result<(), AllocError>
     ensures { OnOk result (members.new.items ≡ members.old.items ++ with_steps (member ∷ [])) }
 {
     if member.steps != 0 {
@@ -39,7 +39,7 @@ pub fn add_member(members: &mut Vec<Shape>, member: Shape) -> Result<(), AllocEr
 }
 
 /// The Booleans that have steps, times their coefficients.
-pub fn scaled_truths(
+pub(crate) fn scaled_truths(
     alloc: Global,
     coefficients: &[i64],
     members: &[BoolTerm],
@@ -57,7 +57,7 @@ pub fn scaled_truths(
 }
 
 /// The integers that have steps, times their coefficients.
-pub fn scaled_numbers(
+pub(crate) fn scaled_numbers(
     alloc: Global,
     decls: &[Decl],
     coefficients: &[i64],
@@ -81,7 +81,11 @@ pub fn scaled_numbers(
 }
 
 /// The integers that have steps.
-pub fn numbers(alloc: Global, decls: &[Decl], members: &[IntTerm]) -> Result<Vec<Shape>, AllocError>
+pub(crate) fn numbers(
+    alloc: Global,
+    decls: &[Decl],
+    members: &[IntTerm],
+) -> Result<Vec<Shape>, AllocError>
     requires { DeclsInLimit decls.now }
     ensures shapes { IfOk result (λ shapes. shapes.items ≡ with_steps (numbers decls.now members.now)) }
     ensures spans { IfOk result (λ shapes. spans_of shapes.items ≤ 2 ^ 61 * length members.now) }

@@ -36,7 +36,7 @@ fn quotient_steps(dividend: Domain<'_>, divisor: Domain<'_>) -> u128
 }
 
 /// An integer is what an operation gives of two others, by the domains of the three.
-pub fn operation_weight(
+pub(crate) fn operation_weight(
     operation: Arithmetic,
     left: Domain<'_>,
     right: Domain<'_>,
@@ -77,7 +77,7 @@ fn extreme_weight(
 }
 
 /// An integer is the sum, the greatest or the least member of a list.
-pub fn aggregate_weight(
+pub(crate) fn aggregate_weight(
     alloc: Global,
     decls: &[Decl],
     operation: Aggregate,
@@ -96,7 +96,7 @@ pub fn aggregate_weight(
 }
 
 /// Members of a list differ.
-pub fn all_different_weight(
+pub(crate) fn all_different_weight(
     alloc: Global,
     decls: &[Decl],
     kind: AllDifferent,

@@ -10,7 +10,7 @@ use model_meaning::{Decl, Order, OrderLists};
 use std::alloc::{AllocError, Global};
 
 /// Two lists are in order.
-pub fn order_weight(
+pub(crate) fn order_weight(
     alloc: Global,
     decls: &[Decl],
     order: Order,

@@ -57,7 +57,7 @@ fn pair_count(members: usize) -> u128
 }
 
 /// The truth of the members' being different, by their numbers of steps. It takes a sort and one pass.
-pub fn reified_all_different_weight(mut steps: Vec<u128>) -> u128
+pub(crate) fn reified_all_different_weight(mut steps: Vec<u128>) -> u128
     ensures { result ≡ saturated (weight_of_reified_all_different steps.items) }
 {
     steps.sort_unstable();

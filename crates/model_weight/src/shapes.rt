@@ -10,7 +10,7 @@ use model_meaning::{Decl, IntTerm, Kind};
 
 /// The domain of an integer term, as the model lends it.
 #[derive(Clone, Copy)]
-pub enum Domain<'a> {
+pub(crate) enum Domain<'a> {
     /// That of a declaration.
     Declared(&'a Kind),
     /// That of a numeral, which is the numeral alone.
@@ -30,7 +30,7 @@ fn gap(low: i64, high: i64) -> u128
 }
 
 /// How many steps an integer has with this declared domain: one for each value but the least. A Boolean has one.
-pub fn steps_of(kind: &Kind) -> u128
+pub(crate) fn steps_of(kind: &Kind) -> u128
     ensures { result ≡ steps_of kind.now }
 {
     match kind {
@@ -41,7 +41,7 @@ pub fn steps_of(kind: &Kind) -> u128
 }
 
 /// How many steps an integer has with this domain.
-pub fn steps(domain: Domain<'_>) -> u128
+pub(crate) fn steps(domain: Domain<'_>) -> u128
     ensures { result ≡ steps_of (lent_domain domain.entry) }
 {
     match domain {
@@ -64,7 +64,7 @@ fn shape_of(kind: &Kind) -> Shape
 }
 
 /// The shape of an integer with this domain.
-pub fn shape(domain: Domain<'_>) -> Shape
+pub(crate) fn shape(domain: Domain<'_>) -> Shape
     ensures shape { result ≡ shape_of (lent_domain domain.entry) }
     ensures span { result.span < 2 ^ 64 }
     ensures divisor { result.divisor < 2 ^ 64 }
@@ -98,7 +98,7 @@ fn least_of(kind: &Kind) -> u128
 }
 
 /// The least value, or 0 where it is negative.
-pub fn least(domain: Domain<'_>) -> u128
+pub(crate) fn least(domain: Domain<'_>) -> u128
     ensures { result ≡ least_of (lent_domain domain.entry) }
 {
     match domain {
@@ -119,7 +119,7 @@ fn greatest_of(kind: &Kind) -> u128
 }
 
 /// The greatest value, or 0 where it is negative.
-pub fn greatest(domain: Domain<'_>) -> u128
+pub(crate) fn greatest(domain: Domain<'_>) -> u128
     ensures { result ≡ greatest_of (lent_domain domain.entry) }
 {
     match domain {
@@ -129,7 +129,7 @@ pub fn greatest(domain: Domain<'_>) -> u128
 }
 
 /// The domain of an integer term; past the last declaration it is 0 alone.
-pub fn domain_of(decls: &[Decl], term: IntTerm) -> Domain<'_>
+pub(crate) fn domain_of(decls: &[Decl], term: IntTerm) -> Domain<'_>
     ensures { lent_domain result ≡ domain_of decls.now term }
 {
     match term {
@@ -142,14 +142,14 @@ pub fn domain_of(decls: &[Decl], term: IntTerm) -> Domain<'_>
 }
 
 /// How many steps the integer of a term has.
-pub fn steps_in(decls: &[Decl], term: IntTerm) -> u128
+pub(crate) fn steps_in(decls: &[Decl], term: IntTerm) -> u128
     ensures { result ≡ steps_in decls.now term }
 {
     steps(domain_of(decls, term))
 }
 
 /// The shape of the integer of a term.
-pub fn shape_in(decls: &[Decl], term: IntTerm) -> Shape
+pub(crate) fn shape_in(decls: &[Decl], term: IntTerm) -> Shape
     ensures shape { result ≡ shape_in decls.now term }
     ensures span { result.span < 2 ^ 64 }
     ensures divisor { result.divisor < 2 ^ 64 }

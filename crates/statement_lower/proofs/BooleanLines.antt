@@ -94,7 +94,7 @@ odd-last σ (a ∷ atoms) z = by_truth (atom_truth σ a) (forms.true_count σ (a
     by_truth true m n e = ap not e ∙ same-not (atom_truth σ z) (forms.is_odd n)
     by_truth false m n e = e
 
--- Line 4.
+-- `bool_eq`.
 
 pub equal-truth : (σ : Valuation) (x y : Atom) → core_truth σ (equal_core x y) ≡ same (atom_truth σ x) (atom_truth σ y)
 equal-truth σ x y = by_truths (atom_truth σ x) (atom_truth σ y)
@@ -105,7 +105,7 @@ equal-truth σ x y = by_truths (atom_truth σ x) (atom_truth σ y)
     by_truths false true = refl
     by_truths false false = refl
 
--- Line 6.
+-- `bool_array_OP`.
 
 all-equal : (σ : Valuation) (x : Atom) (t : Bool) (atoms : List Atom) → atom_truth σ x ≡ t → cores_truth σ (map (equal_core x) atoms) ≡ (if t then all_true (forms.truths σ atoms) else none_true (forms.truths σ atoms))
 all-equal σ x true [] e = refl
@@ -129,7 +129,7 @@ array-truth σ operator.And atoms = and-true _ ∙ (true-beq (forms.all_true σ 
 array-truth σ operator.Xor atoms = and-true _ ∙ (beq-true (forms.is_odd (forms.true_count σ atoms)) ∙ odd-truths σ atoms)
 array-truth σ operator.Iff atoms = equal-cores-truth σ atoms
 
--- Lines 5 and 7.
+-- `bool_OP_reif`, `bool_array_OP_reif`.
 
 module _ (σ : Valuation) (atoms : List Atom) (z : Atom) where
   pub or-truth : beq (atom_truth σ (not_atom z)) (forms.all_true σ (map not_atom atoms)) ≡ same (atom_truth σ z) (some_true (forms.truths σ atoms))

@@ -109,7 +109,7 @@ module _ (vars n : ℕ) (ds : List Decl) (entries : List MapValue) (h : EntriesF
       (λ σ c. scaled-ordered σ cs bits (ordered-bits σ (atoms_of entries xs)))
       (λ σ. scaled-total σ cs bits ∙ (ap (linear_sum cs) (values-bits σ (atoms_of entries xs) ∙ ap (map as_number) (atoms_of-truths σ (vars + 1) n ds entries xs h fs)) ∙ bits-linear cs (truths_of (env σ) xs)))
 
-  -- lines 12 and 16
+  -- `int_array_sum_REL`, `int_array_plus`
   pub sums-stand : (rel : Relation) (is : List IntTerm) (i : IntTerm)
       → NumbersFit ds n is → TermsInLimit is → length is ≤ 16777216 → NumberFits ds n i → TermInLimit i
       → Lowers vars (linear_made vars rel (integers_of entries is) (integer_of entries i)).vars C (linear_made vars rel (integers_of entries is) (integer_of entries i)).cores

@@ -79,7 +79,7 @@ use Rattle.statement_lower.proofs.EqualSums.{truths-stand, sums-stand, multiples
 use Rattle.statement_lower.proofs.MeaningLaws.{same_meanings}
 use Rattle.statement_lower.proofs.LowersLaws.{lowers-here, lowers-one, lowers-same, lowers-behind}
 
--- Line 6: ranges.
+-- `bool_array_OP`: ranges.
 
 pub equal-cores-below : (n : ℕ) (atoms : List Atom) → AtomsBelow n atoms → CoresBelow n (equal_cores atoms)
 equal-cores-below n [] h = tt
@@ -113,7 +113,7 @@ AtomsBelow-last : (n : ℕ) (atoms : List Atom) (z : Atom) → AtomsBelow n atom
 AtomsBelow-last n [] z h k = (k, tt)
 AtomsBelow-last n (a ∷ atoms) z h k = (h.0, AtomsBelow-last n atoms z h.1 k)
 
--- Line 10: the number of true members.
+-- `bool_array_sum_REL`: the number of true members.
 
 count-most : (σ : Valuation) (atoms : List Atom) → forms.true_count σ atoms ≤ length atoms
 count-most σ [] = omega arith
@@ -130,7 +130,7 @@ count-agree n σ τ atoms agree below =
 -- Over atoms and integers.
 
 module _ (vars : ℕ) (C : Valuation → Type 0) (keeps : DependsBelow (vars + 1) C) where
-  -- lines 5 and 7
+  -- `bool_OP_reif`, `bool_array_OP_reif`
   pub operator-lowers : (op : Operator) (atoms : List Atom) (z : Atom) → AtomsBelow (vars + 1) atoms → AtomBelow (vars + 1) z
       → Lowers vars (operator_made vars op atoms z).vars C (operator_made vars op atoms z).cores (λ σ. IsTrue (same (atom_truth σ z) (combine op (forms.truths σ atoms))))
   operator-lowers operator.Or atoms z below at =

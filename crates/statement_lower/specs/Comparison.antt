@@ -7,7 +7,7 @@ use Rattle.core_forms.specs.declared.form.Core.TheVariants as core
 use Rattle.model_meaning.specs.declared.statement.Relation.{Relation}
 use Rattle.model_meaning.specs.declared.statement.Relation.TheVariants as relation
 
--- lines 8 and 9: r is the truth of a comparison
+-- `int_REL`, where r is True, and `int_REL_reif`: r is the truth of a comparison
 abbrev pub comparison_core : Relation → Atom → OrdInt → OrdInt → Core
 comparison_core relation.Leq r a b = core.LeqR r a b
 comparison_core relation.Geq r a b = core.LeqR r b a

@@ -83,7 +83,7 @@ all_equal_cores all none atoms z =
     core.Conj all atoms ∷ core.Conj none (map not_atom atoms)
     ∷ core.Conj (not_atom z) (not_atom all ∷ not_atom none ∷ []) ∷ []
 
--- lines 5 and 7: z is the truth of an operator of a list
+-- `bool_OP_reif`, `bool_array_OP_reif`: z is the truth of an operator of a list
 abbrev pub operator_made : ℕ → Operator → List Atom → Atom → MadeCores
 operator_made vars operator.Or atoms z = made_here vars (core.Conj (not_atom z) (map not_atom atoms) ∷ [])
 operator_made vars operator.And atoms z = made_here vars (core.Conj z atoms ∷ [])

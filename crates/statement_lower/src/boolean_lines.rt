@@ -6,12 +6,13 @@ ghost use Rattle.statement_lower.specs.Fresh.{fresh_atom, second_fresh_atom};
 ghost use Rattle.statement_lower.specs.Lines.{equal_core, equal_cores, array_cores, all_equal_cores, made_here};
 ghost use Rattle.statement_lower.specs.Lines.{operator_made};
 
+use crate::lowering::Lowering;
 use crate::made::MadeCores;
 use crate::terms::{atom_of, atoms_of, negated_atoms};
 use bee_list::Sequence;
 use core_forms::Core;
 use model_meaning::{BoolTerm, Operator};
-use order_ints::{Atom, Lit, MapValue};
+use order_ints::{Atom, Lit};
 use std::alloc::{AllocError, Global};
 
 /// The core that says that two atoms are equal.
@@ -33,43 +34,6 @@ fn equal_cores(alloc: Global, atoms: &[Atom]) -> Result<Sequence<Core>, AllocErr
         }
     }
     Ok(Sequence::from_vec(cores))
-}
-
-/// Two Booleans are equal.
-pub fn equal_made(
-    alloc: Global,
-    entries: &[MapValue],
-    vars: u32,
-    left: BoolTerm,
-    right: BoolTerm,
-) -> Result<MadeCores, AllocError>
-    ensures { IfOk result
-        (λ m. m ≡ made_here vars (equal_core (atom_of entries.now left) (atom_of entries.now right) ∷ [])) }
-{
-    let core = equal_core(alloc, atom_of(entries, left), atom_of(entries, right))?;
-    MadeCores::of_core(alloc, vars, core)
-}
-
-/// An operator of a list is true.
-pub fn array_made(
-    alloc: Global,
-    entries: &[MapValue],
-    vars: u32,
-    operator: Operator,
-    members: &[BoolTerm],
-) -> Result<MadeCores, AllocError>
-    ensures { IfOk result (λ m. m ≡ made_here vars (array_cores operator (atoms_of entries.now members.now))) }
-{
-    let atoms = atoms_of(alloc, entries, members)?;
-    match operator {
-        Operator::Or => MadeCores::of_core(alloc, vars, Core::Clause(atoms)),
-        Operator::And => MadeCores::of_core(alloc, vars, Core::Conj(Atom::True, atoms)),
-        Operator::Xor => MadeCores::of_core(alloc, vars, Core::Parity(atoms, true)),
-        Operator::Iff => {
-            let cores = equal_cores(alloc, atoms.as_slice())?;
-            Ok(MadeCores { vars, cores })
-        }
-    }
 }
 
 /// Whether all are true, whether none is, and that an atom is the truth of one of these.
@@ -132,41 +96,100 @@ fn operator_made(
     }
 }
 
-/// A Boolean is an operator of two.
-pub fn pair_made(
-    alloc: Global,
-    entries: &[MapValue],
-    vars: u32,
-    operator: Operator,
-    left: BoolTerm,
-    right: BoolTerm,
-    truth: BoolTerm,
-) -> Result<MadeCores, AllocError>
-    requires room { (operator_made vars operator (atom_of entries.now left ∷ atom_of entries.now right ∷ [])
-        (atom_of entries.now truth)).vars < 2 ^ 27 }
-    ensures { IfOk result
-        (λ m. m ≡ operator_made vars operator (atom_of entries.now left ∷ atom_of entries.now right ∷ [])
-        (atom_of entries.now truth)) }
-{
-    let atoms = vec![in alloc; atom_of(entries, left), atom_of(entries, right)]?;
-    let truth = atom_of(entries, truth);
-    operator_made(alloc, vars, operator, Sequence::from_vec(atoms), truth)
-}
+impl Lowering<'_> {
+    /// Two Booleans are equal.
+    pub(crate) fn equal_made(
+        &self,
+        left: BoolTerm,
+        right: BoolTerm,
+    ) -> Result<MadeCores, AllocError>
+        ensures { IfOk result
+            (λ m. m ≡ made_here self.now.vars (equal_core (atom_of self.now.entries.now left)
+            (atom_of self.now.entries.now right) ∷ [])) }
+    {
+        let core = equal_core(
+            self.alloc,
+            atom_of(self.entries, left),
+            atom_of(self.entries, right),
+        )?;
+        MadeCores::of_core(self.alloc, self.vars, core)
+    }
 
-/// A Boolean is an operator of a list.
-pub fn truth_made(
-    alloc: Global,
-    entries: &[MapValue],
-    vars: u32,
-    operator: Operator,
-    members: &[BoolTerm],
-    truth: BoolTerm,
-) -> Result<MadeCores, AllocError>
-    requires room { (operator_made vars operator (atoms_of entries.now members.now) (atom_of entries.now truth)).vars
-        < 2 ^ 27 }
-    ensures { IfOk result
-        (λ m. m ≡ operator_made vars operator (atoms_of entries.now members.now) (atom_of entries.now truth)) }
-{
-    let atoms = atoms_of(alloc, entries, members)?;
-    operator_made(alloc, vars, operator, atoms, atom_of(entries, truth))
+    /// An operator of a list is true.
+    pub(crate) fn array_made(
+        &self,
+        operator: Operator,
+        members: &[BoolTerm],
+    ) -> Result<MadeCores, AllocError>
+        ensures { IfOk result (λ m. m ≡ made_here self.now.vars
+            (array_cores operator (atoms_of self.now.entries.now members.now))) }
+    {
+        let atoms = atoms_of(self.alloc, self.entries, members)?;
+        match operator {
+            Operator::Or => MadeCores::of_core(self.alloc, self.vars, Core::Clause(atoms)),
+            Operator::And => MadeCores::of_core(
+                self.alloc,
+                self.vars,
+                Core::Conj(Atom::True, atoms),
+            ),
+            Operator::Xor => MadeCores::of_core(self.alloc, self.vars, Core::Parity(atoms, true)),
+            Operator::Iff => {
+                let cores = equal_cores(self.alloc, atoms.as_slice())?;
+                Ok(MadeCores {
+                    vars: self.vars,
+                    cores,
+                })
+            }
+        }
+    }
+
+    /// A Boolean is an operator of two.
+    pub(crate) fn pair_made(
+        &self,
+        operator: Operator,
+        left: BoolTerm,
+        right: BoolTerm,
+        truth: BoolTerm,
+    ) -> Result<MadeCores, AllocError>
+        requires room { (operator_made self.now.vars operator
+            (atom_of self.now.entries.now left ∷ atom_of self.now.entries.now right ∷ [])
+            (atom_of self.now.entries.now truth)).vars < 2 ^ 27 }
+        ensures { IfOk result
+            (λ m. m ≡ operator_made self.now.vars operator
+            (atom_of self.now.entries.now left ∷ atom_of self.now.entries.now right ∷ [])
+            (atom_of self.now.entries.now truth)) }
+    {
+        let atoms = vec![in self.alloc; atom_of(self.entries, left), atom_of(self.entries, right)]?;
+        let truth = atom_of(self.entries, truth);
+        operator_made(
+            self.alloc,
+            self.vars,
+            operator,
+            Sequence::from_vec(atoms),
+            truth,
+        )
+    }
+
+    /// A Boolean is an operator of a list.
+    pub(crate) fn truth_made(
+        &self,
+        operator: Operator,
+        members: &[BoolTerm],
+        truth: BoolTerm,
+    ) -> Result<MadeCores, AllocError>
+        requires room { (operator_made self.now.vars operator (atoms_of self.now.entries.now members.now)
+            (atom_of self.now.entries.now truth)).vars < 2 ^ 27 }
+        ensures { IfOk result
+            (λ m. m ≡ operator_made self.now.vars operator (atoms_of self.now.entries.now members.now)
+            (atom_of self.now.entries.now truth)) }
+    {
+        let atoms = atoms_of(self.alloc, self.entries, members)?;
+        operator_made(
+            self.alloc,
+            self.vars,
+            operator,
+            atoms,
+            atom_of(self.entries, truth),
+        )
+    }
 }

@@ -101,7 +101,7 @@ fn last_core(
 }
 
 /// Members and a number, added up, stand in a relation to 0. Each member is moved, and a fresh one is copied once.
-pub fn compared_made(
+pub(crate) fn compared_made(
     alloc: Global,
     vars: u32,
     relation: Relation,

@@ -9,7 +9,7 @@ use order_ints::OrdInt;
 use std::alloc::{AllocError, Global};
 
 /// A fresh integer from 0 to `most`, behind so many variables.
-pub fn fresh_range(alloc: Global, vars: u32, most: u32) -> Result<OrdInt, AllocError>
+pub(crate) fn fresh_range(alloc: Global, vars: u32, most: u32) -> Result<OrdInt, AllocError>
     requires { vars + most < 2 ^ 27 }
     ensures { IfOk result (λ a. a ≡ fresh_range vars most) }
 {
@@ -32,7 +32,7 @@ fn less_one(number: i128) -> i128
 }
 
 /// The greatest remainder of a division.
-pub fn most_remainder(dividend: &OrdInt, divisor: &OrdInt) -> u128
+pub(crate) fn most_remainder(dividend: &OrdInt, divisor: &OrdInt) -> u128
     requires dividend { IsBounded dividend.now }
     requires divisor { IsBounded divisor.now }
     ensures { result ≡ most_remainder dividend.now divisor.now }
@@ -42,7 +42,7 @@ pub fn most_remainder(dividend: &OrdInt, divisor: &OrdInt) -> u128
 }
 
 /// The greatest quotient of a division.
-pub fn most_quotient(dividend: &OrdInt, divisor: &OrdInt) -> u128
+pub(crate) fn most_quotient(dividend: &OrdInt, divisor: &OrdInt) -> u128
     requires dividend { IsBounded dividend.now }
     requires divisor { IsBounded divisor.now }
     ensures { result ≡ most_quotient dividend.now divisor.now }

@@ -25,6 +25,7 @@ mod integer_lines;
 mod laws;
 mod linear_lines;
 mod list_lines;
+mod lowering;
 mod made;
 mod pair_lines;
 mod statements;

@@ -10,13 +10,14 @@ ghost use Rattle.statement_lower.specs.Linear.{linear_made, AreSummands};
 ghost use Rattle.statement_lower.specs.Lines.{scaled_truths, scaled_integers};
 
 use crate::compared_sums::compared_made;
+use crate::lowering::Lowering;
 use crate::made::MadeCores;
 use crate::summands::{Summands, linear_members, scaled_integers, scaled_truths};
 use crate::terms::integers_of;
 use bee_list::Sequence;
 use core_forms::Core;
 use model_meaning::{BoolTerm, IntTerm, Relation};
-use order_ints::{MapValue, OrdInt};
+use order_ints::OrdInt;
 use std::alloc::{AllocError, Global};
 
 /// Minus a number.
@@ -36,96 +37,101 @@ fn zero_sum(alloc: Global, members: Summands) -> Result<Core, AllocError>
     Core::sum(alloc, Sequence::from_vec(ints), minus(constant))
 }
 
-/// A sum stands in a relation to the right side.
-fn linear_made(
-    alloc: Global,
-    entries: &[MapValue],
-    vars: u32,
-    relation: Relation,
-    ints: Vec<OrdInt>,
-    right: IntTerm,
-) -> Result<MadeCores, AllocError>
-    requires entries { AreInLimit entries.now }
-    requires ints { AreSummands ints.items }
-    requires few { length ints.items ≤ 16777216 }
-    requires right { TermInLimit right }
-    requires room { (linear_made vars relation ints.items (integer_of entries.now right)).vars < 2 ^ 27 }
-    ensures { IfOk result (λ m. m ≡ linear_made vars relation ints.items (integer_of entries.now right)) }
-{
-    let members = linear_members(alloc, entries, ints, right)?;
-    match relation {
-        Relation::Eq => MadeCores::of_core(alloc, vars, zero_sum(alloc, members)?),
-        _ => compared_made(alloc, vars, relation, members),
+impl Lowering<'_> {
+    /// A sum stands in a relation to the right side.
+    fn linear_made(
+        &self,
+        relation: Relation,
+        ints: Vec<OrdInt>,
+        right: IntTerm,
+    ) -> Result<MadeCores, AllocError>
+        requires entries { AreInLimit self.now.entries.now }
+        requires ints { AreSummands ints.items }
+        requires few { length ints.items ≤ 16777216 }
+        requires right { TermInLimit right }
+        requires room { (linear_made self.now.vars relation ints.items
+            (integer_of self.now.entries.now right)).vars < 2 ^ 27 }
+        ensures { IfOk result (λ m. m ≡ linear_made self.now.vars relation ints.items
+            (integer_of self.now.entries.now right)) }
+    {
+        let members = linear_members(self.alloc, self.entries, ints, right)?;
+        match relation {
+            Relation::Eq => MadeCores::of_core(
+                self.alloc,
+                self.vars,
+                zero_sum(self.alloc, members)?,
+            ),
+            _ => compared_made(self.alloc, self.vars, relation, members),
+        }
     }
-}
 
-/// The coefficients of the true members, added up, stand in a relation to an integer.
-pub fn truths_made(
-    alloc: Global,
-    entries: &[MapValue],
-    vars: u32,
-    relation: Relation,
-    coefficients: &[i64],
-    members: &[BoolTerm],
-    bound: IntTerm,
-) -> Result<MadeCores, AllocError>
-    requires entries { AreInLimit entries.now }
-    requires coefficients { AllInLimit coefficients.now }
-    requires few { length members.now ≤ 16777216 }
-    requires bound { TermInLimit bound }
-    requires room { (linear_made vars relation (scaled_truths entries.now coefficients.now members.now)
-        (integer_of entries.now bound)).vars < 2 ^ 27 }
-    ensures { IfOk result
-        (λ m. m ≡ linear_made vars relation (scaled_truths entries.now coefficients.now members.now)
-        (integer_of entries.now bound)) }
-{
-    let ints = scaled_truths(alloc, entries, coefficients, members)?;
-    linear_made(alloc, entries, vars, relation, ints, bound)
-}
+    /// The coefficients of the true members, added up, stand in a relation to an integer.
+    pub(crate) fn truths_made(
+        &self,
+        relation: Relation,
+        coefficients: &[i64],
+        members: &[BoolTerm],
+        bound: IntTerm,
+    ) -> Result<MadeCores, AllocError>
+        requires entries { AreInLimit self.now.entries.now }
+        requires coefficients { AllInLimit coefficients.now }
+        requires few { length members.now ≤ 16777216 }
+        requires bound { TermInLimit bound }
+        requires room { (linear_made self.now.vars relation
+            (scaled_truths self.now.entries.now coefficients.now members.now)
+            (integer_of self.now.entries.now bound)).vars < 2 ^ 27 }
+        ensures { IfOk result
+            (λ m. m ≡ linear_made self.now.vars relation
+            (scaled_truths self.now.entries.now coefficients.now members.now)
+            (integer_of self.now.entries.now bound)) }
+    {
+        let ints = scaled_truths(self.alloc, self.entries, coefficients, members)?;
+        self.linear_made(relation, ints, bound)
+    }
 
-/// The members, added up, stand in a relation to an integer.
-pub fn sum_made(
-    alloc: Global,
-    entries: &[MapValue],
-    vars: u32,
-    relation: Relation,
-    members: &[IntTerm],
-    bound: IntTerm,
-) -> Result<MadeCores, AllocError>
-    requires entries { AreInLimit entries.now }
-    requires members { TermsInLimit members.now }
-    requires few { length members.now ≤ 16777216 }
-    requires bound { TermInLimit bound }
-    requires room { (linear_made vars relation (integers_of entries.now members.now)
-        (integer_of entries.now bound)).vars < 2 ^ 27 }
-    ensures { IfOk result
-        (λ m. m ≡ linear_made vars relation (integers_of entries.now members.now) (integer_of entries.now bound)) }
-{
-    let ints = integers_of(alloc, entries, members)?.into_vec();
-    linear_made(alloc, entries, vars, relation, ints, bound)
-}
+    /// The members, added up, stand in a relation to an integer.
+    pub(crate) fn sum_made(
+        &self,
+        relation: Relation,
+        members: &[IntTerm],
+        bound: IntTerm,
+    ) -> Result<MadeCores, AllocError>
+        requires entries { AreInLimit self.now.entries.now }
+        requires members { TermsInLimit members.now }
+        requires few { length members.now ≤ 16777216 }
+        requires bound { TermInLimit bound }
+        requires room { (linear_made self.now.vars relation (integers_of self.now.entries.now members.now)
+            (integer_of self.now.entries.now bound)).vars < 2 ^ 27 }
+        ensures { IfOk result
+            (λ m. m ≡ linear_made self.now.vars relation (integers_of self.now.entries.now members.now)
+            (integer_of self.now.entries.now bound)) }
+    {
+        let ints = integers_of(self.alloc, self.entries, members)?.into_vec();
+        self.linear_made(relation, ints, bound)
+    }
 
-/// The members, multiplied by their coefficients and added up, stand in a relation to an integer.
-pub fn multiples_made(
-    alloc: Global,
-    entries: &[MapValue],
-    vars: u32,
-    relation: Relation,
-    coefficients: &[i64],
-    members: &[IntTerm],
-    bound: IntTerm,
-) -> Result<MadeCores, AllocError>
-    requires entries { AreInLimit entries.now }
-    requires coefficients { AllInLimit coefficients.now }
-    requires members { TermsInLimit members.now }
-    requires few { length members.now ≤ 16777216 }
-    requires bound { TermInLimit bound }
-    requires room { (linear_made vars relation (scaled_integers entries.now coefficients.now members.now)
-        (integer_of entries.now bound)).vars < 2 ^ 27 }
-    ensures { IfOk result
-        (λ m. m ≡ linear_made vars relation (scaled_integers entries.now coefficients.now members.now)
-        (integer_of entries.now bound)) }
-{
-    let ints = scaled_integers(alloc, entries, coefficients, members)?;
-    linear_made(alloc, entries, vars, relation, ints, bound)
+    /// The members, multiplied by their coefficients and added up, stand in a relation to an integer.
+    pub(crate) fn multiples_made(
+        &self,
+        relation: Relation,
+        coefficients: &[i64],
+        members: &[IntTerm],
+        bound: IntTerm,
+    ) -> Result<MadeCores, AllocError>
+        requires entries { AreInLimit self.now.entries.now }
+        requires coefficients { AllInLimit coefficients.now }
+        requires members { TermsInLimit members.now }
+        requires few { length members.now ≤ 16777216 }
+        requires bound { TermInLimit bound }
+        requires room { (linear_made self.now.vars relation
+            (scaled_integers self.now.entries.now coefficients.now members.now)
+            (integer_of self.now.entries.now bound)).vars < 2 ^ 27 }
+        ensures { IfOk result
+            (λ m. m ≡ linear_made self.now.vars relation
+            (scaled_integers self.now.entries.now coefficients.now members.now)
+            (integer_of self.now.entries.now bound)) }
+    {
+        let ints = scaled_integers(self.alloc, self.entries, coefficients, members)?;
+        self.linear_made(relation, ints, bound)
+    }
 }

@@ -92,7 +92,7 @@ impl Pairs {
 
 /// An atom is the truth of all members being different. There is a core for each two members, so the time is that of
 /// their number times the length of the integers.
-pub fn difference_made(
+pub(crate) fn difference_made(
     alloc: Global,
     vars: u32,
     ints: &[OrdInt],

@@ -1,7 +1,6 @@
 //! The members of linear statements.
 
 ghost use Rattle.std.specs.Prelude.{◌≡◌, ◌+◌, ◌<◌, ◌≤◌, ◌^◌, length, unsigned_abs, IfOk};
-ghost use Rattle.std.specs.Prelude.{IfSome};
 ghost use Rattle.order_ints.specs.OrderChange.{scaled_of};
 ghost use Rattle.core_forms.specs.WellFormed.{AreSound, greatest_abs, abs_total};
 ghost use Rattle.model_meaning.specs.Limits.{InLimit, AllInLimit, TermInLimit, TermsInLimit};
@@ -10,7 +9,7 @@ ghost use Rattle.statement_lower.specs.Entries.{AreInLimit};
 ghost use Rattle.statement_lower.specs.Linear.{with_steps, constant_of_members, linear_members, AreSummands};
 ghost use Rattle.statement_lower.specs.Lines.{scaled_truths, scaled_integers};
 
-use crate::terms::{atom_of, integer_of, negated_integer_of};
+use crate::terms::{atom_of, integer_of, lent_integer, negated_integer_of};
 use model_meaning::{BoolTerm, IntTerm};
 use order_ints::{MapValue, OrdInt};
 use std::alloc::{AllocError, Global};
@@ -22,19 +21,6 @@ fn scaled(int: &OrdInt, coefficient: i64) -> Result<OrdInt, AllocError>
     ensures { IfOk result (λ a. a ≡ scaled_of int.now coefficient) }
 {
     int.scaled(i128::from(coefficient))
-}
-
-/// The integer of a term, lent, where a declared name stands for it.
-fn lent_integer(entries: &[MapValue], term: IntTerm) -> Option<&OrdInt>
-    ensures { IfSome result (λ a. a.now ≡ integer_of entries.now term) }
-{
-    let IntTerm::Of(place) = term else {
-        return None;
-    };
-    match entries.get(place) {
-        Some(MapValue::Int(int)) => Some(int),
-        _ => None,
-    }
 }
 
 /// A multiple of the integer of a term.
@@ -59,7 +45,7 @@ fn scaled_integer(
 }
 
 /// Booleans as integers, multiplied by their coefficients.
-pub fn scaled_truths(
+pub(crate) fn scaled_truths(
     alloc: Global,
     entries: &[MapValue],
     coefficients: &[i64],
@@ -78,7 +64,7 @@ pub fn scaled_truths(
 }
 
 /// The integers of terms, multiplied by their coefficients.
-pub fn scaled_integers(
+pub(crate) fn scaled_integers(
     alloc: Global,
     entries: &[MapValue],
     coefficients: &[i64],
@@ -123,15 +109,15 @@ fn keep_with_steps(ints: &mut Vec<OrdInt>)
 
 /// The members of a linear statement that have steps, and the sum of the others.
 #[derive(Drop)]
-pub struct Summands {
+pub(crate) struct Summands {
     /// Those that have steps.
-    pub ints: Vec<OrdInt>,
+    pub(crate) ints: Vec<OrdInt>,
     /// The others, which are constants, added up.
-    pub constant: i128,
+    pub(crate) constant: i128,
 }
 
 /// The members of a linear statement: integers and, last, minus the right side.
-pub fn linear_members(
+pub(crate) fn linear_members(
     alloc: Global,
     entries: &[MapValue],
     ints: Vec<OrdInt>,

@@ -1,6 +1,6 @@
 //! The atoms and the integers of terms.
 
-ghost use Rattle.std.specs.Prelude.{◌≡◌, IfOk, map};
+ghost use Rattle.std.specs.Prelude.{◌≡◌, IfOk, IfSome, map};
 ghost use Rattle.order_ints.specs.Truth.{not_atom};
 ghost use Rattle.order_ints.specs.OrderRange.{IsBounded};
 ghost use Rattle.order_ints.specs.OrderChange.{negated_of};
@@ -30,7 +30,7 @@ pub fn atom_of(entries: &[MapValue], term: BoolTerm) -> Atom
 }
 
 /// The atoms of Boolean terms.
-pub fn atoms_of(
+pub(crate) fn atoms_of(
     alloc: Global,
     entries: &[MapValue],
     terms: &[BoolTerm],
@@ -44,8 +44,8 @@ pub fn atoms_of(
     Ok(Sequence::from_vec(atoms))
 }
 
-/// The negated atoms of Boolean terms.
-pub fn negated_atoms(alloc: Global, atoms: &[Atom]) -> Result<Sequence<Atom>, AllocError>
+/// Atoms, negated.
+pub(crate) fn negated_atoms(alloc: Global, atoms: &[Atom]) -> Result<Sequence<Atom>, AllocError>
     ensures { IfOk result (λ negated. negated ≡ map not_atom atoms.now) }
 {
     let mut negated = Vec::with_capacity(alloc, atoms.len())?;
@@ -55,8 +55,26 @@ pub fn negated_atoms(alloc: Global, atoms: &[Atom]) -> Result<Sequence<Atom>, Al
     Ok(Sequence::from_vec(negated))
 }
 
+/// The integer of a term, lent, where a declared name stands for it.
+pub(crate) fn lent_integer(entries: &[MapValue], term: IntTerm) -> Option<&OrdInt>
+    ensures shape { IfSome result (λ a. a.now ≡ integer_of entries.now term) }
+    ensures bounded { AreInLimit entries.now → IfSome result (λ a. IsBounded a.now) }
+{
+    let IntTerm::Of(place) = term else {
+        return None;
+    };
+    match entries.get(place) {
+        Some(MapValue::Int(int)) => Some(int),
+        _ => None,
+    }
+}
+
 /// The integer of an integer term, as its own.
-pub fn integer_of(alloc: Global, entries: &[MapValue], term: IntTerm) -> Result<OrdInt, AllocError>
+pub(crate) fn integer_of(
+    alloc: Global,
+    entries: &[MapValue],
+    term: IntTerm,
+) -> Result<OrdInt, AllocError>
     ensures { IfOk result (λ a. a ≡ integer_of entries.now term) }
 {
     match term {
@@ -69,7 +87,7 @@ pub fn integer_of(alloc: Global, entries: &[MapValue], term: IntTerm) -> Result<
 }
 
 /// The integer of an integer term, where those of the declared names are in the limit of numerals.
-pub fn bounded_integer_of(
+pub(crate) fn bounded_integer_of(
     alloc: Global,
     entries: &[MapValue],
     term: IntTerm,
@@ -88,7 +106,7 @@ pub fn bounded_integer_of(
 }
 
 /// Minus the integer of an integer term.
-pub fn negated_integer_of(
+pub(crate) fn negated_integer_of(
     alloc: Global,
     entries: &[MapValue],
     term: IntTerm,
@@ -96,11 +114,14 @@ pub fn negated_integer_of(
     requires { AreInLimit entries.now }
     ensures { IfOk result (λ a. a ≡ negated_of (integer_of entries.now term)) }
 {
-    bounded_integer_of(alloc, entries, term)?.negated()
+    match lent_integer(entries, term) {
+        Some(int) => int.negated(),
+        None => bounded_integer_of(alloc, entries, term)?.negated(),
+    }
 }
 
 /// The integers of integer terms.
-pub fn integers_of(
+pub(crate) fn integers_of(
     alloc: Global,
     entries: &[MapValue],
     terms: &[IntTerm],
@@ -115,7 +136,7 @@ pub fn integers_of(
 }
 
 /// Minus the integers of integer terms.
-pub fn negated_integers_of(
+pub(crate) fn negated_integers_of(
     alloc: Global,
     entries: &[MapValue],
     terms: &[IntTerm],

@@ -12,11 +12,11 @@ use std::alloc::{AllocError, Global};
 
 /// A call of a text, among the declarations of a scope.
 #[derive(Clone, Copy)]
-pub struct Call<'a> {
-    pub alloc: Global,
-    pub scope: &'a Scope,
-    pub name: &'a Name,
-    pub args: &'a [Arg],
+pub(crate) struct Call<'a> {
+    pub(crate) alloc: Global,
+    pub(crate) scope: &'a Scope,
+    pub(crate) name: &'a Name,
+    pub(crate) args: &'a [Arg],
 }
 
 /// The terms of an argument that is a list.
@@ -52,7 +52,7 @@ fn numbers(alloc: Global, scope: &Scope, terms: &[Term]) -> Result<Sequence<IntT
 }
 
 /// The numerals of a list.
-pub fn numerals(alloc: Global, terms: &[Term]) -> Result<Sequence<i64>, AllocError>
+pub(crate) fn numerals(alloc: Global, terms: &[Term]) -> Result<Sequence<i64>, AllocError>
     ensures { IfOk result (λ xs. xs ≡ map numeral terms.now) }
 {
     let mut members = Vec::with_capacity(alloc, terms.len())?;
@@ -64,14 +64,14 @@ pub fn numerals(alloc: Global, terms: &[Term]) -> Result<Sequence<i64>, AllocErr
 
 impl Call<'_> {
     /// The call's name, as its own.
-    pub fn own_name(&self) -> Result<Name, AllocError>
+    pub(crate) fn own_name(&self) -> Result<Name, AllocError>
         ensures { IfOk result (λ n. n ≡ self.now.name.now) }
     {
         self.name.clone()
     }
 
     /// The Boolean term that an argument is.
-    pub fn truth(&self, at: usize) -> BoolTerm
+    pub(crate) fn truth(&self, at: usize) -> BoolTerm
         ensures { result ≡ truth_in self.now.scope.now (slice_get self.now.args.now at) }
     {
         match self.args.get(at) {
@@ -81,7 +81,7 @@ impl Call<'_> {
     }
 
     /// The integer term that an argument is.
-    pub fn number(&self, at: usize) -> IntTerm
+    pub(crate) fn number(&self, at: usize) -> IntTerm
         ensures { result ≡ number_in self.now.scope.now (slice_get self.now.args.now at) }
     {
         match self.args.get(at) {
@@ -91,35 +91,35 @@ impl Call<'_> {
     }
 
     /// The Boolean terms of an argument.
-    pub fn truths(&self, at: usize) -> Result<Sequence<BoolTerm>, AllocError>
+    pub(crate) fn truths(&self, at: usize) -> Result<Sequence<BoolTerm>, AllocError>
         ensures { IfOk result (λ xs. xs ≡ truths_in self.now.scope.now (slice_get self.now.args.now at)) }
     {
         truths(self.alloc, self.scope, terms_in(self.args, at))
     }
 
     /// The integer terms of an argument.
-    pub fn numbers(&self, at: usize) -> Result<Sequence<IntTerm>, AllocError>
+    pub(crate) fn numbers(&self, at: usize) -> Result<Sequence<IntTerm>, AllocError>
         ensures { IfOk result (λ xs. xs ≡ numbers_in self.now.scope.now (slice_get self.now.args.now at)) }
     {
         numbers(self.alloc, self.scope, terms_in(self.args, at))
     }
 
     /// The numerals of an argument.
-    pub fn numerals(&self, at: usize) -> Result<Sequence<i64>, AllocError>
+    pub(crate) fn numerals(&self, at: usize) -> Result<Sequence<i64>, AllocError>
         ensures { IfOk result (λ xs. xs ≡ numerals_in (slice_get self.now.args.now at)) }
     {
         numerals(self.alloc, terms_in(self.args, at))
     }
 
     /// The Boolean term of an argument, put apart.
-    pub fn truth_apart(&self, at: usize) -> Result<Apart<BoolTerm>, AllocError>
+    pub(crate) fn truth_apart(&self, at: usize) -> Result<Apart<BoolTerm>, AllocError>
         ensures { IfOk result (λ t. t ≡ truth_in self.now.scope.now (slice_get self.now.args.now at)) }
     {
         Apart::new(self.alloc, self.truth(at))
     }
 
     /// The Boolean terms of an argument, put apart.
-    pub fn truths_apart(&self, at: usize) -> Result<Apart<Sequence<BoolTerm>>, AllocError>
+    pub(crate) fn truths_apart(&self, at: usize) -> Result<Apart<Sequence<BoolTerm>>, AllocError>
         ensures { IfOk result (λ xs. xs ≡ truths_in self.now.scope.now (slice_get self.now.args.now at)) }
     {
         let members = self.truths(at)?;
@@ -127,7 +127,7 @@ impl Call<'_> {
     }
 
     /// The integer terms of an argument, put apart.
-    pub fn numbers_apart(&self, at: usize) -> Result<Apart<Sequence<IntTerm>>, AllocError>
+    pub(crate) fn numbers_apart(&self, at: usize) -> Result<Apart<Sequence<IntTerm>>, AllocError>
         ensures { IfOk result (λ xs. xs ≡ numbers_in self.now.scope.now (slice_get self.now.args.now at)) }
     {
         let members = self.numbers(at)?;

@@ -193,7 +193,7 @@ fn has_wrong_lengths(statement: Statement, args: &[Arg]) -> bool
 }
 
 /// The numeral that an argument is.
-pub fn numeral_in(args: &[Arg], at: usize) -> i64
+pub(crate) fn numeral_in(args: &[Arg], at: usize) -> i64
     ensures { result ≡ numeral_in (slice_get args.now at) }
 {
     match args.get(at) {
@@ -341,7 +341,12 @@ fn goal_fault(
 
 /// The first fault of item `number`. It is linear in the item's size.
 #[tactic(auto, unfolding(crate::specs::Faults::item_fault))]
-pub fn item_fault(scope: &Scope, number: u64, after_goal: bool, item: &Item) -> Option<TypeFault>
+pub(crate) fn item_fault(
+    scope: &Scope,
+    number: u64,
+    after_goal: bool,
+    item: &Item,
+) -> Option<TypeFault>
     ensures { result ≡ item_fault number after_goal scope.now item.now }
 {
     if after_goal {

@@ -69,7 +69,7 @@ fn domain_in(alloc: Global, args: &[Arg]) -> Result<Kind, AllocError>
 
 /// Declares what item `number` declares.
 #[tactic(auto, unfolding(crate::specs::Items::declare_by))]
-pub fn declare_by(
+pub(crate) fn declare_by(
     alloc: Global,
     scope: &mut Scope,
     number: u64,
@@ -110,7 +110,7 @@ fn second_place(scope: &Scope, second: &Option<Name>) -> Option<usize>
 }
 
 /// What a goal seeks.
-pub fn goal_of(
+pub(crate) fn goal_of(
     scope: &Scope,
     kind: GoalKind,
     objective: &Option<Name>,

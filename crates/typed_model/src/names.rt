@@ -175,7 +175,7 @@ fn order_of(of_booleans: bool, word: Option<&[u8]>) -> Option<Order>
     None
 }
 
-/// The names that stand alone in their lines.
+/// The names that share no form with others.
 #[tactic(auto, unfolding(model_meaning::specs::Names::lone_statement))]
 fn lone_statement(name: &[u8]) -> Option<Statement>
     ensures { result ≡ lone_statement name.now }
@@ -261,7 +261,7 @@ fn operation_statement(name: &[u8]) -> Option<Statement>
 /// The declaration or statement of a name; `None` where the language has none of that name. It compares
 /// the name with some thirty words.
 #[tactic(auto, unfolding(model_meaning::specs::Names::statement_of))]
-pub fn statement_of(name: &[u8]) -> Option<Statement>
+pub(crate) fn statement_of(name: &[u8]) -> Option<Statement>
     ensures { result ≡ statement_of name.now }
 {
     if let Some(found) = lone_statement(name) {

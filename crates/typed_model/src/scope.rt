@@ -26,7 +26,7 @@ enum Sort {
 /// declarations. The names lie in the table itself, unless they are long, and a sort takes a single byte, so that a
 /// look-up touches few places of memory.
 #[derive(Drop)]
-pub struct Scope {
+pub(crate) struct Scope {
     sorts: IndexMap<Name, Sort>,
     decls: Vec<Decl>,
 }
@@ -45,7 +45,7 @@ impl Model for Scope {
 
 impl Scope {
     /// No declaration.
-    pub fn new(alloc: Global) -> Scope
+    pub(crate) fn new(alloc: Global) -> Scope
         ensures { result ≡ [] }
     {
         Scope {
@@ -55,14 +55,14 @@ impl Scope {
     }
 
     /// The place of a name.
-    pub fn place_of(&self, name: &Name) -> Option<usize>
+    pub(crate) fn place_of(&self, name: &Name) -> Option<usize>
         ensures { result ≡ place_of name.now self.now }
     {
         self.sorts.get_index_of(name)
     }
 
     /// What a name stands for. It reads the declaration, which its sort alone does without.
-    pub fn kind_of(&self, name: &Name) -> Option<&Kind>
+    pub(crate) fn kind_of(&self, name: &Name) -> Option<&Kind>
         ensures { option_copied result ≡ kind_of name.now self.now }
     {
         match self.place_of(name) {
@@ -99,14 +99,14 @@ impl Scope {
     }
 
     /// Whether a name other than `true` and `false` isn't declared.
-    pub fn is_unknown(&self, name: &Name) -> bool
+    pub(crate) fn is_unknown(&self, name: &Name) -> bool
         ensures { result ≡ is_unknown self.now name.now }
     {
         !is_constant(name.as_bytes()) && self.place_of(name).is_none()
     }
 
     /// Whether the name of a term isn't declared.
-    pub fn term_unknown(&self, term: &Term) -> bool
+    pub(crate) fn term_unknown(&self, term: &Term) -> bool
         ensures { result ≡ term_unknown self.now term.now }
     {
         match term {
@@ -117,7 +117,7 @@ impl Scope {
     }
 
     /// Whether the name of some term isn't declared.
-    pub fn terms_unknown(&self, terms: &[Term]) -> bool
+    pub(crate) fn terms_unknown(&self, terms: &[Term]) -> bool
         ensures { result ≡ terms_unknown self.now terms.now }
     {
         for term in terms {
@@ -129,7 +129,7 @@ impl Scope {
     }
 
     /// Whether a term is a Boolean term.
-    pub fn is_truth(&self, term: &Term) -> bool
+    pub(crate) fn is_truth(&self, term: &Term) -> bool
         ensures { result ≡ is_truth self.now term.now }
     {
         match term {
@@ -140,7 +140,7 @@ impl Scope {
     }
 
     /// Whether a term is an integer term.
-    pub fn is_number(&self, term: &Term) -> bool
+    pub(crate) fn is_number(&self, term: &Term) -> bool
         ensures { result ≡ is_number self.now term.now }
     {
         match term {
@@ -151,7 +151,7 @@ impl Scope {
     }
 
     /// Whether each term is a Boolean term.
-    pub fn all_truths(&self, terms: &[Term]) -> bool
+    pub(crate) fn all_truths(&self, terms: &[Term]) -> bool
         ensures { result ≡ all_truths self.now terms.now }
     {
         for term in terms {
@@ -163,7 +163,7 @@ impl Scope {
     }
 
     /// Whether each term is an integer term.
-    pub fn all_numbers(&self, terms: &[Term]) -> bool
+    pub(crate) fn all_numbers(&self, terms: &[Term]) -> bool
         ensures { result ≡ all_numbers self.now terms.now }
     {
         for term in terms {
@@ -175,7 +175,7 @@ impl Scope {
     }
 
     /// The place of a name, or 0 where it isn't declared.
-    pub fn place_or_zero(&self, name: &Name) -> usize
+    pub(crate) fn place_or_zero(&self, name: &Name) -> usize
         ensures { result ≡ place_or_zero name.now self.now }
     {
         match self.place_of(name) {
@@ -185,7 +185,7 @@ impl Scope {
     }
 
     /// The Boolean term that a term of a text is.
-    pub fn truth(&self, term: &Term) -> BoolTerm
+    pub(crate) fn truth(&self, term: &Term) -> BoolTerm
         ensures { result ≡ truth self.now term.now }
     {
         match term {
@@ -209,7 +209,7 @@ impl Scope {
     }
 
     /// The integer term that a term of a text is.
-    pub fn number(&self, term: &Term) -> IntTerm
+    pub(crate) fn number(&self, term: &Term) -> IntTerm
         ensures { result ≡ number self.now term.now }
     {
         match term {
@@ -220,7 +220,7 @@ impl Scope {
     }
 
     /// Adds a declaration of a name that isn't declared.
-    pub fn add(&mut self, decl: Decl) -> Result<(), AllocError>
+    pub(crate) fn add(&mut self, decl: Decl) -> Result<(), AllocError>
         requires { place_of decl.name self.old ≡ None }
         ensures { OnOk result (self.new ≡ self.old ++ decl ∷ []) }
     {
@@ -232,7 +232,7 @@ impl Scope {
     }
 
     /// The declarations, in order.
-    pub fn into_decls(self) -> Vec<Decl>
+    pub(crate) fn into_decls(self) -> Vec<Decl>
         ensures { result.items ≡ self }
     {
         let Scope { sorts, decls } = self;
@@ -266,35 +266,35 @@ fn sort_is_int(sort: Option<Sort>) -> bool
 }
 
 /// Whether a name is `true`.
-pub fn is_true(name: &[u8]) -> bool
+pub(crate) fn is_true(name: &[u8]) -> bool
     ensures { result ≡ is_true name.now }
 {
     is(name, b"true")
 }
 
 /// Whether a name is `true` or `false`.
-pub fn is_constant(name: &[u8]) -> bool
+pub(crate) fn is_constant(name: &[u8]) -> bool
     ensures { result ≡ is_constant name.now }
 {
     is_true(name) || is(name, b"false")
 }
 
 /// Whether it is a declared Boolean.
-pub fn is_bool(kind: Option<&Kind>) -> bool
+pub(crate) fn is_bool(kind: Option<&Kind>) -> bool
     ensures { result ≡ is_bool (option_copied kind.entry) }
 {
     matches!(kind, Some(Kind::Bool))
 }
 
 /// Whether it is a declared integer.
-pub fn is_int(kind: Option<&Kind>) -> bool
+pub(crate) fn is_int(kind: Option<&Kind>) -> bool
     ensures { result ≡ is_int (option_copied kind.entry) }
 {
     matches!(kind, Some(Kind::Range { .. } | Kind::Listed { .. }))
 }
 
 /// The least value of what is declared.
-pub fn low_of(kind: Option<&Kind>) -> i64
+pub(crate) fn low_of(kind: Option<&Kind>) -> i64
     ensures { result ≡ low_of (option_copied kind.entry) }
 {
     match kind {
@@ -305,14 +305,14 @@ pub fn low_of(kind: Option<&Kind>) -> i64
 }
 
 /// Whether a term is a numeral.
-pub fn is_numeral(term: &Term) -> bool
+pub(crate) fn is_numeral(term: &Term) -> bool
     ensures { result ≡ is_numeral term.now }
 {
     matches!(term, Term::Number(_))
 }
 
 /// Whether each term is a numeral.
-pub fn all_numerals(terms: &[Term]) -> bool
+pub(crate) fn all_numerals(terms: &[Term]) -> bool
     ensures { result ≡ all_numerals terms.now }
 {
     for term in terms {
@@ -324,7 +324,7 @@ pub fn all_numerals(terms: &[Term]) -> bool
 }
 
 /// The number of a numeral.
-pub fn numeral(term: &Term) -> i64
+pub(crate) fn numeral(term: &Term) -> i64
     ensures { result ≡ numeral term.now }
 {
     match term {

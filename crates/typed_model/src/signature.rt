@@ -36,7 +36,7 @@ fn lex_signature(order: Order) -> &'static [Wanted]
 }
 
 /// The arguments of a declaration or statement.
-pub fn signature(statement: Statement) -> &'static [Wanted]
+pub(crate) fn signature(statement: Statement) -> &'static [Wanted]
     ensures { result.now ≡ signature statement }
 {
     match statement {

@@ -328,7 +328,7 @@ fn order(call: &Call<'_>, order: Order) -> Result<What, AllocError>
 
 /// What a statement states, among the declarations of a scope. A declaration alone states nothing.
 #[tactic(auto, unfolding(crate::specs::Items::what_of))]
-pub fn what_of(call: &Call<'_>, statement: Statement) -> Result<Option<What>, AllocError>
+pub(crate) fn what_of(call: &Call<'_>, statement: Statement) -> Result<Option<What>, AllocError>
     ensures { IfOk result (λ w. w ≡ what_of call.now.scope.now call.now.name.now statement call.now.args.now) }
 {
     match statement {

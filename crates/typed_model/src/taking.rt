@@ -25,24 +25,15 @@ use std::alloc::{AllocError, Global};
 
 /// Adds what a call states, where it states anything.
 fn state(
-    alloc: Global,
-    scope: &Scope,
+    call: &Call<'_>,
     stmts: &mut Vec<Stmt>,
     number: u64,
-    name: &Name,
     statement: Statement,
-    args: &[Arg],
 ) -> Result<(), AllocError>
     ensures { OnOk result (stmts.new.items ≡ stmts.old.items
-        ++ state number (what_of scope.now name.now statement args.now)) }
+        ++ state number (what_of call.now.scope.now call.now.name.now statement call.now.args.now)) }
 {
-    let call = Call {
-        alloc,
-        scope,
-        name,
-        args,
-    };
-    match what_of(&call, statement)? {
+    match what_of(call, statement)? {
         Some(what) => {
             stmts.push(Stmt { number, what })?;
             Ok(())
@@ -68,7 +59,13 @@ fn take_call(
     match statement_of(name.as_bytes()) {
         Some(statement) => {
             declare_by(alloc, scope, number, statement, args)?;
-            state(alloc, scope, stmts, number, name, statement, args)
+            let call = Call {
+                alloc,
+                scope,
+                name,
+                args,
+            };
+            state(&call, stmts, number, statement)
         }
         None => Ok(()),
     }

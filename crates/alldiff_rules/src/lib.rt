@@ -29,3 +29,4 @@ mod tally;
 mod twins;
 
 pub use instances::{find, is_instance};
+pub use twins::atom_at;

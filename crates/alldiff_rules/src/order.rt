@@ -17,9 +17,11 @@ fn by_first(sought: SoughtEquation, a: &OrdInt, b: &OrdInt) -> Option<(Atom, Ato
     ensures { result ≡ first_sought sought
         (is_below a.now (high_of b.now +ℤ pos 1) ∷ at_least b.now (low_of a.now) ∷ []) }
 {
-    sought
-        .is_below(a, next(b.high()))
-        .or(sought.at_least(b, a.low()))
+    let below = sought.is_below(a, next(b.high()));
+    if below.is_some() {
+        return below;
+    }
+    sought.at_least(b, a.low())
 }
 
 /// The equations of two lists, of which one stands before the other where an atom is true.

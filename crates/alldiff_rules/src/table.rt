@@ -1,6 +1,7 @@
 //! Tables of values, each with up to three different places at which something stands.
 
-ghost use Rattle.std.specs.Prelude.{◌≡◌, Some, OnOk};
+ghost use Rattle.std.specs.Prelude.{◌≡◌, Some, IfOk, OnOk};
+ghost use Rattle.std.specs.Option.{is_some};
 ghost use Rattle.std.specs.BTreeMap.{get, Updates};
 ghost use Rattle.std.specs.Ordering.{int_cmp};
 ghost use Rattle.alldiff_rules.specs.Table.{pair_cmp, with_place, joined, number_other, other_than, has_others};
@@ -92,19 +93,21 @@ pub(crate) fn found(table: &BTreeMap<i128, Places>, value: i128) -> Option<Place
     table.get(&value).copied()
 }
 
-/// Puts a place behind those of a value.
+/// Puts a place behind those of a value, and tells whether there were any.
 pub(crate) fn put(
     table: &mut BTreeMap<i128, Places>,
     value: i128,
     place: usize,
-) -> Result<(), AllocError>
-    ensures { OnOk result
+) -> Result<bool, AllocError>
+    ensures updates { OnOk result
         (Updates int_cmp table.old table.new value
         (Some (joined (get int_cmp table.old value) place))) }
+    ensures there { IfOk result (λ there. there ≡ is_some (get int_cmp table.old value)) }
 {
-    let places = joined(table.get(&value).copied(), place);
+    let before = table.get(&value).copied();
+    let places = joined(before, place);
     table.insert(value, places)?;
-    Ok(())
+    Ok(before.is_some())
 }
 
 /// Puts a place behind those of two numbers.

@@ -6,7 +6,7 @@ ghost use Rattle.order_ints.specs.OrderMade.{AreSmall};
 ghost use Rattle.core_forms.specs.WellFormed.{IsSound, AreSound};
 ghost use Rattle.alldiff_rules.specs.Tally.{placed_at, placed_from, listed_values, IsTally};
 
-use crate::table::{Places, found, put};
+use crate::table::{Places, put};
 use order_ints::OrdInt;
 use std::alloc::{AllocError, Global};
 use std::collections::BTreeMap;
@@ -59,9 +59,8 @@ fn tally_of(alloc: Global, entries: &[(i128, usize)]) -> Result<Tally, AllocErro
     let mut values = BTreeMap::new(alloc);
     let mut count = 0;
     for (value, place) in entries {
-        let counted = found(&values, *value).is_some();
+        let counted = put(&mut values, *value, *place)?;
         count = one_more(count, counted);
-        put(&mut values, *value, *place)?;
     }
     Ok(Tally { values, count })
 }

@@ -127,7 +127,7 @@ fn given_twins(
 }
 
 /// The atom of the first step of the member at a place, and True where there is none.
-fn atom_at(ints: &[OrdInt], place: usize) -> Atom
+pub fn atom_at(ints: &[OrdInt], place: usize) -> Atom
     ensures { result ≡ first_atom (int_at ints.now place).steps }
 {
     let Some(a) = ints.get(place) else {

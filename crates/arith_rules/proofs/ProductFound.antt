@@ -1,7 +1,7 @@
 -- What the searches of products find, and that the numbers on their way stay within the limits.
-use Rattle.std.proofs.Common.{◌≡◌, ℕ, suc, ◌<◌, ◌^◌, Contains, List, [], ◌∷◌, map, ℤ, pos, ◌+ℤ◌, ◌*ℤ◌, refl, ap, subst, ◌∙◌, arith}
+use Rattle.std.proofs.Common.{◌≡◌, true, false, ℕ, suc, ◌<◌, ◌^◌, Contains, List, [], ◌∷◌, map, ℤ, pos, ◌+ℤ◌, ◌*ℤ◌, refl, ap, subst, ◌∙◌, arith}
 use Rattle.std.specs.Prelude.{Option, unsigned_abs}
-use Rattle.std.specs.Option.{option_or}
+use Rattle.std.specs.Option.{is_some}
 use Rattle.std.specs.List.{AllByRecursion}
 use Rattle.std.proofs.Math.IntN.{*ℤ_comm}
 use Rattle.std.proofs.lemmas.Int.{ints}
@@ -13,7 +13,7 @@ use Rattle.order_ints.specs.OrderLevels.{levels, levels_of, values_of}
 use Rattle.core_forms.specs.WellFormed.{HasSmallProducts}
 use Rattle.rule_base.specs.declared.sought.SoughtEquation.{SoughtEquation}
 use Rattle.rule_base.specs.Pairs.{first_sought}
-use Rattle.rule_base.proofs.PairLaws.{both-found}
+use Rattle.rule_base.proofs.PairLaws.{front-found, back-found}
 use Rattle.arith_rules.specs.declared.links.Link.TheVariants.{Times, Ceiling, Over}
 use Rattle.arith_rules.specs.Links.{linked, linked_back, opposed, opposed_above}
 use Rattle.arith_rules.specs.Ranges.{range_of}
@@ -63,11 +63,15 @@ corners-small a b small = (
 
 -- ---- two links, with the number that the code computes
 
-module _ (sought : SoughtEquation) (x y : OrdInt) (k k' : ℤ) (o p : Option (Atom × Atom)) where
-  pub multiple-found : o ≡ first_sought sought (linked_back (link_of (Times k')) x y) → p ≡ first_sought sought (linked (link_of (Ceiling k')) y x) → k' ≡ k → option_or o p ≡ first_sought sought (multiple_equations k x y)
-  multiple-found first second e =
-      both-found sought (linked_back (link_of (Times k')) x y) (linked (link_of (Ceiling k')) y x) o p first second ∙ ap (λ n. first_sought sought (multiple_equations n x y)) e
+module _ (sought : SoughtEquation) (x y : OrdInt) (k k' : ℤ) (o : Option (Atom × Atom)) where
+  pub multiple-first : o ≡ first_sought sought (linked_back (link_of (Times k')) x y) → is_some o ≡ true → k' ≡ k → o ≡ first_sought sought (multiple_equations k x y)
+  multiple-first first some e = front-found sought (linked_back (link_of (Times k')) x y) (linked (link_of (Ceiling k')) y x) o first some ∙ ap (λ n. first_sought sought (multiple_equations n x y)) e
 
-  pub negative-found : o ≡ first_sought sought (opposed_above (link_of (Times k')) x y) → p ≡ first_sought sought (opposed (link_of (Over k')) y x) → k' ≡ k → option_or o p ≡ first_sought sought (negative_equations k x y)
-  negative-found first second e =
-      both-found sought (opposed_above (link_of (Times k')) x y) (opposed (link_of (Over k')) y x) o p first second ∙ ap (λ n. first_sought sought (negative_equations n x y)) e
+  pub multiple-second : (p : Option (Atom × Atom)) → o ≡ first_sought sought (linked_back (link_of (Times k')) x y) → is_some o ≡ false → p ≡ first_sought sought (linked (link_of (Ceiling k')) y x) → k' ≡ k → p ≡ first_sought sought (multiple_equations k x y)
+  multiple-second p first none second e = back-found sought (linked_back (link_of (Times k')) x y) (linked (link_of (Ceiling k')) y x) o p first none second ∙ ap (λ n. first_sought sought (multiple_equations n x y)) e
+
+  pub negative-first : o ≡ first_sought sought (opposed_above (link_of (Times k')) x y) → is_some o ≡ true → k' ≡ k → o ≡ first_sought sought (negative_equations k x y)
+  negative-first first some e = front-found sought (opposed_above (link_of (Times k')) x y) (opposed (link_of (Over k')) y x) o first some ∙ ap (λ n. first_sought sought (negative_equations n x y)) e
+
+  pub negative-second : (p : Option (Atom × Atom)) → o ≡ first_sought sought (opposed_above (link_of (Times k')) x y) → is_some o ≡ false → p ≡ first_sought sought (opposed (link_of (Over k')) y x) → k' ≡ k → p ≡ first_sought sought (negative_equations k x y)
+  negative-second p first none second e = back-found sought (opposed_above (link_of (Times k')) x y) (opposed (link_of (Over k')) y x) o p first none second ∙ ap (λ n. first_sought sought (negative_equations n x y)) e

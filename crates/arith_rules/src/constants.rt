@@ -21,10 +21,12 @@ fn by_raised(sought: SoughtEquation, a: &OrdInt, b: &OrdInt, c: &OrdInt) -> Opti
 {
     let k = a.low();
     let plus = Link::Plus(k);
-    let minus = Link::Minus(k);
     let upwards = linked(sought, &plus, b, c);
-    let back = linked_back(sought, &minus, c, b);
-    upwards.or(back)
+    if upwards.is_some() {
+        return upwards;
+    }
+    let minus = Link::Minus(k);
+    linked_back(sought, &minus, c, b)
 }
 
 /// The equations of `a` and `b`, added up, being the least value of `c`: down one and up the other.
@@ -36,10 +38,12 @@ fn by_mirrored(sought: SoughtEquation, c: &OrdInt, a: &OrdInt, b: &OrdInt) -> Op
 {
     let k = c.low();
     let above = Link::Above(k);
-    let from = Link::From(k);
     let first = opposed(sought, &above, a, b);
-    let second = opposed_above(sought, &from, b, a);
-    first.or(second)
+    if first.is_some() {
+        return first;
+    }
+    let from = Link::From(k);
+    opposed_above(sought, &from, b, a)
 }
 
 /// Those where `a` is constant.
@@ -88,9 +92,14 @@ pub(crate) fn by_sum3_constants(
     ensures { result ≡ first_sought sought (sum3_constants a.now b.now c.now) }
 {
     let first = raised_where(sought, a, b, c);
+    if first.is_some() {
+        return first;
+    }
     let second = raised_where(sought, b, a, c);
-    let third = mirrored_where(sought, c, a, b);
-    first.or(second).or(third)
+    if second.is_some() {
+        return second;
+    }
+    mirrored_where(sought, c, a, b)
 }
 
 /// Of the equations of `a` and `b`, added up, being `c`, the first that is looked for: by their ranges, and then,

@@ -36,9 +36,14 @@ fn by_rest(sought: SoughtEquation, r: &OrdInt, x: &Range, y: &Range) -> Option<(
     ensures { result ≡ first_sought sought (rest_within r.now x.now y.now) }
 {
     let from = sought.at_least(r, 0);
+    if from.is_some() {
+        return from;
+    }
     let below = sought.is_below(r, y.high);
-    let up_to = sought.is_below(r, next(x.high));
-    from.or(below).or(up_to)
+    if below.is_some() {
+        return below;
+    }
+    sought.is_below(r, next(x.high))
 }
 
 /// The equations of the ranges of a quotient and a rest.
@@ -57,8 +62,10 @@ fn by_quotient(
 {
     let quotients = quotients_of(x, y);
     let on_quotient = quotients.holds(sought, q);
-    let on_rest = by_rest(sought, r, x, y);
-    on_quotient.or(on_rest)
+    if on_quotient.is_some() {
+        return on_quotient;
+    }
+    by_rest(sought, r, x, y)
 }
 
 /// A number times another, plus a third.
@@ -129,9 +136,11 @@ pub(crate) fn by_div_mod(
 {
     let x = Range::of(a);
     let y = Range::of(b);
+    let on_quotient = by_quotient(sought, q, r, &x, &y);
+    if on_quotient.is_some() {
+        return on_quotient;
+    }
     let z = Range::of(q);
     let t = Range::of(r);
-    let on_quotient = by_quotient(sought, q, r, &x, &y);
-    let on_dividend = by_dividend(sought, a, &z, &y, &t);
-    on_quotient.or(on_dividend)
+    by_dividend(sought, a, &z, &y, &t)
 }

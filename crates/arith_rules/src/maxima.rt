@@ -170,8 +170,10 @@ fn on_leader(sought: SoughtEquation, least: &i128, c: &OrdInt, a: &OrdInt) -> Op
 {
     if *least < a.high() {
         let upwards = alike_above(sought, least, c, a);
-        let back = alike_back(sought, least, a, c);
-        return upwards.or(back);
+        if upwards.is_some() {
+            return upwards;
+        }
+        return alike_back(sought, least, a, c);
     }
     None
 }
@@ -209,7 +211,12 @@ pub(crate) fn by_max(sought: SoughtEquation, ints: &[OrdInt], c: &OrdInt) -> Opt
     }
     let tops = Tops::of(ints);
     let of_top = on_top(sought, &tops, ints, c);
+    if of_top.is_some() {
+        return of_top;
+    }
     let of_unreached = on_unreached(sought, &tops.first, c);
-    let of_leaders = on_leaders(sought, &tops.second, c, ints);
-    of_top.or(of_unreached).or(of_leaders)
+    if of_unreached.is_some() {
+        return of_unreached;
+    }
+    on_leaders(sought, &tops.second, c, ints)
 }

@@ -27,8 +27,8 @@ pub(crate) fn greater(x: &i128, y: &i128) -> i128
     if *y < *x { *x } else { *y }
 }
 
-/// A number, turned.
-fn turned(v: &i128) -> i128
+/// A number, negated.
+fn negated(v: &i128) -> i128
     requires { unsigned_abs v.now < 2 ^ 110 }
     ensures { result ≡ neg_ℤ v.now }
 {
@@ -52,9 +52,9 @@ pub(crate) fn ceiling_of(v: &i128, divisor: &i128) -> i128
     ensures shape { result ≡ ceiling_of v.now divisor.now }
     ensures small { unsigned_abs result < 2 ^ 110 }
 {
-    let opposite = turned(v);
+    let opposite = negated(v);
     let floor = floor_of(&opposite, divisor);
-    turned(&floor)
+    negated(&floor)
 }
 
 /// 1 more than the quotient by a divisor below 0, rounded down.
@@ -63,8 +63,8 @@ pub(crate) fn over_floor_of(v: &i128, divisor: &i128) -> i128
     requires divisor { (divisor.now <ℤ pos 0) × (unsigned_abs divisor.now < 2 ^ 110) }
     ensures { result ≡ floor_of (neg_ℤ v.now) (neg_ℤ divisor.now) +ℤ pos 1 }
 {
-    let opposite = turned(v);
-    let above = turned(divisor);
+    let opposite = negated(v);
+    let above = negated(divisor);
     let floor = floor_of(&opposite, &above);
     floor + 1
 }

@@ -95,12 +95,17 @@ fn by_prod_ranges(
 {
     let x = Range::of(a);
     let y = Range::of(b);
-    let z = Range::of(c);
     let products = products_of(&x, &y);
     let on_product = products.holds(sought, c);
+    if on_product.is_some() {
+        return on_product;
+    }
+    let z = Range::of(c);
     let on_first = by_factor(sought, a, &x, &y, &z);
-    let on_second = by_factor(sought, b, &y, &x, &z);
-    on_product.or(on_first).or(on_second)
+    if on_first.is_some() {
+        return on_first;
+    }
+    by_factor(sought, b, &y, &x, &z)
 }
 
 /// The equations of `k` times `b` being `c`, for a `k` above 0.
@@ -112,10 +117,12 @@ fn by_multiple(sought: SoughtEquation, k: &i128, b: &OrdInt, c: &OrdInt) -> Opti
     ensures { result ≡ first_sought sought (multiple_equations k.now b.now c.now) }
 {
     let times = Link::Times(*k);
-    let ceiling = Link::Ceiling(*k);
     let upwards = linked_back(sought, &times, b, c);
-    let back = linked(sought, &ceiling, c, b);
-    upwards.or(back)
+    if upwards.is_some() {
+        return upwards;
+    }
+    let ceiling = Link::Ceiling(*k);
+    linked(sought, &ceiling, c, b)
 }
 
 /// The equations of `k` times `b` being `c`, for a `k` below 0: down one and up the other.
@@ -127,10 +134,12 @@ fn by_negative(sought: SoughtEquation, k: &i128, b: &OrdInt, c: &OrdInt) -> Opti
     ensures { result ≡ first_sought sought (negative_equations k.now b.now c.now) }
 {
     let times = Link::Times(*k);
-    let over = Link::Over(*k);
     let upwards = opposed_above(sought, &times, b, c);
-    let back = opposed(sought, &over, c, b);
-    upwards.or(back)
+    if upwards.is_some() {
+        return upwards;
+    }
+    let over = Link::Over(*k);
+    opposed(sought, &over, c, b)
 }
 
 /// The equations of the least value of `a` times `b` being `c`.

@@ -106,8 +106,10 @@ impl Range {
         ensures { result ≡ first_sought sought (within a.now self.now.low self.now.high) }
     {
         let from = sought.at_least(a, self.low);
-        let to = sought.is_below(a, next(self.high));
-        from.or(to)
+        if from.is_some() {
+            return from;
+        }
+        sought.is_below(a, next(self.high))
     }
 
     /// That an integer, whose own range is given, is in the range. Where its own range is within this one, no two

@@ -31,14 +31,19 @@ pub(crate) fn by_sum3_ranges(
 {
     let x = Range::of(a);
     let y = Range::of(b);
-    let z = Range::of(c);
     let total = x.plus(&y);
-    let first_rest = z.less(&y);
-    let second_rest = z.less(&x);
     let on_sum = total.holds(sought, c);
+    if on_sum.is_some() {
+        return on_sum;
+    }
+    let z = Range::of(c);
+    let first_rest = z.less(&y);
     let on_first = first_rest.holds(sought, a);
-    let on_second = second_rest.holds(sought, b);
-    on_sum.or(on_first).or(on_second)
+    if on_first.is_some() {
+        return on_first;
+    }
+    let second_rest = z.less(&x);
+    second_rest.holds(sought, b)
 }
 
 /// That each atom is equal to one, where a test holds.
@@ -57,15 +62,20 @@ pub(crate) fn by_count(sought: SoughtEquation, atoms: &[Atom], c: &OrdInt) -> Op
     requires { IsBounded c.now }
     ensures { result ≡ first_sought sought (count_equations atoms.now c.now) }
 {
-    let z = Range::of(c);
     let n = atoms.len();
     let numbers = Range::up_to(n);
-    let all = z.begins_at(n);
-    let none = z.ends_at_zero();
     let on_range = numbers.holds(sought, c);
+    if on_range.is_some() {
+        return on_range;
+    }
+    let z = Range::of(c);
+    let all = z.begins_at(n);
     let on_all = each_where(sought, all, atoms, Atom::True);
-    let on_none = each_where(sought, none, atoms, Atom::False);
-    on_range.or(on_all).or(on_none)
+    if on_all.is_some() {
+        return on_all;
+    }
+    let none = z.ends_at_zero();
+    each_where(sought, none, atoms, Atom::False)
 }
 
 /// The least values of integers, added up, and the greatest ones.
@@ -84,20 +94,26 @@ pub fn totals(ints: &[OrdInt]) -> Range
     Range { low, high }
 }
 
-/// Of the equations of each member being what the others leave of `k`, the first that is looked for: one
-/// pass for the ends of all, and one for each member's share, which binds a member only where its own range is wider.
-pub(crate) fn by_sum(sought: SoughtEquation, ints: &[OrdInt], k: &i128) -> Option<(Atom, Atom)>
+/// Of the equations of each member being what the others leave of `k`, the first that is looked for: one pass, for each
+/// member's share of what all add up to, which binds a member only where its own range is wider.
+fn by_shares(
+    sought: SoughtEquation,
+    ints: &[OrdInt],
+    all: &Range,
+    k: &i128,
+) -> Option<(Atom, Atom)>
     requires sound { AreSound ints.now }
-    requires limit { abs_total ints.now + unsigned_abs k.now < 2 ^ 100 }
+    requires shape { all.now ≡ ranges_of ints.now }
+    requires all { (unsigned_abs all.now.low < 2 ^ 100) × (unsigned_abs all.now.high < 2 ^ 100) }
+    requires total { unsigned_abs k.now < 2 ^ 100 }
     ensures { result ≡ first_sought sought (sum_equations ints.now k.now) }
 {
     if ints.is_empty() {
         return sought.when(*k != 0, Atom::True, Atom::False);
     }
-    let all = totals(ints);
     for a in ints {
         let own = Range::of(a);
-        let share = own.share(&all, k);
+        let share = own.share(all, k);
         let pair = share.binds(sought, a, &own);
         if pair.is_some() {
             return pair;
@@ -173,33 +189,21 @@ fn by_last(sought: SoughtEquation, ints: &[OrdInt], all: &Range, k: &i128) -> Op
     }
 }
 
-/// Of the equations of a sum, the first of two different atoms: in the time of the last member where it alone is bound.
-fn apart_by_summands(ints: &Summands, k: &i128) -> Option<(Atom, Atom)>
-    requires sound { AreSound ints.now }
-    requires limit { abs_total ints.now + unsigned_abs k.now < 2 ^ 100 }
-    ensures { result ≡ first_sought Apart (sum_equations ints.now k.now) }
-{
-    let members = ints.as_slice();
-    if members.is_empty() {
-        return by_sum(SoughtEquation::Apart, members, k);
-    }
-    let all = totals_of(ints);
-    if binds_last_alone(ints, &all, k) {
-        return by_last(SoughtEquation::Apart, members, &all, k);
-    }
-    by_sum(SoughtEquation::Apart, members, k)
-}
-
-/// Of the equations of the members of a sum, the first that is looked for, as `by_sum` finds it in their list.
+/// Of the equations of the members of a sum, the first that is looked for. The first one of two different atoms is found
+/// in the time of the last member where that alone is bound.
 pub(crate) fn by_summands(sought: SoughtEquation, ints: &Summands, k: &i128) -> Option<(Atom, Atom)>
     requires sound { AreSound ints.now }
     requires limit { abs_total ints.now + unsigned_abs k.now < 2 ^ 100 }
     ensures { result ≡ first_sought sought (sum_equations ints.now k.now) }
 {
-    match sought {
-        SoughtEquation::Apart => apart_by_summands(ints, k),
-        SoughtEquation::Pair(_, _) => by_sum(sought, ints.as_slice(), k),
+    let members = ints.as_slice();
+    let all = totals_of(ints);
+    if let SoughtEquation::Apart = sought {
+        if !members.is_empty() && binds_last_alone(ints, &all, k) {
+            return by_last(SoughtEquation::Apart, members, &all, k);
+        }
     }
+    by_shares(sought, members, &all, k)
 }
 
 /// Whether what the others leave the last member of a sum states an equation.

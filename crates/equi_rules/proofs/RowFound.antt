@@ -45,32 +45,6 @@ module _ (sought : SoughtEquation) (a b : OrdInt) where
       both-found sought (at_least a (low_of b +ℤ pos 1) ∷ []) (is_below b (high_of a) ∷ []) o p
       (first ∙ ap (λ x. first_sought sought (at_least a x ∷ [])) bottom) (second ∙ ap (λ x. first_sought sought (is_below b x ∷ [])) top)
 
-  pub leq_constant-found : (r x y : Atom) (t u : Bool) (o p : Option (Atom × Atom)) → t ≡ is_constant a → x ≡ at_of b (low_of a) → u ≡ is_constant b → y ≡ not_atom (at_of a (low_of b +ℤ pos 1)) → o ≡ first_sought sought (only_if t ((r, x) ∷ [])) → p ≡ first_sought sought (only_if u ((r, y) ∷ [])) → option_or o p ≡ first_sought sought (leq_equations_constant r a b)
-  leq_constant-found r x y t u o p et ex eu ey first second =
-      let here : first_sought sought (only_if t ((r, x) ∷ [])) ≡ first_sought sought (only_if (is_constant a) ((r, at_of b (low_of a)) ∷ [])) =
-      λ i. first_sought sought (only_if (et i) ((r, ex i) ∷ [])) in
-      let there : first_sought sought (only_if u ((r, y) ∷ [])) ≡ first_sought sought (only_if (is_constant b) ((r, not_atom (at_of a (low_of b +ℤ pos 1))) ∷ [])) =
-      λ i. first_sought sought (only_if (eu i) ((r, ey i) ∷ [])) in
-      both-found sought (only_if (is_constant a) ((r, at_of b (low_of a)) ∷ [])) (only_if (is_constant b) ((r, not_atom (at_of a (low_of b +ℤ pos 1))) ∷ [])) o p
-      (first ∙ here) (second ∙ there)
-
-  pub leq-found : (r : Atom) (o p q : Option (Atom × Atom)) → o ≡ first_sought sought (leq_equations_known r a b) → p ≡ first_sought sought (leq_equations_decided r a b) → q ≡ first_sought sought (leq_equations_constant r a b) → option_or (option_or o p) q ≡ first_sought sought (leq_equations r a b)
-  leq-found r o p q first second third =
-      both-found sought (leq_equations_known r a b ++ leq_equations_decided r a b) (leq_equations_constant r a b) (option_or o p) q
-      (both-found sought (leq_equations_known r a b) (leq_equations_decided r a b) o p first second) third
-
-  pub eq-found : (r : Atom) (t : Bool) (o p q v w : Option (Atom × Atom)) → o ≡ first_sought sought (only_if (is_true r) (eq_equations_true a b)) → p ≡ first_sought sought (eq_equations_constant r a b) → q ≡ first_sought sought (eq_equations_constant r b a) → v ≡ first_sought sought (eq_equations_apart r a b) → t ≡ same_int a b → w ≡ first_sought sought (only_if t ((r, True) ∷ [])) → option_or (option_or (option_or (option_or o p) q) v) w ≡ first_sought sought (eq_equations r a b)
-  eq-found r t o p q v w first second third fourth et fifth =
-      let known = only_if (is_true r) (eq_equations_true a b) in
-      let one = eq_equations_constant r a b in
-      let other = eq_equations_constant r b a in
-      let apart = eq_equations_apart r a b in
-      both-found sought (known ++ one ++ other ++ apart) (only_if (same_int a b) ((r, True) ∷ [])) (option_or (option_or (option_or o p) q) v) w
-      (both-found sought (known ++ one ++ other) apart (option_or (option_or o p) q) v
-      (both-found sought (known ++ one) other (option_or o p) q
-      (both-found sought known one o p first second) third) fourth)
-      (fifth ∙ ap (λ s. first_sought sought (only_if s ((r, True) ∷ []))) et)
-
 pub value-found : (sought : SoughtEquation) (r : Atom) (v : ℤ) (d : OrdInt) (x y : Atom) (f n l h : Bool) (o p q w : Option (Atom × Atom)) → x ≡ at_of d v → y ≡ at_of d (v +ℤ pos 1) → f ≡ is_false r → n ≡ has_value d v → l ≡ int_eq v (low_of d) → h ≡ int_eq v (high_of d) → o ≡ first_sought sought (only_if f ((x, y) ∷ [])) → p ≡ first_sought sought (only_if (not n) ((r, False) ∷ [])) → q ≡ first_sought sought (only_if l ((r, not_atom y) ∷ [])) → w ≡ first_sought sought (only_if h ((r, x) ∷ [])) → option_or (option_or (option_or o p) q) w ≡ first_sought sought (eq_equations_value r v d)
 value-found sought r v d x y f n l h o p q w ex ey ef en el eh first second third fourth =
     let differ = only_if (is_false r) (is_not d v ∷ []) in

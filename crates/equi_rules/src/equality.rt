@@ -1,6 +1,6 @@
 //! The equations that a reified equality of two integers states.
 
-ghost use Rattle.std.specs.Prelude.{◌≡◌, ◌^◌, ◌<◌, map, unsigned_abs};
+ghost use Rattle.std.specs.Prelude.{◌≡◌, ◌++◌, ◌^◌, ◌<◌, map, unsigned_abs};
 ghost use Rattle.order_ints.specs.OrderLevels.{values_of};
 ghost use Rattle.core_forms.specs.WellFormed.{IsSound};
 ghost use Rattle.order_ints.specs.Same.{is_true};
@@ -107,15 +107,37 @@ fn by_eq_known(sought: SoughtEquation, r: Atom, a: &OrdInt, b: &OrdInt) -> Optio
     None
 }
 
+/// The equations where `r` is True, or one of the integers is constant.
+fn by_eq_terms(sought: SoughtEquation, r: Atom, a: &OrdInt, b: &OrdInt) -> Option<(Atom, Atom)>
+    requires a { IsSound a.now }
+    requires b { IsSound b.now }
+    ensures { result ≡ first_sought sought (only_if (is_true r) (eq_equations_true a.now b.now)
+        ++ eq_equations_constant r a.now b.now ++ eq_equations_constant r b.now a.now) }
+{
+    let known = by_eq_known(sought, r, a, b);
+    if known.is_some() {
+        return known;
+    }
+    let first = by_eq_constant(sought, r, a, b);
+    if first.is_some() {
+        return first;
+    }
+    by_eq_constant(sought, r, b, a)
+}
+
 /// The equations of `r` being the truth of `a` and `b` being equal.
 pub(crate) fn by_eq(sought: SoughtEquation, r: Atom, a: &OrdInt, b: &OrdInt) -> Option<(Atom, Atom)>
     requires a { IsSound a.now }
     requires b { IsSound b.now }
     ensures { result ≡ first_sought sought (eq_equations r a.now b.now) }
 {
-    by_eq_known(sought, r, a, b)
-        .or(by_eq_constant(sought, r, a, b))
-        .or(by_eq_constant(sought, r, b, a))
-        .or(by_eq_apart(sought, r, a, b))
-        .or(sought.when(a == b, r, Atom::True))
+    let by_terms = by_eq_terms(sought, r, a, b);
+    if by_terms.is_some() {
+        return by_terms;
+    }
+    let apart = by_eq_apart(sought, r, a, b);
+    if apart.is_some() {
+        return apart;
+    }
+    sought.when(a == b, r, Atom::True)
 }

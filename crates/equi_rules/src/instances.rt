@@ -71,7 +71,7 @@ fn found(core: &Core) -> Option<Equation>
 }
 
 /// An equation that a core implies, by the rules of this crate; `None` where they have none. It counts one
-/// step, goes once along the core in time linear in its steps and members, and takes no memory.
+/// step, in time linear in the core's steps and members, and takes no memory.
 pub fn find<L: Ledger>(core: &Core, steps: &mut Steps<L>) -> Option<Equation>
     requires { IsWellFormed core.now }
     ensures shape { result ≡ found_at core.now }

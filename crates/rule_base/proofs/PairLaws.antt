@@ -55,6 +55,17 @@ front-found sought ps qs o first some =
 pub back-found : (sought : SoughtEquation) (ps qs : List (Atom × Atom)) (o p : Option (Atom × Atom)) → o ≡ first_sought sought ps → is_some o ≡ false → p ≡ first_sought sought qs → p ≡ first_sought sought (ps ++ qs)
 back-found sought ps qs o p first none second = sym (option_or-none o p none) ∙ both-found sought ps qs o p first second
 
+-- the same of three lists
+module _ (sought : SoughtEquation) (ps qs rs : List (Atom × Atom)) (o : Option (Atom × Atom)) (first : o ≡ first_sought sought ps) where
+  pub first-of-three : is_some o ≡ true → o ≡ first_sought sought (ps ++ qs ++ rs)
+  first-of-three some = front-found sought (ps ++ qs) rs o (front-found sought ps qs o first some) some
+
+  pub second-of-three : (p : Option (Atom × Atom)) → is_some o ≡ false → p ≡ first_sought sought qs → is_some p ≡ true → p ≡ first_sought sought (ps ++ qs ++ rs)
+  second-of-three p none second some = front-found sought (ps ++ qs) rs p (back-found sought ps qs o p first none second) some
+
+  pub third-of-three : (p q : Option (Atom × Atom)) → is_some o ≡ false → p ≡ first_sought sought qs → is_some p ≡ false → q ≡ first_sought sought rs → q ≡ first_sought sought (ps ++ qs ++ rs)
+  third-of-three p q none second neither third = back-found sought (ps ++ qs) rs p q (back-found sought ps qs o p first none second) neither third
+
 -- what is found under a test
 pub only_if-found : (sought : SoughtEquation) (t : Bool) (ps : List (Atom × Atom)) (o : Option (Atom × Atom)) → t ≡ true → o ≡ first_sought sought ps → o ≡ first_sought sought (only_if t ps)
 only_if-found sought t ps o holds found = found ∙ ap (λ b. first_sought sought (only_if b ps)) (sym holds)

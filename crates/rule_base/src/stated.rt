@@ -3,10 +3,10 @@
 ghost use Rattle.std.specs.Prelude.{◌≡◌, [], ◌∷◌, ◌^◌, ◌<◌, ◌+ℤ◌, pos, unsigned_abs};
 ghost use Rattle.order_ints.specs.OrderRange.{IsBounded};
 ghost use Rattle.rule_base.specs.Pairs.{first_sought};
-ghost use Rattle.rule_base.specs.Stated.{at_least, is_below, is_not};
+ghost use Rattle.rule_base.specs.Stated.{at_least, is_below};
 
 use crate::sought::SoughtEquation;
-use order_ints::{Atom, OrdInt};
+use order_ints::{Atom, OrdInt, Walk};
 
 /// The value above another by 1.
 pub fn next(v: i128) -> i128
@@ -22,7 +22,7 @@ impl SoughtEquation {
         requires { IsBounded a.now }
         ensures { result ≡ first_sought self (at_least a.now v ∷ []) }
     {
-        self.one(a.at(v), Atom::True)
+        self.one(Walk::along(a).at(v), Atom::True)
     }
 
     /// That an integer is below a value, if that is looked for. Its time is that of `at`.
@@ -30,15 +30,6 @@ impl SoughtEquation {
         requires { IsBounded a.now }
         ensures { result ≡ first_sought self (is_below a.now v ∷ []) }
     {
-        self.one(a.at(v), Atom::False)
-    }
-
-    /// That an integer is not a value, if that is looked for. Its time is that of `at`.
-    pub fn is_not(self, a: &OrdInt, v: i128) -> Option<(Atom, Atom)>
-        requires bounded { IsBounded a.now }
-        requires value { unsigned_abs v < 2 ^ 120 }
-        ensures { result ≡ first_sought self (is_not a.now v ∷ []) }
-    {
-        self.one(a.at(v), a.at(next(v)))
+        self.one(Walk::along(a).at(v), Atom::False)
     }
 }

@@ -6,7 +6,7 @@ use std::marker::Model;
 use std::sync::ledger::{Blank, Book, Ledger, Share};
 
 /// How many steps were taken, for a ledger `L`. It takes no bytes and no time, only `tick` changes it,
-/// and a contract sees it as a number. A step is one call of a rule's `find`.
+/// and a contract sees it as a number. A step is one call of `find` in a crate of rules, or one run.
 #[derive(Drop)]
 pub struct Steps<L: Ledger> {
     book: Book<L>,

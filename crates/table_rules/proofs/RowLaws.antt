@@ -13,7 +13,7 @@ use Rattle.core_forms.specs.declared.form.Core.{Core}
 use Rattle.core_forms.specs.Meaning.{core_truth}
 use Rattle.core_forms.specs.Variables.{atom_vars, core_vars, AreAmong}
 use Rattle.core_forms.proofs.Rows.{core_truth-row}
-use Rattle.table_rules.specs.Rows.{row_of, valuation_in, are_equal_in, are_equal_below, left_below}
+use Rattle.table_rules.specs.Rows.{row_of, valuation_in, are_equal_in, is_some_apart, are_equal_below, left_below}
 use Rattle.table_rules.specs.Pairs.{IsIn}
 
 -- the number of a row
@@ -241,3 +241,41 @@ pub written-differ : (vars : List ℕ) (old new : List Bool) (number : ℕ) (p :
 written-differ vars old new number p b is long e differ =
     let row : new ≡ row_of (length vars) number = is ∙ ap (λ n. row_of n number) long in
     ap (λ r. are_equal_in (valuation_at vars r) p) (sym row) ∙ sym e ∙ differ
+
+-- where no pair is apart, all pairs stay
+none-apart : (σ : Valuation) (pairs : List (Atom × Atom)) → is_some_apart σ pairs ≡ false → filter (are_equal_in σ) pairs ≡ pairs
+none-apart σ [] h = refl
+none-apart σ (p ∷ pairs) h = by (are_equal_in σ p) h (none-apart σ pairs)
+  where
+    by : (t : Bool) → (not t || is_some_apart σ pairs) ≡ false → (is_some_apart σ pairs ≡ false → filter (are_equal_in σ) pairs ≡ pairs)
+        → cond t (p ∷ filter (are_equal_in σ) pairs) (filter (are_equal_in σ) pairs) ≡ p ∷ pairs
+    by true k rest = ap (λ (ps : List (Atom × Atom)). p ∷ ps) (rest k)
+    by false k rest = absurd (cc)
+
+-- what a row leaves, as it was written: where the core is met, where no pair is apart, and where the core is not met
+module _ (core : Core) (vars : List ℕ) (whole pairs : List (Atom × Atom)) (old new : List Bool) (number : ℕ)
+    (is : new ≡ row_of (length old) number) (long : length old ≡ length vars) (left : pairs ≡ left_below core vars whole number) where
+  in-row : valuation_at vars new ≡ valuation_in vars number
+  in-row = ap (valuation_at vars) (is ∙ ap (λ n. row_of n number) long)
+
+  pub met-next : (b : Bool) (kept : List (Atom × Atom)) → b ≡ core_truth (valuation_at vars new) core → b ≡ true → kept ≡ filter (are_equal_in (valuation_at vars new)) pairs
+      → kept ≡ left_below core vars whole (suc number)
+  met-next b kept e h filtered =
+      filtered ∙ (λ i. filter (are_equal_in (in-row i)) (left i))
+      ∙ sym (ap (λ t. cond t (filter (are_equal_in (valuation_in vars number)) (left_below core vars whole number)) (left_below core vars whole number)) (written core vars old new number b is long e ∙ h))
+
+  pub unmet-next : (b : Bool) → b ≡ core_truth (valuation_at vars new) core → b ≡ false → pairs ≡ left_below core vars whole (suc number)
+  unmet-next b e h =
+      left ∙ sym (ap (λ t. cond t (filter (are_equal_in (valuation_in vars number)) (left_below core vars whole number)) (left_below core vars whole number)) (written core vars old new number b is long e ∙ h))
+
+  pub together-next : (b : Bool) → b ≡ is_some_apart (valuation_at vars new) pairs → b ≡ false → pairs ≡ left_below core vars whole (suc number)
+  together-next b e h = left ∙ by (core_truth (valuation_in vars number) core)
+    where
+      all : filter (are_equal_in (valuation_in vars number)) (left_below core vars whole number) ≡ left_below core vars whole number
+      all =
+          let same : is_some_apart (valuation_at vars new) pairs ≡ is_some_apart (valuation_in vars number) (left_below core vars whole number) = λ i. is_some_apart (in-row i) (left i) in
+          none-apart (valuation_in vars number) (left_below core vars whole number) (sym same ∙ sym e ∙ h)
+
+      by : (t : Bool) → left_below core vars whole number ≡ cond t (filter (are_equal_in (valuation_in vars number)) (left_below core vars whole number)) (left_below core vars whole number)
+      by true = sym all
+      by false = refl

@@ -1,6 +1,6 @@
 -- Words of short integers: what tells which one is first in a row is what the order of words says, and where the first
 -- pairs tell it somewhere, no equation with a name that they don't have is implied.
-use Rattle.std.proofs.Common.{◌≡◌, ℕ, zero, suc, ◌+◌, Bool, true, false, not, ◌&&◌, cond, eqb, ltb, leb, length, take, List, [], ◌∷◌, ◌++◌, Contains, append_assoc, pos, ◌+ℤ◌, refl, sym, ap, subst, ◌∙◌, arith}
+use Rattle.std.proofs.Common.{◌≡◌, ℕ, zero, suc, ◌+◌, Bool, true, false, not, ◌&&◌, cond, eqb, ltb, leb, length, take, List, [], ◌∷◌, ◌++◌, Contains, inl, pos, ◌+ℤ◌, refl, sym, ap, subst, ◌∙◌, arith}
 use Rattle.std.specs.Prelude.{Option, None, Some, IsNone, IfSome, int_lt}
 use Rattle.std.specs.Bool.{beq}
 use Rattle.std.specs.Option.{option_or}
@@ -15,16 +15,16 @@ use Rattle.order_ints.specs.Truth.{Valuation, lit_truth, atom_truth}
 use Rattle.order_ints.specs.OrderValue.{gains, value_of, in_order}
 use Rattle.core_forms.specs.declared.equation.Equation.{Equation}
 use Rattle.core_forms.specs.declared.form.Core.{Core}
-use Rattle.core_forms.specs.declared.form.Core.TheVariants.{Clause, Lex}
+use Rattle.core_forms.specs.declared.form.Core.TheVariants.{Lex}
 use Rattle.core_forms.specs.Values.{all_ordered, values, is_before}
-use Rattle.core_forms.specs.Variables.{atom_vars, atoms_vars, steps_vars, ints_vars, AreAmong, SameOn}
-use Rattle.core_forms.specs.OwnVars.{own_vars, if_few}
+use Rattle.core_forms.specs.Variables.{atom_vars, steps_vars, ints_vars, AreAmong, SameOn}
+use Rattle.core_forms.specs.OwnVars.{with_vars, if_few}
 use Rattle.core_forms.specs.Meaning.{core_truth}
-use Rattle.core_forms.proofs.OwnVars.{own_vars-exact}
+use Rattle.core_forms.proofs.OwnVars.{with_vars-members}
 use Rattle.table_rules.specs.Rows.{are_equal_in}
 use Rattle.table_rules.specs.Pairs.{pairs_over, IsIn}
 use Rattle.table_rules.specs.Instances.{IsInstance, is_over, is_instance_of, found_at}
-use Rattle.table_rules.specs.Words.{are_short, step_atoms, int_atoms, word_vars, which_first, is_the_told, is_told, AreEqualWhereTold}
+use Rattle.table_rules.specs.Words.{are_short, word_vars, which_first, is_the_told, is_told, AreEqualWhereTold}
 use Rattle.table_rules.proofs.RowLaws.{and-true, true-and, beq-refl}
 use Rattle.table_rules.proofs.PairLaws.{same-lit, normal}
 use Rattle.table_rules.proofs.InstanceLaws.{listed-has_var, instance-parts, is-false, found-none}
@@ -165,37 +165,15 @@ module _ (σ : Valuation) (l : Lit) where
           let stays = ap (λ t. cond m.positive t (not t)) (sym (flip-other σ l.var m.var (eqb-false m.var l.var s))) in
           turned-apart (lit_truth σ l) (lit_truth σ m) (lit_truth (flipped σ l.var) l) (lit_truth (flipped σ l.var) m) (flip-lit σ l.var l refl) stays e f
 
--- the clause of the words' atoms has their variables
-append-vars : (xs ys : List Atom) → atoms_vars (xs ++ ys) ≡ atoms_vars xs ++ atoms_vars ys
-append-vars [] ys = refl
-append-vars (a ∷ xs) ys = ap (λ (vs : List ℕ). atom_vars a ++ vs) (append-vars xs ys) ∙ sym (append_assoc (atom_vars a) (atoms_vars xs) (atoms_vars ys))
-
-step-vars : (steps : List (Atom × ℕ)) → atoms_vars (step_atoms steps) ≡ steps_vars steps
-step-vars [] = refl
-step-vars (s ∷ steps) = ap (λ (vs : List ℕ). atom_vars s.0 ++ vs) (step-vars steps)
-
-int-vars : (ints : List OrdInt) → atoms_vars (int_atoms ints) ≡ ints_vars ints
-int-vars [] = refl
-int-vars (a ∷ ints) =
-    append-vars (step_atoms a.steps) (int_atoms ints)
-    ∙ ap (λ (vs : List ℕ). vs ++ atoms_vars (int_atoms ints)) (step-vars a.steps) ∙ ap (λ (vs : List ℕ). steps_vars a.steps ++ vs) (int-vars ints)
-
-abbrev atoms_clause : Atom → List OrdInt → List OrdInt → Core
-atoms_clause r front back = Clause (r ∷ (int_atoms front ++ int_atoms back))
-
-pub clause-vars : (r : Atom) (front back : List OrdInt) → AreAmong (word_vars r front back) (own_vars (atoms_clause r front back))
-clause-vars r front back v c =
-    let same : atom_vars r ++ atoms_vars (int_atoms front ++ int_atoms back) ≡ word_vars r front back =
-    ap (λ (vs : List ℕ). atom_vars r ++ vs) (append-vars (int_atoms front) (int_atoms back) ∙ ap (λ (vs : List ℕ). vs ++ atoms_vars (int_atoms back)) (int-vars front) ∙ ap (λ (vs : List ℕ). ints_vars front ++ vs) (int-vars back)) in
-    (own_vars-exact (atoms_clause r front back) v).1
-    (Contains-append_left (atom_vars r ++ atoms_vars (int_atoms front ++ int_atoms back)) [] v (subst (λ (vs : List ℕ). Contains vs v) (sym same) c))
-
-pub few-among : (r : Atom) (front back : List OrdInt) (core : Core) (few : Option (List ℕ)) → core ≡ atoms_clause r front back → few ≡ if_few (own_vars core)
+pub few-among : (r : Atom) (front back : List OrdInt) (few : Option (List ℕ)) → few ≡ if_few (with_vars (word_vars r front back) [])
     → IfSome few (λ vars. AreAmong (word_vars r front back) vars)
-few-among r front back core None is e = tt
-few-among r front back core (Some vars) is e = subst (AreAmong (word_vars r front back)) (sym (at (leb (length (own_vars core)) 8) e ∙ ap own_vars is)) (clause-vars r front back)
+few-among r front back None e = tt
+few-among r front back (Some vars) e = subst (AreAmong (word_vars r front back)) (sym (at (leb (length all) 8) e)) (λ v c. (with_vars-members (word_vars r front back) [] v).1 (inl c))
   where
-    at : (t : Bool) → Some vars ≡ cond t (Some (own_vars core)) None → vars ≡ own_vars core
+    all : List ℕ
+    all = with_vars (word_vars r front back) []
+
+    at : (t : Bool) → Some vars ≡ cond t (Some all) None → vars ≡ all
     at true k = cc
     at false k = absurd (cc)
 

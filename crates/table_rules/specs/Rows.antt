@@ -1,5 +1,5 @@
 -- The rows of a core's truth table, and what they leave of equations.
-use Rattle.std.specs.Prelude.{ℕ, zero, suc, ◌/◌, ◌%◌, nat_eq, Bool, true, not, ◌&&◌, ◌||◌, List, []}
+use Rattle.std.specs.Prelude.{ℕ, zero, suc, ◌/◌, ◌%◌, nat_eq, Bool, true, false, not, ◌&&◌, ◌||◌, List, []}
 use Rattle.std.specs.Prelude.{◌∷◌, length, if◌then◌else◌}
 use Rattle.std.specs.Bool.{beq}
 use Rattle.std.specs.List.{filter}
@@ -20,6 +20,11 @@ valuation_in vars number = valuation_at vars (row_of (length vars) number)
 -- two atoms are equally true
 abbrev pub are_equal_in : Valuation → Atom × Atom → Bool
 are_equal_in σ p = beq (atom_truth σ p.0) (atom_truth σ p.1)
+
+-- the atoms of some pair are not equally true
+abbrev pub is_some_apart : Valuation → List (Atom × Atom) → Bool
+is_some_apart σ [] = false
+is_some_apart σ (p ∷ pairs) = not (are_equal_in σ p) || is_some_apart σ pairs
 
 -- in each of the rows below a number in which the core is met, the atoms are equally true
 abbrev pub are_equal_below : Core → List ℕ → Atom × Atom → ℕ → Bool

@@ -20,15 +20,6 @@ abbrev pub are_short : List OrdInt → Bool
 are_short [] = true
 are_short (a ∷ ints) = nat_lt (length a.steps) 2 && are_short ints
 
--- the atoms of steps, and of the steps of integers
-abbrev pub step_atoms : List (Atom × ℕ) → List Atom
-step_atoms [] = []
-step_atoms (s ∷ steps) = s.0 ∷ step_atoms steps
-
-abbrev pub int_atoms : List OrdInt → List Atom
-int_atoms [] = []
-int_atoms (a ∷ ints) = step_atoms a.steps ++ int_atoms ints
-
 -- the variables of two words and of the atom that tells which one is first
 abbrev pub word_vars : Atom → List OrdInt → List OrdInt → List ℕ
 word_vars truth front back = atom_vars truth ++ (ints_vars front ++ ints_vars back)
@@ -50,11 +41,6 @@ is_the_told truth (Some told) = beq truth told
 -- an atom says which of two words is first, and of equal words what is told of these, if anything is
 abbrev pub is_told : Valuation → Atom → Option Bool → List OrdInt → List OrdInt → Bool
 is_told σ truth equal front back = is_the_told (atom_truth σ truth) (option_or (which_first σ front back) equal)
-
--- the atoms of some pair are not equally true
-abbrev pub is_some_apart : Valuation → List (Atom × Atom) → Bool
-is_some_apart σ [] = false
-is_some_apart σ (p ∷ pairs) = not (are_equal_in σ p) || is_some_apart σ pairs
 
 -- the atoms of a pair are equally true wherever it is told so
 abbrev pub AreEqualWhereTold : Atom → Option Bool → List OrdInt → List OrdInt → Atom × Atom → Type 0

@@ -88,7 +88,7 @@ fn found(alloc: Global, core: &Core) -> Result<Option<Equation>, AllocError>
 /// An equation that a core of at most eight variables implies; `None` where it implies none, or has more
 /// variables. It counts one step. A core with more variables is left at the ninth; of another one each row
 /// of its truth table is judged, up to the one that leaves no equation, and memory is taken once; of a long
-/// order of words it may be taken twice before.
+/// order of words it may be taken once before.
 pub fn find<L: Ledger>(
     alloc: Global,
     core: &Core,

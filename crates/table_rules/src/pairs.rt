@@ -37,12 +37,16 @@ fn put_all(pairs: &mut Vec<(Atom, Atom)>, vars: &[u32]) -> Result<(), AllocError
     Ok(())
 }
 
-/// The pairs of atoms over listed variables, up to order and to the negation of both. It takes memory
-/// once.
+/// So many pairs are over eight variables: the constants, True with 16 literals, and 28 pairs of variables, each with
+/// both literals of the later one.
+const MOST_PAIRS: usize = 73;
+
+/// The pairs of atoms over listed variables, up to order and to the negation of both. Of at most eight variables it
+/// takes memory once.
 pub(crate) fn pairs_over(alloc: Global, vars: &[u32]) -> Result<Vec<(Atom, Atom)>, AllocError>
     ensures { IfOk result (λ pairs. pairs.items ≡ pairs_over vars.now) }
 {
-    let mut pairs = Vec::with_capacity(alloc, 73)?;
+    let mut pairs = Vec::with_capacity(alloc, MOST_PAIRS)?;
     pairs.push((Atom::True, Atom::False))?;
     put_pairs(&mut pairs, Atom::True, vars)?;
     put_all(&mut pairs, vars)?;

@@ -4,7 +4,7 @@ ghost use Rattle.std.specs.Prelude.{◌≡◌, ◌^◌, ◌≤◌, length};
 ghost use Rattle.std.specs.List.{filter};
 ghost use Rattle.order_ints.specs.Truth.{valuation_at};
 ghost use Rattle.core_forms.specs.WellFormed.{IsWellFormed};
-ghost use Rattle.table_rules.specs.Rows.{row_of, are_equal_in, are_equal_below, left_below};
+ghost use Rattle.table_rules.specs.Rows.{row_of, are_equal_in, is_some_apart, are_equal_below, left_below};
 
 use core_forms::{Core, holds_in_row};
 use order_ints::{Atom, TruthRow};
@@ -46,11 +46,23 @@ pub(crate) fn are_equal(core: &Core, vars: &[u32], a: Atom, b: Atom) -> bool
     let values = &mut row[..vars.len()];
     for number in 0..row_count(vars.len()) {
         write_row(values, number);
-        if holds_in_row(core, vars, values) && !are_equal_in(vars, values, (a, b)) {
+        if !are_equal_in(vars, values, (a, b)) && holds_in_row(core, vars, values) {
             return false;
         }
     }
     true
+}
+
+/// Whether the atoms of some pair are not equally true in a row.
+pub(crate) fn is_some_apart(pairs: &[(Atom, Atom)], vars: &[u32], values: &[bool]) -> bool
+    ensures { result ≡ is_some_apart (valuation_at vars.now values.now) pairs.now }
+{
+    for pair in pairs {
+        if !are_equal_in(vars, values, *pair) {
+            return true;
+        }
+    }
+    false
 }
 
 /// Keeps those of pairs of atoms which are equally true in a row.
@@ -61,7 +73,7 @@ pub(crate) fn keep_equal(pairs: &mut Vec<(Atom, Atom)>, vars: &[u32], values: &[
 }
 
 /// Keeps those of pairs of atoms which are equally true in each row in which a core is met. It ends with
-/// the row in which the last one falls, most often after a few rows.
+/// the row in which the last one falls, and looks at the core only in rows in which some pair would fall.
 pub(crate) fn keep_implied(pairs: &mut Vec<(Atom, Atom)>, core: &Core, vars: &[u32])
     requires well_formed { IsWellFormed core.now }
     requires few { length vars.now ≤ 8 }
@@ -74,7 +86,7 @@ pub(crate) fn keep_implied(pairs: &mut Vec<(Atom, Atom)>, core: &Core, vars: &[u
             return;
         }
         write_row(values, number);
-        if holds_in_row(core, vars, values) {
+        if is_some_apart(pairs.as_slice(), vars, values) && holds_in_row(core, vars, values) {
             keep_equal(pairs, vars, values);
         }
     }

@@ -8,19 +8,18 @@ ghost use Rattle.std.specs.Prelude.{◌≡◌, ◌++◌, ◌∷◌, ◌≤◌, t
 ghost use Rattle.std.specs.Prelude.{OnOk, IfSome, IsTrue};
 ghost use Rattle.order_ints.specs.declared.atom.Atom.{Atom};
 ghost use Rattle.order_ints.specs.Truth.{Valuation, atom_truth, valuation_at};
-ghost use Rattle.core_forms.specs.declared.form.Core.TheVariants.{Clause, Lex};
+ghost use Rattle.core_forms.specs.declared.form.Core.TheVariants.{Lex};
 ghost use Rattle.core_forms.specs.Variables.{AreAmong};
 ghost use Rattle.core_forms.specs.WellFormed.{IsWellFormed, AreSound};
 ghost use Rattle.table_rules.specs.Pairs.{pairs_over, IsIn};
 ghost use Rattle.table_rules.specs.Instances.{found_at};
-ghost use Rattle.table_rules.specs.Words.{are_short, step_atoms, int_atoms, word_vars, which_first};
+ghost use Rattle.table_rules.specs.Words.{are_short, word_vars, which_first};
 ghost use Rattle.table_rules.specs.Words.{is_the_told, is_told};
-ghost use Rattle.table_rules.specs.Words.{is_some_apart, AreEqualWhereTold, first_pairs};
+ghost use Rattle.table_rules.specs.Words.{AreEqualWhereTold, first_pairs};
 
 use crate::pairs::pairs_over;
-use crate::rows::{are_equal_in, keep_equal, row_count, write_row};
-use bee_list::Sequence;
-use core_forms::{Core, FewVars, Word, few_variables};
+use crate::rows::{is_some_apart, keep_equal, row_count, write_row};
+use core_forms::{Core, FewVars, Word, few_of_words};
 use order_ints::{Atom, OrdInt, TruthRow, TruthValues};
 use std::alloc::{AllocError, Global};
 
@@ -58,57 +57,15 @@ fn first_of(word: &Word) -> &[OrdInt]
     &word.get().as_slice()[..FIRST_PAIRS]
 }
 
-/// Puts the atoms of an integer's steps behind others.
-fn put_int(atoms: &mut Vec<Atom>, a: &OrdInt) -> Result<(), AllocError>
-    ensures { OnOk result (atoms.new.items ≡ atoms.old.items ++ step_atoms a.now.steps) }
-{
-    for step in a.steps.as_slice() {
-        atoms.push(step.0)?;
-    }
-    Ok(())
-}
-
-/// Puts the atoms of the steps of integers behind others.
-fn put_ints(atoms: &mut Vec<Atom>, ints: &[OrdInt]) -> Result<(), AllocError>
-    ensures { OnOk result (atoms.new.items ≡ atoms.old.items ++ int_atoms ints.now) }
-{
-    for a in ints {
-        put_int(atoms, a)?;
-    }
-    Ok(())
-}
-
-/// The atoms of two words, behind the atom that tells which one is first, as a clause, which has their variables.
-fn atoms_of(
-    alloc: Global,
-    truth: Atom,
-    front: &[OrdInt],
-    back: &[OrdInt],
-) -> Result<Core, AllocError>
-    ensures { IfOk result (λ core. core ≡ Clause (truth ∷ (int_atoms front.now ++ int_atoms back.now))) }
-{
-    let mut atoms = Vec::with_capacity(alloc, 2 * FIRST_PAIRS + 1)?;
-    atoms.push(truth)?;
-    put_ints(&mut atoms, front)?;
-    put_ints(&mut atoms, back)?;
-    Ok(Core::Clause(Sequence::from_vec(atoms)))
-}
-
 /// The variables of two words of short integers and of the atom that tells which one is first, where there are at
-/// most eight. It takes memory once.
-fn few_names(
-    alloc: Global,
-    truth: Atom,
-    front: &[OrdInt],
-    back: &[OrdInt],
-) -> Result<Option<FewVars>, AllocError>
-    ensures { IfOk result (λ few. IfSome few (λ vars. AreAmong (word_vars truth front.now back.now) vars)) }
+/// most eight. It takes no memory.
+fn few_names(truth: Atom, front: &[OrdInt], back: &[OrdInt]) -> Option<FewVars>
+    ensures { IfSome result (λ vars. AreAmong (word_vars truth front.now back.now) vars) }
 {
     if !are_short(front) || !are_short(back) {
-        return Ok(None);
+        return None;
     }
-    let atoms = atoms_of(alloc, truth, front, back)?;
-    Ok(few_variables(&atoms))
+    few_of_words(truth, front, back)
 }
 
 /// Whether the first word stands before the second, at the first place at which they differ; `None` where they
@@ -169,18 +126,6 @@ fn is_told_somewhere(truth: Atom, front: &[OrdInt], back: &[OrdInt], vars: &[u32
     for number in 0..row_count(vars.len()) {
         write_row(values, number);
         if is_told(truth, None, front, back, TruthRow { vars, values }) {
-            return true;
-        }
-    }
-    false
-}
-
-/// Whether the atoms of some pair are not equally true in a row.
-fn is_some_apart(pairs: &[(Atom, Atom)], vars: &[u32], values: &[bool]) -> bool
-    ensures { result ≡ is_some_apart (valuation_at vars.now values.now) pairs.now }
-{
-    for pair in pairs {
-        if !are_equal_in(vars, values, *pair) {
             return true;
         }
     }
@@ -359,14 +304,14 @@ fn long_words_tell_nothing(
     if front.get().len() <= FIRST_PAIRS {
         return Ok(false);
     }
-    match few_names(alloc, truth, first_of(front), first_of(back))? {
+    match few_names(truth, first_of(front), first_of(back)) {
         Some(few) => words_tell_nothing(alloc, truth, strict, front, back, few.as_slice()),
         None => Ok(false),
     }
 }
 
 /// Whether a core is a long order of words over few names of which a look shows that it implies no equation. Of words
-/// over more names, or with integers of more steps, only the first pairs are looked at. It takes memory twice.
+/// over more names, or with integers of more steps, only the first pairs are looked at. It takes memory once.
 pub(crate) fn implies_nothing(alloc: Global, core: &Core) -> Result<bool, AllocError>
     requires { IsWellFormed core.now }
     ensures { IfOk result (λ none. IsTrue none → found_at core.now ≡ None) }

@@ -23,7 +23,7 @@ loop-place-preserved c = elim c.match-constant_at.branch [
   | in-Some+in_ok-put w ↦
       let key : to_z w128 (of_z w128 w.in-Some.value) ≡ w.in-Some.value = small_bits w.in-Some.value w.in-Some.ensures.small in
       let updates : Updates int_cmp c.loop-place.table w.put.new.table w.in-Some.value (Some (joined (get int_cmp c.loop-place.table w.in-Some.value) c.loop-place.place)) =
-      subst (λ (v : ℤ). Updates int_cmp c.loop-place.table w.put.new.table v (Some (joined (get int_cmp c.loop-place.table v) c.loop-place.place))) key w.in_ok-put.ensures in
+      subst (λ (v : ℤ). Updates int_cmp c.loop-place.table w.put.new.table v (Some (joined (get int_cmp c.loop-place.table v) c.loop-place.place))) key w.in_ok-put.ensures.updates in
       subst (λ (m : BTreeMap ℤ Places). (v : ℤ) → Shows (λ i. (i < c.loop-place.place + 1) × IsConstantAt c.args.ints.now c.args.conditions.now v i) (get int_cmp m v)) (sym w.table-is)
       (next-shown int_cmp exact_signed (tied_itself int_cmp_total) (IsConstantAt c.args.ints.now c.args.conditions.now) c.loop-place.place c.loop-place.table c.loop-place.invariant w.in-Some.value w.in-Some.ensures.value
       (λ v p. same_constant v w.in-Some.value (sym p.1 ∙ w.in-Some.ensures.value.1)) w.put.new.table updates)

@@ -19,7 +19,7 @@ loop-place-preserved c = elim c.match-held_value.branch [
   | in-Some+in_ok-put w ↦
       let key : to_z w128 (of_z w128 w.in-Some.value) ≡ w.in-Some.value = small_bits w.in-Some.value w.in-Some.ensures.small in
       let updates : Updates int_cmp c.loop-place.table w.put.new.table w.in-Some.value (Some (joined (get int_cmp c.loop-place.table w.in-Some.value) c.loop-place.place)) =
-      subst (λ (v : ℤ). Updates int_cmp c.loop-place.table w.put.new.table v (Some (joined (get int_cmp c.loop-place.table v) c.loop-place.place))) key w.in_ok-put.ensures in
+      subst (λ (v : ℤ). Updates int_cmp c.loop-place.table w.put.new.table v (Some (joined (get int_cmp c.loop-place.table v) c.loop-place.place))) key w.in_ok-put.ensures.updates in
       subst (λ (m : BTreeMap ℤ Places). (v : ℤ) → Shows (λ i. (i < c.loop-place.place + 1) × IsHolderAt c.args.ints.now c.args.conditions.now c.args.upper v i) (get int_cmp m v)) (sym w.table-is)
       (next-shown int_cmp exact_signed (tied_itself int_cmp_total) (IsHolderAt c.args.ints.now c.args.conditions.now c.args.upper) c.loop-place.place c.loop-place.table c.loop-place.invariant w.in-Some.value w.in-Some.ensures.value
       (λ v p. one-holder c.args.ints.now c.args.conditions.now c.loop-place.place c.args.upper v w.in-Some.value p w.in-Some.ensures.value) w.put.new.table updates)

@@ -19,13 +19,12 @@ loop-value-preserved c =
     let lt : i < length es = c.loop-value-test.true in
     let key : to_z w128 (of_z w128 v) ≡ v = small_bits v (small-at es i (pos 0, 0) lt c.requires) in
     let updates : Updates int_cmp values c.put.new.table v (Some (joined (get int_cmp values v) k)) =
-    subst (λ (u : ℤ). Updates int_cmp values c.put.new.table u (Some (joined (get int_cmp values u) k))) key c.in_ok-put.ensures in
-    let seen : c.is_some-counted.result ≡ is_some (get int_cmp values v) =
-    c.is_some-counted.ensures ∙ ap is_some (c.found.ensures ∙ ap (λ (u : ℤ). get int_cmp values u) key) in
+    subst (λ (u : ℤ). Updates int_cmp values c.put.new.table u (Some (joined (get int_cmp values u) k))) key c.in_ok-counted.ensures.updates in
+    let seen : c.in_ok-counted.counted ≡ is_some (get int_cmp values v) = c.in_ok-counted.ensures.there ∙ ap (λ (u : ℤ). is_some (get int_cmp values u)) key in
     record {
       shown = entry-shown es i values c.loop-value.invariant.shown v k (pos 0, 0) lt refl c.put.new.table updates;
-      left = entry-count es i values c.loop-value.invariant.shown v k (pos 0, 0) lt refl c.loop-value.count c.one_more-count.result c.is_some-counted.result seen c.one_more-count.ensures c.loop-value.invariant.left;
-      few = few-step c.is_some-counted.result c.loop-value.count c.one_more-count.result i c.one_more-count.ensures c.loop-value.invariant.few;
+      left = entry-count es i values c.loop-value.invariant.shown v k (pos 0, 0) lt refl c.loop-value.count c.one_more-count.result c.in_ok-counted.counted seen c.one_more-count.ensures c.loop-value.invariant.left;
+      few = few-step c.in_ok-counted.counted c.loop-value.count c.one_more-count.result i c.one_more-count.ensures c.loop-value.invariant.few;
     }
 
 pub returns : goal.returns

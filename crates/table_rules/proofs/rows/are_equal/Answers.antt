@@ -2,8 +2,8 @@ use Rattle.std.proofs.Common.{◌^◌, length, sym, ◌∙◌, arith}
 use Rattle.table_rules.proofs.RowLaws.{written, written-differ, differ-below}
 use Rattle.table_rules.proofs.rows.are_equal.Goals as goal
 
-pub returns-then-not-are_equal_in : goal.returns-then-not-are_equal_in
-returns-then-not-are_equal_in c =
+pub returns-then-holds_in_row : goal.returns-then-holds_in_row
+returns-then-holds_in_row c =
     let core = c.args.core.now in
     let vars = c.args.vars.now in
     let rows = c.loop-number in

@@ -1,7 +1,7 @@
 use Rattle.std.proofs.Common.{◌≡◌, drop}
 use Rattle.order_ints.specs.Truth.{valuation_at}
-use Rattle.table_rules.specs.Words.{is_some_apart}
-use Rattle.table_rules.proofs.words.is_some_apart.Given as goal
+use Rattle.table_rules.specs.Rows.{is_some_apart}
+use Rattle.table_rules.proofs.rows.is_some_apart.Given as goal
 
 -- what is left decides
 abbrev pub invariant-loop-pair : goal.invariant-loop-pair

@@ -70,14 +70,6 @@ impl ClauseArena {
         self.order.nodes()
     }
 
-    /// How many literals there is room for.
-    pub fn spare_literals(&self) -> u32
-        ensures count { result ≡ self.now.spare_lits }
-        ensures arena { IsArena self.now }
-    {
-        self.spare
-    }
-
     /// How many clauses there is room for.
     pub fn spare_clauses(&self) -> u32
         ensures count { result ≡ self.now.spare_clauses }

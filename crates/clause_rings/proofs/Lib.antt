@@ -16,3 +16,4 @@ mod Backwards
 mod ComeAndGo
 pub mod Widened
 pub mod Ascending
+mod Reasons

@@ -230,13 +230,6 @@ impl ClauseDb {
         self.watches.arena.id(c)
     }
 
-    /// How many literals there is room for.
-    pub fn spare_literals(&self) -> u32
-        ensures { result ≡ self.now.spare_lits }
-    {
-        self.watches.arena.spare_literals()
-    }
-
     /// How many clauses there is room for.
     pub fn spare_clauses(&self) -> u32
         ensures { result ≡ self.now.spare_clauses }
@@ -268,6 +261,16 @@ impl ClauseDb {
         self.watches.trail.entry_of(var)
     }
 
+    /// The place of a variable's entry on the trail, none where it is free.
+    pub fn place_of(&self, var: u32) -> Option<u32>
+        requires { var ≤ self.now.trail.vars }
+        ensures { MatchOption result (entry_of self.now.trail.entries var ≡ None)
+            (λ j. (j < length self.now.trail.entries)
+            × (entry_of self.now.trail.entries var ≡ Some (entry_at self.now.trail.entries j))) }
+    {
+        self.watches.trail.place_of(var)
+    }
+
     /// The number of references, in use or not.
     pub fn references(&self) -> u32
         ensures { result ≡ length self.now.clauses }
@@ -280,5 +283,13 @@ impl ClauseDb {
         ensures { IsTrue result ↔ IsLive self.now.clauses c }
     {
         self.watches.arena.is_live(c)
+    }
+
+    /// Whether no literal became true for a clause. It looks at each literal of the clause.
+    pub fn is_unused(&self, c: ClauseRef) -> bool
+        requires { IsLive self.now.clauses c }
+        ensures { IsTrue result ↔ IsUnused self.now.trail.entries c }
+    {
+        moves::is_unused(&self.watches, c)
     }
 }

@@ -1,7 +1,7 @@
 //! The moves of a search that are no propagation: an assignment, a jump back, a clause that comes or goes, more room.
 
 ghost use Rattle.std.specs.Prelude.{◌≡◌, ◌≢◌, ◌+◌, ◌*◌, ◌^◌, ◌<◌, ◌≤◌, ℕ, None};
-ghost use Rattle.std.specs.Prelude.{false, length, Contains, MatchOption, vec_len};
+ghost use Rattle.std.specs.Prelude.{◌↔◌, false, length, Contains, IsTrue, MatchOption, vec_len};
 ghost use Rattle.std.specs.List.{All};
 ghost use Rattle.order_ints.specs.declared.literal.Lit.{Lit};
 ghost use Rattle.order_ints.specs.Place.{LitBelow};
@@ -142,6 +142,20 @@ fn release(rings: &mut Rings, node: u32)
     if !rings.is_free(node) {
         rings.unlink(node);
     }
+}
+
+/// Whether no literal became true for a clause.
+pub fn is_unused(watches: &Watches, c: u32) -> bool
+    requires kept { Keeps watches.now }
+    requires live { IsLive watches.now.arena.clauses c }
+    ensures { IsTrue result ↔ IsUnused watches.now.trail.entries c }
+{
+    for place in 0..watches.arena.len(c) {
+        if watches.trail.reason_of(watches.arena.lit_at(c, place).var) == Some(c) {
+            return false;
+        }
+    }
+    true
 }
 
 /// Deletes a clause that is no reason.

@@ -120,7 +120,7 @@ pub false-shows : (s : ClauseLists) (c : ℕ) → s.trail.level ≡ 0 → IsDb s
 false-shows s c low db live fails cs listed = shown-sound s s [] low db (denying-none [] s) db true (inr (record { reference = c; live = live; is_false = fails })) cs listed refl
 
 -- the moves that store a clause
-module _ (old mid next new : ClauseLists) (r : ℕ) (lits : List Lit) (bottom : old.trail.level ≡ 0) (room : HasRoomMore old mid) (inside : r < length mid.clauses) (dead : (clause_at mid.clauses r).live ≡ false) (comes : next ≡ with_clause mid r 0 lits) (clauses : SameClauses next.clauses new.clauses) (follows : Follows new.clauses next.trail new.trail) (db : IsDb new.clauses new.trail) where
+module _ (old mid next new : ClauseLists) (r id : ℕ) (lits : List Lit) (bottom : old.trail.level ≡ 0) (room : HasRoomMore old mid) (inside : r < length mid.clauses) (dead : (clause_at mid.clauses r).live ≡ false) (comes : next ≡ with_clause mid r id lits) (clauses : SameClauses next.clauses new.clauses) (follows : Follows new.clauses next.trail new.trail) (db : IsDb new.clauses new.trail) where
   same_trail : next.trail ≡ old.trail
   same_trail = ap (λ (s : ClauseLists). s.trail) comes ∙ room.trail
 
@@ -133,30 +133,30 @@ module _ (old mid next new : ClauseLists) (r : ℕ) (lits : List Lit) (bottom : 
   mid-at : (c : ℕ) → clause_at mid.clauses c ≡ clause_at old.clauses c
   mid-at c = ap (λ (cs : List Clause). clause_at cs c) room.clauses ∙ wider-at old.clauses room.more c
 
-  set-at : next.clauses ≡ set mid.clauses r (live_clause 0 lits)
+  set-at : next.clauses ≡ set mid.clauses r (live_clause id lits)
   set-at = ap (λ (s : ClauseLists). s.clauses) comes
 
   was-dead : (clause_at old.clauses r).live ≡ false
   was-dead = sym (ap (λ (y : Clause). y.live) (mid-at r)) ∙ dead
 
-  at-reference : clause_at next.clauses r ≡ live_clause 0 lits
-  at-reference = ap (λ (ks : List Clause). clause_at ks r) set-at ∙ get_or-set_same mid.clauses r (live_clause 0 lits) no_clause inside
+  at-reference : clause_at next.clauses r ≡ live_clause id lits
+  at-reference = ap (λ (ks : List Clause). clause_at ks r) set-at ∙ get_or-set_same mid.clauses r (live_clause id lits) no_clause inside
 
   elsewhere : (c : ℕ) → c ≢ r → clause_at next.clauses c ≡ clause_at old.clauses c
-  elsewhere c ne = ap (λ (ks : List Clause). clause_at ks c) set-at ∙ get_or-set_other mid.clauses r c (live_clause 0 lits) no_clause ne ∙ mid-at c
+  elsewhere c ne = ap (λ (ks : List Clause). clause_at ks c) set-at ∙ get_or-set_other mid.clauses r c (live_clause id lits) no_clause ne ∙ mid-at c
 
   now-listed : (cs : List (List Lit)) → AreListed old.clauses cs → IsListed cs lits → AreListed new.clauses cs
   now-listed cs listed one =
       listed-same next.clauses new.clauses clauses cs
-      (λ c live. add-listed old.clauses next.clauses r 0 lits was-dead at-reference elsewhere cs listed one c live (cases_eq c r))
+      (λ c live. add-listed old.clauses next.clauses r id lits was-dead at-reference elsewhere cs listed one c live (cases_eq c r))
 
   pub stored-refutes : (c : ℕ) → IsLive new.clauses c × IsFalse new.trail.entries (lits_of new.clauses c) → IsTakenIn true old new lits
   stored-refutes c found = λ cs listed one. false-shows new c low db found.0 found.1 cs (now-listed cs listed one)
 
   pub stored-takes : IsComplete new.trail.entries new.clauses → TakesIn old new lits
   stored-takes none = record {
-    stays = λ d h. held-same next.clauses new.clauses clauses d (add-held old.clauses next.clauses r 0 lits was-dead at-reference elsewhere d h);
-    comes = λ d same. held-same next.clauses new.clauses clauses d (add-here old.clauses next.clauses r 0 lits was-dead at-reference elsewhere d same);
+    stays = λ d h. held-same next.clauses new.clauses clauses d (add-held old.clauses next.clauses r id lits was-dead at-reference elsewhere d h);
+    comes = λ d same. held-same next.clauses new.clauses clauses d (add-here old.clauses next.clauses r id lits was-dead at-reference elsewhere d same);
     listed = now-listed;
     bottom = low;
     complete = none;

@@ -7,7 +7,6 @@ pub mod Rups
 pub mod Additions
 mod Started
 mod TwoTiers
-mod Reasons
 mod CopiedLists
 mod Spelled
 mod Taking

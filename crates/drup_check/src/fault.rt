@@ -3,7 +3,7 @@
 ghost use Rattle.std.specs.Prelude.{◌≡◌};
 ghost use Rattle.drup_check.specs.declared.fault.DrupFault.TheVariants.{Memory};
 
-use std::alloc::{AllocError, AllocFailed};
+use std::alloc::AllocError;
 
 /// Why a text is no proof.
 #[derive(Clone, Copy, Debug, PartialEq, Eq)]
@@ -13,14 +13,6 @@ pub enum DrupFault {
     Refused(u64),
     /// Memory was wanting.
     Memory,
-}
-
-impl<T: Drop> From<AllocFailed<T>> for DrupFault {
-    ghost from_gives = { λ _ e. e ≡ Memory };
-
-    fn from(_e: AllocFailed<T>) -> DrupFault {
-        DrupFault::Memory
-    }
 }
 
 impl From<AllocError> for DrupFault {

@@ -33,7 +33,7 @@ pub(crate) fn ordered(alloc: Global, lits: &[Lit]) -> Result<Option<Sequence<Lit
 }
 
 /// Adds a clause to a store, and propagates.
-fn store(db: &mut ClauseDb, lits: &[Lit]) -> Result<Kept, AllocError>
+fn store(db: &mut ClauseDb, lits: &[Lit], id: u64) -> Result<Kept, AllocError>
     requires bottom { db.old.trail.level ≡ 0 }
     requires lits { (l : Lit) → Contains lits.now l → LitBelow (db.old.trail.vars + 1) l }
     requires apart { IsApart lits.now }
@@ -42,16 +42,16 @@ fn store(db: &mut ClauseDb, lits: &[Lit]) -> Result<Kept, AllocError>
     ensures err { OnErr result (db.new ≡ db.old) }
 {
     db.reserve(lits.len(), 1)?;
-    let reference = db.add(lits, 0);
+    let reference = db.add(lits, id);
     match db.propagate() {
         Some(_) => Ok(Kept::Refutes(reference)),
         None => Ok(Kept::Stored(reference)),
     }
 }
 
-/// Adds a clause to those of a store. A clause with a literal and its negation is not stored. Where memory is wanting
-/// the store is as it was. It takes the time of one sort of the literals, and of the propagation.
-pub fn keep(alloc: Global, db: &mut ClauseDb, lits: &[Lit]) -> Result<Kept, AllocError>
+/// Adds a clause to those of a store, under an id. A clause with a literal and its negation is not stored. Where memory
+/// is wanting the store is as it was. It takes the time of one sort of the literals, and of the propagation.
+pub fn keep(alloc: Global, db: &mut ClauseDb, lits: &[Lit], id: u64) -> Result<Kept, AllocError>
     requires lits { (l : Lit) → Contains lits.now l → LitBelow (db.old.trail.vars + 1) l }
     requires bottom { db.old.trail.level ≡ 0 }
     requires complete { IsComplete db.old.trail.entries db.old.clauses }
@@ -61,6 +61,6 @@ pub fn keep(alloc: Global, db: &mut ClauseDb, lits: &[Lit]) -> Result<Kept, Allo
 {
     match ordered(alloc, lits)? {
         None => Ok(Kept::Idle),
-        Some(clause) => store(db, clause.as_slice()),
+        Some(clause) => store(db, clause.as_slice(), id),
     }
 }

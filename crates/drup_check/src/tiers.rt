@@ -80,7 +80,7 @@ impl Tiers {
         if self.index.note_copy(alloc, &self.db, lits)? {
             return Ok(false);
         }
-        match keep(alloc, &mut self.db, lits)? {
+        match keep(alloc, &mut self.db, lits, 0)? {
             Kept::Refutes(_) => Ok(true),
             Kept::Idle => Ok(false),
             Kept::Stored(reference) => {

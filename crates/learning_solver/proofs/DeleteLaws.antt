@@ -171,14 +171,3 @@ module _ (cnf : Cnf) (log : List ProofLine) (is : IsLog cnf log) (cs : List Clau
       let P : List Clause → Type 0 = IsKept (without (stored_at cs c).id (proof_behind cnf log).live) in
       let Q : Proof → Type 0 = λ p. IsKept p.live now in
       subst Q (sym behind-it) (subst P (sym made) (kept-gone (proof_behind cnf log).live cs base c kept once here above))
-
--- a clause is no reason where none of its variables has it for one
-pub unused-told : (cs : List Clause) (t : Trail) (c : ℕ) → IsDb cs t → ((k : ℕ) → k < length (lits_of cs c) → reason_in t.entries (lit_in (lits_of cs c) k).var ≢ Some c) → IsUnused t.entries c
-unused-told cs t c is others j low because =
-    let e = entry_at t.entries j in
-    let unit = (is.reasons (take j t.entries) (drop (suc j) t.entries) e c (at-place t.entries j low) because).1 in
-    let has = unit.is_in in
-    let at : lit_in (lits_of cs c) has.0 ≡ e.lit = get_or_default (lits_of cs c) has.0 no_lit e.lit has.1 ∙ has.2 in
-    let found : entry_of t.entries e.lit.var ≡ Some e = entry_of-at t.entries j low (is.trail.fresh j low) in
-    let given : reason_in t.entries e.lit.var ≡ Some c = ap (λ (o : Option Entry). option_and_then (λ (x : Entry). x.reason) o) found ∙ because in
-    others has.0 has.1 (ap (λ (l : Lit). reason_in t.entries l.var) at ∙ given)

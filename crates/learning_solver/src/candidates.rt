@@ -3,8 +3,6 @@
 //! of the most levels first, of these the longest, and of these the oldest. Nothing is promised of the table: a clause
 //! is looked at again when it goes.
 
-ghost use Rattle.clause_rings.specs.Clauses.{IsDb};
-
 use crate::deletable::is_deletable;
 use crate::profile::Profile;
 use crate::tunables::{DELETION_IN_ORDER, FIRST_DELETION, GOOD_GLUE, LONGER_BY, SHORT};
@@ -121,9 +119,7 @@ impl Candidates {
 
     /// Puts those that may go behind the others, those of the most levels last, of these the longest, and of these the
     /// oldest. It tells how many are to go: half of them.
-    pub fn line_up(&mut self, db: &ClauseDb) -> usize
-        requires { IsDb db.now.clauses db.now.trail }
-    {
+    pub fn line_up(&mut self, db: &ClauseDb) -> usize {
         let mut count: usize = 0;
         for c in self.list.iter_mut() {
             c.goes = !self.uses.is_used(c.id) && is_deletable(db, c.clause, self.uses.base);

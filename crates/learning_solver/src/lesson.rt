@@ -50,9 +50,5 @@ pub fn signed_ids(alloc: Global, ids: &[u64]) -> Result<Sequence<i64>, AllocErro
 pub fn owned_lits(alloc: Global, lits: &[Lit]) -> Result<Sequence<Lit>, AllocError>
     ensures { IfOk result (λ owned. owned ≡ lits.now) }
 {
-    let mut owned = Vec::with_capacity(alloc, lits.len())?;
-    for l in lits {
-        owned.push(*l)?;
-    }
-    Ok(Sequence::from_vec(owned))
+    Ok(Sequence::from_vec(Vec::from_slice(alloc, lits)?))
 }

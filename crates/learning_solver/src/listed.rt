@@ -27,10 +27,7 @@ impl Listed {
 
     /// A copy of a list.
     pub fn with(alloc: Global, first: &[Lit]) -> Result<Listed, AllocError> {
-        let mut lits = Vec::with_capacity(alloc, first.len())?;
-        for l in first {
-            lits.push(*l)?;
-        }
+        let lits = Vec::from_slice(alloc, first)?;
         Ok(Listed { lits, place: 0 })
     }
 

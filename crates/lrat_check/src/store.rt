@@ -12,7 +12,7 @@ ghost use Rattle.lrat_check.specs.LratLines.{SoFar, start_of, after_line, Says, 
 ghost use Rattle.lrat_check.specs.Stored.{so_far, Holds};
 
 use crate::follow::{Added, is_shown};
-use crate::joined::joined;
+use crate::joined::write_joined;
 use bee_list::Sequence;
 use bee_text::next_word;
 use indexmap::IndexMap;
@@ -38,6 +38,8 @@ pub(crate) struct LratStore {
     added: Added,
     hints: Vec<Vec<u64>>,
     trail: LiteralTrail,
+    /// Room for the words of a line.
+    text: Vec<u8>,
     pub(crate) refuted: bool,
 }
 
@@ -52,11 +54,7 @@ fn has_empty(clauses: &[Sequence<Lit>]) -> bool
 fn copied(alloc: Global, lits: &[Lit]) -> Result<Sequence<Lit>, AllocError>
     ensures { IfOk result (λ copy. copy ≡ lits.now) }
 {
-    let mut out = Vec::with_capacity(alloc, lits.len())?;
-    for l in lits {
-        out.push(*l)?;
-    }
-    Ok(Sequence::from_vec(out))
+    Ok(Sequence::from_vec(Vec::from_slice(alloc, lits)?))
 }
 
 impl LratStore {
@@ -71,6 +69,7 @@ impl LratStore {
             added: IndexMap::new(alloc),
             hints: Vec::new(alloc),
             trail,
+            text: Vec::new(alloc),
             refuted: has_empty(cnf.clauses.as_slice()),
         })
     }
@@ -145,8 +144,8 @@ impl LratStore {
             ((t : SoFar) → Says cnf.now (so_far self.old) (first.now ∷ words_of behind.now) t → ⊥)) }
         ensures holds { IfOk result (λ taken. IsTrue taken → Holds cnf.now self.new) }
     {
-        let text = joined(alloc, first, behind)?;
-        match room.read_bytes(text.as_slice()) {
+        write_joined(&mut self.text, first, behind)?;
+        match room.read_bytes(self.text.as_slice()) {
             Err(ProofTextFault::Memory) => Err(AllocError),
             Err(ProofTextFault::Form(_)) => Ok(false),
             Ok(LineHead::Deletion(_)) => Ok(true),

@@ -1,5 +1,5 @@
 -- A CNF with an assumed literal behind it is a CNF like others.
-use Rattle.std.proofs.Common.{◌≡◌, ℕ, ◌+◌, List, [], ◌∷◌, ◌++◌, Option, None, Some, ap, sym, ◌∙◌, subst, ⊎_elim, arith, append-nil}
+use Rattle.std.proofs.Common.{◌≡◌, ℕ, ◌+◌, List, [], ◌∷◌, ◌++◌, Option, None, Some, ap, ◌∙◌, subst, ⊎_elim, arith, append-nil}
 use Rattle.std.specs.Prelude.{Contains, slice_index_or}
 use Rattle.std.proofs.lemmas.List.{get_or_default}
 use Rattle.std.proofs.lemmas.List.Elements.{Contains-get_or, Contains-append_cases}
@@ -45,12 +45,7 @@ assumed-apart cnf a h =
     apart-all (with_assumed cnf a)
     (λ d has. ⊎_elim (λ (before : Contains cnf.clauses d). apart-each cnf h d before) (λ (last : Contains (assumed_clauses a) d). unit-apart a d last) (Contains-append_cases cnf.clauses (assumed_clauses a) d has))
 
-pub with-none : (cnf : Cnf) (cs : List (List Lit)) (a : Option Lit) → cs ≡ cnf.clauses → a ≡ None → record { vars = cnf.vars; clauses = cs } ≡ with_assumed cnf a
-with-none cnf cs a e is =
+pub with-none : (cnf : Cnf) (a : Option Lit) → a ≡ None → with_assumed cnf a ≡ cnf
+with-none cnf a is =
     let made : List (List Lit) → Cnf = λ x. record { vars = cnf.vars; clauses = x } in
-    ap made (e ∙ sym (append-nil cnf.clauses)) ∙ ap (with_assumed cnf) (sym is)
-
-pub with-one : (cnf : Cnf) (cs : List (List Lit)) (l : Lit) (clause : List Lit) (all : List (List Lit)) (a : Option Lit) → cs ≡ cnf.clauses → clause ≡ l ∷ [] → all ≡ cs ++ clause ∷ [] → a ≡ Some l → record { vars = cnf.vars; clauses = all } ≡ with_assumed cnf a
-with-one cnf cs l clause all a w e p is =
-    let made : List (List Lit) → Cnf = λ x. record { vars = cnf.vars; clauses = x } in
-    ap made (p ∙ ap (λ (c : List Lit). cs ++ c ∷ []) e ∙ ap (λ (x : List (List Lit)). x ++ (l ∷ []) ∷ []) w) ∙ ap (with_assumed cnf) (sym is)
+    ap (with_assumed cnf) is ∙ ap made (append-nil cnf.clauses)

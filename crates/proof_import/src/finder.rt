@@ -6,7 +6,7 @@ ghost use Rattle.order_ints.specs.Place.{LitBelow, InRange};
 ghost use Rattle.clause_rings.specs.Clauses.{AreApartIn, IsComplete};
 
 use crate::marks::Met;
-use crate::reasons::{Ids, hints_behind};
+use crate::reasons::hints_behind;
 use bee_list::Sequence;
 use bee_text::next_word;
 use clause_rings::ClauseDb;
@@ -28,7 +28,6 @@ struct Gone {
 struct Finder {
     db: ClauseDb,
     index: ClauseIndex,
-    ids: Ids,
     met: Met,
     gone: Vec<Gone>,
     lines: Vec<HintedLine>,
@@ -82,7 +81,6 @@ impl Finder {
         Ok(Finder {
             db,
             index,
-            ids: Ids::new(alloc),
             met,
             gone: Vec::new(alloc),
             lines: Vec::new(alloc),
@@ -95,7 +93,7 @@ impl Finder {
     fn hints(&mut self, alloc: Global, lits: &[Lit]) -> Result<Vec<u64>, AllocError> {
         let conflict = self.db.propagate();
         self.met.deny(lits);
-        let hints = hints_behind(alloc, &self.db, &self.ids, &mut self.met, conflict);
+        let hints = hints_behind(alloc, &self.db, &mut self.met, lits, conflict);
         self.met.release(lits);
         hints
     }
@@ -114,22 +112,18 @@ impl Finder {
         self.index.note_copy(alloc, &self.db, lits)
     }
 
-    /// Stores a clause. The answer says whether a clause is false then.
+    /// Stores a clause under an id. The answer says whether a clause is false then.
     fn store(&mut self, alloc: Global, lits: &[Lit], id: u64) -> Result<bool, AllocError> {
         if !is_ready(&mut self.db, lits) {
             return Ok(false);
         }
-        match keep(alloc, &mut self.db, lits)? {
+        match keep(alloc, &mut self.db, lits, id)? {
             Kept::Idle => Ok(false),
             Kept::Stored(c) => {
                 self.index.note(lits, c)?;
-                self.ids.note(c, id)?;
                 Ok(false)
             }
-            Kept::Refutes(c) => {
-                self.ids.note(c, id)?;
-                Ok(true)
-            }
+            Kept::Refutes(_) => Ok(true),
         }
     }
 
@@ -214,10 +208,9 @@ impl Finder {
         let Some(c) = self.index.take(lits)? else {
             return Ok(());
         };
-        let _vars = self.db.vars();
         if may_leave(&self.db, c) {
             let lits = copied(alloc, &self.db, c)?;
-            let id = self.ids.id(&self.db, c);
+            let id = self.db.id(c);
             self.gone.push(Gone { lits, id })?;
             self.db.delete(c);
         }

@@ -6,9 +6,8 @@ ghost use Rattle.clause_rings.specs.Clauses.{AreApartIn};
 ghost use Rattle.drup_check.specs.DrupLines.{IsDrup, DrupFails};
 ghost use Rattle.drup_check.specs.Taken.{DrupFaultOf, IsRefusalAt};
 ghost use Rattle.drup_check.specs.declared.fault.DrupFault.TheVariants.{Memory};
-ghost use Rattle.proof_import.specs.Assumed.{with_assumed, IsAssumable, IsDerived};
+ghost use Rattle.proof_import.specs.Assumed.{IsDerived};
 
-use crate::assumed::with_assumed;
 use crate::finder::found_lines;
 use crate::taken::are_taken;
 use crate::trimming::trimmed;
@@ -65,28 +64,4 @@ pub(crate) fn judged(
             derived(alloc, cnf, assumed, found)
         }
     }
-}
-
-/// The derivation from a CNF that a refutation of it, or of it with an assumed literal, gives: lines with hints, of
-/// which only those stay that the last one needs, and where the literal was used, its negation joins the clause. The
-/// text has lines of DRUP. It takes the time of `check_drup` twice, and of each hint.
-pub fn import_drup(
-    alloc: Global,
-    cnf: &Cnf,
-    assumed: Option<Lit>,
-    text: &[u8],
-) -> Result<Sequence<ProofLine>, DrupFault>
-    requires few { cnf.now.vars ≤ 2 ^ 27 }
-    requires in_range { InRange cnf.now }
-    requires apart { AreApartIn cnf.now }
-    requires assumable { IsAssumable cnf.now assumed }
-    ensures derived { IfOk result (IsDerived cnf.now assumed) }
-    ensures accepted { IfOk result (λ _. IsDrup (with_assumed cnf.now assumed) text.now) }
-    ensures fault { IfErr result (DrupFaultOf (with_assumed cnf.now assumed) text.now) }
-    ensures complete { IsDrup (with_assumed cnf.now assumed) text.now → IfErr result (λ e. e ≡ Memory) }
-    ensures exact { (line : ℕ) → DrupFails (with_assumed cnf.now assumed) text.now line
-        → IsErrAnd result (IsRefusalAt line) }
-{
-    let whole = with_assumed(alloc, cnf, assumed)?;
-    judged(alloc, cnf, &whole, assumed, text)
 }

@@ -8,14 +8,11 @@
 //! says that a value is better than the best: where it was used its negation joins the clause, so
 //! that the derivation is over the CNF itself, and ends with the negation.
 //!
-//! What `import_drup` promises: a text is refused exactly where `check_drup` over the CNF and the
-//! assumed literal refuses it, at the same line (`accepted`, `fault`, `complete`, `exact`). What it
-//! gives is an LRAT proof from the CNF, behind which the empty clause or the negation of the assumed
-//! literal is known (`derived`).
-//!
-//! `import_refutation` takes a text with hints as well (`lrat_check`), which its first line tells, and
-//! refuses such a one exactly where that crate does; of its lines, too, only those stay that the last
-//! one needs.
+//! What `import_refutation` promises: a text is refused exactly where `check_drup` over the CNF and
+//! the assumed literal refuses it, or, where its first line tells that it has hints, `check_lrat`,
+//! at the same line (`accepted`, `fault`, `complete`, `exact`). What it gives is an LRAT proof from
+//! the CNF, behind which the empty clause or the negation of the assumed literal is known
+//! (`derived`).
 //!
 //! Nothing is proved of how hints are found (`finder.rt`, `reasons.rt`, `trimming.rt`): the lines
 //! are taken by the checker of `proof_check` before they are given, and should it ever refuse them,
@@ -31,5 +28,4 @@ mod refutation;
 mod taken;
 mod trimming;
 
-pub use import::import_drup;
 pub use refutation::{check_refutation, import_refutation};

@@ -102,9 +102,11 @@ pub fn check_refutation(alloc: Global, cnf: &Cnf, text: &[u8]) -> Result<(), Dru
     }
 }
 
-/// The derivation from a CNF that a refutation of it, or of it with an assumed literal, gives: what `import_drup` gives
-/// where the text has no hints. With hints, which its first line tells, it takes the time of `check_lrat` and of each
-/// hint.
+/// The derivation from a CNF that a refutation of it, or of it with an assumed literal, gives: lines with hints, of
+/// which only those stay that the last one needs, and where the literal was used, its negation joins the clause. A text
+/// with hints, which its first line tells, takes the time of `check_lrat`; another one that of `check_drup` twice, and
+/// for each line that of a walk down the trail to the oldest variable of its reasons. In both cases the clauses that the
+/// hints name are looked at once more.
 pub fn import_refutation(
     alloc: Global,
     cnf: &Cnf,
@@ -122,6 +124,11 @@ pub fn import_refutation(
     ensures exact { (line : ℕ) → RefutationFails (with_assumed cnf.now assumed) text.now line
         → IsErrAnd result (IsRefusalAt line) }
 {
-    let whole = with_assumed(alloc, cnf, assumed)?;
-    either(alloc, cnf, &whole, assumed, text)
+    match assumed {
+        None => either(alloc, cnf, cnf, None, text),
+        Some(l) => {
+            let whole = with_assumed(alloc, cnf, l)?;
+            either(alloc, cnf, &whole, assumed, text)
+        }
+    }
 }

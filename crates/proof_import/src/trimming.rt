@@ -92,7 +92,7 @@ fn relying(alloc: Global, numbers: Numbers, found: &[HintedLine]) -> Result<Vec<
     Ok(marks)
 }
 
-/// The hints of a line by the new ids, without the assumed literal.
+/// The hints of a line by the new ids of those before it, without the assumed literal.
 fn renumbered(
     alloc: Global,
     numbers: Numbers,
@@ -115,23 +115,6 @@ fn renumbered(
     Ok(Sequence::from_vec(out))
 }
 
-/// The literals of a clause, and a further one, if there is one that isn't among them.
-fn joined(alloc: Global, lits: &[Lit], further: Option<Lit>) -> Result<Sequence<Lit>, AllocError> {
-    let mut out = Vec::new(alloc);
-    for l in lits {
-        out.push(*l)?;
-    }
-    if let Some(m) = further {
-        let has = lits
-            .iter()
-            .any(|l| l.var == m.var && l.positive == m.positive);
-        if !has {
-            out.push(m)?;
-        }
-    }
-    Ok(Sequence::from_vec(out))
-}
-
 /// The lines that the last one needs, with ids behind those that are given. Where the assumed literal was used, its
 /// negation joins the clause.
 pub(crate) fn trimmed(
@@ -146,26 +129,30 @@ pub(crate) fn trimmed(
     };
     let needed = needed(alloc, numbers, &found)?;
     let relying = relying(alloc, numbers, &found)?;
-    let mut ids = vec![in alloc; 0; found.len()]?;
+    let mut ids = Vec::with_capacity(alloc, found.len())?;
     let mut last = given;
     let mut lines = Vec::new(alloc);
-    for place in 0..found.len() {
-        if is_set(&needed, place) {
-            last = last.saturating_add(1);
-            ids[place] = last;
-            let further = match assumed {
-                Some(l) if is_set(&relying, place) => Some(l.negated()),
-                _ => None,
-            };
-            let line = &found[place];
-            let lits = joined(alloc, line.lits.as_slice(), further)?;
-            let hints = renumbered(alloc, numbers, &ids, &line.hints)?;
-            lines.push(ProofLine::Add {
-                id: last,
-                lits,
-                hints,
-            })?;
+    for line in found {
+        let place = ids.len();
+        if !is_set(&needed, place) {
+            ids.push(0)?;
+            continue;
         }
+        last = last.saturating_add(1);
+        let HintedLine { mut lits, hints } = line;
+        if let Some(l) = assumed
+            && is_set(&relying, place)
+            && !lits.as_slice().contains(&l.negated())
+        {
+            lits.push(l.negated())?;
+        }
+        let hints = renumbered(alloc, numbers, &ids, &hints)?;
+        ids.push(last)?;
+        lines.push(ProofLine::Add {
+            id: last,
+            lits,
+            hints,
+        })?;
     }
     Ok(Sequence::from_vec(lines))
 }

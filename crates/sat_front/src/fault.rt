@@ -3,7 +3,7 @@
 ghost use Rattle.std.specs.Prelude.{◌≡◌};
 ghost use Rattle.sat_front.specs.declared.fault.CnfFault.TheVariants.{Memory};
 
-use std::alloc::{AllocError, AllocFailed};
+use std::alloc::AllocError;
 
 /// Why a CNF was not read.
 #[derive(Clone, Copy, Debug, PartialEq, Eq)]
@@ -13,14 +13,6 @@ pub enum CnfFault {
     Form(u64),
     /// Memory was wanting.
     Memory,
-}
-
-impl<T: Drop> From<AllocFailed<T>> for CnfFault {
-    ghost from_gives = { λ _ e. e ≡ Memory };
-
-    fn from(_e: AllocFailed<T>) -> CnfFault {
-        CnfFault::Memory
-    }
 }
 
 impl From<AllocError> for CnfFault {

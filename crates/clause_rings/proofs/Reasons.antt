@@ -1,12 +1,12 @@
 -- Which clauses are reasons.
-use Rattle.std.proofs.Common.{◌≡◌, ◌≢◌, ℕ, suc, ◌<◌, List, ◌∷◌, ◌++◌, length, take, drop, drop-cons, Option, Some, ap, sym, ◌∙◌}
+use Rattle.std.proofs.Common.{◌≡◌, ◌≢◌, ℕ, suc, ◌<◌, List, ◌∷◌, ◌++◌, length, take, drop, drop-cons, Option, Some, None, ap, sym, ◌∙◌}
 use Rattle.std.specs.Option.{option_and_then}
 use Rattle.std.proofs.lemmas.List.{get_or_default}
 use Rattle.order_ints.specs.declared.literal.Lit.{Lit}
 use Rattle.literal_trail.specs.declared.entry.Entry.{Entry}
 use Rattle.std.proofs.lemmas.List.{take-append-drop}
 use Rattle.literal_trail.specs.Trail.{Trail, no_entry, entry_at, entry_of, reason_in}
-use Rattle.literal_trail.proofs.Entries.{entry_of-at}
+use Rattle.literal_trail.proofs.Entries.{by_entry, entry_of-at, entry_of-found}
 use Rattle.clause_arena.specs.Clauses.{Clause, lits_of, lit_in, no_lit}
 use Rattle.clause_rings.specs.Clauses.{IsDb, IsUnused}
 
@@ -23,3 +23,13 @@ unused-told cs t c is others j low because =
     let found : entry_of t.entries e.lit.var ≡ Some e = entry_of-at t.entries j low (is.trail.fresh j low) in
     let given : reason_in t.entries e.lit.var ≡ Some c = ap (λ (o : Option Entry). option_and_then (λ (x : Entry). x.reason) o) found ∙ because in
     others has.0 has.1 (ap (λ (l : Lit). reason_in t.entries l.var) at ∙ given)
+
+-- a clause is a reason where one variable has it for one
+pub used-told : (es : List Entry) (v c : ℕ) → reason_in es v ≡ Some c → IsUnused es c → ⊥
+used-told es v c given unused =
+    by_entry es v
+    (λ none. let e : None ≡ Some c = sym (ap (λ (o : Option Entry). option_and_then (λ (x : Entry). x.reason) o) none) ∙ given in absurd (cc))
+    (λ e found.
+    let f = entry_of-found es v e found in
+    let because : e.reason ≡ Some c = sym (ap (λ (o : Option Entry). option_and_then (λ (x : Entry). x.reason) o) found) ∙ given in
+    unused f.place f.below (ap (λ (x : Entry). x.reason) f.is ∙ because))

@@ -1,7 +1,7 @@
 use Rattle.std.proofs.Common.{◌≡◌, ◌++◌, length}
 use Rattle.bee_text.specs.Gaps.{words_of}
 use Rattle.bee_text.specs.Words.{words_behind}
-use Rattle.lrat_check.proofs.joined.joined.Given as goal
+use Rattle.lrat_check.proofs.joined.write_joined.Given as goal
 
 -- what is left, behind what was written
 abbrev pub invariant-loop-word : goal.invariant-loop-word

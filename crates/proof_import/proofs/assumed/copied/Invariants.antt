@@ -1,5 +1,0 @@
-use Rattle.std.proofs.Common.{◌≡◌, take}
-use Rattle.proof_import.proofs.assumed.copied.Given as goal
-
-abbrev pub invariant-loop-l : goal.invariant-loop-l
-invariant-loop-l l = l.out.items ≡ take l.l-index l.lits

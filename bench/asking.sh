@@ -42,7 +42,7 @@ folder=$(mktemp -d)
 trap 'rm -rf "$folder"' EXIT
 git init -q "$folder"
 tar -C "$top" --exclude=out -c crates crates.txt | tar -C "$folder" -x
-echo 'asking: bee_list core_forms rule_base core_rules ledger_text step_kernel fixpoint_queue rule_oracle bumblebee_reader typed_model model_lower bee_compile' \
+echo 'asking: bee_list core_forms rule_base core_rules ledger_text step_kernel fixpoint_queue rule_oracle bumblebee_reader model_meaning typed_model model_lower bee_compile' \
   >>"$folder/crates.txt"
 mkdir -p "$folder/crates/asking/src" "$folder/models"
 for family in "${families[@]}"; do
@@ -65,6 +65,7 @@ use core_rules::FoundRun;
 use fixpoint_queue::Oracle;
 use ledger_text::Line;
 use model_lower::{Lowered, lower};
+use model_meaning::Model;
 use rule_base::Steps;
 use rule_oracle::TableP;
 use std::alloc::{AllocError, Global};
@@ -74,7 +75,7 @@ use std::io::Read;
 use std::marker::Brand;
 use std::sync::ledger::{Blank, Ledger};
 use step_kernel::State;
-use typed_model::{Model, Typing};
+use typed_model::Typing;
 
 /// Tells what all rules tell, and counts how often it is asked, and the different variables of the cores at which it is, once
 /// more where a run is taken.

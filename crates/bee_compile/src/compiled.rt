@@ -2,9 +2,9 @@
 
 use bee_list::Sequence;
 use ledger_text::Line;
+use model_meaning::Decl;
 use name_map::NameMap;
 use order_ints::Cnf;
-use typed_model::Decl;
 
 /// A model as clauses, what its names stand for in them, and how they came about.
 #[derive(Drop)]

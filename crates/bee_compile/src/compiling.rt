@@ -13,13 +13,13 @@ ghost use Rattle.bee_compile.specs.Fits.{CompiledFits};
 use crate::compiled::Compiled;
 use fixpoint_queue::Oracle;
 use model_lower::{LowerFault, Lowered, LoweredModel, lower_owned};
+use model_meaning::Model;
 use name_map::trim_map;
 use rule_base::Steps;
 use state_compile::compile_state;
 use std::alloc::Global;
 use std::sync::ledger::Ledger;
 use step_kernel::State;
-use typed_model::Model;
 
 /// The clauses and the map of names of a model: it is lowered to cores; equations are added to them until none is told;
 /// compound cores are split, the least one each time, with equations after each split; and each core gives its clauses,

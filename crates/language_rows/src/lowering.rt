@@ -8,10 +8,11 @@ use crate::shown::push_lowered;
 use bee_text::push_bytes;
 use bumblebee_reader::read_model;
 use model_lower::{LowerFault, lower, lower_owned};
+use model_meaning::{Model, in_limits};
 use std::alloc::{AllocError, Global};
 use std::process::Abort;
 use std::test::Fail;
-use typed_model::{Model, check_types, in_limits};
+use typed_model::check_types;
 
 /// A model that is in the limits of a text.
 fn small_model(alloc: Global, text: &str) -> Result<Model, Fail>

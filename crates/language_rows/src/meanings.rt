@@ -2,10 +2,10 @@
 
 use crate::typed::model;
 use bee_list::Sequence;
+use model_meaning::{Assignment, Model, first_broken, holds, in_domains, in_limits};
 use std::alloc::Global;
 use std::process::Abort;
 use std::test::Fail;
-use typed_model::{Assignment, Model, first_broken, holds, in_domains, in_limits};
 
 /// Declarations, a statement, and two lists of assignments, which `;` divides: the statement holds under those of
 /// the first list, and not under those of the second. An assignment is its values in the order of the declarations.

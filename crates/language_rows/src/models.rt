@@ -4,14 +4,13 @@ use crate::meanings::assignment;
 use crate::typed::model;
 use bee_list::Sequence;
 use bumblebee_reader::{Name, read_model};
+use model_meaning::{
+    Assignment, BoolTerm, Decl, Goal, Kind, Model, Stmt, What, first_broken, in_domains, in_limits,
+};
 use std::alloc::{AllocError, Global};
-use std::mem::size_of;
 use std::process::Abort;
 use std::test::Fail;
-use typed_model::{
-    Assignment, BoolTerm, Decl, Goal, Kind, Model, Stmt, TypeFault, Typing, What, check_types,
-    first_broken, in_domains, in_limits,
-};
+use typed_model::{TypeFault, Typing, check_types};
 
 /// Puts a declaration behind a text: its number, its name, and the domain of an integer.
 fn push_declaration(text: &mut String, decl: &Decl) -> Result<(), Fail> {
@@ -310,11 +309,5 @@ fn items_may_come_one_by_one(rt: HostRuntime) -> Result<(), Fail> {
 fn a_fault_stays(rt: HostRuntime) -> Result<(), Fail> {
     let text = "new_bool(x) new_bool(x) new_bool(y) bool_eq(x,y) foo(x) solve satisfy";
     assert_eq!(rt; taken(rt.alloc(), text)?.as_str(), "statement 2: twice");
-    Ok(())
-}
-
-#[test]
-fn statements_are_small(rt: HostRuntime) -> Result<(), Fail> {
-    assert!(rt; size_of::<Stmt>() <= 136);
     Ok(())
 }

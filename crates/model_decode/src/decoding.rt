@@ -8,10 +8,10 @@ ghost use Rattle.model_decode.specs.Short.{IsShort, AreShort};
 
 use crate::reading::StoreReading;
 use bee_list::Sequence;
+use model_meaning::Assignment;
 use name_map::NameMap;
 use order_ints::{Atom, MapValue};
 use std::alloc::{AllocError, Global};
-use typed_model::Assignment;
 
 /// The number of a name that stands for this value.
 fn number_under(value: &MapValue, reading: StoreReading<'_>) -> i64

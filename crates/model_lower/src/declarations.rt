@@ -9,10 +9,10 @@ ghost use Rattle.model_lower.specs.Drafting.{lowered_so_far};
 
 use crate::draft::Draft;
 use core_forms::Core;
+use model_meaning::{Decl, Kind, Stmt, What};
 use order_ints::{Atom, Lit, MapValue, OrdInt};
 use statement_lower::atom_of;
 use std::alloc::{AllocError, Global};
-use typed_model::{Decl, Kind, Stmt, What};
 
 /// How many values there are but the first.
 fn further(values: &[i64]) -> u64

@@ -22,8 +22,8 @@ use crate::state::Lowered;
 use crate::statements::add_statement;
 use crate::weighing::weigh;
 use model_items::{Item, Items};
+use model_meaning::Model;
 use std::alloc::{AllocError, Global};
-use typed_model::Model;
 
 /// Adds an item.
 fn add_item(alloc: Global, draft: &mut Draft, item: &Item<'_>) -> Result<(), AllocError>

@@ -22,8 +22,8 @@ use crate::state::{Lowered, LoweredModel};
 use crate::statements::add_statement;
 use crate::statements_left::{defining_statement, next_statement};
 use crate::weighing::weigh;
+use model_meaning::{Decl, Model, Stmt};
 use std::alloc::{AllocError, Global};
-use typed_model::{Decl, Model, Stmt};
 
 /// Adds a statement, which is let go.
 fn take_statement(alloc: Global, draft: &mut Draft, stmt: Stmt) -> Result<(), AllocError>

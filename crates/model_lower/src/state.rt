@@ -2,8 +2,8 @@
 
 use bee_list::Sequence;
 use core_forms::Core;
+use model_meaning::Decl;
 use name_map::NameMap;
-use typed_model::Decl;
 
 /// A model as cores over Boolean variables.
 #[derive(Drop)]

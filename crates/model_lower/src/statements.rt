@@ -8,9 +8,9 @@ ghost use Rattle.model_lower.specs.Lowering.{with_statement};
 ghost use Rattle.model_lower.specs.Drafting.{lowered_so_far};
 
 use crate::draft::Draft;
+use model_meaning::Stmt;
 use statement_lower::made_of;
 use std::alloc::{AllocError, Global};
-use typed_model::Stmt;
 
 /// Adds a statement.
 pub fn add_statement(alloc: Global, draft: &mut Draft, stmt: &Stmt) -> Result<(), AllocError>

@@ -6,7 +6,7 @@ ghost use Rattle.model_meaning.specs.declared.model.Stmt.{Stmt};
 ghost use Rattle.model_items.specs.Items.{Statement, Definition, declared_item, behind_declared, items_of};
 ghost use Rattle.model_lower.specs.Walk.{DeclarationFirst, IsApart, Defines};
 
-use typed_model::{Decl, Stmt};
+use model_meaning::{Decl, Stmt};
 
 /// Whether a statement stands before the first declaration, and so before all.
 fn stands_first(stmt: &Stmt, decls: &[Decl]) -> bool

@@ -7,9 +7,9 @@ ghost use Rattle.model_lower.specs.Weighed.{most_weight};
 ghost use Rattle.model_lower.specs.Faults.{IsFaultOf};
 
 use crate::fault::LowerFault;
+use model_meaning::Model;
 use model_weight::weight;
 use std::alloc::Global;
-use typed_model::Model;
 
 /// The greatest weight of a model that is lowered.
 const MOST_WEIGHT: u128 = 67_108_864;

@@ -57,6 +57,8 @@ pub struct Stmt {
     pub what: What,
 }
 
+const _: () = prove!(size_of::<Stmt>() <= 136);
+
 /// What a model seeks.
 #[derive(Clone, Copy, Debug, PartialEq, Eq)]
 pub enum Goal {

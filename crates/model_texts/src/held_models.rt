@@ -7,8 +7,8 @@ ghost use Rattle.model_texts.specs.HeldModels.{HoldsLowered, lower_fault_of};
 use crate::fault::ModelFault;
 use crate::model_text::{ModelTextFault, model_of};
 use model_lower::{LowerFault, Lowered, lower};
+use model_meaning::Model;
 use std::alloc::Global;
-use typed_model::Model;
 
 /// What a fault of the lowering makes of a text.
 pub fn lower_fault(fault: LowerFault) -> ModelTextFault

@@ -9,8 +9,9 @@ ghost use Rattle.model_texts.specs.ModelTexts.{IsModelOf, IsCauseOf, text_fault_
 
 use crate::fault::ModelFault;
 use bumblebee_reader::{Item, ItemReader, ReadFault};
+use model_meaning::Model;
 use std::alloc::Global;
-use typed_model::{Model, TypeFault, Typing};
+use typed_model::{TypeFault, Typing};
 
 /// The greatest number of bytes of a model's text.
 pub const LONGEST_TEXT: usize = 16_777_216;

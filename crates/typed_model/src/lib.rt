@@ -14,7 +14,7 @@
 //!
 //! Names are looked up in one table, which holds short names in itself and one byte for their kind;
 //! domains lie apart, so a look-up reaches one place of memory. The order of faults is part of the
-//! language ("Faults" of `docs/LANGUAGE.md`). It hands on the names of `model_meaning`.
+//! language ("Faults" of `docs/LANGUAGE.md`).
 #![tactic(auto)]
 
 mod call;
@@ -32,9 +32,4 @@ mod taking;
 pub use check::check_types;
 pub use fault::TypeFault;
 pub use laws::{limit_law, size_law, typing_law};
-pub use model_meaning::{
-    Aggregate, AllDifferent, Arithmetic, Assignment, BoolTerm, Decl, Goal, IntTerm, Kind, Model,
-    Operator, Order, Relation, Stmt, Values, What, behind_law, first_broken, holds, holds_law,
-    in_domains, in_limits,
-};
 pub use taking::Typing;

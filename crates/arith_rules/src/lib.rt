@@ -36,4 +36,4 @@ pub use instances::{find, is_instance};
 pub use links::Link;
 pub use maxima::Tops;
 pub use ranges::Range;
-pub use sums::{binds_last_alone, totals, totals_of};
+pub use sums::{binds_last_alone, totals_of};

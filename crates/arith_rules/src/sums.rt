@@ -79,7 +79,7 @@ pub(crate) fn by_count(sought: SoughtEquation, atoms: &[Atom], c: &OrdInt) -> Op
 }
 
 /// The least values of integers, added up, and the greatest ones.
-pub fn totals(ints: &[OrdInt]) -> Range
+fn totals(ints: &[OrdInt]) -> Range
     requires sound { AreSound ints.now }
     requires limit { abs_total ints.now < 2 ^ 100 }
     ensures shape { result ≡ ranges_of ints.now }

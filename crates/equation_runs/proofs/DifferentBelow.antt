@@ -18,7 +18,8 @@ use Rattle.alldiff_rules.specs.Twins.{first_atom}
 use Rattle.equation_runs.specs.FreeAtoms.{are_free}
 use Rattle.equation_runs.specs.TwinRuns.{twin_at}
 use Rattle.equation_runs.specs.TwinPairs.{opposite_pair, opposite_pairs, both_atoms, twin_pairs}
-use Rattle.equation_runs.specs.DifferentRuns.{is_held, is_shared, is_open, is_spent, apart_pair, apart_pairs, condition_pair, excluded_pairs, member_pairs, members_pairs, different_pairs}
+use Rattle.core_forms.specs.Plain.{is_literal}
+use Rattle.equation_runs.specs.DifferentRuns.{is_held, is_shared, is_spent, apart_pair, apart_pairs, condition_pair, excluded_pairs, member_pairs, members_pairs, different_pairs}
 
 module _ (P : Atom → Type 0) (closed : IsClosed P) where
   each-int : (xs : List OrdInt) (i : ℕ) → EachInt P xs → EachStep P (int_at xs i).steps
@@ -47,7 +48,7 @@ module _ (P : Atom → Type 0) (closed : IsClosed P) where
     each-member : (c : Atom) (a : OrdInt) → P c → EachStep P a.steps → EachOfPairs P (member_pairs held shared c a)
     each-member c a one each =
         EachOfPairs-append P (condition_pair held c a) (excluded_pairs taken c a)
-        (EachOfPairs-only_if P (is_open c && (is_constant a && held (low_of a))) ((c, False) ∷ []) ((one, closed.falsehood), tt))
+        (EachOfPairs-only_if P (is_literal c && (is_constant a && held (low_of a))) ((c, False) ∷ []) ((one, closed.falsehood), tt))
         (EachOfPairs-only_if P (is_true c && not (is_spent taken a)) (apart_pairs taken a (values_of a)) (each-apart a (values_of a) each))
 
     each-members : (xs : List OrdInt) (cs : List Atom) (n : ℕ) → EachOf P cs → EachInt P xs → EachOfPairs P (members_pairs held shared xs cs n)

@@ -33,7 +33,8 @@ use Rattle.alldiff_rules.proofs.Decided.{decides-place}
 use Rattle.alldiff_rules.proofs.ExactLaws.{instance-exact}
 use Rattle.equation_runs.specs.Turns.{IsMadeOrTold, is_stated}
 use Rattle.equation_runs.specs.RunRows.{equation_of}
-use Rattle.equation_runs.specs.DifferentRuns.{constant_at, is_value, is_held, is_shared, is_open, is_spent, apart_pair, apart_pairs, condition_pair, excluded_pairs, member_pairs, members_pairs, different_pairs}
+use Rattle.core_forms.specs.Plain.{is_literal}
+use Rattle.equation_runs.specs.DifferentRuns.{constant_at, is_value, is_held, is_shared, is_spent, apart_pair, apart_pairs, condition_pair, excluded_pairs, member_pairs, members_pairs, different_pairs}
 use Rattle.equation_runs.proofs.AtTrimmed.{at-trimmed}
 use Rattle.equation_runs.proofs.LaterTurns.{AreToldAlways}
 use Rattle.equation_runs.proofs.Stated.{by-alldiff}
@@ -177,26 +178,26 @@ module _ (ints : List OrdInt) (cs : List Atom) where
       (each-apart k values lt sure free)
 
   -- a member
-  open-unsure : (c : Atom) → is_open c ≡ true → is_true c ≡ false
+  open-unsure : (c : Atom) → is_literal c ≡ true → is_true c ≡ false
   open-unsure True e = absurd (false≢true e)
   open-unsure False e = refl
   open-unsure (Of l) e = refl
 
-  one-told : (k : ℕ) → k < length ints → (is_open (condition_at cs k) && (is_constant (int_at ints k) && is_held ints cs (low_of (int_at ints k)))) ≡ true
+  one-told : (k : ℕ) → k < length ints → (is_literal (condition_at cs k) && (is_constant (int_at ints k) && is_held ints cs (low_of (int_at ints k)))) ≡ true
       → (view : List Atom) → IsMadeOrTold (λ c e. is_stated c e ≡ true) (AllDiff ints cs) view (equation_of Form (condition_at cs k, False))
   one-told k lt e =
       let c = condition_at cs k in
       let constant = is_constant (int_at ints k) in
       let held = is_held ints cs (low_of (int_at ints k)) in
-      let last = and-right (is_open c) (constant && held) e in
-      condition-told k lt (open-unsure c (and-left (is_open c) (constant && held) e)) (and-left constant held last) (and-right constant held last)
+      let last = and-right (is_literal c) (constant && held) e in
+      condition-told k lt (open-unsure c (and-left (is_literal c) (constant && held) e)) (and-left constant held last) (and-right constant held last)
 
   each-member : (k : ℕ) → k < length ints → AreAlways ints cs (member_pairs (is_held ints cs) (is_shared ints cs) (condition_at cs k) (int_at ints k))
   each-member k lt =
       let c = condition_at cs k in
       let a = int_at ints k in
       always-append (condition_pair (is_held ints cs) c a) (excluded_pairs taken c a)
-      (always-if (is_open c && (is_constant a && is_held ints cs (low_of a))) ((c, False) ∷ []) (λ e. (one-told k lt e, tt)))
+      (always-if (is_literal c && (is_constant a && is_held ints cs (low_of a))) ((c, False) ∷ []) (λ e. (one-told k lt e, tt)))
       (always-if (is_true c && not (is_spent taken a)) (apart_pairs taken a (values_of a)) (λ e.
       each-apart k (values_of a) lt (is_true-True c (and-left (is_true c) (not (is_spent taken a)) e)) (not-true (is_spent taken a) (and-right (is_true c) (not (is_spent taken a)) e))))
 

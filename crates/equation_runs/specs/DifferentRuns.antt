@@ -8,11 +8,12 @@ use Rattle.std.specs.Prelude.{nat_le, ℕ, Bool, true, false, not, ◌&&◌, ◌
 use Rattle.std.specs.Prelude.{◌+ℤ◌, Option, None, Some, if◌then◌else◌}
 use Rattle.std.specs.Ordering.{int_eq}
 use Rattle.order_ints.specs.declared.atom.Atom.{Atom}
-use Rattle.order_ints.specs.declared.atom.Atom.TheVariants.{True, False, Of}
+use Rattle.order_ints.specs.declared.atom.Atom.TheVariants.{True, False}
 use Rattle.order_ints.specs.declared.order_int.OrdInt.{OrdInt}
 use Rattle.order_ints.specs.OrderRange.{low_of, high_of}
 use Rattle.order_ints.specs.OrderLevels.{values_of, at_of}
 use Rattle.order_ints.specs.Same.{is_true, same_atom}
+use Rattle.core_forms.specs.Plain.{is_literal}
 use Rattle.rule_base.specs.Pairs.{only_if}
 use Rattle.rule_base.specs.Constant.{is_constant}
 use Rattle.alldiff_rules.specs.Members.{int_at, condition_at}
@@ -49,15 +50,9 @@ abbrev pub apart_pairs : (ℤ → Bool) → OrdInt → List ℤ → List (Atom �
 apart_pairs taken a [] = []
 apart_pairs taken a (v ∷ values) = only_if (taken v) (apart_pair a v) ++ apart_pairs taken a values
 
--- an atom is no constant
-abbrev pub is_open : Atom → Bool
-is_open True = false
-is_open False = false
-is_open (Of l) = true
-
 -- a constant whose value a sure constant has has no true condition
 abbrev pub condition_pair : (ℤ → Bool) → Atom → OrdInt → List (Atom × Atom)
-condition_pair held c a = only_if (is_open c && (is_constant a && held (low_of a))) ((c, False) ∷ [])
+condition_pair held c a = only_if (is_literal c && (is_constant a && held (low_of a))) ((c, False) ∷ [])
 
 -- an integer has one value or two, which are taken: so are those of a sure constant, and of members with the same two
 -- values

@@ -17,8 +17,8 @@ ghost use Rattle.equation_runs.specs.BoundRows.{members_bound, count_bounds, bou
 use crate::free::{are_all_free, are_free, are_free_beside, are_ints_free};
 use crate::links::push_pair;
 use crate::opposites::push_twins;
-use arith_rules::{Range, totals};
-use core_forms::{Core, Equation};
+use arith_rules::{Range, totals_of};
+use core_forms::{Core, Equation, Summands};
 use order_ints::{Atom, OrdInt};
 use rule_base::next;
 use std::alloc::{AllocError, Global};
@@ -216,7 +216,7 @@ fn push_upper(
 fn push_sum(
     alloc: Global,
     run: &mut Vec<Equation>,
-    ints: &[OrdInt],
+    ints: &Summands,
     k: &i128,
 ) -> Result<(), AllocError>
     requires ints { AreSound ints.now }
@@ -224,12 +224,13 @@ fn push_sum(
     ensures { OnOk result (run.new.items
         ≡ run.old.items ++ map (equation_of Form) (bound_pairs (Sum ints.now k.now))) }
 {
-    let all = totals(ints);
-    let lower = lower_literals(alloc, ints, &all, k)?;
+    let members = ints.as_slice();
+    let all = totals_of(ints);
+    let lower = lower_literals(alloc, members, &all, k)?;
     if lower.is_empty() {
-        return push_upper(alloc, run, ints, &all, k);
+        return push_upper(alloc, run, members, &all, k);
     }
-    push_ints(alloc, run, ints, lower.as_slice(), Atom::True)
+    push_ints(alloc, run, members, lower.as_slice(), Atom::True)
 }
 
 /// That a member is above the greatest number of a range.
@@ -307,7 +308,7 @@ pub(crate) fn push_bounds(
     match core {
         Core::Conj(r, ls) => push_conj(alloc, run, *r, ls.as_slice()),
         Core::Count(ls, c) => push_count(alloc, run, ls.as_slice(), c.get()),
-        Core::Sum(ints, k) => push_sum(alloc, run, ints.as_slice(), k.get()),
+        Core::Sum(ints, k) => push_sum(alloc, run, ints, k.get()),
         Core::Max(ints, c) => push_max(alloc, run, ints.as_slice(), c.get()),
         Core::AllDiff(ints, conditions) => {
             push_twins(alloc, run, ints.as_slice(), conditions.get().as_slice())

@@ -3,6 +3,7 @@
 ghost use Rattle.std.specs.Prelude.{◌≡◌, ◌<◌, ◌^◌, ◌++◌, ◌&&◌, ◌||◌, ℤ, length, map, unsigned_abs, IfOk, IfSome, OnOk};
 ghost use Rattle.std.specs.BTreeSet.{contains};
 ghost use Rattle.std.specs.Ordering.{int_cmp};
+ghost use Rattle.core_forms.specs.Plain.{is_literal};
 ghost use Rattle.core_forms.specs.WellFormed.{IsSound, AreSound};
 ghost use Rattle.core_forms.specs.declared.equation.Rule.TheVariants.{Form};
 ghost use Rattle.order_ints.specs.OrderRange.{low_of};
@@ -10,13 +11,13 @@ ghost use Rattle.order_ints.specs.OrderLevels.{values_of};
 ghost use Rattle.rule_base.specs.Constant.{is_constant};
 ghost use Rattle.rule_base.specs.Pairs.{only_if};
 ghost use Rattle.equation_runs.specs.RunRows.{equation_of};
-ghost use Rattle.equation_runs.specs.DifferentRuns.{constant_at, is_held, is_shared, is_open, is_spent, apart_pair};
+ghost use Rattle.equation_runs.specs.DifferentRuns.{constant_at, is_held, is_shared, is_spent, apart_pair};
 ghost use Rattle.equation_runs.specs.DifferentRuns.{apart_pairs, condition_pair, excluded_pairs, member_pairs};
 ghost use Rattle.equation_runs.specs.DifferentRuns.{members_pairs, different_pairs};
 
 use crate::links::push_pair;
 use crate::twins::shared_values;
-use core_forms::Equation;
+use core_forms::{Equation, is_literal};
 use order_ints::{Atom, OrdInt, Walk};
 use rule_base::{is_constant, next};
 use std::alloc::{AllocError, Global};
@@ -97,13 +98,6 @@ fn all_three(first: bool, second: bool, third: bool) -> bool
     first && second && third
 }
 
-/// Whether an atom is no constant.
-fn is_open(atom: Atom) -> bool
-    ensures { result ≡ is_open atom }
-{
-    matches!(atom, Atom::Of(_))
-}
-
 /// The values that members take for themselves.
 #[derive(Drop)]
 struct Taken {
@@ -159,9 +153,9 @@ fn has(held: &BTreeSet<i128>, value: i128) -> bool
 /// Whether a condition is open, and its member a constant whose value is held.
 fn is_refuted(held: &BTreeSet<i128>, condition: Atom, a: &OrdInt) -> bool
     requires { IsSound a.now }
-    ensures { result ≡ (is_open condition && (is_constant a.now && contains int_cmp held.now (low_of a.now))) }
+    ensures { result ≡ (is_literal condition && (is_constant a.now && contains int_cmp held.now (low_of a.now))) }
 {
-    let open = is_open(condition);
+    let open = is_literal(condition);
     let constant = is_constant(a);
     let there = has(held, a.low());
     all_three(open, constant, there)

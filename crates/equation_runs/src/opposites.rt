@@ -11,7 +11,8 @@ ghost use Rattle.equation_runs.specs.TwinPairs.{unless_one, opposite_pair, oppos
 
 use crate::free::are_free;
 use crate::links::push_pair;
-use crate::twins::{atom_at, earlier_twin};
+use crate::twins::earlier_twin;
+use alldiff_rules::atom_at;
 use core_forms::Equation;
 use order_ints::{Atom, OrdInt};
 use std::alloc::{AllocError, Global};

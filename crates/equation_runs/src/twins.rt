@@ -8,10 +8,9 @@ ghost use Rattle.std.specs.Ordering.{int_cmp, int_eq};
 ghost use Rattle.order_ints.specs.OrderRange.{low_of, high_of, IsBounded};
 ghost use Rattle.core_forms.specs.WellFormed.{AreSound};
 ghost use Rattle.alldiff_rules.specs.Table.{pair_cmp};
-ghost use Rattle.alldiff_rules.specs.Members.{int_at};
-ghost use Rattle.alldiff_rules.specs.Twins.{first_atom};
 ghost use Rattle.equation_runs.specs.TwinRuns.{choice_at, first_with, twin_at, is_of_twin, is_shared_before};
 
+use alldiff_rules::atom_at;
 use order_ints::{Atom, OrdInt};
 use std::alloc::{AllocError, Global};
 use std::collections::{BTreeMap, BTreeSet};
@@ -69,19 +68,6 @@ pub(crate) fn earlier_twin(
     match choice_at(ints, conditions, place) {
         Some(key) => first_or_put(firsts, key, place),
         None => Ok(None),
-    }
-}
-
-/// The atom of the first step of the member at a place, and True where there is none.
-pub(crate) fn atom_at(ints: &[OrdInt], place: usize) -> Atom
-    ensures { result ≡ first_atom (int_at ints.now place).steps }
-{
-    let Some(a) = ints.get(place) else {
-        return Atom::True;
-    };
-    match a.steps.as_slice().first() {
-        Some(step) => step.0,
-        None => Atom::True,
     }
 }
 

@@ -209,7 +209,7 @@ asked() {
   if [ -z "$program" ]; then
     git init -q "$folder"
     tar -C "$top" --exclude=out -c crates crates.txt | tar -C "$folder" -x
-    echo 'asking: bee_list order_ints proof_check clause_arena clause_rings learning_solver' >>"$folder/crates.txt"
+    echo 'asking: bee_list order_ints proof_check clause_arena clause_rings search_watcher learning_solver' >>"$folder/crates.txt"
     mkdir -p "$bench/src" "$bench/proofs"
     cp "$rows/src/words.rt" "$bench/src/"
     cp -r "$rows/specs" "$bench/"
@@ -231,6 +231,7 @@ use bee_list::Sequence;
 use learning_solver::{Found, Solver};
 use order_ints::{Cnf, Lit};
 use proof_check::{Checker, ProofLine, TakeFault};
+use search_watcher::Silent;
 use std::alloc::{AllocError, Global};
 use std::io;
 use words::{cnf_of, literal, literals};
@@ -296,7 +297,7 @@ fn asked(solver: &mut Solver<'_>, vars: u32, assumption: Lit, budget: u64) -> Re
     if assumption.var < 1 || assumption.var > vars || solver.added() > budget {
         return Ok(None);
     }
-    Ok(Some(solver.solve(Some(assumption), budget, true)?))
+    Ok(Some(solver.solve_watched(Some(assumption), budget, true, &mut Silent)?))
 }
 
 /// Asks until memory isn't refused, and counts how often it was.

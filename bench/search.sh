@@ -17,7 +17,7 @@ folder=$(mktemp -d)
 trap 'rm -rf "$folder"' EXIT
 git init -q "$folder"
 tar -C "$top" --exclude=out -c crates crates.txt | tar -C "$folder" -x
-echo 'searching: order_ints proof_check clause_rings learning_solver sat_front' >>"$folder/crates.txt"
+echo 'searching: order_ints proof_check clause_rings search_watcher learning_solver sat_front' >>"$folder/crates.txt"
 bench=$folder/crates/searching
 mkdir -p "$bench/src" "$bench/proofs/search" "$bench/proofs/search_text"
 cat >"$bench/src/main.rt" <<'RT'
@@ -32,6 +32,7 @@ use learning_solver::{Found, Solver};
 use order_ints::Cnf;
 use proof_check::ProofLine;
 use sat_front::{CnfFault, read_cnf};
+use search_watcher::Silent;
 use std::alloc::{AllocError, Global};
 use std::io;
 use std::io::Read;
@@ -53,7 +54,7 @@ fn search(alloc: Global, cnf: &Cnf) -> Result<Searched, AllocError>
     requires ascend { ClausesAscend cnf.now.clauses }
 {
     let mut solver = Solver::with(alloc, cnf)?;
-    let found = solver.solve(None, u64::MAX, true)?;
+    let found = solver.solve_watched(None, u64::MAX, true, &mut Silent)?;
     let log = solver.log();
     let learned = log
         .iter()

@@ -1,6 +1,6 @@
-//! The variables that a conflict bumps: those that its analysis met, and the other variables of the reasons of the
-//! learned clause's literals, those of level 0 left out (Liang, Ganesh, Poupart and Czarnecki 2016). They are one step
-//! away from the conflict, and refutations get much shorter where they are bumped, too. Each is bumped once.
+//! The variables that a conflict bumps: those that its analysis met, and of the reasons of the learned clause's literals
+//! the other variables above level 0 (Liang, Ganesh, Poupart and Czarnecki 2016). They are one step away from the
+//! conflict, and refutations get much shorter where they are bumped, too. Each is bumped once.
 
 ghost use Rattle.clause_arena.specs.Clauses.{IsLive};
 ghost use Rattle.clause_rings.specs.Clauses.{IsDb};
@@ -65,7 +65,7 @@ impl Bumped {
         Ok(())
     }
 
-    /// Lists the variables that the analysis met, and behind them those of the reasons of a learned clause.
+    /// Lists the variables that the analysis met, and behind them those above level 0 of the reasons of a learned clause.
     pub fn gather(&mut self, db: &ClauseDb, met: &[u32], learned: &[Lit]) -> Result<(), AllocError>
         requires { IsDb db.now.clauses db.now.trail }
     {

@@ -15,11 +15,11 @@
 //! clause, its line and the room for both are made before anything changes (`Lesson`), so wherever
 //! memory is refused the log is whole and the call may be made again.
 //!
-//! What `solve` promises, and `solve_watched` whoever watches: the log is accepted to its last line
-//! (`accepted`), its additions are new and its deletions name additions alone (`fresh`); values
-//! satisfy CNF and assumption, and a refutation is a clause that is known (`found`); `Spent` comes
-//! where the log's additions number the budget (`spent`), and no call adds more than 2^V clauses,
-//! or (V+1) * 2^V with restarts (`most`).
+//! What `solve_watched` promises, whoever watches: the log is accepted to its last line (`accepted`),
+//! its additions are new and its deletions name additions alone (`fresh`); values satisfy CNF and
+//! assumption, and a refutation is a clause that is known (`found`); `Spent` comes where the log's
+//! additions number the budget (`spent`), and no call adds more than 2^V clauses, or (V+1) * 2^V
+//! with restarts (`most`).
 //!
 //! Free to be tuned (`tunables`), since no clause names them: decisions, phases, which clauses go,
 //! and the tables behind them, which have no invariant: a clause is tested anew when it goes

@@ -10,6 +10,7 @@ use bee_list::Sequence;
 use learning_solver::{Found, Solver};
 use order_ints::{Cnf, Lit};
 use proof_check::{Checker, ProofLine, TakeFault, push_line};
+use search_watcher::Silent;
 use std::alloc::{AllocError, Global};
 use std::test::Fail;
 
@@ -104,9 +105,9 @@ pub(super) fn asked(
         return Ok(None);
     }
     let found = if assumption.var == 0 {
-        solver.solve(None, budget, restart)?
+        solver.solve_watched(None, budget, restart, &mut Silent)?
     } else {
-        solver.solve(Some(assumption), budget, restart)?
+        solver.solve_watched(Some(assumption), budget, restart, &mut Silent)?
     };
     Ok(Some(found))
 }

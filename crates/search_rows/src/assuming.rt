@@ -8,6 +8,7 @@ use crate::words::{cnf, literal};
 use learning_solver::{Found, Solver};
 use order_ints::{Cnf, Lit};
 use proof_check::{ProofLine, push_line};
+use search_watcher::Silent;
 use std::alloc::{AllocError, Global};
 use std::process::Abort;
 use std::test::Fail;
@@ -44,7 +45,7 @@ fn asked(
     requires below { LitBelow (cnf.now.vars + 1) assumption }
 {
     let mut solver = Solver::with(alloc, cnf)?;
-    let found = solver.solve(Some(assumption), budget, restart)?;
+    let found = solver.solve_watched(Some(assumption), budget, restart, &mut Silent)?;
     told_with(alloc, &found, solver.log())
 }
 

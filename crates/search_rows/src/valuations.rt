@@ -11,6 +11,7 @@ use crate::words::{cnf_of, literal, literals};
 use bee_list::Sequence;
 use learning_solver::{Found, Solver};
 use order_ints::{Cnf, Lit};
+use search_watcher::Silent;
 use std::alloc::{AllocError, Global};
 use std::test::Fail;
 
@@ -40,7 +41,7 @@ fn found(
     requires below { ForSome assumption (LitBelow (cnf.now.vars + 1)) }
 {
     let mut solver = Solver::with(alloc, cnf)?;
-    solver.solve(assumption, u64::MAX, restart)
+    solver.solve_watched(assumption, u64::MAX, restart, &mut Silent)
 }
 
 /// Whether a new solver finds values, under an assumption where its number is not 0.

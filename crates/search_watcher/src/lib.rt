@@ -7,10 +7,10 @@
 //! line on the sink for errors at each thousandth clause.
 //!
 //! A watcher can't change what is found. It is lent nothing of the search, answers nothing, and has
-//! its own state alone; so `solve_watched` of `learning_solver` promises word for word what `solve`
-//! does, whoever watches. Nothing is promised of the calls either: a watcher is for eyes, and no
-//! proof rests on what it was told. It is called once for each learned clause, in the loop of the
-//! search, so it had better be quick.
+//! its own state alone; so `solve_watched` of `learning_solver` promises the same whoever watches.
+//! Nothing is promised of the calls either: a watcher is for eyes, and no proof rests on what it was
+//! told. It is called once for each learned clause, in the loop of the search, so it had better be
+//! quick.
 //!
 //! `Silent` is for whoever doesn't look. The crate uses no other, so that a sink or a count of
 //! lines can be a watcher far above the solver.

@@ -1,10 +1,12 @@
 //! Tokens as they stand in the text, and the classes of bytes.
 
 ghost use Rattle.std.specs.Prelude.{◌≡◌};
+ghost use Rattle.std.specs.List.{list_all};
 ghost use Rattle.bumblebee_reader.specs.Bytes.{is_letter, is_digit, is_word};
+ghost use Rattle.bumblebee_reader.specs.Names.{is_name};
 
 /// One of the six signs.
-#[derive(Clone, Copy, PartialEq, Eq)]
+#[derive(Clone, Copy)]
 pub enum Sign {
     /// `(`
     OpenCall,
@@ -52,4 +54,18 @@ pub fn is_word(byte: u8) -> bool
     ensures { result ≡ is_word byte }
 {
     is_letter(byte) || is_digit(byte)
+}
+
+/// Whether each byte may stand in a name.
+fn are_name_bytes(bytes: &[u8]) -> bool
+    ensures { result ≡ list_all is_word bytes.now }
+{
+    bytes.iter().all(|b| is_word(*b))
+}
+
+/// Whether a word is a name.
+pub fn is_name(word: &[u8]) -> bool
+    ensures { result ≡ is_name word.now }
+{
+    !word.is_empty() && is_letter(word[0]) && are_name_bytes(&word[1..])
 }

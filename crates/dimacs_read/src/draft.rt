@@ -26,7 +26,7 @@ use std::marker::Model;
 const MOST: u32 = 1 << 26;
 
 /// How far a text is read.
-#[derive(Clone, Copy, PartialEq, Eq)]
+#[derive(Clone, Copy)]
 pub(crate) enum TextStage {
     /// Before its first line.
     Start,

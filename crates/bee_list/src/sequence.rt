@@ -1,7 +1,7 @@
 //! A list over a `Vec`, which contracts see as the list of its members at every depth.
 
 ghost use Rattle.std.specs.Prelude.{◌≡◌, ◌==◌, ◌↔◌, ◌++◌, ◌∷◌, [], IsTrue, OnOk, OnErr, drop};
-ghost use Rattle.std.specs.Prelude.{length, List, Some};
+ghost use Rattle.std.specs.Prelude.{length, List, None, Some};
 ghost use Rattle.std.specs.Cmp.Lexicographic.{pointwise, lists_per, lists_equiv};
 
 use std::alloc::{AllocError, Global};
@@ -93,7 +93,8 @@ impl<T: Drop> Sequence<T> {
 
     /// The last member falls out of use, if there is one.
     pub fn drop_last(&mut self)
-        ensures { (members : List T) (last : T) → self.old ≡ members ++ last ∷ [] → self.new ≡ members }
+        ensures dropped { (members : List T) (last : T) → self.old ≡ members ++ last ∷ [] → self.new ≡ members }
+        ensures none { self.old ≡ [] → self.new ≡ [] }
     {
         if self.start < self.items.len() {
             drop(self.items.pop());
@@ -105,7 +106,7 @@ impl<T: Drop> Sequence<T> {
     pub fn replace_last(&mut self, value: T) -> Option<T>
         ensures replaced { (members : List T) (last : T) → self.old ≡ members ++ last ∷ []
             → (self.new ≡ members ++ value ∷ []) × (result ≡ Some last) }
-        ensures none { self.old ≡ [] → self.new ≡ [] }
+        ensures none { self.old ≡ [] → (self.new ≡ []) × (result ≡ None) }
     {
         if self.start >= self.items.len() {
             return None;

@@ -1,7 +1,7 @@
 //! The members of a sum, with what they add up to.
 
 ghost use Rattle.std.specs.Prelude.{◌≡◌, ◌+◌, ◌+ℤ◌, ◌≤◌, ◌++◌, ◌∷◌, [], List, drop, Some, IfOk, IfSome, OnOk, OnErr};
-ghost use Rattle.std.specs.Prelude.{MatchOption};
+ghost use Rattle.std.specs.Prelude.{None, MatchOption};
 ghost use Rattle.order_ints.specs.declared.order_int.OrdInt.{OrdInt};
 ghost use Rattle.order_ints.specs.OrderRange.{weights};
 ghost use Rattle.core_forms.specs.Totals.{AreTotals, AreNarrow, before_last};
@@ -247,8 +247,9 @@ impl Summands {
 
     /// The last member falls out of use, if there is one.
     pub fn drop_last(&mut self)
-        ensures { (members : List OrdInt) (last : OrdInt)
+        ensures dropped { (members : List OrdInt) (last : OrdInt)
             → self.old ≡ members ++ last ∷ [] → self.new ≡ members }
+        ensures none { self.old ≡ [] → self.new ≡ [] }
     {
         if self.inner.ints.is_empty() {
             return;
@@ -271,7 +272,7 @@ impl Summands {
     pub fn replace_last(&mut self, a: OrdInt) -> Option<OrdInt>
         ensures replaced { (members : List OrdInt) (last : OrdInt) → self.old ≡ members ++ last ∷ []
             → (self.new ≡ members ++ a ∷ []) × (result ≡ Some last) }
-        ensures none { self.old ≡ [] → self.new ≡ [] }
+        ensures none { self.old ≡ [] → (self.new ≡ []) × (result ≡ None) }
     {
         if self.inner.ints.is_empty() {
             return None;

@@ -1,7 +1,7 @@
 //! How the reading of a text ends.
 
 /// How the reading of a text ends. Lines are counted from 1.
-#[derive(Clone, Copy, PartialEq, Eq)]
+#[derive(Clone, Copy)]
 pub enum TextEnd<C> {
     /// The text is whole.
     Whole,

@@ -6,7 +6,7 @@ ghost use Rattle.line_texts.specs.Ends.{IsTaken};
 use std::alloc::{AllocError, Global};
 
 /// What comes of a line.
-#[derive(Clone, Copy, PartialEq, Eq)]
+#[derive(Clone, Copy)]
 pub enum LineTaken<C> {
     /// It was the next, and is taken.
     Next,

@@ -15,10 +15,6 @@ pub record ReadWhole (before after : Option (List ℕ)) (text : List ℕ) : Type
   pub moved : before ≡ in_front text after
   pub whole : NothingLeft after
 
--- the text under a name was read to its end
-abbrev pub ReadUnder : List ℕ → Seen → List ℕ → Type 0
-ReadUnder name seen text = ReadWhole (seen.shelf_before.left name) (seen.shelf_after.left name) text
-
 -- the text under a name is told before the run
 abbrev pub ToldUnder : List ℕ → Seen → List ℕ → Type 0
 ToldUnder name seen text = seen.shelf_before.left name ≡ Some text

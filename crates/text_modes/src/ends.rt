@@ -1,7 +1,7 @@
 //! How a run ends.
 
 /// What a text that was written whole says of the run.
-#[derive(Clone, Copy, PartialEq, Eq)]
+#[derive(Clone, Copy)]
 pub enum Outcome {
     /// It is what was asked for.
     Done,

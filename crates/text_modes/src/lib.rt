@@ -13,8 +13,8 @@
 //! or memory is wanting (`answers`, `faulty`). A mode whose text may differ from run to run says in
 //! its place that such a text ends in some text (`Finishes`).
 //!
-//! `read_whole` reads a text to its end, and `refusal` makes the line `REFUSED N` for every mode. A
-//! change of a record here is a change of the headline of `bee_cli`.
+//! `refusal` makes the line `REFUSED N` for every mode. A change of a record here is a change of the
+//! headline of `bee_cli`.
 #![tactic(auto)]
 
 mod ends;
@@ -29,4 +29,3 @@ pub use no_text::{NoText, run_none};
 pub use one_text::{OneText, run_one};
 pub use refusals::refusal;
 pub use two_texts::{TwoTexts, run_two};
-pub use whole_text::read_whole;

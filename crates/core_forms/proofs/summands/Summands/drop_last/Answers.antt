@@ -11,5 +11,5 @@ invariant_of-self c =
     let some : (length old == 0) ≡ false = cc in
     let new : c.drop_last.new.self ≡ c.deref_mut-2.result.now.ints = cc in
     subst (λ (ys : List OrdInt). IfSome c.without_last-totals.result (AreTotals ys)) new
-    (dropped-totals c.without_last-totals.result old c.drop_last.new.self some c.drop_last.ensures
+    (dropped-totals c.without_last-totals.result old c.drop_last.new.self some c.drop_last.ensures.dropped
     (subst (λ (ys : List OrdInt). IfSome c.without_last-totals.result (AreTotals (before_last ys))) same c.without_last-totals.ensures.totals))

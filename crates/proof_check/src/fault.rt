@@ -38,16 +38,6 @@ pub enum ProofTextFault {
     Memory,
 }
 
-impl<T: Drop> From<AllocFailed<T>> for TakeFault {
-    ghost use Rattle.proof_check.specs.declared.fault.TakeFault.TheVariants.{Memory};
-
-    ghost from_gives = { λ _ e. e ≡ Memory };
-
-    fn from(_e: AllocFailed<T>) -> TakeFault {
-        TakeFault::Memory
-    }
-}
-
 impl From<AllocError> for TakeFault {
     ghost use Rattle.proof_check.specs.declared.fault.TakeFault.TheVariants.{Memory};
 

@@ -3,8 +3,8 @@
 //! A text of many lines is read into the same room line by line, so that a line takes no memory once the longest
 //! one was read.
 
-ghost use Rattle.std.specs.Prelude.{◌≡◌, ◌<◌, ◌^◌, ◌⊎◌, ◌↔◌, ◌∷◌, ◌++◌, List, ℕ};
-ghost use Rattle.std.specs.Prelude.{ℤ, [], Some, codes, slice_index_or, IsTrue, IfSome, IfNone, OnOk, IfOk, IfErr};
+ghost use Rattle.std.specs.Prelude.{◌≡◌, ◌<◌, ◌^◌, ◌⊎◌, ◌↔◌, ◌∷◌, List, ℕ};
+ghost use Rattle.std.specs.Prelude.{ℤ, [], Some, codes, slice_index_or, IsTrue, IfSome, OnOk, IfOk, IfErr};
 ghost use Rattle.std.specs.Prelude.{MatchResult};
 ghost use Rattle.bee_text.specs.Words.{split_blanks};
 ghost use Rattle.std.specs.Fmt.{decimal, signed_decimal};
@@ -12,13 +12,11 @@ ghost use Rattle.order_ints.specs.declared.literal.Lit.{Lit};
 ghost use Rattle.proof_check.specs.declared.line.ProofLine.{ProofLine};
 ghost use Rattle.proof_check.specs.declared.fault.ProofTextFault.TheVariants.{Form, Memory};
 ghost use Rattle.proof_check.specs.Lines.{literal_word, list_words, line_words, Each, IsReadableLit, IsReadableId};
-ghost use Rattle.proof_check.specs.Lines.{IsReadableHint, IsReadable, AreBytesOf, IsTextOf};
+ghost use Rattle.proof_check.specs.Lines.{IsReadableHint, IsReadable, AreBytesOf};
 ghost use Rattle.proof_check.specs.Room.{line_in};
 
 use crate::fault::ProofTextFault;
-use crate::line::ProofLine;
 use crate::spelling::{is, read_count, read_hint, read_id, read_literal};
-use bee_list::Sequence;
 use bee_text::{Words, split_words};
 use order_ints::Lit;
 use std::alloc::Global;
@@ -132,14 +130,8 @@ fn read_addition(words: &mut Words<'_>, room: &mut LineRoom) -> Result<(), Proof
         × (room.new.hints.items ≡ hs)) (λ e. e ≡ Memory) }
     ensures fault { IfErr result (λ e. (e ≡ Form 1) ⊎ (e ≡ Memory)) }
 {
-    match read_literals(words, &mut room.lits) {
-        Err(e) => return Err(e),
-        Ok(()) => {}
-    }
-    match read_hints(words, &mut room.hints) {
-        Err(e) => return Err(e),
-        Ok(()) => {}
-    }
+    read_literals(words, &mut room.lits)?;
+    read_hints(words, &mut room.hints)?;
     match words.next_word() {
         None => Ok(()),
         Some(_) => Err(ProofTextFault::Form(1)),
@@ -154,10 +146,7 @@ fn read_deletion(words: &mut Words<'_>, ids: &mut Vec<u64>) -> Result<(), ProofT
         → MatchResult result (λ _. ids.new.items ≡ is) (λ e. e ≡ Memory) }
     ensures fault { IfErr result (λ e. (e ≡ Form 1) ⊎ (e ≡ Memory)) }
 {
-    match read_ids(words, ids) {
-        Err(e) => return Err(e),
-        Ok(()) => {}
-    }
+    read_ids(words, ids)?;
     match words.next_word() {
         None => Ok(()),
         Some(_) => Err(ProofTextFault::Form(1)),
@@ -251,69 +240,5 @@ impl LineRoom {
             Err(e) => Err(e),
             Ok(head) => Ok(head),
         }
-    }
-
-    /// Reads a line with its line feed.
-    pub fn read_text(&mut self, text: &[u8]) -> Result<LineHead, ProofTextFault>
-        ensures read { IfOk result (λ head. IsTextOf (line_in head self.new) text.now) }
-        ensures complete { (line : ProofLine) → IsTextOf line text.now
-            → MatchResult result (λ head. line_in head self.new ≡ line) (λ e. e ≡ Memory) }
-        ensures fault { IfErr result (λ e. (e ≡ Form 1) ⊎ (e ≡ Memory)) }
-    {
-        match without_line_feed(text) {
-            None => Err(ProofTextFault::Form(1)),
-            Some(bytes) => match self.read_bytes(bytes) {
-                Err(e) => Err(e),
-                Ok(head) => Ok(head),
-            },
-        }
-    }
-}
-
-/// What stands before the line feed at a text's end.
-fn without_line_feed(text: &[u8]) -> Option<&[u8]>
-    ensures cut { IfSome result (λ bytes. text.now ≡ bytes.now ++ 10 ∷ []) }
-    ensures complete { IfNone result ((bytes : List ℕ) → text.now ≡ bytes ++ 10 ∷ [] → ⊥) }
-{
-    let count = text.len();
-    if count == 0 {
-        return None;
-    }
-    if text[count - 1] == b'\n' {
-        Some(&text[..count - 1])
-    } else {
-        None
-    }
-}
-
-/// The line whose text, with its line feed, the bytes are.
-pub fn read_line(alloc: Global, text: &[u8]) -> Result<ProofLine, ProofTextFault>
-    ensures read { IfOk result (λ line. IsTextOf line text.now) }
-    ensures complete { (line : ProofLine) → IsTextOf line text.now
-        → MatchResult result (λ l. l ≡ line) (λ e. e ≡ Memory) }
-    ensures fault { IfErr result (λ e. (e ≡ Form 1) ⊎ (e ≡ Memory)) }
-{
-    let mut room = LineRoom::new(alloc);
-    match room.read_text(text) {
-        Err(e) => Err(e),
-        Ok(head) => Ok(line_of(head, room)),
-    }
-}
-
-/// The line that a head and its room make.
-fn line_of(head: LineHead, room: LineRoom) -> ProofLine
-    ensures { result ≡ line_in head room }
-{
-    let LineRoom { lits, hints, ids } = room;
-    match head {
-        LineHead::Addition(id) => ProofLine::Add {
-            id,
-            lits: Sequence::from_vec(lits),
-            hints: Sequence::from_vec(hints),
-        },
-        LineHead::Deletion(at) => ProofLine::Delete {
-            at,
-            ids: Sequence::from_vec(ids),
-        },
     }
 }

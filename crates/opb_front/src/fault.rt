@@ -6,7 +6,7 @@ ghost use Rattle.opb_front.specs.declared.fault.OpbFault.TheVariants.{Memory};
 use std::alloc::{AllocError, AllocFailed};
 
 /// What is wrong with a token.
-#[derive(Clone, Copy, PartialEq, Eq)]
+#[derive(Clone, Copy)]
 pub(crate) enum Misfit {
     /// No text can be completed behind it.
     Syntax,

@@ -3,7 +3,7 @@
 use bee_list::Sequence;
 
 /// A variable or its negation.
-#[derive(Clone, Copy, PartialEq, Eq)]
+#[derive(Clone, Copy)]
 pub struct Literal {
     /// The number of the variable, from 1.
     pub index: u32,
@@ -12,7 +12,7 @@ pub struct Literal {
 }
 
 /// A literal with its coefficient, which counts where the literal is true.
-#[derive(Clone, Copy, PartialEq, Eq)]
+#[derive(Clone, Copy)]
 pub struct Term {
     /// What the literal adds.
     pub coefficient: i64,
@@ -21,7 +21,7 @@ pub struct Term {
 }
 
 /// How the sum of a constraint stands to its number.
-#[derive(Clone, Copy, PartialEq, Eq)]
+#[derive(Clone, Copy)]
 pub enum Comparison {
     /// `>=`
     AtLeast,

@@ -8,7 +8,7 @@ use crate::items::{Comparison, Literal};
 use crate::tokens::Token;
 
 /// Where the reading stands.
-#[derive(Clone, Copy, PartialEq, Eq)]
+#[derive(Clone, Copy)]
 pub(crate) enum Place {
     /// Before the first token.
     First,

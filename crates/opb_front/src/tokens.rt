@@ -17,7 +17,7 @@ pub(crate) const MOST_NUMBER: u64 = 1_073_741_824;
 const MOST_INDEX: u64 = 1_000_000;
 
 /// A token.
-#[derive(Clone, Copy, PartialEq, Eq)]
+#[derive(Clone, Copy)]
 pub(crate) enum Token {
     /// `min:`
     Min,

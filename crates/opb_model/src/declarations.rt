@@ -3,7 +3,7 @@
 ghost use Rattle.std.specs.Prelude.{◌≡◌, ◌≤◌, ◌+◌, ◌++◌, IfOk, OnOk};
 ghost use Rattle.opb_model.specs.Models.{variable_name, variable, variables_from, cost_decls};
 
-use bee_text::{push_bytes, push_number};
+use crate::text_parts::push_variable_name;
 use bumblebee_reader::Name;
 use model_meaning::{Decl, Kind};
 use opb_front::Objective;
@@ -14,8 +14,7 @@ fn variable_name(alloc: Global, room: &mut Vec<u8>, index: u32) -> Result<Name, 
     ensures { IfOk result (λ name. name ≡ variable_name index) }
 {
     room.clear();
-    push_bytes(room, b"x")?;
-    push_number(room, u128::from(index))?;
+    push_variable_name(room, index)?;
     Name::from_slice(alloc, room.as_slice())
 }
 

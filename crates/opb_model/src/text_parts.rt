@@ -15,7 +15,7 @@ use opb_front::{Comparison, Constraint, Objective, Term};
 use std::alloc::AllocError;
 
 /// Appends the name of a variable.
-fn push_variable_name(out: &mut Vec<u8>, index: u32) -> Result<(), AllocError>
+pub(crate) fn push_variable_name(out: &mut Vec<u8>, index: u32) -> Result<(), AllocError>
     ensures { OnOk result (out.new.items ≡ out.old.items ++ variable_name index) }
 {
     push_bytes(out, b"x")?;

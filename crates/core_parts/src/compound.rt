@@ -19,7 +19,8 @@ pub fn is_compound(core: &Core) -> bool
     !is_basic(core)
 }
 
-/// The parts of a compound core, which take over its lists. The fresh variables are those from one on.
+/// The parts of a compound core, which take over its integers, and the lists of a sum, of different members and of an
+/// order of words. The fresh variables are those from one on.
 pub fn parts(alloc: Global, core: Core, next_var: u32) -> Result<Parts, AllocError>
     requires compound { is_compound_of core ≡ true }
     requires well_formed { IsWellFormed core }

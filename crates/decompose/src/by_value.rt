@@ -10,9 +10,9 @@ ghost use Rattle.core_forms.specs.WellFormed.{IsSound, AreSound};
 ghost use Rattle.decompose.specs.DifferingParts.{all_values, marks_from, marked};
 ghost use Rattle.decompose.specs.MarksByValue.{marked_values, leading, grouped, groups_of};
 
-use crate::fresh::atom_of;
 use bee_list::Sequence;
 use order_ints::{Atom, OrdInt};
+use part_base::fresh_atom;
 use std::alloc::{AllocError, Global};
 
 /// Puts the values of a member behind others.
@@ -52,7 +52,7 @@ pub(crate) fn marks(
     let mut marks = Vec::with_capacity(alloc, values.len())?;
     let mut var = next_var;
     for value in values {
-        marks.push((*value, atom_of(var)))?;
+        marks.push((*value, fresh_atom(var)))?;
         var += 1;
     }
     Ok(marks)

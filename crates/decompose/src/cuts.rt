@@ -9,13 +9,12 @@ ghost use Rattle.part_base.specs.Cuts.{IsCut};
 ghost use Rattle.decompose.specs.CutsOf.{added_cut, sum_cut, compared_cut, lex_cut, cut_of};
 ghost use Rattle.decompose.specs.PartsOf.{parts_of};
 
-use crate::fresh::atom_of;
 use crate::lex::{compared, decided};
 use crate::sums::fresh_sum;
 use bee_list::Sequence;
 use core_forms::Core;
 use order_ints::{Atom, OrdInt};
-use part_base::{Coming, Cut};
+use part_base::{Coming, Cut, fresh_atom};
 use std::alloc::{AllocError, Global};
 
 /// How a sum is split whose first two members are these.
@@ -70,7 +69,7 @@ fn compared_cut(
         front: Sequence::from_vec(front),
         back: Sequence::from_vec(back),
         coming: Coming::Nothing,
-        head: atom_of(next_var + 2),
+        head: fresh_atom(next_var + 2),
         fresh: 4,
     })
 }

@@ -9,11 +9,10 @@ ghost use Rattle.decompose.specs.DifferingParts.{all_values, mark_core, mark_cor
 ghost use Rattle.decompose.specs.DifferingParts.{differing_parts};
 
 use crate::by_value::{all_values, groups, marks};
-use crate::fresh::atom_of;
 use bee_list::Sequence;
 use core_forms::Core;
 use order_ints::{Atom, OrdInt, Walk};
-use part_base::Parts;
+use part_base::{Parts, fresh_atom};
 use std::alloc::{AllocError, Global};
 
 /// A mark is true exactly where the member has the value and its condition is true. The walk along the
@@ -32,7 +31,7 @@ fn mark_core(
     let reached = walk.at(value);
     let exceeded = walk.at(value + 1);
     let atoms = vec![in alloc; reached, exceeded.not(), condition]?;
-    Ok(Core::Conj(atom_of(var), Sequence::from_vec(atoms)))
+    Ok(Core::Conj(fresh_atom(var), Sequence::from_vec(atoms)))
 }
 
 /// Puts the cores of the marks of a member's values behind others.

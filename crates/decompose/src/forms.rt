@@ -13,18 +13,8 @@ use crate::sums::sum_parts;
 use bee_list::Sequence;
 use core_forms::{Core, Taken};
 use order_ints::{Atom, OrdInt};
-use part_base::Parts;
+use part_base::{Parts, no_parts};
 use std::alloc::{AllocError, Global};
-
-/// No parts: of a core of another form, which callers here have not.
-fn no_parts(alloc: Global) -> Parts
-    ensures { result ≡ record { cores = []; fresh = 0 } }
-{
-    Parts {
-        cores: Sequence::from_vec(Vec::new(alloc)),
-        fresh: 0,
-    }
-}
 
 /// The parts, form by form, which take over the core's lists and integers.
 fn form_parts(alloc: Global, core: Core, next_var: u32) -> Result<Parts, AllocError>

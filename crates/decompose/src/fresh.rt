@@ -1,21 +1,13 @@
 //! What the parts of all forms are made with.
 
-ghost use Rattle.order_ints.specs.Label.{variable};
 ghost use Rattle.std.specs.Prelude.{◌≡◌, ◌<◌, ◌∷◌, IfOk, length};
 ghost use Rattle.decompose.specs.LexParts.{alone};
 
 use bee_list::Sequence;
 use core_forms::Core;
-use order_ints::{Atom, Lit, OrdInt};
+use order_ints::OrdInt;
 use part_base::Parts;
 use std::alloc::{AllocError, Global};
-
-/// The variable itself, as an atom.
-pub(crate) fn atom_of(var: u32) -> Atom
-    ensures { result ≡ variable var }
-{
-    Atom::Of(Lit::of(var, true))
-}
 
 /// The first member of a list that has one.
 pub(crate) fn take_first(ints: &mut Vec<OrdInt>) -> OrdInt

@@ -4,11 +4,11 @@ ghost use Rattle.std.specs.Prelude.{◌≡◌, ◌+◌, ◌^◌, ◌<◌, [], �
 ghost use Rattle.core_forms.specs.declared.form.Core.TheVariants.{Conj};
 ghost use Rattle.decompose.specs.LexParts.{empty_order, last_order, before_rest, behind_rest, split_order, lex_parts};
 
-use crate::fresh::{atom_of, one_part, take_first};
+use crate::fresh::{one_part, take_first};
 use bee_list::Sequence;
 use core_forms::Core;
 use order_ints::{Atom, OrdInt};
-use part_base::Parts;
+use part_base::{Parts, fresh_atom};
 use std::alloc::{AllocError, Global};
 
 /// An atom is the conjunction of two others.
@@ -47,8 +47,8 @@ pub(crate) fn compared(
     requires { next_var + 4 < 2 ^ 32 }
     ensures { IfOk result (λ cores. cores.items ≡ before_rest next_var a b) }
 {
-    let first = Core::leq_r(alloc, atom_of(next_var), a.clone()?, b.clone()?)?;
-    let second = Core::leq_r(alloc, atom_of(next_var + 1), b, a)?;
+    let first = Core::leq_r(alloc, fresh_atom(next_var), a.clone()?, b.clone()?)?;
+    let second = Core::leq_r(alloc, fresh_atom(next_var + 1), b, a)?;
     Ok(vec![in alloc; first, second]?)
 }
 
@@ -58,8 +58,8 @@ pub(crate) fn decided(alloc: Global, r: Atom, next_var: u32) -> Result<Vec<Core>
     requires { next_var + 4 < 2 ^ 32 }
     ensures { IfOk result (λ cores. cores.items ≡ behind_rest next_var r) }
 {
-    let (less, greater) = (atom_of(next_var), atom_of(next_var + 1));
-    let (rest, undecided) = (atom_of(next_var + 2), atom_of(next_var + 3));
+    let (less, greater) = (fresh_atom(next_var), fresh_atom(next_var + 1));
+    let (rest, undecided) = (fresh_atom(next_var + 2), fresh_atom(next_var + 3));
     let first = conjunction(alloc, undecided.not(), greater, rest.not())?;
     let second = conjunction(alloc, r, less, undecided)?;
     Ok(vec![in alloc; first, second]?)
@@ -81,7 +81,7 @@ fn split_parts(
     }) }
 {
     let (front, back) = (Sequence::from_vec(rests.0), Sequence::from_vec(rests.1));
-    let rest = Core::lex(alloc, atom_of(next_var + 2), strict, front, back)?;
+    let rest = Core::lex(alloc, fresh_atom(next_var + 2), strict, front, back)?;
     let mut behind = decided(alloc, r, next_var)?;
     let mut cores = compared(alloc, pair.0, pair.1, next_var)?;
     cores.push(rest)?;

@@ -9,8 +9,7 @@
 //! What it promises: `parts` gives exactly the parts (`shape`), which stand for the core both ways,
 //! are well formed over its variables and the fresh ones, and together cost at most what it cost
 //! (`parts`). `parts_from` gives the same of a core that it uses up: lists and integers are taken
-//! over. `cut` tells the cut of a long list at its front. Laws: `parts_law`, and `differing_law`
-//! for different members.
+//! over. `cut` tells the cut of a long list at its front. Law: `parts_law`.
 //!
 //! The values of a fresh sum are those that `sums` of `core_forms` gives: the different sums, or a
 //! range by the common divisor where that is shorter. So a long chain of fresh sums stays within

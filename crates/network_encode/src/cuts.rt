@@ -5,11 +5,11 @@ ghost use Rattle.part_base.specs.Cuts.{IsCut};
 ghost use Rattle.network_encode.specs.AtomCuts.{front_cut, parity_cut, amo_cut};
 ghost use Rattle.network_encode.specs.NetworkParts.{parts_of, IsSplit};
 
-use crate::members::{fresh_atom, with_last};
+use crate::members::with_last;
 use bee_list::Sequence;
 use core_forms::Core;
 use order_ints::Atom;
-use part_base::{Coming, Cut};
+use part_base::{Coming, Cut, fresh_atom};
 use std::alloc::{AllocError, Global};
 
 /// A part before a list, behind which a fresh variable comes.

@@ -1,24 +1,13 @@
 //! The parts of a parity and of at-most-one.
 
-ghost use Rattle.order_ints.specs.Label.{variable};
 ghost use Rattle.std.specs.Prelude.{◌≡◌, [], ◌∷◌, ◌++◌, ◌≤◌, length, IfOk};
 ghost use Rattle.network_encode.specs.AtomParts.{parity_parts, amo_parts};
 
 use bee_list::Sequence;
 use core_forms::Core;
-use order_ints::{Atom, Lit};
-use part_base::Parts;
+use order_ints::Atom;
+use part_base::{Parts, fresh_atom};
 use std::alloc::{AllocError, Global};
-
-/// The atom of a fresh variable.
-pub(crate) fn fresh_atom(var: u32) -> Atom
-    ensures { result ≡ variable var }
-{
-    Atom::Of(Lit {
-        var,
-        positive: true,
-    })
-}
 
 /// The members of a list, and an atom behind them. It takes memory once.
 pub(crate) fn with_last(

@@ -12,18 +12,9 @@ ghost use Rattle.network_encode.specs.TakenParts.{core_of};
 use crate::counts::{of_count, of_lent_count};
 use crate::members::{of_amo, of_parity};
 use crate::merges::{of_lent_sum, of_sum};
-use bee_list::Sequence;
 use core_forms::{Core, Taken};
-use part_base::Parts;
+use part_base::{Parts, no_parts};
 use std::alloc::{AllocError, Global};
-
-/// No parts: of a core of another form.
-fn no_parts(alloc: Global) -> Parts {
-    Parts {
-        cores: Sequence::from_vec(Vec::new(alloc)),
-        fresh: 0,
-    }
-}
 
 /// The parts of a core, form by form.
 fn form_parts(alloc: Global, core: &Core, next_var: u32) -> Result<Parts, AllocError>

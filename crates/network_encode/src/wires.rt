@@ -5,10 +5,10 @@ ghost use Rattle.std.specs.Prelude.{◌≡◌, ◌+◌, ◌-◌, ◌*◌, ◌^�
 ghost use Rattle.std.specs.Prelude.{OnOk};
 ghost use Rattle.network_encode.specs.MergeParts.{weighted, comparators, wires};
 
-use crate::members::fresh_atom;
 use bee_list::Sequence;
 use core_forms::Core;
 use order_ints::Atom;
+use part_base::fresh_atom;
 use std::alloc::{AllocError, Global};
 
 /// How many comparators there are, where the sums of the odd and of the even places have so many steps.

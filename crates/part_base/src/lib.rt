@@ -21,4 +21,4 @@ pub mod laws;
 mod parts;
 
 pub use cut::{Coming, Cut, drop_before, put_behind, take_behind};
-pub use parts::Parts;
+pub use parts::{Parts, fresh_atom, no_parts};

@@ -20,7 +20,7 @@ use step_kernel::State;
 /// Compiles a state: adds equations until none is told, splits the least compound core while there is one,
 /// adding equations after each split, and then encodes the cores, the least id first. It stops where a
 /// contradiction is found. It fails for want of memory, and as if memory were wanting where there would be
-/// 2^31 - 2 ids or more.
+/// 2^31 - 3 ids or more.
 pub fn compile_state<F: Oracle<L>, L: Ledger>(
     alloc: Global,
     state: State,

@@ -8,3 +8,4 @@ pub mod Walking
 pub mod Lawful
 pub mod Named
 pub mod Exchanges
+pub mod Upwards

@@ -3,8 +3,7 @@
 ghost use Rattle.std.specs.Prelude.{◌≡◌, ◌+◌, ◌^◌, ◌<◌, ◌≤◌, ◌↔◌, ℕ, [], length, IfOk};
 ghost use Rattle.std.specs.Prelude.{OnOk, OnErr, IsTrue, Contains, vec_capacity};
 ghost use Rattle.std.specs.List.{All};
-ghost use Rattle.std.specs.List.Sorted.{IsSorted, IsStrictlyIncreasing};
-ghost use Rattle.std.specs.Ordering.{nat_cmp};
+ghost use Rattle.std.specs.List.Sorted.{IsStrictlyIncreasing};
 ghost use Rattle.core_occurrences.specs.Lists.{IsOccurrences, Occurs, cores_at, no_occurrences, grown, added, removed};
 ghost use Rattle.core_occurrences.specs.Bodies.{exchanged};
 
@@ -111,7 +110,7 @@ impl Occurrences {
         requires empty { ids.old.items ≡ [] }
         requires room { length (cores_at self.now var) ≤ vec_capacity ids.old }
         ensures same { (id : ℕ) → Contains ids.new.items id ↔ Occurs self.now var id }
-        ensures ascending { IsSorted nat_cmp ids.new.items }
+        ensures ascending { IsStrictlyIncreasing ids.new.items }
         ensures room { vec_capacity ids.old ≤ vec_capacity ids.new }
         ensures occurrences { IsOccurrences self.now }
     {
@@ -125,7 +124,7 @@ impl Occurrences {
     /// Whether a variable occurs in no core. It takes constant time.
     pub fn is_bare(&self, var: u32) -> bool
         requires { (1 ≤ var) × (var ≤ length self.now.lists) }
-        ensures bare { IsTrue result → cores_at self.now var ≡ [] }
+        ensures bare { IsTrue result ↔ (cores_at self.now var ≡ []) }
     {
         self.held.cores_of(var).next().is_none()
     }

@@ -1,6 +1,6 @@
 //! The occurrences of a core that is split go on to its longest part.
 
-ghost use Rattle.std.specs.Prelude.{◌≡◌, ◌+◌, ◌^◌, ◌<◌, ◌≤◌, ◌⊎◌, ℕ, [], length, IfOk};
+ghost use Rattle.std.specs.Prelude.{◌≡◌, ◌+◌, ◌^◌, ◌<◌, ◌≤◌, ◌⊎◌, ◌↔◌, ℕ, [], length, IfOk};
 ghost use Rattle.std.specs.Prelude.{OnOk, IsTrue, Contains};
 ghost use Rattle.std.specs.List.Sorted.{IsStrictlyIncreasing};
 ghost use Rattle.core_occurrences.specs.Lists.{Occurs, cores_at};
@@ -117,7 +117,7 @@ pub fn rest_of(
 
 /// Whether variables stand in ascending order, each once.
 fn are_increasing(vars: &[u32]) -> bool
-    ensures { IsTrue result → IsStrictlyIncreasing vars.now }
+    ensures { IsTrue result ↔ IsStrictlyIncreasing vars.now }
 {
     for i in 1..vars.len() {
         if vars[i - 1] >= vars[i] {
@@ -130,7 +130,7 @@ fn are_increasing(vars: &[u32]) -> bool
 /// Whether variables occur in no core.
 pub fn are_bare(occurs: &Occurrences, vars: &[u32]) -> bool
     requires { (v : ℕ) → Contains vars.now v → (1 ≤ v) × (v ≤ length occurs.now.lists) }
-    ensures { IsTrue result → (v : ℕ) → Contains vars.now v → cores_at occurs.now v ≡ [] }
+    ensures { IsTrue result ↔ ((v : ℕ) → Contains vars.now v → cores_at occurs.now v ≡ []) }
 {
     for var in vars {
         if !occurs.is_bare(*var) {

@@ -4,9 +4,11 @@ use Rattle.std.specs.List.{Contains}
 use Rattle.std.proofs.lemmas.Bool.{cond-true}
 use Rattle.std.proofs.lemmas.List.{append-nil, get_or_default, length-map}
 use Rattle.std.proofs.lemmas.List.Sorted.{Contains-permutation, IsPermutation-sym}
+use Rattle.index_ring.specs.Lists.{times}
 use Rattle.core_occurrences.specs.Lists.{OccurrenceLists, IsOccurrences, cores_at}
 use Rattle.core_occurrences.specs.Bodies.{named_by}
 use Rattle.core_occurrences.proofs.Named.{at-named, listed-named}
+use Rattle.core_occurrences.proofs.Upwards.{rises}
 use Rattle.core_occurrences.proofs.by_id.Occurrences.ids_at.Goals as goal
 
 pub loop-body-init : goal.loop-body-init
@@ -58,6 +60,15 @@ returns-clause-same c =
       λ h. subst (λ (l : List ℕ). Contains l id) listed (Contains-permutation _ _ id (IsPermutation-sym _ _ moved) h),
       λ h. Contains-permutation _ _ id moved (subst (λ (l : List ℕ). Contains l id) (sym listed) h),
     )
+
+pub returns-clause-ascending : goal.returns-clause-ascending
+returns-clause-ascending c =
+    let slice = c.as_slice-cores.result.now in
+    let none : c.loop-body.body-iterator ≡ [] = search rules in
+    let listed : c.loop-body.ids.items ≡ cores_at c.args.self.now c.args.var =
+    sym (append-nil c.loop-body.ids.items) ∙ ap (λ (l : List ℕ). c.loop-body.ids.items ++ map (named_by slice) l) (sym none) ∙ c.loop-body.invariant.all in
+    let is = subst IsOccurrences c.self.view_is (listed-named c.self.inside.bodies.items c.self.inside.cores.items c.self.inside.held c.self.invariant) in
+    rises _ _ c.sort_unstable.ensures.permutation c.sort_unstable.ensures.sorted (λ v. omega (arith, ap (times v) listed, is.once c.args.var v))
 
 pub returns-clause-occurrences : goal.returns-clause-occurrences
 returns-clause-occurrences c = subst IsOccurrences c.self.view_is (listed-named c.self.inside.bodies.items c.self.inside.cores.items c.self.inside.held c.self.invariant)

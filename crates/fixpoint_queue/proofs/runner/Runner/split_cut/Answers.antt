@@ -126,7 +126,7 @@ enter_around-requires-clause-increasing g c =
 pub enter_around-requires-clause-bare : goal.enter_around-requires-clause-bare
 enter_around-requires-clause-bare g c =
     subst (λ (o : OccurrenceLists). (v : ℕ) → Contains c.in_ok-come.come.items v → cores_at o v ≡ []) (sym c.leave_queue.ensures.occurs)
-    (subst (λ (l : List ℕ). (v : ℕ) → Contains l v → cores_at c.make_room.new.self.occurs v ≡ []) c.as_slice-2.ensures.value (c.are_bare.ensures c.if-not-are_bare.false))
+    (subst (λ (l : List ℕ). (v : ℕ) → Contains l v → cores_at c.make_room.new.self.occurs v ≡ []) c.as_slice-2.ensures.value (c.are_bare.ensures.0 c.if-not-are_bare.false))
 
 -- ---- and after that
 

@@ -189,8 +189,8 @@ fn by_last(sought: SoughtEquation, ints: &[OrdInt], all: &Range, k: &i128) -> Op
     }
 }
 
-/// Of the equations of the members of a sum, the first that is looked for. The first one of two different atoms is found
-/// in the time of the last member where that alone is bound.
+/// Of the equations of the members of a sum, the first that is looked for. The first one of two different atoms is
+/// found in the time of the last member where that alone is bound.
 pub(crate) fn by_summands(sought: SoughtEquation, ints: &Summands, k: &i128) -> Option<(Atom, Atom)>
     requires sound { AreSound ints.now }
     requires limit { abs_total ints.now + unsigned_abs k.now < 2 ^ 100 }

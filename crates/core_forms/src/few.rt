@@ -197,8 +197,8 @@ fn has_many_at_end(core: &Core) -> bool
     }
 }
 
-/// The different variables of a core, ascending, where there are at most eight. It takes no memory and
-/// one pass over the core, which ends at the ninth; nine at the end of a long parity, at-most-one or sum end it at once.
+/// The different variables of a core, ascending, where there are at most eight. It takes no memory and one pass over
+/// the core, which ends at the ninth; nine at the end of a long parity, at-most-one or sum end it at once.
 pub fn few_variables(core: &Core) -> Option<FewVars>
     ensures { result ≡ if_few (own_vars core.now) }
 {

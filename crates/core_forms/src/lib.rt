@@ -57,7 +57,7 @@ pub use few::{FewVars, few_of_words, few_variables};
 pub use form::Core;
 pub use fresh_sums::sums;
 pub use meaning::{holds, holds_in_row};
-pub use occurrence::{is_increasing, variables};
+pub use occurrence::variables;
 pub use shapes::shape;
 pub use summands::{Summands, Totals};
 pub use taken::Taken;

@@ -60,7 +60,7 @@ fn put_core(vars: &mut Vec<u32>, core: &Core) -> Result<(), AllocError>
 }
 
 /// Whether each number is less than the next one.
-pub fn is_increasing(numbers: &[u32]) -> bool
+fn is_increasing(numbers: &[u32]) -> bool
     ensures { IsTrue result → IsStrictlyIncreasing numbers.now }
 {
     for i in 1..numbers.len() {

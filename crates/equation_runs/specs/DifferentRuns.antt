@@ -8,7 +8,7 @@ use Rattle.std.specs.Prelude.{nat_le, ℕ, Bool, true, false, not, ◌&&◌, ◌
 use Rattle.std.specs.Prelude.{◌+ℤ◌, Option, None, Some, if◌then◌else◌}
 use Rattle.std.specs.Ordering.{int_eq}
 use Rattle.order_ints.specs.declared.atom.Atom.{Atom}
-use Rattle.order_ints.specs.declared.atom.Atom.TheVariants.{True, False}
+use Rattle.order_ints.specs.declared.atom.Atom.TheVariants.{False}
 use Rattle.order_ints.specs.declared.order_int.OrdInt.{OrdInt}
 use Rattle.order_ints.specs.OrderRange.{low_of, high_of}
 use Rattle.order_ints.specs.OrderLevels.{values_of, at_of}

@@ -7,21 +7,20 @@ use Rattle.std.specs.Ordering.{int_eq}
 use mir.Syntax.{w128}
 use Rattle.std.proofs.lemmas.Int.{ints, fits_signed_from_abs}
 use Rattle.order_ints.specs.declared.atom.Atom.{Atom}
-use Rattle.order_ints.specs.declared.atom.Atom.TheVariants.{True, False}
+use Rattle.order_ints.specs.declared.atom.Atom.TheVariants.{False}
 use Rattle.order_ints.specs.declared.order_int.OrdInt.{OrdInt}
 use Rattle.order_ints.specs.Truth.{not_atom}
 use Rattle.order_ints.specs.OrderRange.{low_of, high_of}
 use Rattle.order_ints.specs.OrderLevels.{at_of}
 use Rattle.order_ints.specs.Walk.{has_value}
-use Rattle.order_ints.specs.Same.{is_true, is_false, same_int}
+use Rattle.order_ints.specs.Same.{is_false}
 use Rattle.order_ints.proofs.Wide.{same_bits}
 use Rattle.core_forms.proofs.Bounds.{wide_bits}
 use Rattle.rule_base.specs.declared.sought.SoughtEquation.{SoughtEquation}
 use Rattle.rule_base.specs.Pairs.{first_sought, only_if}
 use Rattle.rule_base.specs.Stated.{at_least, is_below, is_not}
 use Rattle.rule_base.proofs.PairLaws.{both-found}
-use Rattle.rule_base.specs.Constant.{is_constant}
-use Rattle.equi_rules.specs.CompareRows.{leq_equations_true, leq_equations_false, leq_equations_known, leq_equations_decided, leq_equations_constant, leq_equations, eq_equations_true, eq_equations_apart, eq_equations_value, eq_equations_constant, eq_equations}
+use Rattle.equi_rules.specs.CompareRows.{leq_equations_true, leq_equations_false, eq_equations_value}
 
 -- values back from their bits
 pub same_value : (v w : ℤ) → v ≡ w → unsigned_abs w < 2 ^ 100 → to_z w128 (of_z w128 v) ≡ w

@@ -14,7 +14,6 @@ use Rattle.order_ints.specs.declared.order_int.OrdInt.{OrdInt}
 use Rattle.order_ints.specs.Truth.{Valuation, lit_truth, atom_truth}
 use Rattle.order_ints.specs.OrderValue.{gains, value_of, in_order}
 use Rattle.core_forms.specs.declared.equation.Equation.{Equation}
-use Rattle.core_forms.specs.declared.form.Core.{Core}
 use Rattle.core_forms.specs.declared.form.Core.TheVariants.{Lex}
 use Rattle.core_forms.specs.Values.{all_ordered, values, is_before}
 use Rattle.core_forms.specs.Variables.{atom_vars, steps_vars, ints_vars, AreAmong, SameOn}

@@ -4,10 +4,10 @@
 //! first goes along the whole rest, to see whether its integers are ordered. Integers of at most one step always are;
 //! then a row ends at the first pair that differs, which most often is one of the first few.
 
-ghost use Rattle.std.specs.Prelude.{◌≡◌, ◌++◌, ◌∷◌, ◌≤◌, true, false, Bool, not, None, Some, length, take, IfOk};
-ghost use Rattle.std.specs.Prelude.{OnOk, IfSome, IsTrue};
+ghost use Rattle.std.specs.Prelude.{◌≡◌, ◌≤◌, true, false, Bool, not, None, Some, length, take, IfOk};
+ghost use Rattle.std.specs.Prelude.{IfSome, IsTrue};
 ghost use Rattle.order_ints.specs.declared.atom.Atom.{Atom};
-ghost use Rattle.order_ints.specs.Truth.{Valuation, atom_truth, valuation_at};
+ghost use Rattle.order_ints.specs.Truth.{Valuation, atom_truth};
 ghost use Rattle.core_forms.specs.declared.form.Core.TheVariants.{Lex};
 ghost use Rattle.core_forms.specs.Variables.{AreAmong};
 ghost use Rattle.core_forms.specs.WellFormed.{IsWellFormed, AreSound};

@@ -1,4 +1,4 @@
-use Rattle.std.proofs.Common.{◌≡◌, sym, ◌∙◌}
+use Rattle.std.proofs.Common.{sym}
 use Rattle.core_forms.specs.OwnVars.{own_vars}
 use Rattle.core_forms.proofs.OwnVars.{few-none}
 use Rattle.core_forms.proofs.few.few_variables.Goals as goal

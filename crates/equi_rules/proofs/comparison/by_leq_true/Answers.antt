@@ -1,4 +1,4 @@
-use Rattle.std.proofs.Common.{[], ◌∷◌, pos, ◌+ℤ◌, sym, refl, ◌∙◌}
+use Rattle.std.proofs.Common.{[], ◌∷◌, sym, refl, ◌∙◌}
 use Rattle.order_ints.specs.OrderRange.{low_of}
 use Rattle.rule_base.specs.Pairs.{first_sought}
 use Rattle.rule_base.specs.Stated.{at_least}

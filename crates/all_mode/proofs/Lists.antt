@@ -7,7 +7,7 @@ use Rattle.model_meaning.specs.declared.model.Decl.{Decl}
 use Rattle.text_modes.specs.declared.ends.Outcome.{Outcome}
 use Rattle.model_texts.proofs.ModelShapes.{typed, limited, names}
 use Rattle.model_texts.proofs.FaultOrModel.{FaultOrModel, fault_or_model}
-use Rattle.search_options.specs.declared.options.SearchOptions.{SearchOptions as Options}
+use Rattle.search_options.specs.declared.options.SearchOptions.{SearchOptions}
 use Rattle.solution_blocks.specs.Blocks.{numbers_in}
 use Rattle.list_text.specs.declared.verdict.ListVerdict.TheVariants.{All, Partial}
 use Rattle.list_text.specs.ListText.{additions_in, verdict_of, list_text}
@@ -25,7 +25,7 @@ says-verdict budget count added true outcome is spent = subst (λ (o : Outcome).
 says-verdict budget count added false outcome is spent =
     subst (λ (o : Outcome). SaysVerdict budget o count (Partial count added)) (sym is) (refl, ap (λ (n : ℕ). Partial count n) (spent refl))
 
-pub given-list : WrittenLaw → (options : Options) (text : List ℕ) (outcome : Outcome) (written : List ℕ) → ListsHeld options text outcome written → IsListed options text outcome written
+pub given-list : WrittenLaw → (options : SearchOptions) (text : List ℕ) (outcome : Outcome) (written : List ℕ) → ListsHeld options text outcome written → IsListed options text outcome written
 given-list written-law options text outcome written h =
     let model = h.model in
     let d = h.is.document in

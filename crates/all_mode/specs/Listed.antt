@@ -4,7 +4,7 @@ use Rattle.std.specs.Prelude.{if◌then◌else◌}
 use Rattle.model_meaning.specs.declared.model.Model.{Model}
 use Rattle.bee_compile.specs.Compiled.{IsInstance}
 use Rattle.model_texts.specs.HeldModels.{HoldsModel}
-use Rattle.search_options.specs.declared.options.SearchOptions.{SearchOptions as Options}
+use Rattle.search_options.specs.declared.options.SearchOptions.{SearchOptions}
 use Rattle.solution_blocks.specs.Blocks.{numbers_in}
 use Rattle.list_text.specs.declared.verdict.ListVerdict.{ListVerdict}
 use Rattle.list_text.specs.declared.verdict.ListVerdict.TheVariants.{All, Partial}
@@ -20,7 +20,7 @@ abbrev pub outcome_of : Bool → ℕ → Outcome
 outcome_of complete budget = if complete then Done else Unknown budget
 
 -- the text of the list of a model's solutions, by all rules, with what it says of the run
-pub record IsListText (options : Options) (model : Model) (outcome : Outcome) (written : List ℕ) : Type 0 where
+pub record IsListText (options : SearchOptions) (model : Model) (outcome : Outcome) (written : List ℕ) : Type 0 where
   pub document : ListDoc
   pub before : ℕ
   pub after : ℕ
@@ -29,7 +29,7 @@ pub record IsListText (options : Options) (model : Model) (outcome : Outcome) (w
   pub outcome_is : outcome ≡ outcome_of document.complete options.budget
 
 -- the same of the model that a text within the limit says without fault
-pub record ListsHeld (options : Options) (text : List ℕ) (outcome : Outcome) (written : List ℕ) : Type 0 where
+pub record ListsHeld (options : SearchOptions) (text : List ℕ) (outcome : Outcome) (written : List ℕ) : Type 0 where
   pub model : Model
   pub held : HoldsModel text model
   pub is : IsListText options model outcome written
@@ -43,7 +43,7 @@ SaysVerdict budget (Refused line) count v = ⊥
 -- The text that was read says a model, and the written text is a valid list of its solutions, with the verdict that the
 -- outcome tells, and what it says is true: the listed assignments are solutions, none stands twice, and on ALL there
 -- are no others.
-pub record IsListed (options : Options) (text : List ℕ) (outcome : Outcome) (written : List ℕ) : Type 0 where
+pub record IsListed (options : SearchOptions) (text : List ℕ) (outcome : Outcome) (written : List ℕ) : Type 0 where
   pub lists : ListsHeld options text outcome written
   pub verdict : ListVerdict
   pub says : SaysVerdict options.budget outcome (length lists.is.document.solutions) verdict

@@ -11,13 +11,13 @@ ghost use Rattle.bee_compile.specs.Compiled.{IsInstance};
 ghost use Rattle.list_answer.specs.ListAnswer.{IsListOf};
 
 use all_solutions::ListWatcher;
-use decode_minimize::Options;
 use list_answer::list_all;
 use list_text::ListDoc;
 use model_lower::LowerFault;
 use model_meaning::Model;
 use rule_base::Steps;
 use rule_oracle::TableP;
+use search_options::SearchOptions;
 use std::alloc::Global;
 use std::marker::Brand;
 use std::sync::ledger::{Blank, Ledger};
@@ -27,7 +27,7 @@ fn list_with<L: Ledger, W: ListWatcher>(
     alloc: Global,
     blank: Blank,
     model: &Model,
-    options: Options,
+    options: SearchOptions,
     watcher: &mut W,
 ) -> Result<ListDoc, LowerFault>
     requires typed { WellTyped model.now }
@@ -45,10 +45,10 @@ fn list_with<L: Ledger, W: ListWatcher>(
 }
 
 /// The list of all solutions of a model, by all rules.
-pub fn list_model<W: ListWatcher>(
+pub(crate) fn list_model<W: ListWatcher>(
     alloc: Global,
     model: &Model,
-    options: Options,
+    options: SearchOptions,
     watcher: &mut W,
 ) -> Result<ListDoc, LowerFault>
     requires typed { WellTyped model.now }

@@ -23,7 +23,5 @@ mod laws;
 mod making;
 mod mode;
 
-pub use answering::list_model;
 pub use laws::{accepted_law, answer_law};
-pub use making::write_solutions;
 pub use mode::list_solutions;

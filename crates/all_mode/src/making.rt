@@ -12,18 +12,18 @@ ghost use Rattle.all_mode.specs.Listed.{outcome_of, IsListText, IsListed};
 
 use crate::answering::list_model;
 use all_solutions::ListWatcher;
-use decode_minimize::Options;
 use list_text::{write_list, written_law};
 use model_lower::LowerFault;
 use model_meaning::Model;
 use model_texts::{ModelTextFault, lower_fault, model_of};
+use search_options::SearchOptions;
 use search_watcher::Silent;
 use std::alloc::{AllocError, Global};
 use std::cell::RefCell;
 use text_modes::Outcome;
 
 /// What a list says of the run: a search that was given up tells its budget.
-fn outcome_of(complete: bool, options: Options) -> Outcome
+fn outcome_of(complete: bool, options: SearchOptions) -> Outcome
     ensures { result ≡ outcome_of complete options.budget }
 {
     if complete {
@@ -34,10 +34,10 @@ fn outcome_of(complete: bool, options: Options) -> Outcome
 }
 
 /// The text of the list of a model's solutions, with what it says of the run.
-pub fn write_solutions<W: ListWatcher>(
+fn write_solutions<W: ListWatcher>(
     alloc: Global,
     model: &Model,
-    options: Options,
+    options: SearchOptions,
     watcher: &mut W,
 ) -> Result<(Outcome, Vec<u8>), LowerFault>
     requires typed { WellTyped model.now }
@@ -56,7 +56,7 @@ pub fn write_solutions<W: ListWatcher>(
 fn all_text<W: ListWatcher>(
     alloc: Global,
     text: &[u8],
-    options: Options,
+    options: SearchOptions,
     watcher: &mut W,
 ) -> Result<(Outcome, Vec<u8>), ModelTextFault>
     requires short { length text.now ≤ longest_text }
@@ -77,7 +77,7 @@ fn all_text<W: ListWatcher>(
 pub(crate) fn told_text<W: ListWatcher>(
     alloc: Global,
     text: &[u8],
-    options: Options,
+    options: SearchOptions,
     watcher: &RefCell<W>,
 ) -> Result<(Outcome, Vec<u8>), ModelTextFault>
     requires short { length text.now ≤ longest_text }

@@ -7,8 +7,8 @@ ghost use Rattle.all_mode.specs.AllMode.{AllMode};
 use crate::making::told_text;
 use all_solutions::ListWatcher;
 use bee_outside::{Shelf, Sink};
-use decode_minimize::Options;
 use model_texts::{LONGEST_TEXT, ModelFault, ModelTextFault};
+use search_options::SearchOptions;
 use std::alloc::{AllocError, Global};
 use std::cell::RefCell;
 use std::marker::Model;
@@ -17,15 +17,15 @@ use text_modes::{End, Made, OneText, run_one};
 /// The text of a model is read, and that of the list of its solutions is written.
 #[derive(Drop)]
 struct Listing<'a, W: ListWatcher> {
-    options: Options,
+    options: SearchOptions,
     watcher: &'a RefCell<W>,
 }
 
 impl<'a, W: ListWatcher> Model for Listing<'a, W> {
     ghost use Rattle.decode_minimize.specs.Answers.{IsBudget};
-    ghost use Rattle.search_options.specs.declared.options.SearchOptions.{SearchOptions as Options};
+    ghost use Rattle.search_options.specs.declared.options.SearchOptions.{SearchOptions};
 
-    ghost Value = { Options };
+    ghost Value = { SearchOptions };
 
     ghost view = { λ s. s.options };
 
@@ -68,7 +68,7 @@ impl<W: ListWatcher> OneText for Listing<'_, W> {
 pub fn list_solutions<S: Shelf, O: Sink, W: ListWatcher>(
     alloc: Global,
     input: &str,
-    options: Options,
+    options: SearchOptions,
     shelf: &mut S,
     out: &mut O,
     watcher: &RefCell<W>,

@@ -7,12 +7,13 @@ ghost use Rattle.decode_minimize.specs.Answers.{IsBudget};
 
 use answer_document::{Document, Verdict, push_verdict};
 use bumblebee_reader::read_model;
-use decode_minimize::{Options, answer};
+use decode_minimize::answer;
 use fixpoint_queue::Silent;
 use model_lower::LowerFault;
 use model_meaning::{Model, in_limits};
 use rule_base::Steps;
 use rule_oracle::TableP;
+use search_options::SearchOptions;
 use std::alloc::{AllocError, Global};
 use std::marker::Brand;
 use std::sync::ledger::{Blank, Ledger};
@@ -30,7 +31,7 @@ fn answer_with<L: Ledger>(
     alloc: Global,
     blank: Blank,
     model: &Model,
-    options: Options,
+    options: SearchOptions,
     asked: Asked,
 ) -> Result<Document, LowerFault>
     requires typed { WellTyped model.now }
@@ -82,7 +83,7 @@ fn show(alloc: Global, document: &Document) -> Result<Vec<u8>, AllocError> {
 pub(super) fn answered(
     alloc: Global,
     text: &str,
-    options: Options,
+    options: SearchOptions,
     asked: Asked,
 ) -> Result<Vec<u8>, AllocError>
     requires { IsBudget options.budget }

@@ -1,7 +1,7 @@
 //! Models of each goal, and what their answers say.
 
 use crate::answers::{Asked, answered};
-use decode_minimize::Options;
+use search_options::SearchOptions;
 use std::alloc::{AllocError, Global};
 use std::process::Abort;
 
@@ -112,7 +112,7 @@ static BUDGETS: [(&str, u64, bool, &str); 12] = [
 
 /// Asserts the rows.
 fn check(rt: &impl Abort, alloc: Global, asked: Asked, rows: &[Row]) -> Result<(), AllocError> {
-    let options = Options {
+    let options = SearchOptions {
         budget: 1_000_000,
         restart: true,
     };
@@ -137,7 +137,7 @@ fn answers_need_no_equations(rt: HostRuntime) -> Result<(), AllocError> {
 fn budgets_are_spent_or_suffice(rt: HostRuntime) -> Result<(), AllocError> {
     for (model, budget, restart, wanted) in BUDGETS {
         if budget > 0 && budget < 1_000_000 {
-            let options = Options { budget, restart };
+            let options = SearchOptions { budget, restart };
             let found = answered(rt.alloc(), model, options, Asked::AllRules)?;
             assert!(rt; found.as_slice().starts_with(wanted.as_bytes()), "{budget}");
         }

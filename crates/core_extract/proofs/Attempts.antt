@@ -7,7 +7,7 @@ use Rattle.model_meaning.specs.declared.model.Assignment.{Assignment}
 use Rattle.model_meaning.specs.Solutions.{IsSolution}
 use Rattle.model_parts.specs.declared.divided.DividedModel.{DividedModel}
 use Rattle.model_parts.specs.Only.{numbers_of}
-use Rattle.search_options.specs.declared.options.SearchOptions.{SearchOptions as Options}
+use Rattle.search_options.specs.declared.options.SearchOptions.{SearchOptions}
 use Rattle.core_extract.specs.declared.reply.Reply.{Reply}
 use Rattle.core_extract.specs.declared.reduction.Reduction.{Reduction}
 use Rattle.core_extract.specs.declared.reduction.SpentPart.{SpentPart}
@@ -26,7 +26,7 @@ pub anew-as : (a b : DividedModel) (x y : List Bool) → x ≡ y → IsAnew a x 
 anew-as a b x y e h = subst (λ (z : List Bool). IsAnew a z b) e h
 
 -- a reply about a part, by the same marks
-pub reply-as : (told : Core → Equation → Type 0) (options : Options) (m : Model) (x y : List Bool) (r s : Reply) → x ≡ y → r ≡ s → IsReply told (part_of m x) options r → IsReply told (part_of m y) options s
+pub reply-as : (told : Core → Equation → Type 0) (options : SearchOptions) (m : Model) (x y : List Bool) (r s : Reply) → x ≡ y → r ≡ s → IsReply told (part_of m x) options r → IsReply told (part_of m y) options s
 reply-as told options m x y r s e f h =
     subst (λ (z : List Bool). IsReply told (part_of m z) options s) e (subst (IsReply told (part_of m x) options) f h)
 
@@ -35,7 +35,7 @@ pub numbers-as : (old d : DividedModel) (out : List Bool) (ns : List ℕ) → Is
 numbers-as old d out ns h e = e ∙ ap (λ (m : Model). numbers_of m.stmts) (anew-part old d out h)
 
 -- a part by other marks, which was refuted
-pub reduced-anew : (told : Core → Equation → Type 0) (options : Options) (old : DividedModel) (r : Reduction) (out : List Bool) → IsAnew old out r.model → r.out.items ≡ out
+pub reduced-anew : (told : Core → Equation → Type 0) (options : SearchOptions) (old : DividedModel) (r : Reduction) (out : List Bool) → IsAnew old out r.model → r.out.items ≡ out
     → IsRefutation told (part_of (whole_of old) out) options r.certificate → IsReduced told options r
 reduced-anew told options old r out h e shown = record {
   fit = h.fit;
@@ -45,7 +45,7 @@ reduced-anew told options old r out h e shown = record {
       (subst (λ (o : List Bool). IsRefutation told (part_of (whole_of old) o) options r.certificate) (sym e) shown);
 }
 
-module _ (told : Core → Equation → Type 0) (options : Options) (old : Reduction) where
+module _ (told : Core → Equation → Type 0) (options : SearchOptions) (old : Reduction) where
   pub smaller : (r : Reduction) (out : List Bool) → IsAnew old.model out r.model → r.out.items ≡ out → IsRefutation told (part_of (whole_of old.model) out) options r.certificate → IsAttempt told options old out (attempt.Smaller r)
   smaller r out h e shown = (reduced-anew told options old.model r out h e shown, h.whole, e)
 
@@ -64,11 +64,11 @@ module _ (told : Core → Equation → Type 0) (options : Options) (old : Reduct
   spent r s out is h e same numbers given = (stays r is h e same, h.whole, e, record { out = out; numbers = numbers; given_up = given })
 
 -- what was chosen, at a value that is known
-pub choice-as : (told : Core → Equation → Type 0) (options : Options) (old : Reduction) (a b : Choice) → a ≡ b → IsChoice told options old a → IsChoice told options old b
+pub choice-as : (told : Core → Equation → Type 0) (options : SearchOptions) (old : Reduction) (a b : Choice) → a ≡ b → IsChoice told options old a → IsChoice told options old b
 choice-as told options old a b e h = subst (IsChoice told options old) e h
 
-pub trimming-as : (told : Core → Equation → Type 0) (options : Options) (old : Reduction) (a b : Trimming) → a ≡ b → IsTrimming told options old a → IsTrimming told options old b
+pub trimming-as : (told : Core → Equation → Type 0) (options : SearchOptions) (old : Reduction) (a b : Trimming) → a ≡ b → IsTrimming told options old a → IsTrimming told options old b
 trimming-as told options old a b e h = subst (IsTrimming told options old) e h
 
-pub leaving-as : (told : Core → Equation → Type 0) (options : Options) (old : Reduction) (a b : Leaving) → a ≡ b → IsLeaving told options old a → IsLeaving told options old b
+pub leaving-as : (told : Core → Equation → Type 0) (options : SearchOptions) (old : Reduction) (a b : Leaving) → a ≡ b → IsLeaving told options old a → IsLeaving told options old b
 leaving-as told options old a b e h = subst (IsLeaving told options old) e h

@@ -27,7 +27,7 @@ use Rattle.answer_document.specs.declared.verdict.Verdict.{Verdict}
 use Rattle.answer_document.specs.declared.verdict.Verdict.TheVariants as verdict
 use Rattle.answer_document.specs.declared.document.Document.{Document}
 use Rattle.answer_document.specs.Valid.{start_of, IsDerived, IsCertified, IsReadableDocument, AreReadableSteps, AreReadableLines, AreAddedAlone}
-use Rattle.search_options.specs.declared.options.SearchOptions.{SearchOptions as Options}
+use Rattle.search_options.specs.declared.options.SearchOptions.{SearchOptions}
 use Rattle.decode_minimize.specs.Answers.{IsBudget}
 use Rattle.core_text.specs.declared.verdict.CoreVerdict.TheVariants.{Core as CoreOf, Unknown}
 use Rattle.core_text.specs.declared.document.CoreDocument.{CoreDocument}
@@ -118,7 +118,7 @@ found-whole p (n ∷ ns) [] h = absurd h
 found-whole p (n ∷ ns) (a ∷ given) h = (domains-length p.decls a.values h.0.in_domains, found-whole p ns given h.1)
 
 -- What was answered about a part shows what its document says.
-module _ (told : Core → Equation → Type 0) (model : Model) (options : Options) (d : CoreDocument) (part : ArePart model 0 d.statements) where
+module _ (told : Core → Equation → Type 0) (model : Model) (options : SearchOptions) (d : CoreDocument) (part : ArePart model 0 d.statements) where
   module _ (v : Verdict) (h : IsAnswered told (only model d.statements) options d.ledger d.proof v) where
     certified : IsCertified (only model d.statements) h.document v
     certified =
@@ -153,7 +153,7 @@ module _ (told : Core → Equation → Type 0) (model : Model) (options : Option
       let c = certified (verdict.Unknown n None) h in
       (shown (verdict.Unknown n None) h c.0, alone c.0.proof n h.document.second c.1)
 
-module _ (told : Core → Equation → Type 0) (model : Model) (options : Options) (typed : WellTyped model) where
+module _ (told : Core → Equation → Type 0) (model : Model) (options : SearchOptions) (typed : WellTyped model) where
   -- a core
   pub core-extracted : (d : CoreDocument) (out : List Bool) (k : ℕ) → d.verdict ≡ CoreOf k → k < 2 ^ 64 → length d.statements ≡ k → d.statements ≡ numbers_of (kept_of out model.stmts)
       → IsAnswered told (part_of model out) options d.ledger d.proof verdict.Unsatisfiable → AreFound (part_of model out) d.statements d.assignments → IsExtracted told model options d
@@ -190,7 +190,7 @@ module _ (told : Core → Equation → Type 0) (model : Model) (options : Option
       }
 
 -- what is extracted from each model that a whole one is but for its goal
-pub core-from : (told : Core → Equation → Type 0) (whole : Model) (options : Options) (e : ExtractedCore) (out : List Bool) (k : ℕ) → e.document.verdict ≡ CoreOf k → k < 2 ^ 64
+pub core-from : (told : Core → Equation → Type 0) (whole : Model) (options : SearchOptions) (e : ExtractedCore) (out : List Bool) (k : ℕ) → e.document.verdict ≡ CoreOf k → k < 2 ^ 64
     → length e.document.statements ≡ k → e.document.statements ≡ numbers_of (kept_of out whole.stmts)
     → IsAnswered told (part_of whole out) options e.document.ledger e.document.proof verdict.Unsatisfiable → AreFound (part_of whole out) e.document.statements e.document.assignments
     → e.decls ≡ whole.decls → ExtractsFrom told whole options e
@@ -203,7 +203,7 @@ core-from told whole options e out k is small count numbers refuted found decls 
       decls ∙ ap (λ (w : Model). w.decls) same,
     )
 
-pub spent-from : (told : Core → Equation → Type 0) (whole : Model) (options : Options) (e : ExtractedCore) (s : SpentPart) → IsBudget options.budget → e.document ≡ spent_document options.budget s
+pub spent-from : (told : Core → Equation → Type 0) (whole : Model) (options : SearchOptions) (e : ExtractedCore) (s : SpentPart) → IsBudget options.budget → e.document ≡ spent_document options.budget s
     → IsSpentPart told whole options s → e.decls ≡ whole.decls → ExtractsFrom told whole options e
 spent-from told whole options e s budget is h decls model typed same = (
   subst (IsExtracted told model options) (sym is)
@@ -218,7 +218,7 @@ kept-all zero ss = refl
 kept-all (suc n) [] = refl
 kept-all (suc n) (s ∷ ss) = ap (λ (ts : List Stmt). s ∷ ts) (kept-all n ss)
 
-pub solution-from : (told : Core → Equation → Type 0) (whole : Model) (options : Options) (e : ExtractedCore) (a : Assignment) (n : ℕ) → e.document ≡ solution_document a
+pub solution-from : (told : Core → Equation → Type 0) (whole : Model) (options : SearchOptions) (e : ExtractedCore) (a : Assignment) (n : ℕ) → e.document ≡ solution_document a
     → IsSolution (part_of whole (replicate n false)) a.values → e.decls ≡ whole.decls → ExtractsFrom told whole options e
 solution-from told whole options e a n is h decls model typed same =
     let here : IsSolution (part_of model (replicate n false)) a.values = subst (λ (w : Model). IsSolution (part_of w (replicate n false)) a.values) same h in
@@ -233,7 +233,7 @@ solution-from told whole options e a n is h decls model typed same =
     )
 
 -- the core that the last pass comes to
-pub core-of : (told : Core → Equation → Type 0) (options : Options) (p : Progress) (e : ExtractedCore) (ns : List ℕ) → IsProgress told options (length p.reduction.out.items) p
+pub core-of : (told : Core → Equation → Type 0) (options : SearchOptions) (p : Progress) (e : ExtractedCore) (ns : List ℕ) → IsProgress told options (length p.reduction.out.items) p
     → length p.reduction.out.items ≡ length (numbers_of (whole_of p.reduction.model).stmts) → ns ≡ numbers_of p.reduction.model.part.stmts → length ns < 2 ^ 64
     → e.document ≡ core_document ns p.reduction.certificate p.given.items
     → e.decls ≡ p.reduction.model.part.decls → ExtractsFrom told (whole_of p.reduction.model) options e
@@ -249,25 +249,25 @@ core-of told options p e ns is count numbers small document decls =
     (subst (λ (d : CoreDocument). IsAnswered told (part_of whole out) options d.ledger d.proof verdict.Unsatisfiable) (sym document) is.reduced.refutation)
     (subst (λ (d : CoreDocument). AreFound (part_of whole out) d.statements d.assignments) (sym document) found) decls
 
-pub extracts-as : (told : Core → Equation → Type 0) (options : Options) (a b : Model) (r : Result ExtractedCore AllocError) → a ≡ b → IfOk r (ExtractsFrom told a options) → IfOk r (ExtractsFrom told b options)
+pub extracts-as : (told : Core → Equation → Type 0) (options : SearchOptions) (a b : Model) (r : Result ExtractedCore AllocError) → a ≡ b → IfOk r (ExtractsFrom told a options) → IfOk r (ExtractsFrom told b options)
 extracts-as told options a b r e h = subst (λ (w : Model). IfOk r (ExtractsFrom told w options)) e h
 
-pub extracted-as : (told : Core → Equation → Type 0) (options : Options) (a b : Model) (e : ExtractedCore) → a ≡ b → ExtractsFrom told a options e → ExtractsFrom told b options e
+pub extracted-as : (told : Core → Equation → Type 0) (options : SearchOptions) (a b : Model) (e : ExtractedCore) → a ≡ b → ExtractsFrom told a options e → ExtractsFrom told b options e
 extracted-as told options a b e same h = subst (λ (w : Model). ExtractsFrom told w options e) same h
 
 -- for the model itself
-pub extracted-from : (told : Core → Equation → Type 0) (options : Options) (model : Model) (whole : Model) (r : Result ExtractedCore AllocError) → WellTyped model → whole ≡ satisfying model
+pub extracted-from : (told : Core → Equation → Type 0) (options : SearchOptions) (model : Model) (whole : Model) (r : Result ExtractedCore AllocError) → WellTyped model → whole ≡ satisfying model
     → IfOk r (ExtractsFrom told whole options) → IfOk r (IsExtractedFrom told model options)
 extracted-from told options model whole (Err e) typed same h = tt
 extracted-from told options model whole (Ok e) typed same h = h model typed same
 
-pub solved-light : (told : Core → Equation → Type 0) (options : Options) (model whole : Model) (r : Result ExtractedCore AllocError) (a : Assignment) (n : ℕ) → WellTyped model → whole ≡ satisfying model
+pub solved-light : (told : Core → Equation → Type 0) (options : SearchOptions) (model whole : Model) (r : Result ExtractedCore AllocError) (a : Assignment) (n : ℕ) → WellTyped model → whole ≡ satisfying model
     → IsSolution (part_of whole (replicate n false)) a.values → IfOk r (λ e. e.document ≡ solution_document a) → IfOk r (λ e. e.decls ≡ whole.decls) → IfOk r (IsExtractedFrom told model options)
 solved-light told options model whole (Err e) a n typed same h document decls = tt
 solved-light told options model whole (Ok e) a n typed same h document decls = solution-from told whole options e a n document h decls model typed same
 
 -- the whole model, of which it is open whether it has a solution
-pub spent-whole : (told : Core → Equation → Type 0) (options : Options) (whole : Model) (s : SpentPart) (n : ℕ) → s.statements ≡ numbers_of whole.stmts
+pub spent-whole : (told : Core → Equation → Type 0) (options : SearchOptions) (whole : Model) (s : SpentPart) (n : ℕ) → s.statements ≡ numbers_of whole.stmts
     → IsGivenUp told (part_of whole (replicate n false)) options s.certificate → IsSpentPart told whole options s
 spent-whole told options whole s n numbers given = record {
   out = replicate n false;
@@ -276,7 +276,7 @@ spent-whole told options whole s n numbers given = record {
 }
 
 -- the same of the first question, whose marks are all unset
-module _ (told : Core → Equation → Type 0) (options : Options) (model : Model) (d new : DividedModel) (marks : List Bool) (n : ℕ) (anew : IsAnew d marks new) (unset : marks ≡ replicate n false)
+module _ (told : Core → Equation → Type 0) (options : SearchOptions) (model : Model) (d new : DividedModel) (marks : List Bool) (n : ℕ) (anew : IsAnew d marks new) (unset : marks ≡ replicate n false)
     (same : whole_of d ≡ satisfying model) where
   pub first-whole : whole_of new ≡ satisfying model
   first-whole = anew.whole ∙ same

@@ -12,11 +12,11 @@ use Rattle.answer_document.specs.declared.verdict.Verdict.TheVariants.{Satisfiab
 use Rattle.answer_document.specs.declared.document.Document.{Document}
 use Rattle.answer_document.specs.Verdicts.{VerdictFits}
 use Rattle.answer_document.specs.Valid.{numbers_given, AnswerHolds}
-use Rattle.search_options.specs.declared.options.SearchOptions.{SearchOptions as Options}
+use Rattle.search_options.specs.declared.options.SearchOptions.{SearchOptions}
 use Rattle.decode_minimize.specs.Answers.{IsAnswer, IsSpent, all_additions}
 use Rattle.core_extract.specs.Extracted.{IsAnswered, IsReply, certificate_of, reply_with, reply_of}
 
-module _ (told : Core → Equation → Type 0) (model : Model) (options : Options) (d : Document) (before after : ℕ) (is : IsAnswer told model options d before after) where
+module _ (told : Core → Equation → Type 0) (model : Model) (options : SearchOptions) (d : Document) (before after : ℕ) (is : IsAnswer told model options d before after) where
   answered : (v : Verdict) → d.verdict ≡ v → IsAnswered told model options d.ledger d.proof v
   answered v e = record { document = d; before = before; after = after; is = is; verdict = e; ledger_is = refl; proof_is = refl }
 

@@ -8,7 +8,7 @@ use Rattle.model_meaning.specs.declared.model.Model.{Model}
 use Rattle.model_meaning.specs.declared.model.Assignment.{Assignment}
 use Rattle.model_meaning.specs.Solutions.{IsSolution}
 use Rattle.model_parts.specs.Only.{numbers_of}
-use Rattle.search_options.specs.declared.options.SearchOptions.{SearchOptions as Options}
+use Rattle.search_options.specs.declared.options.SearchOptions.{SearchOptions}
 use Rattle.core_extract.specs.declared.reduction.Reduction.{Reduction}
 use Rattle.core_extract.specs.declared.reduction.SpentPart.{SpentPart}
 use Rattle.core_extract.specs.declared.reduction.Attempt.{Attempt}
@@ -21,10 +21,10 @@ use Rattle.core_extract.specs.Parts.{whole_of, part_of, MeetsOthers, AreFound, n
 use Rattle.core_extract.specs.Extracted.{IsReduced, IsSameModel, IsSpentPart, IsAttempt, IsChoice, IsProgress, GoesOn, IsTurn}
 use Rattle.core_extract.proofs.Marks.{found-fewer, found-more, solved-meets, before-set, before-out, before-kept}
 
-pub attempt-as : (told : Core → Equation → Type 0) (options : Options) (old : Reduction) (out : List Bool) (a b : Attempt) → a ≡ b → IsAttempt told options old out a → IsAttempt told options old out b
+pub attempt-as : (told : Core → Equation → Type 0) (options : SearchOptions) (old : Reduction) (out : List Bool) (a b : Attempt) → a ≡ b → IsAttempt told options old out a → IsAttempt told options old out b
 attempt-as told options old out a b e h = subst (IsAttempt told options old out) e h
 
-pub turn-as : (told : Core → Equation → Type 0) (options : Options) (place : ℕ) (old : Reduction) (a b : Turn) → a ≡ b → GoesOn told options place old a → GoesOn told options place old b
+pub turn-as : (told : Core → Equation → Type 0) (options : SearchOptions) (place : ℕ) (old : Reduction) (a b : Turn) → a ≡ b → GoesOn told options place old a → GoesOn told options place old b
 turn-as told options place old a b e h = subst (GoesOn told options place old) e h
 
 pub meets-as : (p q : Model) (m n : ℕ) (a : Assignment) → p ≡ q → m ≡ n → MeetsOthers p m a → MeetsOthers q n a
@@ -34,10 +34,10 @@ pub same-behind : (a b c : Reduction) → IsSameModel a b → IsSameModel b c �
 same-behind a b c h k = record { whole = k.whole ∙ h.whole; count = k.count ∙ h.count }
 
 -- a search that was given up, of another part of the same model
-pub spent-of : (told : Core → Equation → Type 0) (options : Options) (a b : Model) (s : SpentPart) → a ≡ b → IsSpentPart told a options s → IsSpentPart told b options s
+pub spent-of : (told : Core → Equation → Type 0) (options : SearchOptions) (a b : Model) (s : SpentPart) → a ≡ b → IsSpentPart told a options s → IsSpentPart told b options s
 spent-of told options a b s e h = subst (λ (m : Model). IsSpentPart told m options s) e h
 
-pub choice-behind : (told : Core → Equation → Type 0) (options : Options) (a b : Reduction) (c : Choice) → IsSameModel a b → IsChoice told options b c → IsChoice told options a c
+pub choice-behind : (told : Core → Equation → Type 0) (options : SearchOptions) (a b : Reduction) (c : Choice) → IsSameModel a b → IsChoice told options b c → IsChoice told options a c
 choice-behind told options a b (choice.Part r) same h = (h.0, same-behind a b r same h.1)
 choice-behind told options a b (choice.Spent r s) same h = (spent-of told options (whole_of b.model) (whole_of a.model) s same.whole h.0, h.1 ∙ same.whole)
 
@@ -52,7 +52,7 @@ found-at i m n o q gs hs e f h is =
     (subst (λ (x : List Bool). AreFound (part_of n x) (numbers_before i x n.stmts) gs) (sym f)
     (subst (λ (x : List Assignment). AreFound (part_of n q) (numbers_before i q n.stmts) x) (sym h) is))
 
-module _ (told : Core → Equation → Type 0) (options : Options) (place : ℕ) (old : Progress) (is : IsProgress told options place old) (below : place < length old.reduction.out.items) where
+module _ (told : Core → Equation → Type 0) (options : SearchOptions) (place : ℕ) (old : Progress) (is : IsProgress told options place old) (below : place < length old.reduction.out.items) where
   abbrev pub whole : Model
   whole = whole_of old.reduction.model
 

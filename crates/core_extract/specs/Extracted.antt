@@ -16,7 +16,7 @@ use Rattle.model_parts.specs.CoreWeight.{core_weight}
 use Rattle.answer_document.specs.declared.verdict.Verdict.{Verdict}
 use Rattle.answer_document.specs.declared.verdict.Verdict.TheVariants as verdict
 use Rattle.answer_document.specs.declared.document.Document.{Document}
-use Rattle.search_options.specs.declared.options.SearchOptions.{SearchOptions as Options}
+use Rattle.search_options.specs.declared.options.SearchOptions.{SearchOptions}
 use Rattle.decode_minimize.specs.Answers.{IsAnswer}
 use Rattle.core_text.specs.declared.verdict.CoreVerdict.{CoreVerdict}
 use Rattle.core_text.specs.declared.verdict.CoreVerdict.TheVariants as core
@@ -42,7 +42,7 @@ use Rattle.core_extract.specs.declared.extracting.ExtractedCore.{ExtractedCore}
 use Rattle.core_extract.specs.Parts.{satisfying, whole_of, part_of, IsFit, AreFound, numbers_before}
 
 -- ledger and derivation are those of an answer to a model, with this verdict
-pub record IsAnswered (told : Core → Equation → Type 0) (model : Model) (options : Options) (ledger : List Line)
+pub record IsAnswered (told : Core → Equation → Type 0) (model : Model) (options : SearchOptions) (ledger : List Line)
     (proof : List ProofLine) (v : Verdict) : Type 0 where
   pub document : Document
   pub before : ℕ
@@ -53,13 +53,13 @@ pub record IsAnswered (told : Core → Equation → Type 0) (model : Model) (opt
   pub proof_is : document.proof ≡ proof
 
 -- it has no solution; or the search was given up, and the budget is spent
-abbrev pub IsRefutation : (Core → Equation → Type 0) → Model → Options → Certificate → Type 0
+abbrev pub IsRefutation : (Core → Equation → Type 0) → Model → SearchOptions → Certificate → Type 0
 IsRefutation told model options c = IsAnswered told model options c.ledger c.proof verdict.Unsatisfiable
 
-abbrev pub IsGivenUp : (Core → Equation → Type 0) → Model → Options → Certificate → Type 0
+abbrev pub IsGivenUp : (Core → Equation → Type 0) → Model → SearchOptions → Certificate → Type 0
 IsGivenUp told model options c = IsAnswered told model options c.ledger c.proof (verdict.Unknown options.budget None)
 
-abbrev pub IsReply : (Core → Equation → Type 0) → Model → Options → Reply → Type 0
+abbrev pub IsReply : (Core → Equation → Type 0) → Model → SearchOptions → Reply → Type 0
 IsReply told model options (Solved a) = IsSolution model a.values × (length model.decls ≡ length a.values)
 IsReply told model options (Refuted c) = IsRefutation told model options c
 IsReply told model options (Spent c) = IsGivenUp told model options c
@@ -80,7 +80,7 @@ abbrev pub reply_of : Document → Reply
 reply_of d = reply_with (certificate_of d) d.verdict d.assignment
 
 -- a part that has no solution
-pub record IsReduced (told : Core → Equation → Type 0) (options : Options) (r : Reduction) : Type 0 where
+pub record IsReduced (told : Core → Equation → Type 0) (options : SearchOptions) (r : Reduction) : Type 0 where
   pub fit : IsFit r.model
   pub out : r.model.out.items ≡ r.out.items
   pub refutation : IsRefutation told (part_of (whole_of r.model) r.out.items) options r.certificate
@@ -91,14 +91,14 @@ pub record IsSameModel (old new : Reduction) : Type 0 where
   pub count : length new.out.items ≡ length old.out.items
 
 -- the search for a part of a model was given up
-pub record IsSpentPart (told : Core → Equation → Type 0) (model : Model) (options : Options) (s : SpentPart)
+pub record IsSpentPart (told : Core → Equation → Type 0) (model : Model) (options : SearchOptions) (s : SpentPart)
     : Type 0 where
   pub out : List Bool
   pub numbers : s.statements ≡ numbers_of (part_of model out).stmts
   pub given_up : IsGivenUp told (part_of model out) options s.certificate
 
 -- another part was asked of: it has no solution, and takes the place of the one before; or this one stays
-abbrev pub IsAttempt : (Core → Equation → Type 0) → Options → Reduction → List Bool → Attempt → Type 0
+abbrev pub IsAttempt : (Core → Equation → Type 0) → SearchOptions → Reduction → List Bool → Attempt → Type 0
 IsAttempt told options old out (attempt.Smaller r) =
     IsReduced told options r × (whole_of r.model ≡ whole_of old.model) × (r.out.items ≡ out)
 IsAttempt told options old out (attempt.Solved r a) =
@@ -109,45 +109,45 @@ IsAttempt told options old out (attempt.Spent r s) =
     × IsSpentPart told (whole_of old.model) options s
 
 -- another part of the same model was chosen; or the search was given up
-abbrev pub IsChoice : (Core → Equation → Type 0) → Options → Reduction → Choice → Type 0
+abbrev pub IsChoice : (Core → Equation → Type 0) → SearchOptions → Reduction → Choice → Type 0
 IsChoice told options old (choice.Part r) = IsReduced told options r × IsSameModel old r
 IsChoice told options old (choice.Spent r s) =
     IsSpentPart told (whole_of old.model) options s × (whole_of r.model ≡ whole_of old.model)
 
 -- it goes on with a part of the same model
-abbrev pub IsTrimming : (Core → Equation → Type 0) → Options → Reduction → Trimming → Type 0
+abbrev pub IsTrimming : (Core → Equation → Type 0) → SearchOptions → Reduction → Trimming → Type 0
 IsTrimming told options old (trimming.Smaller r) = IsReduced told options r × IsSameModel old r
 IsTrimming told options old (trimming.Ended r) = IsReduced told options r × IsSameModel old r
 
-abbrev pub IsLeaving : (Core → Equation → Type 0) → Options → Reduction → Leaving → Type 0
+abbrev pub IsLeaving : (Core → Equation → Type 0) → SearchOptions → Reduction → Leaving → Type 0
 IsLeaving told options old (leaving.Next r size) = IsReduced told options r × IsSameModel old r
 IsLeaving told options old (leaving.Done r) = IsReduced told options r × IsSameModel old r
 IsLeaving told options old (leaving.Spent r s) =
     IsSpentPart told (whole_of old.model) options s × (whole_of r.model ≡ whole_of old.model)
 
 -- among so many statements at the front, each that is kept has an assignment that meets the others
-pub record IsProgress (told : Core → Equation → Type 0) (options : Options) (place : ℕ) (p : Progress) : Type 0 where
+pub record IsProgress (told : Core → Equation → Type 0) (options : SearchOptions) (place : ℕ) (p : Progress) : Type 0 where
   pub reduced : IsReduced told options p.reduction
   pub found : AreFound (part_of (whole_of p.reduction.model) p.reduction.out.items)
       (numbers_before place p.reduction.out.items (whole_of p.reduction.model).stmts) p.given.items
 
 -- it goes on with the same model; or the search was given up
-abbrev pub GoesOn : (Core → Equation → Type 0) → Options → ℕ → Reduction → Turn → Type 0
+abbrev pub GoesOn : (Core → Equation → Type 0) → SearchOptions → ℕ → Reduction → Turn → Type 0
 GoesOn told options place old (turn.Next p) = IsProgress told options place p × IsSameModel old p.reduction
 GoesOn told options place old (turn.Spent r s) =
     IsSpentPart told (whole_of old.model) options s × (whole_of r.model ≡ whole_of old.model)
 
-abbrev pub IsTurn : (Core → Equation → Type 0) → Options → ℕ → Progress → Turn → Type 0
+abbrev pub IsTurn : (Core → Equation → Type 0) → SearchOptions → ℕ → Progress → Turn → Type 0
 IsTurn told options place old t = GoesOn told options place old.reduction t
 
 -- all statements were looked at
-abbrev pub IsSettled : (Core → Equation → Type 0) → Options → Reduction → Turn → Type 0
+abbrev pub IsSettled : (Core → Equation → Type 0) → SearchOptions → Reduction → Turn → Type 0
 IsSettled told options old t = GoesOn told options (length old.out.items) old t
 
 -- where ledger and derivation come from: an answer to the model with the statements of the part. Where that was given
 -- up, the budget is the verdict's number, and so many clauses were added; it never is where the budget is as great as
 -- what the answer's `enough` says.
-abbrev pub CertificateComes : (Core → Equation → Type 0) → Model → Options → CoreDocument → CoreVerdict → Type 0
+abbrev pub CertificateComes : (Core → Equation → Type 0) → Model → SearchOptions → CoreDocument → CoreVerdict → Type 0
 CertificateComes told model options d core.Satisfiable = Unit {0}
 CertificateComes told model options d (core.Core k) =
     IsAnswered told (only model d.statements) options d.ledger d.proof verdict.Unsatisfiable
@@ -155,18 +155,18 @@ CertificateComes told model options d (core.Unknown n) = (n ≡ options.budget)
     × IsAnswered told (only model d.statements) options d.ledger d.proof (verdict.Unknown n None)
 
 -- what is extracted: the document of a solution, a core, or a search that was given up, which can be written
-pub record IsExtracted (told : Core → Equation → Type 0) (model : Model) (options : Options) (d : CoreDocument)
+pub record IsExtracted (told : Core → Equation → Type 0) (model : Model) (options : SearchOptions) (d : CoreDocument)
     : Type 0 where
   pub document : IsCoreDocument model d
   pub whole : AreWhole model.decls d.assignments
   pub certificate : CertificateComes told model options d d.verdict
 
 -- with the declarations of the model
-abbrev pub IsExtractedFrom : (Core → Equation → Type 0) → Model → Options → ExtractedCore → Type 0
+abbrev pub IsExtractedFrom : (Core → Equation → Type 0) → Model → SearchOptions → ExtractedCore → Type 0
 IsExtractedFrom told model options e = IsExtracted told model options e.document × (e.decls ≡ model.decls)
 
 -- the same of each well typed model that this one is but for its goal
-abbrev pub ExtractsFrom : (Core → Equation → Type 0) → Model → Options → ExtractedCore → Type 0
+abbrev pub ExtractsFrom : (Core → Equation → Type 0) → Model → SearchOptions → ExtractedCore → Type 0
 ExtractsFrom told whole options e = (model : Model) → WellTyped model → whole ≡ satisfying model
     → IsExtractedFrom told model options e
 

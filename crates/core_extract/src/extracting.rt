@@ -21,18 +21,15 @@ use crate::watching::CoreWatcher;
 use crate::witnesses::Witnesses;
 use bee_list::Sequence;
 use core_text::{CoreDocument, CoreVerdict};
-use decode_minimize::Options;
 use fixpoint_queue::Oracle;
 use model_lower::LowerFault;
 use model_meaning::{Assignment, Decl, Model};
-use model_parts::{DividedModel, core_weight};
+use model_parts::{DividedModel, weight_above};
 use rule_base::Steps;
+use search_options::SearchOptions;
 use std::alloc::{AllocError, Global};
 use std::cell::{Cell, RefCell};
 use std::sync::ledger::Ledger;
-
-/// The greatest weight of a model whose parts are asked about.
-const MOST_WEIGHT: u128 = 67_108_864;
 
 /// What is extracted from a model that was used up, and the model's declarations.
 #[derive(Drop)]
@@ -45,21 +42,16 @@ pub struct ExtractedCore {
     pub questions: u64,
 }
 
-/// Tells a model of which a part may weigh too much. Of a weight past 128 bits, which a model has that has 2^45
-/// declarations, statements and members at least, there is no number to tell, and memory is wanting.
+/// Tells a model of which a part may weigh too much.
 fn weigh_parts(alloc: Global, model: &Model) -> Result<(), LowerFault>
     requires { InLimits model.now }
     ensures light { IfOk result (λ u. core_weight model.now ≤ most_weight) }
     ensures heavy { IfErr result (λ e. IsFaultOf e model.now) }
 {
-    let weight = core_weight(alloc, model)?;
-    if weight == u128::MAX {
-        return Err(LowerFault::Memory);
+    match weight_above(alloc, model)? {
+        None => Ok(()),
+        Some(weight) => Err(LowerFault::TooHeavy(weight)),
     }
-    if weight > MOST_WEIGHT {
-        return Err(LowerFault::TooHeavy(weight));
-    }
-    Ok(())
 }
 
 /// The document of a solution.
@@ -271,7 +263,7 @@ fn extract_light<F: Oracle<L>, L: Ledger, W: CoreWatcher>(
 pub fn extract<F: Oracle<L>, L: Ledger, W: CoreWatcher>(
     alloc: Global,
     model: Model,
-    options: Options,
+    options: SearchOptions,
     oracle: F,
     steps: &mut Steps<L>,
     watcher: &RefCell<W>,

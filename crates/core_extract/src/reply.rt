@@ -10,13 +10,14 @@ ghost use Rattle.core_extract.specs.Extracted.{reply_of, IsReply};
 use crate::watching::{CoreWatcher, Overheard};
 use answer_document::{Document, Verdict};
 use bee_list::Sequence;
-use decode_minimize::{Options, answer_watched};
+use decode_minimize::answer_watched;
 use fixpoint_queue::Oracle;
 use ledger_text::Line;
 use model_lower::LowerFault;
 use model_meaning::{Assignment, Model};
 use proof_check::ProofLine;
 use rule_base::Steps;
+use search_options::SearchOptions;
 use search_watcher::Silent;
 use std::alloc::{AllocError, Global};
 use std::cell::{Cell, RefCell};
@@ -28,7 +29,7 @@ pub(crate) struct Asker<'a, F, W: CoreWatcher> {
     /// Where memory is taken.
     pub(crate) alloc: Global,
     /// The budget of each search, and whether it is begun anew from time to time.
-    pub(crate) options: Options,
+    pub(crate) options: SearchOptions,
     /// What tells equations.
     pub(crate) oracle: F,
     /// How many questions were asked.

@@ -29,16 +29,6 @@ fn only_broken(part: &Model, a: &Assignment) -> Option<u64>
     }
 }
 
-/// The place of a number.
-fn place_of(numbers: &[u64], number: u64) -> Option<usize> {
-    for place in 0..numbers.len() {
-        if numbers[place] == number {
-            return Some(place);
-        }
-    }
-    None
-}
-
 /// The names of the statement of a number.
 fn names_at(alloc: Global, part: &Model, number: u64) -> Result<Vec<usize>, AllocError> {
     for stmt in part.stmts.as_slice() {
@@ -50,16 +40,19 @@ fn names_at(alloc: Global, part: &Model, number: u64) -> Result<Vec<usize>, Allo
 }
 
 /// An assignment with another value for a name.
-fn changed(
-    alloc: Global,
-    a: &Assignment,
-    name: usize,
-    value: i64,
-) -> Result<Assignment, AllocError> {
-    let mut values = Vec::from_slice(alloc, a.values.as_slice())?;
+fn changed(a: Assignment, name: usize, value: i64) -> Assignment {
+    let mut values = a.values.into_vec();
     if name < values.len() {
         values[name] = value;
     }
+    Assignment {
+        values: Sequence::from_vec(values),
+    }
+}
+
+/// An assignment that equals another one.
+fn copied(alloc: Global, a: &Assignment) -> Result<Assignment, AllocError> {
+    let values = Vec::from_slice(alloc, a.values.as_slice())?;
     Ok(Assignment {
         values: Sequence::from_vec(values),
     })
@@ -72,58 +65,55 @@ struct Rotation<'a> {
     waiting: Vec<(u64, Assignment)>,
 }
 
-/// Keeps an assignment that breaks a single statement, where none is known for it yet.
+/// Keeps copies of an assignment that breaks a single statement, where none is known for it yet. The numbers ascend.
 fn keep_new(
     alloc: Global,
     part: &Model,
     rotation: &mut Rotation<'_>,
     witnesses: &mut Witnesses,
-    a: Assignment,
+    a: &Assignment,
 ) -> Result<bool, AllocError>
     requires { InLimits part.now }
 {
-    let Some(number) = only_broken(part, &a) else {
+    let Some(number) = only_broken(part, a) else {
         return Ok(false);
     };
-    let Some(place) = place_of(rotation.numbers, number) else {
+    let Ok(place) = rotation.numbers.binary_search(&number) else {
         return Ok(false);
     };
     if witnesses.has(place) {
         return Ok(false);
     }
-    let again = Vec::from_slice(alloc, a.values.as_slice())?;
-    let copy = Assignment {
-        values: Sequence::from_vec(again),
-    };
-    rotation.waiting.push((number, copy))?;
-    witnesses.put(place, a);
+    rotation.waiting.push((number, copied(alloc, a)?))?;
+    witnesses.put(place, copied(alloc, a)?);
     Ok(true)
 }
 
-/// Tries other values for a name.
+/// Tries other values for a name, and gives the assignment back.
 fn try_name(
     alloc: Global,
     part: &Model,
     rotation: &mut Rotation<'_>,
     witnesses: &mut Witnesses,
-    a: &Assignment,
+    a: Assignment,
     name: usize,
-) -> Result<(), AllocError>
+) -> Result<Assignment, AllocError>
     requires { InLimits part.now }
 {
     let (Some(decl), Some(now)) = (
         part.decls.as_slice().get(name),
-        a.values.as_slice().get(name),
+        a.values.as_slice().get(name).copied(),
     ) else {
-        return Ok(());
+        return Ok(a);
     };
+    let mut tried = a;
     for turn in 0..MOST_VALUES {
-        if let Some(value) = value_at(&decl.kind, *now, turn) {
-            let other = changed(alloc, a, name, value)?;
-            let _kept = keep_new(alloc, part, rotation, witnesses, other)?;
+        if let Some(value) = value_at(&decl.kind, now, turn) {
+            tried = changed(tried, name, value);
+            let _kept = keep_new(alloc, part, rotation, witnesses, &tried)?;
         }
     }
-    Ok(())
+    Ok(changed(tried, name, now))
 }
 
 /// Tries the names of the statement that an assignment breaks.
@@ -133,14 +123,15 @@ fn try_names(
     rotation: &mut Rotation<'_>,
     witnesses: &mut Witnesses,
     number: u64,
-    a: &Assignment,
+    a: Assignment,
 ) -> Result<(), AllocError>
     requires { InLimits part.now }
 {
     let names = names_at(alloc, part, number)?;
+    let mut a = a;
     for at in 0..MOST_NAMES {
         if at < names.len() {
-            try_name(alloc, part, rotation, witnesses, a, names[at])?;
+            a = try_name(alloc, part, rotation, witnesses, a, names[at])?;
         }
     }
     Ok(())
@@ -161,10 +152,10 @@ pub(crate) fn keep(
         numbers,
         waiting: Vec::new(alloc),
     };
-    let single = keep_new(alloc, part, &mut rotation, witnesses, a)?;
+    let single = keep_new(alloc, part, &mut rotation, witnesses, &a)?;
     for _ in 0..numbers.len() {
         if let Some((number, next)) = rotation.waiting.pop() {
-            try_names(alloc, part, &mut rotation, witnesses, number, &next)?;
+            try_names(alloc, part, &mut rotation, witnesses, number, next)?;
         }
     }
     Ok(single)

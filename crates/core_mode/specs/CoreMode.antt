@@ -8,7 +8,7 @@ use Rattle.text_modes.specs.TwoTexts.{HoldsSome}
 use Rattle.text_modes.specs.declared.ends.End.{End}
 use Rattle.model_texts.specs.declared.fault.ModelFault.{ModelFault}
 use Rattle.model_texts.specs.ModelTexts.{longest_text}
-use Rattle.search_options.specs.declared.options.SearchOptions.{SearchOptions as Options}
+use Rattle.search_options.specs.declared.options.SearchOptions.{SearchOptions}
 use Rattle.core_models.specs.CoreTexts.{HoldsWhole, HasFaultOf}
 use Rattle.core_mode.specs.Cores.{IsCoreHeld}
 
@@ -17,7 +17,7 @@ use Rattle.core_mode.specs.Cores.{IsCoreHeld}
 -- part that no assignment in the domains meets, and of which each statement is needed for that; or of a search that was
 -- given up, which tells the budget. Its fault is the first that it has. A text that says a model none of whose parts is
 -- too heavy is answered, unless memory is wanting.
-pub record CoreMode (options : Options) (input : List ℕ) (end : End ModelFault) (seen : Seen) : Type 0 where
+pub record CoreMode (options : SearchOptions) (input : List ℕ) (end : End ModelFault) (seen : Seen) : Type 0 where
   pub run : OneTextRun (Some (longest_text + 1)) (IsCoreHeld options) HasFaultOf input end seen
   pub faulty : Answers (ToldUnder input seen) (IsFaultEnd HasFaultOf) (ReadFailed input seen) end seen
   pub finishes : Finishes (ToldUnder input seen) (HoldsSome HoldsWhole) (ReadFailed input seen) end seen

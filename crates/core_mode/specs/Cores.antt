@@ -8,7 +8,7 @@ use Rattle.core_text.specs.declared.document.CoreDocument.{CoreDocument}
 use Rattle.core_text.specs.CoreDocuments.{AreNumbers, core_text}
 use Rattle.core_extract.specs.Extracted.{IsExtracted}
 use Rattle.core_extract.specs.Claims.{Claims}
-use Rattle.search_options.specs.declared.options.SearchOptions.{SearchOptions as Options}
+use Rattle.search_options.specs.declared.options.SearchOptions.{SearchOptions}
 use Rattle.text_modes.specs.declared.ends.Outcome.{Outcome}
 use Rattle.text_modes.specs.declared.ends.Outcome.TheVariants.{Done, Unknown}
 use Rattle.core_models.specs.CoreTexts.{HoldsWhole}
@@ -21,7 +21,7 @@ outcome_of (verdict.Unknown n) = Unknown n
 
 -- the text of what is extracted from a model, by all rules, with what its verdict says of the run; and what it says is
 -- true
-pub record IsCoreText (options : Options) (model : Model) (outcome : Outcome) (written : List ℕ) : Type 0 where
+pub record IsCoreText (options : SearchOptions) (model : Model) (outcome : Outcome) (written : List ℕ) : Type 0 where
   pub document : CoreDocument
   pub is : IsExtracted IsInstance model options document
   pub claims : Claims model document document.verdict
@@ -30,7 +30,7 @@ pub record IsCoreText (options : Options) (model : Model) (outcome : Outcome) (w
   pub outcome_is : outcome ≡ outcome_of document.verdict
 
 -- the text that was read holds a model, and the written text is that of what is extracted from it
-pub record IsCoreHeld (options : Options) (text : List ℕ) (outcome : Outcome) (written : List ℕ) : Type 0 where
+pub record IsCoreHeld (options : SearchOptions) (text : List ℕ) (outcome : Outcome) (written : List ℕ) : Type 0 where
   pub model : Model
   pub held : HoldsWhole text model
   pub is : IsCoreText options model outcome written

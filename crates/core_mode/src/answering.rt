@@ -12,11 +12,11 @@ ghost use Rattle.core_mode.specs.Cores.{outcome_of};
 
 use core_extract::{CoreWatcher, ExtractedCore, extract};
 use core_text::CoreVerdict;
-use decode_minimize::Options;
 use model_lower::LowerFault;
 use model_meaning::Model;
 use rule_base::Steps;
 use rule_oracle::TableP;
+use search_options::SearchOptions;
 use std::alloc::Global;
 use std::cell::RefCell;
 use std::marker::Brand;
@@ -38,7 +38,7 @@ fn extract_with<L: Ledger, W: CoreWatcher>(
     alloc: Global,
     blank: Blank,
     model: Model,
-    options: Options,
+    options: SearchOptions,
     watcher: &RefCell<W>,
 ) -> Result<ExtractedCore, LowerFault>
     requires typed { WellTyped model }
@@ -60,7 +60,7 @@ fn extract_with<L: Ledger, W: CoreWatcher>(
 pub(crate) fn extract_model<W: CoreWatcher>(
     alloc: Global,
     model: Model,
-    options: Options,
+    options: SearchOptions,
     watcher: &RefCell<W>,
 ) -> Result<ExtractedCore, LowerFault>
     requires typed { WellTyped model }

@@ -1,11 +1,11 @@
 //! From the text of a model to the text of its core.
 
-ghost use Rattle.std.specs.Prelude.{ℕ, ◌≤◌, List, length, IfOk, IfErr};
+ghost use Rattle.std.specs.Prelude.{◌≤◌, length, IfOk, IfErr};
 ghost use Rattle.model_meaning.specs.WellTyped.{WellTyped};
 ghost use Rattle.model_meaning.specs.Limits.{InLimits};
 ghost use Rattle.model_lower.specs.Weighed.{most_weight};
 ghost use Rattle.model_parts.specs.CoreWeight.{core_weight};
-ghost use Rattle.model_texts.specs.ModelTexts.{longest_text, IsCauseOf};
+ghost use Rattle.model_texts.specs.ModelTexts.{longest_text};
 ghost use Rattle.decode_minimize.specs.Answers.{IsBudget};
 ghost use Rattle.core_extract.specs.Extracted.{IsFaultOf};
 ghost use Rattle.core_text.specs.CoreDocuments.{AreNumbers};
@@ -14,11 +14,12 @@ ghost use Rattle.core_mode.specs.Cores.{IsCoreText, IsCoreHeld};
 
 use crate::answering::{extract_model, outcome_of};
 use core_extract::CoreWatcher;
+use core_models::reading_fault;
 use core_text::write_core;
-use decode_minimize::Options;
 use model_lower::LowerFault;
 use model_meaning::Model;
-use model_texts::{ModelFault, ModelTextFault, lower_fault, model_of};
+use model_texts::{ModelTextFault, lower_fault, model_of};
+use search_options::SearchOptions;
 use std::alloc::{AllocError, Global};
 use std::cell::RefCell;
 use text_modes::Outcome;
@@ -38,7 +39,7 @@ fn fit(numbers: &[u64])
 fn write_extracted<W: CoreWatcher>(
     alloc: Global,
     model: Model,
-    options: Options,
+    options: SearchOptions,
     watcher: &RefCell<W>,
 ) -> Result<(Outcome, Vec<u8>), LowerFault>
     requires typed { WellTyped model }
@@ -55,21 +56,11 @@ fn write_extracted<W: CoreWatcher>(
     Ok((outcome_of(extracted.document.verdict), text))
 }
 
-/// Why reading a text gives no model. Reading alone tells no weight, so no text comes to the first arm.
-fn reading_fault(fault: ModelTextFault) -> ModelTextFault
-    ensures { (text : List ℕ) → IsCauseOf fault text → IsReasonOf result text }
-{
-    match fault {
-        ModelTextFault::Model(ModelFault::TooHeavy(_)) => ModelTextFault::Memory,
-        other => other,
-    }
-}
-
 /// The text of what is extracted from the model that a text says.
 pub(crate) fn core_of<W: CoreWatcher>(
     alloc: Global,
     text: &[u8],
-    options: Options,
+    options: SearchOptions,
     watcher: &RefCell<W>,
 ) -> Result<(Outcome, Vec<u8>), ModelTextFault>
     requires short { length text.now ≤ longest_text }

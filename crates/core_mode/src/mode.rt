@@ -7,8 +7,8 @@ ghost use Rattle.core_mode.specs.CoreMode.{CoreMode};
 use crate::making::core_of;
 use bee_outside::{Shelf, Sink};
 use core_extract::CoreWatcher;
-use decode_minimize::Options;
 use model_texts::{LONGEST_TEXT, ModelFault, ModelTextFault};
+use search_options::SearchOptions;
 use std::alloc::{AllocError, Global};
 use std::cell::RefCell;
 use std::marker::Model;
@@ -17,15 +17,15 @@ use text_modes::{End, Made, OneText, run_one};
 /// The text of a model is read, and that of its core is written.
 #[derive(Drop)]
 struct Extracting<'a, W: CoreWatcher> {
-    options: Options,
+    options: SearchOptions,
     watcher: &'a RefCell<W>,
 }
 
 impl<'a, W: CoreWatcher> Model for Extracting<'a, W> {
     ghost use Rattle.decode_minimize.specs.Answers.{IsBudget};
-    ghost use Rattle.search_options.specs.declared.options.SearchOptions.{SearchOptions as Options};
+    ghost use Rattle.search_options.specs.declared.options.SearchOptions.{SearchOptions};
 
-    ghost Value = { Options };
+    ghost Value = { SearchOptions };
 
     ghost view = { λ s. s.options };
 
@@ -69,7 +69,7 @@ impl<W: CoreWatcher> OneText for Extracting<'_, W> {
 pub fn core<S: Shelf, O: Sink, W: CoreWatcher>(
     alloc: Global,
     input: &str,
-    options: Options,
+    options: SearchOptions,
     shelf: &mut S,
     out: &mut O,
     watcher: &RefCell<W>,

@@ -1,6 +1,6 @@
 -- The model that a text holds of which cores are asked, and why a text holds none. It differs from what is compiled in
 -- the weight alone: no part of the model may be too heavy.
-use Rattle.std.specs.Prelude.{◌≡◌, ◌⊎◌, ℕ, ◌<◌, ◌≤◌, List, length, Option, Some, None}
+use Rattle.std.specs.Prelude.{◌≡◌, ◌⊎◌, ℕ, ◌<◌, ◌≤◌, List, length}
 use Rattle.model_meaning.specs.declared.model.Model.{Model}
 use Rattle.model_lower.specs.Weighed.{most_weight}
 use Rattle.model_parts.specs.CoreWeight.{core_weight}
@@ -31,11 +31,6 @@ HasFaultOf text f = ((longest_text < length text) × (f ≡ fault.TooLong))
 abbrev pub IsReasonOf : ModelTextFault → List ℕ → Type 0
 IsReasonOf (text_fault.Model f) text = IsFirstFaultOf text f
 IsReasonOf text_fault.Memory text = Unit {0}
-
--- no part of a model is too heavy, or the greatest weight of one is told
-abbrev pub IsTooHeavy : Model → Option ℕ → Type 0
-IsTooHeavy model None = core_weight model ≤ most_weight
-IsTooHeavy model (Some w) = (most_weight < core_weight model) × (w ≡ core_weight model)
 
 -- a text has one first fault
 abbrev pub OneFault : Type 0

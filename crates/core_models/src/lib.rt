@@ -7,7 +7,8 @@
 //!
 //! What it promises: `whole_model` gives the model that a text says where no part of it is too
 //! heavy, and else the first fault of the text (`model`, `fault`), with the weight itself where that
-//! is too great. `fault_law`: a text has one first fault, or it says one such model, and never both.
+//! is too great. `reading_fault` is the cause where reading alone gives no model. `fault_law`: a text
+//! has one first fault, or it says one such model, and never both.
 //!
 //! The modes that make cores and that check them stand on it, so that they refuse the same texts.
 #![tactic(auto)]
@@ -16,4 +17,4 @@ mod laws;
 mod whole;
 
 pub use laws::fault_law;
-pub use whole::whole_model;
+pub use whole::{reading_fault, whole_model};

@@ -1,39 +1,16 @@
 //! The model that a text says, where no part of it is too heavy.
 
-ghost use Rattle.std.specs.Prelude.{◌≡◌, ◌<◌, ◌≤◌, ℕ, List, length, IfOk, IfErr, MatchResult};
-ghost use Rattle.model_meaning.specs.Limits.{InLimits};
-ghost use Rattle.model_lower.specs.Weighed.{most_weight};
-ghost use Rattle.model_parts.specs.CoreWeight.{core_weight};
-ghost use Rattle.model_texts.specs.ModelTexts.{longest_text, IsModelOf, IsCauseOf};
-ghost use Rattle.core_models.specs.CoreTexts.{HoldsWhole, IsReasonOf, IsTooHeavy};
+ghost use Rattle.std.specs.Prelude.{◌≤◌, ℕ, List, length, IfOk, IfErr};
+ghost use Rattle.model_texts.specs.ModelTexts.{longest_text, IsCauseOf};
+ghost use Rattle.core_models.specs.CoreTexts.{HoldsWhole, IsReasonOf};
 
 use model_meaning::Model;
-use model_parts::core_weight;
+use model_parts::weight_above;
 use model_texts::{ModelFault, ModelTextFault, model_of};
-use std::alloc::{AllocError, Global};
-
-/// The greatest weight of a model of which cores are asked.
-const MOST_WEIGHT: u128 = 67_108_864;
-
-/// The greatest weight of a part of a model, where it is too great. Of one past 128 bits, which no text's model has,
-/// there is no number to tell, and memory is wanting.
-fn weight_above(alloc: Global, model: &Model) -> Result<Option<u128>, AllocError>
-    requires { InLimits model.now }
-    ensures { IfOk result (IsTooHeavy model.now) }
-{
-    let weight = core_weight(alloc, model)?;
-    if weight == u128::MAX {
-        return Err(AllocError);
-    }
-    if weight > MOST_WEIGHT {
-        Ok(Some(weight))
-    } else {
-        Ok(None)
-    }
-}
+use std::alloc::Global;
 
 /// Why reading a text gives no model. Reading alone tells no weight, so no text comes to the first arm.
-fn reading_fault(fault: ModelTextFault) -> ModelTextFault
+pub fn reading_fault(fault: ModelTextFault) -> ModelTextFault
     ensures { (text : List ℕ) → IsCauseOf fault text → IsReasonOf result text }
 {
     match fault {

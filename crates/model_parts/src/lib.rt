@@ -13,7 +13,7 @@
 //! the limits where the model is; their solutions are the assignments in the domains for which
 //! their statements hold; where all but one statement hold, each part without it does. `core_weight`
 //! is the model's weight and one for each `bool2int` that declares its integer, and no part weighs
-//! more.
+//! more; `weight_above` tells it where it is too great.
 //!
 //! `first_broken_but` is what a witness is tested by. Nothing here knows how a model is solved.
 #![tactic(auto)]
@@ -27,4 +27,4 @@ mod weighing;
 pub use divided::DividedModel;
 pub use laws::part_law;
 pub use tested::first_broken_but;
-pub use weighing::core_weight;
+pub use weighing::{core_weight, weight_above};

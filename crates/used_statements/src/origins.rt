@@ -16,7 +16,7 @@ use step_kernel::{ApplyFault, Line, State};
 const MOST_LOOKS: usize = 100_000_000;
 
 /// Why a variable's label is another one: the line of the equation, and the variable that it names, 0 for a constant.
-#[derive(Clone, Copy, PartialEq, Eq)]
+#[derive(Clone, Copy)]
 pub(crate) struct Edge {
     pub(crate) line: usize,
     pub(crate) to: u32,

@@ -19,7 +19,7 @@ use step_kernel::{Line, State};
 
 /// A statement that declares its integer: its place, and the variable of its Boolean, 0 where that is a constant. It
 /// has no core.
-#[derive(Clone, Copy, PartialEq, Eq)]
+#[derive(Drop)]
 struct Definition {
     place: usize,
     var: u32,
@@ -166,10 +166,10 @@ fn stands_at(
     }
 }
 
-/// Says that a line is needed.
-fn need(needed: &mut [bool], line: usize) {
-    if line < needed.len() {
-        needed[line] = true;
+/// Marks a place.
+fn mark(marks: &mut [bool], place: usize) {
+    if place < marks.len() {
+        marks[place] = true;
     }
 }
 
@@ -188,7 +188,7 @@ fn need_encodings(
         for clause in one.clauses.as_slice() {
             if stands_at(alloc, view, clause.as_slice(), cnf, place)? {
                 if place < used.len() && used[place] {
-                    need(needed, one.line);
+                    mark(needed, one.line);
                 }
                 place = place.saturating_add(1);
             }
@@ -228,7 +228,7 @@ fn needed_lines(
     let count = start.origins.lines.len();
     let mut needed = vec![in alloc; false; count]?;
     if start.state.bottom() {
-        need(needed.as_mut_slice(), count.saturating_sub(1));
+        mark(needed.as_mut_slice(), count.saturating_sub(1));
         return Ok(needed);
     }
     let encoded = start.origins.encoded.as_slice();
@@ -243,13 +243,6 @@ fn needed_lines(
         needed.as_mut_slice(),
     )?;
     Ok(needed)
-}
-
-/// Marks a place.
-fn mark(marks: &mut [bool], place: usize) {
-    if place < marks.len() {
-        marks[place] = true;
-    }
 }
 
 /// Which variables occur in roots that are needed.

@@ -1,5 +1,4 @@
 use Rattle.model_texts.proofs.ModelShapes.{limited}
-use Rattle.core_models.specs.CoreTexts.{IsTooHeavy}
 use Rattle.core_models.proofs.whole.whole_model.Goals as goal
 
 pub weight_above-requires : goal.weight_above-requires

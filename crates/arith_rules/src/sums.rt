@@ -96,12 +96,7 @@ fn totals(ints: &[OrdInt]) -> Range
 
 /// Of the equations of each member being what the others leave of `k`, the first that is looked for: one pass, for each
 /// member's share of what all add up to, which binds a member only where its own range is wider.
-fn by_shares(
-    sought: SoughtEquation,
-    ints: &[OrdInt],
-    all: &Range,
-    k: &i128,
-) -> Option<(Atom, Atom)>
+fn by_shares(sought: SoughtEquation, ints: &[OrdInt], all: &Range, k: &i128) -> Option<(Atom, Atom)>
     requires sound { AreSound ints.now }
     requires shape { all.now ≡ ranges_of ints.now }
     requires all { (unsigned_abs all.now.low < 2 ^ 100) × (unsigned_abs all.now.high < 2 ^ 100) }

@@ -62,7 +62,12 @@ fn at_constant(sought: SoughtEquation, r: Atom, a: &OrdInt, b: &OrdInt) -> Optio
 }
 
 /// The equation where `b` is constant: `r` is that `a` isn't above it.
-fn not_above_constant(sought: SoughtEquation, r: Atom, a: &OrdInt, b: &OrdInt) -> Option<(Atom, Atom)>
+fn not_above_constant(
+    sought: SoughtEquation,
+    r: Atom,
+    a: &OrdInt,
+    b: &OrdInt,
+) -> Option<(Atom, Atom)>
     requires a { IsSound a.now }
     requires b { IsSound b.now }
     ensures { result ≡ first_sought sought

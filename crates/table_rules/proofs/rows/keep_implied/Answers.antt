@@ -29,18 +29,18 @@ loop-number-preserved c =
     let long : length values ≡ length vars = search rules in
     elim c.if-is_some_apart.branch [
       | then-is_some_apart+then-holds_in_row w ↦ record {
-          left = rw w.pairs-is (next w.keep_equal.new.pairs.items (met-next core vars whole rows.pairs.items rows.values values rows.number row rows.invariant.long rows.invariant.left w.holds_in_row.result w.keep_equal.new.pairs.items w.holds_in_row.ensures.shape w.if-holds_in_row.true w.keep_equal.ensures));
+        left = rw w.pairs-is (next w.keep_equal.new.pairs.items (met-next core vars whole rows.pairs.items rows.values values rows.number row rows.invariant.long rows.invariant.left w.holds_in_row.result w.keep_equal.new.pairs.items w.holds_in_row.ensures.shape w.if-holds_in_row.true w.keep_equal.ensures));
+        long = long;
+      }
+      | else-is_some_apart w ↦ elim w.else-is_some_apart.branch [
+        | else-is_some_apart-via-then-is_some_apart+else-holds_in_row v ↦ record {
+          left = rw w.pairs-is (next rows.pairs.items (unmet-next core vars whole rows.pairs.items rows.values values rows.number row rows.invariant.long rows.invariant.left v.holds_in_row.result v.holds_in_row.ensures.shape v.if-holds_in_row.false));
           long = long;
         }
-      | else-is_some_apart w ↦ elim w.else-is_some_apart.branch [
-          | else-is_some_apart-via-then-is_some_apart+else-holds_in_row v ↦ record {
-              left = rw w.pairs-is (next rows.pairs.items (unmet-next core vars whole rows.pairs.items rows.values values rows.number row rows.invariant.long rows.invariant.left v.holds_in_row.result v.holds_in_row.ensures.shape v.if-holds_in_row.false));
-              long = long;
-            }
-          | else-is_some_apart-via-else-is_some_apart v ↦ record {
-              left = rw w.pairs-is (next rows.pairs.items (together-next core vars whole rows.pairs.items rows.values values rows.number row rows.invariant.long rows.invariant.left c.is_some_apart.result
-                  (c.is_some_apart.ensures ∙ ap (is_some_apart (valuation_at vars values)) c.as_slice.ensures.value) v.if-is_some_apart.false));
-              long = long;
-            }
-        ]
+        | else-is_some_apart-via-else-is_some_apart v ↦ record {
+          left = rw w.pairs-is (next rows.pairs.items (together-next core vars whole rows.pairs.items rows.values values rows.number row rows.invariant.long rows.invariant.left c.is_some_apart.result
+              (c.is_some_apart.ensures ∙ ap (is_some_apart (valuation_at vars values)) c.as_slice.ensures.value) v.if-is_some_apart.false));
+          long = long;
+        }
+      ]
     ]

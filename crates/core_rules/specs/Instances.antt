@@ -15,7 +15,3 @@ is_instance_at core e = is_equi_instance core e
 -- by the core's form, beside what equi_rules states
 abbrev pub is_form_instance : Core → Equation → Bool
 is_form_instance core e = is_arith_instance core e || is_alldiff_instance core e
-
--- by the order of its integers or by its form
-abbrev pub is_order_or_form : Core → Equation → Bool
-is_order_or_form core e = is_equi_instance core e || is_form_instance core e

@@ -200,6 +200,14 @@ module _ (n : ℕ) where
       (pairs-below Order (chains_of (ints_of core)) (each-chains (AtomBelow n) closed (ints_of core) each.1)))
       (pairs-below Form (link_pairs core) (each-links (AtomBelow n) closed core each))
 
+  -- but for those along its integers
+  pub form-below : (core : Core) → CoreBelow n core → EquationsBelow n (map (equation_of Form) (bound_pairs core) ++ map (equation_of Form) (link_pairs core))
+  form-below core below =
+      let each : EachAtom (AtomBelow n) core = each_below n (AtomBelow n) (λ a h. h) core below in
+      equations-append (map (equation_of Form) (bound_pairs core)) (map (equation_of Form) (link_pairs core))
+      (pairs-below Form (bound_pairs core) (each-bounds (AtomBelow n) closed core each))
+      (pairs-below Form (link_pairs core) (each-links (AtomBelow n) closed core each))
+
   -- the equations along its last integer alone
   pub last-below : (core : Core) (xs : List OrdInt) (a : OrdInt) → ints_of core ≡ xs ++ a ∷ [] → CoreBelow n core → EquationsBelow n (map (equation_of Order) (chain_pairs a))
   last-below core xs a is below =

@@ -15,7 +15,7 @@ use Rattle.equation_runs.proofs.Always.{Told}
 use Rattle.equation_runs.proofs.ChainTurns.{chains-turn, last-turn}
 use Rattle.equation_runs.proofs.FormTurns.{links-turn, bounds-turn}
 use Rattle.equation_runs.proofs.LaterTurns.{from-after, from-always, from-append}
-use Rattle.equation_runs.proofs.RunBelow.{run-below, last-below}
+use Rattle.equation_runs.proofs.RunBelow.{run-below, form-below, last-below}
 
 -- first what is told once those before it are made, then what follows along the integers, and then the links, both whatever was made before
 pub run-turn : (core : Core) → AreToldInTurn (λ c e. is_stated c e ≡ true) core (run_of core)
@@ -45,6 +45,26 @@ pub below-of : {E : Type 0} (core : Core) (r : Result (Vec Equation) E) → IfOk
     → (n : ℕ) → CoreBelow n core → IfOk r (λ run. EquationsBelow n run.items)
 below-of core (Ok run) is n below = subst (EquationsBelow n) (sym is) (run-below n core below)
 below-of core (Err e) is n below = tt
+
+-- the same of a run without what follows along the integers
+abbrev pub of_form : Core → List Equation
+of_form core = map (equation_of Form) (bound_pairs core) ++ map (equation_of Form) (link_pairs core)
+
+form-turn : (core : Core) → AreToldInTurn (λ c e. is_stated c e ≡ true) core (of_form core)
+form-turn core =
+    let bounds = map (equation_of Form) (bound_pairs core) in
+    let links = map (equation_of Form) (link_pairs core) in
+    from-append Told core [] bounds links (bounds-turn core) (λ others. from-always Told core others links (links-turn core))
+
+pub form-told : {E : Type 0} (core : Core) (r : Result (Vec Equation) E) → IfOk r (λ run. run.items ≡ of_form core)
+    → IfOk r (λ run. AreToldInTurn (λ c e. is_stated c e ≡ true) core run.items)
+form-told core (Ok run) is = subst (AreToldInTurn (λ c e. is_stated c e ≡ true) core) (sym is) (form-turn core)
+form-told core (Err e) is = tt
+
+pub form-over : {E : Type 0} (core : Core) (r : Result (Vec Equation) E) → IfOk r (λ run. run.items ≡ of_form core)
+    → (n : ℕ) → CoreBelow n core → IfOk r (λ run. EquationsBelow n run.items)
+form-over core (Ok run) is n below = subst (EquationsBelow n) (sym is) (form-below n core below)
+form-over core (Err e) is n below = tt
 
 -- the same of the equations along the last integer of a core
 module _ {E : Type 0} (core : Core) (xs : List OrdInt) (a : OrdInt) (last : ints_of core ≡ xs ++ a ∷ []) where

@@ -11,8 +11,8 @@
 //! What it promises of `run_of`: it gives exactly the run that "Runs" of `docs/CORES.md` states
 //! (`shape`); each of its equations, once those before it are made and nothing else was, is made
 //! too or is told of the core as the store has it then (`told`); it is over the core's variables
-//! (`below`); one step is counted (`steps`). `run_at_edge` promises the same but for `shape`: which
-//! of two runs it gives only saves time.
+//! (`below`); one step is counted (`steps`). `run_of_form` and `run_at_edge` promise the same but for
+//! `shape`: what they leave out only saves time.
 //!
 //! The proofs for linked integers are at any number, not only at values: what trimming makes of "at
 //! least v" is the atom of the trimmed integer at v. `rule_oracle` takes a run with an equation of
@@ -31,4 +31,4 @@ mod products;
 mod run;
 mod twins;
 
-pub use run::{run_at_edge, run_of};
+pub use run::{run_at_edge, run_of, run_of_form};

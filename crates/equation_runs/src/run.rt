@@ -11,6 +11,7 @@ ghost use Rattle.rule_base.specs.Constant.{is_constant};
 ghost use Rattle.arith_rules.specs.SumRows.{raised_equations, mirrored_equations, sum3_constants};
 ghost use Rattle.core_forms.specs.Place.{CoreBelow};
 ghost use Rattle.equation_runs.specs.Turns.{AreToldInTurn, is_stated, EquationsBelow};
+ghost use Rattle.equation_runs.specs.BoundRows.{bound_pairs};
 ghost use Rattle.equation_runs.specs.RunRows.{equation_of, chain_pairs, chains_of, link_pairs, run_of};
 
 use crate::bounds::push_bounds;
@@ -147,6 +148,36 @@ pub fn run_of<L: Ledger>(
 {
     steps.tick();
     equations_in_turn(alloc, core)
+}
+
+/// The equations of a run but for those along the integers of the core.
+fn equations_of_form(alloc: Global, core: &Core) -> Result<Vec<Equation>, AllocError>
+    requires { IsWellFormed core.now }
+    ensures { IfOk result (λ run. run.items
+        ≡ map (equation_of Form) (bound_pairs core.now) ++ map (equation_of Form) (link_pairs core.now)) }
+{
+    let mut run = Vec::new(alloc);
+    push_bounds(alloc, &mut run, core)?;
+    push_links(alloc, &mut run, core)?;
+    Ok(run)
+}
+
+/// `run_of` without the equations along the integers of the core. Where the rule Order states nothing of the core these
+/// are all made: no constant step has one before it or behind it that isn't the same constant. It counts one step.
+pub fn run_of_form<L: Ledger>(
+    alloc: Global,
+    core: &Core,
+    steps: &mut Steps<L>,
+) -> Result<Vec<Equation>, AllocError>
+    requires { IsWellFormed core.now }
+
+    // Each of them is made, or stated of the core as the store has it, once those before it are made.
+    ensures told { IfOk result (λ run. AreToldInTurn (λ c e. is_stated c e ≡ true) core.now run.items) }
+    ensures below { (n : ℕ) → CoreBelow n core.now → IfOk result (λ run. EquationsBelow n run.items) }
+    ensures steps { steps.new ≡ steps.old + 1 }
+{
+    steps.tick();
+    equations_of_form(alloc, core)
 }
 
 /// The last of some integers, if there is one.

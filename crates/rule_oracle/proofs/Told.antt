@@ -9,11 +9,12 @@ use Rattle.arith_rules.specs.Instances.{is_instance_of as is_arith_instance}
 use Rattle.alldiff_rules.specs.Instances.{IsInstance as IsAlldiff, is_instance_of as is_alldiff_instance}
 use Rattle.alldiff_rules.proofs.ExactLaws.{instance-exact}
 use Rattle.table_rules.specs.Instances.{is_instance_of as is_table_instance}
-use Rattle.core_rules.specs.Instances.{is_instance_at, is_form_instance, is_order_or_form}
+use Rattle.equation_runs.specs.Turns.{is_stated}
+use Rattle.core_rules.specs.Instances.{is_instance_at, is_form_instance}
 use Rattle.core_rules.proofs.InstanceLaws.{by_rules}
 
 -- where no rule states an equation, none is told
-pub none-told : (core : Core) → ((e : Equation) → is_order_or_form core e ≡ true → ⊥) → ((e : Equation) → is_table_instance core e ≡ false) → (e : Equation) → is_instance_at core e ≡ true → ⊥
+pub none-told : (core : Core) → ((e : Equation) → is_stated core e ≡ true → ⊥) → ((e : Equation) → is_table_instance core e ≡ false) → (e : Equation) → is_instance_at core e ≡ true → ⊥
 none-told core none table e =
     by_rules core e ⊥ (λ is. none e (or_left (is_equi_instance core e) (is_form_instance core e) is))
     (λ is. none e (or_right (is_equi_instance core e) (is_form_instance core e) (or_left (is_arith_instance core e) (is_alldiff_instance core e) is)))

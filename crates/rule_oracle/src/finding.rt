@@ -10,11 +10,11 @@ ghost use Rattle.equation_runs.specs.Turns.{AreToldInTurn, EquationsBelow, is_st
 ghost use Rattle.equi_rules.specs.Instances.{is_instance_of as is_equi_instance};
 ghost use Rattle.alldiff_rules.specs.Instances.{is_instance_of as is_alldiff_instance};
 ghost use Rattle.arith_rules.specs.Instances.{is_instance_of as is_arith_instance};
-ghost use Rattle.core_rules.specs.Instances.{is_instance_at, is_form_instance, is_order_or_form};
+ghost use Rattle.core_rules.specs.Instances.{is_instance_at, is_form_instance};
 
-use core_forms::{Core, Equation, Known};
+use core_forms::{Core, Equation, Known, Rule};
 use core_rules::FoundRun;
-use equation_runs::{run_at_edge, run_of};
+use equation_runs::{run_at_edge, run_of, run_of_form};
 use rule_base::Steps;
 use std::alloc::{AllocError, Global};
 use std::sync::ledger::Ledger;
@@ -100,7 +100,7 @@ fn by_order_or_form<L: Ledger>(
     requires known { IsKnown known core.now }
     ensures some { IfOk result (λ found. IfSome found (λ e. is_instance_at core.now e ≡ true)) }
     ensures none { IfOk result
-        (λ found. IfNone found ((e : Equation) → is_order_or_form core.now e ≡ true → ⊥)) }
+        (λ found. IfNone found ((e : Equation) → is_stated core.now e ≡ true → ⊥)) }
     ensures least { steps.old + 1 ≤ steps.new }
     ensures most { steps.new ≤ steps.old + 2 }
 {
@@ -110,11 +110,13 @@ fn by_order_or_form<L: Ledger>(
     }
 }
 
-/// A run of a core: where the core is plain but for its edge, that of the edge alone, if no other equation can be told.
+/// A run of a core: where the core is plain but for its edge, that of the edge alone, if no other equation can be told;
+/// else that without the equations along its integers, where a rule told one that is asked when Order tells none.
 fn run_by<L: Ledger>(
     alloc: Global,
     core: &Core,
     known: Known,
+    rule: Rule,
     steps: &mut Steps<L>,
 ) -> Result<Vec<Equation>, AllocError>
     requires { IsWellFormed core.now }
@@ -122,9 +124,10 @@ fn run_by<L: Ledger>(
     ensures below { (n : ℕ) → CoreBelow n core.now → IfOk result (λ run. EquationsBelow n run.items) }
     ensures steps { steps.new ≡ steps.old + 1 }
 {
-    match known {
-        Known::Nothing => run_of(alloc, core, steps),
-        Known::ButLast | Known::Plain => run_at_edge(alloc, core, steps),
+    match (known, rule) {
+        (Known::Nothing, Rule::Order) => run_of(alloc, core, steps),
+        (Known::Nothing, _) => run_of_form(alloc, core, steps),
+        (Known::ButLast | Known::Plain, _) => run_at_edge(alloc, core, steps),
     }
 }
 
@@ -144,7 +147,7 @@ fn with_run<L: Ledger>(
         → IfOk result (λ found. EquationsBelow n found.run.items) }
     ensures steps { steps.new ≡ steps.old + 1 }
 {
-    let run = run_by(alloc, core, known, steps)?;
+    let run = run_by(alloc, core, known, equation.rule, steps)?;
     Ok(FoundRun { equation, run })
 }
 
@@ -155,7 +158,7 @@ fn by_table<L: Ledger>(
     steps: &mut Steps<L>,
 ) -> Result<Option<FoundRun>, AllocError>
     requires well_formed { IsWellFormed core.now }
-    requires none { (e : Equation) → is_order_or_form core.now e ≡ true → ⊥ }
+    requires none { (e : Equation) → is_stated core.now e ≡ true → ⊥ }
     ensures some { IfOk result
         (λ found. IfSome found (λ first. is_instance_at core.now first.equation ≡ true)) }
     ensures run { IfOk result (λ found. IfSome found

@@ -18,7 +18,7 @@ use Rattle.answer_document.proofs.OrderLaws.{both-equal}
 pub none_contradicts : NoneContradicts
 none_contradicts model Satisfiable a none claim = none a claim
 none_contradicts model Unsatisfiable a none claim = claim
-none_contradicts model (Optimum b) a none claim = none a claim.solution.solution
+none_contradicts model (Optimum b) a none claim = none a claim.best.solution
 none_contradicts model (Unknown n None) a none claim = claim
 none_contradicts model (Unknown n (Some b)) a none claim = none a claim.solution
 
@@ -39,12 +39,9 @@ same-values (Maximize place second) x y e f = same-order second (value_at x plac
 
 pub optima_agree : OptimaAgree
 optima_agree model b c x y p q =
-    let worse = q.best x p.solution.solution in
-    let other = p.best y q.solution.solution in
-    sym p.solution.objective
-    ∙ same-values model.goal x y (subst (λ v. is_better model.goal (objective model.goal x) v ≡ false) (sym q.solution.objective) worse)
-    (subst (λ v. is_better model.goal (objective model.goal y) v ≡ false) (sym p.solution.objective) other)
-    ∙ q.solution.objective
+    sym p.objective ∙ same-values model.goal x y (q.best.best x p.best.solution) (p.best.best y q.best.solution) ∙ q.objective
 
 pub optimum_is_best : OptimumIsBest
-optimum_is_best model b c n x y p q = subst (λ v. is_better model.goal v (numbers_in b) ≡ false) q.objective (p.best y q.solution)
+optimum_is_best model b c n x y p q =
+    subst (λ v. is_better model.goal (numbers_in c) v ≡ false) p.objective
+    (subst (λ v. is_better model.goal v (objective model.goal x) ≡ false) q.objective (p.best.best y q.solution))

@@ -157,8 +157,12 @@ module _ (model : Model) (typed : WellTyped model) (limits : InLimits model) (li
   by-verdict Unsatisfiable (Some a) fits answer certificate = absurd answer
   by-verdict Unsatisfiable None fits answer certificate = λ a solution. no-solution model typed limits light d certificate.0 a solution certificate.1
   by-verdict (Optimum b) (Some a) fits answer certificate = record {
-    solution = answer;
-    best = λ other solution. best-by model typed limits light d certificate.0 other solution b.first b.second d.second fits certificate.1;
+    best = record {
+      solution = answer.solution;
+      best = λ other solution. subst (λ (ns : List ℤ). is_better model.goal (objective model.goal other) ns ≡ false) (sym answer.objective)
+          (best-by model typed limits light d certificate.0 other solution b.first b.second d.second fits certificate.1);
+    };
+    objective = answer.objective;
   }
   by-verdict (Optimum b) None fits answer certificate = absurd answer
   by-verdict (Unknown n (Some b)) (Some a) fits answer certificate = answer

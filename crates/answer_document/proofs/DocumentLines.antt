@@ -21,11 +21,12 @@ use Rattle.ledger_text.specs.Steps.{step_words, step_text}
 use Rattle.proof_check.specs.declared.line.ProofLine.{ProofLine}
 use Rattle.proof_check.specs.Lines.{line_words, line_bytes}
 use Rattle.name_map.specs.ValueLines.{declared_word, declared_line, declared_lines}
+use Rattle.answer_document.specs.Goals.{has_second}
 use Rattle.answer_document.specs.declared.verdict.Verdict.{Verdict}
 use Rattle.answer_document.specs.declared.verdict.Verdict.TheVariants.{Satisfiable, Unsatisfiable, Optimum, Unknown}
 use Rattle.answer_document.specs.declared.document.Document.{Document}
 use Rattle.answer_document.specs.Verdicts.{bound_words, verdict_words, verdict_text, is_certified}
-use Rattle.answer_document.specs.DocumentText.{has_second, version_line, best_line, best_lines, assignment_lines, second_lines, certificate_lines, certificate_of, document_lines}
+use Rattle.answer_document.specs.DocumentText.{version_line, best_line, best_lines, assignment_lines, second_lines, certificate_lines, certificate_of, document_lines}
 use Rattle.answer_document.specs.Valid.{stated, FitNumbers, FitValues, FitAssignment, AreReadableSteps, AreReadableLines, IsReadableSecond, IsReadableDocument}
 use Rattle.answer_document.specs.Told.{AreNames, FitsCount}
 use Rattle.answer_document.proofs.SpelledWords.{signed-word, bounds-words, verdict-are-words, step-are-words, line-are-words}

@@ -1,7 +1,7 @@
 -- What an answer says of a model: the verdict with the assignment that it gives.
-use Rattle.std.specs.Prelude.{◌≡◌, List, ℤ, Option, Some, None, IsFalse}
+use Rattle.std.specs.Prelude.{◌≡◌, List, ℤ, Option, Some, None}
 use Rattle.model_meaning.specs.declared.model.Model.{Model}
-use Rattle.model_meaning.specs.Solutions.{IsSolution, objective, is_better}
+use Rattle.model_meaning.specs.Solutions.{IsSolution, IsBest, objective}
 use Rattle.answer_document.specs.declared.verdict.Bounds.{Bounds}
 use Rattle.answer_document.specs.declared.verdict.Verdict.{Verdict}
 use Rattle.answer_document.specs.declared.verdict.Verdict.TheVariants.{Satisfiable, Unsatisfiable, Optimum, Unknown}
@@ -12,14 +12,13 @@ pub record IsSolutionAt (model : Model) (a : List ℤ) (b : Bounds) : Type 0 whe
   pub solution : IsSolution model a
   pub objective : objective model.goal a ≡ numbers_in b
 
--- and no solution has better ones
+-- a best solution, whose objectives have these values
 pub record IsOptimum (model : Model) (a : List ℤ) (b : Bounds) : Type 0 where
-  pub solution : IsSolutionAt model a b
-  pub best : (other : List ℤ) → IsSolution model other
-      → IsFalse (is_better model.goal (objective model.goal other) (numbers_in b))
+  pub best : IsBest model a
+  pub objective : objective model.goal a ≡ numbers_in b
 
 -- What is claimed. SATISFIABLE: the assignment is a solution. UNSATISFIABLE: there is none. OPTIMUM: the assignment is
--- a solution with the stated values of the objectives, and none has better ones. UNKNOWN with a best solution: the
+-- a best solution, with the stated values of the objectives. UNKNOWN with a best solution: the
 -- assignment is a solution with the stated values; without one nothing is claimed. An answer with an assignment where
 -- none belongs, or without one where one does, claims what can't be.
 abbrev pub Claims : Model → Verdict → Option (List ℤ) → Type 0

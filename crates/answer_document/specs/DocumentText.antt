@@ -27,21 +27,12 @@ use Rattle.ledger_text.specs.declared.line.Line.{Line}
 use Rattle.ledger_text.specs.Steps.{step_text}
 use Rattle.proof_check.specs.declared.line.ProofLine.{ProofLine}
 use Rattle.proof_check.specs.Lines.{line_bytes}
+use Rattle.answer_document.specs.Goals.{has_second}
 use Rattle.answer_document.specs.declared.verdict.Bounds.{Bounds}
 use Rattle.answer_document.specs.declared.verdict.Verdict.{Verdict}
 use Rattle.answer_document.specs.declared.verdict.Verdict.TheVariants.{Satisfiable, Unsatisfiable, Optimum, Unknown}
 use Rattle.answer_document.specs.declared.document.Document.{Document}
 use Rattle.answer_document.specs.Verdicts.{bound_words, verdict_text, is_certified}
-
--- whether something is sought behind the first objective
-abbrev pub is_there : Option ℕ → Bool
-is_there None = false
-is_there (Some place) = true
-
-abbrev pub has_second : Goal → Bool
-has_second Satisfy = false
-has_second (Minimize place second) = is_there second
-has_second (Maximize place second) = is_there second
 
 -- the first line: the version of the form
 abbrev pub version_line : Goal → List ℕ

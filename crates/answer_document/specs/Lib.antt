@@ -1,3 +1,4 @@
+pub mod Goals
 pub mod Verdicts
 pub mod DocumentText
 pub mod Claims

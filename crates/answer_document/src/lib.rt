@@ -10,6 +10,7 @@
 //! that each is an ordinary proof.
 //!
 //! What it promises: `write_document` gives exactly the text of a document (its one clause).
+//! `first_bound`, `second_bound` and `fixed` are the atoms of `specs/BoundAtoms.antt`, made here alone.
 //! `claim_law`: what a valid text says is true of the model. `agreement_law`: true answers of one
 //! model never contradict each other. `text_law`: a text tells its verdict, assignment, ledger and
 //! derivations, so it is a valid answer in one way at most.
@@ -19,13 +20,17 @@
 #![tactic(auto)]
 
 mod atom_clause;
+mod bound_atoms;
 mod document;
+mod goal;
 mod laws;
 mod verdict;
 mod write;
 
 pub use atom_clause::with_atom;
+pub use bound_atoms::{at_least, at_most, first_bound, fixed, integer_named, second_bound};
 pub use document::Document;
+pub use goal::{has_objective, has_second};
 pub use laws::{agreement_law, claim_law, text_law};
 pub use verdict::{Bounds, Verdict};
 pub use write::{

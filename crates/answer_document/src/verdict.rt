@@ -1,7 +1,7 @@
 //! What an answer says of a model.
 
 /// What a solution has of the objectives of a goal.
-#[derive(Clone, Copy, PartialEq, Eq)]
+#[derive(Clone, Copy)]
 pub struct Bounds {
     /// The value of the first objective.
     pub first: i64,
@@ -10,7 +10,7 @@ pub struct Bounds {
 }
 
 /// The verdict of an answer.
-#[derive(Clone, Copy, PartialEq, Eq)]
+#[derive(Clone, Copy)]
 pub enum Verdict {
     /// There is a solution, which the answer gives.
     Satisfiable,

@@ -10,7 +10,7 @@ use sat_front::{cut_line, is_word};
 use std::alloc::{AllocError, Global};
 
 /// What a line of a text is.
-#[derive(Clone, Copy, PartialEq, Eq)]
+#[derive(Clone, Copy)]
 pub(crate) enum LineKind {
     /// It says nothing.
     Comment,

@@ -78,7 +78,7 @@ fn best_shown(
     let Task { cnf, map, goal } = task;
     let entries = map.entries.as_slice();
     let number = value_at(alloc, goal, entries, values)?;
-    let better = better_than(alloc, goal, entries, number)?;
+    let better = better_than(goal, entries, number);
     match refutation(alloc, cnf, better, cut.rest) {
         Ok(proof) => {
             let bounds = Bounds {

@@ -2,9 +2,9 @@
 //!
 //! A solver that is asked for the clauses of `bee compile` answers with values, with a refutation,
 //! or, where an objective is sought, with values and a refutation of the clauses and that it is
-//! better. Nothing of it is believed. The text is cut behind the last line that tells values
-//! (`cut.rt`); these are tested against the clauses (`dimacs_read`) and give the value of the
-//! objective; the refutation, with hints or without, is checked and becomes a derivation
+//! better. Nothing of it is believed. The text is cut before the first line of a refutation
+//! (`cut.rt`); the values before it are tested against the clauses (`dimacs_read`) and give the value
+//! of the objective; the refutation, with hints or without, is checked and becomes a derivation
 //! (`proof_import`). With the ledger of the compilation this is the document of an answer, and the
 //! whole document goes through `ledger_check` before it is given, so that its truth rests on the
 //! checker of answers alone (a certifying algorithm: McConnell, Mehlhorn, Naeher and Schweitzer,

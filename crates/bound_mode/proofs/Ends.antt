@@ -3,6 +3,7 @@ use Rattle.std.proofs.Common.{◌≡◌, ℕ, ℤ, ◌+◌, ◌<◌, ◌≤◌, 
 use Rattle.std.specs.Prelude.{Some}
 use Rattle.std.proofs.lemmas.Bool.{true≢false}
 use Rattle.model_meaning.specs.declared.model.Model.{Model}
+use Rattle.answer_document.specs.Goals.{has_objective}
 use Rattle.text_modes.specs.Seen.{Seen, Untouched}
 use Rattle.text_modes.specs.OneText.{OneTextRun}
 use Rattle.text_modes.specs.declared.ends.Outcome.{Outcome}
@@ -15,7 +16,6 @@ use Rattle.model_texts.specs.declared.fault.ModelFault.{ModelFault}
 use Rattle.model_texts.specs.ModelTexts.{longest_text, IsFirstFault}
 use Rattle.model_texts.proofs.FirstFaults.{one_text_fault, no_text_fault}
 use Rattle.model_texts.proofs.OneModel.{one_model}
-use Rattle.objective_bound.specs.Bounds.{has_objective}
 use Rattle.bound_mode.specs.declared.fault.BoundFault.{BoundFault}
 use Rattle.bound_mode.specs.declared.fault.BoundFault.TheVariants.{Model as InModel, NoObjective}
 use Rattle.bound_mode.specs.Bounded.{IsBoundable, HasNone, Bounds, HasFault, Gives}

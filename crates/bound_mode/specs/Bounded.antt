@@ -3,6 +3,7 @@ use Rattle.std.specs.Prelude.{◌≡◌, ◌↔◌, ℕ, ℤ, ◌≤◌, ◌<◌
 use Rattle.model_meaning.specs.declared.model.Goal.{Goal}
 use Rattle.model_meaning.specs.declared.model.Model.{Model}
 use Rattle.model_meaning.specs.Solutions.{IsSolution, objective, is_better}
+use Rattle.answer_document.specs.Goals.{has_objective}
 use Rattle.model_weight.specs.Weight.{weight_of}
 use Rattle.model_lower.specs.Weighed.{most_weight}
 use Rattle.bee_compile.specs.declared.compiled.Compiled.{Compiled}
@@ -11,7 +12,7 @@ use Rattle.dimacs_out.specs.CompiledText.{text_of}
 use Rattle.dimacs_out.specs.TextSolutions.{StandsFor}
 use Rattle.model_texts.specs.ModelTexts.{longest_text, IsModelOf, HasFault as HasModelFault}
 use Rattle.compile_mode.specs.Compiled.{written_of}
-use Rattle.objective_bound.specs.Bounds.{has_objective, with_atom, better_than}
+use Rattle.objective_bound.specs.Bounds.{with_atom, better_than}
 use Rattle.text_modes.specs.declared.ends.Outcome.{Outcome}
 use Rattle.text_modes.specs.declared.ends.Outcome.TheVariants.{Done, Refused, Unknown}
 use Rattle.bound_mode.specs.declared.fault.BoundFault.{BoundFault}

@@ -10,13 +10,13 @@ ghost use Rattle.bee_compile.specs.Fits.{CompiledFits};
 ghost use Rattle.model_texts.specs.ModelTexts.{longest_text, IsCauseOf};
 ghost use Rattle.bound_mode.specs.Bounded.{bounded_by, IsBoundText, Bounds, HasNone};
 
-use answer_document::with_atom;
+use answer_document::{has_objective, with_atom};
 use bee_compile::Compiled;
 use compile_mode::{compile_model, write_compilation};
-use model_lower::LowerFault;
+use model_lower::{LowerFault, weigh};
 use model_meaning::{Goal, Model};
 use model_texts::{ModelTextFault, lower_fault, model_of};
-use objective_bound::{better_than, has_objective};
+use objective_bound::better_than;
 use order_ints::Cnf;
 use std::alloc::{AllocError, Global};
 
@@ -30,7 +30,7 @@ fn bounded(
     requires { CompiledFits compiled }
     ensures { IfOk result (λ c. c ≡ bounded_by goal number compiled) }
 {
-    let better = better_than(alloc, goal, compiled.map.entries.as_slice(), number)?;
+    let better = better_than(goal, compiled.map.entries.as_slice(), number);
     let Compiled {
         cnf,
         decls,
@@ -63,7 +63,7 @@ fn write_bound(alloc: Global, model: Model, number: i64) -> Result<Vec<u8>, Lowe
     Ok(write_compilation(alloc, whole)?)
 }
 
-/// The same of the model that a text says; none where it has no objective.
+/// The same of the model that a text says; none where it has no objective, and then it is weighed alone.
 pub(crate) fn bound_text(
     alloc: Global,
     text: &[u8],
@@ -75,9 +75,14 @@ pub(crate) fn bound_text(
     ensures fault { IfErr result (λ e. IsCauseOf e text.now) }
 {
     let model = model_of(alloc, text)?;
-    let seeks = has_objective(model.goal);
+    if !has_objective(model.goal) {
+        return match weigh(alloc, &model) {
+            Ok(()) => Ok(None),
+            Err(fault) => Err(lower_fault(fault)),
+        };
+    }
     match write_bound(alloc, model, number) {
-        Ok(written) => { if seeks { Ok(Some(written)) } else { Ok(None) } }
+        Ok(written) => Ok(Some(written)),
         Err(fault) => Err(lower_fault(fault)),
     }
 }

@@ -1,3 +1,4 @@
 pub mod CertificateLines
+pub mod Counts
 pub mod Laws
 pub mod NextValues

@@ -8,7 +8,8 @@
 //! (`specs/CertificateLines.antt`), for texts that are read by `line_texts`.
 //!
 //! What it promises: `read_value` gives the value of a name exactly where the line tells one of its
-//! domain, and `push_value` puts that of the next name behind the others. `take_step` and
+//! domain, and `push_value` puts that of the next name behind the others. `read_count` and
+//! `read_spent` give the number that a word of a verdict spells. `take_step` and
 //! `take_derived` take a line exactly where it is the next one (`taken`), and say so; a line that is
 //! not is never made, and nothing of it is believed. `one_line_law`: a line leads to one state, one
 //! derivation, and tells one value. `word_law`: the words that begin the derivation and end the text
@@ -20,12 +21,14 @@
 //! part and what ends it.
 #![tactic(auto)]
 
+mod counts;
 mod derivation;
 mod laws;
 mod next_value;
 mod steps;
 mod values;
 
+pub use counts::{is_count, read_count, read_spent};
 pub use derivation::{checker_of, take_derived};
 pub use laws::{certificate_law, one_line_law, word_law};
 pub use next_value::push_value;

@@ -3,6 +3,7 @@ use Rattle.std.proofs.Common.{◌≡◌, ℕ, ◌+◌, ◌<◌, ◌≤◌, List,
 use Rattle.std.specs.Prelude.{Some}
 use Rattle.std.proofs.lemmas.Bool.{true≢false}
 use Rattle.model_meaning.specs.declared.model.Model.{Model}
+use Rattle.answer_document.specs.Goals.{has_second}
 use Rattle.text_modes.specs.Seen.{Seen, Untouched}
 use Rattle.text_modes.proofs.Idle.{two_idle}
 use Rattle.text_modes.specs.TwoTexts.{Texts, TwoTextRun}
@@ -18,7 +19,7 @@ use Rattle.model_texts.proofs.OneModel.{one_model}
 use Rattle.certify_mode.specs.declared.fault.CertifyFault.{CertifyFault}
 use Rattle.certify_mode.specs.declared.fault.CertifyFault.TheVariants.{Model as InModel, TwoObjectives}
 use Rattle.certify_mode.specs.declared.holding.HeldCompilation.{HeldCompilation}
-use Rattle.certify_mode.specs.Holding.{has_two, HoldsCompiled, HasTwo, HasFault}
+use Rattle.certify_mode.specs.Holding.{HoldsCompiled, HasTwo, HasFault}
 use Rattle.certify_mode.specs.Certified.{IsCertifying, Gives}
 use Rattle.certify_mode.specs.CertifyMode.{HasModel, CertifyMode}
 use Rattle.text_modes.proofs.TwoFree.{faulty, finishes}
@@ -30,7 +31,7 @@ model_or_fault text model fault h k = no_text_fault text fault model h.within h.
 one_or_two : (text : List ℕ) (held : HeldCompilation) → HoldsCompiled text held → HasTwo text → ⊥
 one_or_two text held h k =
     let same : held.model ≡ k.model = one_model text held.model k.model h.light.model.says k.held.says in
-    true≢false (sym k.two ∙ ap (λ (m : Model). has_two m.goal) (sym same) ∙ h.one)
+    true≢false (sym k.two ∙ ap (λ (m : Model). has_second m.goal) (sym same) ∙ h.one)
 
 fit_or_fault : (text : List ℕ) (fault : CertifyFault) → HasModel text → HasFault text fault → ⊥
 fit_or_fault text (InModel fault) h k = model_or_fault text h.0.model fault h.1.light.model k

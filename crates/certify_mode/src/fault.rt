@@ -15,7 +15,7 @@ pub enum CertifyFault {
 }
 
 /// What stands against a line of what another solver found.
-#[derive(Clone, Copy, PartialEq, Eq)]
+#[derive(Clone, Copy)]
 pub enum RefusedFinding {
     /// It is no next line of values that satisfy the clauses, or of a refutation.
     Misfit,

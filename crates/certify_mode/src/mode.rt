@@ -4,7 +4,7 @@ ghost use Rattle.text_modes.specs.Seen.{seen, shelf_shown, sink_shown};
 ghost use Rattle.certify_mode.specs.CertifyMode.{CertifyMode};
 
 use crate::fault::{CertifyFault, RefusedFinding};
-use crate::holding::{HeldCompilation, has_two, held_compilation};
+use crate::holding::{HeldCompilation, held_compilation};
 use crate::making::certify_text;
 use bee_outside::{Shelf, Sink};
 use model_texts::{LONGEST_TEXT, ModelFault, ModelTextFault};
@@ -51,13 +51,8 @@ impl TwoTexts for Certifying<'_> {
         first: &[u8],
     ) -> Result<Result<HeldCompilation, CertifyFault>, AllocError> {
         match held_compilation(alloc, first) {
-            Ok(held) => {
-                if has_two(held.model.goal) {
-                    Ok(Err(CertifyFault::TwoObjectives))
-                } else {
-                    Ok(Ok(held))
-                }
-            }
+            Ok(Some(held)) => Ok(Ok(held)),
+            Ok(None) => Ok(Err(CertifyFault::TwoObjectives)),
             Err(ModelTextFault::Model(fault)) => Ok(Err(CertifyFault::Model(fault))),
             Err(ModelTextFault::Memory) => Err(AllocError),
         }

@@ -13,19 +13,21 @@ use Rattle.model_meaning.specs.declared.model.Goal.TheVariants.{Satisfy, Minimiz
 use Rattle.model_meaning.specs.declared.model.Model.{Model}
 use Rattle.model_meaning.specs.Domains.{domain}
 use Rattle.model_meaning.specs.Integers.{is_member}
+use Rattle.answer_document.specs.Goals.{has_second, has_objective}
 use Rattle.answer_document.specs.declared.verdict.Bounds.{Bounds}
 use Rattle.answer_document.specs.declared.verdict.Verdict.{Verdict}
 use Rattle.answer_document.specs.declared.verdict.Verdict.TheVariants.{Satisfiable, Unsatisfiable, Optimum, Unknown}
 use Rattle.answer_document.specs.Verdicts.{verdict_text, HaveSecond, BoundsFit, VerdictFits}
-use Rattle.answer_document.specs.DocumentText.{is_there, has_second, version_line, best_line, best_lines}
+use Rattle.answer_document.specs.DocumentText.{version_line, best_line, best_lines}
 use Rattle.name_map.specs.ValueLines.{declared_word, declared_line, declared_lines}
 use Rattle.answer_document.specs.Valid.{stated, FitNumbers, FitValues}
+use Rattle.certificate_lines.specs.Counts.{is_count}
 use Rattle.ledger_check.specs.declared.part.Part.{Part}
 use Rattle.ledger_check.specs.declared.part.Part.TheVariants as part
 use Rattle.ledger_check.specs.declared.told.Told.TheVariants.{Truth, Number}
 use Rattle.ledger_check.specs.declared.told.Told.{Told}
 use Rattle.ledger_check.specs.Items.{Standing, told_word, told_line, HasNumbers, IsVerdictLine, IsToldValue, IsNameLeft}
-use Rattle.ledger_check.specs.Tests.{has_objective, is_count, verdict_fits, behind_verdict, with_best, member_or_none, told_number, told_of}
+use Rattle.ledger_check.specs.Tests.{verdict_fits, behind_verdict, with_best, member_or_none, told_number, told_of}
 use Rattle.ledger_check.specs.Fronts.{head_lines, AreMembers, IsFresh, HasAnswer, AtStart, AtVerdict, AtBest, AtValues, KnownIn}
 
 same-bools : (a b : Bool) → beq a b ≡ true → a ≡ b
@@ -41,7 +43,7 @@ no-objective Satisfy e = refl
 no-objective (Minimize place second) e = absurd (false≢true e)
 no-objective (Maximize place second) e = absurd (false≢true e)
 
-both-second : (second : Option ℕ) (n : Option ℤ) → is_some n ≡ is_there second → HaveSecond second n
+both-second : (second : Option ℕ) (n : Option ℤ) → is_some n ≡ is_some second → HaveSecond second n
 both-second None None e = tt
 both-second None (Some n) e = absurd (true≢false e)
 both-second (Some place) None e = absurd (false≢true e)

@@ -9,11 +9,12 @@ use Rattle.ledger_text.specs.declared.line.Line.{Line}
 use Rattle.ledger_text.specs.Steps.{step_text}
 use Rattle.proof_check.specs.declared.line.ProofLine.{ProofLine}
 use Rattle.proof_check.specs.Lines.{line_bytes, IsReadable}
+use Rattle.answer_document.specs.Goals.{has_second}
 use Rattle.answer_document.specs.declared.verdict.Bounds.{Bounds}
 use Rattle.answer_document.specs.declared.verdict.Verdict.{Verdict}
 use Rattle.answer_document.specs.declared.verdict.Verdict.TheVariants.{Satisfiable, Unsatisfiable, Optimum, Unknown}
 use Rattle.answer_document.specs.Verdicts.{verdict_text}
-use Rattle.answer_document.specs.DocumentText.{has_second, best_line}
+use Rattle.answer_document.specs.DocumentText.{best_line}
 use Rattle.answer_document.specs.Valid.{stated, FitNumbers}
 use Rattle.answer_document.specs.Told.{FitsCount}
 use Rattle.answer_document.proofs.LinesTell.{best-tells, verdict_told, verdict-tells, step-tells, step-begins}

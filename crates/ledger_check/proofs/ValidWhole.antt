@@ -23,12 +23,13 @@ use Rattle.proof_check.specs.declared.line.ProofLine.{ProofLine}
 use Rattle.proof_check.specs.Lines.{line_bytes}
 use Rattle.proof_check.specs.Lrat.{Proof, proof_of}
 use Rattle.proof_check.specs.Known.{known}
+use Rattle.answer_document.specs.Goals.{has_second, has_objective}
 use Rattle.answer_document.specs.declared.verdict.Bounds.{Bounds}
 use Rattle.answer_document.specs.declared.verdict.Verdict.{Verdict}
 use Rattle.answer_document.specs.declared.verdict.Verdict.TheVariants.{Satisfiable, Unsatisfiable, Optimum, Unknown}
 use Rattle.answer_document.specs.declared.document.Document.{Document}
 use Rattle.answer_document.specs.Verdicts.{numbers_in, verdict_text, is_certified, HaveSecond, BoundsFit, VerdictFits}
-use Rattle.answer_document.specs.DocumentText.{is_there, has_second, version_line, best_line, best_lines, assignment_lines, second_lines, certificate_lines, document_lines}
+use Rattle.answer_document.specs.DocumentText.{version_line, best_line, best_lines, assignment_lines, second_lines, certificate_lines, document_lines}
 use Rattle.name_map.specs.ValueLines.{declared_lines}
 use Rattle.answer_document.specs.Claims.{IsSolutionAt}
 use Rattle.answer_document.specs.Valid.{start_of, stated, IsShown, IsDerived, IsSecond, AreShown, AreAdded, AreAddedAlone, IsCertified, IsReadableDocument, IsReadableSecond, AnswerHolds, numbers_given, FitNumbers, FitValues, FitAssignment, IsValid}
@@ -38,7 +39,7 @@ use Rattle.ledger_check.specs.declared.part.Part.{Part}
 use Rattle.ledger_check.specs.declared.part.Part.TheVariants as part
 use Rattle.ledger_check.specs.declared.fault.Why.TheVariants as why
 use Rattle.ledger_check.specs.Items.{Version, Answer, Best, LedgerBegins, ProofBegins, SecondBegins, End, Standing, HasNumbers, IsVerdictLine, may_have_second, must_have_second}
-use Rattle.ledger_check.specs.Tests.{start_standing, has_objective, verdict_fits, behind_verdict, same_numbers, objective_fault, statement_fault, values_fault, is_shown, is_optimal, is_concluded, when, unless, taken, second_begun, fixed_cnf}
+use Rattle.ledger_check.specs.Tests.{start_standing, verdict_fits, behind_verdict, same_numbers, objective_fault, statement_fault, values_fault, is_shown, is_optimal, is_concluded, when, unless, taken, second_begun, fixed_cnf}
 use Rattle.ledger_check.specs.Reading.{IsNext, IsEnd}
 use Rattle.ledger_check.proofs.Backward.{standing, values-lead, ledger-lead, proof-lead, more-lead}
 
@@ -80,7 +81,7 @@ equal-numbers (x ∷ xs) = both (int_eq x x) (same_numbers xs xs) (itself x) (eq
 
 -- The verdict fits the goal.
 
-some-second : (second : Option ℕ) (n : Option ℤ) → HaveSecond second n → is_some n ≡ is_there second
+some-second : (second : Option ℕ) (n : Option ℤ) → HaveSecond second n → is_some n ≡ is_some second
 some-second None None h = refl
 some-second None (Some n) h = absurd h
 some-second (Some place) None h = absurd h

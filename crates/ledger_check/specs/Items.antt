@@ -14,11 +14,12 @@ use Rattle.proof_check.specs.declared.line.ProofLine.{ProofLine}
 use Rattle.proof_check.specs.Lines.{line_bytes, IsReadable}
 use Rattle.proof_check.specs.Lrat.{Proof}
 use Rattle.step_kernel.specs.Kernel.{Kernel}
+use Rattle.answer_document.specs.Goals.{has_second}
 use Rattle.answer_document.specs.declared.verdict.Bounds.{Bounds}
 use Rattle.answer_document.specs.declared.verdict.Verdict.{Verdict}
 use Rattle.answer_document.specs.declared.verdict.Verdict.TheVariants.{Satisfiable, Unsatisfiable, Optimum, Unknown}
 use Rattle.answer_document.specs.Verdicts.{verdict_text, is_certified}
-use Rattle.answer_document.specs.DocumentText.{has_second, best_line}
+use Rattle.answer_document.specs.DocumentText.{best_line}
 use Rattle.ledger_check.specs.declared.told.Told.{Told}
 use Rattle.ledger_check.specs.declared.told.Told.TheVariants.{Truth, Number}
 use Rattle.ledger_check.specs.declared.part.Part.{Part}

@@ -27,13 +27,14 @@ use Rattle.proof_check.specs.declared.fault.ProofFault.TheVariants.{Id}
 use Rattle.proof_check.specs.declared.line.ProofLine.{ProofLine}
 use Rattle.proof_check.specs.Lrat.{Proof, proof_of, take_line}
 use Rattle.proof_check.specs.Known.{known}
+use Rattle.answer_document.specs.Goals.{has_second, has_objective}
 use Rattle.answer_document.specs.declared.verdict.Bounds.{Bounds}
 use Rattle.answer_document.specs.declared.verdict.Verdict.{Verdict}
 use Rattle.answer_document.specs.declared.verdict.Verdict.TheVariants.{Satisfiable, Unsatisfiable, Optimum, Unknown}
 use Rattle.answer_document.specs.Verdicts.{numbers_in}
-use Rattle.answer_document.specs.DocumentText.{has_second}
 use Rattle.answer_document.specs.BoundAtoms.{first_bound, second_bound, fixed}
 use Rattle.answer_document.specs.Valid.{start_of, atom_clauses, stated}
+use Rattle.certificate_lines.specs.Counts.{is_count}
 use Rattle.ledger_check.specs.declared.part.Part.{Part}
 use Rattle.ledger_check.specs.declared.part.Part.TheVariants as part
 use Rattle.ledger_check.specs.declared.fault.Why.{Why}
@@ -54,16 +55,6 @@ start_standing model = record {
   first = None;
   second = None;
 }
-
--- whether something is sought
-abbrev pub has_objective : Goal → Bool
-has_objective Satisfy = false
-has_objective (Minimize place second) = true
-has_objective (Maximize place second) = true
-
--- a number of learned clauses is from 1 and below 2 ^ 63
-abbrev pub is_count : ℕ → Bool
-is_count n = nat_lt 0 n && nat_lt n (2 ^ 63)
 
 -- whether a verdict fits a goal
 abbrev pub verdict_fits : Goal → Verdict → Bool

@@ -14,14 +14,13 @@ ghost use Rattle.ledger_check.specs.Tests.{is_concluded, is_first_shown, is_seco
 ghost use Rattle.ledger_check.specs.Tests.{additions_in, when};
 ghost use Rattle.ledger_check.specs.Taken.{standing_of, Took, Takes, Derives, IsWithin, IsLater};
 
-use crate::bounds::{
-    adds_up, checker_of, first_bound, fixed, fixed_checker, is_shown, second_bound, stated,
-};
+use crate::bounds::{adds_up, fixed_checker, is_shown, stated};
 use crate::fault::Why;
 use crate::part::Part;
 use crate::reading::Reading;
 use crate::words::is;
-use answer_document::{Bounds, Verdict};
+use answer_document::{Bounds, Verdict, first_bound, fixed, second_bound};
+use certificate_lines::checker_of;
 use ledger_text::{Line, read_step};
 use model_meaning::Model;
 use order_ints::resolve;

@@ -34,4 +34,3 @@ mod words;
 pub use checking::{Judgement, check, check_lowered};
 pub use fault::{CheckFault, Why};
 pub use laws::{first_fault_law, reading_law};
-pub use part::Part;

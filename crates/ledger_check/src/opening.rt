@@ -1,9 +1,8 @@
 //! Taking the lines up to the last value.
 
 ghost use Rattle.std.specs.Prelude.{◌≡◌, ◌<◌, ◌&&◌, IfOk, Some, None};
-ghost use Rattle.answer_document.specs.DocumentText.{has_second};
 ghost use Rattle.ledger_check.specs.Items.{Version, Answer, Best, Value, IsNameLeft};
-ghost use Rattle.ledger_check.specs.Tests.{has_objective, is_count, verdict_fits, behind_verdict, with_best};
+ghost use Rattle.ledger_check.specs.Tests.{verdict_fits, behind_verdict, with_best};
 ghost use Rattle.ledger_check.specs.Tests.{told_number, with_value, taken_in};
 ghost use Rattle.ledger_check.specs.Taken.{standing_of, Took, Takes, IsLater};
 
@@ -13,39 +12,10 @@ use crate::part::Part;
 use crate::reading::Reading;
 use crate::told::Told;
 use crate::words::is;
-use answer_document::{Bounds, Verdict};
-use certificate_lines::is_value;
+use answer_document::{Bounds, Verdict, has_objective, has_second};
+use certificate_lines::{is_count, is_value};
 use model_meaning::{Goal, Kind, Model};
 use std::alloc::AllocError;
-
-/// Whether two objectives are sought.
-pub(crate) fn has_second(goal: Goal) -> bool
-    ensures { result ≡ has_second goal }
-{
-    match goal {
-        Goal::Satisfy => false,
-        Goal::Minimize(_, second) => second.is_some(),
-        Goal::Maximize(_, second) => second.is_some(),
-    }
-}
-
-/// Whether something is sought.
-fn has_objective(goal: Goal) -> bool
-    ensures { result ≡ has_objective goal }
-{
-    match goal {
-        Goal::Satisfy => false,
-        Goal::Minimize(..) => true,
-        Goal::Maximize(..) => true,
-    }
-}
-
-/// Whether so many clauses may be learned.
-fn is_count(n: u64) -> bool
-    ensures { result ≡ is_count n }
-{
-    0 < n && n < (1 << 63)
-}
 
 /// Whether a verdict goes with a goal.
 fn verdict_fits(goal: Goal, verdict: Verdict) -> bool

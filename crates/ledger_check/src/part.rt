@@ -2,7 +2,7 @@
 
 /// Which line of a document may stand next.
 #[derive(Clone, Copy, PartialEq, Eq)]
-pub enum Part {
+pub(crate) enum Part {
     /// The version of the form.
     Version,
     /// The verdict.

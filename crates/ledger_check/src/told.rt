@@ -1,7 +1,7 @@
 //! The value of a name, as a text tells it.
 
 /// The word of a Boolean, or a number.
-#[derive(Clone, Copy, PartialEq, Eq)]
+#[derive(Clone, Copy)]
 pub enum Told {
     /// `true` or `false`.
     Truth(bool),

@@ -25,8 +25,9 @@ use Rattle.model_meaning.specs.WellTyped.{IsInt, ObjectiveFits, GoalFits}
 use Rattle.name_map.specs.Fits.{ValueFits, ValuesFit}
 use Rattle.statement_lower.specs.Entries.{AreOrdered}
 use Rattle.statement_lower.specs.Terms.{integer_at}
+use Rattle.answer_document.specs.Goals.{has_objective}
 use Rattle.answer_document.specs.BoundAtoms.{integer_named}
-use Rattle.objective_bound.specs.Bounds.{better_than, has_objective}
+use Rattle.objective_bound.specs.Bounds.{better_than}
 
 less-is : (v w : ℤ) → v <ℤ w → int_lt v w ≡ true
 less-is v w h = grind (arith, ints)

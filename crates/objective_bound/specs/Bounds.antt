@@ -10,12 +10,6 @@ use Rattle.model_meaning.specs.declared.model.Goal.TheVariants.{Satisfy, Minimiz
 use Rattle.answer_document.specs.BoundAtoms.{integer_named, first_bound}
 use Rattle.answer_document.specs.Valid.{atom_clauses}
 
--- whether something is sought of a solution
-abbrev pub has_objective : Goal → Bool
-has_objective Satisfy = false
-has_objective (Minimize place second) = true
-has_objective (Maximize place second) = true
-
 -- the value of the objective under truth values
 abbrev pub value_at : Goal → List MapValue → List Bool → ℤ
 value_at Satisfy entries values = pos 0

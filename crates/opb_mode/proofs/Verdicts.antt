@@ -84,12 +84,14 @@ module _ (opb : Opb) (fit : OpbFits opb) where
       record { assignment = assignment; cost = stated-cost opb.objective assignment.truths s (sym (valued a assignment) ∙ h.objective) }
 
   least : (a : List ℤ) (s : Bounds) → IsOptimum (opb_model opb) a s → IsLeast opb a s
-  least a s h = record { solves = solves-at a s h.solution; least = λ b cost solves e. at-least b cost solves e }
+  least a s h = record { solves = solves-at a s (record { solution = h.best.solution; objective = h.objective }); least = λ b cost solves e. at-least b cost solves e }
     where
       at-least : (b : List Bool) (cost : ℤ) → Solves opb b → costs opb.objective b ≡ cost ∷ [] → s.first ≤ℤ cost
       at-least b cost solves e =
           let other : SolvesAs opb (numbers_of opb b) = record { truths = b; solves = solves; numbers = refl } in
-          let not_better = h.best (numbers_of opb b) ((solutions (numbers_of opb b)).1 other) in
+          let not_better : IsFalse (is_better (goal_of opb.vars opb.objective) (objective (goal_of opb.vars opb.objective) (numbers_of opb b)) (numbers_in s)) =
+          subst (λ (ns : List ℤ). IsFalse (is_better (goal_of opb.vars opb.objective) (objective (goal_of opb.vars opb.objective) (numbers_of opb b)) ns)) h.objective
+          (h.best.best (numbers_of opb b) ((solutions (numbers_of opb b)).1 other)) in
           let P : List ℤ → Type 0 = λ l. IsFalse (is_better (goal_of opb.vars opb.objective) l (numbers_in s)) in
           better opb.vars opb.objective b s cost (subst P (valued (numbers_of opb b) other) not_better) e
 

@@ -32,7 +32,7 @@ use std::sync::ledger::Ledger;
 use step_kernel::State;
 
 /// How large a CNF is.
-#[derive(Clone, Copy, PartialEq, Eq)]
+#[derive(Clone, Copy)]
 pub struct CnfSize {
     /// The number of its variables.
     pub variables: u32,
@@ -245,27 +245,4 @@ pub fn answer_owned_watched<F: Oracle<L>, L: Ledger, W: SolutionWatcher>(
         size: answered.size,
         decls,
     })
-}
-
-/// The answer to a model that is used up, as by `answer_owned_watched`, of which nobody is told.
-pub fn answer_owned<F: Oracle<L>, L: Ledger>(
-    alloc: Global,
-    model: Model,
-    options: SearchOptions,
-    oracle: F,
-    steps: &mut Steps<L>,
-) -> Result<AnsweredModel, LowerFault>
-    requires typed { WellTyped model }
-    requires limits { InLimits model }
-    requires budget { IsBudget options.budget }
-    ensures light { IfOk result (λ a. weight_of model ≤ most_weight) }
-    ensures answer { IfOk result (λ a. IsAnswer F.told model options a.document steps.old steps.new) }
-    ensures decls { IfOk result (λ a. a.decls ≡ model.decls) }
-
-    // The size is that of the CNF of the state to which the ledger leads.
-    ensures size { IfOk result (λ a. (last : Kernel) → IsCompilation F.told (start_of model) a.document.ledger last
-        → a.size ≡ size_of (cnf_of last)) }
-    ensures heavy { IfErr result (λ e. IsFaultOf e model) }
-{
-    answer_owned_watched(alloc, model, options, oracle, steps, &mut Silent)
 }

@@ -16,7 +16,7 @@ use search_watcher::Watcher;
 use std::alloc::{AllocError, Global};
 
 /// How a search for something better ended.
-#[derive(Clone, Copy, PartialEq, Eq)]
+#[derive(Clone, Copy)]
 pub enum Ended {
     /// Nothing is better, and the log shows it.
     Shown,

@@ -9,9 +9,9 @@ ghost use Rattle.learning_solver.specs.Log.{additions};
 ghost use Rattle.decode_minimize.specs.Seeking.{IsSeeking, IsTurned, IsImproved};
 ghost use Rattle.decode_minimize.specs.Heard.{IsHeard};
 
-use crate::asking::{Ended, Round};
+use crate::asking::Ended;
 use crate::objective::{Direction, bound_of, value_under};
-use crate::seeker::Seeker;
+use crate::seeker::{Seeker, ValuedRound};
 use crate::solved::Names;
 use crate::telling::tell;
 use crate::watching::SolutionWatcher;
@@ -43,15 +43,15 @@ pub struct Best {
     pub number: i64,
 }
 
-/// Takes truth values that are better.
-fn take(sought: &Sought<'_>, best: &mut Best, values: Sequence<bool>)
+/// A solution, with its value of what is sought.
+pub fn best_of(sought: &Sought<'_>, values: Sequence<bool>) -> Best
     requires { IsObjective (length sought.now.view.now + 1) sought.now.integer.now }
-    ensures values { best.new.values ≡ values }
-    ensures number { best.new.number ≡ value_of (read_by sought.now.view.now (valuation_of values))
-        sought.now.integer.now }
+    ensures values { result.values ≡ values }
+    ensures number { result.number
+        ≡ value_of (read_by sought.now.view.now (valuation_of values)) sought.now.integer.now }
 {
     let number = value_under(sought.integer, sought.view, values.as_slice());
-    *best = Best { values, number };
+    Best { values, number }
 }
 
 /// One round: asks for a better value than the best one so far, and tells of it; where none is found, how the search
@@ -79,12 +79,12 @@ fn improve_once<W: SolutionWatcher>(
         bound_of(sought.direction, sought.integer, best.number),
     );
     match seeker.ask(sought, bound, options, watcher)? {
-        Round::Better(values) => {
-            take(sought, best, values);
+        ValuedRound::Better(found) => {
+            *best = found;
             tell(&sought.names, best.values.as_slice(), watcher);
             Ok(None)
         }
-        Round::Last(ended) => Ok(Some(ended)),
+        ValuedRound::Last(ended) => Ok(Some(ended)),
     }
 }
 

@@ -8,7 +8,7 @@
 //! round that finds values leaves fewer, and their number bounds the rounds. A second objective
 //! gets a new solver over the same clauses and one more, that the first is no worse.
 //!
-//! What `answer` and `answer_owned` promise: the text of the document is a valid answer (`valid`),
+//! What `answer` and `answer_owned_watched` promise: the document's text is a valid answer (`valid`),
 //! so what it says is true by `claim_law`; the ledger is that of a whole compilation
 //! (`compilation`, `solutions`); derivations add new clauses and delete only those (`fresh`,
 //! `second`), within the budget (`within`), which is spent where the verdict is UNKNOWN (`spent`);
@@ -40,8 +40,5 @@ mod solving;
 mod telling;
 mod watching;
 
-pub use answering::{
-    AnsweredModel, CnfSize, answer, answer_owned, answer_owned_watched, answer_watched,
-};
-pub use search_options::SearchOptions as Options;
+pub use answering::{AnsweredModel, CnfSize, answer, answer_owned_watched, answer_watched};
 pub use watching::SolutionWatcher;

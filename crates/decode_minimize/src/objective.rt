@@ -1,51 +1,23 @@
 //! One objective.
 
-ghost use Rattle.std.specs.Prelude.{◌≡◌, ◌+◌, pos, length};
-ghost use Rattle.order_ints.specs.OrderMade.{constant_of};
+ghost use Rattle.std.specs.Prelude.{◌≡◌, ◌+◌, length};
 ghost use Rattle.order_ints.specs.OrderRange.{IsBounded};
 ghost use Rattle.order_ints.specs.OrderValue.{value_of};
 ghost use Rattle.order_ints.specs.Truth.{valuation_of};
 ghost use Rattle.state_compile.specs.StandsFor.{read_by};
-ghost use Rattle.answer_document.specs.BoundAtoms.{integer_named, at_least, at_most};
 ghost use Rattle.decode_minimize.specs.Objectives.{bound_of, no_worse_of, IsObjective};
 
+use answer_document::{at_least, at_most};
 use model_decode::StoreReading;
-use order_ints::{Atom, MapValue, OrdInt};
+use order_ints::{Atom, OrdInt};
 
 /// Which value is sought.
-#[derive(Clone, Copy, PartialEq, Eq)]
+#[derive(Clone, Copy)]
 pub enum Direction {
     /// The least one.
     Least,
     /// The greatest one.
     Greatest,
-}
-
-/// What a name stands for, as an integer; `zero` for one that stands for none.
-pub fn integer_named<'a>(entries: &'a [MapValue], place: usize, zero: &'a OrdInt) -> &'a OrdInt
-    requires { zero.now ≡ constant_of (pos 0) }
-    ensures { result.now ≡ integer_named entries.now place }
-{
-    match entries.get(place) {
-        Some(MapValue::Int(integer)) => integer,
-        _ => zero,
-    }
-}
-
-/// The atom that says that an integer is at least a number.
-fn at_least(integer: &OrdInt, number: i64) -> Atom
-    requires { IsBounded integer.now }
-    ensures { result ≡ at_least integer.now number }
-{
-    integer.at(i128::from(number))
-}
-
-/// The atom that says that an integer is at most a number.
-fn at_most(integer: &OrdInt, number: i64) -> Atom
-    requires { IsBounded integer.now }
-    ensures { result ≡ at_most integer.now number }
-{
-    integer.at(i128::from(number) + 1).not()
 }
 
 /// The atom that says that an integer is no better than a number.

@@ -1,21 +1,16 @@
 //! The rounds of a solver, from its first one to its log.
 
-ghost use Rattle.std.specs.Prelude.{◌≡◌, ◌+◌, ◌≤◌, Some, IfOk, length};
-ghost use Rattle.order_ints.specs.OrderValue.{value_of};
-ghost use Rattle.order_ints.specs.Truth.{valuation_of};
-ghost use Rattle.state_compile.specs.StandsFor.{read_by};
+ghost use Rattle.std.specs.Prelude.{◌≡◌, ◌≤◌, Some, IfOk};
 ghost use Rattle.learning_solver.specs.Log.{additions};
 ghost use Rattle.learning_solver.specs.Outcome.{most_learned};
-ghost use Rattle.decode_minimize.specs.Objectives.{IsObjective};
 ghost use Rattle.decode_minimize.specs.Rounds.{AreSatisfying};
 ghost use Rattle.decode_minimize.specs.Seeking.{IsSeeking};
 ghost use Rattle.decode_minimize.specs.Heard.{IsHeard};
 ghost use Rattle.decode_minimize.specs.Solved.{IsSolvable, IsSeekable, IsProgress, IsFirst};
 
-use crate::asking::{Ended, Round};
-use crate::improving::{Best, Sought, improve};
-use crate::objective::value_under;
-use crate::seeker::Seeker;
+use crate::asking::Ended;
+use crate::improving::{Best, Sought, best_of, improve};
+use crate::seeker::{Seeker, ValuedRound};
 use crate::solved::{First, Progress};
 use crate::telling::tell;
 use crate::watching::SolutionWatcher;
@@ -23,17 +18,6 @@ use bee_list::Sequence;
 use order_ints::{Atom, Cnf};
 use search_options::SearchOptions;
 use std::alloc::AllocError;
-
-/// A solution, with its value of what is sought.
-fn best_of(sought: &Sought<'_>, values: Sequence<bool>) -> Best
-    requires { IsObjective (length sought.now.view.now + 1) sought.now.integer.now }
-    ensures values { result.values ≡ values }
-    ensures number { result.number
-        ≡ value_of (read_by sought.now.view.now (valuation_of values)) sought.now.integer.now }
-{
-    let number = value_under(sought.integer, sought.view, values.as_slice());
-    Best { values, number }
-}
 
 /// The rounds of a seeker from a solution on. It may have made one search before.
 fn rounds_from<W: SolutionWatcher>(
@@ -74,10 +58,9 @@ pub fn first_rounds<W: SolutionWatcher>(
 {
     let mut seeker = Seeker::with(sought.names.alloc, cnf)?;
     match seeker.ask(sought, Atom::False, options, watcher)? {
-        Round::Last(Ended::Shown) => Ok(First::Refuted(seeker.into_log().into_lines())),
-        Round::Last(Ended::Spent) => Ok(First::GivenUp(seeker.into_log().into_lines())),
-        Round::Better(values) => {
-            let best = best_of(sought, values);
+        ValuedRound::Last(Ended::Shown) => Ok(First::Refuted(seeker.into_log().into_lines())),
+        ValuedRound::Last(Ended::Spent) => Ok(First::GivenUp(seeker.into_log().into_lines())),
+        ValuedRound::Better(best) => {
             tell(&sought.names, best.values.as_slice(), watcher);
             let progress = rounds_from(seeker, sought, best, options, watcher)?;
             Ok(First::Found(progress))

@@ -11,11 +11,10 @@ ghost use Rattle.learning_solver.specs.Outcome.{most_learned};
 ghost use Rattle.answer_document.specs.Valid.{AreReadableLines};
 ghost use Rattle.decode_minimize.specs.Objectives.{bound_of, IsObjective};
 ghost use Rattle.decode_minimize.specs.Rounds.{IsRound};
-ghost use Rattle.decode_minimize.specs.Incumbents.{incumbent_behind};
+ghost use Rattle.decode_minimize.specs.Incumbents.{incumbent_behind, round_of, IsValued};
 
 use crate::asking::{Ended, Round, ask_bound, solver_of};
-use crate::improving::{Best, Sought};
-use crate::objective::value_under;
+use crate::improving::{Best, Sought, best_of};
 use bee_list::Sequence;
 use learning_solver::{Aim, Solver};
 use order_ints::{Atom, Cnf};
@@ -37,6 +36,15 @@ pub struct Seeker<'a> {
 pub struct SeekerLog {
     lines: Sequence<ProofLine>,
     incumbent: Option<i64>,
+}
+
+/// What a round of a seeker came to.
+#[derive(Drop)]
+pub enum ValuedRound {
+    /// A solution, which is the incumbent from then on.
+    Better(Best),
+    /// None was found, and this is how the search ended.
+    Last(Ended),
 }
 
 impl<'a> Seeker<'a> {
@@ -87,17 +95,18 @@ impl<'a> Seeker<'a> {
         bound: Atom,
         options: SearchOptions,
         watcher: &mut W,
-    ) -> Result<Round, AllocError>
+    ) -> Result<ValuedRound, AllocError>
         requires objective { IsObjective (length sought.now.view.now + 1) sought.now.integer.now }
         requires below { AtomBelow (self.old.solver.cnf.vars + 1) bound }
         requires better { IfSome self.old.incumbent
             (λ n. bound ≡ resolve sought.now.view.now (bound_of sought.now.direction sought.now.integer.now n)) }
         requires budget { additions self.old.solver.log ≤ options.budget }
         ensures cnf { self.new.solver.cnf ≡ self.old.solver.cnf }
-        ensures round { IfOk result (IsRound self.new.solver bound) }
-        ensures incumbent { IfOk result (λ r. self.new.incumbent ≡ incumbent_behind sought.now self.old.incumbent r) }
-        ensures spent { result ≡ Ok (Round.Last Ended.Spent) → additions self.new.solver.log ≡ options.budget }
-        ensures spent_early { result ≡ Ok (Round.Last Ended.Spent) → additions self.new.solver.log
+        ensures round { IfOk result (λ s. IsRound self.new.solver bound (round_of s)) }
+        ensures number { IfOk result (IsValued sought.now) }
+        ensures incumbent { IfOk result (λ s. self.new.incumbent ≡ incumbent_behind self.old.incumbent s) }
+        ensures spent { result ≡ Ok (ValuedRound.Last Ended.Spent) → additions self.new.solver.log ≡ options.budget }
+        ensures spent_early { result ≡ Ok (ValuedRound.Last Ended.Spent) → additions self.new.solver.log
             < additions self.old.solver.log + most_learned options.restart self.old.solver.cnf.vars }
         ensures within { additions self.new.solver.log ≤ options.budget }
         ensures most { additions self.new.solver.log
@@ -105,9 +114,14 @@ impl<'a> Seeker<'a> {
         ensures unasked { bound ≡ Atom.True → additions self.new.solver.log ≡ additions self.old.solver.log }
     {
         self.set_aim();
-        let round = ask_bound(&mut self.solver, bound, options, watcher)?;
-        self.incumbent = seen(sought, self.incumbent, &round);
-        Ok(round)
+        match ask_bound(&mut self.solver, bound, options, watcher)? {
+            Round::Better(values) => {
+                let best = best_of(sought, values);
+                self.incumbent = Some(best.number);
+                Ok(ValuedRound::Better(best))
+            }
+            Round::Last(ended) => Ok(ValuedRound::Last(ended)),
+        }
     }
 
     /// Its log, with the incumbent.
@@ -123,17 +137,6 @@ impl<'a> Seeker<'a> {
             lines: solver.into_log(),
             incumbent,
         }
-    }
-}
-
-/// The incumbent behind a round.
-fn seen(sought: &Sought<'_>, incumbent: Option<i64>, round: &Round) -> Option<i64>
-    requires { IsObjective (length sought.now.view.now + 1) sought.now.integer.now }
-    ensures { result ≡ incumbent_behind sought.now incumbent round.now }
-{
-    match round {
-        Round::Better(values) => Some(value_under(sought.integer, sought.view, values.as_slice())),
-        Round::Last(_) => incumbent,
     }
 }
 

@@ -15,11 +15,11 @@ ghost use Rattle.decode_minimize.specs.Solved.{IsBestSolved, IsSolvedFor, IsMade
 use crate::asking::{Ended, Round, ask_bound, solver_of};
 use crate::fixing::{additions, fix};
 use crate::improving::{Best, Sought};
-use crate::objective::{Direction, integer_named, no_worse_of, value_under};
+use crate::objective::{Direction, no_worse_of, value_under};
 use crate::rounds::{first_rounds, rounds_behind};
 use crate::solved::{First, Names, Progress, Solved};
 use crate::watching::SolutionWatcher;
-use answer_document::{Bounds, Verdict};
+use answer_document::{Bounds, Verdict, integer_named};
 use bee_list::Sequence;
 use model_decode::decode;
 use model_meaning::Goal;
@@ -28,6 +28,15 @@ use proof_check::ProofLine;
 use search_options::SearchOptions;
 use search_watcher::Watcher;
 use std::alloc::AllocError;
+
+/// What is sought: the best value of the integer at a place, and then that of the one at a second place, where there
+/// is one.
+#[derive(Clone, Copy)]
+struct Objectives {
+    direction: Direction,
+    place: usize,
+    second: Option<usize>,
+}
 
 /// That there is no solution.
 pub fn refuted(proof: Sequence<ProofLine>) -> Solved
@@ -142,23 +151,22 @@ fn with_one(
 /// The best value of one objective.
 fn solve_one<W: SolutionWatcher>(
     cnf: &Cnf,
-    names: &Names<'_>,
     sought: &Sought<'_>,
     options: SearchOptions,
     watcher: &mut W,
 ) -> Result<Solved, AllocError>
-    requires problem { IsProblem (problem_of names.now cnf.now) }
-    requires view { sought.now.view.now ≡ names.now.view.now }
+    requires problem { IsProblem (problem_of sought.now.names cnf.now) }
+    requires view { sought.now.view.now ≡ sought.now.names.view.now }
     requires seekable { IsSeekable cnf.now sought.now }
     requires heard { IsHeard W.heard cnf.now sought.now.names }
     ensures { IfOk result
-        (IsBestSolved (problem_of names.now cnf.now) options sought.now.direction sought.now.integer.now None) }
+        (IsBestSolved (problem_of sought.now.names cnf.now) options sought.now.direction sought.now.integer.now None) }
 {
     match first_rounds(cnf, sought, options, watcher)? {
         First::Refuted(proof) => Ok(refuted(proof)),
         First::GivenUp(proof) => Ok(given_up(proof, options)),
         First::Found(progress) => {
-            let solved = with_one(names, progress, options)?;
+            let solved = with_one(&sought.names, progress, options)?;
             Ok(solved)
         }
     }
@@ -229,16 +237,15 @@ fn with_two(
 /// with what is left of the budget.
 fn solve_behind<W: SolutionWatcher>(
     cnf: Cnf,
-    names: &Names<'_>,
     sought: &Sought<'_>,
     behind: &Sought<'_>,
     progress: Progress,
     options: SearchOptions,
     watcher: &mut W,
 ) -> Result<Solved, AllocError>
-    requires problem { IsProblem (problem_of names.now cnf) }
-    requires view { sought.now.view.now ≡ names.now.view.now }
-    requires view_behind { behind.now.view.now ≡ names.now.view.now }
+    requires problem { IsProblem (problem_of sought.now.names cnf) }
+    requires view { sought.now.view.now ≡ sought.now.names.view.now }
+    requires view_behind { behind.now.view.now ≡ sought.now.names.view.now }
     requires direction { behind.now.direction ≡ sought.now.direction }
     requires seekable { IsSeekable cnf sought.now }
     requires seekable_behind { IsSeekable cnf behind.now }
@@ -246,41 +253,40 @@ fn solve_behind<W: SolutionWatcher>(
     requires shown { progress.ended ≡ Ended.Shown }
     requires heard { IsHeard W.heard cnf behind.now.names }
     ensures { IfOk result
-        (IsBestSolved (problem_of names.now cnf) options sought.now.direction sought.now.integer.now
+        (IsBestSolved (problem_of sought.now.names cnf) options sought.now.direction sought.now.integer.now
         (Some behind.now.integer.now)) }
 {
     let Progress { proof, best, .. } = progress;
     let Best { values, number } = best;
     let fixed = no_worse_of(sought.direction, sought.integer, number);
-    let cnf = fix(names.alloc, cnf, resolve(sought.view, fixed))?;
+    let cnf = fix(sought.names.alloc, cnf, resolve(sought.view, fixed))?;
     let left = SearchOptions {
         budget: options.budget - additions(proof.lines()),
         restart: options.restart,
     };
     let last = rounds_behind(&cnf, behind, values, left, watcher)?;
-    let solved = with_two(names, number, proof.into_lines(), last, options)?;
+    let solved = with_two(&sought.names, number, proof.into_lines(), last, options)?;
     Ok(solved)
 }
 
 /// The best values of two objectives.
 fn solve_two<W: SolutionWatcher>(
     cnf: Cnf,
-    names: &Names<'_>,
     sought: &Sought<'_>,
     behind: &Sought<'_>,
     options: SearchOptions,
     watcher: &mut W,
 ) -> Result<Solved, AllocError>
-    requires problem { IsProblem (problem_of names.now cnf) }
-    requires view { sought.now.view.now ≡ names.now.view.now }
-    requires view_behind { behind.now.view.now ≡ names.now.view.now }
+    requires problem { IsProblem (problem_of sought.now.names cnf) }
+    requires view { sought.now.view.now ≡ sought.now.names.view.now }
+    requires view_behind { behind.now.view.now ≡ sought.now.names.view.now }
     requires direction { behind.now.direction ≡ sought.now.direction }
     requires seekable { IsSeekable cnf sought.now }
     requires seekable_behind { IsSeekable cnf behind.now }
     requires heard { IsHeard W.heard cnf sought.now.names }
     requires heard_behind { IsHeard W.heard cnf behind.now.names }
     ensures { IfOk result
-        (IsBestSolved (problem_of names.now cnf) options sought.now.direction sought.now.integer.now
+        (IsBestSolved (problem_of sought.now.names cnf) options sought.now.direction sought.now.integer.now
         (Some behind.now.integer.now)) }
 {
     match first_rounds(&cnf, sought, options, watcher)? {
@@ -288,11 +294,11 @@ fn solve_two<W: SolutionWatcher>(
         First::GivenUp(proof) => Ok(given_up(proof, options)),
         First::Found(progress) => match progress.ended {
             Ended::Shown => {
-                let solved = solve_behind(cnf, names, sought, behind, progress, options, watcher)?;
+                let solved = solve_behind(cnf, sought, behind, progress, options, watcher)?;
                 Ok(solved)
             }
             Ended::Spent => {
-                let solved = with_first(names, behind, progress, options)?;
+                let solved = with_first(&sought.names, behind, progress, options)?;
                 Ok(solved)
             }
         },
@@ -303,18 +309,22 @@ fn solve_two<W: SolutionWatcher>(
 fn solve_best<W: SolutionWatcher>(
     cnf: Cnf,
     names: &Names<'_>,
-    direction: Direction,
-    place: usize,
-    second: Option<usize>,
+    objectives: Objectives,
     options: SearchOptions,
     watcher: &mut W,
 ) -> Result<Solved, AllocError>
     requires problem { IsProblem (problem_of names.now cnf) }
     requires heard { IsHeard W.heard cnf names.now }
     ensures { IfOk result
-        (IsBestSolved (problem_of names.now cnf) options direction (integer_named names.now.map.now.entries place)
-        (second_named names.now.map.now.entries second)) }
+        (IsBestSolved (problem_of names.now cnf) options objectives.direction
+        (integer_named names.now.map.now.entries objectives.place)
+        (second_named names.now.map.now.entries objectives.second)) }
 {
+    let Objectives {
+        direction,
+        place,
+        second,
+    } = objectives;
     let zero = OrdInt::constant(names.alloc, 0)?;
     let entries = names.map.entries.as_slice();
     let sought = Sought {
@@ -325,7 +335,7 @@ fn solve_best<W: SolutionWatcher>(
     };
     match second {
         None => {
-            let solved = solve_one(&cnf, names, &sought, options, watcher)?;
+            let solved = solve_one(&cnf, &sought, options, watcher)?;
             Ok(solved)
         }
         Some(other) => {
@@ -335,7 +345,7 @@ fn solve_best<W: SolutionWatcher>(
                 direction,
                 names: *names,
             };
-            let solved = solve_two(cnf, names, &sought, &behind, options, watcher)?;
+            let solved = solve_two(cnf, &sought, &behind, options, watcher)?;
             Ok(solved)
         }
     }
@@ -359,27 +369,21 @@ pub fn solve<W: SolutionWatcher>(
             Ok(solved)
         }
         Goal::Minimize(place, second) => {
-            let solved = solve_best(
-                cnf,
-                names,
-                Direction::Least,
+            let least = Objectives {
+                direction: Direction::Least,
                 place,
                 second,
-                options,
-                watcher,
-            )?;
+            };
+            let solved = solve_best(cnf, names, least, options, watcher)?;
             Ok(solved)
         }
         Goal::Maximize(place, second) => {
-            let solved = solve_best(
-                cnf,
-                names,
-                Direction::Greatest,
+            let greatest = Objectives {
+                direction: Direction::Greatest,
                 place,
                 second,
-                options,
-                watcher,
-            )?;
+            };
+            let solved = solve_best(cnf, names, greatest, options, watcher)?;
             Ok(solved)
         }
     }

@@ -34,7 +34,7 @@ returns g c =
     c.resolve.ensures c.no_worse_of-fixed.ensures in
     let fits = found-fits c.args.cnf c.args.sought.now c.args.options c.args.progress c.requires.seekable c.requires.progress in
     let count : c.additions.result ≡ additions c.args.progress.proof.lines = c.additions.ensures ∙ ap additions c.lines.ensures in
-    both-made c.args.names.now c.args.cnf c.in_ok-cnf.cnf c.args.sought.now c.args.behind.now c.args.options (record { budget = c.args.options.budget - c.additions.result; restart = c.args.options.restart })
+    both-made c.args.sought.now.names c.args.cnf c.in_ok-cnf.cnf c.args.sought.now c.args.behind.now c.args.options (record { budget = c.args.options.budget - c.additions.result; restart = c.args.options.restart })
     c.args.progress c.in_ok-last.last _ c.in_ok-solved.solved c.requires.view c.requires.view_behind c.requires.direction c.requires.seekable c.requires.progress c.requires.shown
     (ap (λ n. c.args.options.budget - n) count) refl made c.in_ok-last.ensures (to_z-of_z w64 c.args.progress.best.number fits) (rw c.into_lines.ensures at c.in_ok-solved.ensures)
 

@@ -6,16 +6,16 @@ use Rattle.decode_minimize.proofs.solving.solve_two.Goals as goal
 
 pub returns-in-Refuted : goal.returns-in-Refuted
 returns-in-Refuted g c =
-    best-refuted (problem_of c.args.names.now c.args.cnf) c.args.options c.refuted.result c.in-Refuted.proof c.args.sought.now.direction c.args.sought.now.integer.now (Some c.args.behind.now.integer.now) c.refuted.ensures
+    best-refuted (problem_of c.args.sought.now.names c.args.cnf) c.args.options c.refuted.result c.in-Refuted.proof c.args.sought.now.direction c.args.sought.now.integer.now (Some c.args.behind.now.integer.now) c.refuted.ensures
     (subst (λ (f : First). IsFirst c.args.cnf c.args.sought.now c.args.options f) c.in-Refuted.is c.in_ok-proof.ensures)
 
 pub returns-in-GivenUp : goal.returns-in-GivenUp
 returns-in-GivenUp g c =
-    best-given_up (problem_of c.args.names.now c.args.cnf) c.args.options c.given_up.result c.in-GivenUp.proof c.args.sought.now.direction c.args.sought.now.integer.now (Some c.args.behind.now.integer.now) c.given_up.ensures
+    best-given_up (problem_of c.args.sought.now.names c.args.cnf) c.args.options c.given_up.result c.in-GivenUp.proof c.args.sought.now.direction c.args.sought.now.integer.now (Some c.args.behind.now.integer.now) c.given_up.ensures
     (subst (λ (f : First). IsFirst c.args.cnf c.args.sought.now c.args.options f) c.in-GivenUp.is c.in_ok-proof.ensures)
 
 pub returns-in_ok-solved-in-Spent : goal.returns-in_ok-solved-in-Spent
 returns-in_ok-solved-in-Spent g c =
-    first-solved c.args.names.now c.args.cnf c.args.sought.now c.args.options c.requires.view c.in-Found.progress
+    first-solved c.args.sought.now.names c.args.cnf c.args.sought.now c.args.options c.requires.view c.in-Found.progress
     (subst (λ (f : First). IsFirst c.args.cnf c.args.sought.now c.args.options f) c.in-Found.is c.in_ok-proof.ensures)
     c.args.behind.now.integer.now c.args.behind.now.view.now c.in_ok-solved-in-Spent.solved c.requires.view_behind c.in-Spent.is c.in_ok-solved-in-Spent.ensures

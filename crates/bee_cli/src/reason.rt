@@ -67,7 +67,7 @@ impl Reasons {
 }
 
 /// Why a line is refused, by the mode that refuses it.
-#[derive(Clone, Copy, PartialEq, Eq)]
+#[derive(Clone, Copy)]
 pub enum Reason {
     /// What stands against a line of an answer.
     Answer(Why),

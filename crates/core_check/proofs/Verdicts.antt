@@ -1,6 +1,6 @@
 -- Which line tells a number, and which a verdict.
 use Rattle.std.proofs.Common.{◌≡◌, ℕ, ◌<◌, ◌≤◌, ◌^◌, true, List, ◌++◌, codes, Option, None, Some, MatchOption, nat_eq, sym, ap, ◌∙◌, arith}
-use Rattle.std.specs.Prelude.{IsTrue}
+use Rattle.std.specs.Prelude.{IsTrue, IfSome}
 use Rattle.std.proofs.lemmas.List.{append_cancel_left}
 use Rattle.std.specs.Fmt.{decimal}
 use Rattle.core_text.specs.declared.verdict.CoreVerdict.{CoreVerdict}
@@ -14,17 +14,16 @@ no-verdict line p q r Satisfiable fits is = p is
 no-verdict line p q r (Core k) fits is = q k fits is
 no-verdict line p q r (Unknown n) fits is = r n fits.0 fits.1 is
 
--- a number that is none of learned clauses
-pub not-spent : (line : List ℕ) (m : ℕ) → m < 2 ^ 64 → line ≡ codes "UNKNOWN " ++ decimal m → (1 ≤ m → m < 2 ^ 63 → ⊥) → (n : ℕ) → 1 ≤ n → n < 2 ^ 63 → line ≡ codes "UNKNOWN " ++ decimal n → ⊥
-not-spent line m small is wrong n least most e =
-    let one : n ≡ m = number-tells (codes "UNKNOWN ") n m (omega arith) small (sym e ∙ is) in
-    wrong (omega (arith, one, least)) (omega (arith, one, most))
-
--- a number behind a word
-pub numbered : (line word rest : List ℕ) (o : Option ℕ) → line ≡ word ++ rest → MatchOption o ((n : ℕ) → n < 2 ^ 64 → rest ≡ decimal n → ⊥) (λ n. (n < 2 ^ 64) × (rest ≡ decimal n))
+-- a number behind a word, and one of learned clauses
+pub numbered : (line word rest : List ℕ) (o : Option ℕ) → line ≡ word ++ rest → IfSome o (λ n. (n < 2 ^ 64) × (rest ≡ decimal n)) → ((n : ℕ) → n < 2 ^ 64 → rest ≡ decimal n → o ≡ Some n)
     → MatchOption o ((n : ℕ) → n < 2 ^ 64 → line ≡ word ++ decimal n → ⊥) (λ n. (n < 2 ^ 64) × (line ≡ word ++ decimal n))
-numbered line word rest None is none = λ n small e. none n small (append_cancel_left word rest (decimal n) (sym is ∙ e))
-numbered line word rest (Some n) is told = (told.0, is ∙ ap (λ (xs : List ℕ). word ++ xs) told.1)
+numbered line word rest None is read complete = λ n small e. let q = complete n small (append_cancel_left word rest (decimal n) (sym is ∙ e)) in absurd (cc)
+numbered line word rest (Some n) is told complete = (told.0, is ∙ ap (λ (xs : List ℕ). word ++ xs) told.1)
+
+pub spent : (line word rest : List ℕ) (o : Option ℕ) → line ≡ word ++ rest → IfSome o (λ n. (rest ≡ decimal n) × (0 < n) × (n < 2 ^ 63)) → ((n : ℕ) → 0 < n → n < 2 ^ 63 → rest ≡ decimal n → o ≡ Some n)
+    → MatchOption o ((n : ℕ) → 1 ≤ n → n < 2 ^ 63 → line ≡ word ++ decimal n → ⊥) (λ n. (1 ≤ n) × (n < 2 ^ 63) × (line ≡ word ++ decimal n))
+spent line word rest None is read complete = λ n least most e. let q = complete n (omega (arith, least)) most (append_cancel_left word rest (decimal n) (sym is ∙ e)) in absurd (cc)
+spent line word rest (Some n) is told complete = (omega (arith, told.1), told.2, is ∙ ap (λ (xs : List ℕ). word ++ xs) told.0)
 
 equal : (m n : ℕ) → nat_eq m n ≡ true → m ≡ n
 equal m n e = grind arith

@@ -41,7 +41,7 @@ pub(crate) struct Head {
 }
 
 /// What the first lines come to.
-#[derive(Clone, Copy, PartialEq, Eq)]
+#[derive(Clone, Copy)]
 pub(crate) enum Front {
     /// The line of this number is the first that fails.
     Fails(u64),

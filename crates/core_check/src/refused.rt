@@ -10,7 +10,7 @@ use model_meaning::{Model, first_broken, in_domains};
 use model_parts::first_broken_but;
 
 /// What stands against a line of a core.
-#[derive(Clone, Copy, PartialEq, Eq)]
+#[derive(Clone, Copy)]
 pub enum RefusedCore {
     /// It isn't the next line of a core.
     Misfit,

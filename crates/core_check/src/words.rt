@@ -7,8 +7,7 @@ ghost use Rattle.core_text.specs.declared.verdict.CoreVerdict.{CoreVerdict};
 ghost use Rattle.core_text.specs.CoreLines.{verdict_line, without_line, VerdictFits};
 ghost use Rattle.core_text.proofs.Words.{first_byte};
 
-use bee_text::read_number;
-use certificate_lines::is;
+use certificate_lines::{is, read_count, read_spent};
 use core_text::CoreVerdict;
 
 /// What stands behind a word at the front of a line.
@@ -27,17 +26,6 @@ fn behind_word<'a>(line: &'a [u8], word: &[u8]) -> Option<&'a [u8]>
     }
 }
 
-/// The number of 64 bits that a word spells.
-fn read_count(word: &[u8]) -> Option<u64>
-    ensures { MatchOption result ((n : ℕ) → n < 2 ^ 64 → word.now ≡ decimal n → ⊥)
-        (λ n. (n < 2 ^ 64) × (word.now ≡ decimal n)) }
-{
-    match read_number(word, u128::from(u64::MAX)) {
-        None => None,
-        Some(number) => Some(number as u64),
-    }
-}
-
 /// The number of 64 bits that stands behind a word, where a line is both.
 pub(crate) fn read_numbered(line: &[u8], word: &[u8]) -> Option<u64>
     ensures { MatchOption result ((n : ℕ) → n < 2 ^ 64 → line.now ≡ word.now ++ decimal n → ⊥)
@@ -49,22 +37,15 @@ pub(crate) fn read_numbered(line: &[u8], word: &[u8]) -> Option<u64>
     }
 }
 
-/// Whether a number is one of learned clauses: from 1 and below 2 ^ 63.
-fn is_spent(count: u64) -> bool
-    ensures { IsTrue result ↔ ((1 ≤ count) × (count < 2 ^ 63)) }
-{
-    count >= 1 && count < (1 << 63)
-}
-
 /// The number of learned clauses that a line tells.
-fn read_spent(line: &[u8]) -> Option<u64>
+fn read_unknown(line: &[u8]) -> Option<u64>
     ensures { MatchOption result
         ((n : ℕ) → 1 ≤ n → n < 2 ^ 63 → line.now ≡ codes "UNKNOWN " ++ decimal n → ⊥)
         (λ n. (1 ≤ n) × (n < 2 ^ 63) × (line.now ≡ codes "UNKNOWN " ++ decimal n)) }
 {
-    match read_numbered(line, b"UNKNOWN ") {
+    match behind_word(line, b"UNKNOWN ") {
         None => None,
-        Some(count) => { if is_spent(count) { Some(count) } else { None } }
+        Some(rest) => read_spent(rest),
     }
 }
 
@@ -79,7 +60,7 @@ pub(crate) fn read_verdict(line: &[u8]) -> Option<CoreVerdict>
     if let Some(count) = read_numbered(line, b"CORE ") {
         return Some(CoreVerdict::Core(count));
     }
-    match read_spent(line) {
+    match read_unknown(line) {
         None => None,
         Some(count) => Some(CoreVerdict::Unknown(count)),
     }

@@ -1,7 +1,7 @@
 //! The parts of the text of a core.
 
 /// Which line of the text may stand next.
-#[derive(Clone, Copy, PartialEq, Eq)]
+#[derive(Clone, Copy)]
 pub enum Part {
     /// The version of the form.
     Version,

@@ -1,7 +1,7 @@
 //! What the text of a core says.
 
 /// What is said of a model.
-#[derive(Clone, Copy, PartialEq, Eq)]
+#[derive(Clone, Copy)]
 pub enum CoreVerdict {
     /// It has a solution, which is given.
     Satisfiable,

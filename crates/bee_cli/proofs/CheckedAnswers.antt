@@ -8,8 +8,7 @@ use Rattle.model_texts.proofs.ModelShapes.{names}
 use Rattle.opb_front.proofs.Ends.{said_same}
 use Rattle.opb_model.specs.Models.{opb_model}
 use Rattle.ledger_check.specs.declared.fault.Why.TheVariants.{Shape}
-use Rattle.ledger_check.specs.declared.part.Part.{Part}
-use Rattle.ledger_check.specs.declared.part.Part.TheVariants.{Version, End}
+use Rattle.ledger_check.specs.Reading.{IsEnd}
 use Rattle.ledger_check.specs.Tests.{start_standing}
 use Rattle.ledger_check.specs.Checked.{IsFirstFault, IsRefused}
 use Rattle.ledger_check.proofs.DocumentLines.{declared-lines}
@@ -41,11 +40,11 @@ file_answer_is_accepted options outcome file texts m h =
       valid = (numbers_given d.assignment, subst (λ (t : List ℕ). IsValid answer.model t d.verdict (numbers_given d.assignment)) (sym answer.is.writes) answer.is.is.valid);
     }
 
-version_not_end : Version ≡ End → ⊥
-version_not_end e = cc
+start_not_end : (model : Model) → IsEnd (start_standing model) → ⊥
+start_not_end model e = cc
 
 first_missing : (model : Model) → IsFirstFault model [] 1 Shape
-first_missing model = inr (record { number_is = refl; stands = start_standing model; lead = refl; early = λ none ended. version_not_end ended }, refl)
+first_missing model = inr (record { number_is = refl; stands = start_standing model; lead = refl; early = λ none ended. start_not_end model ended }, refl)
 
 pub empty_is_refused : EmptyIsRefused
 empty_is_refused texts h e =

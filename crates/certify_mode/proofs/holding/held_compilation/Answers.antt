@@ -11,10 +11,10 @@ weigh-requires c = limited c.args.text.now c.in_ok-model.model c.requires c.in_o
 pub returns-then-has_second-clause-held : goal.returns-then-has_second-clause-held
 returns-then-has_second-clause-held c = elim c.match-weigh.branch [
   | in-Ok w ↦ rw w.result-is (record {
-      model = c.in_ok-model.model;
-      held = record { within = c.requires; says = c.in_ok-model.ensures.model; light = w.in-Ok.ensures.light };
-      two = sym c.has_second.ensures ∙ c.if-has_second.true;
-    })
+    model = c.in_ok-model.model;
+    held = record { within = c.requires; says = c.in_ok-model.ensures.model; light = w.in-Ok.ensures.light };
+    two = sym c.has_second.ensures ∙ c.if-has_second.true;
+  })
   | in-Err w ↦ rw w.result-is tt
 ]
 

@@ -17,9 +17,9 @@ ghost use Rattle.proof_check.specs.Room.{line_in};
 
 use crate::fault::ProofTextFault;
 use crate::line::ProofLine;
-use crate::spelling::{is, read_count, read_hint, read_id, read_literal};
+use crate::spelling::{read_count, read_hint, read_id, read_literal};
 use bee_list::Sequence;
-use bee_text::{Words, split_words};
+use bee_text::{Words, is, split_words};
 use order_ints::Lit;
 use std::alloc::Global;
 

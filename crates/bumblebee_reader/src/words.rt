@@ -1,11 +1,11 @@
 //! The words of the language.
 
 ghost use Rattle.std.specs.Prelude.{◌≡◌, IfOk};
-ghost use Rattle.std.specs.Str.{bytes_eq};
 ghost use Rattle.bumblebee_reader.specs.Reading.{is_solve, is_then, goal_kind};
 
 use crate::name::Name;
 use crate::syntax::GoalKind;
+use bee_text::is;
 use std::alloc::{AllocError, Global};
 
 /// A name of its own, with the bytes that the text lends.
@@ -19,34 +19,28 @@ pub fn own_name(alloc: Global, bytes: &[u8]) -> Result<Name, AllocError>
 pub fn is_solve(name: &[u8]) -> bool
     ensures { result ≡ is_solve name.now }
 {
-    is_word(name, b"solve")
+    is(name, b"solve")
 }
 
 /// Whether a name is the word that stands before a second objective.
 pub fn is_then(name: &[u8]) -> bool
     ensures { result ≡ is_then name.now }
 {
-    is_word(name, b"then")
+    is(name, b"then")
 }
 
 /// The kind of goal that a word names.
 pub fn goal_kind(word: &[u8]) -> Option<GoalKind>
     ensures { result ≡ goal_kind word.now }
 {
-    if is_word(word, b"satisfy") {
+    if is(word, b"satisfy") {
         return Some(GoalKind::Satisfy);
     }
-    if is_word(word, b"minimize") {
+    if is(word, b"minimize") {
         return Some(GoalKind::Minimize);
     }
-    if is_word(word, b"maximize") {
+    if is(word, b"maximize") {
         return Some(GoalKind::Maximize);
     }
     None
-}
-
-fn is_word(name: &[u8], word: &[u8]) -> bool
-    ensures { result ≡ bytes_eq name.now word.now }
-{
-    name == word
 }

@@ -11,8 +11,8 @@ ghost use Rattle.ledger_text.specs.Words.{IsReadableAtom};
 ghost use Rattle.ledger_text.specs.Steps.{rule_word, equation_words, step_words, step_text, IsReadableStep};
 
 use crate::line::Line;
-use crate::words::{is, push_atom, read_atom};
-use bee_text::{Words, push_blank, push_bytes, push_number, read_number, split_words};
+use crate::words::{push_atom, read_atom};
+use bee_text::{Words, is, push_blank, push_bytes, push_number, read_number, split_words};
 use core_forms::{Equation, Rule};
 use std::alloc::{AllocError, Global};
 

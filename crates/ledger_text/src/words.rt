@@ -6,7 +6,7 @@ ghost use Rattle.order_ints.specs.declared.literal.Lit.{Lit};
 ghost use Rattle.order_ints.specs.declared.atom.Atom.{Atom};
 ghost use Rattle.ledger_text.specs.Words.{literal_word, atom_word, IsReadable, IsReadableAtom};
 
-use bee_text::{push_bytes, read_number};
+use bee_text::{is, push_bytes, read_number};
 use itoa::Buffer;
 use order_ints::{Atom, Lit};
 use std::alloc::AllocError;
@@ -59,13 +59,6 @@ pub fn read_literal(word: &[u8]) -> Option<Lit>
     } else {
         read_variable(word, true)
     }
-}
-
-/// Whether a word is these bytes.
-pub(crate) fn is(word: &[u8], bytes: &[u8]) -> bool
-    ensures { IsTrue result ↔ (word.now ≡ bytes.now) }
-{
-    word == bytes
 }
 
 /// Whether a word begins with a minus sign.

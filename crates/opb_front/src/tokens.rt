@@ -4,11 +4,11 @@ ghost use Rattle.std.specs.Prelude.{◌≡◌, ◌==◌, ◌<◌, ◌^◌, ◌+�
 ghost use Rattle.std.specs.Prelude.{IsTrue, Some, None, if◌then◌else◌, slice_index};
 ghost use Rattle.std.specs.List.{list_all};
 ghost use Rattle.std.specs.Char.{is_ascii_digit};
-ghost use Rattle.std.specs.Str.{bytes_eq};
 ghost use Rattle.opb_front.specs.Tokens.{are_digits, value_of, signed, number_token, literal_token, term_token};
 ghost use Rattle.opb_front.specs.Tokens.{token_of, is_comment};
 
 use crate::items::{Comparison, Literal};
+use bee_text::is;
 
 /// The greatest absolute value of a number.
 pub(crate) const MOST_NUMBER: u64 = 1_073_741_824;
@@ -139,26 +139,19 @@ fn term_token(word: &[u8]) -> Token
     }
 }
 
-/// Whether a word is these bytes.
-fn is_word(word: &[u8], bytes: &[u8]) -> bool
-    ensures { result ≡ bytes_eq word.now bytes.now }
-{
-    word == bytes
-}
-
 /// The token that a word is.
 pub(crate) fn token_of(word: &[u8]) -> Token
     ensures { result ≡ token_of word.now }
 {
-    if is_word(word, b";") {
+    if is(word, b";") {
         Token::Semicolon
-    } else if is_word(word, b">=") {
+    } else if is(word, b">=") {
         Token::Compare(Comparison::AtLeast)
-    } else if is_word(word, b"<=") {
+    } else if is(word, b"<=") {
         Token::Compare(Comparison::AtMost)
-    } else if is_word(word, b"=") {
+    } else if is(word, b"=") {
         Token::Compare(Comparison::Equal)
-    } else if is_word(word, b"min:") {
+    } else if is(word, b"min:") {
         Token::Min
     } else {
         term_token(word)

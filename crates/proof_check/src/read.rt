@@ -16,8 +16,8 @@ ghost use Rattle.proof_check.specs.Lines.{IsReadableHint, IsReadable, AreBytesOf
 ghost use Rattle.proof_check.specs.Room.{line_in};
 
 use crate::fault::ProofTextFault;
-use crate::spelling::{is, read_count, read_hint, read_id, read_literal};
-use bee_text::{Words, split_words};
+use crate::spelling::{read_count, read_hint, read_id, read_literal};
+use bee_text::{Words, is, split_words};
 use order_ints::Lit;
 use std::alloc::Global;
 

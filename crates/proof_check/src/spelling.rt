@@ -13,13 +13,6 @@ use std::alloc::AllocError;
 /// The greatest variable.
 const GREATEST: u128 = 1 << 27;
 
-/// Whether a word is these bytes.
-pub(crate) fn is(word: &[u8], bytes: &[u8]) -> bool
-    ensures { IsTrue result ↔ (word.now ≡ bytes.now) }
-{
-    word == bytes
-}
-
 /// Whether a word begins with a minus sign.
 fn has_minus(word: &[u8]) -> bool
     ensures { IsTrue result ↔ (word.now ≡ 45 ∷ drop 1 word.now) }

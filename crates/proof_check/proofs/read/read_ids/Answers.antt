@@ -13,12 +13,12 @@ pub returns-then-is-clause-complete : goal.returns-then-is-clause-complete
 returns-then-is-clause-complete c = λ xs rest each e.
     at-zero decimal IsReadableId c.loop-word.out.items xs c.loop-word.words rest id_spelling
     (left decimal IsReadableId id_spelling c.loop-word.out.items xs c.loop-word.words rest c.loop-word.invariant.fits each (sym c.loop-word.invariant.front ∙ e))
-    c.in-Some.word.now c.next_word.new.self c.in-Some.ensures.piece (c.is.ensures.0 c.if-is.true)
+    c.in-Some.word.now c.next_word.new.self c.in-Some.ensures.piece (c.is.ensures.same.0 c.if-is.true)
 
 pub returns-in-None-read_id-clause-complete : goal.returns-in-None-read_id-clause-complete
 returns-in-None-read_id-clause-complete c = λ xs rest each e.
     let one = at-other decimal IsReadableId c.loop-word.out.items xs c.loop-word.words rest
     (left decimal IsReadableId id_spelling c.loop-word.out.items xs c.loop-word.words rest c.loop-word.invariant.fits each (sym c.loop-word.invariant.front ∙ e))
-    c.in-Some.word.now c.next_word.new.self c.in-Some.ensures.piece (λ zero. let yes : c.is.result ≡ true = c.is.ensures.1 zero in absurd (let f : true ≡ false = sym yes ∙ c.if-is.false in cc)) in
+    c.in-Some.word.now c.next_word.new.self c.in-Some.ensures.piece (λ zero. let yes : c.is.result ≡ true = c.is.ensures.same.1 zero in absurd (let f : true ≡ false = sym yes ∙ c.if-is.false in cc)) in
     let found = c.read_id.ensures.complete one.0 one.1.0 one.1.1 in
     absurd (cc (found, c.in-None-read_id.is))

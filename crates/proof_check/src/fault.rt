@@ -32,8 +32,8 @@ pub enum TakeFault {
 /// Why a text was not read.
 #[derive(Clone, Copy, Debug, PartialEq, Eq)]
 pub enum ProofTextFault {
-    /// The number of the line that is no line of a proof, which is 1 for a text of one line.
-    Form(u64),
+    /// It is no line of a proof.
+    Form,
     /// Memory was wanting.
     Memory,
 }

@@ -12,9 +12,9 @@
 //! What it promises: `take` of a `Checker` is `Ok` exactly where the line continues a proof
 //! (`taken`), else its first fault (`fault`), and a refused line leaves the checker as it was
 //! (`refused`). What acceptance implies is `implied_laws`: each valuation that satisfies the CNF
-//! satisfies every clause that is known. What `push_line` writes is what `read_bytes` of a `LineRoom`
-//! reads, behind a line feed (`read`, `complete`, `text_laws`); it reads line after line into the
-//! same room.
+//! satisfies every clause that is known. What `push_line` writes is, without its line feed, what
+//! `read_bytes` of a `LineRoom` reads, line after line into the same room (`read`, `complete`,
+//! `text_laws`).
 //!
 //! Clauses stand in one list of literals with a table of 24 bytes a clause; a deleted one stays,
 //! marked, since it is still known. Ids may skip, so a live clause is found by halving.

@@ -3,14 +3,14 @@
 //! A text of many lines is read into the same room line by line, so that a line takes no memory once the longest
 //! one was read.
 
-ghost use Rattle.std.specs.Prelude.{◌≡◌, ◌<◌, ◌^◌, ◌⊎◌, ◌↔◌, ◌∷◌, List, ℕ};
-ghost use Rattle.std.specs.Prelude.{ℤ, [], Some, codes, slice_index_or, IsTrue, IfSome, OnOk, IfOk, IfErr};
+ghost use Rattle.std.specs.Prelude.{◌≡◌, ◌<◌, ◌^◌, ◌↔◌, ◌∷◌, List, ℕ};
+ghost use Rattle.std.specs.Prelude.{ℤ, [], Some, codes, slice_index_or, IsTrue, IfSome, OnOk, IfOk};
 ghost use Rattle.std.specs.Prelude.{MatchResult};
 ghost use Rattle.bee_text.specs.Words.{split_blanks};
 ghost use Rattle.std.specs.Fmt.{decimal, signed_decimal};
 ghost use Rattle.order_ints.specs.declared.literal.Lit.{Lit};
 ghost use Rattle.proof_check.specs.declared.line.ProofLine.{ProofLine};
-ghost use Rattle.proof_check.specs.declared.fault.ProofTextFault.TheVariants.{Form, Memory};
+ghost use Rattle.proof_check.specs.declared.fault.ProofTextFault.TheVariants.{Memory};
 ghost use Rattle.proof_check.specs.Lines.{literal_word, list_words, line_words, Each, IsReadableLit, IsReadableId};
 ghost use Rattle.proof_check.specs.Lines.{IsReadableHint, IsReadable, AreBytesOf};
 ghost use Rattle.proof_check.specs.Room.{line_in};
@@ -48,18 +48,17 @@ fn read_literals(words: &mut Words<'_>, out: &mut Vec<Lit>) -> Result<(), ProofT
     ensures complete { (ls : List Lit) (rest : List (List ℕ)) → Each IsReadableLit ls
         → words.old ≡ list_words literal_word ls rest
         → MatchResult result (λ _. (out.new.items ≡ ls) × (words.new ≡ rest)) (λ e. e ≡ Memory) }
-    ensures fault { IfErr result (λ e. (e ≡ Form 1) ⊎ (e ≡ Memory)) }
 {
     out.clear();
     loop {
         match words.next_word() {
-            None => return Err(ProofTextFault::Form(1)),
+            None => return Err(ProofTextFault::Form),
             Some(word) => {
                 if is(word, b"0") {
                     return Ok(());
                 }
                 match read_literal(word) {
-                    None => return Err(ProofTextFault::Form(1)),
+                    None => return Err(ProofTextFault::Form),
                     Some(lit) => out.push(lit)?,
                 }
             }
@@ -74,18 +73,17 @@ fn read_hints(words: &mut Words<'_>, out: &mut Vec<i64>) -> Result<(), ProofText
     ensures complete { (hs : List ℤ) (rest : List (List ℕ)) → Each IsReadableHint hs
         → words.old ≡ list_words signed_decimal hs rest
         → MatchResult result (λ _. (out.new.items ≡ hs) × (words.new ≡ rest)) (λ e. e ≡ Memory) }
-    ensures fault { IfErr result (λ e. (e ≡ Form 1) ⊎ (e ≡ Memory)) }
 {
     out.clear();
     loop {
         match words.next_word() {
-            None => return Err(ProofTextFault::Form(1)),
+            None => return Err(ProofTextFault::Form),
             Some(word) => {
                 if is(word, b"0") {
                     return Ok(());
                 }
                 match read_hint(word) {
-                    None => return Err(ProofTextFault::Form(1)),
+                    None => return Err(ProofTextFault::Form),
                     Some(hint) => out.push(hint)?,
                 }
             }
@@ -100,18 +98,17 @@ fn read_ids(words: &mut Words<'_>, out: &mut Vec<u64>) -> Result<(), ProofTextFa
     ensures complete { (is : List ℕ) (rest : List (List ℕ)) → Each IsReadableId is
         → words.old ≡ list_words decimal is rest
         → MatchResult result (λ _. (out.new.items ≡ is) × (words.new ≡ rest)) (λ e. e ≡ Memory) }
-    ensures fault { IfErr result (λ e. (e ≡ Form 1) ⊎ (e ≡ Memory)) }
 {
     out.clear();
     loop {
         match words.next_word() {
-            None => return Err(ProofTextFault::Form(1)),
+            None => return Err(ProofTextFault::Form),
             Some(word) => {
                 if is(word, b"0") {
                     return Ok(());
                 }
                 match read_id(word) {
-                    None => return Err(ProofTextFault::Form(1)),
+                    None => return Err(ProofTextFault::Form),
                     Some(id) => out.push(id)?,
                 }
             }
@@ -128,13 +125,12 @@ fn read_addition(words: &mut Words<'_>, room: &mut LineRoom) -> Result<(), Proof
         → words.old ≡ list_words literal_word ls (list_words signed_decimal hs [])
         → MatchResult result (λ _. (room.new.lits.items ≡ ls)
         × (room.new.hints.items ≡ hs)) (λ e. e ≡ Memory) }
-    ensures fault { IfErr result (λ e. (e ≡ Form 1) ⊎ (e ≡ Memory)) }
 {
     read_literals(words, &mut room.lits)?;
     read_hints(words, &mut room.hints)?;
     match words.next_word() {
         None => Ok(()),
-        Some(_) => Err(ProofTextFault::Form(1)),
+        Some(_) => Err(ProofTextFault::Form),
     }
 }
 
@@ -144,12 +140,11 @@ fn read_deletion(words: &mut Words<'_>, ids: &mut Vec<u64>) -> Result<(), ProofT
         × Each IsReadableId ids.new.items) }
     ensures complete { (is : List ℕ) → Each IsReadableId is → words.old ≡ list_words decimal is []
         → MatchResult result (λ _. ids.new.items ≡ is) (λ e. e ≡ Memory) }
-    ensures fault { IfErr result (λ e. (e ≡ Form 1) ⊎ (e ≡ Memory)) }
 {
     read_ids(words, ids)?;
     match words.next_word() {
         None => Ok(()),
-        Some(_) => Err(ProofTextFault::Form(1)),
+        Some(_) => Err(ProofTextFault::Form),
     }
 }
 
@@ -193,21 +188,20 @@ fn read_words(
         × IsReadable (line_in head room.new)) }
     ensures complete { (line : ProofLine) → IsReadable line → words.old ≡ line_words line
         → MatchResult result (λ head. line_in head room.new ≡ line) (λ e. e ≡ Memory) }
-    ensures fault { IfErr result (λ e. (e ≡ Form 1) ⊎ (e ≡ Memory)) }
 {
     let Some(id) = next_count(words) else {
-        return Err(ProofTextFault::Form(1));
+        return Err(ProofTextFault::Form);
     };
     if deletion {
         match words.next_word() {
-            None => Err(ProofTextFault::Form(1)),
+            None => Err(ProofTextFault::Form),
             Some(_) => match read_deletion(words, &mut room.ids) {
                 Err(e) => Err(e),
                 Ok(()) => Ok(LineHead::Deletion(id)),
             },
         }
     } else if id == 0 {
-        Err(ProofTextFault::Form(1))
+        Err(ProofTextFault::Form)
     } else {
         match read_addition(words, room) {
             Err(e) => Err(e),
@@ -232,7 +226,6 @@ impl LineRoom {
         ensures read { IfOk result (λ head. AreBytesOf (line_in head self.new) bytes.now) }
         ensures complete { (line : ProofLine) → AreBytesOf line bytes.now
             → MatchResult result (λ head. line_in head self.new ≡ line) (λ e. e ≡ Memory) }
-        ensures fault { IfErr result (λ e. (e ≡ Form 1) ⊎ (e ≡ Memory)) }
     {
         let deletion = is_deletion(bytes);
         let mut words = split_words(bytes);

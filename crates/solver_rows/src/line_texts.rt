@@ -35,7 +35,7 @@ fn line_row<R: Abort>(rt: &R, alloc: Global, text: &str) -> Result<(), Fail> {
 fn misfit_row<R: Abort>(rt: &R, alloc: Global, text: &str) {
     let mut room = LineRoom::new(alloc);
     let read = room.read_bytes(text.as_bytes());
-    assert_eq!(rt; read, Err(ProofTextFault::Form(1)), "{text}");
+    assert_eq!(rt; read, Err(ProofTextFault::Form), "{text}");
 }
 
 #[test]

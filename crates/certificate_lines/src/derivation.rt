@@ -29,7 +29,7 @@ pub fn take_derived(
     ensures taken { IfOk result (IsTakenTo (IsDerivedLine checker.old line.now) checker.new) }
 {
     match room.read_bytes(line) {
-        Err(ProofTextFault::Form) => Ok(false),
+        Err(ProofTextFault::Form(_)) => Ok(false),
         Err(ProofTextFault::Memory) => Err(AllocError),
         Ok(head) => match checker.take_read(head, room) {
             Ok(()) => Ok(true),

@@ -97,6 +97,14 @@ module _ (model : Model) (text : List ℕ) (typed : WellTyped model) (limits : I
       ap judged.Valid (sym h.2 ∙ (ap (λ (s : Standing). s.verdict) same ∙ c.verdict))
   read-complete (judged.Refused line) v h c = absurd (no-misfit model text c.stands line limits c.whole h)
 
+-- a judgement that is valid has one verdict
+abbrev verdict_in : CoreVerdict → CoreJudgement → CoreVerdict
+verdict_in other (judged.Valid v) = v
+verdict_in other (judged.Refused line) = other
+
+pub same-verdict : (v w : CoreVerdict) (j : CoreJudgement) → j ≡ judged.Valid v → j ≡ judged.Valid w → v ≡ w
+same-verdict v w j e f = ap (verdict_in v) (sym e ∙ f)
+
 -- the standing with which the ledger of the part begins
 pub part-standing : (model held : Model) (v : CoreVerdict) (core : List ℕ) (now : ℕ) (values : List ℤ) (k : Kernel) → IsOfPart v → held ≡ only model core → values ≡ [] → k ≡ start_of held
     → ◌≡◌ {A = Standing} (record { model = held; part = part.Ledger; verdict = v; core = core; now = now; begun = 0; values = values; kernel = Some k; proof = None }) (done_standing model v core now)

@@ -1,10 +1,14 @@
 -- What comes of the text of a core: its verdict, or the first line that fails.
-use Rattle.std.specs.Prelude.{◌≡◌, ℕ, ◌+◌, List}
+use Rattle.std.specs.Prelude.{◌≡◌, ℕ, ◌+◌, ◌<◌, ◌≤◌, ◌^◌, List}
 use Rattle.model_meaning.specs.declared.model.Model.{Model}
+use Rattle.model_lower.specs.Weighed.{most_weight}
+use Rattle.model_parts.specs.CoreWeight.{core_weight}
 use Rattle.line_texts.specs.LineByLine.{IsWhole, FirstMisfit}
 use Rattle.core_text.specs.declared.verdict.CoreVerdict.{CoreVerdict}
 use Rattle.core_text.specs.CoreLines.{Standing, start_standing, IsNext, IsEnd}
 use Rattle.core_text.specs.CoreSays.{Says, IsCoreText}
+use Rattle.core_check.specs.declared.fault.CoreFault.{CoreFault}
+use Rattle.core_check.specs.declared.fault.CoreFault.TheVariants.{TooHeavy, Refused, Memory}
 use Rattle.core_check.specs.declared.checking.CoreJudgement.{CoreJudgement}
 use Rattle.core_check.specs.declared.checking.CoreJudgement.TheVariants as judged
 
@@ -34,3 +38,11 @@ IsJudgedBehind s rest read (judged.Refused line) = (n : ℕ) × FirstMisfit IsNe
 abbrev pub IsRead : Standing → List ℕ → CoreJudgement → Type 0
 IsRead s text (judged.Valid v) = (t : Standing) × IsWhole IsNext IsEnd s text t × (t.verdict ≡ v)
 IsRead s text (judged.Refused line) = FirstMisfit IsNext IsEnd s text line
+
+-- A part of the model may weigh too much, and the greatest weight that one may have is told where it has 128 bits, as
+-- that of each text has; or none may, and the text is refused; or memory was wanting.
+abbrev pub IsFaultOf : CoreFault → Model → List ℕ → Type 0
+IsFaultOf (TooHeavy w) model text = (most_weight < core_weight model)
+    × (core_weight model < 2 ^ 128 → w ≡ core_weight model)
+IsFaultOf (Refused line) model text = (core_weight model ≤ most_weight) × IsRefusedCore model text line
+IsFaultOf Memory model text = Unit {0}

@@ -1,6 +1,7 @@
 //! Checking the text of a core.
 
-ghost use Rattle.std.specs.Prelude.{◌≡◌, ◌↔◌, ◌+◌, ◌<◌, ◌≤◌, ◌^◌, IfOk, IsTrue, length};
+ghost use Rattle.std.specs.Prelude.{◌≡◌, ◌↔◌, ◌+◌, ◌<◌, ◌≤◌, ◌^◌};
+ghost use Rattle.std.specs.Prelude.{IfOk, IfErr, IsTrue, MatchResult, length};
 ghost use Rattle.model_meaning.specs.WellTyped.{WellTyped};
 ghost use Rattle.model_meaning.specs.Limits.{InLimits};
 ghost use Rattle.model_weight.specs.Weight.{weight_of};
@@ -10,12 +11,14 @@ ghost use Rattle.answer_document.specs.Valid.{start_of};
 ghost use Rattle.core_text.specs.declared.verdict.CoreVerdict.{CoreVerdict};
 ghost use Rattle.core_text.specs.CoreLines.{start_standing};
 ghost use Rattle.core_text.specs.CoreSays.{IsCoreText};
+ghost use Rattle.core_check.specs.declared.fault.CoreFault.TheVariants as faults;
 ghost use Rattle.core_check.specs.declared.checking.CoreJudgement.TheVariants as judged;
 ghost use Rattle.core_check.specs.Heads.{head_standing, IsWalked};
 ghost use Rattle.core_check.specs.Parts.{IsOfPart, IsPartOf};
 ghost use Rattle.core_check.specs.Readings.{standing_of};
-ghost use Rattle.core_check.specs.Checked.{IsJudged, IsJudgedBehind, IsRead};
+ghost use Rattle.core_check.specs.Checked.{IsAcceptedCore, IsJudged, IsJudgedBehind, IsRead, IsFaultOf};
 
+use crate::fault::CoreFault;
 use crate::head::{Front, Head, Stage, read_head};
 use crate::marking::mark_rest;
 use crate::reading::{Place, Reading, read_text};
@@ -26,10 +29,13 @@ use core_text::CoreVerdict;
 use ledger_replay::Replay;
 use model_lower::{Lowered, lower};
 use model_meaning::{Assignment, Model};
-use model_parts::DividedModel;
+use model_parts::{DividedModel, core_weight};
 use std::alloc::{AllocError, Global};
 use std::cell::Cell;
 use step_kernel::State;
+
+/// The greatest weight of a model whose parts are all taken.
+const MOST_WEIGHT: u128 = 67_108_864;
 
 /// What comes of the text of a core.
 #[derive(Clone, Copy)]
@@ -244,4 +250,30 @@ pub fn check_text(
         → IfOk result (λ j. j ≡ judged.Valid v) }
 {
     judge_text(alloc, model, text, noted)
+}
+
+/// Whether a text is that of a core of a model, as by `check_text`. The model is weighed first, and refused where a
+/// part of it may weigh too much, whatever the text is.
+pub fn check_core(alloc: Global, model: Model, text: &[u8]) -> Result<CoreVerdict, CoreFault>
+    requires typed { WellTyped model }
+    requires limits { InLimits model }
+    ensures core { IfOk result (IsAcceptedCore model text.now) }
+    ensures light { IfOk result (λ v. core_weight model ≤ most_weight) }
+    ensures fault { IfErr result (λ e. IsFaultOf e model text.now) }
+
+    // Every text of a core of a model that is taken is accepted, but for want of memory.
+    ensures complete { (v : CoreVerdict) → core_weight model ≤ most_weight → IsCoreText model text.now v
+        → MatchResult result (λ u. u ≡ v) (λ e. e ≡ faults.Memory) }
+{
+    let Ok(weight) = core_weight(alloc, &model) else {
+        return Err(CoreFault::Memory);
+    };
+    if weight > MOST_WEIGHT {
+        return Err(CoreFault::TooHeavy(weight));
+    }
+    match check_text(alloc, model, text, &Cell::new(None)) {
+        Ok(CoreJudgement::Valid(verdict)) => Ok(verdict),
+        Ok(CoreJudgement::Refused(line)) => Err(CoreFault::Refused(line)),
+        Err(AllocError) => Err(CoreFault::Memory),
+    }
 }

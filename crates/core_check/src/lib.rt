@@ -8,10 +8,11 @@
 //! to the checker of `proof_check`. Whether a statement is needed is not searched: its assignment is
 //! tested against all others, at the line behind its last value.
 //!
-//! What `check_text` promises of a model that is known to be light enough: it gives a verdict exactly
-//! where the text is that of a core with this verdict, and then what it says is true (`judged`,
-//! `complete`). Else it tells the first line that fails, counted from 1, and then the text is none of
-//! a core (`judged`); or memory is wanting.
+//! What `check_core` promises: it gives a verdict exactly where the text is that of a core with this
+//! verdict, and then what it says is true (`core`, `complete`). Else it tells the greatest weight
+//! that a part of the model may have, where that is too heavy, before the text is looked at; or the
+//! first line that fails, counted from 1, and then the text is none of a core (`fault`); or memory
+//! is wanting. `check_text` is the same of a model that is known to be light enough.
 //!
 //! Why a line is refused (`RefusedCore`) goes into a cell of the caller, who may say it; no clause speaks of
 //! it.
@@ -21,11 +22,13 @@
 #![tactic(auto)]
 
 mod checking;
+mod fault;
 mod head;
 mod marking;
 mod reading;
 mod refused;
 mod words;
 
-pub use checking::{CoreJudgement, check_text};
+pub use checking::{CoreJudgement, check_core, check_text};
+pub use fault::CoreFault;
 pub use refused::RefusedCore;

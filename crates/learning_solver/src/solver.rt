@@ -17,7 +17,7 @@ use crate::task::Task;
 use bee_list::Sequence;
 use order_ints::{Cnf, Lit};
 use proof_check::ProofLine;
-use search_watcher::Watcher;
+use search_watcher::{Silent, Watcher};
 use std::alloc::{AllocError, Global};
 use std::marker::Model;
 
@@ -92,8 +92,40 @@ impl<'a> Solver<'a> {
     }
 
     /// Searches for truth values that satisfy the CNF and the assumption, or for a clause that refutes them, until the
-    /// log has as many additions as the budget. It may be called again, whatever it answered. Behind each clause that
-    /// it learned it tells a watcher how many the log adds by then.
+    /// log has as many additions as the budget. It may be called again, whatever it answered.
+    pub fn solve(
+        &mut self,
+        assumption: Option<Lit>,
+        budget: u64,
+        restart: bool,
+    ) -> Result<Found, AllocError>
+        requires in_range { ForSome assumption (LitBelow (self.old.cnf.vars + 1)) }
+        requires budget { additions self.old.log ≤ budget }
+
+        // The CNF stays, and so do the lines of the log, also where memory was wanting.
+        ensures cnf { self.new.cnf ≡ self.old.cnf }
+        ensures log { GoesOn self.old.log self.new.log }
+
+        // The log is accepted to its last line; its additions are new where they stand, its deletions name additions
+        // alone, behind the last id, and each line can be read back from its text.
+        ensures accepted { Lrat self.new.cnf self.new.log }
+        ensures fresh { IsFreshLog self.new.cnf self.new.log }
+        ensures readable { Each IsReadable self.new.log }
+
+        // What is found, and what it may have cost.
+        ensures found { IfOk result (Answers self.new assumption) }
+        ensures spent { result ≡ Ok Found.Spent → additions self.new.log ≡ budget }
+        ensures spent_early { result ≡ Ok Found.Spent
+            → additions self.new.log < additions self.old.log + most_learned restart self.old.cnf.vars }
+        ensures within { additions self.new.log ≤ budget }
+        ensures most { additions self.new.log
+            ≤ additions self.old.log + most_learned restart self.old.cnf.vars }
+    {
+        let mut silent = Silent;
+        self.solve_watched(assumption, budget, restart, &mut silent)
+    }
+
+    /// Searches as `solve` does, and behind each clause that it learned tells a watcher how many the log adds by then.
     pub fn solve_watched<W: Watcher>(
         &mut self,
         assumption: Option<Lit>,

@@ -309,7 +309,7 @@ impl Reading {
                 let taken = self.take_first(head, room)?;
                 return Ok(taken);
             }
-            Err(ProofTextFault::Form) => self.behind_proof(model, line),
+            Err(ProofTextFault::Form(_)) => self.behind_proof(model, line),
             Err(ProofTextFault::Memory) => Err(AllocError),
         }
     }
@@ -345,7 +345,7 @@ impl Reading {
                 let taken = self.take_second(head, room)?;
                 return Ok(taken);
             }
-            Err(ProofTextFault::Form) => Ok(self.behind_second(model, line)),
+            Err(ProofTextFault::Form(_)) => Ok(self.behind_second(model, line)),
             Err(ProofTextFault::Memory) => Err(AllocError),
         }
     }

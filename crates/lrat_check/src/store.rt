@@ -147,7 +147,7 @@ impl LratStore {
         write_joined(&mut self.text, first, behind)?;
         match room.read_bytes(self.text.as_slice()) {
             Err(ProofTextFault::Memory) => Err(AllocError),
-            Err(ProofTextFault::Form) => Ok(false),
+            Err(ProofTextFault::Form(_)) => Ok(false),
             Ok(LineHead::Deletion(_)) => Ok(true),
             Ok(LineHead::Addition(id)) => {
                 self.take_addition(alloc, cnf, id, &room.lits, &room.hints)

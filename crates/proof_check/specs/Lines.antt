@@ -56,6 +56,9 @@ abbrev pub IsReadable : ProofLine → Type 0
 IsReadable (Add id lits hints) = IsReadableId id × Each IsReadableLit lits × Each IsReadableHint hints
 IsReadable (Delete at ids) = (at < 2 ^ 64) × Each IsReadableId ids
 
--- the bytes are the text of the line, without its line feed
+-- the bytes are the text of the line, without and with its line feed
 abbrev pub AreBytesOf : ProofLine → List ℕ → Type 0
 AreBytesOf line bytes = IsReadable line × (bytes ≡ line_bytes line)
+
+abbrev pub IsTextOf : ProofLine → List ℕ → Type 0
+IsTextOf line text = IsReadable line × (text ≡ line_text line)

@@ -47,3 +47,8 @@ has_var v (l ∷ ls) = (v == l.var) || has_var v ls
 abbrev pub VarsDiffer : List Lit → Type 0
 VarsDiffer [] = Unit {0}
 VarsDiffer (l ∷ ls) = (has_var l.var ls ≡ false) × VarsDiffer ls
+
+-- so do those of each clause
+abbrev pub ClauseVarsDiffer : List (List Lit) → Type 0
+ClauseVarsDiffer [] = Unit {0}
+ClauseVarsDiffer (c ∷ cs) = VarsDiffer c × ClauseVarsDiffer cs

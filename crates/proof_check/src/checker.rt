@@ -119,7 +119,7 @@ impl Checker {
     }
 
     /// Takes an addition whose literals and hints are lent.
-    fn take_addition(&mut self, id: u64, lits: &[Lit], hints: &[i64]) -> Result<(), TakeFault>
+    pub fn take_addition(&mut self, id: u64, lits: &[Lit], hints: &[i64]) -> Result<(), TakeFault>
         ensures taken { OnOk result (take_line self.old (Add id lits.now hints.now) ≡ Ok self.new) }
         ensures refused { OnErr result (self.new ≡ self.old) }
         ensures fault { IfErr result (λ e. IsFault e (addition_fault self.old id lits.now hints.now)) }
@@ -139,7 +139,7 @@ impl Checker {
     }
 
     /// Takes a deletion whose ids are lent.
-    fn take_deletion(&mut self, ids: &[u64]) -> Result<(), TakeFault>
+    pub fn take_deletion(&mut self, ids: &[u64]) -> Result<(), TakeFault>
         ensures taken { OnOk result ((at : ℕ) → take_line self.old (Delete at ids.now) ≡ Ok self.new) }
         ensures refused { OnErr result (self.new ≡ self.old) }
         ensures fault { IfErr result (λ e. IsFault e (deletion_fault self.old.live ids.now)) }
@@ -167,6 +167,13 @@ impl Checker {
         ensures { result ≡ length self.now.added }
     {
         (self.arena.len() - self.given) as u64
+    }
+
+    /// The greatest id so far.
+    pub fn last_id(&self) -> u64
+        ensures { result ≡ self.now.last }
+    {
+        self.arena.last_id()
     }
 
     /// Whether the clause with exactly these literals, in any order, is one of the CNF or was ever added. It takes no

@@ -32,10 +32,20 @@ pub enum TakeFault {
 /// Why a text was not read.
 #[derive(Clone, Copy, Debug, PartialEq, Eq)]
 pub enum ProofTextFault {
-    /// It is no line of a proof.
-    Form,
+    /// The number of the line that is no line of a proof, which is 1 for a text of one line.
+    Form(u64),
     /// Memory was wanting.
     Memory,
+}
+
+impl<T: Drop> From<AllocFailed<T>> for TakeFault {
+    ghost use Rattle.proof_check.specs.declared.fault.TakeFault.TheVariants.{Memory};
+
+    ghost from_gives = { λ _ e. e ≡ Memory };
+
+    fn from(_e: AllocFailed<T>) -> TakeFault {
+        TakeFault::Memory
+    }
 }
 
 impl From<AllocError> for TakeFault {

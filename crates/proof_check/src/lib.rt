@@ -12,9 +12,8 @@
 //! What it promises: `take` of a `Checker` is `Ok` exactly where the line continues a proof
 //! (`taken`), else its first fault (`fault`), and a refused line leaves the checker as it was
 //! (`refused`). What acceptance implies is `implied_laws`: each valuation that satisfies the CNF
-//! satisfies every clause that is known. What `push_line` writes is, without its line feed, what
-//! `read_bytes` of a `LineRoom` reads, line after line into the same room (`read`, `complete`,
-//! `text_laws`).
+//! satisfies every clause that is known. `write_line` and the readers are exact inverses (`read`,
+//! `complete`, `text_laws`); `LineRoom` reads line after line into the same room.
 //!
 //! Clauses stand in one list of literals with a table of 24 bytes a clause; a deleted one stays,
 //! marked, since it is still known. Ids may skip, so a live clause is found by halving.
@@ -37,6 +36,6 @@ pub use checker::Checker;
 pub use fault::{ProofFault, ProofTextFault, TakeFault};
 pub use laws::{implied_laws, proof_laws, text_laws};
 pub use line::ProofLine;
-pub use read::{LineHead, LineRoom};
+pub use read::{LineHead, LineRoom, read_line};
 pub use standing::Standing;
-pub use write::push_line;
+pub use write::{push_addition, push_deletion, push_line, write_line};

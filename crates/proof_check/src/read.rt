@@ -3,20 +3,22 @@
 //! A text of many lines is read into the same room line by line, so that a line takes no memory once the longest
 //! one was read.
 
-ghost use Rattle.std.specs.Prelude.{◌≡◌, ◌<◌, ◌^◌, ◌↔◌, ◌∷◌, List, ℕ};
-ghost use Rattle.std.specs.Prelude.{ℤ, [], Some, codes, slice_index_or, IsTrue, IfSome, OnOk, IfOk};
+ghost use Rattle.std.specs.Prelude.{◌≡◌, ◌<◌, ◌^◌, ◌⊎◌, ◌↔◌, ◌∷◌, ◌++◌, List, ℕ};
+ghost use Rattle.std.specs.Prelude.{ℤ, [], Some, codes, slice_index_or, IsTrue, IfSome, IfNone, OnOk, IfOk, IfErr};
 ghost use Rattle.std.specs.Prelude.{MatchResult};
 ghost use Rattle.bee_text.specs.Words.{split_blanks};
 ghost use Rattle.std.specs.Fmt.{decimal, signed_decimal};
 ghost use Rattle.order_ints.specs.declared.literal.Lit.{Lit};
 ghost use Rattle.proof_check.specs.declared.line.ProofLine.{ProofLine};
-ghost use Rattle.proof_check.specs.declared.fault.ProofTextFault.TheVariants.{Memory};
+ghost use Rattle.proof_check.specs.declared.fault.ProofTextFault.TheVariants.{Form, Memory};
 ghost use Rattle.proof_check.specs.Lines.{literal_word, list_words, line_words, Each, IsReadableLit, IsReadableId};
-ghost use Rattle.proof_check.specs.Lines.{IsReadableHint, IsReadable, AreBytesOf};
+ghost use Rattle.proof_check.specs.Lines.{IsReadableHint, IsReadable, AreBytesOf, IsTextOf};
 ghost use Rattle.proof_check.specs.Room.{line_in};
 
 use crate::fault::ProofTextFault;
+use crate::line::ProofLine;
 use crate::spelling::{read_count, read_hint, read_id, read_literal};
+use bee_list::Sequence;
 use bee_text::{Words, is, split_words};
 use order_ints::Lit;
 use std::alloc::Global;
@@ -48,17 +50,18 @@ fn read_literals(words: &mut Words<'_>, out: &mut Vec<Lit>) -> Result<(), ProofT
     ensures complete { (ls : List Lit) (rest : List (List ℕ)) → Each IsReadableLit ls
         → words.old ≡ list_words literal_word ls rest
         → MatchResult result (λ _. (out.new.items ≡ ls) × (words.new ≡ rest)) (λ e. e ≡ Memory) }
+    ensures fault { IfErr result (λ e. (e ≡ Form 1) ⊎ (e ≡ Memory)) }
 {
     out.clear();
     loop {
         match words.next_word() {
-            None => return Err(ProofTextFault::Form),
+            None => return Err(ProofTextFault::Form(1)),
             Some(word) => {
                 if is(word, b"0") {
                     return Ok(());
                 }
                 match read_literal(word) {
-                    None => return Err(ProofTextFault::Form),
+                    None => return Err(ProofTextFault::Form(1)),
                     Some(lit) => out.push(lit)?,
                 }
             }
@@ -73,17 +76,18 @@ fn read_hints(words: &mut Words<'_>, out: &mut Vec<i64>) -> Result<(), ProofText
     ensures complete { (hs : List ℤ) (rest : List (List ℕ)) → Each IsReadableHint hs
         → words.old ≡ list_words signed_decimal hs rest
         → MatchResult result (λ _. (out.new.items ≡ hs) × (words.new ≡ rest)) (λ e. e ≡ Memory) }
+    ensures fault { IfErr result (λ e. (e ≡ Form 1) ⊎ (e ≡ Memory)) }
 {
     out.clear();
     loop {
         match words.next_word() {
-            None => return Err(ProofTextFault::Form),
+            None => return Err(ProofTextFault::Form(1)),
             Some(word) => {
                 if is(word, b"0") {
                     return Ok(());
                 }
                 match read_hint(word) {
-                    None => return Err(ProofTextFault::Form),
+                    None => return Err(ProofTextFault::Form(1)),
                     Some(hint) => out.push(hint)?,
                 }
             }
@@ -98,17 +102,18 @@ fn read_ids(words: &mut Words<'_>, out: &mut Vec<u64>) -> Result<(), ProofTextFa
     ensures complete { (is : List ℕ) (rest : List (List ℕ)) → Each IsReadableId is
         → words.old ≡ list_words decimal is rest
         → MatchResult result (λ _. (out.new.items ≡ is) × (words.new ≡ rest)) (λ e. e ≡ Memory) }
+    ensures fault { IfErr result (λ e. (e ≡ Form 1) ⊎ (e ≡ Memory)) }
 {
     out.clear();
     loop {
         match words.next_word() {
-            None => return Err(ProofTextFault::Form),
+            None => return Err(ProofTextFault::Form(1)),
             Some(word) => {
                 if is(word, b"0") {
                     return Ok(());
                 }
                 match read_id(word) {
-                    None => return Err(ProofTextFault::Form),
+                    None => return Err(ProofTextFault::Form(1)),
                     Some(id) => out.push(id)?,
                 }
             }
@@ -125,12 +130,19 @@ fn read_addition(words: &mut Words<'_>, room: &mut LineRoom) -> Result<(), Proof
         → words.old ≡ list_words literal_word ls (list_words signed_decimal hs [])
         → MatchResult result (λ _. (room.new.lits.items ≡ ls)
         × (room.new.hints.items ≡ hs)) (λ e. e ≡ Memory) }
+    ensures fault { IfErr result (λ e. (e ≡ Form 1) ⊎ (e ≡ Memory)) }
 {
-    read_literals(words, &mut room.lits)?;
-    read_hints(words, &mut room.hints)?;
+    match read_literals(words, &mut room.lits) {
+        Err(e) => return Err(e),
+        Ok(()) => {}
+    }
+    match read_hints(words, &mut room.hints) {
+        Err(e) => return Err(e),
+        Ok(()) => {}
+    }
     match words.next_word() {
         None => Ok(()),
-        Some(_) => Err(ProofTextFault::Form),
+        Some(_) => Err(ProofTextFault::Form(1)),
     }
 }
 
@@ -140,11 +152,15 @@ fn read_deletion(words: &mut Words<'_>, ids: &mut Vec<u64>) -> Result<(), ProofT
         × Each IsReadableId ids.new.items) }
     ensures complete { (is : List ℕ) → Each IsReadableId is → words.old ≡ list_words decimal is []
         → MatchResult result (λ _. ids.new.items ≡ is) (λ e. e ≡ Memory) }
+    ensures fault { IfErr result (λ e. (e ≡ Form 1) ⊎ (e ≡ Memory)) }
 {
-    read_ids(words, ids)?;
+    match read_ids(words, ids) {
+        Err(e) => return Err(e),
+        Ok(()) => {}
+    }
     match words.next_word() {
         None => Ok(()),
-        Some(_) => Err(ProofTextFault::Form),
+        Some(_) => Err(ProofTextFault::Form(1)),
     }
 }
 
@@ -188,20 +204,21 @@ fn read_words(
         × IsReadable (line_in head room.new)) }
     ensures complete { (line : ProofLine) → IsReadable line → words.old ≡ line_words line
         → MatchResult result (λ head. line_in head room.new ≡ line) (λ e. e ≡ Memory) }
+    ensures fault { IfErr result (λ e. (e ≡ Form 1) ⊎ (e ≡ Memory)) }
 {
     let Some(id) = next_count(words) else {
-        return Err(ProofTextFault::Form);
+        return Err(ProofTextFault::Form(1));
     };
     if deletion {
         match words.next_word() {
-            None => Err(ProofTextFault::Form),
+            None => Err(ProofTextFault::Form(1)),
             Some(_) => match read_deletion(words, &mut room.ids) {
                 Err(e) => Err(e),
                 Ok(()) => Ok(LineHead::Deletion(id)),
             },
         }
     } else if id == 0 {
-        Err(ProofTextFault::Form)
+        Err(ProofTextFault::Form(1))
     } else {
         match read_addition(words, room) {
             Err(e) => Err(e),
@@ -226,6 +243,7 @@ impl LineRoom {
         ensures read { IfOk result (λ head. AreBytesOf (line_in head self.new) bytes.now) }
         ensures complete { (line : ProofLine) → AreBytesOf line bytes.now
             → MatchResult result (λ head. line_in head self.new ≡ line) (λ e. e ≡ Memory) }
+        ensures fault { IfErr result (λ e. (e ≡ Form 1) ⊎ (e ≡ Memory)) }
     {
         let deletion = is_deletion(bytes);
         let mut words = split_words(bytes);
@@ -233,5 +251,69 @@ impl LineRoom {
             Err(e) => Err(e),
             Ok(head) => Ok(head),
         }
+    }
+
+    /// Reads a line with its line feed.
+    pub fn read_text(&mut self, text: &[u8]) -> Result<LineHead, ProofTextFault>
+        ensures read { IfOk result (λ head. IsTextOf (line_in head self.new) text.now) }
+        ensures complete { (line : ProofLine) → IsTextOf line text.now
+            → MatchResult result (λ head. line_in head self.new ≡ line) (λ e. e ≡ Memory) }
+        ensures fault { IfErr result (λ e. (e ≡ Form 1) ⊎ (e ≡ Memory)) }
+    {
+        match without_line_feed(text) {
+            None => Err(ProofTextFault::Form(1)),
+            Some(bytes) => match self.read_bytes(bytes) {
+                Err(e) => Err(e),
+                Ok(head) => Ok(head),
+            },
+        }
+    }
+}
+
+/// What stands before the line feed at a text's end.
+fn without_line_feed(text: &[u8]) -> Option<&[u8]>
+    ensures cut { IfSome result (λ bytes. text.now ≡ bytes.now ++ 10 ∷ []) }
+    ensures complete { IfNone result ((bytes : List ℕ) → text.now ≡ bytes ++ 10 ∷ [] → ⊥) }
+{
+    let count = text.len();
+    if count == 0 {
+        return None;
+    }
+    if text[count - 1] == b'\n' {
+        Some(&text[..count - 1])
+    } else {
+        None
+    }
+}
+
+/// The line whose text, with its line feed, the bytes are.
+pub fn read_line(alloc: Global, text: &[u8]) -> Result<ProofLine, ProofTextFault>
+    ensures read { IfOk result (λ line. IsTextOf line text.now) }
+    ensures complete { (line : ProofLine) → IsTextOf line text.now
+        → MatchResult result (λ l. l ≡ line) (λ e. e ≡ Memory) }
+    ensures fault { IfErr result (λ e. (e ≡ Form 1) ⊎ (e ≡ Memory)) }
+{
+    let mut room = LineRoom::new(alloc);
+    match room.read_text(text) {
+        Err(e) => Err(e),
+        Ok(head) => Ok(line_of(head, room)),
+    }
+}
+
+/// The line that a head and its room make.
+fn line_of(head: LineHead, room: LineRoom) -> ProofLine
+    ensures { result ≡ line_in head room }
+{
+    let LineRoom { lits, hints, ids } = room;
+    match head {
+        LineHead::Addition(id) => ProofLine::Add {
+            id,
+            lits: Sequence::from_vec(lits),
+            hints: Sequence::from_vec(hints),
+        },
+        LineHead::Deletion(at) => ProofLine::Delete {
+            at,
+            ids: Sequence::from_vec(ids),
+        },
     }
 }

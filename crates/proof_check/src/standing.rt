@@ -3,7 +3,7 @@
 use order_ints::Lit;
 
 /// What partial values make of a clause.
-#[derive(Clone, Copy)]
+#[derive(Clone, Copy, PartialEq, Eq)]
 pub enum Standing {
     /// Each literal is false.
     Refuted,

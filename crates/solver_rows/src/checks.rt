@@ -1,8 +1,7 @@
 //! Two checkers that take the same lines, and what they answer.
 
 use crate::clauses::{cnf, literals};
-use bee_list::Sequence;
-use proof_check::{Checker, LineHead, LineRoom, ProofFault, ProofLine, TakeFault};
+use proof_check::{Checker, LineRoom, ProofFault, TakeFault, read_line};
 use std::alloc::{AllocError, Global};
 use std::process::Abort;
 use std::test::Fail;
@@ -33,22 +32,6 @@ fn take_lent<R: Abort>(
     }
 }
 
-/// The line that was read into room.
-pub(super) fn owned(head: LineHead, room: LineRoom) -> ProofLine {
-    let LineRoom { lits, hints, ids } = room;
-    match head {
-        LineHead::Addition(id) => ProofLine::Add {
-            id,
-            lits: Sequence::from_vec(lits),
-            hints: Sequence::from_vec(hints),
-        },
-        LineHead::Deletion(at) => ProofLine::Delete {
-            at,
-            ids: Sequence::from_vec(ids),
-        },
-    }
-}
-
 /// Takes a line that is owned.
 fn take_owned<R: Abort>(
     rt: &R,
@@ -56,9 +39,9 @@ fn take_owned<R: Abort>(
     checker: &mut Checker,
     line: &str,
 ) -> Result<(), TakeFault> {
-    let mut room = LineRoom::new(alloc);
-    match room.read_bytes(line.as_bytes()) {
-        Ok(head) => checker.take(&owned(head, room)),
+    let text = format!(in alloc; "{line}\n")?;
+    match read_line(alloc, text.as_bytes()) {
+        Ok(owned) => checker.take(&owned),
         Err(_) => panic!(rt; "no line: {line}"),
     }
 }
@@ -69,7 +52,7 @@ pub(super) fn take_row<R: Abort>(
     rt: &R,
     alloc: Global,
     lent: &mut Checker,
-    other: &mut Checker,
+    owned: &mut Checker,
     table: &str,
 ) -> Result<(), Fail> {
     let mut room = LineRoom::new(alloc);
@@ -79,7 +62,7 @@ pub(super) fn take_row<R: Abort>(
         };
         let first = told(alloc, take_lent(rt, &mut room, lent, line))?;
         assert_eq!(rt; first.as_str(), want, "{line}");
-        let second = told(alloc, take_owned(rt, alloc, other, line))?;
+        let second = told(alloc, take_owned(rt, alloc, owned, line))?;
         assert_eq!(rt; second.as_str(), want, "{line}");
     }
     Ok(())
@@ -98,7 +81,7 @@ fn known_row<R: Abort>(rt: &R, alloc: Global, checker: &Checker, table: &str) ->
     Ok(())
 }
 
-/// Takes lines over a CNF, and asks which clauses are known then. The answer is how many were added.
+/// Takes lines over a CNF, and asks which clauses are known then. The answer is how many were added, and the last id.
 pub(super) fn check_row<R: Abort>(
     rt: &R,
     alloc: Global,
@@ -106,11 +89,11 @@ pub(super) fn check_row<R: Abort>(
     clauses: &str,
     lines: &str,
     known: &str,
-) -> Result<u64, Fail> {
+) -> Result<(u64, u64), Fail> {
     let cnf = cnf(rt, alloc, vars, clauses)?;
     let mut lent = Checker::with(alloc, &cnf)?;
-    let mut other = Checker::with(alloc, &cnf)?;
-    take_row(rt, alloc, &mut lent, &mut other, lines)?;
-    known_row(rt, alloc, &other, known)?;
-    Ok(lent.added())
+    let mut owned = Checker::with(alloc, &cnf)?;
+    take_row(rt, alloc, &mut lent, &mut owned, lines)?;
+    known_row(rt, alloc, &owned, known)?;
+    Ok((lent.added(), lent.last_id()))
 }

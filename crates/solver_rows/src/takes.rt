@@ -6,7 +6,6 @@ use bee_list::Sequence;
 use order_ints::Lit;
 use proof_check::{Checker, ProofFault, ProofLine, TakeFault};
 use std::alloc::{AllocError, Global};
-use std::process::Abort;
 use std::test::Fail;
 
 /// Two variables with all four clauses, and one more variable.
@@ -32,7 +31,7 @@ const DELETIONS: &str = "7 1 0 1 2 0: ok;6 0 7 3 4 0: id;7 0 7 3 4 0: id;9 1 3 0
 fn takes(rt: HostRuntime) -> Result<(), Fail> {
     let alloc = rt.alloc();
     let faults = check_row(&rt, alloc, 3, SQUARE, FAULTS, KNOWN)?;
-    assert_eq!(rt; faults, 2);
+    assert_eq!(rt; faults, (2, 6));
     let deletions = check_row(
         &rt,
         alloc,
@@ -41,49 +40,35 @@ fn takes(rt: HostRuntime) -> Result<(), Fail> {
         DELETIONS,
         ".: yes;1 -2: yes;3 1: yes;3: no",
     )?;
-    assert_eq!(rt; deletions, 3);
+    assert_eq!(rt; deletions, (3, 10));
     let nothing = check_row(&rt, alloc, 0, "", "1 0 0: hint 1", ".: no")?;
-    assert_eq!(rt; nothing, 0);
+    assert_eq!(rt; nothing, (0, 0));
     let empty = check_row(&rt, alloc, 0, ".", "2 0 1 0: ok", ".: yes")?;
-    assert_eq!(rt; empty, 1);
+    assert_eq!(rt; empty, (1, 2));
     Ok(())
 }
 
-/// An addition.
-fn addition(alloc: Global, id: u64, lits: &[Lit], hints: &[i64]) -> Result<ProofLine, AllocError> {
+/// An addition with the id 0, which has no text.
+fn nameless(alloc: Global) -> Result<ProofLine, AllocError> {
     Ok(ProofLine::Add {
-        id,
-        lits: Sequence::from_vec(Vec::from_slice(alloc, lits)?),
-        hints: Sequence::from_vec(Vec::from_slice(alloc, hints)?),
+        id: 0,
+        lits: Sequence::from_vec(Vec::new(alloc)),
+        hints: Sequence::from_vec(Vec::new(alloc)),
     })
-}
-
-/// A deletion.
-fn deletion(alloc: Global, ids: &[u64]) -> Result<ProofLine, AllocError> {
-    Ok(ProofLine::Delete {
-        at: 1,
-        ids: Sequence::from_vec(Vec::from_slice(alloc, ids)?),
-    })
-}
-
-/// Takes a line that has the fault.
-fn fault_row<R: Abort>(rt: &R, checker: &mut Checker, line: &ProofLine, fault: ProofFault) {
-    assert_eq!(rt; checker.take(line), Err(TakeFault::Proof(fault)));
 }
 
 // Values that have no text.
 #[test]
 fn zeros(rt: HostRuntime) -> Result<(), Fail> {
-    let alloc = rt.alloc();
-    let cnf = cnf(&rt, alloc, 3, SQUARE)?;
-    let mut checker = Checker::with(alloc, &cnf)?;
-    let nameless = addition(alloc, 0, &[], &[])?;
-    fault_row(&rt, &mut checker, &nameless, ProofFault::Id);
-    let literal = addition(alloc, 5, &[Lit::of(0, true)], &[1])?;
-    fault_row(&rt, &mut checker, &literal, ProofFault::Lit(1));
-    let hint = addition(alloc, 5, &[Lit::of(1, true)], &[0])?;
-    fault_row(&rt, &mut checker, &hint, ProofFault::Absent(0));
-    let id = deletion(alloc, &[1, 0])?;
-    fault_row(&rt, &mut checker, &id, ProofFault::Absent(0));
+    let cnf = cnf(&rt, rt.alloc(), 3, SQUARE)?;
+    let mut checker = Checker::with(rt.alloc(), &cnf)?;
+    let line = nameless(rt.alloc())?;
+    assert_eq!(rt; checker.take(&line), Err(TakeFault::Proof(ProofFault::Id)));
+    let literal = checker.take_addition(5, &[Lit::of(0, true)], &[1]);
+    assert_eq!(rt; literal, Err(TakeFault::Proof(ProofFault::Lit(1))));
+    let hint = checker.take_addition(5, &[Lit::of(1, true)], &[0]);
+    assert_eq!(rt; hint, Err(TakeFault::Proof(ProofFault::Absent(0))));
+    let deletion = checker.take_deletion(&[1, 0]);
+    assert_eq!(rt; deletion, Err(TakeFault::Proof(ProofFault::Absent(0))));
     Ok(())
 }

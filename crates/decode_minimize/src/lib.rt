@@ -41,4 +41,5 @@ mod telling;
 mod watching;
 
 pub use answering::{AnsweredModel, CnfSize, answer, answer_owned_watched, answer_watched};
+pub use search_options::SearchOptions as Options;
 pub use watching::SolutionWatcher;

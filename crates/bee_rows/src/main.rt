@@ -23,7 +23,7 @@
 //! line once for each cause by which it fails (`answer_checking.txt`, `compiled_texts.txt`).
 //!
 //! The models of `examples/`, boards of queens, and texts of many bytes are tried by `python/`, over
-//! the program that was built; the scripts that fuzz it stand in `reading/`, and are no part of the
+//! the program that was built; the scripts that fuzz it stand in `reference/`, and are no part of the
 //! gate.
 #![tactic(auto)]
 

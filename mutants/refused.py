@@ -1,12 +1,12 @@
 #!/usr/bin/env python3
-"""Tries wrong bodies that are no must-fail edits: refused.py [CRATE[/NAME] ..], all without words.
+"""Tries mutants that are no must-fail edits: refused.py [CRATE[/NAME] ..], all without words.
 
 Each stands in mutants/CRATE/NAME.edit, in the form of a must-fail edit, behind a line `rows: CRATE_OF_ROWS` where rows
 refuse it. It goes into a copy of the crates, and the tests of these rows are run without proof (`rt try --test`), or,
 where they are transcripts, the program that plays them: those that the line names behind the crate, or all. Where there
 is no such line only the prover refuses it, and `rt must-fail` tries it in that copy, over the libraries that stand
 proved in the repository. A line is printed for each: `refused` and by which tests, or by how many runs of which
-transcripts or because these have no end, or `NOT REFUSED`, or why it could not be tried; and the processor's seconds.
+transcripts or because these have no end, or `NOT REFUSED`, or why it could not be tried; and the CPU seconds.
 JOBS of them are tried side by side (one without it). It ends with 1 where one was not refused. Wants python3 and rt.
 """
 import os
@@ -145,7 +145,7 @@ def main(words):
             print(line, flush=True)
             all_refused = all_refused and is_refused
     used = resource.getrusage(resource.RUSAGE_CHILDREN)
-    print(f"seconds of the processor: {used.ru_utime + used.ru_stime:.0f}")
+    print(f"CPU seconds: {used.ru_utime + used.ru_stime:.0f}")
     return 0 if all_refused else 1
 
 

@@ -3,6 +3,7 @@ from __future__ import annotations
 
 import os
 import re
+import shutil
 import subprocess
 import sys
 import tempfile
@@ -118,10 +119,11 @@ class Core:
 
 
 def program_of(program: Optional[str]) -> str:
-    """Where the program is: an argument, the variable BEE, or `bee` beside the folder of this
-    package."""
-    beside = Path(__file__).resolve().parents[2] / "bee"
-    found = program or os.environ.get("BEE") or str(beside)
+    """Where the program is: an argument, the variable BEE, `bee` beside the folder of this package,
+    or an installed one."""
+    beside = str(Path(__file__).resolve().parents[2] / "bee")
+    installed = None if os.path.isfile(beside) else shutil.which("bee")
+    found = program or os.environ.get("BEE") or installed or beside
     if not os.path.isfile(found):
         raise ProgramError(
             f"there is no program at {found}; name it by program=, or by the variable BEE"

@@ -34,7 +34,9 @@ def summary(path):
     if sentence.startswith("The mode"):
         return sentence
     shorter = [it for it in front.split(", ") if it]
-    while len(shorter) > 1 and len(", ".join(shorter).split()) > 13 and len(", ".join(shorter[:-1]).split()) >= 5:
+    while len(", ".join(shorter).split()) > 13 and len(", ".join(shorter[:-1]).split()) >= 5:
+        if shorter[-1].startswith("and "):
+            break
         shorter.pop()
     return ", ".join(shorter)
 

@@ -1,7 +1,8 @@
 #!/usr/bin/env python3
-"""Keeps what a script that measures prints: record.py NAME COMMAND .. runs the command, shows what it prints, and writes
-the rows of its table to bench/results/NAME.tsv, behind lines that say the command, the commit, the machine and the date.
-Cells of a row stand apart by ", ", by tabs, or in columns; other lines are kept as remarks. `tools/results.py` then puts the tables into docs/MEASURED.md."""
+"""Keeps what a script that measures prints: record.py NAME COMMAND .. runs the command, shows what it prints, and
+writes the rows of its table to bench/results/NAME.tsv, behind lines that say the command, the commit, the machine and
+the date. Cells of a row stand apart by ", ", by tabs, or in columns; other lines are kept as remarks.
+`tools/results.py` then puts the tables into docs/MEASURED.md."""
 import datetime
 import os
 import re

@@ -35,7 +35,8 @@ PARTS = (
 
 def named(kind):
     """The paths of the files that name one of the kind, by part."""
-    words = ["git", "grep", "-lP", KINDS[kind], "--", "crates", "crates.txt", "docs", "README.md", "python", "reference", "bench"]
+    where = ["crates", "crates.txt", "docs", "README.md", "python", "reference", "bench"]
+    words = ["git", "grep", "-lP", KINDS[kind], "--", *where]
     paths = subprocess.run(words, cwd=TOP, capture_output=True, text=True, check=True).stdout.split()
     parts = {part: [it for it in paths if re.match(rule, it)] for part, rule in PARTS}
     return {part: found for part, found in parts.items() if found}

@@ -3,7 +3,12 @@ import math
 
 # The plots beside docs/MEASURED.md: of which table, which columns are drawn, and how they are called.
 PLOTS = {
-    "compile": {"name": "compile", "columns": ("size", "seconds"), "least": 3, "titles": ("size of the model", "CPU seconds")},
+    "compile": {
+        "name": "compile",
+        "columns": ("size", "seconds"),
+        "least": 3,
+        "titles": ("size of the model", "CPU seconds"),
+    },
 }
 WIDE, HIGH, LEFT, LOW, SIDE = 560, 360, 60, 44, 250
 COLOURS = ("#1b6ca8", "#c0392b", "#2e8b57", "#8e44ad", "#d68910", "#16a085", "#7f8c8d", "#2c3e50")
@@ -43,8 +48,9 @@ def drawn(table_of, name, columns, least, titles):
         parts = [(math.log10(it) - low) / (high - low) for it, (low, high) in zip(point, spans)]
         return LEFT + parts[0] * (WIDE - LEFT - 10), HIGH - LOW - parts[1] * (HIGH - LOW - 10)
 
-    out = [f'<svg xmlns="http://www.w3.org/2000/svg" viewBox="0 0 {WIDE + SIDE} {HIGH}" font-family="sans-serif" font-size="11">',
-        f'<rect width="{WIDE + SIDE}" height="{HIGH}" fill="#ffffff"/>']
+    size = f'viewBox="0 0 {WIDE + SIDE} {HIGH}" font-family="sans-serif" font-size="11"'
+    out = [f'<svg xmlns="http://www.w3.org/2000/svg" {size}>']
+    out += [f'<rect width="{WIDE + SIDE}" height="{HIGH}" fill="#ffffff"/>']
     for axis, (low, high) in enumerate(spans):
         for power in range(low, high + 1):
             ends = [[10.0 ** it for it, _ in spans], [10.0 ** it for _, it in spans]]
@@ -63,7 +69,8 @@ def drawn(table_of, name, columns, least, titles):
         out.append(f'<polyline points="{path}" fill="none" stroke="{colour}" stroke-width="1.5"/>')
         out += [f'<circle cx="{x:.1f}" cy="{y:.1f}" r="2.5" fill="{colour}"/>' for x, y in dots]
         y = 20 + 16 * at
-        out.append(f'<line x1="{WIDE + 6}" y1="{y - 4}" x2="{WIDE + 22}" y2="{y - 4}" stroke="{colour}" stroke-width="3"/>')
+        ends = f'x1="{WIDE + 6}" y1="{y - 4}" x2="{WIDE + 22}" y2="{y - 4}"'
+        out.append(f'<line {ends} stroke="{colour}" stroke-width="3"/>')
         label = name.replace("&", "&amp;").replace("<", "&lt;")
         out.append(f'<text x="{WIDE + 27}" y="{y}">{label[:40]}</text>')
     return "\n".join([*out, "</svg>"]) + "\n"

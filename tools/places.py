@@ -26,7 +26,7 @@ PARTS = (
     ("proofs", r"^crates/\w+/proofs/"),
     ("rows", r"^crates/(\w+_rows|core_words)/"),
     ("crates.txt", r"^crates\.txt$"),
-    ("pages", r"^(docs/(?!MEASURED|PROVING|DECISIONS|TECHNIQUES)\w+|README)\.md$"),
+    ("pages", r"^docs/(CORES|FORMATS|LANGUAGE|PROVED)\.md$"),
     ("python", r"^python/beemodel/"),
     ("reference", r"^reference/\w+\.py$"),
     ("bench", r"^bench/\w+\.py$"),

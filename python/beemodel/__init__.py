@@ -11,7 +11,7 @@ from .lines import ModelError
 from .model import Constraint, Model
 from .ordering import lex_less, lex_less_or_equal
 from .resources import cumulative
-from .running import Answer, Core, ProgramError, Solutions
+from .answers import Answer, Core, Found, ProgramError, Solutions
 from .tables import table
 
 __all__ = [

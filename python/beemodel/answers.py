@@ -5,7 +5,7 @@ import re
 from collections.abc import Iterator, Sequence
 from dataclasses import dataclass
 from pathlib import Path
-from typing import TYPE_CHECKING, NamedTuple, Optional, Union, overload
+from typing import TYPE_CHECKING, Any, NamedTuple, Optional, Union, overload
 
 from .expressions import Number, Truth
 
@@ -144,6 +144,32 @@ class Answer:
         if self.values is None:
             raise ProgramError(f"the answer is {self.verdict}, and has no values")
         return self.values
+
+    def _repr_html_(self) -> str:
+        """What a notebook shows."""
+        from .reports import fragment
+
+        return fragment(self)
+
+    def show(self, plan: Any = None, width: int = 100) -> None:
+        """Prints the plan: a Gantt chart of intervals, a grid, or else a table of the values.
+
+        `plan` is a list of intervals, or lists of them by the name of their row; or a dictionary of
+        variables and expressions by row and column. Where it is left out, it is the intervals of
+        the model, if there are any.
+        """
+        from .showing import shown
+
+        print(shown(self, plan, width))
+
+    def report(self, path: Union[str, Path], plan: Any = None, title: str = "Plan") -> Path:
+        """Writes one page that needs no other file: the plan, as `show` takes it, the values, what
+        the model weighs, what the compilation did, and how the search went."""
+        from .reports import page
+
+        at = Path(path)
+        at.write_text(page(self, plan, title), encoding="utf-8")
+        return at
 
 
 class Solutions(Sequence[Answer]):

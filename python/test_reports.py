@@ -11,6 +11,7 @@ from typing import NamedTuple
 
 from beemodel import Answer, Model, all_different, cumulative, maximum
 from beemodel.plans import Gantt, plan_of
+from test_running import ruler
 from trying import PROGRAM, need_program
 
 # Tags that stand alone.
@@ -172,12 +173,11 @@ class Pages(unittest.TestCase):
         self.assertIn(f"The model weighs {model.weight():,} of", text)
 
     def test_a_search_that_was_stopped(self):
-        model, _ = house()
-        answer = model.solve(budget=1, program=PROGRAM)
-        self.assertTrue(answer)
-        answer.verdict = "UNKNOWN"
+        answer = ruler(8)[0].solve(budget=20, program=PROGRAM)
+        self.assertEqual((answer.verdict, bool(answer)), ("UNKNOWN", True))
         text, _ = self.page(answer)
-        self.assertIn("there may be better ones", text)
+        for part in ("there may be better ones", "Gap to the bound", "budget of clauses"):
+            self.assertIn(part, text)
 
     def test_a_grid_and_texts_of_a_user(self):
         model, _ = house()

@@ -5,11 +5,13 @@ import re
 from bisect import bisect_left, bisect_right
 from collections.abc import Iterable, Mapping, Sequence
 from dataclasses import replace
-from typing import Any, NamedTuple, Optional, Union
+from importlib import import_module
+from typing import TYPE_CHECKING, Any, NamedTuple, Optional, Union
 
 from . import weights
 from .answers import Answer, Core, Solutions, Value, Values
 from .domains import Domain, domain_of
+from .elsewhere import hint, told
 from .expressions import (
     GREATEST,
     AllOf,
@@ -81,6 +83,13 @@ class Model:
         self.variables: dict[str, Union[IntegerVariable, BooleanVariable]] = {}
         self.constraints: list[Constraint] = []
         self.goal: Optional[Goal] = None
+
+    if not TYPE_CHECKING:
+
+        def __getattr__(self, name: str) -> object:
+            """Tells what there is in place of a name that is looked for in vain."""
+            functions = import_module(__package__).__all__
+            raise AttributeError(told(name, hint(name, [*dir(type(self)), *functions])))
 
     # Variables.
 

@@ -32,10 +32,11 @@ class Ended(NamedTuple):
 
 
 def places() -> list[str]:
-    """Where the program may be beside the package: in its folder, and at the top of the
-    repository."""
+    """Where the program may be beside the package: in its folder, and, where that is one of the
+    repository, at its top."""
     package = Path(__file__).resolve().parent
-    return [str(package / "bee"), str(package.parents[1] / "bee")]
+    tops = [package.parents[1]] if package.parent.name == "python" else []
+    return [str(it / "bee") for it in (package, *tops)]
 
 
 def is_program(path: str) -> bool:

@@ -42,8 +42,8 @@ thead th { color: var(--soft); font-size: 13px }
 .values { max-height: 420px; overflow: auto; border: 1px solid var(--rule); border-radius: 6px }
 .values { width: fit-content; max-width: 100% } .values th, .values td { padding: 3px 24px 3px 12px }
 .values thead th { position: sticky; top: 0; background: #fff }
-input { width: 280px; max-width: 100%; margin: 0 0 10px; padding: 6px 10px; border: 1px solid #b9c4cd; border-radius: 6px;
-  font: inherit }
+input { width: 280px; max-width: 100%; margin: 0 0 10px; padding: 6px 10px; border: 1px solid #b9c4cd;
+  border-radius: 6px; font: inherit }
 .share { display: inline-block; height: 10px; background: #9ecae9; border-radius: 2px }
 """
 

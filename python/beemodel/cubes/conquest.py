@@ -10,7 +10,7 @@ from typing import NamedTuple, Optional, Protocol
 from ..running import ProgramError
 from .clauses import Compiled, last_clause
 from .engines import Ended
-from .joining import join
+from .joining import Hinted, Joined, NoHints, Plain, join
 from .lookahead import LookAhead
 from .machines import tell
 from .program import Bee, Goal
@@ -34,10 +34,11 @@ class Engine(Protocol):
 
 
 class Settings(NamedTuple):
-    """How many cubes are made first, behind how many seconds one may be split again, how often one that failed runs
-    again, and whether progress is told."""
+    """How many cubes are made first, whether the workers' lines have hints, behind how many seconds a cube may be split
+    again, how often one that failed runs again, and whether progress is told."""
 
     cubes: int
+    are_hinted: bool = False
     share: float = 5.0
     retries: int = 3
     progress: bool = False
@@ -88,7 +89,8 @@ class Conquest:
         self.failures: dict[str, int] = {}
         self.unreached: dict[str, int] = {}
         self.seconds: dict[str, float] = {}
-        self.is_found = False
+        self.is_found, self.is_closed = False, False
+        self.bound: Optional[list[int]] = None
         self.told, self.told_at = "", 0.0
         self.engine: Optional[Engine] = None
 
@@ -110,6 +112,8 @@ class Conquest:
 
     def make_cubes(self) -> None:
         """Splits until there are as many cubes as are to be made first, the one with most open variables first."""
+        if self.journal.best is not None:
+            self.take_bound()
         heap = [(-self.open_variables(it), it) for it in self.tree.open_leaves()]
         heapq.heapify(heap)
         while heap and len(heap) < self.settings.cubes:
@@ -137,10 +141,13 @@ class Conquest:
     def run(self, engine: Engine) -> None:
         """Runs until every cube is refuted, or a solution is found where any serves."""
         self.engine = engine
-        if self.journal.best is not None:
-            self.take_bound()
+        if self.bound:
+            engine.bound(self.bound[0])
         self.queue(self.tree.open_leaves())
         while self.tree.open_leaves() and not self.is_found:
+            if self.is_closed:
+                self.tree.close_all()
+                break
             end = engine.next(0.5)
             if end is not None and end.name in self.started:
                 self.take(end)
@@ -211,16 +218,16 @@ class Conquest:
             path.replace(self.values)
             self.journal.add("best", value)
             self.take_bound()
-        self.queue([end.name] if self.tree.open_leaves() else [])
+        self.queue([end.name])
 
     def take_bound(self) -> None:
         """Tells the workers what is better than the best value. Where nothing can be, all cubes are refuted."""
         self.bee.bound(self.journal.best, self.folder / "bounded")
         clause = last_clause(self.folder / "bounded", len(self.compiled.clauses))
-        if clause:
+        self.bound = clause
+        self.is_closed = clause == [] or (clause is not None and not self.look_ahead.take_bound(clause[0]))
+        if clause and self.engine is not None:
             self.engine.bound(clause[0])
-        elif clause == []:
-            self.tree.close_all()
 
     def take_failure(self, end: Ended) -> None:
         """Has a cube run again, elsewhere where that can be. A machine that twice in a row can't be reached is given
@@ -255,26 +262,37 @@ class Conquest:
         """Joins the parts and makes the answer. Where a part is refused, its cube is open again, and the answer is
         no."""
         found = self.folder / "found"
+        joined, bad = None, None
         if self.is_found:
             shutil.copy(self.values, found)
-            joined = None
         else:
-            values = self.values if self.journal.best is not None else None
-            with open(found, "w") as to:
-                joined = join(self.tree, self.parts, values, to)
-        line = self.bee.certify(found, answer)
-        if line == 0:
+            try:
+                joined = self.join(found)
+            except NoHints as fault:
+                bad = fault.name
+        line = 0 if bad else self.bee.certify(found, answer)
+        if not bad and line == 0:
             found.unlink()
             return True
-        name = joined.cube_of(line) if joined else None
-        if name is None or name not in self.tree.refuted:
-            raise ProgramError(f"bee certify refuses line {line} of {found}")
-        tell(f"cube {self.tree.cube(name)} runs again: its part is no refutation")
-        count = self.failures[name] = self.failures.get(name, 0) + 1
+        bad = bad or (joined.cube_of(line) if joined else None)
+        if bad not in self.tree.refuted:
+            raise ProgramError(f"bee certify refuses line {line} of {found}, of {bad}")
+        tell(f"cube {self.tree.cube(bad)} runs again: its part is no refutation")
+        count = self.failures[bad] = self.failures.get(bad, 0) + 1
         if count > self.settings.retries:
-            raise ProgramError(f"cube {name} failed {count} times")
-        self.journal.add("refused", name)
+            raise ProgramError(f"cube {bad} failed {count} times")
+        self.journal.add("refused", bad)
         return False
+
+    def join(self, found: Path) -> Joined:
+        """Writes what was found as one text."""
+        values = self.values if self.journal.best is not None else None
+        if self.settings.are_hinted:
+            lines = Hinted(self.tree, self.parts, self.compiled, self.bound)
+        else:
+            lines = Plain(self.tree, self.parts)
+        with open(found, "w") as to:
+            return join(self.tree, lines, values, to)
 
     def show(self, always: bool = False) -> None:
         """Tells progress, once a second at most."""

@@ -109,6 +109,13 @@ class LookAhead:
         self.propagator = Propagator(compiled.variables, [list(it) for it in compiled.clauses])
         self.root = len(self.propagator.trail)
 
+    def take_bound(self, literal: int) -> bool:
+        """Assumes a bound from here on. The answer is whether unit propagation leaves anything that meets it."""
+        self.propagator.undo(self.root)
+        self.propagator.is_open = self.propagator.is_open and self.propagator.assume([literal])
+        self.root = len(self.propagator.trail)
+        return self.propagator.is_open
+
     def enter(self, cube: Iterable[int]) -> Optional[int]:
         """Assumes a cube in place of the one before. The answer is how many variables have no value, or nothing where
         unit propagation refutes the cube."""

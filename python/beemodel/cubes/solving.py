@@ -150,7 +150,7 @@ def machines_of(folder: Path, request: Request) -> list[Machine]:
 def settings_of(request: Request, machines: list[Machine]) -> Settings:
     workers = sum(it.slots for it in machines)
     cubes = CUBES_PER_WORKER * workers if request.cubes is None else request.cubes
-    return Settings(cubes, request.share, request.retries, request.progress)
+    return Settings(cubes, request.worker == "bee", request.share, request.retries, request.progress)
 
 
 def start_machines(conquest: Conquest, machines: list[Machine], request: Request) -> None:

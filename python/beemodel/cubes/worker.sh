@@ -50,12 +50,13 @@ fail() {
   end failed
 }
 
-# The lines of a refutation, without hints and without those that delete. Where the clauses tell the empty one by
-# themselves, the solver does not write it.
+# The lines of a refutation, but for those that delete: with hints by bee, without them by cadical, which does not write
+# the empty clause where the clauses tell it by themselves. The bound is told before them.
 refutation() {
+  echo "c bound $bound" || return 1
   case $kind in
     cadical) sed '/^d/d' "$at.proof" && echo 0 ;;
-    bee) sed -e 1d -e '/^[0-9]* d /d' -e 's/^[0-9]* //' -e 's/^0 .*/0/' -e 's/ 0 .*/ 0/' "$at.values" ;;
+    bee) sed -e 1d -e '/^[0-9]* d /d' "$at.values" ;;
   esac
 }
 

@@ -19,7 +19,7 @@ pub fn report<E: Sink>(alloc: Global, status: &Status, reason: Option<Reason>, e
         }
         Status::Usage => say(
             err,
-            b"bee: usage: bee MODE [--budget N] [--no-restart] [--progress] [--] INPUT [SECOND]\n",
+            b"bee: usage: bee MODE INPUT [SECOND] [--budget N] [--no-restart]\n",
         ),
         Status::Model(fault) => {
             if let Ok(line) = format!(in alloc; "bee: {fault}\n") {

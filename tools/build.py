@@ -21,7 +21,7 @@ import tempfile
 import threading
 
 sys.dont_write_bytecode = True
-TOP = os.path.dirname(os.path.realpath(__file__))
+TOP = os.path.dirname(os.path.dirname(os.path.realpath(__file__)))
 ARGUMENTS = ["queens", "8"]
 # What is planned for the proof of a crate of memory at most, in bytes: by samples, `queens_model` takes 4.7 GB, and no
 # other more than 2.7. `rt` reckons by the lines of a crate and of those below it, up to six times what the upper crates

@@ -26,8 +26,8 @@ program=${BEE:-$top/crates/bee/out/bee}
 [ -n "${BEE:-}" ] || "$top/bee" compile "$top/examples/pigeonhole.bee" >/dev/null
 folder=$(mktemp -d)
 failed=0
-python3 "$top/reading/sum_bounds.py" "$program" "$folder" || failed=1
-python3 "$top/reading/fuzz.py" "$program" "${1:-10000}" "${2:-1}" "$folder" "${3:-3}" "${4:-0}" || failed=1
+python3 "$top/reference/sum_bounds.py" "$program" "$folder" || failed=1
+python3 "$top/reference/fuzz.py" "$program" "${1:-10000}" "${2:-1}" "$folder" "${3:-3}" "${4:-0}" || failed=1
 if [ $failed = 0 ]; then
   rm -rf "$folder"
 else

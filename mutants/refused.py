@@ -1,12 +1,12 @@
 #!/usr/bin/env python3
-"""Tries wrong bodies that are no must-fail edits: refused.py [CRATE[/NAME] ..], all without words.
+"""Tries mutants that are no must-fail edits: refused.py [CRATE[/NAME] ..], all without words.
 
-Each stands in bodies/CRATE/NAME.edit, in the form of a must-fail edit, behind a line `rows: CRATE_OF_ROWS` where rows
+Each stands in mutants/CRATE/NAME.edit, in the form of a must-fail edit, behind a line `rows: CRATE_OF_ROWS` where rows
 refuse it. It goes into a copy of the crates, and the tests of these rows are run without proof (`rt try --test`), or,
 where they are transcripts, the program that plays them: those that the line names behind the crate, or all. Where there
 is no such line only the prover refuses it, and `rt must-fail` tries it in that copy, over the libraries that stand
 proved in the repository. A line is printed for each: `refused` and by which tests, or by how many runs of which
-transcripts or because these have no end, or `NOT REFUSED`, or why it could not be tried; and the processor's seconds.
+transcripts or because these have no end, or `NOT REFUSED`, or why it could not be tried; and the CPU seconds.
 JOBS of them are tried side by side (one without it). It ends with 1 where one was not refused. Wants python3 and rt.
 """
 import os
@@ -111,7 +111,7 @@ def by_proof(crate, text, room):
 
 def tried(crate, name):
     """Whether a body is refused, and the line that says so."""
-    with open(f"{TOP}/bodies/{crate}/{name}.edit", encoding="utf-8") as source:
+    with open(f"{TOP}/mutants/{crate}/{name}.edit", encoding="utf-8") as source:
         text = source.read()
     rows = ROWS.search(text)
     left_out = ["must-fail", "unproved", "*.log"] + ["out"] * bool(rows)
@@ -128,9 +128,9 @@ def tried(crate, name):
 
 def named(words):
     """The bodies that the words name, by crate and name."""
-    for crate in sorted(os.listdir(f"{TOP}/bodies")):
-        if os.path.isdir(f"{TOP}/bodies/{crate}"):
-            for name in sorted(it[:-5] for it in os.listdir(f"{TOP}/bodies/{crate}") if it.endswith(".edit")):
+    for crate in sorted(os.listdir(f"{TOP}/mutants")):
+        if os.path.isdir(f"{TOP}/mutants/{crate}"):
+            for name in sorted(it[:-5] for it in os.listdir(f"{TOP}/mutants/{crate}") if it.endswith(".edit")):
                 if not words or crate in words or f"{crate}/{name}" in words:
                     yield crate, name
 
@@ -145,7 +145,7 @@ def main(words):
             print(line, flush=True)
             all_refused = all_refused and is_refused
     used = resource.getrusage(resource.RUSAGE_CHILDREN)
-    print(f"seconds of the processor: {used.ru_utime + used.ru_stime:.0f}")
+    print(f"CPU seconds: {used.ru_utime + used.ru_stime:.0f}")
     return 0 if all_refused else 1
 
 

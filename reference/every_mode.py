@@ -21,7 +21,7 @@ def counted(script, words):
     print(f"{script} {' '.join(words)}", flush=True)
     first = [] if script.endswith(".sh") else [sys.executable]
     how = {**os.environ, "BEE": program()}
-    child = subprocess.Popen([*first, f"{TOP}/reading/{script}", *words], stdout=subprocess.PIPE, text=True, env=how)
+    child = subprocess.Popen([*first, f"{TOP}/reference/{script}", *words], stdout=subprocess.PIPE, text=True, env=how)
     counts = dict.fromkeys(("models", "runs", "differences"), 0)
     for line in child.stdout:
         print(line, end="", flush=True)

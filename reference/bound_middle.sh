@@ -16,7 +16,7 @@ top=$(cd "$(dirname "${BASH_SOURCE[0]}")/.." && pwd)
 program=${BEE:-$top/crates/bee/out/bee}
 [ -n "${BEE:-}" ] || "$top/bee" compile "$top/examples/pigeonhole.bee" >/dev/null
 folder=$(mktemp -d)
-if python3 "$top/reading/bound_middle.py" "$program" "${1:-2000}" "${2:-1}" "$folder" "${3:-3}" "${4:-0}"; then
+if python3 "$top/reference/bound_middle.py" "$program" "${1:-2000}" "${2:-1}" "$folder" "${3:-3}" "${4:-0}"; then
   rm -rf "$folder"
 else
   echo "the texts of each difference are in $folder" >&2

@@ -23,10 +23,9 @@ const TOLD_EACH: u64 = 10_000;
 /// After how many solutions of a list their number is told. It may be changed: no clause names it.
 const LISTED_EACH: usize = 1_000;
 
-/// A watcher over a sink, which speaks until it fails. Each piece is made whole in memory, and then written and flushed;
-/// where memory is wanting for one, or the sink fails, it is silent from then on, and nothing else comes of that. What
-/// the sink took since the watcher was made is stated lines and blocks of solutions alone, the last of them perhaps a
-/// front of one (`telling`).
+/// A watcher over a sink. Each piece is made whole in memory, and then written and flushed; where memory is wanting for
+/// one, or the sink fails, it is silent from then on, and nothing else comes of that. What the sink took since the
+/// watcher was made is stated lines and blocks of solutions alone, the last of them perhaps a front of one (`telling`).
 #[derive(Drop)]
 pub(crate) struct Progress<'a, E: Sink> {
     alloc: Global,

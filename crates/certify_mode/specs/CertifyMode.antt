@@ -30,8 +30,9 @@ pub record DecidesBy (texts : Texts) (end : End CertifyFault) : Type 0 where
   pub holds : HoldsCompiled texts.first held
   pub decided : IsDecided held texts.second end
 
--- Two told texts of which the first is fit: where the second shows an answer to the model that is compiled, the run ends
--- with that; where a line of it fails, with the first one. Memory may be wanting, and a fault of the outside ends it.
+-- Two told texts of which the first is fit: where the second shows an answer to the model that is compiled, the run
+-- ends with that; where a line of it fails, with the first one. Memory may be wanting, and a fault of the outside ends
+-- it.
 abbrev pub Decides : List ℕ → List ℕ → End CertifyFault → Seen → Type 0
 Decides input second end seen = (texts : Texts) → ToldBoth input second seen texts → HasModel texts.first
     → (EitherFailed input second seen → ⊥) → (WriteFailed seen → ⊥) → DecidesBy texts end ⊎ (end ≡ Memory)

@@ -1,9 +1,9 @@
 -- What a sink took of what is told, one piece more.
-use Rattle.std.proofs.Common.{◌≡◌, ℕ, ◌+◌, ◌≤◌, Bool, true, false, List, [], ◌∷◌, ◌++◌, length, take, Option, Some, None, refl, sym, ap, ◌∙◌, append_assoc, length-append, arith}
+use Rattle.std.proofs.Common.{◌≡◌, ℕ, ◌+◌, ◌≤◌, Bool, true, false, List, [], ◌++◌, length, take, Option, Some, None, refl, sym, ap, ◌∙◌, append_assoc, length-append, arith}
 use Rattle.std.proofs.Math.Logic.{∥∥₁_elim, ∥∥₁_prop}
 use Rattle.std.proofs.Math.Seq.{take-append-add, take-length}
-use Rattle.bee_outside.specs.Bytes.{grown, GrewByFront}
-use Rattle.bee_cli.specs.Telling.{IsPiece, Told, nothing, more, TookAs, IsTelling}
+use Rattle.bee_outside.specs.Bytes.{grown}
+use Rattle.bee_cli.specs.Telling.{IsPiece, nothing, more, TookAs, IsTelling}
 use Rattle.bee_cli.proofs.Fronts.{grown-nil}
 
 grown-both : (o : Option (List ℕ)) (xs ys : List ℕ) → grown (grown o xs) ys ≡ grown o (xs ++ ys)

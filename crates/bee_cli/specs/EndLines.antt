@@ -1,5 +1,5 @@
 -- The line on the sink for errors behind the end of a run.
-use Rattle.std.specs.Prelude.{◌≡◌, ◌⊎◌, ℕ, List, [], ◌∷◌, ◌++◌, codes, Option}
+use Rattle.std.specs.Prelude.{◌≡◌, ℕ, List, [], ◌∷◌, ◌++◌, codes, Option}
 use Rattle.std.specs.Fmt.{decimal}
 use Rattle.bee_text.specs.Lines.{IsLine}
 use Rattle.bee_outside.specs.Bytes.{GrewByFront}

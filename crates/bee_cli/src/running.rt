@@ -125,7 +125,7 @@ fn obey<S: Shelf, O: Sink, W: SolutionWatcher + ListWatcher + CoreWatcher>(
 }
 
 /// What comes of the words.
-#[tactic(auto, using(crate::proofs::Obeyings::keeps))]
+#[tactic(auto, using(crate::proofs::Obeyings::keeps, crate::proofs::Told::hears_all))]
 fn follow<S: Shelf, O: Sink, E: Sink>(
     alloc: Global,
     words: &[String],

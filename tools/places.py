@@ -2,7 +2,8 @@
 """Lists the places where a kind of thing is named, and so where another one of its kind is added: places.py [KIND ..],
 all kinds without words. One of each kind stands for the others: the statement `int_abs`, the form `Prod` and the
 compound form `AllDiff`, the equations of conjunctions, the mode `decode`, the length of a stretch between restarts, the
-option `--no-restart`. With `--count` it prints one line for each kind alone."""
+option `--no-restart`. With `--count` it prints one line for each kind alone; with `--write` it puts the counts into
+CONTRIBUTING.md: those of code, definitions and proofs together, and of all."""
 import os
 import re
 import subprocess
@@ -42,7 +43,23 @@ def named(kind):
     return {part: found for part, found in parts.items() if found}
 
 
+def write():
+    """Puts the counts of each kind behind its word on the page."""
+    path = f"{TOP}/CONTRIBUTING.md"
+    with open(path, encoding="utf-8") as source:
+        page = source.read()
+    for kind in KINDS:
+        parts = named(kind)
+        own = sum(len(found) for part, found in parts.items() if part in ("code", "definitions", "proofs"))
+        both = dict.fromkeys((own, sum(map(len, parts.values()))))
+        page = re.sub(rf"(`{kind}`[^:]*: )\d+(, \d+)?", lambda m: m[1] + ", ".join(map(str, both)), page)
+    with open(path, "w", encoding="utf-8") as target:
+        target.write(page)
+
+
 def main():
+    if "--write" in sys.argv:
+        return write()
     words = [it for it in sys.argv[1:] if not it.startswith("--")]
     for kind in words or KINDS:
         parts = named(kind)

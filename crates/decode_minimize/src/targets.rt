@@ -3,7 +3,7 @@
 //! So few rounds lead to a good value, and nothing is promised of it. A target that was given up is hoped for no more,
 //! unless something better is found.
 
-ghost use Rattle.std.specs.Prelude.{length};
+ghost use Rattle.std.specs.Prelude.{◌+◌, length};
 ghost use Rattle.decode_minimize.specs.Objectives.{IsObjective};
 
 use crate::improving::Sought;

@@ -44,6 +44,7 @@ deb: $(PROGRAM)
 # Pages and tables that scripts make of the code and of results.
 pages:
 	python3 tools/crates_page.py
+	python3 tools/places.py --write
 	python3 tools/results.py
 
 # What .ci/run compares behind the proofs.

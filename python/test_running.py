@@ -1,5 +1,6 @@
 """Searches that are stopped, begun from values, and bettered; and where the program is sought."""
 import itertools
+import operator
 import os
 import random
 import shutil
@@ -15,6 +16,7 @@ from pathlib import Path
 from unittest import mock
 
 from beemodel import Model, ModelError, ProgramError, all_different, maximum, total
+from beemodel.neighbourhoods import Structure
 from beemodel.program import places, program_of
 from trying import PROGRAM, TOP, need_program
 
@@ -288,6 +290,46 @@ class Improved(unittest.TestCase):
         model.add(x > 2, (x == 1) | (x == 2))
         model.minimize(x)
         self.assertEqual(model.improve(30, program=PROGRAM).verdict, "UNSATISFIABLE")
+
+
+class Neighbourhoods(unittest.TestCase):
+    def test_no_solution_is_outside_of_the_bounds(self):
+        """Relations at random, some of which hold where a Boolean does: beside trying all values."""
+        narrower, signs = 0, {"leq": "le", "lt": "lt", "geq": "ge", "gt": "gt", "eq": "eq", "neq": "ne"}
+        for seed in range(60):
+            chance, names, lines, tests = random.Random(seed), "xyzm", [], []
+            for _ in range(4):
+                one, other = chance.sample(names, 2)
+                relation, first, second = chance.choice([*signs]), chance.choice([1, 2]), chance.choice([1, -1, -3])
+                if chance.random() < 0.5:
+                    end, is_true = chance.randint(-3, 3), None
+                    lines.append(f"int_array_lin_{relation}([{first},{second}],[{one},{other}],{end})")
+                else:
+                    first, second, end, is_true = 1, -1, 0, chance.choice([True, False])
+                    lines.append(f"int_{relation}_reif({one},{other},{'' if is_true else '-'}b)")
+                tests.append((getattr(operator, signs[relation]), one, other, first, second, end, is_true))
+            declared = [f"new_int({it},-3,4)" for it in names] + ["new_bool(b)"]
+            lines = [*declared, *lines, "int_array_max([x,y],m)", "int_plus(x,y,z)", "solve satisfy"]
+            kept = {"b": chance.choice([False, True]), "x": chance.randint(-3, 4)}
+            bounds = Structure("\n".join(lines) + "\n").windows.narrowed(kept, {"y": (-2, 4)})
+            for y in range(-2, 5):
+                at = {"x": kept["x"], "y": y, "z": kept["x"] + y, "m": max(kept["x"], y)}
+                holds = -3 <= at["z"] <= 4 and all(
+                    test(first * at[one] + second * at[other], end) == (is_true in (None, kept["b"]))
+                    for test, one, other, first, second, end, is_true in tests
+                )
+                is_inside = bounds and all(bounds[it][0] <= at[it] <= bounds[it][1] for it in names)
+                self.assertTrue(is_inside or not holds, (seed, at, bounds))
+            narrower += bounds is None or bounds["y"] != (-2, 4)
+        self.assertGreater(narrower, 30)
+
+    def test_orders_are_kept(self):
+        """Of a job shop the Booleans that tell which of two tasks is first are known."""
+        structure = Structure(shop(3, 3, 0).text())
+        self.assertEqual(len(structure.integers), 9)
+        self.assertGreaterEqual(len(structure.relations), 18)
+        ways = {it.keeps_relations for it in structure.kinds()}
+        self.assertEqual(ways, {True, False})
 
 
 class Places(unittest.TestCase):

@@ -27,10 +27,11 @@ from .running import (
     wishes_file,
     with_run,
 )
+from .windows import Ends
 
 # Learned clauses: of the first search for a solution, of the first steps, and of the last call
 # where no time bounds it.
-FIRST, EACH, LAST = 1_000, 200, 20_000
+FIRST, EACH, LAST = 100, 200, 20_000
 # The share of the seconds behind which the last call begins.
 SHARE = 0.8
 # Behind so many steps without a better solution the steps may learn twice as many clauses.
@@ -109,32 +110,35 @@ class Improvement:
         kind = self.chance.choices(list(self.scores), list(self.scores.values()))[0]
         count = max(2, round(self.shares[kind] * len(self.structure.own)))
         free = self.structure.free(kind, count, self.best.values, self.chance)
-        lines = self.structure.kept(kind, free, self.best.values)
-        text = "\n".join([*lines, *self.bounds(number)]) + "\n"
+        kept = self.structure.kept(kind, free, self.best.values)
+        text = self.structure.text(kept, *self.better(number))
+        outcome = "none" if text is None else self.tried(text)
+        self.learn(kind, outcome)
+        return outcome == "none" and not kept
+
+    def tried(self, text: str) -> str:
+        """How a search ended: `better`, `none` where there is no solution, `spent` or `stopped`."""
         before = self.best
         found = self.searched(text, self.budget, SHARE)
         self.stopped = found.ended.stopped
         if self.best is not before:
-            outcome = "better"
-        elif self.stopped is not None:
-            outcome = "stopped"
-        else:
-            outcome = "none" if found.ended.code == 0 else "spent"
-        self.learn(kind, outcome)
-        return outcome == "none" and lines == self.structure.lines[:-1]
+            return "better"
+        if self.stopped is not None:
+            return "stopped"
+        return "none" if found.ended.code == 0 else "spent"
 
-    def bounds(self, number: int) -> list[str]:
-        """That a solution is better, and the goal: of two objectives by turns the first one is, or
-        the second one alone."""
+    def better(self, number: int) -> tuple[Ends, str]:
+        """Ends of the objectives of a better solution, and the goal: of two objectives by turns the
+        first one is better, or the second one alone."""
         assert self.best is not None
-        order = "gt" if self.goal.direction == "maximize" else "lt"
-        names, values = self.goal.names, self.best.objectives
-        if len(names) == 1 or number % 2 == 0:
-            items = [f"int_{order}({names[0]},{values[0]})"]
-        else:
-            items = [f"int_eq({names[0]},{values[0]})", f"int_{order}({names[1]},{values[1]})"]
-            names = names[1:]
-        return [*items, f"solve {self.goal.direction} {' then '.join(names)}"]
+        names, values = list(self.goal.names), self.best.objectives
+        ends: Ends = {}
+        if len(names) > 1 and number % 2:
+            ends[names.pop(0)] = values[0], values[0]
+        name, value = names[0], values[-len(names)]
+        low, high = self.structure.windows.bounds[name]
+        ends[name] = (value + 1, high) if self.goal.direction == "maximize" else (low, value - 1)
+        return ends, f"solve {self.goal.direction} {' then '.join(names)}"
 
     def learn(self, kind: Kind, outcome: str) -> None:
         """Makes neighbourhoods larger where they were searched to the end, and smaller where they

@@ -10,10 +10,11 @@ from __future__ import annotations
 import random
 import re
 from collections.abc import Callable, Sequence
-from typing import NamedTuple
+from typing import NamedTuple, Optional
 
 from .answers import Values
 from .texts import DECLARATION, declarations, fixing, goal_of
+from .windows import Ends, Windows
 
 NAME = re.compile(r"[A-Za-z_]\w*")
 
@@ -53,6 +54,7 @@ class Structure:
         self.groups_of: dict[str, list[int]] = {it: [] for it in self.own}
         self.find_roots()
         self.relations = self.find_relations()
+        self.windows = Windows(self.lines, self.domains)
 
     def statements(self) -> list[list[str]]:
         """The names of each statement."""
@@ -145,18 +147,35 @@ class Structure:
 
     # The text in which the rest is kept.
 
-    def kept(self, kind: Kind, free: set[str], values: Values) -> list[str]:
-        """The lines of a text without its goal in which what isn't free is as it is."""
-        lines, more = self.lines[:-1], []
-        for name in self.own:
-            is_integer = name in self.integers
-            if name in free or (kind.keeps_relations and (is_integer or name in self.relations)):
-                continue
-            if is_integer and lines[self.places[name]].startswith("new_int"):
-                lines[self.places[name]] = f"new_int({name},{values[name]},{values[name]})"
-            else:
-                more.append(fixing(name, values[name]))
+    def kept(self, kind: Kind, free: set[str], values: Values) -> Values:
+        """The values that are kept."""
+        names = [it for it in self.own if it not in free]
         if kind.keeps_relations:
-            outside = (it for it, roots in self.relations.items() if not roots & free)
-            more += [fixing(it, values[it]) for it in outside]
-        return lines + more
+            names = [it for it in names if it not in self.integers and it not in self.relations]
+            names += [it for it, roots in self.relations.items() if not roots & free]
+        return {it: values[it] for it in names}
+
+    def text(self, kept: Values, better: Ends, goal: str) -> Optional[str]:
+        """The text in which values are kept, some names lie between ends, and the goal is another
+        one; none where its linear statements can't hold."""
+        bounds = self.windows.narrowed(kept, better)
+        if bounds is None:
+            return None
+        lines = self.lines[:-1]
+        for name, at in self.places.items():
+            if name in bounds and lines[at].startswith("new_int"):
+                lines[at] = self.declaration(name, *bounds[name])
+        lines += [fixing(*it) for it in kept.items() if isinstance(it[1], bool)]
+        for name, (low, high) in better.items():
+            if not lines[self.places[name]].startswith("new_int"):
+                lines += [f"int_geq({name},{low})", f"int_leq({name},{high})"]
+        return "\n".join([*lines, goal]) + "\n"
+
+    def declaration(self, name: str, low: int, high: int) -> str:
+        """The declaration of an integer between two bounds."""
+        domain = self.domains[name]
+        if isinstance(domain, range) and domain.step == 1:
+            return f"new_int({name},{low},{high})"
+        assert not isinstance(domain, type)
+        values = [str(it) for it in domain if low <= it <= high]
+        return f"new_int({name},[{','.join(values)}])" if values else self.lines[self.places[name]]

@@ -67,7 +67,7 @@ class Hinted:
     def __init__(self, tree: Tree, parts: Path, compiled: Compiled, bound: Optional[list[int]]):
         self.tree, self.parts = tree, parts
         self.count = len(compiled.clauses)
-        self.hints = Hints(compiled, bound)
+        self.hints, self.bound = Hints(compiled, bound), bound[0] if bound else None
         self.units = {it[0] for it in compiled.clauses if len(it) == 1}
         # The id that the next clause has; the ids of cubes' clauses; and those of bounds.
         self.next = self.count + 2
@@ -77,6 +77,10 @@ class Hinted:
     def lines(self, name: str) -> Iterator[str]:
         """What is written for a cube."""
         literals = self.tree.cube(name).literals
+        if self.bound is not None and -self.bound in literals:
+            # The bound makes what the cube leaves out true.
+            self.ids[name] = self.count + 1
+            return
         if name in self.tree.refuted:
             yield from self.part(name, literals)
             return
@@ -97,29 +101,33 @@ class Hinted:
 
     def part(self, name: str, literals: tuple[int, ...]) -> Iterator[str]:
         """The lines of a part under ids of their own."""
-        behind = [str(-it) for it in literals]
-        negated, ids = set(behind), {}
+        behind, ids, own = [-it for it in literals], {}, [0]
+        cleaner = None
         with open(self.parts / name, errors="replace") as text:
             for line in text:
                 words = line.split()
+                if words[:2] == ["c", "bound"]:
+                    bound = int(words[2]) if len(words) > 2 else None
+                    yield from self.bound_line(name, bound)
+                    ids = self.unit_ids(literals, bound)
+                    if self.bound and self.bound != bound:
+                        cleaner = Cleaner(self.hints.clauses, self.bound, self.bounds)
                 if words[0] == "c":
-                    if words[1] == "bound" and len(words) > 2:
-                        yield from self.bound_line(name, int(words[2]))
-                        ids |= self.unit_ids(literals, int(words[2]))
-                    elif words[1] == "bound":
-                        ids |= self.unit_ids(literals, None)
                     continue
                 try:
                     end = words.index("0")
                     hints = [self.id_of(it, ids) for it in words[end + 1 : -1]]
-                except (ValueError, KeyError) as fault:
+                    own = [int(it) for it in words[1:end]]
+                except (ValueError, KeyError, IndexError) as fault:
                     raise NoHints(name) from fault
-                self.ids[name] = ids[words[0]] = self.next
-                self.next += 1
-                own = [it for it in words[1:end] if it not in negated]
-                kept = [str(it) for it in hints if it]
-                yield " ".join([str(self.ids[name]), *own, *behind, "0", *kept, "0\n"])
-        if name not in self.ids:
+                clause = [it for it in own if it not in behind] + behind
+                hints = [it for it in hints if it]
+                if cleaner:
+                    hints = cleaner.clean(self.next, clause, hints)
+                ids[words[0]] = self.next if hints else 0
+                if hints:
+                    yield self.line(name, clause, hints)
+        if own:
             raise NoHints(name)
 
     def id_of(self, hint: str, ids: dict[str, int]) -> int:
@@ -141,14 +149,42 @@ class Hinted:
                 found[str(number)] = 0 if it in literals else self.bounds[it]
         return found
 
-    def bound_line(self, name: str, bound: int) -> Iterator[str]:
+    def bound_line(self, name: str, bound: Optional[int]) -> Iterator[str]:
         """The bound that a worker had, where another one is better by now: it follows from that one."""
-        if bound not in self.bounds:
+        if bound is not None and bound not in self.bounds:
             hints = self.hints.refute([-bound])
             if hints is None:
                 raise NoHints(name)
             yield self.line(f"bound {bound}", [bound], hints)
             self.bounds[bound] = self.ids[f"bound {bound}"]
+
+
+class Cleaner:
+    """Hints of a part whose worker had a weaker bound, or none, by which each line follows once the bound is true from
+    the start: a clause that this makes true, or tells nothing new, is no hint."""
+
+    def __init__(self, clauses: list[list[int]], bound: int, bounds: dict[int, int]):
+        self.clauses, self.bound = clauses, bound
+        self.added = {number: [literal] for literal, number in bounds.items()}
+
+    def clean(self, number: int, clause: list[int], hints: list[int]) -> list[int]:
+        """The hints of the next clause, that of the bound first; none where the bound makes the clause true, which is
+        then left out."""
+        self.added[number] = clause
+        if self.bound in clause:
+            return []
+        false = {*clause, -self.bound}
+        kept = [len(self.clauses)]
+        for it in hints:
+            lits = self.added[it] if it in self.added else self.clauses[it - 1]
+            still_open = [lit for lit in lits if lit not in false]
+            if len(still_open) > 1 or (still_open and -still_open[0] in false):
+                continue
+            kept.append(it)
+            if not still_open:
+                break
+            false.add(-still_open[0])
+        return kept
 
 
 def join(tree: Tree, lines: Plain | Hinted, values: Optional[Path], to: TextIO) -> Joined:

@@ -90,19 +90,24 @@ class Hinted:
                 raise NoHints(name)
         else:
             hints = [self.ids[f"{name}0"], self.ids[f"{name}1"]]
-        yield self.line(name, [-it for it in literals], hints)
+        yield self.shown(name, [-it for it in literals], hints)
 
-    def line(self, name: str, literals: list[int], hints: list[int]) -> str:
+    def line(self, name: str, literals: list[str], hints: list[str]) -> str:
         """A clause under the next id."""
         self.ids[name] = self.next
         self.next += 1
-        words = [self.ids[name], *literals, 0, *hints, 0]
-        return " ".join(map(str, words)) + "\n"
+        return f"{self.ids[name]} {' '.join([*literals, '0', *hints])} 0\n"
+
+    def shown(self, name: str, literals: list[int], hints: list[int]) -> str:
+        """A clause of numbers under the next id."""
+        return self.line(name, [str(it) for it in literals], [str(it) for it in hints])
 
     def part(self, name: str, literals: tuple[int, ...]) -> Iterator[str]:
-        """The lines of a part under ids of their own."""
-        behind, ids, own = [-it for it in literals], {}, [0]
-        cleaner = None
+        """The lines of a part under ids of their own. Ids of this text are words, and empty for what is no clause
+        here."""
+        ids: dict[str, str] = {}
+        cleaner, own = None, ["no line"]
+        behind = [str(-it) for it in literals]
         with open(self.parts / name, errors="replace") as text:
             for line in text:
                 words = line.split()
@@ -112,41 +117,30 @@ class Hinted:
                     ids = self.unit_ids(literals, bound)
                     if self.bound and self.bound != bound:
                         cleaner = Cleaner(self.hints.clauses, self.bound, self.bounds)
-                if words[0] == "c":
+                if words[:1] == ["c"]:
                     continue
-                try:
-                    end = words.index("0")
-                    hints = [self.id_of(it, ids) for it in words[end + 1 : -1]]
-                    own = [int(it) for it in words[1:end]]
-                except (ValueError, KeyError, IndexError) as fault:
-                    raise NoHints(name) from fault
+                if words[-1:] != ["0"] or "0" not in words[1:-1]:
+                    raise NoHints(name)
+                end = words.index("0", 1)
+                own = words[1:end]
                 clause = [it for it in own if it not in behind] + behind
-                hints = [it for it in hints if it]
+                hints = [ids.get(it, it) for it in words[end + 1 : -1]]
                 if cleaner:
-                    hints = cleaner.clean(self.next, clause, hints)
-                ids[words[0]] = self.next if hints else 0
+                    hints = cleaned(cleaner, name, self.next, clause, hints)
+                ids[words[0]] = str(self.next) if hints else ""
                 if hints:
                     yield self.line(name, clause, hints)
         if own:
             raise NoHints(name)
 
-    def id_of(self, hint: str, ids: dict[str, int]) -> int:
-        """The id of what a worker's hint names, or 0 where that is a literal of the cube."""
-        found = ids.get(hint)
-        if found is None:
-            found = int(hint)
-            if found > self.count:
-                raise KeyError(hint)
-        return found
-
-    def unit_ids(self, literals: tuple[int, ...], bound: Optional[int]) -> dict[str, int]:
+    def unit_ids(self, literals: tuple[int, ...], bound: Optional[int]) -> dict[str, str]:
         """What the ids of a worker's units are here. One that is a clause already has no id of its own."""
         found, seen, number = {}, set(self.units), self.count
         for it in (*literals, *([] if bound is None else [bound])):
             if it not in seen:
                 seen.add(it)
                 number += 1
-                found[str(number)] = 0 if it in literals else self.bounds[it]
+                found[str(number)] = "" if it in literals else str(self.bounds[it])
         return found
 
     def bound_line(self, name: str, bound: Optional[int]) -> Iterator[str]:
@@ -155,7 +149,7 @@ class Hinted:
             hints = self.hints.refute([-bound])
             if hints is None:
                 raise NoHints(name)
-            yield self.line(f"bound {bound}", [bound], hints)
+            yield self.shown(f"bound {bound}", [bound], hints)
             self.bounds[bound] = self.ids[f"bound {bound}"]
 
 
@@ -185,6 +179,15 @@ class Cleaner:
                 break
             false.add(-still_open[0])
         return kept
+
+
+def cleaned(cleaner: Cleaner, name: str, number: int, clause: list[str], hints: list[str]) -> list[str]:
+    """The hints that a cleaner leaves of a line of a cube's part."""
+    try:
+        kept = cleaner.clean(number, [int(it) for it in clause], [int(it) for it in hints if it])
+    except (ValueError, KeyError, IndexError) as fault:
+        raise NoHints(name) from fault
+    return [str(it) for it in kept]
 
 
 def join(tree: Tree, lines: Plain | Hinted, values: Optional[Path], to: TextIO) -> Joined:

@@ -6,8 +6,10 @@ from typing import TYPE_CHECKING, Optional
 
 from . import weights
 from .expressions import Number, NumberLike, Truth, TruthLike, number_of, same_length, truth_of
+from .propagators import Differ
 
 if TYPE_CHECKING:
+    from .presolve import Presolve
     from .translation import Translation
 
 
@@ -35,6 +37,12 @@ class AllDifferent(Truth):
         else:
             literals = [translation.literal(it) for it in self.conditions]
             translation.say(weight, "int_array_allDiffCond", terms, literals)
+
+    def presolve(self, presolve: Presolve) -> None:
+        if self.conditions is None:
+            members = [presolve.sides(it) for it in self.numbers]
+            watched = presolve.watched(*(below for below, _ in members))
+            presolve.bounds.add(Differ(members), *watched)
 
     def literal(self, translation: Translation) -> str:
         if self.conditions is not None:

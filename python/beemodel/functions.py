@@ -10,8 +10,10 @@ from .domains import LISTED, Domain, domain_of, is_small
 from .expressions import Number, NumberLike, Sum, Truth, number_of, whole
 from .linear import equality, integer_of_sum, values_of
 from .lines import refused
+from .propagators import AtMostZero, Entry, Greatest, Multiple, Term
 
 if TYPE_CHECKING:
+    from .presolve import Presolve
     from .translation import Integer, Translation
 
     Parts = dict[int, Integer]
@@ -56,10 +58,16 @@ class Product(Operation):
         for constant, other in ((x, self.second), (y, self.first)):
             if constant.steps == 0:
                 return integer_of_sum(translation, Sum(((constant.low, other),)))
-        made = translation.fresh_integer(self.products(x, y))
+        made = translation.fresh_integer(translation.within(self, self.products(x, y)))
         weight = weights.product(x.steps, y.steps, made.steps)
         translation.say(weight, "int_times", x.term, y.term, made.term)
         return made
+
+    def bound(self, presolve: Presolve) -> None:
+        sides = presolve.sides(self.first), presolve.sides(self.second)
+        super().bound(presolve)
+        watched = presolve.watched(sides[0][0], sides[1][0])
+        presolve.bounds.add(Multiple(self, *sides), self, *watched)
 
     def products(self, x: Integer, y: Integer) -> Domain:
         """The values of the product."""
@@ -88,7 +96,7 @@ class Division(Operation):
         self, translation: Translation, x: Integer, y: Integer, domain: Domain, other: int
     ) -> Integer:
         """Writes the division, whose other result, of the two, has so many steps."""
-        made = translation.fresh_integer(domain)
+        made = translation.fresh_integer(translation.within(self, domain))
         weight = other + weights.division(x.steps, y.steps, made.steps, other)
         translation.say(weight, self.name, x.term, y.term, made.term)
         return made
@@ -144,10 +152,16 @@ class Absolute(Number):
             domain = domain_of(abs(it) for it in x.domain)
         else:
             domain = range(0, max(-x.low, x.high) + 1)
-        made = translation.fresh_integer(domain)
+        made = translation.fresh_integer(translation.within(self, domain))
         weight = weights.greatest([x.steps, x.steps], made.steps)
         translation.say(weight, "int_abs", x.term, made.term)
         return made
+
+    def bound(self, presolve: Presolve) -> None:
+        low, high = presolve.ends(self.number)
+        presolve.bounds.know(self, max(0, low, -high), max(-low, high))
+        presolve.relate(self.number - self, "leq")
+        presolve.relate(-self.number - self, "leq")
 
 
 class Extreme(Number):
@@ -169,11 +183,30 @@ class Extreme(Number):
         parts = [translation.integer(it) for it in self.numbers]
         if len(parts) == 1:
             return parts[0]
-        made = translation.fresh_integer(self.extremes(parts))
+        made = translation.fresh_integer(translation.within(self, self.extremes(parts)))
         weight = weights.greatest([it.steps for it in parts], made.steps)
         name = f"int_array_{self.name}"
         translation.say(weight, name, [it.term for it in parts], made.term)
         return made
+
+    def bound(self, presolve: Presolve) -> None:
+        sign = 1 if self.name == "max" else -1
+        super().bound(presolve)
+        members = [AtMostZero(*presolve.terms(-sign * it)) for it in self.numbers]
+        made = Greatest(Term(sign, self), members)
+        presolve.bounds.add(made, self, *presolve.watched(*members))
+        for it in self.numbers:
+            presolve.relate(sign * (it - self), "leq")
+        self.bound_average(presolve, sign)
+
+    def bound_average(self, presolve: Presolve, sign: int) -> None:
+        """The greatest is at least the average; that says more where members share what they are
+        made of."""
+        members = Sum(tuple((sign, it) for it in self.numbers), 0)
+        whole_sum = members - sign * len(self.numbers) * self
+        terms, _ = presolve.terms(whole_sum)
+        if not all(isinstance(it, Term) for it in terms):
+            presolve.relate(whole_sum, "leq")
 
     def extremes(self, parts: list[Integer]) -> Domain:
         """The values that a greatest, or a least, member can have."""
@@ -207,13 +240,22 @@ class Element(Number):
                 f"the places 0 to {last}"
             )
         parts = {it: translation.integer(self.numbers[it]) for it in places}
-        made = translation.fresh_integer(domain_of(v for it in parts.values() for v in it.domain))
+        values = domain_of(v for it in parts.values() for v in it.domain)
+        made = translation.fresh_integer(translation.within(self, values))
         at_place = {it: equality(translation, self.index, it) for it in places}
         if all(it.steps == 0 for it in parts.values()):
             self.channel_numbers(translation, made, parts, at_place)
         else:
             self.channel_integers(translation, made, parts, at_place)
         return made
+
+    def bound(self, presolve: Presolve) -> None:
+        place = presolve.sides(self.index)[0]
+        sides = {at: presolve.sides(it) for at, it in enumerate(self.numbers)}
+        super().bound(presolve)
+        parts = [below for below, _ in sides.values()]
+        watched = presolve.watched(place, *parts)
+        presolve.bounds.add(Entry(self, place, sides), self, *watched)
 
     def channel_numbers(
         self, translation: Translation, made: Integer, parts: Parts, at_place: dict[int, str]

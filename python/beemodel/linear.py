@@ -379,7 +379,10 @@ def integer_of_sum(translation: Translation, number: Sum) -> Integer:
     terms, constant = terms_of(translation, number)
     if not terms:
         return Integer(translation.numeral(constant), range(constant, constant + 1))
-    whole = sum_of(translation, terms)
+    low, high = translation.ends.get(number, (None, None))
+    if low is not None:
+        low, high = low - constant, high - constant
+    whole = sum_of(translation, terms, low, high)
     return shifted(translation, integer_of(translation, whole), whole.factor, constant)
 
 

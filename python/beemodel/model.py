@@ -26,6 +26,7 @@ from .expressions import (
     whole,
 )
 from .lines import ModelError, line_of_script, refused
+from .presolve import Left, presolved
 from .running import Answer, Core, Solutions, all_text, core_text, solve_text
 from .translation import Integer, Item, Translation
 
@@ -147,23 +148,31 @@ class Model:
 
     # The text, and the answer.
 
-    def written(self) -> Written:
+    def written(self, presolve: bool = True) -> Written:
         """The model in statements. An error names the constraint and its line."""
         domains, rest = self.narrowed()
-        return self.written_with(domains, rest, self.goal)
+        left = presolved(domains, self, rest, self.goal) if presolve else Left(domains, {}, {})
+        return self.written_with(left, rest, self.goal)
+
+    def written_for_all(self, presolve: bool) -> Written:
+        """The model in statements without its goal."""
+        domains, rest = self.narrowed()
+        left = presolved(domains, self, rest, None) if presolve else Left(domains, {}, {})
+        return self.written_with(left, rest, None)
 
     def written_apart(self) -> Written:
         """The model without its goal, and with a statement for each constraint: no domain is
         narrowed."""
         variables = self.variables.items()
         domains = {n: it.domain for n, it in variables if isinstance(it, IntegerVariable)}
-        return self.written_with(domains, list(enumerate(self.constraints)), None)
+        return self.written_with(Left(domains, {}, {}), list(enumerate(self.constraints)), None)
 
-    def written_with(
-        self, domains: dict[str, Domain], rest: list[Placed], goal: Optional[Goal]
-    ) -> Written:
-        """The variables with these domains, these constraints and this goal in statements."""
+    def written_with(self, left: Left, rest: list[Placed], goal: Optional[Goal]) -> Written:
+        """The variables with what is left of them, these constraints and this goal in
+        statements."""
+        domains = left.domains
         translation = Translation(self, domains)
+        translation.ends = left.ends
         for name, variable in self.variables.items():
             translation.line, translation.subject = variable.line, name
             if isinstance(variable, BooleanVariable):
@@ -173,6 +182,7 @@ class Model:
                 if not domains[name]:
                     domains[name] = variable.domain[:1]
                     translation.clause([])
+        translation.take_sure(left)
         for place, it in rest:
             translation.constraint = place
             translation.line, translation.subject = it.line, it.truth
@@ -211,7 +221,7 @@ class Model:
                     rest.append((place, Constraint(truth, constraint.line)))
                 else:
                     bounds.setdefault(atom.name, []).append(truth)
-        domains = {
+        domains: dict[str, Domain] = {
             name: narrowed_domain(variable, bounds.get(name, []))
             for name, variable in self.variables.items()
             if isinstance(variable, IntegerVariable)
@@ -227,17 +237,17 @@ class Model:
         is_ours = isinstance(atom, IntegerVariable) and self.variables.get(atom.name) is atom
         return atom if is_ours else None
 
-    def text(self) -> str:
+    def text(self, presolve: bool = True) -> str:
         """The model in the language of `docs/LANGUAGE.md`."""
-        return self.written().text()
+        return self.written(presolve).text()
 
-    def weight(self) -> int:
+    def weight(self, presolve: bool = True) -> int:
         """What the model weighs; the program takes at most 67,108,864."""
-        return sum(it.weight for it in self.written().items)
+        return sum(it.weight for it in self.written(presolve).items)
 
-    def heaviest(self, count: int = 5) -> list[tuple[str, int]]:
+    def heaviest(self, count: int = 5, presolve: bool = True) -> list[tuple[str, int]]:
         """The lines of the script whose statements weigh most, and what they weigh together."""
-        return heaviest_lines(self.written().items)[:count]
+        return heaviest_lines(self.written(presolve).items)[:count]
 
     def solve(
         self,
@@ -261,6 +271,7 @@ class Model:
         budget: Optional[int] = None,
         program: Optional[str] = None,
         folder: Union[str, Path, None] = None,
+        presolve: bool = True,
     ) -> Solutions:
         """Runs `bee all` and then `bee checkall`: every solution, whatever the goal is, as a list
         that was accepted.
@@ -268,7 +279,7 @@ class Model:
         Solutions that differ only in what the layer itself declares are one. The arguments are
         those of `solve`.
         """
-        written = self.written_with(*self.narrowed(), None)
+        written = self.written_for_all(presolve)
         found = all_text(self.checked_text(written), budget, program, folder)
         each = {tuple(own.values()): own for own in map(self.own, found.values)}
         found.values = list(each.values())

@@ -7,7 +7,7 @@ is states none, since each assignment of the script's variables meets it by a va
 """
 from __future__ import annotations
 
-from bisect import bisect_left
+from bisect import bisect_left, bisect_right
 from collections.abc import Callable, Sequence
 from typing import TYPE_CHECKING, NamedTuple, Optional, TypeVar, Union
 
@@ -19,6 +19,7 @@ from .lines import ModelError
 
 if TYPE_CHECKING:
     from .model import Model
+    from .presolve import Left
 
 Argument = Union[str, int, Sequence[Union[str, int]]]
 Made = TypeVar("Made")
@@ -71,6 +72,16 @@ class Translation:
         self.integers: dict[object, Integer] = {}
         self.literals: dict[object, str] = {}
         self.literal_of_integer: dict[str, str] = {}
+        self.ends: dict[Number, tuple[int, int]] = {}
+
+    def take_sure(self, left: Left) -> None:
+        """Writes the Booleans that the presolve is sure of, and where it has seen that there is no
+        solution, that."""
+        if not left.is_possible:
+            self.clause([])
+        for variable, is_true in left.sure.items():
+            self.clause([variable.name if is_true else f"-{variable.name}"])
+            self.literals[variable] = "true" if is_true else "false"
 
     # What goes wrong.
 
@@ -147,6 +158,13 @@ class Translation:
         made = Integer(self.fresh_name(), domain)
         self.declare_integer(*made)
         return made
+
+    def within(self, number: Number, domain: Domain) -> Domain:
+        """The values of an expression that the presolve has left."""
+        if number not in self.ends:
+            return domain
+        low, high = self.ends[number]
+        return domain[bisect_left(domain, low) : bisect_right(domain, high)]
 
     # Booleans.
 

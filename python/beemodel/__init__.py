@@ -5,8 +5,10 @@
 from .circuits import circuit
 from .counting import at_least, at_most, at_most_one, count, exactly, exactly_one
 from .differing import all_different
+from .disjunctive import no_overlap
 from .expressions import all_of, any_of, total, weighted_sum
 from .functions import absolute, element, maximum, minimum
+from .intervals import interval
 from .lines import ModelError
 from .model import Constraint, Model
 from .ordering import lex_less, lex_less_or_equal
@@ -35,10 +37,12 @@ __all__ = [
     "element",
     "exactly",
     "exactly_one",
+    "interval",
     "lex_less",
     "lex_less_or_equal",
     "maximum",
     "minimum",
+    "no_overlap",
     "table",
     "total",
     "weighted_sum",

@@ -25,6 +25,7 @@ from .expressions import (
     truth_of,
     whole,
 )
+from .guesses import solve_guessing
 from .lines import ModelError, line_of_script, refused
 from .presolve import Left, presolved
 from .running import Answer, Core, Solutions, all_text, core_text, solve_text
@@ -64,6 +65,9 @@ class Written(NamedTuple):
 
     def text(self) -> str:
         return "".join(f"{it.text}\n" for it in self.items) + f"{self.goal}\n"
+
+    def weight(self) -> int:
+        return sum(it.weight for it in self.items)
 
 
 class Model:
@@ -254,14 +258,27 @@ class Model:
         budget: Optional[int] = None,
         program: Optional[str] = None,
         folder: Union[str, Path, None] = None,
+        presolve: bool = True,
+        at_most: Optional[int] = None,
     ) -> Answer:
         """Runs `bee solve` and then `bee check`; what is given back was accepted.
 
         A budget bounds the learned clauses. The program is the argument, the environment variable
         BEE, or `bee` at the top of the repository. With a folder, the model's text and the answer
         stay there.
+
+        What is sought is bounded by a plan that is made greedily, or by `at_most`, of which there
+        are twice as much and so on where no solution has that; `presolve=False` leaves out both,
+        and all that narrows domains.
         """
-        answer = solve_text(self.checked_text(self.written()), budget, program, folder)
+
+        def run(text: str) -> Answer:
+            return solve_text(text, budget, program, folder)
+
+        if presolve and self.goal is not None:
+            answer = solve_guessing(self, self.goal, at_most, run)
+        else:
+            answer = run(self.checked_text(self.written(presolve)))
         if answer.values is not None:
             answer.values = self.own(answer.values)
         return answer

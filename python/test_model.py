@@ -11,10 +11,14 @@ import unittest
 from pathlib import Path
 
 import test_constraints
+import test_global_constraints
 from beemodel import Model, ModelError, ProgramError, all_different, element, exactly_one, maximum
 from beemodel import weighted_sum, weights
 from beemodel.running import solve_text
 from trying import PROGRAM, TOP, assignments, declare, need_program
+
+
+LISTED = [*test_constraints.GENERATORS, *test_global_constraints.GENERATORS]
 
 
 def setUpModule():
@@ -153,7 +157,7 @@ class Weights(unittest.TestCase):
     def test_weights_are_the_program_s(self):
         """Models of each constraint are made too heavy by one integer: the refusal tells."""
         heavy = "new_int(heavy,1,22369623)"
-        generators = [*test_constraints.GENERATORS]
+        generators = [*LISTED]
         generators += [test_constraints.function(it) for it in test_constraints.FUNCTIONS]
         for at, generate in enumerate(generators):
             case = generate(random.Random(at))
@@ -167,7 +171,7 @@ class Weights(unittest.TestCase):
 
     def test_items_weigh_what_the_program_says(self):
         """`bee weigh` beside the layer's own weights, item by item, of light models and heavy ones."""
-        for at, generate in enumerate(test_constraints.GENERATORS):
+        for at, generate in enumerate(LISTED):
             case = generate(random.Random(at))
             model = Model()
             model.add(case.make(declare(model, case.domains)))

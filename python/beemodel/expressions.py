@@ -456,6 +456,11 @@ def any_of(parts: Iterable[TruthLike]) -> Truth:
     return AnyOf(tuple(truth_of(it) for it in parts))
 
 
+def xor(parts: Iterable[TruthLike]) -> Truth:
+    """An odd number of a list is true. Weight: 13 for each member."""
+    return Odd(tuple(truth_of(it) for it in parts))
+
+
 class Comparison(Truth):
     """A number stands in a relation to 0: `leq`, `eq` or `neq`."""
 

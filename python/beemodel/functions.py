@@ -3,11 +3,21 @@ least, element."""
 from __future__ import annotations
 
 from collections.abc import Callable, Iterable, Sequence
-from typing import TYPE_CHECKING, Union
+from typing import TYPE_CHECKING, Optional
 
 from . import weights
 from .domains import LISTED, Domain, domain_of, is_small
-from .expressions import Number, NumberLike, Sum, Truth, number_of, whole
+from .expressions import (
+    AllOf,
+    Number,
+    NumberLike,
+    Sum,
+    Truth,
+    TruthLike,
+    number_of,
+    truth_of,
+    whole,
+)
 from .linear import equality, integer_of_sum, values_of
 from .lines import refused
 from .propagators import AtMostZero, Entry, Greatest, Multiple, Term
@@ -231,7 +241,8 @@ class Element(Number):
     def value(self, values: dict[str, int | bool]) -> int:
         return self.numbers[self.index.value(values)].value(values)
 
-    def integer(self, translation: Translation) -> Integer:
+    def places(self, translation: Translation) -> dict[int, str]:
+        """The places that are possible, each with the Boolean that says whether it is taken."""
         places = values_of(translation, self.index)
         last = len(self.numbers) - 1
         if places[0] < 0 or places[-1] > last:
@@ -239,10 +250,13 @@ class Element(Number):
                 f"the place {self.index} may be from {places[0]} to {places[-1]}, and the list has "
                 f"the places 0 to {last}"
             )
-        parts = {it: translation.integer(self.numbers[it]) for it in places}
+        return {it: equality(translation, self.index, it) for it in places}
+
+    def integer(self, translation: Translation) -> Integer:
+        at_place = self.places(translation)
+        parts = {it: translation.integer(self.numbers[it]) for it in at_place}
         values = domain_of(v for it in parts.values() for v in it.domain)
         made = translation.fresh_integer(translation.within(self, values))
-        at_place = {it: equality(translation, self.index, it) for it in places}
         if all(it.steps == 0 for it in parts.values()):
             self.channel_numbers(translation, made, parts, at_place)
         else:
@@ -288,6 +302,29 @@ class Element(Number):
         return is_it
 
 
+class Entry2(Element):
+    """What stands in a row and a column of a table of numbers or expressions."""
+
+    def __init__(self, rows: Sequence[Sequence[NumberLike]], row: Number, column: Number):
+        super().__init__([it for each in rows for it in each], row * len(rows[0]) + column)
+        self.row, self.column, self.height, self.width = row, column, len(rows), len(rows[0])
+
+    def places(self, translation: Translation) -> dict[int, str]:
+        sides = values_of(translation, self.row), values_of(translation, self.column)
+        for name, values, most in zip(("row", "column"), sides, (self.height, self.width)):
+            if values[0] < 0 or values[-1] >= most:
+                raise translation.fault(
+                    f"the {name} may be from {values[0]} to {values[-1]}, and the table has 0 to {most - 1}"
+                )
+        rows = [(it, equality(translation, self.row, it)) for it in sides[0]]
+        columns = [(it, equality(translation, self.column, it)) for it in sides[1]]
+        return {
+            row * self.width + column: translation.conjunction([is_row, is_column])
+            for row, is_row in rows
+            for column, is_column in columns
+        }
+
+
 def maximum(numbers: Iterable[NumberLike]) -> Number:
     """The greatest of a list. Weight: 4 to 5 for each value of each member."""
     return Extreme([number_of(it) for it in numbers], "max")
@@ -303,12 +340,27 @@ def absolute(number: NumberLike) -> Number:
     return Absolute(number_of(number))
 
 
-def element(numbers: Sequence[Union[NumberLike, int]], index: NumberLike) -> Number:
+def if_then_else(condition: TruthLike, first: NumberLike, second: NumberLike) -> Number:
+    """The first one where the condition holds, and else the second one: a truth where both are, and
+    else a number. Weight: as `element` of two members."""
+    truth = truth_of(condition)
+    if all(isinstance(it, (Truth, bool)) for it in (first, second)):
+        return AllOf((truth.implies(first), (~truth).implies(second)))
+    return Element([second, first], truth)
+
+
+def element(numbers: Sequence, index: NumberLike, column: Optional[NumberLike] = None) -> Number:
     """What stands in a list at a place, counted from 0; the place's domain has to lie in the list.
+    With a column, what stands in a table's row at a column.
 
     Weight with numbers: 3 for each place and each different number, and the values of the place and
     the element as Booleans. With expressions: 15 for each value of each member.
     """
+    if column is not None:
+        rows = [[*it] for it in numbers]
+        if not rows or not rows[0] or any(len(it) != len(rows[0]) for it in rows):
+            raise refused("element: the rows of the table have no one length")
+        return Entry2(rows, number_of(index), number_of(column))
     if isinstance(index, Number):
         return Element(numbers, index)
     place = whole(index, "the place")

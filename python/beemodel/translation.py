@@ -9,6 +9,7 @@ from __future__ import annotations
 
 from bisect import bisect_left, bisect_right
 from collections.abc import Callable, Sequence
+from string import ascii_letters, digits
 from typing import TYPE_CHECKING, NamedTuple, Optional, TypeVar, Union
 
 from . import weights
@@ -23,6 +24,9 @@ if TYPE_CHECKING:
 
 Argument = Union[str, int, Sequence[Union[str, int]]]
 Made = TypeVar("Made")
+
+# What the names of the layer's own variables are made of, behind a `_`.
+DIGITS = ascii_letters + digits
 
 
 class Integer(NamedTuple):
@@ -139,8 +143,14 @@ class Translation:
 
     def fresh_name(self) -> str:
         """A name that no variable has: those of a script don't begin with `_`."""
+        number, name = self.count_of_fresh, "_"
         self.count_of_fresh += 1
-        return f"_{self.count_of_fresh}"
+        while True:
+            number, digit = divmod(number, len(DIGITS))
+            name += DIGITS[digit]
+            if not number:
+                return name
+            number -= 1
 
     def fresh_boolean(self) -> str:
         """A Boolean of the layer's own."""
@@ -205,6 +215,15 @@ class Translation:
     def disjunction(self, literals: Sequence[str]) -> str:
         """The Boolean term that is true where some literal is."""
         return self.negation(self.conjunction([self.negation(it) for it in literals]))
+
+    def is_any_of(self, literal: str, literals: Sequence[str]) -> None:
+        """Writes that a Boolean term is true just where some of a list is."""
+        if len(literals) == 1:
+            self.clause([self.negation(literal), literals[0]])
+            self.clause([literal, self.negation(literals[0])])
+        else:
+            weight = weights.conjunction(len(literals))
+            self.say(weight, "bool_array_or_reif", literals, literal)
 
     def made_once(self, key: object, name: str, members: Sequence[str]) -> str:
         """The Boolean that tells whether a list has a property, made at the first asking."""

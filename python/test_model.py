@@ -156,7 +156,7 @@ class Answers(unittest.TestCase):
 class Weights(unittest.TestCase):
     def test_weights_are_the_program_s(self):
         """Models of each constraint are made too heavy by one integer: the refusal tells."""
-        heavy = "new_int(heavy,1,22369623)"
+        heavy = "new_int(heavy,1,22369623)\nnew_bool(more)"
         generators = [*LISTED]
         generators += [test_constraints.function(it) for it in test_constraints.FUNCTIONS]
         for at, generate in enumerate(generators):
@@ -167,7 +167,7 @@ class Weights(unittest.TestCase):
                 with self.assertRaisesRegex(ModelError, "weight") as refused:
                     solve_text(f"{heavy}\n{model.text(presolve=False)}", program=PROGRAM)
                 weight = int(re.search(r"weight (\d+)", str(refused.exception))[1])
-                self.assertEqual(weight - 67_108_864, model.weight(presolve=False))
+                self.assertEqual(weight - 67_108_865, model.weight(presolve=False))
 
     def test_items_weigh_what_the_program_says(self):
         """`bee weigh` beside the layer's own weights, item by item, of light models and heavy ones."""

@@ -22,6 +22,8 @@ sys.path.insert(0, str(TOP / "python"))
 from beemodel import (  # noqa: E402
     Model,
     ModelError,
+    any_of,
+    bin_loads,
     bin_packing,
     circuit,
     count,
@@ -96,12 +98,13 @@ def steel(model, data):
     loss = [min(it for it in [0, *capacities] if it >= load) - load for load in range(max(capacities) + 1)]
     slab = [model.int(f"slab_{it}", 0, len(orders) - 1) for it in range(len(orders))]
     load = [model.int(f"load_{it}", 0, max(capacities)) for it in range(len(orders))]
-    model.add(bin_packing(slab, [size for size, _ in orders], load))
+    held = bin_loads(slab, [size for size, _ in orders], len(orders))
+    model.add(one == other for one, other in zip(load, held))
     colours = {}
     for at, (_, colour) in enumerate(orders):
         colours.setdefault(colour, []).append(slab[at])
     for it in range(len(orders)):
-        has = [maximum(one == it for one in same) for same in colours.values()]
+        has = [any_of(one == it for one in same) for same in colours.values()]
         model.add(total(has) <= 2)
     model.minimize(total(element(loss, it) for it in load))
 
@@ -118,12 +121,27 @@ def warehouses(model, data):
     model.minimize(supply + data["fixed_cost"] * total(is_open))
 
 
+def runs(lengths):
+    """An automaton of lines with runs of these lengths: its start, what it accepts, its steps."""
+    steps, state = {0: {0: 0}}, 0
+    for at, length in enumerate(lengths):
+        for _ in range(length):
+            steps[state][1] = state + 1
+            state += 1
+            steps[state] = {}
+        if at < len(lengths) - 1:
+            steps[state][0] = state + 1
+            state += 1
+        steps.setdefault(state, {})[0] = state
+    return 0, [state], steps
+
+
 def nonogram(model, data):
     """A picture from the lengths of its runs."""
     height, width = len(data["rows"]), len(data["columns"])
     cells = [[model.bool(f"cell_{row}_{column}") for column in range(width)] for row in range(height)]
-    for line, runs in [*zip(cells, data["rows"]), *zip(zip(*cells), data["columns"])]:
-        model.add(regular(line, "0*" + "0+".join("1" * it for it in runs) + "0*"))
+    for line, lengths in [*zip(cells, data["rows"]), *zip(zip(*cells), data["columns"])]:
+        model.add(regular(line, *runs(lengths)))
 
 
 def tour(model, data):
@@ -161,7 +179,7 @@ def instances():
                 yield family, name, it.get("jobs", it) if family.endswith("shop") else it
 
 
-def run(words, text, seconds):
+def run(words, seconds, text=None):
     """What a program writes, and the CPU seconds that it took; it is stopped after so many."""
 
     def limit():
@@ -177,19 +195,37 @@ def ours(family, data, seconds):
     """What the layer and `bee` take, and what they answer."""
     begun, model = time.process_time(), Model()
     FAMILIES[family](model, data)
-    took, verdicts, texts = [], [], []
-
-    def answered(text):
-        took.append(time.process_time() - begun)
-        said, spent = run([program_of(None), "solve", "stdin"], text, seconds)
-        verdicts.append(said.splitlines()[1] if "\n" in said else "stopped")
-        took.append(spent)
-        texts.append(text)
-        return verdicts[-1]
-
     try:
-        answered(model.asked().written.text())
+        asked = model.asked()
+        text = model.checked_text(asked.written)
     except ModelError as why:
-        return [str(why)[:60]]
-    weight = model.asked().written.weight()
-    return [weight, len(texts[0]), f"{took[0]:.1f}", f"{took[1]:.1f}", verdicts[0]]
+        return ["refused", "", f"{time.process_time() - begun:.1f}", "", str(why)[:60]]
+    layer = time.process_time() - begun
+    said, spent = run([program_of(None), "solve", "stdin"], seconds, text)
+    verdict = said.split("\n")[1] if "\n" in said else "stopped"
+    return [asked.written.weight(), len(text), f"{layer:.1f}", f"{spent:.1f}", verdict]
+
+
+def gecode(family, data, seconds):
+    """What MiniZinc and gecode take together, and what they answer."""
+    with tempfile.TemporaryDirectory() as folder:
+        path = Path(folder, "model.mzn")
+        path.write_text(DATA[family](data) + MODELS[family])
+        said, spent = run(["minizinc", "--solver", "gecode", str(path)], seconds)
+    lines = said.split("\n")
+    is_done = "==========" in lines or family == "nonogram" and "found" in lines
+    return [f"{spent:.1f}", "OPTIMUM " + lines[0] if is_done else "stopped"]
+
+
+def main():
+    seconds = int(sys.argv[1]) if len(sys.argv) > 1 else 60
+    print(*"family instance weight bytes layer bee verdict gecode verdict".split(), sep="\t")
+    for family, name, data in instances():
+        if len(sys.argv) > 2 and family not in sys.argv[2:] and name not in sys.argv[2:]:
+            continue
+        shown = ours(family, data, seconds) + gecode(family, data, seconds)
+        print(family, name, *shown, sep="\t", flush=True)
+
+
+if __name__ == "__main__":
+    main()

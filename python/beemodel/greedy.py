@@ -19,7 +19,7 @@ Variable = IntegerVariable | BooleanVariable
 TRIED = 24
 
 # So much work is done at most, beyond that of the presolve.
-LIMIT = 4_000_000
+LIMIT = 1_500_000
 
 # After so many conflicts no plan is made.
 CONFLICTS = 60

@@ -98,7 +98,7 @@ class Guessing:
 
 
 # So much work is done for each guess.
-LIMIT = 2_000_000
+LIMIT = 1_000_000
 
 
 def solve_guessing(

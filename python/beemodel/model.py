@@ -25,7 +25,7 @@ from .expressions import (
     truth_of,
     whole,
 )
-from .guesses import solve_guessing
+from .guesses import Asked, Guessing, solve_guessing
 from .lines import ModelError, line_of_script, refused
 from .presolve import Left, presolved
 from .running import Answer, Core, Solutions, all_text, core_text, solve_text
@@ -157,6 +157,13 @@ class Model:
         domains, rest = self.narrowed()
         left = presolved(domains, self, rest, self.goal) if presolve else Left(domains, {}, {})
         return self.written_with(left, rest, self.goal)
+
+    def asked(self, at_most: Optional[int] = None) -> Asked:
+        """The model in statements as `solve` asks it at first, with a bound of what is sought."""
+        if self.goal is None:
+            return Asked(self.written(), None)
+        guessing = Guessing(self, self.goal)
+        return guessing.first() if at_most is None else guessing.asked(at_most)
 
     def written_for_all(self, presolve: bool) -> Written:
         """The model in statements without its goal."""

@@ -27,8 +27,8 @@ from .propagators import AtMostZero, Choice, Clause, Literal, Prices, Relation, 
 if TYPE_CHECKING:
     from .model import Goal, Model, Placed
 
-# So much work is done at most: some seconds.
-LIMIT = 3_000_000
+# So much work is done at most: a few seconds.
+LIMIT = 1_500_000
 
 # Comparisons of an integer of so many values with constants are prices by its value.
 PRICED = 500
@@ -116,7 +116,9 @@ class Presolve:
             else:
                 self.know(atom)
                 plain.append(Term(factor, atom))
-        plain += [Prices(variable, price) for variable, price in prices.items()]
+        for variable, price in prices.items():
+            rising = sorted((it, value) for value, it in price.items())
+            plain.append(Prices(variable, rising))
         for number_of, price in choices.items():
             self.choose(plain, price, self.sizes[number_of])
         return plain, constant

@@ -51,23 +51,29 @@ class Term(NamedTuple):
         return [self.atom]
 
 
-class Prices(NamedTuple):
+class Prices:
     """A price for each value of one integer."""
 
-    atom: Number
-    price: dict[int, int]
+    def __init__(self, atom: Number, rising: list[tuple[int, int]]):
+        self.atom, self.rising = atom, rising
 
     def least(self, bounds: Bounds) -> int:
-        return min(self.price[it] for it in bounds.values(self.atom))
+        low, high = bounds.low[self.atom], bounds.high[self.atom]
+        holes = bounds.holes.get(self.atom, ())
+        for price, value in self.rising:
+            if low <= value <= high and value not in holes:
+                return price
+        raise Conflict
 
     def keep_below(self, bounds: Bounds, most: int) -> None:
         """Values that cost more are ruled out."""
-        for it in [*bounds.values(self.atom)]:
-            if self.price[it] > most:
-                bounds.remove(self.atom, it)
+        at = len(self.rising) - 1
+        while at >= 0 and self.rising[at][0] > most:
+            bounds.remove(self.atom, self.rising[at][1])
+            at -= 1
 
     def negated(self) -> Prices:
-        return Prices(self.atom, {value: -price for value, price in self.price.items()})
+        return Prices(self.atom, [(-price, value) for price, value in reversed(self.rising)])
 
     def watched(self) -> list[Number]:
         return [self.atom]
@@ -127,7 +133,7 @@ class Relation(Propagator):
         self.relation, self.literal = relation, literal
         self.below = AtMostZero(terms, constant)
         self.above = AtMostZero([it.negated() for it in terms], -constant)
-        self.size = 1 + 2 * len(terms)
+        self.size = 1 + 3 * len(terms)
 
     def watched(self) -> list[Number]:
         own = [self.literal[0]] if self.literal else []

@@ -4,11 +4,16 @@ import random
 import unittest
 
 from beemodel import (
+    all_different,
     among,
+    assignment_cost,
     at_most_values,
     bin_loads,
     bin_packing,
+    circuit,
+    circuit_cost,
     element,
+    exactly_one,
     global_cardinality,
     if_then_else,
     increasing,
@@ -22,6 +27,7 @@ from beemodel import (
     sliding_sum,
     table,
     value_precede,
+    weighted_sum,
     xor,
 )
 from test_constraints import RELATIONS, a_domain, booleans, integers
@@ -279,6 +285,57 @@ def choices(rng):
     return Case(domains, lambda v: [make(v)], means)
 
 
+def costs(rng):
+    """What an assignment or a round costs, where the model states that it is one and where it
+    doesn't."""
+    size, is_round, is_stated = rng.randint(2, 3), rng.random() < 0.5, rng.random() < 0.8
+    domains = {**{f"x{it}": range(0, size) for it in range(size)}, "c": range(-4, 20)}
+    rows = [[rng.randint(-2, 9) for _ in range(size)] for _ in range(size)]
+    relation = rng.choice(RELATIONS[:5])
+
+    def make(v):
+        *places, cost = v.values()
+        of = circuit_cost if is_round else assignment_cost
+        stated = [circuit(places) if is_round else all_different(places)] if is_stated else []
+        return [*stated, relation(of(places, rows), cost)]
+
+    def means(values):
+        *places, cost = values.values()
+        place = seen = 0
+        for seen in range(1, size + 1):
+            place = places[place]
+            if place == 0:
+                break
+        is_one = (seen == size and place == 0) if is_round else len(set(places)) == size
+        whole = sum(row[it] for row, it in zip(rows, places))
+        return (is_one or not is_stated) and relation(whole, cost)
+
+    return Case(domains, make, means)
+
+
+def prices(rng):
+    """Sums with a price for each of some truths of which just one holds."""
+    size, is_stated = rng.randint(3, 4), rng.random() < 0.8
+    domains = {"x": a_domain(rng, 5), **booleans(size), "s": range(-4, 9)}
+    ours, more = ([rng.randint(-2, 3) for _ in range(size)] for _ in range(2))
+    values_of = [rng.randint(-3, 3) for _ in range(size)]
+    kept, relation = rng.randint(1, size), rng.choice(RELATIONS)
+
+    def make(v):
+        x, *each, most = v.values()
+        marks = [x == it for it in values_of]
+        stated = [exactly_one(each)] if is_stated else []
+        return [*stated, relation(weighted_sum([*ours[:kept], *more], [*each[:kept], *marks]), most)]
+
+    def means(values):
+        x, *each, most = values.values()
+        whole = sum(p * it for p, it in zip(ours[:kept], each))
+        whole += sum(p * (x == it) for p, it in zip(more, values_of))
+        return (sum(each) == 1 or not is_stated) and relation(whole, most)
+
+    return Case(domains, make, means)
+
+
 def forbidden_rows(rng):
     """Rows that are ruled out."""
     domains = integers(rng, 3, 3)
@@ -300,6 +357,8 @@ GENERATORS = [
     numbers_of_values,
     inverses,
     choices,
+    costs,
+    prices,
     forbidden_rows,
 ]
 

@@ -2,6 +2,7 @@
 
 `docs/PYTHON.md` has an example, what each constraint costs, and how answers are read.
 """
+from .assignment import assignment_cost, circuit_cost
 from .circuits import circuit
 from .counting import (
     among,
@@ -42,6 +43,7 @@ __all__ = [
     "all_of",
     "among",
     "any_of",
+    "assignment_cost",
     "at_least",
     "at_most",
     "at_most_one",
@@ -49,6 +51,7 @@ __all__ = [
     "bin_loads",
     "bin_packing",
     "circuit",
+    "circuit_cost",
     "count",
     "cumulative",
     "element",

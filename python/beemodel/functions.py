@@ -6,6 +6,7 @@ from collections.abc import Callable, Iterable, Sequence
 from typing import TYPE_CHECKING, Optional
 
 from . import weights
+from .choices import channel_prices
 from .domains import LISTED, Domain, domain_of, is_small
 from .expressions import (
     AllOf,
@@ -278,11 +279,7 @@ class Element(Number):
         support: dict[int, list[str]] = {}
         for place, part in parts.items():
             support.setdefault(part.low, []).append(at_place[place])
-        for number, literals in support.items():
-            has_it = translation.equals(made, number)
-            for literal in literals:
-                translation.clause([translation.negation(literal), has_it])
-            translation.clause([translation.negation(has_it), *literals])
+        channel_prices(translation, made, support)
 
     def channel_integers(
         self, translation: Translation, made: Integer, parts: Parts, at_place: dict[int, str]

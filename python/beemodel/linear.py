@@ -12,6 +12,7 @@ from math import gcd
 from typing import TYPE_CHECKING, NamedTuple, Optional, Union
 
 from . import weights
+from .choices import gathered
 from .domains import Domain, multiple, sums
 from .expressions import Comparison, Number, Sum, Truth, flatten
 from .translation import Integer
@@ -59,7 +60,7 @@ def terms_of(translation: Translation, number: Number) -> tuple[list[Term], int]
     factors: dict[str, int] = {}
     integers: dict[str, Integer] = {}
     atoms, constant = flatten(number)
-    for atom, factor in atoms.items():
+    for atom, factor in gathered(translation, atoms).items():
         literal, integer = literal_or_integer(translation, atom)
         if literal in ("true", "false"):
             constant += factor * (literal == "true")

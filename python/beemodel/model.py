@@ -176,14 +176,14 @@ class Model:
         narrowed."""
         variables = self.variables.items()
         domains = {n: it.domain for n, it in variables if isinstance(it, IntegerVariable)}
-        return self.written_with(Left(domains, {}, {}), list(enumerate(self.constraints)), None)
+        left = Left(domains, {}, {}, is_apart=True)
+        return self.written_with(left, list(enumerate(self.constraints)), None)
 
     def written_with(self, left: Left, rest: list[Placed], goal: Optional[Goal]) -> Written:
         """The variables with what is left of them, these constraints and this goal in
         statements."""
         domains = left.domains
         translation = Translation(self, domains)
-        translation.ends = left.ends
         for name, variable in self.variables.items():
             translation.line, translation.subject = variable.line, name
             if isinstance(variable, BooleanVariable):
@@ -193,7 +193,7 @@ class Model:
                 if not domains[name]:
                     domains[name] = variable.domain[:1]
                     translation.clause([])
-        translation.take_sure(left)
+        translation.take(left)
         for place, it in rest:
             translation.constraint = place
             translation.line, translation.subject = it.line, it.truth

@@ -10,6 +10,7 @@ from collections.abc import Iterable, Sequence
 from typing import TYPE_CHECKING, NamedTuple, Optional
 
 from .bounds import Bounds, Conflict
+from .choices import choices_of
 from .domains import Domain
 from .expressions import (
     AllOf,
@@ -37,38 +38,21 @@ PRICED = 500
 class Presolve:
     """The bounds of one model, as its constraints are told."""
 
-    def __init__(self, domains: dict[Number, Domain], limit: int = LIMIT):
-        self.bounds = Bounds(limit)
-        self.choice_of: dict[Number, int] = {}
-        self.sizes: dict[int, int] = {}
-        self.told: dict[Number, Literal] = {}
-        for variable, domain in domains.items():
+    def __init__(self, model: Model, domains: dict[str, Domain], limit: int = LIMIT):
+        self.model, self.bounds = model, Bounds(limit)
+        self.choices = choices_of(it.truth for it in model.constraints)
+        for name, domain in domains.items():
             if not domain:
                 raise Conflict
-            self.bounds.know_domain(variable, domain)
+            self.bounds.know_domain(model.variables[name], domain)
 
     # Constraints.
 
     def hold(self, truths: Iterable[Truth]) -> None:
         """Takes in that each of some truths holds."""
-        each = [part for it in truths for part in members(it, AllOf)]
-        for it in each:
-            self.note_choice(it)
-        for it in each:
-            it.presolve(self)
-
-    def note_choice(self, truth: Truth) -> None:
-        """Remembers Booleans of which just one is true."""
-        if not isinstance(truth, Comparison) or truth.relation != "eq":
-            return
-        atoms, constant = flatten(truth.number)
-        factors = {*atoms.values()}
-        if len(factors) != 1 or constant != -next(iter(factors)):
-            return
-        if all(isinstance(it, BooleanVariable) and it not in self.choice_of for it in atoms):
-            number = len(self.sizes)
-            self.sizes[number] = len(atoms)
-            self.choice_of.update((it, number) for it in atoms)
+        for truth in truths:
+            for it in members(truth, AllOf):
+                it.presolve(self)
 
     def relate(self, number: Number, relation: str, literal: Optional[Literal] = None) -> None:
         """Takes in that a number stands in a relation to 0, or a literal that says whether it
@@ -105,29 +89,30 @@ class Presolve:
         """The terms of a sum, and its constant."""
         atoms, constant = flatten(number)
         prices: dict[Number, dict[int, int]] = {}
-        choices: dict[int, dict[Number, int]] = {}
+        choices: dict[Number, dict[Number, int]] = {}
         plain: list[Term | Prices | Choice] = []
         for atom, factor in atoms.items():
             variable = self.variable_of(atom)
             if variable is not None:
                 self.price(prices, variable, atom, factor)
-            elif atom in self.choice_of:
-                choices.setdefault(self.choice_of[atom], {})[atom] = factor
+            elif atom in self.choices:
+                choices.setdefault(self.choices[atom][0], {})[atom] = factor
             else:
                 self.know(atom)
                 plain.append(Term(factor, atom))
         for variable, price in prices.items():
             rising = sorted((it, value) for value, it in price.items())
             plain.append(Prices(variable, rising))
-        for number_of, price in choices.items():
-            self.choose(plain, price, self.sizes[number_of])
+        for first, price in choices.items():
+            self.choose(plain, price, len(self.choices[first]))
         return plain, constant
 
     def choose(self, terms: list, price: dict[Number, int], size: int) -> None:
-        """The terms of Booleans of which at most one is true, and just one where these are all."""
+        """The terms of Booleans of which at most one is true, and just one where these are all; of
+        the constraint that states it, one for each."""
         for it in price:
             self.know(it)
-        if len(price) == size:
+        if len(price) == size and len({*price.values()}) > 1:
             terms.append(Choice(price))
         else:
             terms.extend(Term(factor, it) for it, factor in price.items())
@@ -199,12 +184,14 @@ class Presolve:
 
 class Left(NamedTuple):
     """What a presolve leaves: values of variables, Booleans that are sure, and bounds of functions
-    and of what is sought. `is_possible` is false where it has seen that there is no solution."""
+    and of what is sought. `is_possible` is false where it has seen that there is no solution; where
+    `is_apart` is true each constraint is written as if there were no other."""
 
     domains: dict[str, Domain]
     sure: dict[BooleanVariable, bool]
     ends: dict[Number, tuple[int, int]]
     is_possible: bool = True
+    is_apart: bool = False
 
 
 def presolved(domains: dict[str, Domain], model: Model, rest: Sequence[Placed], goal: Optional[Goal]) -> Left:
@@ -220,7 +207,7 @@ def told_of(
 ) -> Presolve:
     """The presolve of a model, to which its constraints are told, and by it the bound of what is
     sought."""
-    told = Presolve({model.variables[name]: domain for name, domain in domains.items()})
+    told = Presolve(model, domains)
     told.hold(it.truth for _, it in rest)
     for variable in model.variables.values():
         told.know(variable)

@@ -13,6 +13,7 @@ from string import ascii_letters, digits
 from typing import TYPE_CHECKING, NamedTuple, Optional, TypeVar, Union
 
 from . import weights
+from .choices import choices_of
 from .cuts import Cuts
 from .domains import Domain
 from .expressions import GREATEST, BooleanVariable, IntegerVariable, Number
@@ -77,10 +78,16 @@ class Translation:
         self.literals: dict[object, str] = {}
         self.literal_of_integer: dict[str, str] = {}
         self.ends: dict[Number, tuple[int, int]] = {}
+        self.priced: dict[object, Number] = {}
+        self.choices: dict[Number, tuple[Number, ...]] = {}
+        self.is_apart = True
 
-    def take_sure(self, left: Left) -> None:
-        """Writes the Booleans that the presolve is sure of, and where it has seen that there is no
-        solution, that."""
+    def take(self, left: Left) -> None:
+        """Takes over what the presolve has left. The Booleans of which it is sure are written, and
+        where it has seen that there is no solution, that."""
+        self.ends, self.is_apart = left.ends, left.is_apart
+        if not self.is_apart:
+            self.choices = choices_of(it.truth for it in self.model.constraints)
         if not left.is_possible:
             self.clause([])
         for variable, is_true in left.sure.items():

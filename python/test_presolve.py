@@ -16,9 +16,10 @@ from beemodel import (
     no_overlap,
     weighted_sum,
 )
-from beemodel import assignment, bounds, disjunctive, packing, presolve, propagators, resources, sequences
+from beemodel import assignment, bounds, choices, disjunctive, functions, packing, presolve
+from beemodel import propagators, resources, sequences
 from beemodel.guesses import Guessing
-from trying import Case, assignments, declare
+from trying import Case, assignments, compare, declare, need_program
 
 GENERATORS = [
     *test_constraints.GENERATORS,
@@ -211,7 +212,7 @@ MUTANTS = {
         propagators.Clause, "run", lambda self, of: propagators.make_true(of, self.literals[0])
     ),
     "a dual that is none": lambda: stronger(
-        assignment, "hungarian", lambda it, *them: ([it[0][0] + 1, *it[0][1:]], it[1])
+        assignment.AssignmentCost, "__init__", lambda it, self, *them: setattr(self, "reduced", self.reduced + 1)
     ),
     "a best value one too great": lambda: stronger(
         presolve.Presolve, "least_possible", lambda it, *them: it + 1
@@ -236,6 +237,46 @@ class Mutants(unittest.TestCase):
         for name, patch in MUTANTS.items():
             with self.subTest(mutant=name), patch():
                 self.assertTrue(self.is_refused())
+
+
+# The same of what is written, with the cases that see it by the program.
+WRITTEN = {
+    "a count that leaves too much to the rest": (
+        test_global_constraints.rows_of_truths,
+        lambda: stronger(sequences.Running, "greatest", lambda it, *them: max(0, it - 1)),
+    ),
+    "two tasks of which one is first and isn't": (
+        test_constraints.tasks_apart,
+        lambda: mock.patch.object(disjunctive, "tie", lambda translation, it, literal: it.post(translation)),
+    ),
+    "an element without one of its places": (
+        test_constraints.elements,
+        lambda: mock.patch.object(
+            functions,
+            "channel_prices",
+            lambda translation, made, support: CHANNEL(
+                translation, made, {price: each[:-1] or each for price, each in support.items()}
+            ),
+        ),
+    ),
+    "a price that every truth has": (
+        test_global_constraints.prices,
+        lambda: stronger(choices, "domain_of", lambda it, *them: it[:1] if len(it) > 1 else it),
+    ),
+}
+CHANNEL = choices.channel_prices
+
+
+class Written(unittest.TestCase):
+    def setUp(self):
+        need_program()
+
+    def test_statements_that_are_too_strong_are_refused(self):
+        for name, (generate, patch) in WRITTEN.items():
+            with self.subTest(mutant=name), patch(), self.assertRaises(AssertionError):
+                for at in range(30):
+                    rng = random.Random(f"{name} {at}")
+                    compare(self, generate(rng), rng)
 
 
 if __name__ == "__main__":

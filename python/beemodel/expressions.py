@@ -12,9 +12,13 @@ from .lines import refused
 
 if TYPE_CHECKING:
     from .domains import Domain
+    from .presolve import Presolve
     from .translation import Integer, Translation
 
 GREATEST = 1_073_741_824
+
+# Beyond this no value of an expression is asked for.
+FARTHEST = 1 << 62
 
 
 class Number:
@@ -101,6 +105,10 @@ class Number:
     def integer(self, translation: Translation) -> Integer:
         """The integer of the written model that has this expression's value."""
         raise NotImplementedError
+
+    def bound(self, presolve: Presolve) -> None:
+        """Tells the presolve within what bounds this lies, and what moves them."""
+        presolve.bounds.know(self, -FARTHEST, FARTHEST)
 
 
 NumberLike = Union[Number, int]
@@ -202,6 +210,9 @@ class IntegerVariable(Number):
     def integer(self, translation: Translation) -> Integer:
         return translation.declared(self)
 
+    def bound(self, presolve: Presolve) -> None:
+        presolve.bounds.know_domain(self, self.domain)
+
 
 class Truth(Number):
     """An expression that is true or false. Among numbers it is 1 or 0."""
@@ -262,6 +273,13 @@ class Truth(Number):
         """Writes that this is false."""
         translation.clause([translation.negation(translation.literal(self))])
 
+    def bound(self, presolve: Presolve) -> None:
+        presolve.bounds.know(self, 0, 1)
+
+    def presolve(self, presolve: Presolve) -> None:
+        """Tells the presolve that this is true."""
+        presolve.fix(self)
+
 
 TruthLike = Union[Truth, bool]
 
@@ -289,6 +307,9 @@ class Constant(Truth):
 
     def literal(self, translation: Translation) -> str:
         return "true" if self.is_true else "false"
+
+    def bound(self, presolve: Presolve) -> None:
+        presolve.bounds.know(self, int(self.is_true), int(self.is_true))
 
 
 class BooleanVariable(Truth):
@@ -367,6 +388,10 @@ class AllOf(Truth):
         parts = [translation.literal(it) for it in members(self, AllOf)]
         translation.clause([translation.negation(it) for it in parts])
 
+    def bound(self, presolve: Presolve) -> None:
+        super().bound(presolve)
+        presolve.clause([presolve.literal(~it) for it in members(self, AllOf)], (self, False))
+
 
 class AnyOf(Truth):
     """Some part is true."""
@@ -390,6 +415,13 @@ class AnyOf(Truth):
     def refuse(self, translation: Translation) -> None:
         for it in members(self, AnyOf):
             it.refuse(translation)
+
+    def bound(self, presolve: Presolve) -> None:
+        super().bound(presolve)
+        presolve.clause([presolve.literal(it) for it in members(self, AnyOf)], (self, True))
+
+    def presolve(self, presolve: Presolve) -> None:
+        presolve.clause([presolve.literal(it) for it in members(self, AnyOf)])
 
 
 class Odd(Truth):
@@ -424,6 +456,11 @@ def any_of(parts: Iterable[TruthLike]) -> Truth:
     return AnyOf(tuple(truth_of(it) for it in parts))
 
 
+def xor(parts: Iterable[TruthLike]) -> Truth:
+    """An odd number of a list is true. Weight: 13 for each member."""
+    return Odd(tuple(truth_of(it) for it in parts))
+
+
 class Comparison(Truth):
     """A number stands in a relation to 0: `leq`, `eq` or `neq`."""
 
@@ -456,3 +493,10 @@ class Comparison(Truth):
 
     def refuse(self, translation: Translation) -> None:
         (~self).post(translation)
+
+    def bound(self, presolve: Presolve) -> None:
+        super().bound(presolve)
+        presolve.relate(self.number, self.relation, (self, True))
+
+    def presolve(self, presolve: Presolve) -> None:
+        presolve.relate(self.number, self.relation)

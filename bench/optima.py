@@ -2,7 +2,7 @@
 """Solves models with objectives and prints what that took: optima.py PROGRAM [FAMILY[:SIZE,..] ..].
 
 A line for each model: its family and size, the verdict, the variables and clauses that are solved, the clauses that
-were learned in the first derivation and in the second one, and the processor's seconds. Without words all families are
+were learned in the first derivation and in the second one, and the CPU seconds. Without words all families are
 taken. Each answer is checked, which isn't timed. A run is stopped after SECONDS_EACH seconds (60).
 
 Behind them, for a model with one objective and where cadical is there, the user's seconds of others on its clauses, as

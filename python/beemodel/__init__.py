@@ -1,7 +1,20 @@
 """Models of finite-domain constraints in Python, answered by `bee` and checked.
 
-`docs/PYTHON.md` has an example, what each constraint costs, and how answers are read.
+    from beemodel import Model, all_different
+
+    model = Model()
+    x, y = model.int("x", 1, 5), model.int("y", 1, 5)
+    model.add(x + y == 7, x < y)
+    model.minimize(y)
+    answer = model.solve(seconds=60)
+    print(answer.verdict, answer[x], answer[y])
+
+`help(beemodel.Model)` tells how a model is written, solved and bettered, `help(beemodel.Answer)`
+how an answer is read and shown. `docs/PYTHON.md` has more examples, and what each constraint costs.
 """
+from typing import TYPE_CHECKING
+
+from .answers import Answer, Core, Found, ProgramError, Solutions
 from .assignment import assignment_cost, circuit_cost
 from .circuits import circuit
 from .counting import (
@@ -26,7 +39,6 @@ from .model import Constraint, Model
 from .ordering import lex_less, lex_less_or_equal
 from .packing import bin_loads, bin_packing, knapsack, rectangles
 from .resources import cumulative
-from .running import Answer, Core, ProgramError, Solutions
 from .sequences import increasing, regular, sequence, sliding_sum, value_precede
 from .tables import table
 
@@ -34,6 +46,7 @@ __all__ = [
     "Answer",
     "Constraint",
     "Core",
+    "Found",
     "Model",
     "ModelError",
     "ProgramError",
@@ -79,3 +92,16 @@ __all__ = [
     "weighted_sum",
     "xor",
 ]
+
+__version__ = "1.0.0"
+
+if not TYPE_CHECKING:
+    from .elsewhere import hint as _hint
+    from .elsewhere import told as _told
+
+    def __getattr__(name: str) -> object:
+        """Tells what there is in place of a name that is looked for in vain."""
+        instead = _hint(name, [*__all__, *(f"model.{it}" for it in dir(Model) if it[0] != "_")])
+        if instead is None:
+            raise AttributeError(f"module {__name__!r} has no attribute {name!r}")
+        raise ImportError(_told(name, instead))

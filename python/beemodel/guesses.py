@@ -18,7 +18,7 @@ from .presolve import Left, Presolve, left_of, told_of
 
 if TYPE_CHECKING:
     from .model import Constraint, Goal, Model, Placed, Written
-    from .running import Answer
+    from .answers import Answer, Values
 
 
 class Asked(NamedTuple):
@@ -41,6 +41,7 @@ class Guessing:
         self.model, self.goal, self.sought = model, goal, sought_of(goal)
         self.domains, self.rest = model.narrowed()
         self.told: Optional[Presolve] = None
+        self.plan: Values = {}
         try:
             self.told = told_of(self.domains, model, self.rest, goal)
         except Conflict:
@@ -57,6 +58,7 @@ class Guessing:
         plan = Greedy(self.told, self.sought, [*self.model.variables.values()]).plan()
         if plan is None or not all(it.truth.holds(plan) for it in self.model.constraints):
             return None
+        self.plan = plan
         return self.sought.value(plan)
 
     def asked(self, guess: Optional[int]) -> Asked:
@@ -69,14 +71,15 @@ class Guessing:
         within = Comparison(self.sought - guess, "leq")
         bounds = self.told.bounds
         mark, bounds.limit = len(bounds.trail), bounds.work + LIMIT
+        made = self.told.relate(within.number, "leq")
         try:
-            self.told.relate(within.number, "leq")
             bounds.run()
             left = left_of(self.told, self.model, self.goal)
         except Conflict:
             left = Left(self.domains, {}, {}, False)
         finally:
             bounds.undo(mark)
+            bounds.drop(made, *made.watched())
         return Asked(self.written(left, [*rest, self.placed(within)]), guess, least)
 
     def placed(self, within: Comparison) -> Placed:
@@ -108,16 +111,17 @@ LIMIT = 1_000_000
 
 
 def solve_guessing(
-    model: Model, goal: Goal, at_most: Optional[int], run: Callable[[str], Answer]
+    model: Model, goal: Goal, at_most: Optional[int], run: Callable[[str, Values], Answer]
 ) -> Answer:
-    """Answers a model with a guess, and with greater ones until it has a solution."""
+    """Answers a model with a guess, and with greater ones until it has a solution. What answers it
+    gets the text and the greedy plan, where one was found."""
     guessing = Guessing(model, goal)
     asked = guessing.first() if at_most is None else guessing.asked(at_most)
-    answer = run(model.checked_text(asked.written))
+    answer = run(model.checked_text(asked.written), guessing.plan)
     while answer.verdict == "UNSATISFIABLE" and asked.guess is not None:
         distance = max(1, asked.guess - asked.least)
         greatest = guessing.told.ends(guessing.sought)[1]
         guess = asked.guess + distance
         asked = guessing.asked(guess if guess < greatest else None)
-        answer = run(model.checked_text(asked.written))
+        answer = run(model.checked_text(asked.written), guessing.plan)
     return answer

@@ -2,14 +2,18 @@
 from __future__ import annotations
 
 import re
+import time
 from bisect import bisect_left, bisect_right
-from collections.abc import Iterable, Sequence
-from pathlib import Path
-from typing import Any, NamedTuple, Optional, Union
+from collections.abc import Callable, Iterable, Mapping, Sequence
+from dataclasses import replace
+from importlib import import_module
+from typing import TYPE_CHECKING, Any, NamedTuple, Optional, Union
 
 from . import weights
+from .answers import Answer, Core, Solutions, Value, Values
 from .arrays import Shape, array, name_of, shown_of
 from .domains import Domain, domain_of
+from .elsewhere import hint, told
 from .expressions import (
     GREATEST,
     AllOf,
@@ -27,11 +31,21 @@ from .expressions import (
     weighted_sum,
     whole,
 )
-from .guesses import Asked, Guessing, solve_guessing
+from .guesses import Asked, Guessing, solve_guessing, sought_of
+from .improving import improve_text
 from .lines import ModelError, line_of_script, refused
 from .presolve import Left, presolved
-from .running import Answer, Core, Solutions, all_text, core_text, solve_text
+from .program import program_of
+from .running import Folder, Limits, OnFound, all_text, core_text, resumes, solve_text
 from .translation import Integer, Item, Translation
+
+# Of these names the class of models has methods, `int` and `bool`.
+Whole = int
+YesNo = bool
+
+# Values to begin with: by variables or names, or those of an answer.
+Start = Union[Answer, Mapping[Any, Value]]
+
 
 class Constraint(NamedTuple):
     """What has to hold, the line of the script that states it, and its name where it has one."""
@@ -77,6 +91,13 @@ class Model:
         self.constraints: list[Constraint] = []
         self.penalties: list[tuple[int, Truth]] = []
         self.goal: Optional[Goal] = None
+
+    if not TYPE_CHECKING:
+
+        def __getattr__(self, name: str) -> object:
+            """Tells what there is in place of a name that is looked for in vain."""
+            functions = import_module(__package__).__all__
+            raise AttributeError(told(name, hint(name, [*dir(type(self)), *functions])))
 
     # Variables.
 
@@ -191,20 +212,20 @@ class Model:
 
     # The text, and the answer.
 
-    def written(self, presolve: bool = True) -> Written:
+    def written(self, presolve: YesNo = True) -> Written:
         """The model in statements. An error names the constraint and its line."""
         domains, rest = self.narrowed()
         left = presolved(domains, self, rest, self.goal) if presolve else Left(domains, {}, {})
         return self.written_with(left, rest, self.goal)
 
-    def asked(self, at_most: Optional[int] = None) -> Asked:
+    def asked(self, at_most: Optional[Whole] = None) -> Asked:
         """The model in statements as `solve` asks it at first, with a bound of what is sought."""
         if self.goal is None:
             return Asked(self.written(), None)
         guessing = Guessing(self, self.goal)
         return guessing.first() if at_most is None else guessing.asked(at_most)
 
-    def written_for_all(self, presolve: bool) -> Written:
+    def written_for_all(self, presolve: YesNo) -> Written:
         """The model in statements without its goal."""
         domains, rest = self.narrowed()
         left = presolved(domains, self, rest, None) if presolve else Left(domains, {}, {})
@@ -266,11 +287,11 @@ class Model:
         bounds: dict[str, list[Comparison]] = {}
         for place, constraint in enumerate(self.constraints):
             for truth in members(constraint.truth, AllOf):
-                atom = self.only_variable(truth)
-                if atom is None:
-                    rest.append((place, Constraint(truth, constraint.line)))
-                else:
+                atom = self.only_variable(truth) if isinstance(truth, Comparison) else None
+                if isinstance(truth, Comparison) and atom is not None:
                     bounds.setdefault(atom.name, []).append(truth)
+                else:
+                    rest.append((place, Constraint(truth, constraint.line)))
         domains: dict[str, Domain] = {
             name: narrowed_domain(variable, bounds.get(name, []))
             for name, variable in self.variables.items()
@@ -278,63 +299,159 @@ class Model:
         }
         return domains, rest
 
-    def only_variable(self, truth: Truth) -> Optional[IntegerVariable]:
+    def only_variable(self, truth: Comparison) -> Optional[IntegerVariable]:
         """The declared integer that a comparison is about, where it is about one alone."""
-        if not isinstance(truth, Comparison):
-            return None
         atoms, _ = flatten(truth.number)
         atom = next(iter(atoms)) if len(atoms) == 1 else None
-        is_ours = isinstance(atom, IntegerVariable) and self.variables.get(atom.name) is atom
-        return atom if is_ours else None
+        if isinstance(atom, IntegerVariable) and self.variables.get(atom.name) is atom:
+            return atom
+        return None
 
-    def text(self, presolve: bool = True) -> str:
+    def text(self, presolve: YesNo = True) -> str:
         """The model in the language of `docs/LANGUAGE.md`."""
         return self.written(presolve).text()
 
-    def weight(self, presolve: bool = True) -> int:
+    def weight(self, presolve: YesNo = True) -> Whole:
         """What the model weighs; the program takes at most 67,108,864."""
         return sum(it.weight for it in self.written(presolve).items)
 
-    def heaviest(self, count: int = 5, presolve: bool = True) -> list[tuple[str, int]]:
+    def heaviest(self, count: Whole = 5, presolve: YesNo = True) -> list[tuple[str, Whole]]:
         """The lines of the script whose statements weigh most, and what they weigh together."""
         return heaviest_lines(self.written(presolve).items)[:count]
 
     def solve(
         self,
-        budget: Optional[int] = None,
+        budget: Optional[Whole] = None,
         program: Optional[str] = None,
-        folder: Union[str, Path, None] = None,
-        presolve: bool = True,
-        at_most: Optional[int] = None,
+        folder: Folder = None,
+        *,
+        seconds: Optional[float] = None,
+        on_solution: Optional[OnFound] = None,
+        progress: YesNo = False,
+        start: Optional[Start] = None,
+        presolve: YesNo = True,
+        at_most: Optional[Whole] = None,
     ) -> Answer:
         """Runs `bee solve` and then `bee check`; what is given back was accepted.
 
-        A budget bounds the learned clauses. The program is the argument, the environment variable
-        BEE, or `bee` at the top of the repository. With a folder, the model's text and the answer
-        stay there.
+        The search ends after so many learned clauses (`budget`) or wall-clock seconds, or by an
+        interrupt such as Ctrl-C; then the best solution known is checked and given back, with the
+        verdict `UNKNOWN`. Each better solution is handed to `on_solution` as it is found;
+        `progress` shows them on standard error. The search begins from the values of `start`,
+        where they are a solution, and else goes on without them.
+
+        The program is the argument, the environment variable BEE, `bee` on the PATH, or `bee`
+        beside the package. With a folder, the model's text and the answer stay there.
 
         What is sought is bounded by a plan that is made greedily, or by `at_most`, of which there
         are twice as much and so on where no solution has that; `presolve=False` leaves out both,
         and all that narrows domains.
         """
+        first = {} if start is None else self.start_values(start)
+        told, begun = self.own_found(on_solution), time.monotonic()
 
-        def run(text: str) -> Answer:
-            return solve_text(text, budget, program, folder)
+        def run(text: str, plan: Values) -> Answer:
+            left = None if seconds is None else max(0.0, seconds + begun - time.monotonic())
+            known = first or (plan if resumes(program_of(program)) else {})
+            return solve_text(text, budget, program, folder, left, told, progress, known)
 
-        if presolve and self.goal is not None:
-            answer = solve_guessing(self, self.goal, at_most, run)
-        else:
-            answer = run(self.checked_text(self.written(presolve)))
+        return self.owned(self.guessed(first, presolve, at_most, run))
+
+    def improve(
+        self,
+        seconds: Optional[float] = 60.0,
+        seed: Whole = 0,
+        *,
+        steps: Optional[Whole] = None,
+        start: Optional[Start] = None,
+        on_solution: Optional[OnFound] = None,
+        progress: YesNo = False,
+        program: Optional[str] = None,
+        folder: Folder = None,
+        presolve: YesNo = True,
+    ) -> Answer:
+        """Seeks better and better solutions by a large neighbourhood search, and gives back the
+        best one, checked.
+
+        Again and again a part of the variables keeps its values and `bee solve` seeks a better
+        solution in the rest; which part that is depends on the seed, on what came before, and not
+        on time. It ends after so many wall-clock seconds, or so many steps, or by an interrupt.
+        The last call of the program takes the whole model, and may show the optimum. The plan is
+        never worse than that of `start`. The other arguments are those of `solve`.
+        """
+        if self.goal is None:
+            raise refused("improve: the model has no goal; state one by minimize or maximize")
+        first = {} if start is None else self.start_values(start)
+        told, begun = self.own_found(on_solution), time.monotonic()
+
+        def run(text: str, plan: Values) -> Answer:
+            left = None if seconds is None else max(0.0, seconds + begun - time.monotonic())
+            limits = Limits(None, left, told, progress, program)
+            return improve_text(text, limits, seed, steps, first or plan, folder)
+
+        return self.owned(self.guessed(first, presolve, None, run))
+
+    def guessed(
+        self,
+        first: Values,
+        presolve: YesNo,
+        at_most: Optional[Whole],
+        run: Callable[[str, Values], Answer],
+    ) -> Answer:
+        """The answer that a function gives to the text of the model and a greedy plan, with a bound
+        of what is sought. Where values to begin with are a solution, no bound rules them out."""
+        if not presolve or self.goal is None:
+            return run(self.checked_text(self.written(presolve)), {})
+        if at_most is None and self.is_solution(first):
+            at_most = sought_of(self.goal).value(first)
+        return solve_guessing(self, self.goal, at_most, run)
+
+    def is_solution(self, values: Values) -> YesNo:
+        """Whether values of all variables satisfy the constraints."""
+        if any(it not in values for it in self.variables):
+            return False
+        is_inside = all(
+            not isinstance(it, IntegerVariable) or values[name] in it.domain
+            for name, it in self.variables.items()
+        )
+        return is_inside and all(it.truth.holds(values) for it in self.constraints)
+
+    def start_values(self, start: Start) -> Values:
+        """Values to begin with, by name; an error where a name isn't one of the model's."""
+        given = start.known_values() if isinstance(start, Answer) else start
+        values: Values = {}
+        for key, value in given.items():
+            name = key if isinstance(key, str) else getattr(key, "name", str(key))
+            variable = self.variables.get(name)
+            if variable is None:
+                raise refused(f"start: there is no variable {name} in the model")
+            if not isinstance(key, str) and variable is not key:
+                raise refused(f"start: {name} is a variable of another model")
+            number = whole(value, f"start: {name}")
+            is_truth = isinstance(variable, BooleanVariable) and number in (0, 1)
+            values[name] = number == 1 if is_truth else number
+        return values
+
+    def own_found(self, on_solution: Optional[OnFound]) -> Optional[OnFound]:
+        """The function to which better solutions are handed with the model's own names alone."""
+        if on_solution is None:
+            return None
+        told: OnFound = on_solution
+        return lambda found: told(replace(found, values=self.own(found.values)))
+
+    def owned(self, answer: Answer) -> Answer:
+        """The answer with the values of the model's own names alone."""
+        answer.model = self
         if answer.values is not None:
             answer.values = self.own(answer.values)
         return answer
 
     def all(
         self,
-        budget: Optional[int] = None,
+        budget: Optional[Whole] = None,
         program: Optional[str] = None,
-        folder: Union[str, Path, None] = None,
-        presolve: bool = True,
+        folder: Folder = None,
+        presolve: YesNo = True,
     ) -> Solutions:
         """Runs `bee all` and then `bee checkall`: every solution, whatever the goal is, as a list
         that was accepted.
@@ -350,9 +467,9 @@ class Model:
 
     def core(
         self,
-        budget: Optional[int] = None,
+        budget: Optional[Whole] = None,
         program: Optional[str] = None,
-        folder: Union[str, Path, None] = None,
+        folder: Folder = None,
     ) -> Core:
         """Runs `bee core` and then `bee checkcore`: where there is no solution, constraints that
         cannot hold together.
@@ -365,8 +482,9 @@ class Model:
         if found.values is not None:
             found.values = self.own(found.values)
         if found.statements is not None:
-            places = {written.items[number - 1].constraint for number in found.statements}
-            found.constraints = [self.constraints[it] for it in sorted(places - {None})]
+            stated = (written.items[number - 1].constraint for number in found.statements)
+            places = {it for it in stated if it is not None}
+            found.constraints = [self.constraints[it] for it in sorted(places)]
         return found
 
     def cures(
@@ -384,7 +502,7 @@ class Model:
         made.constraints = [it for it in self.constraints if it.name != name]
         return made
 
-    def own(self, values: dict[str, Union[int, bool]]) -> dict[str, Union[int, bool]]:
+    def own(self, values: Values) -> Values:
         """The values of the model's own names, in their order."""
         return {name: values[name] for name in self.variables}
 

@@ -20,7 +20,7 @@ install: $(PROGRAM)
 	mkdir -p $(at)/share/man/man1 $(at)/share/bash-completion/completions
 	python3 tools/manual.py man | gzip -9n >$(at)/share/man/man1/bee.1.gz
 	python3 tools/manual.py bash >$(at)/share/bash-completion/completions/bee
-	$(put) $(at)/lib/python3/dist-packages/beemodel python/beemodel/*.py
+	$(put) $(at)/lib/python3/dist-packages/beemodel python/beemodel/*.py python/beemodel/py.typed
 	$(put) $(at)/share/doc/bee README.md CHANGELOG.md docs/*.md
 	$(put) $(at)/share/doc/bee/examples examples/*.bee examples/*.opb
 	$(put) $(at)/share/doc/bee/examples/python python/examples/*.py
@@ -44,6 +44,7 @@ deb: $(PROGRAM)
 # Pages and tables that scripts make of the code and of results.
 pages:
 	python3 tools/crates_page.py
+	python3 tools/places.py --write
 	python3 tools/results.py
 
 # What .ci/run compares behind the proofs.

@@ -24,13 +24,21 @@ def root_of(crate):
 
 
 def summary(path):
-    """The first sentence of a root file's documentation, up to its first colon where that leaves five words or more."""
+    """The first sentence of a root file's documentation, up to its first colon, and where that is long to a comma."""
     with open(f"{TOP}/crates/{path}", encoding="utf-8") as source:
         lines = [line[3:].strip() for line in source if line.startswith("//!")]
     text = " ".join(lines).split("  ")[0]
     sentence = re.sub(r" \([^()]*\d{4}\)", "", re.match(r"(.*?)\.(?= |$)", text + " ")[1])
-    front = re.split(r"(?::|,(?= (?:whatever|with exactly|as other|read by|so that)\b)| \()", sentence)[0]
-    return front if len(front.split()) >= 5 else sentence
+    front = re.split(r": | \(", sentence)[0]
+    front = front if len(front.split()) >= 4 else sentence
+    if sentence.startswith("The mode"):
+        return sentence
+    shorter = [it for it in front.split(", ") if it]
+    while len(", ".join(shorter).split()) > 13 and len(", ".join(shorter[:-1]).split()) >= 5:
+        if shorter[-1].startswith("and "):
+            break
+        shorter.pop()
+    return ", ".join(shorter)
 
 
 def page():

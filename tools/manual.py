@@ -41,7 +41,8 @@ def manual():
     parts = page()
     command, faults = parts["The command"], parts["Lines on standard error"]
     usage = re.search(r"^    (bee MODE .*)$", command, re.M)[1]
-    out = ['.TH BEE 1 "" "bee" "User Commands"', ".SH NAME", "bee \\- answers models of finite\\-domain constraints, with certificates"]
+    out = ['.TH BEE 1 "" "bee" "User Commands"', ".SH NAME"]
+    out += ["bee \\- answers models of finite\\-domain constraints, with certificates"]
     out += [".SH SYNOPSIS", f".B {roff(usage)}", ".SH DESCRIPTION"]
     for paragraph in re.split(r"\n\n", command.strip())[1:]:
         if paragraph.startswith("| MODE"):
@@ -75,7 +76,9 @@ def completion():
 _bee() {{
     local word=${{COMP_WORDS[COMP_CWORD]}} last=${{COMP_WORDS[COMP_CWORD - 1]}} at mode=
     for ((at = 1; at < COMP_CWORD; at++)); do
-        case ${{COMP_WORDS[at]}} in -*) ;; *) [ "${{COMP_WORDS[at - 1]}}" = --budget ] || {{ mode=${{COMP_WORDS[at]}}; break; }} ;; esac
+        [[ ${{COMP_WORDS[at]}} == -* || ${{COMP_WORDS[at - 1]}} == --budget ]] && continue
+        mode=${{COMP_WORDS[at]}}
+        break
     done
     COMPREPLY=()
     [ "$last" = --budget ] && return

@@ -3,9 +3,14 @@ import math
 
 # The plots beside docs/MEASURED.md: of which table, which columns are drawn, and how they are called.
 PLOTS = {
-    "compile": {"name": "compile", "columns": ("size", "seconds"), "least": 3, "titles": ("size of the model", "CPU seconds")},
+    "compile": {
+        "name": "compile",
+        "columns": ("size", "seconds"),
+        "least": 2,
+        "titles": ("size of the model", "CPU seconds"),
+    },
 }
-WIDE, HIGH, LEFT, LOW, SIDE = 560, 360, 60, 44, 250
+WIDE, HIGH, LEFT, LOW, SIDE = 560, 360, 60, 44, 330
 COLOURS = ("#1b6ca8", "#c0392b", "#2e8b57", "#8e44ad", "#d68910", "#16a085", "#7f8c8d", "#2c3e50")
 
 
@@ -16,6 +21,11 @@ def number(cell):
         return float(digits)
     except ValueError:
         return None
+
+
+def mark(power):
+    """A power of ten in digits."""
+    return f"{10**power:,}" if power >= 0 else f"{10.0**power:g}"
 
 
 def lines_of(rows, columns, least):
@@ -43,8 +53,9 @@ def drawn(table_of, name, columns, least, titles):
         parts = [(math.log10(it) - low) / (high - low) for it, (low, high) in zip(point, spans)]
         return LEFT + parts[0] * (WIDE - LEFT - 10), HIGH - LOW - parts[1] * (HIGH - LOW - 10)
 
-    out = [f'<svg xmlns="http://www.w3.org/2000/svg" viewBox="0 0 {WIDE + SIDE} {HIGH}" font-family="sans-serif" font-size="11">',
-        f'<rect width="{WIDE + SIDE}" height="{HIGH}" fill="#ffffff"/>']
+    size = f'viewBox="0 0 {WIDE + SIDE} {HIGH}" font-family="sans-serif" font-size="11"'
+    out = [f'<svg xmlns="http://www.w3.org/2000/svg" {size}>']
+    out += [f'<rect width="{WIDE + SIDE}" height="{HIGH}" fill="#ffffff"/>']
     for axis, (low, high) in enumerate(spans):
         for power in range(low, high + 1):
             ends = [[10.0 ** it for it, _ in spans], [10.0 ** it for _, it in spans]]
@@ -53,7 +64,7 @@ def drawn(table_of, name, columns, least, titles):
             (x1, y1), (x2, y2) = map(place, ends)
             out.append(f'<line x1="{x1:.1f}" y1="{y1:.1f}" x2="{x2:.1f}" y2="{y2:.1f}" stroke="#dddddd"/>')
             at = (x1, HIGH - LOW + 16, "middle") if axis == 0 else (LEFT - 6, y1 + 4, "end")
-            out.append(f'<text x="{at[0]:.1f}" y="{at[1]:.1f}" text-anchor="{at[2]}">{10.0 ** power:,g}</text>')
+            out.append(f'<text x="{at[0]:.1f}" y="{at[1]:.1f}" text-anchor="{at[2]}">{mark(power)}</text>')
     out.append(f'<text x="{(LEFT + WIDE) / 2}" y="{HIGH - 8}" text-anchor="middle">{titles[0]}</text>')
     out.append(f'<text transform="translate(14,{HIGH / 2}) rotate(-90)" text-anchor="middle">{titles[1]}</text>')
     for at, (name, points) in enumerate(lines.items()):
@@ -63,7 +74,8 @@ def drawn(table_of, name, columns, least, titles):
         out.append(f'<polyline points="{path}" fill="none" stroke="{colour}" stroke-width="1.5"/>')
         out += [f'<circle cx="{x:.1f}" cy="{y:.1f}" r="2.5" fill="{colour}"/>' for x, y in dots]
         y = 20 + 16 * at
-        out.append(f'<line x1="{WIDE + 6}" y1="{y - 4}" x2="{WIDE + 22}" y2="{y - 4}" stroke="{colour}" stroke-width="3"/>')
+        ends = f'x1="{WIDE + 6}" y1="{y - 4}" x2="{WIDE + 22}" y2="{y - 4}"'
+        out.append(f'<line {ends} stroke="{colour}" stroke-width="3"/>')
         label = name.replace("&", "&amp;").replace("<", "&lt;")
-        out.append(f'<text x="{WIDE + 27}" y="{y}">{label[:40]}</text>')
+        out.append(f'<text x="{WIDE + 27}" y="{y}">{label[:60]}</text>')
     return "\n".join([*out, "</svg>"]) + "\n"

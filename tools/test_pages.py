@@ -43,7 +43,8 @@ def page_words():
 class Pages(unittest.TestCase):
     def made(self, script):
         """A script that makes a page finds it as it is."""
-        run = subprocess.run([sys.executable, "-B", f"{TOOLS}/{script}", "--check"], capture_output=True, text=True, check=False)
+        words = [sys.executable, "-B", f"{TOOLS}/{script}", "--check"]
+        run = subprocess.run(words, capture_output=True, text=True, check=False)
         self.assertEqual(run.returncode, 0, run.stderr)
 
     def test_the_crates(self):
@@ -54,13 +55,15 @@ class Pages(unittest.TestCase):
 
     def test_words_on_standard_error(self):
         page = page_words()
-        self.assertEqual([], sorted(it for it in told_words() if it not in page), "the code tells words that the page lacks")
+        missing = sorted(it for it in told_words() if it not in page)
+        self.assertEqual([], missing, "the code tells words that the page lacks")
 
     def test_no_other_causes(self):
         told = told_words()
         listed = text_of("docs/FORMATS.md").split("### Why a line is refused")[1].split("\n## ")[0].split("\n### ")[0]
         causes = {re.sub(r"\s+", " ", it) for it in re.findall(r"`([^`]*)`", listed) if not it.startswith("bee ")}
-        self.assertEqual([], sorted(it for it in causes if it not in told), "the page has causes that the code doesn't tell")
+        other = sorted(it for it in causes if it not in told)
+        self.assertEqual([], other, "the page has causes that the code doesn't tell")
 
     def test_the_usage_line(self):
         usage = re.search(r'b"bee: usage: (bee MODE[^"]*)\\n"', text_of(LINES))[1]

@@ -80,10 +80,10 @@ class Number:
         return Comparison(other - self + 1, "leq")
 
     def __eq__(self, other: object) -> Truth:  # type: ignore[override]
-        return Comparison(self - other, "eq")
+        return Comparison(self - number_of(other), "eq")
 
     def __ne__(self, other: object) -> Truth:  # type: ignore[override]
-        return Comparison(self - other, "neq")
+        return Comparison(self - number_of(other), "neq")
 
     def __bool__(self) -> bool:
         raise refused(
@@ -111,7 +111,7 @@ def whole(value: object, near: object) -> int:
     if isinstance(value, int):
         return int(value)
     if hasattr(value, "__index__"):
-        return value.__index__()
+        return int(value.__index__())
     raise refused(f"{near}: {value!r} is no whole number; count in the smallest unit")
 
 
@@ -338,7 +338,7 @@ def members(whole_list: Truth, kind: type[AllOf] | type[AnyOf]) -> Iterator[Trut
     stack = [whole_list]
     while stack:
         part = stack.pop()
-        if isinstance(part, kind):
+        if isinstance(part, (AllOf, AnyOf)) and isinstance(part, kind):
             stack.extend(reversed(part.parts))
         else:
             yield part

@@ -60,29 +60,27 @@ def terms_of(translation: Translation, number: Number) -> tuple[list[Term], int]
     integers: dict[str, Integer] = {}
     atoms, constant = flatten(number)
     for atom, factor in atoms.items():
-        literal, integer = literal_or_integer(translation, atom)
-        if literal in ("true", "false"):
-            constant += factor * (literal == "true")
-        elif literal is not None:
-            constant += factor if literal[0] == "-" else 0
-            name = literal.lstrip("-")
-            factors[name] = factors.get(name, 0) + (-factor if literal[0] == "-" else factor)
-        elif integer.steps == 0:
-            constant += factor * integer.low
+        made = literal_or_integer(translation, atom)
+        if made in ("true", "false"):
+            constant += factor * (made == "true")
+        elif isinstance(made, str):
+            constant += factor if made[0] == "-" else 0
+            name = made.lstrip("-")
+            factors[name] = factors.get(name, 0) + (-factor if made[0] == "-" else factor)
+        elif made.steps == 0:
+            constant += factor * made.low
         else:
-            integers[integer.term] = integer
-            factors[integer.term] = factors.get(integer.term, 0) + factor
+            integers[made.term] = made
+            factors[made.term] = factors.get(made.term, 0) + factor
     return turned(translation, factors, integers, constant)
 
 
-def literal_or_integer(
-    translation: Translation, atom: Number
-) -> tuple[Optional[str], Optional[Integer]]:
-    """What an atom of a sum is in the written model."""
+def literal_or_integer(translation: Translation, atom: Number) -> Union[str, Integer]:
+    """What an atom of a sum is in the written model: a Boolean term or an integer."""
     if isinstance(atom, Truth):
-        return translation.literal(atom), None
+        return translation.literal(atom)
     integer = translation.integer(atom)
-    return translation.literal_of_integer.get(integer.term), integer
+    return translation.literal_of_integer.get(integer.term, integer)
 
 
 def turned(
@@ -231,16 +229,15 @@ def say_linear(
     translation: Translation, relation: str, terms: list[Term], right: Union[int, Integer]
 ) -> None:
     """Writes that a sum stands in a relation to a number or an integer."""
-    is_number = isinstance(right, int)
-    shape = weights.CONSTANT if is_number else weights.shape_of(right.domain)
+    shape = weights.CONSTANT if isinstance(right, int) else weights.shape_of(right.domain)
     weight = weights.linear(relation, [it.shape for it in terms], shape)
     names = [integer_of(translation, it).term for it in terms]
     factors = [it.factor for it in terms]
-    if sorted(factors) == [-1, 1] and is_number and right == 0 and relation != "eq":
+    if sorted(factors) == [-1, 1] and right == 0 and relation != "eq":
         first, second = names if factors[0] == 1 else reversed(names)
         translation.say(weight, f"int_{relation}", first, second)
         return
-    end = right if is_number else right.term
+    end: Union[int, str] = right if isinstance(right, int) else right.term
     translation.say(weight, f"int_array_lin_{relation}", factors, names, end)
 
 
@@ -260,13 +257,12 @@ def sum_of(
     if len(terms) == 1:
         return terms[0]
     key = ("sum", tuple(sorted((it.factor, it.name) for it in terms)), low, high)
-    if key not in translation.integers:
+    if key not in translation.partial_sums:
         common = gcd(*(it.factor for it in terms))
         divided = [Term(it.factor // common, it.of) for it in terms]
         made = fresh_sum(translation, divided, -(-low // common), high // common)
-        translation.integers[key] = (common, made)
-    common, made = translation.integers[key]
-    return Term(common, made)
+        translation.partial_sums[key] = Term(common, made)
+    return translation.partial_sums[key]
 
 
 def fresh_sum(translation: Translation, terms: list[Term], low: int, high: int) -> Integer:

@@ -3,12 +3,15 @@ from __future__ import annotations
 
 import re
 from bisect import bisect_left, bisect_right
-from collections.abc import Iterable, Sequence
-from pathlib import Path
-from typing import NamedTuple, Optional, Union
+from collections.abc import Iterable, Mapping, Sequence
+from dataclasses import replace
+from importlib import import_module
+from typing import TYPE_CHECKING, Any, NamedTuple, Optional, Union
 
 from . import weights
+from .answers import Answer, Core, Solutions, Value, Values
 from .domains import Domain, domain_of
+from .elsewhere import hint, told
 from .expressions import (
     GREATEST,
     AllOf,
@@ -25,12 +28,20 @@ from .expressions import (
     truth_of,
     whole,
 )
+from .improving import improve_text
 from .lines import ModelError, line_of_script, refused
-from .running import Answer, Core, Solutions, all_text, core_text, solve_text
+from .running import Asked, Folder, OnFound, all_text, core_text, solve_text
 from .translation import Integer, Item, Translation
 
 # So many bytes of a text are read.
 LONGEST = 16_777_216
+
+# Of these names the class of models has methods, `int` and `bool`.
+Whole = int
+YesNo = bool
+
+# Values to begin with: by variables or names, or those of an answer.
+Start = Union[Answer, Mapping[Any, Value]]
 
 
 class Constraint(NamedTuple):
@@ -72,6 +83,13 @@ class Model:
         self.variables: dict[str, Union[IntegerVariable, BooleanVariable]] = {}
         self.constraints: list[Constraint] = []
         self.goal: Optional[Goal] = None
+
+    if not TYPE_CHECKING:
+
+        def __getattr__(self, name: str) -> object:
+            """Tells what there is in place of a name that is looked for in vain."""
+            functions = import_module(__package__).__all__
+            raise AttributeError(told(name, hint(name, [*dir(type(self)), *functions])))
 
     # Variables.
 
@@ -206,11 +224,11 @@ class Model:
         bounds: dict[str, list[Comparison]] = {}
         for place, constraint in enumerate(self.constraints):
             for truth in members(constraint.truth, AllOf):
-                atom = self.only_variable(truth)
-                if atom is None:
-                    rest.append((place, Constraint(truth, constraint.line)))
-                else:
+                atom = self.only_variable(truth) if isinstance(truth, Comparison) else None
+                if isinstance(truth, Comparison) and atom is not None:
                     bounds.setdefault(atom.name, []).append(truth)
+                else:
+                    rest.append((place, Constraint(truth, constraint.line)))
         domains = {
             name: narrowed_domain(variable, bounds.get(name, []))
             for name, variable in self.variables.items()
@@ -218,49 +236,118 @@ class Model:
         }
         return domains, rest
 
-    def only_variable(self, truth: Truth) -> Optional[IntegerVariable]:
+    def only_variable(self, truth: Comparison) -> Optional[IntegerVariable]:
         """The declared integer that a comparison is about, where it is about one alone."""
-        if not isinstance(truth, Comparison):
-            return None
         atoms, _ = flatten(truth.number)
         atom = next(iter(atoms)) if len(atoms) == 1 else None
-        is_ours = isinstance(atom, IntegerVariable) and self.variables.get(atom.name) is atom
-        return atom if is_ours else None
+        if isinstance(atom, IntegerVariable) and self.variables.get(atom.name) is atom:
+            return atom
+        return None
 
     def text(self) -> str:
         """The model in the language of `docs/LANGUAGE.md`."""
         return self.written().text()
 
-    def weight(self) -> int:
+    def weight(self) -> Whole:
         """What the model weighs; the program takes at most 67,108,864."""
         return sum(it.weight for it in self.written().items)
 
-    def heaviest(self, count: int = 5) -> list[tuple[str, int]]:
+    def heaviest(self, count: Whole = 5) -> list[tuple[str, Whole]]:
         """The lines of the script whose statements weigh most, and what they weigh together."""
         return heaviest_lines(self.written().items)[:count]
 
     def solve(
         self,
-        budget: Optional[int] = None,
+        budget: Optional[Whole] = None,
         program: Optional[str] = None,
-        folder: Union[str, Path, None] = None,
+        folder: Folder = None,
+        *,
+        seconds: Optional[float] = None,
+        on_solution: Optional[OnFound] = None,
+        progress: YesNo = False,
+        start: Optional[Start] = None,
     ) -> Answer:
         """Runs `bee solve` and then `bee check`; what is given back was accepted.
 
-        A budget bounds the learned clauses. The program is the argument, the environment variable
-        BEE, or `bee` at the top of the repository. With a folder, the model's text and the answer
-        stay there.
+        The search ends after so many learned clauses (`budget`) or wall-clock seconds, or by an
+        interrupt such as Ctrl-C; then the best solution known is checked and given back, with the
+        verdict `UNKNOWN`. Each better solution is handed to `on_solution` as it is found;
+        `progress` shows them on standard error. The search begins from the values of `start`,
+        where they are a solution, and else goes on without them.
+
+        The program is the argument, the environment variable BEE, `bee` on the PATH, or `bee`
+        beside the package. With a folder, the model's text and the answer stay there.
         """
-        answer = solve_text(self.checked_text(self.written()), budget, program, folder)
+        text = self.checked_text(self.written())
+        first = None if start is None else self.start_values(start)
+        told = self.own_found(on_solution)
+        return self.owned(
+            solve_text(text, budget, program, folder, seconds, told, progress, first)
+        )
+
+    def improve(
+        self,
+        seconds: Optional[float] = 60.0,
+        seed: Whole = 0,
+        *,
+        steps: Optional[Whole] = None,
+        start: Optional[Start] = None,
+        on_solution: Optional[OnFound] = None,
+        progress: YesNo = False,
+        program: Optional[str] = None,
+        folder: Folder = None,
+    ) -> Answer:
+        """Seeks better and better solutions by a large neighbourhood search, and gives back the
+        best one, checked.
+
+        Again and again a part of the variables keeps its values and `bee solve` seeks a better
+        solution in the rest; which part that is depends on the seed, on what came before, and not
+        on time. It ends after so many wall-clock seconds, or so many steps, or by an interrupt.
+        The last call of the program takes the whole model, and may show the optimum. The plan is
+        never worse than that of `start`. The other arguments are those of `solve`.
+        """
+        text = self.checked_text(self.written())
+        if self.goal is None:
+            raise refused("improve: the model has no goal; state one by minimize or maximize")
+        first = None if start is None else self.start_values(start)
+        asked = Asked(None, seconds, self.own_found(on_solution), progress, program)
+        return self.owned(improve_text(text, asked, seed, steps, first, folder))
+
+    def start_values(self, start: Start) -> Values:
+        """Values to begin with, by name; an error where a name isn't one of the model's."""
+        given = start.known_values() if isinstance(start, Answer) else start
+        values: Values = {}
+        for key, value in given.items():
+            name = key if isinstance(key, str) else getattr(key, "name", str(key))
+            variable = self.variables.get(name)
+            if variable is None:
+                raise refused(f"start: there is no variable {name} in the model")
+            if not isinstance(key, str) and variable is not key:
+                raise refused(f"start: {name} is a variable of another model")
+            number = whole(value, f"start: {name}")
+            is_truth = isinstance(variable, BooleanVariable) and number in (0, 1)
+            values[name] = number == 1 if is_truth else number
+        return values
+
+    def own_found(self, on_solution: Optional[OnFound]) -> Optional[OnFound]:
+        """The function to which better solutions are handed with the model's own names alone."""
+        if on_solution is None:
+            return None
+        told: OnFound = on_solution
+        return lambda found: told(replace(found, values=self.own(found.values)))
+
+    def owned(self, answer: Answer) -> Answer:
+        """The answer with the values of the model's own names alone."""
+        answer.model = self
         if answer.values is not None:
             answer.values = self.own(answer.values)
         return answer
 
     def all(
         self,
-        budget: Optional[int] = None,
+        budget: Optional[Whole] = None,
         program: Optional[str] = None,
-        folder: Union[str, Path, None] = None,
+        folder: Folder = None,
     ) -> Solutions:
         """Runs `bee all` and then `bee checkall`: every solution, whatever the goal is, as a list
         that was accepted.
@@ -276,9 +363,9 @@ class Model:
 
     def core(
         self,
-        budget: Optional[int] = None,
+        budget: Optional[Whole] = None,
         program: Optional[str] = None,
-        folder: Union[str, Path, None] = None,
+        folder: Folder = None,
     ) -> Core:
         """Runs `bee core` and then `bee checkcore`: where there is no solution, constraints that
         cannot hold together.
@@ -291,11 +378,12 @@ class Model:
         if found.values is not None:
             found.values = self.own(found.values)
         if found.statements is not None:
-            places = {written.items[number - 1].constraint for number in found.statements}
-            found.constraints = [self.constraints[it] for it in sorted(places - {None})]
+            stated = (written.items[number - 1].constraint for number in found.statements)
+            places = {it for it in stated if it is not None}
+            found.constraints = [self.constraints[it] for it in sorted(places)]
         return found
 
-    def own(self, values: dict[str, Union[int, bool]]) -> dict[str, Union[int, bool]]:
+    def own(self, values: Values) -> Values:
         """The values of the model's own names, in their order."""
         return {name: values[name] for name in self.variables}
 

@@ -10,7 +10,11 @@ from .linear import at_least, values_of
 from .lines import refused
 
 if TYPE_CHECKING:
+    from .domains import Domain
     from .translation import Translation
+
+# A start, a duration and a demand.
+Task = tuple[Number, int, int]
 
 
 class Cumulative(Truth):
@@ -53,17 +57,19 @@ class Cumulative(Truth):
         else:
             self.post_by_tasks(translation, tasks)
 
-    def weight_by_times(self, domains: list, times: list[int]) -> int:
+    def weight_by_times(self, domains: list[Domain], times: list[int]) -> int:
         """About what a count at each time weighs."""
         booleans = sum(20 * len(it) for it in domains) + 8 * len(times) * len(domains)
         return booleans + len(times) * weights.counted(len(domains), len(domains))
 
-    def weight_by_tasks(self, domains: list) -> int:
+    def weight_by_tasks(self, domains: list[Domain]) -> int:
         """About what a count at each task's start weighs."""
         pairs = sum(10 * (len(one) + len(other)) for one in domains for other in domains)
         return pairs + len(domains) * weights.counted(len(domains), len(domains))
 
-    def post_by_times(self, translation: Translation, tasks: list, times: list[int]) -> None:
+    def post_by_times(
+        self, translation: Translation, tasks: list[Task], times: list[int]
+    ) -> None:
         """At each time at which a task may start, those at work take no more than there is."""
         for time in times:
             at_work = []
@@ -73,7 +79,7 @@ class Cumulative(Truth):
                 at_work.append((demand, translation.conjunction([begun, unended])))
             self.post_taken(translation, at_work)
 
-    def post_by_tasks(self, translation: Translation, tasks: list) -> None:
+    def post_by_tasks(self, translation: Translation, tasks: list[Task]) -> None:
         """When a task starts, those at work take no more than there is."""
         for now, (begin, _, _) in enumerate(tasks):
             at_work = []

@@ -14,10 +14,11 @@ from typing import TYPE_CHECKING, NamedTuple, Optional, TypeVar, Union
 from . import weights
 from .cuts import Cuts
 from .domains import Domain
-from .expressions import GREATEST, BooleanVariable, IntegerVariable, Number
+from .expressions import GREATEST, BooleanVariable, IntegerVariable, Number, Truth
 from .lines import ModelError
 
 if TYPE_CHECKING:
+    from .linear import Term
     from .model import Model
 
 Argument = Union[str, int, Sequence[Union[str, int]]]
@@ -69,6 +70,7 @@ class Translation:
         self.cuts: dict[str, Cuts] = {}
         self.lines: dict[str, str] = {}
         self.integers: dict[object, Integer] = {}
+        self.partial_sums: dict[object, Term] = {}
         self.literals: dict[object, str] = {}
         self.literal_of_integer: dict[str, str] = {}
 
@@ -162,7 +164,7 @@ class Translation:
             return "false" if literal == "true" else "true"
         return literal[1:] if literal[0] == "-" else f"-{literal}"
 
-    def literal(self, truth: Number) -> str:
+    def literal(self, truth: Truth) -> str:
         """The Boolean term of an expression, made once."""
         if truth not in self.literals:
             self.literals[truth] = self.defined(truth.literal)

@@ -8,8 +8,8 @@
 //! the first ones find it gives a run of `equation_runs`.
 //!
 //! It is a crate of its own, and its search is private. None of the crates that are generic over an oracle lists it, so
-//! that none of them can ask a core by another way than the oracle that it was handed, whose queries are counted.
-//! Only the modes of the program and the tests name `TableP`.
+//! that what all rules tell of a core is known to them by the oracle alone that they were handed, whose queries are
+//! counted. Only the modes of the program and the tests name `TableP`.
 #![tactic(auto)]
 
 mod finding;

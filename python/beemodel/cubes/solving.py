@@ -1,0 +1,248 @@
+"""A model's answer by many workers: what is looked at first, the run, and the answer's check."""
+from __future__ import annotations
+
+import fcntl
+import hashlib
+import shutil
+from collections.abc import Iterator
+from contextlib import contextmanager
+from pathlib import Path
+from typing import NamedTuple, Optional, Union
+
+from ..running import Answer, ProgramError, program_of, read_answer
+from .clauses import Compiled
+from .conquest import Conquest, Settings
+from .engines import GnuParallel, Slurm
+from .machines import (
+    Machine,
+    forget,
+    need_programs,
+    prepare,
+    quiet_environment,
+    read_hosts,
+    tell,
+    this_machine,
+)
+from .program import Bee, Goal, first_of, goal_of, second_of, values_of
+from .tree import Journal, Tree
+
+# So many cubes are made first for each worker, and so many clauses are learned by the first look.
+CUBES_PER_WORKER, LOOK = 8, 1000
+
+
+class Request(NamedTuple):
+    """What is asked: the number of workers here, or on each host that has none of its own; the hosts; Slurm; the
+    workers' solver; and the rest as the words of the command say it."""
+
+    jobs: int = 1
+    hosts: Optional[Path] = None
+    slurm: bool = False
+    worker: str = "cadical"
+    solver: Optional[str] = None
+    program: Optional[str] = None
+    cubes: Optional[int] = None
+    share: float = 5.0
+    look: int = LOOK
+    retries: int = 3
+    journal: Optional[Path] = None
+    resume: bool = False
+    progress: bool = False
+    away: str = "/tmp"
+
+
+class Answered(NamedTuple):
+    """A model's text and the document that answers it."""
+
+    model: Path
+    answer: Path
+
+
+def solve_all(text: str, folder: Path, request: Request) -> list[Answered]:
+    """Answers a model: of two objectives first the first one, and then the second one over a model in which the first
+    is stated."""
+    quiet_environment()
+    folder = folder.resolve()
+    with locked(folder):
+        model = folder / "model.bee"
+        model.write_text(text)
+        compiled = folder / "compiled"
+        Bee(program_of(request.program), model).compile(compiled)
+        goal = goal_of(text)
+        if len(goal.objectives) < 2:
+            return [solve_one(text, folder, "", request)]
+        first = solve_one(first_of(text, goal), folder / "first", ".first", request)
+        verdict, *values = verdict_of(first.answer)
+        if verdict != "OPTIMUM":
+            return [first]
+        tell(f"{goal.objectives[0]} is {values[0]} at best; {goal.objectives[1]} is sought where it is that")
+        second = second_of(text, goal, int(values[0]))
+        return [first, solve_one(second, folder / "second", ".second", request)]
+
+
+@contextmanager
+def locked(folder: Path) -> Iterator[None]:
+    """Keeps others out of the folder of work."""
+    folder.mkdir(parents=True, exist_ok=True)
+    with open(folder / "lock", "w") as lock:
+        try:
+            fcntl.flock(lock, fcntl.LOCK_EX | fcntl.LOCK_NB)
+        except OSError as fault:
+            raise ProgramError(f"another run works in {folder}") from fault
+        yield
+
+
+def verdict_of(answer: Path) -> list[str]:
+    """The words of the second line of an answer."""
+    with open(answer) as text:
+        text.readline()
+        return text.readline().split()
+
+
+def solve_one(text: str, folder: Path, ending: str, request: Request) -> Answered:
+    """Answers a model with one objective, or none."""
+    folder.mkdir(exist_ok=True)
+    made = Answered(folder / "model.bee", folder / "answer")
+    journal_at = Path(f"{request.journal}{ending}") if request.journal else folder / "journal"
+    journal = open_journal(text, folder, journal_at, request)
+    made.model.write_text(text)
+    bee, goal = Bee(program_of(request.program), made.model), goal_of(text)
+    bee.compile(folder / "compiled")
+    machines = machines_of(folder, request)
+    try:
+        conquest = Conquest(bee, goal, folder, journal, settings_of(request, machines))
+        start_machines(conquest, machines, request)
+        if not look_first(conquest, request.look, made.answer):
+            conquer(conquest, machines, request, made.answer)
+    finally:
+        journal.close()
+    journal_at.unlink()
+    shutil.rmtree(folder / "parts")
+    for it in machines:
+        forget(it)
+    return made
+
+
+def open_journal(text: str, folder: Path, at: Path, request: Request) -> Journal:
+    """The journal of a new run, or of one that goes on."""
+    journal = Journal(at, Tree())
+    sum_of_text = hashlib.sha256(text.encode()).hexdigest()
+    if request.resume:
+        journal.read()
+    elif at.exists():
+        raise ProgramError(f"{at} is the journal of a run that has not ended: --resume goes on with it")
+    if journal.model not in ("", sum_of_text):
+        raise ProgramError(f"{at} is the journal of another model")
+    lost = {it for it in journal.tree.refuted if not (folder / "parts" / it).exists()}
+    journal.tree.refuted -= lost
+    if not (folder / "values").exists():
+        journal.best = None
+    journal.start(sum_of_text)
+    return journal
+
+
+def machines_of(folder: Path, request: Request) -> list[Machine]:
+    """The machines that have workers."""
+    if request.hosts is None:
+        return [this_machine(folder, request.jobs)]
+    return read_hosts(request.hosts, folder, request.jobs, request.away)
+
+
+def settings_of(request: Request, machines: list[Machine]) -> Settings:
+    workers = sum(it.slots for it in machines)
+    cubes = CUBES_PER_WORKER * workers if request.cubes is None else request.cubes
+    return Settings(cubes, request.worker == "bee", request.share, request.retries, request.progress)
+
+
+def start_machines(conquest: Conquest, machines: list[Machine], request: Request) -> None:
+    """Looks whether all machines and programs are there, and sends what the workers need."""
+    need_programs(["sbatch", "squeue"] if request.slurm else ["parallel", "flock"])
+    (conquest.folder / "out").mkdir(exist_ok=True)
+    conquest.compiled.write_for_workers(conquest.folder)
+    for it in machines:
+        solver = request.solver or request.worker
+        if request.worker == "bee" and not request.solver and it.is_here:
+            solver = program_of(request.program)
+        prepare(it, request.worker, solver, conquest.folder)
+
+
+def look_first(conquest: Conquest, budget: int, answer: Path) -> bool:
+    """Has `bee solve` look for an answer, unless a run goes on. The answer is whether it found one; the best solution
+    that it came upon is where the workers begin."""
+    journal = conquest.journal
+    if budget == 0 or journal.tree.split or journal.best is not None:
+        return False
+    if conquest.bee.look(budget, answer):
+        return True
+    values = values_of(answer)
+    if values and conquest.goal.objectives:
+        take_first_values(conquest, values)
+    return False
+
+
+def take_first_values(conquest: Conquest, values: dict) -> None:
+    """Makes values of the clauses of those of the names."""
+    folder, compiled = conquest.folder, conquest.compiled
+    units = compiled.literals_of(values)
+    with open(folder / "named", "w") as text:
+        text.write(f"p cnf {compiled.variables} {len(compiled.clauses) + len(units)}\n")
+        text.writelines(f"{' '.join(map(str, it))} 0\n".lstrip() for it in [*compiled.clauses, *([u] for u in units)])
+    code, _ = conquest.bee.run(["sat", str(folder / "named")], folder / "named.values")
+    if code or conquest.bee.decode(compiled.path, folder / "named.values", folder / "names") is None:
+        return
+    (folder / "named.values").replace(conquest.values)
+    conquest.journal.add("best", values[conquest.goal.objectives[0]])
+
+
+def conquer(conquest: Conquest, machines: list[Machine], request: Request, answer: Path) -> None:
+    """Runs the cubes until there is an answer."""
+    conquest.make_cubes()
+    if request.slurm:
+        engine = Slurm(conquest.folder, request.jobs)
+    else:
+        engine = GnuParallel(conquest.folder, machines)
+    try:
+        conquest.run(engine)
+        while not conquest.finish(answer):
+            conquest.run(engine)
+    finally:
+        engine.close()
+
+
+def read_checked(made: list[Answered], program: Optional[str]) -> Answer:
+    """Has `bee check` accept each document, and reads the answer of the last one."""
+    numbers: list[int] = []
+    for it in made:
+        to = it.answer.with_name("check")
+        bee = Bee(program_of(program), it.model)
+        code, told = bee.run(["check", str(it.model), str(it.answer)], to)
+        said = to.read_text().split()
+        if code or said[:1] != ["ACCEPTED"]:
+            raise ProgramError(f"bee check did not accept {it.answer}: {' '.join(said) or told}")
+        numbers += [int(number) for number in said[2:]]
+    answer = read_answer(said[1:], made[-1].answer)
+    answer.optimum = tuple(numbers) if answer.verdict == "OPTIMUM" else None
+    return answer
+
+
+def solve_in_cubes(
+    text: str,
+    jobs: int = 1,
+    hosts: Union[str, Path, None] = None,
+    slurm: bool = False,
+    worker: str = "cadical",
+    program: Optional[str] = None,
+    folder: Union[str, Path, None] = None,
+    **more: object,
+) -> Answer:
+    """Answers the text of a model by workers side by side, and has the answer checked.
+
+    `jobs` is how many workers there are here, or on each machine of the file `hosts`; `slurm` gives them to Slurm.
+    `more` are the other fields of `Request`. With a folder, the texts stay there.
+    """
+    at = Path(folder) if folder is not None else Path("model.cubes")
+    listed = Path(hosts) if hosts is not None else None
+    request = Request(jobs, listed, slurm, worker, program=program, **more)
+    answer = read_checked(solve_all(text, at, request), program)
+    if folder is None:
+        shutil.rmtree(at)
+    return answer

@@ -1,0 +1,92 @@
+#!/bin/sh
+# worker.sh FOLDER NAME KEEPER LITERAL ..: has one cube refuted, or a solution of it found, by the solver of FOLDER.
+#
+# FOLDER has `size` (how many variables and clauses), `clauses`, `solver` (its kind and where it is) and, once a
+# solution is known, `bound`: the literal that a better one makes true. On standard output come the lines of a
+# refutation, or the values; and, behind them, once all of it is written, `c end OUTCOME`. It ends the solver where
+# FOLDER/NAME.stop is there, where the bound is another one and the solver has not run for long, and where the process
+# KEEPER, or that which started this where KEEPER is `-`, is gone.
+folder=$1 name=$2 keeper=$3
+shift 3
+[ "$keeper" = - ] && keeper=$PPID
+at=$folder/$name
+forget() { rm -f "$at.cnf" "$at.proof" "$at.values" "$at.why" "$at.stop" "$at.times"; }
+forget
+trap forget EXIT
+trap 'kill "$pid" 2>/dev/null; exit 1' HUP INT TERM
+
+# A bound that comes later than this many seconds does not stop a cube.
+young=5
+
+current() { cat "$folder/bound" 2>/dev/null; }
+
+clauses() {
+  read -r variables count <"$folder/size"
+  echo "p cnf $variables $((count + $#))" && cat "$folder/clauses" && for literal; do echo "$literal 0"; done
+}
+
+watch() {
+  ran=0
+  while sleep 1; do
+    ran=$((ran + 1))
+    if ! kill -0 "$keeper" 2>/dev/null; then why=gone
+    elif [ -e "$at.stop" ]; then why=stopped
+    elif [ "$ran" -le "$young" ] && [ "$(current)" != "$bound" ]; then why=bound
+    else continue
+    fi
+    echo "$why" >"$at.why"
+    kill "$1"
+    break
+  done
+}
+
+end() {
+  sed -n '2s/^/c times /p' "$at.times" && echo "c end $1"
+  exit
+}
+
+fail() {
+  echo "$1" >&2
+  end failed
+}
+
+# The lines of a refutation, but for those that delete: with hints by bee, without them by cadical, which does not write
+# the empty clause where the clauses tell it by themselves. The bound is told before them.
+refutation() {
+  echo "c bound $bound" || return 1
+  case $kind in
+    cadical) sed '/^d/d' "$at.proof" && echo 0 ;;
+    bee) sed -e 1d -e '/^[0-9]* d /d' "$at.values" ;;
+  esac
+}
+
+is_whole() {
+  [ "$kind" = bee ] && return 0
+  case $(tail -n 1 "$at.proof") in '' | 0 | *' 0') return 0 ;; esac
+  return 1
+}
+
+read -r kind program <"$folder/solver"
+bound=$(current)
+clauses "$@" $bound >"$at.cnf" || fail "the clauses can't be written"
+case $kind in
+  cadical) "$program" -q --plain --no-binary "$at.cnf" "$at.proof" >"$at.values" & ;;
+  bee) "$program" sat "$at.cnf" >"$at.values" & ;;
+esac
+pid=$!
+watch "$pid" >/dev/null 2>&1 &
+watcher=$!
+wait "$pid"
+code=$?
+kill "$watcher" 2>/dev/null
+times >"$at.times"
+case $(sed -n '/^s /{p;q;}' "$at.values") in
+  's UNSATISFIABLE')
+    is_whole || fail "the proof is cut short"
+    refutation || fail "the proof can't be handed on"
+    end refuted
+    ;;
+  's SATISFIABLE') grep '^[sv]' "$at.values" && end found ;;
+esac
+[ -e "$at.why" ] && end "$(cat "$at.why")"
+fail "the solver ended with code $code"

@@ -62,6 +62,11 @@ class Bounds:
             self.watching.setdefault(atom, []).append(propagator)
         self.enqueue(propagator)
 
+    def drop(self, propagator: Propagator, *watched: Number) -> None:
+        """Forgets a propagator that waits for no run."""
+        for atom in dict.fromkeys(watched):
+            self.watching[atom].remove(propagator)
+
     def enqueue(self, propagator: Propagator) -> None:
         """Lets a propagator wait for a run."""
         if not propagator.is_waiting:

@@ -92,11 +92,15 @@ class Number:
     def __bool__(self) -> bool:
         raise refused(
             f"{self}: an expression has no truth value in Python; write &, |, ~ and implies in "
-            "place of and, or, not and if, and (a < b) & (b < c) in place of a < b < c"
+            "place of and, or, not and if, (a < b) & (b < c) in place of a < b < c, and maximum "
+            "and minimum in place of max and min"
         )
 
     def __str__(self) -> str:
         return "an expression"
+
+    def __repr__(self) -> str:
+        return f"<{self}>"
 
     def value(self, values: dict[str, int | bool]) -> int:
         """The integer that this is where the variables have these values."""
@@ -194,24 +198,40 @@ def weighted_sum(coefficients: Iterable[int], numbers: Iterable[NumberLike]) -> 
 
 
 class IntegerVariable(Number):
-    """A declared integer: its name, its values upwards, and the line that declares it."""
+    """A declared integer: its name, its values upwards, the line that declares it, and how it is
+    shown."""
 
-    def __init__(self, name: str, domain: Domain, line: str):
+    def __init__(self, name: str, domain: Domain, line: str, shown: str = ""):
         self.name = name
         self.domain = domain
         self.line = line
+        self.shown = shown or name
 
     def __str__(self) -> str:
-        return self.name
+        return self.shown
+
+    def __repr__(self) -> str:
+        is_range = isinstance(self.domain, range) and self.domain.step == 1
+        values = f"{self.domain[0]}..{self.domain[-1]}" if is_range else str([*self.domain])
+        return f"<{self} in {values}>"
 
     def value(self, values: dict[str, int | bool]) -> int:
-        return int(values[self.name])
+        return int(value_of(self, values))
 
     def integer(self, translation: Translation) -> Integer:
         return translation.declared(self)
 
     def bound(self, presolve: Presolve) -> None:
         presolve.bounds.know_domain(self, self.domain)
+
+
+def value_of(
+    variable: IntegerVariable | BooleanVariable, values: dict[str, int | bool]
+) -> int | bool:
+    """The value of a variable by its name."""
+    if variable.name not in values:
+        raise refused(f"{variable} is a variable of another model, declared at {variable.line}")
+    return values[variable.name]
 
 
 class Truth(Number):
@@ -313,17 +333,18 @@ class Constant(Truth):
 
 
 class BooleanVariable(Truth):
-    """A declared Boolean: its name, and the line that declares it."""
+    """A declared Boolean: its name, the line that declares it, and how it is shown."""
 
-    def __init__(self, name: str, line: str):
+    def __init__(self, name: str, line: str, shown: str = ""):
         self.name = name
         self.line = line
+        self.shown = shown or name
 
     def __str__(self) -> str:
-        return self.name
+        return self.shown
 
     def holds(self, values: dict[str, int | bool]) -> bool:
-        return bool(values[self.name])
+        return bool(value_of(self, values))
 
     def literal(self, translation: Translation) -> str:
         return translation.known(self)

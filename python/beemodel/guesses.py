@@ -13,6 +13,7 @@ from . import weights
 from .bounds import Conflict
 from .expressions import Comparison, Number
 from .greedy import Greedy
+from .lines import ModelError
 from .presolve import Left, Presolve, left_of, told_of
 
 if TYPE_CHECKING:
@@ -70,14 +71,15 @@ class Guessing:
         within = Comparison(self.sought - guess, "leq")
         bounds = self.told.bounds
         mark, bounds.limit = len(bounds.trail), bounds.work + LIMIT
+        made = self.told.relate(within.number, "leq")
         try:
-            self.told.relate(within.number, "leq")
             bounds.run()
             left = left_of(self.told, self.model, self.goal)
         except Conflict:
             left = Left(self.domains, {}, {}, False)
         finally:
             bounds.undo(mark)
+            bounds.drop(made, *made.watched())
         return Asked(self.written(left, [*rest, self.placed(within)]), guess, least)
 
     def placed(self, within: Comparison) -> Placed:
@@ -93,8 +95,13 @@ class Guessing:
     def first(self) -> Asked:
         """The model with the guess of a greedy plan, or without one where it is light enough."""
         guess = self.planned()
-        asked = self.asked(guess)
-        if guess is None and self.told is not None and asked.written.weight() > weights.LIMIT:
+        if guess is not None or self.told is None:
+            return self.asked(guess)
+        try:
+            asked = self.asked(None)
+        except ModelError:
+            asked = None
+        if asked is None or asked.written.weight() > weights.LIMIT:
             return self.asked(self.least() + 1 + abs(self.least()) // 8)
         return asked
 

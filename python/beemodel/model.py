@@ -11,6 +11,7 @@ from typing import TYPE_CHECKING, Any, NamedTuple, Optional, Union
 
 from . import weights
 from .answers import Answer, Core, Solutions, Value, Values
+from .arrays import Shape, array, name_of, shown_of
 from .domains import Domain, domain_of
 from .elsewhere import hint, told
 from .expressions import (
@@ -27,6 +28,7 @@ from .expressions import (
     members,
     number_of,
     truth_of,
+    weighted_sum,
     whole,
 )
 from .guesses import Asked, Guessing, solve_guessing, sought_of
@@ -37,9 +39,6 @@ from .program import program_of
 from .running import Folder, Limits, OnFound, all_text, core_text, resumes, solve_text
 from .translation import Integer, Item, Translation
 
-# So many bytes of a text are read.
-LONGEST = 16_777_216
-
 # Of these names the class of models has methods, `int` and `bool`.
 Whole = int
 YesNo = bool
@@ -49,13 +48,14 @@ Start = Union[Answer, Mapping[Any, Value]]
 
 
 class Constraint(NamedTuple):
-    """What has to hold, and the line of the script that states it."""
+    """What has to hold, the line of the script that states it, and its name where it has one."""
 
     truth: Truth
     line: str
+    name: Optional[str] = None
 
     def __str__(self) -> str:
-        return f"{self.line}: {self.truth}"
+        return f"{self.line}: {self.name or self.truth}"
 
 
 # A constraint with its place among those of its model.
@@ -89,6 +89,7 @@ class Model:
     def __init__(self) -> None:
         self.variables: dict[str, Union[IntegerVariable, BooleanVariable]] = {}
         self.constraints: list[Constraint] = []
+        self.penalties: list[tuple[int, Truth]] = []
         self.goal: Optional[Goal] = None
 
     if not TYPE_CHECKING:
@@ -100,22 +101,46 @@ class Model:
 
     # Variables.
 
-    def bool(self, name: str) -> BooleanVariable:
+    def bool(self, name: Optional[str] = None, shown: str = "") -> BooleanVariable:
         """A Boolean. Weight: 1."""
-        line = self.checked_name(name)
-        made = BooleanVariable(name, line)
+        name, line = self.checked_name(name)
+        made = BooleanVariable(name, line, shown)
         self.variables[name] = made
         return made
 
+    def bools(self, name: str, shape: Shape) -> Any:
+        """Booleans at once: `bools("works", 7)` is a list, `bools("works", (5, 7))` a list of
+        lists, and `bools("works", keys)` a dictionary."""
+        return array(shape, lambda key: self.bool(*self.names(name, key)))
+
+    def ints(
+        self, name: str, shape: Shape, low: Union[int, Iterable[int]], high: Optional[int] = None
+    ) -> Any:
+        """Integers with one domain at once, in the shapes of `bools`."""
+
+        def make(key: Any) -> IntegerVariable:
+            made, shown = self.names(name, key)
+            return self.int(made, low, high, shown)
+
+        return array(shape, make)
+
+    def names(self, name: str, key: Any) -> tuple[str, str]:
+        """The name of a member of an array in the text, and how it is shown."""
+        return name_of(name, key, self.variables), shown_of(name, key)
+
     def int(
-        self, name: str, low: Union[int, Iterable[int]], high: Optional[int] = None
+        self,
+        name: Optional[str],
+        low: Union[int, Iterable[int]],
+        high: Optional[int] = None,
+        shown: str = "",
     ) -> IntegerVariable:
         """An integer: `int("x", 1, 5)` has the values 1 to 5, and `int("x", [1, 4, 9])` those of
-        the list.
+        the list. Where the name is `None`, it gets one.
 
         Weight: 3 for each value.
         """
-        line = self.checked_name(name)
+        name, line = self.checked_name(name)
         if high is None:
             listed = [low] if isinstance(low, int) else low
             domain = domain_of(whole(it, name) for it in listed)
@@ -128,29 +153,44 @@ class Model:
                 raise refused(f"{name}: {end} is beyond {GREATEST}, the language's greatest number")
         if weights.declared(len(domain) - 1) > weights.LIMIT:
             raise refused(f"{name}: {len(domain)} values weigh more than {weights.LIMIT}")
-        made = IntegerVariable(name, domain, line)
+        made = IntegerVariable(name, domain, line, shown)
         self.variables[name] = made
         return made
 
-    def checked_name(self, name: str) -> str:
-        """The line of the script, where the name is free and in form."""
+    def checked_name(self, name: Optional[str]) -> tuple[str, str]:
+        """The name and the line of the script, where the name is free and in form."""
         line = line_of_script()
+        if name is None:
+            name = name_of("v", len(self.variables), self.variables)
         if not isinstance(name, str) or not re.fullmatch(r"[A-Za-z][A-Za-z_0-9]*", name):
             raise refused(f"{name!r} is no name: a name is a letter and then letters, digits and _")
         if name in ("true", "false"):
             raise refused(f"{name} is the language's own word, and no name")
         if name in self.variables:
             raise refused(f"{name} is declared already, at {self.variables[name].line}")
-        return line
+        return name, line
 
     # What has to hold, and what is sought.
 
-    def add(self, *truths: Union[TruthLike, Iterable[TruthLike]]) -> None:
-        """States that each of the constraints holds; lists of them are taken as well."""
+    def add(
+        self, *truths: Union[TruthLike, Iterable[TruthLike]], name: Optional[str] = None
+    ) -> None:
+        """States that each of the constraints holds; lists of them are taken as well. A core shows
+        them by their name."""
         line = line_of_script()
         for it in truths:
             each = it if isinstance(it, Iterable) else [it]
-            self.constraints.extend(Constraint(truth_of(truth), line) for truth in each)
+            self.constraints.extend(Constraint(truth_of(truth), line, name) for truth in each)
+
+    def soft(self, truth: TruthLike, weight: int = 1) -> None:
+        """Takes in what should hold: where it doesn't, its weight is added to the penalty."""
+        self.penalties.append((whole(weight, "the weight of a soft constraint"), truth_of(truth)))
+
+    @property
+    def penalty(self) -> Number:
+        """What the soft constraints that don't hold weigh together. It is made least by
+        `minimize(model.penalty)`, or stands in another goal or a constraint."""
+        return weighted_sum([it for it, _ in self.penalties], [~it for _, it in self.penalties])
 
     def minimize(self, objective: NumberLike, then: Optional[NumberLike] = None) -> None:
         """Seeks the least value, and among the solutions that have it the least value of a second
@@ -447,6 +487,21 @@ class Model:
             found.constraints = [self.constraints[it] for it in sorted(places)]
         return found
 
+    def cures(
+        self, core: Core, budget: Optional[int] = None, program: Optional[str] = None
+    ) -> list[str]:
+        """The names of a core's constraints each of which, left out alone, leaves a model that has
+        a solution."""
+        names = dict.fromkeys(it.name for it in core.constraints or () if it.name is not None)
+        return [it for it in names if self.without(it).solve(budget, program)]
+
+    def without(self, name: str) -> Model:
+        """This model without the constraints of a name, and without its goal."""
+        made = Model()
+        made.variables = self.variables
+        made.constraints = [it for it in self.constraints if it.name != name]
+        return made
+
     def own(self, values: Values) -> Values:
         """The values of the model's own names, in their order."""
         return {name: values[name] for name in self.variables}
@@ -458,10 +513,7 @@ class Model:
             shares = ", ".join(f"{line} {part}" for line, part in heaviest_lines(written.items)[:3])
             limit = weights.LIMIT
             raise ModelError(f"the model weighs {weight}, above {limit}; heaviest: {shares}")
-        text = written.text()
-        if len(text) > LONGEST:
-            raise ModelError(f"the text has {len(text)} bytes; at most {LONGEST} are read")
-        return text
+        return written.text()
 
 
 def narrowed_domain(variable: IntegerVariable, comparisons: Sequence[Comparison]) -> Domain:

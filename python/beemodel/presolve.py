@@ -54,12 +54,13 @@ class Presolve:
             for it in members(truth, AllOf):
                 it.presolve(self)
 
-    def relate(self, number: Number, relation: str, literal: Optional[Literal] = None) -> None:
+    def relate(self, number: Number, relation: str, literal: Optional[Literal] = None) -> Relation:
         """Takes in that a number stands in a relation to 0, or a literal that says whether it
         does."""
         terms, constant = self.terms(number)
         made = Relation(terms, constant, relation, literal)
         self.bounds.add(made, *made.watched())
+        return made
 
     def clause(self, literals: Sequence[Literal], whole: Optional[Literal] = None) -> None:
         """Takes in that some literal is true, or a literal that says whether one is."""

@@ -27,6 +27,9 @@ if TYPE_CHECKING:
 Argument = Union[str, int, Sequence[Union[str, int]]]
 Made = TypeVar("Made")
 
+# So many bytes of a text are read.
+LONGEST = 16_777_216
+
 # What the names of the layer's own variables are made of, behind a `_`.
 DIGITS = ascii_letters + digits
 
@@ -72,7 +75,7 @@ class Translation:
         self.declarations: list[Item] = []
         self.channels: list[Item] = []
         self.statements: list[Item] = []
-        self.count_of_fresh = 0
+        self.count_of_fresh = self.length = 0
         self.cuts: dict[str, Cuts] = {}
         self.lines: dict[str, str] = {}
         self.integers: dict[object, Integer] = {}
@@ -120,7 +123,21 @@ class Translation:
     def item(self, weight: int, name: str, arguments: tuple[Argument, ...]) -> Item:
         """An item of the text."""
         shown = ",".join(self.argument(it) for it in arguments)
-        return Item(f"{name}({shown})", weight, self.line, self.constraint)
+        made = Item(f"{name}({shown})", weight, self.line, self.constraint)
+        self.length += len(made.text) + 1
+        if self.length > LONGEST:
+            raise self.too_long()
+        return made
+
+    def too_long(self) -> ModelError:
+        """The error of a text that grows beyond what is read, with the lines that write most."""
+        items = (*self.declarations, *self.channels, *self.statements)
+        shares: dict[str, int] = {}
+        for it in items:
+            shares[it.line] = shares.get(it.line, 0) + len(it.text) + 1
+        most = sorted(shares.items(), key=lambda share: -share[1])[:3]
+        shown = ", ".join(f"{line} {part}" for line, part in most)
+        return ModelError(f"the text has more than {LONGEST} bytes; longest by then: {shown}")
 
     def argument(self, argument: Argument) -> str:
         """An argument of a statement: a name, a numeral, or a list of them."""

@@ -24,7 +24,8 @@
 //! learned. What may be told is a ghost member of the watcher, of which `answer_watched` asks only that
 //! every solution of the model may: so nothing else is told. A watcher changes nothing that is answered.
 //!
-//! How a round searches is `learning_solver`'s; which bound it asks for is `ask_bound`, here.
+//! How a round searches is `learning_solver`'s; which bound it asks for is `ask_bound`, here, and which
+//! values it decides first is `Targets`, of which nothing is promised.
 //! Clauses, ledger and derivations go into the document as they are; nothing is made again for it.
 #![tactic(auto)]
 
@@ -37,6 +38,7 @@ mod rounds;
 mod seeker;
 mod solved;
 mod solving;
+mod targets;
 mod telling;
 mod watching;
 

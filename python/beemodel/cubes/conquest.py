@@ -2,6 +2,7 @@
 from __future__ import annotations
 
 import heapq
+import os
 import shutil
 import time
 from pathlib import Path
@@ -111,9 +112,12 @@ class Conquest:
         return True
 
     def make_cubes(self) -> None:
-        """Splits until there are as many cubes as are to be made first, the one with most open variables first."""
+        """Splits until there are as many cubes as are to be made first, the one with most open variables first. Where
+        some are refuted a run goes on, and its cubes stay."""
         if self.journal.best is not None:
             self.take_bound()
+        if self.tree.refuted:
+            return
         heap = [(-self.open_variables(it), it) for it in self.tree.open_leaves()]
         heapq.heapify(heap)
         while heap and len(heap) < self.settings.cubes:
@@ -149,7 +153,7 @@ class Conquest:
                 self.tree.close_all()
                 break
             end = engine.next(0.5)
-            if end is not None and end.name in self.started:
+            if end is not None and (end.name in self.started or end.name in self.waiting):
                 self.take(end)
             self.stop_long_ones()
             self.show()
@@ -183,7 +187,8 @@ class Conquest:
         """Takes what a worker wrote."""
         path = self.folder / "out" / f"{end.name}.out"
         outcome = outcome_of(path)
-        self.started.pop(end.name)
+        if self.started.pop(end.name, None) is None:
+            self.waiting.remove(end.name)
         self.stopping.pop(end.name, None)
         machine = self.engine.name_of(end.machine)
         worker = f"{machine}/{end.slot}"
@@ -235,17 +240,17 @@ class Conquest:
         told = (self.folder / "out" / f"{end.name}.err")
         lines = told.read_text(errors="replace").split("\n") if told.exists() else []
         why = next((it for it in lines if it), f"its worker ended with code {end.code}")
-        if end.code == 255 and end.machine in self.unreached or end.machine.startswith("-"):
+        if end.code == 255 and end.machine in self.unreached:
             self.leave_out(end.machine)
         if end.code == 255:
             self.unreached[end.machine] = 1
         self.fail(end, why)
 
     def leave_out(self, machine: str) -> None:
-        name = self.engine.name_of(machine)
-        if not self.engine.leave_out(machine):
+        if self.engine.leave_out(machine):
+            tell(f"{self.engine.name_of(machine)} can't be reached: it is given no more cubes")
+        if not self.engine.workers:
             raise ProgramError("no machine is left")
-        tell(f"{name} can't be reached: it is given no more cubes")
 
     def fail(self, end: Ended, why: str) -> None:
         """Tells that a cube failed, and has it run again, unless that was often enough."""
@@ -262,7 +267,7 @@ class Conquest:
         """Joins the parts and makes the answer. Where a part is refused, its cube is open again, and the answer is
         no."""
         found = self.folder / "found"
-        joined, bad = None, None
+        joined, bad, begun = None, None, time.process_time()
         if self.is_found:
             shutil.copy(self.values, found)
         else:
@@ -270,8 +275,12 @@ class Conquest:
                 joined = self.join(found)
             except NoHints as fault:
                 bad = fault.name
+        took, below = time.process_time() - begun, os.times().children_user
         line = 0 if bad else self.bee.certify(found, answer)
         if not bad and line == 0:
+            if self.settings.progress:
+                size, below = found.stat().st_size, os.times().children_user - below
+                tell(f"{size} bytes, joined in {took:.1f} seconds and certified in {below:.1f}, of the processor")
             found.unlink()
             return True
         bad = bad or (joined.cube_of(line) if joined else None)

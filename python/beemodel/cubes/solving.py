@@ -37,7 +37,7 @@ class Request(NamedTuple):
     jobs: int = 1
     hosts: Optional[Path] = None
     slurm: bool = False
-    worker: str = "cadical"
+    worker: str = "bee"
     solver: Optional[str] = None
     program: Optional[str] = None
     cubes: Optional[int] = None
@@ -229,7 +229,7 @@ def solve_in_cubes(
     jobs: int = 1,
     hosts: Union[str, Path, None] = None,
     slurm: bool = False,
-    worker: str = "cadical",
+    worker: str = "bee",
     program: Optional[str] = None,
     folder: Union[str, Path, None] = None,
     **more: object,

@@ -11,6 +11,7 @@ from typing import TYPE_CHECKING, NamedTuple, Optional
 
 from .bounds import Bounds, Conflict
 from .choices import choices_of
+from .cliques import cliques_of
 from .domains import Domain
 from .expressions import (
     AllOf,
@@ -23,7 +24,7 @@ from .expressions import (
     flatten,
     members,
 )
-from .propagators import AtMostZero, Choice, Clause, Literal, Prices, Relation, Term, make_true
+from .propagators import AtMostZero, Choice, Clause, Differ, Literal, Prices, Relation, Term, make_true
 
 if TYPE_CHECKING:
     from .model import Goal, Model, Placed
@@ -66,6 +67,11 @@ class Presolve:
         """Takes in that some literal is true, or a literal that says whether one is."""
         own = [whole[0]] if whole else []
         self.bounds.add(Clause(literals, whole), *own, *(it[0] for it in literals))
+
+    def differ(self, numbers: Sequence[Number]) -> None:
+        """Takes in that no two of some numbers are equal."""
+        each = [self.sides(it) for it in numbers]
+        self.bounds.add(Differ(each), *self.watched(*(below for below, _ in each)))
 
     def fix(self, truth: Truth) -> None:
         """Takes in that a truth holds, by its literal."""
@@ -218,6 +224,8 @@ def told_of(
     sought."""
     told = Presolve(model, domains)
     told.hold(it.truth for _, it in rest)
+    for clique in cliques_of(it.truth for _, it in rest):
+        told.differ(clique)
     for variable in model.variables.values():
         told.know(variable)
     told.bounds.run()

@@ -141,15 +141,17 @@ class Presolve(unittest.TestCase):
                 self.assertFalse(misjudged(random.Random(f"goal {at}")))
 
     def test_bounds_that_nobody_writes(self):
-        """The average load, numbers that differ, and the last of tasks one at a time."""
+        """The average load, numbers that differ, the last of tasks one at a time, and a clique."""
         model = Model()
         x = model.ints("x", 4, 0, 2)
         each = [weighted_sum([3, 3, 2, 2], [it == at for it in x]) for at in range(3)]
         y = model.ints("y", 5, 1, 9)
         z = model.ints("z", 3, 0, 50)
         model.add(all_different(y), no_overlap(interval(it, 4) for it in z))
-        sought = [maximum(each), maximum(y), maximum(it + 4 for it in z)]
-        for number, least in zip(sought, [4, 5, 12]):
+        colour = model.ints("colour", 6, 1, 6)
+        model.add(one != other for at, one in enumerate(colour[:4]) for other in colour[:at])
+        sought = [maximum(each), maximum(y), maximum(it + 4 for it in z), maximum(colour)]
+        for number, least in zip(sought, [4, 5, 12, 4]):
             model.minimize(number)
             self.assertEqual(Guessing(model, model.goal).least(), least)
 

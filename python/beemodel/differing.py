@@ -7,7 +7,6 @@ from typing import TYPE_CHECKING, Optional
 from . import weights
 from .composed import Composed
 from .expressions import Number, NumberLike, Truth, TruthLike, number_of, same_length, truth_of
-from .propagators import Differ
 
 if TYPE_CHECKING:
     from .presolve import Presolve
@@ -41,9 +40,7 @@ class AllDifferent(Truth):
 
     def presolve(self, presolve: Presolve) -> None:
         if self.conditions is None:
-            members = [presolve.sides(it) for it in self.numbers]
-            watched = presolve.watched(*(below for below, _ in members))
-            presolve.bounds.add(Differ(members), *watched)
+            presolve.differ(self.numbers)
 
     def literal(self, translation: Translation) -> str:
         if self.conditions is not None:

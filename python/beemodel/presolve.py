@@ -11,6 +11,7 @@ from typing import TYPE_CHECKING, NamedTuple, Optional
 
 from .bounds import Bounds, Conflict
 from .choices import choices_of
+from .cliques import cliques_of
 from .domains import Domain
 from .expressions import (
     AllOf,
@@ -23,7 +24,7 @@ from .expressions import (
     flatten,
     members,
 )
-from .propagators import AtMostZero, Choice, Clause, Literal, Prices, Relation, Term, make_true
+from .propagators import AtMostZero, Choice, Clause, Differ, Literal, Prices, Relation, Term, make_true
 
 if TYPE_CHECKING:
     from .model import Goal, Model, Placed
@@ -67,6 +68,11 @@ class Presolve:
         own = [whole[0]] if whole else []
         self.bounds.add(Clause(literals, whole), *own, *(it[0] for it in literals))
 
+    def differ(self, numbers: Sequence[Number]) -> None:
+        """Takes in that no two of some numbers are equal."""
+        each = [self.sides(it) for it in numbers]
+        self.bounds.add(Differ(each), *self.watched(*(below for below, _ in each)))
+
     def fix(self, truth: Truth) -> None:
         """Takes in that a truth holds, by its literal."""
         make_true(self.bounds, self.literal(truth))
@@ -94,7 +100,7 @@ class Presolve:
         plain: list[Term | Prices | Choice] = []
         for atom, factor in atoms.items():
             variable = self.variable_of(atom)
-            if variable is not None:
+            if variable is not None and isinstance(atom, Comparison):
                 self.price(prices, variable, atom, factor)
             elif atom in self.choices:
                 choices.setdefault(self.choices[atom][0], {})[atom] = factor
@@ -104,11 +110,13 @@ class Presolve:
         for variable, price in prices.items():
             rising = sorted((it, value) for value, it in price.items())
             plain.append(Prices(variable, rising))
-        for first, price in choices.items():
-            self.choose(plain, price, len(self.choices[first]))
+        for first, chosen in choices.items():
+            self.choose(plain, chosen, len(self.choices[first]))
         return plain, constant
 
-    def choose(self, terms: list, price: dict[Number, int], size: int) -> None:
+    def choose(
+        self, terms: list[Term | Prices | Choice], price: dict[Number, int], size: int
+    ) -> None:
         """The terms of Booleans of which at most one is true, and just one where these are all; of
         the constraint that states it, one for each."""
         for it in price:
@@ -128,7 +136,13 @@ class Presolve:
             return variable
         return None
 
-    def price(self, prices: dict, variable: Number, atom: Comparison, factor: int) -> None:
+    def price(
+        self,
+        prices: dict[Number, dict[int, int]],
+        variable: Number,
+        atom: Comparison,
+        factor: int,
+    ) -> None:
         """Adds the price of a comparison for each value of its integer."""
         inner, constant = flatten(atom.number)
         price = prices.setdefault(variable, dict.fromkeys(self.bounds.domains[variable], 0))
@@ -210,12 +224,15 @@ def told_of(
     sought."""
     told = Presolve(model, domains)
     told.hold(it.truth for _, it in rest)
+    for clique in cliques_of(it.truth for _, it in rest):
+        told.differ(clique)
     for variable in model.variables.values():
         told.know(variable)
     told.bounds.run()
+    is_least = goal is not None and goal.direction == "minimize"
     for number in goal.objectives if goal else ():
-        least = told.least_possible(number if goal.direction == "minimize" else -number)
-        told.relate((least - number) if goal.direction == "minimize" else (number + least), "leq")
+        least = told.least_possible(number if is_least else -number)
+        told.relate((least - number) if is_least else (number + least), "leq")
         told.bounds.run()
     return told
 

@@ -2,7 +2,7 @@
 from __future__ import annotations
 
 from collections.abc import Iterable, Sequence
-from typing import TYPE_CHECKING, Optional, Union
+from typing import TYPE_CHECKING, Any, Optional, Union
 
 from . import weights
 from .bounds import Bounds, Conflict, Propagator
@@ -209,7 +209,9 @@ def past_profile(spans: Sequence[Span], demands: Sequence[int], most: int) -> li
     return [first_place(it, demands[at], at, sure, most) for at, it in enumerate(spans)]
 
 
-def first_place(task: Span, demand: int, at: int, sure: Sequence[tuple], most: int) -> int:
+def first_place(
+    task: Span, demand: int, at: int, sure: Sequence[tuple[int, int, int, int]], most: int
+) -> int:
     """When a task can begin beside what others take for sure: behind the end of one beside which it
     takes too much."""
     begin = task.first
@@ -223,8 +225,8 @@ def first_place(task: Span, demand: int, at: int, sure: Sequence[tuple], most: i
 
 def cumulative(
     tasks: Iterable[Union[NumberLike, Interval]],
-    *of: Union[NumberLike, Iterable[NumberLike]],
-    **named: Union[NumberLike, Iterable[NumberLike]],
+    *of: Any,
+    **named: Any,
 ) -> Truth:
     """Tasks share a resource: `cumulative(intervals, demands, capacity)`, or
     `cumulative(starts, durations, demands, capacity)`. At no time do those at work take more than
@@ -238,7 +240,7 @@ def cumulative(
     given = dict(zip(names, of), **named)
     if set(given) != set(names):
         raise refused("cumulative: intervals, demands and a capacity, or starts, durations and both")
-    begins = [*tasks]
+    begins: list[Any] = [*tasks]
     demands = [number_of(it) for it in given["demands"]]
     same_length("cumulative", begins, demands)
     if "durations" in given:

@@ -173,7 +173,7 @@ class Pages(unittest.TestCase):
         self.assertIn(f"The model weighs {model.weight():,} of", text)
 
     def test_a_search_that_was_stopped(self):
-        answer = ruler(8)[0].solve(budget=20, program=PROGRAM)
+        answer = ruler(8)[0].solve(budget=20, program=PROGRAM, presolve=False)
         self.assertEqual((answer.verdict, bool(answer)), ("UNKNOWN", True))
         text, _ = self.page(answer)
         for part in ("there may be better ones", "Gap to the bound", "budget of clauses"):

@@ -18,16 +18,25 @@ from unittest import mock
 from beemodel import Model, ModelError, ProgramError, all_different, maximum, total
 from beemodel.neighbourhoods import Structure
 from beemodel.program import places, program_of
+from beemodel.running import solve_text
 from trying import PROGRAM, TOP, need_program
 
-# A program that never ends once it has told a solution of the model of `two`.
+# A sum is sought; and a program that never ends once it has told solutions of it.
+TEXT = """\
+new_int(x,1,3)
+new_int(y,1,3)
+new_int(sum,2,6)
+int_plus(x,y,sum)
+int_lt(x,y)
+solve minimize sum
+"""
 ENDLESS = """\
 #!/bin/sh
 if [ "$1" = solve ]; then
   echo "bee: best 5, 3 clauses learned" >&2
-  printf 'x = 2\\ny = 3\\n_1 = 5\\n' >&2
+  printf 'x = 2\\ny = 3\\nsum = 5\\n' >&2
   echo "bee: best 4, 7 clauses learned" >&2
-  printf 'x = 1\\ny = VALUE\\n_1 = 4\\n' >&2
+  printf 'x = 1\\ny = VALUE\\nsum = 4\\n' >&2
   echo "bee: best 2, 9 clauses learned" >&2
   printf 'x = 1\\n' >&2
   exec sleep 1000
@@ -41,7 +50,7 @@ def setUpModule():
 
 
 def ruler(marks):
-    """A Golomb ruler: of eleven marks a shortest one takes the program minutes."""
+    """A Golomb ruler: of ten marks a shortest one takes the program minutes."""
     model = Model()
     ends = [model.int(f"mark{it}", 0, marks * marks) for it in range(marks)]
     model.add(one < other for one, other in zip(ends, ends[1:]))
@@ -106,10 +115,11 @@ class Stopped(unittest.TestCase):
 
     def test_seconds(self):
         """The best values satisfy every constraint and are the last that the function got."""
-        model, ends = ruler(11)
+        model, ends = ruler(10)
         found = []
         begun = time.monotonic()
-        answer = model.solve(seconds=4, on_solution=found.append, program=PROGRAM)
+        how = {"on_solution": found.append, "program": PROGRAM, "presolve": False}
+        answer = model.solve(seconds=4, **how)
         self.assertLess(time.monotonic() - begun, 30)
         self.assertEqual((answer.verdict, answer.stopped), ("UNKNOWN", "seconds"))
         self.assertEqual(children(), 0)
@@ -127,16 +137,15 @@ class Stopped(unittest.TestCase):
 
     def test_a_part_of_a_solution_is_none(self):
         """The program's last solution is cut: the one before is the best."""
-        model, x, y = two()
-        answer = model.solve(seconds=0.5, program=self.false_program())
-        self.assertEqual((answer[x], answer[y], answer.objective, answer.bound), (1, 3, 4, 2))
+        answer = solve_text(TEXT, seconds=0.5, program=self.false_program())
+        self.assertEqual(answer.values, {"x": 1, "y": 3, "sum": 4})
+        self.assertEqual((answer.objective, answer.bound), (4, 2))
         self.assertEqual(answer.count_of_clauses, 9)
         self.assertEqual(children(), 0)
 
     def test_what_is_no_solution_is_not_kept(self):
-        model, _, _ = two()
         with self.assertRaisesRegex(ProgramError, "check did not accept .*: REFUSED"):
-            model.solve(seconds=0.5, program=self.false_program("2"))
+            solve_text(TEXT, seconds=0.5, program=self.false_program("2"))
 
     def test_no_solution_yet(self):
         model, _ = ruler(11)
@@ -145,9 +154,8 @@ class Stopped(unittest.TestCase):
         self.assertRegex(repr(answer), r"^<Answer UNKNOWN, no solution known, bound \d+>$")
 
     def test_a_function_that_fails_ends_the_program(self):
-        model, _, _ = two()
         with self.assertRaises(ZeroDivisionError):
-            model.solve(on_solution=lambda found: 1 / 0, program=self.false_program())
+            solve_text(TEXT, on_found=lambda found: 1 / 0, program=self.false_program())
         self.assertEqual(children(), 0)
 
     def test_interrupt(self):
@@ -156,10 +164,9 @@ class Stopped(unittest.TestCase):
             import sys
             sys.path.insert(0, sys.argv[1])
             import test_running
-            model, x, y = test_running.two()
-            told = lambda found: print(found.objective, found[x], found["y"], flush=True)
-            answer = model.solve(on_solution=told, program=sys.argv[2])
-            print(repr(answer), answer.stopped, answer[x] + answer[y], test_running.children())
+            told = lambda found: print(found.objective, found["x"], found["y"], flush=True)
+            answer = test_running.solve_text(test_running.TEXT, on_found=told, program=sys.argv[2])
+            print(repr(answer), answer.stopped, answer["sum"], test_running.children())
         """
         for is_group in (False, True):
             with self.subTest(group=is_group):
@@ -201,9 +208,8 @@ class Stopped(unittest.TestCase):
         self.assertEqual([it.values for it in found], [{"x": 3}])
 
     def test_texts_of_the_best_one_are_kept_in_a_folder(self):
-        model, _, _ = two()
         with tempfile.TemporaryDirectory() as room:
-            model.solve(seconds=0.5, folder=room, program=self.false_program())
+            solve_text(TEXT, seconds=0.5, folder=room, program=self.false_program())
             words = [PROGRAM, "check", f"{room}/best.bee", f"{room}/best.answer"]
             ran = subprocess.run(words, capture_output=True, text=True)
             self.assertEqual(ran.stdout, "ACCEPTED SATISFIABLE\n")

@@ -13,7 +13,7 @@ from .answers import Answer, Found, Proof, Step, Value, Values
 from .neighbourhoods import Kind, Structure
 from .program import program_of
 from .running import (
-    Asked,
+    Limits,
     Folder,
     Search,
     Watch,
@@ -41,7 +41,7 @@ PATIENCE = 24
 class Improvement:
     """A search in the neighbourhoods of the best solution."""
 
-    def __init__(self, text: str, asked: Asked, seed: int, at: Path):
+    def __init__(self, text: str, asked: Limits, seed: int, at: Path):
         self.text, self.asked, self.at = text, asked, at
         self.begun = time.monotonic()
         self.structure = Structure(text)
@@ -82,7 +82,7 @@ class Improvement:
 
     def searched(self, text: str, budget: int, share: float) -> Search:
         """A search whose better solutions are taken."""
-        how = Asked(budget, self.left(share), self.take, False, self.asked.program)
+        how = Limits(budget, self.left(share), self.take, False, self.asked.program)
         found = search(text, how, self.at)
         self.count_of_clauses += found.watch.count_of_clauses
         return found
@@ -188,7 +188,7 @@ class Improvement:
         left, best = self.left(), self.best
         if self.stopped is None and left != 0.0:
             budget = LAST if left is None else None
-            how = Asked(budget, left, self.take, False, self.asked.program)
+            how = Limits(budget, left, self.take, False, self.asked.program)
             start = None
             if best is not None and resumes(program_of(self.asked.program)):
                 start = wishes_file(best.values, at)
@@ -209,7 +209,7 @@ class Improvement:
 
 def improve_text(
     text: str,
-    asked: Asked,
+    asked: Limits,
     seed: int = 0,
     steps: Optional[int] = None,
     start: Optional[Mapping[str, Value]] = None,

@@ -12,6 +12,7 @@ from math import gcd
 from typing import TYPE_CHECKING, NamedTuple, Optional, Union
 
 from . import weights
+from .choices import gathered
 from .domains import Domain, multiple, sums
 from .expressions import Comparison, Number, Sum, Truth, flatten
 from .translation import Integer
@@ -59,7 +60,7 @@ def terms_of(translation: Translation, number: Number) -> tuple[list[Term], int]
     factors: dict[str, int] = {}
     integers: dict[str, Integer] = {}
     atoms, constant = flatten(number)
-    for atom, factor in atoms.items():
+    for atom, factor in gathered(translation, atoms).items():
         made = literal_or_integer(translation, atom)
         if made in ("true", "false"):
             constant += factor * (made == "true")
@@ -135,17 +136,31 @@ def stated(translation: Translation, comparison: Comparison) -> Union[Stated, bo
     return made if is_true is None else is_true
 
 
-def literal_of_comparison(translation: Translation, comparison: Comparison) -> str:
-    """The Boolean term that is true where a comparison is."""
+def literal_of_comparison(
+    translation: Translation, comparison: Comparison, offered: Optional[str] = None
+) -> str:
+    """The Boolean term that is true where a comparison is; one that is offered where none is made
+    yet and one is needed."""
     it = stated(translation, comparison)
     if isinstance(it, bool):
         return "true" if it else "false"
     if it.relation == "neq":
-        return translation.negation(literal_of(translation, Stated(it.terms, "eq", it.bound)))
-    return literal_of(translation, it)
+        equal = Stated(it.terms, "eq", it.bound)
+        offered = translation.negation(offered) if offered else None
+        return translation.negation(literal_of(translation, equal, offered))
+    return literal_of(translation, it, offered)
 
 
-def literal_of(translation: Translation, it: Stated) -> str:
+def tie(translation: Translation, comparison: Comparison, literal: str) -> None:
+    """Writes that a Boolean term is true just where a comparison is."""
+    made = literal_of_comparison(translation, comparison, literal)
+    if made in ("true", "false"):
+        translation.clause([literal if made == "true" else translation.negation(literal)])
+    elif made != literal:
+        translation.say(4, "bool_eq", made, literal)
+
+
+def literal_of(translation: Translation, it: Stated, offered: Optional[str] = None) -> str:
     """The Boolean term of a comparison by `leq` or `eq` that the domains leave open."""
     if len(it.terms) == 1:
         return literal_of_term(translation, it.terms[0], it.relation, it.bound)
@@ -162,7 +177,7 @@ def literal_of(translation: Translation, it: Stated) -> str:
         return translation.negation(literal_of_sides(translation, other, []))
     if not left:
         return literal_of_sides(translation, Stated(right, "eq", -it.bound), [])
-    return literal_of_sides(translation, Stated(left, it.relation, it.bound), right)
+    return literal_of_sides(translation, Stated(left, it.relation, it.bound), right, offered)
 
 
 def literal_of_term(translation: Translation, term: Term, relation: str, bound: int) -> str:
@@ -180,7 +195,9 @@ def literal_of_term(translation: Translation, term: Term, relation: str, bound: 
     return translation.negation(translation.at_least(term.of, bound // term.factor + 1))
 
 
-def literal_of_sides(translation: Translation, left: Stated, right: list[Term]) -> str:
+def literal_of_sides(
+    translation: Translation, left: Stated, right: list[Term], offered: Optional[str] = None
+) -> str:
     """The truth of a sum that stands in a relation to another one plus a bound; all factors are
     positive."""
     first = sum_of(translation, left.terms)
@@ -189,22 +206,22 @@ def literal_of_sides(translation: Translation, left: Stated, right: list[Term]) 
     second = sum_of(translation, right)
     key = (left.relation, first.factor, first.name, second.factor, second.name, left.bound)
     if key not in translation.literals:
-        translation.literals[key] = compared(translation, first, second, left)
+        made = offered or translation.fresh_boolean()
+        compare(translation, first, second, left, made)
+        translation.literals[key] = made
     return translation.literals[key]
 
 
-def compared(translation: Translation, first: Term, second: Term, left: Stated) -> str:
-    """A fresh Boolean that is the truth of a comparison of two multiplied integers and a bound."""
+def compare(translation: Translation, first: Term, second: Term, left: Stated, made: str) -> None:
+    """Writes that a Boolean is the truth of a comparison of two multiplied integers and a bound."""
     if first.factor == 1 and len(first.domain) <= len(second.domain):
         x = shifted(translation, integer_of(translation, first), 1, -left.bound)
         y = shifted(translation, integer_of(translation, second), second.factor, 0)
     else:
         x = shifted(translation, integer_of(translation, first), first.factor, 0)
         y = shifted(translation, integer_of(translation, second), second.factor, left.bound)
-    made = translation.fresh_boolean()
     weigh = weights.order if left.relation == "leq" else weights.equal
     translation.say(weigh(x.steps, y.steps), f"int_{left.relation}_reif", x.term, y.term, made)
-    return made
 
 
 def integer_of(translation: Translation, term: Term) -> Integer:
@@ -375,7 +392,10 @@ def integer_of_sum(translation: Translation, number: Sum) -> Integer:
     terms, constant = terms_of(translation, number)
     if not terms:
         return Integer(translation.numeral(constant), range(constant, constant + 1))
-    whole = sum_of(translation, terms)
+    low, high = translation.ends.get(number, (None, None))
+    if low is not None:
+        low, high = low - constant, high - constant
+    whole = sum_of(translation, terms, low, high)
     return shifted(translation, integer_of(translation, whole), whole.factor, constant)
 
 
@@ -385,6 +405,12 @@ def values_of(translation: Translation, number: Number) -> Domain:
     if len(terms) == 1:
         return multiple(terms[0].domain, terms[0].factor, constant)
     return translation.integer(number).domain
+
+
+def least_of(translation: Translation, number: Number) -> int:
+    """The least value of an expression by the domains."""
+    terms, constant = terms_of(translation, number)
+    return constant + low_of(terms)
 
 
 def equality(translation: Translation, number: Number, value: int) -> str:

@@ -32,7 +32,7 @@ from .lines import ModelError
 from .program import Ended, call, pass_on, program_of, watched
 from .texts import SATISFY, declarations, document, fits, fixing, goal_of, with_goal, with_items
 
-__all__ = ["Answer", "Core", "ProgramError", "Solutions", "call", "program_of"]
+__all__ = ["Answer", "Core", "ProgramError", "Solutions", "Value", "Values", "call", "program_of", "value_of"]
 
 HEAD = re.compile(r"bee: best (-?\d+)(?: (-?\d+))?, (\d+) clauses learned")
 COUNT = re.compile(r"bee: (\d+) clauses learned")
@@ -44,7 +44,7 @@ OnFound = Callable[[Found], object]
 Folder = Union[str, Path, None]
 
 
-class Asked(NamedTuple):
+class Limits(NamedTuple):
     """How a search is run: the budget of learned clauses, the wall-clock seconds, what better
     solutions are handed to, whether its progress is shown, and the program."""
 
@@ -58,7 +58,7 @@ class Asked(NamedTuple):
 class Watch:
     """What a search tells on standard error: whole solutions, each better than what is known."""
 
-    def __init__(self, text: str, asked: Asked, known: Optional[Found] = None):
+    def __init__(self, text: str, asked: Limits, known: Optional[Found] = None):
         self.names = len(declarations(text))
         self.goal = goal_of(text)
         self.asked = asked
@@ -117,14 +117,14 @@ class Search(NamedTuple):
     answer: Path
 
 
-def words_of(asked: Asked) -> list[str]:
+def words_of(asked: Limits) -> list[str]:
     """The options of a search."""
     return [] if asked.budget is None else ["--budget", str(asked.budget)]
 
 
 def search(
     text: str,
-    asked: Asked,
+    asked: Limits,
     at: Path,
     start: Optional[Path] = None,
     known: Optional[Found] = None,
@@ -160,7 +160,7 @@ def check_values(text: str, values: Values, program: Optional[str], at: Path) ->
     accepted(program, "check", model, answer)
 
 
-def known_answer(text: str, count: int, best: Optional[Found], asked: Asked, at: Path) -> Answer:
+def known_answer(text: str, count: int, best: Optional[Found], asked: Limits, at: Path) -> Answer:
     """The answer of a search that ended before it was done, behind so many learned clauses: the
     best solution, checked, or none."""
     made = Answer("UNKNOWN", (count,), None)
@@ -201,7 +201,7 @@ def whole_answer(found: Search, mode: str, program: Optional[str]) -> Optional[A
 
 
 def search_answer(
-    text: str, asked: Asked, at: Path, start: Optional[Path] = None, known: Optional[Found] = None
+    text: str, asked: Limits, at: Path, start: Optional[Path] = None, known: Optional[Found] = None
 ) -> Answer:
     """The answer of a search, or the solution that is known already where that is better."""
     found = search(text, asked, at, start, known)
@@ -221,7 +221,7 @@ def search_answer(
 
 
 def with_run(
-    answer: Answer, text: str, asked: Asked, watch: Watch, proof: Proof, stopped: Optional[str]
+    answer: Answer, text: str, asked: Limits, watch: Watch, proof: Proof, stopped: Optional[str]
 ) -> Answer:
     """The answer with its bound and how it came about."""
     answer.bound = bound_of(text, answer)
@@ -245,7 +245,7 @@ def solve_text(
     After so many seconds, or by an interrupt, the search is ended, and the best solution known by
     then is checked. The search begins from the values of `start`.
     """
-    asked = Asked(budget, seconds, on_found, progress, program)
+    asked = Limits(budget, seconds, on_found, progress, program)
     with tempfile.TemporaryDirectory(prefix="beemodel-") as room:
         at = Path(folder or room)
         at.mkdir(parents=True, exist_ok=True)
@@ -258,7 +258,7 @@ def solve_text(
     return answer
 
 
-def begun_answer(text: str, asked: Asked, at: Path, start: Mapping[str, Value]) -> Answer:
+def begun_answer(text: str, asked: Limits, at: Path, start: Mapping[str, Value]) -> Answer:
     """The answer of a search that begins from values: by `bee resume`, or, where the program has no
     such mode, behind a search in a copy of the text in which the values are stated."""
     wishes = wished(text, start)
@@ -300,7 +300,7 @@ def resumes(program: str) -> bool:
 
 
 def stated_first(
-    text: str, wishes: Values, asked: Asked, at: Path
+    text: str, wishes: Values, asked: Limits, at: Path
 ) -> tuple[Optional[Found], Optional[str]]:
     """The best solution in a copy of the text that states values, by a search of few clauses, and
     why that was stopped.
@@ -331,7 +331,7 @@ def run_checked(
     model, answer = at / "model.bee", at / "model.answer"
     model.write_text(text, encoding="ascii")
     mode, checking = modes
-    words = [program_of(program), mode, str(model), *words_of(Asked(budget))]
+    words = [program_of(program), mode, str(model), *words_of(Limits(budget))]
     code, told = call(words, answer)
     if code not in (0, 8):
         raise refusal(mode, Ended(code, told))

@@ -69,7 +69,7 @@ up() {
   chmod 400 "$work/munge.key"
   configuration >"$SLURM_CONF"
   munged --foreground --force --key-file="$work/munge.key" --socket="$work/munge.socket" \
-    --pid-file="$work/munged.pid" --log-file="$work/munged.log" --seed-file="$work/munge.seed" --num-threads=2 &
+    --pid-file="$work/munged.pid" --log-file="$work/munged.log" --seed-file="$work/munge.seed" --num-threads=2 2>"$work/munged.out" &
   started+=($!)
   sleep 1
   slurmctld -D -c -f "$SLURM_CONF" >"$work/slurmctld.out" 2>&1 &

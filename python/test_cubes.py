@@ -209,7 +209,7 @@ class Commands(Folder):
 
     def words(self, text: str, *words: str) -> list[str]:
         (self.at / "given.bee").write_text(text)
-        fixed = ["--program", PROGRAM, "--folder", str(self.at / "work"), "--jobs", "2"]
+        fixed = ["--program", PROGRAM, "--folder", str(self.at / "work"), "--jobs", "2", "--cubes", "4"]
         return [sys.executable, "-m", "beemodel.cubes", str(self.at / "given.bee"), *fixed, *words]
 
     def environment(self) -> dict[str, str]:

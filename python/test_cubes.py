@@ -345,6 +345,7 @@ class Commands(Folder):
         gone = self.solver(f'case $CNF in */bee-cubes-*) touch {self.at}/away; kill -9 $PPID;; esac')
         (self.at / "hosts").write_text(f"1/:\n1/sh {away}\n")
         words = ["--look", "0", "--hosts", str(self.at / "hosts"), "--host-folder", str(self.at), "--solver", gone]
+        words += ["--cubes", "16"]
         code, told = self.run_command(pigeons(7), *words)
         self.assertEqual(code, 0, told)
         self.assertIn("is given no more cubes", told)

@@ -7,7 +7,7 @@ import shutil
 from collections.abc import Iterator
 from contextlib import contextmanager
 from pathlib import Path
-from typing import NamedTuple, Optional, Union
+from typing import Any, NamedTuple, Optional, Union
 
 from ..running import Answer, ProgramError, program_of, read_answer
 from .clauses import Compiled
@@ -196,6 +196,7 @@ def take_first_values(conquest: Conquest, values: dict) -> None:
 def conquer(conquest: Conquest, machines: list[Machine], request: Request, answer: Path) -> None:
     """Runs the cubes until there is an answer."""
     conquest.make_cubes()
+    engine: Slurm | GnuParallel
     if request.slurm:
         engine = Slurm(conquest.folder, request.jobs)
     else:
@@ -232,7 +233,7 @@ def solve_in_cubes(
     worker: str = "bee",
     program: Optional[str] = None,
     folder: Union[str, Path, None] = None,
-    **more: object,
+    **more: Any,
 ) -> Answer:
     """Answers the text of a model by workers side by side, and has the answer checked.
 

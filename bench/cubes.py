@@ -43,17 +43,14 @@ def of_clauses(cnf):
     return [*lines, "solve satisfy"]
 
 
-def without_solution(size):
-    """A Latin square with holes that can't be filled."""
-    return [*cnfs.spoiled(size, 0), "solve satisfy"]
-
-
 MODELS = {
     "pigeons-10": lambda: pigeons(10),
     "pigeons-11": lambda: pigeons(11),
     "parity-32": lambda: parity(32),
     "jobs-10": lambda: optima.jobs(10),
     "golomb-8": lambda: optima.golomb(8),
+    "golomb-9": lambda: optima.golomb(9),
+    "golomb-10": lambda: optima.golomb(10),
 }
 
 

@@ -20,7 +20,7 @@ import plans
 LIMIT = int(os.environ.get("SECONDS_EACH", "60"))
 
 def golomb(marks):
-    ends = {3: 3, 4: 6, 5: 11, 6: 17, 7: 25, 8: 34}[marks] + 4
+    ends = {3: 3, 4: 6, 5: 11, 6: 17, 7: 25, 8: 34, 9: 44, 10: 55}[marks] + 4
     names = ["m0"] + [f"m{i}" for i in range(1, marks)]
     lines = [f"new_int(m{i},{i},{ends})" for i in range(1, marks)]
     lines += [f"int_lt(m{i},m{i + 1})" for i in range(1, marks - 1)]

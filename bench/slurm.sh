@@ -3,7 +3,7 @@
 #
 # It starts munged, slurmctld and slurmd for this machine alone, with a key, a configuration and a folder made for the
 # trial, and ends them behind it. Once three cubes are refuted, an element that runs is requeued. The answer is checked.
-# Printed are seconds, what was requeued, how often each element began anew, and the check's line.
+# Printed are seconds, what was requeued, how many elements began anew, and the check's line.
 #
 # Wants root, munged, slurmctld, slurmd, python3 and BEE, or `./bee`; without MODEL ten pigeons are tried. WORDS are more
 # words of the command.
@@ -69,7 +69,7 @@ up() {
   chmod 400 "$work/munge.key"
   configuration >"$SLURM_CONF"
   munged --foreground --force --key-file="$work/munge.key" --socket="$work/munge.socket" \
-    --pid-file="$work/munged.pid" --log-file="$work/munged.log" --seed-file="$work/munge.seed" --num-threads=2 &
+    --pid-file="$work/munged.pid" --log-file="$work/munged.log" --seed-file="$work/munge.seed" --num-threads=2 2>"$work/munged.out" &
   started+=($!)
   sleep 1
   slurmctld -D -c -f "$SLURM_CONF" >"$work/slurmctld.out" 2>&1 &
@@ -122,6 +122,5 @@ begun=$SECONDS code=0
 python3 -m beemodel.cubes "$model" --slurm --jobs 2 --folder "$work/cubes" --joblog "$work/journal" --resume --look 0 \
   ${WORDS:-} >"$work/answer" || code=$?
 echo "code $code, $((SECONDS - begun)) seconds, $(grep -c ^refuted "$work/kept") cubes refuted"
-echo "elements that began anew: $(squeue --noheader --array --states=all --format='%i %R' | wc -l) listed;" \
-  "$(scontrol show job | grep -o 'Restarts=[1-9][0-9]*' | sort | uniq -c | tr -s ' ' | tr '\n' ';')"
+echo "elements that began anew: $(scontrol show job | grep -c 'Restarts=[1-9]')"
 "$BEE" check "$model" "$work/answer" 2>/dev/null

@@ -1,4 +1,5 @@
 """Cubes: how clauses are split, parts joined, faults borne and runs gone on with, over one machine."""
+import io
 import itertools
 import os
 import random
@@ -9,8 +10,10 @@ import sys
 import tempfile
 import time
 import unittest
+from contextlib import redirect_stderr
 from pathlib import Path
 
+from beemodel.cubes import solve_in_cubes
 from beemodel.cubes.clauses import Compiled
 from beemodel.cubes.conquest import outcome_of
 from beemodel.cubes.hints import Hints
@@ -18,6 +21,7 @@ from beemodel.cubes.joining import Hinted, NoHints, join
 from beemodel.cubes.lookahead import LookAhead
 from beemodel.cubes.program import Bee, first_of, goal_of, second_of
 from beemodel.cubes.tree import Journal, Tree
+from beemodel.running import ProgramError
 from trying import PROGRAM, TOP, need_program
 
 HAS_PARALLEL = shutil.which("parallel") is not None and shutil.which("flock") is not None
@@ -209,7 +213,7 @@ class Commands(Folder):
 
     def words(self, text: str, *words: str) -> list[str]:
         (self.at / "given.bee").write_text(text)
-        fixed = ["--program", PROGRAM, "--folder", str(self.at / "work"), "--jobs", "2"]
+        fixed = ["--program", PROGRAM, "--folder", str(self.at / "work"), "--jobs", "2", "--cubes", "4"]
         return [sys.executable, "-m", "beemodel.cubes", str(self.at / "given.bee"), *fixed, *words]
 
     def environment(self) -> dict[str, str]:
@@ -273,6 +277,15 @@ class Commands(Folder):
             at = self.at / "work" / name
             words = [PROGRAM, "check", str(at / "model.bee"), str(at / "answer")]
             self.assertEqual(subprocess.run(words, capture_output=True, check=False).returncode, 0)
+
+    def test_from_a_script_answers_are_checked(self):
+        text = "new_int(a,1,3)\nnew_int(b,1,3)\nint_neq(a,b)\nsolve minimize a then b\n"
+        with redirect_stderr(io.StringIO()):
+            answer = solve_in_cubes(text, jobs=2, program=PROGRAM, look=0)
+        self.assertEqual((answer.verdict, answer.optimum), ("OPTIMUM", (1, 2)))
+        self.assertEqual((answer["a"], answer["b"]), (1, 2))
+        with self.assertRaises(ProgramError):
+            solve_in_cubes(text, slurm=True, program=PROGRAM)
 
     def test_a_cube_that_fails_once_runs_again_and_is_named(self):
         lying = 'echo "s UNSATISFIABLE"; echo "999999 0 1 0"; exit'
@@ -345,6 +358,7 @@ class Commands(Folder):
         gone = self.solver(f'case $CNF in */bee-cubes-*) touch {self.at}/away; kill -9 $PPID;; esac')
         (self.at / "hosts").write_text(f"1/:\n1/sh {away}\n")
         words = ["--look", "0", "--hosts", str(self.at / "hosts"), "--host-folder", str(self.at), "--solver", gone]
+        words += ["--cubes", "16"]
         code, told = self.run_command(pigeons(7), *words)
         self.assertEqual(code, 0, told)
         self.assertIn("is given no more cubes", told)

@@ -25,7 +25,7 @@ use search_watcher::Watcher;
 use std::alloc::{AllocError, Global};
 
 /// A solver that seeks the best value of an integer, and its incumbent: the value of the last solution that it found,
-/// or that it was begun with. Both are private, so that whoever makes the rounds can't lose what one of them found.
+/// or that it was begun with. Both are private, so that whoever makes its rounds can't lose what one of them found.
 #[derive(Drop)]
 pub struct Seeker<'a> {
     solver: Solver<'a>,

@@ -83,7 +83,7 @@ def main() -> int:
         return 3
     except SystemExit as fault:
         tell("stopped; the same command with --resume goes on")
-        return int(fault.code)
+        return int(fault.code or 0)
     if told:
         tell(told)
         return 4

@@ -34,6 +34,23 @@ class Engine(Protocol):
     def leave_out(self, machine: str) -> bool: ...
 
 
+class NoEngine:
+    """What stands in the engine's place until the run begins."""
+
+    workers = 0
+
+    def queue(self, cubes: list[Cube], avoided: str = "-") -> None: ...
+    def next(self, seconds: float) -> Optional[Ended]: ...
+    def stop(self, name: str) -> None: ...
+    def bound(self, literal: int) -> None: ...
+
+    def name_of(self, machine: str) -> str:
+        return machine
+
+    def leave_out(self, machine: str) -> bool:
+        return False
+
+
 class Settings(NamedTuple):
     """How many cubes are made first, whether the workers' lines have hints, behind how many seconds a cube may be split
     again, how often one that failed runs again, and whether progress is told."""
@@ -93,7 +110,7 @@ class Conquest:
         self.is_found, self.is_closed = False, False
         self.bound: Optional[list[int]] = None
         self.told, self.told_at = "", 0.0
-        self.engine: Optional[Engine] = None
+        self.engine: Engine = NoEngine()
 
     # Cubes are made.
 
@@ -227,11 +244,12 @@ class Conquest:
 
     def take_bound(self) -> None:
         """Tells the workers what is better than the best value. Where nothing can be, all cubes are refuted."""
+        assert self.journal.best is not None
         self.bee.bound(self.journal.best, self.folder / "bounded")
         clause = last_clause(self.folder / "bounded", len(self.compiled.clauses))
         self.bound = clause
         self.is_closed = clause == [] or (clause is not None and not self.look_ahead.take_bound(clause[0]))
-        if clause and self.engine is not None:
+        if clause:
             self.engine.bound(clause[0])
 
     def take_failure(self, end: Ended) -> None:
@@ -280,7 +298,7 @@ class Conquest:
         if not bad and line == 0:
             if self.settings.progress:
                 size, below = found.stat().st_size, os.times().children_user - below
-                tell(f"{size} bytes, joined in {took:.1f} seconds and certified in {below:.1f}, of the processor")
+                tell(f"{size} bytes, joined in {took:.1f} seconds and certified in {below:.1f}, of CPU time")
             found.unlink()
             return True
         bad = bad or (joined.cube_of(line) if joined else None)
@@ -296,10 +314,9 @@ class Conquest:
     def join(self, found: Path) -> Joined:
         """Writes what was found as one text."""
         values = self.values if self.journal.best is not None else None
+        lines: Hinted | Plain = Plain(self.tree, self.parts)
         if self.settings.are_hinted:
             lines = Hinted(self.tree, self.parts, self.compiled, self.bound)
-        else:
-            lines = Plain(self.tree, self.parts)
         with open(found, "w") as to:
             return join(self.tree, lines, values, to)
 

@@ -60,12 +60,14 @@ class GnuParallel:
         threading.Thread(target=self.listen, daemon=True).start()
 
     def listen(self) -> None:
+        assert self.process.stdout is not None
         for line in self.process.stdout:
             self.ends.put(ended(line))
         self.ends.put(None)
 
     def queue(self, cubes: list[Cube], avoided: str = "-") -> None:
         """Puts cubes behind those that wait. One that failed on a machine runs on another, where there is one."""
+        assert self.process.stdin is not None
         others = [it for it in self.machines if str(it.number) != avoided]
         for it in cubes:
             literals = " ".join(map(str, it.literals))

@@ -30,7 +30,7 @@ if TYPE_CHECKING:
     from .model import Goal, Model, Placed
 
 # So much work is done at most: a few seconds.
-LIMIT = 1_500_000
+LIMIT = 1_000_000
 
 # Comparisons of an integer of so many values with constants are prices by its value.
 PRICED = 500

@@ -73,23 +73,19 @@ INSTANCES = ["ft10", "la01", "la02", "la03", "la04", "la05", "exams80", "tour20"
 
 
 def shop_model(jobs):
-    """A job shop: heads, tails and the end of a plan made task by task bound the starts."""
-    from beemodel import Model, maximum
+    """A job shop."""
+    from beemodel import Model, interval, maximum, no_overlap
 
     model, end, on, last = Model(), one_by_one(jobs), {}, []
     for number, job in enumerate(jobs):
-        done, whole, before = 0, sum(hours for _, hours in job), None
+        before = 0
         for place, (machine, hours) in enumerate(job):
-            start = model.int(f"s{number}_{place}", done, end - whole + done)
-            if before is not None:
-                model.add(before <= start)
-            before, done = start + hours, done + hours
-            on.setdefault(machine, []).append((start, hours))
+            start = model.int(f"s{number}_{place}", 0, end - hours)
+            model.add(start >= before)
+            before = start + hours
+            on.setdefault(machine, []).append(interval(start, hours))
         last.append(before)
-    for machine, tasks in on.items():
-        for (at, (one, hours)), (place, (other, more)) in combinations(enumerate(tasks), 2):
-            first = model.bool(f"first{machine}_{at}_{place}")
-            model.add(first.implies(one + hours <= other), (~first).implies(other + more <= one))
+    model.add(no_overlap(tasks) for tasks in on.values())
     model.minimize(maximum(last))
     return model
 

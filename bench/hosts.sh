@@ -7,7 +7,7 @@
 # last host's link is cut once six cubes are refuted. Both answers are checked. At the end, however it comes, nothing of
 # it is left. Printed are, for each run, seconds, cubes refuted by each host, and the check's line.
 #
-# Wants root, ip, ssh, sshd, cadical, GNU parallel and BEE, or `./bee`; without MODEL ten pigeons are tried. WORDS are
+# Wants root, ip, ssh, sshd, GNU parallel and BEE, or `./bee`; without MODEL ten pigeons are tried. WORDS are
 # more words of the command.
 set -eu
 top=$(cd "$(dirname "$0")/.." && pwd)
@@ -44,10 +44,10 @@ up() {
 
 host_up() {
   local i=$1
-  ip -n beehost0 link add "to$i" type veth peer name link netns "beehost$i"
+  ip -n beehost0 link add "to$i" type veth peer name port netns "beehost$i"
   ip -n beehost0 link set "to$i" master bridge up
-  ip -n "beehost$i" addr add "$net.$((10 + i))/24" dev link
-  ip -n "beehost$i" link set link up
+  ip -n "beehost$i" addr add "$net.$((10 + i))/24" dev port
+  ip -n "beehost$i" link set port up
   mkdir -p /run/sshd
   printf '%s\n' "HostKey $keys/host" "AuthorizedKeysFile $keys/user.pub" "PidFile none" "UsePAM no" \
     "PermitRootLogin prohibit-password" "StrictModes no" "ListenAddress $net.$((10 + i))" "MaxStartups 50" >"$keys/$i.conf"
@@ -80,7 +80,7 @@ refuted() { grep -c ^refuted "$work/cubes.journal" 2>/dev/null || true; }
 # Cuts the last host's link once six cubes are refuted.
 cut_link() {
   until [ "$(refuted)" -ge 6 ] 2>/dev/null; do sleep 0.2; done
-  ip -n "beehost$count" link set link down
+  ip -n "beehost$count" link set port down
   echo "the link of $net.$((10 + count)) is cut, behind $(refuted) refuted cubes"
 }
 
@@ -92,7 +92,7 @@ try() {
   ln "$work/cubes.journal" "$work/journal"
   # shellcheck disable=SC2086
   ip netns exec beehost0 python3 -m beemodel.cubes "$model" --hosts "$work/hosts" --folder "$work/cubes" \
-    --joblog "$work/cubes.journal" --resume ${WORDS:-} >"$work/answer" || code=$?
+    --joblog "$work/cubes.journal" --resume --look 0 --solver "$BEE" ${WORDS:-} >"$work/answer" || code=$?
   echo "code $code, $((SECONDS - begun)) seconds; cubes refuted by each host:"
   grep ^refuted "$work/journal" | awk '{ n[$3]++; s[$3] += $4 } END { for (h in n) print " ", h, n[h], s[h] " s" }' | sort
   "$BEE" check "$model" "$work/answer" 2>/dev/null

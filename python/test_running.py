@@ -117,14 +117,15 @@ class Stopped(unittest.TestCase):
         """The best values satisfy every constraint and are the last that the function got."""
         model, ends = ruler(10)
         found = []
-        begun = time.monotonic()
         how = {"on_solution": found.append, "program": PROGRAM, "presolve": False}
-        answer = model.solve(seconds=4, **how)
-        self.assertLess(time.monotonic() - begun, 30)
-        self.assertEqual((answer.verdict, answer.stopped), ("UNKNOWN", "seconds"))
-        self.assertEqual(children(), 0)
-        if not found:
-            self.skipTest("no solution was found in four seconds")
+        for seconds in (3, 12, 48):  # on a machine with much other work
+            begun = time.monotonic()
+            answer = model.solve(seconds=seconds, **how)
+            self.assertLess(time.monotonic() - begun, 20 * seconds)
+            self.assertEqual((answer.verdict, answer.stopped), ("UNKNOWN", "seconds"))
+            self.assertEqual(children(), 0)
+            if found:
+                break
         self.assertTrue(answer.is_checked)
         self.assertEqual(answer.values, found[-1].values)
         self.assertEqual((answer.objective, answer[ends[-1]]), (found[-1].objective,) * 2)

@@ -25,7 +25,7 @@ from trials import TOP, program
 
 PAGES = ("README.md", "docs/LANGUAGE.md", "docs/SOLVERS.md", "docs/PYTHON.md", "examples/README.md")
 SOLVERS = ("cadical", "picosat", "cryptominisat5", "clasp", "minisat", "java")
-TOOLS = ("head", "sed", "grep", "awk", "python3", "for", "while", "cat", "examples/cubes/cubes.sh")
+TOOLS = ("head", "sed", "grep", "awk", "python3", "for", "while", "cat")
 # What stands for the reader's own: a word in capitals that is no part of a name.
 OWN = r"(?<![\w.])(MODEL|FILE|FOLDER|INPUT|SECOND|VALUE|CLAUSES|N)(?![\w])"
 # What a page takes for granted.

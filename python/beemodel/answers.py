@@ -145,6 +145,15 @@ class Answer:
             raise ProgramError(f"the answer is {self.verdict}, and has no values")
         return self.values
 
+    def shown_values(self) -> list[tuple[str, str]]:
+        """The names as they are shown, with the values."""
+        variables = {} if self.model is None else self.model.variables
+        each = (self.values or {}).items()
+        return [
+            (str(variables.get(name, name)), str(it).lower() if isinstance(it, bool) else str(it))
+            for name, it in each
+        ]
+
     def _repr_html_(self) -> str:
         """What a notebook shows."""
         from .reports import fragment

@@ -11,7 +11,7 @@ from typing import TYPE_CHECKING
 
 from .circuits import Circuit
 from .differing import AllDifferent
-from .expressions import AllOf, Number, NumberLike, members, number_of, total, whole
+from .expressions import AllOf, Number, NumberLike, Truth, members, number_of, total, whole
 from .functions import Element
 from .linear import integer_of_sum
 from .lines import refused
@@ -86,7 +86,7 @@ class AssignmentCost(Number):
     def __init__(self, places: Sequence[Number], costs: Sequence[Sequence[int]], is_round: bool):
         self.places, self.is_round = places, is_round
         self.plain = total(Element(row, it) for row, it in zip(costs, places))
-        barred = 1 + 2 * sum(max(map(abs, row), default=0) for row in costs) if is_round else 0
+        barred = 1 + 2 * sum(max((abs(it) for it in row), default=0) for row in costs) if is_round else 0
         raised = [
             [barred if is_round and at == it else cost for it, cost in enumerate(row)]
             for at, row in enumerate(costs)
@@ -107,22 +107,24 @@ class AssignmentCost(Number):
 
     def is_permuted(self, model: Model) -> bool:
         """Whether a model states that each place is taken just once."""
-        kind = Circuit if self.is_round else (AllDifferent, Circuit)
         parts = (part for it in model.constraints for part in members(it.truth, AllOf))
-        return any(isinstance(it, kind) and self.is_about(it) for it in parts)
+        return any(self.is_about(it) for it in parts)
 
-    def is_about(self, constraint: AllDifferent | Circuit) -> bool:
+    def is_about(self, constraint: Truth) -> bool:
         """Whether a constraint is about these places, and under no conditions."""
-        if isinstance(constraint, AllDifferent) and constraint.conditions is not None:
+        if isinstance(constraint, Circuit):
+            numbers = constraint.successors
+        elif isinstance(constraint, AllDifferent) and not self.is_round and constraint.conditions is None:
+            numbers = constraint.numbers
+        else:
             return False
-        is_circuit = isinstance(constraint, Circuit)
-        numbers = constraint.successors if is_circuit else constraint.numbers
         return [id(it) for it in numbers] == [id(it) for it in self.places]
 
     def integer(self, translation: Translation) -> Integer:
         is_permuted = not translation.is_apart and self.is_permuted(translation.model)
         made = self.reduced if is_permuted else self.plain
-        translation.ends[made] = translation.ends.get(self, (None, None))
+        if self in translation.ends:
+            translation.ends[made] = translation.ends[self]
         return integer_of_sum(translation, made)
 
     def bound(self, presolve: Presolve) -> None:

@@ -9,6 +9,7 @@ from __future__ import annotations
 from bisect import bisect_left, bisect_right
 from collections import deque
 from collections.abc import Iterator
+from typing import Any
 
 from .domains import Domain, domain_of
 from .expressions import Number
@@ -40,7 +41,7 @@ class Bounds:
         self.holes: dict[Number, set[int]] = {}
         self.watching: dict[Number, list[Propagator]] = {}
         self.waiting: deque[Propagator] = deque()
-        self.trail: list[tuple] = []
+        self.trail: list[tuple[Any, ...]] = []
         self.work, self.limit = 0, limit
 
     # Who watches what.

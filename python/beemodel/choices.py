@@ -18,6 +18,7 @@ from .expressions import (
     Truth,
     flatten,
     members,
+    truth_of,
 )
 
 if TYPE_CHECKING:
@@ -34,7 +35,8 @@ def choice_of(truth: Truth) -> Optional[list[BooleanVariable]]:
     atoms, constant = flatten(truth.number)
     factors = {*atoms.values()}
     is_one = len(factors) == 1 and constant == -next(iter(factors))
-    return [*atoms] if is_one and all(isinstance(it, BooleanVariable) for it in atoms) else None
+    found = [it for it in atoms if isinstance(it, BooleanVariable)]
+    return found if is_one and len(found) == len(atoms) else None
 
 
 def choices_of(truths: Iterable[Truth]) -> dict[Number, tuple[Number, ...]]:
@@ -112,11 +114,11 @@ def whole_of(translation: Translation, atom: Number) -> Optional[Number]:
     return variable if isinstance(variable, IntegerVariable) else None
 
 
-def priced(translation: Translation, whole: Number, prices: dict[Number, int]) -> Priced:
+def priced(translation: Translation, whole: Number, prices: dict[Number, int]) -> Number:
     """The number that has these prices, made once."""
     of: dict[str, int] = {}
     for truth, price in prices.items():
-        literal = translation.literal(truth)
+        literal = translation.literal(truth_of(truth))
         of[literal] = of.get(literal, 0) + price
     of.pop("false", None)
     key = tuple(sorted(of.items()))

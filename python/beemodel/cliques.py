@@ -17,8 +17,9 @@ def pair_of(truth: Truth) -> Optional[Pair]:
     if constant or sorted(atoms.values()) not in ([-1, 1], [1, -1]):
         return None
     first, second = atoms
-    both = isinstance(first, IntegerVariable) and isinstance(second, IntegerVariable)
-    return (first, second) if both else None
+    if isinstance(first, IntegerVariable) and isinstance(second, IntegerVariable):
+        return first, second
+    return None
 
 
 def cliques_of(truths: Iterable[Truth]) -> list[list[IntegerVariable]]:
@@ -37,7 +38,9 @@ def cliques_of(truths: Iterable[Truth]) -> list[list[IntegerVariable]]:
     return [*found.values()]
 
 
-def grown(first: IntegerVariable, near: dict) -> list[IntegerVariable]:
+def grown(
+    first: IntegerVariable, near: dict[IntegerVariable, dict[IntegerVariable, None]]
+) -> list[IntegerVariable]:
     """A clique with a variable, to which those with most pairs are added that differ from all."""
     clique, left = [first], near[first]
     while left:

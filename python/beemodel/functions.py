@@ -3,7 +3,7 @@ least, element."""
 from __future__ import annotations
 
 from collections.abc import Callable, Iterable, Sequence
-from typing import TYPE_CHECKING, Optional
+from typing import TYPE_CHECKING, Any, Optional
 
 from . import weights
 from .choices import channel_prices
@@ -341,12 +341,12 @@ def if_then_else(condition: TruthLike, first: NumberLike, second: NumberLike) ->
     """The first one where the condition holds, and else the second one: a truth where both are, and
     else a number. Weight: as `element` of two members."""
     truth = truth_of(condition)
-    if all(isinstance(it, (Truth, bool)) for it in (first, second)):
+    if isinstance(first, (Truth, bool)) and isinstance(second, (Truth, bool)):
         return AllOf((truth.implies(first), (~truth).implies(second)))
     return Element([second, first], truth)
 
 
-def element(numbers: Sequence, index: NumberLike, column: Optional[NumberLike] = None) -> Number:
+def element(numbers: Sequence[Any], index: NumberLike, column: Optional[NumberLike] = None) -> Number:
     """What stands in a list at a place, counted from 0; the place's domain has to lie in the list.
     With a column, what stands in a table's row at a column.
 

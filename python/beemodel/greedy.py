@@ -89,8 +89,8 @@ class Greedy:
         if high - low > TRIED:
             return low
         tried = {value: self.bound_with(variable, value) for value in self.bounds.values(variable)}
-        left = [value for value in tried if tried[value] is not None]
-        return min(left, key=lambda it: tried[it]) if left else low
+        left = [(bound, value) for value, bound in tried.items() if bound is not None]
+        return min(left, key=lambda it: it[0])[1] if left else low
 
     def bound_with(self, variable: Variable, value: int) -> Optional[int]:
         """The least that is sought where a variable has a value, if it can have it."""

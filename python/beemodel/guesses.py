@@ -118,7 +118,7 @@ def solve_guessing(
     guessing = Guessing(model, goal)
     asked = guessing.first() if at_most is None else guessing.asked(at_most)
     answer = run(model.checked_text(asked.written), guessing.plan)
-    while answer.verdict == "UNSATISFIABLE" and asked.guess is not None:
+    while answer.verdict == "UNSATISFIABLE" and asked.guess is not None and guessing.told:
         distance = max(1, asked.guess - asked.least)
         greatest = guessing.told.ends(guessing.sought)[1]
         guess = asked.guess + distance

@@ -24,7 +24,7 @@ class Interval:
     def __repr__(self) -> str:
         return f"interval({self.start}, {self.duration})"
 
-    def key(self) -> tuple:
+    def key(self) -> tuple[object, ...]:
         """What tells it from other intervals: intervals of the same parts are one."""
         atoms, constant = flatten(self.duration)
         return self.start, constant if not atoms else self.duration, self.present

@@ -392,10 +392,8 @@ def integer_of_sum(translation: Translation, number: Sum) -> Integer:
     terms, constant = terms_of(translation, number)
     if not terms:
         return Integer(translation.numeral(constant), range(constant, constant + 1))
-    low, high = translation.ends.get(number, (None, None))
-    if low is not None:
-        low, high = low - constant, high - constant
-    whole = sum_of(translation, terms, low, high)
+    low, high = translation.ends.get(number, (low_of(terms) + constant, high_of(terms) + constant))
+    whole = sum_of(translation, terms, low - constant, high - constant)
     return shifted(translation, integer_of(translation, whole), whole.factor, constant)
 
 

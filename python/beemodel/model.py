@@ -182,7 +182,7 @@ class Model:
             each = it if isinstance(it, Iterable) else [it]
             self.constraints.extend(Constraint(truth_of(truth), line, name) for truth in each)
 
-    def soft(self, truth: TruthLike, weight: int = 1) -> None:
+    def soft(self, truth: TruthLike, weight: Whole = 1) -> None:
         """Takes in what should hold: where it doesn't, its weight is added to the penalty."""
         self.penalties.append((whole(weight, "the weight of a soft constraint"), truth_of(truth)))
 
@@ -488,7 +488,7 @@ class Model:
         return found
 
     def cures(
-        self, core: Core, budget: Optional[int] = None, program: Optional[str] = None
+        self, core: Core, budget: Optional[Whole] = None, program: Optional[str] = None
     ) -> list[str]:
         """The names of a core's constraints each of which, left out alone, leaves a model that has
         a solution."""

@@ -125,7 +125,7 @@ def bin_packing(
     same_length("bin_packing", each, taken)
     if min(taken, default=0) < 0:
         raise refused("bin_packing: a size is negative")
-    if in_order and len({None if flatten(it)[0] else it.constant for it in most}) > 1:
+    if in_order and len({None if flatten(it)[0] else flatten(it)[1] for it in most}) > 1:
         raise refused("bin_packing: bins of several capacities have no order; leave out in_order")
     return BinPacking(each, taken, most, in_order)
 

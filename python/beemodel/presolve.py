@@ -100,7 +100,7 @@ class Presolve:
         plain: list[Term | Prices | Choice] = []
         for atom, factor in atoms.items():
             variable = self.variable_of(atom)
-            if variable is not None:
+            if variable is not None and isinstance(atom, Comparison):
                 self.price(prices, variable, atom, factor)
             elif atom in self.choices:
                 choices.setdefault(self.choices[atom][0], {})[atom] = factor
@@ -110,11 +110,13 @@ class Presolve:
         for variable, price in prices.items():
             rising = sorted((it, value) for value, it in price.items())
             plain.append(Prices(variable, rising))
-        for first, price in choices.items():
-            self.choose(plain, price, len(self.choices[first]))
+        for first, chosen in choices.items():
+            self.choose(plain, chosen, len(self.choices[first]))
         return plain, constant
 
-    def choose(self, terms: list, price: dict[Number, int], size: int) -> None:
+    def choose(
+        self, terms: list[Term | Prices | Choice], price: dict[Number, int], size: int
+    ) -> None:
         """The terms of Booleans of which at most one is true, and just one where these are all; of
         the constraint that states it, one for each."""
         for it in price:
@@ -134,7 +136,13 @@ class Presolve:
             return variable
         return None
 
-    def price(self, prices: dict, variable: Number, atom: Comparison, factor: int) -> None:
+    def price(
+        self,
+        prices: dict[Number, dict[int, int]],
+        variable: Number,
+        atom: Comparison,
+        factor: int,
+    ) -> None:
         """Adds the price of a comparison for each value of its integer."""
         inner, constant = flatten(atom.number)
         price = prices.setdefault(variable, dict.fromkeys(self.bounds.domains[variable], 0))
@@ -221,9 +229,10 @@ def told_of(
     for variable in model.variables.values():
         told.know(variable)
     told.bounds.run()
+    is_least = goal is not None and goal.direction == "minimize"
     for number in goal.objectives if goal else ():
-        least = told.least_possible(number if goal.direction == "minimize" else -number)
-        told.relate((least - number) if goal.direction == "minimize" else (number + least), "leq")
+        least = told.least_possible(number if is_least else -number)
+        told.relate((least - number) if is_least else (number + least), "leq")
         told.bounds.run()
     return told
 

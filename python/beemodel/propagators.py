@@ -158,7 +158,7 @@ class Relation(Propagator):
         else:
             is_zero = True if low == high == 0 else False if low > 0 or high < 0 else None
             holds = is_zero if self.relation == "eq" or is_zero is None else not is_zero
-        if holds is not None:
+        if holds is not None and self.literal is not None:
             atom, sign = self.literal
             make_true(bounds, (atom, sign == holds))
 
@@ -204,7 +204,7 @@ class Clause(Propagator):
         if True in known:
             if holds is False:
                 raise Conflict
-            if holds is None:
+            if holds is None and self.whole is not None:
                 make_true(bounds, self.whole)
             return
         if holds is False:
@@ -216,7 +216,7 @@ class Clause(Propagator):
             make_true(bounds, still_open[0])
         elif not still_open and holds:
             raise Conflict
-        elif not still_open:
+        elif not still_open and self.whole is not None:
             make_true(bounds, (self.whole[0], not self.whole[1]))
 
 

@@ -174,8 +174,7 @@ def drawn(answer: Answer, plan: Any) -> list[str]:
 
 def value_rows(answer: Answer, most: Optional[int] = None) -> list[list[str]]:
     """The names and the values."""
-    listed = list((answer.values or {}).items())[:most]
-    return [[escape(name), str(it).lower() if isinstance(it, bool) else str(it)] for name, it in listed]
+    return [[escape(name), it] for name, it in answer.shown_values()[:most]]
 
 
 def values_part(answer: Answer) -> list[str]:

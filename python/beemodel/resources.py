@@ -3,7 +3,7 @@ from __future__ import annotations
 
 from collections.abc import Iterable, Sequence
 from itertools import accumulate
-from typing import TYPE_CHECKING, Optional, Union
+from typing import TYPE_CHECKING, Any, Optional, Union
 
 from . import weights
 from .bounds import Bounds, Conflict, Propagator
@@ -230,8 +230,8 @@ def first_place(
 
 def cumulative(
     tasks: Iterable[Union[NumberLike, Interval]],
-    *of: Union[NumberLike, Iterable[NumberLike]],
-    **named: Union[NumberLike, Iterable[NumberLike]],
+    *of: Any,
+    **named: Any,
 ) -> Truth:
     """Tasks share a resource: `cumulative(intervals, demands, capacity)`, or
     `cumulative(starts, durations, demands, capacity)`. At no time do those at work take more than
@@ -245,7 +245,7 @@ def cumulative(
     given = dict(zip(names, of), **named)
     if set(given) != set(names):
         raise refused("cumulative: intervals, demands and a capacity, or starts, durations and both")
-    begins = [*tasks]
+    begins: list[Any] = [*tasks]
     demands = [number_of(it) for it in given["demands"]]
     same_length("cumulative", begins, demands)
     if "durations" in given:

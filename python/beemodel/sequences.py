@@ -163,6 +163,8 @@ def value_precede(numbers: Iterable[NumberLike], values: Iterable[int]) -> Truth
 
 
 State = Hashable
+# Where each state leads by each value.
+Steps = dict[tuple[State, int], State]
 
 
 class Regular(Truth):
@@ -221,7 +223,7 @@ class Regular(Truth):
             names = self.post_layer(translation, number, steps, names)
 
     def post_layer(
-        self, translation: Translation, number: Number, steps: dict, names: dict[State, str]
+        self, translation: Translation, number: Number, steps: Steps, names: dict[State, str]
     ) -> dict[State, str]:
         """Writes the steps at one place from the states before it. The answer is those behind
         it."""
@@ -237,7 +239,12 @@ class Regular(Truth):
         return behind
 
     def post_value(
-        self, translation: Translation, has_it: str, value: int, steps: dict, names: tuple[dict, dict]
+        self,
+        translation: Translation,
+        has_it: str,
+        value: int,
+        steps: Steps,
+        names: tuple[dict[State, str], dict[State, str]],
     ) -> None:
         """Writes where the states lead by one value, and that it is one of a state that has it."""
         before, behind = names

@@ -20,7 +20,7 @@ def shown(answer: Answer, plan: Any = None, width: int = 100) -> str:
     elif isinstance(made, Grid):
         lines = grid_lines(made)
     else:
-        lines = table_lines([(name, str(it)) for name, it in answer.values.items()], width)
+        lines = table_lines(answer.shown_values(), width)
     return "\n".join([answer.summary(), *lines])
 
 

@@ -11,7 +11,7 @@ ghost use Rattle.answer_document.specs.DocumentText.{document_text};
 ghost use Rattle.ledger_check.specs.Checked.{IsAnswer};
 ghost use Rattle.answer_document.specs.declared.verdict.Verdict.{Verdict};
 ghost use Rattle.answer_import.specs.declared.importing.Imported.TheVariants.{Refused};
-ghost use Rattle.answer_import.specs.Imports.{IsImport, TextShows, TextFails};
+ghost use Rattle.answer_import.specs.Imports.{AddsOnly, IsImport, TextShows, TextFails};
 ghost use Rattle.answer_import.specs.FindingLaws.{IsAnswered};
 ghost use Rattle.answer_import.specs.Importing.{IsWrittenFor, sought_of};
 
@@ -21,6 +21,7 @@ use answer_document::{Bounds, Document, Verdict, write_document};
 use bee_compile::Compiled;
 use ledger_check::check;
 use model_meaning::{Assignment, Decl, Model};
+use proof_check::ProofLine;
 use std::alloc::{AllocError, Global};
 
 /// What another solver's text is imported as.
@@ -67,8 +68,29 @@ fn is_same(a: Verdict, b: Verdict) -> bool
     }
 }
 
+/// Whether each line adds a clause.
+fn adds_only(lines: &[ProofLine]) -> bool
+    ensures { IsTrue result → AddsOnly lines.now }
+{
+    let mut rest = lines;
+    while let [line, others @ ..] = rest {
+        if let ProofLine::Delete { .. } = line {
+            return false;
+        }
+        rest = others;
+    }
+    true
+}
+
+/// Whether the derivation of a document only adds clauses.
+fn derives_only(document: &Document) -> bool
+    ensures { IsTrue result → AddsOnly document.now.proof }
+{
+    adds_only(document.proof.as_slice())
+}
+
 /// The text of a document that the checker of answers takes. Want of memory is told, too, where the checker doesn't
-/// take it, or it hasn't a number for each name.
+/// take it, it hasn't a number for each name, or its derivation deletes a clause.
 fn written(alloc: Global, model: &Model, document: &Document) -> Result<Vec<u8>, AllocError>
     requires typed { WellTyped model.now }
     requires limits { InLimits model.now }
@@ -77,6 +99,9 @@ fn written(alloc: Global, model: &Model, document: &Document) -> Result<Vec<u8>,
 {
     let decls = model.decls.as_slice();
     if !has_numbers(decls, &document.assignment) {
+        return Err(AllocError);
+    }
+    if !derives_only(document) {
         return Err(AllocError);
     }
     let text = write_document(alloc, decls, model.goal, document)?;

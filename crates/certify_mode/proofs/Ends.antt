@@ -19,7 +19,7 @@ use Rattle.model_texts.specs.HeldModels.{HoldsModel}
 use Rattle.model_texts.proofs.FirstFaults.{one_text_fault, no_text_fault}
 use Rattle.model_texts.proofs.OneModel.{one_model}
 use Rattle.certify_mode.specs.declared.fault.CertifyFault.{CertifyFault}
-use Rattle.certify_mode.specs.declared.fault.CertifyFault.TheVariants.{TwoObjectives}
+use Rattle.certify_mode.specs.declared.fault.CertifyFault.TheVariants.{Model as InModel, TwoObjectives}
 use Rattle.certify_mode.specs.declared.holding.HeldCompilation.{HeldCompilation}
 use Rattle.certify_mode.specs.Holding.{HoldsCompiled, HasTwo, HasFault}
 use Rattle.certify_mode.specs.Certified.{IsCertifying, Gives}

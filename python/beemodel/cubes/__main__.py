@@ -22,8 +22,8 @@ def words() -> argparse.ArgumentParser:
     made.add_argument("--jobs", type=count, default=1, help="workers here, or on each host (1)")
     made.add_argument("--hosts", type=Path, help="a file of hosts, as GNU parallel's --sshloginfile")
     made.add_argument("--slurm", action="store_true", help="array jobs, whose nodes see the folder of work")
-    made.add_argument("--worker", choices=("cadical", "bee"), default="cadical", help="the solver")
-    made.add_argument("--solver", help="where the solver is on each machine (on the path)")
+    made.add_argument("--worker", choices=("bee", "cadical"), default="bee", help="the solver (bee)")
+    made.add_argument("--solver", help="where the solver is on each machine (here BEE, on hosts on the path)")
     made.add_argument("--program", help="bee (the variable BEE, or ./bee)")
     made.add_argument("--folder", type=Path, help="the folder of work (MODEL.cubes, removed at the end)")
     made.add_argument("--host-folder", default="/tmp", dest="away", help="where hosts have theirs (/tmp)")
@@ -83,7 +83,7 @@ def main() -> int:
         return 3
     except SystemExit as fault:
         tell("stopped; the same command with --resume goes on")
-        return int(fault.code)
+        return int(fault.code or 0)
     if told:
         tell(told)
         return 4

@@ -2,6 +2,7 @@
 from __future__ import annotations
 
 import heapq
+import os
 import shutil
 import time
 from pathlib import Path
@@ -31,6 +32,23 @@ class Engine(Protocol):
     def bound(self, literal: int) -> None: ...
     def name_of(self, machine: str) -> str: ...
     def leave_out(self, machine: str) -> bool: ...
+
+
+class NoEngine:
+    """What stands in the engine's place until the run begins."""
+
+    workers = 0
+
+    def queue(self, cubes: list[Cube], avoided: str = "-") -> None: ...
+    def next(self, seconds: float) -> Optional[Ended]: ...
+    def stop(self, name: str) -> None: ...
+    def bound(self, literal: int) -> None: ...
+
+    def name_of(self, machine: str) -> str:
+        return machine
+
+    def leave_out(self, machine: str) -> bool:
+        return False
 
 
 class Settings(NamedTuple):
@@ -92,7 +110,7 @@ class Conquest:
         self.is_found, self.is_closed = False, False
         self.bound: Optional[list[int]] = None
         self.told, self.told_at = "", 0.0
-        self.engine: Optional[Engine] = None
+        self.engine: Engine = NoEngine()
 
     # Cubes are made.
 
@@ -111,9 +129,12 @@ class Conquest:
         return True
 
     def make_cubes(self) -> None:
-        """Splits until there are as many cubes as are to be made first, the one with most open variables first."""
+        """Splits until there are as many cubes as are to be made first, the one with most open variables first. Where
+        some are refuted a run goes on, and its cubes stay."""
         if self.journal.best is not None:
             self.take_bound()
+        if self.tree.refuted:
+            return
         heap = [(-self.open_variables(it), it) for it in self.tree.open_leaves()]
         heapq.heapify(heap)
         while heap and len(heap) < self.settings.cubes:
@@ -149,7 +170,7 @@ class Conquest:
                 self.tree.close_all()
                 break
             end = engine.next(0.5)
-            if end is not None and end.name in self.started:
+            if end is not None and (end.name in self.started or end.name in self.waiting):
                 self.take(end)
             self.stop_long_ones()
             self.show()
@@ -183,7 +204,8 @@ class Conquest:
         """Takes what a worker wrote."""
         path = self.folder / "out" / f"{end.name}.out"
         outcome = outcome_of(path)
-        self.started.pop(end.name)
+        if self.started.pop(end.name, None) is None:
+            self.waiting.remove(end.name)
         self.stopping.pop(end.name, None)
         machine = self.engine.name_of(end.machine)
         worker = f"{machine}/{end.slot}"
@@ -222,11 +244,12 @@ class Conquest:
 
     def take_bound(self) -> None:
         """Tells the workers what is better than the best value. Where nothing can be, all cubes are refuted."""
+        assert self.journal.best is not None
         self.bee.bound(self.journal.best, self.folder / "bounded")
         clause = last_clause(self.folder / "bounded", len(self.compiled.clauses))
         self.bound = clause
         self.is_closed = clause == [] or (clause is not None and not self.look_ahead.take_bound(clause[0]))
-        if clause and self.engine is not None:
+        if clause:
             self.engine.bound(clause[0])
 
     def take_failure(self, end: Ended) -> None:
@@ -235,17 +258,17 @@ class Conquest:
         told = (self.folder / "out" / f"{end.name}.err")
         lines = told.read_text(errors="replace").split("\n") if told.exists() else []
         why = next((it for it in lines if it), f"its worker ended with code {end.code}")
-        if end.code == 255 and end.machine in self.unreached or end.machine.startswith("-"):
+        if end.code == 255 and end.machine in self.unreached:
             self.leave_out(end.machine)
         if end.code == 255:
             self.unreached[end.machine] = 1
         self.fail(end, why)
 
     def leave_out(self, machine: str) -> None:
-        name = self.engine.name_of(machine)
-        if not self.engine.leave_out(machine):
+        if self.engine.leave_out(machine):
+            tell(f"{self.engine.name_of(machine)} can't be reached: it is given no more cubes")
+        if not self.engine.workers:
             raise ProgramError("no machine is left")
-        tell(f"{name} can't be reached: it is given no more cubes")
 
     def fail(self, end: Ended, why: str) -> None:
         """Tells that a cube failed, and has it run again, unless that was often enough."""
@@ -262,7 +285,7 @@ class Conquest:
         """Joins the parts and makes the answer. Where a part is refused, its cube is open again, and the answer is
         no."""
         found = self.folder / "found"
-        joined, bad = None, None
+        joined, bad, begun = None, None, time.process_time()
         if self.is_found:
             shutil.copy(self.values, found)
         else:
@@ -270,8 +293,12 @@ class Conquest:
                 joined = self.join(found)
             except NoHints as fault:
                 bad = fault.name
+        took, below = time.process_time() - begun, os.times().children_user
         line = 0 if bad else self.bee.certify(found, answer)
         if not bad and line == 0:
+            if self.settings.progress:
+                size, below = found.stat().st_size, os.times().children_user - below
+                tell(f"{size} bytes, joined in {took:.1f} seconds and certified in {below:.1f}, of CPU time")
             found.unlink()
             return True
         bad = bad or (joined.cube_of(line) if joined else None)
@@ -287,10 +314,9 @@ class Conquest:
     def join(self, found: Path) -> Joined:
         """Writes what was found as one text."""
         values = self.values if self.journal.best is not None else None
+        lines: Hinted | Plain = Plain(self.tree, self.parts)
         if self.settings.are_hinted:
             lines = Hinted(self.tree, self.parts, self.compiled, self.bound)
-        else:
-            lines = Plain(self.tree, self.parts)
         with open(found, "w") as to:
             return join(self.tree, lines, values, to)
 

@@ -39,6 +39,7 @@ class GnuParallel:
 
     def __init__(self, folder: Path, machines: list[Machine]):
         self.folder, self.machines = folder, machines
+        self.names = {str(it.number): it.name for it in machines}
         self.workers = sum(it.slots for it in machines)
         self.ends: queue.SimpleQueue[Optional[Ended]] = queue.SimpleQueue()
         for it in [*folder.glob("gone.*"), *folder.glob("slot.*")]:
@@ -59,12 +60,14 @@ class GnuParallel:
         threading.Thread(target=self.listen, daemon=True).start()
 
     def listen(self) -> None:
+        assert self.process.stdout is not None
         for line in self.process.stdout:
             self.ends.put(ended(line))
         self.ends.put(None)
 
     def queue(self, cubes: list[Cube], avoided: str = "-") -> None:
         """Puts cubes behind those that wait. One that failed on a machine runs on another, where there is one."""
+        assert self.process.stdin is not None
         others = [it for it in self.machines if str(it.number) != avoided]
         for it in cubes:
             literals = " ".join(map(str, it.literals))
@@ -93,14 +96,16 @@ class GnuParallel:
 
     def name_of(self, machine: str) -> str:
         """What a machine is called, by its number."""
-        return next((it.name for it in self.machines if str(it.number) == machine), machine)
+        return self.names.get(machine, machine)
 
     def leave_out(self, machine: str) -> bool:
-        """Gives a machine no more cubes. The answer is whether there is another one."""
+        """Gives a machine no more cubes. The answer is whether it had some until now."""
+        if all(str(it.number) != machine for it in self.machines):
+            return False
         (self.folder / f"gone.{machine}").touch()
         self.machines = [it for it in self.machines if str(it.number) != machine]
         self.workers = sum(it.slots for it in self.machines)
-        return bool(self.machines)
+        return True
 
     def close(self) -> None:
         """Ends all workers. Those on other machines end by themselves, once who started them is gone."""
@@ -212,7 +217,7 @@ class Slurm:
 
     def leave_out(self, machine: str) -> bool:
         """Slurm leaves out its own nodes."""
-        return True
+        return False
 
     def close(self) -> None:
         """Ends all workers."""

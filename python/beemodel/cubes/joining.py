@@ -67,7 +67,7 @@ class Hinted:
     def __init__(self, tree: Tree, parts: Path, compiled: Compiled, bound: Optional[list[int]]):
         self.tree, self.parts = tree, parts
         self.count = len(compiled.clauses)
-        self.hints = Hints(compiled, bound)
+        self.hints, self.bound = Hints(compiled, bound), bound[0] if bound else None
         self.units = {it[0] for it in compiled.clauses if len(it) == 1}
         # The id that the next clause has; the ids of cubes' clauses; and those of bounds.
         self.next = self.count + 2
@@ -77,6 +77,10 @@ class Hinted:
     def lines(self, name: str) -> Iterator[str]:
         """What is written for a cube."""
         literals = self.tree.cube(name).literals
+        if self.bound is not None and -self.bound in literals:
+            # The bound makes what the cube leaves out true.
+            self.ids[name] = self.count + 1
+            return
         if name in self.tree.refuted:
             yield from self.part(name, literals)
             return
@@ -86,69 +90,104 @@ class Hinted:
                 raise NoHints(name)
         else:
             hints = [self.ids[f"{name}0"], self.ids[f"{name}1"]]
-        yield self.line(name, [-it for it in literals], hints)
+        yield self.shown(name, [-it for it in literals], hints)
 
-    def line(self, name: str, literals: list[int], hints: list[int]) -> str:
+    def line(self, name: str, literals: list[str], hints: list[str]) -> str:
         """A clause under the next id."""
         self.ids[name] = self.next
         self.next += 1
-        words = [self.ids[name], *literals, 0, *hints, 0]
-        return " ".join(map(str, words)) + "\n"
+        return f"{self.ids[name]} {' '.join([*literals, '0', *hints])} 0\n"
+
+    def shown(self, name: str, literals: list[int], hints: list[int]) -> str:
+        """A clause of numbers under the next id."""
+        return self.line(name, [str(it) for it in literals], [str(it) for it in hints])
 
     def part(self, name: str, literals: tuple[int, ...]) -> Iterator[str]:
-        """The lines of a part under ids of their own."""
+        """The lines of a part under ids of their own. Ids of this text are words, and empty for what is no clause
+        here."""
+        ids: dict[str, str] = {}
+        cleaner, own = None, ["no line"]
         behind = [str(-it) for it in literals]
-        negated, ids = set(behind), {}
         with open(self.parts / name, errors="replace") as text:
             for line in text:
                 words = line.split()
-                if words[0] == "c":
-                    if words[1] == "bound" and len(words) > 2:
-                        yield from self.bound_line(name, int(words[2]))
-                        ids |= self.unit_ids(literals, int(words[2]))
-                    elif words[1] == "bound":
-                        ids |= self.unit_ids(literals, None)
+                if words[:2] == ["c", "bound"]:
+                    bound = int(words[2]) if len(words) > 2 else None
+                    yield from self.bound_line(name, bound)
+                    ids = self.unit_ids(literals, bound)
+                    if self.bound and self.bound != bound:
+                        cleaner = Cleaner(self.hints.clauses, self.bound, self.bounds)
+                if words[:1] == ["c"]:
                     continue
-                try:
-                    end = words.index("0")
-                    hints = [self.id_of(it, ids) for it in words[end + 1 : -1]]
-                except (ValueError, KeyError) as fault:
-                    raise NoHints(name) from fault
-                self.ids[name] = ids[words[0]] = self.next
-                self.next += 1
-                own = [it for it in words[1:end] if it not in negated]
-                kept = [str(it) for it in hints if it]
-                yield " ".join([str(self.ids[name]), *own, *behind, "0", *kept, "0\n"])
-        if name not in self.ids:
+                if words[-1:] != ["0"] or "0" not in words[1:-1]:
+                    raise NoHints(name)
+                end = words.index("0", 1)
+                own = words[1:end]
+                clause = [it for it in own if it not in behind] + behind
+                hints = [ids.get(it, it) for it in words[end + 1 : -1]]
+                if cleaner:
+                    hints = cleaned(cleaner, name, self.next, clause, hints)
+                ids[words[0]] = str(self.next) if hints else ""
+                if hints:
+                    yield self.line(name, clause, hints)
+        if own:
             raise NoHints(name)
 
-    def id_of(self, hint: str, ids: dict[str, int]) -> int:
-        """The id of what a worker's hint names, or 0 where that is a literal of the cube."""
-        found = ids.get(hint)
-        if found is None:
-            found = int(hint)
-            if found > self.count:
-                raise KeyError(hint)
-        return found
-
-    def unit_ids(self, literals: tuple[int, ...], bound: Optional[int]) -> dict[str, int]:
+    def unit_ids(self, literals: tuple[int, ...], bound: Optional[int]) -> dict[str, str]:
         """What the ids of a worker's units are here. One that is a clause already has no id of its own."""
         found, seen, number = {}, set(self.units), self.count
         for it in (*literals, *([] if bound is None else [bound])):
             if it not in seen:
                 seen.add(it)
                 number += 1
-                found[str(number)] = 0 if it in literals else self.bounds[it]
+                found[str(number)] = "" if it in literals else str(self.bounds[it])
         return found
 
-    def bound_line(self, name: str, bound: int) -> Iterator[str]:
+    def bound_line(self, name: str, bound: Optional[int]) -> Iterator[str]:
         """The bound that a worker had, where another one is better by now: it follows from that one."""
-        if bound not in self.bounds:
+        if bound is not None and bound not in self.bounds:
             hints = self.hints.refute([-bound])
             if hints is None:
                 raise NoHints(name)
-            yield self.line(f"bound {bound}", [bound], hints)
+            yield self.shown(f"bound {bound}", [bound], hints)
             self.bounds[bound] = self.ids[f"bound {bound}"]
+
+
+class Cleaner:
+    """Hints of a part whose worker had a weaker bound, or none, by which each line follows once the bound is true from
+    the start: a clause that this makes true, or tells nothing new, is no hint."""
+
+    def __init__(self, clauses: list[list[int]], bound: int, bounds: dict[int, int]):
+        self.clauses, self.bound = clauses, bound
+        self.added = {number: [literal] for literal, number in bounds.items()}
+
+    def clean(self, number: int, clause: list[int], hints: list[int]) -> list[int]:
+        """The hints of the next clause, that of the bound first; none where the bound makes the clause true, which is
+        then left out."""
+        self.added[number] = clause
+        if self.bound in clause:
+            return []
+        false = {*clause, -self.bound}
+        kept = [len(self.clauses)]
+        for it in hints:
+            lits = self.added[it] if it in self.added else self.clauses[it - 1]
+            still_open = [lit for lit in lits if lit not in false]
+            if len(still_open) > 1 or (still_open and -still_open[0] in false):
+                continue
+            kept.append(it)
+            if not still_open:
+                break
+            false.add(-still_open[0])
+        return kept
+
+
+def cleaned(cleaner: Cleaner, name: str, number: int, clause: list[str], hints: list[str]) -> list[str]:
+    """The hints that a cleaner leaves of a line of a cube's part."""
+    try:
+        kept = cleaner.clean(number, [int(it) for it in clause], [int(it) for it in hints if it])
+    except (ValueError, KeyError, IndexError) as fault:
+        raise NoHints(name) from fault
+    return [str(it) for it in kept]
 
 
 def join(tree: Tree, lines: Plain | Hinted, values: Optional[Path], to: TextIO) -> Joined:

@@ -3,6 +3,7 @@ from __future__ import annotations
 
 import time
 from collections.abc import Iterable
+from itertools import islice
 from typing import NamedTuple, Optional
 
 from .clauses import Compiled
@@ -104,7 +105,8 @@ class LookAhead:
         for clause in compiled.clauses:
             for it in clause:
                 self.count[abs(it)] += 1
-        self.booleans = sorted(set(map(abs, compiled.booleans.values())), key=lambda it: -self.count[it])
+        names = {abs(it) for it in compiled.booleans.values()}
+        self.booleans = sorted(names, key=lambda it: -self.count[it])
         self.steps = list({it.steps: [s for s, _ in it.steps] for it in compiled.integers.values()}.values())
         self.propagator = Propagator(compiled.variables, [list(it) for it in compiled.clauses])
         self.root = len(self.propagator.trail)
@@ -131,12 +133,11 @@ class LookAhead:
             return None
         best, found, end = -1, None, time.monotonic() + SECONDS
         for literal in self.candidates():
-            sides = self.propagator.probe(literal), self.propagator.probe(-literal)
-            if None in sides:
-                return Choice(literal, (sides[0] is None, sides[1] is None))
-            score = sides[0] * sides[1]
-            if score > best:
-                best, found = score, Choice(literal, (False, False))
+            one, other = self.propagator.probe(literal), self.propagator.probe(-literal)
+            if one is None or other is None:
+                return Choice(literal, (one is None, other is None))
+            if one * other > best:
+                best, found = one * other, Choice(literal, (False, False))
             if time.monotonic() > end:
                 break
         return found
@@ -152,8 +153,7 @@ class LookAhead:
                 middle = still_open[len(still_open) // 2]
                 middles.append((-len(still_open) * self.count[abs(middle)], middle))
         found = [middle for _, middle in sorted(middles)[:TRIED]]
-        still_open = (it for it in self.booleans if not value[it])
-        found += [it for it, _ in zip(still_open, range(TRIED))]
+        found += list(islice((it for it in self.booleans if not value[it]), TRIED))
         if not found:
             rest = [it for it in range(1, len(self.count)) if not value[it]]
             found = sorted(rest, key=lambda it: -self.count[it])[:1]

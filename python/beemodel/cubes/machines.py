@@ -42,7 +42,7 @@ def read_hosts(listed: Path, folder: Path, jobs: int, away: str) -> list[Machine
     """The machines of a file, in the form of GNU parallel's `--sshloginfile`: a line for each, its number of workers
     and `/` before it where that isn't `jobs`; `:` for this machine; a name, or the words that reach it."""
     mark = hashlib.sha256(f"{socket.gethostname()} {folder}".encode()).hexdigest()[:12]
-    found = []
+    found: list[Machine] = []
     for line in listed.read_text().splitlines():
         line = line.split("#")[0].strip()
         if not line:

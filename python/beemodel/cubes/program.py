@@ -26,6 +26,7 @@ GOAL = r"\bsolve\s+(satisfy|minimize|maximize)\b\s*(\w+)?\s*(?:then\s+(\w+))?\s*
 def goal_of(text: str) -> Goal:
     """The goal of the text of a model that is in form."""
     found = re.search(GOAL, without_comments(text))
+    assert found is not None
     return Goal(found[1], tuple(it for it in found.groups()[1:] if it))
 
 

@@ -4,10 +4,11 @@ from __future__ import annotations
 import fcntl
 import hashlib
 import shutil
+import tempfile
 from collections.abc import Iterator
 from contextlib import contextmanager
 from pathlib import Path
-from typing import NamedTuple, Optional, Union
+from typing import Any, NamedTuple, Optional, Union
 
 from ..running import Answer, ProgramError, program_of, read_answer
 from .clauses import Compiled
@@ -37,7 +38,7 @@ class Request(NamedTuple):
     jobs: int = 1
     hosts: Optional[Path] = None
     slurm: bool = False
-    worker: str = "cadical"
+    worker: str = "bee"
     solver: Optional[str] = None
     program: Optional[str] = None
     cubes: Optional[int] = None
@@ -196,6 +197,7 @@ def take_first_values(conquest: Conquest, values: dict) -> None:
 def conquer(conquest: Conquest, machines: list[Machine], request: Request, answer: Path) -> None:
     """Runs the cubes until there is an answer."""
     conquest.make_cubes()
+    engine: Slurm | GnuParallel
     if request.slurm:
         engine = Slurm(conquest.folder, request.jobs)
     else:
@@ -229,20 +231,21 @@ def solve_in_cubes(
     jobs: int = 1,
     hosts: Union[str, Path, None] = None,
     slurm: bool = False,
-    worker: str = "cadical",
+    worker: str = "bee",
     program: Optional[str] = None,
     folder: Union[str, Path, None] = None,
-    **more: object,
+    **more: Any,
 ) -> Answer:
     """Answers the text of a model by workers side by side, and has the answer checked.
 
-    `jobs` is how many workers there are here, or on each machine of the file `hosts`; `slurm` gives them to Slurm.
-    `more` are the other fields of `Request`. With a folder, the texts stay there.
+    `jobs` is how many workers there are here, or on each machine of the file `hosts`; `slurm` gives them to Slurm, whose
+    nodes see the folder. `more` are the other fields of `Request`. With a folder, the texts stay there, and so does the
+    journal of a run that was ended.
     """
-    at = Path(folder) if folder is not None else Path("model.cubes")
     listed = Path(hosts) if hosts is not None else None
     request = Request(jobs, listed, slurm, worker, program=program, **more)
-    answer = read_checked(solve_all(text, at, request), program)
-    if folder is None:
-        shutil.rmtree(at)
-    return answer
+    if slurm and folder is None:
+        raise ProgramError("Slurm wants a folder that its nodes see")
+    with tempfile.TemporaryDirectory(prefix="beemodel-") as made:
+        at = Path(folder if folder is not None else made)
+        return read_checked(solve_all(text, at, request), program)

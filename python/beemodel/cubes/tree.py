@@ -4,7 +4,7 @@ from __future__ import annotations
 import os
 from collections.abc import Iterator
 from pathlib import Path
-from typing import NamedTuple, Optional
+from typing import NamedTuple, Optional, TextIO
 
 ROOT = "c"
 
@@ -73,7 +73,7 @@ class Journal:
         self.path, self.tree = path, tree
         self.best: Optional[int] = None
         self.model = ""
-        self.file = None
+        self.file: Optional[TextIO] = None
 
     def read(self) -> None:
         """Takes what a journal says. A last line that is cut short is passed over, and so is what none writes."""
@@ -97,13 +97,13 @@ class Journal:
         self.path.parent.mkdir(parents=True, exist_ok=True)
         cut = self.path.exists() and not self.path.read_bytes().endswith(b"\n") and self.path.stat().st_size > 0
         self.file = open(self.path, "a")
-        if cut:
-            self.file.write("\n")
+        self.file.write("\n" if cut else "")
         if not self.model:
             self.add("model", sum_of_text)
 
     def add(self, *words: object) -> None:
         """Adds a line, and takes it."""
+        assert self.file is not None
         told = [str(it) for it in words]
         self.file.write(" ".join(told) + "\n")
         self.file.flush()

@@ -27,5 +27,6 @@ returns c =
       document = record { verdict = c.in-Shown.verdict; assignment = c.in-Shown.assignment; ledger = c.args.compiled.ledger; proof = c.in-Shown.proof; second = None };
       spelled = made.spelled;
       verdict = refl;
+      adds = made.adds;
       shows = subst (λ (f : Found). IsFound (sought_of c.args.model.now c.args.compiled) c.args.text.now f) c.in-Shown.is c.in_ok-line.ensures;
     }

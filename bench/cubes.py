@@ -1,0 +1,107 @@
+#!/usr/bin/env python3
+"""Times `python3 -m beemodel.cubes` over workers and cubes: cubes.py [MODEL ..].
+
+A line for each run: the model; workers; cubes made first; wall-clock seconds until the answer stands; cubes refuted; CPU
+seconds of the workers together, and of the cube that took most; the least wall-clock seconds that a schedule of these
+cubes in their order gives so many workers of one processor each; CPU seconds of joining, `bee certify` and `bee check`;
+and bytes of the joined text. Without MODEL those of MODELS are made. Each answer is checked.
+
+JOBS ("1 2 4") and CUBES ("4 16 64 256") name others; WORKER is `bee` or `cadical`; BEE the program. On a machine that
+does other work, CPU seconds and the schedule say more than wall-clock seconds. Wants GNU parallel."""
+import heapq, os, re, resource, subprocess, sys, tempfile, time
+from pathlib import Path
+
+TOP = Path(__file__).resolve().parents[1]
+sys.path.insert(0, str(TOP / "bench"))
+import cnfs, optima
+
+BEE = os.environ.get("BEE") or str(TOP / "crates/bee/out/bee")
+JOBS = [int(it) for it in os.environ.get("JOBS", "1 2 4").split()]
+CUBES = [int(it) for it in os.environ.get("CUBES", "4 16 64 256").split()]
+WORKER = os.environ.get("WORKER", "bee")
+
+
+def pigeons(count):
+    """Pigeons, one more than holes."""
+    cnf = cnfs.Clauses()
+    cnfs.pigeons(cnf, count, 0)
+    return of_clauses(cnf)
+
+
+def parity(size):
+    """Two chains of exclusive ors that differ."""
+    cnf = cnfs.Clauses()
+    cnfs.parity(cnf, size, 1)
+    return of_clauses(cnf)
+
+
+def of_clauses(cnf):
+    """A model of Booleans that has these clauses."""
+    lines = [f"new_bool(v{it})" for it in range(1, cnf.count + 1)]
+    for clause in cnf.list:
+        lines.append(f"bool_array_or([{','.join(f'v{it}' if it > 0 else f'-v{-it}' for it in clause)}])")
+    return [*lines, "solve satisfy"]
+
+
+MODELS = {
+    "pigeons-10": lambda: pigeons(10),
+    "pigeons-11": lambda: pigeons(11),
+    "parity-32": lambda: parity(32),
+    "jobs-10": lambda: optima.jobs(10),
+    "golomb-8": lambda: optima.golomb(8),
+    "golomb-9": lambda: optima.golomb(9),
+    "golomb-10": lambda: optima.golomb(10),
+}
+
+
+def children():
+    return resource.getrusage(resource.RUSAGE_CHILDREN).ru_utime
+
+
+def schedule(seconds, workers):
+    """When the last of these ends, where each worker takes the next one."""
+    ends = [0.0] * workers
+    for it in seconds:
+        heapq.heapreplace(ends, ends[0] + it)
+    return max(ends)
+
+
+def run(name, model, workers, cubes, folder):
+    """One run, and its line."""
+    journal, kept, answer = folder / "journal", folder / "kept", folder / "answer"
+    for it in (journal, kept):
+        it.unlink(missing_ok=True)
+    journal.touch()
+    os.link(journal, kept)
+    words = [sys.executable, "-m", "beemodel.cubes", str(model), "--jobs", str(workers), "--cubes", str(cubes)]
+    words += ["--worker", WORKER, "--program", BEE, "--look", os.environ.get("LOOK", "0"), "--progress", "--resume"]
+    words += ["--joblog", str(journal), "--folder", str(folder / "work"), "--share", os.environ.get("SHARE", "5")]
+    begun = time.monotonic()
+    with open(answer, "w") as to:
+        env = {**os.environ, "PYTHONPATH": str(TOP / "python")}
+        ran = subprocess.run(words, stdout=to, stderr=subprocess.PIPE, text=True, env=env)
+    wall = time.monotonic() - begun
+    each = [float(it.split()[3]) for it in kept.read_text().splitlines() if it.startswith("refuted")]
+    total = [float(it) for it in re.findall(r"\S+/\d+ ([\d.]+)", ran.stderr.splitlines()[-2])] if each else []
+    size, joined, certified = re.findall(r"(\d+) bytes, joined in (\S+) seconds and certified in (\S+),", ran.stderr)[0]
+    before = children()
+    checked = subprocess.run([BEE, "check", str(model), str(answer)], capture_output=True, text=True)
+    took = children() - before
+    print(f"{name} {workers} {cubes} {wall:.1f} {len(each)} {sum(total):.1f} {max(each, default=0):.1f}",
+        f"{schedule(each, workers):.1f} {joined} {certified} {took:.1f} {size} {checked.stdout.strip()}", flush=True)
+
+
+def main():
+    print("model workers cubes wall refuted cpu most schedule joining certify check bytes verdict")
+    with tempfile.TemporaryDirectory(prefix="bench-cubes-") as at:
+        folder = Path(at)
+        for name in sys.argv[1:] or list(MODELS):
+            model = folder / "model.bee"
+            model.write_text(Path(name).read_text() if name not in MODELS else "\n".join(MODELS[name]()) + "\n")
+            for cubes in CUBES:
+                for workers in JOBS:
+                    run(Path(name).stem, model, workers, cubes, folder)
+
+
+if __name__ == "__main__":
+    main()

@@ -143,17 +143,18 @@ class Presolve:
         atom: Comparison,
         factor: int,
     ) -> None:
-        """Adds the price of a comparison for each value of its integer."""
+        """Adds the price of a comparison for each value of its integer where it holds."""
         inner, constant = flatten(atom.number)
-        price = prices.setdefault(variable, dict.fromkeys(self.bounds.domains[variable], 0))
-        if atom.relation == "eq" and len(inner) == 1:
+        price, domain = prices.setdefault(variable, {}), self.bounds.domains[variable]
+        if atom.relation == "eq":
             value, rest = divmod(-constant, inner[variable])
-            if not rest and value in price:
-                price[value] += factor
+            if not rest and value in domain:
+                price[value] = price.get(value, 0) + factor
             return
-        for value in price:
+        for value in domain:
             left = inner[variable] * value + constant
-            price[value] += factor * (left <= 0 if atom.relation == "leq" else left != 0)
+            if left <= 0 if atom.relation == "leq" else left != 0:
+                price[value] = price.get(value, 0) + factor
 
     def sides(self, number: Number) -> tuple[AtMostZero, AtMostZero]:
         """A sum by what it is at least, and its negation."""

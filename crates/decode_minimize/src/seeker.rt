@@ -147,7 +147,9 @@ impl<'a> Seeker<'a> {
         ensures readable { AreReadableLines result.lines }
     {
         let Seeker {
-            solver, incumbent, ..
+            solver,
+            incumbent,
+            ..
         } = self;
         SeekerLog {
             lines: solver.into_log(),

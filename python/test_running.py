@@ -1,4 +1,6 @@
 """Searches that are stopped, begun from values, and bettered; and where the program is sought."""
+import contextlib
+import io
 import itertools
 import operator
 import os
@@ -202,6 +204,15 @@ class Stopped(unittest.TestCase):
         self.assertEqual((answer.verdict, answer.objective, answer.bound), ("OPTIMUM", 2, 2))
         self.assertEqual((found[-1][x], found[-1][x + y], answer.stopped), (1, 2, None))
         self.assertEqual(list(found[-1].values), ["x", "y"])
+
+    def test_progress(self):
+        """Shown on standard error alone where it is wanted, without the values."""
+        for is_shown in (False, True):
+            with contextlib.redirect_stderr(io.StringIO()) as told:
+                solve_text(TEXT, seconds=0.5, progress=is_shown, program=self.false_program())
+            lines = [re.sub(r"[\d.]+ s$", "s", it) for it in told.getvalue().splitlines()]
+            heads = ["bee: best 5, 3 clauses learned, s", "bee: best 4, 7 clauses learned, s"]
+            self.assertEqual(lines, heads if is_shown else [])
 
     def test_any_solution_is_handed_on_once(self):
         model, found = Model(), []

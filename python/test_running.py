@@ -1,8 +1,11 @@
 """Searches that are stopped, begun from values, and bettered; and where the program is sought."""
+import contextlib
+import io
 import itertools
 import operator
 import os
 import random
+import re
 import shutil
 import signal
 import stat
@@ -202,6 +205,15 @@ class Stopped(unittest.TestCase):
         self.assertEqual((found[-1][x], found[-1][x + y], answer.stopped), (1, 2, None))
         self.assertEqual(list(found[-1].values), ["x", "y"])
 
+    def test_progress(self):
+        """Shown on standard error alone where it is wanted, without the values."""
+        for is_shown in (False, True):
+            with contextlib.redirect_stderr(io.StringIO()) as told:
+                solve_text(TEXT, seconds=0.5, progress=is_shown, program=self.false_program())
+            lines = [re.sub(r"[\d.]+ s$", "s", it) for it in told.getvalue().splitlines()]
+            heads = ["bee: best 5, 3 clauses learned, s", "bee: best 4, 7 clauses learned, s"]
+            self.assertEqual(lines, heads if is_shown else [])
+
     def test_any_solution_is_handed_on_once(self):
         model, found = Model(), []
         model.add(model.int("x", 1, 3) > 2)
@@ -254,6 +266,47 @@ class Begun(unittest.TestCase):
                 model.solve(start=start, program=PROGRAM)
         with self.assertRaisesRegex(ModelError, "start: x: 1.5 is no whole number"):
             model.solve(start={x: 1.5}, program=PROGRAM)
+
+
+class Resumed(unittest.TestCase):
+    """A program that has the mode `resume`: here one that keeps the values and solves."""
+
+    def setUp(self):
+        folder = tempfile.TemporaryDirectory()
+        self.addCleanup(folder.cleanup)
+        self.kept, self.program = Path(folder.name, "kept"), Path(folder.name, "bee")
+        lines = ["#!/bin/sh", 'if [ "$1" = resume ]; then', f'  cp "$3" "{self.kept}"; model=$2; shift 3']
+        lines += [f'  exec "{PROGRAM}" solve "$model" "$@"', "fi", f'exec "{PROGRAM}" "$@"']
+        self.program.write_text("\n".join(lines) + "\n")
+        self.program.chmod(stat.S_IRWXU)
+
+    def test_values_are_handed_on(self):
+        """By name, but for those that are in no domain of the text."""
+        model = Model()
+        x, y, rain = model.int("x", 1, 5), model.int("y", 1, 5), model.bool("rain")
+        model.add(x + y > 6, rain.implies(x > y), y != 5)
+        model.minimize(x - y)
+        start = {x: 4, "y": 5, rain: 0}
+        answer = model.solve(start=start, program=str(self.program), presolve=False)
+        self.assertEqual((answer.verdict, answer.objective), ("OPTIMUM", -1))
+        self.assertEqual(self.kept.read_text(), "x = 4\nrain = false\n")
+
+    def test_the_last_call_begins_with_the_best_plan(self):
+        answer = shop(4, 3, 2).improve(60, steps=2, seed=1, program=str(self.program))
+        self.assertEqual(answer.verdict, "OPTIMUM")
+        told = dict(re.findall(r"(\w+) = (\w+)", self.kept.read_text()))
+        self.assertLessEqual({*answer.values}, {*told})
+
+
+class Cubes(unittest.TestCase):
+    def test_jobs(self):
+        if shutil.which("parallel") is None or shutil.which("flock") is None:
+            self.skipTest("there is no GNU parallel")
+        model, x, y = two()
+        for how in ({"jobs": 2}, {"hosts": ["2/:"]}):
+            answer = model.solve(program=PROGRAM, **how)
+            self.assertEqual((answer.verdict, answer.objective, answer.bound), ("OPTIMUM", 2, 2))
+            self.assertEqual((answer[x], answer[y]), (1, 1))
 
 
 class Improved(unittest.TestCase):

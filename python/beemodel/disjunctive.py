@@ -168,8 +168,8 @@ def no_overlap(tasks: Iterable[Interval], setup: Gaps = None) -> Truth:
     """Of each two tasks one ends before the other one begins; with set-up times the first one and
     `setup[i][j]`, where task i is before task j.
 
-    One Boolean for each pair says which one is first; all that ask for it share it. Weight: 10 for
-    each value of each pair.
+    One Boolean for each pair says which one is first; all that ask for it share it. Weight: 20 for
+    each value, for each pair.
     """
     each = [*tasks]
     for it in each:

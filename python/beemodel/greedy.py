@@ -19,7 +19,7 @@ Variable = IntegerVariable | BooleanVariable
 TRIED = 24
 
 # So much work is done at most, beyond that of the presolve.
-LIMIT = 1_500_000
+LIMIT = 500_000
 
 # After so many conflicts no plan is made.
 CONFLICTS = 60
@@ -52,19 +52,21 @@ class Greedy:
             self.bounds.undo(mark)
 
     def fix_all(self, variables: list[Variable]) -> None:
-        """Fixes one variable after another."""
-        while variables:
-            variables = [it for it in variables if not self.bounds.is_fixed(it)]
-            if not variables or self.bounds.work > self.bounds.limit:
-                break
-            self.fix(min(variables, key=self.urgency))
+        """Fixes the integers, the most urgent first, and then the Booleans, one after another."""
+        integers = [it for it in variables if not isinstance(it, Truth)]
+        while integers and self.bounds.work < self.bounds.limit:
+            self.bounds.work += len(integers) // 4
+            integers = [it for it in integers if not self.bounds.is_fixed(it)]
+            if integers:
+                self.fix(min(integers, key=self.urgency))
+        for it in variables:
+            while not self.bounds.is_fixed(it) and self.bounds.work < self.bounds.limit:
+                self.fix(it)
 
-    def urgency(self, variable: Variable) -> tuple[int, int, int]:
-        """Integers before Booleans, the least first, and of these the one with the least room."""
+    def urgency(self, variable: Variable) -> tuple[int, int]:
+        """Of few values those with the least room first, and else the least."""
         low, high = self.bounds.low[variable], self.bounds.high[variable]
-        if high - low <= TRIED:
-            return isinstance(variable, Truth), high - low, low
-        return isinstance(variable, Truth), low, high
+        return (high - low, low) if high - low <= TRIED else (low, high)
 
     def fix(self, variable: Variable) -> None:
         """Gives a variable its best value, or else rules that out."""

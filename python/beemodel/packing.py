@@ -61,7 +61,7 @@ class Packing(Propagator):
 
     def __init__(self, places: Sequence[Number], sizes: Sequence[int], capacities: Sequence[AtMostZero]):
         self.places, self.sizes, self.capacities = places, sizes, capacities
-        self.size = 4 * len(places) + 2 * len(capacities)
+        self.size = 8 * len(places) + 2 * len(capacities)
 
     def run(self, bounds: Bounds) -> None:
         capacities = [-it.least(bounds) for it in self.capacities]

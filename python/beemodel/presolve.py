@@ -30,7 +30,7 @@ if TYPE_CHECKING:
     from .model import Goal, Model, Placed
 
 # So much work is done at most: a few seconds.
-LIMIT = 1_500_000
+LIMIT = 1_000_000
 
 # Comparisons of an integer of so many values with constants are prices by its value.
 PRICED = 500
@@ -143,17 +143,18 @@ class Presolve:
         atom: Comparison,
         factor: int,
     ) -> None:
-        """Adds the price of a comparison for each value of its integer."""
+        """Adds the price of a comparison for each value of its integer where it holds."""
         inner, constant = flatten(atom.number)
-        price = prices.setdefault(variable, dict.fromkeys(self.bounds.domains[variable], 0))
-        if atom.relation == "eq" and len(inner) == 1:
+        price, domain = prices.setdefault(variable, {}), self.bounds.domains[variable]
+        if atom.relation == "eq":
             value, rest = divmod(-constant, inner[variable])
-            if not rest and value in price:
-                price[value] += factor
+            if not rest and value in domain:
+                price[value] = price.get(value, 0) + factor
             return
-        for value in price:
+        for value in domain:
             left = inner[variable] * value + constant
-            price[value] += factor * (left <= 0 if atom.relation == "leq" else left != 0)
+            if left <= 0 if atom.relation == "leq" else left != 0:
+                price[value] = price.get(value, 0) + factor
 
     def sides(self, number: Number) -> tuple[AtMostZero, AtMostZero]:
         """A sum by what it is at least, and its negation."""

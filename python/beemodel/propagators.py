@@ -52,25 +52,44 @@ class Term(NamedTuple):
 
 
 class Prices:
-    """A price for each value of one integer."""
+    """A price for each value of one integer: that of some values, rising, and 0 for the others."""
 
     def __init__(self, atom: Number, rising: list[tuple[int, int]]):
         self.atom, self.rising = atom, rising
+        self.price = {value: price for price, value in rising}
 
     def least(self, bounds: Bounds) -> int:
         low, high = bounds.low[self.atom], bounds.high[self.atom]
-        holes = bounds.holes.get(self.atom, ())
+        if low == high:
+            return self.price.get(low, 0)
+        holes, is_free = bounds.holes.get(self.atom, ()), None
         for price, value in self.rising:
+            if price >= 0 and is_free is None:
+                is_free = self.is_free(bounds)
+            if is_free and price >= 0:
+                return 0
             if low <= value <= high and value not in holes:
                 return price
-        raise Conflict
+        return 0
+
+    def is_free(self, bounds: Bounds) -> bool:
+        """Whether a value may be taken that has no price."""
+        ends = bounds.low[self.atom], bounds.high[self.atom]
+        if any(it not in self.price for it in ends):
+            return True
+        return any(it not in self.price for it in bounds.values(self.atom))
 
     def keep_below(self, bounds: Bounds, most: int) -> None:
         """Values that cost more are ruled out."""
-        at = len(self.rising) - 1
-        while at >= 0 and self.rising[at][0] > most:
-            bounds.remove(self.atom, self.rising[at][1])
-            at -= 1
+        for at in range(len(self.rising) - 1, -1, -1):
+            price, value = self.rising[at]
+            if price <= most:
+                break
+            bounds.remove(self.atom, value)
+        if most < 0:
+            for value in [*bounds.values(self.atom)]:
+                if value not in self.price:
+                    bounds.remove(self.atom, value)
 
     def negated(self) -> Prices:
         return Prices(self.atom, [(-price, value) for price, value in reversed(self.rising)])

@@ -2,6 +2,7 @@
 from __future__ import annotations
 
 from collections.abc import Iterable, Sequence
+from itertools import accumulate
 from typing import TYPE_CHECKING, Any, Optional, Union
 
 from . import weights
@@ -198,28 +199,32 @@ def check_windows(spans: Sequence[Span], demands: Sequence[int], most: int) -> N
 
 def past_profile(spans: Sequence[Span], demands: Sequence[int], most: int) -> list[int]:
     """When each task can begin beside what the others take for sure."""
-    sure = [
-        (it.latest, it.first + it.duration, demand, at)
-        for at, (it, demand) in enumerate(zip(spans, demands))
-        if it.latest < it.first + it.duration
-    ]
-    for begin, _, _, _ in sure:
-        if sum(demand for first, end, demand, _ in sure if first <= begin < end) > most:
-            raise Conflict
-    return [first_place(it, demands[at], at, sure, most) for at, it in enumerate(spans)]
+    changes: dict[int, int] = {}
+    for it, demand in zip(spans, demands):
+        if it.latest < it.first + it.duration:
+            changes[it.latest] = changes.get(it.latest, 0) + demand
+            end = it.first + it.duration
+            changes[end] = changes.get(end, 0) - demand
+    times = sorted(changes)
+    heights = [*accumulate(changes[it] for it in times)]
+    if max(heights, default=0) > most:
+        raise Conflict
+    profile = [*zip(times, times[1:], heights)]
+    return [first_place(it, demand, profile, most) for it, demand in zip(spans, demands)]
 
 
 def first_place(
-    task: Span, demand: int, at: int, sure: Sequence[tuple[int, int, int, int]], most: int
+    task: Span, demand: int, profile: Sequence[tuple[int, int, int]], most: int
 ) -> int:
-    """When a task can begin beside what others take for sure: behind the end of one beside which it
-    takes too much."""
-    begin = task.first
-    others = sorted((it for it in sure if it[3] != at), key=lambda it: it[0])
-    for first, end, _, _ in others:
-        taken = sum(it[2] for it in others if it[0] <= first < it[1])
-        if task.duration and first < begin + task.duration and begin < end and taken + demand > most:
-            begin = max(begin, min(it[1] for it in others if it[0] <= first < it[1]))
+    """When a task can begin beside what others take for sure: behind the times at which it takes
+    too much."""
+    begin, own = task.first, range(task.latest, task.first + task.duration)
+    for first, end, height in profile if task.duration else ():
+        if first >= begin + task.duration:
+            break
+        taken = height - demand if first in own else height
+        if end > begin and taken + demand > most:
+            begin = end
     return begin
 
 

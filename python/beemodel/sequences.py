@@ -158,7 +158,7 @@ class ValuePrecede(Truth):
 
 def value_precede(numbers: Iterable[NumberLike], values: Iterable[int]) -> Truth:
     """Each of the values stands in the list only behind the value before it, as interchangeable
-    values do in one of their orders. Weight: 6 for each value and each place."""
+    values do in one of their orders. Weight: 20 for each value and each place."""
     return ValuePrecede([number_of(it) for it in numbers], [whole(it, "a value") for it in values])
 
 
@@ -265,5 +265,5 @@ def regular(
     steps: Mapping[State, Mapping[int, State]],
 ) -> Truth:
     """The list leads an automaton from its start to an accepting state; `steps[state][value]` is
-    the state behind a value. Weight: 6 for each state and value at each place."""
+    the state behind a value. Weight: 5 for each state and value at each place."""
     return Regular([number_of(it) for it in numbers], start, {*accepting}, steps)

@@ -10,7 +10,8 @@ from contextlib import contextmanager
 from pathlib import Path
 from typing import Any, NamedTuple, Optional, Union
 
-from ..running import Answer, ProgramError, program_of, read_answer
+from ..answers import Answer, ProgramError, Values, read_answer
+from ..program import program_of
 from .clauses import Compiled
 from .conquest import Conquest, Settings
 from .engines import GnuParallel, Slurm
@@ -180,7 +181,7 @@ def look_first(conquest: Conquest, budget: int, answer: Path) -> bool:
     return False
 
 
-def take_first_values(conquest: Conquest, values: dict) -> None:
+def take_first_values(conquest: Conquest, values: Values) -> None:
     """Makes values of the clauses of those of the names."""
     folder, compiled = conquest.folder, conquest.compiled
     units = compiled.literals_of(values)

@@ -167,7 +167,7 @@ class Joining(Folder):
         for name in ("c", "c0", "c1", "c01"):
             choice = look_ahead.choose(tree.cube(name).literals)
             tree.split[name] = choice.literal
-        compiled.write_for_workers(self.at)
+        compiled.write_for_workers(self.at, 5)
         (self.at / "solver").write_text(f"{kind} {solver}\n")
         for name in list(tree.leaves()):
             literals = map(str, tree.cube(name).literals)

@@ -158,7 +158,7 @@ def start_machines(conquest: Conquest, machines: list[Machine], request: Request
     """Looks whether all machines and programs are there, and sends what the workers need."""
     need_programs(["sbatch", "squeue"] if request.slurm else ["parallel", "flock"])
     (conquest.folder / "out").mkdir(exist_ok=True)
-    conquest.compiled.write_for_workers(conquest.folder)
+    conquest.compiled.write_for_workers(conquest.folder, request.share)
     for it in machines:
         solver = request.solver or request.worker
         if request.worker == "bee" and not request.solver and it.is_here:
@@ -238,8 +238,8 @@ def solve_in_cubes(
 ) -> Answer:
     """Answers the text of a model by workers side by side, and has the answer checked.
 
-    `jobs` is how many workers there are here, or on each machine of the file `hosts`; `slurm` gives them to Slurm, whose
-    nodes see the folder. `more` are the other fields of `Request`. With a folder, the texts stay there, and so does the
+    `jobs` is how many workers there are here, or on each machine of the file `hosts`; `slurm` gives them to Slurm,
+    whose nodes see the folder. `more` are the other fields of `Request`. With a folder, the texts stay there, and so does the
     journal of a run that was ended.
     """
     listed = Path(hosts) if hosts is not None else None

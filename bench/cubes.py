@@ -1,10 +1,10 @@
 #!/usr/bin/env python3
 """Times `python3 -m beemodel.cubes` over workers and cubes: cubes.py [MODEL ..].
 
-A line for each run: the model; workers; cubes made first; wall-clock seconds until the answer stands; cubes refuted; CPU
-seconds of the workers together, and of the cube that took most; the least wall-clock seconds that a schedule of these
-cubes in their order gives so many workers of one processor each; CPU seconds of joining, `bee certify` and `bee check`;
-and bytes of the joined text. Without MODEL those of MODELS are made. Each answer is checked.
+A line for each run: the model; workers; cubes made first; wall-clock seconds until the answer stands; cubes refuted;
+CPU seconds of the workers together, and of the refuted cube that took most; the wall-clock seconds that refuting these
+cubes in their order would take so many workers with a processor each; CPU seconds of joining, `bee certify` and `bee
+check`; and bytes of the joined text. Without MODEL those of MODELS are made. Each answer is checked.
 
 JOBS ("1 2 4") and CUBES ("4 16 64 256") name others; WORKER is `bee` or `cadical`; BEE the program. On a machine that
 does other work, CPU seconds and the schedule say more than wall-clock seconds. Wants GNU parallel."""

@@ -83,7 +83,11 @@ def run(name, model, workers, cubes, folder):
     wall = time.monotonic() - begun
     each = [float(it.split()[3]) for it in kept.read_text().splitlines() if it.startswith("refuted")]
     total = [float(it) for it in re.findall(r"\S+/\d+ ([\d.]+)", ran.stderr.splitlines()[-2])] if each else []
-    size, joined, certified = re.findall(r"(\d+) bytes, joined in (\S+) seconds and certified in (\S+),", ran.stderr)[0]
+    found = re.findall(r"(\d+) bytes, joined in (\S+) seconds and certified in (\S+),", ran.stderr)
+    if not found:
+        print(f"{name} {workers} {cubes} {wall:.1f}: code {ran.returncode}, by the first look alone", flush=True)
+        return
+    size, joined, certified = found[0]
     before = children()
     checked = subprocess.run([BEE, "check", str(model), str(answer)], capture_output=True, text=True)
     took = children() - before

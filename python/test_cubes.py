@@ -277,6 +277,9 @@ class Commands(Folder):
             at = self.at / "work" / name
             words = [PROGRAM, "check", str(at / "model.bee"), str(at / "answer")]
             self.assertEqual(subprocess.run(words, capture_output=True, check=False).returncode, 0)
+        before = (self.at / "answer").read_text()
+        code, _ = self.run_command(text, "--look", "0", "--resume", "--solver", self.solver("exit 1"))
+        self.assertEqual((code, (self.at / "answer").read_text()), (0, before))
 
     def test_from_a_script_answers_are_checked(self):
         text = "new_int(a,1,3)\nnew_int(b,1,3)\nint_neq(a,b)\nsolve minimize a then b\n"

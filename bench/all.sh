@@ -11,8 +11,8 @@
 # A line for each: the solutions, the MB of the list, the seconds with a budget of one clause, which are those of the
 # walk and the writing, the seconds of `bee all`, of `bee checkall`, of gecode, and of clasp on the compiled clauses
 # without the variables that no clause has; its count is that of valuations, which is another one where a name is free,
-# or a variable of the compilation. Behind them the growth of the seconds against the solutions. Seconds are the
-# user's, of the processor, the least of three runs. A list with another number of solutions than gecode's ends its
+# or a variable of the compilation. Behind them the growth of the seconds against the solutions. Seconds are of
+# user CPU time, the least of three runs. A list with another number of solutions than gecode's ends its
 # family. The word `whole` takes all sizes, and else small ones are taken; other words name the families, FAMILY or
 # FAMILY:SIZE,SIZE. SECONDS_EACH is the time that each run has at most (60). BEE names the program, so that nothing is
 # built. Wants python3; minizinc, flatzinc and clasp (Debian's packages) are timed where they are.

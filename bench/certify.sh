@@ -9,8 +9,8 @@
 # A line for each: the lines and bytes of the refutation (DRUP), what cadical propagated and its seconds, the seconds
 # of `bee drup` and of `bee certify`, each beside cadical's, the lines and bytes of the document, those of its derivation
 # as a refutation with hints (LRAT), with the seconds of `bee certify` of that, and the seconds of `bee check` over the
-# document. Behind them the growth of the seconds against what cadical propagated. Seconds are the user's,
-# of the processor, the least of three runs. The word `whole` takes all sizes, and else small ones are taken; other
+# document. Behind them the growth of the seconds against what cadical propagated. Seconds are of user
+# CPU time, the least of three runs. The word `whole` takes all sizes, and else small ones are taken; other
 # words name the families, FAMILY or FAMILY:SIZE,SIZE. SECONDS_EACH is the time that each run has at most (60). BEE
 # names the program, so that nothing is built. Wants python3 and cadical.
 set -eu

@@ -9,7 +9,7 @@
 # A line for each: the statements, those of the core, the MB of its text, the seconds of `bee solve`, of `bee core` and
 # how many times as long it took, of `bee checkcore`, the clauses that picomus leaves of the compiled ones, and its
 # seconds; its question is another one, since it takes clauses away and not statements. Behind them the growth of the
-# seconds against the statements. Seconds are the user's, of the processor, the least of three runs. The word `whole`
+# seconds against the statements. Seconds are of user CPU time, the least of three runs. The word `whole`
 # takes all sizes, and else small ones are taken; other words name the families, FAMILY or FAMILY:SIZE,SIZE.
 # SECONDS_EACH is the time that each run has at most (60). BEE names the program, so that nothing is built. Wants
 # python3; picomus (Debian's package picosat) is timed where it is.

@@ -2,10 +2,10 @@
 """Times checkers of DRUP proofs: drup.py BEE [FAMILY[:SIZE-SEED,..] ..]. The clauses of a family are those of
 `cnfs.py`, and their proofs those of cadical by `--plain --no-binary`. The family `chain` has SIZE implications in a
 row, and a proof by hand with SEED lines, of which line k is shown from implication k on by each one behind it. Each
-file is checked by `bee drup`, and by drat-trim, forward, where it is there; the least of three runs, in the user's
-seconds of the processor. A line for each file: the bytes of the clauses, the lines and bytes of the proof, what is
-propagated, as it is known of chains and else `-`, what cadical propagated as it sought the proof, its seconds, and
-those of the checkers. It stops with an error where a proof isn't accepted."""
+file is checked by `bee drup`, and by drat-trim, forward, where it is there; the least of three runs, in user CPU
+seconds. A line for each file: the bytes of the clauses, the lines and bytes of the proof, what is propagated, as it is
+known of chains and else `-`, what cadical propagated as it sought the proof, its seconds, and those of the checkers. It
+stops with an error where a proof isn't accepted."""
 import os, re, resource, shutil, subprocess, sys, tempfile
 
 HERE = os.path.dirname(os.path.abspath(__file__))

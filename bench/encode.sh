@@ -1,6 +1,6 @@
 #!/usr/bin/env bash
 # Times `clauses` of the crate `direct_encode` on a sum of two integers of 1,000 values each, the second one with steps
-# of 1,000, so that the third has a million values. Prints the clauses, their literals and the processor's seconds for
+# of 1,000, so that the third has a million values. Prints the clauses, their literals and the CPU seconds for
 # the whole program, the least of three runs. It builds a small program over a copy of the crates. Wants rt.
 set -eu
 top=$(cd "$(dirname "${BASH_SOURCE[0]}")/.." && pwd)

@@ -2,10 +2,10 @@
 """Runs the gate, or another command, and tells what its proofs cost: gate.py [COMMAND ..], `.ci/run` without words, in
 the folder where it is called.
 
-Twice a second it looks at the processes below the command. The processor's seconds of each one that checks or builds a
-crate are added up by crate and kind: the proof; the proof with tests; and wrong bodies, which are the proof once more
-and what changes with each. What it says at the end on standard error: the command's exit code and seconds by the clock;
-minutes of the processor by kind, of all processes, and of those that the host of a virtual machine took; and a line for
+Twice a second it looks at the processes below the command. The CPU seconds of each one that checks or builds a
+crate are added up by crate and kind: the proof; the proof with tests; and mutants, which are the proof once more
+and what changes with each. What it says at the end on standard error: the command's exit code and wall-clock seconds;
+CPU minutes by kind, of all processes, and of those that the host of a virtual machine took; and a line for
 each crate, the dearest first, with the seconds of each kind, the minutes from when to when it was proved, and the most
 memory that one of its processes had. What lives for less than half a second may be missed. It wants a machine that does
 nothing else, a clean clone, and nothing kept of earlier runs. Wants python3 and Linux."""
@@ -22,7 +22,7 @@ class Process:
     def __init__(self, number, root):
         words = read(f"/proc/{number}/cmdline").split("\0")
         self.crate = words[words.index("--crate-name") + 1] if "--crate-name" in words[:-1] else None
-        # A wrong body is checked in a copy of its crate, outside the repository.
+        # A mutant is checked in a copy of its crate, outside the repository.
         is_copy = not os.readlink(f"/proc/{number}/cwd").startswith(f"{root}/")
         self.kind = "edits" if is_copy else "tests" if "--test" in words else "proof"
         self.began = self.ended = time.monotonic()
@@ -96,9 +96,9 @@ def main(words):
         command.wait()
     clock = time.monotonic() - begun
     say = lambda line: print(line, file=sys.stderr)
-    say(f"gate.py: ended with {command.returncode} after {clock:.0f} s by the clock")
+    say(f"gate.py: ended with {command.returncode} after {clock:.0f} s of wall-clock time")
     minutes = {kind: sum(it.seconds for it in seen.values() if it.crate and it.kind == kind) / 60 for kind in KINDS}
-    say("gate.py: minutes of the processor: " + ", ".join(f"{kind} {minutes[kind]:.1f}" for kind in KINDS)
+    say("gate.py: CPU minutes: " + ", ".join(f"{kind} {minutes[kind]:.1f}" for kind in KINDS)
         + f"; of all processes {sum(it.seconds for it in seen.values()) / 60:.1f}; taken by the host"
         + f" {(stolen() - taken) / 60:.1f}")
     say(f"{'crate':20}" + "".join(f" {kind:>7}" for kind in KINDS) + "   minutes          memory")

@@ -10,7 +10,7 @@ A form says how:
   few      over four names
 Each is made as large as the weight (67,108,864) and a text's length (16,777,216 bytes) let it be, by the numbers that
 `bee weigh` tells, first of a sixty-fourth of the weight or of the length, then of an eighth, then whole (PARTS names
-others: 64,8,1 without it). The first one that takes longer than SECONDS_EACH (600 without it) of the processor ends its
+others: 64,8,1 without it). The first one that takes longer than SECONDS_EACH (600 without it) of CPU time ends its
 row. A line for each: the size, bytes of the text, the weight in percent of the limit, and seconds of `compile` and of
 `solve --budget 1`; `stopped` where they are too many. It ends with the rows that were stopped, and those whose whole
 model would take more seconds than that by the growth of what was timed. BEE names another program that is timed. Wants
@@ -314,7 +314,7 @@ class Times:
         return kept
 
     def seconds(self, *words):
-        """The processor's seconds of a run, or none where it was stopped, and what stands on standard error."""
+        """The CPU seconds of a run, or none where it was stopped, and what stands on standard error."""
 
         def limits():
             resource.setrlimit(resource.RLIMIT_CPU, (SECONDS, SECONDS))

@@ -19,7 +19,7 @@
 #                                         refutation that refute nothing
 #   one line                              of one line of 500,000,000 bytes, for each mode that reads a second text
 # Each is given to the modes that it is for. Words name the loads to be run; without words all are. It prints for each
-# run the exit code, what was written, the processor's seconds, the peak memory as `time` has it, and how many times
+# run the exit code, what was written, the CPU seconds, the peak memory as `time` has it, and how many times
 # more that is than at a tenth. A run is stopped after ten minutes, and has no more than 8 GB of memory. It needs 6 GB
 # of memory and 2 GB in the folder for temporary files. BEE names another program that is run. Wants python3 and
 # /usr/bin/time.

@@ -1,7 +1,7 @@
 #!/usr/bin/env python3
 """Runs the program on the largest texts that it takes, and on the same at a tenth of their size: loads.py PROGRAM
 FOLDER [LOAD ..]. What the loads are stands in `load.sh`. A line for each run: the load and the mode, the bytes of the
-text, the exit code with the line on standard error, the bytes written, the processor's seconds and the peak memory, and
+text, the exit code with the line on standard error, the bytes written, the CPU seconds and the peak memory, and
 behind the second run how many times more seconds and memory that took."""
 import os, resource, subprocess, sys
 

@@ -1,6 +1,6 @@
 #!/usr/bin/env python3
 # Compiles models and prints what that took: measure.py PROGRAM FAMILY:SIZE,SIZE.. ..
-# A line for each model: its family and size, the processor's seconds (the least of nine runs or more, or of as many as
+# A line for each model: its family and size, the CPU seconds (the least of nine runs or more, or of as many as
 # twenty seconds hold), the peak memory in MB, and beside both texts and an empty model's memory in bytes for each
 # variable and literal; the variables, the clauses, the cores that were made, the ledger's lines and the equations among
 # them; and the bytes of both texts. A family of several sizes then

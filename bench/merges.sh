@@ -1,6 +1,6 @@
 #!/usr/bin/env bash
 # Times merges of the crate `equation_store`: from 131,072 to 1,048,576 variables, all merged to one class, in a row, in
-# a balanced tree and in random order. Prints the processor's seconds (the least of three runs), the new labels that
+# a balanced tree and in random order. Prints the CPU seconds (the least of three runs), the new labels that
 # were given, the growth exponent of the seconds, and the bytes for each further variable. Beside that it times what
 # memory alone costs: one place of 20 bytes for each merge of the random order, read and written in an array. It builds
 # a small program over a copy of the crates. Wants python3 and rt.

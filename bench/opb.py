@@ -77,7 +77,7 @@ FAMILIES = {f.__name__: f for f in (knapsack, cover, vertices, colours, pigeons)
 
 
 def timed(words, out):
-    """What a call prints, its exit code, and its seconds of the processor."""
+    """What a call prints, its exit code, and its CPU seconds."""
     before = resource.getrusage(resource.RUSAGE_CHILDREN)
     try:
         with open(out, "wb") as file:

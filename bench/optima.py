@@ -2,15 +2,19 @@
 """Solves models with objectives and prints what that took: optima.py PROGRAM [FAMILY[:SIZE,..] ..].
 
 A line for each model: its family and size, the verdict, the variables and clauses that are solved, the clauses that
-were learned in the first derivation and in the second one, and the processor's seconds. Without words all families are
-taken. Each answer is checked, which isn't timed. A run is stopped after SECONDS_EACH seconds (60).
+were learned in the first derivation and in the second one, the solutions that rounds found, the CPU seconds, and the
+best value that was told after 1, 5 and 20 wall-clock seconds. Without words all families are taken. Each answer is
+checked, which isn't timed. A run is stopped after SECONDS_EACH seconds (60); of one that is stopped the best value
+stands in place of the verdict.
 
 Behind them, for a model with one objective and where cadical is there, the user's seconds of others on its clauses, as
 `bee compile` and `bee bound` write them: of cadical from one value to the next better one, how often it was asked, and
 of the last question alone, which has no solution, the seconds of cadical and of `bee sat`. Where these are as long as
 `bee solve` took, the clauses make the model hard; where they are short, the order of decisions and of questions does.
 """
-import os, random, re, resource, shutil, subprocess, sys, tempfile
+import os, random, re, resource, shutil, subprocess, sys, tempfile, threading, time
+
+import plans
 
 # Seconds after which a run is stopped.
 LIMIT = int(os.environ.get("SECONDS_EACH", "60"))
@@ -53,7 +57,10 @@ JOBS = {
 }
 
 def shop(size):
-    """The jobs: those above, and at random SIZE jobs on 8 machines, or on 5 where SIZE is 10."""
+    """The jobs: those above, those of a shop with that name, and at random SIZE jobs on 8 machines, or on 5 where SIZE
+    is 10."""
+    if isinstance(size, str):
+        return plans.shops()[size]
     if size in JOBS:
         return JOBS[size]
     chance, machines = random.Random(size), 5 if size == 10 else 8
@@ -171,6 +178,14 @@ FAMILIES = {
     "costs": (costs, [10, 20]),
     "packing": (packing, [12, 20]),
     "domination": (domination, [6, 8]),
+    "shops": (jobs, ["la01", "la02", "la03", "la04", "la05", "ft10"]),
+    "exams": (plans.exams, [40, 80]),
+    "roster": (plans.roster, [20, 30]),
+    "prices": (plans.prices, [6, 8]),
+    "catalogue": (plans.catalogue, [200, 300]),
+    "league": (plans.league, [8, 12]),
+    "project": (plans.project, [30]),
+    "tour": (plans.tour, [14, 20]),
 }
 
 def limited():
@@ -182,6 +197,27 @@ def run(words, out):
         child = subprocess.Popen(words, stdout=sink, stderr=subprocess.DEVNULL, preexec_fn=limited)
         _, status, usage = os.wait4(child.pid, 0)
     return os.waitstatus_to_exitcode(status), usage.ru_utime
+
+def told(err, begun, found):
+    """Takes the seconds and the value of each solution that is told."""
+    for line in err:
+        if line.startswith("bee: best "):
+            found.append((time.monotonic() - begun, line[10:].rsplit(",", 1)[0]))
+
+def answered(words, out):
+    """As `run`, of `bee solve`; with the seconds and the value of each solution."""
+    found, begun = [], time.monotonic()
+    with open(out, "wb") as sink:
+        child = subprocess.Popen(words, stdout=sink, stderr=subprocess.PIPE, text=True, preexec_fn=limited)
+        reader = threading.Thread(target=told, args=(child.stderr, begun, found))
+        reader.start()
+        _, status, usage = os.wait4(child.pid, 0)
+        reader.join()
+    return os.waitstatus_to_exitcode(status), usage.ru_utime, found
+
+def after(found, seconds):
+    """The best value that was told by then."""
+    return next((value for at, value in reversed(found) if at <= seconds), "-")
 
 def read(path):
     with open(path) as text:
@@ -223,27 +259,32 @@ def solved(program, family, size, folder):
     lines = FAMILIES[family][0](size)
     with open(model, "w") as out:
         out.write("\n".join(lines) + "\n")
-    code, seconds = run([program, "solve", model], answer)
+    code, seconds, found = answered([program, "solve", "--progress", model], answer)
     run([program, "compile", model], cnf)
     header = next(line for line in read(cnf).splitlines() if line.startswith("p cnf")).split()[2:]
-    row = f"{family:10} {size:3}  "
+    row, rounds = f"{family:10} {size:>4}  ", len(found)
     if code == 0:
         verdict, (first, second) = read(answer).splitlines()[1], counts(read(answer))
-        row += f"{verdict:18} {' '.join(header):16} {first:7} {second:6} {seconds:8.3f}"
+        row += f"{verdict:18} {' '.join(header):16} {first:7} {second:6} {rounds:4} {seconds:8.3f} "
     else:
-        row += f"{'-':18} {' '.join(header):16} {'-':>7} {'-':>6} {seconds:8.3f}+"
+        best = f"best {after(found, LIMIT)}"
+        row += f"{best:18} {' '.join(header):16} {'-':>7} {'-':>6} {rounds:4} {seconds:8.3f}+"
+    row += "  " + "; ".join(after(found, it) for it in (1, 5, 20))
     if " then " not in lines[-1] and shutil.which("cadical"):
         row += "  " + by_cadical(program, model, lines[-1].split()[-1], folder)
     if code == 0:
         row += "  " + subprocess.run([program, "check", model, answer], capture_output=True, text=True).stdout.strip()
     return row
 
+def sized(word):
+    return int(word) if word.isdigit() else word
+
 def main():
     program, chosen = sys.argv[1], sys.argv[2:] or list(FAMILIES)
     with tempfile.TemporaryDirectory() as folder:
         for family in chosen:
             family, _, sizes = family.partition(":")
-            for size in map(int, sizes.split(",")) if sizes else FAMILIES[family][1]:
+            for size in map(sized, sizes.split(",")) if sizes else FAMILIES[family][1]:
                 print(solved(program, family, size, folder), flush=True)
 
 if __name__ == "__main__":

@@ -2,7 +2,7 @@
 # Times moves between rings, and the clause store of a search. Words name the families; without words both are taken:
 #   moves     ten million moves of a million nodes between a thousand rings, by the crate `index_ring`: a node in no
 #             order is pushed to a ring where it is free, and else taken out; each sixteenth move splices two rings.
-#             Prints the processor's nanoseconds for a move, with the choice of the node and the test of the condition.
+#             Prints CPU nanoseconds for a move, with the choice of the node and the test of the condition.
 #   clauses   propagation by the crate `clause_rings`, beside minisat, and the memory of clauses; `watches.py` says what
 #             is printed. WATCHES names another such program, so that nothing is built. Wants python3 and minisat, and
 #             counts misses where valgrind is there.

@@ -2,7 +2,7 @@
 """Times solvers on the same files: search.py SEARCH BEE [FAMILY[:SIZE-SEED,..] ..]. Each file is solved by the program
 of `search.sh` (none where SEARCH is -), by `bee sat`, by minisat, by the same without its preprocessing (plain), and by
 cadical and picosat as Debian has them; the least of RUNS runs (3), or one where it takes more than ten seconds, in the
-user's seconds of the processor. A run is stopped after SECONDS_EACH seconds (60), and a plus stands behind these. A
+user CPU seconds. A run is stopped after SECONDS_EACH seconds (60), and a plus stands behind these. A
 line for each file: what was found, the clauses that were learned, the conflicts of minisat, the seconds of each, and
 those of `bee sat` beside those of minisat, of plain and of cadical, where one of both ended. Behind them stand the
 geometric means of these over the files of each family, over all that have a solution, all that have none, and all, and
@@ -166,7 +166,7 @@ def main():
         if rows:
             print(row("", len(rows), "", kind, *[""] * 8, *means(rows)))
     print(row("all", len(all_rows), "", "mean", *[""] * 8, *means(all_rows)))
-    print(f"{time.time() - begun:.0f} s by the clock, {RUNS} runs at most of {LIMIT} s at most")
+    print(f"{time.time() - begun:.0f} s of wall-clock time, {RUNS} runs at most of {LIMIT} s at most")
 
 
 if __name__ == "__main__":

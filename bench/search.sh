@@ -2,7 +2,8 @@
 # Times the search of the crate `learning_solver`, and `bee sat`, beside other solvers on the same files. It builds a
 # small program over a copy of the crates, which reads a CNF as `bee sat` does, searches, and writes no proof; crates
 # that weren't proved yet are proved. `search.py` says what is printed, and `cnfs.py` what the families are. Words
-# behind it name the families; without words all are taken. SEARCH names another such program, or - for none, and BEE
+# behind it name the families; without words all are taken, and behind the word `large` come clauses that were compiled
+# from models, 50,000 and more, by `large.py`. SEARCH names another such program, or - for none, and BEE
 # another `bee`: then nothing is built. RUNS is the number of runs of which the least counts (3), and SECONDS_EACH
 # after how many seconds a run is stopped (60). Wants python3, minisat, and rt; cadical and picosat are timed where they
 # are there. All files by one run, with no such program:
@@ -10,6 +11,10 @@
 set -eu
 top=$(cd "$(dirname "${BASH_SOURCE[0]}")/.." && pwd)
 [ -n "${BEE:-}" ] || { BEE=$top/crates/bee/out/bee; "$top/bee" compile "$top/examples/pigeonhole.bee" >/dev/null; }
+if [ "${1:-}" = large ]; then
+  shift
+  exec python3 "$top/bench/large.py" "$BEE" "$@"
+fi
 if [ -n "${SEARCH:-}" ]; then
   exec python3 "$top/bench/search.py" "$SEARCH" "$BEE" "$@"
 fi

@@ -76,7 +76,7 @@ def chosen_family(word):
 
 
 def timed(words, path):
-    """What the program wrote is at the path; its seconds of the processor, and its exit code."""
+    """What the program wrote is at the path; its CPU seconds, and its exit code."""
     with open(path, "wb") as out:
         child = subprocess.Popen(words, stdout=out)
         _, status, usage = os.wait4(child.pid, 0)

@@ -10,7 +10,7 @@ class Stopped(Exception):
 
 
 def timed(words, out=os.devnull, codes=(0,)):
-    """The exit code, and the user's seconds of the processor."""
+    """The exit code, and the user CPU seconds."""
     with open(out, "wb") as sink:
         child = subprocess.Popen(words, stdin=subprocess.DEVNULL, stdout=sink, stderr=subprocess.DEVNULL,
             preexec_fn=lambda: resource.setrlimit(resource.RLIMIT_CPU, (LIMIT, LIMIT)))

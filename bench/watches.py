@@ -1,7 +1,7 @@
 #!/usr/bin/env python3
 """Times the program over `clause_rings` that `rings.sh` builds: watches.py PROGRAM. For a chain of implications and for
 random clauses of three literals it prints the clauses; the literals that became true where each variable is decided to
-be false in turn, unless it has a value; the user's seconds of the processor that this and its propagation took, as a
+be false in turn, unless it has a value; the user CPU seconds that this and its propagation took, as a
 share of what 1 + N such rounds take above one, where N rounds have ten million clauses, so that the reading, the
 watching of the clauses and the first round aren't in it; the nanoseconds for each literal; and the propagations a
 second beside those of minisat without its preprocessing on the same file, from what it tells, in the seconds behind its

@@ -17,10 +17,12 @@ from beemodel import (
     cumulative,
     element,
     exactly,
+    interval,
     lex_less,
     lex_less_or_equal,
     maximum,
     minimum,
+    no_overlap,
     table,
     total,
     weighted_sum,
@@ -322,6 +324,82 @@ def tasks(rng):
     return Case(domains, make, means)
 
 
+def intervals_of(rng, size):
+    """The domains of some tasks: starts, and for some of them durations and truths."""
+    domains = integers(rng, size, 4, 0)
+    lengths = [rng.choice([0, 1, 2, 2, 3, "d", "p"]) for _ in range(size)]
+    for at, it in enumerate(lengths):
+        if it == "d":
+            domains[f"d{at}"] = range(rng.randint(0, 1), 3)
+        elif it == "p":
+            domains[f"p{at}"] = "bool"
+    return domains, lengths
+
+
+def task_of(v, at, length):
+    """The start, the duration and the truth of a task, of variables or of values."""
+    duration = v[f"d{at}"] if length == "d" else 2 if length == "p" else length
+    return v[f"x{at}"], duration, v[f"p{at}"] if length == "p" else None
+
+
+def tasks_apart(rng):
+    """Tasks one at a time, some optional, with set-up times or without; stated or not."""
+    size = rng.choice([1, 2, 3, 3])
+    domains, lengths = intervals_of(rng, size)
+    gaps = [[rng.randint(0, 2) for _ in range(size)] for _ in range(size)]
+    setup, is_reified = rng.choice([None, gaps]), rng.random() < 0.2
+    gaps = setup or [[0] * size] * size
+
+    def make(v):
+        each = [interval(*task_of(v, at, it)) for at, it in enumerate(lengths)]
+        truth = no_overlap(each, setup)
+        return [~truth] if is_reified else [truth, no_overlap(each[:2], setup and [row[:2] for row in gaps[:2]])]
+
+    def means(values):
+        each = [task_of(values, at, it) for at, it in enumerate(lengths)]
+        done = [at for at, it in enumerate(each) if it[2] is not False]
+        is_true = all(
+            each[one][0] + each[one][1] + gaps[one][other] <= each[other][0]
+            or each[other][0] + each[other][1] + gaps[other][one] <= each[one][0]
+            for one, other in itertools.combinations(done, 2)
+        )
+        return is_true != is_reified
+
+    return Case(domains, make, means)
+
+
+def shared_intervals(rng):
+    """Intervals that share a resource, with demands and a capacity that may be variables."""
+    size = rng.choice([1, 2, 3])
+    domains, lengths = intervals_of(rng, size)
+    domains["c"] = range(rng.randint(0, 1), rng.randint(2, 3))
+    demands = [rng.choice([0, 1, 1, 2, "c"]) for _ in range(size)]
+    for at, it in enumerate(demands):
+        if it == "c":
+            domains[f"c{at}"] = range(0, 3)
+
+    def demand(v, at):
+        return v[f"c{at}"] if demands[at] == "c" else demands[at]
+
+    def make(v):
+        each = [interval(*task_of(v, at, it)) for at, it in enumerate(lengths)]
+        return [cumulative(each, [demand(v, at) for at in range(size)], v["c"])]
+
+    def means(values):
+        each = [task_of(values, at, it) for at, it in enumerate(lengths)]
+        return all(
+            sum(
+                demand(values, at)
+                for at, (start, length, is_done) in enumerate(each)
+                if start <= time < start + length and is_done is not False
+            )
+            <= (values["c"] if any(s <= time < s + n and p is not False for s, n, p in each) else 99)
+            for time in range(-5, 20)
+        )
+
+    return Case(domains, make, means)
+
+
 def rounds(rng):
     """One round through all places."""
     size = rng.choice([1, 2, 3, 4, 5, 5])
@@ -428,6 +506,8 @@ GENERATORS = [
     elements_of_variables,
     tables,
     tasks,
+    tasks_apart,
+    shared_intervals,
     rounds,
     wide,
     alone,
@@ -445,6 +525,7 @@ class Constraints(unittest.TestCase):
     def test_tasks_by_starts(self):
         with mock.patch.object(Cumulative, "weight_by_tasks", lambda self, domains: -1):
             self.run_all(tasks, "tasks by starts")
+            self.run_all(shared_intervals, "intervals by starts")
 
     def test_small_counts(self):
         """Each relation and each bound."""

@@ -19,6 +19,8 @@ FIRST_LINES = {
     "configuration": "OPTIMUM 1080",
     "words": "OPTIMUM 68 6",
     "magic": "SATISFIABLE",
+    "shop": "OPTIMUM 55",
+    "curriculum": "OPTIMUM 8",
 }
 
 

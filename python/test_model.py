@@ -11,10 +11,14 @@ import unittest
 from pathlib import Path
 
 import test_constraints
+import test_global_constraints
 from beemodel import Model, ModelError, ProgramError, all_different, element, exactly_one, maximum
 from beemodel import weighted_sum, weights
 from beemodel.running import solve_text
 from trying import PROGRAM, TOP, assignments, declare, need_program
+
+
+LISTED = [*test_constraints.GENERATORS, *test_global_constraints.GENERATORS]
 
 
 def setUpModule():
@@ -42,7 +46,7 @@ class Texts(unittest.TestCase):
         model.add(first <= second, first != second, rain)
         model.minimize(second, then=first)
         self.assertEqual(
-            model.text(),
+            model.text(presolve=False),
             "new_int(first,1,3)\nnew_int(second,1,3)\nnew_bool(rain)\nint_leq(first,second)\n"
             "int_neq(first,second)\nbool_array_or([rain])\nsolve minimize second then first\n",
         )
@@ -152,8 +156,8 @@ class Answers(unittest.TestCase):
 class Weights(unittest.TestCase):
     def test_weights_are_the_program_s(self):
         """Models of each constraint are made too heavy by one integer: the refusal tells."""
-        heavy = "new_int(heavy,1,22369623)"
-        generators = [*test_constraints.GENERATORS]
+        heavy = "new_int(heavy,1,22369623)\nnew_bool(more)"
+        generators = [*LISTED]
         generators += [test_constraints.function(it) for it in test_constraints.FUNCTIONS]
         for at, generate in enumerate(generators):
             case = generate(random.Random(at))
@@ -161,25 +165,27 @@ class Weights(unittest.TestCase):
             model.add(case.make(declare(model, case.domains)))
             with self.subTest(constraint=generate.__name__, round=at):
                 with self.assertRaisesRegex(ModelError, "weight") as refused:
-                    solve_text(f"{heavy}\n{model.text()}", program=PROGRAM)
+                    solve_text(f"{heavy}\n{model.text(presolve=False)}", program=PROGRAM)
                 weight = int(re.search(r"weight (\d+)", str(refused.exception))[1])
-                self.assertEqual(weight - 67_108_864, model.weight())
+                self.assertEqual(weight - 67_108_865, model.weight(presolve=False))
 
     def test_items_weigh_what_the_program_says(self):
         """`bee weigh` beside the layer's own weights, item by item, of light models and heavy ones."""
-        for at, generate in enumerate(test_constraints.GENERATORS):
+        for at, generate in enumerate(LISTED):
             case = generate(random.Random(at))
             model = Model()
             model.add(case.make(declare(model, case.domains)))
             if at % 2:
                 model.int("heavy", 1, 22_369_623)
-            items = [(number, it.weight) for number, it in enumerate(model.written().items, 1)]
-            lines = [f"weight {model.weight()} of {weights.LIMIT}"] + [
-                f"item {number} {weight} {100 * weight // model.weight()}%"
+            is_narrowed = at % 3 == 0
+            items = [*enumerate((it.weight for it in model.written(is_narrowed).items), 1)]
+            whole = model.weight(is_narrowed)
+            lines = [f"weight {whole} of {weights.LIMIT}"] + [
+                f"item {number} {weight} {100 * weight // (whole or 1)}%"
                 for number, weight in sorted(items, key=lambda it: -it[1])[:10]
             ]
             with self.subTest(constraint=generate.__name__, round=at):
-                self.assertEqual(weighed(model.text()), lines)
+                self.assertEqual(weighed(model.text(is_narrowed)), lines)
 
     def test_a_heavy_model_is_refused_with_its_lines(self):
         model = Model()
@@ -221,7 +227,7 @@ class Refusals(unittest.TestCase):
         model.add(3 * x + 5_000_000_000 * y <= 7)
         line = line_here().split(":")[1]
         pattern = rf"test_model.py:{int(line) - 1}: 3\*x \+ 5000000000\*y .*: the number 5000000000"
-        self.refused(pattern, model.text)
+        self.refused(pattern, lambda: model.text(presolve=False))
 
     def test_expressions(self):
         model, other = Model(), Model()

@@ -10,6 +10,7 @@ from .expressions import Number, NumberLike, Truth, number_of
 from .linear import equality
 
 if TYPE_CHECKING:
+    from .presolve import Presolve
     from .translation import Translation
 
 
@@ -45,6 +46,15 @@ class Circuit(Truth):
                 translation.clause([translation.negation(row[number])])
         AllDifferent(self.successors, None).post(translation)
         self.post_order(translation, goes)
+
+    def presolve(self, presolve: Presolve) -> None:
+        AllDifferent(self.successors, None).presolve(presolve)
+        size = len(self.successors)
+        for place, it in enumerate(self.successors):
+            presolve.relate(-it, "leq")
+            presolve.relate(it - size + 1, "leq")
+            if size > 1:
+                presolve.relate(it - place, "neq")
 
     def post_order(self, translation: Translation, goes: list[list[str]]) -> None:
         """The places but 0 stand in an order, and each but the last goes to one behind it."""

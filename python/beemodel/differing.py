@@ -5,9 +5,11 @@ from collections.abc import Iterable, Sequence
 from typing import TYPE_CHECKING, Optional
 
 from . import weights
+from .composed import Composed
 from .expressions import Number, NumberLike, Truth, TruthLike, number_of, same_length, truth_of
 
 if TYPE_CHECKING:
+    from .presolve import Presolve
     from .translation import Translation
 
 
@@ -36,6 +38,10 @@ class AllDifferent(Truth):
             literals = [translation.literal(it) for it in self.conditions]
             translation.say(weight, "int_array_allDiffCond", terms, literals)
 
+    def presolve(self, presolve: Presolve) -> None:
+        if self.conditions is None:
+            presolve.differ(self.numbers)
+
     def literal(self, translation: Translation) -> str:
         if self.conditions is not None:
             raise translation.fault(
@@ -62,3 +68,16 @@ def all_different(
     truths = [truth_of(it) for it in conditions]
     same_length("all_different", members, truths)
     return AllDifferent(members, truths)
+
+
+def inverse(places: Iterable[NumberLike], things: Iterable[NumberLike]) -> Truth:
+    """Two lists that undo each other: where the first one has j at i, the second one has i at j.
+    Weight: 4 for each pair, and the values of each member as Booleans."""
+    first, second = [number_of(it) for it in places], [number_of(it) for it in things]
+    same_length("inverse", first, second)
+    size = len(first)
+    parts = [(it >= 0) & (it < size) for it in (*first, *second)]
+    parts += [
+        (first[at] == other) == (second[other] == at) for at in range(size) for other in range(size)
+    ]
+    return Composed("inverse", parts, [AllDifferent(first, None), AllDifferent(second, None)])

@@ -12,9 +12,13 @@ from .lines import refused
 
 if TYPE_CHECKING:
     from .domains import Domain
+    from .presolve import Presolve
     from .translation import Integer, Translation
 
 GREATEST = 1_073_741_824
+
+# Beyond this no value of an expression is asked for.
+FARTHEST = 1 << 62
 
 
 class Number:
@@ -80,19 +84,23 @@ class Number:
         return Comparison(other - self + 1, "leq")
 
     def __eq__(self, other: object) -> Truth:  # type: ignore[override]
-        return Comparison(self - other, "eq")
+        return Comparison(self - number_of(other), "eq")
 
     def __ne__(self, other: object) -> Truth:  # type: ignore[override]
-        return Comparison(self - other, "neq")
+        return Comparison(self - number_of(other), "neq")
 
     def __bool__(self) -> bool:
         raise refused(
             f"{self}: an expression has no truth value in Python; write &, |, ~ and implies in "
-            "place of and, or, not and if, and (a < b) & (b < c) in place of a < b < c"
+            "place of and, or, not and if, (a < b) & (b < c) in place of a < b < c, and maximum "
+            "and minimum in place of max and min"
         )
 
     def __str__(self) -> str:
         return "an expression"
+
+    def __repr__(self) -> str:
+        return f"<{self}>"
 
     def value(self, values: dict[str, int | bool]) -> int:
         """The integer that this is where the variables have these values."""
@@ -101,6 +109,10 @@ class Number:
     def integer(self, translation: Translation) -> Integer:
         """The integer of the written model that has this expression's value."""
         raise NotImplementedError
+
+    def bound(self, presolve: Presolve) -> None:
+        """Tells the presolve within what bounds this lies, and what moves them."""
+        presolve.bounds.know(self, -FARTHEST, FARTHEST)
 
 
 NumberLike = Union[Number, int]
@@ -111,7 +123,7 @@ def whole(value: object, near: object) -> int:
     if isinstance(value, int):
         return int(value)
     if hasattr(value, "__index__"):
-        return value.__index__()
+        return int(value.__index__())
     raise refused(f"{near}: {value!r} is no whole number; count in the smallest unit")
 
 
@@ -186,21 +198,40 @@ def weighted_sum(coefficients: Iterable[int], numbers: Iterable[NumberLike]) -> 
 
 
 class IntegerVariable(Number):
-    """A declared integer: its name, its values upwards, and the line that declares it."""
+    """A declared integer: its name, its values upwards, the line that declares it, and how it is
+    shown."""
 
-    def __init__(self, name: str, domain: Domain, line: str):
+    def __init__(self, name: str, domain: Domain, line: str, shown: str = ""):
         self.name = name
         self.domain = domain
         self.line = line
+        self.shown = shown or name
 
     def __str__(self) -> str:
-        return self.name
+        return self.shown
+
+    def __repr__(self) -> str:
+        is_range = isinstance(self.domain, range) and self.domain.step == 1
+        values = f"{self.domain[0]}..{self.domain[-1]}" if is_range else str([*self.domain])
+        return f"<{self} in {values}>"
 
     def value(self, values: dict[str, int | bool]) -> int:
-        return int(values[self.name])
+        return int(value_of(self, values))
 
     def integer(self, translation: Translation) -> Integer:
         return translation.declared(self)
+
+    def bound(self, presolve: Presolve) -> None:
+        presolve.bounds.know_domain(self, self.domain)
+
+
+def value_of(
+    variable: IntegerVariable | BooleanVariable, values: dict[str, int | bool]
+) -> int | bool:
+    """The value of a variable by its name."""
+    if variable.name not in values:
+        raise refused(f"{variable} is a variable of another model, declared at {variable.line}")
+    return values[variable.name]
 
 
 class Truth(Number):
@@ -262,6 +293,13 @@ class Truth(Number):
         """Writes that this is false."""
         translation.clause([translation.negation(translation.literal(self))])
 
+    def bound(self, presolve: Presolve) -> None:
+        presolve.bounds.know(self, 0, 1)
+
+    def presolve(self, presolve: Presolve) -> None:
+        """Tells the presolve that this is true."""
+        presolve.fix(self)
+
 
 TruthLike = Union[Truth, bool]
 
@@ -290,19 +328,23 @@ class Constant(Truth):
     def literal(self, translation: Translation) -> str:
         return "true" if self.is_true else "false"
 
+    def bound(self, presolve: Presolve) -> None:
+        presolve.bounds.know(self, int(self.is_true), int(self.is_true))
+
 
 class BooleanVariable(Truth):
-    """A declared Boolean: its name, and the line that declares it."""
+    """A declared Boolean: its name, the line that declares it, and how it is shown."""
 
-    def __init__(self, name: str, line: str):
+    def __init__(self, name: str, line: str, shown: str = ""):
         self.name = name
         self.line = line
+        self.shown = shown or name
 
     def __str__(self) -> str:
-        return self.name
+        return self.shown
 
     def holds(self, values: dict[str, int | bool]) -> bool:
-        return bool(values[self.name])
+        return bool(value_of(self, values))
 
     def literal(self, translation: Translation) -> str:
         return translation.known(self)
@@ -338,7 +380,7 @@ def members(whole_list: Truth, kind: type[AllOf] | type[AnyOf]) -> Iterator[Trut
     stack = [whole_list]
     while stack:
         part = stack.pop()
-        if isinstance(part, kind):
+        if isinstance(part, (AllOf, AnyOf)) and isinstance(part, kind):
             stack.extend(reversed(part.parts))
         else:
             yield part
@@ -367,6 +409,10 @@ class AllOf(Truth):
         parts = [translation.literal(it) for it in members(self, AllOf)]
         translation.clause([translation.negation(it) for it in parts])
 
+    def bound(self, presolve: Presolve) -> None:
+        super().bound(presolve)
+        presolve.clause([presolve.literal(~it) for it in members(self, AllOf)], (self, False))
+
 
 class AnyOf(Truth):
     """Some part is true."""
@@ -390,6 +436,13 @@ class AnyOf(Truth):
     def refuse(self, translation: Translation) -> None:
         for it in members(self, AnyOf):
             it.refuse(translation)
+
+    def bound(self, presolve: Presolve) -> None:
+        super().bound(presolve)
+        presolve.clause([presolve.literal(it) for it in members(self, AnyOf)], (self, True))
+
+    def presolve(self, presolve: Presolve) -> None:
+        presolve.clause([presolve.literal(it) for it in members(self, AnyOf)])
 
 
 class Odd(Truth):
@@ -424,6 +477,11 @@ def any_of(parts: Iterable[TruthLike]) -> Truth:
     return AnyOf(tuple(truth_of(it) for it in parts))
 
 
+def xor(parts: Iterable[TruthLike]) -> Truth:
+    """An odd number of a list is true. Weight: 13 for each member."""
+    return Odd(tuple(truth_of(it) for it in parts))
+
+
 class Comparison(Truth):
     """A number stands in a relation to 0: `leq`, `eq` or `neq`."""
 
@@ -456,3 +514,10 @@ class Comparison(Truth):
 
     def refuse(self, translation: Translation) -> None:
         (~self).post(translation)
+
+    def bound(self, presolve: Presolve) -> None:
+        super().bound(presolve)
+        presolve.relate(self.number, self.relation, (self, True))
+
+    def presolve(self, presolve: Presolve) -> None:
+        presolve.relate(self.number, self.relation)

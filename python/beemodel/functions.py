@@ -3,15 +3,28 @@ least, element."""
 from __future__ import annotations
 
 from collections.abc import Callable, Iterable, Sequence
-from typing import TYPE_CHECKING, Union
+from typing import TYPE_CHECKING, Any, Optional
 
 from . import weights
+from .choices import channel_prices
 from .domains import LISTED, Domain, domain_of, is_small
-from .expressions import Number, NumberLike, Sum, Truth, number_of, whole
+from .expressions import (
+    AllOf,
+    Number,
+    NumberLike,
+    Sum,
+    Truth,
+    TruthLike,
+    number_of,
+    truth_of,
+    whole,
+)
 from .linear import equality, integer_of_sum, values_of
 from .lines import refused
+from .propagators import AtMostZero, Entry, Greatest, Multiple, Term
 
 if TYPE_CHECKING:
+    from .presolve import Presolve
     from .translation import Integer, Translation
 
     Parts = dict[int, Integer]
@@ -56,10 +69,16 @@ class Product(Operation):
         for constant, other in ((x, self.second), (y, self.first)):
             if constant.steps == 0:
                 return integer_of_sum(translation, Sum(((constant.low, other),)))
-        made = translation.fresh_integer(self.products(x, y))
+        made = translation.fresh_integer(translation.within(self, self.products(x, y)))
         weight = weights.product(x.steps, y.steps, made.steps)
         translation.say(weight, "int_times", x.term, y.term, made.term)
         return made
+
+    def bound(self, presolve: Presolve) -> None:
+        sides = presolve.sides(self.first), presolve.sides(self.second)
+        super().bound(presolve)
+        watched = presolve.watched(sides[0][0], sides[1][0])
+        presolve.bounds.add(Multiple(self, *sides), self, *watched)
 
     def products(self, x: Integer, y: Integer) -> Domain:
         """The values of the product."""
@@ -88,7 +107,7 @@ class Division(Operation):
         self, translation: Translation, x: Integer, y: Integer, domain: Domain, other: int
     ) -> Integer:
         """Writes the division, whose other result, of the two, has so many steps."""
-        made = translation.fresh_integer(domain)
+        made = translation.fresh_integer(translation.within(self, domain))
         weight = other + weights.division(x.steps, y.steps, made.steps, other)
         translation.say(weight, self.name, x.term, y.term, made.term)
         return made
@@ -144,10 +163,16 @@ class Absolute(Number):
             domain = domain_of(abs(it) for it in x.domain)
         else:
             domain = range(0, max(-x.low, x.high) + 1)
-        made = translation.fresh_integer(domain)
+        made = translation.fresh_integer(translation.within(self, domain))
         weight = weights.greatest([x.steps, x.steps], made.steps)
         translation.say(weight, "int_abs", x.term, made.term)
         return made
+
+    def bound(self, presolve: Presolve) -> None:
+        low, high = presolve.ends(self.number)
+        presolve.bounds.know(self, max(0, low, -high), max(-low, high))
+        presolve.relate(self.number - self, "leq")
+        presolve.relate(-self.number - self, "leq")
 
 
 class Extreme(Number):
@@ -169,11 +194,30 @@ class Extreme(Number):
         parts = [translation.integer(it) for it in self.numbers]
         if len(parts) == 1:
             return parts[0]
-        made = translation.fresh_integer(self.extremes(parts))
+        made = translation.fresh_integer(translation.within(self, self.extremes(parts)))
         weight = weights.greatest([it.steps for it in parts], made.steps)
         name = f"int_array_{self.name}"
         translation.say(weight, name, [it.term for it in parts], made.term)
         return made
+
+    def bound(self, presolve: Presolve) -> None:
+        sign = 1 if self.name == "max" else -1
+        super().bound(presolve)
+        members = [AtMostZero(*presolve.terms(-sign * it)) for it in self.numbers]
+        made = Greatest(Term(sign, self), members)
+        presolve.bounds.add(made, self, *presolve.watched(*members))
+        for it in self.numbers:
+            presolve.relate(sign * (it - self), "leq")
+        self.bound_average(presolve, sign)
+
+    def bound_average(self, presolve: Presolve, sign: int) -> None:
+        """The greatest is at least the average; that says more where members share what they are
+        made of."""
+        members = Sum(tuple((sign, it) for it in self.numbers), 0)
+        whole_sum = members - sign * len(self.numbers) * self
+        terms, _ = presolve.terms(whole_sum)
+        if not all(isinstance(it, Term) for it in terms):
+            presolve.relate(whole_sum, "leq")
 
     def extremes(self, parts: list[Integer]) -> Domain:
         """The values that a greatest, or a least, member can have."""
@@ -198,7 +242,8 @@ class Element(Number):
     def value(self, values: dict[str, int | bool]) -> int:
         return self.numbers[self.index.value(values)].value(values)
 
-    def integer(self, translation: Translation) -> Integer:
+    def places(self, translation: Translation) -> dict[int, str]:
+        """The places that are possible, each with the Boolean that says whether it is taken."""
         places = values_of(translation, self.index)
         last = len(self.numbers) - 1
         if places[0] < 0 or places[-1] > last:
@@ -206,14 +251,26 @@ class Element(Number):
                 f"the place {self.index} may be from {places[0]} to {places[-1]}, and the list has "
                 f"the places 0 to {last}"
             )
-        parts = {it: translation.integer(self.numbers[it]) for it in places}
-        made = translation.fresh_integer(domain_of(v for it in parts.values() for v in it.domain))
-        at_place = {it: equality(translation, self.index, it) for it in places}
+        return {it: equality(translation, self.index, it) for it in places}
+
+    def integer(self, translation: Translation) -> Integer:
+        at_place = self.places(translation)
+        parts = {it: translation.integer(self.numbers[it]) for it in at_place}
+        values = domain_of(v for it in parts.values() for v in it.domain)
+        made = translation.fresh_integer(translation.within(self, values))
         if all(it.steps == 0 for it in parts.values()):
             self.channel_numbers(translation, made, parts, at_place)
         else:
             self.channel_integers(translation, made, parts, at_place)
         return made
+
+    def bound(self, presolve: Presolve) -> None:
+        place = presolve.sides(self.index)[0]
+        sides = {at: presolve.sides(it) for at, it in enumerate(self.numbers)}
+        super().bound(presolve)
+        parts = [below for below, _ in sides.values()]
+        watched = presolve.watched(place, *parts)
+        presolve.bounds.add(Entry(self, place, sides), self, *watched)
 
     def channel_numbers(
         self, translation: Translation, made: Integer, parts: Parts, at_place: dict[int, str]
@@ -222,11 +279,7 @@ class Element(Number):
         support: dict[int, list[str]] = {}
         for place, part in parts.items():
             support.setdefault(part.low, []).append(at_place[place])
-        for number, literals in support.items():
-            has_it = translation.equals(made, number)
-            for literal in literals:
-                translation.clause([translation.negation(literal), has_it])
-            translation.clause([translation.negation(has_it), *literals])
+        channel_prices(translation, made, support)
 
     def channel_integers(
         self, translation: Translation, made: Integer, parts: Parts, at_place: dict[int, str]
@@ -246,6 +299,29 @@ class Element(Number):
         return is_it
 
 
+class Entry2(Element):
+    """What stands in a row and a column of a table of numbers or expressions."""
+
+    def __init__(self, rows: Sequence[Sequence[NumberLike]], row: Number, column: Number):
+        super().__init__([it for each in rows for it in each], row * len(rows[0]) + column)
+        self.row, self.column, self.height, self.width = row, column, len(rows), len(rows[0])
+
+    def places(self, translation: Translation) -> dict[int, str]:
+        sides = values_of(translation, self.row), values_of(translation, self.column)
+        for name, values, most in zip(("row", "column"), sides, (self.height, self.width)):
+            if values[0] < 0 or values[-1] >= most:
+                raise translation.fault(
+                    f"the {name} may be from {values[0]} to {values[-1]}, and the table has 0 to {most - 1}"
+                )
+        rows = [(it, equality(translation, self.row, it)) for it in sides[0]]
+        columns = [(it, equality(translation, self.column, it)) for it in sides[1]]
+        return {
+            row * self.width + column: translation.conjunction([is_row, is_column])
+            for row, is_row in rows
+            for column, is_column in columns
+        }
+
+
 def maximum(numbers: Iterable[NumberLike]) -> Number:
     """The greatest of a list. Weight: 4 to 5 for each value of each member."""
     return Extreme([number_of(it) for it in numbers], "max")
@@ -261,12 +337,27 @@ def absolute(number: NumberLike) -> Number:
     return Absolute(number_of(number))
 
 
-def element(numbers: Sequence[Union[NumberLike, int]], index: NumberLike) -> Number:
+def if_then_else(condition: TruthLike, first: NumberLike, second: NumberLike) -> Number:
+    """The first one where the condition holds, and else the second one: a truth where both are, and
+    else a number. Weight: as `element` of two members."""
+    truth = truth_of(condition)
+    if isinstance(first, (Truth, bool)) and isinstance(second, (Truth, bool)):
+        return AllOf((truth.implies(first), (~truth).implies(second)))
+    return Element([second, first], truth)
+
+
+def element(numbers: Sequence[Any], index: NumberLike, column: Optional[NumberLike] = None) -> Number:
     """What stands in a list at a place, counted from 0; the place's domain has to lie in the list.
+    With a column, what stands in a table's row at a column.
 
     Weight with numbers: 3 for each place and each different number, and the values of the place and
     the element as Booleans. With expressions: 15 for each value of each member.
     """
+    if column is not None:
+        rows = [[*it] for it in numbers]
+        if not rows or not rows[0] or any(len(it) != len(rows[0]) for it in rows):
+            raise refused("element: the rows of the table have no one length")
+        return Entry2(rows, number_of(index), number_of(column))
     if isinstance(index, Number):
         return Element(numbers, index)
     place = whole(index, "the place")

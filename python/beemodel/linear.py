@@ -12,6 +12,7 @@ from math import gcd
 from typing import TYPE_CHECKING, NamedTuple, Optional, Union
 
 from . import weights
+from .choices import gathered
 from .domains import Domain, multiple, sums
 from .expressions import Comparison, Number, Sum, Truth, flatten
 from .translation import Integer
@@ -59,30 +60,28 @@ def terms_of(translation: Translation, number: Number) -> tuple[list[Term], int]
     factors: dict[str, int] = {}
     integers: dict[str, Integer] = {}
     atoms, constant = flatten(number)
-    for atom, factor in atoms.items():
-        literal, integer = literal_or_integer(translation, atom)
-        if literal in ("true", "false"):
-            constant += factor * (literal == "true")
-        elif literal is not None:
-            constant += factor if literal[0] == "-" else 0
-            name = literal.lstrip("-")
-            factors[name] = factors.get(name, 0) + (-factor if literal[0] == "-" else factor)
-        elif integer.steps == 0:
-            constant += factor * integer.low
+    for atom, factor in gathered(translation, atoms).items():
+        made = literal_or_integer(translation, atom)
+        if made in ("true", "false"):
+            constant += factor * (made == "true")
+        elif isinstance(made, str):
+            constant += factor if made[0] == "-" else 0
+            name = made.lstrip("-")
+            factors[name] = factors.get(name, 0) + (-factor if made[0] == "-" else factor)
+        elif made.steps == 0:
+            constant += factor * made.low
         else:
-            integers[integer.term] = integer
-            factors[integer.term] = factors.get(integer.term, 0) + factor
+            integers[made.term] = made
+            factors[made.term] = factors.get(made.term, 0) + factor
     return turned(translation, factors, integers, constant)
 
 
-def literal_or_integer(
-    translation: Translation, atom: Number
-) -> tuple[Optional[str], Optional[Integer]]:
-    """What an atom of a sum is in the written model."""
+def literal_or_integer(translation: Translation, atom: Number) -> Union[str, Integer]:
+    """What an atom of a sum is in the written model: a Boolean term or an integer."""
     if isinstance(atom, Truth):
-        return translation.literal(atom), None
+        return translation.literal(atom)
     integer = translation.integer(atom)
-    return translation.literal_of_integer.get(integer.term), integer
+    return translation.literal_of_integer.get(integer.term, integer)
 
 
 def turned(
@@ -137,17 +136,31 @@ def stated(translation: Translation, comparison: Comparison) -> Union[Stated, bo
     return made if is_true is None else is_true
 
 
-def literal_of_comparison(translation: Translation, comparison: Comparison) -> str:
-    """The Boolean term that is true where a comparison is."""
+def literal_of_comparison(
+    translation: Translation, comparison: Comparison, offered: Optional[str] = None
+) -> str:
+    """The Boolean term that is true where a comparison is; one that is offered where none is made
+    yet and one is needed."""
     it = stated(translation, comparison)
     if isinstance(it, bool):
         return "true" if it else "false"
     if it.relation == "neq":
-        return translation.negation(literal_of(translation, Stated(it.terms, "eq", it.bound)))
-    return literal_of(translation, it)
+        equal = Stated(it.terms, "eq", it.bound)
+        offered = translation.negation(offered) if offered else None
+        return translation.negation(literal_of(translation, equal, offered))
+    return literal_of(translation, it, offered)
 
 
-def literal_of(translation: Translation, it: Stated) -> str:
+def tie(translation: Translation, comparison: Comparison, literal: str) -> None:
+    """Writes that a Boolean term is true just where a comparison is."""
+    made = literal_of_comparison(translation, comparison, literal)
+    if made in ("true", "false"):
+        translation.clause([literal if made == "true" else translation.negation(literal)])
+    elif made != literal:
+        translation.say(4, "bool_eq", made, literal)
+
+
+def literal_of(translation: Translation, it: Stated, offered: Optional[str] = None) -> str:
     """The Boolean term of a comparison by `leq` or `eq` that the domains leave open."""
     if len(it.terms) == 1:
         return literal_of_term(translation, it.terms[0], it.relation, it.bound)
@@ -164,7 +177,7 @@ def literal_of(translation: Translation, it: Stated) -> str:
         return translation.negation(literal_of_sides(translation, other, []))
     if not left:
         return literal_of_sides(translation, Stated(right, "eq", -it.bound), [])
-    return literal_of_sides(translation, Stated(left, it.relation, it.bound), right)
+    return literal_of_sides(translation, Stated(left, it.relation, it.bound), right, offered)
 
 
 def literal_of_term(translation: Translation, term: Term, relation: str, bound: int) -> str:
@@ -182,7 +195,9 @@ def literal_of_term(translation: Translation, term: Term, relation: str, bound: 
     return translation.negation(translation.at_least(term.of, bound // term.factor + 1))
 
 
-def literal_of_sides(translation: Translation, left: Stated, right: list[Term]) -> str:
+def literal_of_sides(
+    translation: Translation, left: Stated, right: list[Term], offered: Optional[str] = None
+) -> str:
     """The truth of a sum that stands in a relation to another one plus a bound; all factors are
     positive."""
     first = sum_of(translation, left.terms)
@@ -191,22 +206,22 @@ def literal_of_sides(translation: Translation, left: Stated, right: list[Term]) 
     second = sum_of(translation, right)
     key = (left.relation, first.factor, first.name, second.factor, second.name, left.bound)
     if key not in translation.literals:
-        translation.literals[key] = compared(translation, first, second, left)
+        made = offered or translation.fresh_boolean()
+        compare(translation, first, second, left, made)
+        translation.literals[key] = made
     return translation.literals[key]
 
 
-def compared(translation: Translation, first: Term, second: Term, left: Stated) -> str:
-    """A fresh Boolean that is the truth of a comparison of two multiplied integers and a bound."""
+def compare(translation: Translation, first: Term, second: Term, left: Stated, made: str) -> None:
+    """Writes that a Boolean is the truth of a comparison of two multiplied integers and a bound."""
     if first.factor == 1 and len(first.domain) <= len(second.domain):
         x = shifted(translation, integer_of(translation, first), 1, -left.bound)
         y = shifted(translation, integer_of(translation, second), second.factor, 0)
     else:
         x = shifted(translation, integer_of(translation, first), first.factor, 0)
         y = shifted(translation, integer_of(translation, second), second.factor, left.bound)
-    made = translation.fresh_boolean()
     weigh = weights.order if left.relation == "leq" else weights.equal
     translation.say(weigh(x.steps, y.steps), f"int_{left.relation}_reif", x.term, y.term, made)
-    return made
 
 
 def integer_of(translation: Translation, term: Term) -> Integer:
@@ -231,16 +246,15 @@ def say_linear(
     translation: Translation, relation: str, terms: list[Term], right: Union[int, Integer]
 ) -> None:
     """Writes that a sum stands in a relation to a number or an integer."""
-    is_number = isinstance(right, int)
-    shape = weights.CONSTANT if is_number else weights.shape_of(right.domain)
+    shape = weights.CONSTANT if isinstance(right, int) else weights.shape_of(right.domain)
     weight = weights.linear(relation, [it.shape for it in terms], shape)
     names = [integer_of(translation, it).term for it in terms]
     factors = [it.factor for it in terms]
-    if sorted(factors) == [-1, 1] and is_number and right == 0 and relation != "eq":
+    if sorted(factors) == [-1, 1] and right == 0 and relation != "eq":
         first, second = names if factors[0] == 1 else reversed(names)
         translation.say(weight, f"int_{relation}", first, second)
         return
-    end = right if is_number else right.term
+    end: Union[int, str] = right if isinstance(right, int) else right.term
     translation.say(weight, f"int_array_lin_{relation}", factors, names, end)
 
 
@@ -260,13 +274,12 @@ def sum_of(
     if len(terms) == 1:
         return terms[0]
     key = ("sum", tuple(sorted((it.factor, it.name) for it in terms)), low, high)
-    if key not in translation.integers:
+    if key not in translation.partial_sums:
         common = gcd(*(it.factor for it in terms))
         divided = [Term(it.factor // common, it.of) for it in terms]
         made = fresh_sum(translation, divided, -(-low // common), high // common)
-        translation.integers[key] = (common, made)
-    common, made = translation.integers[key]
-    return Term(common, made)
+        translation.partial_sums[key] = Term(common, made)
+    return translation.partial_sums[key]
 
 
 def fresh_sum(translation: Translation, terms: list[Term], low: int, high: int) -> Integer:
@@ -379,7 +392,8 @@ def integer_of_sum(translation: Translation, number: Sum) -> Integer:
     terms, constant = terms_of(translation, number)
     if not terms:
         return Integer(translation.numeral(constant), range(constant, constant + 1))
-    whole = sum_of(translation, terms)
+    low, high = translation.ends.get(number, (low_of(terms) + constant, high_of(terms) + constant))
+    whole = sum_of(translation, terms, low - constant, high - constant)
     return shifted(translation, integer_of(translation, whole), whole.factor, constant)
 
 
@@ -389,6 +403,12 @@ def values_of(translation: Translation, number: Number) -> Domain:
     if len(terms) == 1:
         return multiple(terms[0].domain, terms[0].factor, constant)
     return translation.integer(number).domain
+
+
+def least_of(translation: Translation, number: Number) -> int:
+    """The least value of an expression by the domains."""
+    terms, constant = terms_of(translation, number)
+    return constant + low_of(terms)
 
 
 def equality(translation: Translation, number: Number, value: int) -> str:

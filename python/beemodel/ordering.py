@@ -5,7 +5,7 @@ from collections.abc import Iterable, Sequence
 from typing import TYPE_CHECKING
 
 from . import weights
-from .expressions import Number, NumberLike, Truth, number_of, same_length
+from .expressions import Number, NumberLike, Truth, number_of, same_length, truth_of
 
 if TYPE_CHECKING:
     from .translation import Translation
@@ -28,12 +28,12 @@ class Lexicographic(Truth):
     def write(self, translation: Translation, ending: str, truth: list[str]) -> None:
         """Writes the statement."""
         order = "lexLt" if self.is_strict else "lex"
-        if all(isinstance(it, Truth) for it in [*self.first, *self.second]):
-            sides = [[translation.literal(it) for it in side] for side in (self.first, self.second)]
+        both = self.first, self.second
+        if all(isinstance(it, Truth) for side in both for it in side):
+            sides = [[translation.literal(truth_of(it)) for it in side] for side in both]
             weight = weights.lexicographic([(1, 1)] * len(self.first))
             translation.say(weight, f"bool_arrays_{order}{ending}", *sides, *truth)
             return
-        both = self.first, self.second
         first, second = ([translation.integer(it) for it in side] for side in both)
         weight = weights.lexicographic([(x.steps, y.steps) for x, y in zip(first, second)])
         lists = [it.term for it in first], [it.term for it in second]

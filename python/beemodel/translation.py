@@ -7,21 +7,31 @@ is states none, since each assignment of the script's variables meets it by a va
 """
 from __future__ import annotations
 
-from bisect import bisect_left
+from bisect import bisect_left, bisect_right
 from collections.abc import Callable, Sequence
+from string import ascii_letters, digits
 from typing import TYPE_CHECKING, NamedTuple, Optional, TypeVar, Union
 
 from . import weights
+from .choices import choices_of
 from .cuts import Cuts
 from .domains import Domain
-from .expressions import GREATEST, BooleanVariable, IntegerVariable, Number
+from .expressions import GREATEST, BooleanVariable, IntegerVariable, Number, Truth
 from .lines import ModelError
 
 if TYPE_CHECKING:
+    from .linear import Term
     from .model import Model
+    from .presolve import Left
 
 Argument = Union[str, int, Sequence[Union[str, int]]]
 Made = TypeVar("Made")
+
+# So many bytes of a text are read.
+LONGEST = 16_777_216
+
+# What the names of the layer's own variables are made of, behind a `_`.
+DIGITS = ascii_letters + digits
 
 
 class Integer(NamedTuple):
@@ -65,12 +75,29 @@ class Translation:
         self.declarations: list[Item] = []
         self.channels: list[Item] = []
         self.statements: list[Item] = []
-        self.count_of_fresh = 0
+        self.count_of_fresh = self.length = 0
         self.cuts: dict[str, Cuts] = {}
         self.lines: dict[str, str] = {}
         self.integers: dict[object, Integer] = {}
+        self.partial_sums: dict[object, Term] = {}
         self.literals: dict[object, str] = {}
         self.literal_of_integer: dict[str, str] = {}
+        self.ends: dict[Number, tuple[int, int]] = {}
+        self.priced: dict[object, Number] = {}
+        self.choices: dict[Number, tuple[Number, ...]] = {}
+        self.is_apart = True
+
+    def take(self, left: Left) -> None:
+        """Takes over what the presolve has left. The Booleans of which it is sure are written, and
+        where it has seen that there is no solution, that."""
+        self.ends, self.is_apart = left.ends, left.is_apart
+        if not self.is_apart:
+            self.choices = choices_of(it.truth for it in self.model.constraints)
+        if not left.is_possible:
+            self.clause([])
+        for variable, is_true in left.sure.items():
+            self.clause([variable.name if is_true else f"-{variable.name}"])
+            self.literals[variable] = "true" if is_true else "false"
 
     # What goes wrong.
 
@@ -96,7 +123,21 @@ class Translation:
     def item(self, weight: int, name: str, arguments: tuple[Argument, ...]) -> Item:
         """An item of the text."""
         shown = ",".join(self.argument(it) for it in arguments)
-        return Item(f"{name}({shown})", weight, self.line, self.constraint)
+        made = Item(f"{name}({shown})", weight, self.line, self.constraint)
+        self.length += len(made.text) + 1
+        if self.length > LONGEST:
+            raise self.too_long()
+        return made
+
+    def too_long(self) -> ModelError:
+        """The error of a text that grows beyond what is read, with the lines that write most."""
+        items = (*self.declarations, *self.channels, *self.statements)
+        shares: dict[str, int] = {}
+        for it in items:
+            shares[it.line] = shares.get(it.line, 0) + len(it.text) + 1
+        most = sorted(shares.items(), key=lambda share: -share[1])[:3]
+        shown = ", ".join(f"{line} {part}" for line, part in most)
+        return ModelError(f"the text has more than {LONGEST} bytes; longest by then: {shown}")
 
     def argument(self, argument: Argument) -> str:
         """An argument of a statement: a name, a numeral, or a list of them."""
@@ -128,8 +169,14 @@ class Translation:
 
     def fresh_name(self) -> str:
         """A name that no variable has: those of a script don't begin with `_`."""
+        number, name = self.count_of_fresh, "_"
         self.count_of_fresh += 1
-        return f"_{self.count_of_fresh}"
+        while True:
+            number, digit = divmod(number, len(DIGITS))
+            name += DIGITS[digit]
+            if not number:
+                return name
+            number -= 1
 
     def fresh_boolean(self) -> str:
         """A Boolean of the layer's own."""
@@ -148,6 +195,13 @@ class Translation:
         self.declare_integer(*made)
         return made
 
+    def within(self, number: Number, domain: Domain) -> Domain:
+        """The values of an expression that the presolve has left."""
+        if number not in self.ends:
+            return domain
+        low, high = self.ends[number]
+        return domain[bisect_left(domain, low) : bisect_right(domain, high)]
+
     # Booleans.
 
     def known(self, variable: BooleanVariable) -> str:
@@ -162,7 +216,7 @@ class Translation:
             return "false" if literal == "true" else "true"
         return literal[1:] if literal[0] == "-" else f"-{literal}"
 
-    def literal(self, truth: Number) -> str:
+    def literal(self, truth: Truth) -> str:
         """The Boolean term of an expression, made once."""
         if truth not in self.literals:
             self.literals[truth] = self.defined(truth.literal)
@@ -187,6 +241,15 @@ class Translation:
     def disjunction(self, literals: Sequence[str]) -> str:
         """The Boolean term that is true where some literal is."""
         return self.negation(self.conjunction([self.negation(it) for it in literals]))
+
+    def is_any_of(self, literal: str, literals: Sequence[str]) -> None:
+        """Writes that a Boolean term is true just where some of a list is."""
+        if len(literals) == 1:
+            self.clause([self.negation(literal), literals[0]])
+            self.clause([literal, self.negation(literals[0])])
+        else:
+            weight = weights.conjunction(len(literals))
+            self.say(weight, "bool_array_or_reif", literals, literal)
 
     def made_once(self, key: object, name: str, members: Sequence[str]) -> str:
         """The Boolean that tells whether a list has a property, made at the first asking."""

@@ -2,7 +2,7 @@
 import math
 import random
 
-from beemodel import Model, circuit, element, total
+from beemodel import Model, circuit, circuit_cost
 
 chance = random.Random(7)
 TOWNS = [(chance.randint(0, 30), chance.randint(0, 30)) for _ in range(10)]
@@ -14,7 +14,7 @@ goes_to = [
     for it in range(len(TOWNS))
 ]
 model.add(circuit(goes_to))
-model.minimize(total(element(FAR[it], goes_to[it]) for it in range(len(TOWNS))))
+model.minimize(circuit_cost(goes_to, FAR))
 
 answer = model.solve()
 print(answer.verdict, *answer.optimum)

@@ -4,7 +4,7 @@
 //! the same two values, and, where there are as many values as members, a value that one member
 //! alone has. No walk tries all pairs. Tables tell the sure members of one value or of the same two
 //! values, and for each value the places at which it stands, up to three of them; that is enough to
-//! know whether it stands elsewhere than at one or two given places. So a question takes time
+//! know whether it stands elsewhere than at one or two given places. So a query takes time
 //! near-linear in the values of all members. Matchings (Régin, 1994) would find more and cost more;
 //! what is not found here is left to the search.
 //!

@@ -1,4 +1,4 @@
--- Questions on a goal.
+-- What is asked of a goal.
 use Rattle.std.specs.Prelude.{Bool, true, false, is_some}
 use Rattle.model_meaning.specs.declared.model.Goal.{Goal}
 use Rattle.model_meaning.specs.declared.model.Goal.TheVariants.{Satisfy, Minimize, Maximize}

@@ -1,4 +1,4 @@
-//! Questions on a goal.
+//! What is asked of a goal.
 
 ghost use Rattle.std.specs.Prelude.{◌≡◌};
 ghost use Rattle.answer_document.specs.Goals.{has_objective, has_second};

@@ -1,7 +1,10 @@
 -- Lines before a refutation, gathered one after another.
 use Rattle.std.proofs.Common.{◌≡◌, ◌⊎◌, ℕ, ◌+◌, Bool, true, false, List, [], ◌∷◌, ◌++◌, codes, refl, sym, ap, subst, ◌∙◌, inl, inr, ⊎_elim, append_assoc, length-append}
+use Rattle.std.specs.List.{list_all}
+use Rattle.std.proofs.lemmas.Bool.{and_from}
+use Rattle.std.proofs.lemmas.List.Folds.{list_all-append}
 use Rattle.bee_text.specs.Gaps.{words_of}
-use Rattle.bee_text.specs.Lines.{IsLine, join_lines}
+use Rattle.bee_text.specs.Lines.{lacks, IsLine, AreLines, join_lines}
 use Rattle.bee_text.proofs.LineLemmas.{join_lines-append}
 use Rattle.sat_front.specs.Closed.{closed}
 use Rattle.answer_import.specs.declared.cut.Front.{Front}
@@ -26,7 +29,7 @@ before-line : (b : Bool) (words : List (List ℕ)) → IsBefore b words → IsCo
 before-line true words h = inr h
 before-line false words h = inl h
 
-before-more : (ls : List (List ℕ)) (l : List ℕ) → AreBefore ls → IsComment (words_of l) ⊎ IsTelling (words_of l) → AreBefore (ls ++ l ∷ [])
+pub before-more : (ls : List (List ℕ)) (l : List ℕ) → AreBefore ls → IsComment (words_of l) ⊎ IsTelling (words_of l) → AreBefore (ls ++ l ∷ [])
 before-more [] l h k = (k, tt)
 before-more (x ∷ ls) l h k = (h.0, before-more ls l h.1 k)
 
@@ -51,26 +54,31 @@ told-more false false ls l h k = comments-more ls l h k
 pub cut-none : (text : List ℕ) (front : Front) → front.text.items ≡ [] → front.lines ≡ 0 → front.told ≡ false → IsCutTo text front text
 cut-none text front items lines told = record {
   lines = [];
-  gathered = record { text = items; count = lines; before = tt; told = subst (λ (b : Bool). IsToldBy b []) (sym told) tt };
+  gathered = record { are_lines = refl; text = items; count = lines; before = tt; told = subst (λ (b : Bool). IsToldBy b []) (sym told) tt };
   parts = refl;
 }
 
-gathered-more : (lines : List (List ℕ)) (old new : Front) (line : List ℕ) → IsGathered lines old → Takes old line new → IsGathered (lines ++ line ∷ []) new
-gathered-more lines old new line g t = record {
+pub lines-more : (lines : List (List ℕ)) (line : List ℕ) → AreLines lines → IsLine line → AreLines (lines ++ line ∷ [])
+lines-more lines line are one =
+    list_all-append (lacks 10) lines (line ∷ []) ∙ and_from (list_all (lacks 10) lines) (list_all (lacks 10) (line ∷ [])) are (and_from (lacks 10 line) true one refl)
+
+gathered-more : (lines : List (List ℕ)) (old new : Front) (line : List ℕ) → IsGathered lines old → IsLine line → Takes old line new → IsGathered (lines ++ line ∷ []) new
+gathered-more lines old new line g one t = record {
+  are_lines = lines-more lines line g.are_lines one;
   text = t.text ∙ append_assoc old.text.items line (10 ∷ []) ∙ ap (λ (xs : List ℕ). xs ++ (line ++ 10 ∷ [])) g.text ∙ sym (join_lines-append lines (line ∷ []));
   count = t.lines ∙ ap (λ (n : ℕ). n + 1) g.count ∙ sym (length-append lines (line ∷ []));
   before = before-more lines line g.before (before-line t.tells (words_of line) t.is);
   told = subst (λ (b : Bool). IsToldBy b (lines ++ line ∷ [])) (sym t.told) (told-more old.told t.tells lines line g.told t.is);
 }
 
-pub cut-more : (text rest line behind : List ℕ) (old new : Front) → IsCutTo text old rest → closed rest ≡ line ++ 10 ∷ closed behind → Takes old line new → IsCutTo text new behind
-cut-more text rest line behind old new h cut t =
+pub cut-more : (text rest line behind : List ℕ) (old new : Front) → IsCutTo text old rest → IsLine line → closed rest ≡ line ++ 10 ∷ closed behind → Takes old line new → IsCutTo text new behind
+cut-more text rest line behind old new h one cut t =
     let joined : join_lines (h.lines ++ line ∷ []) ++ closed behind ≡ join_lines h.lines ++ (line ++ 10 ∷ closed behind) =
     ap (λ (xs : List ℕ). xs ++ closed behind) (join_lines-append h.lines (line ∷ [])) ∙ append_assoc (join_lines h.lines) (line ++ 10 ∷ []) (closed behind)
     ∙ ap (λ (xs : List ℕ). join_lines h.lines ++ xs) (append_assoc line (10 ∷ []) (closed behind)) in
     record {
       lines = h.lines ++ line ∷ [];
-      gathered = gathered-more h.lines old new line h.gathered t;
+      gathered = gathered-more h.lines old new line h.gathered one t;
       parts = h.parts ∙ ap (λ (xs : List ℕ). join_lines h.lines ++ xs) cut ∙ sym joined;
     }
 
@@ -78,7 +86,7 @@ pub cut-whole : (text rest : List ℕ) (front : Front) → IsCutTo text front re
 cut-whole text rest front h none = record {
   lines = h.lines;
   gathered = h.gathered;
-  cut = record { parts = h.parts; before = h.gathered.before; told_is = h.gathered.told; behind = inl none };
+  cut = record { are_lines = h.gathered.are_lines; parts = h.parts; before = h.gathered.before; told_is = h.gathered.told; behind = inl none };
 }
 
 pub cut-here : (text rest line behind : List ℕ) (old new : Front) → IsCutTo text old rest → IsLine line → closed rest ≡ line ++ 10 ∷ closed behind → new ≡ old → IsOther (words_of line)
@@ -88,6 +96,7 @@ cut-here text rest line behind old new h one cut same other =
       lines = h.lines;
       gathered = h.gathered;
       cut = record {
+        are_lines = h.gathered.are_lines;
         parts = h.parts;
         before = h.gathered.before;
         told_is = h.gathered.told;

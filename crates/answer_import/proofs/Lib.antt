@@ -3,3 +3,8 @@ mod Clauses
 mod Judged
 mod Shorts
 mod Belows
+mod OneCut
+mod OneRefutation
+mod OneEnd
+mod SomeEnd
+mod Answered

@@ -1,7 +1,7 @@
 -- How the lines before a refutation are gathered.
 use Rattle.std.specs.Prelude.{◌≡◌, ◌+◌, Bool, true, false, ℕ, List, [], ◌∷◌, ◌++◌, length}
 use Rattle.bee_text.specs.Gaps.{words_of}
-use Rattle.bee_text.specs.Lines.{join_lines}
+use Rattle.bee_text.specs.Lines.{AreLines, join_lines}
 use Rattle.sat_front.specs.Closed.{closed}
 use Rattle.answer_import.specs.declared.cut.Front.{Front}
 use Rattle.answer_import.specs.Fronts.{IsComment, IsTelling, AreBefore, IsToldBy, IsCut}
@@ -26,6 +26,7 @@ pub record Takes (old : Front) (line : List ℕ) (new : Front) : Type 0 where
 
 -- lines that were gathered
 pub record IsGathered (lines : List (List ℕ)) (front : Front) : Type 0 where
+  pub are_lines : AreLines lines
   pub text : front.text.items ≡ join_lines lines
   pub count : front.lines ≡ length lines
   pub before : AreBefore lines

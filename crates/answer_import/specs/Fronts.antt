@@ -7,7 +7,7 @@
 -- Words stand apart by blanks, tabs and carriage returns. The last line may lack its line feed.
 use Rattle.std.specs.Prelude.{◌≡◌, ◌⊎◌, Bool, true, false, ℕ, List, [], ◌∷◌, ◌++◌, codes}
 use Rattle.bee_text.specs.Gaps.{words_of}
-use Rattle.bee_text.specs.Lines.{IsLine, join_lines}
+use Rattle.bee_text.specs.Lines.{IsLine, AreLines, join_lines}
 use Rattle.sat_front.specs.Closed.{closed}
 use Rattle.answer_import.specs.declared.cut.LineKind.{LineKind}
 use Rattle.answer_import.specs.declared.cut.LineKind.TheVariants.{Comment, Telling, Other}
@@ -62,6 +62,7 @@ pub record BeginsOther (text : List ℕ) : Type 0 where
 
 -- the lines before a text's refutation, and what is left behind them
 pub record IsCut (text : List ℕ) (lines : List (List ℕ)) (told : Bool) (rest : List ℕ) : Type 0 where
+  pub are_lines : AreLines lines
   pub parts : closed text ≡ join_lines lines ++ closed rest
   pub before : AreBefore lines
   pub told_is : IsToldBy told lines

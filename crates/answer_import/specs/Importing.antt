@@ -5,10 +5,11 @@ use Rattle.bee_compile.specs.declared.compiled.Compiled.{Compiled}
 use Rattle.answer_document.specs.declared.document.Document.{Document}
 use Rattle.answer_document.specs.DocumentText.{document_text}
 use Rattle.ledger_check.specs.Checked.{IsAnswer}
-use Rattle.answer_import.specs.Imports.{Sought}
+use Rattle.answer_import.specs.Imports.{Sought, AddsOnly}
 
--- a text is that of a document, and a valid answer with its verdict
+-- a text is that of a document whose derivation only adds clauses, and a valid answer with its verdict
 pub record IsWrittenFor (model : Model) (document : Document) (text : List ℕ) : Type 0 where
+  pub adds : AddsOnly document.proof
   pub spelled : text ≡ document_text model.decls model.goal document
   pub answer : IsAnswer model text document.verdict
 

@@ -1,5 +1,5 @@
 -- What another solver's text shows of a model that is compiled, and the first line that fails.
-use Rattle.std.specs.Prelude.{◌≡◌, ◌≢◌, ◌⊎◌, ℕ, ◌+◌, Bool, true, false, List, [], length, ℤ}
+use Rattle.std.specs.Prelude.{◌≡◌, ◌≢◌, ◌⊎◌, ℕ, ◌+◌, Bool, true, false, List, [], ◌∷◌, length, ℤ}
 use Rattle.std.specs.Prelude.{Option, None, Some}
 use Rattle.bee_text.specs.Lines.{join_lines}
 use Rattle.order_ints.specs.declared.cnf.Cnf.{Cnf}
@@ -12,6 +12,8 @@ use Rattle.model_meaning.specs.declared.model.Model.{Model}
 use Rattle.sat_front.specs.Closed.{closed}
 use Rattle.dimacs_read.specs.Values.{IsValues, ValuesFail}
 use Rattle.proof_import.specs.Refutations.{IsRefutation, RefutationFails}
+use Rattle.proof_check.specs.declared.line.ProofLine.{ProofLine}
+use Rattle.proof_check.specs.declared.line.ProofLine.TheVariants.{Add, Delete}
 use Rattle.answer_document.specs.declared.verdict.Verdict.{Verdict}
 use Rattle.answer_document.specs.declared.verdict.Verdict.TheVariants.{Satisfiable, Unsatisfiable, Optimum}
 use Rattle.answer_document.specs.declared.document.Document.{Document}
@@ -95,13 +97,21 @@ abbrev pub IsFound : Sought → List ℕ → Found → Type 0
 IsFound s text (found.Shown v a proof) = TextShows s text v (numbers_given a)
 IsFound s text (found.Refused line) = TextFails s text line
 
+-- each line of a derivation adds a clause
+abbrev pub AddsOnly : List ProofLine → Type 0
+AddsOnly [] = Unit {0}
+AddsOnly (Add id lits hints ∷ lines) = AddsOnly lines
+AddsOnly (Delete at ids ∷ lines) = ⊥
+
 -- The bytes are a valid answer to the model with a verdict that the text shows, and what they say is true; and they are
--- the text of a document with this verdict, with the numbers of the values that the text tells.
+-- the text of a document with this verdict, with the numbers of the values that the text tells, whose derivation deletes
+-- nothing.
 pub record IsImported (model : Model) (s : Sought) (text : List ℕ) (v : Verdict) (written : List ℕ) : Type 0 where
   pub answer : IsAnswer model written v
   pub document : Document
   pub spelled : written ≡ document_text model.decls model.goal document
   pub verdict : document.verdict ≡ v
+  pub adds : AddsOnly document.proof
   pub shows : TextShows s text v (numbers_given document.assignment)
 
 -- what a text is imported as

@@ -3,3 +3,4 @@ pub mod Cutting
 pub mod Imports
 pub mod Judging
 pub mod Importing
+pub mod FindingLaws

@@ -13,7 +13,8 @@
 //! What `import_answer` promises (`IsImport`): where it gives an answer, the bytes are a valid one
 //! to the model, whose verdict is true, and is what the text shows; where it gives a line, this is
 //! the first of the text that fails, or the one behind its last where nothing is shown. Else
-//! memory is wanting.
+//! memory is wanting. Each text has one such end (`finding_laws`), so that one which shows an answer
+//! is never refused (`complete`), and another one always, at its line (`exact`).
 //!
 //! A further kind of line is a case of `LineKind`, and of `Fronts.antt`.
 #![tactic(auto)]
@@ -21,6 +22,8 @@
 mod cut;
 mod importing;
 mod judging;
+mod laws;
 mod refuting;
 
 pub use importing::{Imported, import_answer};
+pub use laws::finding_laws;

@@ -13,7 +13,7 @@
 //! `is_instance` is exactly whether an equation is one (its one clause). Laws: `implied_law`,
 //! `atoms_law`.
 //!
-//! A question costs one walk along the members and their values; in a maximum the two greatest of
+//! A query costs one walk along the members and their values; in a maximum the two greatest of
 //! the members' greatest values tell which values one member at most reaches. A sum knows what its
 //! members add up to (`totals_of`): where the others leave each member but the last one all its
 //! values (`binds_last_alone`), `find` takes the time of the last one, and so does `is_instance` for

@@ -1,4 +1,4 @@
--- Questions, from one ledger to a longer one.
+-- Queries, from one ledger to a longer one.
 use Rattle.std.proofs.Common.{◌≡◌, ℕ, ◌+◌, ◌*◌, ◌≤◌, List, [], ◌∷◌, ◌++◌, length, refl, ap, sym, ◌∙◌, subst, arith, append_assoc, length-append, Result, Ok}
 use Rattle.core_forms.specs.declared.equation.Equation.{Equation}
 use Rattle.core_forms.specs.declared.form.Core.{Core}
@@ -73,7 +73,7 @@ module _ (told : Core → Equation → Type 0) where
         ap (λ (ls : List Line). pairs_along (Ok old) ls) added,
       )
 
--- all questions of a compilation
+-- all queries of a compilation
 pub asked-whole : (start last : Kernel) (ledger : List Line) (queued counter now left : ℕ) → IsKernel start → replay start ledger ≡ Ok last → queued ≤ length (pending start.cores)
     → IsAsked start [] ledger queued counter now left → now ≤ counter + 3 * most_questions start ledger last
 asked-whole start last ledger queued counter now left is replays few asked =

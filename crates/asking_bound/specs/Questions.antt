@@ -1,4 +1,4 @@
--- How many questions a compilation may ask.
+-- How many queries a compilation may make.
 use Rattle.std.specs.Prelude.{◌≡◌, ℕ, ◌+◌, ◌*◌, ◌≤◌, List, [], ◌∷◌, ◌++◌, length, Ok}
 use Rattle.std.specs.Int.Digits.{digits_of}
 use Rattle.core_forms.specs.declared.form.Core.{Core}
@@ -17,13 +17,13 @@ abbrev pub occurrences_of : List Core → ℕ
 occurrences_of [] = 0
 occurrences_of (core ∷ cores) = length (own_vars core) + occurrences_of cores
 
--- One question for each core that was made, and one for each new label that each of its different variables can get, of
+-- One query for each core that was made, and one for each new label that each of its different variables can get, of
 -- which there are as many as the last number of variables has binary digits.
 abbrev pub most_questions : Kernel → List Line → Kernel → ℕ
 most_questions start lines last =
     length (all_made start lines) + occurrences_of (all_made start lines) * binary_digits (length last.view)
 
--- From a state and a ledger on, with so many questions to ask, a counter has risen by at most three for each question
+-- From a state and a ledger on, with so many queries to make, a counter has risen by at most three for each query
 -- that was asked; there are so many left; and those that came are no more than the cores that were made, and the pairs
 -- that got a new label.
 abbrev pub IsAsked : Kernel → List Line → List Line → ℕ → ℕ → ℕ → ℕ → Type 0

@@ -1,4 +1,4 @@
-//! How many questions a compilation may ask: laws of ledgers, without code that runs.
+//! How many queries a compilation may make: laws of ledgers, without code that runs.
 //!
 //! A core is asked when it is made, and once for each new label of one of its variables. The class
 //! that loses a merge is the smaller one, so a variable's class at least doubles with each new
@@ -8,7 +8,7 @@
 //! What it promises (`new_label_laws`): no variable gets more new labels than that (`labels`), and
 //! the pairs of a pending core and one of its variables that gets a new label are, over a whole
 //! ledger, no more than that for each pair that was made (`pairs`). So a compilation of C cores
-//! with O different variables together asks at most C + O * d questions, d being the digits of V,
+//! with O different variables together makes at most C + O * d queries, d being the digits of V,
 //! and counts at most three steps for each.
 //!
 //! It stands apart from `fixpoint_queue` because it speaks of any ledger, whoever made it, and from

@@ -3,3 +3,5 @@ mod RoundTrip
 mod Obeyings
 mod CheckedAnswers
 mod Told
+mod Fronts
+mod Tellings

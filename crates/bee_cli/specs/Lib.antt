@@ -4,3 +4,6 @@ pub mod Codes
 pub mod Obeyed
 pub mod DecodeLaws
 pub mod CheckLaws
+pub mod Telling
+pub mod EndLines
+pub mod Asking

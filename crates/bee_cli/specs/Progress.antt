@@ -39,7 +39,7 @@ abbrev pub list_text : ℕ → ℕ → List ℕ
 list_text count learned =
     codes "bee: " ++ decimal count ++ codes " solutions, " ++ decimal learned ++ codes " clauses learned" ++ 10 ∷ []
 
--- the line of how small a part without a solution is, and how many questions were asked
+-- the line of how small a part without a solution is, and how many queries were made
 abbrev pub part_text : ℕ → ℕ → List ℕ
 part_text left questions =
     codes "bee: " ++ decimal left ++ codes " statements left, " ++ decimal questions ++ codes " questions asked" ++ 10

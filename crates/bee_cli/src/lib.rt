@@ -14,11 +14,13 @@
 //! writes is accepted, and an empty text is refused at line 1. `docs/PROVED.md` has it mode by
 //! mode.
 //!
-//! What is told while a search goes on (`Progress`) is told of solutions of the model alone: its `heard` is
-//! that, and each block is a stated text of one; of lists and cores numbers alone are told. That it is
-//! told, and when, has no clause, as the other lines on standard error; rows show them. Why a line is
-//! refused goes from its mode into a cell, and from there into words (`Reason`). A further mode is a case
-//! of `is_built`, `Obeys`, the statuses and `obey`.
+//! Standard error: where no progress is asked for, `err` takes one stated line by the status, or a front
+//! of it (`quiet`; what a fault or a refused line is called is free). A `Progress` is told of solutions
+//! of the model alone (`heard`), and its invariant says what its sink took since it was made: stated
+//! lines and blocks of solutions, by numbers of clauses that never fall. It stands in a cell, of whose
+//! content no clause knows, so `run` doesn't say that of `err` where progress is asked for. No clause
+//! of a status names `err`. Why a line is refused goes from its mode into a cell, and from there into
+//! words (`Reason`). A further mode is a case of `is_built`, `Obeys`, `asks`, the statuses and `obey`.
 #![tactic(auto)]
 
 mod exit_code;

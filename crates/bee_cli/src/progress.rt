@@ -1,19 +1,21 @@
 //! What a search finds, told on the sink for errors while it goes on.
 
-ghost use Rattle.std.specs.Prelude.{◌≡◌, ◌∷◌, ◌++◌, length, IfOk, OnOk};
+ghost use Rattle.std.specs.Prelude.{◌≡◌, ◌≤◌, ◌∷◌, ◌++◌, true, length, IfOk, OnOk};
 ghost use Rattle.std.specs.Fmt.{decimal, signed_decimal};
 ghost use Rattle.model_meaning.specs.Terms.{value_at};
 ghost use Rattle.bee_cli.specs.Progress.{objective_words, block_text, count_text, list_text, part_text};
+ghost use Rattle.bee_cli.specs.Telling.{IsTelling, IsPiece};
 
 use all_solutions::ListWatcher;
 use answer_document::push_values;
-use bee_outside::{Sink, write_all};
+use bee_outside::{Failed, Sink, write_all};
 use bee_text::{push_blank, push_bytes, push_number, push_signed};
 use core_extract::CoreWatcher;
 use decode_minimize::SolutionWatcher;
 use model_meaning::{Assignment, Decl, Goal};
 use search_watcher::Watcher;
 use std::alloc::{AllocError, Global};
+use std::snapshot::Snapshot;
 
 /// After how many learned clauses their number is told. It may be changed: no clause names it.
 const TOLD_EACH: u64 = 10_000;
@@ -21,43 +23,60 @@ const TOLD_EACH: u64 = 10_000;
 /// After how many solutions of a list their number is told. It may be changed: no clause names it.
 const LISTED_EACH: usize = 1_000;
 
-/// A watcher over a sink. Each block is made whole in memory, and then written and flushed; where memory is wanting for
-/// one, or the sink fails, it is silent from then on, and nothing else comes of that.
+/// A watcher over a sink. Each piece is made whole in memory, and then written and flushed; where memory is wanting for
+/// one, or the sink fails, it is silent from then on, and nothing else comes of that. What the sink took since the
+/// watcher was made is stated lines and blocks of solutions alone, the last of them perhaps a front of one (`telling`).
 #[derive(Drop)]
-pub(crate) struct Progress<'a, E> {
+pub(crate) struct Progress<'a, E: Sink> {
     alloc: Global,
+    before: Snapshot<E>,
     err: &'a mut E,
     speaks: bool,
     learned: u64,
+    ghost telling: { ∥ IsTelling speaks learned (E.taken before.value) (E.taken err.now) ∥₁ },
 }
 
 impl<'a, E: Sink> Progress<'a, E> {
-    /// A watcher that speaks, or one that is silent.
-    pub(crate) fn new(alloc: Global, err: &'a mut E, speaks: bool) -> Progress<'a, E> {
+    /// A watcher that speaks.
+    pub(crate) fn new(alloc: Global, err: &'a mut E) -> Progress<'a, E> {
         Progress {
             alloc,
+            before: Snapshot::of(&*err),
             err,
-            speaks,
+            speaks: true,
             learned: 0,
         }
     }
 
-    /// Writes a block.
-    fn say(&mut self, block: Result<Vec<u8>, AllocError>) {
-        self.speaks = match block {
-            Ok(text) => write_all(self.err, text.as_slice()).is_ok(),
-            Err(AllocError) => false,
-        };
+    /// Writes a piece.
+    fn say(&mut self, piece: &[u8])
+        requires speaks { self.old.speaks ≡ true }
+        requires piece { IsPiece self.old.learned piece.now }
+    {
+        if let Err(Failed) = write_all(self.err, piece) {
+            self.speaks = false;
+        }
+    }
+
+    /// Writes a piece that was made; where memory was wanting for it, it is silent from then on.
+    fn tell(&mut self, made: Result<Vec<u8>, AllocError>)
+        requires speaks { self.old.speaks ≡ true }
+        requires piece { IfOk made (λ piece. IsPiece self.old.learned piece.items) }
+    {
+        match made {
+            Ok(piece) => self.say(piece.as_slice()),
+            Err(AllocError) => self.speaks = false,
+        }
     }
 }
 
 impl<E: Sink> Watcher for Progress<'_, E> {
     // A second objective's solver counts from 1 again, so the calls are counted here.
     fn learned(&mut self, _count: u64) {
-        self.learned = self.learned.saturating_add(1);
+        self.learned = one_more(self.learned);
         if self.speaks && self.learned % TOLD_EACH == 0 {
             let line = count_line(self.alloc, self.learned);
-            self.say(line);
+            self.tell(line);
         }
     }
 }
@@ -71,22 +90,23 @@ impl<E: Sink> SolutionWatcher for Progress<'_, E> {
         self.speaks
     }
 
-    #[tactic(auto, using(crate::proofs::Told::as_many))]
     fn better(&mut self, decls: &[Decl], goal: Goal, solution: &Assignment) {
-        let block = best_block(
-            self.alloc,
-            decls,
-            goal,
-            solution.values.as_slice(),
-            self.learned,
-        );
-        self.say(block);
+        if self.speaks {
+            let block = best_block(
+                self.alloc,
+                decls,
+                goal,
+                solution.values.as_slice(),
+                self.learned,
+            );
+            self.tell(block);
+        }
     }
 }
 
 impl<E: Sink> ListWatcher for Progress<'_, E> {
     fn listed(&mut self, count: usize) {
-        if self.speaks && count % LISTED_EACH == 0 {
+        if count % LISTED_EACH == 0 {
             self.walked(count);
         }
     }
@@ -94,7 +114,7 @@ impl<E: Sink> ListWatcher for Progress<'_, E> {
     fn walked(&mut self, count: usize) {
         if self.speaks {
             let line = list_line(self.alloc, count as u64, self.learned);
-            self.say(line);
+            self.tell(line);
         }
     }
 }
@@ -103,9 +123,16 @@ impl<E: Sink> CoreWatcher for Progress<'_, E> {
     fn asked(&mut self, left: usize, questions: u64) {
         if self.speaks {
             let line = part_line(self.alloc, left as u64, questions);
-            self.say(line);
+            self.tell(line);
         }
     }
+}
+
+/// One more, as far as 64 bits hold it.
+fn one_more(count: u64) -> u64
+    ensures { count ≤ result }
+{
+    count.saturating_add(1)
 }
 
 /// The line of how many clauses were learned.

@@ -119,7 +119,7 @@ module _ (told : Core → Equation → Type 0) where
         map = map ∙ ap (λ v. trimmed_values v l.map.entries) seen ∙ ap (λ (k : Lowered). trimmed_values last.view k.map.entries) shape;
       })
 
--- what the compilation of its state says of a model's questions
+-- what the compilation of its state says of a model's queries
 pub asked-of : (model : Model) (l : Lowered) (cores : List Core) (state last : Kernel) (c : Compiled) (counter now : ℕ) → l ≡ lowered_of model → cores ≡ l.cores → state ≡ started l.vars cores
     → c.cnf ≡ cnf_of last → now ≤ counter + 3 * most_questions state c.ledger last → now ≤ counter + 3 * questions_of model c
 asked-of model l cores state last c counter now shape same start cnf h =

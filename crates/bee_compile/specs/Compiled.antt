@@ -43,7 +43,7 @@ pub record IsCompiled (told : Core → Equation → Type 0) (model : Model) (c :
   pub decls : c.decls ≡ model.decls
   pub map : c.map.entries ≡ trimmed_values last.view (lowered_of model).map.entries
 
--- The most questions that a compilation may ask: one for each core that is made, and one for each new label that one of
+-- The most queries that a compilation may make: one for each core that is made, and one for each new label that one of
 -- its variables can get, which are as many at most as the number of variables has binary digits.
 abbrev pub questions_of : Model → Compiled → ℕ
 questions_of model c =

@@ -43,7 +43,7 @@ pub fn compile<F: Oracle<L>, L: Ledger>(
     ensures solutions { IfOk result (λ c. (a : List ℤ) → IsSolution model a ↔ IsGiven c a) }
     ensures fits { IfOk result CompiledFits }
 
-    // The counter rises by three at most for each question that may be asked.
+    // The counter rises by three at most for each query that may be made.
     ensures asked { IfOk result (λ c. steps.new ≤ steps.old + 3 * questions_of model c) }
 {
     let LoweredModel { lowered, decls } = lower_owned(alloc, model)?;

@@ -18,12 +18,12 @@
 //! For each line of the table of statements there are models with the number of their solutions
 //! (`solutions.txt`) and with their weight (`weights.txt`), both counted apart from the program, and
 //! small models with the whole texts that they are compiled to (`compiled_models.txt`): a change in
-//! the order of questions, of parts or of clauses is seen there first, and the rows then say whether
+//! the order of queries, of parts or of clauses is seen there first, and the rows then say whether
 //! it was meant. Answers and compiled texts are written by hand from `docs/FORMATS.md`, each kind of
 //! line once for each cause by which it fails (`answer_checking.txt`, `compiled_texts.txt`).
 //!
 //! The models of `examples/`, boards of queens, and texts of many bytes are tried by `python/`, over
-//! the program that was built; the scripts that fuzz it stand in `reading/`, and are no part of the
+//! the program that was built; the scripts that fuzz it stand in `reference/`, and are no part of the
 //! gate.
 #![tactic(auto)]
 

@@ -5,8 +5,10 @@ use Rattle.std.proofs.lemmas.Bool.{true≢false}
 use Rattle.model_meaning.specs.declared.model.Model.{Model}
 use Rattle.answer_document.specs.Goals.{has_second}
 use Rattle.text_modes.specs.Seen.{Seen, Untouched}
+use Rattle.text_modes.specs.Ends.{IsFaultEnd}
+use Rattle.text_modes.specs.Promises.{ToldUnder, ReadFailed, Answers, Finishes}
 use Rattle.text_modes.proofs.Idle.{two_idle}
-use Rattle.text_modes.specs.TwoTexts.{Texts, TwoTextRun}
+use Rattle.text_modes.specs.TwoTexts.{Texts, ToldBoth, EitherFailed, TwoTextRun}
 use Rattle.text_modes.specs.declared.ends.Outcome.{Outcome}
 use Rattle.text_modes.specs.declared.ends.Outcome.TheVariants.{Done, Refused, Unknown}
 use Rattle.text_modes.specs.declared.ends.End.{End}
@@ -22,7 +24,9 @@ use Rattle.certify_mode.specs.declared.holding.HeldCompilation.{HeldCompilation}
 use Rattle.certify_mode.specs.Holding.{HoldsCompiled, HasTwo, HasFault}
 use Rattle.certify_mode.specs.Certified.{IsCertifying, Gives}
 use Rattle.certify_mode.specs.CertifyMode.{HasModel, CertifyMode}
+use Rattle.answer_import.specs.FindingLaws.{ShowsOrFails, FailsOnce}
 use Rattle.text_modes.proofs.TwoFree.{faulty, finishes}
+use Rattle.certify_mode.proofs.Decided.{decides}
 
 -- a model that is held has no fault
 model_or_fault : (text : List ℕ) (model : Model) (fault : ModelFault) → HoldsModel text model → HasFault text (InModel fault) → ⊥
@@ -48,17 +52,33 @@ fit texts Done written h = (h.held, h.holds)
 fit texts (Refused line) written h = (h.held, h.holds)
 fit texts (Unknown count) written h = absurd h
 
--- what is said of each end decides which fault a told model has, and that told texts are answered
-pub mode : (input second : List ℕ) (end : End CertifyFault) (seen : Seen) → TwoTextRun (Some (longest_text + 1)) HasModel Gives HasFault input second end seen → CertifyMode input second end seen
-mode input second end seen r = record {
+module _ (input second : List ℕ) (end : End CertifyFault) (seen : Seen) (r : TwoTextRun (Some (longest_text + 1)) HasModel Gives HasFault input second end seen) where
+  told_fault : Answers (ToldUnder input seen) (IsFaultEnd HasFault) (ReadFailed input seen) end seen
+  told_fault = faulty (Some (longest_text + 1)) HasModel Gives HasFault fit_or_fault one_fault fit input second seen r.between end r.says
+
+  told_text : Finishes (ToldBoth input second seen) (λ (texts : Texts). HasModel texts.first) (EitherFailed input second seen) end seen
+  told_text = finishes (Some (longest_text + 1)) HasModel Gives HasFault fit_or_fault one_fault fit input second seen r.between end r.says
+
+-- what is said of each end decides which fault a told model has, and how told texts end
+pub mode : ShowsOrFails → FailsOnce → (input second : List ℕ) (end : End CertifyFault) (seen : Seen) → TwoTextRun (Some (longest_text + 1)) HasModel Gives HasFault input second end seen
+    → CertifyMode input second end seen
+mode either once input second end seen r = record {
   run = r;
-  faulty = faulty (Some (longest_text + 1)) HasModel Gives HasFault fit_or_fault one_fault fit input second seen r.between end r.says;
-  finishes = finishes (Some (longest_text + 1)) HasModel Gives HasFault fit_or_fault one_fault fit input second seen r.between end r.says;
+  faulty = told_fault input second end seen r;
+  finishes = told_text input second end seen r;
+  decides = decides either once input second seen r.between r.first_taken.others_stay end r.says (told_text input second end seen r);
 }
 
 -- where memory is wanting before the mode begins
 pub idle : (input second : List ℕ) (seen : Seen) → Untouched seen → CertifyMode input second Memory seen
-idle input second seen same = mode input second Memory seen (two_idle (Some (longest_text + 1)) HasFault seen same HasModel Gives input second)
+idle input second seen same =
+    let r = two_idle (Some (longest_text + 1)) HasFault seen same HasModel Gives input second in
+    record {
+      run = r;
+      faulty = told_fault input second Memory seen r;
+      finishes = told_text input second Memory seen r;
+      decides = λ texts told is read write. inr refl;
+    }
 
 -- a text below the limit and one byte is within it
 pub within_limit : (text : List ℕ) → length text < 16777217 → length text ≤ longest_text

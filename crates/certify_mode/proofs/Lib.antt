@@ -1,2 +1,3 @@
+mod Decided
 pub mod Ends
 mod Holdings

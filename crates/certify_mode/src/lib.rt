@@ -13,7 +13,8 @@
 //! shown. A model with a first fault gives it, and so does one with two objectives, of which one
 //! refutation says too little (`CertifyFault`). The clauses are those of a whole compilation, but
 //! which steps one has is free, so the record names the fault of a told model (`faulty`), and says
-//! of one that is fit that some text is written (`finishes`).
+//! of one that is fit that some text is written (`finishes`): the answer exactly where the second
+//! text shows one to the model as this run compiled it, and else the line that fails (`decides`).
 //!
 //! Why a line is refused (`RefusedFinding`) goes into a cell of the caller; no clause speaks of it.
 #![tactic(auto)]

@@ -6,6 +6,7 @@ ghost use Rattle.certify_mode.specs.CertifyMode.{CertifyMode};
 use crate::fault::{CertifyFault, RefusedFinding};
 use crate::holding::{HeldCompilation, held_compilation};
 use crate::making::certify_text;
+use answer_import::finding_laws;
 use bee_outside::{Shelf, Sink};
 use model_texts::{LONGEST_TEXT, ModelFault, ModelTextFault};
 use std::alloc::{AllocError, Global};
@@ -84,5 +85,6 @@ pub fn certify<S: Shelf, O: Sink>(
     ensures { CertifyMode input.now second.now result (seen (shelf_shown S.left S.faults)
         (sink_shown O.taken O.flushed O.faults) shelf.old shelf.new out.old out.new) }
 {
+    finding_laws();
     run_two(alloc, &Certifying { noted }, input, second, shelf, out)
 }

@@ -10,11 +10,11 @@ use Rattle.literal_trail.specs.declared.entry.Entry.{Entry}
 use Rattle.literal_trail.specs.Trail.{Trail, entry_at, no_entry, truth_in, up_to}
 use Rattle.literal_trail.specs.Standing.{IsUnit, IsQuiet}
 use Rattle.clause_arena.specs.Clauses.{Clause, no_clause, live_clause, clause_at, IsLive, lits_of, lit_in}
-use Rattle.clause_arena.specs.Codes.{code_of, lit_of}
+use Rattle.clause_arena.specs.Codes.{code_of}
 use Rattle.index_ring.specs.Lists.{RingLists, IsRings, IsFree, Stands, list_of, unlinked, pushed_back, without, times, first_in}
 use Rattle.index_ring.proofs.Times.{length-without, times-without}
 use Rattle.clause_rings.specs.Clauses.{IsApart, HaveReasons, IsDb, IsLate, HaveTwoLate, MayCome, IsUnused}
-use Rattle.clause_rings.specs.Watches.{IsWatched, IsWaiting, IsIdle, AreBlockers, IsKept}
+use Rattle.clause_rings.specs.Watches.{IsWatched, IsWaiting, IsIdle, Blocks, AreBlockers, IsKept}
 use Rattle.clause_rings.specs.Moves.{IsParked, IsReleased, AreSet}
 use Rattle.clause_rings.specs.Keeping.{Keeps, head_ring}
 use Rattle.clause_rings.specs.declared.watches.Watches.{Watches}
@@ -83,17 +83,17 @@ dead-idle cs t rings blockers head c kept dead = ⊎_elim (λ (w : IsWatched (cl
 pub blocked-added : (old new : List Clause) (blockers more : List ℕ) (c id : ℕ) (ls : List Lit) → IsChanged old new c (live_clause id ls) → AreSet blockers more (2 * c) ls → AreBlockers old blockers → AreBlockers new more
 blocked-added old new blockers more c id ls change set_is h d i small live some = ⊎_elim here there (cases_eq d c)
   where
-    here : d ≡ c → Contains (lits_of new d) (lit_of (slice_index more (2 * d + i)))
+    here : d ≡ c → Blocks (lits_of new d) (slice_index more (2 * d + i))
     here e =
         let is : lits_of new d ≡ ls = ap (λ (n : ℕ). lits_of new n) e ∙ ap (λ (y : Clause). y.lits) change.here in
-        subst (λ (n : ℕ). Contains (lits_of new d) (lit_of (slice_index more (2 * n + i)))) (sym e) (subst (λ (l : List Lit). Contains l (lit_of (slice_index more (2 * c + i)))) (sym is) (set_is.here i small (omega (arith, ap (length {A = Lit}) is))))
+        subst (λ (n : ℕ). Blocks (lits_of new d) (slice_index more (2 * n + i))) (sym e) (subst (λ (l : List Lit). Blocks l (slice_index more (2 * c + i))) (sym is) (set_is.here i small (omega (arith, ap (length {A = Lit}) is))))
 
-    there : (d ≡ c → ⊥) → Contains (lits_of new d) (lit_of (slice_index more (2 * d + i)))
+    there : (d ≡ c → ⊥) → Blocks (lits_of new d) (slice_index more (2 * d + i))
     there ne =
         let is : clause_at new d ≡ clause_at old d = change.others d ne in
         let was : IsLive old d = subst (λ (y : Clause). y.live ≡ true) is live in
         let got : slice_index more (2 * d + i) ≡ slice_index blockers (2 * d + i) = set_is.others (2 * d + i) (λ e. ne (omega arith)) (λ e. ne (omega arith)) in
-        subst (λ (y : Clause). Contains y.lits (lit_of (slice_index more (2 * d + i)))) (sym is) (subst (λ (n : ℕ). Contains (lits_of old d) (lit_of n)) (sym got) (h d i small was (omega (arith, ap (λ (y : Clause). length y.lits) is))))
+        subst (λ (y : Clause). Blocks y.lits (slice_index more (2 * d + i))) (sym is) (subst (λ (n : ℕ). Blocks (lits_of old d) n) (sym got) (h d i small was (omega (arith, ap (λ (y : Clause). length y.lits) is))))
 
 -- a clause comes and waits
 pub kept-added : (old new : List Clause) (t : Trail) (rings moved : RingLists) (blockers more : List ℕ) (head c id : ℕ) (ls : List Lit) → IsChanged old new c (live_clause id ls) → (clause_at old c).live ≡ false → IsWelcome t ls → moved ≡ pushed_back rings 0 (2 * c) → IsRings moved → AreSet blockers more (2 * c) ls → IsKept old t rings blockers head → IsKept new t moved more head
@@ -133,7 +133,7 @@ db-deleted old new t c change unused h = record {
         subst (λ (y : Clause). (y.live ≡ true) × IsUnit before y.lits e.lit) (sym (change.others d ne)) (h.reasons before after e d cut reason)
 
 pub blocked-deleted : (old new : List Clause) (blockers : List ℕ) (c : ℕ) → IsChanged old new c no_clause → AreBlockers old blockers → AreBlockers new blockers
-blocked-deleted old new blockers c change h d i small live some = ⊎_elim (λ (e : d ≡ c). absurd (let no : false ≡ true = sym (ap (λ (n : ℕ). (clause_at new n).live) e ∙ ap (λ (y : Clause). y.live) change.here) ∙ live in cc)) (λ (ne : d ≡ c → ⊥). let is : clause_at new d ≡ clause_at old d = change.others d ne in subst (λ (y : Clause). Contains y.lits (lit_of (slice_index blockers (2 * d + i)))) (sym is) (h d i small (subst (λ (y : Clause). y.live ≡ true) is live) (omega (arith, ap (λ (y : Clause). length y.lits) is)))) (cases_eq d c)
+blocked-deleted old new blockers c change h d i small live some = ⊎_elim (λ (e : d ≡ c). absurd (let no : false ≡ true = sym (ap (λ (n : ℕ). (clause_at new n).live) e ∙ ap (λ (y : Clause). y.live) change.here) ∙ live in cc)) (λ (ne : d ≡ c → ⊥). let is : clause_at new d ≡ clause_at old d = change.others d ne in subst (λ (y : Clause). Blocks y.lits (slice_index blockers (2 * d + i))) (sym is) (h d i small (subst (λ (y : Clause). y.live ≡ true) is live) (omega (arith, ap (λ (y : Clause). length y.lits) is)))) (cases_eq d c)
 
 pub kept-deleted : (old new : List Clause) (t : Trail) (rings mid moved : RingLists) (blockers : List ℕ) (head c : ℕ) → IsChanged old new c no_clause → IsUnused t.entries c → IsReleased rings mid (2 * c) → IsReleased mid moved (2 * c + 1) → IsRings moved → IsKept old t rings blockers head → IsKept new t moved blockers head
 kept-deleted old new t rings mid moved blockers head c change unused one two made h = record {

@@ -2,8 +2,9 @@
 use Rattle.std.proofs.Common.{◌≡◌, ◌≢◌, ℕ, ◌+◌, ◌*◌, ◌/◌, ◌%◌, ◌^◌, ◌≤◌, ◌<◌, Bool, true, false, List, length, set, take, drop, refl, ap, sym, ◌∙◌, subst, arith, inl, ⊎_elim, Some}
 use Rattle.std.specs.Prelude.{if◌then◌else◌, ◌==◌, slice_index}
 use Rattle.std.specs.List.{Contains, swap}
-use Rattle.std.proofs.lemmas.Bool.{cases_eq, eq-eqb, ne_eqb}
+use Rattle.std.proofs.lemmas.Bool.{cases_eq, eq-eqb, ne_eqb, eqb-true}
 use Rattle.std.proofs.lemmas.List.{length-set, get_or-set_same, get_or-set_other, take-append-drop}
+use Rattle.std.specs.List.Sorted.{IsPermutation}
 use Rattle.std.proofs.lemmas.List.Sorted.{IsPermutation-swap, Contains-permutation, length_permutation}
 use Rattle.order_ints.specs.declared.literal.Lit.{Lit}
 use Rattle.order_ints.specs.Place.{LitBelow}
@@ -15,7 +16,7 @@ use Rattle.clause_arena.specs.Clauses.{Clause, clause_at, IsLive, lits_of, lit_i
 use Rattle.clause_arena.specs.Codes.{code_of, lit_of}
 use Rattle.index_ring.specs.Lists.{RingLists, IsRings, Stands}
 use Rattle.clause_rings.specs.Clauses.{SameClauses}
-use Rattle.clause_rings.specs.Watches.{IsWatched, AreBlockers, IsKept}
+use Rattle.clause_rings.specs.Watches.{IsWatched, marked, Blocks, AreBlockers, IsKept}
 use Rattle.clause_rings.specs.Keeping.{Keeps, head_ring}
 use Rattle.clause_rings.specs.declared.watches.Watches.{Watches}
 use Rattle.clause_rings.proofs.Nodes.{IsMovedTo, stands-inside}
@@ -90,27 +91,63 @@ at-watch w node kept lt stands =
       is_false = ap (λ (l : Lit). truth_in w.trail.entries l) same ∙ made-false w.trail.entries e (entry-at_place w.trail w.head kept.db.trail lt);
     }
 
--- another literal of the clause is the blocker of one of its nodes
-pub kept-blocked : (cs : List Clause) (t : Trail) (rings : RingLists) (blockers : List ℕ) (head node : ℕ) (l : Lit) → Contains (lits_of cs (node / 2)) l → IsKept cs t rings blockers head → IsKept cs t rings (set blockers node (code_of l)) head
-kept-blocked cs t rings blockers head node l is_in h = record {
+-- a literal with its mark is a blocker of its clause
+pub blocks-marked : (ls : List Lit) (l : Lit) (len : ℕ) → len ≡ length ls → l.var < 2 ^ 30 → Contains ls l → Blocks ls (marked l len)
+blocks-marked ls l len e small is_in = by_test (len == 2) (eqb-true len 2)
+  where
+    code : (p : Bool) → 2 * l.var + (if p then 1 else 0) < 2 ^ 31
+    code true = omega arith
+    code false = omega arith
+
+    low : code_of l < 2 ^ 31
+    low = code l.positive
+
+    by_test : (t : Bool) → (t ≡ true → len ≡ 2) → Blocks ls (if t then code_of l + 2 ^ 31 else code_of l)
+    by_test true is = (
+      subst (λ (x : Lit). Contains ls x) (sym (ap lit_of (let same : (code_of l + 2 ^ 31) % 2 ^ 31 ≡ code_of l = omega (arith, low) in same) ∙ lit-of_code l)) is_in,
+      λ marked_so. sym e ∙ is refl,
+    )
+    by_test false is = (
+      subst (λ (x : Lit). Contains ls x) (sym (ap lit_of (let same : code_of l % 2 ^ 31 ≡ code_of l = omega (arith, low) in same) ∙ lit-of_code l)) is_in,
+      λ high. absurd (omega (arith, low, high)),
+    )
+
+-- one without a mark is a blocker too
+pub blocks-plain : (ls : List Lit) (l : Lit) → l.var < 2 ^ 30 → Contains ls l → Blocks ls (code_of l)
+blocks-plain ls l small is_in = (
+  subst (λ (x : Lit). Contains ls x) (sym (ap lit_of (let same : code_of l % 2 ^ 31 ≡ code_of l = omega (arith, code l.positive) in same) ∙ lit-of_code l)) is_in,
+  λ high. absurd (omega (arith, code l.positive, high)),
+)
+  where
+    code : (p : Bool) → 2 * l.var + (if p then 1 else 0) < 2 ^ 31
+    code true = omega arith
+    code false = omega arith
+
+-- a clause of the same literals in another order has the same blockers
+pub blocks-permuted : (ls ms : List Lit) (blocker : ℕ) → IsPermutation ls ms → Blocks ls blocker → Blocks ms blocker
+blocks-permuted ls ms blocker perm h = (Contains-permutation ls ms (lit_of (blocker % 2 ^ 31)) perm h.0, λ high. length_permutation ls ms perm ∙ h.1 high)
+
+-- one of a clause's nodes gets another blocker
+pub kept-blocked_by : (cs : List Clause) (t : Trail) (rings : RingLists) (blockers : List ℕ) (head node n : ℕ) → Blocks (lits_of cs (node / 2)) n → IsKept cs t rings blockers head → IsKept cs t rings (set blockers node n) head
+kept-blocked_by cs t rings blockers head node n block h = record {
   db = h.db;
   watching = h.watching;
   blocked = blocked;
-  room = omega (arith, length-set blockers node (code_of l), h.room);
+  room = omega (arith, length-set blockers node n, h.room);
 }
   where
-    here : (c i : ℕ) → i < 2 → 2 * c + i ≡ node → IsLive cs c → Contains (lits_of cs c) (lit_of (slice_index (set blockers node (code_of l)) (2 * c + i)))
+    here : (c i : ℕ) → i < 2 → 2 * c + i ≡ node → IsLive cs c → Blocks (lits_of cs c) (slice_index (set blockers node n) (2 * c + i))
     here c i small e live =
         let half : node / 2 ≡ c = omega arith in
         let there : node < length blockers = (let lt : c < length cs = live-inside cs c live in omega (arith, h.room)) in
-        let got : slice_index (set blockers node (code_of l)) (2 * c + i) ≡ code_of l = ap (λ (n : ℕ). slice_index (set blockers node (code_of l)) n) e ∙ get_or-set_same blockers node (code_of l) 0 there in
-        subst (λ (x : Lit). Contains (lits_of cs c) x) (sym (ap lit_of got ∙ lit-of_code l)) (subst (λ (d : ℕ). Contains (lits_of cs d) l) half is_in)
+        let got : slice_index (set blockers node n) (2 * c + i) ≡ n = ap (λ (m : ℕ). slice_index (set blockers node n) m) e ∙ get_or-set_same blockers node n 0 there in
+        subst (λ (m : ℕ). Blocks (lits_of cs c) m) (sym got) (subst (λ (d : ℕ). Blocks (lits_of cs d) n) half block)
 
-    blocked : (c i : ℕ) → i < 2 → IsLive cs c → 1 ≤ length (lits_of cs c) → Contains (lits_of cs c) (lit_of (slice_index (set blockers node (code_of l)) (2 * c + i)))
-    blocked c i small live some = ⊎_elim (λ (e : 2 * c + i ≡ node). here c i small e live) (λ (ne : 2 * c + i ≡ node → ⊥). subst (λ (n : ℕ). Contains (lits_of cs c) (lit_of n)) (sym (get_or-set_other blockers node (2 * c + i) (code_of l) 0 ne)) (h.blocked c i small live some)) (cases_eq (2 * c + i) node)
+    blocked : (c i : ℕ) → i < 2 → IsLive cs c → 1 ≤ length (lits_of cs c) → Blocks (lits_of cs c) (slice_index (set blockers node n) (2 * c + i))
+    blocked c i small live some = ⊎_elim (λ (e : 2 * c + i ≡ node). here c i small e live) (λ (ne : 2 * c + i ≡ node → ⊥). subst (λ (m : ℕ). Blocks (lits_of cs c) m) (sym (get_or-set_other blockers node (2 * c + i) n 0 ne)) (h.blocked c i small live some)) (cases_eq (2 * c + i) node)
 
 pub blocked-same : (old new : List Clause) (blockers : List ℕ) → SameClauses old new → AreBlockers old blockers → AreBlockers new blockers
-blocked-same old new blockers s h c i small live some = Contains-permutation (lits_of old c) (lits_of new c) (lit_of (slice_index blockers (2 * c + i))) (s.each c).lits (h c i small (sym (s.each c).live ∙ live) (omega (arith, length_permutation (lits_of old c) (lits_of new c) (s.each c).lits)))
+blocked-same old new blockers s h c i small live some = blocks-permuted (lits_of old c) (lits_of new c) (slice_index blockers (2 * c + i)) (s.each c).lits (h c i small (sym (s.each c).live ∙ live) (omega (arith, length_permutation (lits_of old c) (lits_of new c) (s.each c).lits)))
 
 -- a literal that a clause makes true
 pub kept-implied : (cs : List Clause) (t : Trail) (rings : RingLists) (blockers : List ℕ) (head c : ℕ) (l : Lit) → IsTrail (implied t l c) → IsLive cs c → IsUnit t.entries (lits_of cs c) l → IsKept cs t rings blockers head → IsKept cs (implied t l c) rings blockers head
@@ -141,12 +178,9 @@ kept-moved cs t rings moved blockers head c p k small far inside not_false made 
       room = omega (arith, s.count, h.room);
     }
 
-pub kept-blocked_by : (cs : List Clause) (t : Trail) (rings : RingLists) (blockers : List ℕ) (head node n : ℕ) (l : Lit) → n ≡ code_of l → Contains (lits_of cs (node / 2)) l → IsKept cs t rings blockers head → IsKept cs t rings (set blockers node n) head
-kept-blocked_by cs t rings blockers head node n l e is_in h = subst (λ (m : ℕ). IsKept cs t rings (set blockers node m) head) (sym e) (kept-blocked cs t rings blockers head node l is_in h)
-
--- a node in the ring that is walked has a blocker, which is a literal of its clause
-pub watch-blocker : (w : Watches) (node : ℕ) → Keeps w → IsAtWatch w node → (node < length w.blockers.items) × Contains (lits_of w.arena.clauses (node / 2)) (lit_of (slice_index w.blockers.items node))
+-- a node in the ring that is walked has a blocker, which is one of its clause
+pub watch-blocker : (w : Watches) (node : ℕ) → Keeps w → IsAtWatch w node → (node < length w.blockers.items) × Blocks (lits_of w.arena.clauses (node / 2)) (slice_index w.blockers.items node)
 watch-blocker w node kept at =
     let lt : node / 2 < length w.arena.clauses = live-inside w.arena.clauses (node / 2) at.watched.live in
     let two : 2 ≤ length (lits_of w.arena.clauses (node / 2)) = at.watched.two in
-    (omega (arith, kept.room, at.node_is, at.small), subst (λ (n : ℕ). Contains (lits_of w.arena.clauses (node / 2)) (lit_of (slice_index w.blockers.items n))) at.node_is (kept.blocked (node / 2) (node % 2) at.small at.watched.live (omega arith)))
+    (omega (arith, kept.room, at.node_is, at.small), subst (λ (n : ℕ). Blocks (lits_of w.arena.clauses (node / 2)) (slice_index w.blockers.items n)) at.node_is (kept.blocked (node / 2) (node % 2) at.small at.watched.live (omega arith)))

@@ -7,6 +7,7 @@ mod Guards
 mod Watching
 mod Kept
 mod Looked
+mod Two
 mod Walked
 mod Attaching
 mod Reordered

@@ -4,12 +4,11 @@ use Rattle.std.specs.Prelude.{◌==◌, IfSome}
 use Rattle.std.proofs.lemmas.Bool.{cases_eq, cond-true, cond-false, eq-eqb, ne_eqb}
 use Rattle.std.proofs.lemmas.List.{append_assoc, append-nil, append_cancel_left, length-append, get_or_append_left}
 use Rattle.order_ints.specs.Truth.{not_lit}
-use Rattle.std.proofs.lemmas.List.Sorted.{Contains-permutation}
 use Rattle.literal_trail.specs.declared.entry.Entry.{Entry}
 use Rattle.literal_trail.specs.Trail.{Trail, entry_at, no_entry}
 use Rattle.literal_trail.specs.Standing.{HasTrue}
 use Rattle.clause_arena.specs.Clauses.{Clause, lits_of}
-use Rattle.clause_arena.specs.Codes.{code_of, lit_of}
+use Rattle.clause_arena.specs.Codes.{code_of}
 use Rattle.index_ring.specs.Lists.{RingLists, IsRings, Stands, list_of, times, without, first_in, after_in}
 use Rattle.index_ring.proofs.Times.{times-same, times-other, times-append, all-get, without-cut, times-grows}
 use Rattle.index_ring.proofs.Seen.{after_in-cut}
@@ -19,6 +18,7 @@ use Rattle.clause_rings.specs.Keeping.{Keeps, seen, Advances, head_ring, IsMet, 
 use Rattle.index_ring.specs.Lists.{rest_from}
 use Rattle.clause_rings.specs.declared.watches.Watches.{Watches}
 use Rattle.clause_rings.proofs.Literals.{true-append, true-permuted}
+use Rattle.clause_rings.proofs.Kept.{blocks-permuted}
 use Rattle.clause_rings.proofs.Looked.{advances-none, advances-both}
 
 -- what propagation leaves of a trail: its entries in front, its level, its variables
@@ -156,7 +156,7 @@ walked-next a w n ring at next blocker ahead node h is next_is blocked kept adv 
     rest_is = append_cancel_left h.split.front h.split.rest (node ∷ there.back) (sym h.split.list_is ∙ there.list_is)
 
     still_blocked : IsBlocker n next ahead
-    still_blocked v e = Contains-permutation (lits_of w.arena.clauses (v / 2)) (lits_of n.arena.clauses (v / 2)) (lit_of ahead) (adv.clauses.each (v / 2)).lits (blocked v e)
+    still_blocked v e = blocks-permuted (lits_of w.arena.clauses (v / 2)) (lits_of n.arena.clauses (v / 2)) ahead (adv.clauses.each (v / 2)).lits (blocked v e)
 
     longer : IsLonger w.trail n.trail
     longer = follows-longer n.arena.clauses w.trail n.trail adv.trail

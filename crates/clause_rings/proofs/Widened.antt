@@ -10,11 +10,10 @@ use Rattle.literal_trail.specs.declared.entry.Entry.{Entry}
 use Rattle.literal_trail.specs.Trail.{Trail, IsTrail, empty_trail, up_to}
 use Rattle.literal_trail.specs.Standing.{IsUnit, IsQuiet}
 use Rattle.clause_arena.specs.Clauses.{Clause, no_clause, live_clause, clause_at, IsLive, lits_of}
-use Rattle.clause_arena.specs.Codes.{lit_of}
 use Rattle.index_ring.specs.Lists.{RingLists, IsRings, times, times_in_all, no_lists}
 use Rattle.index_ring.proofs.Times.{all-empty}
 use Rattle.clause_rings.specs.Clauses.{IsApart}
-use Rattle.clause_rings.specs.Watches.{IsAttended, IsKept}
+use Rattle.clause_rings.specs.Watches.{IsAttended, Blocks, IsKept}
 use Rattle.clause_rings.specs.Moves.{HasNodesMore, HasMore, IsNext}
 use Rattle.clause_rings.proofs.Db.{live-inside}
 use Rattle.clause_rings.proofs.Linked.{OthersOf, attended-apart}
@@ -24,7 +23,7 @@ pub kept-blockers : (cs : List Clause) (t : Trail) (rings : RingLists) (blockers
 kept-blockers cs t rings blockers more head m h = record {
   db = h.db;
   watching = h.watching;
-  blocked = λ c i small live some. (let lt : c < length cs = live-inside cs c live in subst (λ (n : ℕ). Contains (lits_of cs c) (lit_of n)) (sym (m.same (2 * c + i) (omega (arith, h.room)))) (h.blocked c i small live some));
+  blocked = λ c i small live some. (let lt : c < length cs = live-inside cs c live in subst (λ (n : ℕ). Blocks (lits_of cs c) n) (sym (m.same (2 * c + i) (omega (arith, h.room)))) (h.blocked c i small live some));
   room = omega (arith, h.room, m.count);
 }
 
@@ -79,7 +78,7 @@ kept-wider cs new t rings blockers head each nodes room h = record {
     worked = h.watching.worked;
     late = h.watching.late;
   };
-  blocked = λ c i small live some. subst (λ (x : Clause). Contains x.lits (lit_of (slice_index blockers (2 * c + i)))) (sym (each c)) (h.blocked c i small (was c live) (subst (λ (x : Clause). 1 ≤ length x.lits) (each c) some));
+  blocked = λ c i small live some. subst (λ (x : Clause). Blocks x.lits (slice_index blockers (2 * c + i))) (sym (each c)) (h.blocked c i small (was c live) (subst (λ (x : Clause). 1 ≤ length x.lits) (each c) some));
   room = room;
 }
   where

@@ -5,11 +5,10 @@ use Rattle.order_ints.specs.Truth.{not_lit}
 use Rattle.literal_trail.specs.Trail.{entry_at}
 use Rattle.literal_trail.specs.Standing.{HasTrue, IsFalse}
 use Rattle.clause_arena.specs.Clauses.{IsLive, lits_of}
-use Rattle.std.specs.List.{Contains}
-use Rattle.clause_arena.specs.Codes.{code_of, lit_of}
+use Rattle.clause_arena.specs.Codes.{code_of}
 use Rattle.index_ring.specs.Lists.{list_of, without, Stands}
 use Rattle.clause_rings.specs.Clauses.{ClauseLists, SameClauses, Follows}
-use Rattle.clause_rings.specs.Watches.{IsKept}
+use Rattle.clause_rings.specs.Watches.{Blocks, IsKept}
 use Rattle.clause_rings.specs.declared.watches.Watches.{Watches}
 
 -- what belongs together does
@@ -54,6 +53,6 @@ IsVisited old new node = ((list_of new.rings (head_ring old) ≡ list_of old.rin
 abbrev pub AreMet : Watches → Type 0
 AreMet w = (c i : ℕ) → i < 2 → Stands w.rings (head_ring w) (2 * c + i) → IsMet w c
 
--- the number is that of a literal of the node's clause
+-- the number is a blocker of the node's clause
 abbrev pub IsBlocker : Watches → Option ℕ → ℕ → Type 0
-IsBlocker w at blocker = (v : ℕ) → at ≡ Some v → Contains (lits_of w.arena.clauses (v / 2)) (lit_of blocker)
+IsBlocker w at blocker = (v : ℕ) → at ≡ Some v → Blocks (lits_of w.arena.clauses (v / 2)) blocker

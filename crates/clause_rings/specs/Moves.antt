@@ -1,11 +1,10 @@
 -- What the moves of nodes leave of rings.
 use Rattle.std.specs.Prelude.{◌≡◌, ◌≢◌, false, ℕ, ◌+◌, ◌*◌, ◌<◌, ◌≤◌, List, length}
 use Rattle.std.specs.Prelude.{slice_index}
-use Rattle.std.specs.List.{Contains}
 use Rattle.order_ints.specs.declared.literal.Lit.{Lit}
 use Rattle.clause_arena.specs.Clauses.{Clause, clause_at, live_clause}
-use Rattle.clause_arena.specs.Codes.{lit_of}
 use Rattle.index_ring.specs.Lists.{RingLists, IsFree, Stands, unlinked, pushed_back}
+use Rattle.clause_rings.specs.Watches.{Blocks}
 
 -- both nodes of a clause have left their rings, and the first one is in ring 0
 abbrev pub IsParked : RingLists → RingLists → ℕ → Type 0
@@ -22,7 +21,7 @@ pub record IsReleased (old new : RingLists) (v : ℕ) : Type 0 where
 -- the blockers of two nodes are literals of a clause, if it has any, and all others stay
 pub record AreSet (old new : List ℕ) (node : ℕ) (ls : List Lit) : Type 0 where
   pub count : length new ≡ length old
-  pub here : (i : ℕ) → i < 2 → 1 ≤ length ls → Contains ls (lit_of (slice_index new (node + i)))
+  pub here : (i : ℕ) → i < 2 → 1 ≤ length ls → Blocks ls (slice_index new (node + i))
   pub others : (n : ℕ) → n ≢ node → n ≢ node + 1 → slice_index new n ≡ slice_index old n
 
 -- the same lists, and perhaps more nodes

@@ -1,6 +1,6 @@
 -- How the nodes of rings watch clauses: the clause of number c has the nodes 2c and 2c + 1, and ring 2v + s is that of
 -- a literal of variable v.
-use Rattle.std.specs.Prelude.{◌≡◌, ℕ, ◌+◌, ◌*◌, ◌<◌, ◌≤◌, true, false, List, length, Contains}
+use Rattle.std.specs.Prelude.{◌≡◌, ◌==◌, ℕ, ◌+◌, ◌*◌, ◌%◌, ◌^◌, ◌<◌, ◌≤◌, if◌then◌else◌, true, false, List, length, Contains}
 use Rattle.std.specs.Prelude.{Some, slice_index, take, ◌⊎◌}
 use Rattle.order_ints.specs.declared.literal.Lit.{Lit}
 use Rattle.literal_trail.specs.declared.entry.Entry.{Entry}
@@ -48,10 +48,18 @@ pub record IsWatching (cs : List Clause) (t : Trail) (rings : RingLists) (head :
   pub worked : head ≤ length t.entries
   pub late : (j : ℕ) → head ≤ j → j < length t.entries → (entry_at t.entries j).level ≡ t.level
 
+-- the number of a literal, with a mark if it is the blocker of a clause of two literals
+abbrev pub marked : Lit → ℕ → ℕ
+marked l len = if len == 2 then code_of l + 2 ^ 31 else code_of l
+
+-- the blocker is a literal of the clause, and one with a mark is of a clause of two literals
+abbrev pub Blocks : List Lit → ℕ → Type 0
+Blocks ls blocker = Contains ls (lit_of (blocker % 2 ^ 31)) × (2 ^ 31 ≤ blocker → length ls ≡ 2)
+
 -- the blockers of both nodes of a clause are literals of it
 abbrev pub AreBlockers : List Clause → List ℕ → Type 0
 AreBlockers cs blockers = (c i : ℕ) → i < 2 → IsLive cs c → 1 ≤ length (lits_of cs c)
-    → Contains (lits_of cs c) (lit_of (slice_index blockers (2 * c + i)))
+    → Blocks (lits_of cs c) (slice_index blockers (2 * c + i))
 
 -- all that a clause store keeps
 pub record IsKept (cs : List Clause) (t : Trail) (rings : RingLists) (blockers : List ℕ) (head : ℕ) : Type 0 where

@@ -12,8 +12,9 @@ ghost use Rattle.index_ring.specs.Lists.{IsRings, IsFree, Stands};
 ghost use Rattle.clause_rings.specs.Clauses.{IsComplete, IsApart, MayCome, IsUnused, assigned};
 ghost use Rattle.clause_rings.specs.Keeping.{Keeps, head_ring};
 ghost use Rattle.clause_rings.specs.Moves.{IsParked, IsReleased, AreSet};
+ghost use Rattle.clause_rings.specs.Watches.{Blocks};
 
-use crate::watches::Watches;
+use crate::watches::{Watches, marked};
 use clause_arena::code_of;
 use index_ring::Rings;
 use order_ints::Lit;
@@ -98,17 +99,27 @@ pub fn assign(watches: &mut Watches, l: Lit, reason: Option<u32>)
     }
 }
 
-/// Makes the first literal, if there is one, the blocker of both nodes of a clause.
+/// The literal at a place of a clause, as a blocker of it.
+fn blocker_at(lits: &[Lit], place: usize) -> u32
+    requires place { place < length lits.now }
+    requires small { All (λ l. l.var < 2 ^ 30) lits.now }
+    ensures { Blocks lits.now result }
+{
+    marked(lits[place], lits.len())
+}
+
+/// Gives both nodes of a clause a blocker, if it has a literal: of two literals each node gets the other one's.
 fn block(blockers: &mut Vec<u32>, lits: &[Lit], node: u32)
     requires room { node + 1 < vec_len blockers.old }
-    requires small { All (λ l. l.var < 2 ^ 31) lits.now }
+    requires small { All (λ l. l.var < 2 ^ 30) lits.now }
     ensures { AreSet blockers.old.items blockers.new.items node lits.now }
 {
-    if let Some(first) = lits.first() {
-        let code = code_of(*first);
-        blockers[node as usize] = code;
-        blockers[node as usize + 1] = code;
+    if lits.is_empty() {
+        return;
     }
+    let second = if lits.len() == 2 { 1 } else { 0 };
+    blockers[node as usize] = blocker_at(lits, second);
+    blockers[node as usize + 1] = blocker_at(lits, 0);
 }
 
 /// Adds a clause, which waits to be watched.

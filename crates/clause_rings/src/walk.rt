@@ -4,15 +4,17 @@
 //! (2008).
 
 ghost use Rattle.std.specs.Prelude.{◌≡◌, ◌+◌, ◌/◌, ◌<◌, length, slice_index, IfSome, IfNone, IsTrue};
-ghost use Rattle.std.specs.Prelude.{Some, true, ◌↔◌, ◌≤◌};
+ghost use Rattle.std.specs.Prelude.{Some, true, ◌↔◌, ◌≤◌, ◌≢◌, Contains};
 ghost use Rattle.std.specs.Bool.{OnTrue, OnFalse};
 ghost use Rattle.literal_trail.specs.Trail.{truth_in};
+ghost use Rattle.clause_arena.specs.Clauses.{lits_of};
+ghost use Rattle.clause_arena.specs.Codes.{code_of};
 ghost use Rattle.index_ring.specs.Lists.{Stands};
 ghost use Rattle.clause_rings.specs.Keeping.{Keeps, seen, Advances, head_ring, IsConflict, IsVisited, AreMet};
 ghost use Rattle.clause_rings.specs.Keeping.{IsBlocker};
 
 use crate::looks::{Look, look_at};
-use crate::watches::{Watches, rewatch};
+use crate::watches::{TWO, Watches, marked, rewatch};
 use clause_arena::{code_of, lit_of};
 use literal_trail::LiteralTrail;
 use order_ints::Lit;
@@ -35,7 +37,7 @@ fn look(watches: &mut Watches, node: u32) -> bool
     let len = watches.arena.len(c);
     match look_at(&watches.arena.lits(c), len, &watches.trail, place) {
         Look::Holds(other) => {
-            watches.blockers[node as usize] = code_of(other);
+            watches.blockers[node as usize] = marked(other, len as usize);
             false
         }
         Look::Open(k, other) => {
@@ -45,7 +47,7 @@ fn look(watches: &mut Watches, node: u32) -> bool
         }
         Look::Forces(other) => {
             watches.trail.imply(other, c);
-            watches.blockers[node as usize] = code_of(other);
+            watches.blockers[node as usize] = marked(other, len as usize);
             false
         }
         Look::Fails => true,
@@ -73,20 +75,49 @@ fn is_true(trail: &LiteralTrail, l: Lit) -> bool
     matches!(trail.truth(l), Some(true))
 }
 
-/// Looks at the clause of a node, unless its blocker is true, and tells whether each literal of it is false.
-fn meet(watches: &mut Watches, node: u32, blocker: u32) -> bool
+/// Makes the other literal of a clause of two true, of which the entry at the head makes one false, and tells whether
+/// the other one is false too. Neither the clause nor its place is read.
+fn meet_two(watches: &mut Watches, node: u32, other: Lit) -> bool
     requires kept { Keeps watches.old }
     requires head { watches.old.head < length watches.old.trail.entries }
     requires node { Stands watches.old.rings (head_ring watches.old) node }
-    requires blocker { IsBlocker watches.old (Some node) blocker }
+    requires two { length (lits_of watches.old.arena.clauses (node / 2)) ≡ 2 }
+    requires other { Contains (lits_of watches.old.arena.clauses (node / 2)) other }
+    requires apart { code_of other ≢ head_ring watches.old }
+    requires not_true { truth_in watches.old.trail.entries other ≢ Some true }
     ensures kept { Keeps watches.new }
     ensures advances { Advances (seen watches.old) (seen watches.new) }
     ensures head { watches.new.head ≡ watches.old.head }
     ensures visited { OnFalse result (IsVisited watches.old watches.new node) }
     ensures conflict { OnTrue result (IsConflict watches.new (node / 2)) }
 {
-    if is_true(&watches.trail, lit_of(blocker)) {
+    if watches.trail.truth(other).is_some() {
+        return true;
+    }
+    watches.trail.imply(other, node / 2);
+    false
+}
+
+/// Looks at the clause of a node, unless its blocker is true or the other literal of two, and tells whether each
+/// literal of it is false.
+fn meet(watches: &mut Watches, node: u32, blocker: u32, ring: u32) -> bool
+    requires kept { Keeps watches.old }
+    requires head { watches.old.head < length watches.old.trail.entries }
+    requires node { Stands watches.old.rings (head_ring watches.old) node }
+    requires blocker { IsBlocker watches.old (Some node) blocker }
+    requires ring { head_ring watches.old ≡ ring }
+    ensures kept { Keeps watches.new }
+    ensures advances { Advances (seen watches.old) (seen watches.new) }
+    ensures head { watches.new.head ≡ watches.old.head }
+    ensures visited { OnFalse result (IsVisited watches.old watches.new node) }
+    ensures conflict { OnTrue result (IsConflict watches.new (node / 2)) }
+{
+    let other = lit_of(blocker % TWO);
+    if is_true(&watches.trail, other) {
         return false;
+    }
+    if blocker >= TWO && code_of(other) != ring {
+        return meet_two(watches, node, other);
     }
     look(watches, node)
 }
@@ -108,7 +139,7 @@ pub fn walk(watches: &mut Watches) -> Option<u32>
     while let Some(node) = at {
         at = watches.rings.after(node);
         let ahead = blocker_of(watches, at);
-        if meet(watches, node, blocker) {
+        if meet(watches, node, blocker, ring) {
             return Some(node / 2);
         }
         blocker = ahead;

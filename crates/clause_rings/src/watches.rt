@@ -13,6 +13,7 @@ ghost use Rattle.literal_trail.specs.Trail.{truth_in};
 ghost use Rattle.clause_arena.specs.Clauses.{IsLive, swapped, lits_of, lit_in};
 ghost use Rattle.clause_arena.specs.Codes.{code_of};
 ghost use Rattle.index_ring.specs.Lists.{IsRings, IsFree, pushed_back, unlinked};
+ghost use Rattle.clause_rings.specs.Watches.{marked};
 
 use clause_arena::{ClauseArena, code_of};
 use index_ring::Rings;
@@ -29,10 +30,26 @@ pub struct Watches {
     pub trail: LiteralTrail,
     /// Ring 0 has the clauses that wait to be watched; ring 2v + s has the watches of the literal of variable v.
     pub rings: Rings,
-    /// For each node the number of a literal of its clause: where it is true, the clause need not be looked at.
+    /// For each node the number of a literal of its clause: where it is true, the clause need not be looked at. With a
+    /// mark it is of a clause of two literals, which need not be looked at either.
     pub blockers: Vec<u32>,
     /// How many entries of the trail are worked off.
     pub head: u32,
+}
+
+/// The mark at the blocker of a clause of two literals.
+pub const TWO: u32 = 1 << 31;
+
+/// The number of a literal, with a mark where it is to be the blocker of a clause of two literals.
+pub fn marked(l: Lit, len: usize) -> u32
+    requires { l.var < 2 ^ 30 }
+    ensures { result ≡ marked l len }
+{
+    if len == 2 {
+        code_of(l) + TWO
+    } else {
+        code_of(l)
+    }
 }
 
 /// Whether a literal is false.

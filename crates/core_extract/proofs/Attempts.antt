@@ -1,4 +1,4 @@
--- What comes of a question about another part.
+-- What comes of a query about another part.
 use Rattle.std.proofs.Common.{◌≡◌, ℕ, Bool, List, sym, ap, ◌∙◌, subst}
 use Rattle.core_forms.specs.declared.equation.Equation.{Equation}
 use Rattle.core_forms.specs.declared.form.Core.{Core}

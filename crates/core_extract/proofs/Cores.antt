@@ -275,7 +275,7 @@ spent-whole told options whole s n numbers given = record {
   given_up = given;
 }
 
--- the same of the first question, whose marks are all unset
+-- the same of the first query, whose marks are all unset
 module _ (told : Core → Equation → Type 0) (options : SearchOptions) (model : Model) (d new : DividedModel) (marks : List Bool) (n : ℕ) (anew : IsAnew d marks new) (unset : marks ≡ replicate n false)
     (same : whole_of d ≡ satisfying model) where
   pub first-whole : whole_of new ≡ satisfying model

@@ -28,7 +28,7 @@ whole_of d = record {
 abbrev pub part_of : Model → List Bool → Model
 part_of model out = record { decls = model.decls; stmts = kept_of out model.stmts; goal = Satisfy }
 
--- a divided model of which questions may be asked
+-- a divided model of which queries may be made
 pub record IsFit (d : DividedModel) : Type 0 where
   pub divided : IsDivided (whole_of d) d
   pub typed : WellTyped (whole_of d)

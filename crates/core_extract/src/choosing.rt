@@ -120,7 +120,7 @@ fn leave_out<F: Oracle<L>, L: Ledger, W: CoreWatcher>(
     }
 }
 
-/// Leaves out groups until each statement is known to be needed. So many questions suffice as there are statements, and
+/// Leaves out groups until each statement is known to be needed. So many queries suffice as there are statements, and
 /// some for the groups.
 fn leave_out_groups<F: Oracle<L>, L: Ledger, W: CoreWatcher>(
     reduction: Reduction,

@@ -38,7 +38,7 @@ pub struct ExtractedCore {
     pub document: CoreDocument,
     /// The declared names, as the model has them.
     pub decls: Sequence<Decl>,
-    /// How many questions were asked; each is a compilation. Nothing is promised of it.
+    /// How many queries were made; each is a compilation. Nothing is promised of it.
     pub questions: u64,
 }
 
@@ -255,10 +255,10 @@ fn extract_light<F: Oracle<L>, L: Ledger, W: CoreWatcher>(
 
 /// Why a model has no solution: a part of its statements that has none, each of which is needed for that. Or a solution
 /// where it has one; or a part of which it is open, where a search spent its budget. Each search has the whole budget,
-/// and the goal doesn't matter. What each question learns, and how small the part is behind it, is told to a watcher.
+/// and the goal doesn't matter. What each query learns, and how small the part is behind it, is told to a watcher.
 ///
 /// It fails with the model's weight, and one for each `bool2int` that declares its integer, where that is above
-/// 67,108,864; and for want of memory. A question costs a compilation and a search, and the statements are moved for
+/// 67,108,864; and for want of memory. A query costs a compilation and a search, and the statements are moved for
 /// it, in time linear in their number.
 pub fn extract<F: Oracle<L>, L: Ledger, W: CoreWatcher>(
     alloc: Global,

@@ -1,7 +1,7 @@
 //! Why a model has no solution: a core, which is a part of its statements that no assignment in the
 //! domains meets, and of which each statement is needed for that.
 //!
-//! The model is divided into a part that is asked about and what is left out. Each question is an
+//! The model is divided into a part that is asked about and what is left out. Each query is an
 //! ordinary answer to the part, so truth comes from the contract of `decode_minimize::answer_watched` alone,
 //! and which part is asked about next is free (`choosing`). From a refutation `used_statements` tells
 //! what it used, and the part of that is asked about next, while a fifth goes (`trimming`). Then groups
@@ -17,7 +17,7 @@
 //! spent exactly the budget, and never comes from a stated number on; it fails exactly where a part may
 //! be too heavy, or memory is wanting (`light`, `heavy`). `document_law`: what a document says is true.
 //!
-//! How few questions are asked is no promise; `ExtractedCore::questions` tells it.
+//! How few queries are made is no promise; `ExtractedCore::questions` tells it.
 #![tactic(auto)]
 
 mod choosing;

@@ -38,7 +38,7 @@ pub struct SpentPart {
     pub(crate) certificate: Certificate,
 }
 
-/// What came of a question about another part.
+/// What came of a query about another part.
 #[derive(Drop)]
 pub enum Attempt {
     /// It has no solution.

@@ -1,4 +1,4 @@
-//! One question: whether a model has a solution.
+//! One query: whether a model has a solution.
 
 ghost use Rattle.std.specs.Prelude.{◌≡◌, IfOk};
 ghost use Rattle.model_meaning.specs.WellTyped.{WellTyped};
@@ -23,7 +23,7 @@ use std::alloc::{AllocError, Global};
 use std::cell::{Cell, RefCell};
 use std::sync::ledger::Ledger;
 
-/// How questions are asked: with which budget for each, and by which rules.
+/// How queries are made: with which budget for each, and by which rules.
 #[derive(Drop)]
 pub(crate) struct Asker<'a, F, W: CoreWatcher> {
     /// Where memory is taken.
@@ -32,7 +32,7 @@ pub(crate) struct Asker<'a, F, W: CoreWatcher> {
     pub(crate) options: SearchOptions,
     /// What tells equations.
     pub(crate) oracle: F,
-    /// How many questions were asked.
+    /// How many queries were made.
     pub(crate) asked: Cell<u64>,
     /// How many statements the smallest part has that is known to have no solution; all, while none is known.
     pub(crate) left: Cell<usize>,
@@ -49,7 +49,7 @@ pub struct Certificate {
     pub proof: Sequence<ProofLine>,
 }
 
-/// What is replied to a question.
+/// What is replied to a query.
 #[derive(Drop)]
 pub enum Reply {
     /// The model has this solution.

@@ -15,7 +15,7 @@ use std::alloc::{AllocError, Global};
 use std::sync::ledger::Ledger;
 use used_statements::used_statements;
 
-/// How many questions trimming asks at most.
+/// How many queries trimming makes at most.
 const MOST_TRIMS: usize = 8;
 
 /// What came of a part that was trimmed.

@@ -4,10 +4,10 @@ use decode_minimize::SolutionWatcher;
 use model_meaning::{Assignment, Decl, Goal};
 use search_watcher::{Silent, Watcher};
 
-/// Who is told how a core is sought: how many clauses were learned, by all questions together, and how small a part
+/// Who is told how a core is sought: how many clauses were learned, by all queries together, and how small a part
 /// without a solution is by now. It changes nothing of what is asked.
 pub trait CoreWatcher: Watcher {
-    /// So many questions were replied to, and the smallest part that is known to have no solution has so many
+    /// So many queries were replied to, and the smallest part that is known to have no solution has so many
     /// statements; all, while none is known.
     fn asked(&mut self, left: usize, questions: u64);
 }
@@ -16,7 +16,7 @@ impl CoreWatcher for Silent {
     fn asked(&mut self, _left: usize, _questions: u64) {}
 }
 
-/// Hands on what one question learns, and hears of no solution.
+/// Hands on what one query learns, and hears of no solution.
 #[derive(Drop)]
 pub(crate) struct Overheard<'a, W: CoreWatcher> {
     pub(crate) watcher: &'a mut W,

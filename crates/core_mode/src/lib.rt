@@ -1,7 +1,7 @@
 //! The mode `core`: from the text of a model to the text that says why it has no solution.
 //!
 //! It joins the reading of a model, `core_extract` with all rules, and the writing of the document. Which core is
-//! written may differ from run to run, as far as the contract goes, since the choice of questions and the order of
+//! written may differ from run to run, as far as the contract goes, since the choice of queries and the order of
 //! decisions are free; so the record names the fault of a told text (`faulty`), and says of one that says a model that
 //! some text is written (`finishes`).
 //!

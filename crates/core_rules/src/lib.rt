@@ -2,8 +2,9 @@
 //!
 //! The crates of rules know nothing of one another, so a form's rules can be proved, changed and
 //! checked alone; this crate joins them by cases on the form and is small. It has the test and its
-//! laws; the search stands in `rule_oracle`, so that whoever is generic over an oracle can list
-//! this crate and still not ask the rules by name.
+//! laws; the search stands in `rule_oracle`, which nobody who is generic over an oracle lists. A
+//! body that tries equations by the test finds instances too, in more time, but not that its oracle
+//! tells none.
 //!
 //! What it promises: `is_instance` is exactly whether an equation is an instance of its rule at a
 //! core (its one clause). `instance_law`: an instance is implied by a well formed core, its two

@@ -167,5 +167,5 @@ pub record IsAnswer (told : Core → Equation → Type 0) (model : Model) (optio
   -- and a solution that is given then is as good as the searches were many
   pub paid : IsPaid (lowered_of model).map.entries options.budget (most_learned options.restart (cnf_of last).vars)
       model.goal d.second d.verdict
-  -- the counter rose by three at most for each question that the compilation may have asked
+  -- the counter rose by three at most for each query that the compilation may have made
   pub asked : now ≤ counter + 3 * most_questions (start_of model) d.ledger last

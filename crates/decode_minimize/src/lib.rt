@@ -16,15 +16,16 @@
 //! with it is as good as the searches were many (`paid`). They fail exactly where the model is too
 //! heavy, or memory is wanting (`light`, `heavy`).
 //!
-//! A round asks through a `Seeker`, whose incumbent is the value of the last solution that was found.
+//! A round asks through a `Seeker`, whose incumbent is the value of the last solution that it found.
 //! It asks for a better one alone, and whoever makes the rounds can't change it: so that the solution
-//! that is kept has this value (`kept`) says that none that was found is better.
+//! that is kept has this value (`kept`) says that none that it found is better.
 //!
 //! Who watches (`SolutionWatcher`) is told each solution that a round found, and how many clauses were
 //! learned. What may be told is a ghost member of the watcher, of which `answer_watched` asks only that
 //! every solution of the model may: so nothing else is told. A watcher changes nothing that is answered.
 //!
-//! How a round searches is `learning_solver`'s; which bound it asks for is `ask_bound`, here.
+//! How a round searches is `learning_solver`'s; which bound it asks for is `ask_bound`, here, and which
+//! values it decides first is `Targets`, of which nothing is promised.
 //! Clauses, ledger and derivations go into the document as they are; nothing is made again for it.
 #![tactic(auto)]
 
@@ -37,6 +38,7 @@ mod rounds;
 mod seeker;
 mod solved;
 mod solving;
+mod targets;
 mod telling;
 mod watching;
 

@@ -15,6 +15,7 @@ ghost use Rattle.decode_minimize.specs.Incumbents.{incumbent_behind, round_of, I
 
 use crate::asking::{Ended, Round, ask_bound, solver_of};
 use crate::improving::{Best, Sought, best_of};
+use crate::targets::Targets;
 use bee_list::Sequence;
 use learning_solver::{Aim, Solver};
 use order_ints::{Atom, Cnf};
@@ -24,11 +25,12 @@ use search_watcher::Watcher;
 use std::alloc::{AllocError, Global};
 
 /// A solver that seeks the best value of an integer, and its incumbent: the value of the last solution that it found,
-/// or that it was begun with. Both are private, so that whoever makes the rounds can't lose what one of them found.
+/// or that it was begun with. Both are private, so that whoever makes its rounds can't lose what one of them found.
 #[derive(Drop)]
 pub struct Seeker<'a> {
     solver: Solver<'a>,
     incumbent: Option<i64>,
+    targets: Targets,
 }
 
 /// The log of a seeker, and its incumbent. None makes one but a seeker.
@@ -60,6 +62,7 @@ impl<'a> Seeker<'a> {
         Ok(Seeker {
             solver,
             incumbent: None,
+            targets: Targets::new(alloc),
         })
     }
 
@@ -75,16 +78,27 @@ impl<'a> Seeker<'a> {
         Ok(Seeker {
             solver,
             incumbent: Some(best.number),
+            targets: Targets::new(alloc),
         })
     }
 
-    /// Where a solution is known, saved phases are near it, and the last round, which finds none, is the longest.
-    fn set_aim(&mut self)
-        ensures { self.new ≡ self.old }
+    /// Where a solution is known, saved phases are near it, and the last round, which finds none, is the longest. Much
+    /// better values are decided first, where the search restarts: without restarts it couldn't leave them again.
+    fn set_aim(&mut self, sought: &Sought<'_>, options: SearchOptions) -> Result<(), AllocError>
+        requires { IsObjective (length sought.now.view.now + 1) sought.now.integer.now }
+        ensures solver { self.new.solver ≡ self.old.solver }
+        ensures incumbent { self.new.incumbent ≡ self.old.incumbent }
     {
-        if self.incumbent.is_some() {
-            self.solver.set_aim(Aim::Refutation);
+        let Some(number) = self.incumbent else {
+            return Ok(());
+        };
+        self.solver.set_aim(Aim::Refutation);
+        if options.restart {
+            self.targets.give_up(self.solver.given_up());
+            self.targets.aim(sought, number)?;
+            self.solver.set_targets(self.targets.lits())?;
         }
+        Ok(())
     }
 
     /// Asks for a solution that breaks a bound, which is that of the incumbent, where there is one: so what is found is
@@ -113,7 +127,7 @@ impl<'a> Seeker<'a> {
             ≤ additions self.old.solver.log + most_learned options.restart self.old.solver.cnf.vars }
         ensures unasked { bound ≡ Atom.True → additions self.new.solver.log ≡ additions self.old.solver.log }
     {
-        self.set_aim();
+        self.set_aim(sought, options)?;
         match ask_bound(&mut self.solver, bound, options, watcher)? {
             Round::Better(values) => {
                 let best = best_of(sought, values);
@@ -132,7 +146,11 @@ impl<'a> Seeker<'a> {
         ensures fresh { IsFreshLog self.entry.solver.cnf result.lines }
         ensures readable { AreReadableLines result.lines }
     {
-        let Seeker { solver, incumbent } = self;
+        let Seeker {
+            solver,
+            incumbent,
+            ..
+        } = self;
         SeekerLog {
             lines: solver.into_log(),
             incumbent,

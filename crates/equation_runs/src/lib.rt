@@ -6,7 +6,7 @@
 //! each equation that is made, so the next one may not be told any more as it was found; what is
 //! promised covers that. A walk that goes on from where the last one ended was rejected: it would
 //! have to show that nothing behind it is told anew by a merge, while a run leaves out nothing that
-//! the next question would not find.
+//! the next query would not find.
 //!
 //! What it promises of `run_of`: it gives exactly the run that "Runs" of `docs/CORES.md` states
 //! (`shape`); each of its equations, once those before it are made and nothing else was, is made

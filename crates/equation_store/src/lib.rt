@@ -4,7 +4,7 @@
 //! Each variable has a label: a constant, or a literal of a variable that is its own label. A merge
 //! gives the smaller class the other's label, so a label is one look, and no variable is relabelled
 //! more often than the number of variables has binary digits, but for a last time by a constant;
-//! that bounds the questions of a compilation. Trees with short ways (union-find) merge faster; but
+//! that bounds the queries of a compilation. Trees with short ways (union-find) merge faster; but
 //! a core must be woken at each member that gets a new label, so the members are walked in any
 //! case. The members of a class are a ring of single links, which two classes join by one exchange.
 //! Label, link and size take 20 bytes a variable.

@@ -4,7 +4,7 @@
 //! This is Boolean equi-propagation (Metodi, Codish, Lagoon and Stuckey, 2011): a core tells that
 //! two literals are equal, or one is constant, and they become one variable before anything is
 //! encoded. Unit propagation on clauses would find only constants, and after the encoding. The
-//! rules are those that a walk along the core finds, so a question costs the size of the core; the
+//! rules are those that a walk along the core finds, so a query costs the size of the core; the
 //! complete ones of a core of few variables are in `table_rules`.
 //!
 //! What it promises: `find` gives exactly the first equation of two different atoms by the order of

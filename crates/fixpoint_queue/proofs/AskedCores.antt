@@ -1,4 +1,4 @@
--- What one question makes of the queue: it is as it must be, and there is less to do.
+-- What one query makes of the queue: it is as it must be, and there is less to do.
 use Rattle.std.proofs.Common.{◌≡◌, ℕ, ◌+◌, ◌*◌, ◌≤◌, ◌<◌, ◌-◌, Bool, true, false, List, length, get_or, set, inl, inr, refl, sym, ap, ◌∙◌, subst, arith, ◌⊎◌, ⊎_elim, Option, Some, None}
 use Rattle.std.specs.Prelude.{◌==◌, option_map, is_some, MatchOption, if◌then◌else◌}
 use Rattle.std.proofs.lemmas.Bool.{false≢true, cases_lt, cases_eq, cond-false, ne_eqb}

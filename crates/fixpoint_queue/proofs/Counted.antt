@@ -1,4 +1,4 @@
--- The queue and the counter after a question.
+-- The queue and the counter after a query.
 use Rattle.std.proofs.Common.{◌≡◌, ◌⊎◌, inl, inr, ℕ, zero, suc, ◌+◌, ◌≤◌, ◌<◌, ◌==◌, Bool, true, false, not, List, [], ◌∷◌, ◌++◌, length, get_or, Contains, refl, sym, ap, ◌∙◌, subst, arith, append_assoc, ⊎_elim, Option, Some, None, Result, Ok}
 use Rattle.std.specs.Prelude.{◌≢◌, option_map, is_some, IsSomeAnd, MatchOption, if◌then◌else◌}
 use Rattle.std.proofs.lemmas.Option.{none-some}
@@ -201,7 +201,7 @@ module _ (told : Core → Equation → Type 0) (k : Kernel) (occurs : Occurrence
           there-bounds k.cores i has.0 has.1)
           (woken.only i h)
 
-      -- the queue and one question grow by no more than the pairs
+      -- the queue and one query grow by no more than the pairs
       pub fewer-pairs : 1 + length new.queued ≤ length old.queued + relabelled_pairs k.view next-view (pending k.cores)
       fewer-pairs =
           let n = length k.cores in
@@ -265,7 +265,7 @@ counted-none k before queued counter lines is = omega arith
 pub counted-less : (k : Kernel) (before behind : List Line) (queued counter now left less : ℕ) → less ≤ left → IsCounted k before behind queued counter now left → IsCounted k before behind queued counter now less
 counted-less k before behind queued counter now left less le h lines is = omega (arith, le, h lines is)
 
--- a question that is refused, or tells that there is no solution
+-- a query that is refused, or tells that there is no solution
 pub counted-last : (k : Kernel) (before behind : List Line) (queued counter now : ℕ) → 1 ≤ queued → now ≤ counter + 3 → IsCounted k before behind queued counter now 0
 counted-last k before behind queued counter now some most lines is = omega (arith, some, most)
 

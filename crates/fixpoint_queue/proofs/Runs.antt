@@ -243,7 +243,7 @@ pub flag-is : {told : Core → Equation → Type 0} {id : ℕ} {core : Core} {k 
 flag-is {told} {id} {core} {k} {new} {before} {behind} {from} {to} {some} {other} same taken =
     subst (λ (b : Bool). HasTaken told id core k before from new behind to b) same taken
 
--- what was taken behind a question, where something was
+-- what was taken behind a query, where something was
 module _ (told : Core → Equation → Type 0) (id : ℕ) (core : Core) (k new : Kernel) (before last : List Line) (from to : Worklist)
     (taken : HasTaken told id core k before from new last to true)
   where

@@ -48,7 +48,7 @@ pairs_along r [] = 0
 pairs_along (Err fault) (line ∷ lines) = 0
 pairs_along (Ok k) (line ∷ lines) = pairs_to k (step k line) + pairs_along (step k line) lines
 
--- From a state and a ledger on, with so many questions to ask, a counter has risen by at most three for each question
+-- From a state and a ledger on, with so many queries to make, a counter has risen by at most three for each query
 -- that was asked; there are so many left; and those that came are no more than the pairs that got a new label.
 abbrev pub IsCounted : Kernel → List Line → List Line → ℕ → ℕ → ℕ → ℕ → Type 0
 IsCounted k before behind queued counter now left =

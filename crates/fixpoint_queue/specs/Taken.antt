@@ -13,7 +13,7 @@ use Rattle.fixpoint_queue.specs.Waits.{IsSaturation, left_to_do, left_to_ask}
 
 -- Equations that are told were added to the ledger behind so many lines, and lead from one state to another; of the
 -- worklist the queue alone has changed, which is as it must be, and has the core, which is as the store has it. Where
--- some were taken there is less to do than before, and one question is paid for: what is left to be asked, and that
+-- some were taken there is less to do than before, and one query is paid for: what is left to be asked, and that
 -- one, are no more than what was left and the pairs that got a new label. Where none was, the state is as it was.
 pub record HasTaken (told : Core → Equation → Type 0) (id : ℕ) (core : Core) (old : Kernel) (before : List Line)
     (from : Worklist) (new : Kernel) (behind : List Line) (to : Worklist) (some : Bool) : Type 0 where

@@ -45,7 +45,7 @@ pub record IsWoken (k : Kernel) (x : ℕ) (old new : Ids) : Type 0 where
   pub only : (id : ℕ) → 1 ≤ times id new.queued → (1 ≤ times id old.queued)
       ⊎ ((v : ℕ) × IsMember k.view x v × HasVar k id v)
 
--- what falls with each question: the classes count for more than the queue can hold
+-- what falls with each query: the classes count for more than the queue can hold
 abbrev pub left_to_do : Kernel → Ids → ℕ
 left_to_do k queue = if k.bottom then 0 else number_own k.view * (queue.places + 1) + length queue.queued + 1
 

@@ -1,4 +1,4 @@
-//! One question after another, until the queue is empty.
+//! One query after another, until the queue is empty.
 
 ghost use Rattle.std.specs.Prelude.{ℕ, ◌≡◌, ◌⊎◌, ◌+◌, ◌<◌, ◌≤◌, [], true, false, length};
 ghost use Rattle.std.specs.Prelude.{Some, IfOk, OnOk, OnErr};

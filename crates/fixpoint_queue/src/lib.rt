@@ -6,7 +6,7 @@
 //! `Oracle<L>`: one relation between cores and equations, of which nothing is known but what a call
 //! answered, and each call counts one step to three on the counter of the ledger `L`. A body that
 //! is generic over `L` can open no other counter, and the search through the rules stands in
-//! `rule_oracle`, which no such body lists; so the bound on questions cannot be evaded.
+//! `rule_oracle`, which no such body lists; so the bound on queries cannot be evaded.
 //!
 //! What it promises of a `Runner`: `saturate` adds lines of equations alone, each told where its
 //! step begins, also where memory is refused (`lines`); behind it no pending core tells anything,
@@ -17,7 +17,7 @@
 //!
 //! Occurrences are handed on where a long list is split, so an id may stand at a variable that its
 //! core lost; a walk of the core tells, and a queued core is not looked at. Cores are woken in the
-//! order of their ids, those with long lists behind all others, as a question goes along the list;
+//! order of their ids, those with long lists behind all others, as a query goes along the list;
 //! no clause names the order. Marks (`Marks`) say which cores were compound when last asked; they
 //! save walks and are no promise.
 #![tactic(auto)]

@@ -14,10 +14,10 @@ use rule_base::Steps;
 use std::alloc::{AllocError, Global};
 use std::sync::ledger::Ledger;
 
-/// What tells equations, to whoever counts the questions in the ledger `L`. It has one meaning, a relation between
+/// What tells equations, to whoever counts the queries in the ledger `L`. It has one meaning, a relation between
 /// cores, as a store has them, and equations, and that is all that is known of it: that nothing is told of a core
-/// follows from a question alone. Who is generic over `L` has no other counter of that ledger than the one that is
-/// handed in, so each question of such a caller is on it.
+/// follows from a query alone. Who is generic over `L` has no other counter of that ledger than the one that is
+/// handed in, so each query of such a caller is on it.
 pub trait Oracle<L: Ledger>: Copy {
     ghost use Rattle.core_forms.specs.declared.form.Core.{Core};
     ghost use Rattle.core_forms.specs.declared.equation.Equation.{Equation};

@@ -25,7 +25,7 @@ use std::sync::ledger::Ledger;
 use step_kernel::State;
 
 /// A state with the ledger of its lines, and a queue of the cores that may tell an equation which the store lacks to an
-/// oracle whose questions are counted in `L`. For each variable it keeps which pending cores have it, so that an
+/// oracle whose queries are counted in `L`. For each variable it keeps which pending cores have it, so that an
 /// equation queues those at the class that gets a new label, and no others.
 #[derive(Drop)]
 pub struct Runner<F: Oracle<L>, L: Ledger> {

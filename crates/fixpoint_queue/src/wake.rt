@@ -33,7 +33,7 @@ fn is_at(state: &State, id: u32, var: u32) -> bool
 /// The most members of a list that is asked as soon as others.
 const SHORT: usize = 64;
 
-/// Whether a core has a long list. A question goes along it, so it is asked when those with short ones tell nothing
+/// Whether a core has a long list. A query goes along it, so it is asked when those with short ones tell nothing
 /// more: each equation that these tell on the way would ask it anew.
 fn is_long(core: &Core) -> bool {
     match core {

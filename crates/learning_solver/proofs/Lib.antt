@@ -2,6 +2,7 @@ mod RingLaws
 mod NamedLaws
 pub mod KnownLaws
 mod LogLaws
+mod EmptyClauses
 mod KeptLaws
 mod HeightLaws
 mod LitLaws

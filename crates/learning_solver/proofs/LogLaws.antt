@@ -232,7 +232,7 @@ module _ (cnf : Cnf) (log : List ProofLine) (is : IsLog cnf log) where
       (subst P (sym behind-it)
       (record {
         accepted = takes-more (proof_of cnf) log p line is.accepted fault;
-        fresh = each-more (proof_of cnf) log line is.fresh (mark, added);
+        fresh = each-more (proof_of cnf) log line is.fresh (mark, added, λ e. cc);
         readable = each-last IsReadable log line is.readable can;
         last = omega (arith, additions-delete log at ids, is.last);
         cnf_lives = λ d there. still-lives ids p.live d added there (is.cnf_lives d there);

@@ -6,7 +6,7 @@ use Rattle.search_laws.specs.Stretches.{stretches_total}
 use Rattle.search_laws.proofs.StretchLaws.{stretches_fit, total-grows}
 use Rattle.search_laws.proofs.LubyLaws.{luby-some}
 use Rattle.learning_solver.specs.declared.restarts.Restarts.{Restarts}
-use Rattle.learning_solver.specs.Restarting.{AreStretched, Counts}
+use Rattle.learning_solver.specs.Restarting.{AreStretched, Counts, IsInTime}
 use Rattle.learning_solver.specs.Outcome.{most_learned}
 
 -- at the start of a call
@@ -74,6 +74,18 @@ stretched-anew vars added height lower any old new is counts falls low =
       none = λ e. let both : false ≡ true = sym e ∙ counts.1 in cc;
       due = λ e. omega (arith, luby-some (old.stretches + 1 + 1) (omega arith));
     })
+
+-- a turn that ends no stretch, and one that does
+pub same-in-time : (level : ℕ) (p : Restarts) → IsInTime p p level
+same-in-time level p more = absurd (omega (arith, more))
+
+pub learned-in-time : (level : ℕ) (old new : Restarts) → Counts old new false → IsInTime old new level
+learned-in-time level old new counts more =
+    let same : new.stretches ≡ old.stretches = ap (λ (p : Restarts). p.stretches) counts.0 in
+    absurd (omega (arith, more, same))
+
+pub anew-in-time : (vars added height level : ℕ) (old new : Restarts) → AreStretched vars added height old → Counts old new true → level ≡ 0 → IsInTime old new level
+anew-in-time vars added height level old new is counts bottom more = record { length = omega (arith, is.due counts.1, counts.2); bottom = bottom }
 
 -- what is left to do is less after a clause, whatever the trail
 pub less-learned : (budget added vars before after : ℕ) → added < budget → (budget - (added + 1)) * (vars + 1) + (vars - after) < (budget - added) * (vars + 1) + (vars - before)

@@ -1,7 +1,7 @@
--- The log of a search: a proof whose additions are new and whose deletions name additions alone, behind the greatest id
--- so far.
-use Rattle.std.specs.Prelude.{◌≡◌, ℕ, ◌+◌, ◌<◌, ◌≤◌, Ok, Some, IsTrue, List, [], ◌∷◌}
-use Rattle.std.specs.Prelude.{◌++◌, length}
+-- The log of a search: a proof whose additions are new and whose deletions name additions alone, one at least, behind
+-- the greatest id so far.
+use Rattle.std.specs.Prelude.{◌≡◌, ◌≢◌, ℕ, ◌+◌, ◌<◌, ◌≤◌, Ok, Some, IsTrue, List, [], ◌∷◌}
+use Rattle.std.specs.Prelude.{◌++◌, length, Contains}
 use Rattle.order_ints.specs.declared.literal.Lit.{Lit}
 use Rattle.order_ints.specs.declared.cnf.Cnf.{Cnf}
 use Rattle.proof_check.specs.declared.line.ProofLine.{ProofLine}
@@ -34,19 +34,23 @@ AreAdded p [] = Unit {0}
 AreAdded p (id ∷ ids) = IsTrue (has_id p.added id) × AreAdded p ids
 
 -- an addition is new among the clauses that live before it; a deletion begins with the greatest id so far, and names
--- additions alone
+-- additions alone, one at least
 abbrev pub IsFresh : Proof → ProofLine → Type 0
 IsFresh p (Add id lits hints) = New p.live lits
-IsFresh p (Delete at ids) = (at ≡ p.last) × AreAdded p ids
+IsFresh p (Delete at ids) = (at ≡ p.last) × AreAdded p ids × (ids ≢ [])
 
 -- what holds of each line, with the proof before it
 abbrev pub EachLine : (Proof → ProofLine → Type 0) → Proof → List ProofLine → Type 0
 EachLine P p [] = Unit {0}
 EachLine P p (line ∷ lines) = P p line × EachLine P (after_line p line) lines
 
--- each addition was new, and deletions begin with the last id and name additions alone
+-- each addition was new, and deletions begin with the last id and name additions alone, one at least
 abbrev pub IsFreshLog : Cnf → List ProofLine → Type 0
 IsFreshLog cnf log = EachLine IsFresh (proof_of cnf) log
+
+-- where the CNF holds the empty clause, such a log has no line
+abbrev pub EmptyClauseLaw : Type 0
+EmptyClauseLaw = (cnf : Cnf) (log : List ProofLine) → Contains cnf.clauses [] → IsFreshLog cnf log → log ≡ []
 
 -- a log goes on: its lines stay, and others may follow them
 abbrev pub GoesOn : List ProofLine → List ProofLine → Type 0

@@ -24,3 +24,12 @@ Counts old new false = (new ≡ record old { learned = old.learned + 1 })
     × (old.restart ≡ true → old.learned + 1 < stretch_length (old.stretches + 1))
 Counts old new true = (new ≡ record old { stretches = old.stretches + 1; learned = 0 }) × (old.restart ≡ true)
     × (stretch_length (old.stretches + 1) ≤ old.learned + 1)
+
+-- A turn that ends a stretch made it exactly as long as it is to be, and left the search at level 0: so the next one
+-- begins anew.
+pub record EndsStretch (old : Restarts) (level : ℕ) : Type 0 where
+  pub length : old.learned + 1 ≡ stretch_length (old.stretches + 1)
+  pub bottom : level ≡ 0
+
+abbrev pub IsInTime : Restarts → Restarts → ℕ → Type 0
+IsInTime old new level = old.stretches < new.stretches → EndsStretch old level

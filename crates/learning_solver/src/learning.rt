@@ -7,7 +7,7 @@ ghost use Rattle.clause_arena.specs.Clauses.{IsLive, lits_of};
 ghost use Rattle.literal_trail.specs.Standing.{IsFalse};
 ghost use Rattle.conflict_analysis.specs.Analysis.{IsAnalysed};
 ghost use Rattle.learning_solver.specs.Sight.{named_in};
-ghost use Rattle.learning_solver.specs.Restarting.{SameCall};
+ghost use Rattle.learning_solver.specs.Restarting.{SameCall, IsInTime};
 ghost use Rattle.learning_solver.specs.Searching.{IsSearch, IsReady, Stays, IsRunning, IsTurned, GoesForward, Teaches};
 ghost use Rattle.learning_solver.specs.Searching.{TurnsBack, BeginsAnew, Forgets};
 
@@ -112,6 +112,7 @@ impl Search<'_> {
         ensures turned { IsTurned task self.old restarts.new self.new result }
         ensures forward { GoesForward self.old self.new }
         ensures same_call { SameCall restarts.old restarts.new }
+        ensures in_time { IsInTime restarts.old restarts.new self.new.db.trail.level }
     {
         match self.learn_one(conflict, task, restarts) {
             Ok(None) => {
@@ -136,6 +137,7 @@ impl Search<'_> {
         ensures turned { IsTurned task self.old restarts.new self.new result }
         ensures forward { GoesForward self.old self.new }
         ensures same_call { SameCall restarts.old restarts.new }
+        ensures in_time { IsInTime restarts.old restarts.new self.new.db.trail.level }
     {
         if self.added >= task.budget {
             return Ok(Some(Found::Spent));

@@ -16,10 +16,11 @@
 //! memory is refused the log is whole and the call may be made again.
 //!
 //! What `solve_watched` promises, whoever watches: the log is accepted to its last line (`accepted`),
-//! its additions are new and its deletions name additions alone (`fresh`); values satisfy CNF and
-//! assumption, and a refutation is a clause that is known (`found`); `Spent` comes where the log's
-//! additions number the budget (`spent`), and no call adds more than 2^V clauses, or (V+1) * 2^V
-//! with restarts (`most`).
+//! its additions are new and its deletions name additions alone, one at least (`fresh`), so that a
+//! CNF with the empty clause has no line (`empty_clause_law`); values satisfy CNF and assumption,
+//! and a refutation is a clause that is known (`found`); `Spent` comes where the log's additions
+//! number the budget (`spent`), and no call adds more than 2^V clauses, or (V+1) * 2^V with
+//! restarts (`most`).
 //!
 //! Free to be tuned (`tunables`), since no clause names them: decisions, phases, which clauses go,
 //! and the tables behind them, which have no invariant: a clause is tested anew when it goes
@@ -33,6 +34,7 @@ mod deciding;
 mod deletable;
 mod ending;
 mod found;
+mod laws;
 mod learning;
 mod lesson;
 mod listed;
@@ -49,6 +51,7 @@ mod task;
 mod tunables;
 
 pub use found::Found;
+pub use laws::empty_clause_law;
 pub use order::Order;
 pub use phases::Aim;
 pub use sight::analyse;

@@ -172,6 +172,19 @@ impl Order {
         Ok(order)
     }
 
+    /// Decides these literals before all others from here on, in place of those of before. Each is given up where it is
+    /// refuted, or where it was decided in many conflicts.
+    pub fn set_targets(&mut self, targets: &[Lit]) -> Result<(), AllocError>
+        ensures { self.new ≡ self.old }
+    {
+        self.listed.replace(targets)
+    }
+
+    /// How many of the literals that are decided first were given up.
+    pub fn given_up(&self) -> usize {
+        self.listed.given_up()
+    }
+
     /// How it searches.
     pub fn profile(&self) -> Profile {
         self.profile
@@ -238,6 +251,7 @@ impl Order {
         ensures { self.new ≡ self.old }
     {
         self.phases.note_conflict(db);
+        self.listed.note_conflict(db);
         let activity = self.activity.as_slice();
         bumped.sort_unstable_by_key(|v| activity.get(*v as usize).copied());
         for v in bumped.iter() {

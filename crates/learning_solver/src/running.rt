@@ -3,7 +3,7 @@
 ghost use Rattle.std.specs.Prelude.{◌≡◌, ◌+◌, ◌≤◌, MatchResult};
 ghost use Rattle.std.specs.Option.{ForSome};
 ghost use Rattle.order_ints.specs.Place.{LitBelow};
-ghost use Rattle.learning_solver.specs.Restarting.{SameCall};
+ghost use Rattle.learning_solver.specs.Restarting.{SameCall, IsInTime};
 ghost use Rattle.learning_solver.specs.Searching.{IsSearch, IsRunning, IsTurned, GoesForward, IsAnswered};
 
 use crate::found::Found;
@@ -22,6 +22,7 @@ impl Search<'_> {
         ensures turned { IsTurned task self.old restarts.new self.new result }
         ensures forward { GoesForward self.old self.new }
         ensures same_call { SameCall restarts.old restarts.new }
+        ensures in_time { IsInTime restarts.old restarts.new self.new.db.trail.level }
     {
         match self.db.propagate() {
             Some(conflict) if self.db.level() > 0 => self.learn(conflict, task, restarts),
@@ -42,6 +43,7 @@ impl Search<'_> {
         ensures turned { IsTurned task self.old restarts.new self.new result }
         ensures forward { GoesForward self.old self.new }
         ensures same_call { SameCall restarts.old restarts.new }
+        ensures in_time { IsInTime restarts.old restarts.new self.new.db.trail.level }
     {
         let before = self.added;
         let turned = self.turn(task, restarts);

@@ -91,6 +91,20 @@ impl<'a> Solver<'a> {
         self.search.order.set_aim(aim);
     }
 
+    /// Decides these literals before all others from here on, behind the assumption, in place of those of before. Each
+    /// is given up where it is refuted, or where it was decided in many conflicts. Literals of other variables than the
+    /// CNF's are passed over. It copies the list.
+    pub fn set_targets(&mut self, targets: &[Lit]) -> Result<(), AllocError>
+        ensures { self.new ≡ self.old }
+    {
+        self.search.order.set_targets(targets)
+    }
+
+    /// How many of the literals that are decided first were given up.
+    pub fn given_up(&self) -> usize {
+        self.search.order.given_up()
+    }
+
     /// Searches for truth values that satisfy the CNF and the assumption, or for a clause that refutes them, until the
     /// log has as many additions as the budget. It may be called again, whatever it answered.
     pub fn solve(

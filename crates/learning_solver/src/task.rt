@@ -2,7 +2,7 @@
 
 use order_ints::Lit;
 
-/// A call's question.
+/// What a call asks.
 #[derive(Clone, Copy)]
 pub struct Task {
     /// A literal that is to be true, if any.

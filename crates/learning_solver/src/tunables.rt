@@ -35,3 +35,9 @@ pub const MOST_PLACES: u32 = 256;
 
 /// Where a solution is looked for, how many conflicts pass before phases change, and by how many more each time.
 pub const PHASE_CHANGE: u64 = 1_000;
+
+/// In how many conflicts a target is decided before it is given up, at least.
+pub const PATIENCE: u64 = 20;
+
+/// And in one of so many parts of all conflicts more.
+pub const PATIENCE_PARTS: u64 = 32;

@@ -15,10 +15,11 @@ use bee_list::Sequence;
 use drup_check::{DrupFault, check_drup};
 use lrat_check::HintedLine;
 use order_ints::{Cnf, Lit};
-use proof_check::ProofLine;
+use proof_check::{Checker, ProofLine};
 use std::alloc::Global;
 
-/// The lines that the last of these needs, if the checker takes them.
+/// The lines that the last of these needs, if the checker takes them; none where the empty clause is in the CNF. It
+/// takes the time of a copy of the CNF, and of the clauses that the hints name.
 pub(crate) fn derived(
     alloc: Global,
     cnf: &Cnf,
@@ -30,8 +31,12 @@ pub(crate) fn derived(
     ensures derived { IfOk result (IsDerived cnf.now assumed) }
     ensures memory { IfErr result (λ e. e ≡ Memory) }
 {
+    let checker = Checker::with(alloc, cnf)?;
+    if checker.known(&[]) {
+        return Ok(Sequence::from_vec(Vec::new(alloc)));
+    }
     let lines = trimmed(alloc, found, cnf.clauses.len() as u64, assumed)?;
-    if are_taken(alloc, cnf, assumed, lines.as_slice())? {
+    if are_taken(checker, assumed, lines.as_slice())? {
         Ok(lines)
     } else {
         Err(DrupFault::Memory)

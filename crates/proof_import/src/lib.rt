@@ -11,8 +11,8 @@
 //! What `import_refutation` promises: a text is refused exactly where `check_drup` over the CNF and
 //! the assumed literal refuses it, or, where its first line tells that it has hints, `check_lrat`,
 //! at the same line (`accepted`, `fault`, `complete`, `exact`). What it gives is an LRAT proof from
-//! the CNF, behind which the empty clause or the negation of the assumed literal is known
-//! (`derived`).
+//! the CNF, behind which the empty clause or the negation of the assumed literal is known; it
+//! deletes nothing, and has no line where the CNF holds the empty clause (`derived`).
 //!
 //! Nothing is proved of how hints are found (`finder.rt`, `reasons.rt`, `trimming.rt`): the lines
 //! are taken by the checker of `proof_check` before they are given, and should it ever refuse them,

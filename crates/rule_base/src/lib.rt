@@ -6,9 +6,9 @@
 //! and the same walk finds an equation and tests one. So that what is found is an instance, and
 //! that nothing is found where there is none, is proved here for all rules and nowhere again.
 //!
-//! `Steps<L>` counts the questions of a ledger `L`. Only `tick` adds 1 to it, and a body that is
+//! `Steps<L>` counts the queries of a ledger `L`. Only `tick` adds 1 to it, and a body that is
 //! generic over `L` can open no second counter of that ledger; so what `compile` promises of the
-//! number of questions can't be evaded by asking on another counter.
+//! number of queries can't be evaded by asking on another counter.
 //!
 //! What it promises: the search gives exactly the first pair that is sought (the one clause of each
 //! call). Laws: `found_law`, `implied_law` (what a rule states is implied where each pair is

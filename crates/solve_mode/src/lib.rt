@@ -10,7 +10,7 @@
 //! `Unknown(b)` comes exactly where the verdict is UNKNOWN, then b is the budget, and never where
 //! the budget is as great as a stated number of the model's size.
 //!
-//! `answer_model` opens the counter of questions and is used by `queens_mode`, too; `outcome_of`
+//! `answer_model` opens the counter of queries and is used by `queens_mode`, too; `outcome_of`
 //! says which verdicts are `Done`. `write_answer` and the record are shared with `opb_mode`, whose
 //! texts stand for models in another way: which text holds which model is a parameter of the record
 //! (`SolveRun`).

@@ -1,4 +1,4 @@
--- Questions, turn by turn.
+-- Queries, turn by turn.
 use Rattle.std.proofs.Common.{◌≡◌, ℕ, ◌+◌, ◌*◌, ◌≤◌, List, [], ◌∷◌, ◌++◌, length, refl, ap, sym, subst, arith, Ok}
 use Rattle.core_forms.specs.declared.equation.Equation.{Equation}
 use Rattle.core_forms.specs.declared.form.Core.{Core}
@@ -33,7 +33,7 @@ module _ (told : Core → Equation → Type 0) where
       (asked-split old mid id before behind 0 (length queued) counter made is (omega (arith, grows, ap length empty)))
       (asked-equations mid behind last (length queued) counter now 0 counted)
 
-  -- all turns, where no question is asked at the end
+  -- all turns, where no query is made at the end
   pub all-asked : (start first mid last given : Kernel) (none before behind ledger : List Line) (queued : List ℕ) (counter now : ℕ)
       → IsKernel start → length queued ≡ length (pending start.cores) → first ≡ start → none ≡ [] → given ≡ last → ledger ≡ behind
       → AddsInOrder told none first before mid → AddsInOrder told before mid behind last → IsAsked first none before (length queued) counter now 0

@@ -11,7 +11,7 @@
 //! one (`leads`), in this order, whatever oracle is asked (`compilation`); the valuations that
 //! satisfy the CNF of the last state and meet its store, cut to the first variables, are exactly
 //! the models of the first state, and where a contradiction was found there are none (`models`);
-//! and the counter rises by at most three for each question that may be asked (`asked`). Laws:
+//! and the counter rises by at most three for each query that may be made (`asked`). Laws:
 //! `compilation_law` (the same of any ledger in this order), `reading_law` (also a valuation that
 //! only satisfies the CNF is a model, read through the store).
 //!

@@ -5,7 +5,7 @@
 //! Moves of rings and merges of classes are also tried at random, beside a plain reckoning; and a
 //! worklist is asked with all rules, with none, and with one equation that is told once. Three things
 //! are shown here alone, since their clauses allow less: that a long list is cut, that a stable core
-//! is lent as it stands (`lent`), and how many questions there are (`questions`).
+//! is lent as it stands (`lent`), and how many queries there are (`questions`).
 //!
 //! They stand apart from those crates, so that proving them proves none of those anew. A row is a
 //! line of a table; cores are read by `core_words`. A store that lives across a test is lent to

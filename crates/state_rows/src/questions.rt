@@ -1,4 +1,4 @@
-//! How many questions a worklist asks: each core is asked when it is made, and again where one of its variables got a
+//! How many queries a worklist makes: each core is asked when it is made, and again where one of its variables got a
 //! new label.
 
 ghost use Rattle.std.specs.Prelude.{◌≡◌, ◌<◌};
@@ -41,7 +41,7 @@ impl<L: Ledger> Oracle<L> for Counting<'_> {
     }
 }
 
-/// How many questions are asked until no core tells an equation.
+/// How many queries are made until no core tells an equation.
 fn asked_of<L: Ledger>(alloc: Global, blank: Blank, state: State) -> Result<u64, AllocError>
     requires name { blank.name ≡ L.name }
     requires parts { blank.parts ≡ L.parts }
@@ -54,13 +54,13 @@ fn asked_of<L: Ledger>(alloc: Global, blank: Blank, state: State) -> Result<u64,
     Ok(asked.get())
 }
 
-/// How many questions are asked of the cores of a row.
+/// How many queries are made of the cores of a row.
 fn questions(rt: &impl Abort, alloc: Global, vars: u32, cores: &[&str]) -> io::Result<u64> {
     let state = started(rt, alloc, vars, cores)?;
     Ok(asked_of::<Brand>(alloc, Blank::new(1), state)?)
 }
 
-/// Variables, cores, and the questions.
+/// Variables, cores, and the queries.
 static ASKED: [(u32, &[&str], u64); 4] = [
     // Nothing is told.
     (4, &["Parity even 1,2,3", "Clause 3,4"], 2),

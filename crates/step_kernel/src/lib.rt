@@ -18,7 +18,7 @@
 //! that a step makes passes the bound on variables, costs and literals that held at the start.
 //!
 //! `StableMarks` says which cores are known to stand as the store has them, but for their edge,
-//! and below which variable; a mark only saves a walk and changes no answer, so a wrong body there
+//! and below which variable; a mark only saves a walk and changes no answer, so a mutant there
 //! may still prove. `settle` has a core's edge as the store has it, so that the core is asked and
 //! cut where it stands, and `unsettle` puts back what stood there. "Steps" of `docs/CORES.md` says
 //! the same in words.

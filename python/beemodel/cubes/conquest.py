@@ -300,7 +300,7 @@ class Conquest:
         if not bad and line == 0:
             if self.settings.progress:
                 size, below = found.stat().st_size, os.times().children_user - below
-                tell(f"{size} bytes, joined in {took:.1f} seconds and certified in {below:.1f}, of the processor")
+                tell(f"{size} bytes, joined in {took:.1f} seconds and certified in {below:.1f}, of CPU time")
             found.unlink()
             return True
         bad = bad or (joined.cube_of(line) if joined else None)

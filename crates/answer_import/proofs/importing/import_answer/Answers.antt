@@ -1,31 +1,19 @@
-use Rattle.std.proofs.Common.{◌+◌, refl, subst, None, arith}
-use Rattle.answer_import.specs.declared.judging.Found.{Found}
-use Rattle.answer_import.specs.Imports.{IsFound}
+use Rattle.std.proofs.Common.{◌≤◌, ◌^◌, arith}
+use Rattle.std.proofs.lemmas.Result.{IfOk-weaker}
 use Rattle.answer_import.specs.Importing.{sought_of}
-use Rattle.objective_bound.proofs.Objectives.{values-bounded, values-below}
-use Rattle.answer_import.proofs.Shorts.{values-short}
+use Rattle.answer_import.proofs.Answered.{answered, refused}
 use Rattle.answer_import.proofs.importing.import_answer.Goals as goal
 
-pub judge-requires : goal.judge-requires
-judge-requires c =
-    let made = c.args.compiled in
-    let fits = c.requires.fits in
-    record {
-      few = omega (arith, c.requires.fits.vars);
-      in_range = fits.clauses;
-      ascend = c.requires.ascend;
-      bounded = values-bounded (made.cnf.vars + 1) made.decls made.map.entries fits.values;
-      below = values-below (made.cnf.vars + 1) made.decls made.map.entries fits.values;
-      short = values-short (made.cnf.vars + 1) made.decls made.map.entries fits.values;
-    }
+pub returns-clause-complete : goal.returns-clause-complete
+returns-clause-complete c v given shows =
+    let laws = c.finding_laws.ensures in
+    let few : c.args.compiled.cnf.vars ≤ 2 ^ 27 = omega (arith, c.requires.fits.vars) in
+    IfOk-weaker c.imported.result _ _
+    (answered laws.one laws.either laws.once c.args.model.now (sought_of c.args.model.now c.args.compiled) few c.args.text.now v given shows) c.imported.ensures
 
-pub returns : goal.returns
-returns c =
-    let made = c.in_ok-text-in-Shown.ensures in
-    record {
-      answer = made.answer;
-      document = record { verdict = c.in-Shown.verdict; assignment = c.in-Shown.assignment; ledger = c.args.compiled.ledger; proof = c.in-Shown.proof; second = None };
-      spelled = made.spelled;
-      verdict = refl;
-      shows = subst (λ (f : Found). IsFound (sought_of c.args.model.now c.args.compiled) c.args.text.now f) c.in-Shown.is c.in_ok-line.ensures;
-    }
+pub returns-clause-exact : goal.returns-clause-exact
+returns-clause-exact c line fails =
+    let laws = c.finding_laws.ensures in
+    let few : c.args.compiled.cnf.vars ≤ 2 ^ 27 = omega (arith, c.requires.fits.vars) in
+    IfOk-weaker c.imported.result _ _
+    (refused laws.one laws.either laws.once c.args.model.now (sought_of c.args.model.now c.args.compiled) few c.args.text.now line fails) c.imported.ensures

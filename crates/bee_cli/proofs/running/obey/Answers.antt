@@ -1,6 +1,5 @@
 use Rattle.text_modes.specs.Seen.{seen, shelf_shown, sink_shown}
 use Rattle.bee_cli.proofs.Obeyings.{queens_obeyed}
-use Rattle.bee_cli.proofs.Told.{hears_all}
 use Rattle.bee_cli.proofs.running.obey.Goals as goal
 
 pub returns-in-Queens-clause-obeys : goal.returns-in-Queens-clause-obeys
@@ -12,10 +11,10 @@ returns-in-Queens-clause-obeys g c =
     (c.queens.ensures (shown c.args.shelf.now)) c.model_status-in-Queens.ensures.status)
 
 pub solve-requires-clause-heard : goal.solve-requires-clause-heard
-solve-requires-clause-heard g c = hears_all
+solve-requires-clause-heard g c = c.requires.heard
 
 pub queens-requires-clause-heard : goal.queens-requires-clause-heard
-queens-requires-clause-heard g c = hears_all
+queens-requires-clause-heard g c = c.requires.heard
 
 pub opb-requires-clause-heard : goal.opb-requires-clause-heard
-opb-requires-clause-heard g c = hears_all
+opb-requires-clause-heard g c = c.requires.heard

@@ -12,14 +12,14 @@ use Rattle.clause_rings.proofs.ComeAndGo.{IsWelcome, kept-added}
 use Rattle.clause_rings.proofs.moves.add.Goals as goal
 
 -- literals in range have numbers of 32 bits
-all-small : (vars : ℕ) (ls : List Lit) → vars ≤ 2 ^ 27 → ((l : Lit) → Contains ls l → LitBelow (vars + 1) l) → All (λ l. l.var < 2 ^ 31) ls
-all-small vars ls few h = All-from_get_or (λ (l : Lit). l.var < 2 ^ 31) ls no_lit (λ k lt. let r = h (lit_in ls k) (contains-at ls k lt) in omega (arith, r.1))
+all-small : (vars bound : ℕ) (ls : List Lit) → vars ≤ 2 ^ 27 → 2 ^ 27 < bound → ((l : Lit) → Contains ls l → LitBelow (vars + 1) l) → All (λ l. l.var < bound) ls
+all-small vars bound ls few far h = All-from_get_or (λ (l : Lit). l.var < bound) ls no_lit (λ k lt. let r = h (lit_in ls k) (contains-at ls k lt) in omega (arith, r.1))
 
 pub add-c-requires-clause-small : goal.add-c-requires-clause-small
-add-c-requires-clause-small c = all-small c.args.watches.now.trail.vars c.args.lits.now c.requires.kept.db.trail.few c.requires.in_range
+add-c-requires-clause-small c = all-small c.args.watches.now.trail.vars (2 ^ 31) c.args.lits.now c.requires.kept.db.trail.few (omega arith) c.requires.in_range
 
 pub block-requires-clause-small : goal.block-requires-clause-small
-block-requires-clause-small c = all-small c.args.watches.now.trail.vars c.args.lits.now c.requires.kept.db.trail.few c.requires.in_range
+block-requires-clause-small c = all-small c.args.watches.now.trail.vars (2 ^ 30) c.args.lits.now c.requires.kept.db.trail.few (omega arith) c.requires.in_range
 
 pub returns-clause-kept : goal.returns-clause-kept
 returns-clause-kept c =

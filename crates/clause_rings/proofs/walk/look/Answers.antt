@@ -1,5 +1,5 @@
 -- What a look needs, by the watch whose literal is false, and what each of its four ends leaves.
-use Rattle.std.proofs.Common.{◌≡◌, ◌+◌, ◌*◌, ◌/◌, ◌%◌, ◌≤◌, ◌<◌, List, length, refl, ap, sym, subst, arith, inl, inr, Some, false}
+use Rattle.std.proofs.Common.{ℕ, ◌≡◌, ◌+◌, ◌*◌, ◌/◌, ◌%◌, ◌≤◌, ◌<◌, List, length, refl, ap, sym, subst, arith, inl, inr, Some, false}
 use Rattle.std.specs.List.{Contains}
 use Rattle.order_ints.specs.declared.literal.Lit.{Lit}
 use Rattle.literal_trail.specs.Trail.{truth_in, entry_at}
@@ -10,12 +10,13 @@ use Rattle.literal_trail.specs.declared.entry.Entry.{Entry}
 use Rattle.literal_trail.specs.Trail.{Trail, IsTrail, implied}
 use Rattle.literal_trail.specs.Standing.{HasTrue, IsUnit, IsFalse}
 use Rattle.clause_arena.specs.Clauses.{Arena, swapped}
-use Rattle.clause_rings.specs.Watches.{IsKept}
+use Rattle.clause_rings.specs.Watches.{Blocks, IsKept}
 use Rattle.clause_rings.specs.Looks.{IsOpenPlace}
 use Rattle.std.proofs.lemmas.List.Sorted.{Contains-permutation}
 use Rattle.clause_rings.proofs.Entries.{truth-none}
 use Rattle.clause_rings.proofs.Literals.{contains-at}
-use Rattle.clause_rings.proofs.Kept.{at-watch, ringed-lit, kept-blocked_by, kept-implied, same-after_swap}
+use Rattle.clause_rings.proofs.Kept.{at-watch, ringed-lit, kept-blocked_by, kept-implied, same-after_swap, blocks-plain}
+use Rattle.clause_rings.proofs.Two.{blocked}
 use Rattle.clause_rings.proofs.Looked.{IsRewatched, rewatched-kept, rewatched-advances, rewatched-left, advances-none, advances-implied, true-now, true-implied, head-level, head-pushed, lent-in}
 use Rattle.clause_rings.proofs.walk.look.Goals as goal
 
@@ -34,8 +35,8 @@ look_at-requires-clause-in_range c = λ l is_in. (ringed-lit c.args.watches.now 
 pub look_at-requires-clause-is_false : goal.look_at-requires-clause-is_false
 look_at-requires-clause-is_false c = subst (λ (ls : List Lit). truth_in c.args.watches.now.trail.entries (lit_in ls (c.args.node % 2)) ≡ Some false) (sym c.lits.ensures) (at-watch c.args.watches.now c.args.node c.requires.kept c.requires.head c.requires.node).is_false
 
-pub code_of-requires : goal.code_of-requires
-code_of-requires c =
+pub marked-requires : goal.marked-requires
+marked-requires c =
     let w = at-watch c.args.watches.now c.args.node c.requires.kept c.requires.head c.requires.node in
     let r = ringed-lit c.args.watches.now (c.args.node / 2) c.in-Holds.other c.requires.kept w.watched.live (lent-in c.lits.result (lits_of c.args.watches.now.arena.clauses (c.args.node / 2)) c.in-Holds.other c.lits.ensures c.in-Holds.ensures.0) in
     omega (arith, r.small)
@@ -59,8 +60,8 @@ rewatch-requires-clause-ring c =
 pub rewatch-requires-clause-node : goal.rewatch-requires-clause-node
 rewatch-requires-clause-node c = stands-held c.args.watches.now.rings (head_ring c.args.watches.now) (2 * (c.args.node / 2) + c.args.node % 2) (at-watch c.args.watches.now c.args.node c.requires.kept c.requires.head c.requires.node).stands
 
-pub code_of-requires-in-Open : goal.code_of-requires-in-Open
-code_of-requires-in-Open c =
+pub code_of-requires : goal.code_of-requires
+code_of-requires c =
     let w = at-watch c.args.watches.now c.args.node c.requires.kept c.requires.head c.requires.node in
     let r = ringed-lit c.args.watches.now (c.args.node / 2) c.in-Open.other c.requires.kept w.watched.live (lent-in c.lits.result (lits_of c.args.watches.now.arena.clauses (c.args.node / 2)) c.in-Open.other c.lits.ensures c.in-Open.ensures.1) in
     omega (arith, r.small)
@@ -71,14 +72,14 @@ imply-requires-clause-lit c =
     let r = ringed-lit c.args.watches.now (c.args.node / 2) c.in-Forces.other c.requires.kept w.watched.live (lent-in c.lits.result (lits_of c.args.watches.now.arena.clauses (c.args.node / 2)) c.in-Forces.other c.lits.ensures c.in-Forces.ensures.is_in) in
     (r.low, omega (arith, r.high))
 
-pub code_of-requires-in-Forces : goal.code_of-requires-in-Forces
-code_of-requires-in-Forces c =
+pub marked-requires-in-Forces : goal.marked-requires-in-Forces
+marked-requires-in-Forces c =
     let w = at-watch c.args.watches.now c.args.node c.requires.kept c.requires.head c.requires.node in
     let r = ringed-lit c.args.watches.now (c.args.node / 2) c.in-Forces.other c.requires.kept w.watched.live (lent-in c.lits.result (lits_of c.args.watches.now.arena.clauses (c.args.node / 2)) c.in-Forces.other c.lits.ensures c.in-Forces.ensures.is_in) in
     omega (arith, r.small)
 
 pub returns-in-Holds-clause-kept : goal.returns-in-Holds-clause-kept
-returns-in-Holds-clause-kept c = let w = c.args.watches.now in kept-blocked_by w.arena.clauses w.trail w.rings w.blockers.items w.head c.args.node c.code_of.result c.in-Holds.other c.code_of.ensures (lent-in c.lits.result (lits_of w.arena.clauses (c.args.node / 2)) c.in-Holds.other c.lits.ensures c.in-Holds.ensures.0) c.requires.kept
+returns-in-Holds-clause-kept c = let w = c.args.watches.now in kept-blocked_by w.arena.clauses w.trail w.rings w.blockers.items w.head c.args.node c.marked.result (blocked w c.args.node c.in-Holds.other c.len-len.result c.marked.result c.requires.kept c.requires.head c.requires.node c.len-len.ensures c.marked.ensures (lent-in c.lits.result (lits_of w.arena.clauses (c.args.node / 2)) c.in-Holds.other c.lits.ensures c.in-Holds.ensures.0)) c.requires.kept
 
 pub returns-in-Holds-clause-advances : goal.returns-in-Holds-clause-advances
 returns-in-Holds-clause-advances c = advances-none (seen c.args.watches.now)
@@ -96,7 +97,7 @@ returns-in-Open-clause-kept c =
     let small : c.args.node % 2 < 2 = at.small in
     let perm = same-after_swap w.arena.clauses (c.args.node / 2) (c.args.node % 2) c.in-Open.k at.watched.live (omega arith) o.1 in
     let is_in : Contains (lits_of c.rewatch.new.arena.clauses (c.args.node / 2)) c.in-Open.other = subst (λ (a : Arena). Contains (lits_of a.clauses (c.args.node / 2)) c.in-Open.other) (sym c.rewatch.ensures.arena) (Contains-permutation (lits_of w.arena.clauses (c.args.node / 2)) (lits_of (swapped w.arena (c.args.node / 2) (c.args.node % 2) c.in-Open.k).clauses (c.args.node / 2)) c.in-Open.other (perm.each (c.args.node / 2)).lits (lent-in c.lits.result (lits_of w.arena.clauses (c.args.node / 2)) c.in-Open.other c.lits.ensures c.in-Open.ensures.1)) in
-    kept-blocked_by c.rewatch.new.arena.clauses w.trail c.rewatch.new.rings w.blockers.items w.head c.args.node c.code_of-in-Open.result c.in-Open.other c.code_of-in-Open.ensures is_in (rewatched-kept w c.args.node c.in-Open.k c.rewatch.new.arena c.rewatch.new.rings c.requires.kept at r)
+    kept-blocked_by c.rewatch.new.arena.clauses w.trail c.rewatch.new.rings w.blockers.items w.head c.args.node c.code_of.result (subst (λ (n : ℕ). Blocks (lits_of c.rewatch.new.arena.clauses (c.args.node / 2)) n) (sym c.code_of.ensures) (blocks-plain (lits_of c.rewatch.new.arena.clauses (c.args.node / 2)) c.in-Open.other (let r = ringed-lit w (c.args.node / 2) c.in-Open.other c.requires.kept at.watched.live (lent-in c.lits.result (lits_of w.arena.clauses (c.args.node / 2)) c.in-Open.other c.lits.ensures c.in-Open.ensures.1) in omega (arith, r.small)) is_in)) (rewatched-kept w c.args.node c.in-Open.k c.rewatch.new.arena c.rewatch.new.rings c.requires.kept at r)
 
 pub returns-in-Open-clause-advances : goal.returns-in-Open-clause-advances
 returns-in-Open-clause-advances c =
@@ -117,7 +118,7 @@ returns-in-Forces-clause-kept c =
     let w = c.args.watches.now in
     let at = at-watch w c.args.node c.requires.kept c.requires.head c.requires.node in
     let unit : IsUnit w.trail.entries (lits_of w.arena.clauses (c.args.node / 2)) c.in-Forces.other = subst (λ (ls : List Lit). IsUnit w.trail.entries ls c.in-Forces.other) c.lits.ensures c.in-Forces.ensures in
-    kept-blocked_by w.arena.clauses c.imply.new.self w.rings w.blockers.items w.head c.args.node c.code_of-in-Forces.result c.in-Forces.other c.code_of-in-Forces.ensures unit.is_in (subst (λ (t : Trail). IsKept w.arena.clauses t w.rings w.blockers.items w.head) (sym c.imply.ensures.trail) (kept-implied w.arena.clauses w.trail w.rings w.blockers.items w.head (c.args.node / 2) c.in-Forces.other (subst (λ (t : Trail). IsTrail t) c.imply.ensures.trail c.imply.ensures.is_trail) at.watched.live unit c.requires.kept))
+    kept-blocked_by w.arena.clauses c.imply.new.self w.rings w.blockers.items w.head c.args.node c.marked-in-Forces.result (blocked w c.args.node c.in-Forces.other c.len-len.result c.marked-in-Forces.result c.requires.kept c.requires.head c.requires.node c.len-len.ensures c.marked-in-Forces.ensures unit.is_in) (subst (λ (t : Trail). IsKept w.arena.clauses t w.rings w.blockers.items w.head) (sym c.imply.ensures.trail) (kept-implied w.arena.clauses w.trail w.rings w.blockers.items w.head (c.args.node / 2) c.in-Forces.other (subst (λ (t : Trail). IsTrail t) c.imply.ensures.trail c.imply.ensures.is_trail) at.watched.live unit c.requires.kept))
 
 pub returns-in-Forces-clause-advances : goal.returns-in-Forces-clause-advances
 returns-in-Forces-clause-advances c =

@@ -34,6 +34,9 @@ blocker_of-ahead-requires-clause-node c =
 pub meet-requires-clause-node : goal.meet-requires-clause-node
 meet-requires-clause-node c = subst (λ (r : ℕ). Stands c.loop-at.watches.rings r c.in-Some.node) (sym c.loop-at.invariant.ring_is) (at-node c.args.watches.now c.loop-at.watches c.code_of-ring.result c.loop-at.at c.loop-at.blocker c.in-Some.node c.loop-at.invariant c.in-Some.is).stands
 
+pub meet-requires-clause-blocker : goal.meet-requires-clause-blocker
+meet-requires-clause-blocker c = λ v e. c.loop-at.invariant.blocked v (c.in-Some.is ∙ e)
+
 pub returns-then-meet-clause-advances : goal.returns-then-meet-clause-advances
 returns-then-meet-clause-advances c = advances-both (seen c.args.watches.now) (seen c.loop-at.watches) (seen c.meet.new.watches) c.loop-at.invariant.advances c.meet.ensures.advances
 

@@ -1,8 +1,8 @@
 use Rattle.std.proofs.Common.{◌<◌, sym, arith, subst, Bool}
 use Rattle.learning_solver.specs.declared.search.Search.{Search}
-use Rattle.learning_solver.specs.Restarting.{Counts}
+use Rattle.learning_solver.specs.Restarting.{Counts, IsInTime}
 use Rattle.learning_solver.specs.Searching.{IsRunning, left_to_do, GoesForward}
-use Rattle.learning_solver.proofs.RestartLaws.{few-stretches}
+use Rattle.learning_solver.proofs.RestartLaws.{few-stretches, same-in-time, learned-in-time, anew-in-time}
 use Rattle.learning_solver.proofs.TeachLaws.{teaches}
 use Rattle.learning_solver.proofs.RunLaws.{left-running, left-stays, spent, forward-stays, forward-turns, forward-anew, forward-then, running-learned, running-anew}
 use Rattle.learning_solver.proofs.OpenLaws.{none-above-bottom}
@@ -60,4 +60,16 @@ returns-clause-forward c =
     elim c.if-learn.branch [
       | then-learn w ↦ subst P (sym w.self-is) (forward-then s0 s2 w.begin_anew.new.self before (forward-anew s2 w.begin_anew.new.self w.begin_anew.ensures.anew))
       | else-learn w ↦ subst P (sym w.self-is) before
+    ]
+
+pub returns-clause-in_time : goal.returns-clause-in_time
+returns-clause-in_time c =
+    let s = c.args.self.now in
+    let P : Search → Type 0 = λ x. IsInTime c.args.restarts.now c.learn.new.self x.db.trail.level in
+    let Q : Bool → Type 0 = Counts c.args.restarts.now c.learn.new.self in
+    elim c.if-learn.branch [
+      | then-learn w ↦
+          subst P (sym w.self-is)
+          (anew-in-time s.cnf.now.vars s.added _ w.begin_anew.new.self.db.trail.level c.args.restarts.now c.learn.new.self c.requires.running.stretched (subst Q w.if-learn.true c.learn.ensures) w.begin_anew.ensures.anew.level)
+      | else-learn w ↦ subst P (sym w.self-is) (learned-in-time c.turn_back.new.self.db.trail.level c.args.restarts.now c.learn.new.self (subst Q w.if-learn.false c.learn.ensures))
     ]

@@ -12,6 +12,7 @@ from typing import TYPE_CHECKING, Any, NamedTuple, Optional, Union
 from . import weights
 from .answers import Answer, Core, Solutions, Value, Values
 from .arrays import Shape, array, name_of, shown_of
+from .cubes import solve_in_cubes
 from .domains import Domain, domain_of
 from .elsewhere import hint, told
 from .expressions import (
@@ -331,6 +332,8 @@ class Model:
         start: Optional[Start] = None,
         presolve: YesNo = True,
         at_most: Optional[Whole] = None,
+        jobs: Optional[Whole] = None,
+        hosts: Folder = None,
     ) -> Answer:
         """Runs `bee solve` and then `bee check`; what is given back was accepted.
 
@@ -346,11 +349,16 @@ class Model:
         What is sought is bounded by a plan that is made greedily, or by `at_most`, of which there
         are twice as much and so on where no solution has that; `presolve=False` leaves out both,
         and all that narrows domains.
+
+        With `jobs`, so many workers side by side answer it, here or on each machine of the file
+        `hosts` (`docs/SOLVERS.md`); a budget, seconds and what is begun from are not for these.
         """
         first = {} if start is None else self.start_values(start)
         told, begun = self.own_found(on_solution), time.monotonic()
 
         def run(text: str, plan: Values) -> Answer:
+            if jobs is not None or hosts is not None:
+                return solve_in_cubes(text, jobs or 1, hosts, program, folder)
             left = None if seconds is None else max(0.0, seconds + begun - time.monotonic())
             known = first or (plan if resumes(program_of(program)) else {})
             return solve_text(text, budget, program, folder, left, told, progress, known)

@@ -11,7 +11,7 @@ import sys
 from pathlib import Path
 from typing import NamedTuple
 
-from ..running import ProgramError
+from ..answers import ProgramError
 
 HERE = Path(__file__).resolve().parent
 
@@ -60,7 +60,7 @@ def read_hosts(listed: Path, folder: Path, jobs: int, away: str) -> list[Machine
     return found
 
 
-def on_machine(machine: Machine, script: str) -> subprocess.Popen:
+def on_machine(machine: Machine, script: str) -> subprocess.Popen[bytes]:
     """Starts a script on a machine, and doesn't wait for it."""
     words = ["sh", "-c", script] if machine.is_here else [*shlex.split(machine.login), script]
     null = subprocess.DEVNULL

@@ -10,7 +10,8 @@ from contextlib import contextmanager
 from pathlib import Path
 from typing import Any, NamedTuple, Optional, Union
 
-from ..running import Answer, ProgramError, program_of, read_answer
+from ..answers import Answer, ProgramError, Values, read_answer
+from ..program import program_of
 from .clauses import Compiled
 from .conquest import Conquest, Settings
 from .engines import GnuParallel, Slurm
@@ -192,7 +193,7 @@ def look_first(conquest: Conquest, budget: int, answer: Path) -> bool:
     return False
 
 
-def take_first_values(conquest: Conquest, values: dict) -> None:
+def take_first_values(conquest: Conquest, values: Values) -> None:
     """Makes values of the clauses of those of the names."""
     folder, compiled = conquest.folder, conquest.compiled
     units = compiled.literals_of(values)
@@ -238,8 +239,7 @@ def read_checked(made: list[Answered], program: Optional[str]) -> Answer:
             raise ProgramError(f"bee check did not accept {it.answer}")
         numbers += [int(number) for number in said[1:]]
     answer = read_answer(said, made[-1].answer)
-    answer.optimum = tuple(numbers) if answer.verdict == "OPTIMUM" else None
-    return answer
+    return Answer("OPTIMUM", tuple(numbers), answer.values) if answer.optimum else answer
 
 
 def solve_in_cubes(

@@ -13,6 +13,8 @@ import unittest
 from contextlib import redirect_stderr
 from pathlib import Path
 
+from beemodel import Model
+from beemodel.answers import ProgramError
 from beemodel.cubes import solve_in_cubes
 from beemodel.cubes.clauses import Compiled
 from beemodel.cubes.conquest import outcome_of
@@ -21,7 +23,6 @@ from beemodel.cubes.joining import Hinted, NoHints, join
 from beemodel.cubes.lookahead import LookAhead
 from beemodel.cubes.program import Bee, first_of, goal_of, second_of
 from beemodel.cubes.tree import Journal, Tree
-from beemodel.running import ProgramError
 from trying import PROGRAM, TOP, need_program
 
 HAS_PARALLEL = shutil.which("parallel") is not None and shutil.which("flock") is not None
@@ -289,6 +290,12 @@ class Commands(Folder):
         self.assertEqual((answer["a"], answer["b"]), (1, 2))
         with self.assertRaises(ProgramError):
             solve_in_cubes(text, slurm=True, program=PROGRAM)
+        model = Model()
+        x, y = model.int("x", 0, 9), model.int("y", 0, 9)
+        model.add(x + 2 * y >= 11)
+        model.minimize(x + y)
+        answer = model.solve(jobs=2, program=PROGRAM)
+        self.assertEqual((answer.optimum, answer[x + y]), ((6,), 6))
 
     def test_a_cube_that_fails_once_runs_again_and_is_named(self):
         lying = 'echo "s UNSATISFIABLE"; echo "999999 0 1 0"; exit'

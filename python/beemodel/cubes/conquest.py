@@ -8,7 +8,7 @@ import time
 from pathlib import Path
 from typing import NamedTuple, Optional, Protocol
 
-from ..running import ProgramError
+from ..answers import ProgramError
 from .clauses import Compiled, last_clause
 from .engines import Ended
 from .joining import Hinted, Joined, NoHints, Plain, join

@@ -11,7 +11,7 @@ import sys
 from pathlib import Path
 from typing import NamedTuple
 
-from ..running import ProgramError
+from ..answers import ProgramError
 
 HERE = Path(__file__).resolve().parent
 

@@ -239,8 +239,7 @@ def read_checked(made: list[Answered], program: Optional[str]) -> Answer:
             raise ProgramError(f"bee check did not accept {it.answer}")
         numbers += [int(number) for number in said[1:]]
     answer = read_answer(said, made[-1].answer)
-    answer.optimum = tuple(numbers) if answer.verdict == "OPTIMUM" else None
-    return answer
+    return Answer("OPTIMUM", tuple(numbers), answer.values) if answer.optimum else answer
 
 
 def solve_in_cubes(

@@ -42,7 +42,9 @@ if [ "$1" = solve ]; then
   printf 'x = 1\\ny = VALUE\\nsum = 4\\n' >&2
   echo "bee: best 2, 9 clauses learned" >&2
   printf 'x = 1\\n' >&2
-  exec sleep 1000
+  sleep 1000 &
+  echo $! > "$0.pid"
+  wait
 fi
 exec "PROGRAM" "$@"
 """
@@ -161,6 +163,20 @@ class Stopped(unittest.TestCase):
         with self.assertRaises(ZeroDivisionError):
             solve_text(TEXT, on_found=lambda found: 1 / 0, program=self.false_program())
         self.assertEqual(children(), 0)
+
+    def test_what_the_program_has_begun_is_ended(self):
+        program = self.false_program()
+        solve_text(TEXT, seconds=2, program=program)
+        pid = int(Path(f"{program}.pid").read_text())
+        for _ in range(100):
+            try:
+                state = Path(f"/proc/{pid}/stat").read_text().rpartition(")")[2].split()[0]
+            except FileNotFoundError:
+                return
+            if state == "Z":
+                return
+            time.sleep(0.1)
+        self.fail(f"the process {pid} still runs")
 
     def test_interrupt(self):
         """An interrupt that reaches Python alone, and one that reaches the group of processes."""

@@ -105,8 +105,10 @@ class Guesses(unittest.TestCase):
         x = model.ints("x", 2, 0, 9)
         model.add(2 * x[0] + 3 * x[1] <= 17)
         model.maximize(x[0] + 2 * x[1])
-        for guess in (None, -11, -3):
-            self.assertEqual(model.solve(program=PROGRAM, at_most=guess).optimum, (11,))
+        for guess in (None, 14, 11, 3):
+            self.assertEqual(model.solve(program=PROGRAM, at_least=guess).optimum, (11,))
+        with self.assertRaisesRegex(ModelError, "solve: at_most bounds a goal that is stated by minimize"):
+            model.solve(program=PROGRAM, at_most=3)
 
 
 if __name__ == "__main__":

@@ -343,6 +343,7 @@ class Model:
         hosts: Optional[Hosts] = None,
         presolve: YesNo = True,
         at_most: Optional[Whole] = None,
+        at_least: Optional[Whole] = None,
     ) -> Answer:
         """Runs `bee solve` and then `bee check`; what is given back was accepted.
 
@@ -355,9 +356,9 @@ class Model:
         The program is the argument, the environment variable BEE, `bee` on the PATH, or `bee`
         beside the package. With a folder, the model's text and the answer stay there.
 
-        What is sought is bounded by a plan that is made greedily, or by `at_most`, of which there
-        are twice as much and so on where no solution has that; `presolve=False` leaves out both,
-        and all that narrows domains.
+        What is sought is bounded by a plan that is made greedily, or by `at_most`, and by
+        `at_least` where the greatest is sought, and further away where no solution is as good;
+        `presolve=False` leaves out both, and all that narrows domains.
 
         With `jobs` so many workers solve the model's cubes side by side, on this machine or on each
         of the `hosts`, which are a list or a file of them; the arguments before have no effect
@@ -373,7 +374,8 @@ class Model:
             known = first or (plan if resumes(program_of(program)) else {})
             return solve_text(text, budget, program, folder, left, told, progress, known)
 
-        return self.owned(self.guessed(first, presolve, at_most, run))
+        guess = self.guess_of(at_most, at_least)
+        return self.owned(self.guessed(first, presolve, guess, run))
 
     def improve(
         self,
@@ -408,6 +410,17 @@ class Model:
             return improve_text(text, limits, seed, steps, first or plan, folder)
 
         return self.owned(self.guessed(first, presolve, None, run))
+
+    def guess_of(self, at_most: Optional[Whole], at_least: Optional[Whole]) -> Optional[Whole]:
+        """The bound of what is made least that a script states."""
+        named = [("minimize", "at_most", at_most), ("maximize", "at_least", at_least)]
+        for direction, name, bound in named:
+            if bound is None:
+                continue
+            if self.goal is None or self.goal.direction != direction:
+                raise refused(f"solve: {name} bounds a goal that is stated by {direction}")
+            whole(bound, name)
+        return at_most if at_least is None else -at_least
 
     def guessed(
         self,

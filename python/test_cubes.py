@@ -167,7 +167,7 @@ class Joining(Folder):
         for name in ("c", "c0", "c1", "c01"):
             choice = look_ahead.choose(tree.cube(name).literals)
             tree.split[name] = choice.literal
-        compiled.write_for_workers(self.at)
+        compiled.write_for_workers(self.at, 5)
         (self.at / "solver").write_text(f"{kind} {solver}\n")
         for name in list(tree.leaves()):
             literals = map(str, tree.cube(name).literals)
@@ -277,6 +277,9 @@ class Commands(Folder):
             at = self.at / "work" / name
             words = [PROGRAM, "check", str(at / "model.bee"), str(at / "answer")]
             self.assertEqual(subprocess.run(words, capture_output=True, check=False).returncode, 0)
+        before = (self.at / "answer").read_text()
+        code, _ = self.run_command(text, "--look", "0", "--resume", "--solver", self.solver("exit 1"))
+        self.assertEqual((code, (self.at / "answer").read_text()), (0, before))
 
     def test_from_a_script_answers_are_checked(self):
         text = "new_int(a,1,3)\nnew_int(b,1,3)\nint_neq(a,b)\nsolve minimize a then b\n"

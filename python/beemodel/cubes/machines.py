@@ -84,7 +84,7 @@ def prepare(machine: Machine, kind: str, solver: str, made: Path) -> None:
         raise ProgramError(f"there is no {solver} on {'this machine' if machine.is_here else machine.name}")
     folder = shlex.quote(machine.folder)
     told = ask_machine(machine, f"rm -rf {folder} && mkdir -p {folder}")
-    texts = {it: (made / it).read_bytes() for it in ("size", "clauses")}
+    texts = {it: (made / it).read_bytes() for it in ("size", "clauses", "share")}
     texts["worker.sh"] = (HERE / "worker.sh").read_bytes()
     texts["solver"] = f"{kind} {solver}\n".encode()
     for name, text in texts.items():

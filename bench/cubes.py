@@ -1,10 +1,10 @@
 #!/usr/bin/env python3
 """Times `python3 -m beemodel.cubes` over workers and cubes: cubes.py [MODEL ..].
 
-A line for each run: the model; workers; cubes made first; wall-clock seconds until the answer stands; cubes refuted; CPU
-seconds of the workers together, and of the cube that took most; the least wall-clock seconds that a schedule of these
-cubes in their order gives so many workers of one processor each; CPU seconds of joining, `bee certify` and `bee check`;
-and bytes of the joined text. Without MODEL those of MODELS are made. Each answer is checked.
+A line for each run: the model; workers; cubes made first; wall-clock seconds until the answer stands; cubes refuted;
+CPU seconds of the workers together, and of the refuted cube that took most; the wall-clock seconds that refuting these
+cubes in their order would take so many workers with a processor each; CPU seconds of joining, `bee certify` and `bee
+check`; and bytes of the joined text. Without MODEL those of MODELS are made. Each answer is checked.
 
 JOBS ("1 2 4") and CUBES ("4 16 64 256") name others; WORKER is `bee` or `cadical`; BEE the program. On a machine that
 does other work, CPU seconds and the schedule say more than wall-clock seconds. Wants GNU parallel."""
@@ -83,7 +83,11 @@ def run(name, model, workers, cubes, folder):
     wall = time.monotonic() - begun
     each = [float(it.split()[3]) for it in kept.read_text().splitlines() if it.startswith("refuted")]
     total = [float(it) for it in re.findall(r"\S+/\d+ ([\d.]+)", ran.stderr.splitlines()[-2])] if each else []
-    size, joined, certified = re.findall(r"(\d+) bytes, joined in (\S+) seconds and certified in (\S+),", ran.stderr)[0]
+    found = re.findall(r"(\d+) bytes, joined in (\S+) seconds and certified in (\S+),", ran.stderr)
+    if not found:
+        print(f"{name} {workers} {cubes} {wall:.1f}: code {ran.returncode}, by the first look alone", flush=True)
+        return
+    size, joined, certified = found[0]
     before = children()
     checked = subprocess.run([BEE, "check", str(model), str(answer)], capture_output=True, text=True)
     took = children() - before

@@ -50,7 +50,8 @@ host_up() {
   ip -n "beehost$i" link set port up
   mkdir -p /run/sshd
   printf '%s\n' "HostKey $keys/host" "AuthorizedKeysFile $keys/user.pub" "PidFile none" "UsePAM no" \
-    "PermitRootLogin prohibit-password" "StrictModes no" "ListenAddress $net.$((10 + i))" "MaxStartups 50" >"$keys/$i.conf"
+    "PermitRootLogin prohibit-password" "StrictModes no" "MaxStartups 50" \
+    "ListenAddress $net.$((10 + i))" >"$keys/$i.conf"
   # shellcheck disable=SC2016
   ip netns exec "beehost$i" unshare -m sh -c \
     'mount --make-rprivate / && mount -t tmpfs tmpfs /tmp && exec /usr/sbin/sshd -D -f "$1"' - "$keys/$i.conf" \
@@ -94,7 +95,8 @@ try() {
   ip netns exec beehost0 python3 -m beemodel.cubes "$model" --hosts "$work/hosts" --folder "$work/cubes" \
     --joblog "$work/cubes.journal" --resume --look 0 --solver "$BEE" ${WORDS:-} >"$work/answer" || code=$?
   echo "code $code, $((SECONDS - begun)) seconds; cubes refuted by each host:"
-  grep ^refuted "$work/journal" | awk '{ n[$3]++; s[$3] += $4 } END { for (h in n) print " ", h, n[h], s[h] " s" }' | sort
+  awk '$1 == "refuted" { n[$3]++; s[$3] += $4 } END { for (h in n) print " ", h, n[h], s[h] " s" }' "$work/journal" |
+    sort
   "$BEE" check "$model" "$work/answer" 2>/dev/null
 }
 

@@ -5,8 +5,8 @@
 # trial, and ends them behind it. Once three cubes are refuted, an element that runs is requeued. The answer is checked.
 # Printed are seconds, what was requeued, how many elements began anew, and the check's line.
 #
-# Wants root, munged, slurmctld, slurmd, python3 and BEE, or `./bee`; without MODEL ten pigeons are tried. WORDS are more
-# words of the command.
+# Wants root, munged, slurmctld, slurmd, python3 and BEE, or `./bee`; without MODEL ten pigeons are tried. WORDS are
+# more words of the command.
 set -eu
 top=$(cd "$(dirname "$0")/.." && pwd)
 BEE=$(realpath "${BEE:-$top/crates/bee/out/bee}")
@@ -69,7 +69,8 @@ up() {
   chmod 400 "$work/munge.key"
   configuration >"$SLURM_CONF"
   munged --foreground --force --key-file="$work/munge.key" --socket="$work/munge.socket" \
-    --pid-file="$work/munged.pid" --log-file="$work/munged.log" --seed-file="$work/munge.seed" --num-threads=2 2>"$work/munged.out" &
+    --pid-file="$work/munged.pid" --log-file="$work/munged.log" --seed-file="$work/munge.seed" --num-threads=2 \
+    2>"$work/munged.out" &
   started+=($!)
   sleep 1
   slurmctld -D -c -f "$SLURM_CONF" >"$work/slurmctld.out" 2>&1 &

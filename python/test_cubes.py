@@ -13,6 +13,8 @@ import unittest
 from contextlib import redirect_stderr
 from pathlib import Path
 
+from beemodel import Model
+from beemodel.answers import ProgramError
 from beemodel.cubes import solve_in_cubes
 from beemodel.cubes.clauses import Compiled
 from beemodel.cubes.conquest import outcome_of
@@ -21,7 +23,6 @@ from beemodel.cubes.joining import Hinted, NoHints, join
 from beemodel.cubes.lookahead import LookAhead
 from beemodel.cubes.program import Bee, first_of, goal_of, second_of
 from beemodel.cubes.tree import Journal, Tree
-from beemodel.running import ProgramError
 from trying import PROGRAM, TOP, need_program
 
 HAS_PARALLEL = shutil.which("parallel") is not None and shutil.which("flock") is not None
@@ -167,7 +168,7 @@ class Joining(Folder):
         for name in ("c", "c0", "c1", "c01"):
             choice = look_ahead.choose(tree.cube(name).literals)
             tree.split[name] = choice.literal
-        compiled.write_for_workers(self.at)
+        compiled.write_for_workers(self.at, 5)
         (self.at / "solver").write_text(f"{kind} {solver}\n")
         for name in list(tree.leaves()):
             literals = map(str, tree.cube(name).literals)
@@ -277,6 +278,9 @@ class Commands(Folder):
             at = self.at / "work" / name
             words = [PROGRAM, "check", str(at / "model.bee"), str(at / "answer")]
             self.assertEqual(subprocess.run(words, capture_output=True, check=False).returncode, 0)
+        before = (self.at / "answer").read_text()
+        code, _ = self.run_command(text, "--look", "0", "--resume", "--solver", self.solver("exit 1"))
+        self.assertEqual((code, (self.at / "answer").read_text()), (0, before))
 
     def test_from_a_script_answers_are_checked(self):
         text = "new_int(a,1,3)\nnew_int(b,1,3)\nint_neq(a,b)\nsolve minimize a then b\n"
@@ -286,6 +290,12 @@ class Commands(Folder):
         self.assertEqual((answer["a"], answer["b"]), (1, 2))
         with self.assertRaises(ProgramError):
             solve_in_cubes(text, slurm=True, program=PROGRAM)
+        model = Model()
+        x, y = model.int("x", 0, 9), model.int("y", 0, 9)
+        model.add(x + 2 * y >= 11)
+        model.minimize(x + y)
+        answer = model.solve(jobs=2, program=PROGRAM)
+        self.assertEqual((answer.optimum, answer[x + y]), ((6,), 6))
 
     def test_a_cube_that_fails_once_runs_again_and_is_named(self):
         lying = 'echo "s UNSATISFIABLE"; echo "999999 0 1 0"; exit'

@@ -1,8 +1,11 @@
 """Searches that are stopped, begun from values, and bettered; and where the program is sought."""
+import contextlib
+import io
 import itertools
 import operator
 import os
 import random
+import re
 import shutil
 import signal
 import stat
@@ -39,7 +42,9 @@ if [ "$1" = solve ]; then
   printf 'x = 1\\ny = VALUE\\nsum = 4\\n' >&2
   echo "bee: best 2, 9 clauses learned" >&2
   printf 'x = 1\\n' >&2
-  exec sleep 1000
+  sleep 1000 &
+  echo $! > "$0.pid"
+  wait
 fi
 exec "PROGRAM" "$@"
 """
@@ -159,6 +164,20 @@ class Stopped(unittest.TestCase):
             solve_text(TEXT, on_found=lambda found: 1 / 0, program=self.false_program())
         self.assertEqual(children(), 0)
 
+    def test_what_the_program_has_begun_is_ended(self):
+        program = self.false_program()
+        solve_text(TEXT, seconds=2, program=program)
+        pid = int(Path(f"{program}.pid").read_text())
+        for _ in range(100):
+            try:
+                state = Path(f"/proc/{pid}/stat").read_text().rpartition(")")[2].split()[0]
+            except FileNotFoundError:
+                return
+            if state == "Z":
+                return
+            time.sleep(0.1)
+        self.fail(f"the process {pid} still runs")
+
     def test_interrupt(self):
         """An interrupt that reaches Python alone, and one that reaches the group of processes."""
         script = """
@@ -201,6 +220,15 @@ class Stopped(unittest.TestCase):
         self.assertEqual((answer.verdict, answer.objective, answer.bound), ("OPTIMUM", 2, 2))
         self.assertEqual((found[-1][x], found[-1][x + y], answer.stopped), (1, 2, None))
         self.assertEqual(list(found[-1].values), ["x", "y"])
+
+    def test_progress(self):
+        """Shown on standard error alone where it is wanted, without the values."""
+        for is_shown in (False, True):
+            with contextlib.redirect_stderr(io.StringIO()) as told:
+                solve_text(TEXT, seconds=0.5, progress=is_shown, program=self.false_program())
+            lines = [re.sub(r"[\d.]+ s$", "s", it) for it in told.getvalue().splitlines()]
+            heads = ["bee: best 5, 3 clauses learned, s", "bee: best 4, 7 clauses learned, s"]
+            self.assertEqual(lines, heads if is_shown else [])
 
     def test_any_solution_is_handed_on_once(self):
         model, found = Model(), []
@@ -254,6 +282,47 @@ class Begun(unittest.TestCase):
                 model.solve(start=start, program=PROGRAM)
         with self.assertRaisesRegex(ModelError, "start: x: 1.5 is no whole number"):
             model.solve(start={x: 1.5}, program=PROGRAM)
+
+
+class Resumed(unittest.TestCase):
+    """A program that has the mode `resume`: here one that keeps the values and solves."""
+
+    def setUp(self):
+        folder = tempfile.TemporaryDirectory()
+        self.addCleanup(folder.cleanup)
+        self.kept, self.program = Path(folder.name, "kept"), Path(folder.name, "bee")
+        lines = ["#!/bin/sh", 'if [ "$1" = resume ]; then', f'  cp "$3" "{self.kept}"; model=$2; shift 3']
+        lines += [f'  exec "{PROGRAM}" solve "$model" "$@"', "fi", f'exec "{PROGRAM}" "$@"']
+        self.program.write_text("\n".join(lines) + "\n")
+        self.program.chmod(stat.S_IRWXU)
+
+    def test_values_are_handed_on(self):
+        """By name, but for those that are in no domain of the text."""
+        model = Model()
+        x, y, rain = model.int("x", 1, 5), model.int("y", 1, 5), model.bool("rain")
+        model.add(x + y > 6, rain.implies(x > y), y != 5)
+        model.minimize(x - y)
+        start = {x: 4, "y": 5, rain: 0}
+        answer = model.solve(start=start, program=str(self.program), presolve=False)
+        self.assertEqual((answer.verdict, answer.objective), ("OPTIMUM", -1))
+        self.assertEqual(self.kept.read_text(), "x = 4\nrain = false\n")
+
+    def test_the_last_call_begins_with_the_best_plan(self):
+        answer = shop(4, 3, 2).improve(60, steps=2, seed=1, program=str(self.program))
+        self.assertEqual(answer.verdict, "OPTIMUM")
+        told = dict(re.findall(r"(\w+) = (\w+)", self.kept.read_text()))
+        self.assertLessEqual({*answer.values}, {*told})
+
+
+class Cubes(unittest.TestCase):
+    def test_jobs(self):
+        if shutil.which("parallel") is None or shutil.which("flock") is None:
+            self.skipTest("there is no GNU parallel")
+        model, x, y = two()
+        for how in ({"jobs": 2}, {"hosts": ["2/:"]}):
+            answer = model.solve(program=PROGRAM, **how)
+            self.assertEqual((answer.verdict, answer.objective, answer.bound), ("OPTIMUM", 2, 2))
+            self.assertEqual((answer[x], answer[y]), (1, 1))
 
 
 class Improved(unittest.TestCase):

@@ -23,7 +23,7 @@ def project():
 
 def modules():
     """The files of the package, by their names in a wheel."""
-    names = sorted(it for it in (HERE / "beemodel").rglob("*") if it.suffix in (".py", ".typed"))
+    names = sorted(it for it in (HERE / "beemodel").rglob("*") if it.suffix in (".py", ".sh", ".typed"))
     return {str(it.relative_to(HERE)): it.read_bytes() for it in names}
 
 

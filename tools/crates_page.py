@@ -32,9 +32,9 @@ def summary(path):
     front = re.split(r": | \(", sentence)[0]
     front = front if len(front.split()) >= 4 else sentence
     if sentence.startswith("The mode"):
-        return sentence
+        return sentence.removeprefix("The mode ").removeprefix("The modes ")
     shorter = [it for it in front.split(", ") if it]
-    while len(", ".join(shorter).split()) > 13 and len(", ".join(shorter[:-1]).split()) >= 5:
+    while len(", ".join(shorter).split()) > 10 and len(", ".join(shorter[:-1]).split()) >= 5:
         if shorter[-1].startswith("and "):
             break
         shorter.pop()

@@ -31,7 +31,7 @@ from .windows import Ends
 
 # Learned clauses: of the first search for a solution, of the first steps, and of the last call
 # where no time bounds it.
-FIRST, EACH, LAST = 100, 200, 20_000
+FIRST, EACH, LAST = 100, 400, 20_000
 # The share of the seconds behind which the last call begins.
 SHARE = 0.8
 # Behind so many steps without a better solution the steps may learn twice as many clauses.
@@ -54,7 +54,7 @@ class Improvement:
         self.budget = EACH
         self.idle = 0
         kinds = self.structure.kinds()
-        self.shares = {it: 0.2 for it in kinds}
+        self.shares = {it: 0.3 for it in kinds}
         self.scores = {it: 2.0 for it in kinds}
 
     def seconds(self) -> float:
@@ -143,7 +143,7 @@ class Improvement:
     def learn(self, kind: Kind, outcome: str) -> None:
         """Makes neighbourhoods larger where they were searched to the end, and smaller where they
         were not."""
-        factor = {"none": 1.2, "spent": 0.85}.get(outcome, 1.0)
+        factor = {"none": 1.3, "spent": 0.85}.get(outcome, 1.0)
         self.shares[kind] = min(1.0, self.shares[kind] * factor)
         gain = 1.0 if outcome == "better" else 0.0
         self.scores[kind] = max(0.2, 0.9 * self.scores[kind] + gain)

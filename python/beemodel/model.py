@@ -36,7 +36,17 @@ from .improving import improve_text
 from .lines import ModelError, line_of_script, refused
 from .presolve import Left, presolved
 from .program import program_of
-from .running import Folder, Limits, OnFound, all_text, core_text, resumes, solve_text
+from .running import (
+    Folder,
+    Hosts,
+    Limits,
+    OnFound,
+    all_text,
+    core_text,
+    cubes_text,
+    resumes,
+    solve_text,
+)
 from .translation import Integer, Item, Translation
 
 # Of these names the class of models has methods, `int` and `bool`.
@@ -329,6 +339,8 @@ class Model:
         on_solution: Optional[OnFound] = None,
         progress: YesNo = False,
         start: Optional[Start] = None,
+        jobs: Optional[Whole] = None,
+        hosts: Optional[Hosts] = None,
         presolve: YesNo = True,
         at_most: Optional[Whole] = None,
         at_least: Optional[Whole] = None,
@@ -347,11 +359,17 @@ class Model:
         What is sought is bounded by a plan that is made greedily, or by `at_most`, and by
         `at_least` where the greatest is sought, and further away where no solution is as good;
         `presolve=False` leaves out both, and all that narrows domains.
+
+        With `jobs` so many workers solve the model's cubes side by side, on this machine or on each
+        of the `hosts`, which are a list or a file of them; the arguments before have no effect
+        then, but for `program`, `folder` and `progress`.
         """
         first = {} if start is None else self.start_values(start)
         told, begun = self.own_found(on_solution), time.monotonic()
 
         def run(text: str, plan: Values) -> Answer:
+            if jobs is not None or hosts is not None:
+                return cubes_text(text, jobs or 1, hosts, program, folder, progress)
             left = None if seconds is None else max(0.0, seconds + begun - time.monotonic())
             known = first or (plan if resumes(program_of(program)) else {})
             return solve_text(text, budget, program, folder, left, told, progress, known)

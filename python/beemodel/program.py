@@ -9,7 +9,7 @@ import subprocess
 import sys
 import time
 from collections.abc import Callable, Iterator
-from contextlib import contextmanager
+from contextlib import contextmanager, suppress
 from pathlib import Path
 from typing import IO, NamedTuple, Optional
 
@@ -84,11 +84,36 @@ def running(words: list[str], output: IO[bytes]) -> Iterator[subprocess.Popen[by
             end(process)
 
 
+def below(parent: int) -> list[int]:
+    """The processes that a process has begun, and those that these have, as `./bee` does where it
+    builds the program."""
+    children: dict[int, list[int]] = {}
+    for path in Path("/proc").glob("[0-9]*/stat"):
+        try:
+            words = path.read_text(errors="replace").rpartition(")")[2].split()
+        except OSError:
+            continue
+        children.setdefault(int(words[1]), []).append(int(path.parent.name))
+    found = [parent]
+    for pid in found:
+        found += children.get(pid, [])
+    return found[1:]
+
+
+def ask_to_end(process: subprocess.Popen[bytes]) -> None:
+    """Asks a process and those below it to end."""
+    others = below(process.pid)
+    process.terminate()
+    for pid in others:
+        with suppress(ProcessLookupError):
+            os.kill(pid, signal.SIGTERM)
+
+
 def end(process: subprocess.Popen[bytes]) -> None:
     """Ends a process that still runs, and waits until it has ended."""
     try:
         if process.poll() is None:
-            process.terminate()
+            ask_to_end(process)
             process.wait(GRACE)
     except BaseException as fault:
         process.kill()
@@ -135,7 +160,7 @@ def watched(words: list[str], to: Path, on_line: Teller, limit: Optional[float] 
         except KeyboardInterrupt:
             stopped = "interrupt"
         if stopped is not None:
-            process.terminate()
+            ask_to_end(process)
             for line in drained(process):
                 on_line(line)
     return Ended(process.returncode, "\n".join(told).strip(), stopped)

@@ -5,7 +5,7 @@ import re
 import sys
 import tempfile
 import time
-from collections.abc import Callable, Mapping
+from collections.abc import Callable, Iterable, Mapping
 from functools import lru_cache
 from pathlib import Path
 from typing import NamedTuple, Optional, Union
@@ -42,6 +42,8 @@ FIRST_CLAUSES = 10_000
 
 OnFound = Callable[[Found], object]
 Folder = Union[str, Path, None]
+# A file of hosts, or their names.
+Hosts = Union[str, Path, Iterable[str]]
 
 
 class Limits(NamedTuple):
@@ -320,6 +322,26 @@ def stated_first(
     if best is None and answer is not None and answer.values is not None:
         best = Found(answer.objectives, answer.values, 0, found.watch.seconds())
     return best, stopped
+
+
+def cubes_text(
+    text: str, jobs: int, hosts: Optional[Hosts], program: Optional[str], folder: Folder, progress: bool
+) -> Answer:
+    """Answers the text of a model by workers side by side, and checks the answer. With a folder, the
+    texts stay there."""
+    from .cubes import solve_in_cubes
+
+    with tempfile.TemporaryDirectory(prefix="beemodel-") as room:
+        listed = None if hosts is None else Path(room, "hosts")
+        if isinstance(hosts, (str, Path)):
+            listed = Path(hosts)
+        elif listed is not None and hosts is not None:
+            listed.write_text("".join(f"{it}\n" for it in hosts))
+        at = folder or Path(room, "cubes")
+        answer = solve_in_cubes(text, jobs, listed, program=program, folder=at, progress=progress)
+    answer.objectives = answer.optimum or answer.objectives
+    answer.bound = answer.optimum[0] if answer.optimum else bound_of(text, answer)
+    return answer
 
 
 def run_checked(

@@ -116,7 +116,7 @@ fn written(alloc: Global, model: &Model, document: &Document) -> Result<Vec<u8>,
 }
 
 /// The answer to a model that another solver's text shows, or the first line that fails.
-fn imported(
+fn import_text(
     alloc: Global,
     model: &Model,
     compiled: Compiled,
@@ -174,5 +174,5 @@ pub fn import_answer(
         → IfOk result (λ i. i ≡ Refused line) }
 {
     finding_laws();
-    imported(alloc, model, compiled, text)
+    import_text(alloc, model, compiled, text)
 }

@@ -8,8 +8,8 @@ import sys
 from pathlib import Path
 from typing import Optional
 
+from ..answers import ProgramError
 from ..lines import ModelError
-from ..running import ProgramError
 from .engines import EngineError
 from .machines import tell
 from .solving import LOOK, Request, solve_all

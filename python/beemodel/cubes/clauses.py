@@ -55,8 +55,9 @@ class Compiled:
             found += integer.literals_of(int(values[name]))
         return found
 
-    def write_for_workers(self, folder: Path) -> None:
-        """The size and the clauses, as `worker.sh` reads them."""
+    def write_for_workers(self, folder: Path, share: float) -> None:
+        """The size, the clauses and the share, as `worker.sh` reads them."""
+        (folder / "share").write_text(f"{int(share)}\n")
         (folder / "size").write_text(f"{self.variables} {len(self.clauses)}\n")
         with open(folder / "clauses", "w") as text:
             for clause in self.clauses:

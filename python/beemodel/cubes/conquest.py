@@ -8,7 +8,7 @@ import time
 from pathlib import Path
 from typing import NamedTuple, Optional, Protocol
 
-from ..running import ProgramError
+from ..answers import ProgramError
 from .clauses import Compiled, last_clause
 from .engines import Ended
 from .joining import Hinted, Joined, NoHints, Plain, join
@@ -17,7 +17,7 @@ from .machines import tell
 from .program import Bee, Goal
 from .tree import Cube, Journal, Tree
 
-# A worker that was asked to stop is asked again behind so many seconds.
+# A worker that was asked to stop, and has not, is asked again behind so many seconds.
 PATIENCE = 10.0
 
 
@@ -192,9 +192,11 @@ class Conquest:
     def stop_long_ones(self) -> None:
         """Where workers have nothing to do, stops as many cubes that are past their share, the longest first."""
         now, idle = time.monotonic(), self.engine.workers - len(self.started)
-        asked = [it for it, since in self.stopping.items() if now < since + PATIENCE]
-        long_ones = sorted((since, it) for it, since in self.started.items() if now > since + self.settings.share)
-        for _, name in [it for it in long_ones if it[1] not in asked][: max(0, idle - len(asked))]:
+        share = self.settings.share
+        long_ones = sorted((since, it) for it, since in self.started.items() if now > since + share)
+        asked = [it for it, since in self.stopping.items() if now > since + PATIENCE]
+        others = [it for _, it in long_ones if it not in self.stopping]
+        for name in asked + others[: max(0, idle - len(self.stopping))]:
             self.stopping[name] = now
             self.engine.stop(name)
 

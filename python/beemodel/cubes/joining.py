@@ -108,6 +108,7 @@ class Hinted:
         ids: dict[str, str] = {}
         cleaner, own = None, ["no line"]
         behind = [str(-it) for it in literals]
+        negated = set(behind)
         with open(self.parts / name, errors="replace") as text:
             for line in text:
                 words = line.split()
@@ -123,7 +124,7 @@ class Hinted:
                     raise NoHints(name)
                 end = words.index("0", 1)
                 own = words[1:end]
-                clause = [it for it in own if it not in behind] + behind
+                clause = [it for it in own if it not in negated] + behind
                 hints = [ids.get(it, it) for it in words[end + 1 : -1]]
                 if cleaner:
                     hints = cleaned(cleaner, name, self.next, clause, hints)

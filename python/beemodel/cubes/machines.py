@@ -11,7 +11,7 @@ import sys
 from pathlib import Path
 from typing import NamedTuple
 
-from ..running import ProgramError
+from ..answers import ProgramError
 
 HERE = Path(__file__).resolve().parent
 
@@ -60,7 +60,7 @@ def read_hosts(listed: Path, folder: Path, jobs: int, away: str) -> list[Machine
     return found
 
 
-def on_machine(machine: Machine, script: str) -> subprocess.Popen:
+def on_machine(machine: Machine, script: str) -> subprocess.Popen[bytes]:
     """Starts a script on a machine, and doesn't wait for it."""
     words = ["sh", "-c", script] if machine.is_here else [*shlex.split(machine.login), script]
     null = subprocess.DEVNULL
@@ -84,7 +84,7 @@ def prepare(machine: Machine, kind: str, solver: str, made: Path) -> None:
         raise ProgramError(f"there is no {solver} on {'this machine' if machine.is_here else machine.name}")
     folder = shlex.quote(machine.folder)
     told = ask_machine(machine, f"rm -rf {folder} && mkdir -p {folder}")
-    texts = {it: (made / it).read_bytes() for it in ("size", "clauses")}
+    texts = {it: (made / it).read_bytes() for it in ("size", "clauses", "share")}
     texts["worker.sh"] = (HERE / "worker.sh").read_bytes()
     texts["solver"] = f"{kind} {solver}\n".encode()
     for name, text in texts.items():

@@ -6,8 +6,8 @@ import subprocess
 from pathlib import Path
 from typing import NamedTuple, Optional
 
+from ..answers import ProgramError, Values, value_of
 from ..lines import ModelError
-from ..running import ProgramError, Values, value_of
 
 
 class Goal(NamedTuple):

@@ -10,7 +10,8 @@ from contextlib import contextmanager
 from pathlib import Path
 from typing import Any, NamedTuple, Optional, Union
 
-from ..running import Answer, ProgramError, program_of, read_answer
+from ..answers import Answer, ProgramError, Values, read_answer
+from ..program import program_of
 from .clauses import Compiled
 from .conquest import Conquest, Settings
 from .engines import GnuParallel, Slurm
@@ -64,20 +65,30 @@ def solve_all(text: str, folder: Path, request: Request) -> list[Answered]:
     quiet_environment()
     folder = folder.resolve()
     with locked(folder):
-        model = folder / "model.bee"
-        model.write_text(text)
-        compiled = folder / "compiled"
-        Bee(program_of(request.program), model).compile(compiled)
+        compiled(text, folder, request)
         goal = goal_of(text)
         if len(goal.objectives) < 2:
             return [solve_one(text, folder, "", request)]
-        first = solve_one(first_of(text, goal), folder / "first", ".first", request)
+        first_text, at = first_of(text, goal), folder / "first"
+        compiled(first_text, at, request)
+        first = solve_one(first_text, at, ".first", request)
         verdict, *values = verdict_of(first.answer)
         if verdict != "OPTIMUM":
             return [first]
         tell(f"{goal.objectives[0]} is {values[0]} at best; {goal.objectives[1]} is sought where it is that")
-        second = second_of(text, goal, int(values[0]))
-        return [first, solve_one(second, folder / "second", ".second", request)]
+        second_text, at = second_of(text, goal, int(values[0])), folder / "second"
+        compiled(second_text, at, request)
+        return [first, solve_one(second_text, at, ".second", request)]
+
+
+def compiled(text: str, folder: Path, request: Request) -> None:
+    """Has the program compile a model, which tells its faults. An answer to another model is removed."""
+    folder.mkdir(exist_ok=True)
+    model = folder / "model.bee"
+    if not model.exists() or model.read_text() != text:
+        (folder / "answer").unlink(missing_ok=True)
+    model.write_text(text)
+    Bee(program_of(request.program), model).compile(folder / "compiled")
 
 
 @contextmanager
@@ -100,14 +111,14 @@ def verdict_of(answer: Path) -> list[str]:
 
 
 def solve_one(text: str, folder: Path, ending: str, request: Request) -> Answered:
-    """Answers a model with one objective, or none."""
-    folder.mkdir(exist_ok=True)
+    """Answers a compiled model with one objective, or none. A run that goes on has the answer that there is."""
     made = Answered(folder / "model.bee", folder / "answer")
+    if request.resume and made.answer.exists() and accepted(made, request.program):
+        return made
+    made.answer.unlink(missing_ok=True)
     journal_at = Path(f"{request.journal}{ending}") if request.journal else folder / "journal"
     journal = open_journal(text, folder, journal_at, request)
-    made.model.write_text(text)
     bee, goal = Bee(program_of(request.program), made.model), goal_of(text)
-    bee.compile(folder / "compiled")
     machines = machines_of(folder, request)
     try:
         conquest = Conquest(bee, goal, folder, journal, settings_of(request, machines))
@@ -158,7 +169,7 @@ def start_machines(conquest: Conquest, machines: list[Machine], request: Request
     """Looks whether all machines and programs are there, and sends what the workers need."""
     need_programs(["sbatch", "squeue"] if request.slurm else ["parallel", "flock"])
     (conquest.folder / "out").mkdir(exist_ok=True)
-    conquest.compiled.write_for_workers(conquest.folder)
+    conquest.compiled.write_for_workers(conquest.folder, request.share)
     for it in machines:
         solver = request.solver or request.worker
         if request.worker == "bee" and not request.solver and it.is_here:
@@ -172,15 +183,17 @@ def look_first(conquest: Conquest, budget: int, answer: Path) -> bool:
     journal = conquest.journal
     if budget == 0 or journal.tree.split or journal.best is not None:
         return False
-    if conquest.bee.look(budget, answer):
+    looked = conquest.folder / "look"
+    if conquest.bee.look(budget, looked):
+        looked.replace(answer)
         return True
-    values = values_of(answer)
+    values = values_of(looked)
     if values and conquest.goal.objectives:
         take_first_values(conquest, values)
     return False
 
 
-def take_first_values(conquest: Conquest, values: dict) -> None:
+def take_first_values(conquest: Conquest, values: Values) -> None:
     """Makes values of the clauses of those of the names."""
     folder, compiled = conquest.folder, conquest.compiled
     units = compiled.literals_of(values)
@@ -210,41 +223,41 @@ def conquer(conquest: Conquest, machines: list[Machine], request: Request, answe
         engine.close()
 
 
+def accepted(made: Answered, program: Optional[str]) -> list[str]:
+    """The words of the verdict, where `bee check` accepts an answer."""
+    to = made.answer.with_name("check")
+    code, _ = Bee(program_of(program), made.model).run(["check", str(made.model), str(made.answer)], to)
+    return to.read_text().split()[1:] if code == 0 else []
+
+
 def read_checked(made: list[Answered], program: Optional[str]) -> Answer:
     """Has `bee check` accept each document, and reads the answer of the last one."""
     numbers: list[int] = []
     for it in made:
-        to = it.answer.with_name("check")
-        bee = Bee(program_of(program), it.model)
-        code, told = bee.run(["check", str(it.model), str(it.answer)], to)
-        said = to.read_text().split()
-        if code or said[:1] != ["ACCEPTED"]:
-            raise ProgramError(f"bee check did not accept {it.answer}: {' '.join(said) or told}")
-        numbers += [int(number) for number in said[2:]]
-    answer = read_answer(said[1:], made[-1].answer)
-    answer.optimum = tuple(numbers) if answer.verdict == "OPTIMUM" else None
-    return answer
+        said = accepted(it, program)
+        if not said:
+            raise ProgramError(f"bee check did not accept {it.answer}")
+        numbers += [int(number) for number in said[1:]]
+    answer = read_answer(said, made[-1].answer)
+    return Answer("OPTIMUM", tuple(numbers), answer.values) if answer.optimum else answer
 
 
 def solve_in_cubes(
     text: str,
     jobs: int = 1,
     hosts: Union[str, Path, None] = None,
-    slurm: bool = False,
-    worker: str = "bee",
     program: Optional[str] = None,
     folder: Union[str, Path, None] = None,
     **more: Any,
 ) -> Answer:
     """Answers the text of a model by workers side by side, and has the answer checked.
 
-    `jobs` is how many workers there are here, or on each machine of the file `hosts`; `slurm` gives them to Slurm, whose
-    nodes see the folder. `more` are the other fields of `Request`. With a folder, the texts stay there, and so does the
+    `jobs` is how many workers there are here, or on each machine of the file `hosts`. `more` are the other fields of `Request`. With a folder, the texts stay there, and so does the
     journal of a run that was ended.
     """
     listed = Path(hosts) if hosts is not None else None
-    request = Request(jobs, listed, slurm, worker, program=program, **more)
-    if slurm and folder is None:
+    request = Request(jobs, listed, program=program, **more)
+    if request.slurm and folder is None:
         raise ProgramError("Slurm wants a folder that its nodes see")
     with tempfile.TemporaryDirectory(prefix="beemodel-") as made:
         at = Path(folder if folder is not None else made)

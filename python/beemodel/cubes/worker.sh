@@ -1,11 +1,11 @@
 #!/bin/sh
 # worker.sh FOLDER NAME KEEPER LITERAL ..: has one cube refuted, or a solution of it found, by the solver of FOLDER.
 #
-# FOLDER has `size` (how many variables and clauses), `clauses`, `solver` (its kind and where it is) and, once a
-# solution is known, `bound`: the literal that a better one makes true. On standard output come the lines of a
+# FOLDER has `size` (how many variables and clauses), `clauses`, `solver` (its kind and where it is), `share` and, once
+# a solution is known, `bound`: the literal that a better one makes true. On standard output come the lines of a
 # refutation, or the values; and, behind them, once all of it is written, `c end OUTCOME`. It ends the solver where
-# FOLDER/NAME.stop is there, where the bound is another one and the solver has not run for long, and where the process
-# KEEPER, or that which started this where KEEPER is `-`, is gone.
+# FOLDER/NAME.stop is there and the solver has taken the seconds of FOLDER/share, where the bound is another one and it
+# has not run for long, and where the process KEEPER, or that which started this where KEEPER is `-`, is gone.
 folder=$1 name=$2 keeper=$3
 shift 3
 [ "$keeper" = - ] && keeper=$PPID
@@ -25,12 +25,23 @@ clauses() {
   echo "p cnf $variables $((count + $#))" && cat "$folder/clauses" && for literal; do echo "$literal 0"; done
 }
 
+# The seconds of a processor that a process has taken, and what it began. They are many where nobody tells.
+took() {
+  told=$(ps -o time= -p "$1" 2>/dev/null) || told=99:00:00
+  IFS=' :-'
+  # shellcheck disable=SC2086
+  set -- $told
+  IFS=' '
+  [ $# = 4 ] && shift
+  echo $((${1#0} * 3600 + ${2#0} * 60 + ${3#0}))
+}
+
 watch() {
   ran=0
   while sleep 1; do
     ran=$((ran + 1))
     if ! kill -0 "$keeper" 2>/dev/null; then why=gone
-    elif [ -e "$at.stop" ]; then why=stopped
+    elif [ -e "$at.stop" ] && [ "$(took "$1")" -ge "$share" ]; then why=stopped
     elif [ "$ran" -le "$young" ] && [ "$(current)" != "$bound" ]; then why=bound
     else continue
     fi
@@ -67,6 +78,7 @@ is_whole() {
 }
 
 read -r kind program <"$folder/solver"
+read -r share <"$folder/share"
 bound=$(current)
 clauses "$@" $bound >"$at.cnf" || fail "the clauses can't be written"
 case $kind in

@@ -8,12 +8,12 @@ pub returns-clause-complete : goal.returns-clause-complete
 returns-clause-complete c v given shows =
     let laws = c.finding_laws.ensures in
     let few : c.args.compiled.cnf.vars ≤ 2 ^ 27 = omega (arith, c.requires.fits.vars) in
-    IfOk-weaker c.imported.result _ _
-    (answered laws.one laws.either laws.once c.args.model.now (sought_of c.args.model.now c.args.compiled) few c.args.text.now v given shows) c.imported.ensures
+    IfOk-weaker c.import_text.result _ _
+    (answered laws.one laws.either laws.once c.args.model.now (sought_of c.args.model.now c.args.compiled) few c.args.text.now v given shows) c.import_text.ensures
 
 pub returns-clause-exact : goal.returns-clause-exact
 returns-clause-exact c line fails =
     let laws = c.finding_laws.ensures in
     let few : c.args.compiled.cnf.vars ≤ 2 ^ 27 = omega (arith, c.requires.fits.vars) in
-    IfOk-weaker c.imported.result _ _
-    (refused laws.one laws.either laws.once c.args.model.now (sought_of c.args.model.now c.args.compiled) few c.args.text.now line fails) c.imported.ensures
+    IfOk-weaker c.import_text.result _ _
+    (refused laws.one laws.either laws.once c.args.model.now (sought_of c.args.model.now c.args.compiled) few c.args.text.now line fails) c.import_text.ensures

@@ -4,7 +4,7 @@ use Rattle.answer_import.specs.Imports.{IsFound}
 use Rattle.answer_import.specs.Importing.{sought_of}
 use Rattle.objective_bound.proofs.Objectives.{values-bounded, values-below}
 use Rattle.answer_import.proofs.Shorts.{values-short}
-use Rattle.answer_import.proofs.importing.imported.Goals as goal
+use Rattle.answer_import.proofs.importing.import_text.Goals as goal
 
 pub judge-requires : goal.judge-requires
 judge-requires c =

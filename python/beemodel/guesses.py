@@ -20,6 +20,12 @@ if TYPE_CHECKING:
     from .model import Constraint, Goal, Model, Placed, Written
     from .answers import Answer, Values
 
+# So much work is done for each guess.
+LIMIT = 1_000_000
+
+# So often a plan is sought that is better than one that is known.
+BETTER = 3
+
 
 class Asked(NamedTuple):
     """A model in statements, the guess that it is written with, and the least that is possible."""
@@ -52,10 +58,35 @@ class Guessing:
         return self.told.ends(self.sought)[0] if self.told else 0
 
     def planned(self) -> Optional[int]:
-        """What a greedy plan comes to that meets each constraint, where one is found."""
+        """What a greedy plan comes to that meets each constraint, where one is found; a few times a
+        better one is sought, below a quarter of what it may be better by."""
+        best = self.plan_below(None)
+        for _ in range(BETTER):
+            if best is None or best <= self.least():
+                break
+            better = self.plan_below(best - 1 - (best - self.least()) // 4)
+            if better is None:
+                break
+            best = better
+        return best
+
+    def plan_below(self, most: Optional[int]) -> Optional[int]:
+        """What a greedy plan comes to that is no worse than a bound, where one is found."""
         if self.told is None:
             return None
-        plan = Greedy(self.told, self.sought, [*self.model.variables.values()]).plan()
+        bounds, within = self.told.bounds, None
+        mark, bounds.limit = len(bounds.trail), bounds.work + LIMIT
+        try:
+            if most is not None:
+                within = self.told.relate(self.sought - most, "leq")
+                bounds.run()
+            plan = Greedy(self.told, self.sought, [*self.model.variables.values()]).plan()
+        except Conflict:
+            return None
+        finally:
+            bounds.undo(mark)
+            if within is not None:
+                bounds.drop(within, *within.watched())
         if plan is None or not all(it.truth.holds(plan) for it in self.model.constraints):
             return None
         self.plan = plan
@@ -104,10 +135,6 @@ class Guessing:
         if asked is None or asked.written.weight() > weights.LIMIT:
             return self.asked(self.least() + 1 + abs(self.least()) // 8)
         return asked
-
-
-# So much work is done for each guess.
-LIMIT = 1_000_000
 
 
 def solve_guessing(

@@ -14,6 +14,9 @@ from .expressions import Number
 
 Literal = tuple[Number, bool]
 
+# Values of a wider domain aren't ruled out one by one.
+LISTED = 2_000
+
 
 def is_true(bounds: Bounds, literal: Literal) -> Optional[bool]:
     """The truth of a literal, where it is known."""
@@ -388,7 +391,7 @@ class Rows(Propagator):
         for atom, column in zip(self.atoms, zip(*left)):
             bounds.at_least(atom, min(column))
             bounds.at_most(atom, max(column))
-            if atom in bounds.domains:
+            if atom in bounds.domains and bounds.high[atom] - bounds.low[atom] < LISTED:
                 kept = set(column)
                 for value in [*bounds.values(atom)]:
                     if value not in kept:

@@ -104,13 +104,13 @@ class Precede(Propagator):
         self.size = len(atoms) * (1 + len(values))
 
     def run(self, bounds: Bounds) -> None:
-        place = {value: at for at, value in enumerate(self.values)}
         most = -1
         for atom in self.atoms:
-            for value in [*bounds.values(atom)]:
-                if place.get(value, -1) > most + 1:
+            for at, value in enumerate(self.values):
+                if at > most + 1 and bounds.may_be(atom, value):
                     bounds.remove(atom, value)
-            most = max([most, *(place.get(it, -1) for it in bounds.values(atom))])
+            left = (at for at, value in enumerate(self.values) if bounds.may_be(atom, value))
+            most = max(most, *left, -1)
 
 
 class ValuePrecede(Truth):

@@ -5,15 +5,15 @@ use Rattle.line_texts.specs.LineByLine.{Lead, IsWhole, IsMisfit, FirstMisfit}
 use Rattle.line_texts.proofs.WholeOrMisfit.{no-answer}
 use Rattle.model_meaning.specs.declared.model.Model.{Model}
 use Rattle.model_checks.proofs.Ends.{IsSomeEach}
-use Rattle.core_models.specs.CoreTexts.{HoldsWhole}
-use Rattle.core_models.proofs.Faults.{either}
-use Rattle.core_text.specs.declared.verdict.CoreVerdict.{CoreVerdict}
-use Rattle.core_text.specs.CoreLines.{Standing, start_standing, IsNext, IsEnd}
-use Rattle.core_text.proofs.OneText.{no-misfit}
-use Rattle.checkcore_mode.specs.CheckCoreMode.{cores}
+use Rattle.conflict_models.specs.ConflictModels.{HoldsWhole}
+use Rattle.conflict_models.proofs.Faults.{either}
+use Rattle.conflict_text.specs.declared.verdict.CoreVerdict.{CoreVerdict}
+use Rattle.conflict_text.specs.ConflictLines.{Standing, start_standing, IsNext, IsEnd}
+use Rattle.conflict_text.proofs.OneText.{no-misfit}
+use Rattle.checkcore_mode.specs.CheckCoreMode.{conflicts}
 use Rattle.checkcore_mode.proofs.Ends.{held_limits}
 
-module _ (first : List ℕ) (model : Model) (text : List ℕ) (held : HoldsWhole first model) (none : (v : CoreVerdict) → cores.IsValid model text v → ⊥) (never : (line : ℕ) → cores.Fails model text line → ⊥) where
+module _ (first : List ℕ) (model : Model) (text : List ℕ) (held : HoldsWhole first model) (none : (v : CoreVerdict) → conflicts.IsValid model text v → ⊥) (never : (line : ℕ) → conflicts.Fails model text line → ⊥) where
   whole : (s : Standing) → IsWhole IsNext IsEnd (start_standing model) text s → ⊥
   whole s w = none s.verdict (record { stands = s; whole = w; verdict = refl })
 
@@ -29,5 +29,5 @@ module _ (first : List ℕ) (model : Model) (text : List ℕ) (held : HoldsWhole
   answered : ⊥
   answered = no-answer IsNext IsEnd (start_standing model) text whole fits
 
-pub some : IsSomeEach cores
+pub some : IsSomeEach conflicts
 some = record { fault_or_model = either; valid_or_line = answered }

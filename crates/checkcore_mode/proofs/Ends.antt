@@ -8,16 +8,16 @@ use Rattle.model_texts.proofs.OneModel.{one_model}
 use Rattle.model_texts.proofs.ModelShapes.{limited}
 use Rattle.model_checks.proofs.Ends.{IsOneEach}
 use Rattle.model_checks.proofs.Ends as checking
-use Rattle.core_models.specs.CoreTexts.{HoldsWhole}
-use Rattle.core_models.proofs.Faults.{one-fault, held-fault}
-use Rattle.core_text.proofs.OneText.{one-misfit}
-use Rattle.checkcore_mode.specs.CheckCoreMode.{cores, CheckCoreMode}
+use Rattle.conflict_models.specs.ConflictModels.{HoldsWhole}
+use Rattle.conflict_models.proofs.Faults.{one-fault, held-fault}
+use Rattle.conflict_text.proofs.OneText.{one-misfit}
+use Rattle.checkcore_mode.specs.CheckCoreMode.{conflicts, CheckCoreMode}
 
 -- the numbers of a model that a text holds are in their limits
 pub held_limits : (text : List ℕ) (model : Model) → HoldsWhole text model → InLimits model
 held_limits text model h = limited text model h.within h.says
 
-pub one : IsOneEach cores
+pub one : IsOneEach conflicts
 one = record {
   one_model = λ text m n h k. one_model text m n h.says k.says;
   one_fault = one-fault;
@@ -29,4 +29,4 @@ one = record {
 
 -- where memory is wanting before the mode begins
 pub idle : (input second : List ℕ) (seen : Seen) → Untouched seen → CheckCoreMode input second Memory seen
-idle = checking.idle cores one
+idle = checking.idle conflicts one

@@ -7,32 +7,32 @@ use Rattle.model_texts.specs.declared.fault.ModelFault.{ModelFault}
 use Rattle.model_checks.specs.Kinds.{Kind}
 use Rattle.model_checks.specs.Kinds as kinds
 use Rattle.model_checks.specs.Checks.{Checks}
-use Rattle.core_models.specs.CoreTexts.{HoldsWhole, IsReasonOf}
-use Rattle.core_text.specs.declared.verdict.CoreVerdict.{CoreVerdict}
-use Rattle.core_text.specs.CoreLines.{verdict_line}
-use Rattle.core_text.specs.CoreSays.{IsCoreText}
-use Rattle.core_check.specs.Checked.{IsAcceptedCore, IsRefusedCore}
+use Rattle.conflict_models.specs.ConflictModels.{HoldsWhole, IsReasonOf}
+use Rattle.conflict_text.specs.declared.verdict.CoreVerdict.{CoreVerdict}
+use Rattle.conflict_text.specs.ConflictLines.{verdict_line}
+use Rattle.conflict_text.specs.ConflictSays.{IsConflictText}
+use Rattle.conflict_check.specs.Checked.{IsAcceptedConflict, IsRefusedConflict}
 
--- Cores as a kind of text: the first text says a model none of whose parts is too heavy, and the second is that of a
--- core of it, or is refused.
-abbrev pub cores : Kind CoreVerdict
-cores = record {
+-- Conflicts as a kind of text: the first text says a model none of whose parts is too heavy, and the second is that of
+-- a conflict of it, or is refused.
+abbrev pub conflicts : Kind CoreVerdict
+conflicts = record {
   Holds = HoldsWhole;
   IsCause = IsReasonOf;
-  IsValid = IsCoreText;
-  IsTrue = IsAcceptedCore;
-  Fails = IsRefusedCore;
+  IsValid = IsConflictText;
+  IsTrue = IsAcceptedConflict;
+  Fails = IsRefusedConflict;
   words = verdict_line;
 }
 
 -- a text says a model none of whose parts is too heavy
 abbrev pub HasModel : List ℕ → Type 0
-HasModel = kinds.HasModel cores
+HasModel = kinds.HasModel conflicts
 
 -- the end that two texts have of which the first says a model that is answered
 abbrev pub HaveEnd : Texts → End ModelFault → Type 0
-HaveEnd = kinds.HaveEnd cores
+HaveEnd = kinds.HaveEnd conflicts
 
--- a run in checkcore mode, with the names of the model and of the core
+-- a run in checkcore mode, with the names of the model and of the conflict
 abbrev pub CheckCoreMode : List ℕ → List ℕ → End ModelFault → Seen → Type 0
-CheckCoreMode = Checks cores
+CheckCoreMode = Checks conflicts

@@ -4,9 +4,9 @@ ghost use Rattle.text_modes.specs.Seen.{seen, shelf_shown, sink_shown};
 ghost use Rattle.checkcore_mode.specs.CheckCoreMode.{CheckCoreMode};
 
 use bee_outside::{Shelf, Sink};
-use core_check::{CoreJudgement, RefusedCore, check_text};
-use core_models::whole_model;
-use core_text::{CoreVerdict, push_verdict};
+use conflict_check::{ConflictJudgement, RefusedConflict, check_text};
+use conflict_models::whole_model;
+use conflict_text::{CoreVerdict, push_verdict};
 use model_checks::{Checked, Checker, run_check};
 use model_meaning::Model;
 use model_texts::{ModelFault, ModelTextFault};
@@ -14,21 +14,21 @@ use std::alloc::{AllocError, Global};
 use std::cell::Cell;
 use text_modes::End;
 
-/// Cores as a kind of text. What stands against a line that is refused goes beside, into a cell, since no clause speaks
-/// of it.
+/// Conflicts as a kind of text. What stands against a line that is refused goes beside, into a cell, since no clause
+/// speaks of it.
 #[derive(Drop)]
-struct Cores<'a> {
-    noted: &'a Cell<Option<RefusedCore>>,
+struct Conflicts<'a> {
+    noted: &'a Cell<Option<RefusedConflict>>,
 }
 
-impl Checker for Cores<'_> {
-    ghost use Rattle.checkcore_mode.specs.CheckCoreMode.{cores};
+impl Checker for Conflicts<'_> {
+    ghost use Rattle.checkcore_mode.specs.CheckCoreMode.{conflicts};
 
     type Held = Model;
 
     type Verdict = CoreVerdict;
 
-    ghost kind = { cores };
+    ghost kind = { conflicts };
 
     ghost model_of = { λ model. model };
 
@@ -42,11 +42,11 @@ impl Checker for Cores<'_> {
         &self,
         alloc: Global,
         held: Model,
-        core: &[u8],
+        conflict: &[u8],
     ) -> Result<Checked<CoreVerdict>, AllocError> {
-        match check_text(alloc, held, core, self.noted)? {
-            CoreJudgement::Valid(verdict) => Ok(Checked::Valid(verdict)),
-            CoreJudgement::Refused(line) => Ok(Checked::Refused(line)),
+        match check_text(alloc, held, conflict, self.noted)? {
+            ConflictJudgement::Valid(verdict) => Ok(Checked::Valid(verdict)),
+            ConflictJudgement::Refused(line) => Ok(Checked::Refused(line)),
         }
     }
 
@@ -55,19 +55,19 @@ impl Checker for Cores<'_> {
     }
 }
 
-/// Reads the text of a model and judges it, and then reads the text of a core and checks it; makes the line that tells
-/// what came of that, and then writes it, as by `run_check`. What stands against a line that is refused is put into the
-/// cell.
+/// Reads the text of a model and judges it, and then reads the text of a conflict and checks it; makes the line that
+/// tells what came of that, and then writes it, as by `run_check`. What stands against a line that is refused is put
+/// into the cell.
 pub fn check_core<S: Shelf, O: Sink>(
     alloc: Global,
     input: &str,
     second: &str,
     shelf: &mut S,
     out: &mut O,
-    noted: &Cell<Option<RefusedCore>>,
+    noted: &Cell<Option<RefusedConflict>>,
 ) -> End<ModelFault>
     ensures { CheckCoreMode input.now second.now result (seen (shelf_shown S.left S.faults)
         (sink_shown O.taken O.flushed O.faults) shelf.old shelf.new out.old out.new) }
 {
-    run_check(alloc, &Cores { noted }, input, second, shelf, out)
+    run_check(alloc, &Conflicts { noted }, input, second, shelf, out)
 }

@@ -1,5 +1,5 @@
 -- What comes of the text of a conflict: its verdict, or the first line that fails.
-use Rattle.std.specs.Prelude.{◌≡◌, ℕ, ◌+◌, ◌<◌, ◌≤◌, ◌^◌, List}
+use Rattle.std.specs.Prelude.{◌≡◌, ℕ, ◌+◌, ◌<◌, ◌≤◌, List}
 use Rattle.model_meaning.specs.declared.model.Model.{Model}
 use Rattle.model_lower.specs.Weighed.{most_weight}
 use Rattle.model_parts.specs.CoreWeight.{core_weight}
@@ -39,10 +39,9 @@ abbrev pub IsRead : Standing → List ℕ → ConflictJudgement → Type 0
 IsRead s text (judged.Valid v) = (t : Standing) × IsWhole IsNext IsEnd s text t × (t.verdict ≡ v)
 IsRead s text (judged.Refused line) = FirstMisfit IsNext IsEnd s text line
 
--- A part of the model may weigh too much, and the greatest weight that one may have is told where it has 128 bits, as
--- that of each text has; or none may, and the text is refused; or memory was wanting.
+-- A part of the model may weigh too much, and the greatest weight that one may have is told; or none may, and the text
+-- is refused; or memory was wanting.
 abbrev pub IsFaultOf : CoreFault → Model → List ℕ → Type 0
-IsFaultOf (TooHeavy w) model text = (most_weight < core_weight model)
-    × (core_weight model < 2 ^ 128 → w ≡ core_weight model)
+IsFaultOf (TooHeavy w) model text = (most_weight < core_weight model) × (w ≡ core_weight model)
 IsFaultOf (Refused line) model text = (core_weight model ≤ most_weight) × IsRefusedConflict model text line
 IsFaultOf Memory model text = Unit {0}

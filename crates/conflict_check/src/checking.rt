@@ -29,13 +29,10 @@ use conflict_text::CoreVerdict;
 use ledger_replay::Replay;
 use model_lower::{Lowered, lower};
 use model_meaning::{Assignment, Model};
-use model_parts::{DividedModel, core_weight};
+use model_parts::{DividedModel, weight_above};
 use std::alloc::{AllocError, Global};
 use std::cell::Cell;
 use step_kernel::State;
-
-/// The greatest weight of a model whose parts are all taken.
-const MOST_WEIGHT: u128 = 67_108_864;
 
 /// What comes of the text of a conflict.
 #[derive(Clone, Copy)]
@@ -253,7 +250,8 @@ pub fn check_text(
 }
 
 /// Whether a text is that of a conflict of a model, as by `check_text`. The model is weighed first, and refused where a
-/// part of it may weigh too much, whatever the text is.
+/// part of it may weigh too much, whatever the text is. It is for callers that have the model alone: no mode calls it,
+/// since each weighs a model before it asks for the second text.
 pub fn check_core(alloc: Global, model: Model, text: &[u8]) -> Result<CoreVerdict, CoreFault>
     requires typed { WellTyped model }
     requires limits { InLimits model }
@@ -265,11 +263,10 @@ pub fn check_core(alloc: Global, model: Model, text: &[u8]) -> Result<CoreVerdic
     ensures complete { (v : CoreVerdict) → core_weight model ≤ most_weight → IsConflictText model text.now v
         → MatchResult result (λ u. u ≡ v) (λ e. e ≡ faults.Memory) }
 {
-    let Ok(weight) = core_weight(alloc, &model) else {
-        return Err(CoreFault::Memory);
-    };
-    if weight > MOST_WEIGHT {
-        return Err(CoreFault::TooHeavy(weight));
+    match weight_above(alloc, &model) {
+        Ok(None) => {}
+        Ok(Some(weight)) => return Err(CoreFault::TooHeavy(weight)),
+        Err(_) => return Err(CoreFault::Memory),
     }
     match check_text(alloc, model, text, &Cell::new(None)) {
         Ok(ConflictJudgement::Valid(verdict)) => Ok(verdict),

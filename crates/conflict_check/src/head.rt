@@ -9,8 +9,7 @@ ghost use Rattle.conflict_check.specs.Heads.{stage_behind, head_standing, IsWalk
 use crate::marking::mark;
 use crate::refused::RefusedConflict;
 use crate::words::{read_numbered, read_verdict};
-use bee_text::Lines;
-use certificate_lines::is;
+use bee_text::{Lines, is};
 use conflict_text::CoreVerdict;
 use model_meaning::Model;
 use std::alloc::{AllocError, Global};

@@ -7,7 +7,8 @@ ghost use Rattle.conflict_text.specs.declared.verdict.CoreVerdict.{CoreVerdict};
 ghost use Rattle.conflict_text.specs.ConflictLines.{verdict_line, without_line, VerdictFits};
 ghost use Rattle.conflict_text.proofs.Words.{first_byte};
 
-use certificate_lines::{is, read_count, read_spent};
+use bee_text::is;
+use certificate_lines::{read_count, read_spent};
 use conflict_text::CoreVerdict;
 
 /// What stands behind a word at the front of a line.

@@ -4,7 +4,7 @@ use Rattle.text_modes.specs.declared.ends.Outcome.{Outcome}
 use Rattle.text_modes.specs.declared.ends.Outcome.TheVariants.{Done}
 use Rattle.text_modes.specs.declared.ends.End.TheVariants.{Wrote}
 use Rattle.search_options.specs.declared.options.SearchOptions.{SearchOptions}
-use Rattle.checkcore_mode.specs.CheckCoreMode.{HaveEnd}
+use Rattle.check_modes.specs.CheckCoreMode.{HaveEnd}
 use Rattle.core_mode.specs.Conflicts.{IsConflictHeld}
 
 -- the text of a model and what is written for it have the end of the text of a conflict in checkcore mode
